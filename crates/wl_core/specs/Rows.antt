@@ -1,0 +1,33 @@
+-- Tables that stand in one buffer, row after row.
+use Rattle.std.specs.Prelude.{◌≡◌, ℕ, ◌+◌, ◌*◌, ℤ, List, cond, nat_lt, take, drop, slice_index}
+use Rattle.wl_core.specs.Machine.{put}
+
+-- rows of one width
+pub record RowsValue : Type 0 where
+  pub width : ℕ
+  pub count : ℕ
+  pub cells : List ℤ
+
+abbrev pub row_of : RowsValue → ℕ → List ℤ
+row_of rows p = take rows.width (drop (p * rows.width) rows.cells)
+
+-- one row has another value
+pub record PutsRow (old new : RowsValue) (index : ℕ) (value : List ℤ) : Type 0 where
+  pub width : new.width ≡ old.width
+  pub count : new.count ≡ old.count
+  pub rows : row_of new ≡ put (row_of old) index value
+
+-- how often each worker holds each buffer
+pub record HoldsValue : Type 0 where
+  pub workers : ℕ
+  pub buffers : ℕ
+  pub numbers : List ℕ
+
+abbrev pub times_of : HoldsValue → ℕ → ℕ → ℕ
+times_of holds w b = cond (nat_lt b holds.buffers) (slice_index holds.numbers (w * holds.buffers + b)) 0
+
+-- the worker holds the buffer so many times
+pub record SetsTimes (old new : HoldsValue) (w b n : ℕ) : Type 0 where
+  pub workers : new.workers ≡ old.workers
+  pub buffers : new.buffers ≡ old.buffers
+  pub times : times_of new ≡ put (times_of old) w (put (times_of old w) b n)
