@@ -1,3 +1,5 @@
 pub mod Functions
 pub mod Buffers
 pub mod FoldLaws
+pub mod Combining
+pub mod Kept
