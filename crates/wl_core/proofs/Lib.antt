@@ -3,3 +3,4 @@ pub mod Buffers
 pub mod FoldLaws
 pub mod Combining
 pub mod Kept
+pub mod Verdicts
