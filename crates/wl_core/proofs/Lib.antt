@@ -4,3 +4,4 @@ pub mod FoldLaws
 pub mod Combining
 pub mod Kept
 pub mod Verdicts
+pub mod States

@@ -55,8 +55,8 @@ state_of u b =
     }
 
 abbrev pub RowsFor : Job → ℕ → ℕ → State → Type 0
-RowsFor Store positions workers b = positions ≤ b.stored.count
-RowsFor (Fold base op) positions workers b = workers ≤ b.partial.count
+RowsFor Store positions workers b = b.stored.count ≡ positions
+RowsFor (Fold base op) positions workers b = b.partial.count ≡ workers
 
 -- a place for each chunk, position, worker and buffer
 pub record IsSized (u : SetupValue) (b : State) : Type 0 where

@@ -1,9 +1,10 @@
-ghost use Rattle.std.specs.Prelude.{◌≡◌, IfOk, IfSome, IfNone};
-ghost use Rattle.wl_core.specs.Machine.{IsSetup, opened};
+ghost use Rattle.std.specs.Prelude.{◌≡◌, ◌<◌, ℕ, IfOk, MatchOption};
+ghost use Rattle.wl_core.specs.Machine.{IsSetup, opened, Works};
 ghost use Rattle.wl_core.specs.Reading.{setup_of, state_of, IsReached};
 
 use crate::rows::{Holds, Rows};
-use crate::{CellResult, Job, Setup};
+use crate::setup::{chunk_count, chunk_end, value_width};
+use crate::{Job, Setup};
 use sac_base::Memory;
 use std::alloc::Global;
 
@@ -25,4 +26,45 @@ pub struct State {
     pub(crate) stored: Rows,
     pub(crate) started: Vec<bool>,
     pub(crate) partial: Rows,
+}
+
+/// The opening state: nothing is taken, and the counts are those of the setup.
+pub fn open_state(alloc: Global, setup: &Setup) -> Result<State, Memory>
+    requires { IsSetup (setup_of setup.now) }
+    ensures { IfOk result (λ state. IsReached setup.now state × (state_of (setup_of setup.now) state ≡ opened (setup_of setup.now))) }
+{
+    let chunks = chunk_count(setup);
+    let workers = setup.workers as usize;
+    let width = value_width(setup);
+    let (positions, partials) = match setup.job {
+        Job::Write => (setup.cells.len(), 0),
+        Job::Fold(_, _) => (0, workers),
+    };
+    Ok(State {
+        taken: 0,
+        owner: vec![in alloc; 0; chunks]?,
+        next: vec![in alloc; 0; chunks]?,
+        stopped: vec![in alloc; false; chunks]?,
+        latest: vec![in alloc; 0; workers]?,
+        held: vec![in alloc; 0; workers]?,
+        counts: setup.counts.clone()?,
+        holds: Holds::new(alloc, workers, setup.counts.len())?,
+        stored: Rows::new(alloc, positions, width)?,
+        started: vec![in alloc; false; workers]?,
+        partial: Rows::new(alloc, partials, width)?,
+    })
+}
+
+/// The worker's chunk that has neither ended nor stopped.
+pub fn unfinished(setup: &Setup, state: &State, worker: u32) -> Option<usize>
+    requires reached { IsReached setup.now state.now }
+    requires worker { worker < setup.now.workers }
+    ensures { MatchOption result ((c : ℕ) → ¬ Works (setup_of setup.now) (state_of (setup_of setup.now) state.now) worker c) (λ c. Works (setup_of setup.now) (state_of (setup_of setup.now) state.now) worker c) }
+{
+    let chunk = state.latest[worker as usize];
+    if chunk < state.taken && state.owner[chunk] == worker && !state.stopped[chunk] && state.next[chunk] < chunk_end(setup, chunk) {
+        Some(chunk)
+    } else {
+        None
+    }
 }
