@@ -11,7 +11,7 @@ use Rattle.wl_core.specs.declared.state.State.{State}
 use Rattle.wl_core.specs.Machine.{SetupValue, StateValue, IsSetup, CellValue, Works, chunks, end, opened}
 use Rattle.wl_core.specs.Facts.{Facts}
 use Rattle.wl_core.specs.Reading.{setup_of, state_of, cell_of, written_by, row_if, stored_rows, RowsFor, IsSized, IsReached}
-use Rattle.wl_core.specs.Rows.{row_of, times_of}
+use Rattle.wl_core.specs.Rows.{row_of, times_of, partial_of}
 use Rattle.wl_core.specs.declared.setup.Job.{Job}
 use Rattle.wl_core.specs.declared.setup.Job.TheVariants.{Write as Store, Fold}
 use Rattle.wl_core.proofs.Functions.{sum-none}
@@ -71,10 +71,10 @@ nothing_stored (Fold base op) written row none p = refl
 pub opening : (u : Setup) (b : State) → IsSetup (setup_of u) → b.taken ≡ 0
     → b.owner.items ≡ replicate (chunks (setup_of u)) 0 → b.next.items ≡ replicate (chunks (setup_of u)) 0 → b.stopped.items ≡ replicate (chunks (setup_of u)) false
     → b.latest.items ≡ replicate u.workers 0 → b.held.items ≡ replicate u.workers 0 → b.counts.items ≡ u.counts.items
-    → (b.holds.workers ≡ u.workers) × (b.holds.buffers ≡ length u.counts.items) × (times_of b.holds ≡ (λ w c. 0)) → b.started.items ≡ replicate u.workers false
-    → ((p : ℕ) (value : List ℤ) → slice_get (setup_of u).cells p ≡ Some (Ok (Some value)) → (length value ≡ b.stored.width) × (length value ≡ b.partial.width))
-    → RowsFor u.job (length (setup_of u).cells) u.workers b → IsReached u b × (state_of (setup_of u) b ≡ opened (setup_of u))
-opening u b is none owner next stopped latest held counts holds started widths rows = (record { setup = is; sized = sized; reached = ([], sym same) }, same)
+    → (b.holds.workers ≡ u.workers) × (b.holds.buffers ≡ length u.counts.items) × (times_of b.holds ≡ (λ w c. 0)) → (partial_of b.partials ≡ (λ w. None))
+    → ((p : ℕ) (value : List ℤ) → slice_get (setup_of u).cells p ≡ Some (Ok (Some value)) → (length value ≡ b.stored.width) × (length value ≡ b.partials.rows.width))
+    → RowsFor u.job (length (setup_of u).cells) u.workers b.stored.count b.partials.rows.count → IsReached u b × (state_of (setup_of u) b ≡ opened (setup_of u))
+opening u b is none owner next stopped latest held counts holds partials widths rows = (record { setup = is; sized = sized; reached = ([], sym same) }, same)
   where
     v : SetupValue
     v = setup_of u
@@ -88,7 +88,7 @@ opening u b is none owner next stopped latest held counts holds started widths r
       stopped = λ c. (ap (λ (l : List Bool). get_or l c false) stopped ∙ get_or-all (chunks (setup_of u)) c false) j;
       written = λ p. written_none p j;
       stored = λ p. nothing_stored u.job _ (row_of b.stored) written_none p j;
-      partial = λ w. ap (λ (x : Bool). cond x (Some (row_of b.partial w)) None) (ap (λ (l : List Bool). get_or l w false) started ∙ get_or-all u.workers w false) j;
+      partial = partials j;
       count = λ c. slice_index (counts j) c;
       holds = holds.2 j;
     }
@@ -102,7 +102,6 @@ opening u b is none owner next stopped latest held counts holds started widths r
       held = ap (λ (l : List ℕ). length l) held ∙ length-replicate u.workers 0;
       workers = holds.0;
       buffers = holds.1;
-      started = ap (λ (l : List Bool). length l) started ∙ length-replicate u.workers false;
       widths = widths;
       rows = rows;
       last = λ w c k. absurd (let t = k.0 in omega arith);

@@ -12,7 +12,7 @@ use Rattle.wl_core.specs.declared.step.Refused.{Refused}
 use Rattle.wl_core.specs.declared.outcome.Verdict.{Verdict}
 use Rattle.wl_core.specs.declared.outcome.Verdict.TheVariants.{Cells as CellsOf, Partial as PartialOf, Faulted as FaultedAt}
 use Rattle.wl_core.specs.Machine.{CellValue, SetupValue, StateValue, VerdictValue, Cells, Partial, Faulted, IsSetup, Works, Steps, Refuses, Reached, chunks, holds_of}
-use Rattle.wl_core.specs.Rows.{row_of, times_of}
+use Rattle.wl_core.specs.Rows.{row_of, times_of, partial_of, PutsRow, AddsValue}
 
 abbrev pub cell_of : CellResult → CellValue
 cell_of (Value value) = Ok (Some value.items)
@@ -34,9 +34,6 @@ abbrev pub stored_rows : Job → (ℕ → List ℕ) → (ℕ → List ℤ) → �
 stored_rows Store written row p = row_if (written p) (row p)
 stored_rows (Fold base op) written row p = None
 
-abbrev pub started_rows : (ℕ → Bool) → (ℕ → List ℤ) → ℕ → Option (List ℤ)
-started_rows started row w = cond (started w) (Some (row w)) None
-
 abbrev pub state_of : SetupValue → State → StateValue
 state_of u b =
     let owner = slice_index b.owner.items in
@@ -49,14 +46,15 @@ state_of u b =
       stopped = λ c. slice_index_or b.stopped.items c false;
       written = written;
       stored = stored_rows u.job written (row_of b.stored);
-      partial = started_rows (λ w. slice_index_or b.started.items w false) (row_of b.partial);
+      partial = partial_of b.partials;
       count = slice_index b.counts.items;
       holds = times_of b.holds;
     }
 
-abbrev pub RowsFor : Job → ℕ → ℕ → State → Type 0
-RowsFor Store positions workers b = b.stored.count ≡ positions
-RowsFor (Fold base op) positions workers b = b.partial.count ≡ workers
+-- a row for each position that is stored, or for each worker that combines
+abbrev pub RowsFor : Job → ℕ → ℕ → ℕ → ℕ → Type 0
+RowsFor Store positions workers stored partials = stored ≡ positions
+RowsFor (Fold base op) positions workers stored partials = partials ≡ workers
 
 -- a place for each chunk, position, worker and buffer
 pub record IsSized (u : SetupValue) (b : State) : Type 0 where
@@ -68,9 +66,8 @@ pub record IsSized (u : SetupValue) (b : State) : Type 0 where
   pub held : length b.held.items ≡ u.workers
   pub workers : b.holds.workers ≡ u.workers
   pub buffers : b.holds.buffers ≡ length u.counts
-  pub started : length b.started.items ≡ u.workers
-  pub widths : (p : ℕ) (value : List ℤ) → slice_get u.cells p ≡ Some (Ok (Some value)) → (length value ≡ b.stored.width) × (length value ≡ b.partial.width)
-  pub rows : RowsFor u.job (length u.cells) u.workers b
+  pub widths : (p : ℕ) (value : List ℤ) → slice_get u.cells p ≡ Some (Ok (Some value)) → (length value ≡ b.stored.width) × (length value ≡ b.partials.rows.width)
+  pub rows : RowsFor u.job (length u.cells) u.workers b.stored.count b.partials.rows.count
   -- an unfinished chunk is the one that its worker took last
   pub last : (w c : ℕ) → Works u (state_of u b) w c → slice_index b.latest.items w ≡ c
   pub totals : (w : ℕ) → w < u.workers → slice_index b.held.items w ≡ holds_of u (state_of u b) w
@@ -81,10 +78,20 @@ pub record IsReached (u : Setup) (b : State) : Type 0 where
   pub sized : IsSized (setup_of u) b
   pub reached : Reached (setup_of u) (state_of (setup_of u) b)
 
+-- a value is stored, or combined with the worker's partial value, and nothing else changes
+abbrev pub Enters : Job → State → ℕ → ℕ → List ℤ → State → Type 0
+Enters Store old w position value new = PutsRow old.stored new.stored position value × (new ≡ record old { stored = new.stored })
+Enters (Fold base op) old w position value new = AddsValue old.partials new.partials w op value × (new ≡ record old { partials = new.partials })
+
 -- an event was accepted and did what it does, or it was refused and nothing changed
 abbrev pub Answers : Setup → State → Event → State → Result (Unit {0}) Refused → Type 0
 Answers u old event new (Ok done) = IsReached u new × Steps (setup_of u) (state_of (setup_of u) old) event (state_of (setup_of u) new)
 Answers u old event new (Err reason) = (new ≡ old) × Refuses (setup_of u) (state_of (setup_of u) old) event reason
+
+-- the same, where the new state is not yet known as reached
+abbrev pub Moves : Setup → State → Event → State → Result (Unit {0}) Refused → Type 0
+Moves u old event new (Ok done) = IsSized (setup_of u) new × Steps (setup_of u) (state_of (setup_of u) old) event (state_of (setup_of u) new)
+Moves u old event new (Err reason) = (new ≡ old) × Refuses (setup_of u) (state_of (setup_of u) old) event reason
 
 abbrev pub verdict_of : Verdict → VerdictValue
 verdict_of (CellsOf cells) = Cells cells.items

@@ -4,7 +4,9 @@
 //! Whatever the order in which the workers' events come, a phase that is finished has the verdict of the cells taken one after another.
 #![tactic(auto)]
 
+mod holds;
 mod outcome;
+mod partials;
 mod rows;
 mod setup;
 mod state;

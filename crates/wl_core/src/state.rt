@@ -2,7 +2,9 @@ ghost use Rattle.std.specs.Prelude.{◌≡◌, ◌<◌, ℕ, IfOk, MatchOption};
 ghost use Rattle.wl_core.specs.Machine.{IsSetup, opened, Works};
 ghost use Rattle.wl_core.specs.Reading.{setup_of, state_of, IsReached};
 
-use crate::rows::{Holds, Rows};
+use crate::holds::Holds;
+use crate::partials::Partials;
+use crate::rows::Rows;
 use crate::setup::{chunk_count, chunk_end, value_width};
 use crate::{Job, Setup};
 use sac_base::Memory;
@@ -24,8 +26,7 @@ pub struct State {
     pub(crate) holds: Holds,
     // the cells of a phase that stores them, and the workers' partial values of one that combines them
     pub(crate) stored: Rows,
-    pub(crate) started: Vec<bool>,
-    pub(crate) partial: Rows,
+    pub(crate) partials: Partials,
 }
 
 /// The opening state: nothing is taken, and the counts are those of the setup.
@@ -50,8 +51,7 @@ pub fn open_state(alloc: Global, setup: &Setup) -> Result<State, Memory>
         counts: setup.counts.clone()?,
         holds: Holds::new(alloc, workers, setup.counts.len())?,
         stored: Rows::new(alloc, positions, width)?,
-        started: vec![in alloc; false; workers]?,
-        partial: Rows::new(alloc, partials, width)?,
+        partials: Partials::new(alloc, partials, width)?,
     })
 }
 

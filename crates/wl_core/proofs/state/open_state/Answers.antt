@@ -24,22 +24,20 @@ returns c =
       counts = c.in_ok-clone.field-0;
       holds = c.in_ok-new.field-0;
       stored = c.in_ok-new-2.field-0;
-      started = c.in_ok-vec-6.field-0;
-      partial = c.in_ok-new-3.field-0;
+      partials = c.in_ok-new-3.field-0;
     } in
     let owner : b.owner.items ≡ replicate n 0 = search rules in
     let next : b.next.items ≡ replicate n 0 = search rules in
     let stopped : b.stopped.items ≡ replicate n false = search rules in
     let latest : b.latest.items ≡ replicate u.workers 0 = search rules in
     let held : b.held.items ≡ replicate u.workers 0 = search rules in
-    let started : b.started.items ≡ replicate u.workers false = search rules in
     let counts : b.counts.items ≡ u.counts.items = each_same u.counts.items b.counts.items c.in_ok-clone.ensures.cases.0 in
     let holds : b.holds.buffers ≡ length u.counts.items = search rules in
     let stored = c.in_ok-new-2.ensures in
     let partial = c.in_ok-new-3.ensures in
-    let whole : RowsFor u.job (length (setup_of u).cells) u.workers b = elim c.match-setup.branch [
-      in-Write w ↦ subst (λ (j : Job). RowsFor j (length (setup_of u).cells) u.workers b) (sym w.in-Write.is) (stored.1 ∙ ap (λ (p : ℕ × ℕ). p.0) w.positions-is ∙ w.len.ensures ∙ u.cells.ok.0 ∙ sym (length-map u.cells.items cell_of))
-      | in-Fold w ↦ subst (λ (j : Job). RowsFor j (length (setup_of u).cells) u.workers b) (sym w.in-Fold.is) (partial.1 ∙ ap (λ (p : ℕ × ℕ). p.1) w.positions-is)
+    let whole : RowsFor u.job (length (setup_of u).cells) u.workers b.stored.count b.partials.rows.count = elim c.match-setup.branch [
+      in-Write w ↦ subst (λ (j : Job). RowsFor j (length (setup_of u).cells) u.workers b.stored.count b.partials.rows.count) (sym w.in-Write.is) (stored.1 ∙ ap (λ (p : ℕ × ℕ). p.0) w.positions-is ∙ w.len.ensures ∙ u.cells.ok.0 ∙ sym (length-map u.cells.items cell_of))
+      | in-Fold w ↦ subst (λ (j : Job). RowsFor j (length (setup_of u).cells) u.workers b.stored.count b.partials.rows.count) (sym w.in-Fold.is) (partial.1 ∙ ap (λ (p : ℕ × ℕ). p.1) w.positions-is)
     ] in
-    opening u b c.requires refl owner next stopped latest held counts (c.in_ok-new.ensures.0, holds, c.in_ok-new.ensures.2) started
+    opening u b c.requires refl owner next stopped latest held counts (c.in_ok-new.ensures.0, holds, c.in_ok-new.ensures.2) partial.2
     (λ p value at. let width = c.value_width-width.ensures p value at in (width ∙ sym stored.0, width ∙ sym partial.0)) whole
