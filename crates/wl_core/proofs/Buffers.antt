@@ -7,9 +7,11 @@ use Rattle.std.proofs.Math.Nat.{mul-le-mul_right}
 use Rattle.std.specs.List.{between}
 use borrow.Rule.Slice.PartMut.{put_mid}
 use Rattle.sac_base.specs.Verdict.{joined, elementwise}
-use Rattle.wl_core.specs.Machine.{put, listed}
-use Rattle.wl_core.specs.Rows.{RowsValue, row_of, PutsRow, HoldsValue, times_of, SetsTimes}
-use Rattle.wl_core.proofs.Functions.{put_is, joined-append}
+use Rattle.std.proofs.Common.{Option, Some, None}
+use Rattle.sac_base.specs.declared.op.Op.{Op}
+use Rattle.wl_core.specs.Machine.{put, listed, both, combine}
+use Rattle.wl_core.specs.Rows.{RowsValue, row_of, PutsRow, HoldsValue, times_of, SetsTimes, PartialsValue, partial_of, AddsValue}
+use Rattle.wl_core.proofs.Functions.{put_is, put_same, put_other, joined-append}
 
 pub later_row : (p q width : ℕ) → p < q → p * width + width ≤ q * width
 later_row p q width lt = let m : suc p * width ≤ q * width = mul-le-mul_right width lt in let e : suc p * width ≡ p * width + width = omega arith in omega arith
@@ -128,3 +130,27 @@ length-written at k n xs ys lx ly room = simp (length-append, length-take, lengt
 
 pub length_row : (rows : RowsValue) (index : ℕ) → length rows.cells ≡ rows.count * rows.width → index < rows.count → length (row_of rows index) ≡ rows.width
 length_row rows index full lt = let l = later_row index rows.count rows.width lt in simp (length-take, length-drop) (omega arith)
+
+-- a worker that has begun combines its row with a value
+pub adds_more : (started : List Bool) (old rows : RowsValue) (w : ℕ) (op : Op) (value : List ℤ) → get_or started w false ≡ true → PutsRow old rows w (combine op (row_of old w) value)
+    → AddsValue (record { started = started; rows = old }) (record { started = started; rows = rows }) w op value
+adds_more started old rows w op value began put = record {
+  width = put.width;
+  count = put.count;
+  partials = put_is (partial_of (record { started = started; rows = rows })) (partial_of (record { started = started; rows = old })) w _
+      ((λ j. cond (began j) (Some ((ap (λ (f : ℕ → List ℤ). f w) put.rows ∙ put_same (row_of old) w (combine op (row_of old w) value) w refl) j)) None)
+      ∙ sym (ap (λ (b : Bool). both (combine op) (cond b (Some (row_of old w)) None) (Some value)) began))
+      (λ i ne. ap (λ (l : List ℤ). cond (get_or started i false) (Some l) None) (ap (λ (f : ℕ → List ℤ). f i) put.rows ∙ put_other (row_of old) w (combine op (row_of old w) value) i ne));
+}
+
+-- one that has not begun takes it as its first
+pub adds_first : (started : List Bool) (old rows : RowsValue) (w : ℕ) (op : Op) (value : List ℤ) → w < length started → get_or started w false ≡ false → PutsRow old rows w value
+    → AddsValue (record { started = started; rows = old }) (record { started = set started w true; rows = rows }) w op value
+adds_first started old rows w op value lt fresh put = record {
+  width = put.width;
+  count = put.count;
+  partials = put_is (partial_of (record { started = set started w true; rows = rows })) (partial_of (record { started = started; rows = old })) w _
+      ((λ j. cond (get_or-set_same started w true false lt j) (Some ((ap (λ (f : ℕ → List ℤ). f w) put.rows ∙ put_same (row_of old) w value w refl) j)) None)
+      ∙ sym (ap (λ (b : Bool). both (combine op) (cond b (Some (row_of old w)) None) (Some value)) fresh))
+      (λ i ne. (λ j. cond (get_or-set_other started w i true false ne j) (Some ((ap (λ (f : ℕ → List ℤ). f i) put.rows ∙ put_other (row_of old) w value i ne) j)) None));
+}

@@ -7,8 +7,8 @@ use Rattle.sac_base.specs.declared.fault.Fault.{Fault}
 use Rattle.sac_base.specs.Verdict.{combined, present}
 use Rattle.wl_core.specs.declared.setup.Job.{Job}
 use Rattle.wl_core.specs.declared.setup.Job.TheVariants.{Write as Store, Fold}
-use Rattle.wl_core.specs.declared.step.Event.{Event}
-use Rattle.wl_core.specs.declared.step.Event.TheVariants.{Draw, Keep, Release, Write, Stop}
+use Rattle.wl_core.specs.declared.events.Event.{Event}
+use Rattle.wl_core.specs.declared.events.Event.TheVariants.{Draw, Keep, Release, Write, Stop}
 use Rattle.wl_core.specs.Machine.{SetupValue, StateValue, IsSetup, TakesBase, combine, Steps, Runs, Reached, Works, opened, put, first, end, chunks, sum_below, holds_of, listed, both, store, gather}
 use Rattle.wl_core.specs.Facts.{Facts, cell_at, value_of, own, own_cells, stored_by, partial_by}
 use Rattle.wl_core.specs.Combining.{IsFoldable}

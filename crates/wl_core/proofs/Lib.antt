@@ -5,3 +5,4 @@ pub mod Combining
 pub mod Kept
 pub mod Verdicts
 pub mod States
+pub mod Moves

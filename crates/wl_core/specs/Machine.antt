@@ -8,10 +8,10 @@ use Rattle.sac_base.specs.Outcomes.{Ends}
 use Rattle.sac_base.specs.Verdict.{each, present, joined, combined, elementwise, folds, fold_op}
 use Rattle.wl_core.specs.declared.setup.Job.{Job}
 use Rattle.wl_core.specs.declared.setup.Job.TheVariants.{Write as Store, Fold}
-use Rattle.wl_core.specs.declared.step.Event.{Event}
-use Rattle.wl_core.specs.declared.step.Event.TheVariants.{Draw, Keep, Release, Write, Stop}
-use Rattle.wl_core.specs.declared.step.Refused.{Refused}
-use Rattle.wl_core.specs.declared.step.Refused.TheVariants.{NoChunk, HasChunk, NoOwn, AtFault, NotFault, NotHeld, NoSuch, Full}
+use Rattle.wl_core.specs.declared.events.Event.{Event}
+use Rattle.wl_core.specs.declared.events.Event.TheVariants.{Draw, Keep, Release, Write, Stop}
+use Rattle.wl_core.specs.declared.events.Refused.{Refused}
+use Rattle.wl_core.specs.declared.events.Refused.TheVariants.{NoChunk, HasChunk, NoOwn, AtFault, NotFault, NotHeld, NoSuch, Full}
 
 -- what the cell of a position comes to: a fault, the elements of its value, or nothing where no generator holds the index
 abbrev pub CellValue : Type 0

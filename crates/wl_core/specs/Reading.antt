@@ -7,10 +7,10 @@ use Rattle.wl_core.specs.declared.setup.Job.{Job}
 use Rattle.wl_core.specs.declared.setup.Job.TheVariants.{Write as Store, Fold}
 use Rattle.wl_core.specs.declared.setup.Setup.{Setup}
 use Rattle.wl_core.specs.declared.state.State.{State}
-use Rattle.wl_core.specs.declared.step.Event.{Event}
-use Rattle.wl_core.specs.declared.step.Refused.{Refused}
-use Rattle.wl_core.specs.declared.outcome.Verdict.{Verdict}
-use Rattle.wl_core.specs.declared.outcome.Verdict.TheVariants.{Cells as CellsOf, Partial as PartialOf, Faulted as FaultedAt}
+use Rattle.wl_core.specs.declared.events.Event.{Event}
+use Rattle.wl_core.specs.declared.events.Refused.{Refused}
+use Rattle.wl_core.specs.declared.ending.Verdict.{Verdict}
+use Rattle.wl_core.specs.declared.ending.Verdict.TheVariants.{Cells as CellsOf, Partial as PartialOf, Faulted as FaultedAt}
 use Rattle.wl_core.specs.Machine.{CellValue, SetupValue, StateValue, VerdictValue, Cells, Partial, Faulted, IsSetup, Works, Steps, Refuses, Reached, chunks, holds_of}
 use Rattle.wl_core.specs.Rows.{row_of, times_of, partial_of, PutsRow, AddsValue}
 
@@ -77,6 +77,11 @@ pub record IsReached (u : Setup) (b : State) : Type 0 where
   pub setup : IsSetup (setup_of u)
   pub sized : IsSized (setup_of u) b
   pub reached : Reached (setup_of u) (state_of (setup_of u) b)
+
+-- there is a row for the value
+abbrev pub EnterFits : Job → State → ℕ → ℕ → List ℤ → Type 0
+EnterFits Store old w position value = (position < old.stored.count) × (length value ≡ old.stored.width)
+EnterFits (Fold base op) old w position value = (w < old.partials.rows.count) × (length value ≡ old.partials.rows.width)
 
 -- a value is stored, or combined with the worker's partial value, and nothing else changes
 abbrev pub Enters : Job → State → ℕ → ℕ → List ℤ → State → Type 0

@@ -5,14 +5,14 @@
 #![tactic(auto)]
 
 mod holds;
-mod outcome;
+mod ending;
 mod partials;
 mod rows;
 mod setup;
 mod state;
-mod step;
+mod events;
 
-pub use outcome::Verdict;
+pub use ending::Verdict;
 pub use setup::{CellResult, Job, Setup};
-pub use state::State;
-pub use step::{Event, Refused};
+pub use state::{State, open_state};
+pub use events::{Event, Refused, step};
