@@ -6,6 +6,8 @@ use Rattle.std.proofs.Math.Nat.{mul-le-mul_right}
 use Rattle.std.specs.Prelude.{slice_get, slice_index, ◌&&◌, nat_lt}
 use Rattle.sac_base.specs.declared.fault.Fault.{Fault}
 use Rattle.wl_core.specs.declared.setup.Setup.{Setup}
+use Rattle.wl_core.specs.declared.setup.CellResult.{CellResult}
+use Rattle.wl_core.specs.declared.setup.CellResult.TheVariants.{Value, Faults, NotHeld}
 use Rattle.wl_core.specs.declared.setup.Job.{Job}
 use Rattle.wl_core.specs.declared.setup.Job.TheVariants.{Write as Store, Fold}
 use Rattle.wl_core.specs.declared.state.State.{State}
@@ -16,7 +18,7 @@ use Rattle.wl_core.specs.declared.events.Event.TheVariants.{Draw, Keep, Release,
 use Rattle.wl_core.specs.Machine.{SetupValue, StateValue, IsSetup, IsFold, CellValue, Works, Steps, Reached, combine, both, store, gather, put, chunks, first, end, sum_below, holds_of}
 use Rattle.wl_core.specs.Facts.{Facts}
 use Rattle.wl_core.specs.Rows.{RowsValue, HoldsValue, PartialsValue, row_of, times_of, partial_of, PutsRow, AddsValue, SetsTimes}
-use Rattle.wl_core.specs.Reading.{setup_of, state_of, written_by, row_if, stored_rows, RowsFor, IsSized, IsReached, Enters, Moves, Answers}
+use Rattle.wl_core.specs.Reading.{setup_of, state_of, written_by, row_if, stored_rows, RowsFor, IsSized, IsReached, cell_of, EnterFits, Enters, Moves, Answers}
 use Rattle.wl_core.proofs.Functions.{put_is, put_id, put_same, put_other, sum-put, one-le}
 use Rattle.wl_core.proofs.Kept.{apart, reached_more}
 use Rattle.wl_core.proofs.Verdicts.{chunk_from, chunk_below}
@@ -78,6 +80,22 @@ module _ (size : ℕ) where
       (λ (no : p / size ≢ c). ap (λ (n : ℕ). cond (ltb (p / size) taken && ltb p n) (owner (p / size) ∷ []) []) (put_other next c (q + 1) (p / size) no))
       (cases_eq (p / size) c))
 
+module _ (b mid : State) (q w : ℕ) (x : List ℤ) where
+  entered_stored : (j : Job) → Enters j b w q x mid → (mid.stored.width ≡ b.stored.width) × (mid.stored.count ≡ b.stored.count)
+  entered_stored Store e = (e.0.width, e.0.count)
+  entered_stored (Fold base op) e = (ap (λ (m : State). m.stored.width) e.1, ap (λ (m : State). m.stored.count) e.1)
+
+  entered_sizes : (j : Job) → Enters j b w q x mid → (mid.partials.rows.width ≡ b.partials.rows.width) × (mid.partials.rows.count ≡ b.partials.rows.count)
+  entered_sizes Store e = (ap (λ (m : State). m.partials.rows.width) e.1, ap (λ (m : State). m.partials.rows.count) e.1)
+  entered_sizes (Fold base op) e = (e.0.width, e.0.count)
+
+  entered_rest : (j : Job) → Enters j b w q x mid → mid ≡ record b { stored = mid.stored; partials = mid.partials }
+  entered_rest Store e = e.1 ∙ (λ j. record b { stored = mid.stored; partials = sym (ap (λ (m : State). m.partials) e.1) j })
+  entered_rest (Fold base op) e = e.1 ∙ (λ j. record b { stored = sym (ap (λ (m : State). m.stored) e.1) j; partials = mid.partials })
+
+  pub entered_next : (j : Job) → Enters j b w q x mid → mid.next ≡ b.next
+  entered_next j e = ap (λ (m : State). m.next) (entered_rest j e)
+
 -- what is stored and combined, where a value is entered
 module _ (b mid : State) (q w : ℕ) (x : List ℤ) (written : ℕ → List ℕ) (empty : written q ≡ []) where
   entered_rows : (j : Job) → Enters j b w q x mid → stored_rows j (put written q (written q ++ w ∷ [])) (row_of mid.stored) ≡ store j (stored_rows j written (row_of b.stored)) q (Some x)
@@ -91,18 +109,6 @@ module _ (b mid : State) (q w : ℕ) (x : List ℤ) (written : ℕ → List ℕ)
   entered_partials : (j : Job) → Enters j b w q x mid → partial_of mid.partials ≡ gather j (partial_of b.partials) w (Some x)
   entered_partials Store e = ap (λ (m : State). partial_of m.partials) e.1
   entered_partials (Fold base op) e = e.0.partials
-
-  entered_stored : (j : Job) → Enters j b w q x mid → (mid.stored.width ≡ b.stored.width) × (mid.stored.count ≡ b.stored.count)
-  entered_stored Store e = (e.0.width, e.0.count)
-  entered_stored (Fold base op) e = (ap (λ (m : State). m.stored.width) e.1, ap (λ (m : State). m.stored.count) e.1)
-
-  entered_sizes : (j : Job) → Enters j b w q x mid → (mid.partials.rows.width ≡ b.partials.rows.width) × (mid.partials.rows.count ≡ b.partials.rows.count)
-  entered_sizes Store e = (ap (λ (m : State). m.partials.rows.width) e.1, ap (λ (m : State). m.partials.rows.count) e.1)
-  entered_sizes (Fold base op) e = (e.0.width, e.0.count)
-
-  entered_rest : (j : Job) → Enters j b w q x mid → mid ≡ record b { stored = mid.stored; partials = mid.partials }
-  entered_rest Store e = e.1 ∙ (λ j. record b { stored = mid.stored; partials = sym (ap (λ (m : State). m.partials) e.1) j })
-  entered_rest (Fold base op) e = e.1 ∙ (λ j. record b { stored = sym (ap (λ (m : State). m.stored) e.1) j; partials = mid.partials })
 
 -- a cell that is not held is passed over
 passed_rows : (j : Job) (q w : ℕ) (written : ℕ → List ℕ) (row : ℕ → List ℤ) → IsFold j → stored_rows j (put written q (written q ++ w ∷ [])) row ≡ store j (stored_rows j written row) q None
@@ -257,9 +263,9 @@ module _ (u : Setup) (b : State) (r : IsReached u b) where
   writes_value w c x mid n worker works cell enters n_is =
       let q = s.next c in
       let empty = (next_position w c works).2 in
-      let rest = entered_rest b mid q w x s.written empty u.job enters in
+      let rest = entered_rest b mid q w x u.job enters in
       subst (λ (m : State). Moves u b (Write w) (record m { next = n }) (Ok tt)) (sym rest)
-      (writes_by w c (Some x) n mid.stored mid.partials worker works cell (n_is ∙ ap (λ (m : State). set m.next.items c (q + 1)) rest) (entered_stored b mid q w x s.written empty u.job enters) (entered_sizes b mid q w x s.written empty u.job enters)
+      (writes_by w c (Some x) n mid.stored mid.partials worker works cell (n_is ∙ ap (λ (m : State). set m.next.items c (q + 1)) rest) (entered_stored b mid q w x u.job enters) (entered_sizes b mid q w x u.job enters)
       (entered_rows b mid q w x s.written empty u.job enters) (entered_partials b mid q w x s.written empty u.job enters))
 
   pub passes_over : (w c : ℕ) (n : Vec ℕ Global) → w < u.workers → Works v s w c → slice_get v.cells (s.next c) ≡ Some (Ok None) → n.items ≡ set b.next.items c (s.next c + 1) → Moves u b (Write w) (record b { next = n }) (Ok tt)
@@ -342,3 +348,16 @@ module _ (u : Setup) (b : State) (r : IsReached u b) (w d : ℕ) (worker : w < u
 pub answered : (u : Setup) (old new : State) (e : Event) (x : Result (Unit {0}) Refused) → IsReached u old → Moves u old e new x → Answers u old e new x
 answered u old new e (Ok done) r m = (record { setup = r.setup; sized = m.0; reached = reached_more (setup_of u) (state_of (setup_of u) old) (state_of (setup_of u) new) e r.reached m.1 }, m.1)
 answered u old new e (Err reason) r m = m
+
+-- there is a row for the value of a position
+pub enter_fits : (j : Job) (b : State) (positions workers w q : ℕ) (x : List ℤ) → RowsFor j positions workers b.stored.count b.partials.rows.count → w < workers → q < positions → (length x ≡ b.stored.width) × (length x ≡ b.partials.rows.width) → EnterFits j b w q x
+enter_fits Store b positions workers w q x rows worker below fits = (omega arith, fits.0)
+enter_fits (Fold base op) b positions workers w q x rows worker below fits = (omega arith, fits.1)
+
+pub is_value : (x : CellResult) → ((fault : Fault) → x ≡ Faults fault → ⊥) → (value : Option (List ℤ)) × (cell_of x ≡ Ok value)
+is_value (Value value) not = (Some value.items, refl)
+is_value (Faults fault) not = absurd (not fault refl)
+is_value NotHeld not = (None, refl)
+
+pub held_cell : (value : Vec ℤ Global) (x : List ℤ) → x ≡ value.items → Some (cell_of (Value value)) ≡ Some (Ok (Some x))
+held_cell value x e = λ j. Some (Ok (Some (sym e j)))

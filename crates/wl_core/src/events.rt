@@ -66,9 +66,9 @@ fn draw(setup: &Setup, state: &mut State, worker: u32) -> Result<(), Refused>
     if worker >= setup.workers {
         return Err(Refused::NoSuch);
     }
-    if unfinished(setup, state, worker).is_some() {
+    let None = unfinished(setup, state, worker) else {
         return Err(Refused::HasChunk);
-    }
+    };
     let chunk = state.taken;
     if chunk == state.owner.len() {
         return Err(Refused::NoChunk);
@@ -170,6 +170,6 @@ fn stop(setup: &Setup, state: &mut State, worker: u32) -> Result<(), Refused>
             state.stopped[chunk] = true;
             Ok(())
         }
-        CellResult::Value(_) | CellResult::NotHeld => Err(Refused::NotFault),
+        _ => Err(Refused::NotFault),
     }
 }

@@ -76,5 +76,5 @@ returns c =
     let ok = b.owner.ok.0 in
     let below : b.taken < chunks (setup_of u) = omega arith in
     let next = c.chunk_start.ensures in
-    let idle : (k : ℕ) → ¬ Works (setup_of u) (state_of (setup_of u) b) c.args.worker k = ? in
+    let idle : (k : ℕ) → ¬ Works (setup_of u) (state_of (setup_of u) b) c.args.worker k = c.in-None.ensures in
     draws u b c.requires c.args.worker (b.taken + 1) _ _ _ _ c.if-worker-setup.false idle below refl refl (ap (λ (x : ℕ). set b.next.items b.taken x) next) refl refl

@@ -3,9 +3,9 @@ use Rattle.std.specs.Prelude.{slice_get, slice_index}
 use Rattle.std.proofs.lemmas.List.{get_or_read, length-map}
 use Rattle.wl_core.specs.Reading.{setup_of, state_of, cell_of}
 use Rattle.wl_core.specs.declared.setup.CellResult.{CellResult}
-use Rattle.wl_core.specs.Machine.{Works, chunks}
+use Rattle.wl_core.specs.Machine.{CellValue, Works, chunks}
 use Rattle.wl_core.proofs.States.{facts}
-use Rattle.wl_core.proofs.Moves.{stops_chunk, next_position}
+use Rattle.wl_core.proofs.Moves.{stops_chunk, next_position, is_value}
 use Rattle.wl_core.proofs.events.stop.Goals as goal
 
 pub index-requires : goal.index-requires
@@ -54,22 +54,3 @@ returns-in-Faults c =
     let cell : slice_get (setup_of u).cells (slice_index b.next.items c.in-Some.chunk) ≡ Some (Err c.in-Faults.field-0) = ap (λ (k : ℕ). slice_get (setup_of u).cells k) (sym at) ∙ c.cell.ensures ∙ ap (λ (x : CellResult). Some (cell_of x)) c.in-Faults.is in
     stops_chunk u b c.requires w c.in-Some.chunk c.in-Faults.field-0 _ c.if-worker-setup.false works cell refl
 
-pub returns-in-Value : goal.returns-in-Value
-returns-in-Value c =
-    let u = c.args.setup.now in
-    let b = c.args.state.now in
-    let w = c.args.worker in
-    let works : Works (setup_of u) (state_of (setup_of u) b) w c.in-Some.chunk = c.in-Some.ensures in
-    let few = (facts u b c.requires).taken_few in
-    let taken = works.0 in
-    ?
-
-pub returns-in-Value-2 : goal.returns-in-Value-2
-returns-in-Value-2 c =
-    let u = c.args.setup.now in
-    let b = c.args.state.now in
-    let w = c.args.worker in
-    let works : Works (setup_of u) (state_of (setup_of u) b) w c.in-Some.chunk = c.in-Some.ensures in
-    let few = (facts u b c.requires).taken_few in
-    let taken = works.0 in
-    ?
