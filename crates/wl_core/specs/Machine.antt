@@ -172,12 +172,18 @@ Runs u s (e ∷ es) t = (m : StateValue) × Steps u s e m × Runs u m es t
 abbrev pub Reached : SetupValue → StateValue → Type 0
 Reached u s = (es : List Event) × Runs u (opened u) es s
 
--- no worker holds anything, and every chunk has ended, has stopped, or lies after a stopped one
+-- no worker holds anything
+abbrev pub HoldsNothing : SetupValue → StateValue → Type 0
+HoldsNothing u s = (w b : ℕ) → w < u.workers → b < length u.counts → s.holds w b ≡ 0
+
+-- every chunk has ended, has stopped, or lies after a stopped one
+abbrev pub ChunksDone : SetupValue → StateValue → Type 0
+ChunksDone u s =
+    (c : ℕ) → c < chunks u
+    → ((c < s.taken) × (s.next c ≡ end u c)) ⊎ (((c < s.taken) × (s.stopped c ≡ true)) ⊎ ((d : ℕ) × (d < c) × (d < s.taken) × (s.stopped d ≡ true)))
+
 abbrev pub Finished : SetupValue → StateValue → Type 0
-Finished u s =
-    ((w b : ℕ) → w < u.workers → b < length u.counts → s.holds w b ≡ 0)
-    × ((c : ℕ) → c < chunks u
-    → ((c < s.taken) × (s.next c ≡ end u c)) ⊎ (((c < s.taken) × (s.stopped c ≡ true)) ⊎ ((d : ℕ) × (d < c) × (d < s.taken) × (s.stopped d ≡ true))))
+Finished u s = HoldsNothing u s × ChunksDone u s
 
 pub data VerdictValue : Type 0 where
   Cells : List ℤ → VerdictValue

@@ -54,3 +54,14 @@ returns-in-Faults c =
     let cell : slice_get (setup_of u).cells (slice_index b.next.items c.in-Some.chunk) ≡ Some (Err c.in-Faults.field-0) = ap (λ (k : ℕ). slice_get (setup_of u).cells k) (sym at) ∙ c.cell.ensures ∙ ap (λ (x : CellResult). Some (cell_of x)) c.in-Faults.is in
     stops_chunk u b c.requires w c.in-Some.chunk c.in-Faults.field-0 _ c.if-worker-setup.false works cell refl
 
+pub returns-in_default-cell : goal.returns-in_default-cell
+returns-in_default-cell c =
+    let u = c.args.setup.now in
+    let b = c.args.state.now in
+    let w = c.args.worker in
+    let works : Works (setup_of u) (state_of (setup_of u) b) w c.in-Some.chunk = c.in-Some.ensures in
+    let few = (facts u b c.requires).taken_few in
+    let taken = works.0 in
+    let at : c.index.result.now ≡ slice_index b.next.items c.in-Some.chunk = get_or_read b.next.items c.in-Some.chunk c.index.result.now (let n = c.requires.sized.nexts in omega arith) c.index.ensures 0 in
+    let value = is_value c.cell.result.now c.in_default-cell.not-Faults in
+    (refl, (c.if-worker-setup.false, (c.in-Some.chunk, value.0, works, ap (λ (k : ℕ). slice_get (setup_of u).cells k) (sym at) ∙ c.cell.ensures ∙ ap (λ (x : CellValue). Some x) value.1)))
