@@ -3,13 +3,14 @@ use Rattle.std.proofs.Common.{◌≡◌, ◌≢◌, ℕ, zero, suc, ◌+◌, ◌
 use Rattle.std.proofs.Common.{get_or, Vec, Global, replicate, cond, ltb}
 use Rattle.std.proofs.lemmas.Bool.{le-ltb}
 use Rattle.std.proofs.lemmas.List.{get_or_read, length-replicate}
-use Rattle.std.specs.Prelude.{slice_get, slice_index}
+use Rattle.std.specs.Prelude.{slice_get, slice_index, IsSomeAnd, MatchOption}
+use Rattle.sac_base.specs.declared.fault.Fault.{Fault}
 use Rattle.wl_core.specs.declared.setup.CellResult.{CellResult}
 use Rattle.wl_core.specs.declared.setup.CellResult.TheVariants.{Value, Faults, NotHeld}
 use Rattle.wl_core.specs.declared.setup.Setup.{Setup}
 use Rattle.wl_core.specs.declared.state.State.{State}
 use Rattle.wl_core.specs.Machine.{SetupValue, StateValue, IsSetup, CellValue, Works, chunks, end, opened}
-use Rattle.wl_core.specs.Facts.{Facts}
+use Rattle.wl_core.specs.Facts.{Facts, NoneStopped, StopsFirst}
 use Rattle.wl_core.specs.Reading.{setup_of, state_of, cell_of, written_by, row_if, stored_rows, RowsFor, IsSized, IsReached}
 use Rattle.wl_core.specs.Rows.{row_of, times_of, partial_of}
 use Rattle.wl_core.specs.declared.setup.Job.{Job}
@@ -107,3 +108,9 @@ opening u b is none owner next stopped latest held counts holds partials widths 
       last = λ w c k. absurd (let t = k.0 in omega arith);
       totals = λ w lt. (ap (λ (l : List ℕ). slice_index l w) held ∙ get_or-all u.workers w 0) ∙ sym (sum-none (times_of b.holds w) (length u.counts.items) (λ c l. ap (λ (f : ℕ → ℕ → ℕ). f w c) holds.2));
     }
+
+-- the fault that was read at a stopped chunk without stopped ones before it
+pub some_first : (u : SetupValue) (s : StateValue) (chunk next : ℕ) (r : Option Fault) → chunk < s.taken → s.stopped chunk ≡ true → ((d : ℕ) → d < chunk → s.stopped d ≡ false) → next ≡ s.next chunk
+    → IsSomeAnd r (λ fault. slice_get u.cells next ≡ Some (Err fault)) → MatchOption r (NoneStopped s) (λ fault. StopsFirst u s fault)
+some_first u s chunk next None taken stopped before is at = absurd at
+some_first u s chunk next (Some fault) taken stopped before is at = (chunk, taken, stopped, before, ap (λ (k : ℕ). slice_get u.cells k) (sym is) ∙ at)

@@ -89,10 +89,13 @@ module _ (u : SetupValue) (s : StateValue) (is : IsSetup u) (h : Facts u s) (fin
 
   pub settled : Settled u s
   settled = record {
-    fault = λ c fault lt stop none at.
-        let st = h.stops c lt stop in
+    fault = λ fault at.
+        let c = at.0 in
+        let lt = at.1 in
+        let none = at.3 in
+        let st = h.stops c lt at.2 in
         let within = h.within c lt in
-        ap (verdict_by u.job) (first_fault u.cells (s.next c) fault at (λ q below.
+        ap (verdict_by u.job) (first_fault u.cells (s.next c) fault at.4 (λ q below.
         let in_cells : q < length u.cells = (let x = st.0 in omega arith) in
         let d : ℕ = q / u.size in
         let before : d ≤ c = chunk_before u is.size q c (let x = st.0 in omega arith) in

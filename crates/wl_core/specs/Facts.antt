@@ -61,9 +61,16 @@ abbrev pub made_by : Job → ℕ → ℕ → StateValue → VerdictValue
 made_by Store positions workers s = whole Store (listed s.stored positions)
 made_by (Fold base op) positions workers s = whole (Fold base op) (listed s.partial workers)
 
+abbrev pub NoneStopped : StateValue → Type 0
+NoneStopped s = (c : ℕ) → c < s.taken → s.stopped c ≡ false
+
+-- the fault at which the least stopped chunk stopped
+abbrev pub StopsFirst : SetupValue → StateValue → Fault → Type 0
+StopsFirst u s fault = (c : ℕ) × (c < s.taken) × (s.stopped c ≡ true) × ((d : ℕ) → d < c → s.stopped d ≡ false) × (slice_get u.cells (s.next c) ≡ Some (Err fault))
+
 -- what a finished state says: the stop of the least stopped chunk is the sequential fault, and where none stopped, the stored cells joined,
 -- or the partial values combined, are the sequential verdict; the counts are those of the opening
 pub record Settled (u : SetupValue) (s : StateValue) : Type 0 where
-  pub fault : (c : ℕ) (fault : Fault) → c < s.taken → s.stopped c ≡ true → ((d : ℕ) → d < c → s.stopped d ≡ false) → slice_get u.cells (s.next c) ≡ Some (Err fault) → sequential u ≡ Faulted fault
-  pub made : ((c : ℕ) → c < s.taken → s.stopped c ≡ false) → sequential u ≡ made_by u.job (length u.cells) u.workers s
+  pub fault : (fault : Fault) → StopsFirst u s fault → sequential u ≡ Faulted fault
+  pub made : NoneStopped s → sequential u ≡ made_by u.job (length u.cells) u.workers s
   pub counts : (b : ℕ) → b < length u.counts → s.count b ≡ slice_index u.counts b

@@ -1,6 +1,5 @@
 -- A setup, a state and a verdict in memory as the values that they stand for.
-use Rattle.std.specs.Prelude.{◌≡◌, ℕ, ◌+◌, ◌-◌, ◌*◌, ◌/◌, ◌<◌, ◌≤◌, Bool, true, false, cond, ◌&&◌, nat_lt, ℤ, List, [], ◌∷◌, length, map, slice_get, slice_index, slice_index_or, Option, Some, None, Result, Ok, Err, option_map}
-use Rattle.std.specs.Global.{Vec}
+use Rattle.std.specs.Prelude.{◌≡◌, ℕ, ◌+◌, ◌-◌, ◌*◌, ◌/◌, ◌<◌, ◌≤◌, Bool, true, false, cond, ◌&&◌, nat_lt, ℤ, List, [], ◌∷◌, length, map, slice_get, slice_index, slice_index_or, Option, Some, None, Result, Ok, Err}
 use Rattle.wl_core.specs.declared.setup.CellResult.{CellResult}
 use Rattle.wl_core.specs.declared.setup.CellResult.TheVariants.{Value, Faults, NotHeld}
 use Rattle.wl_core.specs.declared.setup.Job.{Job}
@@ -12,7 +11,7 @@ use Rattle.wl_core.specs.declared.events.Refused.{Refused}
 use Rattle.wl_core.specs.declared.ending.Verdict.{Verdict}
 use Rattle.wl_core.specs.declared.ending.Verdict.TheVariants.{Cells as CellsOf, Partial as PartialOf, Faulted as FaultedAt}
 use Rattle.wl_core.specs.Machine.{CellValue, SetupValue, StateValue, VerdictValue, Cells, Partial, Faulted, IsSetup, Works, Steps, Refuses, Reached, chunks, holds_of}
-use Rattle.wl_core.specs.Rows.{row_of, times_of, partial_of, PutsRow, AddsValue}
+use Rattle.wl_core.specs.Rows.{row_of, times_of, partial_of, items_of, PutsRow, AddsValue}
 
 abbrev pub cell_of : CellResult → CellValue
 cell_of (Value value) = Ok (Some value.items)
@@ -100,5 +99,5 @@ Moves u old event new (Err reason) = (new ≡ old) × Refuses (setup_of u) (stat
 
 abbrev pub verdict_of : Verdict → VerdictValue
 verdict_of (CellsOf cells) = Cells cells.items
-verdict_of (PartialOf value) = Partial (option_map (λ (v : Vec ℤ). v.items) value)
+verdict_of (PartialOf value) = Partial (items_of value)
 verdict_of (FaultedAt fault) = Faulted fault

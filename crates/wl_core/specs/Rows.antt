@@ -1,5 +1,6 @@
 -- Tables that stand in one buffer, row after row.
 use Rattle.std.specs.Prelude.{◌≡◌, ℕ, ◌+◌, ◌*◌, ℤ, List, Bool, false, cond, nat_lt, take, drop, slice_index, slice_index_or, Option, Some, None}
+use Rattle.std.specs.Global.{Vec}
 use Rattle.sac_base.specs.declared.op.Op.{Op}
 use Rattle.wl_core.specs.Machine.{put, both, combine}
 
@@ -46,3 +47,7 @@ pub record AddsValue (old new : PartialsValue) (w : ℕ) (op : Op) (value : List
   pub width : new.rows.width ≡ old.rows.width
   pub count : new.rows.count ≡ old.rows.count
   pub partials : partial_of new ≡ put (partial_of old) w (both (combine op) (partial_of old w) (Some value))
+
+abbrev pub items_of : Option (Vec ℤ) → Option (List ℤ)
+items_of None = None
+items_of (Some value) = Some value.items
