@@ -42,6 +42,17 @@ module _ {A : Type 0} (op : A → A → A) where
   same f g zero h = refl
   same f g (suc n) h = λ j. both op (same f g n (λ i lt. h i (omega arith)) j) (h n (omega arith) j)
 
+  both-nothing : (a : Option A) → both op a None ≡ a
+  both-nothing None = refl
+  both-nothing (Some x) = refl
+
+  -- a loop's step
+  pub gathered_more : (f : ℕ → Option A) (n : ℕ) → gathered f (n + 1) ≡ both op (gathered f n) (f n)
+  gathered_more f n = let e : n + 1 ≡ suc n = omega arith in ap (gathered f) e
+
+  pub gathered_skips : (f : ℕ → Option A) (n : ℕ) → f n ≡ None → gathered f (n + 1) ≡ gathered f n
+  gathered_skips f n none = gathered_more f n ∙ ap (λ (x : Option A). both op (gathered f n) x) none ∙ both-nothing (gathered f n)
+
   module _ (laws : IsFoldable op) where
     both-none : (a : Option A) → both op a None ≡ a
     both-none None = refl
@@ -98,3 +109,8 @@ module _ {A : Type 0} (op : A → A → A) where
         ap (λ (y : Option A). both op y (put f q x n)) (adds f q x n (omega arith) empty) ∙ ap (λ (y : Option A). both op (both op (gathered f n) x) y) (put_other f q x n (λ k. ne (sym k)))
         ∙ both-assoc (gathered f n) x (f n) ∙ ap (λ (y : Option A). both op (gathered f n) y) (both-comm x (f n)) ∙ sym (both-assoc (gathered f n) (f n) x))
         (cases_eq q n)
+
+-- values that are all there
+pub present-all : {A : Type 0} (f : ℕ → Option A) (g : ℕ → A) (n : ℕ) → ((i : ℕ) → i < n → f i ≡ Some (g i)) → present (listed f n) ≡ listed g n
+present-all f g zero h = refl
+present-all f g (suc n) h = present-append (listed f n) (f n ∷ []) ∙ (λ j. present-all f g n (λ i lt. h i (omega arith)) j ++ present (h n (omega arith) j ∷ []))

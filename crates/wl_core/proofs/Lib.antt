@@ -6,3 +6,4 @@ pub mod Kept
 pub mod Verdicts
 pub mod States
 pub mod Moves
+pub mod Endings

@@ -8,7 +8,7 @@ use Rattle.sac_base.specs.Verdict.{each, present, joined, combined}
 use Rattle.wl_core.specs.declared.setup.Job.{Job}
 use Rattle.wl_core.specs.declared.setup.Job.TheVariants.{Write as Store, Fold}
 use Rattle.wl_core.specs.Machine.{CellValue, SetupValue, StateValue, VerdictValue, Cells, Partial, Faulted, IsSetup, TakesBase, combine, first, end, chunks, sum_below, listed, whole, verdict_by, sequential, Finished}
-use Rattle.wl_core.specs.Facts.{Facts, Settled, made_by, cell_at, value_of, own, own_cells, stored_by, partial_by}
+use Rattle.wl_core.specs.Facts.{Facts, NoneStopped, Settled, made_by, cell_at, value_of, own, own_cells, stored_by, partial_by}
 use Rattle.wl_core.proofs.Functions.{sum-none, listed-same}
 use Rattle.wl_core.proofs.FoldLaws.{foldable, elementwise-foldable}
 use Rattle.wl_core.proofs.Combining.{gathered, gathered_is, same, exchange, one}
@@ -86,6 +86,9 @@ module _ (u : SetupValue) (s : StateValue) (is : IsSetup u) (h : Facts u s) (fin
       let b = chunk_below u is.size p below in
       let e' = ap (first u) e in
       let e'' = ap (end u) e in h.done d p lt (omega arith) (omega arith)
+
+  pub written_once : NoneStopped s → (p : ℕ) → p < length u.cells → (o : ℕ) × (s.written p ≡ o ∷ [])
+  written_once none p lt = let e = ended (p / u.size) (chunk_there u is.size p lt) (λ k le l. none k l) in (s.owner (p / u.size), (written (p / u.size) p e.0 e.1 refl lt).0)
 
   pub settled : Settled u s
   settled = record {

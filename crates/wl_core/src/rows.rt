@@ -46,7 +46,8 @@ impl Rows {
     /// A row.
     pub fn row(&self, index: usize) -> &[Cell]
         requires { index < self.now.count }
-        ensures { result.now ≡ row_of self.now index }
+        ensures cells { result.now ≡ row_of self.now index }
+        ensures width { length result.now ≡ self.now.width }
     {
         let start = index * self.width;
         &self.cells[start..start + self.width]
