@@ -58,12 +58,12 @@ module _ {A : Type 0} (op : A → A → A) where
     both-none None = refl
     both-none (Some x) = refl
 
-    both-comm : (a b : Option A) → both op a b ≡ both op b a
+    pub both-comm : (a b : Option A) → both op a b ≡ both op b a
     both-comm None b = sym (both-none b)
     both-comm (Some x) None = refl
     both-comm (Some x) (Some y) = ap (λ (z : A). Some z) (laws.comm x y)
 
-    both-assoc : (a b c : Option A) → both op (both op a b) c ≡ both op a (both op b c)
+    pub both-assoc : (a b c : Option A) → both op (both op a b) c ≡ both op a (both op b c)
     both-assoc None b c = refl
     both-assoc (Some x) None c = refl
     both-assoc (Some x) (Some y) None = refl

@@ -7,3 +7,5 @@ pub mod Verdicts
 pub mod States
 pub mod Moves
 pub mod Endings
+pub mod Reasons
+pub mod Orders

@@ -4,15 +4,17 @@
 //! Whatever the order in which the workers' events come, a phase that is finished has the verdict of the cells taken one after another.
 #![tactic(auto)]
 
-mod holds;
 mod ending;
+mod events;
+mod holds;
+mod laws;
 mod partials;
 mod rows;
 mod setup;
 mod state;
-mod events;
 
-pub use ending::Verdict;
+pub use ending::{Verdict, finished, outcome};
+pub use events::{Event, Refused, step};
+pub use laws::{each_event_has_one_answer, events_keep_facts, every_order_gives_one_verdict, fold_operations_combine_in_any_order, partial_values_combine_to_all};
 pub use setup::{CellResult, Job, Setup};
 pub use state::{State, open_state};
-pub use events::{Event, Refused, step};
