@@ -1,16 +1,15 @@
 -- Tables in one buffer.
-use Rattle.std.proofs.Common.{◌≡◌, ◌≢◌, ℕ, zero, suc, ◌+◌, ◌-◌, ◌*◌, ◌/◌, ◌<◌, ◌≤◌, ◌⊎◌, min, Bool, true, false, cond, ltb, List, [], ◌∷◌, ◌++◌, length, take, drop, set, get_or, ℤ, pos, refl, sym, ap, ◌∙◌, subst, inl, inr, ⊎_elim, arith, append-nil, length-append, length-take, length-drop, take-append-drop}
-use Rattle.std.proofs.lemmas.Bool.{cases_eq, cases_lt, lt-ltb, le-ltb}
-use Rattle.std.proofs.lemmas.List.{drop-take, take-take, take_all, get_or-set_same, get_or-set_other, drop_all, take_at, drop_at, set_at}
+use Rattle.std.proofs.Common.{◌≡◌, ◌≢◌, ℕ, zero, suc, ◌+◌, ◌-◌, ◌*◌, ◌<◌, ◌≤◌, Bool, true, false, cond, ltb, List, [], ◌∷◌, ◌++◌, length, take, drop, set, get_or, ℤ, pos, refl, sym, ap, ◌∙◌, subst, ⊎_elim, arith, append-nil, length-append, length-take, length-drop, take-append-drop}
+use Rattle.std.proofs.lemmas.Bool.{cases_lt, lt-ltb, le-ltb}
+use Rattle.std.proofs.lemmas.List.{drop-take, take-take, take_all, get_or-set_same, get_or-set_other, drop_all}
 use Rattle.std.proofs.lemmas.Slice.{take-put_mid_below, drop-put_mid, between-put_mid}
 use Rattle.std.proofs.Math.Nat.{mul-le-mul_right}
-use Rattle.std.specs.List.{between}
 use borrow.Rule.Slice.PartMut.{put_mid}
 use Rattle.sac_base.specs.Verdict.{joined, elementwise}
-use Rattle.std.proofs.Common.{Option, Some, None}
+use Rattle.std.proofs.Common.{Some, None}
 use Rattle.sac_base.specs.declared.op.Op.{Op}
 use Rattle.wl_core.specs.Machine.{put, listed, both, combine}
-use Rattle.wl_core.specs.Rows.{RowsValue, row_of, PutsRow, HoldsValue, times_of, SetsTimes, PartialsValue, partial_of, AddsValue}
+use Rattle.wl_core.specs.Rows.{RowsValue, row_of, PutsRow, HoldsValue, times_of, SetsTimes, partial_of, AddsValue}
 use Rattle.wl_core.proofs.Functions.{put_is, put_same, put_other, joined-append}
 
 pub later_row : (p q width : ℕ) → p < q → p * width + width ≤ q * width

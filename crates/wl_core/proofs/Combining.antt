@@ -1,12 +1,11 @@
 -- Values that may be missing, combined in any order.
-use Rattle.std.proofs.Common.{◌≡◌, ◌≢◌, ℕ, zero, suc, ◌+◌, ◌<◌, ◌≤◌, Bool, true, false, cond, eqb, List, [], ◌∷◌, ◌++◌, refl, sym, ap, ◌∙◌, subst, ⊎_elim, arith, Option, None, Some}
+use Rattle.std.proofs.Common.{◌≡◌, ◌≢◌, ℕ, zero, suc, ◌+◌, ◌<◌, Bool, true, false, cond, eqb, List, [], ◌∷◌, ◌++◌, refl, sym, ap, ◌∙◌, ⊎_elim, arith, Option, None, Some}
 use Rattle.std.proofs.lemmas.Bool.{eq-eqb, ne_eqb, cases_eq}
 use Rattle.std.proofs.lemmas.List.Sums.{fold_push}
-use Rattle.std.specs.Prelude.{fold}
 use Rattle.sac_base.specs.Verdict.{present, combined}
 use Rattle.wl_core.specs.Machine.{put, listed, both}
 use Rattle.wl_core.specs.Combining.{IsFoldable}
-use Rattle.wl_core.proofs.Functions.{put_same, put_other, put_id}
+use Rattle.wl_core.proofs.Functions.{put_same, put_other}
 
 pub present-append : {A : Type 0} (xs ys : List (Option A)) → present (xs ++ ys) ≡ present xs ++ present ys
 present-append [] ys = refl
@@ -29,6 +28,7 @@ module _ {A : Type 0} (op : A → A → A) where
       no_more : (l : List A) → l ++ [] ≡ l
       no_more [] = refl
       no_more (y ∷ l) = λ j. y ∷ no_more l j
+
       both-none : (a : Option A) → both op a None ≡ a
       both-none None = refl
       both-none (Some a) = refl

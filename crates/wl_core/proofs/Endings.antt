@@ -1,5 +1,5 @@
 -- The verdict of a finished state in memory.
-use Rattle.std.proofs.Common.{◌≡◌, ℕ, ◌<◌, List, [], ◌∷◌, length, ℤ, Option, Some, None, refl, sym, ap, ◌∙◌, subst}
+use Rattle.std.proofs.Common.{◌≡◌, ℕ, ◌<◌, List, length, ℤ, Option, Some, sym, ap, ◌∙◌, subst}
 use Rattle.sac_base.specs.declared.base.Base.{Base}
 use Rattle.sac_base.specs.declared.op.Op.{Op}
 use Rattle.sac_base.specs.Verdict.{present, joined, combined}
@@ -7,7 +7,7 @@ use Rattle.wl_core.specs.declared.setup.Setup.{Setup}
 use Rattle.wl_core.specs.declared.setup.Job.{Job}
 use Rattle.wl_core.specs.declared.setup.Job.TheVariants.{Write as Store, Fold}
 use Rattle.wl_core.specs.declared.state.State.{State}
-use Rattle.wl_core.specs.Machine.{VerdictValue, Cells, Partial, Finished, combine, listed, whole, sequential}
+use Rattle.wl_core.specs.Machine.{Cells, Partial, Finished, combine, listed, sequential}
 use Rattle.wl_core.specs.Facts.{NoneStopped, made_by}
 use Rattle.wl_core.specs.Rows.{row_of, partial_of}
 use Rattle.wl_core.specs.Reading.{setup_of, state_of, stored_rows, row_if, RowsFor, IsReached}

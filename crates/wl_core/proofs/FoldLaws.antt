@@ -1,14 +1,14 @@
 -- The operations of folds are associative and commutative on all whole numbers.
-use Rattle.std.proofs.Common.{◌≡◌, ℕ, zero, suc, ◌*◌, Bool, true, false, List, [], ◌∷◌, ℤ, pos, negsuc, Ok, refl, sym, ap, ◌∙◌, arith, w32, IsTrue}
+use Rattle.std.proofs.Common.{◌≡◌, ℕ, zero, suc, ◌*◌, Bool, true, false, List, [], ◌∷◌, ℤ, pos, negsuc, refl, sym, ap, ◌∙◌, arith, w32, IsTrue}
 use Rattle.std.proofs.Math.IntN.{*ℤ_comm}
 use Rattle.std.proofs.Math.Nat.{mul_assoc}
 use Rattle.std.specs.Prelude.{neg_ℤ, not, ◌&&◌, ◌||◌, ◌+ℤ◌, ◌*ℤ◌}
 use Rattle.std.specs.Int.{int_wrap, int_min, int_max}
-use Rattle.std.proofs.lemmas.Int.{int_wrap-add_left, int_wrap-add_right, int_wrap-mul_left, int_wrap-mul_right, int_max_is, int_min_is, ints, clamps}
+use Rattle.std.proofs.lemmas.Int.{int_wrap-add_left, int_wrap-add_right, int_wrap-mul_left, int_wrap-mul_right, ints, clamps}
 use Rattle.sac_base.specs.declared.base.Base.{Base}
 use Rattle.sac_base.specs.declared.base.Base.TheVariants.{Int, Bool as Truth}
 use Rattle.sac_base.specs.declared.op.Op.{Op}
-use Rattle.sac_base.specs.declared.op.Op.TheVariants.{Add, Sub, Mul, Div, Rem, Min, Max, Neg, Not, Eq, Ne, Lt, Le, Gt, Ge, And, Or}
+use Rattle.sac_base.specs.declared.op.Op.TheVariants.{Add, Mul, Min, Max, And, Or}
 use Rattle.sac_base.specs.Arrays.{is_true}
 use Rattle.sac_base.specs.Operators.{wrap, of_truth}
 use Rattle.sac_base.specs.Verdict.{elementwise, folds, fold_op}
@@ -127,6 +127,7 @@ elementwise-foldable op laws = record { assoc = assoc; comm = comm }
     assoc (x ∷ xs) [] zs = refl
     assoc (x ∷ xs) (y ∷ ys) [] = refl
     assoc (x ∷ xs) (y ∷ ys) (z ∷ zs) = λ j. laws.assoc x y z j ∷ assoc xs ys zs j
+
     comm : (xs ys : List ℤ) → elementwise op xs ys ≡ elementwise op ys xs
     comm [] [] = refl
     comm [] (y ∷ ys) = refl

@@ -1,18 +1,17 @@
 -- Each event keeps the facts.
-use Rattle.std.proofs.Common.{◌≡◌, ◌≢◌, ℕ, zero, suc, ◌+◌, ◌-◌, ◌*◌, ◌<◌, ◌≤◌, ◌^◌, ◌/◌, ◌⊎◌, min, Bool, true, false, cond, eqb, ℤ, List, [], ◌∷◌, ◌++◌, length, Option, None, Some, Ok, Err, refl, sym, ap, ◌∙◌, subst, ⊎_elim, arith}
+use Rattle.std.proofs.Common.{◌≡◌, ◌≢◌, ℕ, zero, suc, ◌+◌, ◌-◌, ◌*◌, ◌<◌, ◌≤◌, ◌^◌, ◌/◌, ◌⊎◌, Bool, true, false, cond, eqb, ℤ, List, [], ◌∷◌, ◌++◌, length, Option, None, Some, Ok, Err, refl, sym, ap, ◌∙◌, subst, ⊎_elim, arith}
 use Rattle.std.proofs.lemmas.Bool.{eq-eqb, ne_eqb, cases_eq, true≢false, cases_lt}
 use Rattle.std.proofs.Math.Nat.{mul-le-mul_right, div-mul-le_self}
-use Rattle.std.specs.Prelude.{slice_get, slice_index, IsTrue}
+use Rattle.std.specs.Prelude.{slice_get, slice_index}
 use Rattle.sac_base.specs.declared.fault.Fault.{Fault}
 use Rattle.sac_base.specs.Verdict.{combined, present}
 use Rattle.wl_core.specs.declared.setup.Job.{Job}
 use Rattle.wl_core.specs.declared.setup.Job.TheVariants.{Write as Store, Fold}
 use Rattle.wl_core.specs.declared.events.Event.{Event}
 use Rattle.wl_core.specs.declared.events.Event.TheVariants.{Draw, Keep, Release, Write, Stop}
-use Rattle.wl_core.specs.Machine.{SetupValue, StateValue, IsSetup, TakesBase, combine, Steps, Runs, Reached, Works, opened, put, first, end, chunks, sum_below, holds_of, listed, both, store, gather}
+use Rattle.wl_core.specs.Machine.{SetupValue, StateValue, IsSetup, TakesBase, combine, Steps, Runs, Reached, Works, opened, put, first, end, chunks, sum_below, listed, both, store, gather}
 use Rattle.wl_core.specs.Facts.{Facts, cell_at, value_of, own, own_cells, stored_by, partial_by}
-use Rattle.wl_core.specs.Combining.{IsFoldable}
-use Rattle.wl_core.proofs.Functions.{put_same, put_other, sum-same, sum-put, sum-none, one-le, listed-same}
+use Rattle.wl_core.proofs.Functions.{put_same, put_other, sum-same, sum-put, sum-none, one-le}
 use Rattle.wl_core.proofs.FoldLaws.{foldable, elementwise-foldable}
 use Rattle.wl_core.proofs.Combining.{gathered, gathered_is, same, adds}
 
@@ -36,7 +35,6 @@ own_same w value = let t : eqb w w ≡ true = eq-eqb w w refl in ap (λ (b : Boo
 
 own_other : (w v : ℕ) (value : Option (List ℤ)) → v ≢ w → own v (w ∷ []) value ≡ None
 own_other w v value ne = let f : eqb w v ≡ false = ne_eqb w v (λ e. ne (sym e)) in ap (λ (b : Bool). cond b value None) f
-
 
 module _ (u : SetupValue) (s : StateValue) (is : IsSetup u) (h : Facts u s) where
   drew : (w : ℕ) → w < u.workers → ((c : ℕ) → ¬ Works u s w c) → s.taken < chunks u

@@ -1,9 +1,8 @@
 -- What the code of an event leaves is the event of the machine.
-use Rattle.std.proofs.Common.{◌≡◌, ◌≢◌, ℕ, zero, suc, ◌+◌, ◌-◌, ◌*◌, ◌/◌, ◌^◌, ◌<◌, ◌≤◌, Bool, true, false, cond, ltb, List, [], ◌∷◌, ◌++◌, length, map, set, get_or, Option, None, Some, ℤ, Ok, Err, refl, sym, ap, ◌∙◌, subst, ⊎_elim, arith, Vec, Global, length-set}
+use Rattle.std.proofs.Common.{◌≡◌, ◌≢◌, ℕ, zero, suc, ◌+◌, ◌-◌, ◌*◌, ◌/◌, ◌^◌, ◌<◌, ◌≤◌, Bool, true, false, cond, ltb, List, [], ◌∷◌, ◌++◌, length, set, get_or, Option, None, Some, ℤ, Ok, Err, refl, sym, ap, ◌∙◌, subst, ⊎_elim, arith, Vec, Global, length-set}
 use Rattle.std.proofs.lemmas.Bool.{cases_eq, cases_lt, lt-ltb, le-ltb, true≢false}
-use Rattle.std.proofs.lemmas.List.{get_or-set_same, get_or-set_other, length-map}
-use Rattle.std.proofs.Math.Nat.{mul-le-mul_right}
-use Rattle.std.specs.Prelude.{slice_get, slice_index, ◌&&◌, nat_lt}
+use Rattle.std.proofs.lemmas.List.{get_or-set_same, get_or-set_other}
+use Rattle.std.specs.Prelude.{slice_get, slice_index, ◌&&◌}
 use Rattle.sac_base.specs.declared.fault.Fault.{Fault}
 use Rattle.wl_core.specs.declared.setup.Setup.{Setup}
 use Rattle.wl_core.specs.declared.setup.CellResult.{CellResult}
@@ -15,9 +14,8 @@ use Rattle.std.proofs.Common.{Result}
 use Rattle.wl_core.specs.declared.events.Event.{Event}
 use Rattle.wl_core.specs.declared.events.Refused.{Refused}
 use Rattle.wl_core.specs.declared.events.Event.TheVariants.{Draw, Keep, Release, Write, Stop}
-use Rattle.wl_core.specs.Machine.{SetupValue, StateValue, IsSetup, IsFold, CellValue, Works, Steps, Reached, combine, both, store, gather, put, chunks, first, end, sum_below, holds_of}
-use Rattle.wl_core.specs.Facts.{Facts}
-use Rattle.wl_core.specs.Rows.{RowsValue, HoldsValue, PartialsValue, row_of, times_of, partial_of, PutsRow, AddsValue, SetsTimes}
+use Rattle.wl_core.specs.Machine.{SetupValue, StateValue, IsFold, Works, combine, both, store, gather, put, chunks, first, sum_below}
+use Rattle.wl_core.specs.Rows.{RowsValue, HoldsValue, PartialsValue, row_of, times_of, partial_of, SetsTimes}
 use Rattle.wl_core.specs.Reading.{setup_of, state_of, written_by, row_if, stored_rows, RowsFor, IsSized, IsReached, cell_of, EnterFits, Enters, Moves, Answers}
 use Rattle.wl_core.proofs.Functions.{put_is, put_id, put_same, put_other, sum-put, one-le}
 use Rattle.wl_core.proofs.Kept.{apart, reached_more}
@@ -130,6 +128,7 @@ rows_same (Fold base op) positions workers n n' m m' e f h = f ∙ h
 module _ (u : Setup) (b : State) (r : IsReached u b) where
   abbrev v : SetupValue
   v = setup_of u
+
   abbrev s : StateValue
   s = state_of (setup_of u) b
 
@@ -140,18 +139,25 @@ module _ (u : Setup) (b : State) (r : IsReached u b) where
     where
       m : ℕ
       m = b.taken
+
       b' : State
       b' = record b { taken = t; owner = o; next = n; stopped = st; latest = l }
+
       owner : slice_index o.items ≡ put s.owner m w
       owner = ap slice_index o_is ∙ put_item b.owner.items m w (let l = r.sized.owners in omega arith)
+
       next : slice_index n.items ≡ put s.next m (first v m)
       next = ap slice_index n_is ∙ put_item b.next.items m (first v m) (let l = r.sized.nexts in omega arith)
+
       stopped : (λ (c : ℕ). get_or st.items c false) ≡ put s.stopped m false
       stopped = ap (λ (xs : List Bool). λ (c : ℕ). get_or xs c false) st_is ∙ put_flag b.stopped.items m false (let l = r.sized.stops in omega arith)
+
       written : written_by v.size t (slice_index o.items) (slice_index n.items) ≡ s.written
       written = (λ j. written_by v.size (t_is j) (owner j) (next j)) ∙ (λ j p. drawn v.size m w s.owner s.next (λ p e. let f = chunk_from v r.setup.size p in let e' = ap (first v) e in omega arith) p j)
+
       same : state_of (setup_of u) b' ≡ record s { taken = m + 1; owner = put s.owner m w; next = put s.next m (first v m); stopped = put s.stopped m false }
       same = λ j. record s { taken = t_is j; owner = owner j; next = next j; stopped = stopped j; written = written j; stored = stored_rows u.job (written j) (row_of b.stored) }
+
       last' : (x c : ℕ) → Works v (record s { taken = m + 1; owner = put s.owner m w; next = put s.next m (first v m); stopped = put s.stopped m false }) x c → slice_index l.items x ≡ c
       last' x c k = ⊎_elim
           (λ (e : c ≡ m). let x_is : x ≡ w = sym k.1 ∙ put_same s.owner m w c e in ap (λ (xs : List ℕ). slice_index xs x) l_is ∙ ap (slice_index (set b.latest.items w m)) x_is ∙ get_or-set_same b.latest.items w m 0 (let n = r.sized.latest in omega arith) ∙ sym e)
@@ -161,6 +167,7 @@ module _ (u : Setup) (b : State) (r : IsReached u b) where
           let other : x ≢ w = (λ e. idle c (subst (λ (y : ℕ). Works v s y c) e old)) in
           ap (λ (xs : List ℕ). slice_index xs x) l_is ∙ get_or-set_other b.latest.items w x m 0 other ∙ r.sized.last x c old)
           (cases_eq c m)
+
       sized : IsSized (setup_of u) b'
       sized = record {
         owners = ap (λ (xs : List ℕ). length xs) o_is ∙ length-set b.owner.items m w ∙ r.sized.owners;
@@ -183,17 +190,22 @@ module _ (u : Setup) (b : State) (r : IsReached u b) where
     where
       b' : State
       b' = record b { stopped = st }
+
       few : b.taken ≤ chunks v
       few = (facts u b r).taken_few
+
       stopped : (λ (d : ℕ). get_or st.items d false) ≡ put s.stopped c true
       stopped = ap (λ (xs : List Bool). λ (d : ℕ). get_or xs d false) st_is ∙ put_flag b.stopped.items c true (let l = r.sized.stops in let t = works.0 in let f = few in omega arith)
+
       same : state_of (setup_of u) b' ≡ record s { stopped = put s.stopped c true }
       same = λ j. record s { stopped = stopped j }
+
       last' : (x d : ℕ) → Works v (record s { stopped = put s.stopped c true }) x d → slice_index b.latest.items x ≡ d
       last' x d k = ⊎_elim
           (λ (e : d ≡ c). absurd (true≢false (sym (put_same s.stopped c true d e) ∙ k.3)))
           (λ (ne : d ≢ c). r.sized.last x d (k.0, k.1, k.2, sym (put_other s.stopped c true d ne) ∙ k.3))
           (cases_eq d c)
+
       sized : IsSized (setup_of u) b'
       sized = record {
         owners = r.sized.owners;
@@ -228,20 +240,32 @@ module _ (u : Setup) (b : State) (r : IsReached u b) where
     where
       q : ℕ
       q = s.next c
+
       b' : State
       b' = record b { next = n; stored = stored; partials = partials }
+
       t : StateValue
       t = record s { next = put s.next c (q + 1); written = put s.written q (s.written q ++ w ∷ []); stored = store u.job s.stored q value; partial = gather u.job s.partial w value }
+
       next : slice_index n.items ≡ put s.next c (q + 1)
       next = ap slice_index n_is ∙ put_item b.next.items c (q + 1) (let l = r.sized.nexts in let x = works.0 in let f = (facts u b r).taken_few in omega arith)
+
       written : written_by v.size b.taken s.owner (slice_index n.items) ≡ put s.written q (s.written q ++ w ∷ [])
       written = ap (written_by v.size b.taken s.owner) next ∙ wrote v.size b.taken c q w s.owner s.next works.0 (next_position w c works).1 refl works.1
+
       same : state_of (setup_of u) b' ≡ t
       same = λ j. record s { next = next j; written = written j; stored = (ap (λ (f : ℕ → List ℕ). stored_rows u.job f (row_of stored)) written ∙ rows_are) j; partial = partials_are j }
+
       last' : (x d : ℕ) → Works v t x d → slice_index b.latest.items x ≡ d
-      last' x d k = r.sized.last x d (k.0, k.1, ⊎_elim
-          (λ (e : d ≡ c). let y = put_same s.next c (q + 1) d e in let z = ap s.next e in let k2 = k.2 in omega arith)
-          (λ (ne : d ≢ c). let y = put_other s.next c (q + 1) d ne in let k2 = k.2 in omega arith) (cases_eq d c), k.3)
+      last' x d k = r.sized.last x d (
+        k.0,
+        k.1,
+        ⊎_elim
+            (λ (e : d ≡ c). let y = put_same s.next c (q + 1) d e in let z = ap s.next e in let k2 = k.2 in omega arith)
+            (λ (ne : d ≢ c). let y = put_other s.next c (q + 1) d ne in let k2 = k.2 in omega arith) (cases_eq d c),
+        k.3,
+      )
+
       sized : IsSized (setup_of u) b'
       sized = record {
         owners = r.sized.owners;
@@ -280,6 +304,7 @@ module _ (u : Setup) (b : State) (r : IsReached u b) where
     where
       count : slice_index counts.items ≡ put s.count d x
       count = ap slice_index counts_is ∙ put_item b.counts.items d x (let l = r.sized.counts in omega arith)
+
       total : (y : ℕ) → y < u.workers → slice_index held.items y ≡ sum_below (times_of holds y) (length u.counts.items)
       total y lt = ⊎_elim
           (λ (e : y ≡ w).
@@ -289,6 +314,7 @@ module _ (u : Setup) (b : State) (r : IsReached u b) where
           ap (λ (xs : List ℕ). slice_index xs y) held_is ∙ get_or-set_other b.held.items w y _ 0 ne ∙ r.sized.totals y lt
           ∙ sym (ap (λ (f : ℕ → ℕ → ℕ). sum_below (f y) (length u.counts.items)) sets.times ∙ ap (λ (f : ℕ → ℕ). sum_below f (length u.counts.items)) (put_other s.holds w (put (s.holds w) d n) y ne)))
           (cases_eq y w)
+
       sized : IsSized (setup_of u) (record b { holds = holds; held = held; counts = counts })
       sized = record {
         owners = r.sized.owners;

@@ -1,15 +1,15 @@
 -- Values combined part by part, or in another order.
-use Rattle.std.proofs.Common.{◌≡◌, ◌≢◌, ℕ, zero, suc, ◌+◌, ◌<◌, ◌≤◌, List, [], ◌∷◌, ◌++◌, length, map, set, get_or, refl, sym, ap, ◌∙◌, ⊎_elim, arith, Option, None, Some}
+use Rattle.std.proofs.Common.{◌≡◌, ◌≢◌, ℕ, zero, suc, ◌<◌, List, [], ◌∷◌, ◌++◌, length, map, set, get_or, refl, sym, ap, ◌∙◌, ⊎_elim, arith, Option, None, Some}
 use Rattle.std.proofs.lemmas.Bool.{cases_eq}
-use Rattle.std.proofs.lemmas.List.{map-append, length-set, get_or-set_same, get_or-set_other, get_or_default}
+use Rattle.std.proofs.lemmas.List.{map-append, length-set}
 use Rattle.std.proofs.lemmas.List.Sums.{fold-append}
 use Rattle.std.proofs.lemmas.List.Sorted.{IsPermutation-keeps}
 use Rattle.std.specs.Prelude.{slice_get, fold, swap, IsPermutation}
-use Rattle.sac_base.specs.Verdict.{present, joined, combined}
+use Rattle.sac_base.specs.Verdict.{joined, combined}
 use Rattle.wl_core.specs.Machine.{put, listed, both}
 use Rattle.wl_core.specs.Combining.{IsFoldable, all_combined, all_taken}
 use Rattle.wl_core.proofs.Functions.{put_is, put_same, put_other, put_id, joined-append}
-use Rattle.wl_core.proofs.Combining.{gathered, same, adds, both-assoc, both-comm}
+use Rattle.wl_core.proofs.Combining.{gathered, adds, both-assoc, both-comm}
 
 module _ {A : Type 0} (op : A → A → A) (laws : IsFoldable op) where
   shift : (s y : A) (ys : List A) → fold op (op s y) ys ≡ op s (fold op y ys)

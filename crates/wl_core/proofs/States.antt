@@ -1,6 +1,6 @@
 -- Setups and states in memory.
-use Rattle.std.proofs.Common.{◌≡◌, ◌≢◌, ℕ, zero, suc, ◌+◌, ◌/◌, ◌<◌, ◌≤◌, Bool, true, false, List, [], ◌∷◌, length, map, Option, None, Some, ℤ, Ok, Err, refl, sym, ap, ◌∙◌, subst, ⊎_elim, arith}
-use Rattle.std.proofs.Common.{get_or, Vec, Global, replicate, cond, ltb}
+use Rattle.std.proofs.Common.{◌≡◌, ℕ, zero, suc, ◌/◌, ◌<◌, ◌≤◌, Bool, true, false, List, [], ◌∷◌, length, map, Option, None, Some, ℤ, Ok, Err, refl, sym, ap, ◌∙◌, subst, arith}
+use Rattle.std.proofs.Common.{get_or, Vec, Global, replicate, ltb}
 use Rattle.std.proofs.lemmas.Bool.{le-ltb}
 use Rattle.std.proofs.lemmas.List.{get_or_read, length-replicate}
 use Rattle.std.specs.Prelude.{slice_get, slice_index, IsSomeAnd, MatchOption}
@@ -79,8 +79,10 @@ opening u b is none owner next stopped latest held counts holds partials widths 
   where
     v : SetupValue
     v = setup_of u
+
     written_none : (p : ℕ) → written_by v.size b.taken (slice_index b.owner.items) (slice_index b.next.items) p ≡ []
     written_none p = ap (λ (t : ℕ). written_by v.size t (slice_index b.owner.items) (slice_index b.next.items) p) none ∙ nothing_taken v.size (slice_index b.owner.items) (slice_index b.next.items) p
+
     same : state_of (setup_of u) b ≡ opened (setup_of u)
     same = λ j. record {
       taken = none j;
@@ -93,6 +95,7 @@ opening u b is none owner next stopped latest held counts holds partials widths 
       count = λ c. slice_index (counts j) c;
       holds = holds.2 j;
     }
+
     sized : IsSized (setup_of u) b
     sized = record {
       owners = ap (λ (l : List ℕ). length l) owner ∙ length-replicate (chunks (setup_of u)) 0;

@@ -1,13 +1,13 @@
 -- What a finished state says.
-use Rattle.std.proofs.Common.{◌≡◌, ◌≢◌, ℕ, zero, suc, ◌+◌, ◌-◌, ◌*◌, ◌/◌, ◌<◌, ◌≤◌, ◌⊎◌, min, Bool, true, false, cond, eqb, ℤ, List, [], ◌∷◌, ◌++◌, length, Option, None, Some, Result, Ok, Err, refl, sym, ap, ◌∙◌, subst, inl, inr, ◌%◌, ⊎_elim, arith}
+use Rattle.std.proofs.Common.{◌≡◌, ◌≢◌, ℕ, zero, suc, ◌+◌, ◌*◌, ◌/◌, ◌<◌, ◌≤◌, ◌⊎◌, true, false, cond, eqb, ℤ, List, [], ◌∷◌, ◌++◌, length, Option, None, Some, Ok, Err, refl, sym, ap, ◌∙◌, inl, inr, ◌%◌, ⊎_elim, arith}
 use Rattle.std.proofs.lemmas.Bool.{true≢false, cases_eq, cases_lt}
 use Rattle.std.proofs.Math.Nat.{mod-lt, mul-le-mul_right, div-mul-le_self, le-div_iff_mul-le, div-add-mod'}
-use Rattle.std.specs.Prelude.{slice_get, slice_index}
+use Rattle.std.specs.Prelude.{slice_get}
 use Rattle.sac_base.specs.declared.fault.Fault.{Fault}
-use Rattle.sac_base.specs.Verdict.{each, present, joined, combined}
+use Rattle.sac_base.specs.Verdict.{each}
 use Rattle.wl_core.specs.declared.setup.Job.{Job}
 use Rattle.wl_core.specs.declared.setup.Job.TheVariants.{Write as Store, Fold}
-use Rattle.wl_core.specs.Machine.{CellValue, SetupValue, StateValue, VerdictValue, Cells, Partial, Faulted, IsSetup, TakesBase, combine, first, end, chunks, sum_below, listed, whole, verdict_by, sequential, Finished}
+use Rattle.wl_core.specs.Machine.{CellValue, SetupValue, StateValue, Partial, IsSetup, TakesBase, combine, first, end, chunks, listed, whole, verdict_by, Finished}
 use Rattle.wl_core.specs.Facts.{Facts, NoneStopped, Settled, made_by, cell_at, value_of, own, own_cells, stored_by, partial_by}
 use Rattle.wl_core.proofs.Functions.{sum-none, listed-same}
 use Rattle.wl_core.proofs.FoldLaws.{foldable, elementwise-foldable}

@@ -1,8 +1,7 @@
 -- What holds in every state that events lead to.
-use Rattle.std.specs.Prelude.{◌≡◌, ℕ, ◌+◌, ◌^◌, ◌<◌, ◌≤◌, Bool, true, false, cond, ◌==◌, ℤ, List, [], ◌∷◌, ◌++◌, length, slice_index, slice_get, Option, Some, None, Result, Ok, Err}
+use Rattle.std.specs.Prelude.{◌≡◌, ℕ, ◌+◌, ◌^◌, ◌<◌, ◌≤◌, true, false, cond, ◌==◌, ℤ, List, [], ◌∷◌, length, slice_index, slice_get, Option, Some, None, Ok, Err}
 use Rattle.sac_base.specs.declared.fault.Fault.{Fault}
-use Rattle.sac_base.specs.Outcomes.{Ends}
-use Rattle.sac_base.specs.Verdict.{present, joined, combined}
+use Rattle.sac_base.specs.Verdict.{present, combined}
 use Rattle.wl_core.specs.declared.setup.Job.{Job}
 use Rattle.wl_core.specs.declared.setup.Job.TheVariants.{Write as Store, Fold}
 use Rattle.wl_core.specs.Machine.{CellValue, SetupValue, StateValue, VerdictValue, Faulted, combine, Works, first, end, chunks, sum_below, holds_of, listed, whole, sequential}

@@ -15,6 +15,9 @@ mod state;
 
 pub use ending::{Verdict, finished, outcome};
 pub use events::{Event, Refused, step};
-pub use laws::{each_event_has_one_answer, events_keep_facts, every_order_gives_one_verdict, fold_operations_combine_in_any_order, partial_values_combine_to_all};
+pub use laws::{
+    each_event_has_one_answer, events_keep_facts, every_order_gives_one_verdict,
+    fold_operations_combine_in_any_order, partial_values_combine_to_all,
+};
 pub use setup::{CellResult, Job, Setup};
 pub use state::{State, open_state};

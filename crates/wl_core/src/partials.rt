@@ -68,7 +68,12 @@ impl Partials {
 }
 
 // A value that may be missing, combined with another.
-fn combined_with(alloc: Global, op: Op, whole: Option<Vec<Cell>>, row: &[Cell]) -> Result<Option<Vec<Cell>>, Memory>
+fn combined_with(
+    alloc: Global,
+    op: Op,
+    whole: Option<Vec<Cell>>,
+    row: &[Cell],
+) -> Result<Option<Vec<Cell>>, Memory>
     requires { IfSome whole (λ value. length value.items ≡ length row.now) }
     ensures value { IfOk result (λ now. items_of now ≡ both (combine op) (items_of whole) (Some row.now)) }
     ensures width { IfOk result (λ now. IfSome now (λ value. length value.items ≡ length row.now)) }

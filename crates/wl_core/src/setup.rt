@@ -61,7 +61,9 @@ pub fn chunk_end(setup: &Setup, chunk: usize) -> usize
     requires chunk { chunk < chunks (setup_of setup.now) }
     ensures { result ≡ end (setup_of setup.now) chunk }
 {
-    chunk_start(setup, chunk).saturating_add(setup.cuts_size as usize).min(setup.cells.len())
+    chunk_start(setup, chunk)
+        .saturating_add(setup.cuts_size as usize)
+        .min(setup.cells.len())
 }
 
 /// The length that all values have, or 0 where there is none.

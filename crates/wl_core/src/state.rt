@@ -62,7 +62,11 @@ pub fn unfinished(setup: &Setup, state: &State, worker: u32) -> Option<usize>
     ensures { MatchOption result ((c : ℕ) → ¬ Works (setup_of setup.now) (state_of (setup_of setup.now) state.now) worker c) (λ c. Works (setup_of setup.now) (state_of (setup_of setup.now) state.now) worker c) }
 {
     let chunk = state.latest[worker as usize];
-    if chunk < state.taken && state.owner[chunk] == worker && !state.stopped[chunk] && state.next[chunk] < chunk_end(setup, chunk) {
+    if chunk < state.taken
+        && state.owner[chunk] == worker
+        && !state.stopped[chunk]
+        && state.next[chunk] < chunk_end(setup, chunk)
+    {
         Some(chunk)
     } else {
         None

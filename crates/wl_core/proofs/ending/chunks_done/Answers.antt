@@ -1,7 +1,7 @@
-use Rattle.std.proofs.Common.{◌≡◌, ℕ, ◌+◌, ◌<◌, ◌≤◌, Bool, true, false, get_or, length, inl, inr, refl, sym, ap, ◌∙◌, ⊎_elim, arith}
+use Rattle.std.proofs.Common.{◌≡◌, ℕ, ◌<◌, ◌≤◌, true, false, get_or, inl, inr, refl, sym, ap, ◌∙◌, ⊎_elim, arith}
 use Rattle.std.proofs.lemmas.Bool.{cases_lt}
 use Rattle.std.proofs.lemmas.List.{get_or_read}
-use Rattle.wl_core.specs.Machine.{chunks, end}
+use Rattle.wl_core.specs.Machine.{end}
 use Rattle.wl_core.specs.Reading.{setup_of, state_of}
 use Rattle.wl_core.proofs.States.{facts}
 use Rattle.wl_core.proofs.ending.chunks_done.Goals as goal
@@ -13,11 +13,12 @@ returns-then-index c =
     let chunk = c.loop-chunk.chunk in
     let taken : chunk < b.taken = c.if-chunk-state.false in
     let few = (facts u b c.requires).taken_few in
-    let stopped : get_or b.stopped.items chunk false ≡ true = sym (get_or_read b.stopped.items chunk c.index.result.now (let l = c.requires.sized.stops in omega arith) c.index.ensures false) ∙ c.if-index.true in
-    (λ t d below. ⊎_elim (λ (l : d < chunk). let i = c.loop-chunk.invariant d l in inl (i.0, i.1))
-    (λ (g : chunk ≤ d). ⊎_elim (λ (l : chunk < d). inr (inr (chunk, l, taken, stopped))) (λ (le : d ≤ chunk). let e : d ≡ chunk = omega arith in inr (inl (omega arith, ap (λ (k : ℕ). get_or b.stopped.items k false) e ∙ stopped))) (cases_lt chunk d))
-    (cases_lt d chunk),
-    λ done. refl)
+    let stopped : get_or b.stopped.items chunk false ≡ true = sym (get_or_read b.stopped.items chunk c.index.result.now (let l = c.requires.sized.stops in omega arith) c.index.ensures false) ∙ c.if-index.true in (
+      λ t d below. ⊎_elim (λ (l : d < chunk). let i = c.loop-chunk.invariant d l in inl (i.0, i.1))
+          (λ (g : chunk ≤ d). ⊎_elim (λ (l : chunk < d). inr (inr (chunk, l, taken, stopped))) (λ (le : d ≤ chunk). let e : d ≡ chunk = omega arith in inr (inl (omega arith, ap (λ (k : ℕ). get_or b.stopped.items k false) e ∙ stopped))) (cases_lt chunk d))
+          (cases_lt d chunk),
+      λ done. refl,
+    )
 
 pub loop-chunk-preserved : goal.loop-chunk-preserved
 loop-chunk-preserved c d below =

@@ -1,4 +1,4 @@
-use Rattle.std.proofs.Common.{◌≡◌, ℕ, ◌<◌, true, false}
+use Rattle.std.proofs.Common.{◌≡◌, ℕ, ◌<◌, false}
 use Rattle.wl_core.specs.Machine.{end}
 use Rattle.wl_core.specs.Reading.{setup_of, state_of}
 use Rattle.wl_core.proofs.ending.chunks_done.Given as goal

@@ -1,8 +1,6 @@
-use Rattle.std.proofs.Common.{◌≡◌, ℕ, ◌+◌, ◌<◌, ◌≤◌, Bool, true, false, get_or, length, map, Some, None, Err, refl, sym, ap, ◌∙◌, arith}
+use Rattle.std.proofs.Common.{◌≡◌, ℕ, true, false, get_or, map, sym, ap, ◌∙◌, arith}
 use Rattle.std.proofs.lemmas.List.{get_or_read, length-map}
-use Rattle.std.specs.Prelude.{slice_get, IsSomeAnd}
-use Rattle.wl_core.specs.Machine.{end}
-use Rattle.wl_core.specs.Facts.{NoneStopped, StopsFirst}
+use Rattle.std.specs.Prelude.{slice_get}
 use Rattle.wl_core.specs.Reading.{setup_of, state_of, cell_of}
 use Rattle.wl_core.proofs.States.{facts, some_first}
 use Rattle.wl_core.proofs.ending.first_stop.Goals as goal

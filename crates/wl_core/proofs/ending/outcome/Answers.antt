@@ -1,7 +1,4 @@
-use Rattle.std.proofs.Common.{◌≡◌, ℕ, ◌<◌, length, map, ℤ, List, Option, Some, None, refl, sym, ap, ◌∙◌, subst}
-use Rattle.wl_core.specs.declared.setup.Job.{Job}
-use Rattle.wl_core.specs.Machine.{SetupValue, StateValue, VerdictValue, Cells, Partial, sequential}
-use Rattle.wl_core.specs.Facts.{Settled, made_by}
+use Rattle.std.proofs.Common.{sym}
 use Rattle.wl_core.specs.Reading.{setup_of, state_of}
 use Rattle.wl_core.proofs.States.{facts}
 use Rattle.wl_core.proofs.Verdicts.{settled}

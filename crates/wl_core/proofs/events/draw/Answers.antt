@@ -1,7 +1,5 @@
-use Rattle.std.proofs.Common.{rules, ◌≡◌, ◌≢◌, ℕ, ◌+◌, ◌-◌, ◌<◌, ◌≤◌, ◌^◌, length, set, get_or, map, Some, None, Ok, Err, ℤ, List, refl, sym, ap, ◌∙◌, subst, arith}
-use Rattle.std.specs.Prelude.{slice_get, slice_index}
-use Rattle.std.proofs.lemmas.List.{get_or_read, length-map}
-use Rattle.wl_core.specs.Reading.{setup_of, state_of, cell_of}
+use Rattle.std.proofs.Common.{ℕ, ◌+◌, ◌<◌, set, refl, ap, arith}
+use Rattle.wl_core.specs.Reading.{setup_of, state_of}
 use Rattle.wl_core.specs.Machine.{Works, chunks}
 use Rattle.wl_core.proofs.States.{facts}
 use Rattle.wl_core.proofs.Moves.{draws}

@@ -1,9 +1,9 @@
-use Rattle.std.proofs.Common.{rules, ◌≡◌, ◌≢◌, ℕ, ◌+◌, ◌-◌, ◌<◌, ◌≤◌, ◌^◌, length, get_or, map, Some, None, Ok, Err, ℤ, List, refl, sym, ap, ◌∙◌, subst, arith}
+use Rattle.std.proofs.Common.{◌≡◌, ℕ, Some, Err, refl, sym, ap, ◌∙◌, arith}
 use Rattle.std.specs.Prelude.{slice_get, slice_index}
 use Rattle.std.proofs.lemmas.List.{get_or_read, length-map}
 use Rattle.wl_core.specs.Reading.{setup_of, state_of, cell_of}
 use Rattle.wl_core.specs.declared.setup.CellResult.{CellResult}
-use Rattle.wl_core.specs.Machine.{CellValue, Works, chunks}
+use Rattle.wl_core.specs.Machine.{CellValue, Works}
 use Rattle.wl_core.proofs.States.{facts}
 use Rattle.wl_core.proofs.Moves.{stops_chunk, next_position, is_value}
 use Rattle.wl_core.proofs.events.stop.Goals as goal

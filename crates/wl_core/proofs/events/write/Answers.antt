@@ -1,9 +1,9 @@
-use Rattle.std.proofs.Common.{rules, ◌≡◌, ◌≢◌, ℕ, ◌+◌, ◌-◌, ◌<◌, ◌≤◌, ◌^◌, length, set, get_or, map, Some, None, Ok, Err, ℤ, List, refl, sym, ap, ◌∙◌, subst, arith, Vec, Global}
+use Rattle.std.proofs.Common.{◌≡◌, ℕ, ◌+◌, length, set, Some, None, Ok, Err, refl, sym, ap, ◌∙◌, subst, arith, Vec, Global}
 use Rattle.std.specs.Prelude.{slice_get, slice_index}
 use Rattle.std.proofs.lemmas.List.{get_or_read, length-map}
 use Rattle.wl_core.specs.Reading.{setup_of, state_of, cell_of, Enters}
 use Rattle.wl_core.specs.declared.setup.CellResult.{CellResult}
-use Rattle.wl_core.specs.Machine.{Works, chunks}
+use Rattle.wl_core.specs.Machine.{Works}
 use Rattle.wl_core.proofs.States.{facts}
 use Rattle.wl_core.proofs.Moves.{writes_value, passes_over, next_position, enter_fits, entered_next, held_cell}
 use Rattle.wl_core.proofs.events.write.Goals as goal

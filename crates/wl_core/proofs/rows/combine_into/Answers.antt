@@ -1,7 +1,6 @@
-use Rattle.std.proofs.Common.{rules, ◌≡◌, ℕ, ◌+◌, ℤ, List, pos, set, get_or, refl, sym, ap, ◌∙◌, length, arith, w32, to_z, of_z, FitsSigned}
+use Rattle.std.proofs.Common.{rules, ◌≡◌, ℤ, pos, get_or, ◌∙◌, w32, to_z, of_z, FitsSigned}
 use Rattle.std.proofs.lemmas.Int.{to_z-of_z}
 use Rattle.std.specs.Result.{result_unwrap_or}
-use Rattle.sac_base.specs.Operators.{apply_two}
 use Rattle.sac_base.specs.Verdict.{fold_op}
 use Rattle.wl_core.proofs.Buffers.{combine_step}
 use Rattle.wl_core.proofs.rows.combine_into.Goals as goal

@@ -1,4 +1,4 @@
-use Rattle.std.proofs.Common.{◌≡◌, ℕ, ◌++◌, take, drop}
+use Rattle.std.proofs.Common.{◌≡◌, ◌++◌, take, drop}
 use Rattle.wl_core.specs.Machine.{combine}
 use Rattle.wl_core.proofs.rows.combine_into.Given as goal
 

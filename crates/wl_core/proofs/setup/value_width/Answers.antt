@@ -1,9 +1,8 @@
-use Rattle.std.proofs.Common.{◌≡◌, ℕ, ◌+◌, ◌<◌, ◌≤◌, List, ℤ, Some, Ok, Err, None, length, map, get_or, refl, sym, ap, ◌∙◌, ⊎_elim, arith, subst, Vec, Global}
+use Rattle.std.proofs.Common.{◌≡◌, ℕ, ◌<◌, ◌≤◌, List, Some, Ok, length, map, get_or, sym, ap, ◌∙◌, ⊎_elim, arith, subst}
 use Rattle.std.specs.Prelude.{slice_get}
 use Rattle.std.proofs.lemmas.Bool.{cases_lt}
 use Rattle.wl_core.specs.declared.setup.CellResult.{CellResult}
-use Rattle.wl_core.specs.declared.setup.CellResult.TheVariants.{Value}
-use Rattle.wl_core.specs.Reading.{setup_of, cell_of}
+use Rattle.wl_core.specs.Reading.{cell_of}
 use Rattle.wl_core.proofs.States.{cell_is, no_cell, not_value}
 use Rattle.wl_core.proofs.setup.value_width.Goals as goal
 

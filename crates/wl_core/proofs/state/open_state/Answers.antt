@@ -1,6 +1,5 @@
-use Rattle.std.proofs.Common.{rules, ◌≡◌, ℕ, List, length, replicate, Bool, true, false, refl, sym, ap, ◌∙◌, subst, arith, ℤ, Some, Ok}
+use Rattle.std.proofs.Common.{rules, ◌≡◌, ℕ, length, replicate, false, refl, sym, ap, ◌∙◌, subst}
 use Rattle.std.specs.List.{each_same}
-use Rattle.std.specs.Prelude.{slice_get}
 use Rattle.std.proofs.lemmas.List.{length-map}
 use Rattle.wl_core.specs.declared.setup.Job.{Job}
 use Rattle.wl_core.specs.declared.state.State.{State}
@@ -36,7 +35,7 @@ returns c =
     let stored = c.in_ok-new-2.ensures in
     let partial = c.in_ok-new-3.ensures in
     let whole : RowsFor u.job (length (setup_of u).cells) u.workers b.stored.count b.partials.rows.count = elim c.match-setup.branch [
-      in-Write w ↦ subst (λ (j : Job). RowsFor j (length (setup_of u).cells) u.workers b.stored.count b.partials.rows.count) (sym w.in-Write.is) (stored.1 ∙ ap (λ (p : ℕ × ℕ). p.0) w.positions-is ∙ w.len.ensures ∙ u.cells.ok.0 ∙ sym (length-map u.cells.items cell_of))
+      | in-Write w ↦ subst (λ (j : Job). RowsFor j (length (setup_of u).cells) u.workers b.stored.count b.partials.rows.count) (sym w.in-Write.is) (stored.1 ∙ ap (λ (p : ℕ × ℕ). p.0) w.positions-is ∙ w.len.ensures ∙ u.cells.ok.0 ∙ sym (length-map u.cells.items cell_of))
       | in-Fold w ↦ subst (λ (j : Job). RowsFor j (length (setup_of u).cells) u.workers b.stored.count b.partials.rows.count) (sym w.in-Fold.is) (partial.1 ∙ ap (λ (p : ℕ × ℕ). p.1) w.positions-is)
     ] in
     opening u b c.requires refl owner next stopped latest held counts (c.in_ok-new.ensures.0, holds, c.in_ok-new.ensures.2) partial.2

@@ -1,4 +1,3 @@
-use Rattle.std.proofs.Common.{rules, ◌≡◌, ℕ, arith}
 use Rattle.wl_core.proofs.Buffers.{sets_times}
 use Rattle.wl_core.proofs.holds.Holds.set.Goals as goal
 

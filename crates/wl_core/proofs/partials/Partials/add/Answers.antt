@@ -1,6 +1,6 @@
-use Rattle.std.proofs.Common.{rules, ◌≡◌, ℕ, ◌<◌, List, ℤ, Bool, true, false, get_or, set, length, refl, sym, ap, ◌∙◌, subst, arith}
+use Rattle.std.proofs.Common.{◌≡◌, ◌<◌, true, false, get_or, set, length, sym, ap, ◌∙◌, subst, arith}
 use Rattle.std.proofs.lemmas.List.{get_or_read}
-use Rattle.wl_core.specs.Rows.{RowsValue, PartialsValue, AddsValue}
+use Rattle.wl_core.specs.Rows.{PartialsValue, AddsValue}
 use Rattle.wl_core.proofs.Buffers.{adds_more, adds_first}
 use Rattle.wl_core.proofs.partials.Partials.add.Goals as goal
 

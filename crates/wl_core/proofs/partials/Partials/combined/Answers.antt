@@ -1,8 +1,7 @@
-use Rattle.std.proofs.Common.{◌≡◌, ℕ, ◌+◌, ◌<◌, ◌≤◌, Bool, true, false, cond, get_or, length, ℤ, List, Option, Some, None, Vec, Global, refl, sym, ap, ◌∙◌, subst, arith}
+use Rattle.std.proofs.Common.{◌≡◌, ℕ, ◌<◌, Bool, true, false, cond, get_or, length, ℤ, List, Option, Some, None, Vec, Global, sym, ap, ◌∙◌, subst, arith}
 use Rattle.std.specs.Prelude.{IfSome}
 use Rattle.std.proofs.lemmas.List.{get_or_read}
-use Rattle.sac_base.specs.Verdict.{present}
-use Rattle.wl_core.specs.Machine.{combine, listed, both}
+use Rattle.wl_core.specs.Machine.{combine, both}
 use Rattle.wl_core.specs.Rows.{PartialsValue, row_of, partial_of, items_of}
 use Rattle.wl_core.proofs.Combining.{gathered, gathered_is, gathered_more, gathered_skips}
 use Rattle.wl_core.proofs.partials.Partials.combined.Goals.{then-index+in_ok-whole, else-index}
@@ -26,21 +25,21 @@ loop-worker-preserved c =
     let read : c.index.result.now ≡ get_or c.self.inside.started.items k false = get_or_read c.self.inside.started.items k c.index.result.now below c.index.ensures false in
     let place : cond (get_or c.self.inside.started.items k false) (Some (row_of c.self.inside.rows k)) None ≡ partial_of p k = ap (λ (q : PartialsValue). partial_of q k) c.self.view_is in
     elim c.if-index.branch [
-      then-index+in_ok-whole w ↦
-      (let began : get_or c.self.inside.started.items k false ≡ true = sym read ∙ w.if-index.true in
-      let mine : Some w.row.result.now ≡ partial_of p k = ap (λ (l : List ℤ). Some l) w.row.ensures.cells ∙ sym (ap (λ (b : Bool). cond b (Some (row_of c.self.inside.rows k)) None) began) ∙ place in
-      let value : items_of w.in_ok-whole.whole ≡ both by (items_of c.loop-worker.whole) (Some w.row.result.now) = w.in_ok-whole.ensures.value in
-      record {
-        value = ap items_of w.whole-is ∙ value ∙ (λ j. both by (c.loop-worker.invariant.value j) (mine j)) ∙ sym (gathered_more by (partial_of p) k);
-        width = subst (λ (o : Option (Vec ℤ Global)). IfSome o (λ v. length v.items ≡ p.rows.width)) (sym w.whole-is) (other_width w.in_ok-whole.whole (length w.row.result.now) p.rows.width (w.row.ensures.width ∙ width) w.in_ok-whole.ensures.width);
-      })
+      | then-index+in_ok-whole w ↦
+          (let began : get_or c.self.inside.started.items k false ≡ true = sym read ∙ w.if-index.true in
+          let mine : Some w.row.result.now ≡ partial_of p k = ap (λ (l : List ℤ). Some l) w.row.ensures.cells ∙ sym (ap (λ (b : Bool). cond b (Some (row_of c.self.inside.rows k)) None) began) ∙ place in
+          let value : items_of w.in_ok-whole.whole ≡ both by (items_of c.loop-worker.whole) (Some w.row.result.now) = w.in_ok-whole.ensures.value in
+          record {
+            value = ap items_of w.whole-is ∙ value ∙ (λ j. both by (c.loop-worker.invariant.value j) (mine j)) ∙ sym (gathered_more by (partial_of p) k);
+            width = subst (λ (o : Option (Vec ℤ Global)). IfSome o (λ v. length v.items ≡ p.rows.width)) (sym w.whole-is) (other_width w.in_ok-whole.whole (length w.row.result.now) p.rows.width (w.row.ensures.width ∙ width) w.in_ok-whole.ensures.width);
+          })
       | else-index w ↦
-      (let fresh : get_or c.self.inside.started.items k false ≡ false = sym read ∙ w.if-index.false in
-      let none : partial_of p k ≡ None = sym place ∙ ap (λ (b : Bool). cond b (Some (row_of c.self.inside.rows k)) None) fresh in
-      record {
-        value = ap items_of w.whole-is ∙ c.loop-worker.invariant.value ∙ sym (gathered_skips by (partial_of p) k none);
-        width = subst (λ (o : Option (Vec ℤ Global)). IfSome o (λ v. length v.items ≡ p.rows.width)) (sym w.whole-is) c.loop-worker.invariant.width;
-      })
+          (let fresh : get_or c.self.inside.started.items k false ≡ false = sym read ∙ w.if-index.false in
+          let none : partial_of p k ≡ None = sym place ∙ ap (λ (b : Bool). cond b (Some (row_of c.self.inside.rows k)) None) fresh in
+          record {
+            value = ap items_of w.whole-is ∙ c.loop-worker.invariant.value ∙ sym (gathered_skips by (partial_of p) k none);
+            width = subst (λ (o : Option (Vec ℤ Global)). IfSome o (λ v. length v.items ≡ p.rows.width)) (sym w.whole-is) c.loop-worker.invariant.width;
+          })
     ]
 
 pub returns : goal.returns

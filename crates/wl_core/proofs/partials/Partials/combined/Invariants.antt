@@ -1,4 +1,4 @@
-use Rattle.std.proofs.Common.{◌≡◌, ℕ, length, ℤ, List}
+use Rattle.std.proofs.Common.{◌≡◌, length}
 use Rattle.std.specs.Prelude.{IfSome}
 use Rattle.wl_core.specs.Machine.{combine}
 use Rattle.wl_core.specs.Rows.{items_of, partial_of}

@@ -1,4 +1,4 @@
-use Rattle.std.proofs.Common.{◌≡◌, ℤ, List, ◌∙◌, subst, rules}
+use Rattle.std.proofs.Common.{◌≡◌, ◌∙◌, subst}
 use Rattle.std.specs.List.{each_same}
 use Rattle.sac_base.specs.Verdict.{joined}
 use Rattle.wl_core.specs.Machine.{listed}
