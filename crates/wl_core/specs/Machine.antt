@@ -41,16 +41,29 @@ abbrev pub OfBase : Job → List ℤ → Type 0
 OfBase Store value = Unit {0}
 OfBase (Fold base op) value = (k : ℕ) (z : ℤ) → slice_get value k ≡ Some z → IsCell base z
 
--- what a phase may be opened with
+abbrev pub CountsFit : List ℕ → Type 0
+CountsFit counts = (b : ℕ) → b < length counts → (1 ≤ slice_index counts b) × (slice_index counts b ≤ 2 ^ 62)
+
+-- all values have one length
+abbrev pub OneLength : List CellValue → Type 0
+OneLength cells = (p q : ℕ) (x y : List ℤ) → slice_get cells p ≡ Some (Ok (Some x)) → slice_get cells q ≡ Some (Ok (Some y)) → length x ≡ length y
+
+-- what a phase may be opened with; an index that is not held stands only in a fold
 pub record IsSetup (u : SetupValue) : Type 0 where
   pub size : 1 ≤ u.size
   pub positions : length u.cells ≤ 16777216
   pub workers : u.workers ≤ 64
-  pub counts : (b : ℕ) → b < length u.counts → (1 ≤ slice_index u.counts b) × (slice_index u.counts b ≤ 2 ^ 62)
-  pub one_length : (p q : ℕ) (x y : List ℤ) → slice_get u.cells p ≡ Some (Ok (Some x)) → slice_get u.cells q ≡ Some (Ok (Some y)) → length x ≡ length y
+  pub counts : CountsFit u.counts
+  pub one_length : OneLength u.cells
   pub held : (p : ℕ) → slice_get u.cells p ≡ Some (Ok None) → IsFold u.job
   pub takes : TakesBase u.job
   pub of_base : (p : ℕ) (x : List ℤ) → slice_get u.cells p ≡ Some (Ok (Some x)) → OfBase u.job x
+
+-- a cell of a setup whose values have this length
+abbrev pub CellFits : Job → ℕ → CellValue → Type 0
+CellFits job width (Ok (Some x)) = (length x ≡ width) × OfBase job x
+CellFits job width (Ok None) = IsFold job
+CellFits job width (Err fault) = Unit {0}
 
 -- the positions of chunk c are those from `first u c` on, below `end u c`
 abbrev pub first : SetupValue → ℕ → ℕ

@@ -12,6 +12,7 @@ mod partials;
 mod rows;
 mod setup;
 mod state;
+mod validity;
 
 pub use ending::{Verdict, finished, outcome};
 pub use events::{Event, Refused, step};
@@ -21,3 +22,4 @@ pub use laws::{
 };
 pub use setup::{CellResult, Job, Setup};
 pub use state::{State, open_state};
+pub use validity::is_setup;

@@ -1,5 +1,5 @@
 ghost use Rattle.std.specs.Prelude.{◌≡◌, ℕ, ◌<◌, length, slice_get, List, ℤ, Option, Some, Ok};
-ghost use Rattle.wl_core.specs.Machine.{IsSetup, chunks, end, first};
+ghost use Rattle.wl_core.specs.Machine.{IsSetup, OneLength, chunks, end, first};
 ghost use Rattle.wl_core.specs.Reading.{setup_of, cell_of};
 
 use sac_base::{Base, Cell, Fault, Op};
@@ -68,8 +68,7 @@ pub fn chunk_end(setup: &Setup, chunk: usize) -> usize
 
 /// The length that all values have, or 0 where there is none.
 pub fn value_width(setup: &Setup) -> usize
-    requires { IsSetup (setup_of setup.now) }
-    ensures { (p : ℕ) (value : List ℤ) → slice_get (setup_of setup.now).cells p ≡ Some (Ok (Some value)) → length value ≡ result }
+    ensures { OneLength (setup_of setup.now).cells → (p : ℕ) (value : List ℤ) → slice_get (setup_of setup.now).cells p ≡ Some (Ok (Some value)) → length value ≡ result }
 {
     for cell in &setup.cells {
         if let CellResult::Value(value) = cell {

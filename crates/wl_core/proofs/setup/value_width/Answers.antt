@@ -7,14 +7,14 @@ use Rattle.wl_core.proofs.States.{cell_is, no_cell, not_value}
 use Rattle.wl_core.proofs.setup.value_width.Goals as goal
 
 pub returns-in-Value : goal.returns-in-Value
-returns-in-Value c p value at =
+returns-in-Value c one_length p value at =
     let items = c.args.setup.now.cells.items in
     let i = c.loop-cell.cell-index in
     let same : c.deref-cell-items.result.now ≡ items = c.deref-cell-items.ensures.value in
     let lt : i < length items = subst (λ (l : List CellResult). i < length l) same c.loop-cell-test.true in
     let read : c.cell-item.result ≡ get_or items i c.cell-item.result = c.cell-item.is ∙ ap (λ (l : List CellResult). get_or l i c.cell-item.result) same in
     let here : slice_get (map cell_of items) i ≡ Some (Ok (Some c.in-Value.value.items)) = cell_is items i c.cell-item.result lt read ∙ ap (λ (x : CellResult). Some (cell_of x)) c.in-Value.is in
-    c.requires.one_length p i value c.in-Value.value.items at here ∙ sym (c.len.ensures ∙ c.in-Value.value.ok.0)
+    one_length p i value c.in-Value.value.items at here ∙ sym (c.len.ensures ∙ c.in-Value.value.ok.0)
 
 pub loop-cell-preserved : goal.loop-cell-preserved
 loop-cell-preserved c p value below at =
@@ -28,7 +28,7 @@ loop-cell-preserved c p value below at =
     (cases_lt p i)
 
 pub returns : goal.returns
-returns c p value at =
+returns c one_length p value at =
     let items = c.args.setup.now.cells.items in
     let i = c.loop-cell.cell-index in
     let same : c.deref-cell-items.result.now ≡ items = c.deref-cell-items.ensures.value in

@@ -39,4 +39,4 @@ returns c =
       | in-Fold w ↦ subst (λ (j : Job). RowsFor j (length (setup_of u).cells) u.workers b.stored.count b.partials.rows.count) (sym w.in-Fold.is) (partial.1 ∙ ap (λ (p : ℕ × ℕ). p.1) w.positions-is)
     ] in
     opening u b c.requires refl owner next stopped latest held counts (c.in_ok-new.ensures.0, holds, c.in_ok-new.ensures.2) partial.2
-    (λ p value at. let width = c.value_width-width.ensures p value at in (width ∙ sym stored.0, width ∙ sym partial.0)) whole
+    (λ p value at. let width = c.value_width-width.ensures c.requires.one_length p value at in (width ∙ sym stored.0, width ∙ sym partial.0)) whole

@@ -1,0 +1,101 @@
+ghost use Rattle.std.specs.Prelude.{◌≡◌, ◌↔◌, ℕ, ℤ, IsTrue, Some, slice_get};
+ghost use Rattle.sac_base.specs.Arrays.{IsCell};
+ghost use Rattle.sac_base.specs.declared.base.Base.{Base};
+ghost use Rattle.wl_core.specs.Machine.{CellFits, CountsFit, IsSetup, OfBase, TakesBase};
+ghost use Rattle.wl_core.specs.Reading.{setup_of, cell_of};
+
+use crate::setup::value_width;
+use crate::{CellResult, Job, Setup};
+use sac_base::{Base, Cell, Op};
+
+const MOST_POSITIONS: usize = 16_777_216;
+const MOST_WORKERS: u32 = 64;
+const MOST_COUNT: u64 = 1 << 62;
+
+/// Whether a phase may be opened with the setup: at least one cell makes a chunk, there are at most 16,777,216 positions and 64 workers, the counts are
+/// from 1 to 2^62, all values have one length, only a fold has a cell that is not held, and its operation and its values are of its base.
+pub fn is_setup(setup: &Setup) -> bool
+    ensures { IsTrue result ↔ IsSetup (setup_of setup.now) }
+{
+    if setup.cuts_size == 0 || setup.cells.len() > MOST_POSITIONS || setup.workers > MOST_WORKERS {
+        return false;
+    }
+    if !takes_base(setup.job) || !counts_fit(&setup.counts) {
+        return false;
+    }
+    let width = value_width(setup);
+    for cell in &setup.cells {
+        if !cell_fits(setup.job, cell, width) {
+            return false;
+        }
+    }
+    true
+}
+
+fn takes_base(job: Job) -> bool
+    ensures { IsTrue result ↔ TakesBase job }
+{
+    match job {
+        Job::Write => true,
+        Job::Fold(base, op) => folds(base, op),
+    }
+}
+
+fn folds(base: Base, op: Op) -> bool
+    ensures { result ≡ Rattle.sac_base.specs.Verdict.folds base op }
+{
+    match base {
+        Base::Int => matches!(op, Op::Add | Op::Mul | Op::Min | Op::Max),
+        Base::Bool => matches!(op, Op::And | Op::Or),
+    }
+}
+
+fn counts_fit(counts: &[u64]) -> bool
+    ensures { IsTrue result ↔ CountsFit counts.now }
+{
+    for count in counts {
+        if *count == 0 || *count > MOST_COUNT {
+            return false;
+        }
+    }
+    true
+}
+
+fn cell_fits(job: Job, cell: &CellResult, width: usize) -> bool
+    ensures { IsTrue result ↔ CellFits job width (cell_of cell.now) }
+{
+    match cell {
+        CellResult::Value(value) => value.len() == width && of_base(job, value),
+        CellResult::Faults(_) => true,
+        CellResult::NotHeld => is_fold(job),
+    }
+}
+
+fn is_fold(job: Job) -> bool
+    ensures { IsTrue result ↔ Rattle.wl_core.specs.Machine.IsFold job }
+{
+    match job {
+        Job::Write => false,
+        Job::Fold(_, _) => true,
+    }
+}
+
+fn of_base(job: Job, value: &[Cell]) -> bool
+    ensures { IsTrue result ↔ OfBase job value.now }
+{
+    match job {
+        Job::Fold(Base::Bool, _) => are_truths(value),
+        Job::Fold(Base::Int, _) | Job::Write => true,
+    }
+}
+
+fn are_truths(value: &[Cell]) -> bool
+    ensures { IsTrue result ↔ ((k : ℕ) (z : ℤ) → slice_get value.now k ≡ Some z → IsCell Base.Bool z) }
+{
+    for cell in value {
+        if *cell != 0 && *cell != 1 {
+            return false;
+        }
+    }
+    true
+}
