@@ -3,13 +3,17 @@ use Rattle.std.proofs.Common.{◌≡◌, ℕ, zero, suc, ◌/◌, ◌<◌, ◌�
 use Rattle.std.proofs.Common.{get_or, Vec, Global, replicate, ltb}
 use Rattle.std.proofs.lemmas.Bool.{le-ltb}
 use Rattle.std.proofs.lemmas.List.{get_or_read, length-replicate}
-use Rattle.std.specs.Prelude.{slice_get, slice_index, IsSomeAnd, MatchOption}
+use Rattle.std.specs.Prelude.{slice_get, slice_index, IsSomeAnd, MatchOption, IsTrue, ◌↔◌}
+use Rattle.sac_base.specs.declared.base.Base.{Base}
+use Rattle.sac_base.specs.declared.op.Op.{Op}
+use Rattle.sac_base.specs.Arrays.{IsCell}
+use Rattle.std.proofs.Common.{pos}
 use Rattle.sac_base.specs.declared.fault.Fault.{Fault}
 use Rattle.wl_core.specs.declared.setup.CellResult.{CellResult}
 use Rattle.wl_core.specs.declared.setup.CellResult.TheVariants.{Value, Faults, NotHeld}
 use Rattle.wl_core.specs.declared.setup.Setup.{Setup}
 use Rattle.wl_core.specs.declared.state.State.{State}
-use Rattle.wl_core.specs.Machine.{SetupValue, StateValue, IsSetup, CellValue, Works, chunks, end, opened}
+use Rattle.wl_core.specs.Machine.{SetupValue, StateValue, IsSetup, CountsFit, TakesBase, CellFits, OfBase, CellValue, Works, chunks, end, opened}
 use Rattle.wl_core.specs.Facts.{Facts, NoneStopped, StopsFirst}
 use Rattle.wl_core.specs.Reading.{setup_of, state_of, cell_of, written_by, row_if, stored_rows, RowsFor, IsSized, IsReached}
 use Rattle.wl_core.specs.Rows.{row_of, times_of, partial_of}
@@ -117,3 +121,32 @@ pub some_first : (u : SetupValue) (s : StateValue) (chunk next : ℕ) (r : Optio
     → IsSomeAnd r (λ fault. slice_get u.cells next ≡ Some (Err fault)) → MatchOption r (NoneStopped s) (λ fault. StopsFirst u s fault)
 some_first u s chunk next None taken stopped before is at = absurd at
 some_first u s chunk next (Some fault) taken stopped before is at = (chunk, taken, stopped, before, ap (λ (k : ℕ). slice_get u.cells k) (sym is) ∙ at)
+
+-- a setup by its tests
+pub setup_is : (u : SetupValue) (width : ℕ) → 1 ≤ u.size → length u.cells ≤ 16777216 → u.workers ≤ 64 → CountsFit u.counts → TakesBase u.job → ((p : ℕ) (x : CellValue) → slice_get u.cells p ≡ Some x → CellFits u.job width x) → IsSetup u
+setup_is u width size positions workers counts takes fits = record {
+  size = size;
+  positions = positions;
+  workers = workers;
+  counts = counts;
+  one_length = λ p q x y a b. (fits p (Ok (Some x)) a).0 ∙ sym (fits q (Ok (Some y)) b).0;
+  held = λ p a. fits p (Ok None) a;
+  takes = takes;
+  of_base = λ p x a. (fits p (Ok (Some x)) a).1;
+}
+
+pub cells_fit : (u : SetupValue) (width : ℕ) → IsSetup u → ((p : ℕ) (value : List ℤ) → slice_get u.cells p ≡ Some (Ok (Some value)) → length value ≡ width) → (p : ℕ) (x : CellValue) → slice_get u.cells p ≡ Some x → CellFits u.job width x
+cells_fit u width is widths p (Ok (Some x)) a = (widths p x a, is.of_base p x a)
+cells_fit u width is widths p (Ok None) a = is.held p a
+cells_fit u width is widths p (Err fault) a = tt
+
+pub element_is : (xs : List ℤ) (k : ℕ) (z : ℤ) → slice_get xs k ≡ Some z → get_or xs k (pos 0) ≡ z
+element_is [] k z e = absurd (cc)
+element_is (x ∷ xs) zero z e = cc
+element_is (x ∷ xs) (suc k) z e = element_is xs k z e
+
+pub truths_of : (j : Job) (base : Base) (op : Op) (value : List ℤ) (r : Bool) → j ≡ Fold base op → (IsTrue r ↔ ((k : ℕ) (z : ℤ) → slice_get value k ≡ Some z → IsCell base z)) → IsTrue r ↔ OfBase j value
+truths_of j base op value r e h = subst (λ (i : Job). IsTrue r ↔ OfBase i value) (sym e) h
+
+pub some_same : {x y : CellValue} → Some x ≡ Some y → x ≡ y
+some_same e = cc

@@ -23,3 +23,6 @@ pub use laws::{
 pub use setup::{CellResult, Job, Setup};
 pub use state::{State, open_state};
 pub use validity::is_setup;
+
+#[cfg(test)]
+mod tests;

@@ -1,7 +1,8 @@
 ghost use Rattle.std.specs.Prelude.{◌≡◌, ◌↔◌, ℕ, ℤ, IsTrue, Some, slice_get};
 ghost use Rattle.sac_base.specs.Arrays.{IsCell};
 ghost use Rattle.sac_base.specs.declared.base.Base.{Base};
-ghost use Rattle.wl_core.specs.Machine.{CellFits, CountsFit, IsSetup, OfBase, TakesBase};
+ghost use Rattle.sac_base.specs.Verdict;
+ghost use Rattle.wl_core.specs.Machine.{CellFits, CountsFit, IsFold, IsSetup, OfBase, TakesBase};
 ghost use Rattle.wl_core.specs.Reading.{setup_of, cell_of};
 
 use crate::setup::value_width;
@@ -42,7 +43,7 @@ fn takes_base(job: Job) -> bool
 }
 
 fn folds(base: Base, op: Op) -> bool
-    ensures { result ≡ Rattle.sac_base.specs.Verdict.folds base op }
+    ensures { result ≡ Verdict.folds base op }
 {
     match base {
         Base::Int => matches!(op, Op::Add | Op::Mul | Op::Min | Op::Max),
@@ -72,7 +73,7 @@ fn cell_fits(job: Job, cell: &CellResult, width: usize) -> bool
 }
 
 fn is_fold(job: Job) -> bool
-    ensures { IsTrue result ↔ Rattle.wl_core.specs.Machine.IsFold job }
+    ensures { IsTrue result ↔ IsFold job }
 {
     match job {
         Job::Write => false,
@@ -84,18 +85,27 @@ fn of_base(job: Job, value: &[Cell]) -> bool
     ensures { IsTrue result ↔ OfBase job value.now }
 {
     match job {
-        Job::Fold(Base::Bool, _) => are_truths(value),
-        Job::Fold(Base::Int, _) | Job::Write => true,
+        Job::Write => true,
+        Job::Fold(base, _) => are_cells(base, value),
     }
 }
 
-fn are_truths(value: &[Cell]) -> bool
-    ensures { IsTrue result ↔ ((k : ℕ) (z : ℤ) → slice_get value.now k ≡ Some z → IsCell Base.Bool z) }
+fn are_cells(base: Base, value: &[Cell]) -> bool
+    ensures { IsTrue result ↔ ((k : ℕ) (z : ℤ) → slice_get value.now k ≡ Some z → IsCell base z) }
 {
     for cell in value {
-        if *cell != 0 && *cell != 1 {
+        if !is_cell(base, *cell) {
             return false;
         }
     }
     true
+}
+
+fn is_cell(base: Base, cell: Cell) -> bool
+    ensures { IsTrue result ↔ IsCell base cell }
+{
+    match base {
+        Base::Int => true,
+        Base::Bool => cell == 0 || cell == 1,
+    }
 }
