@@ -78,19 +78,104 @@ fn run(
     Ok(outcome(alloc, setup, &state)?)
 }
 
+// The refusals after some events.
+fn refuse(
+    rt: &impl Abort,
+    alloc: Global,
+    setup: &Setup,
+    before: &[Event],
+    refused: &[(Event, Refused)],
+) -> Result<(), Fail> {
+    assert!(rt; is_setup(setup));
+    let mut state = open_state(alloc, setup)?;
+    for event in before {
+        assert_eq!(rt; step(setup, &mut state, *event), Ok(()));
+    }
+    for (event, reason) in refused {
+        assert_eq!(rt; step(setup, &mut state, *event), Err(*reason));
+    }
+    Ok(())
+}
+
+const INTERLEAVED: [Event; 6] = [
+    Event::Draw(0),
+    Event::Draw(1),
+    Event::Write(1),
+    Event::Write(0),
+    Event::Write(1),
+    Event::Write(0),
+];
+
 #[test]
 fn interleaved_writes_give_the_cells_in_order(rt: HostRuntime) -> Result<(), Fail> {
     let alloc = rt.alloc();
     let setup = four(alloc, &[])?;
-    let events = [
+    let verdict = run(&rt, alloc, &setup, &INTERLEAVED)?;
+    assert!(rt; same(&verdict, &[10, 11, 12, 13]));
+    let after = [
+        (Event::Draw(0), Refused::NoChunk),
+        (Event::Write(0), Refused::NoOwn),
+    ];
+    refuse(&rt, alloc, &setup, &INTERLEAVED, &after)
+}
+
+#[test]
+fn the_least_fault_is_given(rt: HostRuntime) -> Result<(), Fail> {
+    let alloc = rt.alloc();
+    let inner = [
+        Event::Draw(0),
+        Event::Draw(1),
+        Event::Stop(1),
+        Event::Write(0),
+        Event::Stop(0),
+    ];
+    let verdict = run(&rt, alloc, &four(alloc, &[1, 2])?, &inner)?;
+    assert!(rt; faulted(&verdict, fault_of(1)));
+    let outer = [
         Event::Draw(0),
         Event::Draw(1),
         Event::Write(1),
-        Event::Write(0),
-        Event::Write(1),
-        Event::Write(0),
+        Event::Stop(1),
+        Event::Stop(0),
     ];
-    let verdict = run(&rt, alloc, &setup, &events)?;
-    assert!(rt; same(&verdict, &[10, 11, 12, 13]));
+    let verdict = run(&rt, alloc, &four(alloc, &[0, 3])?, &outer)?;
+    assert!(rt; faulted(&verdict, fault_of(0)));
+    Ok(())
+}
+
+#[test]
+fn an_event_is_refused_for_the_first_reason(rt: HostRuntime) -> Result<(), Fail> {
+    let alloc = rt.alloc();
+    let faulting = [
+        (Event::Write(0), Refused::AtFault),
+        (Event::Draw(0), Refused::HasChunk),
+        (Event::Release(0, 0), Refused::NotHeld),
+        (Event::Keep(0, 1), Refused::NoSuch),
+        (Event::Draw(2), Refused::NoSuch),
+    ];
+    refuse(&rt, alloc, &four(alloc, &[0, 3])?, &[Event::Draw(0)], &faulting)?;
+    let before = [Event::Draw(0), Event::Keep(1, 0), Event::Release(1, 0)];
+    let valued = [
+        (Event::Stop(0), Refused::NotFault),
+        (Event::Stop(1), Refused::NoOwn),
+        (Event::Release(1, 0), Refused::NotHeld),
+    ];
+    refuse(&rt, alloc, &four(alloc, &[])?, &before, &valued)
+}
+
+#[test]
+fn held_cells_are_combined(rt: HostRuntime) -> Result<(), Fail> {
+    let alloc = rt.alloc();
+    let mut setup = four(alloc, &[])?;
+    setup.job = Job::Fold(Base::Int, Op::Max);
+    let verdict = run(&rt, alloc, &setup, &INTERLEAVED)?;
+    assert!(rt; combined(&verdict, &[13]));
+    for cell in &mut setup.cells {
+        *cell = CellResult::NotHeld;
+    }
+    let verdict = run(&rt, alloc, &setup, &INTERLEAVED)?;
+    assert!(rt; matches!(verdict, Verdict::Partial(None)));
+    setup.job = Job::Write;
+    assert!(rt; !is_setup(&setup), "only a fold passes over a cell");
     Ok(())
 }
