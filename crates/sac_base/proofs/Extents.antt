@@ -1,0 +1,45 @@
+-- Extents as the code keeps them and as numbers that are not negative.
+use Rattle.std.proofs.Common.{◌≡◌, ℕ, ◌<◌, ◌≤ℤ◌, ◌^◌, ap, ◌∙◌, refl, eqb, ◌&&◌, List, [], ◌∷◌, length, map, ℤ, pos, negsuc, All, arith, FitsSigned, w32}
+use Rattle.std.proofs.lemmas.List.{length-map}
+use Rattle.std.proofs.lemmas.List.Elements.{All-head, All-tail, All-nil, All-cons}
+use lib.IntN.{nat_abs}
+use Rattle.std.specs.Ordering.{int_eq}
+use Rattle.std.proofs.lemmas.Bool.Decides.{same_from_decides, Decides-eqb, Decides-int_eq}
+use Rattle.std.specs.Cmp.Lexicographic.{pointwise}
+use Rattle.sac_base.specs.Shapes.{IsExtent, AreExtents, IsShape}
+
+pos_abs : (z : ℤ) → IsExtent z → pos (nat_abs z) ≡ z
+pos_abs (pos n) h = refl
+pos_abs (negsuc n) h = absurd h
+
+pub same_extents : (zs : List ℤ) → All IsExtent zs → map pos (map nat_abs zs) ≡ zs
+same_extents [] h = refl
+same_extents (z ∷ zs) h =
+    ap (λ x. x ∷ map pos (map nat_abs zs)) (pos_abs z (All-head IsExtent z zs h)) ∙ ap (λ xs. z ∷ xs) (same_extents zs (All-tail IsExtent z zs h))
+
+abs_below : (z : ℤ) → IsExtent z → nat_abs z < 2 ^ 31
+abs_below (pos n) h = h
+abs_below (negsuc n) h = absurd h
+
+all_below : (zs : List ℤ) → All IsExtent zs → All (λ n. n < 2 ^ 31) (map nat_abs zs)
+all_below [] h = All-nil (λ n. n < 2 ^ 31)
+all_below (z ∷ zs) h = All-cons (λ n. n < 2 ^ 31) (nat_abs z) (map nat_abs zs) (abs_below z (All-head IsExtent z zs h)) (all_below zs (All-tail IsExtent z zs h))
+
+pub shape_is : (zs : List ℤ) → AreExtents zs → IsShape (map nat_abs zs)
+shape_is zs h = record { rank = omega (arith, h.rank, length-map zs nat_abs); each = all_below zs h.each }
+
+
+pub extent_read : (z : ℤ) → FitsSigned w32 z → pos 0 ≤ℤ z → IsExtent z
+extent_read (pos n) f h = f.sfits
+extent_read (negsuc n) f h = absurd (omega arith)
+
+signed_eq : (m n : ℕ) → int_eq (pos m) (pos n) ≡ eqb m n
+signed_eq m n =
+    let d = Decides-eqb m n in
+    same_from_decides (int_eq (pos m) (pos n)) (eqb m n) (Decides-int_eq (pos m) (pos n)) (λ t. ap pos (d.0 t), λ e. d.1 (ap nat_abs e))
+
+pub same_as_naturals : (ms ns : List ℕ) → pointwise int_eq (map pos ms) (map pos ns) ≡ pointwise eqb ms ns
+same_as_naturals [] [] = refl
+same_as_naturals [] (n ∷ ns) = refl
+same_as_naturals (m ∷ ms) [] = refl
+same_as_naturals (m ∷ ms) (n ∷ ns) = ap (λ t. t && pointwise int_eq (map pos ms) (map pos ns)) (signed_eq m n) ∙ ap (λ t. eqb m n && t) (same_as_naturals ms ns)
