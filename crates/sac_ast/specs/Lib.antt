@@ -1,2 +1,6 @@
 pub mod Tree
 pub mod View
+pub mod Texts
+pub mod Shape
+pub mod Grammar
+pub mod Heights
