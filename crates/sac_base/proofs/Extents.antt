@@ -1,6 +1,7 @@
 -- Extents as the code keeps them and as numbers that are not negative.
-use Rattle.std.proofs.Common.{◌≡◌, ℕ, ◌<◌, ◌≤ℤ◌, ◌^◌, ap, ◌∙◌, refl, eqb, ◌&&◌, List, [], ◌∷◌, length, map, ℤ, pos, negsuc, All, arith, FitsSigned, w32}
-use Rattle.std.proofs.lemmas.List.{length-map}
+use Rattle.std.proofs.Common.{◌≡◌, ℕ, ◌<◌, ◌≤ℤ◌, ◌^◌, ap, ◌∙◌, refl, eqb, ◌&&◌, List, [], ◌∷◌, length, map, ℤ, pos, negsuc, All, arith, FitsSigned, w32, to_z, of_z, get_or, sym}
+use Rattle.std.proofs.lemmas.List.{length-map, get_or-map}
+use Rattle.std.proofs.lemmas.Int.{to_z-of_z}
 use Rattle.std.proofs.lemmas.List.Elements.{All-head, All-tail, All-nil, All-cons}
 use lib.IntN.{nat_abs}
 use Rattle.std.specs.Ordering.{int_eq}
@@ -16,6 +17,10 @@ pub same_extents : (zs : List ℤ) → All IsExtent zs → map pos (map nat_abs 
 same_extents [] h = refl
 same_extents (z ∷ zs) h =
     ap (λ x. x ∷ map pos (map nat_abs zs)) (pos_abs z (All-head IsExtent z zs h)) ∙ ap (λ xs. z ∷ xs) (same_extents zs (All-tail IsExtent z zs h))
+
+pub abs_pos : (ns : List ℕ) → map nat_abs (map pos ns) ≡ ns
+abs_pos [] = refl
+abs_pos (n ∷ ns) = ap (λ xs. n ∷ xs) (abs_pos ns)
 
 abs_below : (z : ℤ) → IsExtent z → nat_abs z < 2 ^ 31
 abs_below (pos n) h = h
@@ -43,3 +48,10 @@ same_as_naturals [] [] = refl
 same_as_naturals [] (n ∷ ns) = refl
 same_as_naturals (m ∷ ms) [] = refl
 same_as_naturals (m ∷ ms) (n ∷ ns) = ap (λ t. t && pointwise int_eq (map pos ms) (map pos ns)) (signed_eq m n) ∙ ap (λ t. eqb m n && t) (same_as_naturals ms ns)
+
+-- an extent that was read
+pub read_extent : (zs : List ℤ) (ns : List ℕ) (i n : ℕ) → zs ≡ map pos ns → i < length zs → n ≡ nat_abs (to_z w32 (of_z w32 (get_or zs i (pos 0)))) → FitsSigned w32 (get_or zs i (pos 0)) → (i < length ns) × (get_or ns i 0 ≡ n)
+read_extent zs ns i n e h r f =
+    let below : i < length ns = omega (arith, ap length e, length-map ns (λ x. pos x)) in
+    let same : get_or zs i (pos 0) ≡ pos (get_or ns i 0) = ap (λ xs. get_or xs i (pos 0)) e ∙ get_or-map (λ x. pos x) ns i 0 (pos 0) below in
+    (below, sym (r ∙ ap nat_abs (to_z-of_z w32 (get_or zs i (pos 0)) f ∙ same)))

@@ -58,6 +58,7 @@ impl Shape {
     /// The extents, from the outermost to the innermost.
     pub fn extents(&self) -> &[i32]
         ensures value { result.now ≡ map pos self.now }
+        ensures extents { AreExtents result.now }
         ensures shape { IsShape self.now }
     {
         self.extents.as_slice()
