@@ -1,7 +1,8 @@
 //! Shapes.
 
-ghost use Rattle.std.specs.Prelude.{◌≡◌, ◌≤◌, ◌↔◌, [], pos, length, map, take, IsSome, IfSome};
-ghost use Rattle.sac_base.specs.Shapes.{IsShape, AreExtents};
+ghost use Rattle.std.specs.Prelude.{◌≡◌, ◌+◌, ◌≤◌, ◌↔◌, [], ◌∷◌, ◌++◌, pos, unsigned_abs, length, map, take, drop, Some, IsSome, IfSome};
+ghost use Rattle.sac_base.specs.Shapes.{IsShape, AreExtents, AreNatural, IsExtent};
+ghost use Rattle.sac_base.specs.Parts.{shape_of_numbers};
 ghost use Rattle.sac_base.specs.Arrays.{same_shape as same_extents};
 
 use smallvec::SmallVec;
@@ -31,8 +32,9 @@ impl Shape {
 
     /// The shape of these extents. There is none exactly where they are more than 8 or one is negative.
     pub fn from_extents(alloc: Global, extents: &[i32]) -> Option<Shape>
-        ensures fits { IsSome result ↔ AreExtents extents.now }
+        ensures fits { IsSome result ↔ AreNatural extents.now }
         ensures value { IfSome result (λ shape. map pos shape ≡ extents.now) }
+        ensures exact { result ≡ shape_of_numbers (Some extents.now) }
     {
         if extents.len() > Self::MOST {
             return None;
@@ -64,6 +66,16 @@ impl Shape {
         self.extents.as_slice()
     }
 
+    /// The shape of a vector of `n` elements.
+    pub fn vector(alloc: Global, n: i32) -> Shape
+        requires { IsExtent n }
+        ensures { result ≡ unsigned_abs n ∷ [] }
+    {
+        let mut extents = SmallVec::new(alloc);
+        extents.push_reserved(n);
+        Shape { extents }
+    }
+
     /// How many extents there are.
     pub fn rank(&self) -> usize
         ensures value { result ≡ length self.now }
@@ -87,6 +99,28 @@ impl Shape {
         let mut shape = self.copy();
         shape.extents.truncate(n);
         shape
+    }
+
+    /// The extents from the `n`th on, counted from 0.
+    pub fn rest(&self, n: usize) -> Shape
+        requires { n ≤ length self.now }
+        ensures { result ≡ drop n self.now }
+    {
+        let extents = SmallVec::from_slice(*self.extents.allocator(), &self.extents.as_slice()[n..]).unwrap();
+        Shape { extents }
+    }
+
+    /// These extents followed by others. There is no such shape exactly where they are more than 8 together.
+    pub fn joined(&self, after: &Shape) -> Option<Shape>
+        ensures fits { IsSome result ↔ (length self.now + length after.now ≤ 8) }
+        ensures value { IfSome result (λ shape. shape ≡ self.now ++ after.now) }
+    {
+        if self.rank() + after.rank() > Self::MOST {
+            return None;
+        }
+        let mut extents = SmallVec::from_slice(*self.extents.allocator(), self.extents()).unwrap();
+        extents.extend_from_slice(after.extents()).unwrap();
+        Some(Shape { extents })
     }
 }
 

@@ -1,7 +1,7 @@
 ghost use Rattle.std.specs.Prelude.{◌≡◌};
-ghost use Rattle.sac_base.specs.Types.{has_form, has_shape};
+ghost use Rattle.sac_base.specs.Types.{has_form, has_shape, has as has_array};
 
-use crate::{Base, Form, Shape, same_shape};
+use crate::{Array, Base, Form, Shape, same_shape};
 
 /// The shapes that a type allows.
 #[derive(Drop)]
@@ -26,6 +26,13 @@ pub fn has(ty: &ArrayType, form: &Form) -> bool
     ensures { result ≡ has_form ty.now form.now }
 {
     ty.base == form.base && part_has(&ty.part, &form.shape)
+}
+
+/// Whether the type contains the array.
+pub fn contains(ty: &ArrayType, array: &Array) -> bool
+    ensures { result ≡ has_array ty.now array.now }
+{
+    ty.base == array.base() && part_has(&ty.part, array.shape())
 }
 
 fn part_has(part: &Part, shape: &Shape) -> bool
