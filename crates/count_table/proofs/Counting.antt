@@ -56,7 +56,7 @@ module _ {T : Type 0} where
 
     kept : length w.holds < 2 ^ 56 → Counted n (set cs b ((get_or cs b 0 + 1) % 2 ^ 64)) hs f (set vs i (Worker (after_keep w b)))
     kept room =
-        let mine = h.fit i (Worker w) at in let few = few_holds n cs hs f vs h b in let c = h.count_is b in_phase in let o = h.opened b in_phase in
+        let mine = h.fit i (Worker w) at in let few = few_holds n cs hs f vs h b in let c = h.count_is b in_phase in let o = h.opened b 0 in_phase in
         recounted _ (b ∷ w.holds) (grind (arith, nat_tests)) (λ k ne. let t : eqb b k ≡ false = ne_eqb b k (λ e. ne (sym e)) in rw t (omega arith)) (omega arith)
         (λ k has. ⊎_elim (λ (e : k ≡ b). omega arith) (λ (ne : k ≢ b). mine.holds_within k (let t : eqb b k ≡ false = ne_eqb b k (λ e. ne (sym e)) in let z : cond {A = ℕ} (eqb b k) 1 0 ≡ 0 = rw t refl in omega arith)) (cases_eq k b))
 

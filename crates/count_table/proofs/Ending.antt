@@ -18,7 +18,7 @@ use Rattle.count_table.specs.declared.view.View.{View}
 use Rattle.count_table.specs.declared.view.View.TheVariants.{Frame, Worker, Spent}
 use Rattle.count_table.specs.Views.{times, without, total, drawn_of, nones_of, holds_of, is_out, has_number, drawn_times, drawn_count, none_count, worker_of}
 use Rattle.count_table.specs.Rule.{IsSeatOf, Fits, Counted, Keeps, Ruled}
-use Rattle.count_table.specs.Opening.{opened}
+use Rattle.count_table.specs.Opening.{opened, present}
 use Rattle.count_table.specs.Seats.{IsReady}
 use Rattle.count_table.specs.Plays.{after_draw, after_keep, after_release, Seat, slots_after, seated, fresh, joined, moved_left, moved_right, left_of, right_of, both_of, Draws, Keeping, Releasing, Looking}
 use Rattle.count_table.proofs.Totals.{once_next, is_one, firsts, seconds, times-append, times-length, length-without, times-without, times-without-le, total-set, total-push, total_at, total-le, total-zero, total-times, total-length, all_of, initial}
@@ -73,7 +73,7 @@ module _ {T : Type 0} where
   home_of (p ∷ ps) zero lt = refl
   home_of (p ∷ ps) (suc k) lt = home_of ps k (omega arith)
 
-  opened_at : (counts : List ℕ) (parts : List T) → ((b : ℕ) → b < length counts → (1 ≤ get_or counts b 0) × (get_or counts b 0 ≤ 2 ^ 62)) → length parts ≤ 4096
+  opened_at : (counts : List ℕ) (parts : List T) → All (λ (n : ℕ). (1 ≤ n) × (n ≤ 2 ^ 62)) counts → length parts ≤ 4096
       → Counted 0 counts (map some (map Some parts)) (opened counts parts) []
   opened_at counts parts in_range few = record {
     each_once = λ x. let t : ltb x (min 0 (length parts)) ≡ false = le-ltb x (min 0 (length parts)) (omega arith) in sym (rw t refl);
@@ -92,7 +92,7 @@ module _ {T : Type 0} where
   }
 
   pub opens : (ws ws' counts : List ℕ) (slots : List (Option T)) (parts parts' : List T) → ws ≡ 0 ∷ counts → ws' ≡ 0 ∷ counts → slots ≡ map Some parts → parts' ≡ parts
-      → ((b : ℕ) → b < length counts → (1 ≤ get_or counts b 0) × (get_or counts b 0 ≤ 2 ^ 62)) → length parts ≤ 4096
+      → All (λ (n : ℕ). (1 ≤ n) × (n ≤ 2 ^ 62)) counts → length parts ≤ 4096
       → Keeps ws (map some slots) (Frame (opened (drop 1 ws') parts') ∷ [])
   opens ws ws' counts slots parts parts' words_is words_is' slots_is parts_is in_range few =
       subst (λ (u : List ℕ). Keeps u (map some slots) (Frame (opened (drop 1 ws') parts') ∷ [])) (sym words_is)
@@ -103,3 +103,8 @@ module _ {T : Type 0} where
   pub still_ready : (r : Option ℕ) (w : WorkerView T) (hs : List ℕ) (held : List (ℕ × Option T)) → IsReady r w held → IsReady r (record w { holds = hs }) held
   still_ready None w hs held h = h
   still_ready (Some n) w hs held h = h
+
+  -- what comes back where no memory is found
+  pub present-map : (parts : List T) → present (map Some parts) ≡ parts
+  present-map [] = refl
+  present-map (p ∷ parts) = ap (λ ps. p ∷ ps) (present-map parts)

@@ -67,7 +67,7 @@ module _ {T : Type 0} where
       pub held_twice : (b : ℕ) → 0 < times b w.holds → 2 ≤ get_or cs b 0
       held_twice b held =
           let lt = (h.fit i (Worker w) at).holds_within b held in
-          let c = h.count_is b lt in let o = h.opened b lt in let t = total_at (holds_of b) vs i (Worker w) at in omega arith
+          let c = h.count_is b lt in let o = h.opened b 0 lt in let t = total_at (holds_of b) vs i (Worker w) at in omega arith
 
       -- what the worker has drawn lies below the next number
       pub below_next : (c : ℕ) → 0 < times c w.drawn → c < n

@@ -36,7 +36,7 @@ pub record Counted {T : Type 0} (next : ℕ) (counts : List ℕ) (homes : List (
   pub buffers : length counts ≡ length f.opening
   pub count_is : (b : ℕ) → b < length f.opening → slice_index counts b ≡ slice_index f.opening b + total (holds_of b) vs
   -- the frame's view is in range
-  pub opened : (b : ℕ) → b < length f.opening → (1 ≤ slice_index f.opening b) × (slice_index f.opening b ≤ 2 ^ 62)
+  pub opened : All (λ n. (1 ≤ n) × (n ≤ 2 ^ 62)) f.opening
   pub few_seats : f.made ≤ 64
   pub few_chunks : length f.parts ≤ 4096
   pub drawn_by : All (λ p. p.1 < f.made) f.drawn

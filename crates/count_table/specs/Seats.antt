@@ -16,7 +16,7 @@ pub record PhaseId (T : Type 0) : Type 0 where
   pub parts : List T
   pub buffers : ℕ
 
-pub record Work (T : Type 0) : Type 0 where
+pub record WorkerState (T : Type 0) : Type 0 where
   pub phase : PhaseId T
   pub number : ℕ
   -- the shared buffers that it holds, one as often as it is held
@@ -27,7 +27,7 @@ pub record Work (T : Type 0) : Type 0 where
   -- the chunk that was drawn last, whose part was not taken since
   pub ready : Option ℕ
 
-pub record Lead (T : Type 0) : Type 0 where
+pub record FrameState (T : Type 0) : Type 0 where
   pub phase : PhaseId T
   pub opening : List ℕ
   -- how many worker seats were made, and how many have not left
@@ -42,11 +42,15 @@ module _ {T : Type 0} where
   abbrev pub phase_of : TableId → List T → ℕ → PhaseId T
   phase_of t p b = record { table = t; parts = p; buffers = b }
 
-  abbrev pub work_of : TableId → WorkerView T → Option ℕ → Work T
-  work_of t w ready = record { phase = phase_of t w.parts w.buffers; number = w.number; holds = w.holds; drawn = w.drawn; ended = w.ended; ready = ready }
+  abbrev pub worker_state : TableId → WorkerView T → Option ℕ → WorkerState T
+  worker_state t w ready = record { phase = phase_of t w.parts w.buffers; number = w.number; holds = w.holds; drawn = w.drawn; ended = w.ended; ready = ready }
 
-  abbrev pub lead_of : TableId → FrameView T → Lead T
-  lead_of t f = record { phase = phase_of t f.parts (length f.opening); opening = f.opening; made = f.made; out = f.out; drawn = f.drawn; nones = f.nones }
+  abbrev pub frame_state : TableId → FrameView T → FrameState T
+  frame_state t f = record { phase = phase_of t f.parts (length f.opening); opening = f.opening; made = f.made; out = f.out; drawn = f.drawn; nones = f.nones }
+
+  -- a phase that was just opened with these counts, and the frame's seat
+  abbrev pub IsOpened : List ℕ → PhaseId T → FrameState T → Type 0
+  IsOpened counts p f = (p.buffers ≡ length counts) × (f ≡ record { phase = p; opening = counts; made = 0; out = 0; drawn = []; nones = 0 })
 
   -- each buffer that a worker holds is one of the phase
   abbrev pub HoldsWithin : WorkerView T → Type 0

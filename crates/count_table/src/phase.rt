@@ -1,21 +1,23 @@
 // One phase: its table, the frame's seat and the workers' seats.
-ghost use Rattle.std.specs.Prelude.{◌≡◌, ◌≢◌, ℕ, ◌+◌, ◌-◌, ◌%◌, ◌^◌, ◌<◌, ◌≤◌, [], ◌∷◌, ◌++◌, true, false, length, map, slice_index, slice_get, MatchOption, IfSome, IfOk, cond, nat_lt, None, Some};
+ghost use Rattle.std.specs.Prelude.{◌≡◌, ◌≢◌, ℕ, ◌+◌, ◌-◌, ◌%◌, ◌^◌, ◌<◌, ◌≤◌, [], ◌∷◌, ◌++◌, true, false, length, map, slice_index, slice_get, MatchOption, IfSome, IfOk, IfErr, All, cond, nat_lt, None, Some};
 ghost use Rattle.std.specs.Slots.{IsFull};
 ghost use Rattle.count_table.specs.Views.{times, without};
-ghost use Rattle.count_table.specs.Seats.{PhaseId, Work, Lead};
+ghost use Rattle.count_table.specs.Seats.{PhaseId, WorkerState, FrameState, IsOpened};
 
-use crate::rule::{Counts, Draw, Keep, Leaving, Look, Moving, Opening, Release, Seating};
+use crate::opening::{Unopened, empty_slots, fill_slots, words_of};
+use crate::rule::{Draw, Keep, Leaving, Look, Moving, Opening, PhaseRule, Release, Seating};
 use crate::tally::Tally;
 use crate::view::View;
 use atomic_table::{Closed, Refused, Seat, Table};
-use std::alloc::{AllocError, Global};
+use sac_base::Memory;
+use std::alloc::Global;
 use std::marker::Model;
 use std::snapshot::Snapshot;
 
 /// One phase's words, and the parts of its chunks. It is shared by reference.
 #[derive(Drop)]
 pub struct Phase<T: Send + Drop> {
-    table: Table<Option<T>, View<T>, Opening<T>, Counts, Global>,
+    table: Table<Option<T>, View<T>, Opening<T>, PhaseRule, Global>,
     chunks: u64,
     buffers: usize,
 }
@@ -40,12 +42,12 @@ pub struct WorkerSeat<T> {
 }
 
 impl<T> Model for WorkerSeat<T> {
-    ghost use Rattle.count_table.specs.Seats.{Work, work_of, IsWorker, IsReady, HoldsWithin};
+    ghost use Rattle.count_table.specs.Seats.{WorkerState, worker_state, IsWorker, IsReady, HoldsWithin};
     ghost use Rattle.count_table.specs.Views.{worker_of};
 
-    ghost Value = { Work T };
+    ghost Value = { WorkerState T };
 
-    ghost view = { λ s. work_of s.seat.table_id (worker_of s.seat.me.0) s.ready };
+    ghost view = { λ s. worker_state s.seat.table_id (worker_of s.seat.me.0) s.ready };
 
     ghost invariant = { λ s. IsWorker s.seat.me × HoldsWithin (worker_of s.seat.me.0) × IsReady s.ready (worker_of s.seat.me.0) s.seat.me.1 };
 }
@@ -57,34 +59,62 @@ pub struct FrameSeat<T> {
 }
 
 impl<T> Model for FrameSeat<T> {
-    ghost use Rattle.count_table.specs.Seats.{Lead, lead_of, IsFrame};
+    ghost use Rattle.count_table.specs.Seats.{FrameState, frame_state, IsFrame};
     ghost use Rattle.count_table.specs.Views.{frame_of};
 
-    ghost Value = { Lead T };
+    ghost Value = { FrameState T };
 
-    ghost view = { λ s. lead_of s.seat.table_id (frame_of s.seat.me.0) };
+    ghost view = { λ s. frame_state s.seat.table_id (frame_of s.seat.me.0) };
 
     ghost invariant = { λ s. IsFrame s.seat.me };
 }
 
+impl Phase<()> {
+    /// Opens a phase with this count for each shared buffer and this many chunks, which have no parts.
+    pub fn open(
+        alloc: Global,
+        counts: &[u64],
+        chunks: u64,
+    ) -> Result<(Phase<()>, FrameSeat<()>), Memory>
+        requires counts { All (λ n. (1 ≤ n) × (n ≤ 2 ^ 62)) counts.now }
+        requires chunks { chunks ≤ 4096 }
+        ensures chunks { IfOk result (λ r. length r.0.parts ≡ chunks) }
+        ensures opened { IfOk result (λ r. IsOpened counts.now r.0 r.1) }
+    {
+        let parts = Vec::from_elem(alloc, (), chunks as usize)?;
+        match Phase::open_parts(alloc, counts, parts) {
+            Ok(opened) => Ok(opened),
+            Err(Unopened { parts: _ }) => Err(Memory),
+        }
+    }
+}
+
 impl<T: Send + Drop> Phase<T> {
-    /// Opens a phase with this count for each shared buffer and one chunk for each part.
+    /// Opens a phase with this count for each shared buffer and one chunk for each part. Where no memory is found, the
+    /// parts come back.
     pub fn open_parts(
         alloc: Global,
         counts: &[u64],
-        parts: Vec<T>,
-    ) -> Result<(Phase<T>, FrameSeat<T>), AllocError>
-        requires counts { (b : ℕ) → b < length counts.now → (1 ≤ slice_index counts.now b) × (slice_index counts.now b ≤ 2 ^ 62) }
+        mut parts: Vec<T>,
+    ) -> Result<(Phase<T>, FrameSeat<T>), Unopened<T>>
+        requires counts { All (λ n. (1 ≤ n) × (n ≤ 2 ^ 62)) counts.now }
         requires parts { length parts.items ≤ 4096 }
-        ensures { IfOk result (λ r. (r.0.parts ≡ parts.items) × (r.0.buffers ≡ length counts.now) × (r.1 ≡ record { phase = r.0; opening = counts.now; made = 0; out = 0; drawn = []; nones = 0 })) }
+        ensures parts { IfOk result (λ r. r.0.parts ≡ parts.items) }
+        ensures opened { IfOk result (λ r. IsOpened counts.now r.0 r.1) }
+        ensures back { IfErr result (λ e. e.parts.items ≡ parts.items) }
     {
-        let words = words_of(alloc, counts)?;
+        let Ok(words) = words_of(alloc, counts) else {
+            return Err(Unopened { parts });
+        };
+        let Ok(mut slots) = Vec::with_capacity(alloc, parts.len()) else {
+            return Err(Unopened { parts });
+        };
+        let chunks = parts.len() as u64;
         let about = Opening {
             words: Snapshot::of(&words),
             parts: Snapshot::of(&parts),
         };
-        let chunks = parts.len() as u64;
-        let slots = slots_of(alloc, parts)?;
+        fill_slots(&mut parts, &mut slots);
         match Table::new(alloc, words.as_slice(), slots, &about) {
             Ok((table, seat)) => {
                 let phase = Phase {
@@ -94,7 +124,10 @@ impl<T: Send + Drop> Phase<T> {
                 };
                 Ok((phase, FrameSeat { seat }))
             }
-            Err(Refused { slots: _ }) => Err(AllocError),
+            Err(Refused { slots }) => {
+                empty_slots(slots, &mut parts);
+                Err(Unopened { parts })
+            }
         }
     }
 
@@ -164,8 +197,7 @@ impl<T: Send + Drop> Phase<T> {
         requires left { frame.out ≡ 0 }
         requires room { length into.old ≡ self.buffers }
         ensures counts { into.new ≡ frame.opening }
-        ensures phases { tally.new.phases ≡ (tally.old.phases + 1) % 2 ^ 64 }
-        ensures draws { tally.new.draws ≡ (tally.old.draws + length frame.drawn) % 2 ^ 64 }
+        ensures tally { tally.new ≡ record { phases = (tally.old.phases + 1) % 2 ^ 64; draws = (tally.old.draws + length frame.drawn) % 2 ^ 64 } }
         ensures each_once { (x : ℕ) → times x (map (λ p. p.0) frame.drawn) ≡ cond (nat_lt x (length frame.drawn)) 1 0 }
         ensures few { length frame.drawn ≤ length self.parts }
         ensures whole { 0 < frame.nones → length frame.drawn ≡ length self.parts }
@@ -226,19 +258,4 @@ fn discard<T: Drop>(mut closed: Closed<Option<T>, Global>)
         drop(closed.take(slot));
     }
     closed.free();
-}
-
-fn words_of(alloc: Global, counts: &[u64]) -> Result<Vec<u64>, AllocError>
-    ensures { IfOk result (λ v. v.items ≡ 0 ∷ counts.now) }
-{
-    let mut words = Vec::with_capacity(alloc, counts.len() + 1)?;
-    words.push(0)?;
-    words.extend_from_slice(counts)?;
-    Ok(words)
-}
-
-fn slots_of<T: Drop>(alloc: Global, parts: Vec<T>) -> Result<Vec<Option<T>>, AllocError>
-    ensures { IfOk result (λ v. v.items ≡ map Some parts.items) }
-{
-    parts.into_iter().map(Some).collect(alloc)
 }

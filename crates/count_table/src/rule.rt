@@ -15,9 +15,9 @@ pub struct Opening<T> {
     pub parts: Snapshot<Vec<T>>,
 }
 
-pub struct Counts;
+pub struct PhaseRule;
 
-impl<T> TableRule<Option<T>, View<T>, Opening<T>> for Counts {
+impl<T> TableRule<Option<T>, View<T>, Opening<T>> for PhaseRule {
     ghost holds = { λ _. Ruled };
 
     ghost first = { first_view };
