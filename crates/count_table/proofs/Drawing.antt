@@ -1,28 +1,22 @@
 -- A draw keeps the rule.
-use Rattle.std.proofs.Common.{◌≡◌, ◌≢◌, ℕ, zero, suc, ◌+◌, ◌-◌, ◌*◌, ◌%◌, ◌^◌, ◌<◌, ◌≤◌, min, Bool, true, false, cond, ltb, eqb, List, [], ◌∷◌, ◌++◌, map, length, set, get_or, sym, refl, ap, ◌∙◌, subst, arith, ⊎_elim, length-append, length-set, get_or-set_same, get_or-set_other, add-one}
+use Rattle.std.proofs.Common.{◌≡◌, ◌≢◌, ℕ, zero, suc, ◌+◌, ◌%◌, ◌^◌, ◌<◌, ◌≤◌, min, Bool, true, false, cond, ltb, eqb, List, [], ◌∷◌, ◌++◌, length, set, get_or, sym, refl, ap, ◌∙◌, subst, arith, length-append}
 use Rattle.std.proofs.Math.Nat.{mod-eq_of_lt}
-use Rattle.std.proofs.lemmas.Bool.{false≢true, ltb-true, ltb-false, le-ltb, ne_eqb, eq-eqb, cases_eq, cases_lt}
-use Rattle.std.proofs.lemmas.Bool.Decides.{nat_tests}
-use Rattle.std.proofs.lemmas.List.{set-get_or, length-map}
-use Rattle.std.proofs.lemmas.List.Elements.{All-append}
-use mathlib.Core.Option.{none, some, Option as Home, some-injective, some-ne-none}
+use Rattle.std.proofs.lemmas.Bool.{ltb-true, ltb-false, le-ltb, eq-eqb}
+use mathlib.Core.Option.{none, some, Option as Home}
 use lib.ListN.{get_elem?}
-use Rattle.std.specs.Prelude.{All, slice_get, drop}
-use Rattle.atomic_table.specs.Table.{Me, step, keeps, takes, Act, Valid, homes_after, carried_after, Allows, Splits, Joins, Final, Seen}
-use Rattle.atomic_table.proofs.Lists.{at_set, at_snoc, set_again, set_else}
+use Rattle.std.specs.Prelude.{slice_get}
+use Rattle.atomic_table.specs.Table.{step, keeps, takes, Act, Valid, homes_after, carried_after, Allows}
+use Rattle.atomic_table.proofs.Lists.{set_else}
 use Rattle.std.specs.declared.option.Option.{Option}
-use Rattle.std.specs.declared.option.Option.TheVariants.{None, Some}
 use Rattle.count_table.specs.declared.view.FrameView.{FrameView}
 use Rattle.count_table.specs.declared.view.WorkerView.{WorkerView}
 use Rattle.count_table.specs.declared.view.View.{View}
 use Rattle.count_table.specs.declared.view.View.TheVariants.{Frame, Worker, Spent}
-use Rattle.count_table.specs.Views.{times, without, total, drawn_of, nones_of, holds_of, is_out, has_number, drawn_times, drawn_count, none_count, worker_of}
-use Rattle.count_table.specs.Rule.{IsSeatOf, Fits, Counted, Keeps, Ruled}
-use Rattle.count_table.specs.Opening.{opened}
-use Rattle.count_table.specs.Seats.{IsReady}
-use Rattle.count_table.specs.Plays.{after_draw, after_keep, after_release, Seat, slots_after, seated, fresh, joined, moved_left, moved_right, left_of, right_of, both_of, Draws, Keeping, Releasing, Looking}
-use Rattle.count_table.proofs.Totals.{once_next, is_one, firsts, seconds, times-append, times-length, length-without, times-without, times-without-le, total-set, total-push, total_at, total-le, total-zero, total-times, total-length, all_of, initial}
-use Rattle.count_table.proofs.Facts.{Each, each_set, seat_drawn, frame_no_worker, taken, few_next, few_holds, held_twice, below_next}
+use Rattle.count_table.specs.Views.{times, total, drawn_of, nones_of, holds_of, is_out, has_number, worker_of}
+use Rattle.count_table.specs.Rule.{Fits, Counted, Keeps, Ruled}
+use Rattle.count_table.specs.Plays.{after_draw, Seat, slots_after, Draws}
+use Rattle.count_table.proofs.Totals.{once_next, times-append, total-set}
+use Rattle.count_table.proofs.Facts.{each_set, seat_drawn, frame_no_worker, few_next, below_next}
 
 module _ {T : Type 0} where
   module _ (n : ℕ) (cs : List ℕ) (hs : List (Home (Option T))) (f : FrameView T) (vs : List (View T)) (i : ℕ) (w : WorkerView T) (h : Counted n cs hs f vs) (at : get_elem? vs i ≡ some (Worker w)) where

@@ -1,6 +1,5 @@
 // What a phase is opened from: its first words, and the slots with its parts.
 ghost use Rattle.std.specs.Prelude.{◌≡◌, ◌≤◌, [], ◌∷◌, ◌++◌, map, IfOk, Some, vec_len, vec_capacity};
-
 ghost use Rattle.count_table.specs.Opening.{present};
 
 use sac_base::Memory;

@@ -1,5 +1,4 @@
-use Rattle.std.proofs.Common.{ap, ◌∙◌, sym, arith, ◌<◌, ◌≤◌, ◌≡◌}
-use Rattle.atomic_table.specs.Table.{Me}
+use Rattle.std.proofs.Common.{ap, ◌∙◌, sym, arith}
 use Rattle.count_table.specs.Plays.{Seat}
 use Rattle.count_table.specs.Views.{worker_of, frame_of}
 use Rattle.count_table.specs.Seats.{WorkerState, FrameState, PhaseId}

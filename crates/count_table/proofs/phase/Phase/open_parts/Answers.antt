@@ -1,4 +1,4 @@
-use Rattle.std.proofs.Common.{map, ap, ◌∙◌, Some}
+use Rattle.std.proofs.Common.{ap, ◌∙◌}
 use Rattle.count_table.specs.Opening.{present}
 use Rattle.count_table.proofs.Ending.{opens, present-map}
 use Rattle.count_table.proofs.phase.Phase.open_parts.Goals as goal
