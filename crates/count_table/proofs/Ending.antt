@@ -63,6 +63,10 @@ module _ {T : Type 0} where
   ends id me f ws xs is none_out fin =
       let s = fin.0 in subst (λ (u : List ℕ). Ended u f) fin.2 (end_keeps s.words s.homes s.views id f fin.1.0 (fin.1.1 ∙ ap (λ (m : Seat T). some m.0) is) none_out)
 
+  -- the number of chunks drawn, from the first word
+  pub draws_counted : (ws : List ℕ) (f : FrameView T) (word chunks least : ℕ) → Ended ws f → get_or ws 0 0 ≡ word → length f.parts ≡ chunks → least ≡ min word chunks → least ≡ length f.drawn
+  draws_counted ws f word chunks least e at parts is = let d = e.draws in omega arith
+
   -- the opening
   home_of : (ps : List T) (k : ℕ) → k < length ps → get_elem? (map some (map Some ps)) k ≡ some (some (slice_get ps k))
   home_of [] k lt = absurd (omega arith)

@@ -11,6 +11,7 @@ use Rattle.count_table.specs.declared.view.View.{View}
 use Rattle.count_table.specs.declared.view.View.TheVariants.{Frame, Worker, Spent}
 use Rattle.count_table.specs.Views.{times, total, drawn_of, nones_of, holds_of, is_out, drawn_count, none_count}
 use Rattle.count_table.specs.Rule.{IsSeatOf, Fits, Counted}
+use Rattle.count_table.specs.Facts.{RuleFacts}
 use Rattle.count_table.proofs.Totals.{times-length, total_at, total-le, total-times, total-length, all_of, initial}
 
 module _ {T : Type 0} where
@@ -75,3 +76,13 @@ module _ {T : Type 0} where
           let t = total_at (λ v. times c (drawn_of v)) vs i (Worker w) at in let e = h.each_once c in
           let z : ltb c (min n (length f.parts)) ≡ false = le-ltb c (min n (length f.parts)) (omega arith) in
           let z' : cond {A = ℕ} (ltb c (min n (length f.parts))) 1 0 ≡ 0 = rw z refl in omega arith)) (cases_lt c n)
+
+  pub rule_facts : (n : ℕ) (cs : List ℕ) (hs : List (Home (Option T))) (f : FrameView T) (vs : List (View T)) → Counted n cs hs f vs → RuleFacts n cs f vs
+  rule_facts n cs hs f vs h = record {
+    taken = taken n cs hs f vs h;
+    none_left = none_left n cs hs f vs h;
+    held_twice = λ k w b at. held_twice n cs hs f vs h k w at b;
+    below_next = λ k w c at. below_next n cs hs f vs h k w at c;
+    small_next = few_next n cs hs f vs h;
+    small_counts = λ b lt. let few = few_holds n cs hs f vs h b in let c = h.count_is b lt in let o = h.opened b 0 lt in omega arith;
+  }

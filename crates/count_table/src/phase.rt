@@ -14,7 +14,8 @@ use std::alloc::Global;
 use std::marker::Model;
 use std::snapshot::Snapshot;
 
-/// One phase's words, and the parts of its chunks. It is shared by reference.
+/// One phase: the next chunk number, the counts of its shared buffers, and the parts of its chunks. Workers share it by
+/// reference, and each steps with a seat of its own.
 #[derive(Drop)]
 pub struct Phase<T: Send + Drop> {
     table: Table<Option<T>, View<T>, Opening<T>, PhaseRule, Global>,
@@ -33,7 +34,7 @@ impl<T: Send + Drop> Model for Phase<T> {
     ghost invariant = { λ p. (p.table.shared.table_id.words ≡ p.buffers + 1) × (p.chunks ≡ length p.table.shared.key.parts.value.items) × (p.buffers < 2 ^ 61) × (p.table.shared.table_id.slots ≡ p.chunks) };
 }
 
-/// What a worker steps with.
+/// What a worker steps with. It shows the worker's number, what it holds and has drawn, and whether it has drawn None.
 #[derive(Drop)]
 pub struct WorkerSeat<T> {
     seat: Seat<Option<T>, View<T>>,
@@ -52,7 +53,8 @@ impl<T> Model for WorkerSeat<T> {
     ghost invariant = { λ s. IsWorker s.seat.me × HoldsWithin (worker_of s.seat.me.0) × IsReady s.ready (worker_of s.seat.me.0) s.seat.me.1 };
 }
 
-/// What the frame makes worker seats from, and takes them back into. It has no bytes.
+/// What the frame makes worker seats from, and takes them back into. It shows the counts at the opening, how many seats
+/// were made and are out, and what the seats that left had drawn.
 #[derive(Drop)]
 pub struct FrameSeat<T> {
     seat: Seat<Option<T>, View<T>>,
@@ -131,7 +133,7 @@ impl<T: Send + Drop> Phase<T> {
         }
     }
 
-    /// Makes a seat for one worker.
+    /// Makes a seat for one worker, which holds nothing and has drawn nothing. The seats of a phase are numbered from 0.
     pub fn seat(&self, frame: &mut FrameSeat<T>) -> WorkerSeat<T>
         requires phase { frame.old.phase ≡ self.now }
         requires room { frame.old.made < 64 }
@@ -142,7 +144,40 @@ impl<T: Send + Drop> Phase<T> {
         WorkerSeat { seat, ready: None }
     }
 
-    /// Holds a shared buffer once more.
+    /// Draws the next chunk, in one atomic step. None comes exactly where no chunk is left, and ends the seat's draws.
+    pub fn draw(&self, seat: &mut WorkerSeat<T>) -> Option<u64>
+        requires phase { seat.old.phase ≡ self.now }
+        requires more { seat.old.ended ≡ false }
+        ensures later { IfSome result (λ c. (k : ℕ) → 0 < times k seat.old.drawn → k < c) }
+        ensures drawn { MatchOption result (seat.new ≡ record seat.old { ended = true; ready = None }) (λ c. (c < length self.now.parts) × (seat.new ≡ record seat.old { drawn = seat.old.drawn ++ c ∷ []; ready = Some c })) }
+    {
+        let next = self.table.shared.fetch_add::<Draw>(&mut seat.seat, 0, 1);
+        seat.ready = if next < self.chunks { Some(next) } else { None };
+        seat.ready
+    }
+
+    /// The part of the chunk that the seat drew last. Nobody else can take it.
+    pub fn take(&self, seat: &mut WorkerSeat<T>) -> T
+        requires phase { seat.old.phase ≡ self.now }
+        requires ready { seat.old.ready ≢ None }
+        ensures part { MatchOption seat.old.ready ⊥ (λ c. slice_get self.now.parts c ≡ Some result) }
+        ensures seat { seat.new ≡ record seat.old { ready = None } }
+    {
+        let Some(chunk) = seat.ready else {
+            unreachable!()
+        };
+        seat.ready = None;
+        match self
+            .table
+            .shared
+            .exchange(&mut seat.seat, chunk as usize, None)
+        {
+            Some(part) => part,
+            None => unreachable!(),
+        }
+    }
+
+    /// Holds a shared buffer once more, in one atomic step.
     pub fn keep(&self, seat: &mut WorkerSeat<T>, buffer: u64)
         requires phase { seat.old.phase ≡ self.now }
         requires buffer { buffer < self.now.buffers }
@@ -154,7 +189,7 @@ impl<T: Send + Drop> Phase<T> {
             .fetch_add::<Keep>(&mut seat.seat, buffer as usize + 1, 1);
     }
 
-    /// Holds a shared buffer once less. It is never freed by this.
+    /// Holds a shared buffer once less, in one atomic step. The frame has a reference of its own, so this never frees it.
     pub fn release(&self, seat: &mut WorkerSeat<T>, buffer: u64)
         requires phase { seat.old.phase ≡ self.now }
         requires held { 0 < times buffer seat.old.holds }
@@ -165,7 +200,7 @@ impl<T: Send + Drop> Phase<T> {
             .fetch_sub::<Release>(&mut seat.seat, buffer as usize + 1, 1);
     }
 
-    /// Whether a shared buffer that the seat holds has no other reference. It has one: the frame's.
+    /// Whether a shared buffer that the seat holds has no other reference. It always has one, the frame's.
     pub fn is_sole(&self, seat: &mut WorkerSeat<T>, buffer: u64) -> bool
         requires phase { seat.old.phase ≡ self.now }
         requires held { 0 < times buffer seat.old.holds }
@@ -178,7 +213,7 @@ impl<T: Send + Drop> Phase<T> {
             == 1
     }
 
-    /// Takes back a seat that holds nothing.
+    /// Takes back a seat that holds nothing. The frame takes over what the seat drew.
     pub fn leave(&self, seat: WorkerSeat<T>, frame: &mut FrameSeat<T>)
         requires phase { (frame.old.phase ≡ self.now) × (seat.phase ≡ self.now) }
         requires holds { seat.holds ≡ [] }
@@ -191,7 +226,8 @@ impl<T: Send + Drop> Phase<T> {
             .join_seat::<Leaving>(&mut frame.seat, moved);
     }
 
-    /// Ends the phase once every seat has left. The counts are those of the opening.
+    /// Ends the phase once every seat has left. The counts are those of the opening, the frame's chunks are each there
+    /// once, and they are all chunks where some seat had drawn None. Parts that were not taken are dropped.
     pub fn close(self, frame: FrameSeat<T>, into: &mut [u64], tally: &mut Tally)
         requires phase { frame.phase ≡ self }
         requires left { frame.out ≡ 0 }
@@ -214,39 +250,6 @@ impl<T: Send + Drop> Phase<T> {
             *count = closed.word(b + 1);
         }
         discard(closed);
-    }
-
-    /// Draws the next chunk, unless none is left.
-    pub fn draw(&self, seat: &mut WorkerSeat<T>) -> Option<u64>
-        requires phase { seat.old.phase ≡ self.now }
-        requires more { seat.old.ended ≡ false }
-        ensures later { IfSome result (λ c. (k : ℕ) → 0 < times k seat.old.drawn → k < c) }
-        ensures drawn { MatchOption result (seat.new ≡ record seat.old { ended = true; ready = None }) (λ c. (c < length self.now.parts) × (seat.new ≡ record seat.old { drawn = seat.old.drawn ++ c ∷ []; ready = Some c })) }
-    {
-        let next = self.table.shared.fetch_add::<Draw>(&mut seat.seat, 0, 1);
-        seat.ready = if next < self.chunks { Some(next) } else { None };
-        seat.ready
-    }
-
-    /// The part of the chunk that was drawn last.
-    pub fn take(&self, seat: &mut WorkerSeat<T>) -> T
-        requires phase { seat.old.phase ≡ self.now }
-        requires ready { seat.old.ready ≢ None }
-        ensures part { MatchOption seat.old.ready ⊥ (λ c. slice_get self.now.parts c ≡ Some result) }
-        ensures seat { seat.new ≡ record seat.old { ready = None } }
-    {
-        let Some(chunk) = seat.ready else {
-            unreachable!()
-        };
-        seat.ready = None;
-        match self
-            .table
-            .shared
-            .exchange(&mut seat.seat, chunk as usize, None)
-        {
-            Some(part) => part,
-            None => unreachable!(),
-        }
     }
 }
 

@@ -1,11 +1,11 @@
-use Rattle.std.proofs.Common.{ℕ, ◌+◌, ◌%◌, ◌^◌, ◌≡◌, cond, ltb, map, length, get_or, min, ap, ◌∙◌, sym, subst, List, arith, add-one, below_more, get_or-set_same, get_or-set_other}
+use Rattle.std.proofs.Common.{ℕ, ◌+◌, ◌%◌, ◌^◌, ◌≡◌, cond, ltb, map, length, get_or, ap, ◌∙◌, sym, subst, List, arith, add-one, below_more, get_or-set_same, get_or-set_other}
 use Rattle.std.proofs.lemmas.List.{ext_get_or}
 use Rattle.std.specs.Slots.{slots_items}
 use Rattle.count_table.specs.Views.{frame_of, times}
 use Rattle.count_table.specs.Seats.{FrameState, PhaseId}
 use Rattle.count_table.specs.Tallied.{totals_of}
 use Rattle.count_table.proofs.Totals.{get_at}
-use Rattle.count_table.proofs.Ending.{ends}
+use Rattle.count_table.proofs.Ending.{ends, draws_counted}
 use Rattle.count_table.proofs.phase.Phase.close.Goals as goal
 
 pub loop-b-preserved : goal.loop-b-preserved
@@ -33,8 +33,9 @@ returns-clause-tally g c =
     let chunks : length (frame_of c.frame.inside.seat.me.0).parts ≡ c.self.inside.chunks =
     ap (λ (x : FrameState g.row.T.Denot). length x.phase.parts) c.frame.view_is ∙ ap (λ (x : PhaseId g.row.T.Denot). length x.parts) c.requires.phase ∙ sym (ap (λ (x : PhaseId g.row.T.Denot). length x.parts) c.self.view_is) ∙ sym c.self.invariant.1 in
     let word = get_at (slots_items c.close_with-closed.result.words) 0 c.word.result c.word.ensures in
-    let same : c.min.result ≡ length c.args.frame.drawn = c.min.ensures ∙ ap (λ (n : ℕ). min n c.self.inside.chunks) (sym word) ∙ ap (λ (n : ℕ). min (get_or (slots_items c.close_with-closed.result.words) 0 0) n) (sym chunks) ∙ e.draws ∙ drawn in
-    c.add.ensures ∙ ap (λ (n : ℕ). totals_of ((c.args.tally.now.phases + 1) % 2 ^ 64) ((c.args.tally.now.draws + n) % 2 ^ 64)) same
+    let same = draws_counted _ _ c.word.result c.self.inside.chunks c.min.result e word chunks c.min.ensures ∙ drawn in
+    ◌∙◌ {b = totals_of ((c.args.tally.now.phases + 1) % 2 ^ 64) ((c.args.tally.now.draws + c.min.result) % 2 ^ 64)} c.add.ensures
+    (ap (λ (n : ℕ). totals_of ((c.args.tally.now.phases + 1) % 2 ^ 64) ((c.args.tally.now.draws + n) % 2 ^ 64)) same)
 
 pub returns-clause-each_once : goal.returns-clause-each_once
 returns-clause-each_once g c x =
