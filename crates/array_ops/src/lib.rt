@@ -3,6 +3,10 @@
 
 mod elements;
 mod error;
+mod literals;
+mod parts;
 
 pub use elements::{binary, unary};
 pub use error::ArrayError;
+pub use literals::literal;
+pub use parts::{condition, dim, replace, reshape, select, shape_vector};

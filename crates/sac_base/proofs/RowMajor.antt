@@ -1,15 +1,15 @@
 -- Products of extents, and places in row-major order.
-use Rattle.std.proofs.Common.{◌≡◌, ℕ, zero, suc, ◌+◌, ◌*◌, ◌/◌, ◌%◌, ◌-◌, ◌<◌, ◌≤◌, ◌^◌, min, ap, ◌∙◌, sym, subst, refl, List, [], ◌∷◌, ◌++◌, length, get_or, set, take, drop, map, ℤ, pos, negsuc, Option, Some, None, Bool, true, false, ltb, cond, arith, mul_comm, mul_assoc, inl, inr, if◌then◌else◌, lt-ltb}
+use Rattle.std.proofs.Common.{◌≡◌, ℕ, zero, suc, ◌+◌, ◌*◌, ◌/◌, ◌%◌, ◌-◌, ◌<◌, ◌≤◌, ◌^◌, min, ap, ◌∙◌, sym, subst, refl, List, [], ◌∷◌, ◌++◌, length, get_or, set, take, drop, map, ℤ, pos, negsuc, Option, Some, None, Bool, true, false, ltb, cond, arith, mul_comm, mul_assoc, inl, inr, ◌⊎◌, if◌then◌else◌, lt-ltb}
 use Rattle.std.proofs.Math.Nat.{mod-eq_of_lt, mul-le-mul_left, mul-le-mul_right, le-mul_of_pos_right, div-div-eq-div-mul}
 use Rattle.std.proofs.Math.Arith.{mod-mul}
 use Rattle.std.proofs.lemmas.Nat.{div-mul-add, mod-mul-add, mod_below, div_below, div-add-mod'}
 use Rattle.std.proofs.lemmas.List.{drop_more, take_more, map_more, drop-set, append_assoc, take_rest, drop-map, drop_all}
 use Rattle.std.proofs.lemmas.Bool.{cases_lt, false≢true}
-use Rattle.std.proofs.lemmas.Bool.Decides.{Decides-ltb}
+use Rattle.std.proofs.lemmas.Bool.Decides.{Decides-ltb, nat_tests}
 use lib.IntN.{nat_abs}
 use Rattle.sac_base.specs.Arrays.{size, MOST}
 use Rattle.sac_base.specs.Parts.{Part, part_at, further}
-use Rattle.sac_base.specs.Places.{place_of, vector_at, is_below}
+use Rattle.sac_base.specs.Places.{place_of, start_of, vector_at, is_below}
 use Rattle.sac_base.proofs.Extents.{abs_pos}
 
 pub size-append : (ms ns : List ℕ) → size (ms ++ ns) ≡ size ms * size ns
@@ -188,3 +188,41 @@ place_turn ns is k j stride start i n z ek l a en small ez ei t h =
     let read : get_or is j (pos 0) ≡ pos i = ez ∙ at.0 ∙ ap (λ x. pos x) (sym ei) in
     (omega arith, omega arith, omega arith,
      place_step ns is k j stride start i n (drop (length is) ns) ek a (omega arith) en read below h.3)
+
+not_ltb : (m n : ℕ) → n ≤ m → ltb m n ≡ false
+not_ltb m n h = grind (arith, nat_tests)
+
+abbrev or_nothing : ℕ → Option ℕ → ℕ
+or_nothing d None = d
+or_nothing d (Some x) = x
+
+no_place : (s : ℕ) → None ≡ Some s → ⊥
+no_place s e = cc
+
+-- there is no part at an index vector, or it lies within the array
+part_or_none : (ns : List ℕ) (is : List ℤ) → (part_at ns is ≡ None)
+    ⊎ ((s : ℕ) × (part_at ns is ≡ Some (record { start = s; shape = drop (length is) ns })) × (length is ≤ length ns) × (s + size (drop (length is) ns) ≤ size ns))
+part_or_none ns [] = inr (0, refl, omega arith, omega arith)
+part_or_none [] (i ∷ is) = inl refl
+part_or_none (n ∷ ns) (negsuc i ∷ is) = inl refl
+part_or_none (n ∷ ns) (pos i ∷ is) =
+    elim (cases_lt i n) [
+      inl lt ↦
+        elim (part_or_none ns is) [
+          inl e ↦ inl (none_here (ltb i n) i ns (part_at ns is) e)
+        | inr w ↦ inr (i * size ns + w.0, ap (λ b. if b then further i ns (part_at ns is) else None) (lt-ltb i n lt) ∙ ap (further i ns) w.1, omega (arith, w.2),
+            omega (arith, w.3, mul-le-mul_right {m = suc i} {n = n} (size ns) lt))
+        ]
+    | inr le ↦ inl (ap (λ b. if b then further i ns (part_at ns is) else None) (not_ltb i n le))
+    ]
+
+-- where a place is given, the part begins there and lies within the array
+pub part_from_place : (ns : List ℕ) (is : List ℤ) (s : ℕ) → place_of ns is ≡ Some s
+    → (part_at ns is ≡ Some (record { start = s; shape = drop (length is) ns })) × (length is ≤ length ns) × (s + size (drop (length is) ns) ≤ size ns)
+part_from_place ns is s h =
+    elim (part_or_none ns is) [
+      inl e ↦ absurd (no_place s (sym (ap start_of e) ∙ h))
+    | inr w ↦
+        let same : w.0 ≡ s = ap (or_nothing 0) (sym (ap start_of w.1) ∙ h) in
+        (w.1 ∙ ap (λ x. Some (record { start = x; shape = drop (length is) ns })) same, w.2, omega (arith, w.3, same))
+    ]

@@ -27,11 +27,15 @@ abbrev pub IsCell : Base → ℤ → Type 0
 IsCell Int z = FitsSigned w32 z
 IsCell Truth z = (z ≡ pos 0) ⊎ (z ≡ pos 1)
 
+-- there are as many elements as the shape says
+abbrev pub IsFull : ArrayValue → Type 0
+IsFull a = length a.cells ≡ size a.shape
+
 -- what each value of the code's type keeps
 pub record IsArray (a : ArrayValue) : Type 0 where
   pub shape : IsShape a.shape
   pub most : size a.shape ≤ MOST
-  pub full : length a.cells ≡ size a.shape
+  pub full : IsFull a
 
 -- each element is one of the array's base, so that a truth value is 0 or 1: what is asked of arguments and holds of arrays that were read
 abbrev pub IsWellTyped : ArrayValue → Type 0
