@@ -35,7 +35,8 @@ pub fn contains(ty: &ArrayType, array: &Array) -> bool
     ty.base == array.base() && part_has(&ty.part, array.shape())
 }
 
-fn part_has(part: &Part, shape: &Shape) -> bool
+/// Whether the part allows the shape.
+pub fn part_has(part: &Part, shape: &Shape) -> bool
     ensures { result ≡ has_shape part.now shape.now }
 {
     match part {
@@ -56,7 +57,8 @@ pub fn copy_type(ty: &ArrayType) -> ArrayType
     }
 }
 
-fn copy_part(part: &Part) -> Part
+/// An equal part.
+pub fn copy_part(part: &Part) -> Part
     ensures { result ≡ part.now }
 {
     match part {

@@ -1,0 +1,3 @@
+pub mod Inclusion
+pub mod Joins
+pub mod Orders
