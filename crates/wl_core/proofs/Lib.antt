@@ -1,0 +1,11 @@
+pub mod Functions
+pub mod Buffers
+pub mod FoldLaws
+pub mod Combining
+pub mod Kept
+pub mod Verdicts
+pub mod States
+pub mod Moves
+pub mod Endings
+pub mod Reasons
+pub mod Orders

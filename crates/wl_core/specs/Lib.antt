@@ -1,0 +1,5 @@
+pub mod Machine
+pub mod Facts
+pub mod Combining
+pub mod Rows
+pub mod Reading
