@@ -10,3 +10,6 @@ pub use elements::{binary, unary};
 pub use error::ArrayError;
 pub use literals::literal;
 pub use parts::{condition, dim, replace, reshape, select, shape_vector};
+
+#[cfg(test)]
+mod tests;
