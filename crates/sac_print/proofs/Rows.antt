@@ -90,19 +90,19 @@ loop =
 abbrev program : ProgramTree
 program = record {
   functions =
-  record {
-    inline = true;
-    results = record { base = base.Int; part = Rank 2 } ∷ record { base = base.Bool; part = Known (3 ∷ 7 ∷ []) } ∷ [];
-    name = codes "f";
-    site = at;
-    params = record { ty = record { base = base.Int; part = Plus }; name = codes "x"; site = at } ∷ record { ty = record { base = base.Bool; part = Star }; name = codes "y"; site = at } ∷ [];
-    body =
-    stmt_and (Tree.while_do (Tree.truth true at) (stmt_and (Tree.replace target at (n 0) loop) no_stmts) at)
-    (stmt_and (Tree.if_else x no_stmts (stmt_and (Tree.if_else x no_stmts no_stmts at) no_stmts) at)
-    (stmt_and (Tree.do_while no_stmts x at at) no_stmts));
-    values = expr_and x (expr_and (Tree.truth false at) no_exprs);
-    ends = at;
-  } ∷ [];
+      record {
+        inline = true;
+        results = record { base = base.Int; part = Rank 2 } ∷ record { base = base.Bool; part = Known (3 ∷ 7 ∷ []) } ∷ [];
+        name = codes "f";
+        site = at;
+        params = record { ty = record { base = base.Int; part = Plus }; name = codes "x"; site = at } ∷ record { ty = record { base = base.Bool; part = Star }; name = codes "y"; site = at } ∷ [];
+        body =
+            stmt_and (Tree.while_do (Tree.truth true at) (stmt_and (Tree.replace target at (n 0) loop) no_stmts) at)
+            (stmt_and (Tree.if_else x no_stmts (stmt_and (Tree.if_else x no_stmts no_stmts at) no_stmts) at)
+            (stmt_and (Tree.do_while no_stmts x at at) no_stmts));
+        values = expr_and x (expr_and (Tree.truth false at) no_exprs);
+        ends = at;
+      } ∷ [];
   end = at;
 }
 

@@ -120,6 +120,11 @@ abbrev mutual
   spell_operation (tree.modarray e s) = one (codes "modarray") ⋅ parens (spell e level.Expression)
   spell_operation (tree.fold o e s) = one (codes "fold") ⋅ parens (one (operator_text o) ⋅ comma ⋅ spell e level.Expression)
 
+-- a default behind the shape
+abbrev pub spell_default : MaybeExpr → Texts
+spell_default left_out = []
+spell_default (given d) = comma ⋅ spell d level.Expression
+
 -- an index between its brackets
 abbrev pub spell_index : Expr → Texts
 spell_index (tree.literal (expr_and x (expr_and y es)) u) = spell x level.Expression ⋅ comma ⋅ spell y level.Expression ⋅ spell_more es
@@ -129,13 +134,17 @@ abbrev pub base_text : Base → List ℕ
 base_text Int = codes "int"
 base_text Truth = codes "bool"
 
+-- what stands between the brackets of a type
+abbrev pub inside_texts : Part → Texts
+inside_texts (Known ns) = commas (map (λ n. one (decimal n)) ns)
+inside_texts (Rank n) = commas (replicate n (one (codes ".")))
+inside_texts Plus = one (codes "+")
+inside_texts Star = one (codes "*")
+
 -- a known empty shape leaves no brackets
 abbrev pub part_texts : Part → Texts
 part_texts (Known []) = []
-part_texts (Known (n ∷ ns)) = brackets (commas (map (λ m. one (decimal m)) (n ∷ ns)))
-part_texts (Rank n) = brackets (commas (replicate n (one (codes "."))))
-part_texts Plus = brackets (one (codes "+"))
-part_texts Star = brackets (one (codes "*"))
+part_texts part = brackets (inside_texts part)
 
 abbrev pub type_texts : ArrayType → Texts
 type_texts ty = one (base_text ty.base) ⋅ part_texts ty.part

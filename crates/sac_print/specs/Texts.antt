@@ -1,6 +1,7 @@
 -- Texts of tokens, and how they are written one behind the other.
-use Rattle.std.specs.Prelude.{ℕ, zero, suc, ◌≡◌, Bool, ◌||◌, List, [], ◌∷◌, ◌++◌, if◌then◌else◌, codes}
+use Rattle.std.specs.Prelude.{ℕ, zero, suc, ◌≡◌, Bool, ◌||◌, List, [], ◌∷◌, ◌++◌, if◌then◌else◌, codes, OnOk, Result}
 use Rattle.std.specs.Str.{bytes_eq}
+use Rattle.sac_base.specs.declared.memory.Memory.{Memory}
 
 abbrev pub Texts : Type 0
 Texts = List (List ℕ)
@@ -34,6 +35,10 @@ written (text ∷ texts) = text ++ (separator text ∷ written texts)
 -- these texts were written behind what was there
 pub record Printed (old new : List ℕ) (texts : Texts) : Type 0 where
   pub is : new ≡ old ++ written texts
+
+-- a writer that succeeds has written these texts behind what was there
+pub record Prints (result : Result (Unit {0}) Memory) (old new : List ℕ) (texts : Texts) : Type 0 where
+  pub on_ok : OnOk result (Printed old new texts)
 
 -- the comma before an item that stands behind so many others
 abbrev pub comma_before : ℕ → Texts

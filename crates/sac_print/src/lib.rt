@@ -2,6 +2,10 @@
 #![tactic(auto)]
 
 mod level;
+mod lists;
+mod program;
 mod texts;
+mod tree;
 
 pub use level::Level;
+pub use program::print_program;

@@ -1,8 +1,9 @@
 //! Single tokens, written one behind the other.
-ghost use Rattle.std.specs.Prelude.{◌≡◌, ◌∷◌, OnOk, codes};
+ghost use Rattle.std.specs.Prelude.{◌≡◌, ◌∷◌, codes};
 ghost use Rattle.std.specs.Fmt.{signed_decimal};
-ghost use Rattle.sac_print.specs.Texts.{one, separator, Printed, comma_before};
-ghost use Rattle.sac_print.specs.Operators.{operator_text, builtin_text, opening, closing};
+ghost use Rattle.sac_print.specs.Texts.{one, separator, Prints, comma_before};
+ghost use Rattle.sac_print.specs.Operators.{operator_text, builtin_text, is_function, opening, closing};
+ghost use Rattle.sac_print.specs.Canonical.{truth_text, bound_sign};
 
 use itoa::Buffer;
 use sac_ast::Builtin;
@@ -21,7 +22,7 @@ fn separator(text: &str) -> u8
 
 /// Writes a token.
 pub fn put(text: &str, out: &mut Vec<u8>) -> Result<(), Memory>
-    ensures { OnOk result (Printed out.old.items out.new.items (one text.now)) }
+    ensures { Prints result out.old.items out.new.items (one text.now) }
 {
     out.extend_from_slice(text.as_bytes())?;
     out.push(separator(text))?;
@@ -30,7 +31,7 @@ pub fn put(text: &str, out: &mut Vec<u8>) -> Result<(), Memory>
 
 /// Writes the comma before the item at a place of a list.
 pub fn put_comma(place: usize, out: &mut Vec<u8>) -> Result<(), Memory>
-    ensures { OnOk result (Printed out.old.items out.new.items (comma_before place)) }
+    ensures { Prints result out.old.items out.new.items (comma_before place) }
 {
     if place > 0 {
         put(",", out)?;
@@ -40,7 +41,7 @@ pub fn put_comma(place: usize, out: &mut Vec<u8>) -> Result<(), Memory>
 
 /// Writes `(` where parentheses are needed.
 pub fn open(needed: bool, out: &mut Vec<u8>) -> Result<(), Memory>
-    ensures { OnOk result (Printed out.old.items out.new.items (opening needed)) }
+    ensures { Prints result out.old.items out.new.items (opening needed) }
 {
     if needed {
         put("(", out)?;
@@ -50,7 +51,7 @@ pub fn open(needed: bool, out: &mut Vec<u8>) -> Result<(), Memory>
 
 /// Writes `)` where parentheses are needed.
 pub fn close(needed: bool, out: &mut Vec<u8>) -> Result<(), Memory>
-    ensures { OnOk result (Printed out.old.items out.new.items (closing needed)) }
+    ensures { Prints result out.old.items out.new.items (closing needed) }
 {
     if needed {
         put(")", out)?;
@@ -59,7 +60,7 @@ pub fn close(needed: bool, out: &mut Vec<u8>) -> Result<(), Memory>
 }
 
 pub fn put_number(n: i32, out: &mut Vec<u8>) -> Result<(), Memory>
-    ensures { OnOk result (Printed out.old.items out.new.items (one (signed_decimal n))) }
+    ensures { Prints result out.old.items out.new.items (one (signed_decimal n)) }
 {
     let mut buffer = Buffer::new();
     put(buffer.format(n), out)
@@ -96,4 +97,24 @@ pub fn builtin_text(builtin: Builtin) -> &'static str
         Builtin::Shape => "shape",
         Builtin::Reshape => "reshape",
     }
+}
+
+/// Whether an operator is written as a call.
+pub fn is_function(op: Op) -> bool
+    ensures { result ≡ is_function op }
+{
+    matches!(op, Op::Min | Op::Max)
+}
+
+pub fn truth_text(b: bool) -> &'static str
+    ensures { result.now ≡ truth_text b }
+{
+    if b { "true" } else { "false" }
+}
+
+/// The sign at a bound of a generator.
+pub fn bound_sign(closed: bool) -> &'static str
+    ensures { result.now ≡ bound_sign closed }
+{
+    if closed { "<=" } else { "<" }
 }
