@@ -1,8 +1,10 @@
 -- Arrays as values.
-use Rattle.std.specs.Prelude.{ℕ, ◌*◌, ◌≤◌, ◌<◌, ◌^◌, ◌≡◌, ◌⊎◌, ◌&&◌, List, [], ◌∷◌, ℤ, pos, length, slice_index_or, All, FitsSigned, Bool, true, false, not, bytes_eq}
+use Rattle.std.specs.Prelude.{ℕ, ◌*◌, ◌≤◌, ◌≡◌, ◌⊎◌, ◌&&◌, List, [], ◌∷◌, ℤ, pos, length, slice_index_or, All, FitsSigned, Bool, true, false, not, bytes_eq}
 use Rattle.std.specs.Ordering.{int_eq}
 use Rattle.sac_base.specs.declared.base.Base.{Base}
 use Rattle.sac_base.specs.declared.base.Base.TheVariants.{Int, Bool as Truth}
+use Rattle.sac_base.specs.declared.form.Form.{Form}
+use Rattle.sac_base.specs.Shapes.{IsShape}
 use mir.Syntax.{w32}
 
 -- an array: what its elements are, its extents, and its elements in row-major order; true is 1 and false is 0
@@ -25,12 +27,23 @@ abbrev pub IsCell : Base → ℤ → Type 0
 IsCell Int z = FitsSigned w32 z
 IsCell Truth z = (z ≡ pos 0) ⊎ (z ≡ pos 1)
 
+-- there are as many elements as the shape says
+abbrev pub IsFull : ArrayValue → Type 0
+IsFull a = length a.cells ≡ size a.shape
+
+-- what each value of the code's type keeps
 pub record IsArray (a : ArrayValue) : Type 0 where
-  pub rank : length a.shape ≤ 8
-  pub extents : All (λ n. n < 2 ^ 31) a.shape
+  pub shape : IsShape a.shape
   pub most : size a.shape ≤ MOST
-  pub full : length a.cells ≡ size a.shape
-  pub fit : All (λ z. FitsSigned w32 z) a.cells
+  pub full : IsFull a
+
+-- each element is one of the array's base, so that a truth value is 0 or 1: what is asked of arguments and holds of arrays that were read
+abbrev pub IsWellTyped : ArrayValue → Type 0
+IsWellTyped a = All (IsCell a.base) a.cells
+
+-- what a type sees of an array
+abbrev pub form_of : ArrayValue → Form
+form_of a = record { base = a.base; shape = a.shape }
 
 -- an array of rank 0, and a vector
 abbrev pub scalar : Base → ℤ → ArrayValue
@@ -52,6 +65,7 @@ same_base Truth Int = false
 abbrev pub same_shape : List ℕ → List ℕ → Bool
 same_shape = bytes_eq
 
+-- the same base and shape
 abbrev pub same_form : ArrayValue → ArrayValue → Bool
 same_form a b = same_base a.base b.base && same_shape a.shape b.shape
 

@@ -88,12 +88,16 @@ abbrev pub with_cells : Op → List ℕ → Result (List ℤ) ZeroDivisor → Re
 with_cells op shape (Err zero) = Err F2
 with_cells op shape (Ok cells) = Ok (record { base = result_base op; shape = shape; cells = cells })
 
+-- the operator at each pair of cells, or an error where one divides by zero
+abbrev pub combined : Op → List ℤ → List ℤ → Result (List ℤ) ZeroDivisor
+combined op xs ys = all_of (map (λ (p : ℤ × ℤ). apply_two op p.0 p.1) (zip xs ys))
+
 abbrev pub in_shape : Op → Option (List ℕ) → ArrayValue → ArrayValue → Result ArrayValue FaultKind
 in_shape op None a b = Err F3
 in_shape op (Some shape) a b =
     let xs = stretched (size shape) a.shape a.cells in
     let ys = stretched (size shape) b.shape b.cells in
-    with_cells op shape (all_of (map (λ (p : ℤ × ℤ). apply_two op p.0 p.1) (zip xs ys)))
+    with_cells op shape (combined op xs ys)
 
 -- an operator of two arrays, element by element
 abbrev pub binary : Op → ArrayValue → ArrayValue → Result ArrayValue FaultKind

@@ -11,6 +11,10 @@ abbrev pub check : {A : Type 0} → Bool → FaultKind → Result A FaultKind �
 check true kind next = next
 check false kind next = Err kind
 
+-- the cells of arrays, one after another
+abbrev pub cells_of_all : List ArrayValue → List ℤ
+cells_of_all items = flat_map (λ (a : ArrayValue). a.cells) items
+
 -- an array literal
 abbrev pub literal : List ArrayValue → Result ArrayValue FaultKind
 literal [] = Ok (vector Int [])
@@ -19,7 +23,7 @@ literal (a ∷ rest) =
     check (list_all (same_form a) rest) F3 (
     check (nat_le (length shape) 8) F4 (
     check (nat_le (size shape) MOST) F8 (
-    Ok (record { base = a.base; shape = shape; cells = flat_map (λ (x : ArrayValue). x.cells) (a ∷ rest) }))))
+    Ok (record { base = a.base; shape = shape; cells = cells_of_all (a ∷ rest) }))))
 
 -- the numbers of a vector, where a scalar counts as one of one element; None for any other array
 abbrev pub numbers_of : ArrayValue → Option (List ℤ)

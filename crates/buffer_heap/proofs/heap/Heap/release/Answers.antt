@@ -1,0 +1,18 @@
+use Rattle.std.proofs.Common.{◌-◌, arith}
+use Rattle.buffer_heap.specs.Heaps.{IsIn}
+use Rattle.buffer_heap.proofs.Places.{Shows, live_there, positive_there, released_one, released_last}
+use Rattle.buffer_heap.proofs.heap.Heap.release.Goals as goal
+
+pub returns-then-place-gt0-clause-heap : goal.returns-then-place-gt0-clause-heap
+returns-then-place-gt0-clause-heap c =
+    let p = c.index_mut-place.result.now in
+    let s : Shows c.self.inside c.args.self.now c.args.id.place p IsIn = record { view = c.self.view_is; is = c.index_mut-place.ensures.value; live = c.requires } in
+    released_one c.self.inside c.args.self.now c.args.id.place p IsIn s c.if-place-gt0.true
+
+pub returns-clause-heap : goal.returns-clause-heap
+returns-clause-heap c =
+    let p = c.index_mut-place.result.now in
+    let s : Shows c.self.inside c.args.self.now c.args.id.place p IsIn = record { view = c.self.view_is; is = c.index_mut-place.ensures.value; live = c.requires } in
+    let some = positive_there p IsIn (live_there c.self.inside c.args.self.now c.args.id.place p IsIn s) in
+    released_last c.self.inside c.args.self.now c.args.id.place p (record p { count = p.count - 1; cells = c.new.result; next = c.self.inside.vacant }) IsIn s
+    (omega (arith, c.if-place-gt0.false, some)) (omega (arith, c.if-place-gt0.false, some))

@@ -1,0 +1,17 @@
+-- What stands at a place of the code's heap.
+use Rattle.std.specs.Prelude.{ℕ, zero, suc, List, ℤ, Option, Some, None}
+use Rattle.buffer_heap.specs.declared.heap.Place.{Place}
+use Rattle.buffer_heap.specs.Heaps.{Content, In, Out, Held}
+
+-- the cells, unless they are handed out
+abbrev pub content_unless : Option ℕ → List ℤ → Content
+content_unless None cells = In cells
+content_unless (Some len) cells = Out len
+
+-- a place with count 0 has nothing
+abbrev pub held_as : ℕ → Content → Option Held
+held_as zero content = None
+held_as (suc n) content = Some (record { count = suc n; content = content })
+
+abbrev pub held_of : Place → Option Held
+held_of p = held_as p.count (content_unless p.out_len p.cells.items)

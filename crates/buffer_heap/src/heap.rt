@@ -1,0 +1,235 @@
+ghost use Rattle.std.specs.Prelude.{◌≡◌, ◌≢◌, ◌+◌, ◌<◌, ◌≤◌, ◌%◌, ◌^◌, ◌==◌, ◌↔◌, ℕ, pos, [], length, replicate, count_by, is_some, Some, None, OnErr, OnOk, IfOk, ⊤};
+ghost use Rattle.buffer_heap.specs.Heaps.{In, Out, Held, HeapValue, at, IsLive, IsIn, IsInAndSole, with_place, with_count, with_content, count_of, content_of, lifted, released};
+ghost use Rattle.buffer_heap.specs.Places.{held_of};
+ghost use Rattle.sac_base.specs.declared.outcome.Released.TheVariants.{Freed};
+
+use sac_base::{Cell, Memory, Released};
+use std::alloc::Global;
+use std::marker::Model;
+use std::mem;
+
+/// A place in a heap. A buffer stays at its place until it is freed, and then the place may get another buffer.
+#[derive(Clone, Copy, Debug, PartialEq, Eq)]
+pub struct BufferId {
+    place: usize,
+}
+
+// A live buffer, or nothing where the count is 0. Then `next` is the place to try after this one.
+#[derive(Drop)]
+struct Place {
+    count: u64,
+    cells: Vec<Cell>,
+    // the number of the cells while they are handed out
+    out_len: Option<usize>,
+    next: usize,
+}
+
+/// Buffers of cells, each with the number of its references, and how many were taken, given back and reused so far,
+/// modulo 2^64. A buffer is in, or it is out while its cells are handed out.
+#[derive(Drop)]
+pub struct Heap {
+    alloc: Global,
+    places: Vec<Place>,
+    // The place to try first for a new buffer, the top of a stack that runs through the vacant places' `next`.
+    vacant: usize,
+    taken: u64,
+    given: u64,
+    reused: u64,
+}
+
+impl Model for Heap {
+    ghost use Rattle.std.specs.Prelude.{map};
+    ghost use Rattle.buffer_heap.specs.Heaps.{HeapValue};
+
+    ghost Value = { HeapValue };
+
+    ghost use Rattle.buffer_heap.specs.Places.{held_of};
+
+    ghost view = { λ h. record {
+      places = map held_of h.places.items;
+      taken = h.taken;
+      given = h.given;
+      reused = h.reused;
+    } };
+}
+
+// Where the stack of vacant places ends: no place of a heap.
+const NO_PLACE: usize = usize::MAX;
+
+impl Heap {
+    /// A heap with no buffer, all its counters 0. It allocates nothing.
+    pub fn new(alloc: Global) -> Self
+        ensures { result ≡ record { places = []; taken = 0; given = 0; reused = 0 } }
+    {
+        Heap {
+            alloc,
+            places: Vec::new(alloc),
+            vacant: NO_PLACE,
+            taken: 0,
+            given: 0,
+            reused: 0,
+        }
+    }
+
+    /// How many buffers were taken, modulo 2^64.
+    pub fn taken(&self) -> u64
+        ensures { result ≡ self.now.taken }
+    {
+        self.taken
+    }
+
+    /// How many buffers were given back, modulo 2^64.
+    pub fn given(&self) -> u64
+        ensures { result ≡ self.now.given }
+    {
+        self.given
+    }
+
+    /// How many buffers were reused, modulo 2^64.
+    pub fn reused(&self) -> u64
+        ensures { result ≡ self.now.reused }
+    {
+        self.reused
+    }
+
+    /// How many buffers are live.
+    pub fn live(&self) -> u64
+        ensures { result ≡ count_by is_some self.now.places }
+    {
+        self.places.iter().filter(|place| place.count != 0).count() as u64
+    }
+
+    /// Whether one reference alone leads to the buffer.
+    pub fn is_sole(&self, id: BufferId) -> bool
+        requires { IsLive self.now id.place (λ x. ⊤) }
+        ensures { result ≡ (count_of (at self.now id.place) == 1) }
+    {
+        self.places[id.place].count == 1
+    }
+
+    /// The cells of a buffer that is in.
+    pub fn cells(&self, id: BufferId) -> &[Cell]
+        requires { IsLive self.now id.place IsIn }
+        ensures { content_of (at self.now id.place) ≡ In result.now }
+    {
+        self.places[id.place].cells.as_slice()
+    }
+
+    /// A buffer of zeros with one reference.
+    ///
+    /// # Errors
+    ///
+    /// `Memory`: nothing has changed.
+    pub fn take(&mut self, len: u64) -> Result<BufferId, Memory>
+        requires { len ≤ 16777216 }
+        ensures vacant { IfOk result (λ id. at self.old id.place ≡ None) }
+        ensures holds { IfOk result (λ id. at self.new id.place ≡ Some (record { count = 1; content = In (replicate len (pos 0)) })) }
+        ensures others { IfOk result (λ id. (b : ℕ) → b ≢ id.place → at self.new b ≡ at self.old b) }
+        ensures counters { OnOk result ((self.new.taken ≡ (self.old.taken + 1) % 2 ^ 64) × (self.new.given ≡ self.old.given) × (self.new.reused ≡ self.old.reused)) }
+        ensures unchanged { OnErr result (self.new ≡ self.old) }
+    {
+        let mut cells = Vec::new(self.alloc);
+        cells.resize(len as usize, 0)?;
+        let id = self.store(Place {
+            count: 1,
+            cells,
+            out_len: None,
+            next: NO_PLACE,
+        })?;
+        self.taken = self.taken.wrapping_add(1);
+        Ok(id)
+    }
+
+    /// One reference more to a buffer that is in.
+    pub fn keep(&mut self, id: BufferId)
+        requires { IsLive self.old id.place (λ x. IsIn x × (x.count < 2 ^ 62)) }
+        ensures { self.new ≡ with_place self.old id.place (with_count (at self.old id.place) (count_of (at self.old id.place) + 1)) }
+    {
+        self.places[id.place].count += 1;
+    }
+
+    /// One reference less to a buffer that is in. With the last one the buffer is given back.
+    pub fn release(&mut self, id: BufferId) -> Released
+        requires { IsLive self.old id.place IsIn }
+        ensures heap { self.new ≡ released self.old id.place }
+        ensures last { (result ≡ Freed) ↔ (count_of (at self.old id.place) ≡ 1) }
+    {
+        let place = &mut self.places[id.place];
+        place.count -= 1;
+        if place.count > 0 {
+            return Released::More;
+        }
+        place.cells = Vec::new(self.alloc);
+        place.next = self.vacant;
+        self.vacant = id.place;
+        self.given = self.given.wrapping_add(1);
+        Released::Freed
+    }
+
+    /// Hands out the cells of a buffer that is in and has one reference. The buffer is out until they are settled.
+    pub fn lift(&mut self, id: BufferId) -> Vec<Cell>
+        requires { IsLive self.old id.place IsInAndSole }
+        ensures heap { self.new ≡ lifted self.old id.place }
+        ensures cells { content_of (at self.old id.place) ≡ In result.items }
+    {
+        let place = &mut self.places[id.place];
+        place.out_len = Some(place.cells.len());
+        mem::replace(&mut place.cells, Vec::new(self.alloc))
+    }
+
+    /// As `lift`, and the buffer counts as reused.
+    pub fn reuse(&mut self, id: BufferId) -> Vec<Cell>
+        requires { IsLive self.old id.place IsInAndSole }
+        ensures heap { self.new ≡ record (lifted self.old id.place) { reused = (self.old.reused + 1) % 2 ^ 64 } }
+        ensures cells { content_of (at self.old id.place) ≡ In result.items }
+    {
+        self.reused = self.reused.wrapping_add(1);
+        self.lift(id)
+    }
+
+    /// Puts cells into a buffer that is out, as many as it has. The buffer is in again.
+    pub fn settle(&mut self, id: BufferId, cells: Vec<Cell>)
+        requires { IsLive self.old id.place (λ x. x.content ≡ Out (length cells.items)) }
+        ensures { self.new ≡ with_place self.old id.place (with_content (at self.old id.place) (In cells.items)) }
+    {
+        let place = &mut self.places[id.place];
+        place.out_len = None;
+        place.cells = cells;
+    }
+
+    /// Adds the counters of a heap with no live buffer.
+    pub fn absorb(&mut self, other: Heap)
+        requires { (b : ℕ) → at other b ≡ None }
+        ensures { self.new ≡ record self.old {
+          taken = (self.old.taken + other.taken) % 2 ^ 64;
+          given = (self.old.given + other.given) % 2 ^ 64;
+          reused = (self.old.reused + other.reused) % 2 ^ 64;
+        } }
+    {
+        self.taken = self.taken.wrapping_add(other.taken);
+        self.given = self.given.wrapping_add(other.given);
+        self.reused = self.reused.wrapping_add(other.reused);
+    }
+
+    // Puts a buffer at a place that has none: at the top of the stack of vacant places, or at the end.
+    fn store(&mut self, place: Place) -> Result<BufferId, Memory>
+        ensures vacant { IfOk result (λ id. at self.old id.place ≡ None) }
+        ensures holds { IfOk result (λ id. at self.new id.place ≡ held_of place) }
+        ensures others { IfOk result (λ id. (b : ℕ) → b ≢ id.place → at self.new b ≡ at self.old b) }
+        ensures counters { (self.new.taken ≡ self.old.taken) × (self.new.given ≡ self.old.given) × (self.new.reused ≡ self.old.reused) }
+        ensures unchanged { OnErr result (self.new ≡ self.old) }
+    {
+        let vacant = self.vacant;
+        if vacant < self.places.len() && self.places[vacant].count == 0 {
+            self.vacant = self.places[vacant].next;
+            self.places[vacant] = place;
+            return Ok(BufferId { place: vacant });
+        }
+        let end = self.places.len();
+        self.places.push(place)?;
+        Ok(BufferId { place: end })
+    }
+}
+
+#[cfg(test)]
+mod tests;

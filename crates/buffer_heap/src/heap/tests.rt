@@ -1,0 +1,86 @@
+ghost use Rattle.std.specs.Prelude.{◌≡◌};
+
+use super::*;
+use std::test::Fail;
+
+// A heap may go to another thread.
+fn sends<X: Send>(value: X) -> X
+    ensures { result ≡ value }
+{
+    value
+}
+
+#[test]
+fn the_last_reference_frees_the_buffer(rt: HostRuntime) -> Result<(), Fail> {
+    let mut heap = Heap::new(rt.alloc());
+    let a = heap.take(16)?;
+    assert_eq!(rt; heap.cells(a), [0; 16].as_slice());
+    heap.keep(a);
+    assert!(rt; !heap.is_sole(a));
+    assert_eq!(rt; heap.release(a), Released::More);
+    assert!(rt; heap.is_sole(a));
+    assert_eq!(rt; heap.release(a), Released::Freed);
+    assert_eq!(rt;
+        (heap.live(), heap.taken(), heap.given(), heap.reused()),
+        (0, 1, 1, 0)
+    );
+    Ok(())
+}
+
+#[test]
+fn cells_are_handed_out_and_taken_back(rt: HostRuntime) -> Result<(), Fail> {
+    let mut heap = Heap::new(rt.alloc());
+    let a = heap.take(2)?;
+    let lifted = heap.lift(a);
+    heap.settle(a, lifted);
+    let mut reused = heap.reuse(a);
+    assert_eq!(rt; reused.len(), 2);
+    reused[1] = 7;
+    heap.settle(a, reused);
+    assert_eq!(rt; heap.cells(a), [0, 7].as_slice());
+    let b = heap.take(0)?;
+    assert_eq!(rt; heap.cells(b), [].as_slice());
+    assert_eq!(rt;
+        (heap.live(), heap.taken(), heap.given(), heap.reused()),
+        (2, 2, 0, 1)
+    );
+    Ok(())
+}
+
+#[test]
+fn counters_of_another_heap_are_added(rt: HostRuntime) -> Result<(), Fail> {
+    let mut heap = Heap::new(rt.alloc());
+    let mut other = Heap::new(rt.alloc());
+    let a = other.take(3)?;
+    other.release(a);
+    heap.absorb(sends(other));
+    assert_eq!(rt;
+        (heap.live(), heap.taken(), heap.given(), heap.reused()),
+        (0, 1, 1, 0)
+    );
+    Ok(())
+}
+
+// Takes three buffers and gives them back, the middle one first. Says which places they had.
+fn take_three(heap: &mut Heap) -> Result<[usize; 3], Memory> {
+    let a = heap.take(1)?;
+    let b = heap.take(2)?;
+    let c = heap.take(3)?;
+    heap.release(b);
+    heap.release(a);
+    heap.release(c);
+    Ok([a.place, b.place, c.place])
+}
+
+#[test]
+fn freed_places_are_used_again(rt: HostRuntime) -> Result<(), Fail> {
+    let mut heap = Heap::new(rt.alloc());
+    assert_eq!(rt; take_three(&mut heap)?, [0, 1, 2]);
+    assert_eq!(rt; take_three(&mut heap)?, [2, 0, 1]);
+    for _ in 0..1000 {
+        let [a, b, c] = take_three(&mut heap)?;
+        assert!(rt; a < 3 && b < 3 && c < 3);
+    }
+    assert_eq!(rt; heap.live(), 0);
+    Ok(())
+}

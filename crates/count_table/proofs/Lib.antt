@@ -1,0 +1,6 @@
+pub mod Totals
+pub mod Facts
+pub mod Drawing
+pub mod Counting
+pub mod Sitting
+pub mod Ending

@@ -1,0 +1,11 @@
+pub mod Axes
+pub mod Cuts
+pub mod Cutting
+pub mod Keeping
+pub mod Likeness
+pub mod Multiples
+pub mod Pairs
+pub mod Repeating
+pub mod Residues
+pub mod RunCounts
+pub mod RunEnds

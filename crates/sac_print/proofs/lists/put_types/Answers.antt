@@ -1,0 +1,7 @@
+use Rattle.std.proofs.Common.{rules, arith, refl}
+use Rattle.sac_print.specs.Canonical.{type_texts}
+use Rattle.sac_print.proofs.Printing.{commas_turn_at, commas_whole, by_text}
+use Rattle.sac_print.proofs.lists.put_types.Goals as goal
+
+pub loop-place-preserved : goal.loop-place-preserved
+loop-place-preserved c = commas_turn_at type_texts c.args.types.now c.loop-place.place c.index-types-place.result c.index-types-place.is c.loop-place-test.true c.loop-place.invariant c.in_ok-put_comma.ensures.on_ok c.in_ok-put_type.ensures.on_ok

@@ -1,0 +1,7 @@
+use Rattle.std.proofs.Common.{map, take}
+use Rattle.sac_print.specs.Texts.{commas, Printed}
+use Rattle.sac_print.specs.Canonical.{type_texts}
+use Rattle.sac_print.proofs.lists.put_types.Given as goal
+
+abbrev pub invariant-loop-place : goal.invariant-loop-place
+invariant-loop-place l = Printed l.initial.out.items l.out.items (commas (map type_texts (take l.place l.types)))

@@ -1,0 +1,11 @@
+//! The canonical text of a program.
+#![tactic(auto)]
+
+mod level;
+mod lists;
+mod program;
+mod texts;
+mod tree;
+
+pub use level::Level;
+pub use program::print_program;

@@ -1,0 +1,4 @@
+pub mod Inclusion
+pub mod Joins
+pub mod Lists
+pub mod Orders
