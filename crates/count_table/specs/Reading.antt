@@ -29,8 +29,9 @@ held_by n b (Frame f) = 0
 held_by n b (Worker w) = cond (w.number == n) (times b w.holds) 0
 held_by n b Spent = 0
 
--- The table has the next chunk number and the counts as its words, and the views of the frame and of the others. It stands for the state where
--- it was opened for the machine's setup, and the chunks taken, their owners, the counts and the holds are the state's
+-- A table has the next chunk number and the counts as its words, and the views of the frame and of the others. It stands for a state where
+-- it was opened for the machine's setup and has no more seats than that has workers, and the chunks taken, their owners, the counts and the
+-- holds are the state's
 pub record IsReading {T : Type 0} (u : SetupValue) (next : ℕ) (counts : List ℕ) (f : FrameView T) (vs : List (View T)) (s : StateValue) : Type 0 where
   pub chunks_are : length f.parts ≡ chunks u
   pub opening_is : f.opening ≡ u.counts
