@@ -4,3 +4,5 @@ pub mod Drawing
 pub mod Counting
 pub mod Sitting
 pub mod Ending
+pub mod Sums
+pub mod Reading
