@@ -1,6 +1,7 @@
 pub mod Axes
 pub mod Cuts
 pub mod Cutting
+pub mod Existence
 pub mod Keeping
 pub mod Likeness
 pub mod Multiples

@@ -46,7 +46,7 @@ absent k from to g off on = absurd (cc)
 own : (from to : ℤ) (g : Grid1) → IsMultipleFor (steps_of g) from to g
 own from to g on = mod_self (steps_of g)
 
-steps_some : (g : Grid1) → 0 < steps_of g
+pub steps_some : (g : Grid1) → 0 < steps_of g
 steps_some g = elim (cases_Bool (int_le g.step g.width)) [
   | inl dense ↦ rw dense (omega arith)
   | inr sparse ↦ let s = g.steps in rw sparse (omega (arith, ints))

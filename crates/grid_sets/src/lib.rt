@@ -5,12 +5,14 @@
 #![tactic(auto)]
 
 mod axis;
+mod laws;
 mod pair;
 mod period;
 mod runs;
 mod segment;
 
 pub use axis::axis_runs;
+pub use laws::{axis_count, common_period};
 pub use pair::{GridError, is_too_fine, meet1, minus1};
 pub use period::{COARSEST, FINEST};
 pub use segment::Segment;
