@@ -11,7 +11,7 @@ use Rattle.std.proofs.Common.{Bool, true, false, IsTrue, Result, Ok, Err}
 use Rattle.generator_sets.specs.declared.error.GenError.{GenError}
 use Rattle.generator_sets.specs.declared.error.GenError.TheVariants.{TooMany, TooFine, Memory}
 use Rattle.generator_sets.specs.Counts.{CommonPeriods, IsDue, IsManyWhere}
-use Rattle.generator_sets.proofs.Evenness.{column_cons}
+use Rattle.generator_sets.proofs.Uniformity.{column_cons}
 
 pub period_at : (as' bs : List Grid1) (ps : List ℕ) → CommonPeriods as' bs ps → (k : ℕ) (a b : Grid1) → k < length as' → IsCommonPeriod (get_or as' k a) (get_or bs k b) (get_or ps k 0)
 period_at [] bs [] h k a b l = absurd (omega arith)

@@ -8,13 +8,13 @@ use Rattle.std.proofs.lemmas.List.Elements.{All-nil, All-cons}
 use Rattle.std.proofs.Math.Nat.{suc-mul}
 use Rattle.sac_base.specs.declared.grid.Grid1.{Grid1}
 use Rattle.sac_base.specs.Grids.{within, Splits, SplitsVectors}
-use Rattle.grid_sets.specs.Segments.{IsEven, IsAxisCount}
-use Rattle.generator_sets.specs.Pieces.{in_box, axis_grids, products, IsEvenVector}
+use Rattle.grid_sets.specs.Segments.{IsUniform, IsAxisCount}
+use Rattle.generator_sets.specs.Pieces.{in_box, axis_grids, products, IsUniformVector}
 use Rattle.generator_sets.specs.Counts.{IsCanonicalCount, IsCause}
 use Rattle.generator_sets.specs.declared.error.GenError.{GenError}
 use Rattle.generator_sets.specs.declared.error.GenError.TheVariants.{TooMany, TooFine, Memory}
 use Rattle.generator_sets.proofs.Products.{products_split, nothing_split, all_products, length_products}
-use Rattle.generator_sets.proofs.Evenness.{AxesEven, EvenFrom, even_more, even_all}
+use Rattle.generator_sets.proofs.Uniformity.{AxesUniform, UniformFrom, even_more, even_all}
 use Rattle.generator_sets.proofs.CountFacts.{at_axis, from_axis, product_min, first_count}
 
 -- what stands when the axes from `left` on are cut: the grids, and their number or 65 where there are more than 64
@@ -23,11 +23,11 @@ pub record CutSoFar (generators : List (List Grid1)) (frame : List Grid1) (limit
   pub most : count ≤ 65
   pub counted : (greatest n : ℕ) → IsCanonicalCount generators left (drop left frame) greatest n → (greatest ≤ limit) × (min n 65 ≡ count)
   pub split : count ≤ 64 → SplitsVectors grids (in_box (drop left frame))
-  pub even : All (EvenFrom left generators) grids
+  pub even : All (UniformFrom left generators) grids
   pub short : All (λ p. length p + left ≤ length frame) grids
   pub size : count ≤ 64 → length grids ≡ count
 
-no_axes_even : (gs : List Grid1) → AxesEven gs []
+no_axes_even : (gs : List Grid1) → AxesUniform gs []
 no_axes_even [] = tt
 no_axes_even (g ∷ gs) = tt
 
@@ -44,7 +44,7 @@ cut_none generators frame limit left grids count e g n =
       most = omega arith;
       counted = λ greatest m at. let both = first_count generators frame left limit greatest m past at in (both.0, both.1 ∙ sym n);
       split = λ few. subst (λ l. SplitsVectors l (in_box (drop left frame))) (sym g) (subst (λ l. SplitsVectors ([] ∷ []) (in_box l)) (sym past) one_empty);
-      even = subst (All (EvenFrom left generators)) (sym g) (All-cons (EvenFrom left generators) [] [] (λ i d l. no_axes_even (drop left (slice_index_or generators i d))) (All-nil _));
+      even = subst (All (UniformFrom left generators)) (sym g) (All-cons (UniformFrom left generators) [] [] (λ i d l. no_axes_even (drop left (slice_index_or generators i d))) (All-nil _));
       short = subst (All (λ p. length p + left ≤ length frame)) (sym g) (All-cons (λ p. length p + left ≤ length frame) [] [] (omega arith) (All-nil _));
       size = λ few. ap length g ∙ sym n;
     }
@@ -68,7 +68,7 @@ shorter p k n h = omega arith
 
 pub cut_more : (generators : List (List Grid1)) (frame : List Grid1) (limit k : ℕ) (axis : Grid1) (runs : List Grid1) (grids made : List (List Grid1)) (count n : ℕ)
     → axis ≡ get_or frame k axis → k < length frame → All (λ g. length g ≡ length frame) generators
-    → Splits runs (within axis.lo axis.hi) → All (IsEven (axis_grids k generators)) runs
+    → Splits runs (within axis.lo axis.hi) → All (IsUniform (axis_grids k generators)) runs
     → ((greatest m : ℕ) → IsAxisCount (axis_grids k generators) axis.hi axis.lo greatest m → (greatest ≤ limit) × (length runs ≡ m))
     → n ≡ min (length runs * count) 65 → (n ≤ 64 → made ≡ products runs grids) → (64 < n → made ≡ [])
     → CutSoFar generators frame limit (suc k) grids count → CutSoFar generators frame limit k made n
@@ -97,7 +97,7 @@ cut_more generators frame limit k axis runs grids made count n is low long split
             | inl nothing ↦ nothing_split axis (drop (suc k) frame) runs grids nothing split
             | inr rest ↦ products_split axis (drop (suc k) frame) runs grids split (before.split rest)
           ]));
-      even = all (EvenFrom k generators) (all_products (EvenFrom k generators) runs grids
+      even = all (UniformFrom k generators) (all_products (UniformFrom k generators) runs grids
           (λ i d l j e m. even_more k generators (slice_index_or runs i d) (slice_index_or grids j e) (λ h b o. omega (arith, long h b o)) (even i d l) (before.even j e m)));
       short = all (λ p. length p + k ≤ length frame) (all_products (λ p. length p + k ≤ length frame) runs grids
           (λ i d l j e m. shorter (length (slice_index_or grids j e)) k (length frame) (before.short j e m)));
@@ -119,9 +119,9 @@ axis_fine generators frame limit k axis greatest count is low fine counted =
 
 -- at the frame's first axis nothing is left
 pub cut_even : (generators : List (List Grid1)) (frame : List Grid1) (limit left : ℕ) (grids : List (List Grid1)) (count : ℕ) → left ≡ 0 → CutSoFar generators frame limit left grids count
-    → All (IsEvenVector generators) grids
+    → All (IsUniformVector generators) grids
 cut_even generators frame limit left grids count e so_far i d l =
-    even_all generators (slice_index_or grids i d) (subst (λ n. EvenFrom n generators (slice_index_or grids i d)) e (so_far.even i d l))
+    even_all generators (slice_index_or grids i d) (subst (λ n. UniformFrom n generators (slice_index_or grids i d)) e (so_far.even i d l))
 
 -- the error of an axis is due for the frame
 pub axis_due : (generators : List (List Grid1)) (frame : List Grid1) (limit k : ℕ) (axis : Grid1) (greatest count : ℕ) (column : List Grid1) (error : GenError)

@@ -10,8 +10,8 @@ use Rattle.sac_base.specs.declared.grid.Grid1.{Grid1}
 use Rattle.sac_base.specs.Grids.{has_index, has_vector, within, times_vector, SplitsVectors}
 use Rattle.sac_base.proofs.GridFacts.{has_facts, within_is}
 use Rattle.grid_sets.proofs.Keeping.{count_filter}
-use Rattle.generator_sets.specs.Pieces.{in_box, lows, IsEvenVector}
-use Rattle.generator_sets.proofs.Evenness.{same_position}
+use Rattle.generator_sets.specs.Pieces.{in_box, lows, IsUniformVector}
+use Rattle.generator_sets.proofs.Uniformity.{same_position}
 
 and_false : (s t : Bool) → s ≡ false → (s && t) ≡ false
 and_false s t e = rw e refl
@@ -46,7 +46,7 @@ picked_inside f a b v drops = elim (cases_Bool (in_box a v)) [
 ]
 
 pub kept_vectors : (f : Bool → Bool → Bool) (a b : List Grid1) (xs ys : List (List Grid1)) → ((t : Bool) → f false t ≡ false)
-    → ys ≡ filter (λ p. picked f a b (lows p)) xs → SplitsVectors xs (in_box a) → All (IsEvenVector (a ∷ b ∷ [])) xs → SplitsVectors ys (picked f a b)
+    → ys ≡ filter (λ p. picked f a b (lows p)) xs → SplitsVectors xs (in_box a) → All (IsUniformVector (a ∷ b ∷ [])) xs → SplitsVectors ys (picked f a b)
 kept_vectors f a b xs ys drops e split even v =
     ap (λ l. times_vector l v) e
     ∙ count_filter (λ p. has_vector p v) (λ p. picked f a b (lows p)) (picked f a b v) xs
@@ -101,7 +101,7 @@ frame_split frame generators xs parts e unit split v =
 abbrev pub NamesFirst : List (List Grid1) → (List Grid1 × Option ℕ) → Type 0
 NamesFirst generators part = (v : List ℤ) → has_vector part.0 v ≡ true → part.1 ≡ position (λ g. has_vector g v) generators
 
-pub first_named : (generators xs : List (List Grid1)) (parts : List (List Grid1 × Option ℕ)) → parts ≡ map (labelled generators) xs → All (IsEvenVector generators) xs
+pub first_named : (generators xs : List (List Grid1)) (parts : List (List Grid1 × Option ℕ)) → parts ≡ map (labelled generators) xs → All (IsUniformVector generators) xs
     → All (NamesFirst generators) parts
 first_named generators xs parts e even =
     subst (All (NamesFirst generators)) (sym e)

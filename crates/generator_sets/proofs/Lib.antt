@@ -1,9 +1,9 @@
 pub mod CommonFacts
 pub mod CountFacts
 pub mod CutSteps
-pub mod Evenness
 pub mod Growing
 pub mod Kept
 pub mod Moves
 pub mod Products
 pub mod Reading
+pub mod Uniformity

@@ -18,8 +18,8 @@ lows [] = []
 lows (g ∷ gs) = g.lo ∷ lows gs
 
 -- Each generator has all members of the piece or none, as it has the first vector.
-abbrev pub IsEvenVector : List (List Grid1) → List Grid1 → Type 0
-IsEvenVector generators p = All (λ g. (v : List ℤ) → has_vector p v ≡ true → has_vector g v ≡ has_vector g (lows p)) generators
+abbrev pub IsUniformVector : List (List Grid1) → List Grid1 → Type 0
+IsUniformVector generators p = All (λ g. (v : List ℤ) → has_vector p v ≡ true → has_vector g v ≡ has_vector g (lows p)) generators
 
 -- each of the first axis with each grid of the other axes
 abbrev pub products : List Grid1 → List (List Grid1) → List (List Grid1)

@@ -1,8 +1,8 @@
 ghost use Rattle.std.specs.Prelude.{◌≡◌, ℕ, ◌*◌, ◌<◌, ◌≤◌, ◌^◌, ◌≢◌, ◌∷◌, [], min, length, IfOk, Err};
 ghost use Rattle.std.specs.List.{All};
 ghost use Rattle.sac_base.specs.Grids.{within, Splits, SplitsVectors};
-ghost use Rattle.grid_sets.specs.Segments.{IsEven, IsAxisCount, IsTooFine};
-ghost use Rattle.generator_sets.specs.Pieces.{in_box, IsEvenVector, axis_grids, products};
+ghost use Rattle.grid_sets.specs.Segments.{IsUniform, IsAxisCount, IsTooFine};
+ghost use Rattle.generator_sets.specs.Pieces.{in_box, IsUniformVector, axis_grids, products};
 ghost use Rattle.generator_sets.specs.Counts.{IsCanonicalCount, IsDue};
 
 use crate::error::GenError;
@@ -35,7 +35,7 @@ fn runs_of_axis(
 ) -> Result<Vec<Grid1>, GenError>
     requires { limit < 2 ^ 63 }
     ensures split { IfOk result (λ runs. Splits runs.items (within axis.now.lo axis.now.hi)) }
-    ensures even { IfOk result (λ runs. All (IsEven grids.now) runs.items) }
+    ensures uniform { IfOk result (λ runs. All (IsUniform grids.now) runs.items) }
     ensures count { (greatest runs : ℕ) → IsAxisCount grids.now axis.now.hi axis.now.lo greatest runs → IfOk result (λ made. (greatest ≤ limit) × (length made.items ≡ runs)) }
     ensures fine { (greatest runs : ℕ) → IsAxisCount grids.now axis.now.hi axis.now.lo greatest runs → result ≡ Err GenError.TooFine → limit < greatest }
     ensures too_fine { result ≡ Err GenError.TooFine → IsTooFine limit grids.now }
@@ -110,7 +110,7 @@ pub(crate) fn cut(
     requires limit { limit < 2 ^ 63 }
     requires axes { All (λ g. length g ≡ length frame.now) generators.now }
     ensures split { IfOk result (λ pieces. SplitsVectors pieces.items (in_box frame.now)) }
-    ensures even { IfOk result (λ pieces. All (IsEvenVector generators.now) pieces.items) }
+    ensures uniform { IfOk result (λ pieces. All (IsUniformVector generators.now) pieces.items) }
     ensures few { IfOk result (λ pieces. length pieces.items ≤ 64) }
     ensures due { (greatest count : ℕ) → IsCanonicalCount generators.now 0 frame.now greatest count → IsDue limit greatest count result }
     ensures too_fine { result ≡ Err GenError.TooFine → (k : ℕ) × (k < length frame.now) × IsTooFine limit (axis_grids k generators.now) }

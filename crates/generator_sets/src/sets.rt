@@ -2,7 +2,7 @@ ghost use Rattle.std.specs.Prelude.{◌≡◌, ◌↔◌, ◌≢◌, IsTrue, ℕ
 ghost use Rattle.std.specs.List.{All, Any};
 ghost use Rattle.sac_base.specs.Grids.{has_vector, SplitsVectors};
 ghost use Rattle.grid_sets.specs.Segments.{IsTooFine};
-ghost use Rattle.generator_sets.specs.Pieces.{axis_grids, in_box, IsEvenVector};
+ghost use Rattle.generator_sets.specs.Pieces.{axis_grids, in_box, IsUniformVector};
 ghost use Rattle.generator_sets.specs.Counts.{IsCanonicalCount, IsManyWhere, CommonPeriods};
 
 use crate::cut::cut;
@@ -32,7 +32,7 @@ fn is_too_fine(a: &Grid, b: &Grid) -> bool
 fn pieces_of_both(alloc: Global, a: &Grid, b: &Grid) -> Result<Vec<Grid>, GenError>
     requires { length b.now ≡ length a.now }
     ensures split { IfOk result (λ pieces. SplitsVectors pieces.items (in_box a.now)) }
-    ensures even { IfOk result (λ pieces. All (IsEvenVector (a.now ∷ b.now ∷ [])) pieces.items) }
+    ensures uniform { IfOk result (λ pieces. All (IsUniformVector (a.now ∷ b.now ∷ [])) pieces.items) }
     ensures fine { (periods : List ℕ) → CommonPeriods a.now b.now periods → (result ≡ Err GenError.TooFine) ↔ Any (λ p. 4096 < p) periods }
     ensures many { (greatest count : ℕ) → IsCanonicalCount (a.now ∷ b.now ∷ []) 0 a.now greatest count → IsManyWhere count result }
 {

@@ -9,7 +9,7 @@ use Rattle.std.proofs.lemmas.List.Elements.{All-append}
 use Rattle.sac_base.specs.declared.grid.Grid1.{Grid1}
 use Rattle.sac_base.specs.Grids.{has_index, within, times, Splits}
 use Rattle.sac_base.proofs.GridFacts.{within_is}
-use Rattle.grid_sets.specs.Segments.{at_end, and_segment, NoCut, IsBound, IsFirstSegment, IsMultipleFor, IsPeriod, IsEven, IsAxisCount, Extends, runs_of}
+use Rattle.grid_sets.specs.Segments.{at_end, and_segment, NoCut, IsBound, IsFirstSegment, IsMultipleFor, IsPeriod, IsUniform, IsAxisCount, Extends, runs_of}
 
 -- two segments that meet
 pub join_within : (lo mid hi x : ℤ) → lo ≤ℤ mid → mid ≤ℤ hi → let none : ℕ = 0 in cond (within lo mid x) 1 none + cond (within mid hi x) 1 none ≡ cond (within lo hi x) 1 none
@@ -59,8 +59,8 @@ more_split grids old new n lo from f t e low high before more x =
     ∙ ap (λ n. n + times more.more x) (before x) ∙ ap (λ n. cond (within lo from x) 1 0 + n) (more.split x)
     ∙ ap (λ z. cond (within lo from x) 1 0 + cond (within z t x) 1 0) e ∙ join_within lo from t x low high
 
-pub more_even : (grids old new : List Grid1) (n : ℕ) (s : ℤ → Bool) → All (IsEven grids) old → Extends old new s grids n → All (IsEven grids) new
-more_even grids old new n s before more = subst (All (IsEven grids)) (sym more.joined) (All-append (IsEven grids) old more.more before more.even)
+pub more_even : (grids old new : List Grid1) (n : ℕ) (s : ℤ → Bool) → All (IsUniform grids) old → Extends old new s grids n → All (IsUniform grids) new
+more_even grids old new n s before more = subst (All (IsUniform grids)) (sym more.joined) (All-append (IsUniform grids) old more.more before more.uniform)
 
 -- Of the count of the axis, what is left at a number when so many runs were made, and the segments so far have no period above the limit.
 pub record Rest (grids : List Grid1) (to : ℤ) (limit : ℕ) (at : ℤ) (made greatest runs : ℕ) : Type 0 where

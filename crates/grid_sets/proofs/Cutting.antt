@@ -8,7 +8,7 @@ use Rattle.std.proofs.Math.Nat.{mod-le}
 use Rattle.std.proofs.lemmas.List.Sums.{fold_push}
 use Rattle.std.proofs.lemmas.List.Elements.{All-push}
 use Rattle.sac_base.specs.Grids.{has_index, within, times, Splits}
-use Rattle.grid_sets.specs.Segments.{alike, IsEven, IsRun, place_of}
+use Rattle.grid_sets.specs.Segments.{alike, IsUniform, IsRun, place_of}
 use Rattle.grid_sets.proofs.Repeating.{Repeats}
 use Rattle.grid_sets.proofs.Likeness.{alike_from}
 use Rattle.sac_base.specs.declared.grid.Grid1.{Grid1}
@@ -98,15 +98,15 @@ split_more xs ys g from to p start stop e h before run x =
 
 pub even_more : (grids xs ys : List Grid1) (g : Grid1) (from to : ℤ) (p start stop : ℕ) → ys ≡ xs ++ g ∷ []
     → All (Repeats from to p) grids → ((k : ℕ) → start ≤ k → k < stop → alike grids g.lo (from +ℤ pos k) ≡ true)
-    → IsRun from to p start stop g → All (IsEven grids) xs → All (IsEven grids) ys
+    → IsRun from to p start stop g → All (IsUniform grids) xs → All (IsUniform grids) ys
 even_more grids xs ys g from to p start stop e repeats same run before =
-    let here : IsEven grids g = λ x h.
+    let here : IsUniform grids g = λ x h.
     let parts = and_parts (within from to x) (nat_le start (place_of from p x) && nat_lt (place_of from p x) stop) (sym (run x) ∙ h) in
     let places = and_parts (nat_le start (place_of from p x)) (nat_lt (place_of from p x) stop) parts.1 in
     alike_from grids g.lo (from +ℤ pos (place_of from p x)) x
     (same (place_of from p x) (leb-true start (place_of from p x) places.0) (ltb-true (place_of from p x) stop places.1))
     (λ k d l. repeats k d l x parts.0) in
-    subst (All (IsEven grids)) (sym e) (All-push (IsEven grids) xs g before here)
+    subst (All (IsUniform grids)) (sym e) (All-push (IsUniform grids) xs g before here)
 
 -- the whole segment is in the first places
 pub split_all : (xs : List Grid1) (from to : ℤ) (p reach : ℕ) → 0 < p → reach ≡ min (unsigned_abs (to -ℤ from)) p

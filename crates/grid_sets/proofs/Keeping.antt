@@ -5,7 +5,7 @@ use Rattle.std.proofs.lemmas.List.Sums.{sum_by-append}
 use Rattle.std.proofs.lemmas.List.Elements.{All-head, All-tail}
 use Rattle.std.proofs.lemmas.Int.{ints}
 use Rattle.sac_base.specs.Grids.{has_index, within, times, Splits}
-use Rattle.grid_sets.specs.Segments.{IsEven}
+use Rattle.grid_sets.specs.Segments.{IsUniform}
 use Rattle.grid_sets.proofs.Likeness.{even_at}
 use Rattle.sac_base.specs.declared.grid.Grid1.{Grid1}
 use Rattle.sac_base.proofs.GridFacts.{within_is, has_facts}
@@ -52,7 +52,7 @@ both_tests false true = refl
 both_tests false false = refl
 
 -- whether a piece that is even for both grids has only numbers that both judge alike
-judged : (f : Bool → Bool → Bool) (a b p : Grid1) (x : ℤ) → IsEven (a ∷ b ∷ []) p → has_index p x ≡ true
+judged : (f : Bool → Bool → Bool) (a b p : Grid1) (x : ℤ) → IsUniform (a ∷ b ∷ []) p → has_index p x ≡ true
     → f (has_index a p.lo) (has_index b p.lo) ≡ f (has_index a x) (has_index b x)
 judged f a b p x even h =
     let e : has_index a p.lo ≡ has_index a x = even_at (a ∷ b ∷ []) p x 0 a even h (omega arith) in
@@ -75,7 +75,7 @@ only_inside f a b x wide none = elim (within_is a.lo a.hi x) [
 
 -- of even pieces those are kept whose first number is picked
 pub kept_split : (f : Bool → Bool → Bool) (a b : Grid1) (xs ys : List Grid1) → pos 1 ≤ℤ a.width → ((t : Bool) → f false t ≡ false)
-    → ys ≡ filter (λ p. picked f a b p.lo) xs → Splits xs (within a.lo a.hi) → All (IsEven (a ∷ b ∷ [])) xs → Splits ys (picked f a b)
+    → ys ≡ filter (λ p. picked f a b p.lo) xs → Splits xs (within a.lo a.hi) → All (IsUniform (a ∷ b ∷ [])) xs → Splits ys (picked f a b)
 kept_split f a b xs ys wide none e split even x =
     ap (λ l. times l x) e
     ∙ count_filter (λ p. has_index p x) (λ p. picked f a b p.lo) (picked f a b x) xs (λ k d l h. judged f a b (slice_index_or xs k d) x (even k d l) h)

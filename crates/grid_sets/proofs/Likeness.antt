@@ -10,7 +10,7 @@ use Rattle.sac_base.specs.declared.grid.Grid1.{Grid1}
 use Rattle.sac_base.specs.Grids.{has_index, within}
 use Rattle.sac_base.proofs.GridFacts.{within_is}
 use Rattle.std.proofs.lemmas.Int.{ints}
-use Rattle.grid_sets.specs.Segments.{alike, IsEven}
+use Rattle.grid_sets.specs.Segments.{alike, IsUniform}
 
 pub beq_same : (s t : Bool) → s ≡ t → beq s t ≡ true
 beq_same true true e = refl
@@ -54,7 +54,7 @@ pub alike_at : (grids : List Grid1) (x y : ℤ) (k : ℕ) (d : Grid1) → alike 
     → has_index (slice_index_or grids k d) x ≡ has_index (slice_index_or grids k d) y
 alike_at grids x y k d h l = beq_true _ _ (not_true _ (λ off. false_not_true (sym h ∙ list_all_at (λ g. beq (has_index g x) (has_index g y)) grids k d l off)))
 
-pub even_at : (grids : List Grid1) (p : Grid1) (x : ℤ) (k : ℕ) (d : Grid1) → IsEven grids p → has_index p x ≡ true → k < length grids
+pub even_at : (grids : List Grid1) (p : Grid1) (x : ℤ) (k : ℕ) (d : Grid1) → IsUniform grids p → has_index p x ≡ true → k < length grids
     → has_index (slice_index_or grids k d) p.lo ≡ has_index (slice_index_or grids k d) x
 even_at grids p x k d even h l = alike_at grids p.lo x k d (even x h) l
 

@@ -43,8 +43,8 @@ abbrev pub alike : List Grid1 → ℤ → ℤ → Bool
 alike grids x y = list_all (λ g. beq (has_index g x) (has_index g y)) grids
 
 -- each grid has all members of the piece or none, as it has the first one
-abbrev pub IsEven : List Grid1 → Grid1 → Type 0
-IsEven grids p = (x : ℤ) → has_index p x ≡ true → alike grids p.lo x ≡ true
+abbrev pub IsUniform : List Grid1 → Grid1 → Type 0
+IsUniform grids p = (x : ℤ) → has_index p x ≡ true → alike grids p.lo x ≡ true
 
 -- the place of a number in its period
 abbrev pub place_of : ℤ → ℕ → ℤ → ℕ
@@ -83,10 +83,10 @@ pub record IsTooFine (limit : ℕ) (grids : List Grid1) : Type 0 where
   pub clear : All (NoCut from to) grids
   pub above : (k : ℕ) → 0 < k → All (IsMultipleFor k from to) grids → limit < k
 
--- The list goes on with pieces that split the set, each even for the grids, so many of them.
+-- The list goes on with pieces that split the set, each uniform for the grids, so many of them.
 pub record Extends (old new : List Grid1) (set : ℤ → Bool) (grids : List Grid1) (count : ℕ) : Type 0 where
   pub more : List Grid1
   pub joined : new ≡ old ++ more
   pub split : Splits more set
-  pub even : All (IsEven grids) more
+  pub uniform : All (IsUniform grids) more
   pub counted : length more ≡ count

@@ -1,7 +1,7 @@
 ghost use Rattle.std.specs.Prelude.{◌≡◌, ℕ, ◌<◌, ◌≤◌, ◌^◌, ◌<ℤ◌, IfOk, OnOk, Err, length};
 ghost use Rattle.std.specs.List.{All};
 ghost use Rattle.sac_base.specs.Grids.{within, Splits};
-ghost use Rattle.grid_sets.specs.Segments.{NoCut, IsMultipleFor, IsEven, Extends, runs_of, IsAxisCount, IsTooFine};
+ghost use Rattle.grid_sets.specs.Segments.{NoCut, IsMultipleFor, IsUniform, Extends, runs_of, IsAxisCount, IsTooFine};
 
 use crate::pair::GridError;
 use crate::period::segment_period;
@@ -39,7 +39,7 @@ pub fn axis_runs(
 ) -> Result<Vec<Grid1>, GridError>
     requires { limit < 2 ^ 63 }
     ensures split { IfOk result (λ pieces. Splits pieces.items (within axis.now.from axis.now.to)) }
-    ensures even { IfOk result (λ pieces. All (IsEven grids.now) pieces.items) }
+    ensures uniform { IfOk result (λ pieces. All (IsUniform grids.now) pieces.items) }
     ensures count { (greatest runs : ℕ) → IsAxisCount grids.now axis.now.to axis.now.from greatest runs → IfOk result (λ pieces. (greatest ≤ limit) × (length pieces.items ≡ runs)) }
     ensures fine { (greatest runs : ℕ) → IsAxisCount grids.now axis.now.to axis.now.from greatest runs → result ≡ Err GridError.TooFine → limit < greatest }
     ensures too_fine { result ≡ Err GridError.TooFine → IsTooFine limit grids.now }

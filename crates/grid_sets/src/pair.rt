@@ -1,7 +1,7 @@
 ghost use Rattle.std.specs.Prelude.{◌≡◌, ◌↔◌, IsTrue, IfOk, ℕ, ◌<◌, ◌≤◌, ◌&&◌, not, Err, true, false, ◌∷◌, []};
 ghost use Rattle.std.specs.List.{All};
 ghost use Rattle.sac_base.specs.Grids.{has_index, within, Splits};
-ghost use Rattle.grid_sets.specs.Segments.{IsEven, steps_of};
+ghost use Rattle.grid_sets.specs.Segments.{IsUniform, steps_of};
 ghost use Rattle.grid_sets.specs.Periods.{IsCommonPeriod, overlap};
 
 use crate::axis::axis_runs;
@@ -45,7 +45,7 @@ pub fn is_too_fine(a: &Grid1, b: &Grid1) -> bool
 /// The first grid's range as runs of neighbours that belong to the same grids.
 fn pair_runs(alloc: Global, a: &Grid1, b: &Grid1) -> Result<Vec<Grid1>, GridError>
     ensures split { IfOk result (λ pieces. Splits pieces.items (within a.now.lo a.now.hi)) }
-    ensures even { IfOk result (λ pieces. All (IsEven (a.now ∷ b.now ∷ [])) pieces.items) }
+    ensures uniform { IfOk result (λ pieces. All (IsUniform (a.now ∷ b.now ∷ [])) pieces.items) }
     ensures fine { (p : ℕ) → IsCommonPeriod a.now b.now p → (result ≡ Err GridError.TooFine) ↔ (4096 < p) }
 {
     if is_too_fine(a, b) {

@@ -1,7 +1,7 @@
 ghost use Rattle.std.specs.Prelude.{◌≡◌, ℕ, ◌<◌, ◌≤◌, ◌-◌, ◌%◌, ◌^◌, ℤ, ◌-ℤ◌, ◌≤ℤ◌, ◌<ℤ◌, ◌⊎◌, unsigned_abs, not, nat_lt, true, false, cond, IfOk, length, min};
 ghost use Rattle.std.specs.List.{All};
 ghost use Rattle.sac_base.specs.Grids.{has_index, within, Splits};
-ghost use Rattle.grid_sets.specs.Segments.{NoCut, IsMultipleFor, IsEven, IsRun, alike, runs_of};
+ghost use Rattle.grid_sets.specs.Segments.{NoCut, IsMultipleFor, IsUniform, IsRun, alike, runs_of};
 
 use crate::period::is_spanning;
 use crate::segment::{Segment, behind};
@@ -108,7 +108,7 @@ pub(crate) fn segment_runs(
     requires clear { All (NoCut segment.now.from segment.now.to) grids.now }
     requires multiple { All (IsMultipleFor period segment.now.from segment.now.to) grids.now }
     ensures split { IfOk result (λ pieces. Splits pieces.items (within segment.now.from segment.now.to)) }
-    ensures even { IfOk result (λ pieces. All (IsEven grids.now) pieces.items) }
+    ensures uniform { IfOk result (λ pieces. All (IsUniform grids.now) pieces.items) }
     ensures count { IfOk result (λ pieces. length pieces.items ≡ runs_of grids.now segment.now.from segment.now.to period) }
 {
     let mut pieces = Vec::new(alloc);

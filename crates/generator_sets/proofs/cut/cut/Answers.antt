@@ -1,7 +1,7 @@
 use Rattle.std.proofs.Common.{arith, ◌≡◌, ◌∙◌, ℕ, suc, ◌-◌, ◌*◌, ◌<◌, ◌≤◌, length, sym, subst, ap, refl, Err}
 use Rattle.std.specs.Prelude.{min}
 use Rattle.std.specs.List.{All}
-use Rattle.grid_sets.specs.Segments.{IsEven, IsAxisCount}
+use Rattle.grid_sets.specs.Segments.{IsUniform, IsAxisCount}
 use Rattle.generator_sets.specs.Pieces.{axis_grids, products}
 use Rattle.generator_sets.specs.Counts.{IsCanonicalCount}
 use Rattle.generator_sets.proofs.CutSteps.{CutSoFar, cut_none, cut_more, cut_even, axis_due}
@@ -26,13 +26,13 @@ loop-left-preserved c =
     c.in_ok-pieces-in-Ok.pieces.grids.items c.loop-left.pieces.count c.in_ok-pieces-in-Ok.pieces.count
     c.index-axes-left.is low (λ i d l. c.requires.axes i d l ∙ sym (ap length c.axes-axes.ensures.axes))
     c.in-Ok.ensures.split
-    (subst (λ g. All (IsEven g) c.in-Ok.runs.items) column c.in-Ok.ensures.even)
+    (subst (λ g. All (IsUniform g) c.in-Ok.runs.items) column c.in-Ok.ensures.uniform)
     (subst (λ g. (greatest m : ℕ) → IsAxisCount g c.index-axes-left.result.hi c.index-axes-left.result.lo greatest m → (greatest ≤ c.args.limit) × (length c.in-Ok.runs.items ≡ m)) column c.in-Ok.ensures.count)
     (c.in_ok-pieces-in-Ok.ensures.count ∙ ap (λ l. min (length l * c.loop-left.pieces.count) 65) c.as_slice-in-Ok.ensures.value)
     (λ few. c.in_ok-pieces-in-Ok.ensures.grids few ∙ ap (λ l. products l c.loop-left.pieces.grids.items) c.as_slice-in-Ok.ensures.value)
     c.in_ok-pieces-in-Ok.ensures.none
     (subst (λ n. CutSoFar c.args.generators.now c.axes-axes.result.now c.args.limit n c.loop-left.pieces.grids.items c.loop-left.pieces.count) next c.loop-left.invariant)
 
-pub returns-clause-even : goal.returns-clause-even
-returns-clause-even c =
+pub returns-clause-uniform : goal.returns-clause-uniform
+returns-clause-uniform c =
     cut_even c.args.generators.now c.axes-axes.result.now c.args.limit c.loop-left.left c.loop-left.pieces.grids.items c.loop-left.pieces.count (omega arith) c.loop-left.invariant

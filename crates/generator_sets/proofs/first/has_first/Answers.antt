@@ -1,5 +1,5 @@
 use Rattle.std.proofs.Common.{arith, sym}
-use Rattle.generator_sets.proofs.Evenness.{other_length}
+use Rattle.generator_sets.proofs.Uniformity.{other_length}
 use Rattle.generator_sets.proofs.first.has_first.Goals as goal
 
 pub returns-then-grid-piece : goal.returns-then-grid-piece

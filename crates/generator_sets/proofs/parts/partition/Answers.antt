@@ -7,4 +7,4 @@ returns-in_ok-label-in-Ok-clause-cover c =
 
 pub returns-in_ok-label-in-Ok-clause-first : goal.returns-in_ok-label-in-Ok-clause-first
 returns-in_ok-label-in-Ok-clause-first c =
-    first_named c.args.generators.now c.in-Ok.pieces.items c.in_ok-label-in-Ok.field-0.parts.items c.in_ok-label-in-Ok.ensures c.in-Ok.ensures.even
+    first_named c.args.generators.now c.in-Ok.pieces.items c.in_ok-label-in-Ok.field-0.parts.items c.in_ok-label-in-Ok.ensures c.in-Ok.ensures.uniform

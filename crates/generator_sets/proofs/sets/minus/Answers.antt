@@ -10,4 +10,4 @@ pub returns-in-Ok-clause-members : goal.returns-in-Ok-clause-members
 returns-in-Ok-clause-members c =
     kept_vectors (λ s t. s && not t) c.args.a.now c.args.b.now c.in-Ok.pieces.items c.retain.new.self.items (λ t. refl)
     (filter_same _ (λ p. has_vector c.args.a.now (lows p) && not (has_vector c.args.b.now (lows p))) _ (λ x b f' k. search rules) _ _ c.retain.ensures.filtered)
-    c.in-Ok.ensures.split c.in-Ok.ensures.even
+    c.in-Ok.ensures.split c.in-Ok.ensures.uniform

@@ -2,7 +2,7 @@ use Rattle.std.proofs.Common.{arith, ◌≡◌, ◌∙◌, ◌+◌, inl, subst, 
 use Rattle.std.specs.List.{All}
 use Rattle.std.proofs.lemmas.Int.{ints}
 use Rattle.std.proofs.lemmas.List.Elements.{All-nil}
-use Rattle.grid_sets.specs.Segments.{IsEven, NoCut, IsFirstSegment, IsMultipleFor, IsPeriod, runs_of}
+use Rattle.grid_sets.specs.Segments.{IsUniform, NoCut, IsFirstSegment, IsMultipleFor, IsPeriod, runs_of}
 use Rattle.grid_sets.proofs.Axes.{stands_first, none_at, end_at, more_split, more_even, more_counted, leaves_all, leaves_more, leaves_fine, leaves_none, gap_less}
 use Rattle.grid_sets.proofs.axis.axis_runs.Goals as goal
 
@@ -12,7 +12,7 @@ loop-rest-init c = record {
   low = omega (arith, ints);
   stands = stands_first c.args.axis.now.from c.args.axis.now.to;
   split = none_at c.new-pieces.result.items c.args.axis.now.from c.args.axis.now.from c.new-pieces.ensures.items (omega (arith, ints));
-  even = subst (All (IsEven c.args.grids.now)) (sym c.new-pieces.ensures.items) (All-nil (IsEven c.args.grids.now));
+  even = subst (All (IsUniform c.args.grids.now)) (sym c.new-pieces.ensures.items) (All-nil (IsUniform c.args.grids.now));
   leaves = leaves_all c.args.grids.now c.args.axis.now.to c.args.axis.now.from c.args.limit (length c.new-pieces.result.items) (ap length c.new-pieces.ensures.items);
 }
 

@@ -2,7 +2,7 @@ use Rattle.std.proofs.Common.{◌≡◌, length}
 use Rattle.std.specs.Prelude.{◌≤ℤ◌, ◌-ℤ◌, unsigned_abs}
 use Rattle.std.specs.List.{All}
 use Rattle.sac_base.specs.Grids.{within, Splits}
-use Rattle.grid_sets.specs.Segments.{IsEven}
+use Rattle.grid_sets.specs.Segments.{IsUniform}
 use Rattle.grid_sets.proofs.Axes.{Stands, Leaves}
 use Rattle.grid_sets.proofs.axis.axis_runs.Given as goal
 
@@ -12,7 +12,7 @@ invariant-loop-rest l = record {
   low : l.axis.from ≤ℤ l.rest.from;
   stands : Stands l.axis.from l.rest.from l.axis.to;
   split : Splits l.pieces.items (within l.axis.from l.rest.from);
-  even : All (IsEven l.grids) l.pieces.items;
+  even : All (IsUniform l.grids) l.pieces.items;
   leaves : Leaves l.grids l.axis.to l.limit l.axis.from l.rest.from (length l.pieces.items);
 }
 

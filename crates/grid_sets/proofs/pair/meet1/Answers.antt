@@ -9,4 +9,4 @@ pub returns-in-Ok-clause-members : goal.returns-in-Ok-clause-members
 returns-in-Ok-clause-members c =
     kept_split (λ s t. s && t) c.args.a.now c.args.b.now c.in-Ok.pieces.items c.retain.new.self.items c.args.a.now.wide (λ t. refl)
     (filter_same _ (λ p. has_index c.args.a.now p.lo && has_index c.args.b.now p.lo) _ (λ x b f' k. search rules) _ _ c.retain.ensures.filtered)
-    c.in-Ok.ensures.split c.in-Ok.ensures.even
+    c.in-Ok.ensures.split c.in-Ok.ensures.uniform
