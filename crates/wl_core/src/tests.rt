@@ -62,12 +62,7 @@ fn combined(verdict: &Verdict, value: &[Cell]) -> bool {
 }
 
 // The events are done in order, and the phase is then finished, and not before.
-fn run(
-    rt: &impl Abort,
-    alloc: Global,
-    setup: &Setup,
-    events: &[Event],
-) -> Result<Verdict, Fail> {
+fn run(rt: &impl Abort, alloc: Global, setup: &Setup, events: &[Event]) -> Result<Verdict, Fail> {
     assert!(rt; is_setup(setup));
     let mut state = open_state(alloc, setup)?;
     for event in events {
@@ -153,7 +148,13 @@ fn an_event_is_refused_for_the_first_reason(rt: HostRuntime) -> Result<(), Fail>
         (Event::Keep(0, 1), Refused::NoSuch),
         (Event::Draw(2), Refused::NoSuch),
     ];
-    refuse(&rt, alloc, &four(alloc, &[0, 3])?, &[Event::Draw(0)], &faulting)?;
+    refuse(
+        &rt,
+        alloc,
+        &four(alloc, &[0, 3])?,
+        &[Event::Draw(0)],
+        &faulting,
+    )?;
     let before = [Event::Draw(0), Event::Keep(1, 0), Event::Release(1, 0)];
     let valued = [
         (Event::Stop(0), Refused::NotFault),
