@@ -65,7 +65,7 @@ fn combined(verdict: &Verdict, value: &[Cell]) -> bool {
 fn run(rt: &impl Abort, alloc: Global, setup: &Setup, events: &[Event]) -> Result<Verdict, Fail> {
     assert!(rt; is_setup(setup));
     let mut state = open_state(alloc, setup)?;
-    for event in events {
+    'accepted: for event in events {
         assert!(rt; !finished(setup, &state));
         assert_eq!(rt; step(setup, &mut state, *event), Ok(()));
     }
@@ -83,10 +83,10 @@ fn refuse(
 ) -> Result<(), Fail> {
     assert!(rt; is_setup(setup));
     let mut state = open_state(alloc, setup)?;
-    for event in before {
+    'done: for event in before {
         assert_eq!(rt; step(setup, &mut state, *event), Ok(()));
     }
-    for (event, reason) in refused {
+    'refusals: for (event, reason) in refused {
         assert_eq!(rt; step(setup, &mut state, *event), Err(*reason));
     }
     Ok(())
