@@ -370,10 +370,10 @@ module _ (u : Setup) (b : State) (r : IsReached u b) (w d : ℕ) (worker : w < u
   pub count_some : 1 ≤ slice_index b.counts.items d
   count_some = let h = facts u b r in let c = h.counts d buffer in let o = (r.setup.counts d buffer).0 in omega arith
 
--- an accepted event leads to a reached state
-pub answered : (u : Setup) (old new : State) (e : Event) (x : Result (Unit {0}) Refused) → IsReached u old → Moves u old e new x → Answers u old e new x
+-- an event leads from a reached state to a reached state
+pub answered : (u : Setup) (old new : State) (e : Event) (x : Result (Unit {0}) Refused) → IsReached u old → Moves u old e new x → IsReached u new × Answers u old e new x
 answered u old new e (Ok done) r m = (record { setup = r.setup; sized = m.0; reached = reached_more (setup_of u) (state_of (setup_of u) old) (state_of (setup_of u) new) e r.reached m.1 }, m.1)
-answered u old new e (Err reason) r m = m
+answered u old new e (Err reason) r m = (subst (λ (b : State). IsReached u b) (sym m.0) r, m)
 
 -- there is a row for the value of a position
 pub enter_fits : (j : Job) (b : State) (positions workers w q : ℕ) (x : List ℤ) → RowsFor j positions workers b.stored.count b.partials.rows.count → w < workers → q < positions → (length x ≡ b.stored.width) × (length x ≡ b.partials.rows.width) → EnterFits j b w q x

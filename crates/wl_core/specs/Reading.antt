@@ -89,7 +89,7 @@ Enters (Fold base op) old w position value new = AddsValue old.partials new.part
 
 -- an event was accepted and did what it does, or it was refused and nothing changed
 abbrev pub Answers : Setup → State → Event → State → Result (Unit {0}) Refused → Type 0
-Answers u old event new (Ok done) = IsReached u new × Steps (setup_of u) (state_of (setup_of u) old) event (state_of (setup_of u) new)
+Answers u old event new (Ok done) = Steps (setup_of u) (state_of (setup_of u) old) event (state_of (setup_of u) new)
 Answers u old event new (Err reason) = (new ≡ old) × Refuses (setup_of u) (state_of (setup_of u) old) event reason
 
 -- the same, where the new state is not yet known as reached

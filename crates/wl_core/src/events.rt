@@ -48,7 +48,8 @@ const MOST_HOLDS: u64 = 1 << 56;
 /// Does an event, or gives the first reason to refuse it and changes nothing. The state was reached from the opening of this setup by steps.
 pub fn step(setup: &Setup, state: &mut State, event: Event) -> Result<(), Refused>
     requires { IsReached setup.now state.old }
-    ensures { Answers setup.now state.old event state.new result }
+    ensures reached { IsReached setup.now state.new }
+    ensures answer { Answers setup.now state.old event state.new result }
 {
     match event {
         Event::Draw(worker) => draw(setup, state, worker),

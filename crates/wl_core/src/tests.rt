@@ -62,15 +62,10 @@ fn combined(verdict: &Verdict, value: &[Cell]) -> bool {
 }
 
 // The events are done in order, and the phase is then finished, and not before.
-fn run(
-    rt: &impl Abort,
-    alloc: Global,
-    setup: &Setup,
-    events: &[Event],
-) -> Result<Verdict, Fail> {
+fn run(rt: &impl Abort, alloc: Global, setup: &Setup, events: &[Event]) -> Result<Verdict, Fail> {
     assert!(rt; is_setup(setup));
     let mut state = open_state(alloc, setup)?;
-    for event in events {
+    'accepted: for event in events {
         assert!(rt; !finished(setup, &state));
         assert_eq!(rt; step(setup, &mut state, *event), Ok(()));
     }
@@ -88,10 +83,10 @@ fn refuse(
 ) -> Result<(), Fail> {
     assert!(rt; is_setup(setup));
     let mut state = open_state(alloc, setup)?;
-    for event in before {
+    'done: for event in before {
         assert_eq!(rt; step(setup, &mut state, *event), Ok(()));
     }
-    for (event, reason) in refused {
+    'refusals: for (event, reason) in refused {
         assert_eq!(rt; step(setup, &mut state, *event), Err(*reason));
     }
     Ok(())
@@ -153,7 +148,13 @@ fn an_event_is_refused_for_the_first_reason(rt: HostRuntime) -> Result<(), Fail>
         (Event::Keep(0, 1), Refused::NoSuch),
         (Event::Draw(2), Refused::NoSuch),
     ];
-    refuse(&rt, alloc, &four(alloc, &[0, 3])?, &[Event::Draw(0)], &faulting)?;
+    refuse(
+        &rt,
+        alloc,
+        &four(alloc, &[0, 3])?,
+        &[Event::Draw(0)],
+        &faulting,
+    )?;
     let before = [Event::Draw(0), Event::Keep(1, 0), Event::Release(1, 0)];
     let valued = [
         (Event::Stop(0), Refused::NotFault),

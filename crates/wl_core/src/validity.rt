@@ -10,7 +10,9 @@ use crate::{CellResult, Job, Setup};
 use sac_base::{Base, Cell, Op};
 
 const MOST_POSITIONS: usize = 16_777_216;
+
 const MOST_WORKERS: u32 = 64;
+
 const MOST_COUNT: u64 = 1 << 62;
 
 /// Whether a phase may be opened with the setup: at least one cell makes a chunk, there are at most 16,777,216 positions and 64 workers, the counts are

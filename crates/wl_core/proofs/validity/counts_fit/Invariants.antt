@@ -1,4 +1,4 @@
-use Rattle.std.proofs.Common.{◌≡◌, ℕ, ◌<◌, ◌≤◌, ◌^◌}
+use Rattle.std.proofs.Common.{ℕ, ◌<◌, ◌≤◌, ◌^◌}
 use Rattle.std.specs.Prelude.{slice_index}
 use Rattle.wl_core.proofs.validity.counts_fit.Given as goal
 

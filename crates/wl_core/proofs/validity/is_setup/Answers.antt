@@ -1,4 +1,4 @@
-use Rattle.std.proofs.Common.{◌≡◌, ℕ, ◌+◌, ◌<◌, ◌≤◌, Bool, true, false, List, length, map, get_or, Some, Ok, refl, sym, ap, ◌∙◌, subst, ⊎_elim, arith}
+use Rattle.std.proofs.Common.{◌≡◌, ℕ, ◌<◌, ◌≤◌, List, length, map, get_or, Some, refl, sym, ap, ◌∙◌, subst, ⊎_elim, arith}
 use Rattle.std.specs.Prelude.{slice_get}
 use Rattle.std.proofs.lemmas.Bool.{true≢false, cases_lt}
 use Rattle.std.proofs.lemmas.List.{length-map}
@@ -14,9 +14,10 @@ returns-then-not-cell_fits c =
     let i = c.loop-cell.cell-index in
     let same : c.deref-cell-items.result.now ≡ items = c.deref-cell-items.ensures.value in
     let lt : i < length items = subst (λ (l : List CellResult). i < length l) same c.loop-cell-test.true in
-    let read : c.cell-item.result ≡ get_or items i c.cell-item.result = c.cell-item.is ∙ ap (λ (l : List CellResult). get_or l i c.cell-item.result) same in
-    (λ t. absurd (true≢false (sym t)),
-    λ is. absurd (true≢false (sym (c.cell_fits.ensures.1 (cells_fit (setup_of c.args.setup.now) c.value_width-width.result is (c.value_width-width.ensures is.one_length) i (cell_of c.cell-item.result) (cell_is items i c.cell-item.result lt read))) ∙ c.if-not-cell_fits.true)))
+    let read : c.cell-item.result ≡ get_or items i c.cell-item.result = c.cell-item.is ∙ ap (λ (l : List CellResult). get_or l i c.cell-item.result) same in (
+      λ t. absurd (true≢false (sym t)),
+      λ is. absurd (true≢false (sym (c.cell_fits.ensures.1 (cells_fit (setup_of c.args.setup.now) c.value_width-width.result is (c.value_width-width.ensures is.one_length) i (cell_of c.cell-item.result) (cell_is items i c.cell-item.result lt read))) ∙ c.if-not-cell_fits.true)),
+    )
 
 pub loop-cell-preserved : goal.loop-cell-preserved
 loop-cell-preserved c p x below at =
