@@ -1,0 +1,6 @@
+pub mod Machine
+pub mod Levels
+pub mod Exact
+pub mod Table
+pub mod High
+pub mod Grows

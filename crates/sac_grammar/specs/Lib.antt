@@ -1,0 +1,4 @@
+pub mod Run
+pub mod Tables
+pub mod High
+pub mod Limits
