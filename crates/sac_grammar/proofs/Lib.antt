@@ -4,3 +4,4 @@ pub mod Exact
 pub mod Table
 pub mod High
 pub mod Grows
+pub mod Parsing

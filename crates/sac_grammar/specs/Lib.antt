@@ -2,3 +2,4 @@ pub mod Run
 pub mod Tables
 pub mod High
 pub mod Limits
+pub mod Parsing

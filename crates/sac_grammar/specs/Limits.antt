@@ -35,15 +35,19 @@ High d bound b = Over d (bound_height b)
 High d index i = ⊥
 High d operation o = Over d (operation_height o)
 
--- when a part of a phrase of the first nonterminal is too high, at the place where the phrase stands
+-- how many nodes stand around a part of a phrase, where so many stand around the phrase
+abbrev pub depth_in : ℕ → Nonterminal → Nonterminal → ℕ
+depth_in d function j = 0
+depth_in d expression disjunction = d
+depth_in d expression j = d + 1
+depth_in d prefix postfix = d
+depth_in d prefix j = d + 1
+depth_in d if_statement j = d + 1
+depth_in d k j = d
+
+-- when a part of a phrase is too high
 abbrev pub Within : ℕ → Nonterminal → (j : Nonterminal) → Tree j → Type 0
-Within d function j = High 0 j
-Within d expression disjunction = High d disjunction
-Within d expression j = High (d + 1) j
-Within d prefix postfix = High d postfix
-Within d prefix j = High (d + 1) j
-Within d if_statement j = High (d + 1) j
-Within d k j = High d j
+Within d k j = High (depth_in d k j) j
 
 -- a program and a function end behind every part of them
 abbrev pub gap_of : Nonterminal → ℕ
