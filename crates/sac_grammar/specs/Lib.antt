@@ -1,0 +1,5 @@
+pub mod Run
+pub mod Tables
+pub mod High
+pub mod Limits
+pub mod Parsing

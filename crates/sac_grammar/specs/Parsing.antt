@@ -1,0 +1,48 @@
+-- What a parser of the language has done: it read a phrase, or it stopped, stuck at a token or where the tree would become too high.
+use Rattle.std.specs.Prelude.{ℕ, ◌≡◌, Bool, true, false, List, [], ◌∷◌}
+use Rattle.sac_ast.specs.Texts.{Lexeme}
+use Rattle.sac_ast.specs.Shape.{Terminal, Shape, Value}
+use Rattle.sac_ast.specs.Grammar.{Nonterminal, Tree, rule, action, Rule, V, program, function, expression, disjunction, prefix, postfix, if_statement}
+use Rattle.sac_grammar.specs.Run.{starts, Runs, Sticks, Reads, Fails}
+use Rattle.sac_grammar.specs.High.{Tops, Tall}
+use Rattle.sac_grammar.specs.Tables.{first_of}
+use Rattle.sac_grammar.specs.Limits.{High, depth_in, gap_of}
+
+-- the parser reads a phrase of k with this tree
+abbrev pub Found : (k : Nonterminal) → List Lexeme → Tree k → List Lexeme → Type 0
+Found = Reads Tree first_of rule action
+
+-- it is stuck in one, at the first token of the rest
+abbrev pub Lost : (k : Nonterminal) → List Lexeme → List Lexeme → Type 0
+Lost = Fails Tree first_of rule action
+
+-- with the tokens before the rest and the next one, each phrase is too high for a place with so many nodes around it
+abbrev pub TooTall : ℕ → (k : Nonterminal) → List Lexeme → List Lexeme → Type 0
+TooTall d k = Tall Tree first_of rule action (gap_of k) k (High d k)
+
+-- it reads a phrase of a right side
+pub record Reading (s : Rule) (ts : List Lexeme) (v : V s) (rest : List Lexeme) : Type 0 where
+  pub run : Runs Tree first_of Found s ts v rest
+
+-- why it stops, and before which tokens
+pub data Stop : Type 0 where
+  stuck : List Lexeme → Stop
+  high : List Lexeme → Stop
+
+abbrev pub StopsAt : ℕ → (k : Nonterminal) → List Lexeme → Stop → Type 0
+StopsAt d k ts (stuck r) = Lost k ts r
+StopsAt d k ts (high r) = TooTall d k ts r
+
+abbrev pub StopsIn : (Nonterminal → ℕ) → (s : Rule) → List Lexeme → Stop → Type 0
+StopsIn D s ts (stuck r) = Sticks Tree first_of Found Lost s ts r
+StopsIn D s ts (high r) = Tops Tree first_of Found (λ (j : Nonterminal). TooTall (D j) j) s ts r
+
+-- each stop that P tells is one in a phrase of k, and one for the height comes only where heights are checked
+pub record Halted (P : Stop → Type 0) (checked : Bool) (d : ℕ) (k : Nonterminal) (ts : List Lexeme) : Type 0 where
+  pub at : (x : Stop) → P x → StopsAt d k ts x
+  pub only : (r : List Lexeme) → P (high r) → checked ≡ true
+
+-- the same of a right side, with so many nodes around each phrase in it
+pub record Halts (P : Stop → Type 0) (checked : Bool) (D : Nonterminal → ℕ) (s : Rule) (ts : List Lexeme) : Type 0 where
+  pub at : (x : Stop) → P x → StopsIn D s ts x
+  pub only : (r : List Lexeme) → P (high r) → checked ≡ true
