@@ -169,8 +169,7 @@ module _ {N : Type 0} (Tree : N → Type 0) (first_of ext_of : N → List Termin
         high u again zero q v z e d = absurd d
         high u again (suc n) q v z e (x, is, d) =
             let one = λ (j : N) (xs : List Lexeme) (v w : Tree j) (a b : List Lexeme) (p : RunsIn Tree first_of rule action n j xs v a) (o : Reads Tree first_of rule action j xs w b). same_read Tree first_of ext_of rank rule action table n o.levels j xs v w a b p o.run in
-            let at = λ (j : N) (xs : List Lexeme) (v : Tree j) (a b : List Lexeme) (p : RunsIn Tree first_of rule action n j xs v a) (t : Tall Tree first_of rule action (gaps j) j (H j) xs b). t.high n b v a (same_first_self b) (subst (λ l. RunsIn Tree first_of rule action n j l v a) t.split p) in
-            (
+            let at = λ (j : N) (xs : List Lexeme) (v : Tree j) (a b : List Lexeme) (p : RunsIn Tree first_of rule action n j xs v a) (t : Tall Tree first_of rule action (gaps j) j (H j) xs b). t.high n b v a (same_first_self b) (subst (λ l. RunsIn Tree first_of rule action n j l v a) t.split p) in (
               subst G (sym is) (grows x (high_run Tree first_of (RunsIn Tree first_of rule action n) (Reads Tree first_of rule action) (λ (j : N). Tall Tree first_of rule action (gaps j) j (H j)) H one (λ j xs v a b p t. (at j xs v a b p t).0) (rule k) (u ++ q) x z q d (again q e))),
               past_gap Tree first_of (RunsIn Tree first_of rule action n) (Reads Tree first_of rule action) (λ (j : N). Tall Tree first_of rule action (gaps j) j (H j)) (Derives Tree rule action) one (sound_read Tree first_of ext_of rank rule action table n) (λ j xs v a b p t. let g = (at j xs v a b p t).1 in omega arith) (rule k) (ends_so (rule k)) refl (u ++ q) x z q d (again q e),
             )
