@@ -1,5 +1,5 @@
 -- Extents as the code keeps them and as numbers that are not negative.
-use Rattle.std.proofs.Common.{◌≡◌, ℕ, ◌<◌, ◌≤ℤ◌, ◌^◌, ap, ◌∙◌, refl, eqb, ◌&&◌, List, [], ◌∷◌, length, map, ℤ, pos, negsuc, All, arith, FitsSigned, w32, to_z, of_z, get_or, sym, suc, zero, Option, Some, None, option_map, if◌then◌else◌, le-leb, leb, false, ◌≤◌, ◌<ℤ◌, inl, inr, ◌⊎◌}
+use Rattle.std.proofs.Common.{◌≡◌, ℕ, ◌<◌, ◌≤ℤ◌, ◌^◌, ap, ◌∙◌, refl, eqb, ◌&&◌, List, [], ◌∷◌, length, map, ℤ, pos, negsuc, All, arith, FitsSigned, w32, to_z, of_z, get_or, sym, suc, zero, Some, None, option_map, if◌then◌else◌, le-leb, leb, false, ◌<ℤ◌, inl, inr, ◌⊎◌}
 use Rattle.std.proofs.lemmas.List.{length-map, get_or-map}
 use Rattle.std.proofs.lemmas.Int.{to_z-of_z, ints}
 use Rattle.std.proofs.lemmas.List.Elements.{All-head, All-tail, All-nil, All-cons, All-weaker}
@@ -34,7 +34,6 @@ all_below (z ∷ zs) h = All-cons (λ n. n < 2 ^ 31) (nat_abs z) (map nat_abs zs
 
 pub shape_is : (zs : List ℤ) → AreExtents zs → IsShape (map nat_abs zs)
 shape_is zs h = record { rank = omega (arith, h.rank, length-map zs nat_abs); each = all_below zs h.each }
-
 
 pub extent_read : (z : ℤ) → FitsSigned w32 z → pos 0 ≤ℤ z → IsExtent z
 extent_read (pos n) f h = f.sfits
@@ -90,15 +89,15 @@ length-naturals [] = inr ([], refl, refl)
 length-naturals (negsuc n ∷ zs) = inl refl
 length-naturals (pos n ∷ zs) =
     elim (length-naturals zs) [
-      inl e ↦ inl (ap (option_map (λ others. n ∷ others)) e)
-    | inr w ↦ inr (n ∷ w.0, ap (option_map (λ others. n ∷ others)) w.1, ap suc w.2)
+      | inl e ↦ inl (ap (option_map (λ others. n ∷ others)) e)
+      | inr w ↦ inr (n ∷ w.0, ap (option_map (λ others. n ∷ others)) w.1, ap suc w.2)
     ]
 
 pub none_from_rank : (zs : List ℤ) → 8 < length zs → shape_of_numbers (Some zs) ≡ None
 none_from_rank zs h =
     elim (length-naturals zs) [
-      inl e ↦ ap short e
-    | inr w ↦ ap short w.1 ∙ ap (λ b. if b then Some w.0 else None) (not_leb (length w.0) 8 (omega (arith, w.2)))
+      | inl e ↦ ap short e
+      | inr w ↦ ap short w.1 ∙ ap (λ b. if b then Some w.0 else None) (not_leb (length w.0) 8 (omega (arith, w.2)))
     ]
 
 none_in : (zs : List ℤ) (i n : ℕ) → i < length zs → get_or zs i (pos 0) ≡ negsuc n → naturals zs ≡ None

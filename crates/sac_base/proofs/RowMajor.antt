@@ -1,5 +1,5 @@
 -- Products of extents, and places in row-major order.
-use Rattle.std.proofs.Common.{◌≡◌, ℕ, zero, suc, ◌+◌, ◌*◌, ◌/◌, ◌%◌, ◌-◌, ◌<◌, ◌≤◌, ◌^◌, min, ap, ◌∙◌, sym, subst, refl, List, [], ◌∷◌, ◌++◌, length, get_or, set, take, drop, map, ℤ, pos, negsuc, Option, Some, None, Bool, true, false, ltb, cond, arith, mul_comm, mul_assoc, inl, inr, ◌⊎◌, if◌then◌else◌, lt-ltb}
+use Rattle.std.proofs.Common.{◌≡◌, ℕ, zero, suc, ◌+◌, ◌*◌, ◌/◌, ◌%◌, ◌-◌, ◌<◌, ◌≤◌, ◌^◌, min, ap, ◌∙◌, sym, subst, refl, List, [], ◌∷◌, ◌++◌, length, get_or, set, take, drop, map, ℤ, pos, negsuc, Option, Some, None, Bool, true, false, ltb, arith, mul_comm, mul_assoc, inl, inr, ◌⊎◌, if◌then◌else◌, lt-ltb}
 use Rattle.std.proofs.Math.Nat.{mod-eq_of_lt, mul-le-mul_left, mul-le-mul_right, le-mul_of_pos_right, div-div-eq-div-mul}
 use Rattle.std.proofs.Math.Arith.{mod-mul}
 use Rattle.std.proofs.lemmas.Nat.{div-mul-add, mod-mul-add, mod_below, div_below, div-add-mod'}
@@ -25,8 +25,8 @@ capped_step c a zero = omega arith
 capped_step c a (suc n) =
     let more = le-mul_of_pos_right {m = suc n} in
     elim (cases_lt c a) [
-      inl lt ↦ let e : min c a ≡ c = omega arith in rw e (omega (arith, more c (omega arith), more a (omega arith)))
-    | inr le ↦ let e : min c a ≡ a = omega arith in rw e (omega arith)
+      | inl lt ↦ let e : min c a ≡ c = omega arith in rw e (omega (arith, more c (omega arith), more a (omega arith)))
+      | inr le ↦ let e : min c a ≡ a = omega arith in rw e (omega arith)
     ]
 
 pub size_take : (ns : List ℕ) (i d : ℕ) → i < length ns → size (take (i + 1) ns) ≡ size (take i ns) * get_or ns i d
@@ -86,9 +86,10 @@ place_step ns is k j stride start i n rest ek a b en ei lt h small =
     let P : ℕ → Type 0 = λ q. size (drop q ns) ≤ MOST → (stride ≡ size (drop q ns)) × (part_at (drop q ns) (drop q is) ≡ Some (record { start = start; shape = rest })) in
     let inner = subst P ek h (omega (arith, le-mul_of_pos_right {m = n} (size ms) (omega arith), mul_comm n (size ms))) in
     let swapped : stride * n ≡ n * size ms = mul_comm stride n ∙ ap (λ x. n * x) inner.0 in
-    let capped : min (stride * n) (MOST + 1) ≡ n * size ms = omega arith in
-    (capped ∙ sym (ap size whole),
-     ap (λ xs. part_at xs (drop j is)) whole ∙ ap (part_at (n ∷ ms)) bs ∙ part_here n i ms (drop (j + 1) is) stride start rest lt inner)
+    let capped : min (stride * n) (MOST + 1) ≡ n * size ms = omega arith in (
+      capped ∙ sym (ap size whole),
+      ap (λ xs. part_at xs (drop j is)) whole ∙ ap (part_at (n ∷ ms)) bs ∙ part_here n i ms (drop (j + 1) is) stride start rest lt inner,
+    )
 
 div_one : (p : ℕ) → p / 1 ≡ p
 div_one p = omega arith
@@ -115,8 +116,8 @@ vector_at-push (m ∷ ms) n p h =
     let front : q / n ≡ p / n % S = ap (λ x. x / n) digits ∙ div-mul-add (p / n % S) n (p % n) low in
     let back : q % n ≡ p % n = ap (λ x. x % n) digits ∙ mod-mul-add (p / n % S) n (p % n) low in
     let tail : vector_at (ms ++ n ∷ []) (p % size (ms ++ n ∷ [])) ≡ vector_at ms (p / n % S) ++ pos (p % n) ∷ [] =
-      ap (λ x. vector_at (ms ++ n ∷ []) (p % x)) (size-push ms n) ∙ vector_at-push ms n q (mod_below p (S * n) positive)
-      ∙ ap (λ x. vector_at ms x ++ pos (q % n) ∷ []) front ∙ ap (λ x. vector_at ms (p / n % S) ++ pos x ∷ []) back in
+    ap (λ x. vector_at (ms ++ n ∷ []) (p % x)) (size-push ms n) ∙ vector_at-push ms n q (mod_below p (S * n) positive)
+    ∙ ap (λ x. vector_at ms x ++ pos (q % n) ∷ []) front ∙ ap (λ x. vector_at ms (p / n % S) ++ pos x ∷ []) back in
     ap (λ x. pos x ∷ vector_at (ms ++ n ∷ []) (p % size (ms ++ n ∷ []))) head ∙ ap (λ xs. pos (p / n / S) ∷ xs) tail
 
 -- the place of the index vector of a place
@@ -146,12 +147,13 @@ vector_step ns into whole k j n rest ek a l en h e =
     let below : rest < size (take j ns) * n = omega (arith, ap size front ∙ size-push (take j ns) n) in
     let positive = some_extent ns k j n rest ek a en h in
     let split : vector_at (take k ns) rest ≡ vector_at (take j ns) (rest / n) ++ pos (rest % n) ∷ [] =
-      ap (λ x. vector_at x rest) front ∙ vector_at-push (take j ns) n rest below in
+    ap (λ x. vector_at x rest) front ∙ vector_at-push (take j ns) n rest below in
     let written : drop j (set into j (pos (rest % n))) ≡ pos (rest % n) ∷ drop k into =
-      drop-set into j (pos (rest % n)) (omega arith) ∙ ap (λ x. pos (rest % n) ∷ drop x into) (sym ek) in
-    (div_below rest n (size (take j ns)) positive below,
-     ap (λ x. vector_at (take j ns) (rest / n) ++ x) written ∙ sym (append_assoc (vector_at (take j ns) (rest / n)) (pos (rest % n) ∷ []) (drop k into))
-     ∙ ap (λ x. x ++ drop k into) (sym split) ∙ e)
+    drop-set into j (pos (rest % n)) (omega arith) ∙ ap (λ x. pos (rest % n) ∷ drop x into) (sym ek) in (
+      div_below rest n (size (take j ns)) positive below,
+      ap (λ x. vector_at (take j ns) (rest / n) ++ x) written ∙ sym (append_assoc (vector_at (take j ns) (rest / n)) (pos (rest % n) ∷ []) (drop k into))
+          ∙ ap (λ x. x ++ drop k into) (sym split) ∙ e,
+    )
 
 pub first_stride : (ns : List ℕ) (zs is : List ℤ) (stride : ℕ) → zs ≡ map pos ns
     → stride ≡ min (MOST + 1) (size (map nat_abs (take (length zs - length is) (drop (length is) zs))))
@@ -160,7 +162,7 @@ pub first_stride : (ns : List ℕ) (zs is : List ℤ) (stride : ℕ) → zs ≡ 
 first_stride ns zs is stride e h =
     let k = length is in
     let rest : map nat_abs (take (length zs - k) (drop k zs)) ≡ drop k ns =
-      ap (map nat_abs) (take_rest zs k ∙ ap (drop k) e ∙ drop-map (λ x. pos x) k ns) ∙ abs_pos (drop k ns) in
+    ap (map nat_abs) (take_rest zs k ∙ ap (drop k) e ∙ drop-map (λ x. pos x) k ns) ∙ abs_pos (drop k ns) in
     let capped : stride ≡ min (MOST + 1) (size (drop k ns)) = h ∙ ap (λ xs. min (MOST + 1) (size xs)) rest in
     (omega arith, omega arith, omega arith, λ small. (omega arith, ap (part_at (drop k ns)) (drop_all k is (omega arith))))
 
@@ -185,9 +187,12 @@ place_turn ns is k j stride start i n z ek l a en small ez ei t h =
     let at = component z n t in
     let below : i < n = omega (arith, at.1) in
     let term : i * stride ≤ 2 ^ 31 * (MOST + 1) = omega (arith, mul-le-mul i (2 ^ 31) stride (MOST + 1) (omega arith) h.1) in
-    let read : get_or is j (pos 0) ≡ pos i = ez ∙ at.0 ∙ ap (λ x. pos x) (sym ei) in
-    (omega arith, omega arith, omega arith,
-     place_step ns is k j stride start i n (drop (length is) ns) ek a (omega arith) en read below h.3)
+    let read : get_or is j (pos 0) ≡ pos i = ez ∙ at.0 ∙ ap (λ x. pos x) (sym ei) in (
+      omega arith,
+      omega arith,
+      omega arith,
+      place_step ns is k j stride start i n (drop (length is) ns) ek a (omega arith) en read below h.3,
+    )
 
 not_ltb : (m n : ℕ) → n ≤ m → ltb m n ≡ false
 not_ltb m n h = grind (arith, nat_tests)
@@ -207,13 +212,17 @@ part_or_none [] (i ∷ is) = inl refl
 part_or_none (n ∷ ns) (negsuc i ∷ is) = inl refl
 part_or_none (n ∷ ns) (pos i ∷ is) =
     elim (cases_lt i n) [
-      inl lt ↦
-        elim (part_or_none ns is) [
-          inl e ↦ inl (none_here (ltb i n) i ns (part_at ns is) e)
-        | inr w ↦ inr (i * size ns + w.0, ap (λ b. if b then further i ns (part_at ns is) else None) (lt-ltb i n lt) ∙ ap (further i ns) w.1, omega (arith, w.2),
-            omega (arith, w.3, mul-le-mul_right {m = suc i} {n = n} (size ns) lt))
-        ]
-    | inr le ↦ inl (ap (λ b. if b then further i ns (part_at ns is) else None) (not_ltb i n le))
+      | inl lt ↦
+          elim (part_or_none ns is) [
+            | inl e ↦ inl (none_here (ltb i n) i ns (part_at ns is) e)
+            | inr w ↦ inr (
+              i * size ns + w.0,
+              ap (λ b. if b then further i ns (part_at ns is) else None) (lt-ltb i n lt) ∙ ap (further i ns) w.1,
+              omega (arith, w.2),
+              omega (arith, w.3, mul-le-mul_right {m = suc i} {n = n} (size ns) lt),
+            )
+          ]
+      | inr le ↦ inl (ap (λ b. if b then further i ns (part_at ns is) else None) (not_ltb i n le))
     ]
 
 -- where a place is given, the part begins there and lies within the array
@@ -221,8 +230,8 @@ pub part_from_place : (ns : List ℕ) (is : List ℤ) (s : ℕ) → place_of ns 
     → (part_at ns is ≡ Some (record { start = s; shape = drop (length is) ns })) × (length is ≤ length ns) × (s + size (drop (length is) ns) ≤ size ns)
 part_from_place ns is s h =
     elim (part_or_none ns is) [
-      inl e ↦ absurd (no_place s (sym (ap start_of e) ∙ h))
-    | inr w ↦
-        let same : w.0 ≡ s = ap (or_nothing 0) (sym (ap start_of w.1) ∙ h) in
-        (w.1 ∙ ap (λ x. Some (record { start = x; shape = drop (length is) ns })) same, w.2, omega (arith, w.3, same))
+      | inl e ↦ absurd (no_place s (sym (ap start_of e) ∙ h))
+      | inr w ↦
+          let same : w.0 ≡ s = ap (or_nothing 0) (sym (ap start_of w.1) ∙ h) in
+          (w.1 ∙ ap (λ x. Some (record { start = x; shape = drop (length is) ns })) same, w.2, omega (arith, w.3, same))
     ]

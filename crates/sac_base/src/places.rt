@@ -16,7 +16,11 @@ pub fn elements(shape: &Shape) -> Option<u64>
     ensures { SomeIff result (size shape.now ≤ MOST) (size shape.now) }
 {
     let all = capped_product(shape.extents());
-    if all <= MOST_ELEMENTS { Some(all) } else { None }
+    if all <= MOST_ELEMENTS {
+        Some(all)
+    } else {
+        None
+    }
 }
 
 // The product of extents, or one more than an array may have elements where it is greater.

@@ -88,7 +88,10 @@ impl Shape {
     pub fn copy(&self) -> Shape
         ensures { result ≡ self.now }
     {
-        let extents = SmallVec::from_slice(*self.extents.allocator(), self.extents.as_slice()).unwrap();
+        let extents = SmallVec::from_slice(
+            *self.extents.allocator(),
+            self.extents.as_slice(),
+        ).unwrap();
         Shape { extents }
     }
 
@@ -106,7 +109,10 @@ impl Shape {
         requires { n ≤ length self.now }
         ensures { result ≡ drop n self.now }
     {
-        let extents = SmallVec::from_slice(*self.extents.allocator(), &self.extents.as_slice()[n..]).unwrap();
+        let extents = SmallVec::from_slice(
+            *self.extents.allocator(),
+            &self.extents.as_slice()[n..],
+        ).unwrap();
         Shape { extents }
     }
 

@@ -1,4 +1,4 @@
-use Rattle.std.proofs.Common.{◌≡◌, ◌<◌, ◌*◌, ◌-◌, ◌+◌, ◌%◌, ◌/◌, ◌^◌, ◌++◌, ap, ◌∙◌, subst, sym, drop, take, set, length, map, ℕ, ℤ, List, pos, get_or, FitsSigned, w32, to_z, arith, rules}
+use Rattle.std.proofs.Common.{◌≡◌, ◌<◌, ◌-◌, ◌%◌, ◌/◌, ◌^◌, ◌++◌, ap, ◌∙◌, subst, sym, drop, take, set, length, ℕ, ℤ, List, pos, get_or, FitsSigned, w32, to_z, arith, rules}
 use Rattle.std.proofs.lemmas.Int.{ints}
 use Rattle.std.proofs.lemmas.Nat.{mod_below}
 use Rattle.std.proofs.lemmas.List.{length-map, take_all, drop_all, append-nil}
@@ -18,10 +18,12 @@ loop-k-init c =
     let ns = c.args.shape.now in
     let r = length c.extents-extents.result.now in
     let long = ap length c.extents-extents.ensures.value ∙ length-map ns (λ x. pos x) in
-    let all : take r ns ≡ ns = take_all r ns (omega arith) in
-    (omega arith, subst (λ xs. c.args.place < size xs) (sym all) c.requires.inside,
-     ap (λ xs. vector_at (take r ns) c.args.place ++ xs) (drop_all r c.args.into.now (omega (arith, c.requires.fits))) ∙ append-nil (vector_at (take r ns) c.args.place)
-     ∙ ap (λ xs. vector_at xs c.args.place) all)
+    let all : take r ns ≡ ns = take_all r ns (omega arith) in (
+      omega arith,
+      subst (λ xs. c.args.place < size xs) (sym all) c.requires.inside,
+      ap (λ xs. vector_at (take r ns) c.args.place ++ xs) (drop_all r c.args.into.now (omega (arith, c.requires.fits))) ∙ append-nil (vector_at (take r ns) c.args.place)
+          ∙ ap (λ xs. vector_at xs c.args.place) all,
+    )
 
 pub nonzero_rem-into : goal.nonzero_rem-into
 nonzero_rem-into c =

@@ -1,13 +1,13 @@
-use Rattle.std.proofs.Common.{◌≡◌, ℕ, ◌<◌, ◌≤◌, ◌*◌, ◌-◌, ◌+◌, ◌^◌, min, ap, ◌∙◌, subst, sym, refl, List, drop, take, length, map, ℤ, pos, negsuc, Bool, true, false, ltb, get_or, Some, None, FitsSigned, w32, to_z, of_z, arith, rules, All}
+use Rattle.std.proofs.Common.{◌≡◌, ℕ, ◌<◌, ◌≤◌, ◌-◌, ◌^◌, ap, ◌∙◌, subst, sym, refl, List, drop, length, ℤ, pos, get_or, Some, FitsSigned, w32, to_z, of_z, arith, rules, All}
 use Rattle.std.proofs.lemmas.Int.{to_z-of_z}
-use Rattle.std.proofs.lemmas.List.{length-map, take_rest, drop_all, drop-map}
+use Rattle.std.proofs.lemmas.List.{length-map, take_rest}
 use Rattle.std.proofs.lemmas.List.Elements.{All-drop}
 use lib.IntN.{nat_abs}
 use Rattle.sac_base.specs.Arrays.{size, MOST}
 use Rattle.sac_base.specs.Parts.{part_at}
 use Rattle.sac_base.specs.Places.{is_below, start_of}
 use Rattle.sac_base.specs.Shapes.{IsExtent}
-use Rattle.sac_base.proofs.Extents.{abs_pos, read_extent}
+use Rattle.sac_base.proofs.Extents.{read_extent}
 use Rattle.sac_base.proofs.RowMajor.{too_long, not_below, place_turn, first_stride}
 use Rattle.sac_base.proofs.places.offset.Goals as goal
 
