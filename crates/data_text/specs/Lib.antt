@@ -1,0 +1,9 @@
+pub mod Pieces
+pub mod Numbers
+pub mod Lines
+pub mod Texts
+pub mod Rows
+pub mod Tokens
+pub mod Found
+pub mod Printed
+pub mod Generated
