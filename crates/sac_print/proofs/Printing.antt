@@ -1,8 +1,8 @@
 -- What was written, piece by piece.
 use Rattle.std.proofs.Common.{ℕ, zero, suc, ◌≡◌, ◌≤◌, ◌+◌, ◌<◌, List, [], ◌∷◌, ◌++◌, length, get_or, take, map, replicate, Result, Ok, Err, refl, sym, ap, ◌∙◌, subst, arith, append_assoc, append-nil, add-one}
 use Rattle.sac_base.specs.declared.memory.Memory.{Memory}
-use Rattle.std.proofs.lemmas.List.{take_more, map-append, length-take-le}
-use Rattle.sac_print.specs.Texts.{Texts, ◌⋅◌, one, comma, commas, comma_before, separator, written, Printed, Prints}
+use Rattle.std.proofs.lemmas.List.{take_more, map-append}
+use Rattle.sac_print.specs.Texts.{Texts, one, comma, commas, comma_before, separator, written, Printed, Prints}
 
 written-append : (a b : Texts) → written (a ++ b) ≡ written a ++ written b
 written-append [] b = refl

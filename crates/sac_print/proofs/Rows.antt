@@ -1,14 +1,13 @@
 -- Canonical texts of some programs, computed.
-use Rattle.std.proofs.Common.{ℕ, ◌≡◌, Bool, true, false, List, [], ◌∷◌, ◌++◌, pos, codes, refl, arith}
+use Rattle.std.proofs.Common.{ℕ, ◌≡◌, true, false, [], ◌∷◌, pos, codes, refl, arith}
 use Rattle.std.specs.Fmt.{decimal}
 use Rattle.std.proofs.lemmas.Fmt.{decimal_digit}
 use Rattle.sac_base.specs.declared.site.Site.{Site}
 use Rattle.sac_base.specs.declared.base.Base.TheVariants as base
 use Rattle.sac_base.specs.declared.types.Part.TheVariants.{Known, Rank, Plus, Star}
-use Rattle.sac_base.specs.declared.op.Op.TheVariants.{Add, Sub, Mul, Div, Rem, Min, Max, Neg, Not, Eq, Ne, Lt, Le, Gt, Ge, And, Or}
+use Rattle.sac_base.specs.declared.op.Op.TheVariants.{Add, Sub, Mul, Min, Neg}
 use Rattle.sac_ast.specs.declared.Builtin.TheVariants as builtin
 use Rattle.sac_ast.specs.declared.Target.{Target}
-use Rattle.sac_ast.specs.declared.Param.{Param}
 use Rattle.sac_ast.specs.Tree
 use Rattle.sac_ast.specs.Tree.{Expr, Exprs, no_exprs, expr_and, left_out, given, no_stmts, stmt_and, Gen, gen, Gens, no_gens, gen_and, OperationTree, FunctionTree, ProgramTree, named, parts}
 use Rattle.sac_print.specs.Canonical.{canonical}

@@ -1,10 +1,9 @@
 -- The texts of trees as the texts of their parts.
-use Rattle.std.proofs.Common.{ℕ, ◌≡◌, ◌<◌, ◌≤◌, ◌+◌, Bool, true, false, cond, List, [], ◌∷◌, ◌++◌, length, map, pos, ℤ, Result, Vec, Global, subst, refl, sym, ap, ◌∙◌, codes, arith, append-nil}
+use Rattle.std.proofs.Common.{ℕ, ◌≡◌, ◌<◌, ◌≤◌, Bool, true, false, cond, List, [], ◌∷◌, ◌++◌, length, map, pos, Result, Vec, Global, subst, refl, sym, ap, ◌∙◌, codes, arith, append-nil}
 use Rattle.std.specs.Fmt.{decimal, signed_decimal}
 use Rattle.sac_base.specs.declared.site.Site.{Site}
 use Rattle.sac_base.specs.declared.op.Op.{Op}
-use Rattle.sac_base.specs.declared.types.Part.{Part}
-use Rattle.sac_base.specs.declared.types.Part.TheVariants.{Known, Rank, Plus, Star}
+use Rattle.sac_base.specs.declared.types.Part.TheVariants.{Known}
 use Rattle.sac_base.specs.declared.types.ArrayType.{ArrayType}
 use Rattle.sac_ast.specs.declared.Param.{Param}
 use Rattle.sac_ast.specs.declared.Target.{Target}
@@ -20,12 +19,12 @@ use Rattle.sac_ast.specs.declared.Operation.{Operation}
 use Rattle.sac_base.specs.declared.memory.Memory.{Memory}
 use Rattle.sac_ast.specs.Tree
 use Rattle.sac_ast.specs.Tree.{Expr, Exprs, no_exprs, expr_and, MaybeExpr, left_out, given, Stmt, Block, no_stmts, stmt_and, OperationTree}
-use Rattle.sac_ast.specs.View.{expr, exprs, exprs_of, stmt, block, generator, generators, function, functions, operation}
+use Rattle.sac_ast.specs.View.{expr, exprs, stmt, block, generator, generators, function, functions, operation}
 use Rattle.sac_print.specs.declared.level.Level.{Level}
 use Rattle.sac_print.specs.declared.level.Level.TheVariants as level
 use Rattle.sac_print.specs.Texts.{Texts, ◌⋅◌, one, comma, commas, Prints}
 use Rattle.sac_print.specs.Operators.{is_function, operator_text, level_of, tighter, is_looser, opening, closing}
-use Rattle.sac_print.specs.Canonical.{parens, brackets, braces, spell, spell_index, spell_list, spell_more, spell_stmt, spell_block, spell_else, spell_body, spell_gen, spell_gens, spell_operation, spell_default, function_texts, functions_texts, target_texts, targets_texts, inside_texts, part_texts, type_texts, param_texts}
+use Rattle.sac_print.specs.Canonical.{parens, brackets, braces, spell, spell_index, spell_list, spell_stmt, spell_block, spell_else, spell_body, spell_gen, spell_gens, spell_operation, spell_default, function_texts, functions_texts, target_texts, targets_texts, inside_texts, part_texts, type_texts, param_texts}
 use Rattle.sac_print.proofs.Printing.{joined}
 
 -- an expression in a list

@@ -1,5 +1,5 @@
 -- Texts of tokens, and how they are written one behind the other.
-use Rattle.std.specs.Prelude.{ℕ, zero, suc, ◌≡◌, Bool, ◌||◌, List, [], ◌∷◌, ◌++◌, if◌then◌else◌, codes, OnOk, Result}
+use Rattle.std.specs.Prelude.{ℕ, zero, suc, ◌≡◌, ◌||◌, List, [], ◌∷◌, ◌++◌, if◌then◌else◌, codes, OnOk, Result}
 use Rattle.std.specs.Str.{bytes_eq}
 use Rattle.sac_base.specs.declared.memory.Memory.{Memory}
 

@@ -7,5 +7,7 @@ mod program;
 mod texts;
 mod tree;
 
-pub use level::Level;
 pub use program::print_program;
+
+#[cfg(test)]
+mod tests;

@@ -5,7 +5,7 @@ ghost use Rattle.sac_print.specs.declared.level.Level.TheVariants as level;
 ghost use Rattle.sac_print.specs.Texts.{Prints};
 ghost use Rattle.sac_print.specs.Canonical.{spell, spell_index, spell_list, spell_maybe, spell_stmt, spell_block, spell_else, spell_body, spell_bound, spell_gen, spell_gens, spell_operation, spell_default, parens, braces};
 
-use crate::Level;
+use crate::level::Level;
 use crate::lists::{put_index_names, put_targets};
 use crate::texts::{
     bound_sign, builtin_text, close, is_function, open, operator_text, put, put_comma, put_number,

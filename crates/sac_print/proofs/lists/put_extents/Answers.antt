@@ -1,4 +1,4 @@
-use Rattle.std.proofs.Common.{rules, get_or, pos, ℤ, subst}
+use Rattle.std.proofs.Common.{rules, pos, ℤ, subst}
 use Rattle.std.specs.Fmt.{signed_decimal}
 use Rattle.sac_print.specs.Texts.{one, Printed}
 use Rattle.sac_print.proofs.Printing.{commas_turn}

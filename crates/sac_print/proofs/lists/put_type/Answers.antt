@@ -1,4 +1,4 @@
-use Rattle.sac_print.proofs.Printing.{◌▹◌, by_name, by_text}
+use Rattle.sac_print.proofs.Printing.{◌▹◌, by_text}
 use Rattle.sac_print.proofs.lists.put_type.Goals as goal
 
 pub returns : goal.returns

@@ -1,6 +1,5 @@
-use Rattle.std.proofs.Common.{rules, arith, refl}
 use Rattle.sac_print.specs.Canonical.{type_texts}
-use Rattle.sac_print.proofs.Printing.{commas_turn_at, commas_whole, by_text}
+use Rattle.sac_print.proofs.Printing.{commas_turn_at}
 use Rattle.sac_print.proofs.lists.put_types.Goals as goal
 
 pub loop-place-preserved : goal.loop-place-preserved

@@ -1,6 +1,5 @@
-use Rattle.std.proofs.Common.{rules, ap, sym, subst, take, get_or, length, ◌≡◌, ◌<◌, ◌∙◌, ◌++◌, List, ℕ, arith}
-use Rattle.sac_ast.specs.declared.Function.{Function}
-use Rattle.sac_print.specs.Texts.{Printed, written}
+use Rattle.std.proofs.Common.{rules, ap, sym, ◌∙◌, ◌++◌, List, ℕ}
+use Rattle.sac_print.specs.Texts.{written}
 use Rattle.sac_print.proofs.Printing.{joined, joined_turn, joined_whole}
 use Rattle.sac_print.proofs.Trees.{spell_function, functions_are}
 use Rattle.sac_print.proofs.program.print_program.Goals as goal

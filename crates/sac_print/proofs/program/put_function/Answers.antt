@@ -1,4 +1,4 @@
-use Rattle.sac_print.proofs.Printing.{◌▹◌, by_name, by_text}
+use Rattle.sac_print.proofs.Printing.{◌▹◌, by_text}
 use Rattle.sac_print.proofs.Trees.{listed, in_statements, in_types, in_params}
 use Rattle.sac_print.proofs.program.put_function.Goals as goal
 

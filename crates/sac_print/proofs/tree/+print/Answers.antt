@@ -1,14 +1,13 @@
-use Rattle.std.proofs.Common.{rules, ap, sym, ◌∙◌, Option, arith, refl}
-use Rattle.sac_ast.specs.View.{expr, exprs, maybe, stmt, block, bound, generator, generators, operation}
+use Rattle.std.proofs.Common.{rules, ap, sym, ◌∙◌, Option}
+use Rattle.sac_ast.specs.View.{expr, maybe, bound}
 use Rattle.sac_ast.specs.declared.Expression.{Expression}
 use Rattle.sac_ast.specs.declared.Bound.{Bound}
-use Rattle.sac_ast.specs.declared.Generator.{Generator}
-use Rattle.sac_ast.proofs.Views.{expr_number, expr_truth, expr_variable, expr_literal, expr_unary, expr_binary, expr_choice, expr_select, expr_call, expr_builtin, expr_with, stmt_assign, stmt_replace, stmt_if, stmt_while, stmt_do, generator_is, operation_genarray, operation_modarray, operation_fold, bound_dot, bound_given}
+use Rattle.sac_ast.proofs.Views.{expr_literal, expr_unary, expr_binary, expr_choice, expr_select, expr_call, expr_builtin, expr_with, stmt_assign, stmt_replace, stmt_if, stmt_while, stmt_do, generator_is, operation_genarray, operation_modarray, operation_fold, bound_given}
 use Rattle.sac_print.specs.declared.level.Level.TheVariants as level
-use Rattle.sac_print.specs.Operators.{is_function, level_of, tighter, is_looser}
-use Rattle.sac_print.specs.Canonical.{spell, spell_index, spell_list, spell_stmt, spell_block, spell_else, spell_body, spell_bound, spell_gen, spell_gens, spell_operation, spell_default, spell_maybe}
+use Rattle.sac_print.specs.Operators.{level_of, tighter, is_looser}
+use Rattle.sac_print.specs.Canonical.{spell_bound, spell_gen, spell_default, spell_maybe}
 use Rattle.sac_print.proofs.Printing.{◌▹◌, by_name, by_text, commas_turn_at, commas_whole, joined_turn, joined_whole}
-use Rattle.sac_print.proofs.Trees.{element, spell_statement, spell_generator, list_is, block_is, generators_are, select_is, replace_is, long_index_is, short_index_is, other_index_is, genarray_is, else_is, no_else_is, body_is, no_body_is, function_is, infix_is, seen, seen_index, seen_stmt, seen_operation, listed, in_block, in_else, in_body, in_statements, in_targets, in_gens, boxed, boxed_index, boxed_operation, needed, needed_end, at_level}
+use Rattle.sac_print.proofs.Trees.{element, spell_statement, spell_generator, list_is, block_is, generators_are, select_is, replace_is, long_index_is, short_index_is, other_index_is, genarray_is, else_is, body_is, function_is, infix_is, seen, seen_index, seen_stmt, seen_operation, listed, in_block, in_else, in_body, in_targets, in_gens, boxed, boxed_index, boxed_operation, needed, needed_end, at_level}
 use Rattle.sac_print.proofs.tree.+print.Goals as goal
 use Rattle.sac_print.proofs.tree.+print.Goals.{put_index-in_default-via-in-Literal+else-len-gt1, put_index-in_default-via-in_default}
 
@@ -169,4 +168,3 @@ put_default-returns t c = by_name (ap (λ (o : Option Expression). spell_default
 
 pub put_bound-returns-in-Given : goal.put_bound-returns-in-Given
 put_bound-returns-in-Given t c = by_name (ap (λ (b : Bound). spell_bound (bound b)) c.in-Given.is ∙ ap spell_bound (bound_given c.in-Given.e)) c.put_expression.ensures
-
