@@ -5,3 +5,4 @@ pub mod Texts
 pub mod Shape
 pub mod Grammar
 pub mod Heights
+pub mod Refusals

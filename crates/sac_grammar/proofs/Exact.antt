@@ -79,7 +79,7 @@ pub same_front : (u w r : List Lexeme) → u ++ r ≡ w ++ r → u ≡ w
 same_front u w r e = front_by_length u w r (length_front u w r e) e
 
 module _ {N : Type 0} (Tree : N → Type 0) (first_of ext_of : N → List Terminal) (rank : N → ℕ) (rule : N → Shape N) (action : (k : N) → Value Tree (rule k) → Tree k) (table : IsPredictive first_of ext_of rank rule) where
-  derives_begins : (n : ℕ) (k : N) (ts : List Lexeme) (v : Tree k) → DerivesIn Tree rule action n k ts v → (z : List Lexeme) → starts (first_of k) (ts ++ z) ≡ true
+  pub derives_begins : (n : ℕ) (k : N) (ts : List Lexeme) (v : Tree k) → DerivesIn Tree rule action n k ts v → (z : List Lexeme) → starts (first_of k) (ts ++ z) ≡ true
   derives_begins zero k ts v d z = absurd d
   derives_begins (suc n) k ts v (x, e, d) z =
       covered (first first_of (rule k)) (first_of k) (ts ++ z) (table.firsts k) (begins_there (is_nullable (rule k)) (first first_of (rule k)) ts (not_of_false _ (table.some k)) (begins Tree first_of ext_of (DerivesIn Tree rule action n) (derives_begins n) (rule k) ts x d) z)
@@ -97,7 +97,7 @@ module _ {N : Type 0} (Tree : N → Type 0) (first_of ext_of : N → List Termin
       let s = same_run Tree first_of (RunsIn Tree first_of rule action n) (RunsIn Tree first_of rule action m) (same_read n m) (rule k) ts x y r q p o in
       record { value = e ∙ ap (action k) s.value ∙ sym f; rest = s.rest }
 
-  only_read : (n m : ℕ) (k : N) (ts : List Lexeme) (v : Tree k) (r q : List Lexeme) → RunsIn Tree first_of rule action n k ts v r → SticksIn Tree first_of rule action m k ts q → ⊥
+  pub only_read : (n m : ℕ) (k : N) (ts : List Lexeme) (v : Tree k) (r q : List Lexeme) → RunsIn Tree first_of rule action n k ts v r → SticksIn Tree first_of rule action m k ts q → ⊥
   only_read zero m k ts v r q p o = p
   only_read (suc n) zero k ts v r q p o = o
   only_read (suc n) (suc m) k ts v r q (x, e, p) o =

@@ -5,3 +5,4 @@ pub mod Table
 pub mod High
 pub mod Grows
 pub mod Parsing
+pub mod Refusals

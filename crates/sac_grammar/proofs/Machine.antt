@@ -98,7 +98,7 @@ letter_no_digit : {P : Type 0} (c : ℕ) (b : Bool) → ((is_ascii_alphabetic c 
 letter_no_digit c b l d = grind (arith, nat_tests)
 
 -- a text of one kind is of no other
-name_no_number : {P : Type 0} (t : List ℕ) → is_name t ≡ true → is_number t ≡ true → P
+pub name_no_number : {P : Type 0} (t : List ℕ) → is_name t ≡ true → is_number t ≡ true → P
 name_no_number [] p q = false_true p
 name_no_number (c ∷ t) p q = letter_no_digit c _ p q
 

@@ -7,7 +7,7 @@ use Rattle.sac_grammar.specs.Run.{starts, is_nullable, first, are_apart, RunsEac
 use Rattle.sac_grammar.specs.Tables.{first_of, ext_of, rank_of}
 use Rattle.sac_grammar.specs.High.{Tops, Tall}
 use Rattle.sac_grammar.specs.Limits.{High, Within, depth_in, gap_of}
-use Rattle.sac_grammar.specs.Parsing.{Found, Lost, TooTall, Reading, Stop, stuck, high, StopsAt, StopsIn, Halted, Halts}
+use Rattle.sac_grammar.specs.Parsing.{Found, Lost, TooTall, Reading, Stop, stuck, high, StopsAt, StopsIn, Halted, Halts, nth, inject, is_apart, ReadEach, Parts}
 use Rattle.sac_grammar.proofs.Machine.{false_true, and_left, and_right, apart_not}
 use Rattle.sac_grammar.proofs.Levels.{reads_rule, fails_rule}
 use Rattle.sac_grammar.proofs.Exact.{reads_shorter}
@@ -93,31 +93,6 @@ module _ {P : Stop → Type 0} {checked : Bool} where
 
 -- ---- one of several alternatives
 
-abbrev pub nth : ℕ → Rule → Rule
-nth zero (alt a b) = a
-nth (suc n) (alt a b) = nth n b
-nth n s = s
-
-abbrev pub inject : (n : ℕ) (s : Rule) → V (nth n s) → V s
-inject zero (alt a b) v = inl v
-inject (suc n) (alt a b) v = inr (inject n b v)
-inject zero nothing v = v
-inject zero (term t) v = v
-inject zero (ref k) v = v
-inject zero (seq a b) v = v
-inject zero (many a) v = v
-inject (suc n) nothing v = v
-inject (suc n) (term t) v = v
-inject (suc n) (ref k) v = v
-inject (suc n) (seq a b) v = v
-inject (suc n) (many a) v = v
-
--- the first token of alternative n begins none of those before it
-abbrev pub is_apart : ℕ → Rule → Bool
-is_apart zero s = true
-is_apart (suc n) (alt a b) = are_apart (first first_of (nth n b)) (first first_of a) && is_apart n b
-is_apart n s = true
-
 pub read_nth : (n : ℕ) (s : Rule) {ts r : List Lexeme} {v : V (nth n s)} → is_apart n s ≡ true → starts (first first_of (nth n s)) ts ≡ true → Reading (nth n s) ts v r → Reading s ts (inject n s v) r
 read_nth zero (alt a b) ok s f = read_first s f
 read_nth (suc n) (alt a b) {ts} ok s f = read_second (apart_not (first first_of (nth n b)) (first first_of a) ts (and_left _ (is_apart n b) ok) s) (read_nth n b (and_right (are_apart (first first_of (nth n b)) (first first_of a)) _ ok) s f)
@@ -148,14 +123,6 @@ stop_nth (suc n) (many a) ok s f = f
 
 -- ---- one part after another
 
--- these parts were read, and the rest is left
-abbrev pub ReadEach : (a : Rule) → List Lexeme → List (V a) → List Lexeme → Type 0
-ReadEach a ts [] rest = rest ≡ ts
-ReadEach a ts (v ∷ vs) rest = (starts (first first_of a) ts ≡ true) × ((mid : List Lexeme) × Runs Tree first_of Found a ts v mid × ReadEach a mid vs rest)
-
-pub record Parts (a : Rule) (ts : List Lexeme) (vs : List (V a)) (rest : List Lexeme) : Type 0 where
-  pub each : ReadEach a ts vs rest
-
 pub no_parts : {a : Rule} {ts : List Lexeme} → Parts a ts [] ts
 no_parts = record { each = refl }
 
@@ -183,3 +150,39 @@ stop_parts {P} {checked} {D} {a} {ts} {rest} {vs} p s h = record { at = λ x q. 
     at : (x : Stop) → StopsIn D a rest x → StopsIn D (many a) ts x
     at (stuck r) q = (vs, each_stop a (Sticks Tree first_of Found Lost a) ts vs rest r p.each s q)
     at (high r) q = (vs, each_stop a (Tops Tree first_of Found (λ (j : Nonterminal). TooTall (D j) j) a) ts vs rest r p.each s q)
+
+-- ---- places with as many nodes around them
+
+-- the two tell the same number at each nonterminal of the right side
+abbrev pub Agree : (Nonterminal → ℕ) → (Nonterminal → ℕ) → Rule → Type 0
+Agree D E nothing = Unit {0}
+Agree D E (term t) = Unit {0}
+Agree D E (ref k) = D k ≡ E k
+Agree D E (seq a b) = Agree D E a × Agree D E b
+Agree D E (alt a b) = Agree D E a × Agree D E b
+Agree D E (many a) = Agree D E a
+
+after_high : {V : Type 0} (fs : List Terminal) (P : List Lexeme → V → List Lexeme → Type 0) (S T : List Lexeme → List Lexeme → Type 0) → ((ts r : List Lexeme) → S ts r → T ts r) → (ts : List Lexeme) (vs : List V) (r : List Lexeme) → SticksAfter fs P S ts vs r → SticksAfter fs P T ts vs r
+after_high fs P S T g ts [] r (s, p) = (s, g ts r p)
+after_high fs P S T g ts (v ∷ vs) r (s, (m, p, q)) = (s, (m, p, after_high fs P S T g m vs r q))
+
+tops_agree : (D E : Nonterminal → ℕ) (s : Rule) → Agree D E s → (ts r : List Lexeme) → Tops Tree first_of Found (λ (j : Nonterminal). TooTall (D j) j) s ts r → Tops Tree first_of Found (λ (j : Nonterminal). TooTall (E j) j) s ts r
+tops_agree D E nothing e ts r p = absurd p
+tops_agree D E (term t) e ts r p = absurd p
+tops_agree D E (ref k) e ts r p = subst (λ n. TooTall n k ts r) e p
+tops_agree D E (seq a b) e ts r (inl p) = inl (tops_agree D E a e.0 ts r p)
+tops_agree D E (seq a b) e ts r (inr p) = inr (p.0, p.1, p.2, tops_agree D E b e.1 p.1 r p.3)
+tops_agree D E (alt a b) e ts r (inl p) = inl (p.0, tops_agree D E a e.0 ts r p.1)
+tops_agree D E (alt a b) e ts r (inr p) = inr (p.0, tops_agree D E b e.1 ts r p.1)
+tops_agree D E (many a) e ts r p = (p.0, after_high (first first_of a) (Runs Tree first_of Found a) (Tops Tree first_of Found (λ (j : Nonterminal). TooTall (D j) j) a) (Tops Tree first_of Found (λ (j : Nonterminal). TooTall (E j) j) a) (tops_agree D E a e) ts p.0 r p.1)
+
+pub stop_agree : {P : Stop → Type 0} {checked : Bool} {D E : Nonterminal → ℕ} {s : Rule} {ts : List Lexeme} → (checked ≡ true → Agree D E s) → Halts P checked D s ts → Halts P checked E s ts
+stop_agree {P} {checked} {D} {E} {s} {ts} e h = record { at = at; only = h.only }
+  where
+    at : (x : Stop) → P x → StopsIn E s ts x
+    at (stuck r) p = h.at (stuck r) p
+    at (high r) p = tops_agree D E s (e (h.only r p)) ts r (h.at (high r) p)
+
+-- behind a phrase that is too high
+pub tall_after : (d : ℕ) {k : Nonterminal} {ts rest : List Lexeme} {v : Tree k} → gap_of k ≡ 0 → Found k ts v rest → High d k v → TooTall d k ts rest
+tall_after d {k} {ts} {rest} {v} e f h = subst (λ n. Tall Tree first_of rule action n k (High d k) ts rest) (sym e) (tall_behind Tree first_of ext_of rank_of rule action table k (High d k) ts v rest f h)

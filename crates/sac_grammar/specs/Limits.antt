@@ -42,6 +42,7 @@ depth_in d expression disjunction = d
 depth_in d expression j = d + 1
 depth_in d prefix postfix = d
 depth_in d prefix j = d + 1
+depth_in d if_statement expression = d
 depth_in d if_statement j = d + 1
 depth_in d k j = d
 

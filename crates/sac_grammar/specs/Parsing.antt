@@ -1,9 +1,10 @@
 -- What a parser of the language has done: it read a phrase, or it stopped, stuck at a token or where the tree would become too high.
-use Rattle.std.specs.Prelude.{ℕ, ◌≡◌, Bool, true, false, List, [], ◌∷◌}
+use Rattle.std.specs.Prelude.{ℕ, zero, suc, ◌≡◌, ◌&&◌, Bool, true, false, List, [], ◌∷◌}
+use mathlib.Core.Logic.{inl, inr}
 use Rattle.sac_ast.specs.Texts.{Lexeme}
-use Rattle.sac_ast.specs.Shape.{Terminal, Shape, Value}
+use Rattle.sac_ast.specs.Shape.{Terminal, Shape, nothing, term, ref, seq, alt, many, Value}
 use Rattle.sac_ast.specs.Grammar.{Nonterminal, Tree, rule, action, Rule, V, program, function, expression, disjunction, prefix, postfix, if_statement}
-use Rattle.sac_grammar.specs.Run.{starts, Runs, Sticks, Reads, Fails}
+use Rattle.sac_grammar.specs.Run.{starts, first, are_apart, Runs, Sticks, Reads, Fails}
 use Rattle.sac_grammar.specs.High.{Tops, Tall}
 use Rattle.sac_grammar.specs.Tables.{first_of}
 use Rattle.sac_grammar.specs.Limits.{High, depth_in, gap_of}
@@ -46,3 +47,40 @@ pub record Halted (P : Stop → Type 0) (checked : Bool) (d : ℕ) (k : Nontermi
 pub record Halts (P : Stop → Type 0) (checked : Bool) (D : Nonterminal → ℕ) (s : Rule) (ts : List Lexeme) : Type 0 where
   pub at : (x : Stop) → P x → StopsIn D s ts x
   pub only : (r : List Lexeme) → P (high r) → checked ≡ true
+
+-- ---- one of several alternatives
+
+abbrev pub nth : ℕ → Rule → Rule
+nth zero (alt a b) = a
+nth (suc n) (alt a b) = nth n b
+nth n s = s
+
+abbrev pub inject : (n : ℕ) (s : Rule) → V (nth n s) → V s
+inject zero (alt a b) v = inl v
+inject (suc n) (alt a b) v = inr (inject n b v)
+inject zero nothing v = v
+inject zero (term t) v = v
+inject zero (ref k) v = v
+inject zero (seq a b) v = v
+inject zero (many a) v = v
+inject (suc n) nothing v = v
+inject (suc n) (term t) v = v
+inject (suc n) (ref k) v = v
+inject (suc n) (seq a b) v = v
+inject (suc n) (many a) v = v
+
+-- the first token of alternative n begins none of those before it
+abbrev pub is_apart : ℕ → Rule → Bool
+is_apart zero s = true
+is_apart (suc n) (alt a b) = are_apart (first first_of (nth n b)) (first first_of a) && is_apart n b
+is_apart n s = true
+
+-- ---- one part after another
+
+-- these parts were read, and the rest is left
+abbrev pub ReadEach : (a : Rule) → List Lexeme → List (V a) → List Lexeme → Type 0
+ReadEach a ts [] rest = rest ≡ ts
+ReadEach a ts (v ∷ vs) rest = (starts (first first_of a) ts ≡ true) × ((mid : List Lexeme) × Runs Tree first_of Found a ts v mid × ReadEach a mid vs rest)
+
+pub record Parts (a : Rule) (ts : List Lexeme) (vs : List (V a)) (rest : List Lexeme) : Type 0 where
+  pub each : ReadEach a ts vs rest

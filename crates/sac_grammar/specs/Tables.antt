@@ -4,10 +4,10 @@ use Rattle.sac_ast.specs.Shape.{Terminal, text, name, number, end}
 use Rattle.sac_ast.specs.Grammar.{Nonterminal, program, function, param, type', statement, if_statement, else_branch, block, assign, expression, disjunction, conjunction, equality, comparison, sum, product, prefix, postfix, primary, generator, bound, index, operation}
 
 abbrev pub of_primary : List Terminal
-of_primary = number ∷ text (codes "true") ∷ text (codes "false") ∷ name ∷ text (codes "dim") ∷ text (codes "shape") ∷ text (codes "reshape") ∷ text (codes "min") ∷ text (codes "max") ∷ text (codes "(") ∷ text (codes "[") ∷ text (codes "with") ∷ []
+of_primary = number ∷ name ∷ text (codes "true") ∷ text (codes "false") ∷ text (codes "dim") ∷ text (codes "shape") ∷ text (codes "reshape") ∷ text (codes "min") ∷ text (codes "max") ∷ text (codes "(") ∷ text (codes "[") ∷ text (codes "with") ∷ []
 
 abbrev pub of_expression : List Terminal
-of_expression = text (codes "-") ∷ text (codes "!") ∷ of_primary
+of_expression = number ∷ name ∷ text (codes "-") ∷ text (codes "!") ∷ text (codes "true") ∷ text (codes "false") ∷ text (codes "dim") ∷ text (codes "shape") ∷ text (codes "reshape") ∷ text (codes "min") ∷ text (codes "max") ∷ text (codes "(") ∷ text (codes "[") ∷ text (codes "with") ∷ []
 
 -- the terminals that the phrases of a nonterminal begin with
 abbrev pub first_of : Nonterminal → List Terminal

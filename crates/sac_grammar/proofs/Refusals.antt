@@ -1,0 +1,52 @@
+-- From what the parser has done over the tokens of a program to the meaning of its answer.
+use Rattle.std.proofs.Common.{ℕ, zero, suc, ◌≡◌, ◌<◌, ◌≤◌, ◌+◌, Bool, true, false, List, [], ◌∷◌, ◌++◌, ◌⊎◌, inl, inr, refl, sym, ap, ◌∙◌, subst, append_assoc, append-nil, arith, length, length-append}
+use Rattle.std.specs.List.{AllByRecursion}
+use Rattle.sac_ast.specs.Texts.{Lexeme, is_end}
+use Rattle.sac_ast.specs.Shape.{MatchesEach, term, ref, many, end}
+use Rattle.sac_ast.specs.Tree.{FunctionTree, ProgramTree}
+use Rattle.sac_ast.specs.Grammar.{Nonterminal, Tree, rule, action, program, function, IsPhrase, IsProgram}
+use Rattle.sac_ast.specs.Heights.{function_height, open_behind, opens, closes, IsShallow, IsLow, IsTreeOf}
+use Rattle.sac_ast.specs.Refusals.{Starts, StartsWithin, IsInReach, IsStuckAt, IsTooDeepAt}
+use Rattle.sac_grammar.specs.Run.{starts, SameFirst, first, Runs, RunsEach, RunsIn}
+use Rattle.sac_grammar.specs.Tables.{first_of, ext_of, rank_of}
+use Rattle.sac_grammar.specs.High.{AnyOf}
+use Rattle.sac_grammar.specs.Limits.{High}
+use Rattle.sac_grammar.specs.Parsing.{Found, Lost, TooTall, ReadEach, Parts}
+use Rattle.sac_grammar.proofs.Machine.{false_true, SameEnd}
+use Rattle.sac_grammar.proofs.Table.{table}
+use Rattle.sac_grammar.proofs.Exact.{phrase_read, same_read, only_read, sound_read, stable_read, read_whole, stuck_at, derives_begins, same_front}
+
+-- ---- phrases and reading
+
+-- a phrase is read, whatever follows a function or a program
+pub read_phrase : (k : Nonterminal) → ((z : List Lexeme) → starts (ext_of k) z ≡ false) → (w z : List Lexeme) (v : Tree k) → IsPhrase k w v → Found k (w ++ z) v z
+read_phrase k free w z v d = record { levels = d.0; run = phrase_read Tree first_of ext_of rank_of rule action table d.0 k w v z d.1 (free z) }
+
+ends_free : (z : List Lexeme) → starts [] z ≡ false
+ends_free [] = refl
+ends_free (x ∷ z) = refl
+
+pub function_read : (w z : List Lexeme) (g : FunctionTree) → IsPhrase function w g → Found function (w ++ z) g z
+function_read = read_phrase function ends_free
+
+pub program_read : (w z : List Lexeme) (p : ProgramTree) → IsProgram w p → Found program (w ++ z) p z
+program_read = read_phrase program ends_free
+
+pub same_found : (k : Nonterminal) (ts : List Lexeme) (v w : Tree k) (r q : List Lexeme) → Found k ts v r → Found k ts w q → SameEnd v w r q
+same_found k ts v w r q f g = same_read Tree first_of ext_of rank_of rule action table f.levels g.levels k ts v w r q f.run g.run
+
+pub found_not_lost : (k : Nonterminal) (ts : List Lexeme) (v : Tree k) (r q : List Lexeme) → Found k ts v r → Lost k ts q → ⊥
+found_not_lost k ts v r q f l = only_read Tree first_of ext_of rank_of rule action table f.levels l.levels k ts v r q f.run l.run
+
+same_first_of : (r : List Lexeme) (x : Lexeme) (xs ys : List Lexeme) → r ≡ x ∷ xs → SameFirst r (x ∷ ys)
+same_first_of r x xs ys e = subst (λ l. SameFirst l (x ∷ ys)) (sym e) refl
+
+pub tall_at : (d : ℕ) (k : Nonterminal) (ts r : List Lexeme) → TooTall d k ts r → (u : List Lexeme) × (ts ≡ u ++ r) × ((w : List Lexeme) × (v : Tree k) × IsPhrase k (u ++ w) v) × ((x : Lexeme) (xs ys : List Lexeme) (v : Tree k) → r ≡ x ∷ xs → IsPhrase k (u ++ (x ∷ ys)) v → High d k v)
+tall_at d k ts r t = (
+  t.front,
+  t.split,
+  t.begun,
+  λ x xs ys v e p.
+      let run = phrase_read Tree first_of ext_of rank_of rule action table p.0 k (t.front ++ (x ∷ ys)) v [] p.1 refl in
+      (t.high p.0 (x ∷ ys) v [] (same_first_of r x xs ys e) (subst (λ l. RunsIn Tree first_of rule action p.0 k l v []) (append-nil (t.front ++ (x ∷ ys))) run)).0,
+)
