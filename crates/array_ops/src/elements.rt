@@ -7,7 +7,9 @@ ghost use Rattle.array_ops.specs.Answers.{Gives};
 ghost use Rattle.array_ops.specs.Operands.{cells_of, cell_at, HasCells, HasCell, GivesCells};
 
 use crate::ArrayError;
-use sac_base::{Array, Cell, FaultKind, Memory, Op, ZeroDivisor, apply1, apply2, result_base, same_shape};
+use sac_base::{
+    Array, Cell, FaultKind, Memory, Op, ZeroDivisor, apply1, apply2, result_base, same_shape,
+};
 use std::alloc::Global;
 
 /// An operator of one operand at each element.
@@ -78,7 +80,13 @@ fn operand_of(a: &Array) -> Operand<'_>
 }
 
 // The operator at the first n cells of both.
-fn combine(alloc: Global, op: Op, left: Operand<'_>, right: Operand<'_>, n: usize) -> Result<Vec<Cell>, ArrayError>
+fn combine(
+    alloc: Global,
+    op: Op,
+    left: Operand<'_>,
+    right: Operand<'_>,
+    n: usize,
+) -> Result<Vec<Cell>, ArrayError>
     requires left { HasCells left n }
     requires right { HasCells right n }
     ensures cells { GivesCells result (combined op (cells_of n left.entry) (cells_of n right.entry)) }

@@ -41,7 +41,7 @@ all_below_trans (a ∷ as') [] cs h g = absurd (false≢true h)
 all_below_trans (a ∷ as') (b ∷ bs) [] h g = absurd (false≢true g)
 all_below_trans (a ∷ as') (b ∷ bs) (c ∷ cs) h g =
     and_both (below a c) (all_below as' cs) (below_trans a b c (and_left (below a b) (all_below as' bs) h) (and_left (below b c) (all_below bs cs) g))
-      (all_below_trans as' bs cs (and_right (below a b) (all_below as' bs) h) (and_right (below b c) (all_below bs cs) g))
+    (all_below_trans as' bs cs (and_right (below a b) (all_below as' bs) h) (and_right (below b c) (all_below bs cs) g))
 
 -- lists that contain the same forms are not apart
 not_apart : (as' bs : List ArrayType) (fs : List Form) → all_have_forms as' fs ≡ true → all_have_forms bs fs ≡ true → apart as' bs ≡ false
@@ -60,10 +60,10 @@ or_cases false c h = inr h
 pub comparable : (as' bs : List ArrayType) (fs : List Form) → compatible as' bs ≡ true → all_have_forms as' fs ≡ true → all_have_forms bs fs ≡ true → (all_below as' bs ≡ true) ⊎ (all_below bs as' ≡ true)
 comparable as' bs fs h f g =
     elim (or_cases (apart as' bs) (strictly_below as' bs || strictly_below bs as') h) [
-      inl e ↦ absurd (false≢true (sym (not_apart as' bs fs f g) ∙ e))
-    | inr e ↦ elim (or_cases (strictly_below as' bs) (strictly_below bs as') e) [
-        inl x ↦ inl (and_left (all_below as' bs) (not (all_below bs as')) x)
-      | inr x ↦ inr (and_left (all_below bs as') (not (all_below as' bs)) x)
+      | inl e ↦ absurd (false≢true (sym (not_apart as' bs fs f g) ∙ e))
+      | inr e ↦ elim (or_cases (strictly_below as' bs) (strictly_below bs as') e) [
+        | inl x ↦ inl (and_left (all_below as' bs) (not (all_below bs as')) x)
+        | inr x ↦ inr (and_left (all_below bs as') (not (all_below as' bs)) x)
       ]
     ]
 
@@ -91,15 +91,15 @@ module _ {X : Type 0} where
   implied : (f g : X → Bool) (xs : List X) → list_all (λ x. not (f x) || g x) xs ≡ true → All (λ x. f x ≡ true → g x ≡ true) xs
   implied f g xs h k d lt e =
       elim (or_cases (not (f (get_or xs k d))) (g (get_or xs k d)) (passes_at (λ x. not (f x) || g x) xs k d h lt)) [
-        inl x ↦ absurd (false≢true (sym (ap not e) ∙ x))
-      | inr x ↦ x
+        | inl x ↦ absurd (false≢true (sym (ap not e) ∙ x))
+        | inr x ↦ x
       ]
 
   unfit : (f g : X → Bool) (xs : List X) → All (λ x. f x ≡ false) xs → list_all (λ x. not (f x) || g x) xs ≡ true
   unfit f g [] h = refl
   unfit f g (x ∷ xs) h =
       and_both (not (f x) || g x) (list_all (λ y. not (f y) || g y) xs) (or_left (not (f x)) (g x) (ap not (All-head (λ y. f y ≡ false) x xs h)))
-        (unfit f g xs (All-tail (λ y. f y ≡ false) x xs h))
+      (unfit f g xs (All-tail (λ y. f y ≡ false) x xs h))
 
   found_by : (p : X → Bool) (x : X) (xs : List X) (b : Bool) → p x ≡ b → (b ≡ false → position_or_len p xs < length xs) → position_or_len p (x ∷ xs) < suc (length xs)
   found_by p x xs true h later =
@@ -121,13 +121,13 @@ module _ {X : Type 0} where
   pub turn : (p : X → Bool) (xs : List X) (k n : ℕ) (x d : X) → k < length xs → get_or xs k d ≡ x → p x ≡ false → k + position_or_len p (drop k xs) ≡ n → (k + 1) + position_or_len p (drop (k + 1) xs) ≡ n
   turn p xs k n x d lt e fails h =
       let whole : position_or_len p (drop k xs) ≡ 1 + position_or_len p (drop (k + 1) xs) =
-        ap (position_or_len p) (drop_more xs k d lt ∙ ap (λ y. y ∷ drop (k + 1) xs) e) ∙ ap (λ b. cond (not b) (1 + position_or_len p (drop (k + 1) xs)) 0) fails in
+      ap (position_or_len p) (drop_more xs k d lt ∙ ap (λ y. y ∷ drop (k + 1) xs) e) ∙ ap (λ b. cond (not b) (1 + position_or_len p (drop (k + 1) xs)) 0) fails in
       omega (arith, whole, h)
 
   pub hit : (p : X → Bool) (xs : List X) (k : ℕ) (x d : X) → k < length xs → get_or xs k d ≡ x → p x ≡ true → k + position_or_len p (drop k xs) ≡ position_or_len p xs → Some k ≡ position p xs
   hit p xs k x d lt e ok h =
       let none : position_or_len p (drop k xs) ≡ 0 =
-        ap (position_or_len p) (drop_more xs k d lt ∙ ap (λ y. y ∷ drop (k + 1) xs) e) ∙ ap (λ b. cond (not b) (1 + position_or_len p (drop (k + 1) xs)) 0) ok in
+      ap (position_or_len p) (drop_more xs k d lt ∙ ap (λ y. y ∷ drop (k + 1) xs) e) ∙ ap (λ b. cond (not b) (1 + position_or_len p (drop (k + 1) xs)) 0) ok in
       let here : position_or_len p xs ≡ k = omega (arith, none, h) in
       sym (ap (λ n. cond (ltb n (length xs)) (Some n) None) here ∙ ap (λ b. cond b (Some k) None) (lt-ltb k (length xs) lt))
 
@@ -146,23 +146,43 @@ one_more : (x : List ArrayType) (xs : List (List ArrayType)) (fs : List Form) (b
     → NoneFits xs fs ⊎ SomeLeast xs fs → NoneFits (x ∷ xs) fs ⊎ SomeLeast (x ∷ xs) fs
 one_more x xs fs false e c (inl none) = inl (All-cons (λ types. all_have_forms types fs ≡ false) x xs e none)
 one_more x xs fs false e c (inr w) =
-    inr (suc w.0, omega (arith, w.1), w.2, and_both (not (all_have_forms x fs) || all_below (get_or xs w.0 []) x) (below_others xs fs (get_or xs w.0 []))
-      (or_left (not (all_have_forms x fs)) (all_below (get_or xs w.0 []) x) (ap not e)) w.3)
+    inr (
+      suc w.0,
+      omega (arith, w.1),
+      w.2,
+      and_both (not (all_have_forms x fs) || all_below (get_or xs w.0 []) x) (below_others xs fs (get_or xs w.0 []))
+          (or_left (not (all_have_forms x fs)) (all_below (get_or xs w.0 []) x) (ap not e)) w.3,
+    )
 one_more x xs fs true e c (inl none) =
-    inr (0, omega arith, e, and_both (not (all_have_forms x fs) || all_below x x) (below_others xs fs x)
-      (or_right (not (all_have_forms x fs)) (all_below x x) (all_below_itself x)) (unfit (λ types. all_have_forms types fs) (all_below x) xs none))
+    inr (
+      0,
+      omega arith,
+      e,
+      and_both (not (all_have_forms x fs) || all_below x x) (below_others xs fs x)
+          (or_right (not (all_have_forms x fs)) (all_below x x) (all_below_itself x)) (unfit (λ types. all_have_forms types fs) (all_below x) xs none),
+    )
 one_more x xs fs true e c (inr w) =
     let least = get_or xs w.0 [] in
     elim (comparable x least fs (passes_at (compatible x) xs w.0 [] c w.1) e w.2) [
-      inl le ↦ inr (0, omega arith, e, and_both (not (all_have_forms x fs) || all_below x x) (below_others xs fs x)
-        (or_right (not (all_have_forms x fs)) (all_below x x) (all_below_itself x))
-        (all_weaker (λ others. not (all_have_forms others fs) || all_below least others) (λ others. not (all_have_forms others fs) || all_below x others)
-          (λ others h. elim (or_cases (not (all_have_forms others fs)) (all_below least others) h) [
-            inl y ↦ or_left (not (all_have_forms others fs)) (all_below x others) y
-          | inr y ↦ or_right (not (all_have_forms others fs)) (all_below x others) (all_below_trans x least others le y)
-          ]) xs w.3))
-    | inr le ↦ inr (suc w.0, omega (arith, w.1), w.2, and_both (not (all_have_forms x fs) || all_below least x) (below_others xs fs least)
-        (or_right (not (all_have_forms x fs)) (all_below least x) le) w.3)
+      | inl le ↦ inr (
+        0,
+        omega arith,
+        e,
+        and_both (not (all_have_forms x fs) || all_below x x) (below_others xs fs x)
+            (or_right (not (all_have_forms x fs)) (all_below x x) (all_below_itself x))
+            (all_weaker (λ others. not (all_have_forms others fs) || all_below least others) (λ others. not (all_have_forms others fs) || all_below x others)
+            (λ others h. elim (or_cases (not (all_have_forms others fs)) (all_below least others) h) [
+              | inl y ↦ or_left (not (all_have_forms others fs)) (all_below x others) y
+              | inr y ↦ or_right (not (all_have_forms others fs)) (all_below x others) (all_below_trans x least others le y)
+            ]) xs w.3),
+      )
+      | inr le ↦ inr (
+        suc w.0,
+        omega (arith, w.1),
+        w.2,
+        and_both (not (all_have_forms x fs) || all_below least x) (below_others xs fs least)
+            (or_right (not (all_have_forms x fs)) (all_below least x) le) w.3,
+      )
     ]
 
 -- among lists that may stand together, either none contains the forms or one of them is below all that do
@@ -170,14 +190,14 @@ none_or_least : (lists : List (List ArrayType)) (fs : List Form) → all_compati
 none_or_least [] fs h = inl (All-nil (λ types. all_have_forms types fs ≡ false))
 none_or_least (x ∷ xs) fs h =
     one_more x xs fs (all_have_forms x fs) refl (and_left (list_all (compatible x) xs) (all_compatible xs) h)
-      (none_or_least xs fs (and_right (list_all (compatible x) xs) (all_compatible xs) h))
+    (none_or_least xs fs (and_right (list_all (compatible x) xs) (all_compatible xs) h))
 
 pub least_is : (lists : List (List ArrayType)) (fs : List Form) (place : ℕ) → least_place lists fs ≡ Some place → IsLeastPlace lists fs place
 least_is lists fs place e = record {
   there = (position-Some (is_least lists fs) lists place [] e).0;
   fits = λ d. and_left (all_have_forms (get_or lists place d) fs) (below_others lists fs (get_or lists place d)) (position-Some (is_least lists fs) lists place d e).1;
   least = λ d. implied (λ types. all_have_forms types fs) (all_below (get_or lists place d)) lists
-    (and_right (all_have_forms (get_or lists place d) fs) (below_others lists fs (get_or lists place d)) (position-Some (is_least lists fs) lists place d e).1);
+      (and_right (all_have_forms (get_or lists place d) fs) (below_others lists fs (get_or lists place d)) (position-Some (is_least lists fs) lists place d e).1);
 }
 
 pub if_least : (lists : List (List ArrayType)) (fs : List Form) (r : Option ℕ) → r ≡ least_place lists fs → IfSome r (IsLeastPlace lists fs)
@@ -191,7 +211,7 @@ none_of : (lists : List (List ArrayType)) (fs : List Form) → None ≡ least_pl
 none_of lists fs e (inl none) = none
 none_of lists fs e (inr w) =
     absurd (no_option _ (e ∙ some_found (is_least lists fs) lists w.0 [] w.1
-      (and_both (all_have_forms (get_or lists w.0 []) fs) (below_others lists fs (get_or lists w.0 [])) w.2 w.3)))
+    (and_both (all_have_forms (get_or lists w.0 []) fs) (below_others lists fs (get_or lists w.0 [])) w.2 w.3)))
 
 -- no list contains the forms exactly where there is no least one
 pub none_exactly : (lists : List (List ArrayType)) (fs : List Form) (r : Option ℕ) → r ≡ least_place lists fs → all_compatible lists ≡ true → (IsNone r → NoneFits lists fs) × (NoneFits lists fs → IsNone r)

@@ -27,8 +27,8 @@ inclusion a b h form e =
     let bases = same-base a.base b.base (and_left (same_base a.base b.base) (part_below a.part b.part) h) in
     let parts = and_right (same_base a.base b.base) (part_below a.part b.part) h in
     and_both (same_base b.base form.base) (has_shape b.part form.shape)
-      (subst (λ x. same_base x form.base ≡ true) bases (and_left (same_base a.base form.base) (has_shape a.part form.shape) e))
-      (included a.part b.part parts form.shape (and_right (same_base a.base form.base) (has_shape a.part form.shape) e))
+    (subst (λ x. same_base x form.base ≡ true) bases (and_left (same_base a.base form.base) (has_shape a.part form.shape) e))
+    (included a.part b.part parts form.shape (and_right (same_base a.base form.base) (has_shape a.part form.shape) e))
 
 form_in : (a : ArrayType) (s : List ℕ) → has_shape a.part s ≡ true → has_form a (record { base = a.base; shape = s }) ≡ true
 form_in a s h = and_both (same_base a.base a.base) (has_shape a.part s) (base_itself a.base) h
@@ -39,7 +39,7 @@ below_from_inclusion a b h =
     let there = h (record { base = a.base; shape = w.0 }) (form_in a w.0 w.1) in
     let bases = same-base b.base a.base (and_left (same_base b.base a.base) (has_shape b.part w.0) there) in
     and_both (same_base a.base b.base) (part_below a.part b.part) (subst (λ x. same_base a.base x ≡ true) (sym bases) (base_itself a.base))
-      (below_from_included a.part b.part (λ s e. and_right (same_base b.base a.base) (has_shape b.part s) (h (record { base = a.base; shape = s }) (form_in a s e))))
+    (below_from_included a.part b.part (λ s e. and_right (same_base b.base a.base) (has_shape b.part s) (h (record { base = a.base; shape = s }) (form_in a s e))))
 
 pub common_form : (a b : ArrayType) → overlap a b ≡ true → Overlap a b
 common_form a b h =
@@ -53,8 +53,8 @@ overlap_from_common a b w =
     let first = same-base a.base form.base (and_left (same_base a.base form.base) (has_shape a.part form.shape) w.1) in
     let second = same-base b.base form.base (and_left (same_base b.base form.base) (has_shape b.part form.shape) w.2) in
     and_both (same_base a.base b.base) (parts_overlap a.part b.part)
-      (subst (λ x. same_base a.base x ≡ true) (first ∙ sym second) (base_itself a.base))
-      (overlap_from_share a.part b.part (form.shape, and_right (same_base a.base form.base) (has_shape a.part form.shape) w.1, and_right (same_base b.base form.base) (has_shape b.part form.shape) w.2))
+    (subst (λ x. same_base a.base x ≡ true) (first ∙ sym second) (base_itself a.base))
+    (overlap_from_share a.part b.part (form.shape, and_right (same_base a.base form.base) (has_shape a.part form.shape) w.1, and_right (same_base b.base form.base) (has_shape b.part form.shape) w.2))
 
 base_sym : (a b : Base) → same_base a b ≡ true → same_base b a ≡ true
 base_sym Int Int h = refl
@@ -67,8 +67,8 @@ pub one_within : (a b : ArrayType) → overlap a b ≡ true → (below a b ≡ t
 one_within a b h =
     let bases = and_left (same_base a.base b.base) (parts_overlap a.part b.part) h in
     elim (one_below a.part b.part (and_right (same_base a.base b.base) (parts_overlap a.part b.part) h)) [
-      inl e ↦ inl (and_both (same_base a.base b.base) (part_below a.part b.part) bases e)
-    | inr e ↦ inr (and_both (same_base b.base a.base) (part_below b.part a.part) (base_sym a.base b.base bases) e)
+      | inl e ↦ inl (and_both (same_base a.base b.base) (part_below a.part b.part) bases e)
+      | inr e ↦ inr (and_both (same_base b.base a.base) (part_below b.part a.part) (base_sym a.base b.base bases) e)
     ]
 
 pub overlap_from_below : (a b : ArrayType) → below a b ≡ true → overlap a b ≡ true
@@ -99,8 +99,8 @@ join_is a b r h j = record {
   first = inclusion a (record { base = a.base; part = r }) (and_both (same_base a.base a.base) (part_below a.part r) (base_itself a.base) j.first);
   second = inclusion b (record { base = a.base; part = r }) (and_both (same_base b.base a.base) (part_below b.part r) (base_sym a.base b.base h) j.second);
   least = λ u f g.
-    let x = below_from_inclusion a u f in
-    let y = below_from_inclusion b u g in
-    inclusion (record { base = a.base; part = r }) u (and_both (same_base a.base u.base) (part_below r u.part) (and_left (same_base a.base u.base) (part_below a.part u.part) x)
+      let x = below_from_inclusion a u f in
+      let y = below_from_inclusion b u g in
+      inclusion (record { base = a.base; part = r }) u (and_both (same_base a.base u.base) (part_below r u.part) (and_left (same_base a.base u.base) (part_below a.part u.part) x)
       (j.least u.part (and_right (same_base a.base u.base) (part_below a.part u.part) x) (and_right (same_base b.base u.base) (part_below b.part u.part) y)));
 }

@@ -78,9 +78,15 @@ fn the_join_is_the_least_above_both(rt: HostRuntime) -> Result<(), Fail> {
 fn the_least_instance_is_picked(rt: HostRuntime) -> Result<(), Fail> {
     let alloc = rt.alloc();
     let instances = vec![in alloc;
-        Instance { params: vec![in alloc; int(Part::Star)]? },
-        Instance { params: vec![in alloc; known(alloc, &[])]? },
-        Instance { params: vec![in alloc; int(Part::Rank(1))]? }
+        Instance {
+            params: vec![in alloc; int(Part::Star)]?
+        },
+        Instance {
+            params: vec![in alloc; known(alloc, &[])]?
+        },
+        Instance {
+            params: vec![in alloc; int(Part::Rank(1))]?
+        },
     ]?;
     let cases: [(&[i32], usize); 3] = [(&[], 1), (&[2], 2), (&[2, 2], 0)];
     for (extents, want) in cases {

@@ -210,7 +210,7 @@ bound_beyond = refl
 
 -- a fault of a cell that no one selects is kept
 unselected_fault : run (main_of [] (stmts (set (codes "a") (with_in (over 0 16 s (binary Div (num 100) (binary Sub iv0 (num 15) s) (site 2 39)) ∷ []) (genarray (vec (16 ∷ [])) (given (num 0)) s))
-      ∷ set (codes "b") (with_in (over 0 10 s (select (var (codes "a")) (var iv) s) ∷ []) (genarray (vec (10 ∷ [])) (given (num 0)) s)) ∷ [])) (var (codes "b")) ∷ []) []
+    ∷ set (codes "b") (with_in (over 0 10 s (select (var (codes "a")) (var iv) s) ∷ []) (genarray (vec (10 ∷ [])) (given (num 0)) s)) ∷ [])) (var (codes "b")) ∷ []) []
     ≡ fault F2 (site 2 39)
 unfolding int_wrap
 unselected_fault = refl
@@ -248,15 +248,15 @@ neighbours = plus (plus (plus (plus (plus (plus (plus (a_at (less i (num 1)) (le
 abbrev life : FunctionTree
 life = function false (codes "life") (param (codes "a") (ints (Rank 2)) ∷ []) (ints (Rank 2)) no_stmts
     (with_in (gen (at (vec (1 ∷ 1 ∷ []))) true (parts (target (codes "i") ∷ target (codes "j") ∷ [])) (at (less (builtin Shape (exprs (var (codes "a") ∷ [])) s) (num 1))) false left_out left_out
-      (stmts (set (codes "n") neighbours ∷ []))
-      (choice (binary Eq (var (codes "n")) (num 3) s) (num 1) (choice (binary Eq (var (codes "n")) (num 2) s) (a_at i j) (num 0) s) s) s ∷ [])
-      (genarray (builtin Shape (exprs (var (codes "a") ∷ [])) s) (given (num 0)) s))
+    (stmts (set (codes "n") neighbours ∷ []))
+    (choice (binary Eq (var (codes "n")) (num 3) s) (num 1) (choice (binary Eq (var (codes "n")) (num 2) s) (a_at i j) (num 0) s) s) s ∷ [])
+    (genarray (builtin Shape (exprs (var (codes "a") ∷ [])) s) (given (num 0)) s))
 
 abbrev board : List ℕ → ArrayValue
 board ns = record { base = Int; shape = 5 ∷ 5 ∷ []; cells = map pos ns }
 
 blinker : run (life ∷ main_of (param (codes "a") (ints (Rank 2)) ∷ []) (stmts (set (codes "a") (call (codes "life") (exprs (var (codes "a") ∷ [])) s) ∷ [])) (var (codes "a")) ∷ [])
-      (board (0 ∷ 0 ∷ 0 ∷ 0 ∷ 0 ∷ 0 ∷ 0 ∷ 1 ∷ 0 ∷ 0 ∷ 0 ∷ 0 ∷ 1 ∷ 0 ∷ 0 ∷ 0 ∷ 0 ∷ 1 ∷ 0 ∷ 0 ∷ 0 ∷ 0 ∷ 0 ∷ 0 ∷ 0 ∷ []) ∷ [])
+    (board (0 ∷ 0 ∷ 0 ∷ 0 ∷ 0 ∷ 0 ∷ 0 ∷ 1 ∷ 0 ∷ 0 ∷ 0 ∷ 0 ∷ 1 ∷ 0 ∷ 0 ∷ 0 ∷ 0 ∷ 1 ∷ 0 ∷ 0 ∷ 0 ∷ 0 ∷ 0 ∷ 0 ∷ 0 ∷ []) ∷ [])
     ≡ Ok (board (0 ∷ 0 ∷ 0 ∷ 0 ∷ 0 ∷ 0 ∷ 0 ∷ 0 ∷ 0 ∷ 0 ∷ 0 ∷ 1 ∷ 1 ∷ 1 ∷ 0 ∷ 0 ∷ 0 ∷ 0 ∷ 0 ∷ 0 ∷ 0 ∷ 0 ∷ 0 ∷ 0 ∷ 0 ∷ []) ∷ [])
 unfolding int_wrap
 blinker = refl
@@ -349,7 +349,7 @@ too_many_turns_of_do = refl
 -- int f(int n) { return (n == 0 ? 0 : 1 + f(n - 1)); }, from a main that returns f(n)
 abbrev counts_down : Bool → ℕ → List FunctionTree
 counts_down inline n = function inline (codes "f") (param (codes "n") (ints (Known [])) ∷ []) (ints (Known [])) no_stmts
-      (choice (binary Eq (var (codes "n")) (num 0) s) (num 0) (plus (num 1) (call (codes "f") (exprs (less (var (codes "n")) (num 1) ∷ [])) (site 1 41))) s)
+    (choice (binary Eq (var (codes "n")) (num 0) s) (num 0) (plus (num 1) (call (codes "f") (exprs (less (var (codes "n")) (num 1) ∷ [])) (site 1 41))) s)
     ∷ main_of [] no_stmts (call (codes "f") (exprs (num n ∷ [])) (site 2 22)) ∷ []
 
 deep_enough : run (counts_down false 4) [] ≡ one (pos 4)

@@ -9,11 +9,12 @@ one_more : (items : List ArrayValue) (i : ℕ) (item : ArrayValue) (old new cell
     → (old ≡ cells_of_all (take i items)) × All IsFull (take i items) → (new ≡ cells_of_all (take (i + 1) items)) × All IsFull (take (i + 1) items)
 one_more items i item old new cells h is added same full so_far =
     let more : take (i + 1) items ≡ take i items ++ item ∷ [] = take_more items i item h ∙ ap (λ x. take i items ++ x ∷ []) (sym is) in
-    let joined = flat_map_more (λ (a : ArrayValue). a.cells) [] (take i items) item in
-    (added ∙ ap (λ xs. xs ++ cells) so_far.0 ∙ ap (λ xs. cells_of_all (take i items) ++ xs) same ∙ joined ∙ ap cells_of_all (sym more),
-     subst (All IsFull) (sym more) (All-push IsFull (take i items) item so_far.1 full))
+    let joined = flat_map_more (λ (a : ArrayValue). a.cells) [] (take i items) item in (
+      added ∙ ap (λ xs. xs ++ cells) so_far.0 ∙ ap (λ xs. cells_of_all (take i items) ++ xs) same ∙ joined ∙ ap cells_of_all (sym more),
+      subst (All IsFull) (sym more) (All-push IsFull (take i items) item so_far.1 full),
+    )
 
 pub loop-item-preserved : goal.loop-item-preserved
 loop-item-preserved c =
     one_more c.args.items.now c.loop-item.item-index c.item-item.result c.loop-item.cells.items c.extend_from_slice.new.self.items c.cells.result.now c.loop-item-test.true c.item-item.is
-      c.in_ok-extend_from_slice.ensures.items c.cells.ensures.value c.cells.ensures.array.full c.loop-item.invariant
+    c.in_ok-extend_from_slice.ensures.items c.cells.ensures.value c.cells.ensures.array.full c.loop-item.invariant

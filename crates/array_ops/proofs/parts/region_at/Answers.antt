@@ -52,6 +52,8 @@ returns-in-Some c =
     let at = found a index _ _ c.offset.result c.in-Some.start c.in-Some.is c.offset.ensures c.shape-2.ensures c.cells-vector.ensures.value in
     let rest = rest_is a index _ _ c.rest-shape.result c.rest-shape.ensures c.shape-in-Some.ensures c.cells-vector.ensures.value in
     let n = counted c.elements.result (size c.rest-shape.result) c.elements.ensures (omega (arith, at.2, ap size rest, c.cells-cells.ensures.array.most)) in
-    let same = some_value c.elements.result _ c.unwrap.result n c.unwrap.ensures in
-    (vector_index a index c.rank.result c.shape.result.now c.if-rank-gt1.false c.rank.ensures.value c.shape.ensures ∙ at.0 ∙ ap (λ ns. Some (record { start = c.in-Some.start; shape = ns })) (sym rest),
-     omega (arith, same), omega (arith, at.2, same, ap size rest, c.cells-cells.ensures.array.full))
+    let same = some_value c.elements.result _ c.unwrap.result n c.unwrap.ensures in (
+      vector_index a index c.rank.result c.shape.result.now c.if-rank-gt1.false c.rank.ensures.value c.shape.ensures ∙ at.0 ∙ ap (λ ns. Some (record { start = c.in-Some.start; shape = ns })) (sym rest),
+      omega (arith, same),
+      omega (arith, at.2, same, ap size rest, c.cells-cells.ensures.array.full),
+    )

@@ -9,9 +9,10 @@ use Rattle.shape_types.proofs.choice.first_least.Goals as goal
 
 -- the list of types at a place
 types_at : (instances : List Instance) (k : ℕ) (item : Instance) → k < length instances → item ≡ get_or instances k item → (k < length (types_of instances)) × (get_or (types_of instances) k [] ≡ item.params.items)
-types_at instances k item lt e =
-    (omega (arith, length-map instances (λ (i : Instance). i.params.items)),
-     get_or-map (λ (i : Instance). i.params.items) instances k item [] lt ∙ ap (λ (i : Instance). i.params.items) (sym e))
+types_at instances k item lt e = (
+  omega (arith, length-map instances (λ (i : Instance). i.params.items)),
+  get_or-map (λ (i : Instance). i.params.items) instances k item [] lt ∙ ap (λ (i : Instance). i.params.items) (sym e),
+)
 
 pub returns-then-is_least_instance : goal.returns-then-is_least_instance
 returns-then-is_least_instance c =
