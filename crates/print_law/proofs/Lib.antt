@@ -1,0 +1,6 @@
+pub mod Readings
+pub mod LevelReads
+pub mod Spelled
+pub mod Phrases
+pub mod Induction
+pub mod Programs
