@@ -1,11 +1,11 @@
 -- Each tree that fits the grammar is read from its texts, by induction on it.
-use Rattle.std.proofs.Common.{ℕ, zero, suc, ◌≡◌, Bool, true, false, List, [], ◌∷◌, ℤ, pos, negsuc, refl, sym, ap, ◌∙◌}
+use Rattle.std.proofs.Common.{ℕ, List, pos, negsuc}
 use Rattle.sac_ast.specs.declared.Builtin.TheVariants as built
 use Rattle.sac_ast.specs.Tree as tree
 use Rattle.sac_ast.specs.Tree.{IndexTree, named, parts, Expr, Exprs, no_exprs, expr_and, MaybeExpr, left_out, given, Stmt, Block, no_stmts, stmt_and, BoundTree, Gen, gen, Gens, no_gens, gen_and, OperationTree}
 use Rattle.sac_print.specs.declared.level.Level.TheVariants as level
-use Rattle.print_law.specs.Fits.{Fits, FitAll, FitsMaybe, FitsStmt, FitBlock, FitsBound, FitsGen, FitGens, FitsOperation}
-use Rattle.print_law.proofs.Spelled.{Spelled, number_is, truth_is, variable_is, ListRead, nothing_more, one_more, WholeList, whole_list, IndexRead, list_index, single, select_spelled, unary_spelled, binary_spelled, choice_spelled, MaybeListRead, empty_list, some_list, literal_spelled, call_spelled, dim_spelled, shape_spelled, reshape_spelled}
+use Rattle.print_law.proofs.Fits.{Fits, FitAll, FitsMaybe, FitsStmt, FitBlock, FitsBound, FitsGen, FitGens, FitsOperation}
+use Rattle.print_law.proofs.Spelled.{Spelled, number_is, truth_is, variable_is, ListRead, nothing_more, one_more, whole_list, list_index, single, select_spelled, unary_spelled, binary_spelled, choice_spelled, empty_list, some_list, literal_spelled, call_spelled, dim_spelled, shape_spelled, reshape_spelled}
 use Rattle.print_law.proofs.Phrases.{BoundPhrase, dot_read, given_read, index_read, MaybeRead, left_out_read, there_read, StmtPhrase, BlockRead, no_stmts_read, stmts_read, assign_read, replace_read, if_read, while_read, do_read, GenPhrase, gen_read, GensRead, no_gens_read, gens_read, OperationPhrase, genarray_read, default_read, modarray_read, fold_read, with_spelled}
 
 mutual

@@ -1,22 +1,22 @@
 -- Phrases of each level, from phrases of tighter levels and with operators.
-use Rattle.std.proofs.Common.{ℕ, zero, suc, ◌≡◌, ◌≤◌, ◌<◌, ◌+◌, ◌-◌, Bool, true, false, List, [], ◌∷◌, ◌++◌, map, ◌⊎◌, inl, inr, IsTrue, codes, refl, sym, ap, ◌∙◌, subst, append_assoc, append-nil, arith, nat_lt}
+use Rattle.std.proofs.Common.{ℕ, zero, suc, ◌≡◌, ◌≤◌, ◌<◌, ◌+◌, ◌-◌, Bool, true, false, List, [], ◌∷◌, ◌++◌, inl, inr, codes, refl, sym, ap, ◌∙◌, subst, append_assoc, append-nil, arith, nat_lt}
 use Rattle.std.specs.Bool.{⊤}
 use Rattle.std.proofs.lemmas.Grind.{common_steps}
 use Rattle.sac_base.specs.declared.site.Site.{Site}
 use Rattle.sac_base.specs.declared.op.Op.{Op}
 use Rattle.sac_base.specs.declared.op.Op.TheVariants.{Add, Sub, Mul, Div, Rem, Min, Max, Neg, Not, Eq, Ne, Lt, Le, Gt, Ge, And, Or}
 use Rattle.sac_ast.specs.Texts.{Lexeme}
-use Rattle.sac_ast.specs.Shape.{Shape, seq, ref, many, MatchesEach, Matches}
-use Rattle.sac_ast.specs.Grammar.{Nonterminal, expression, disjunction, conjunction, equality, comparison, sum, product, prefix, postfix, primary, Rule, Tree, rule, action, V, IsPhrase, one_of, chosen, chain, selects, index_of, items}
+use Rattle.sac_ast.specs.Shape.{MatchesEach}
+use Rattle.sac_ast.specs.Grammar.{expression, disjunction, conjunction, equality, comparison, sum, product, prefix, postfix, primary, Rule, Tree, rule, action, V, IsPhrase, one_of, chosen, chain}
 use Rattle.sac_ast.specs.Tree as tree
 use Rattle.sac_ast.specs.Tree.{Expr}
 use Rattle.sac_grammar.proofs.Levels.{derives_rule}
 use Rattle.sac_print.specs.declared.level.Level.{Level}
 use Rattle.sac_print.specs.declared.level.Level.TheVariants as level
 use Rattle.sac_print.specs.Texts.{Texts, ◌⋅◌, one}
-use Rattle.sac_print.specs.Operators.{operator_text, level_of, tighter, tightness, is_looser, opening, closing, is_function}
+use Rattle.sac_print.specs.Operators.{operator_text, level_of, tighter, tightness, is_looser, opening, closing}
 use Rattle.print_law.specs.Bare.{nowhere, bare}
-use Rattle.print_law.specs.Fits.{is_infix, is_prefix}
+use Rattle.print_law.proofs.Fits.{is_infix, is_prefix}
 use Rattle.print_law.proofs.Readings.{texts_of, Reading, Reads, Phrase, split, ◌⨟◌, left, right, token, a_ref, by_rule, alone, no_more, opened, each_more}
 
 -- the texts are a phrase of the nonterminal with this tree, aside from sites
@@ -54,7 +54,7 @@ pub from_primary : (t : Texts) (e : Expr) → Phrase primary t (λ q. bare q ≡
 from_primary t e p = by_rule postfix (no_more (a_ref p)) (λ x is. is)
 
 pub in_parens : (t : Texts) (e : Expr) → At 0 t e → Phrase primary (one (codes "(") ⋅ t ⋅ one (codes ")")) (λ q. bare q ≡ bare e)
-in_parens t e p = by_rule primary (right (right (right (right (right (right (right (left (token (codes "(") ⨟ a_ref p ⨟ token (codes ")"))))))))))  (λ x is. is.1.0)
+in_parens t e p = by_rule primary (right (right (right (right (right (right (right (left (token (codes "(") ⨟ a_ref p ⨟ token (codes ")")))))))))) (λ x is. is.1.0)
 
 tight : (l : Level) → tightness l ≤ 8
 tight level.Expression = omega arith
@@ -106,10 +106,11 @@ module _ (o : List ℕ × Op) (ps : List (List ℕ × Op)) (K K' : List Lexeme �
       let w = opens c.0 x.0 x.1 in
       let v : Expr × List (V Ops × Expr) = (w.0.0, w.0.1 ++ ((make y.0, z.0) ∷ [])) in
       let whole : ts ≡ w.2.0 ++ (w.2.1 ++ c.1) = c.2 ∙ (λ i. w.2.2 i ++ c.1) ∙ append_assoc w.2.0 w.2.1 c.1 in
-      let before : bare (chain o ps w.0.0 w.0.1) ≡ bare a = ap bare (sym w.1) ∙ x.2 in
-      (chain o ps v.0 v.1,
-       closes ts v (w.2.0, w.2.1 ++ c.1, whole, w.2.3, each_more Item w.2.1 w.0.1 c.1 (make y.0, z.0) w.2.4 (d.0, d.1, d.2, y.1, z.1)),
-       ap bare (chain-more o ps w.0.0 w.0.1 (make y.0) z.0) ∙ (λ i. tree.binary (is y.0 i) (before i) (z.2 i) nowhere))
+      let before : bare (chain o ps w.0.0 w.0.1) ≡ bare a = ap bare (sym w.1) ∙ x.2 in (
+        chain o ps v.0 v.1,
+        closes ts v (w.2.0, w.2.1 ++ c.1, whole, w.2.3, each_more Item w.2.1 w.0.1 c.1 (make y.0, z.0) w.2.4 (d.0, d.1, d.2, y.1, z.1)),
+        ap bare (chain-more o ps w.0.0 w.0.1 (make y.0) z.0) ∙ (λ i. tree.binary (is y.0 i) (before i) (z.2 i) nowhere),
+      )
 
 -- for each level: an operator, as it is read there
 

@@ -1,6 +1,9 @@
+pub mod Fits
 pub mod Readings
 pub mod LevelReads
 pub mod Spelled
 pub mod Phrases
 pub mod Induction
 pub mod Programs
+pub mod Given
+pub mod Actions

@@ -1,28 +1,24 @@
 -- The texts of with-loops and statements are read as them, aside from sites.
-use Rattle.std.proofs.Common.{ℕ, zero, suc, ◌≡◌, ◌≤◌, ◌+◌, Bool, true, false, List, [], ◌∷◌, ◌++◌, map, ◌⊎◌, inl, inr, codes, refl, sym, ap, ◌∙◌, subst, append_assoc, append-nil, arith}
-use Rattle.std.specs.Bool.{⊤}
+use Rattle.std.proofs.Common.{ℕ, ◌≡◌, Bool, true, false, List, [], ◌∷◌, ◌++◌, map, inl, inr, codes, refl, sym, ap, ◌∙◌, append_assoc}
 use Rattle.std.specs.List.{AllByRecursion}
 use Rattle.sac_base.specs.declared.site.Site.{Site}
 use Rattle.sac_base.specs.declared.op.Op.{Op}
 use Rattle.sac_base.specs.declared.op.Op.TheVariants.{Add, Sub, Mul, Div, Rem, Min, Max, Neg, Not, Eq, Ne, Lt, Le, Gt, Ge, And, Or}
 use Rattle.sac_ast.specs.declared.Target.{Target}
-use Rattle.sac_ast.specs.Texts.{Lexeme, is_name}
-use Rattle.sac_ast.specs.Shape.{Shape, seq, alt, ref, many, term, name}
-use Rattle.sac_ast.specs.Grammar.{Nonterminal, statement, if_statement, else_branch, block, assign, expression, primary, sum, generator, bound, index, operation, Rule, Tree, rule, action, V, sign, opt, is_there, items, index_of, maybe, block_or_none, body_or_none, concat, target}
+use Rattle.sac_ast.specs.Texts.{Lexeme}
+use Rattle.sac_ast.specs.Shape.{seq, alt, ref, term, name}
+use Rattle.sac_ast.specs.Grammar.{statement, if_statement, else_branch, block, assign, expression, primary, sum, generator, bound, index, operation, Rule, V, sign, opt, is_there, maybe, block_or_none, body_or_none, concat, target}
 use Rattle.sac_ast.specs.View.{block_of, gens_of}
 use Rattle.sac_ast.specs.Tree as tree
 use Rattle.sac_ast.specs.Tree.{IndexTree, named, parts, Expr, MaybeExpr, left_out, given, Stmt, Block, no_stmts, stmt_and, BoundTree, Gen, gen, Gens, no_gens, gen_and, OperationTree}
-use Rattle.sac_print.specs.declared.level.Level.{Level}
 use Rattle.sac_print.specs.declared.level.Level.TheVariants as level
-use Rattle.sac_print.specs.Texts.{Texts, ◌⋅◌, one, comma, commas}
-use Rattle.sac_print.specs.Operators.{operator_text, tightness}
-use Rattle.sac_print.specs.Canonical.{parens, brackets, braces, target_texts, targets_texts, index_texts, bound_sign, spell, spell_index, spell_maybe, spell_stmt, spell_block, spell_else, spell_body, spell_bound, spell_gen, spell_gens, spell_operation, spell_default}
+use Rattle.sac_print.specs.Texts.{Texts, one}
+use Rattle.sac_print.specs.Canonical.{brackets, braces, targets_texts, index_texts, bound_sign, spell, spell_index, spell_maybe, spell_stmt, spell_block, spell_else, spell_body, spell_bound, spell_gen, spell_gens, spell_operation, spell_default}
 use Rattle.sac_print.proofs.Trees.{replace_is, genarray_is}
 use Rattle.print_law.specs.Bare.{nowhere, bare, bare_target, bare_index, bare_maybe, bare_stmt, bare_block, bare_bound, bare_gen, bare_gens, bare_operation}
-use Rattle.print_law.specs.Fits.{is_foldop, FitsTarget, FitTargets, FitsIndex}
-use Rattle.print_law.proofs.Readings.{texts_of, Reading, Reads, Phrase, split, ◌⨟◌, left, right, token, a_name, a_ref, by_rule, alone, no_more, ReadsEach, no_parts, a_part, absent, alike}
-use Rattle.print_law.proofs.LevelReads.{At}
-use Rattle.print_law.proofs.Spelled.{Spelled, IndexRead, Listed, primary_at}
+use Rattle.print_law.proofs.Fits.{is_foldop, FitsTarget, FitTargets, FitsIndex}
+use Rattle.print_law.proofs.Readings.{Reads, Phrase, ◌⨟◌, left, right, token, a_name, a_ref, by_rule, ReadsEach, no_parts, a_part, absent, alike}
+use Rattle.print_law.proofs.Spelled.{Spelled, IndexRead, primary_at}
 
 -- ---- names
 

@@ -1,28 +1,26 @@
 -- The texts of types, functions and programs are read as them, aside from sites.
-use Rattle.std.proofs.Common.{ℕ, zero, suc, ◌≡◌, ◌≤◌, ◌<◌, ◌+◌, ◌^◌, Bool, true, false, List, [], ◌∷◌, ◌++◌, length, map, replicate, ◌⊎◌, inl, inr, codes, refl, sym, ap, ◌∙◌, subst, append_assoc, append-nil, arith}
+use Rattle.std.proofs.Common.{ℕ, zero, suc, ◌≡◌, ◌≤◌, ◌<◌, ◌^◌, Bool, true, false, List, [], ◌∷◌, ◌++◌, length, map, replicate, inl, inr, codes, refl, sym, ap, ◌∙◌, subst, append_assoc, append-nil, arith}
 use Rattle.std.specs.Bool.{⊤}
 use Rattle.std.specs.List.{AllByRecursion}
 use Rattle.std.specs.Fmt.{decimal}
 use Rattle.std.specs.Str.Parse.{digits_value}
 use Rattle.std.proofs.lemmas.Fmt.{decimal_is_IsNumeral}
-use Rattle.sac_base.specs.declared.site.Site.{Site}
 use Rattle.sac_base.specs.declared.base.Base.{Base}
 use Rattle.sac_base.specs.declared.base.Base.TheVariants as base
 use Rattle.sac_base.specs.declared.types.ArrayType.{ArrayType}
 use Rattle.sac_base.specs.declared.types.Part.{Part}
 use Rattle.sac_base.specs.declared.types.Part.TheVariants.{Known, Rank, Plus, Star}
 use Rattle.sac_ast.specs.declared.Param.{Param}
-use Rattle.sac_ast.specs.Texts.{Lexeme, is_name, is_end}
-use Rattle.sac_ast.specs.Shape.{Shape, nothing, seq, alt, ref, many, term, name, number, end}
-use Rattle.sac_ast.specs.Grammar.{Nonterminal, program, function, param, type', statement, expression, Rule, Tree, rule, action, V, sign, opt, up_to, parts, is_there, items, maybe_items, base_of, brackets_part, part_of, concat, Extents, IsProgram}
-use Rattle.sac_ast.specs.Tree as tree
-use Rattle.sac_ast.specs.Tree.{Expr, Exprs, no_exprs, expr_and, FunctionTree, ProgramTree}
+use Rattle.sac_ast.specs.Texts.{Lexeme, is_end}
+use Rattle.sac_ast.specs.Shape.{nothing, seq, alt, ref, many, term, number, end}
+use Rattle.sac_ast.specs.Grammar.{Nonterminal, program, function, param, type', Rule, Tree, V, sign, opt, up_to, parts, is_there, items, maybe_items, base_of, brackets_part, Extents, IsProgram}
+use Rattle.sac_ast.specs.Tree.{Exprs, no_exprs, expr_and, FunctionTree, ProgramTree}
 use Rattle.sac_print.specs.declared.level.Level.TheVariants as level
-use Rattle.sac_print.specs.Texts.{Texts, ◌⋅◌, one, comma, commas}
-use Rattle.sac_print.specs.Canonical.{parens, brackets, braces, spell_block, spell_list, base_text, inside_texts, part_texts, type_texts, param_texts, inline_texts, function_texts, functions_texts, program_texts}
-use Rattle.print_law.specs.Bare.{nowhere, bare_block, bare_list, bare_param, bare_function, bare_program}
-use Rattle.print_law.specs.Fits.{FitsPart, FitsType, FitsParam, FitResults, FitValues, FitsFunction, FitsProgram}
-use Rattle.print_law.proofs.Readings.{texts_of, Reading, Reads, Phrase, split, ◌⨟◌, left, right, token, a_name, a_number, a_ref, by_rule, alone, no_more, ReadsEach, no_parts, a_part, absent, alike, no_tokens, one_token}
+use Rattle.sac_print.specs.Texts.{Texts, one, commas}
+use Rattle.sac_print.specs.Canonical.{parens, spell_block, spell_list, base_text, part_texts, type_texts, param_texts, inline_texts, function_texts, functions_texts, program_texts}
+use Rattle.print_law.specs.Bare.{nowhere, bare_param, bare_function, bare_program}
+use Rattle.print_law.proofs.Fits.{FitsPart, FitsType, FitsParam, FitResults, FitValues, FitsFunction, FitsProgram}
+use Rattle.print_law.proofs.Readings.{texts_of, Reads, Phrase, ◌⨟◌, left, right, token, a_name, a_number, a_ref, by_rule, alone, ReadsEach, no_parts, a_part, absent, alike, one_token}
 use Rattle.print_law.proofs.Spelled.{WholeList, whole_list, number_text}
 use Rattle.print_law.proofs.Induction.{spelled, listed, block}
 

@@ -1,13 +1,13 @@
 -- Right sides that are read from texts, whatever the sites of the tokens.
-use Rattle.std.proofs.Common.{ℕ, zero, suc, ◌≡◌, ◌≤◌, ◌+◌, Bool, true, false, List, [], ◌∷◌, ◌++◌, map, ◌⊎◌, inl, inr, IsTrue, refl, sym, ap, ◌∙◌, subst, append_assoc, append-nil, arith}
+use Rattle.std.proofs.Common.{ℕ, zero, suc, ◌≡◌, true, List, [], ◌∷◌, ◌++◌, map, inl, inr, refl, sym, ap, ◌∙◌, subst, append_assoc, append-nil}
 use Rattle.std.specs.Bool.{⊤}
 use Rattle.std.specs.Str.{bytes_eq}
 use Rattle.std.proofs.lemmas.Slice.Eq.{bytes_eq-Decides}
 use Rattle.sac_ast.specs.Texts.{Lexeme, is_name, is_number}
-use Rattle.sac_ast.specs.Shape.{Terminal, text, name, number, end, matches, Shape, nothing, term, ref, seq, alt, many, Value, MatchesEach, Matches, DerivesIn, Derives}
+use Rattle.sac_ast.specs.Shape.{text, name, number, nothing, term, ref, seq, alt, many, MatchesEach, Matches, DerivesIn}
 use Rattle.sac_ast.specs.Grammar.{Nonterminal, Rule, Tree, rule, action, V, IsPhrase, opt}
 use Rattle.sac_grammar.proofs.Levels.{derives_rule}
-use Rattle.sac_print.specs.Texts.{Texts, one}
+use Rattle.sac_print.specs.Texts.{Texts}
 
 abbrev pub texts_of : List Lexeme → Texts
 texts_of ts = map (λ (t : Lexeme). t.text) ts

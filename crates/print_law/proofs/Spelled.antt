@@ -1,34 +1,32 @@
 -- The texts of each tree are read as it, aside from sites.
-use Rattle.std.proofs.Common.{ℕ, zero, suc, ◌≡◌, ◌≤◌, ◌<◌, ◌+◌, ◌-◌, ◌^◌, Bool, true, false, ◌&&◌, List, [], ◌∷◌, ◌++◌, map, ◌⊎◌, inl, inr, IsTrue, codes, refl, sym, ap, ◌∙◌, subst, append_assoc, append-nil, arith, ℤ, pos, negsuc}
-use Rattle.std.specs.Bool.{⊤}
-use Rattle.std.specs.Fmt.{decimal, signed_decimal}
+use Rattle.std.proofs.Common.{ℕ, ◌≡◌, ◌<◌, ◌^◌, Bool, true, false, ◌&&◌, List, [], ◌∷◌, ◌++◌, map, ◌⊎◌, inl, inr, codes, refl, sym, ap, ◌∙◌, subst, append_assoc, append-nil, arith, pos}
+use Rattle.std.specs.Fmt.{decimal}
 use Rattle.std.specs.Str.Parse.{digits_value, IsNumeral}
-use Rattle.std.proofs.lemmas.Str.Parse.{numerals_by_value, tells_digits, tells_all_ascii_digits}
+use Rattle.std.proofs.lemmas.Str.Parse.{numerals_by_value, tells_all_ascii_digits}
 use Rattle.std.proofs.lemmas.Fmt.{decimal_is_IsNumeral}
 use Rattle.std.specs.Char.{is_ascii_digit}
 use Rattle.std.specs.Str.{all_ascii_digits}
 use Rattle.sac_base.specs.declared.site.Site.{Site}
 use Rattle.sac_base.specs.declared.op.Op.{Op}
 use Rattle.sac_base.specs.declared.op.Op.TheVariants.{Add, Sub, Mul, Div, Rem, Min, Max, Neg, Not, Eq, Ne, Lt, Le, Gt, Ge, And, Or}
-use Rattle.sac_ast.specs.declared.Builtin.{Builtin}
 use Rattle.sac_ast.specs.declared.Builtin.TheVariants as built
 use Rattle.sac_ast.specs.Texts.{Lexeme, is_name, is_number}
-use Rattle.sac_ast.specs.Shape.{Shape, seq, ref, many, term, MatchesEach, Matches}
-use Rattle.sac_ast.specs.Grammar.{Nonterminal, expression, postfix, primary, sum, Rule, Tree, rule, action, V, IsPhrase, sign, opt, selects, index_of, items, maybe_items}
+use Rattle.sac_ast.specs.Shape.{seq, ref, many}
+use Rattle.sac_ast.specs.Grammar.{expression, postfix, primary, Rule, Tree, rule, action, V, sign, opt, selects, index_of, items, maybe_items}
 use Rattle.sac_ast.specs.View.{exprs_of}
 use Rattle.sac_ast.specs.Tree as tree
 use Rattle.sac_ast.specs.Tree.{Expr, Exprs, no_exprs, expr_and}
 use Rattle.sac_grammar.proofs.Levels.{derives_rule}
 use Rattle.sac_print.specs.declared.level.Level.{Level}
 use Rattle.sac_print.specs.declared.level.Level.TheVariants as level
-use Rattle.sac_print.specs.Texts.{Texts, ◌⋅◌, one, comma}
+use Rattle.sac_print.specs.Texts.{Texts, ◌⋅◌, one}
 use Rattle.sac_print.specs.Operators.{operator_text, level_of, tighter, tightness, is_looser, opening, closing, is_function}
-use Rattle.sac_print.specs.Canonical.{parens, brackets, spell, spell_list, spell_more, spell_index}
+use Rattle.sac_print.specs.Canonical.{brackets, spell, spell_list, spell_more, spell_index}
 use Rattle.sac_print.proofs.Trees.{infix_is, select_is}
 use Rattle.print_law.specs.Bare.{nowhere, bare, bare_list}
-use Rattle.print_law.specs.Fits.{is_infix, is_binary, is_prefix}
-use Rattle.print_law.proofs.Readings.{texts_of, Reading, Reads, Phrase, split, ◌⨟◌, left, right, token, a_name, a_number, a_ref, by_rule, alone, no_more, opened, each_more, ReadsEach, no_parts, a_part, such, absent, alike}
-use Rattle.print_law.proofs.LevelReads.{At, looser, from_primary, fit, operated, negated, loosest, anywhere}
+use Rattle.print_law.proofs.Fits.{is_infix, is_binary, is_prefix}
+use Rattle.print_law.proofs.Readings.{Reading, Reads, Phrase, split, ◌⨟◌, left, right, token, a_name, a_number, a_ref, by_rule, alone, no_more, opened, each_more, ReadsEach, no_parts, a_part, absent, alike}
+use Rattle.print_law.proofs.LevelReads.{At, from_primary, fit, operated, negated, anywhere}
 
 -- the phrase of this level, where it is wanted
 abbrev pub Spelled : Expr → Type 0
@@ -122,10 +120,11 @@ selected t a i p q = record {
       let w = opened postfix c.0 x.0 x.1 in
       let v : V (rule postfix) = (w.0.0, w.0.1 ++ (y.0 ∷ [])) in
       let whole : ts ≡ w.2.0 ++ (w.2.1 ++ c.1) = c.2 ∙ (λ j. w.2.2 j ++ c.1) ∙ append_assoc w.2.0 w.2.1 c.1 in
-      let before : bare (selects w.0.0 w.0.1) ≡ bare a = ap bare (sym w.1) ∙ x.2 in
-      (selects v.0 v.1,
-       derives_rule Tree (λ _. []) rule action postfix ts v (w.2.0, w.2.1 ++ c.1, whole, w.2.3, each_more (Reading (seq (sign (codes "[")) (seq Listed (sign (codes "]"))))) w.2.1 w.0.1 c.1 y.0 w.2.4 y.1),
-       ap bare (selects-more w.0.0 w.0.1 y.0) ∙ (λ j. tree.select (before j) (y.2.1.0 y.0.0.site j) nowhere));
+      let before : bare (selects w.0.0 w.0.1) ≡ bare a = ap bare (sym w.1) ∙ x.2 in (
+        selects v.0 v.1,
+        derives_rule Tree (λ _. []) rule action postfix ts v (w.2.0, w.2.1 ++ c.1, whole, w.2.3, each_more (Reading (seq (sign (codes "[")) (seq Listed (sign (codes "]"))))) w.2.1 w.0.1 c.1 y.0 w.2.4 y.1),
+        ap bare (selects-more w.0.0 w.0.1 y.0) ∙ (λ j. tree.select (before j) (y.2.1.0 y.0.0.site j) nowhere),
+      );
 }
 
 pub select_spelled : (a i : Expr) (s : Site) → Spelled a → IndexRead i → Spelled (tree.select a i s)

@@ -1,5 +1,5 @@
 -- Trees aside from sites: each site is replaced by one and the same.
-use Rattle.std.specs.Prelude.{List, [], ◌∷◌, map}
+use Rattle.std.specs.Prelude.{map}
 use Rattle.sac_base.specs.declared.site.Site.{Site}
 use Rattle.sac_ast.specs.declared.Target.{Target}
 use Rattle.sac_ast.specs.declared.Param.{Param}

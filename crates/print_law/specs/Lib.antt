@@ -1,2 +1,2 @@
 pub mod Bare
-pub mod Fits
+pub mod Numbers

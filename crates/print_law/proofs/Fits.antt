@@ -1,8 +1,8 @@
 -- What the grammar asks of the parts of a tree: names and numbers that are spelled as tokens, operators in their places, and as many parts as each construct has.
-use Rattle.std.specs.Prelude.{ℕ, zero, suc, ◌≡◌, ◌≤◌, ◌<◌, ◌^◌, ◌+◌, Bool, true, false, List, [], ◌∷◌, length, ⊤}
+use Rattle.std.specs.Prelude.{ℕ, suc, ◌≡◌, ◌≤◌, ◌<◌, ◌^◌, Bool, true, false, List, [], ◌∷◌, length, ⊤}
 use Rattle.std.specs.List.{AllByRecursion}
 use Rattle.sac_base.specs.declared.op.Op.{Op}
-use Rattle.sac_base.specs.declared.op.Op.TheVariants.{Add, Sub, Mul, Div, Rem, Min, Max, Neg, Not, Eq, Ne, Lt, Le, Gt, Ge, And, Or}
+use Rattle.sac_base.specs.declared.op.Op.TheVariants.{Add, Mul, Min, Max, Neg, Not, And, Or}
 use Rattle.sac_base.specs.declared.types.ArrayType.{ArrayType}
 use Rattle.sac_base.specs.declared.types.Part.{Part}
 use Rattle.sac_base.specs.declared.types.Part.TheVariants.{Known, Rank, Plus, Star}
