@@ -14,8 +14,7 @@ use Rattle.sac_ast.specs.View.{exprs_of, block_of, gens_of}
 use Rattle.sac_ast.specs.Tree as tree
 use Rattle.sac_ast.specs.Tree.{Expr, Exprs, no_exprs, expr_and, Stmt, Block, no_stmts, stmt_and, Gen}
 use Rattle.print_law.proofs.Fits.{Fits, FitAll, FitsMaybe, FitsStmt, FitBlock, FitsBound, FitsGen, FitGens, FitsOperation, FitsIndex, FitsTarget, FitsFunction, FitsProgram, FitsParam, FitsType, is_binary, is_prefix, is_foldop}
-use Rattle.print_law.proofs.Given.{FitsValue, fits_in}
-use Rattle.print_law.specs.Numbers.{IsSmall}
+use Rattle.print_law.proofs.Given.{FitsValue, IsProper, fits_in}
 
 abbrev pub FitsTree : (k : Nonterminal) → Tree k → Type 0
 FitsTree program p = FitsProgram p
@@ -233,5 +232,5 @@ acts operation (inr (inl (t, (_, (e, _))))) h = h.1.1.0
 acts operation (inr (inr (t, (_, ((o, (_, e)), _))))) h = (fold_ok o, h.1.1.0.1.1)
 
 -- the tree of tokens whose numbers are within the limit fits
-pub every_tree_fits : (p : tree.ProgramTree) (ts : List Lexeme) → AllByRecursion IsSmall ts → IsProgram ts p → FitsProgram p
+pub every_tree_fits : (p : tree.ProgramTree) (ts : List Lexeme) → AllByRecursion IsProper ts → IsProgram ts p → FitsProgram p
 every_tree_fits p ts small d = fits_in FitsTree acts d.0 program ts p small d.1

@@ -12,6 +12,7 @@ use Rattle.sac_ast.specs.declared.Builtin.TheVariants.{Dim, Shape, Reshape}
 use Rattle.sac_ast.specs.declared.Target.{Target}
 use Rattle.sac_ast.specs.declared.Param.{Param}
 use Rattle.sac_ast.specs.Texts.{is_name}
+use Rattle.sac_lex.specs.Spelling.{IsRun, is_letter, is_word_byte}
 use Rattle.sac_ast.specs.Tree
 use Rattle.sac_ast.specs.Tree.{IndexTree, named, parts, Expr, Exprs, no_exprs, expr_and, MaybeExpr, left_out, given, Stmt, Block, no_stmts, stmt_and, BoundTree, Gen, gen, Gens, no_gens, gen_and, OperationTree, FunctionTree, ProgramTree}
 
@@ -42,8 +43,14 @@ is_foldop And = true
 is_foldop Or = true
 is_foldop o = false
 
+-- a name that the lexer gives
+pub record FitsName (x : List ℕ) : Type 0 where
+  pub is : is_name x ≡ true
+  pub run : IsRun is_letter is_word_byte x
+  pub short : length x ≤ 64
+
 abbrev pub FitsTarget : Target → Type 0
-FitsTarget t = is_name t.name ≡ true
+FitsTarget t = FitsName t.name
 
 -- one at least
 abbrev pub FitTargets : List Target → Type 0
@@ -67,13 +74,13 @@ abbrev mutual
   pub Fits : Expr → Type 0
   Fits (Tree.number n s) = IsExtent n
   Fits (Tree.truth b s) = ⊤
-  Fits (Tree.variable x s) = is_name x ≡ true
+  Fits (Tree.variable x s) = FitsName x
   Fits (Tree.literal es s) = FitAll es
   Fits (Tree.unary o e s) = (is_prefix o ≡ true) × Fits e
   Fits (Tree.binary o a b s) = (is_binary o ≡ true) × Fits a × Fits b
   Fits (Tree.choice c a b s) = Fits c × Fits a × Fits b
   Fits (Tree.select a i s) = Fits a × Fits i
-  Fits (Tree.call x es s) = (is_name x ≡ true) × FitAll es
+  Fits (Tree.call x es s) = FitsName x × FitAll es
   Fits (Tree.builtin b es s) = (count es ≡ arity b) × FitAll es
   Fits (Tree.with_loop gs o s) = FitGens gs × FitsOperation o
 
@@ -122,7 +129,7 @@ abbrev pub FitsType : ArrayType → Type 0
 FitsType ty = FitsPart ty.part
 
 abbrev pub FitsParam : Param → Type 0
-FitsParam p = FitsType p.ty × (is_name p.name ≡ true)
+FitsParam p = FitsType p.ty × FitsName p.name
 
 -- one result at least
 abbrev pub FitResults : List ArrayType → Type 0
@@ -136,7 +143,7 @@ FitValues (expr_and e es) = Fits e × FitAll es
 
 pub record FitsFunction (f : FunctionTree) : Type 0 where
   pub results : FitResults f.results
-  pub name : is_name f.name ≡ true
+  pub name : FitsName f.name
   pub params : AllByRecursion FitsParam f.params
   pub body : FitBlock f.body
   pub values : FitValues f.values

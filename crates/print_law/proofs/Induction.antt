@@ -13,7 +13,7 @@ mutual
   spelled (tree.number (pos n) s) h = number_is n h s
   spelled (tree.number (negsuc n) s) h = absurd h
   spelled (tree.truth b s) h = truth_is b s
-  spelled (tree.variable x s) h = variable_is x h s
+  spelled (tree.variable x s) h = variable_is x h.is s
   spelled (tree.literal no_exprs s) h = literal_spelled no_exprs s empty_list
   spelled (tree.literal (expr_and e es) s) h = literal_spelled (expr_and e es) s (some_list e es (whole_list e es (spelled e h.0 level.Expression) (listed es h.1)))
   spelled (tree.unary o e s) h = unary_spelled o h.0 e s (spelled e h.1)
@@ -22,8 +22,8 @@ mutual
   -- an index that is a literal of two or more is read as the list of them
   spelled (tree.select a (tree.literal (expr_and x (expr_and y es)) u) s) h = select_spelled a (tree.literal (expr_and x (expr_and y es)) u) s (spelled a h.0) (list_index x y es u (whole_list x (expr_and y es) (spelled x h.1.0 level.Expression) (one_more y es (spelled y h.1.1.0 level.Expression) (listed es h.1.1.1))))
   spelled (tree.select a i s) h = select_spelled a i s (spelled a h.0) (single i (spelled i h.1 level.Expression))
-  spelled (tree.call x no_exprs s) h = call_spelled x h.0 no_exprs s empty_list
-  spelled (tree.call x (expr_and e es) s) h = call_spelled x h.0 (expr_and e es) s (some_list e es (whole_list e es (spelled e h.1.0 level.Expression) (listed es h.1.1)))
+  spelled (tree.call x no_exprs s) h = call_spelled x h.0.is no_exprs s empty_list
+  spelled (tree.call x (expr_and e es) s) h = call_spelled x h.0.is (expr_and e es) s (some_list e es (whole_list e es (spelled e h.1.0 level.Expression) (listed es h.1.1)))
   spelled (tree.builtin built.Dim (expr_and e no_exprs) s) h = dim_spelled e s (spelled e h.1.0)
   spelled (tree.builtin built.Shape (expr_and e no_exprs) s) h = shape_spelled e s (spelled e h.1.0)
   spelled (tree.builtin built.Reshape (expr_and e (expr_and f no_exprs)) s) h = reshape_spelled e f s (spelled e h.1.0) (spelled f h.1.1.0)

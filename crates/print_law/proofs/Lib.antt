@@ -7,3 +7,6 @@ pub mod Induction
 pub mod Programs
 pub mod Given
 pub mod Actions
+pub mod Pieces
+pub mod WholeTexts
+pub mod Sources

@@ -40,7 +40,7 @@ read_names : (ts : List Target) → AllByRecursion FitsTarget ts → ReadsEach N
 read_names [] h = record { at = λ ts e. let x = (no_parts {a = NameBehind}).at ts e in (x.0, x.1, ap (map named_by) x.2) }
 read_names (t ∷ us) h = record {
   at = λ ts e.
-      let x = (a_part (token (codes ",") ⨟ a_name t.name h.0) (read_names us h.1)).at ts e in
+      let x = (a_part (token (codes ",") ⨟ a_name t.name h.0.is) (read_names us h.1)).at ts e in
       let w = x.2 in
       (x.0, x.1, ap (map named_by) w.2 ∙ (λ i. record { name = w.3.1 i; site = nowhere } ∷ w.4 i));
 }
@@ -63,11 +63,11 @@ abbrev pub IndexPhrase : IndexTree → Type 0
 IndexPhrase i = Phrase index (index_texts i) (λ q. bare_index q ≡ bare_index i)
 
 pub index_read : (i : IndexTree) → FitsIndex i → IndexPhrase i
-index_read (named t) h = by_rule index (left (a_name t.name h)) (λ x is. ap (λ n. named (record { name = n; site = nowhere })) is)
+index_read (named t) h = by_rule index (left (a_name t.name h.is)) (λ x is. ap (λ n. named (record { name = n; site = nowhere })) is)
 index_read (parts []) h = absurd h
 index_read (parts (t ∷ ts)) h =
     alike (ap brackets (names_are t ts))
-    (by_rule index (right (token (codes "[") ⨟ (a_name t.name h.0 ⨟ read_names ts h.1) ⨟ token (codes "]")))
+    (by_rule index (right (token (codes "[") ⨟ (a_name t.name h.0.is ⨟ read_names ts h.1) ⨟ token (codes "]")))
     (λ x is. ap parts ((λ i. record { name = is.1.0.0 i; site = nowhere } ∷ bare_items x.1.0.1 i) ∙ (λ i. record { name = t.name; site = nowhere } ∷ is.1.0.1 i))))
 
 abbrev pub BoundPhrase : BoundTree → Type 0
@@ -137,7 +137,7 @@ pub assign_read : (ts : List Target) (e : Expr) → FitTargets ts → Spelled e 
 assign_read [] e h p = absurd h
 assign_read (t ∷ ts) e h p =
     alike ((λ i. names_are t ts i ++ (codes "=" ∷ (spell e level.Expression ++ one (codes ";")))) ∙ ap (λ l. t.name ∷ l) (sym (append_assoc (more_names ts) (codes "=" ∷ spell e level.Expression) (one (codes ";")))))
-    (by_rule statement (left (a_ref (by_rule assign {Q = λ q. bare_stmt q ≡ tree.assign (map bare_target (t ∷ ts)) (bare e)} (a_name t.name h.0 ⨟ left (read_names ts h.1 ⨟ token (codes "=") ⨟ a_ref (p level.Expression)))
+    (by_rule statement (left (a_ref (by_rule assign {Q = λ q. bare_stmt q ≡ tree.assign (map bare_target (t ∷ ts)) (bare e)} (a_name t.name h.0.is ⨟ left (read_names ts h.1 ⨟ token (codes "=") ⨟ a_ref (p level.Expression)))
     (λ x is. (λ i. tree.assign (record { name = is.0 i; site = nowhere } ∷ (bare_targets x.1.0 ∙ is.1.0) i) (is.1.1.1 i)))) ⨟ token (codes ";")))
     (λ x is. (x.0, refl, is.0)))
 
@@ -146,7 +146,7 @@ replace_read t u i e h q p =
     let value = spell e level.Expression in
     let inner = spell_index i in
     alike (replace_is t u i e ∙ ap (λ l. t.name ∷ codes "[" ∷ l) (append_assoc inner (one (codes "]")) (codes "=" ∷ (value ++ one (codes ";"))) ∙ sym (append_assoc inner (codes "]" ∷ codes "=" ∷ value) (one (codes ";")))))
-    (by_rule statement (left (a_ref (by_rule assign {Q = λ q. bare_stmt q ≡ tree.replace (bare_target t) nowhere (bare i) (bare e)} (a_name t.name h ⨟ right (left (token (codes "[") ⨟ q ⨟ token (codes "]") ⨟ token (codes "=") ⨟ a_ref (p level.Expression))))
+    (by_rule statement (left (a_ref (by_rule assign {Q = λ q. bare_stmt q ≡ tree.replace (bare_target t) nowhere (bare i) (bare e)} (a_name t.name h.is ⨟ right (left (token (codes "[") ⨟ q ⨟ token (codes "]") ⨟ token (codes "=") ⨟ a_ref (p level.Expression))))
     (λ x is. (λ j. tree.replace (record { name = is.0 j; site = nowhere }) nowhere (is.1.1.0 x.1.0.site j) (is.1.1.1.1.1 j)))) ⨟ token (codes ";")))
     (λ x is. (x.0, refl, is.0)))
 

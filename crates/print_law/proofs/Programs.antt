@@ -104,7 +104,7 @@ type_read : (ty : ArrayType) → FitsType ty → Phrase type' (type_texts ty) (�
 type_read ty h = by_rule type' (base_read ty.base ⨟ part_read ty.part h) (λ x is. (λ i. record { base = is.0 i; part = is.1 i }))
 
 param_read : (p : Param) → FitsParam p → Phrase param (param_texts p) (λ q. bare_param q ≡ bare_param p)
-param_read p h = by_rule param (a_ref (type_read p.ty h.0) ⨟ a_name p.name h.1) (λ x is. (λ i. record { ty = is.0 i; name = is.1 i; site = nowhere }))
+param_read p h = by_rule param (a_ref (type_read p.ty h.0) ⨟ a_name p.name h.1.is) (λ x is. (λ i. record { ty = is.0 i; name = is.1 i; site = nowhere }))
 
 -- ---- lists with commas
 
@@ -179,7 +179,7 @@ function_read f h =
     let last : inner ++ one (codes "}") ≡ parens (spell_list f.values) ++ (codes ";" ∷ one (codes "}")) = append_assoc (parens (spell_list f.values)) (one (codes ";")) (one (codes "}")) in
     alike (ap front (append_assoc (spell_block f.body) (codes "return" ∷ inner) (one (codes "}")) ∙ ap (λ t. spell_block f.body ++ (codes "return" ∷ t)) last))
     (by_rule function
-    (inline_read f.inline ⨟ results_read f.results h.results ⨟ a_name f.name h.name ⨟ (token (codes "(") ⨟ params_read f.params h.params ⨟ token (codes ")")) ⨟ token (codes "{") ⨟ block f.body h.body ⨟ token (codes "return") ⨟ (token (codes "(") ⨟ values_read f.values h.values ⨟ token (codes ")")) ⨟ token (codes ";") ⨟ token (codes "}"))
+    (inline_read f.inline ⨟ results_read f.results h.results ⨟ a_name f.name h.name.is ⨟ (token (codes "(") ⨟ params_read f.params h.params ⨟ token (codes ")")) ⨟ token (codes "{") ⨟ block f.body h.body ⨟ token (codes "return") ⨟ (token (codes "(") ⨟ values_read f.values h.values ⨟ token (codes ")")) ⨟ token (codes ";") ⨟ token (codes "}"))
     (λ x is. (λ i. record {
       inline = is.0 i;
       results = is.1.0 i;

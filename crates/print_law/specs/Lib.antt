@@ -1,2 +1,2 @@
 pub mod Bare
-pub mod Numbers
+pub mod Tokens

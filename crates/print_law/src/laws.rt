@@ -1,15 +1,15 @@
 //! The law of the canonical text.
-ghost use Rattle.std.specs.Prelude.{◌≡◌, [], ◌∷◌, ◌++◌, List, map};
-ghost use Rattle.std.specs.List.{AllByRecursion};
-ghost use Rattle.sac_ast.specs.Texts.{Lexeme};
+ghost use Rattle.std.specs.Prelude.{◌≡◌, ◌≤◌, ℕ, List, length, map};
 ghost use Rattle.sac_ast.specs.Tree.{ProgramTree};
 ghost use Rattle.sac_ast.specs.Grammar.{IsProgram};
-ghost use Rattle.sac_print.specs.Canonical.{program_texts};
+ghost use Rattle.sac_lex.specs.Cut.{Lexeme, IsTokenList};
+ghost use Rattle.sac_print.specs.Canonical.{canonical};
 ghost use Rattle.print_law.specs.Bare.{bare_program};
-ghost use Rattle.print_law.specs.Numbers.{IsSmall};
+ghost use Rattle.print_law.specs.Tokens.{plain, HasTokens};
 
-/// A law: where some tokens have a tree, and their numbers are within the limit, the tokens of its canonical text have an equal tree, aside from sites.
-/// The tokens `again` stand at any sites, with an end token behind them.
+/// A law: where the tokens of a source have a tree in the grammar, the canonical text of the tree has tokens, and these have an equal tree, aside from sites.
+/// The limit on the number of tokens is left aside; where the canonical text keeps it, those tokens are the ones that the lexer gives.
 pub fn canonical_texts_are_read()
-    ensures { (p : ProgramTree) (tokens again : List Lexeme) → AllByRecursion IsSmall tokens → IsProgram tokens p → map (λ (t : Lexeme). t.text) again ≡ program_texts p ++ ([] ∷ []) → (q : ProgramTree) × IsProgram again q × (bare_program q ≡ bare_program p) }
+    ensures read_again { (source : List ℕ) (tokens : List Lexeme) (p : ProgramTree) → IsTokenList source tokens → IsProgram (map plain tokens) p → (again : List Lexeme) × (q : ProgramTree) × HasTokens (canonical p) again × IsProgram (map plain again) q × (bare_program q ≡ bare_program p) }
+    ensures few_tokens { (source : List ℕ) (tokens : List Lexeme) → HasTokens source tokens → length tokens ≤ 200001 → IsTokenList source tokens }
 {}
