@@ -1,8 +1,9 @@
+pub mod Accepted
 pub mod Bases
-pub mod Tree
-pub mod View
-pub mod Texts
-pub mod Shape
 pub mod Grammar
 pub mod Heights
 pub mod Refusals
+pub mod Shape
+pub mod Texts
+pub mod Tree
+pub mod View
