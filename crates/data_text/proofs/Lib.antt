@@ -5,3 +5,7 @@ pub mod TextFacts
 pub mod JudgeFacts
 pub mod AppendFacts
 pub mod FillFacts
+pub mod SpellFacts
+pub mod PrintFacts
+pub mod ReadBack
+pub mod FormFacts

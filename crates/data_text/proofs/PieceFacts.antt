@@ -52,7 +52,7 @@ word_end = position_or_len ends_word
 abbrev cut_at : ℕ → List ℕ → List Piece
 cut_at n bs = Word (take n bs) ∷ pieces (drop n bs)
 
-spelled : (b : ℕ) (bs : List ℕ) → ends_word b ≡ false → pieces (b ∷ bs) ≡ spell b (starts_word bs) (pieces bs)
+pub spelled : (b : ℕ) (bs : List ℕ) → ends_word b ≡ false → pieces (b ∷ bs) ≡ spell b (starts_word bs) (pieces bs)
 spelled b bs is =
     ap (λ t. if t then pieces bs else put b (sign b) (starts_word bs) (pieces bs)) (no_blank b is)
     ∙ ap (λ o. put b o (starts_word bs) (pieces bs)) (no_sign b is)

@@ -7,3 +7,4 @@ pub mod Tokens
 pub mod Found
 pub mod Printed
 pub mod Generated
+pub mod Spelled

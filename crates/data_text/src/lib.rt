@@ -6,6 +6,7 @@
 
 mod error;
 mod fill;
+mod law;
 mod line;
 mod number;
 mod print;
@@ -15,6 +16,7 @@ mod token;
 
 pub use error::{DataCode, DataError};
 pub use fill::generate;
+pub use law::{printed_is_read, read_is_spelled};
 pub use print::{print_array, print_summary};
 pub use text::read_arrays;
 
