@@ -9,3 +9,4 @@ pub mod SpellFacts
 pub mod PrintFacts
 pub mod ReadBack
 pub mod FormFacts
+pub mod TypedFacts

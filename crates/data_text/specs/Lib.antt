@@ -8,3 +8,4 @@ pub mod Found
 pub mod Printed
 pub mod Generated
 pub mod Spelled
+pub mod Typed

@@ -1,8 +1,9 @@
-ghost use Rattle.std.specs.Prelude.{◌≡◌, ◌==◌, ◌+◌, ◌<◌, ◌≤◌, ◌^◌, ℕ, length, position, IfSome};
+ghost use Rattle.std.specs.Prelude.{◌≡◌, ◌==◌, ◌+◌, ◌<◌, ◌≤◌, ◌^◌, ℕ, length, position, IfSome, IfOk};
 ghost use Rattle.std.specs.List.{list_all};
 ghost use Rattle.std.specs.Str.Lines.{strip_carriage_return};
 ghost use Rattle.data_text.specs.Pieces.{is_blank as is_blank_byte};
 ghost use Rattle.data_text.specs.Texts.{data_lines, with_line, arrays_of, text_value, is_passed_over as is_passed_over_line};
+ghost use Rattle.data_text.specs.Typed.{AreArguments};
 ghost use Rattle.data_text.specs.Found.{lines_from, Tells};
 
 use crate::error::{DataCode, DataError};
@@ -119,6 +120,16 @@ fn read_lines(alloc: Global, text: &[u8], bases: &[Base]) -> Result<Vec<Array>, 
     Ok(arrays)
 }
 
+// The arrays of a text, a line for each base.
+fn read_all(alloc: Global, text: &[u8], bases: &[Base]) -> Result<Vec<Array>, DataError>
+    ensures { Tells result (text_value text.now bases.now) }
+{
+    if count_lines(text) != bases.len() as u64 {
+        return Err(DataError::Refused(DataCode::I2, 0));
+    }
+    read_lines(alloc, text, bases)
+}
+
 /// The arrays that a text gives, a line for each parameter of these bases.
 ///
 /// Lines of spaces and tabs alone are passed over, and a carriage return at a line's end is dropped.
@@ -128,10 +139,8 @@ fn read_lines(alloc: Global, text: &[u8], bases: &[Base]) -> Result<Vec<Array>, 
 /// `Refused` with `I2` and 0 where there are more or fewer lines than bases. Otherwise with the number of the first
 /// line that is refused, from 1 and among all lines, and the first of `I1`, `I3`, `I6`, `I4` and `I5` that holds there.
 pub fn read_arrays(alloc: Global, text: &[u8], bases: &[Base]) -> Result<Vec<Array>, DataError>
-    ensures { Tells result (text_value text.now bases.now) }
+    ensures exact { Tells result (text_value text.now bases.now) }
+    ensures arguments { IfOk result (λ arrays. AreArguments bases.now arrays.items) }
 {
-    if count_lines(text) != bases.len() as u64 {
-        return Err(DataError::Refused(DataCode::I2, 0));
-    }
-    read_lines(alloc, text, bases)
+    read_all(alloc, text, bases)
 }
