@@ -1,5 +1,5 @@
 -- How deep trees and tokens are nested, and the limits on it.
-use Rattle.std.specs.Prelude.{ℕ, ◌≡◌, ◌+◌, ◌-◌, ◌<◌, ◌≤◌, max, Bool, ◌||◌, List, [], ◌∷◌, ◌++◌, if◌then◌else◌, codes}
+use Rattle.std.specs.Prelude.{ℕ, ◌≡◌, ◌+◌, ◌-◌, ◌<◌, ◌≤◌, max, min, Bool, ◌||◌, List, [], ◌∷◌, ◌++◌, if◌then◌else◌, codes}
 use Rattle.std.specs.List.{AllByRecursion}
 use Rattle.std.specs.Str.{bytes_eq}
 use Rattle.sac_ast.specs.Texts.{Lexeme}
@@ -67,6 +67,10 @@ functions_height (f ∷ fs) = max (function_height f) (functions_height fs)
 
 abbrev pub program_height : ProgramTree → ℕ
 program_height p = functions_height p.functions
+
+-- a number that 64 bits hold, or the greatest of them
+abbrev pub capped : ℕ → ℕ
+capped n = min n 18446744073709551615
 
 -- the height of each function is at most 100
 abbrev pub IsLow : ProgramTree → Type 0

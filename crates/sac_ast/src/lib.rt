@@ -1,6 +1,10 @@
 //! The trees of a source.
 #![tactic(auto)]
 
+mod measure;
+
+pub use measure::height;
+
 use sac_base::{ArrayType, Name, Op, Site};
 
 /// A whole source.

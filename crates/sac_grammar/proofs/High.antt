@@ -139,7 +139,7 @@ first_of_same (x ∷ r) [] s e f = absurd e
 first_of_same (x ∷ r) (y ∷ q) [] e f = absurd f
 first_of_same (x ∷ r) (y ∷ q) (z ∷ s) e f = e ∙ f
 
-same_first_self : (q : List Lexeme) → SameFirst q q
+pub same_first_self : (q : List Lexeme) → SameFirst q q
 same_first_self [] = tt
 same_first_self (x ∷ q) = refl
 

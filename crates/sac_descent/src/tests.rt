@@ -1,0 +1,81 @@
+//! Token lists with a tree, and refused ones.
+use crate::{ParseCode, ParseError, parse};
+use sac_base::Site;
+use sac_lex::lex;
+use std::alloc::Global;
+
+/// The refusal of a source, or none where it has a tree.
+fn refusal(alloc: Global, source: &[u8]) -> Option<(ParseCode, u32, u32)> {
+    let Ok(tokens) = lex(alloc, source) else {
+        return Some((ParseCode::P1, 0, 0));
+    };
+    match parse(alloc, &tokens) {
+        Ok(_program) => None,
+        Err(ParseError::Refused(code, site)) => Some((code, site.line, site.col)),
+        Err(ParseError::Memory) => Some((ParseCode::P1, 0, 1)),
+    }
+}
+
+type Refusal = Option<(ParseCode, u32, u32)>;
+
+#[test]
+fn refusals(rt: HostRuntime) {
+    let alloc = rt.alloc();
+    let rows: [(&[u8], Refusal); 9] = [
+        (b"int main() { return (2 + 3 * 4); }", None),
+        (b"int main() { return 1; }", Some((ParseCode::P1, 1, 21))),
+        (b"", None),
+        (b"int main() { a = [1, 2, 3]; return (a[3]); }", None),
+        (
+            b"int[*] main() {\n  return (with { ([0] <= iv < [10] step [4] width [2]) : iv[0]; } : genarray([10], -1));\n}",
+            None,
+        ),
+        (
+            b"int main() { x++; y += 2; if (x < 1) { x, y = f(2); } else if (true) { a[1, 2] = 3; } for (i = 0; i < 3; i++) { } do { } while (false); return (a ? b : c, min(1, 2), dim(a)); }",
+            None,
+        ),
+        (
+            b"inline int, bool[.,.] f(int[2,3] a, bool[] b, int[+] c) { return (a, b); }",
+            None,
+        ),
+        (
+            b"int main() { return (1 +); }",
+            Some((ParseCode::P1, 1, 25)),
+        ),
+        (
+            b"int main() { return (1); } 2",
+            Some((ParseCode::P1, 1, 28)),
+        ),
+    ];
+    for (source, answer) in &rows {
+        assert!(&rt; refusal(alloc, source) == *answer);
+    }
+}
+
+#[test]
+fn nesting(rt: HostRuntime) {
+    let alloc = rt.alloc();
+    let head: &[u8] = b"int main() { return (";
+    let rows: [(&[u8], usize, &[u8], &[u8], usize, Refusal); 5] = [
+        (b"(", 198, b"1", b")", 198, None),
+        (b"(", 199, b"1", b")", 199, Some((ParseCode::P2, 1, 220))),
+        (b"(", 199, b"", b"", 0, Some((ParseCode::P2, 1, 220))),
+        (b"- ", 98, b"1", b"", 0, None),
+        (b"- ", 99, b"1", b"", 0, Some((ParseCode::P2, 1, 218))),
+    ];
+    for (open, opens, middle, close, closes, answer) in &rows {
+        let mut text = Vec::new(alloc);
+        text.extend_from_slice(head).unwrap();
+        for _ in 0..*opens {
+            text.extend_from_slice(open).unwrap();
+        }
+        text.extend_from_slice(middle).unwrap();
+        for _ in 0..*closes {
+            text.extend_from_slice(close).unwrap();
+        }
+        if !middle.is_empty() {
+            text.extend_from_slice(b"); }").unwrap();
+        }
+        assert!(&rt; refusal(alloc, &text) == *answer);
+    }
+}
