@@ -24,7 +24,11 @@ fn vector(alloc: Global, cells: &[Cell]) -> Result<Array, Fail> {
 fn array(alloc: Global, extents: &[Cell], cells: &[Cell]) -> Result<Array, Fail> {
     let shape = vector(alloc, extents)?;
     let flat = vector(alloc, cells)?;
-    Ok(reshape(alloc, &shape, &flat).ok().ok_or("a shape of these cells")?)
+    Ok(
+        reshape(alloc, &shape, &flat)
+            .ok()
+            .ok_or("a shape of these cells")?,
+    )
 }
 
 #[test]
@@ -48,13 +52,19 @@ fn a_scalar_is_used_at_every_element(rt: HostRuntime) -> Result<(), Fail> {
     let a = vector(rt.alloc(), &[1, 2, 3])?;
     let ten = Array::scalar(rt.alloc(), Base::Int, 10)?;
     assert!(rt; gives(binary(rt.alloc(), Op::Sub, &ten, &a), Ok(&[9, 8, 7])));
-    assert_eq!(rt; unary(rt.alloc(), Op::Neg, &a)?.cells(), [-1, -2, -3].as_slice());
+    assert_eq!(rt;
+        unary(rt.alloc(), Op::Neg, &a)?.cells(),
+        [-1, -2, -3].as_slice()
+    );
     Ok(())
 }
 
 #[test]
 fn literals_have_elements_of_one_shape(rt: HostRuntime) -> Result<(), Fail> {
-    let cases: [(&[Cell], &[Cell], Want<'static>); 2] = [(&[1, 2], &[3, 4], Ok(&[1, 2, 3, 4])), (&[1, 2], &[3], Err(FaultKind::F3))];
+    let cases: [(&[Cell], &[Cell], Want<'static>); 2] = [
+        (&[1, 2], &[3, 4], Ok(&[1, 2, 3, 4])),
+        (&[1, 2], &[3], Err(FaultKind::F3)),
+    ];
     for (first, second, want) in cases {
         let rows = vec![in rt.alloc(); vector(rt.alloc(), first)?, vector(rt.alloc(), second)?]?;
         assert!(rt; gives(literal(rt.alloc(), &rows), want));
@@ -65,7 +75,12 @@ fn literals_have_elements_of_one_shape(rt: HostRuntime) -> Result<(), Fail> {
 #[test]
 fn parts_are_selected(rt: HostRuntime) -> Result<(), Fail> {
     let a = array(rt.alloc(), &[2, 3], &[1, 2, 3, 4, 5, 6])?;
-    let cases: [(&[Cell], Want<'static>); 4] = [(&[1], Ok(&[4, 5, 6])), (&[1, 2], Ok(&[6])), (&[0, 3], Err(FaultKind::F1)), (&[-1], Err(FaultKind::F1))];
+    let cases: [(&[Cell], Want<'static>); 4] = [
+        (&[1], Ok(&[4, 5, 6])),
+        (&[1, 2], Ok(&[6])),
+        (&[0, 3], Err(FaultKind::F1)),
+        (&[-1], Err(FaultKind::F1)),
+    ];
     for (index, want) in cases {
         let at = vector(rt.alloc(), index)?;
         assert!(rt; gives(select(rt.alloc(), &a, &at), want));
@@ -76,8 +91,11 @@ fn parts_are_selected(rt: HostRuntime) -> Result<(), Fail> {
 #[test]
 fn parts_are_replaced(rt: HostRuntime) -> Result<(), Fail> {
     let a = array(rt.alloc(), &[2, 2], &[1, 2, 3, 4])?;
-    let cases: [(&[Cell], &[Cell], Want<'static>); 3] =
-        [(&[1], &[7, 8], Ok(&[1, 2, 7, 8])), (&[2], &[7, 8], Err(FaultKind::F1)), (&[1], &[7], Err(FaultKind::F6))];
+    let cases: [(&[Cell], &[Cell], Want<'static>); 3] = [
+        (&[1], &[7, 8], Ok(&[1, 2, 7, 8])),
+        (&[2], &[7, 8], Err(FaultKind::F1)),
+        (&[1], &[7], Err(FaultKind::F6)),
+    ];
     for (index, part, want) in cases {
         let at = vector(rt.alloc(), index)?;
         let new = vector(rt.alloc(), part)?;
@@ -89,7 +107,11 @@ fn parts_are_replaced(rt: HostRuntime) -> Result<(), Fail> {
 #[test]
 fn shapes_are_changed(rt: HostRuntime) -> Result<(), Fail> {
     let a = vector(rt.alloc(), &[1, 2, 3, 4])?;
-    let cases: [(&[Cell], Want<'static>); 3] = [(&[2, 2], Ok(&[1, 2, 3, 4])), (&[3], Err(FaultKind::F3)), (&[-2, -2], Err(FaultKind::F4))];
+    let cases: [(&[Cell], Want<'static>); 3] = [
+        (&[2, 2], Ok(&[1, 2, 3, 4])),
+        (&[3], Err(FaultKind::F3)),
+        (&[-2, -2], Err(FaultKind::F4)),
+    ];
     for (extents, want) in cases {
         let shape = vector(rt.alloc(), extents)?;
         assert!(rt; gives(reshape(rt.alloc(), &shape, &a), want));

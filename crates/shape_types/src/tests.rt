@@ -38,7 +38,11 @@ fn the_meet_has_what_both_have(rt: HostRuntime) -> Result<(), Fail> {
 
 #[test]
 fn the_join_is_the_least_above_both(rt: HostRuntime) -> Result<(), Fail> {
-    let cases: [(&[i32], Part); 3] = [(&[4], Part::Rank(1)), (&[2, 2], Part::Plus), (&[], Part::Star)];
+    let cases: [(&[i32], Part); 3] = [
+        (&[4], Part::Rank(1)),
+        (&[2, 2], Part::Plus),
+        (&[], Part::Star),
+    ];
     for (extents, want) in cases {
         let found = join(&known(rt.alloc(), &[3]), &known(rt.alloc(), extents)).ok_or("a join")?;
         assert!(rt; same(&found, &int(want)));
@@ -54,7 +58,10 @@ fn instance(alloc: Global, part: Part) -> Result<Instance, Fail> {
 
 #[test]
 fn the_least_instance_is_picked(rt: HostRuntime) -> Result<(), Fail> {
-    let instances = vec![in rt.alloc(); instance(rt.alloc(), Part::Star)?, instance(rt.alloc(), Part::Rank(1))?]?;
+    let instances = vec![in rt.alloc();
+        instance(rt.alloc(), Part::Star)?,
+        instance(rt.alloc(), Part::Rank(1))?,
+    ]?;
     let cases: [(&[i32], usize); 3] = [(&[], 0), (&[2], 1), (&[2, 2], 0)];
     for (extents, want) in cases {
         let shape = Shape::from_extents(rt.alloc(), extents).ok_or("extents")?;
