@@ -1,5 +1,5 @@
 -- An operator at the cells of two operands, one pair after another.
-use Rattle.std.proofs.Common.{◌≡◌, ℕ, ◌+◌, ◌<◌, ap, ◌∙◌, sym, refl, List, [], ◌∷◌, ◌++◌, length, drop, get_or, replicate, ℤ, pos, Result, Ok, Err, append_assoc, arith, map}
+use Rattle.std.proofs.Common.{◌≡◌, ℕ, ◌+◌, ◌<◌, ap, ◌∙◌, sym, refl, List, [], ◌∷◌, ◌++◌, length, drop, get_or, ℤ, pos, Result, Ok, Err, append_assoc, arith, map}
 use Rattle.std.specs.List.{zip}
 use Rattle.std.proofs.lemmas.List.{drop_more, get_or-replicate, length-replicate}
 use Rattle.sac_base.specs.declared.op.Op.{Op}

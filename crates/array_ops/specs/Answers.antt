@@ -1,6 +1,5 @@
 -- What the answer of an operation tells of its meaning.
-use Rattle.std.specs.Prelude.{◌≡◌, List, Result, Ok, Err, ⊤}
-use Rattle.std.specs.declared.vec.Vec.{Vec}
+use Rattle.std.specs.Prelude.{◌≡◌, Result, Ok, Err, ⊤}
 use Rattle.sac_base.specs.Arrays.{ArrayValue}
 use Rattle.sac_base.specs.declared.fault.FaultKind.{FaultKind}
 use Rattle.array_ops.specs.declared.error.ArrayError.{ArrayError}

@@ -3,7 +3,19 @@ use sac_base::{Array, Base, Cell, FaultKind, Op};
 use std::alloc::Global;
 use std::test::Fail;
 
+// The wanted cells, or the wanted fault.
+type Want<'a> = Result<&'a [Cell], FaultKind>;
+
+fn gives(answer: Result<Array, ArrayError>, want: Want<'_>) -> bool {
+    match (answer, want) {
+        (Ok(array), Ok(cells)) => array.cells() == cells,
+        (Err(ArrayError::Faulted(kind)), Err(fault)) => kind == fault,
+        _ => false,
+    }
+}
+
 fn vector(alloc: Global, cells: &[Cell]) -> Result<Array, Fail> {
+    (cells.len() < 100).then_some(()).ok_or("a short vector")?;
     let mut copy = Vec::new(alloc);
     copy.extend_from_slice(cells)?;
     Ok(Array::vector(alloc, Base::Int, copy))
@@ -12,132 +24,111 @@ fn vector(alloc: Global, cells: &[Cell]) -> Result<Array, Fail> {
 fn array(alloc: Global, extents: &[Cell], cells: &[Cell]) -> Result<Array, Fail> {
     let shape = vector(alloc, extents)?;
     let flat = vector(alloc, cells)?;
-    found(reshape(alloc, &shape, &flat))
-}
-
-fn found(answer: Result<Array, ArrayError>) -> Result<Array, Fail> {
-    Ok(answer.ok().ok_or("an array")?)
-}
-
-fn fault(answer: Result<Array, ArrayError>) -> Option<FaultKind> {
-    match answer {
-        Err(ArrayError::Faulted(kind)) => Some(kind),
-        _ => None,
-    }
+    Ok(
+        reshape(alloc, &shape, &flat)
+            .ok()
+            .ok_or("a shape of these cells")?,
+    )
 }
 
 #[test]
 fn operators_go_element_by_element(rt: HostRuntime) -> Result<(), Fail> {
-    let alloc = rt.alloc();
-    let a = array(alloc, &[2, 2], &[1, 2, 3, -4])?;
-    let ten = Array::scalar(alloc, Base::Int, 10)?;
-    let zero = Array::scalar(alloc, Base::Int, 0)?;
+    let cases: [(Op, &[Cell], &[Cell], Want<'static>); 4] = [
+        (Op::Add, &[1, 2], &[10, 20], Ok(&[11, 22])),
+        (Op::Div, &[7, -7], &[2, 2], Ok(&[3, -3])),
+        (Op::Div, &[7, 7], &[1, 0], Err(FaultKind::F2)),
+        (Op::Add, &[1, 2], &[1, 2, 3], Err(FaultKind::F3)),
+    ];
+    for (op, left, right, want) in cases {
+        let a = vector(rt.alloc(), left)?;
+        let b = vector(rt.alloc(), right)?;
+        assert!(rt; gives(binary(rt.alloc(), op, &a, &b), want));
+    }
+    Ok(())
+}
+
+#[test]
+fn a_scalar_is_used_at_every_element(rt: HostRuntime) -> Result<(), Fail> {
+    let a = vector(rt.alloc(), &[1, 2, 3])?;
+    let ten = Array::scalar(rt.alloc(), Base::Int, 10)?;
+    assert!(rt; gives(binary(rt.alloc(), Op::Sub, &ten, &a), Ok(&[9, 8, 7])));
     assert_eq!(rt;
-        unary(alloc, Op::Neg, &a)?.cells(),
-        [-1, -2, -3, 4].as_slice()
-    );
-    let sum = found(binary(alloc, Op::Add, &a, &ten))?;
-    assert_eq!(rt; sum.cells(), [11, 12, 13, 6].as_slice());
-    assert_eq!(rt; sum.shape().extents(), [2, 2].as_slice());
-    let quotient = found(binary(alloc, Op::Div, &ten, &a))?;
-    assert_eq!(rt; quotient.cells(), [10, 5, 3, -2].as_slice());
-    let same = found(binary(alloc, Op::Eq, &a, &a))?;
-    assert_eq!(rt; same.base(), Base::Bool);
-    assert_eq!(rt;
-        fault(binary(alloc, Op::Div, &a, &zero)),
-        Some(FaultKind::F2)
-    );
-    let short = vector(alloc, &[1, 2])?;
-    let long = vector(alloc, &[1, 2, 3])?;
-    assert_eq!(rt;
-        fault(binary(alloc, Op::Add, &short, &long)),
-        Some(FaultKind::F3)
-    );
-    let none = vector(alloc, &[])?;
-    assert!(rt;
-        found(binary(alloc, Op::Div, &none, &zero))?
-            .cells()
-            .is_empty()
+        unary(rt.alloc(), Op::Neg, &a)?.cells(),
+        [-1, -2, -3].as_slice()
     );
     Ok(())
 }
 
 #[test]
-fn literals_have_elements_of_one_form(rt: HostRuntime) -> Result<(), Fail> {
-    let alloc = rt.alloc();
-    let rows = vec![in alloc; vector(alloc, &[1, 2])?, vector(alloc, &[3, 4])?]?;
-    let matrix = found(literal(alloc, &rows))?;
-    assert_eq!(rt; matrix.shape().extents(), [2, 2].as_slice());
-    assert_eq!(rt; matrix.cells(), [1, 2, 3, 4].as_slice());
-    assert_eq!(rt;
-        found(literal(alloc, &[]))?.shape().extents(),
-        [0].as_slice()
-    );
-    let mixed = vec![in alloc; vector(alloc, &[1, 2])?, vector(alloc, &[3])?]?;
-    assert_eq!(rt; fault(literal(alloc, &mixed)), Some(FaultKind::F3));
-    let deep = vec![in alloc; array(alloc, &[1, 1, 1, 1, 1, 1, 1, 1], &[5])?]?;
-    assert_eq!(rt; fault(literal(alloc, &deep)), Some(FaultKind::F4));
+fn literals_have_elements_of_one_shape(rt: HostRuntime) -> Result<(), Fail> {
+    let cases: [(&[Cell], &[Cell], Want<'static>); 2] = [
+        (&[1, 2], &[3, 4], Ok(&[1, 2, 3, 4])),
+        (&[1, 2], &[3], Err(FaultKind::F3)),
+    ];
+    for (first, second, want) in cases {
+        let rows = vec![in rt.alloc(); vector(rt.alloc(), first)?, vector(rt.alloc(), second)?]?;
+        assert!(rt; gives(literal(rt.alloc(), &rows), want));
+    }
     Ok(())
 }
 
 #[test]
-fn parts_are_selected_and_replaced(rt: HostRuntime) -> Result<(), Fail> {
-    let alloc = rt.alloc();
-    let a = array(alloc, &[2, 3], &[1, 2, 3, 4, 5, 6])?;
-    let one = Array::scalar(alloc, Base::Int, 1)?;
-    let corner = vector(alloc, &[1, 2])?;
-    let outside = vector(alloc, &[0, 3])?;
-    assert_eq!(rt;
-        found(select(alloc, &a, &one))?.cells(),
-        [4, 5, 6].as_slice()
-    );
-    assert_eq!(rt; found(select(alloc, &a, &corner))?.as_scalar(), Some(6));
-    assert_eq!(rt; fault(select(alloc, &a, &outside)), Some(FaultKind::F1));
-    assert_eq!(rt; fault(select(alloc, &a, &a)), Some(FaultKind::F1));
-    let row = vector(alloc, &[7, 8, 9])?;
-    let changed = found(replace(alloc, &a, &one, &row))?;
-    assert_eq!(rt; changed.cells(), [1, 2, 3, 7, 8, 9].as_slice());
-    assert_eq!(rt;
-        fault(replace(alloc, &a, &outside, &row)),
-        Some(FaultKind::F1)
-    );
-    assert_eq!(rt;
-        fault(replace(alloc, &a, &corner, &row)),
-        Some(FaultKind::F6)
-    );
+fn parts_are_selected(rt: HostRuntime) -> Result<(), Fail> {
+    let a = array(rt.alloc(), &[2, 3], &[1, 2, 3, 4, 5, 6])?;
+    let cases: [(&[Cell], Want<'static>); 4] = [
+        (&[1], Ok(&[4, 5, 6])),
+        (&[1, 2], Ok(&[6])),
+        (&[0, 3], Err(FaultKind::F1)),
+        (&[-1], Err(FaultKind::F1)),
+    ];
+    for (index, want) in cases {
+        let at = vector(rt.alloc(), index)?;
+        assert!(rt; gives(select(rt.alloc(), &a, &at), want));
+    }
     Ok(())
 }
 
 #[test]
-fn shapes_are_read_and_changed(rt: HostRuntime) -> Result<(), Fail> {
-    let alloc = rt.alloc();
-    let a = array(alloc, &[2, 3], &[1, 2, 3, 4, 5, 6])?;
-    assert_eq!(rt; dim(alloc, &a)?.as_scalar(), Some(2));
-    assert_eq!(rt; shape_vector(alloc, &a)?.cells(), [2, 3].as_slice());
-    let turned = vector(alloc, &[3, 2])?;
-    assert_eq!(rt;
-        found(reshape(alloc, &turned, &a))?.shape().extents(),
-        [3, 2].as_slice()
-    );
-    let other = vector(alloc, &[4])?;
-    assert_eq!(rt; fault(reshape(alloc, &other, &a)), Some(FaultKind::F3));
-    let negative = vector(alloc, &[-2, -3])?;
-    assert_eq!(rt; fault(reshape(alloc, &negative, &a)), Some(FaultKind::F4));
-    assert_eq!(rt; fault(reshape(alloc, &a, &a)), Some(FaultKind::F4));
+fn parts_are_replaced(rt: HostRuntime) -> Result<(), Fail> {
+    let a = array(rt.alloc(), &[2, 2], &[1, 2, 3, 4])?;
+    let cases: [(&[Cell], &[Cell], Want<'static>); 3] = [
+        (&[1], &[7, 8], Ok(&[1, 2, 7, 8])),
+        (&[2], &[7, 8], Err(FaultKind::F1)),
+        (&[1], &[7], Err(FaultKind::F6)),
+    ];
+    for (index, part, want) in cases {
+        let at = vector(rt.alloc(), index)?;
+        let new = vector(rt.alloc(), part)?;
+        assert!(rt; gives(replace(rt.alloc(), &a, &at, &new), want));
+    }
     Ok(())
 }
 
 #[test]
-fn conditions_are_scalars(rt: HostRuntime) -> Result<(), Fail> {
-    let alloc = rt.alloc();
-    assert_eq!(rt;
-        condition(&Array::scalar(alloc, Base::Bool, 1)?),
-        Some(true)
-    );
-    assert_eq!(rt;
-        condition(&Array::scalar(alloc, Base::Bool, 0)?),
-        Some(false)
-    );
-    assert_eq!(rt; condition(&vector(alloc, &[1])?), None);
+fn shapes_are_changed(rt: HostRuntime) -> Result<(), Fail> {
+    let a = vector(rt.alloc(), &[1, 2, 3, 4])?;
+    let cases: [(&[Cell], Want<'static>); 3] = [
+        (&[2, 2], Ok(&[1, 2, 3, 4])),
+        (&[3], Err(FaultKind::F3)),
+        (&[-2, -2], Err(FaultKind::F4)),
+    ];
+    for (extents, want) in cases {
+        let shape = vector(rt.alloc(), extents)?;
+        assert!(rt; gives(reshape(rt.alloc(), &shape, &a), want));
+    }
+    Ok(())
+}
+
+#[test]
+fn the_rank_is_a_scalar(rt: HostRuntime) -> Result<(), Fail> {
+    let a = vector(rt.alloc(), &[5, 6])?;
+    assert!(rt; gives(Ok(dim(rt.alloc(), &a)?), Ok(&[1])));
+    Ok(())
+}
+
+#[test]
+fn the_extents_are_a_vector(rt: HostRuntime) -> Result<(), Fail> {
+    let a = array(rt.alloc(), &[1, 2], &[5, 6])?;
+    assert!(rt; gives(Ok(shape_vector(rt.alloc(), &a)?), Ok(&[1, 2])));
     Ok(())
 }

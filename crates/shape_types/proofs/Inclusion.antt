@@ -1,5 +1,5 @@
 -- The order of parts as tests, and as inclusion of sets of shapes.
-use Rattle.std.proofs.Common.{◌≡◌, ℕ, zero, suc, ◌≤◌, ◌<◌, ap, ◌∙◌, sym, refl, subst, List, [], ◌∷◌, length, replicate, Bool, true, false, ◌&&◌, ◌||◌, eqb, leb, arith, get_or, inl, inr, ◌⊎◌}
+use Rattle.std.proofs.Common.{◌≡◌, ℕ, zero, suc, ap, ◌∙◌, sym, refl, subst, List, [], ◌∷◌, length, replicate, Bool, true, false, ◌&&◌, eqb, leb, arith, get_or, inl, inr, ◌⊎◌}
 use Rattle.std.proofs.lemmas.List.{length-replicate}
 use Rattle.std.proofs.lemmas.Bool.{false≢true}
 use Rattle.std.proofs.lemmas.Bool.Decides.{nat_tests, Decides-eqb}

@@ -1,10 +1,9 @@
 -- The least part above two parts.
-use Rattle.std.proofs.Common.{◌≡◌, ℕ, zero, suc, ap, ◌∙◌, sym, refl, subst, Bool, true, false, List, if◌then◌else◌, Option, Some, None, length, eqb, leb, arith, inl, inr, ◌⊎◌}
+use Rattle.std.proofs.Common.{◌≡◌, ℕ, ◌∙◌, sym, refl, subst, Bool, true, false, List, if◌then◌else◌, length, eqb, leb, arith, inl, inr, ◌⊎◌}
 use Rattle.std.proofs.lemmas.Bool.{false≢true}
 use Rattle.std.proofs.lemmas.Bool.Decides.{nat_tests, Decides-eqb}
 use Rattle.sac_base.specs.declared.types.Part.{Part}
 use Rattle.sac_base.specs.declared.types.Part.TheVariants.{Known, Rank, Plus, Star}
-use Rattle.sac_base.specs.Arrays.{same_shape}
 use Rattle.sac_base.specs.Types.{has_shape, part_below}
 use Rattle.shape_types.specs.Bounds.{part_join, rank_of, wider_part}
 use Rattle.shape_types.proofs.Inclusion.{Included, same-shape, included, below_from_included, some_shape}

@@ -1,13 +1,13 @@
 -- Lists of types, position by position.
-use Rattle.std.proofs.Common.{◌≡◌, ℕ, zero, suc, ◌+◌, ◌<◌, ap, ◌∙◌, sym, refl, subst, Bool, true, false, not, ◌&&◌, ◌||◌, List, [], ◌∷◌, length, get_or, map, drop, take, Option, Some, None, arith, All, inl, inr, ◌⊎◌, cond, ltb, lt-ltb, IfSome, IsNone}
+use Rattle.std.proofs.Common.{◌≡◌, ℕ, zero, suc, ◌+◌, ◌<◌, ap, ◌∙◌, sym, refl, Bool, true, false, not, ◌||◌, List, [], ◌∷◌, length, get_or, drop, Option, Some, None, arith, All, inl, inr, ◌⊎◌, cond, ltb, lt-ltb, IfSome, IsNone}
 use Rattle.std.specs.List.{list_all, position_or_len, position}
-use Rattle.std.proofs.lemmas.Bool.{false≢true, false_from_ne_true, cases_lt}
-use Rattle.std.proofs.lemmas.List.{drop_more, drop_all, get_or-map}
+use Rattle.std.proofs.lemmas.Bool.{false≢true}
+use Rattle.std.proofs.lemmas.List.{drop_more}
 use Rattle.std.proofs.lemmas.List.Quantifiers.{position-Some}
 use Rattle.std.proofs.lemmas.List.Elements.{All-nil, All-cons, All-head, All-tail}
 use Rattle.sac_base.specs.declared.form.Form.{Form}
 use Rattle.sac_base.specs.declared.types.ArrayType.{ArrayType}
-use Rattle.sac_base.specs.Types.{has_form, below, overlap, all_have_forms, all_below, apart, strictly_below, compatible, all_compatible, below_others, is_least, least_place}
+use Rattle.sac_base.specs.Types.{has_form, below, all_have_forms, all_below, apart, strictly_below, compatible, all_compatible, below_others, is_least, least_place}
 use Rattle.shape_types.specs.Instances.{IsLeastPlace}
 use Rattle.shape_types.proofs.Inclusion.{and_left, and_right, and_both}
 use Rattle.shape_types.proofs.Orders.{inclusion, below_from_inclusion, overlap_from_common}

@@ -1,5 +1,5 @@
 -- The order of types as a test, and as inclusion of sets of forms.
-use Rattle.std.proofs.Common.{◌≡◌, ℕ, ap, ◌∙◌, sym, refl, subst, Bool, true, false, ◌&&◌, List, inl, inr, ◌⊎◌}
+use Rattle.std.proofs.Common.{◌≡◌, ℕ, ◌∙◌, sym, refl, subst, true, false, List, inl, inr, ◌⊎◌}
 use Rattle.std.proofs.lemmas.Bool.{false≢true, false_from_ne_true}
 use Rattle.sac_base.specs.declared.base.Base.{Base}
 use Rattle.sac_base.specs.declared.base.Base.TheVariants.{Int, Bool as Truth}
@@ -10,7 +10,7 @@ use Rattle.sac_base.specs.Arrays.{same_base}
 use Rattle.sac_base.specs.Types.{has_shape, has_form, part_below, parts_overlap, below, overlap, IsBelow, Overlap}
 use Rattle.shape_types.specs.Bounds.{IsMeet, IsJoin}
 use Rattle.shape_types.proofs.Joins.{IsPartJoin}
-use Rattle.shape_types.proofs.Inclusion.{Included, included, below_from_included, Share, share, overlap_from_share, one_below, some_shape, and_left, and_right, and_both}
+use Rattle.shape_types.proofs.Inclusion.{included, below_from_included, share, overlap_from_share, one_below, some_shape, and_left, and_right, and_both}
 
 pub same-base : (a b : Base) → same_base a b ≡ true → a ≡ b
 same-base Int Int h = refl

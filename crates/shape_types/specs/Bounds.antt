@@ -1,5 +1,5 @@
 -- What two types have in common, and the least type above both.
-use Rattle.std.specs.Prelude.{◌↔◌, ℕ, Bool, ◌||◌, IsTrue, ◌==◌, if◌then◌else◌, Option, Some, None, length}
+use Rattle.std.specs.Prelude.{◌↔◌, ℕ, IsTrue, ◌==◌, if◌then◌else◌, Option, Some, None, length}
 use Rattle.sac_base.specs.declared.form.Form.{Form}
 use Rattle.sac_base.specs.declared.types.ArrayType.{ArrayType}
 use Rattle.sac_base.specs.declared.types.Part.{Part}

@@ -1,4 +1,4 @@
-use Rattle.std.proofs.Common.{◌≡◌, ◌<◌, ap, ◌∙◌, sym, refl, get_or, length, pos, rules, FitsSigned, w32, to_z, of_z, ◌++◌, ◌∷◌, [], arith, Ok, Err, ◌+◌, drop}
+use Rattle.std.proofs.Common.{◌≡◌, ap, ◌∙◌, sym, refl, length, rules, FitsSigned, w32, to_z, of_z, ◌++◌, ◌∷◌, [], arith, Ok, Err, ◌+◌, drop}
 use Rattle.std.proofs.lemmas.Int.{to_z-of_z}
 use Rattle.std.proofs.lemmas.List.{length_push}
 use Rattle.sac_base.specs.Operators.{apply_two, combined}

@@ -1,4 +1,4 @@
-use Rattle.std.proofs.Common.{◌≡◌, ap, ◌∙◌, sym, map, get_or, pos, rules, FitsSigned, w32, ◌++◌, ◌∷◌, [], arith}
+use Rattle.std.proofs.Common.{◌≡◌, ap, ◌∙◌, sym, get_or, pos, rules, FitsSigned, w32, ◌++◌, ◌∷◌, [], arith}
 use Rattle.std.proofs.lemmas.Int.{to_z-of_z}
 use Rattle.std.proofs.lemmas.List.{map_more}
 use Rattle.sac_base.specs.Operators.{apply_one}

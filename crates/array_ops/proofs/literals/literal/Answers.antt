@@ -1,4 +1,4 @@
-use Rattle.std.proofs.Common.{◌≡◌, ◌*◌, ap, ◌∙◌, sym, length, w32, List, [], ◌∷◌, take, drop, arith, true, All, Option, Some, None, ◌++◌, rules}
+use Rattle.std.proofs.Common.{◌≡◌, ◌*◌, ap, ◌∙◌, sym, length, w32, List, [], ◌∷◌, drop, true, All, Option, Some, None, ◌++◌, rules}
 use Rattle.std.specs.List.{list_all, slice_get}
 use Rattle.std.proofs.lemmas.Int.{to_z-of_z}
 use Rattle.std.proofs.lemmas.List.{take_rest}

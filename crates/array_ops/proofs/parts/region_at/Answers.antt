@@ -1,4 +1,4 @@
-use Rattle.std.proofs.Common.{◌≡◌, ℕ, ◌+◌, ◌≤◌, ◌<◌, ◌^◌, ap, ◌∙◌, sym, subst, refl, length, drop, List, ℤ, Option, Some, None, IsSome, SomeIff, if◌then◌else◌, le-leb, arith, rules, Fits, w64}
+use Rattle.std.proofs.Common.{◌≡◌, ℕ, ◌+◌, ◌≤◌, ◌<◌, ◌^◌, ap, ◌∙◌, sym, length, drop, List, ℤ, Option, Some, None, SomeIff, if◌then◌else◌, le-leb, arith, rules}
 use Rattle.sac_base.specs.Arrays.{ArrayValue, size, MOST}
 use Rattle.sac_base.specs.Parts.{part_at, part_at_index, numbers_of}
 use Rattle.sac_base.specs.Places.{place_of}

@@ -1,6 +1,5 @@
 use Rattle.std.proofs.Common.{◌≡◌, ◌∙◌, true, subst, sym}
 use Rattle.sac_base.specs.Arrays.{same_base}
-use Rattle.shape_types.specs.Bounds.{IsJoin}
 use Rattle.shape_types.proofs.Joins.{IsPartJoin, join_of_parts}
 use Rattle.shape_types.proofs.Orders.{join_is}
 use Rattle.shape_types.proofs.order.join.Goals as goal

@@ -1,6 +1,5 @@
-use Rattle.std.proofs.Common.{◌≡◌, ◌∙◌, sym, refl, true, false, is_some}
-use Rattle.sac_base.specs.Types.{overlap, Overlap}
-use Rattle.shape_types.proofs.Orders.{inclusion, below_from_inclusion, common_form, overlap_from_common, overlap_from_below, overlap_from_above, disjoint}
+use Rattle.std.proofs.Common.{◌∙◌, sym, refl}
+use Rattle.shape_types.proofs.Orders.{common_form, overlap_from_below, overlap_from_above}
 use Rattle.shape_types.proofs.order.meet.Goals as goal
 
 pub returns-then-below-clause-some : goal.returns-then-below-clause-some
