@@ -1,0 +1,10 @@
+pub mod Coincide
+pub mod Counting
+pub mod Edited
+pub mod Facts
+pub mod Outcomes
+pub mod Renamed
+pub mod Splice
+pub mod Trees
+pub mod Unused
+pub mod Variables

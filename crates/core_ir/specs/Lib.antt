@@ -1,0 +1,12 @@
+pub mod Binders
+pub mod Counts
+pub mod Edits
+pub mod Known
+pub mod Meaning
+pub mod Outcome
+pub mod Renaming
+pub mod Scopes
+pub mod Terms
+pub mod Uses
+pub mod View
+pub mod WellFormed
