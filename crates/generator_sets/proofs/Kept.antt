@@ -11,6 +11,7 @@ use Rattle.sac_base.specs.Grids.{has_index, has_vector, within, times_vector, Sp
 use Rattle.sac_base.proofs.GridFacts.{has_facts, within_is}
 use Rattle.grid_sets.proofs.Keeping.{count_filter}
 use Rattle.generator_sets.specs.Pieces.{in_box, lows, IsUniformVector}
+use Rattle.generator_sets.specs.Unions.{NamesFirst}
 use Rattle.generator_sets.proofs.Uniformity.{same_position}
 
 and_false : (s t : Bool) → s ≡ false → (s && t) ≡ false
@@ -96,10 +97,6 @@ pub frame_split : (frame : List Grid1) (generators xs : List (List Grid1)) (part
     → All (λ axis. axis.step ≡ pos 1) frame → SplitsVectors xs (in_box frame) → SplitsVectors (map (λ part. part.0) parts) (has_vector frame)
 frame_split frame generators xs parts e unit split v =
     ap (λ l. times_vector l v) (ap (map (λ part. part.0)) e ∙ pieces_of generators xs) ∙ split v ∙ ap (λ t. cond t 1 0) (box_is frame v unit)
-
--- A part names the first generator that has its members.
-abbrev pub NamesFirst : List (List Grid1) → (List Grid1 × Option ℕ) → Type 0
-NamesFirst generators part = (v : List ℤ) → has_vector part.0 v ≡ true → part.1 ≡ position (λ g. has_vector g v) generators
 
 pub first_named : (generators xs : List (List Grid1)) (parts : List (List Grid1 × Option ℕ)) → parts ≡ map (labelled generators) xs → All (IsUniformVector generators) xs
     → All (NamesFirst generators) parts

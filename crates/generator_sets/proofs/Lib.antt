@@ -2,6 +2,7 @@ pub mod CommonFacts
 pub mod CountFacts
 pub mod CutSteps
 pub mod Growing
+pub mod Joining
 pub mod Kept
 pub mod Moves
 pub mod Products

@@ -8,6 +8,7 @@ mod cut;
 mod error;
 mod first;
 mod laws;
+mod merging;
 mod moving;
 mod parts;
 mod product;

@@ -7,6 +7,7 @@ ghost use Rattle.generator_sets.specs.Counts.{IsCanonicalCount, IsDue};
 use crate::cut::cut;
 use crate::error::GenError;
 use crate::first::first_generator;
+use crate::merging::merge_parts;
 use grid_sets::FINEST;
 use sac_base::{Grid, Memory};
 use std::alloc::Global;
@@ -29,7 +30,8 @@ fn label(alloc: Global, pieces: Vec<Grid>, generators: &[Grid]) -> Result<Parts,
     Ok(Parts { parts })
 }
 
-/// The frame as at most 64 disjoint grids, each with the first generator that contains its members.
+/// The frame as at most 64 disjoint grids, each with the first generator that contains its members. Grids that are neighbours on one axis and
+/// have the same first generator are joined, so an inner generator of n axes leaves 2 n + 1 grids and not 3 to the n.
 pub fn partition(alloc: Global, frame: &Grid, generators: &[Grid]) -> Result<Parts, GenError>
     requires axes { All (λ g. length g ≡ length frame.now) generators.now }
     requires unit { All (λ axis. axis.step ≡ pos 1) frame.now }
@@ -39,7 +41,11 @@ pub fn partition(alloc: Global, frame: &Grid, generators: &[Grid]) -> Result<Par
     ensures due { (greatest count : ℕ) → IsCanonicalCount generators.now 0 frame.now greatest count → IsDue 4096 greatest count result }
 {
     match cut(alloc, frame, generators, FINEST) {
-        Ok(pieces) => Ok(label(alloc, pieces, generators)?),
+        Ok(pieces) => {
+            let labelled = label(alloc, pieces, generators)?;
+            let parts = merge_parts(alloc, frame.axes().len(), labelled.parts)?;
+            Ok(Parts { parts })
+        }
         Err(error) => Err(error),
     }
 }

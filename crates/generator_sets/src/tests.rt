@@ -34,6 +34,20 @@ fn line(alloc: Global, side: Grid1) -> Result<Grid, AllocError>
     Ok(Grid::new(Vec::from_array(alloc, [side])?))
 }
 
+/// A grid of two axes, which are both one.
+fn two(alloc: Global, side: Grid1) -> Result<Grid, AllocError>
+    ensures { IfOk result (λ grid. grid ≡ side ∷ side ∷ []) }
+{
+    Ok(Grid::new(Vec::from_array(alloc, [side, side])?))
+}
+
+/// A grid of three axes, which are all one.
+fn three(alloc: Global, side: Grid1) -> Result<Grid, AllocError>
+    ensures { IfOk result (λ grid. grid ≡ side ∷ side ∷ side ∷ []) }
+{
+    Ok(Grid::new(Vec::from_array(alloc, [side, side, side])?))
+}
+
 /// A grid of six axes, which are all one.
 fn six(alloc: Global, side: Grid1) -> Result<Grid, AllocError>
     ensures { IfOk result (λ grid. grid ≡ side ∷ side ∷ side ∷ side ∷ side ∷ side ∷ []) }
@@ -184,5 +198,76 @@ fn each_part_has_its_first_generator(rt: HostRuntime) -> Result<(), Fail> {
         }
         assert_eq!(rt; seen, 1);
     }
+    Ok(())
+}
+
+#[test]
+fn neighbours_of_one_first_generator_are_joined(rt: HostRuntime) -> Result<(), Fail> {
+    let alloc: Global = rt.alloc();
+    let whole = all(0, 10);
+    let inner = all(1, 9);
+    let frame = line(alloc, whole)?;
+    assert_eq!(rt;
+        partition(alloc, &frame, &[line(alloc, inner)?])?
+            .parts
+            .len(),
+        3
+    );
+    let frame = two(alloc, whole)?;
+    assert_eq!(rt;
+        partition(alloc, &frame, &[two(alloc, inner)?])?.parts.len(),
+        5
+    );
+    let nested = [two(alloc, all(2, 8))?, two(alloc, inner)?];
+    assert_eq!(rt; partition(alloc, &frame, &nested)?.parts.len(), 9);
+    let frame = three(alloc, whole)?;
+    assert_eq!(rt;
+        partition(alloc, &frame, &[three(alloc, inner)?])?
+            .parts
+            .len(),
+        7
+    );
+    let frame = six(alloc, whole)?;
+    let generators = [six(alloc, inner)?];
+    assert!(rt;
+        matches!(
+            partition(alloc, &frame, &generators),
+            Err(GenError::TooMany)
+        )
+    );
+    Ok(())
+}
+
+#[test]
+fn other_parts_stay_as_they_are(rt: HostRuntime) -> Result<(), Fail> {
+    let alloc: Global = rt.alloc();
+    let frame = line(alloc, all(0, 100))?;
+    assert_eq!(rt;
+        partition(alloc, &frame, &[line(alloc, even())?])?
+            .parts
+            .len(),
+        2
+    );
+    let halves = [line(alloc, all(0, 50))?, line(alloc, all(50, 100))?];
+    assert_eq!(rt; partition(alloc, &frame, &halves)?.parts.len(), 2);
+    let blocks = Grid1 {
+        lo: 0,
+        hi: 100,
+        step: 8,
+        width: 4,
+    };
+    assert_eq!(rt;
+        partition(alloc, &frame, &[line(alloc, blocks)?])?
+            .parts
+            .len(),
+        2
+    );
+    let frame = two(alloc, all(0, 100))?;
+    assert_eq!(rt;
+        partition(alloc, &frame, &[two(alloc, blocks)?])?
+            .parts
+            .len(),
+        4
+    );
     Ok(())
 }
