@@ -4,7 +4,6 @@
 mod measure;
 
 pub use measure::height;
-
 use sac_base::{ArrayType, Name, Op, Site};
 
 /// A whole source.

@@ -6,3 +6,4 @@ pub mod High
 pub mod Grows
 pub mod Parsing
 pub mod Refusals
+pub mod Verdicts

@@ -15,5 +15,4 @@ pub fn parser_is_exact()
     ensures found { (k : Nonterminal) (ts : List Lexeme) (v : Tree k) → Found k ts v [] → IsPhrase k ts v }
     ensures lost { (k : Nonterminal) (ts r : List Lexeme) → Lost k ts r → (u : List Lexeme) × (ts ≡ u ++ r) × ((w : List Lexeme) × (v : Tree k) × IsPhrase k (u ++ w) v) × ((x : Lexeme) (xs ys : List Lexeme) (v : Tree k) → r ≡ x ∷ xs → IsPhrase k (u ++ (x ∷ ys)) v → ⊥) }
     ensures tall { (d : ℕ) (k : Nonterminal) (ts r : List Lexeme) → TooTall d k ts r → (u : List Lexeme) × (ts ≡ u ++ r) × ((w : List Lexeme) × (v : Tree k) × IsPhrase k (u ++ w) v) × ((x : Lexeme) (xs ys : List Lexeme) (v : Tree k) → r ≡ x ∷ xs → IsPhrase k (u ++ (x ∷ ys)) v → High d k v) }
-{
-}
+{}
