@@ -8,22 +8,13 @@ use Rattle.sac_ast.specs.Tree.{FunctionTree, ProgramTree}
 use Rattle.sac_ast.specs.Grammar.{program, function, Tree, rule, action, IsPhrase, IsProgram}
 use Rattle.sac_ast.specs.Heights.{function_height, open_behind, IsShallow, IsLow, IsTreeOf}
 use Rattle.sac_ast.specs.Refusals.{Starts, StartsWithin, IsInReach, IsStuckAt, IsTooDeepAt}
+use Rattle.sac_grammar.specs.Verdicts.{IsRead, NoHighBefore}
 use Rattle.sac_grammar.specs.Tables.{first_of, ext_of, rank_of}
 use Rattle.sac_grammar.specs.High.{AnyOf}
 use Rattle.sac_grammar.specs.Parsing.{Lost, TooTall}
 use Rattle.sac_grammar.proofs.Table.{table}
 use Rattle.sac_grammar.proofs.Exact.{stuck_at}
-use Rattle.sac_grammar.proofs.Refusals.{tall_at}
-
--- the tokens that are read: all of them, or as far as the first one at which too many brackets are open
-pub record IsRead (ts read : List Lexeme) : Type 0 where
-  pub later : List Lexeme
-  pub whole : ts ≡ read ++ later
-  pub brackets : (v w : List Lexeme) (y : Lexeme) → ts ≡ v ++ (y ∷ w) → 200 < open_behind 0 (v ++ (y ∷ [])) → length read ≤ length v + 1
-
--- no function that is too high ends among the tokens before the rest
-abbrev pub NoHighBefore : List Lexeme → List Lexeme → Type 0
-NoHighBefore read rest = (v : List Lexeme) (gs : List FunctionTree) (f w : List Lexeme) (g : FunctionTree) → read ≡ v ++ (f ++ w) → MatchesEach (IsPhrase function) v gs → IsPhrase function f g → 100 < function_height g → length w < length rest
+use Rattle.sac_grammar.proofs.Stops.{tall_at}
 
 -- of two fronts of one list the shorter one is a front of the other
 front_of : (a b r s : List Lexeme) → a ++ r ≡ b ++ s → length a ≤ length b → (w : List Lexeme) × (b ≡ a ++ w)
