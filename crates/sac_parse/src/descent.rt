@@ -1,10 +1,21 @@
 //! Expressions, with-loops and statements, by recursive descent: each function reads one phrase with one token of lookahead.
-ghost use Rattle.std.specs.Prelude.{◌<◌, ◌≤◌, IfOk, length};
+ghost use Rattle.std.specs.Prelude.{◌≡◌, ◌<◌, ◌≤◌, ◌∷◌, IfOk, length, codes, true};
+ghost use Rattle.sac_ast.specs.Shape.{ref, seq, many};
+ghost use Rattle.sac_ast.specs.Grammar.{expression, prefix, postfix, primary, generator, bound, operation, statement, if_statement, else_branch, block, assign, sum, listed, opt, parens, sign, rule};
+ghost use Rattle.sac_ast.specs.Heights.{height, gen_height, bound_height, operation_height, stmt_height};
+ghost use Rattle.sac_ast.specs.View as view;
+ghost use Rattle.sac_ast.specs.Texts.{is_name};
+ghost use Rattle.sac_grammar.specs.Parsing.{nth};
+ghost use Rattle.sac_parse.specs.Contract.{lexemes_of, lexeme, IsPhraseAt, IsPartAt};
+ghost use Rattle.sac_parse.specs.Parts.{IsListOf, IsArguments, IsInParens, IsPair, IsPrimary, IsPrimaryOf, IsGenerators, IsMaybe, IsBlockAt, itself, AssignRest, IsOperation, IsOperationOf, IsBlockOf, IsStatements, IsStatement, IsStatementOf, IsElse, IsAssigned, IsAssignedOf, Comma};
+ghost use Rattle.sac_parse.specs.Levels.{first_operator, more_operators, IsLevelAt, IsOperandAt};
 
+use crate::cursor;
 use crate::halt::Halt;
+use crate::leaf;
 use crate::level::{self, Level};
+use crate::node;
 use crate::place::{self, Measured, Place};
-use crate::{cursor, leaf, node};
 use sac_ast::{Bound, Builtin, Expression, Generator, Operation, Statement, Target};
 use sac_base::{Op, Site};
 use sac_lex::Token;
@@ -17,6 +28,7 @@ pub type Read<'a, T> = Result<(Measured<T>, &'a [Token<'a>]), Halt<'a>>;
 /// Expressions with commas between them.
 #[cycle(phrase)]
 pub fn list<'a>(place: Place, tokens: &'a [Token<'a>]) -> Read<'a, Vec<Expression>>
+    ensures phrase { IsPartAt place (listed (ref expression)) (IsListOf place) (lexemes_of tokens.now) result }
     ensures shorter { IfOk result (λ x. length x.1.now < length tokens.now) }
 {
     let (first, mut rest) = expression(place, tokens)?;
@@ -41,6 +53,7 @@ pub fn list<'a>(place: Place, tokens: &'a [Token<'a>]) -> Read<'a, Vec<Expressio
 /// Expressions with commas between them, or none.
 #[cycle(phrase)]
 fn arguments<'a>(place: Place, tokens: &'a [Token<'a>]) -> Read<'a, Vec<Expression>>
+    ensures phrase { IsPartAt place (opt (listed (ref expression))) (IsArguments place) (lexemes_of tokens.now) result }
     ensures shorter { IfOk result (λ x. length x.1.now ≤ length tokens.now) }
 {
     if leaf::starts_expression(tokens) {
@@ -58,6 +71,7 @@ fn arguments<'a>(place: Place, tokens: &'a [Token<'a>]) -> Read<'a, Vec<Expressi
 /// An expression in parentheses.
 #[cycle(phrase)]
 pub fn parens<'a>(place: Place, tokens: &'a [Token<'a>]) -> Read<'a, Expression>
+    ensures phrase { IsPartAt place (parens (ref expression)) (IsInParens place) (lexemes_of tokens.now) result }
     ensures shorter { IfOk result (λ x. length x.1.now < length tokens.now) }
 {
     let (_open, rest) = cursor::expect(tokens, b"(")?;
@@ -71,13 +85,8 @@ pub fn parens<'a>(place: Place, tokens: &'a [Token<'a>]) -> Read<'a, Expression>
 fn pair<'a>(
     place: Place,
     tokens: &'a [Token<'a>],
-) -> Result<
-    (
-        (Measured<Expression>, Measured<Expression>),
-        &'a [Token<'a>],
-    ),
-    Halt<'a>,
->
+) -> Result<((Measured<Expression>, Measured<Expression>), &'a [Token<'a>]), Halt<'a>>
+    ensures phrase { IsPartAt place (parens (Comma (ref expression))) (IsPair place) (lexemes_of tokens.now) result }
     ensures shorter { IfOk result (λ x. length x.1.now < length tokens.now) }
 {
     let (_open, rest) = cursor::expect(tokens, b"(")?;
@@ -91,15 +100,13 @@ fn pair<'a>(
 /// A name, or a call.
 #[cycle(phrase)]
 fn name_or_call<'a>(place: Place, tokens: &'a [Token<'a>]) -> Read<'a, Expression>
+    ensures phrase { IsPartAt place (nth 3 (rule primary)) (IsPrimary place 3) (lexemes_of tokens.now) result }
     ensures shorter { IfOk result (λ x. length x.1.now < length tokens.now) }
 {
     let (token, rest) = cursor::expect_name(tokens)?;
     let target = leaf::target(place.alloc, token)?;
     let Some((_open, rest)) = cursor::accept(rest, b"(") else {
-        return Ok((
-            node::leaf(Expression::Variable(target.name, target.site)),
-            rest,
-        ));
+        return Ok((node::variable(target), rest));
     };
     let (list, rest) = arguments(place, rest)?;
     let (_close, rest) = cursor::expect(rest, b")")?;
@@ -109,6 +116,7 @@ fn name_or_call<'a>(place: Place, tokens: &'a [Token<'a>]) -> Read<'a, Expressio
 /// `dim` or `shape` of an expression.
 #[cycle(phrase)]
 fn builtin<'a>(place: Place, tokens: &'a [Token<'a>]) -> Read<'a, Expression>
+    ensures phrase { IsPartAt place (nth 4 (rule primary)) (IsPrimary place 4) (lexemes_of tokens.now) result }
     ensures shorter { IfOk result (λ x. length x.1.now < length tokens.now) }
 {
     let ((builtin, site), rest) = leaf::builtin_word(tokens)?;
@@ -118,6 +126,7 @@ fn builtin<'a>(place: Place, tokens: &'a [Token<'a>]) -> Read<'a, Expression>
 
 #[cycle(phrase)]
 fn reshape<'a>(place: Place, tokens: &'a [Token<'a>]) -> Read<'a, Expression>
+    ensures phrase { IsPartAt place (nth 5 (rule primary)) (IsPrimary place 5) (lexemes_of tokens.now) result }
     ensures shorter { IfOk result (λ x. length x.1.now < length tokens.now) }
 {
     let (word, rest) = cursor::expect(tokens, b"reshape")?;
@@ -128,6 +137,7 @@ fn reshape<'a>(place: Place, tokens: &'a [Token<'a>]) -> Read<'a, Expression>
 /// `min` or `max` of two expressions.
 #[cycle(phrase)]
 fn extreme<'a>(place: Place, tokens: &'a [Token<'a>]) -> Read<'a, Expression>
+    ensures phrase { IsPartAt place (nth 6 (rule primary)) (IsPrimary place 6) (lexemes_of tokens.now) result }
     ensures shorter { IfOk result (λ x. length x.1.now < length tokens.now) }
 {
     let Some((op, site, rest)) = cursor::operator(&level::EXTREMES, tokens) else {
@@ -140,6 +150,7 @@ fn extreme<'a>(place: Place, tokens: &'a [Token<'a>]) -> Read<'a, Expression>
 /// Elements in brackets.
 #[cycle(phrase)]
 fn array<'a>(place: Place, tokens: &'a [Token<'a>]) -> Read<'a, Expression>
+    ensures phrase { IsPartAt place (nth 8 (rule primary)) (IsPrimary place 8) (lexemes_of tokens.now) result }
     ensures shorter { IfOk result (λ x. length x.1.now < length tokens.now) }
 {
     let (open, rest) = cursor::expect(tokens, b"[")?;
@@ -150,6 +161,7 @@ fn array<'a>(place: Place, tokens: &'a [Token<'a>]) -> Read<'a, Expression>
 
 #[cycle(phrase)]
 fn with_loop<'a>(place: Place, tokens: &'a [Token<'a>]) -> Read<'a, Expression>
+    ensures phrase { IsPartAt place (nth 9 (rule primary)) (IsPrimary place 9) (lexemes_of tokens.now) result }
     ensures shorter { IfOk result (λ x. length x.1.now < length tokens.now) }
 {
     let (word, rest) = cursor::expect(tokens, b"with")?;
@@ -158,15 +170,13 @@ fn with_loop<'a>(place: Place, tokens: &'a [Token<'a>]) -> Read<'a, Expression>
     let (_close, rest) = cursor::expect(rest, b"}")?;
     let (_colon, rest) = cursor::expect(rest, b":")?;
     let (operation, rest) = operation(place, rest)?;
-    Ok((
-        node::with_loop(place, generators, operation, word.site)?,
-        rest,
-    ))
+    Ok((node::with_loop(place, generators, operation, word.site)?, rest))
 }
 
 /// A primary expression, which may be too high for its place by its last node.
 #[cycle(phrase)]
 fn alternative<'a>(place: Place, tokens: &'a [Token<'a>]) -> Read<'a, Expression>
+    ensures phrase { IsPartAt place (rule primary) (IsPrimaryOf place) (lexemes_of tokens.now) result }
     ensures shorter { IfOk result (λ x. length x.1.now < length tokens.now) }
 {
     if cursor::starts_number(tokens) {
@@ -194,6 +204,7 @@ fn alternative<'a>(place: Place, tokens: &'a [Token<'a>]) -> Read<'a, Expression
 
 #[cycle(phrase)]
 fn primary<'a>(place: Place, tokens: &'a [Token<'a>]) -> Read<'a, Expression>
+    ensures phrase { IsPhraseAt place primary view.expr height (lexemes_of tokens.now) result }
     ensures shorter { IfOk result (λ x. length x.1.now < length tokens.now) }
 {
     let (node, rest) = alternative(place, tokens)?;
@@ -203,6 +214,7 @@ fn primary<'a>(place: Place, tokens: &'a [Token<'a>]) -> Read<'a, Expression>
 /// An expression with selections behind it.
 #[cycle(phrase)]
 fn postfix<'a>(place: Place, tokens: &'a [Token<'a>]) -> Read<'a, Expression>
+    ensures phrase { IsPhraseAt place postfix view.expr height (lexemes_of tokens.now) result }
     ensures shorter { IfOk result (λ x. length x.1.now < length tokens.now) }
 {
     let (mut array, mut rest) = primary(place, tokens)?;
@@ -220,6 +232,7 @@ fn postfix<'a>(place: Place, tokens: &'a [Token<'a>]) -> Read<'a, Expression>
 
 #[cycle(phrase)]
 fn prefix<'a>(place: Place, tokens: &'a [Token<'a>]) -> Read<'a, Expression>
+    ensures phrase { IsPhraseAt place prefix view.expr height (lexemes_of tokens.now) result }
     ensures shorter { IfOk result (λ x. length x.1.now < length tokens.now) }
 {
     let Some((op, site, behind)) = cursor::operator(&level::PREFIX, tokens) else {
@@ -235,6 +248,7 @@ fn prefix<'a>(place: Place, tokens: &'a [Token<'a>]) -> Read<'a, Expression>
 /// An operand of a level.
 #[cycle(phrase)]
 fn operand<'a>(place: Place, level: Level, tokens: &'a [Token<'a>]) -> Read<'a, Expression>
+    ensures phrase { IsOperandAt level place (lexemes_of tokens.now) result }
     ensures shorter { IfOk result (λ x. length x.1.now < length tokens.now) }
 {
     match level {
@@ -250,6 +264,7 @@ fn operand<'a>(place: Place, level: Level, tokens: &'a [Token<'a>]) -> Read<'a, 
 /// Operands of a level with its operators between them, grouped to the left.
 #[cycle(phrase)]
 pub fn chain<'a>(place: Place, level: Level, tokens: &'a [Token<'a>]) -> Read<'a, Expression>
+    ensures phrase { IsLevelAt level place (lexemes_of tokens.now) result }
     ensures shorter { IfOk result (λ x. length x.1.now < length tokens.now) }
 {
     let (mut left, mut rest) = operand(place, level, tokens)?;
@@ -266,6 +281,7 @@ pub fn chain<'a>(place: Place, level: Level, tokens: &'a [Token<'a>]) -> Read<'a
 
 #[cycle(phrase)]
 pub fn expression<'a>(place: Place, tokens: &'a [Token<'a>]) -> Read<'a, Expression>
+    ensures phrase { IsPhraseAt place expression view.expr height (lexemes_of tokens.now) result }
     ensures shorter { IfOk result (λ x. length x.1.now < length tokens.now) }
 {
     let (cond, rest) = chain(place, Level::Disjunction, tokens)?;
@@ -283,6 +299,7 @@ pub fn expression<'a>(place: Place, tokens: &'a [Token<'a>]) -> Read<'a, Express
 /// The generators of a with-loop.
 #[cycle(phrase)]
 fn generators<'a>(place: Place, tokens: &'a [Token<'a>]) -> Read<'a, Vec<Generator>>
+    ensures phrase { IsPartAt place (many (ref generator)) (IsGenerators place) (lexemes_of tokens.now) result }
     ensures shorter { IfOk result (λ x. length x.1.now ≤ length tokens.now) }
 {
     let mut found = Vec::new(place.alloc);
@@ -305,6 +322,7 @@ fn generators<'a>(place: Place, tokens: &'a [Token<'a>]) -> Read<'a, Vec<Generat
 
 #[cycle(phrase)]
 fn generator<'a>(place: Place, tokens: &'a [Token<'a>]) -> Read<'a, Generator>
+    ensures phrase { IsPhraseAt place generator view.generator gen_height (lexemes_of tokens.now) result }
     ensures shorter { IfOk result (λ x. length x.1.now < length tokens.now) }
 {
     let (open, rest) = cursor::expect(tokens, b"(")?;
@@ -320,12 +338,9 @@ fn generator<'a>(place: Place, tokens: &'a [Token<'a>]) -> Read<'a, Generator>
     let (_colon, rest) = cursor::expect(rest, b":")?;
     let (cell, rest) = expression(place, rest)?;
     let (_end, rest) = cursor::expect(rest, b";")?;
-    let height = lower.height.max(
-        upper.height.max(
-            step.height
-                .max(width.height.max(body.height.max(cell.height))),
-        ),
-    );
+    let height = lower
+        .height
+        .max(upper.height.max(step.height.max(width.height.max(body.height.max(cell.height)))));
     let tree = Generator {
         lower: lower.tree,
         lower_closed,
@@ -347,6 +362,7 @@ fn generator<'a>(place: Place, tokens: &'a [Token<'a>]) -> Read<'a, Generator>
 
 #[cycle(phrase)]
 fn bound<'a>(place: Place, tokens: &'a [Token<'a>]) -> Read<'a, Bound>
+    ensures phrase { IsPhraseAt place bound view.bound bound_height (lexemes_of tokens.now) result }
     ensures shorter { IfOk result (λ x. length x.1.now < length tokens.now) }
 {
     if let Some((dot, rest)) = cursor::accept(tokens, b".") {
@@ -358,7 +374,12 @@ fn bound<'a>(place: Place, tokens: &'a [Token<'a>]) -> Read<'a, Bound>
 
 /// A word and a sum behind it, or nothing.
 #[cycle(phrase)]
-fn maybe_sum<'a>(place: Place, word: &[u8], tokens: &'a [Token<'a>]) -> Read<'a, Option<Expression>>
+fn maybe_sum<'a>(
+    place: Place,
+    word: &[u8],
+    tokens: &'a [Token<'a>],
+) -> Read<'a, Option<Expression>>
+    ensures phrase { IsPartAt place (opt (seq (sign word.now) (ref sum))) (IsMaybe place) (lexemes_of tokens.now) result }
     ensures shorter { IfOk result (λ x. length x.1.now ≤ length tokens.now) }
 {
     let Some((_word, rest)) = cursor::accept(tokens, word) else {
@@ -371,6 +392,7 @@ fn maybe_sum<'a>(place: Place, word: &[u8], tokens: &'a [Token<'a>]) -> Read<'a,
 /// A comma and an expression behind it, or nothing.
 #[cycle(phrase)]
 fn maybe_default<'a>(place: Place, tokens: &'a [Token<'a>]) -> Read<'a, Option<Expression>>
+    ensures phrase { IsPartAt place (opt (seq (sign (codes ",")) (ref expression))) (IsMaybe place) (lexemes_of tokens.now) result }
     ensures shorter { IfOk result (λ x. length x.1.now ≤ length tokens.now) }
 {
     let Some((_comma, rest)) = cursor::accept(tokens, b",") else {
@@ -382,6 +404,7 @@ fn maybe_default<'a>(place: Place, tokens: &'a [Token<'a>]) -> Read<'a, Option<E
 
 #[cycle(phrase)]
 fn genarray<'a>(place: Place, tokens: &'a [Token<'a>]) -> Read<'a, Operation>
+    ensures phrase { IsPartAt place (nth 0 (rule operation)) (IsOperation place 0) (lexemes_of tokens.now) result }
     ensures shorter { IfOk result (λ x. length x.1.now < length tokens.now) }
 {
     let (word, rest) = cursor::expect(tokens, b"genarray")?;
@@ -394,6 +417,7 @@ fn genarray<'a>(place: Place, tokens: &'a [Token<'a>]) -> Read<'a, Operation>
 
 #[cycle(phrase)]
 fn modarray<'a>(place: Place, tokens: &'a [Token<'a>]) -> Read<'a, Operation>
+    ensures phrase { IsPartAt place (nth 1 (rule operation)) (IsOperation place 1) (lexemes_of tokens.now) result }
     ensures shorter { IfOk result (λ x. length x.1.now < length tokens.now) }
 {
     let (word, rest) = cursor::expect(tokens, b"modarray")?;
@@ -403,6 +427,7 @@ fn modarray<'a>(place: Place, tokens: &'a [Token<'a>]) -> Read<'a, Operation>
 
 #[cycle(phrase)]
 fn fold<'a>(place: Place, tokens: &'a [Token<'a>]) -> Read<'a, Operation>
+    ensures phrase { IsPartAt place (nth 2 (rule operation)) (IsOperation place 2) (lexemes_of tokens.now) result }
     ensures shorter { IfOk result (λ x. length x.1.now < length tokens.now) }
 {
     let (word, rest) = cursor::expect(tokens, b"fold")?;
@@ -418,6 +443,7 @@ fn fold<'a>(place: Place, tokens: &'a [Token<'a>]) -> Read<'a, Operation>
 
 #[cycle(phrase)]
 fn operation<'a>(place: Place, tokens: &'a [Token<'a>]) -> Read<'a, Operation>
+    ensures phrase { IsPhraseAt place operation view.operation operation_height (lexemes_of tokens.now) result }
     ensures shorter { IfOk result (λ x. length x.1.now < length tokens.now) }
 {
     let (node, rest) = if cursor::starts_with(tokens, b"genarray") {
@@ -435,6 +461,7 @@ fn operation<'a>(place: Place, tokens: &'a [Token<'a>]) -> Read<'a, Operation>
 /// Statements, one after another.
 #[cycle(phrase)]
 pub fn statements<'a>(place: Place, tokens: &'a [Token<'a>]) -> Read<'a, Vec<Statement>>
+    ensures phrase { IsPartAt place (many (ref statement)) (IsStatements place) (lexemes_of tokens.now) result }
     ensures shorter { IfOk result (λ x. length x.1.now ≤ length tokens.now) }
 {
     let mut found = Vec::new(place.alloc);
@@ -457,6 +484,7 @@ pub fn statements<'a>(place: Place, tokens: &'a [Token<'a>]) -> Read<'a, Vec<Sta
 
 #[cycle(phrase)]
 fn block<'a>(place: Place, tokens: &'a [Token<'a>]) -> Read<'a, Vec<Statement>>
+    ensures phrase { IsBlockAt place block itself (lexemes_of tokens.now) result }
     ensures shorter { IfOk result (λ x. length x.1.now < length tokens.now) }
 {
     let (_open, rest) = cursor::expect(tokens, b"{")?;
@@ -468,6 +496,7 @@ fn block<'a>(place: Place, tokens: &'a [Token<'a>]) -> Read<'a, Vec<Statement>>
 /// The block of a generator, or none.
 #[cycle(phrase)]
 fn maybe_block<'a>(place: Place, tokens: &'a [Token<'a>]) -> Read<'a, Vec<Statement>>
+    ensures phrase { IsPartAt place (opt (ref block)) (IsBlockOf place) (lexemes_of tokens.now) result }
     ensures shorter { IfOk result (λ x. length x.1.now ≤ length tokens.now) }
 {
     if cursor::starts_with(tokens, b"{") {
@@ -485,6 +514,7 @@ fn maybe_block<'a>(place: Place, tokens: &'a [Token<'a>]) -> Read<'a, Vec<Statem
 /// An assignment and its semicolon.
 #[cycle(phrase)]
 fn assignment<'a>(place: Place, tokens: &'a [Token<'a>]) -> Read<'a, Vec<Statement>>
+    ensures phrase { IsPartAt place (nth 0 (rule statement)) (IsStatement place 0) (lexemes_of tokens.now) result }
     ensures shorter { IfOk result (λ x. length x.1.now < length tokens.now) }
 {
     let (node, rest) = assign(place, tokens)?;
@@ -494,6 +524,7 @@ fn assignment<'a>(place: Place, tokens: &'a [Token<'a>]) -> Read<'a, Vec<Stateme
 
 #[cycle(phrase)]
 fn conditional<'a>(place: Place, tokens: &'a [Token<'a>]) -> Read<'a, Vec<Statement>>
+    ensures phrase { IsPartAt place (nth 1 (rule statement)) (IsStatement place 1) (lexemes_of tokens.now) result }
     ensures shorter { IfOk result (λ x. length x.1.now < length tokens.now) }
 {
     let (node, rest) = if_statement(place, tokens)?;
@@ -502,19 +533,18 @@ fn conditional<'a>(place: Place, tokens: &'a [Token<'a>]) -> Read<'a, Vec<Statem
 
 #[cycle(phrase)]
 fn while_loop<'a>(place: Place, tokens: &'a [Token<'a>]) -> Read<'a, Vec<Statement>>
+    ensures phrase { IsPartAt place (nth 2 (rule statement)) (IsStatement place 2) (lexemes_of tokens.now) result }
     ensures shorter { IfOk result (λ x. length x.1.now < length tokens.now) }
 {
     let (word, rest) = cursor::expect(tokens, b"while")?;
     let (cond, rest) = parens(place, rest)?;
     let (body, rest) = block(place, rest)?;
-    Ok((
-        leaf::one(place, node::while_do(cond, body, word.site))?,
-        rest,
-    ))
+    Ok((leaf::one(place, node::while_do(cond, body, word.site))?, rest))
 }
 
 #[cycle(phrase)]
 fn do_loop<'a>(place: Place, tokens: &'a [Token<'a>]) -> Read<'a, Vec<Statement>>
+    ensures phrase { IsPartAt place (nth 3 (rule statement)) (IsStatement place 3) (lexemes_of tokens.now) result }
     ensures shorter { IfOk result (λ x. length x.1.now < length tokens.now) }
 {
     let (word, rest) = cursor::expect(tokens, b"do")?;
@@ -522,15 +552,13 @@ fn do_loop<'a>(place: Place, tokens: &'a [Token<'a>]) -> Read<'a, Vec<Statement>
     let (test, rest) = cursor::expect(rest, b"while")?;
     let (cond, rest) = parens(place, rest)?;
     let (_end, rest) = cursor::expect(rest, b";")?;
-    Ok((
-        leaf::one(place, node::do_while(body, cond, word.site, test.site))?,
-        rest,
-    ))
+    Ok((leaf::one(place, node::do_while(body, cond, word.site, test.site))?, rest))
 }
 
 /// A `for`: its first assignment, and a `while` whose body ends with the last one.
 #[cycle(phrase)]
 fn for_loop<'a>(place: Place, tokens: &'a [Token<'a>]) -> Read<'a, Vec<Statement>>
+    ensures phrase { IsPartAt place (nth 4 (rule statement)) (IsStatement place 4) (lexemes_of tokens.now) result }
     ensures shorter { IfOk result (λ x. length x.1.now < length tokens.now) }
 {
     let (word, rest) = cursor::expect(tokens, b"for")?;
@@ -542,15 +570,13 @@ fn for_loop<'a>(place: Place, tokens: &'a [Token<'a>]) -> Read<'a, Vec<Statement
     let (step, rest) = assign(place, rest)?;
     let (_close, rest) = cursor::expect(rest, b")")?;
     let (body, rest) = block(place, rest)?;
-    Ok((
-        leaf::for_loop(place, start, cond, step, body, word.site)?,
-        rest,
-    ))
+    Ok((leaf::for_loop(place, start, cond, step, body, word.site)?, rest))
 }
 
 /// A statement, which may be too high for its place by its last node.
 #[cycle(phrase)]
 fn any_statement<'a>(place: Place, tokens: &'a [Token<'a>]) -> Read<'a, Vec<Statement>>
+    ensures phrase { IsPartAt place (rule statement) (IsStatementOf place) (lexemes_of tokens.now) result }
     ensures shorter { IfOk result (λ x. length x.1.now < length tokens.now) }
 {
     if cursor::starts_name(tokens) {
@@ -568,6 +594,7 @@ fn any_statement<'a>(place: Place, tokens: &'a [Token<'a>]) -> Read<'a, Vec<Stat
 
 #[cycle(phrase)]
 fn statement<'a>(place: Place, tokens: &'a [Token<'a>]) -> Read<'a, Vec<Statement>>
+    ensures phrase { IsBlockAt place statement itself (lexemes_of tokens.now) result }
     ensures shorter { IfOk result (λ x. length x.1.now < length tokens.now) }
 {
     let (node, rest) = any_statement(place, tokens)?;
@@ -576,6 +603,7 @@ fn statement<'a>(place: Place, tokens: &'a [Token<'a>]) -> Read<'a, Vec<Statemen
 
 #[cycle(phrase)]
 fn if_statement<'a>(place: Place, tokens: &'a [Token<'a>]) -> Read<'a, Statement>
+    ensures phrase { IsPhraseAt place if_statement view.stmt stmt_height (lexemes_of tokens.now) result }
     ensures shorter { IfOk result (λ x. length x.1.now < length tokens.now) }
 {
     let (word, rest) = cursor::expect(tokens, b"if")?;
@@ -588,6 +616,7 @@ fn if_statement<'a>(place: Place, tokens: &'a [Token<'a>]) -> Read<'a, Statement
 /// What stands behind an `else`, or nothing.
 #[cycle(phrase)]
 fn maybe_else<'a>(place: Place, tokens: &'a [Token<'a>]) -> Read<'a, Vec<Statement>>
+    ensures phrase { IsPartAt place (opt (seq (sign (codes "else")) (ref else_branch))) (IsElse place) (lexemes_of tokens.now) result }
     ensures shorter { IfOk result (λ x. length x.1.now ≤ length tokens.now) }
 {
     let Some((_else, rest)) = cursor::accept(tokens, b"else") else {
@@ -604,6 +633,7 @@ fn maybe_else<'a>(place: Place, tokens: &'a [Token<'a>]) -> Read<'a, Vec<Stateme
 
 #[cycle(phrase)]
 fn else_branch<'a>(place: Place, tokens: &'a [Token<'a>]) -> Read<'a, Vec<Statement>>
+    ensures phrase { IsBlockAt place else_branch itself (lexemes_of tokens.now) result }
     ensures shorter { IfOk result (λ x. length x.1.now < length tokens.now) }
 {
     if cursor::starts_with(tokens, b"{") {
@@ -616,6 +646,8 @@ fn else_branch<'a>(place: Place, tokens: &'a [Token<'a>]) -> Read<'a, Vec<Statem
 /// The right side of an assignment of one or more targets.
 #[cycle(phrase)]
 fn several<'a>(place: Place, token: Token<'a>, tokens: &'a [Token<'a>]) -> Read<'a, Statement>
+    requires { is_name token.text.now ≡ true }
+    ensures phrase { IsPartAt place (nth 0 AssignRest) (IsAssigned place (lexeme token.entry) 0) (lexemes_of tokens.now) result }
     ensures shorter { IfOk result (λ x. length x.1.now < length tokens.now) }
 {
     let (targets, rest) = leaf::targets(place.alloc, token, tokens)?;
@@ -627,6 +659,8 @@ fn several<'a>(place: Place, token: Token<'a>, tokens: &'a [Token<'a>]) -> Read<
 /// What stands behind the name of a replacement.
 #[cycle(phrase)]
 fn replacement<'a>(place: Place, token: Token<'a>, tokens: &'a [Token<'a>]) -> Read<'a, Statement>
+    requires { is_name token.text.now ≡ true }
+    ensures phrase { IsPartAt place (nth 1 AssignRest) (IsAssigned place (lexeme token.entry) 1) (lexemes_of tokens.now) result }
     ensures shorter { IfOk result (λ x. length x.1.now < length tokens.now) }
 {
     let (open, rest) = cursor::expect(tokens, b"[")?;
@@ -642,6 +676,8 @@ fn replacement<'a>(place: Place, token: Token<'a>, tokens: &'a [Token<'a>]) -> R
 /// What stands behind the name of an assignment with an operator.
 #[cycle(phrase)]
 fn compound<'a>(place: Place, token: Token<'a>, tokens: &'a [Token<'a>]) -> Read<'a, Statement>
+    requires { is_name token.text.now ≡ true }
+    ensures phrase { IsPartAt place (nth 2 AssignRest) (IsAssigned place (lexeme token.entry) 2) (lexemes_of tokens.now) result }
     ensures shorter { IfOk result (λ x. length x.1.now < length tokens.now) }
 {
     let Some((op, site, rest)) = cursor::operator(&level::COMPOUND, tokens) else {
@@ -654,6 +690,8 @@ fn compound<'a>(place: Place, token: Token<'a>, tokens: &'a [Token<'a>]) -> Read
 /// What stands behind the name of an assignment, which may be too high for its place by its last node.
 #[cycle(phrase)]
 fn assigned<'a>(place: Place, token: Token<'a>, tokens: &'a [Token<'a>]) -> Read<'a, Statement>
+    requires { is_name token.text.now ≡ true }
+    ensures phrase { IsPartAt place AssignRest (IsAssignedOf place (lexeme token.entry)) (lexemes_of tokens.now) result }
     ensures shorter { IfOk result (λ x. length x.1.now < length tokens.now) }
 {
     if cursor::starts_with_any(tokens, &leaf::SEVERAL) {
@@ -669,6 +707,7 @@ fn assigned<'a>(place: Place, token: Token<'a>, tokens: &'a [Token<'a>]) -> Read
 
 #[cycle(phrase)]
 fn assign<'a>(place: Place, tokens: &'a [Token<'a>]) -> Read<'a, Statement>
+    ensures phrase { IsPhraseAt place assign view.stmt stmt_height (lexemes_of tokens.now) result }
     ensures shorter { IfOk result (λ x. length x.1.now < length tokens.now) }
 {
     let (token, rest) = cursor::expect_name(tokens)?;

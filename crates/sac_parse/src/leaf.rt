@@ -1,14 +1,26 @@
 //! Phrases without expressions in them, and small steps of the others.
-ghost use Rattle.std.specs.Prelude.{◌≡◌, ◌<◌, ◌≤◌, Some, None, IfOk, length};
-ghost use Rattle.sac_ast.specs.Grammar.{expression, statement};
+ghost use Rattle.std.specs.Prelude.{◌≡◌, ◌<◌, ◌≤◌, ◌+◌, ◌∷◌, ◌++◌, [], max, Option, Some, None, IfOk, IfErr, length, map, codes, true, All, IsTrue};
+ghost use Rattle.std.specs.Char.{digit_value};
+ghost use Rattle.std.specs.Str.Parse.{digits_value};
+ghost use Rattle.sac_lex.specs.Spelling.{is_digit};
+ghost use Rattle.sac_ast.specs.Shape.{term, seq, alt, many, ref, name};
+ghost use Rattle.sac_ast.specs.Grammar.{rule, primary, index, expression, statement, sign, target, to_variable};
+ghost use Rattle.sac_ast.specs.View as view;
+ghost use Rattle.sac_ast.specs.Tree as tree;
+ghost use Rattle.sac_ast.specs.Texts.{is_name};
 ghost use Rattle.sac_grammar.specs.Run.{starts};
 ghost use Rattle.sac_grammar.specs.Tables.{first_of};
-ghost use Rattle.sac_parse.specs.Contract.{lexemes_of};
+ghost use Rattle.sac_grammar.specs.Parsing.{nth};
+ghost use Rattle.sac_parse.specs.declared.halt.Halt.TheVariants.{Memory};
+ghost use Rattle.sac_parse.specs.Contract.{lexeme, lexemes_of, IsPartAt, IsLeafAt};
+ghost use Rattle.sac_parse.specs.Parts.{IsPrimary, IsBuiltinWord, IsRelation, AreTargets, AssignRest, IsAssigned};
 
+use crate::cursor;
 use crate::descent::Read;
 use crate::halt::Halt;
+use crate::level;
+use crate::node;
 use crate::place::{self, Measured, Place};
-use crate::{cursor, level, node};
 use sac_ast::{Builtin, Expression, Index, Param, Statement, Target};
 use sac_base::{ArrayType, Base, Name, Op, Part, Shape, Site};
 use sac_lex::Token;
@@ -27,26 +39,44 @@ pub const SEVERAL: [&[u8]; 2] = [b",", b"="];
 pub const COMPOUND: [&[u8]; 5] = [b"+=", b"-=", b"*=", b"/=", b"%="];
 
 const EXPRESSION: [&[u8]; 12] = [
-    b"-", b"!", b"true", b"false", b"dim", b"shape", b"reshape", b"min", b"max", b"(", b"[",
+    b"-",
+    b"!",
+    b"true",
+    b"false",
+    b"dim",
+    b"shape",
+    b"reshape",
+    b"min",
+    b"max",
+    b"(",
+    b"[",
     b"with",
 ];
 
 const STATEMENT: [&[u8]; 4] = [b"if", b"while", b"do", b"for"];
 
 /// Whether an expression begins here.
-pub fn starts_expression(tokens: &[Token]) -> bool {
+pub fn starts_expression(tokens: &[Token]) -> bool
+    ensures { result ≡ starts (first_of expression) (lexemes_of tokens.now) }
+{
     cursor::starts_number(tokens)
         || cursor::starts_name(tokens)
         || cursor::starts_with_any(tokens, &EXPRESSION)
 }
 
 /// Whether a statement begins here.
-pub fn starts_statement(tokens: &[Token]) -> bool {
+pub fn starts_statement(tokens: &[Token]) -> bool
+    ensures { result ≡ starts (first_of statement) (lexemes_of tokens.now) }
+{
     cursor::starts_name(tokens) || cursor::starts_with_any(tokens, &STATEMENT)
 }
 
 /// The name that a token is.
-pub fn name<'a>(alloc: Global, token: Token<'a>) -> Result<Name, Halt<'a>> {
+pub fn name<'a>(alloc: Global, token: Token<'a>) -> Result<Name, Halt<'a>>
+    requires { is_name token.text.now ≡ true }
+    ensures name { IfOk result (λ name. name ≡ token.entry.text.now) }
+    ensures memory { IfErr result (λ e. e ≡ Memory) }
+{
     match Name::from_bytes(alloc, token.text) {
         Ok(Some(name)) => Ok(name),
         Ok(None) => Err(Halt::Memory),
@@ -55,7 +85,11 @@ pub fn name<'a>(alloc: Global, token: Token<'a>) -> Result<Name, Halt<'a>> {
 }
 
 /// The name that a token is, with its site.
-pub fn target<'a>(alloc: Global, token: Token<'a>) -> Result<Target, Halt<'a>> {
+pub fn target<'a>(alloc: Global, token: Token<'a>) -> Result<Target, Halt<'a>>
+    requires { is_name token.text.now ≡ true }
+    ensures target { IfOk result (λ x. x ≡ target (lexeme token.entry)) }
+    ensures memory { IfErr result (λ e. e ≡ Memory) }
+{
     let name = name(alloc, token)?;
     Ok(Target {
         name,
@@ -63,45 +97,56 @@ pub fn target<'a>(alloc: Global, token: Token<'a>) -> Result<Target, Halt<'a>> {
     })
 }
 
-/// The number that digits spell.
-pub fn number_value(digits: &[u8]) -> i32 {
-    let mut value: i32 = 0;
-    for digit in digits {
-        value = value
-            .wrapping_mul(10)
-            .wrapping_add(i32::from(digit.wrapping_sub(b'0')));
+fn digit_value(byte: u8) -> u32
+    requires { IsTrue (is_digit byte) }
+    ensures value { result ≡ digit_value byte }
+    ensures small { result ≤ 9 }
+{
+    u32::from(byte - b'0')
+}
+
+/// The number that digits spell, at most 2,147,483,647.
+pub fn number_value(digits: &[u8]) -> u32
+    requires digits { All (λ digit. IsTrue (is_digit digit)) digits.now }
+    requires small { digits_value 10 digits.now ≤ 2147483647 }
+    ensures { result ≡ digits_value 10 digits.now }
+{
+    let mut value = 0;
+    for byte in digits {
+        value = value * 10 + digit_value(*byte);
     }
     value
 }
 
 pub fn number<'a>(place: Place, tokens: &'a [Token<'a>]) -> Read<'a, Expression>
+    ensures phrase { IsPartAt place (nth 0 (rule primary)) (IsPrimary place 0) (lexemes_of tokens.now) result }
     ensures shorter { IfOk result (λ x. length x.1.now < length tokens.now) }
 {
     let (token, rest) = cursor::expect_number(tokens)?;
-    Ok((
-        node::leaf(Expression::Number(number_value(token.text), token.site)),
-        rest,
-    ))
+    Ok((node::number(number_value(token.text) as i32, token.site), rest))
 }
 
 pub fn truth_true<'a>(place: Place, tokens: &'a [Token<'a>]) -> Read<'a, Expression>
+    ensures phrase { IsPartAt place (nth 1 (rule primary)) (IsPrimary place 1) (lexemes_of tokens.now) result }
     ensures shorter { IfOk result (λ x. length x.1.now < length tokens.now) }
 {
     let (token, rest) = cursor::expect(tokens, b"true")?;
-    Ok((node::leaf(Expression::Truth(true, token.site)), rest))
+    Ok((node::truth(true, token.site), rest))
 }
 
 pub fn truth_false<'a>(place: Place, tokens: &'a [Token<'a>]) -> Read<'a, Expression>
+    ensures phrase { IsPartAt place (nth 2 (rule primary)) (IsPrimary place 2) (lexemes_of tokens.now) result }
     ensures shorter { IfOk result (λ x. length x.1.now < length tokens.now) }
 {
     let (token, rest) = cursor::expect(tokens, b"false")?;
-    Ok((node::leaf(Expression::Truth(false, token.site)), rest))
+    Ok((node::truth(false, token.site), rest))
 }
 
 /// The word of a built-in function of one argument.
 pub fn builtin_word<'a>(
     tokens: &'a [Token<'a>],
 ) -> Result<((Builtin, Site), &'a [Token<'a>]), Halt<'a>>
+    ensures phrase { IsLeafAt (alt (sign (codes "dim")) (sign (codes "shape"))) IsBuiltinWord (lexemes_of tokens.now) result }
     ensures shorter { IfOk result (λ x. length x.1.now < length tokens.now) }
 {
     if let Some((word, rest)) = cursor::accept(tokens, b"dim") {
@@ -113,6 +158,7 @@ pub fn builtin_word<'a>(
 
 /// Whether a bound is a member, by the sign beside it.
 pub fn relation<'a>(tokens: &'a [Token<'a>]) -> Result<(bool, &'a [Token<'a>]), Halt<'a>>
+    ensures phrase { IsLeafAt (alt (sign (codes "<=")) (sign (codes "<"))) IsRelation (lexemes_of tokens.now) result }
     ensures shorter { IfOk result (λ x. length x.1.now < length tokens.now) }
 {
     if let Some((_sign, rest)) = cursor::accept(tokens, b"<=") {
@@ -128,6 +174,8 @@ pub fn targets<'a>(
     first: Token<'a>,
     tokens: &'a [Token<'a>],
 ) -> Result<(Vec<Target>, &'a [Token<'a>]), Halt<'a>>
+    requires { is_name first.text.now ≡ true }
+    ensures phrase { IsLeafAt (many (seq (sign (codes ",")) (term name))) (AreTargets (lexeme first.entry)) (lexemes_of tokens.now) result }
     ensures shorter { IfOk result (λ x. length x.1.now ≤ length tokens.now) }
 {
     let mut found = Vec::new(alloc);
@@ -146,6 +194,7 @@ pub fn index<'a>(
     alloc: Global,
     tokens: &'a [Token<'a>],
 ) -> Result<(Index, &'a [Token<'a>]), Halt<'a>>
+    ensures phrase { IsLeafAt (ref index) (λ i v. view.index_view i ≡ v) (lexemes_of tokens.now) result }
     ensures shorter { IfOk result (λ x. length x.1.now < length tokens.now) }
 {
     if cursor::starts_name(tokens) {
@@ -183,7 +232,11 @@ pub fn present(value: Measured<Expression>) -> Measured<Option<Expression>>
 pub fn one<'a>(
     place: Place,
     node: Measured<Statement>,
-) -> Result<Measured<Vec<Statement>>, Halt<'a>> {
+) -> Result<Measured<Vec<Statement>>, Halt<'a>>
+    ensures tree { IfOk result (λ list. list.tree.items ≡ node.tree ∷ []) }
+    ensures height { IfOk result (λ list. list.height ≡ node.height) }
+    ensures memory { IfErr result (λ e. e ≡ Memory) }
+{
     let mut list = Vec::new(place.alloc);
     list.push(node.tree)?;
     Ok(Measured {
@@ -200,7 +253,11 @@ pub fn for_loop<'a>(
     step: Measured<Statement>,
     mut body: Measured<Vec<Statement>>,
     site: Site,
-) -> Result<Measured<Vec<Statement>>, Halt<'a>> {
+) -> Result<Measured<Vec<Statement>>, Halt<'a>>
+    ensures trees { IfOk result (λ list. map view.stmt list.tree.items ≡ view.stmt start.tree ∷ tree.while_do (view.expr cond.tree) (view.block_of (map view.stmt body.tree.items ++ (view.stmt step.tree ∷ []))) site ∷ []) }
+    ensures height { IfOk result (λ list. max cond.height (max body.height step.height) ≤ 100 → list.height ≡ max start.height (1 + max cond.height (max body.height step.height))) }
+    ensures memory { IfErr result (λ e. e ≡ Memory) }
+{
     body.tree.push(step.tree)?;
     let body = Measured {
         tree: body.tree,
@@ -211,7 +268,10 @@ pub fn for_loop<'a>(
     let mut list = Vec::new(place.alloc);
     list.push(start.tree)?;
     list.push(turns.tree)?;
-    Ok(Measured { tree: list, height })
+    Ok(Measured {
+        tree: list,
+        height,
+    })
 }
 
 /// The assignment of an operator's result to its first operand.
@@ -221,9 +281,14 @@ pub fn update<'a>(
     op: Op,
     value: Measured<Expression>,
     site: Site,
-) -> Result<Measured<Statement>, Halt<'a>> {
+) -> Result<Measured<Statement>, Halt<'a>>
+    requires { is_name token.text.now ≡ true }
+    ensures tree { IfOk result (λ node. view.stmt node.tree ≡ tree.assign (target (lexeme token.entry) ∷ []) (tree.binary op (to_variable (lexeme token.entry)) (view.expr value.tree) site)) }
+    ensures height { IfOk result (λ node. value.height ≤ 99 → node.height ≡ 1 + (1 + max 1 value.height)) }
+    ensures memory { IfErr result (λ e. e ≡ Memory) }
+{
     let variable = target(place.alloc, token)?;
-    let operand = node::leaf(Expression::Variable(variable.name, variable.site));
+    let operand = node::variable(variable);
     let value = node::binary(place, op, operand, value, site)?;
     let mut list = Vec::new(place.alloc);
     list.push(target(place.alloc, token)?)?;
@@ -232,11 +297,13 @@ pub fn update<'a>(
 
 /// What stands behind the name of a count by one.
 pub fn step<'a>(place: Place, token: Token<'a>, tokens: &'a [Token<'a>]) -> Read<'a, Statement>
+    requires { is_name token.text.now ≡ true }
+    ensures phrase { IsPartAt place (nth 3 AssignRest) (IsAssigned place (lexeme token.entry) 3) (lexemes_of tokens.now) result }
     ensures shorter { IfOk result (λ x. length x.1.now < length tokens.now) }
 {
     let Some((op, site, rest)) = cursor::operator(&level::STEPS, tokens) else {
         return Err(Halt::Stuck(tokens));
     };
-    let one = node::leaf(Expression::Number(1, site));
+    let one = node::number(1, site);
     Ok((update(place, token, op, one, site)?, rest))
 }

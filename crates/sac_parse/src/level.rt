@@ -1,5 +1,7 @@
 //! The levels of binary operators, and tables of operators.
-ghost use Rattle.std.specs.Prelude.{◌<◌, IfSome, length};
+ghost use Rattle.std.specs.Prelude.{◌≡◌, ◌<◌, ◌∷◌, IfSome, length};
+ghost use Rattle.sac_parse.specs.Contract.{lexemes_of, IsOperator};
+ghost use Rattle.sac_parse.specs.Levels.{first_operator, more_operators};
 
 use crate::cursor;
 use sac_base::{Op, Site};
@@ -63,6 +65,7 @@ pub const STEPS: [(&[u8], Op); 2] = [(b"++", Op::Add), (b"--", Op::Sub)];
 
 /// The operator of the level that the first token is, its site, and the tokens behind it.
 pub fn operator<'a>(level: Level, tokens: &'a [Token<'a>]) -> Option<(Op, Site, &'a [Token<'a>])>
+    ensures token { IsOperator (first_operator level ∷ more_operators level) (lexemes_of tokens.now) result }
     ensures shorter { IfSome result (λ x. length x.2.now < length tokens.now) }
 {
     match level {

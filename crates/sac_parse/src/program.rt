@@ -49,13 +49,13 @@ fn extents<'a>(
 {
     let (token, mut rest) = cursor::expect_number(tokens)?;
     let mut found = Vec::new(alloc);
-    found.push(leaf::number_value(token.text))?;
+    found.push(leaf::number_value(token.text) as i32)?;
     while found.len() < 8 {
         let Some((_comma, behind)) = cursor::accept(rest, b",") else {
             return Ok((found, rest));
         };
         let (token, after) = cursor::expect_number(behind)?;
-        found.push(leaf::number_value(token.text))?;
+        found.push(leaf::number_value(token.text) as i32)?;
         rest = after;
     }
     Ok((found, rest))
