@@ -188,8 +188,8 @@ each f xs = all_of (map f xs)
 pub record Plan : Type 0 where
   -- the range of each generator
   pub ranges : List Range
-  -- where the indices lie
-  pub frame : List Span
+  -- the indices of the frame in row-major order
+  pub indices : List (List ℤ)
   -- what each cell must be
   pub form : Form
   -- the shape of the result
@@ -201,7 +201,7 @@ genarray_plan gs (Some frame) default site =
     if nat_le (length (frame ++ default.shape)) 8 then
     (if nat_le (size frame) MOST && nat_le (size (frame ++ default.shape)) MOST then
     and_then (each (range_of (length frame) 8 (Some frame) frame) gs) (λ ranges.
-    Ok (record { ranges = ranges; frame = shape_spans frame; form = form_of default; shape = frame ++ default.shape }))
+    Ok (record { ranges = ranges; indices = box (shape_spans frame); form = form_of default; shape = frame ++ default.shape }))
     else fault F8 site) else fault F4 site
 
 -- the frame is the first n extents of the array, and a cell has the rest
@@ -210,7 +210,7 @@ modarray_plan gs n array site =
     let frame = take n array.shape in
     and_then (each (range_of n (length array.shape) (Some frame) frame) gs) (λ ranges.
     if nat_le (size frame) MOST
-    then Ok (record { ranges = ranges; frame = shape_spans frame; form = record { base = array.base; shape = drop n array.shape }; shape = array.shape })
+    then Ok (record { ranges = ranges; indices = box (shape_spans frame); form = record { base = array.base; shape = drop n array.shape }; shape = array.shape })
     else fault F8 site)
 
 -- the box from the lower to the upper bound is empty
@@ -235,7 +235,7 @@ fold_plan gs n neutral site =
     and_then (each (range_of n 8 None []) gs) (λ ranges.
     let frame = fold_frame (filter (λ r. not (is_empty_box r)) ranges) in
     if nat_le (box_size frame) MOST
-    then Ok (record { ranges = ranges; frame = frame; form = form_of neutral; shape = neutral.shape })
+    then Ok (record { ranges = ranges; indices = box frame; form = form_of neutral; shape = neutral.shape })
     else fault F8 site)
 
 abbrev pub plan : List Bounds → Operation → Ends Plan
@@ -295,12 +295,12 @@ abbrev pub finish : Operation → Plan → List (Option ArrayValue) → ArrayVal
 finish (genarray shape default site) p found =
     record { base = default.base; shape = p.shape; cells = flat_map (cell_or default) found }
 finish (modarray array site) p found =
-    record { base = array.base; shape = p.shape; cells = flat_map (λ (q : List ℤ × Option ArrayValue). cell_or_old array q.0 q.1) (zip (box p.frame) found) }
+    record { base = array.base; shape = p.shape; cells = flat_map (λ (q : List ℤ × Option ArrayValue). cell_or_old array q.0 q.1) (zip p.indices found) }
 finish (fold_by op neutral site) p found = fold (combined op) neutral found
 
 -- the value of a with-loop
 abbrev pub with_value : List Generator → Operation → Ends ArrayValue
 with_value gs op =
     and_then (plan (map (λ (g : Generator). g.bounds) gs) op) (λ p.
-    and_then (cells_of p.form gs p.ranges (box p.frame)) (λ found.
+    and_then (cells_of p.form gs p.ranges p.indices) (λ found.
     Ok (finish op p found)))

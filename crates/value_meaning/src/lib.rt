@@ -1,11 +1,8 @@
 //! The value meaning of a program, and the plain evaluator, which computes it from the tree.
 #![tactic(auto)]
 
-use sac_base::Fault;
+mod ranges;
+mod stop;
 
-/// Why an evaluation ended without a value.
-#[derive(Clone, Copy)]
-pub enum Stop {
-    Faulted(Fault),
-    Memory,
-}
+pub use ranges::{Axis, Range};
+pub use stop::{Stop, fault};
