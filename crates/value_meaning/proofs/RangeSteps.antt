@@ -388,3 +388,7 @@ axes_length (l ∷ ls) [] ss ws a b c = absurd (omega arith)
 axes_length (l ∷ ls) (u ∷ us) [] ws a b c = absurd (omega arith)
 axes_length (l ∷ ls) (u ∷ us) (s ∷ ss) [] a b c = absurd (omega arith)
 axes_length (l ∷ ls) (u ∷ us) (s ∷ ss) (w ∷ ws) a b c = ap suc (axes_length ls us ss ws (omega arith) (omega arith) (omega arith))
+
+pub abs_pos : (ns : List ℕ) → map nat_abs (map pos ns) ≡ ns
+abs_pos [] = refl
+abs_pos (n ∷ ns) = ap (λ ms. n ∷ ms) (abs_pos ns)

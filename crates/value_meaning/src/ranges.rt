@@ -1,7 +1,7 @@
 //! Which indices a generator holds.
 
 ghost use Rattle.std.specs.Prelude.{◌≡◌, ◌<◌, ◌≤◌, ◌%◌, ℕ, ◌-ℤ◌, pos, true, false, int_le, int_lt, List, [], ◌∷◌, length, All, Some, None, Ok, IfOk, IfSome, IfNone, map, unsigned_abs};
-ghost use Rattle.sac_base.specs.WithLoops.{holds_at, holds as holds_all, axes as axes_of, lies_in, members, is_empty_box, joined_axis, span_of};
+ghost use Rattle.sac_base.specs.WithLoops.{holds_at, holds as holds_all, axes as axes_of, lies_in, members, is_empty_box, joined_axis, joined_range, span_of};
 ghost use Rattle.std.specs.List.{list_all};
 ghost use Rattle.value_meaning.specs.Ranges.{IsAxis, IsBound, IsStep, is_empty_axis, axis_within, axes_within};
 ghost use Rattle.sac_base.specs.Shapes.{IsExtent};
@@ -198,6 +198,17 @@ impl Range {
         true
     }
 
+    /// The components of the least box that holds the boxes of two ranges, with this range's steps and widths.
+    pub fn joined(&self, alloc: Global, other: &Range) -> Result<Range, Memory>
+        ensures { IfOk result (λ r. r ≡ joined_range self.now other.now) }
+    {
+        let mut axes = Vec::new(alloc);
+        for k in 0..self.axes.len().min(other.axes.len()) {
+            axes.push(self.axes[k].joined(&other.axes[k]))?;
+        }
+        Ok(Range { axes })
+    }
+
     /// Whether the box from the lower to the upper bound is empty.
     pub fn is_empty(&self) -> bool
         ensures { result ≡ is_empty_box self.now }
@@ -210,6 +221,7 @@ impl Range {
         requires { length self.now ≡ length frame.now }
         ensures { result ≡ list_all (lies_in frame.now) (members self.now) }
     {
+        let _ = &self.axes;
         self.is_empty() || self.has_axes_within(frame.extents())
     }
 

@@ -1,0 +1,171 @@
+//! The indices of a with-loop's frame.
+
+ghost use Rattle.std.specs.Prelude.{◌≡◌, ◌≤◌, ◌<◌, [], length, slice_index_or, List, ℤ, IfOk, IfSome, OnOk, is_some, nat_le};
+ghost use Rattle.sac_base.specs.Arrays.{size, MOST};
+ghost use Rattle.sac_base.specs.WithLoops.{box, box_size, shape_spans};
+ghost use Rattle.value_meaning.specs.Frames.{joined_frame};
+
+use crate::ranges::{Axis, Range};
+use sac_base::{MOST_ELEMENTS, Memory, Shape, elements, index_at};
+use std::alloc::Global;
+use std::marker::Model;
+
+/// An index vector, of at most 8 components.
+#[derive(Drop)]
+pub struct IndexVector {
+    components: Vec<i32>,
+}
+
+impl Model for IndexVector {
+    ghost use Rattle.std.specs.Prelude.{List, ℤ, length, ◌≤◌};
+
+    ghost Value = { List ℤ };
+
+    ghost view = { λ v. v.components.items };
+
+    ghost invariant = { λ v. length v.components.items ≤ 8 };
+}
+
+impl IndexVector {
+    /// No component.
+    pub fn new(alloc: Global) -> IndexVector
+        ensures { result ≡ [] }
+    {
+        IndexVector {
+            components: Vec::new(alloc),
+        }
+    }
+
+    /// The components.
+    pub fn components(&self) -> &[i32]
+        ensures value { result.now ≡ self.now }
+        ensures short { length self.now ≤ 8 }
+    {
+        self.components.as_slice()
+    }
+}
+
+/// The indices of a frame in row-major order: its lowest index, its extents, and how many indices there are.
+#[derive(Drop)]
+pub struct Frame {
+    low: Vec<i32>,
+    extents: Shape,
+    count: u64,
+}
+
+impl Model for Frame {
+    ghost use Rattle.std.specs.Prelude.{List, ℤ};
+    ghost use Rattle.sac_base.specs.WithLoops.{box};
+    ghost use Rattle.value_meaning.specs.Frames.{IsFrame, spans};
+
+    ghost Value = { List (List ℤ) };
+
+    ghost view = { λ f. box (spans f.low.items f.extents) };
+
+    ghost invariant = { λ f. IsFrame f.low.items f.extents f.count };
+}
+
+impl Frame {
+    /// The indices of a shape.
+    pub fn of_shape(alloc: Global, shape: &Shape) -> Result<Frame, Memory>
+        requires { size shape.now ≤ MOST }
+        ensures { IfOk result (λ f. f ≡ box (shape_spans shape.now)) }
+    {
+        let mut low = Vec::new(alloc);
+        for _k in 0..shape.rank() {
+            low.push(0)?;
+        }
+        let count = elements(shape).unwrap();
+        Ok(Frame {
+            low,
+            extents: shape.copy(),
+            count,
+        })
+    }
+
+    /// The indices of the least box that holds the boxes of all ranges that are not empty. There are none exactly where they would be too many.
+    pub fn of_ranges(alloc: Global, ranges: &[Range]) -> Result<Option<Frame>, Memory>
+        ensures some { IfOk result (λ o. IfSome o (λ f. f ≡ box (joined_frame ranges.now))) }
+        ensures none { IfOk result (λ o. is_some o ≡ nat_le (box_size (joined_frame ranges.now)) MOST) }
+    {
+        let mut joined: Option<Range> = None;
+        for range in ranges {
+            if !range.is_empty() {
+                joined = Some(match &joined {
+                    None => range.joined(alloc, range)?,
+                    Some(before) => before.joined(alloc, range)?,
+                });
+            }
+        }
+        match joined {
+            None => Frame::without_index(alloc),
+            Some(range) => Frame::of_box(alloc, range.axes()),
+        }
+    }
+
+    // No index.
+    fn without_index(alloc: Global) -> Result<Option<Frame>, Memory>
+    {
+        let mut low = Vec::new(alloc);
+        low.push(0)?;
+        Ok(Some(Frame {
+            low,
+            extents: Shape::vector(alloc, 0),
+            count: 0,
+        }))
+    }
+
+    // The indices of a box that is not empty, if they are not too many.
+    fn of_box(alloc: Global, axes: &[Axis]) -> Result<Option<Frame>, Memory>
+    {
+        let mut low = Vec::new(alloc);
+        let mut extents = Vec::new(alloc);
+        for axis in axes {
+            let extent = axis.extent();
+            if extent > MOST_ELEMENTS {
+                return Ok(None);
+            }
+            low.push(axis.lower() as i32)?;
+            extents.push(extent as i32)?;
+        }
+        let Some(extents) = Shape::from_extents(alloc, &extents) else {
+            return Ok(None);
+        };
+        match elements(&extents) {
+            None => Ok(None),
+            Some(count) => Ok(Some(Frame {
+                low,
+                extents,
+                count,
+            })),
+        }
+    }
+
+    /// How many indices there are.
+    pub fn count(&self) -> u64
+        ensures { result ≡ length self.now }
+    {
+        self.count
+    }
+
+    /// Writes the index at a place.
+    pub fn index(&self, place: u64, into: &mut IndexVector) -> Result<(), Memory>
+        requires { place < length self.now }
+        ensures { (d : List ℤ) → OnOk result (into.new ≡ slice_index_or self.now place d) }
+    {
+        into.components.clear();
+        for _k in 0..self.extents.rank() {
+            into.components.push(0)?;
+        }
+        index_at(&self.extents, place, into.components.as_mut_slice());
+        self.add_low(into.components.as_mut_slice());
+        Ok(())
+    }
+
+    // Adds the lowest index.
+    fn add_low(&self, v: &mut [i32]) {
+        for k in 0..self.low.len().min(v.len()) {
+            v[k] = self.low[k] + v[k];
+        }
+    }
+}
