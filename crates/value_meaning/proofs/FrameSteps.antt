@@ -78,7 +78,7 @@ box_at (a ∷ rest) p d h =
     ∙ ap (λ xs. (a.low +ℤ pos (p / box_size rest)) ∷ xs) (box_at rest (p % box_size rest) [] (mod_below p (box_size rest) some))
 
 -- numbers of two lists added one by one
-abbrev added : List ℤ → List ℤ → List ℤ
+abbrev pub added : List ℤ → List ℤ → List ℤ
 added (a ∷ as') (b ∷ bs) = (a +ℤ b) ∷ added as' bs
 added _ _ = []
 

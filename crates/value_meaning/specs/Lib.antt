@@ -4,3 +4,6 @@ pub mod Plans
 pub mod Tells
 pub mod Meaning
 pub mod Calls
+pub mod Environments
+pub mod Evaluation
+pub mod WithSource

@@ -5,11 +5,13 @@ ghost use Rattle.sac_ast.specs.Tree;
 ghost use Rattle.sac_ast.specs.View;
 ghost use Rattle.sac_ast.specs.View.{expr, exprs, stmt, block};
 ghost use Rattle.value_meaning.specs.Environments.{env_of};
-ghost use Rattle.value_meaning.specs.Evaluation.{meaning_in, meanings_in, statement_in, block_in, repeat_in, calls_in, run_chosen_in, function_in, cell_in};
+ghost use Rattle.value_meaning.specs.Evaluation.{meaning_in, meanings_in, statement_in, block_in, repeat_in, calls_in, run_chosen_in, function_in, cell_in, test_in};
 ghost use Rattle.value_meaning.specs.Meaning.{call_with};
 ghost use Rattle.value_meaning.specs.Plans.{operation_of};
 ghost use Rattle.value_meaning.specs.Tells.{Tells, TellsItems, TellsEnv, TellsAs};
-ghost use Rattle.value_meaning.specs.WithSource.{generator_in, generators_in, bounds_at, generators_at, bound_in, maybe_in, operation_in, held_in, checked_in, with_in, value_in};
+ghost use Rattle.sac_base.specs.WithLoops.{each, fits_form as fits_form_value};
+ghost use Rattle.value_meaning.specs.Meaning.{name_count as name_count_value};
+ghost use Rattle.value_meaning.specs.WithSource.{bounds_in, bound_in, maybe_in, operation_in, held_in, checked_in};
 
 use crate::arrays::{
     binary_at, built_in_at, condition_at, literal_at, replace_at, select_at, unary_of, value_of,
@@ -24,7 +26,7 @@ use crate::frames::IndexVector;
 use crate::plans::{Evaluated, Plan, fold_plan, genarray_plan, modarray_plan};
 use crate::ranges::Range;
 use crate::stop::{Stop, fault};
-use sac_ast::bases::default_base;
+use crate::defaults::default_base;
 use sac_ast::{Bound, Expression, Function, Generator, Index, Operation, Statement, Target};
 use sac_base::{Array, Base, FaultKind, Form, Memory, Name, Op, Site, copy_array, elements, same_shape};
 use std::alloc::Global;
@@ -82,7 +84,7 @@ pub fn evaluate(e: &Expression, context: &Context<'_>, env: &Environment<'_>) ->
             let results = evaluate_call(name, es, *site, context, env)?;
             first_result_of(alloc, &results)
         }
-        Expression::With(gs, op, _) => evaluate_with(gs, op, context, env),
+        Expression::With(gs, op, site) => evaluate_with(gs, op, *site, context, env),
     }
 }
 
@@ -129,7 +131,7 @@ fn evaluate_select(
     ensures { Tells result (meaning_in context.now (Tree.select (expr array.now) (expr index.now) site) (env_of env.now)) }
 {
     if let Expression::Variable(name, _) = array {
-        if let Some(a) = lookup(env, name) {
+        if let Some(a) = lookup(&*env, name) {
             let i = evaluate(index, context, env)?;
             return select_at(context.alloc, a, &i, site);
         }
@@ -391,10 +393,11 @@ pub fn run_function(args: Vec<Array>, context: &Context<'_>) -> Result<Vec<Array
 fn evaluate_with(
     gs: &[Generator],
     op: &Operation,
+    site: Site,
     context: &Context<'_>,
     env: &Environment<'_>,
 ) -> Result<Array, Stop>
-    ensures { Tells result (with_in context.now (View.generators gs.now) (View.operation op.now) (env_of env.now)) }
+    ensures { Tells result (meaning_in context.now (Tree.with_loop (View.generators gs.now) (View.operation op.now) site) (env_of env.now)) }
 {
     let bounds = evaluate_generators(gs, context, env)?;
     match evaluate_operation(op, gs, context, env)? {
@@ -424,7 +427,7 @@ fn evaluate_generators(
     context: &Context<'_>,
     env: &Environment<'_>,
 ) -> Result<Vec<Bounds>, Stop>
-    ensures { TellsItems result (bounds_in context.now gs.now (env_of env.now)) }
+    ensures { TellsItems result (each (bounds_in context.now (env_of env.now)) gs.now) }
 {
     let mut all = Vec::new(context.alloc);
     for g in gs {
@@ -441,7 +444,7 @@ fn evaluate_generator(
     context: &Context<'_>,
     env: &Environment<'_>,
 ) -> Result<Bounds, Stop>
-    ensures { Tells result (bounds_of_in context.now g.now (env_of env.now)) }
+    ensures { Tells result (bounds_in context.now (env_of env.now) g.now) }
 {
     let lower = evaluate_bound(&g.lower, context, env)?;
     let upper = evaluate_bound(&g.upper, context, env)?;

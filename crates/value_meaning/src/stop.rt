@@ -1,6 +1,7 @@
 ghost use Rattle.std.specs.Prelude.{◌≡◌};
 
 use sac_base::{Fault, FaultKind, Memory, Site};
+use std::alloc::{AllocError, AllocFailed};
 
 /// Why an evaluation ended without a value.
 #[derive(Clone, Copy)]
@@ -16,6 +17,28 @@ impl From<Memory> for Stop {
     ghost from_gives = { λ _ stop. stop ≡ NoMemory };
 
     fn from(_error: Memory) -> Stop {
+        Stop::Memory
+    }
+}
+
+impl From<AllocError> for Stop {
+    ghost use Rattle.std.specs.Prelude.{◌≡◌};
+    ghost use Rattle.value_meaning.specs.declared.stop.Stop.TheVariants.{Memory as NoMemory};
+
+    ghost from_gives = { λ _ stop. stop ≡ NoMemory };
+
+    fn from(_error: AllocError) -> Stop {
+        Stop::Memory
+    }
+}
+
+impl<T: Drop> From<AllocFailed<T>> for Stop {
+    ghost use Rattle.std.specs.Prelude.{◌≡◌};
+    ghost use Rattle.value_meaning.specs.declared.stop.Stop.TheVariants.{Memory as NoMemory};
+
+    ghost from_gives = { λ _ stop. stop ≡ NoMemory };
+
+    fn from(_error: AllocFailed<T>) -> Stop {
         Stop::Memory
     }
 }

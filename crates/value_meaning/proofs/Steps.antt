@@ -1,0 +1,115 @@
+-- One step of a list of expressions, of a block and of a loop.
+use Rattle.std.proofs.Common.{◌≡◌, ℕ, zero, suc, ◌+◌, ◌-◌, ◌<◌, List, [], ◌∷◌, ◌++◌, length, get_or, drop, Bool, true, false, refl, sym, ap, ◌∙◌, append_assoc, arith, Some, None, Ok, Err, Vec, Global}
+use Rattle.std.proofs.Math.Seq.{drop-cons}
+use Rattle.sac_base.specs.declared.site.Site.{Site}
+use Rattle.sac_base.specs.declared.fault.Fault.{Fault}
+use Rattle.sac_base.specs.declared.fault.FaultKind.TheVariants.{F3, F9}
+use Rattle.sac_base.specs.Arrays.{ArrayValue}
+use Rattle.sac_base.specs.Parts.{condition}
+use Rattle.sac_ast.specs.declared.Expression.{Expression, Expression-F, out-Expression, roll-Expression, roll-out-Expression}
+use Rattle.sac_ast.specs.declared.Bound.{Bound}
+use Rattle.sac_ast.specs.declared.Operation.{Operation}
+use Rattle.sac_ast.specs.declared.Generator.{Generator}
+use Rattle.sac_ast.specs.declared.Expression.TheVariants.{Call, rolls-Call}
+use Rattle.sac_base.specs.declared.name.Name.{Name}
+use Rattle.sac_ast.specs.declared.Statement.{Statement}
+use Rattle.sac_ast.specs.declared.Target.{Target}
+use Rattle.sac_ast.proofs.Views.{expression_opened, expression_layer}
+use Rattle.sac_ast.specs.Tree
+use Rattle.sac_ast.specs.View.{expr, exprs}
+use Rattle.value_meaning.specs.declared.evaluate.Context.{Context}
+use Rattle.sac_base.specs.Outcomes.{Ends, Env, and_then, fault, with_variables}
+use Rattle.value_meaning.specs.Meaning.{repeat, names}
+use Rattle.value_meaning.specs.declared.stop.Stop.{Stop}
+use Rattle.value_meaning.specs.declared.stop.Stop.TheVariants.{Faulted, Memory}
+use Rattle.value_meaning.specs.Evaluation.{meaning_in, meanings_in, statement_in}
+use Rattle.value_meaning.specs.Tells.{TellsStop}
+
+-- ---- faults
+
+-- where one meaning's fault is another's
+pub same_stop : {A B : Type 0} (stop : Stop) (m : Ends A) (m' : Ends B) → ((f : Fault) → m ≡ Err f → m' ≡ Err f) → TellsStop stop m → TellsStop stop m'
+same_stop (Faulted f) m m' keeps h = keeps f h
+same_stop Memory m m' keeps h = tt
+
+pub fault_then : {A B : Type 0} (m : Ends A) (next : A → Ends B) (f : Fault) → m ≡ Err f → and_then m next ≡ Err f
+fault_then m next f e = rw e refl
+
+pub value_then : {A B : Type 0} (m : Ends A) (next : A → Ends B) (a : A) → m ≡ Ok a → and_then m next ≡ next a
+value_then m next a e = rw e refl
+
+-- ---- expressions from left to right
+
+exprs-drop : (es : List Expression) (i : ℕ) (d : Expression) → i < length es → exprs (drop i es) ≡ Tree.expr_and (expr (get_or es i d)) (exprs (drop (i + 1) es))
+exprs-drop es i d h =
+    let next : suc i ≡ i + 1 = omega arith in
+    ap exprs (drop-cons es i d h) ∙ ap (λ n. Tree.expr_and (expr (get_or es i d)) (exprs (drop n es))) next
+
+values_next : (m : Ends ArrayValue) (rest : Ends (List ArrayValue)) (vs : List ArrayValue) (v : ArrayValue) → m ≡ Ok v → and_then (and_then m (λ a. and_then rest (λ values. Ok (a ∷ values)))) (λ r. Ok (vs ++ r)) ≡ and_then rest (λ r. Ok ((vs ++ v ∷ []) ++ r))
+values_next m (Ok r) vs v e = rw e (ap Ok (sym (append_assoc vs (v ∷ []) r)))
+values_next m (Err f) vs v e = rw e refl
+
+pub values_step : (context : Context) (env : Env) (es : List Expression) (i : ℕ) (d : Expression) (vs : List ArrayValue) (v : ArrayValue) (all : Ends (List ArrayValue)) → i < length es → meaning_in context (expr (get_or es i d)) env ≡ Ok v → and_then (meanings_in context (exprs (drop i es)) env) (λ rest. Ok (vs ++ rest)) ≡ all → and_then (meanings_in context (exprs (drop (i + 1) es)) env) (λ rest. Ok ((vs ++ v ∷ []) ++ rest)) ≡ all
+values_step context env es i d vs v all h e inv =
+    sym (values_next (meaning_in context (expr (get_or es i d)) env) (meanings_in context (exprs (drop (i + 1) es)) env) vs v e)
+    ∙ ap (λ t. and_then (meanings_in context t env) (λ rest. Ok (vs ++ rest))) (sym (exprs-drop es i d h))
+    ∙ inv
+
+-- ---- loops
+
+module _ (site test_site : Site) (test : Env → Ends ArrayValue) (body : Env → Ends Env) where
+  pub repeat_test_fault : (left : ℕ) (env : Env) (f : Fault) → test env ≡ Err f → repeat left site test_site test body env ≡ Err f
+  repeat_test_fault zero env f e = rw e refl
+  repeat_test_fault (suc left) env f e = rw e refl
+
+  pub repeat_bad_test : (left : ℕ) (env : Env) (c : ArrayValue) → test env ≡ Ok c → condition c ≡ None → repeat left site test_site test body env ≡ fault F3 test_site
+  repeat_bad_test zero env c e o = rw (e, o) refl
+  repeat_bad_test (suc left) env c e o = rw (e, o) refl
+
+  pub repeat_stops : (left : ℕ) (env : Env) (c : ArrayValue) → test env ≡ Ok c → condition c ≡ Some false → repeat left site test_site test body env ≡ Ok env
+  repeat_stops zero env c e o = rw (e, o) refl
+  repeat_stops (suc left) env c e o = rw (e, o) refl
+
+  pub repeat_over : (env : Env) (c : ArrayValue) → test env ≡ Ok c → condition c ≡ Some true → repeat 0 site test_site test body env ≡ fault F9 site
+  repeat_over env c e o = rw (e, o) refl
+
+  pub repeat_body_fault : (left : ℕ) (env : Env) (c : ArrayValue) (f : Fault) → 0 < left → test env ≡ Ok c → condition c ≡ Some true → body env ≡ Err f → repeat left site test_site test body env ≡ Err f
+  repeat_body_fault zero env c f h e o b = absurd (omega arith)
+  repeat_body_fault (suc left) env c f h e o b = rw (e, o, b) refl
+
+  pub repeat_goes : (left : ℕ) (env next : Env) (c : ArrayValue) → 0 < left → test env ≡ Ok c → condition c ≡ Some true → body env ≡ Ok next → repeat left site test_site test body env ≡ repeat (left - 1) site test_site test body next
+  repeat_goes zero env next c h e o b = absurd (omega arith)
+  repeat_goes (suc left) env next c h e o b =
+      let same : suc left - 1 ≡ left = omega arith in
+      rw (e, o, b) (ap (λ n. repeat n site test_site test body next) (sym same))
+
+-- ---- an assignment whose right side is no call
+
+abbrev pub is_call : Tree.Expr → Bool
+is_call (Tree.call name es site) = true
+is_call _ = false
+
+pub assign_plain : (context : Context) (targets : List Target) (e : Tree.Expr) (env : Env) → is_call e ≡ false → statement_in context (Tree.assign targets e) env ≡ and_then (meaning_in context e env) (λ a. Ok (with_variables (names targets) (a ∷ []) env))
+assign_plain context targets (Tree.number n site) env h = refl
+assign_plain context targets (Tree.truth b site) env h = refl
+assign_plain context targets (Tree.variable x site) env h = refl
+assign_plain context targets (Tree.literal es site) env h = refl
+assign_plain context targets (Tree.unary op e site) env h = refl
+assign_plain context targets (Tree.binary op e f site) env h = refl
+assign_plain context targets (Tree.choice c e f site) env h = refl
+assign_plain context targets (Tree.select e f site) env h = refl
+assign_plain context targets (Tree.call x es site) env h = cc
+assign_plain context targets (Tree.builtin b es site) env h = refl
+assign_plain context targets (Tree.with_loop gs op site) env h = refl
+
+-- a value that is no call has no call for its tree
+pub not_call : (e : Expression) → ((name : Name) (es : Vec Expression Global) (site : Site) → e ≡ Call name es site → ⊥) → is_call (expr e) ≡ false
+not_call e h = by_layer (out-Expression e) refl
+  where
+    by_layer : (l : Expression-F Bound Expression Operation Statement Generator) → out-Expression e ≡ l → is_call (expr e) ≡ false
+    by_layer (Expression-F.Call name es site) s = absurd (h name es site (sym (roll-out-Expression e) ∙ ap roll-Expression s ∙ rolls-Call name es site))
+    by_layer l s = ap is_call (expression_opened e ∙ ap expression_layer s)
+
+-- four values, one after another
+pub four_then : {A B C D R : Type 0} (a : Ends A) (b : Ends B) (c : Ends C) (d : Ends D) (next : A → B → C → D → R) (x : A) (y : B) (z : C) (w : D) → a ≡ Ok x → b ≡ Ok y → c ≡ Ok z → d ≡ Ok w → and_then a (λ p. and_then b (λ q. and_then c (λ r. and_then d (λ s. Ok (next p q r s))))) ≡ Ok (next x y z w)
+four_then a b c d next x y z w e1 e2 e3 e4 = rw (e1, e2, e3, e4) refl

@@ -1,0 +1,187 @@
+use Rattle.std.proofs.Common.{rules, ◌≡◌, ℕ, ◌-◌, ◌<◌, ◌≤◌, length, true, false, [], ◌∷◌, Ok, Err, Some, None, get_or, ap, sym, ◌∙◌, subst, arith}
+use Rattle.std.proofs.lemmas.Grind.{common_steps}
+use Rattle.sac_ast.specs.View.{expr, exprs, stmt, block}
+use Rattle.sac_ast.specs.Tree
+use Rattle.sac_ast.proofs.Views.{stmt_assign, stmt_while, stmt_do, expr_call}
+use Rattle.value_meaning.specs.Environments.{env_of}
+use Rattle.value_meaning.specs.Evaluation.{meaning_in, meanings_in, statement_in, block_in, repeat_in, calls_in, function_in, names_of_params}
+use Rattle.value_meaning.specs.Tells.{Tells, TellsItems, TellsEnv}
+use Rattle.sac_base.specs.Outcomes.{first_result, with_variables}
+use Rattle.value_meaning.specs.Meaning.{call_with, names, with_index}
+use Rattle.value_meaning.specs.Calls.{run_deeper, run_inline, results_in}
+use Rattle.sac_ast.specs.Bases.{base_in}
+use Rattle.sac_ast.specs.View.{functions, function, index_view}
+use Rattle.value_meaning.proofs.CallSteps.{function_at, length-functions, runs_inline, runs_deeper, too_deep, no_bindings, no_inner_bindings, cell_steps, same_value, function_steps}
+use Rattle.value_meaning.specs.declared.environment.Environment.{roll-Environment}
+use Rattle.value_meaning.proofs.Measures.{rank_falls, rank_falls_inline, body_below}
+use Rattle.value_meaning.proofs.Steps.{values_step, repeat_test_fault, repeat_bad_test, repeat_stops, repeat_body_fault, repeat_goes, assign_plain, not_call, same_stop, fault_then, value_then}
+use Rattle.sac_base.specs.Parts.{condition}
+use Rattle.std.proofs.Common.{min}
+use Rattle.sac_base.specs.WithLoops.{holds, held_cell}
+use Rattle.value_meaning.proofs.WithSteps.{holder_goes_on, holder_ends}
+use Rattle.sac_ast.specs.View
+use Rattle.sac_ast.proofs.Views.{generator_is}
+use Rattle.value_meaning.specs.WithSource.{generator_of, bound_in, maybe_in, bounds_in}
+use Rattle.value_meaning.proofs.Steps.{four_then}
+use Rattle.value_meaning.proofs.evaluate.+evaluate.Goals as goal
+
+pub evaluate_all-loop-e-preserved : goal.evaluate_all-loop-e-preserved
+evaluate_all-loop-e-preserved t c =
+    let at = subst (λ e. meaning_in c.args.context.now (expr e) (env_of c.args.env.now) ≡ Ok c.in_ok-value.value) c.e-item.is c.in_ok-value.ensures in
+    let step = values_step c.args.context.now (env_of c.args.env.now) c.args.es.now c.loop-e.e-index c.e-item.result c.loop-e.values.items c.in_ok-value.value _ c.loop-e-test.true at c.loop-e.invariant in
+    rw c.in_ok-push.ensures step
+
+pub run-returns-in-Assign : goal.run-returns-in-Assign
+run-returns-in-Assign t c =
+    let same = ap (λ ts. Tree.assign ts (expr c.in-Assign.value)) c.deref.ensures.value ∙ sym (stmt_assign c.in-Assign.targets c.in-Assign.value) ∙ ap stmt (sym c.in-Assign.is) in
+    subst (λ s. TellsEnv c.run_assign.result (env_of c.run_assign.new.env) (statement_in c.args.context.now s (env_of c.args.env.now))) same c.run_assign.ensures
+
+pub run-returns-in-While : goal.run-returns-in-While
+run-returns-in-While t c =
+    let body = ap block c.deref-in-While.ensures.value in
+    let whole = stmt_while c.in-While.cond c.in-While.body c.in-While.site in
+    let same = ap (λ b. Tree.while_do (expr c.in-While.cond) b c.in-While.site) body ∙ sym whole ∙ ap stmt (sym c.in-While.is) in
+    subst (λ s. TellsEnv c.repeat_while.result (env_of c.repeat_while.new.env) (statement_in c.args.context.now s (env_of c.args.env.now))) same c.repeat_while.ensures
+
+pub run-returns : goal.run-returns
+run-returns t c =
+    let body = ap block c.deref-in-Do.ensures.value in
+    let body' = ap block c.deref-in-Do-2.ensures.value in
+    let first : block_in c.args.context.now (block c.in-Do.body.items) (env_of c.args.env.now) ≡ Ok (env_of c.run_block-in-Do.new.env) = ap (λ b. block_in c.args.context.now b (env_of c.args.env.now)) (sym body) ∙ c.in_ok-run_block-in-Do.ensures in
+    let whole = ap (λ s. statement_in c.args.context.now s (env_of c.args.env.now)) (ap stmt c.in-Do.is ∙ stmt_do c.in-Do.body c.in-Do.cond c.in-Do.site c.in-Do.test) in
+    let go = λ (n : ℕ). λ (b : Tree.Block). repeat_in c.args.context.now n c.in-Do.site c.in-Do.test (expr c.in-Do.cond) b in
+    let then = value_then (block_in c.args.context.now (block c.in-Do.body.items) (env_of c.args.env.now)) (go (c.args.context.now.turns - 1) (block c.in-Do.body.items)) (env_of c.run_block-in-Do.new.env) first in
+    let same : c.saturating_sub.result ≡ c.args.context.now.turns - 1 = search rules in
+    let looped = ap (λ n. go n (block c.in-Do.body.items) (env_of c.run_block-in-Do.new.env)) same in
+    let looped' = ap (λ b. go c.saturating_sub.result b (env_of c.run_block-in-Do.new.env)) body' in
+    subst (λ m. TellsEnv c.repeat_while-in-Do.result (env_of c.repeat_while-in-Do.new.env) m) (looped' ∙ looped ∙ sym then ∙ sym whole) c.repeat_while-in-Do.ensures
+
+pub run_assign-returns-in_err-result_value-in_default : goal.run_assign-returns-in_err-result_value-in_default
+run_assign-returns-in_err-result_value-in_default t c =
+    let is : c.from_residual-in_err-result_value-in_default.result ≡ Err (c.in_err-result_value-in_default).field-0.0 = search rules in
+    let meant = statement_in c.args.context.now (Tree.assign c.args.targets.now (expr c.args.value.now)) (env_of c.args.env.now) in
+    let plain = assign_plain c.args.context.now c.args.targets.now (expr c.args.value.now) (env_of c.args.env.now) (not_call c.args.value.now c.in_default.not-Call) in
+    subst (λ r. TellsEnv r (env_of c.args.env.now) meant) (sym is)
+    (same_stop (c.in_err-result_value-in_default).field-0.0 (meaning_in c.args.context.now (expr c.args.value.now) (env_of c.args.env.now)) meant
+    (λ f e. plain ∙ fault_then (meaning_in c.args.context.now (expr c.args.value.now) (env_of c.args.env.now)) (λ a. Ok (with_variables (names c.args.targets.now) (a ∷ []) (env_of c.args.env.now))) f e)
+    (c.in_err-result_value-in_default).ensures)
+
+pub run_assign-returns-in_ok-result_value-in_default : goal.run_assign-returns-in_ok-result_value-in_default
+run_assign-returns-in_ok-result_value-in_default t c =
+    let plain = assign_plain c.args.context.now c.args.targets.now (expr c.args.value.now) (env_of c.args.env.now) (not_call c.args.value.now c.in_default.not-Call) in
+    let then = value_then (meaning_in c.args.context.now (expr c.args.value.now) (env_of c.args.env.now)) (λ a. Ok (with_variables (names c.args.targets.now) (a ∷ []) (env_of c.args.env.now))) (c.in_ok-result_value-in_default).result_value (c.in_ok-result_value-in_default).ensures in
+    subst (λ m. TellsEnv c.assign_one.result (env_of c.assign_one.new.env) m) (sym (plain ∙ then)) c.assign_one.ensures
+
+pub run_at-run_function-requires : goal.run_at-run_function-requires
+run_at-run_function-requires t c =
+    let h = rank_falls_inline c.args.context.now.left c.args.context.now.nest c.args.context.now.functions.now (omega (arith, c.if-nest-eq0.false)) in
+    let b = body_below c.args.context.now.functions.now c.args.place c.index-context-place.result c.requires in
+    (omega (arith, h, b, c.decreases), tt)
+
+pub run_at-returns-then-left-eq0 : goal.run_at-returns-then-left-eq0
+run_at-returns-then-left-eq0 t c =
+    let fs = c.args.context.now.functions.now in
+    let here = function_at fs c.args.place c.index-context-place.result c.requires in
+    let f = get_or fs c.args.place c.index-context-place.result in
+    let inline : f.inline ≡ false = c.if-current.false in
+    let meant = too_deep (functions fs) c.args.context.now.turns (base_in (functions fs)) c.args.place (function f) c.args.args.items c.args.site here (run_inline (functions fs) c.args.context.now.turns (base_in (functions fs)) (run_deeper (functions fs) c.args.context.now.turns (base_in (functions fs)) c.args.context.now.left) c.args.context.now.nest) c.args.context.now.left (omega (arith, c.if-left-eq0.true)) inline in
+    rw c.fault-then-left-eq0.ensures meant
+
+pub run_at-run_function-requires-else-current : goal.run_at-run_function-requires-else-current
+run_at-run_function-requires-else-current t c =
+    let h = rank_falls c.args.context.now.left c.args.context.now.nest c.args.context.now.functions.now (omega (arith, c.if-left-eq0.false)) in
+    let b = body_below c.args.context.now.functions.now c.args.place c.index-context-place.result c.requires in
+    (omega (arith, h, b, c.decreases), tt)
+
+pub run_at-returns-else-nest-eq0 : goal.run_at-returns-else-nest-eq0
+run_at-returns-else-nest-eq0 t c =
+    let fs = c.args.context.now.functions.now in
+    let here = function_at fs c.args.place c.index-context-place.result c.requires in
+    let f = get_or fs c.args.place c.index-context-place.result in
+    let inline : f.inline ≡ true = c.if-current.true in
+    let meant = runs_inline (functions fs) c.args.context.now.turns (base_in (functions fs)) c.args.place (function f) c.args.args.items c.args.site here (run_deeper (functions fs) c.args.context.now.turns (base_in (functions fs)) c.args.context.now.left) c.args.context.now.nest (omega (arith, c.if-nest-eq0.false)) inline in
+    subst (λ m. TellsItems c.run_function.result m) (sym meant) c.run_function.ensures
+
+pub run_at-returns-else-left-eq0 : goal.run_at-returns-else-left-eq0
+run_at-returns-else-left-eq0 t c =
+    let fs = c.args.context.now.functions.now in
+    let here = function_at fs c.args.place c.index-context-place.result c.requires in
+    let f = get_or fs c.args.place c.index-context-place.result in
+    let inline : f.inline ≡ false = c.if-current.false in
+    let meant = runs_deeper (functions fs) c.args.context.now.turns (base_in (functions fs)) c.args.place (function f) c.args.args.items c.args.site here (run_inline (functions fs) c.args.context.now.turns (base_in (functions fs)) (run_deeper (functions fs) c.args.context.now.turns (base_in (functions fs)) c.args.context.now.left) c.args.context.now.nest) c.args.context.now.left (length fs) (omega (arith, c.if-left-eq0.false)) (sym (length-functions fs)) inline in
+    subst (λ m. TellsItems c.run_function-else-current.result m) (sym meant) c.run_function-else-current.ensures
+
+pub run_function-returns-in_err-values : goal.run_function-returns-in_err-values
+run_function-returns-in_err-values t c =
+    let context = c.args.context.now in
+    let current = context.current.now in
+    let start =
+    ap (λ env. with_variables (names_of_params current.params.items) c.args.args.items env) (sym (no_bindings c.new.result c.new.ensures.items))
+    ∙ ap (λ ps. with_variables (names_of_params ps) c.args.args.items (env_of (roll-Environment (record { outer = None; bindings = c.new.result })))) (sym c.deref.ensures.value)
+    ∙ same_value _ _ c.in_ok-bind_params.ensures in
+    let ran = ap (λ b. block_in context b (env_of c.bind_params.new.env)) (sym (ap block c.deref-2.ensures.value)) ∙ c.in_ok-run_block.ensures in
+    let whole = function_steps context c.args.args.items (env_of c.bind_params.new.env) (env_of c.run_block.new.env) start ran in
+    let values = ap (λ es. meanings_in context (exprs es) (env_of c.run_block.new.env)) c.deref-3.ensures.value in
+    let is : c.from_residual-in_err-values.result ≡ Err c.in_err-values.field-0.0 = search rules in
+    subst (λ r. TellsItems r (function_in context c.args.args.items)) (sym is)
+    (same_stop c.in_err-values.field-0.0 (meanings_in context (exprs c.deref-3.result.now) (env_of c.run_block.new.env)) (function_in context c.args.args.items)
+    (λ f e. whole ∙ fault_then (meanings_in context (exprs current.values.items) (env_of c.run_block.new.env)) (results_in current.results.items current.ends) f (sym values ∙ e))
+    c.in_err-values.ensures)
+
+pub run_function-returns : goal.run_function-returns
+run_function-returns t c =
+    let context = c.args.context.now in
+    let current = context.current.now in
+    let start =
+    ap (λ env. with_variables (names_of_params current.params.items) c.args.args.items env) (sym (no_bindings c.new.result c.new.ensures.items))
+    ∙ ap (λ ps. with_variables (names_of_params ps) c.args.args.items (env_of (roll-Environment (record { outer = None; bindings = c.new.result })))) (sym c.deref.ensures.value)
+    ∙ same_value _ _ c.in_ok-bind_params.ensures in
+    let ran = ap (λ b. block_in context b (env_of c.bind_params.new.env)) (sym (ap block c.deref-2.ensures.value)) ∙ c.in_ok-run_block.ensures in
+    let whole = function_steps context c.args.args.items (env_of c.bind_params.new.env) (env_of c.run_block.new.env) start ran in
+    let values = ap (λ es. meanings_in context (exprs es) (env_of c.run_block.new.env)) c.deref-3.ensures.value in
+    let then = value_then (meanings_in context (exprs current.values.items) (env_of c.run_block.new.env)) (results_in current.results.items current.ends) c.in_ok-values.values.items (sym values ∙ c.in_ok-values.ensures) in
+    let types = ap (λ types. results_in types current.ends c.in_ok-values.values.items) c.deref-4.ensures.value in
+    subst (λ m. TellsItems c.results_of.result m) (types ∙ sym then ∙ sym whole) c.results_of.ensures
+
+pub evaluate-returns-in_err-results-in-Call : goal.evaluate-returns-in_err-results-in-Call
+evaluate-returns-in_err-results-in-Call t c =
+    let is : c.from_residual-in_err-results-in-Call.result ≡ Err c.in_err-results-in-Call.field-0.0 = search rules in
+    let args = λ (es : Tree.Exprs). call_with (calls_in c.args.context.now) c.in-Call.name c.in-Call.site (meanings_in c.args.context.now es (env_of c.args.env.now)) in
+    let es = ap exprs c.deref-in-Call.ensures.value in
+    let whole = ap (λ e. meaning_in c.args.context.now e (env_of c.args.env.now)) (ap expr c.in-Call.is ∙ expr_call c.in-Call.name c.in-Call.es c.in-Call.site) in
+    subst (λ r. Tells r (meaning_in c.args.context.now (expr c.args.e.now) (env_of c.args.env.now))) (sym is)
+    (same_stop c.in_err-results-in-Call.field-0.0 (args (exprs c.deref-in-Call.result.now)) _
+    (λ f e. whole ∙ fault_then (args (exprs c.in-Call.es.items)) (λ results. Ok (first_result results)) f (ap args (sym es) ∙ e))
+    c.in_err-results-in-Call.ensures)
+
+pub run_assign-returns-in_err-results-in-Call : goal.run_assign-returns-in_err-results-in-Call
+run_assign-returns-in_err-results-in-Call t c =
+    let is : c.from_residual.result ≡ Err c.in_err-results-in-Call.field-0.0 = search rules in
+    let args = λ (es : Tree.Exprs). call_with (calls_in c.args.context.now) c.in-Call.name c.in-Call.site (meanings_in c.args.context.now es (env_of c.args.env.now)) in
+    let es = ap exprs c.deref.ensures.value in
+    let meant = statement_in c.args.context.now (Tree.assign c.args.targets.now (expr c.args.value.now)) (env_of c.args.env.now) in
+    let whole = ap (λ e. statement_in c.args.context.now (Tree.assign c.args.targets.now e) (env_of c.args.env.now)) (ap expr c.in-Call.is ∙ expr_call c.in-Call.name c.in-Call.es c.in-Call.site) in
+    subst (λ r. TellsEnv r (env_of c.args.env.now) meant) (sym is)
+    (same_stop c.in_err-results-in-Call.field-0.0 (args (exprs c.deref.result.now)) meant
+    (λ f e. whole ∙ fault_then (args (exprs c.in-Call.es.items)) (λ results. Ok (with_variables (names c.args.targets.now) results (env_of c.args.env.now))) f (ap args (sym es) ∙ e))
+    c.in_err-results-in-Call.ensures)
+
+pub run_assign-returns-in_ok-results-in-Call : goal.run_assign-returns-in_ok-results-in-Call
+run_assign-returns-in_ok-results-in-Call t c =
+    let args = λ (es : Tree.Exprs). call_with (calls_in c.args.context.now) c.in-Call.name c.in-Call.site (meanings_in c.args.context.now es (env_of c.args.env.now)) in
+    let es = ap exprs c.deref.ensures.value in
+    let whole = ap (λ e. statement_in c.args.context.now (Tree.assign c.args.targets.now e) (env_of c.args.env.now)) (ap expr c.in-Call.is ∙ expr_call c.in-Call.name c.in-Call.es c.in-Call.site) in
+    let then = value_then (args (exprs c.in-Call.es.items)) (λ results. Ok (with_variables (names c.args.targets.now) results (env_of c.args.env.now))) c.in_ok-results-in-Call.results.items (ap args (sym es) ∙ c.in_ok-results-in-Call.ensures) in
+    subst (λ m. TellsEnv c.assign_all.result (env_of c.assign_all.new.env) m) (sym (whole ∙ then)) c.assign_all.ensures
+
+pub cell_at-returns : goal.cell_at-returns
+cell_at-returns t c =
+    let context = c.args.context.now in
+    let g = c.args.g.now in
+    let start =
+    ap (with_index (index_view g.index) c.args.index.now) (sym (no_inner_bindings c.args.env c.new.result c.new.ensures.items))
+    ∙ same_value _ _ c.in_ok-bind_index.ensures in
+    let ran = ap (λ b. block_in context b (env_of c.bind_index.new.env)) (sym (ap block c.deref.ensures.value)) ∙ c.in_ok-run_block.ensures in
+    let whole = cell_steps context g c.args.index.now (env_of c.args.env.now) (env_of c.bind_index.new.env) (env_of c.run_block.new.env) start ran in
+    subst (λ m. Tells c.evaluate.result m) (sym whole) c.evaluate.ensures
+
