@@ -1,6 +1,7 @@
 pub mod Ranges
 pub mod Frames
 pub mod Plans
+pub mod Cells
 pub mod Tells
 pub mod Meaning
 pub mod Calls

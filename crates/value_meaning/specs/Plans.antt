@@ -1,5 +1,6 @@
 -- Words for what the evaluator knows of a with-loop before its first cell.
 use Rattle.std.specs.Prelude.{ℕ, ℤ, pos, ◌+ℤ◌, Bool, true, false, List, [], ◌∷◌, map, Option, Some, None}
+use Rattle.sac_base.specs.Operators.{of_truth}
 use Rattle.sac_base.specs.WithLoops.{Operation, genarray, modarray, fold_by}
 use Rattle.sac_base.specs.WithLoops
 use Rattle.value_meaning.specs.declared.plans.Plan.{Plan}
@@ -17,8 +18,7 @@ frame_if true frame = Some frame
 frame_if false frame = None
 
 abbrev pub raised_list : Bool → List ℤ → List ℤ
-raised_list true zs = map (λ z. z +ℤ pos 1) zs
-raised_list false zs = zs
+raised_list raise zs = map (λ z. z +ℤ of_truth raise) zs
 
 abbrev pub plan_of : Plan → WithLoops.Plan
 plan_of p = record { ranges = p.ranges.items; indices = p.frame; form = p.form; shape = p.shape }

@@ -1,11 +1,11 @@
 //! The parts of generators, checked.
 
-ghost use Rattle.std.specs.Prelude.{◌≡◌, ◌≤◌, ◌+ℤ◌, ◌-ℤ◌, pos, length, map, replicate, option_map, int_le, All, Bool, IsTrue, IfOk, if◌then◌else◌};
+ghost use Rattle.std.specs.Prelude.{◌≡◌, ◌≤◌, ◌+ℤ◌, ◌-ℤ◌, pos, length, map, replicate, option_map, int_le, All, Bool, IsTrue, IfOk, IfSome};
 ghost use Rattle.std.specs.List.{list_all};
 ghost use Rattle.sac_base.specs.Arrays.{ArrayValue};
 ghost use Rattle.sac_base.specs.WithLoops.{counts, first_of, names_fit, part_or as part_or_value, raised as raised_value, range_from, lower_of, upper_of, step_of, range_of, all_positive};
 ghost use Rattle.value_meaning.specs.Plans.{first_some, frame_if, raised_list};
-ghost use Rattle.value_meaning.specs.Ranges.{IsBound};
+ghost use Rattle.value_meaning.specs.Ranges.{IsBound, IsStep};
 ghost use Rattle.value_meaning.specs.Tells.{Tells};
 
 use crate::ranges::Range;
@@ -44,10 +44,17 @@ impl Bounds {
         if let Some(count) = self.names {
             return Some(count);
         }
-        for part in [&self.lower, &self.upper, &self.step, &self.width] {
-            if let Some(array) = part {
-                return Some(array.cells().len());
-            }
+        if let Some(array) = &self.lower {
+            return Some(array.cells().len());
+        }
+        if let Some(array) = &self.upper {
+            return Some(array.cells().len());
+        }
+        if let Some(array) = &self.step {
+            return Some(array.cells().len());
+        }
+        if let Some(array) = &self.width {
+            return Some(array.cells().len());
         }
         None
     }
@@ -88,14 +95,13 @@ impl Bounds {
 
     // The bounds with the lower one in the range and the upper one not, if the parts are vectors of `n` elements and steps and widths are at least 1.
     fn axes(&self, alloc: Global, n: usize, frame: &Shape) -> Result<Option<Range>, Memory>
-        ensures { IfOk result (λ r. r ≡ range_from (lower_of n self.now) (upper_of n frame.now self.now) (step_of n self.now.step) (step_of n self.now.width)) }
+        ensures value { IfOk result (λ r. r ≡ range_from (lower_of n self.now) (upper_of n frame.now self.now) (step_of n self.now.step) (step_of n self.now.width)) }
+        ensures length { IfOk result (λ o. IfSome o (λ r. length r ≡ n)) }
     {
-        let zeros = filled(alloc, n, 0)?;
-        let Some(lower) = part_or(alloc, n, zeros, &self.lower)? else {
+        let Some(lower) = self.lower_bound(alloc, n)? else {
             return Ok(None);
         };
-        let last = last_index(alloc, frame)?;
-        let Some(upper) = part_or(alloc, n, last, &self.upper)? else {
+        let Some(upper) = self.upper_bound(alloc, n, frame)? else {
             return Ok(None);
         };
         let Some(step) = step_or_ones(alloc, n, &self.step)? else {
@@ -104,10 +110,45 @@ impl Bounds {
         let Some(width) = step_or_ones(alloc, n, &self.width)? else {
             return Ok(None);
         };
-        let lower = raised(alloc, &lower, !self.lower_closed)?;
-        let upper = raised(alloc, &upper, self.upper_closed)?;
         let range = Range::new(alloc, &lower, &upper, &step, &width)?;
         Ok(Some(range))
+    }
+
+    // The lower bound, which is in the range.
+    fn lower_bound(&self, alloc: Global, n: usize) -> Result<Option<Vec<i64>>, Memory>
+        ensures value { IfOk result (λ o. option_map (λ v. v.items) o ≡ lower_of n self.now) }
+        ensures length { IfOk result (λ o. IfSome o (λ v. length v.items ≡ n)) }
+        ensures bounds { IfOk result (λ o. IfSome o (λ v. All IsBound v.items)) }
+    {
+        let zeros = filled(alloc, n, 0)?;
+        match part_or(alloc, n, zeros, &self.lower)? {
+            None => Ok(None),
+            Some(lower) => {
+                let bound = raised(alloc, &lower, !self.lower_closed)?;
+                Ok(Some(bound))
+            }
+        }
+    }
+
+    // The upper bound, which is not.
+    fn upper_bound(
+        &self,
+        alloc: Global,
+        n: usize,
+        frame: &Shape,
+    ) -> Result<Option<Vec<i64>>, Memory>
+        ensures value { IfOk result (λ o. option_map (λ v. v.items) o ≡ upper_of n frame.now self.now) }
+        ensures length { IfOk result (λ o. IfSome o (λ v. length v.items ≡ n)) }
+        ensures bounds { IfOk result (λ o. IfSome o (λ v. All IsBound v.items)) }
+    {
+        let last = last_index(alloc, frame)?;
+        match part_or(alloc, n, last, &self.upper)? {
+            None => Ok(None),
+            Some(upper) => {
+                let bound = raised(alloc, &upper, self.upper_closed)?;
+                Ok(Some(bound))
+            }
+        }
     }
 }
 
@@ -140,7 +181,8 @@ fn part_or(
     otherwise: Vec<i32>,
     part: &Option<Array>,
 ) -> Result<Option<Vec<i32>>, Memory>
-    ensures { IfOk result (λ o. option_map (λ v. v.items) o ≡ part_or_value n otherwise.items part.now) }
+    ensures value { IfOk result (λ o. option_map (λ v. v.items) o ≡ part_or_value n otherwise.items part.now) }
+    ensures length { IfOk result (λ o. IfSome o (λ v. length v.items ≡ n)) }
 {
     let zs = match part {
         None => otherwise,
@@ -163,7 +205,9 @@ fn step_or_ones(
     n: usize,
     part: &Option<Array>,
 ) -> Result<Option<Vec<i32>>, Memory>
-    ensures { IfOk result (λ o. option_map (λ v. v.items) o ≡ step_of n part.now) }
+    ensures value { IfOk result (λ o. option_map (λ v. v.items) o ≡ step_of n part.now) }
+    ensures length { IfOk result (λ o. IfSome o (λ v. length v.items ≡ n)) }
+    ensures steps { IfOk result (λ o. IfSome o (λ v. All IsStep v.items)) }
 {
     let ones = filled(alloc, n, 1)?;
     let Some(zs) = part_or(alloc, n, ones, part)? else {
@@ -176,15 +220,22 @@ fn step_or_ones(
 }
 
 fn are_positive(zs: &[i32]) -> bool
-    ensures { result ≡ list_all (int_le (pos 1)) zs.now }
+    ensures value { result ≡ list_all (int_le (pos 1)) zs.now }
+    ensures steps { IsTrue result → All IsStep zs.now }
 {
-    zs.iter().all(|z| *z >= 1)
+    for z in zs {
+        if *z < 1 {
+            return false;
+        }
+    }
+    true
 }
 
 // The numbers, raised by 1 if asked.
 fn raised(alloc: Global, zs: &[i32], raise: bool) -> Result<Vec<i64>, Memory>
     ensures value { IfOk result (λ v. v.items ≡ raised_list raise zs.now) }
     ensures bounds { IfOk result (λ v. All IsBound v.items) }
+    ensures length { IfOk result (λ v. length v.items ≡ length zs.now) }
 {
     let more = i64::from(raise);
     let mut bounds = Vec::new(alloc);

@@ -3,7 +3,7 @@
 ghost use Rattle.std.specs.Prelude.{◌≡◌, ◌<◌, [], ◌∷◌, Ok, IfSome, length, map, ◌&&◌};
 ghost use Rattle.sac_ast.specs.View.{function as tree, functions as trees, index_view};
 ghost use Rattle.sac_base.specs.Arrays.{scalar};
-ghost use Rattle.sac_base.specs.Types.{all_have as all_have_value, all_below as all_below_value, below as below_value, part_below as part_below_value};
+ghost use Rattle.sac_base.specs.Types.{all_have as all_have_value, all_below as all_below_value};
 ghost use Rattle.value_meaning.specs.Calls.{chosen, fits as fits_value, is_least as is_least_value, results_in};
 ghost use Rattle.value_meaning.specs.Environments.{env_of};
 ghost use Rattle.value_meaning.specs.Evaluation.{names_of_params, types_of_params};
@@ -16,8 +16,9 @@ use crate::frames::IndexVector;
 use crate::stop::{Stop, fault};
 use sac_ast::{Function, Index, Param, Target};
 use sac_base::{
-    Array, ArrayType, Base, FaultKind, Name, Part, Site, contains, copy_array, same_name, same_shape,
+    Array, ArrayType, Base, FaultKind, Name, Site, contains, copy_array, same_name,
 };
+use shape_types::below;
 use std::alloc::Global;
 
 /// The place of the least instance that fits the arguments.
@@ -83,29 +84,6 @@ fn all_below(params: &[Param], others: &[Param]) -> bool
         }
     }
     true
-}
-
-// Whether each array of a type is one of another; a known shape counts as having arrays.
-fn below(a: &ArrayType, b: &ArrayType) -> bool
-    ensures { result ≡ below_value a.now b.now }
-{
-    a.base == b.base && part_below(&a.part, &b.part)
-}
-
-fn part_below(a: &Part, b: &Part) -> bool
-    ensures { result ≡ part_below_value a.now b.now }
-{
-    match (a, b) {
-        (_, Part::Star) => true,
-        (Part::Known(a), Part::Known(b)) => same_shape(a, b),
-        (Part::Known(a), Part::Rank(n)) => a.rank() == *n as usize,
-        (Part::Known(a), Part::Plus) => a.rank() >= 1,
-        (Part::Rank(m), Part::Known(b)) => *m == 0 && b.rank() == 0,
-        (Part::Rank(m), Part::Rank(n)) => m == n,
-        (Part::Rank(m), Part::Plus) => *m >= 1,
-        (Part::Plus, Part::Plus) => true,
-        _ => false,
-    }
 }
 
 /// The first result of a call.

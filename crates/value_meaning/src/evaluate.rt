@@ -1,17 +1,20 @@
 //! Expressions and statements.
 
-ghost use Rattle.std.specs.Prelude.{◌≡◌, [], ◌∷◌, ◌++◌, OnOk, IfOk, ◌<◌, length, Vec};
+ghost use Rattle.std.specs.Prelude.{◌≡◌, [], ◌∷◌, ◌++◌, OnOk, IfOk, ◌<◌, length, Vec, Ok, IfSome, IsTrue, fold};
+ghost use Rattle.sac_base.specs.Arrays.{size};
 ghost use Rattle.sac_ast.specs.Tree;
 ghost use Rattle.sac_ast.specs.View;
 ghost use Rattle.sac_ast.specs.View.{expr, exprs, stmt, block};
 ghost use Rattle.value_meaning.specs.Environments.{env_of};
 ghost use Rattle.value_meaning.specs.Evaluation.{meaning_in, meanings_in, statement_in, block_in, repeat_in, calls_in, run_chosen_in, function_in, cell_in, test_in};
 ghost use Rattle.value_meaning.specs.Meaning.{call_with};
-ghost use Rattle.value_meaning.specs.Plans.{operation_of};
+ghost use Rattle.sac_base.specs.Outcomes.{and_then};
+ghost use Rattle.value_meaning.specs.Cells.{IsArrayPlan, array_from};
+ghost use Rattle.value_meaning.specs.Plans.{operation_of, plan_of};
 ghost use Rattle.value_meaning.specs.Tells.{Tells, TellsItems, TellsEnv, TellsAs};
-ghost use Rattle.sac_base.specs.WithLoops.{each, fits_form as fits_form_value};
+ghost use Rattle.sac_base.specs.WithLoops.{each, combined, fits_form as fits_form_value};
 ghost use Rattle.value_meaning.specs.Meaning.{name_count as name_count_value};
-ghost use Rattle.value_meaning.specs.WithSource.{bounds_in, bound_in, maybe_in, operation_in, held_in, checked_in};
+ghost use Rattle.value_meaning.specs.WithSource.{bounds_in, bound_in, maybe_in, operation_in, held_in, checked_in, cells_in};
 
 use crate::arrays::{
     binary_at, built_in_at, condition_at, literal_at, replace_at, select_at, unary_of, value_of,
@@ -21,7 +24,7 @@ use crate::calls::{
     assign_all, assign_one, bind_index, bind_params, choose_instance, first_result_of, results_of,
 };
 use crate::environment::{Environment, assign, lookup};
-use crate::finish::{Background, add_cell, combine};
+use crate::finish::{add_cell, combine};
 use crate::frames::IndexVector;
 use crate::plans::{Evaluated, Plan, fold_plan, genarray_plan, modarray_plan};
 use crate::ranges::Range;
@@ -407,11 +410,11 @@ fn evaluate_with(
             site,
         } => {
             let plan = genarray_plan(context.alloc, &bounds, &shape, &default, site)?;
-            array_cells(gs, Background::Default(&default), plan, context, env)
+            array_cells(gs, plan, &default, false, context, env)
         }
         Evaluated::Modarray { array, site } => {
             let plan = modarray_plan(context.alloc, &bounds, &array, site)?;
-            array_cells(gs, Background::Old(&array), plan, context, env)
+            array_cells(gs, plan, &array, true, context, env)
         }
         Evaluated::Fold { op, neutral, site } => {
             let plan = fold_plan(context.alloc, &bounds, &neutral, site)?;
@@ -556,26 +559,25 @@ fn evaluate_operation(
 #[cycle(evaluate)]
 fn array_cells(
     gs: &[Generator],
-    background: Background<'_>,
     plan: Plan,
+    background: &Array,
+    old: bool,
     context: &Context<'_>,
     env: &Environment<'_>,
-) -> Result<Array, Stop> {
+) -> Result<Array, Stop>
+    requires { IsArrayPlan old background.now (plan_of plan) }
+    ensures { Tells result (and_then (cells_in context.now gs.now plan.ranges.items plan.frame plan.form (env_of env.now)) (λ found. Ok (array_from old background.now (plan_of plan) found))) }
+{
     let mut cells = Vec::new(context.alloc);
     let mut index = IndexVector::new(context.alloc);
-    let size = elements(&plan.form.shape).unwrap_or(0);
+    let size = elements(&plan.form.shape).unwrap_or(0) as usize;
     for place in 0..plan.frame.count() {
         plan.frame.index(place, &mut index)?;
         let cell = held_cell(gs, &plan.ranges, &index, &plan.form, context, env)?;
-        add_cell(&mut cells, background, place, size, &cell)?;
+        add_cell(&mut cells, background, old, place, size, &cell)?;
     }
-    let Plan {
-        ranges: _,
-        frame: _,
-        form,
-        shape,
-    } = plan;
-    Ok(Array::new(form.base, shape, cells))
+    let Plan { shape, .. } = plan;
+    Ok(Array::new(background.base(), shape, cells))
 }
 
 /// The neutral value combined with the cells of all indices.
@@ -587,7 +589,9 @@ fn fold_cells(
     plan: &Plan,
     context: &Context<'_>,
     env: &Environment<'_>,
-) -> Result<Array, Stop> {
+) -> Result<Array, Stop>
+    ensures { Tells result (and_then (cells_in context.now gs.now plan.now.ranges.items plan.now.frame plan.now.form (env_of env.now)) (λ found. Ok (fold (combined op) neutral found))) }
+{
     let mut value = neutral;
     let mut index = IndexVector::new(context.alloc);
     for place in 0..plan.frame.count() {
@@ -608,7 +612,8 @@ fn held_cell(
     context: &Context<'_>,
     env: &Environment<'_>,
 ) -> Result<Option<Array>, Stop>
-    ensures { Tells result (held_in context.now gs.now ranges.now index.now form.now (env_of env.now)) }
+    ensures told { Tells result (held_in context.now gs.now ranges.now index.now form.now (env_of env.now)) }
+    ensures sized { IfOk result (λ c. IfSome c (λ a. length a.cells ≡ size form.now.shape)) }
 {
     for i in 0..gs.len().min(ranges.len()) {
         if ranges[i].holds(index.components()) {
@@ -627,7 +632,8 @@ fn checked_cell(
     context: &Context<'_>,
     env: &Environment<'_>,
 ) -> Result<Option<Array>, Stop>
-    ensures { Tells result (checked_in context.now g.now index.now form.now (env_of env.now)) }
+    ensures told { Tells result (checked_in context.now g.now index.now form.now (env_of env.now)) }
+    ensures sized { IfOk result (λ c. IfSome c (λ a. length a.cells ≡ size form.now.shape)) }
 {
     let cell = cell_at(g, index, context, env)?;
     if !fits_form(form, &cell) {
@@ -637,8 +643,10 @@ fn checked_cell(
 }
 
 fn fits_form(form: &Form, array: &Array) -> bool
-    ensures { result ≡ fits_form_value form.now array.now }
+    ensures told { result ≡ fits_form_value form.now array.now }
+    ensures sized { IsTrue result → length array.now.cells ≡ size form.now.shape }
 {
+    let _ = array.cells();
     array.base() == form.base && same_shape(array.shape(), &form.shape)
 }
 

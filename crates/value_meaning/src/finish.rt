@@ -1,35 +1,38 @@
 //! What is made of the cells of a with-loop.
 
-ghost use Rattle.std.specs.Prelude.{◌≡◌, ◌≤◌, ◌+◌, ◌++◌, length, OnOk, IfOk};
+ghost use Rattle.std.specs.Prelude.{◌≡◌, ◌≤◌, ◌+◌, ◌*◌, ◌++◌, IsTrue, length, OnOk, Ok};
 ghost use Rattle.sac_base.specs.WithLoops.{combined};
+ghost use Rattle.value_meaning.specs.Cells.{cell_from};
+ghost use Rattle.value_meaning.specs.Tells.{Tells};
 
 use crate::stop::Stop;
 use array_ops::{ArrayError, binary};
 use sac_base::{Array, Memory, Op};
 use std::alloc::Global;
 
-/// What stands where no generator holds: the default at every index, or the old cell.
-#[derive(Clone, Copy)]
-pub enum Background<'a> {
-    Default(&'a Array),
-    Old(&'a Array),
-}
-
-/// Appends the cells at a place, of which a frame's index has so many.
+/// Appends the cell at a place. Where there is none, the old cell stands in its place, of so many elements, or else the default.
 pub fn add_cell(
     cells: &mut Vec<i32>,
-    background: Background<'_>,
-    place: u64,
-    size: u64,
+    background: &Array,
+    old: bool,
+    place: usize,
+    size: usize,
     cell: &Option<Array>,
-) -> Result<(), Memory> {
-    match (cell, background) {
-        (Some(cell), _) => cells.extend_from_slice(cell.cells())?,
-        (None, Background::Default(array)) => cells.extend_from_slice(array.cells())?,
-        (None, Background::Old(array)) => {
-            let start = (place * size) as usize;
-            let end = start + size as usize;
-            cells.extend_from_slice(&array.cells()[start..end])?;
+) -> Result<(), Memory>
+    requires { IsTrue old → place * size + size ≤ length background.now.cells }
+    ensures { OnOk result (cells.new.items ≡ cells.old.items ++ cell_from old background.now size place cell.now) }
+{
+    match cell {
+        Some(cell) => cells.extend_from_slice(cell.cells())?,
+        None => {
+            let stands = background.cells();
+            if old {
+                let start = place * size;
+                let end = start + size;
+                cells.extend_from_slice(&stands[start..end])?;
+            } else {
+                cells.extend_from_slice(stands)?;
+            }
         }
     }
     Ok(())
@@ -42,7 +45,7 @@ pub fn combine(
     value: Array,
     cell: &Option<Array>,
 ) -> Result<Array, Stop>
-    ensures { IfOk result (λ a. a ≡ combined op value cell.now) }
+    ensures { Tells result (Ok (combined op value cell.now)) }
 {
     match cell {
         None => Ok(value),

@@ -50,7 +50,7 @@ impl IndexVector {
 pub struct Frame {
     low: Vec<i32>,
     extents: Shape,
-    count: u64,
+    count: usize,
 }
 
 impl Model for Frame {
@@ -75,7 +75,7 @@ impl Frame {
         for _k in 0..shape.rank() {
             low.push(0)?;
         }
-        let count = elements(shape).unwrap();
+        let count = elements(shape).unwrap() as usize;
         Ok(Frame {
             low,
             extents: shape.copy(),
@@ -136,20 +136,20 @@ impl Frame {
             Some(count) => Ok(Some(Frame {
                 low,
                 extents,
-                count,
+                count: count as usize,
             })),
         }
     }
 
     /// How many indices there are.
-    pub fn count(&self) -> u64
+    pub fn count(&self) -> usize
         ensures { result ≡ length self.now }
     {
         self.count
     }
 
     /// Writes the index at a place.
-    pub fn index(&self, place: u64, into: &mut IndexVector) -> Result<(), Memory>
+    pub fn index(&self, place: usize, into: &mut IndexVector) -> Result<(), Memory>
         requires { place < length self.now }
         ensures { (d : List ℤ) → OnOk result (into.new ≡ slice_index_or self.now place d) }
     {
@@ -157,7 +157,7 @@ impl Frame {
         for _k in 0..self.extents.rank() {
             into.components.push(0)?;
         }
-        index_at(&self.extents, place, into.components.as_mut_slice());
+        index_at(&self.extents, place as u64, into.components.as_mut_slice());
         self.add_low(into.components.as_mut_slice());
         Ok(())
     }

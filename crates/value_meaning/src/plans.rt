@@ -4,6 +4,8 @@ ghost use Rattle.std.specs.Prelude.{◌≡◌, ◌≤◌, ◌+◌, length, map, 
 ghost use Rattle.sac_base.specs.Arrays.{ArrayValue, size, MOST};
 ghost use Rattle.sac_base.specs.Parts.{shape_of_numbers, vector_of};
 ghost use Rattle.sac_base.specs.WithLoops.{index_length as index_length_value, each, range_of, genarray_plan as genarray_value, modarray_plan as modarray_value, fold_plan as fold_value};
+ghost use Rattle.std.specs.Prelude.{Bool};
+ghost use Rattle.value_meaning.specs.Cells.{IsArrayPlan};
 ghost use Rattle.value_meaning.specs.Plans.{frame_if, plan_of};
 ghost use Rattle.value_meaning.specs.Tells.{Tells, TellsItems, TellsAs};
 
@@ -54,8 +56,10 @@ pub fn genarray_plan(
     default: &Array,
     site: Site,
 ) -> Result<Plan, Stop>
-    ensures { TellsAs plan_of result (genarray_value bounds.now (shape_of_numbers (vector_of shape.now)) default.now site) }
+    ensures told { TellsAs plan_of result (genarray_value bounds.now (shape_of_numbers (vector_of shape.now)) default.now site) }
+    ensures full { IfOk result (λ p. IsArrayPlan Bool.false default.now (plan_of p)) }
 {
+    let _ = default.cells();
     let Some(frame) = shape_of(alloc, shape) else {
         return Err(fault(FaultKind::F4, site));
     };
@@ -82,8 +86,10 @@ pub fn modarray_plan(
     array: &Array,
     site: Site,
 ) -> Result<Plan, Stop>
-    ensures { TellsAs plan_of result (modarray_value bounds.now (index_length_value bounds.now (length array.now.shape)) array.now site) }
+    ensures told { TellsAs plan_of result (modarray_value bounds.now (index_length_value bounds.now (length array.now.shape)) array.now site) }
+    ensures full { IfOk result (λ p. IsArrayPlan Bool.true array.now (plan_of p)) }
 {
+    let _ = array.cells();
     let rank = array.shape().rank();
     let n = index_length(bounds, rank);
     let frame = array.shape().first(n);

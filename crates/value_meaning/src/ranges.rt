@@ -162,7 +162,8 @@ impl Range {
         requires uppers { length upper.now ≡ length lower.now }
         requires steps { length step.now ≡ length lower.now }
         requires widths { length width.now ≡ length lower.now }
-        ensures { IfOk result (λ r. r ≡ axes_of lower.now upper.now step.now width.now) }
+        ensures value { IfOk result (λ r. r ≡ axes_of lower.now upper.now step.now width.now) }
+        ensures length { IfOk result (λ r. length r ≡ length lower.now) }
     {
         let mut axes = Vec::new(alloc);
         for k in 0..lower.len() {

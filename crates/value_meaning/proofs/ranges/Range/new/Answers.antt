@@ -1,5 +1,6 @@
-use Rattle.std.proofs.Common.{◌≡◌, arith, rules, w64, w32, pos, ap, sym, ◌∙◌, subst, get_or, drop, ◌+◌, ◌++◌, All, to_z, of_z}
+use Rattle.std.proofs.Common.{◌≡◌, arith, rules, w64, w32, pos, ap, sym, ◌∙◌, subst, get_or, drop, ◌+◌, ◌++◌, All, to_z, of_z, length}
 use Rattle.std.proofs.lemmas.List.Elements.{All-push}
+use Rattle.std.proofs.lemmas.List.{length_push}
 use Rattle.sac_base.specs.WithLoops.{Axis, axes}
 use Rattle.value_meaning.specs.Ranges.{IsAxis, IsBound, IsStep}
 use Rattle.value_meaning.proofs.RangeSteps.{bound_kept, step_kept, axes_step}
@@ -33,4 +34,5 @@ loop-k-preserved c =
       whole = ap (λ xs. xs ++ axes (drop (k + 1) c.args.lower.now) (drop (k + 1) c.args.upper.now) (drop (k + 1) c.args.step.now) (drop (k + 1) c.args.width.now)) c.in_ok-push.ensures.items
         ∙ axes_step c.args.lower.now c.args.upper.now c.args.step.now c.args.width.now k c.loop-k.axes.items _ a c.loop-k-test.true c.requires.uppers c.requires.steps c.requires.widths is c.loop-k.invariant.whole;
       each = subst (All IsAxis) (sym c.in_ok-push.ensures.items) (All-push IsAxis c.loop-k.axes.items a c.loop-k.invariant.each (record { lower = subst IsBound (sym (bound_kept _ l)) l; upper = subst IsBound (sym (bound_kept _ u)) u; step = subst IsStep (sym (step_kept _ _ s c.unsigned_abs.ensures.value)) s; width = subst IsStep (sym (step_kept _ _ w c.unsigned_abs-in-loop-k.ensures.value)) w }));
+      count = ap length c.in_ok-push.ensures.items ∙ length_push c.loop-k.axes.items a ∙ ap (λ n. n + 1) c.loop-k.invariant.count;
     }

@@ -1,0 +1,88 @@
+-- The value of a with-loop from its plan and its cells.
+use Rattle.std.proofs.Common.{◌≡◌, ℕ, zero, suc, ◌+◌, ◌-◌, ◌*◌, ◌/◌, ◌%◌, ◌<◌, ◌≤◌, List, [], ◌∷◌, ◌++◌, length, get_or, take, drop, map, Bool, true, false, refl, sym, ap, ◌∙◌, subst, arith, ℤ, pos, ◌+ℤ◌, Ok, Err, Some, None, Option, cond, add_assoc, append-nil}
+use Rattle.std.specs.Prelude.{flat_map, fold, nat_le, ◌&&◌, if◌then◌else◌, ◌==◌, nat_lt}
+use Rattle.std.specs.List.{zip}
+use Rattle.std.proofs.lemmas.List.{length-map, drop_more}
+use Rattle.std.proofs.lemmas.Int.{ints}
+use Rattle.std.proofs.lemmas.Bool.Decides.{nat_tests}
+use Rattle.std.proofs.lemmas.Nat.{mod_below, div_below, div-add-mod'}
+use Rattle.sac_base.specs.declared.fault.Fault.{Fault}
+use Rattle.sac_base.specs.declared.fault.FaultKind.TheVariants.{F4, F8}
+use Rattle.sac_base.specs.declared.site.Site.{Site}
+use Rattle.sac_base.specs.declared.form.Form.{Form}
+use Rattle.sac_base.specs.declared.op.Op.{Op}
+use Rattle.sac_base.specs.Arrays.{ArrayValue, size, MOST, form_of}
+use Rattle.sac_base.specs.Parts.{Part, part_at, cells_at, further}
+use Rattle.sac_base.specs.Places.{vector_at}
+use Rattle.sac_base.specs.Outcomes.{Ends, and_then, fault}
+use Rattle.sac_base.specs.WithLoops.{Bounds, Generator, Range, Plan, box, box_size, shape_spans, holds, holder, held_cell, cell_at, cells_of, each, range_of, genarray_plan, modarray_plan, fold_plan, plan, finish, genarray, modarray, fold_by, cell_or, cell_or_old, cells_of_part, combined, with_value}
+use Rattle.sac_base.proofs.RowMajor.{size-append}
+use Rattle.value_meaning.specs.Cells.{cell_from, cells_from, array_from, IsArrayPlan}
+use Rattle.value_meaning.proofs.EachSteps.{each_length}
+use Rattle.value_meaning.proofs.FrameSteps.{length-box, box_at, vector_in, zero_spans, vector_of_spans, added}
+
+-- ---- the cells need no bounds
+
+module _ (strip : Generator → Generator) (site : (g : Generator) → (strip g).bounds.site ≡ g.bounds.site) (cell : (g : Generator) → (strip g).cell ≡ g.cell) where
+  same_cell : (form : Form) (gs : List Generator) (rs : List Range) (v : List ℤ) → cell_at form gs rs v ≡ cell_at form (map strip gs) rs v
+  same_cell form [] [] v = refl
+  same_cell form [] (r ∷ rs) v = refl
+  same_cell form (g ∷ gs) [] v = refl
+  same_cell form (g ∷ gs) (r ∷ rs) v = by (holds r v) (same_cell form gs rs v)
+    where
+      by : (b : Bool) → cell_at form gs rs v ≡ cell_at form (map strip gs) rs v → held_cell form (if b then Some g else holder gs rs v) v ≡ held_cell form (if b then Some (strip g) else holder (map strip gs) rs v) v
+      by true e = λ i. held_cell form (Some (record { bounds = record g.bounds { site = sym (site g) i }; cell = sym (cell g) i })) v
+      by false e = e
+
+-- ---- genarray
+
+default_cells : (default : ArrayValue) (n k : ℕ) (found : List (Option ArrayValue)) → flat_map (cell_or default) found ≡ cells_from false default n k found
+default_cells default n k [] = refl
+default_cells default n k (None ∷ found) = ap (λ zs. default.cells ++ zs) (default_cells default n (k + 1) found)
+default_cells default n k (Some c ∷ found) = ap (λ zs. c.cells ++ zs) (default_cells default n (k + 1) found)
+
+pub genarray_finish : (shape default : ArrayValue) (s : Site) (p : Plan) (found : List (Option ArrayValue)) → finish (genarray shape default s) p found ≡ array_from false default p found
+genarray_finish shape default s p found = λ i. record { base = default.base; shape = p.shape; cells = default_cells default (size p.form.shape) 0 found i }
+
+-- ---- the index vectors of a shape
+
+pub length_indices : (ns : List ℕ) → length (box (shape_spans ns)) ≡ size ns
+length_indices ns = length-box (shape_spans ns) ∙ ap size (extents ns)
+  where
+    extents : (ns : List ℕ) → map (λ a. a.extent) (shape_spans ns) ≡ ns
+    extents [] = refl
+    extents (n ∷ ns) = ap (λ ms. n ∷ ms) (extents ns)
+
+vector_in_shape : (ns : List ℕ) (p : ℕ) → vector_in (shape_spans ns) p ≡ vector_at ns p
+vector_in_shape [] p = refl
+vector_in_shape (n ∷ ns) p =
+    let s = sym (length-box (shape_spans ns)) ∙ length_indices ns in
+    ap (λ m. (pos 0 +ℤ pos (p / m)) ∷ vector_in (shape_spans ns) (p % m)) s
+    ∙ ap (λ x. pos x ∷ vector_in (shape_spans ns) (p % size ns)) zeroed
+    ∙ ap (λ vs. pos (p / size ns) ∷ vs) (vector_in_shape ns (p % size ns))
+  where
+    zeroed : 0 + p / size ns ≡ p / size ns
+    zeroed = omega arith
+
+positive : (a m p : ℕ) → p < a * m → 0 < m
+positive a zero p h = absurd (omega arith)
+positive a (suc m) p h = omega arith
+
+-- the part of an array at an index of its first extents
+pub part_at_front : (ns ms : List ℕ) (p : ℕ) → p < size ns → part_at (ns ++ ms) (vector_at ns p) ≡ Some (record { start = p * size ms; shape = ms })
+part_at_front [] ms zero h = λ i. Some (record { start = none i; shape = ms })
+  where
+    none : 0 ≡ 0 * size ms
+    none = omega arith
+part_at_front [] ms (suc p) h = absurd (omega arith)
+part_at_front (n ∷ ns) ms p h =
+    let S = size ns in
+    let some : 0 < S = positive n S p h in
+    let inner = part_at_front ns ms (p % S) (mod_below p S some) in
+    let inside : nat_lt (p / S) n ≡ true = let d = div_below p S n some h in grind (arith, nat_tests) in
+    ap (λ b. if b then further (p / S) (ns ++ ms) (part_at (ns ++ ms) (vector_at ns (p % S))) else None) inside
+    ∙ ap (further (p / S) (ns ++ ms)) inner
+    ∙ ap (λ x. Some (record { start = x; shape = ms })) sum
+  where
+    sum : p / size ns * size (ns ++ ms) + p % size ns * size ms ≡ p * size ms
+    sum = ?
