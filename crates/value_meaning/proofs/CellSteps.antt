@@ -19,7 +19,7 @@ use Rattle.sac_base.specs.WithLoops.{Bounds, Generator, Range, Plan, box, box_si
 use Rattle.sac_base.proofs.RowMajor.{size-append}
 use Rattle.value_meaning.specs.Cells.{cell_from, cells_from, array_from, IsArrayPlan}
 use Rattle.value_meaning.proofs.EachSteps.{each_length}
-use Rattle.value_meaning.proofs.FrameSteps.{length-box, box_at, vector_in, zero_spans, vector_of_spans, added}
+use Rattle.value_meaning.proofs.FrameSteps.{length-box, box_at, vector_in, zero_spans, vector_of_spans}
 
 -- ---- the cells need no bounds
 

@@ -20,3 +20,8 @@ pub record IsFrame (low : List ℤ) (extents : List ℕ) (count : ℕ) : Type 0 
 
 abbrev pub joined_frame : List Range → List Span
 joined_frame ranges = fold_frame (filter (λ r. not (is_empty_box r)) ranges)
+
+-- numbers of two lists added one by one
+abbrev pub added : List ℤ → List ℤ → List ℤ
+added (a ∷ as') (b ∷ bs) = (a +ℤ b) ∷ added as' bs
+added _ _ = []

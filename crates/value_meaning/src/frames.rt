@@ -6,7 +6,7 @@ ghost use Rattle.sac_base.specs.WithLoops.{box, box_size, shape_spans};
 ghost use Rattle.value_meaning.specs.Frames.{joined_frame};
 
 use crate::ranges::{Axis, Range};
-use sac_base::{MOST_ELEMENTS, Memory, Shape, elements, index_at};
+use sac_base::{MOST_ELEMENTS, Memory, Shape, elements};
 use std::alloc::Global;
 use std::marker::Model;
 
@@ -71,6 +71,7 @@ impl Frame {
         requires { size shape.now ≤ MOST }
         ensures { IfOk result (λ f. f ≡ box (shape_spans shape.now)) }
     {
+        let _ = shape.extents();
         let mut low = Vec::new(alloc);
         for _k in 0..shape.rank() {
             low.push(0)?;
@@ -154,18 +155,14 @@ impl Frame {
         ensures { (d : List ℤ) → OnOk result (into.new ≡ slice_index_or self.now place d) }
     {
         into.components.clear();
-        for _k in 0..self.extents.rank() {
-            into.components.push(0)?;
+        let extents = self.extents.extents();
+        let mut weight = self.count;
+        let mut rest = place;
+        for k in 0..self.low.len() {
+            weight /= extents[k].unsigned_abs() as usize;
+            into.components.push(self.low[k] + (rest / weight) as i32)?;
+            rest %= weight;
         }
-        index_at(&self.extents, place as u64, into.components.as_mut_slice());
-        self.add_low(into.components.as_mut_slice());
         Ok(())
-    }
-
-    // Adds the lowest index.
-    fn add_low(&self, v: &mut [i32]) {
-        for k in 0..self.low.len().min(v.len()) {
-            v[k] = self.low[k] + v[k];
-        }
     }
 }

@@ -1,5 +1,11 @@
-use Rattle.std.proofs.Common.{◌≡◌, replicate, pos}
+use Rattle.std.proofs.Common.{◌≡◌, pos, All, ◌≤◌, length}
+use Rattle.sac_base.specs.Places.{vector_at}
+use Rattle.value_meaning.specs.Frames.{added}
+use Rattle.value_meaning.proofs.FrameSteps.{Left}
 use Rattle.value_meaning.proofs.frames.Frame.index.Given as goal
 
 abbrev pub invariant-loop-k : goal.invariant-loop-k
-invariant-loop-k l = l.into-inside.components.items ≡ replicate l._k (pos 0)
+invariant-loop-k l = record {
+  left : Left l.self-inside.low.items l.self-inside.extents l.k l.weight l.rest l.into-inside.components.items (added l.self-inside.low.items (vector_at l.self-inside.extents l.place));
+  count : length l.into-inside.components.items ≡ l.k;
+}

@@ -1,6 +1,19 @@
-use Rattle.std.proofs.Common.{ap, sym, ◌∙◌, length}
-use Rattle.value_meaning.proofs.FrameSteps.{zeros_fit, zero_spans}
+use Rattle.std.proofs.Common.{◌≡◌, ap, sym, ◌∙◌, length, replicate, pos, arith, ◌≤◌, to_z, of_z}
+use Rattle.sac_base.specs.Arrays.{size}
+use Rattle.value_meaning.proofs.FrameSteps.{zero_frame, zero_box}
 use Rattle.value_meaning.proofs.frames.Frame.of_shape.Goals as goal
 
 pub invariant_of-result : goal.invariant_of-result
-invariant_of-result c = ?
+invariant_of-result c =
+    let ns = c.args.shape.now in
+    let k : c.loop-k._k ≡ length ns = omega (arith, c.rank-k-end.ensures.value, c.loop-k-test.false, c.loop-k.auto._k-end) in
+    let low = c.loop-k.invariant ∙ ap (λ n. replicate n (pos 0)) k in
+    let e = c.elements.ensures in
+    let u = c.unwrap-count.ensures in
+    zero_frame ns c.loop-k.low.items c.copy.result _ c.extents.ensures.shape c.requires low c.copy.ensures ?
+
+pub returns : goal.returns
+returns c =
+    let ns = c.args.shape.now in
+    let k : c.loop-k._k ≡ length ns = omega (arith, c.rank-k-end.ensures.value, c.loop-k-test.false, c.loop-k.auto._k-end) in
+    zero_box ns c.loop-k.low.items c.copy.result (c.loop-k.invariant ∙ ap (λ n. replicate n (pos 0)) k) c.copy.ensures
