@@ -1,8 +1,10 @@
 -- The value of a with-loop from its plan and its cells.
-use Rattle.std.proofs.Common.{◌≡◌, ℕ, zero, suc, ◌+◌, ◌-◌, ◌*◌, ◌/◌, ◌%◌, ◌<◌, ◌≤◌, List, [], ◌∷◌, ◌++◌, length, get_or, take, drop, map, Bool, true, false, refl, sym, ap, ◌∙◌, subst, arith, ℤ, pos, ◌+ℤ◌, Ok, Err, Some, None, Option, cond, add_assoc, append-nil}
-use Rattle.std.specs.Prelude.{flat_map, fold, nat_le, ◌&&◌, if◌then◌else◌, ◌==◌, nat_lt}
+use Rattle.std.proofs.Common.{◌≡◌, ℕ, zero, suc, ◌+◌, ◌-◌, ◌*◌, ◌/◌, ◌%◌, ◌<◌, ◌≤◌, List, [], ◌∷◌, ◌++◌, length, get_or, take, drop, map, Bool, true, false, refl, sym, ap, ◌∙◌, subst, arith, ℤ, pos, ◌+ℤ◌, Ok, Err, Some, None, Option, cond, mul_assoc, min, true≢false}
+use Rattle.std.proofs.Math.Nat.{add-mul}
+use Rattle.std.specs.Prelude.{flat_map, fold, nat_le, is_some, ◌&&◌, if◌then◌else◌, ◌==◌, nat_lt}
 use Rattle.std.specs.List.{zip}
-use Rattle.std.proofs.lemmas.List.{length-map, drop_more}
+use Rattle.std.specs.Option.{SomeIff}
+use Rattle.std.proofs.lemmas.List.{length-map, drop_more, take_min, take-append-drop}
 use Rattle.std.proofs.lemmas.Int.{ints}
 use Rattle.std.proofs.lemmas.Bool.Decides.{nat_tests}
 use Rattle.std.proofs.lemmas.Nat.{mod_below, div_below, div-add-mod'}
@@ -85,4 +87,50 @@ part_at_front (n ∷ ns) ms p h =
     ∙ ap (λ x. Some (record { start = x; shape = ms })) sum
   where
     sum : p / size ns * size (ns ++ ms) + p % size ns * size ms ≡ p * size ms
-    sum = ?
+    sum =
+        ap (λ x. p / size ns * x + p % size ns * size ms) (size-append ns ms)
+        ∙ ap (λ x. x + p % size ns * size ms) (sym (mul_assoc (p / size ns) (size ns) (size ms)))
+        ∙ sym (add-mul (p / size ns * size ns) (p % size ns) (size ms))
+        ∙ ap (λ x. x * size ms) (div-add-mod' p (size ns))
+
+
+-- ---- modarray
+
+-- the old elements at an index of the frame
+old_at : (array : ArrayValue) (ns ms : List ℕ) (k : ℕ) → array.shape ≡ ns ++ ms → k < size ns → cells_of_part array (part_at array.shape (get_or (box (shape_spans ns)) k [])) ≡ take (size ms) (drop (k * size ms) array.cells)
+old_at array ns ms k e h =
+    let at : get_or (box (shape_spans ns)) k [] ≡ vector_at ns k = box_at (shape_spans ns) k [] (subst (λ x. k < x) (sym (length_indices ns) ∙ length-box (shape_spans ns)) h) ∙ vector_in_shape ns k in
+    ap (λ v. cells_of_part array (part_at array.shape v)) at
+    ∙ ap (λ s. cells_of_part array (part_at s (vector_at ns k))) e
+    ∙ ap (cells_of_part array) (part_at_front ns ms k h)
+
+module _ (array : ArrayValue) (ns ms : List ℕ) (e : array.shape ≡ ns ++ ms) where
+  old_cells : (k : ℕ) (found : List (Option ArrayValue)) → k + length found ≡ size ns
+      → flat_map (λ (q : List ℤ × Option ArrayValue). cell_or_old array q.0 q.1) (zip (drop k (box (shape_spans ns))) found) ≡ cells_from true array (size ms) k found
+  old_cells k [] h = zip_none (drop k (box (shape_spans ns)))
+    where
+      zip_none : (vs : List (List ℤ)) → flat_map (λ (q : List ℤ × Option ArrayValue). cell_or_old array q.0 q.1) (zip vs []) ≡ []
+      zip_none [] = refl
+      zip_none (v ∷ vs) = refl
+  old_cells k (c ∷ found) h =
+      let inside : k < size ns = omega arith in
+      let at = drop_more (box (shape_spans ns)) k [] (subst (λ x. k < x) (sym (length_indices ns)) inside) in
+      ap (λ vs. flat_map (λ (q : List ℤ × Option ArrayValue). cell_or_old array q.0 q.1) (zip vs (c ∷ found))) at
+      ∙ ap (λ zs. zs ++ flat_map (λ (q : List ℤ × Option ArrayValue). cell_or_old array q.0 q.1) (zip (drop (k + 1) (box (shape_spans ns))) found)) (one c)
+      ∙ ap (λ zs. cell_from true array (size ms) k c ++ zs) (old_cells (k + 1) found (omega arith))
+    where
+      one : (c : Option ArrayValue) → cell_or_old array (get_or (box (shape_spans ns)) k []) c ≡ cell_from true array (size ms) k c
+      one None = let inside : k < size ns = omega arith in old_at array ns ms k e inside
+      one (Some a) = refl
+
+-- ---- what the plans of arrays have
+
+pub some_small : {T : Type 0} (o : Option T) (P : Type 0) (v : T) → SomeIff o P v → is_some o ≡ true → P
+some_small None P v h e = absurd (true≢false (sym e))
+some_small (Some x) P v h e = h.0
+
+pub split_size : (ns : List ℕ) (n : ℕ) → size (take n ns) * size (drop (min n (length ns)) ns) ≡ size ns
+split_size ns n =
+    ap (λ xs. size xs * size (drop (min n (length ns)) ns)) (sym (take_min n ns))
+    ∙ sym (size-append (take (min n (length ns)) ns) (drop (min n (length ns)) ns))
+    ∙ ap size (take-append-drop (min n (length ns)) ns)

@@ -6,14 +6,14 @@ use Rattle.sac_base.specs.Operators.{all_of, with_first}
 use Rattle.sac_base.specs.Outcomes.{Ends, and_then}
 use Rattle.sac_base.specs.WithLoops.{each}
 
-module _ {A B C : Type 0} (f : A → Ends B) (xs : List A) where
-  each_at : (k : ℕ) (d : A) (r : Ends B) → k < length xs → f (get_or xs k d) ≡ r → each f (drop k xs) ≡ all_of (r ∷ map f (drop (k + 1) xs))
-  each_at k d r h e = ap (each f) (drop_more xs k d h) ∙ ap (λ r. all_of (r ∷ map f (drop (k + 1) xs))) e
+each_at : {A B : Type 0} (f : A → Ends B) (xs : List A) (k : ℕ) (d : A) (r : Ends B) → k < length xs → f (get_or xs k d) ≡ r → each f (drop k xs) ≡ all_of (r ∷ map f (drop (k + 1) xs))
+each_at f xs k d r h e = ap (each f) (drop_more xs k d h) ∙ ap (λ r. all_of (r ∷ map f (drop (k + 1) xs))) e
 
+module _ {A B C : Type 0} (f : A → Ends B) (xs : List A) where
   -- an element has a value
   pub each_step : (k : ℕ) (d : A) (b : B) (next next' : List B → Ends C) (all : Ends C) → k < length xs → f (get_or xs k d) ≡ Ok b → ((rest : List B) → next (b ∷ rest) ≡ next' rest) → and_then (each f (drop k xs)) next ≡ all → and_then (each f (drop (k + 1) xs)) next' ≡ all
   each_step k d b next next' all h e same inv =
-      by (each f (drop (k + 1) xs)) ∙ ap (λ m. and_then m next) (sym (each_at k d (Ok b) h e)) ∙ inv
+      by (each f (drop (k + 1) xs)) ∙ ap (λ m. and_then m next) (sym (each_at f xs k d (Ok b) h e)) ∙ inv
     where
       by : (m : Ends (List B)) → and_then m next' ≡ and_then (with_first b m) next
       by (Ok rest) = sym (same rest)
@@ -21,7 +21,7 @@ module _ {A B C : Type 0} (f : A → Ends B) (xs : List A) where
 
   -- or a fault
   pub each_fault : (k : ℕ) (d : A) (fault : Fault) (next : List B → Ends C) (all : Ends C) → k < length xs → f (get_or xs k d) ≡ Err fault → and_then (each f (drop k xs)) next ≡ all → all ≡ Err fault
-  each_fault k d fault next all h e inv = sym inv ∙ ap (λ m. and_then m next) (each_at k d (Err fault) h e)
+  each_fault k d fault next all h e inv = sym inv ∙ ap (λ m. and_then m next) (each_at f xs k d (Err fault) h e)
 
   pub each_end : (k : ℕ) (next : List B → Ends C) (all : Ends C) → length xs ≤ k → and_then (each f (drop k xs)) next ≡ all → all ≡ next []
   each_end k next all h inv = sym inv ∙ ap (λ ys. and_then (each f ys) next) (drop_all k xs h)

@@ -64,7 +64,7 @@ at_block rest z (suc n) p d e h =
         ∙ ap (λ x. x ∷ get_or rest (k % m) e) zz ∙ ap (λ x. (z +ℤ pos (p / m)) ∷ get_or rest x e) r
     ]
 
-abbrev vector_in : List Span → ℕ → List ℤ
+abbrev pub vector_in : List Span → ℕ → List ℤ
 vector_in [] p = []
 vector_in (a ∷ rest) p = (a.low +ℤ pos (p / box_size rest)) ∷ vector_in rest (p % box_size rest)
 

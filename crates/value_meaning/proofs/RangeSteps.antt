@@ -278,7 +278,7 @@ some_above : (d : ℤ) → pos 1 ≤ℤ d → 1 ≤ distance d
 some_above (pos n) h = omega (arith, ints)
 some_above (negsuc n) h = absurd (omega (arith, ints))
 
-some_extent : (a : Axis) → is_empty_axis a ≡ false → 1 ≤ (span_of a).extent
+pub some_extent : (a : Axis) → is_empty_axis a ≡ false → 1 ≤ (span_of a).extent
 some_extent a e = by_lt_z a.lower a.upper (λ lt. some_above (a.upper -ℤ a.lower) (omega (arith, ints))) (λ le. absurd (below (int_lt a.lower a.upper) refl le))
   where
     below : (b : Bool) → int_lt a.lower a.upper ≡ b → a.upper ≤ℤ a.lower → ⊥

@@ -69,7 +69,8 @@ impl Bounds {
         bounded: bool,
     ) -> Result<Range, Stop>
         requires { IsTrue bounded → n ≤ most → length frame.now ≡ n }
-        ensures { Tells result (range_of n most (frame_if bounded frame.now) frame.now self.now) }
+        ensures told { Tells result (range_of n most (frame_if bounded frame.now) frame.now self.now) }
+        ensures rank { IfOk result (λ r. length r ≤ 8) }
     {
         if n > Shape::MOST || n > most || !self.has_names(n) {
             return Err(fault(FaultKind::F5, self.site));

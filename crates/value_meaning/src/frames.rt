@@ -1,11 +1,11 @@
 //! The indices of a with-loop's frame.
 
-ghost use Rattle.std.specs.Prelude.{◌≡◌, ◌≤◌, ◌<◌, [], length, slice_index_or, List, ℤ, IfOk, IfSome, OnOk, is_some, nat_le};
+ghost use Rattle.std.specs.Prelude.{◌≡◌, ◌≤◌, ◌<◌, [], length, slice_index_or, List, ℤ, IfOk, IfSome, OnOk, is_some, nat_le, All, false, map};
 ghost use Rattle.sac_base.specs.Arrays.{size, MOST};
-ghost use Rattle.sac_base.specs.WithLoops.{box, box_size, shape_spans};
-ghost use Rattle.value_meaning.specs.Frames.{joined_frame};
+ghost use Rattle.sac_base.specs.WithLoops.{box, box_size, shape_spans, span_of, is_empty_box};
+ghost use Rattle.value_meaning.specs.Frames.{joined_frame, frame_with, joined_next, IsSomeBox};
 
-use crate::ranges::{Axis, Range};
+use crate::ranges::Range;
 use sac_base::{MOST_ELEMENTS, Memory, Shape, elements};
 use std::alloc::Global;
 use std::marker::Model;
@@ -86,42 +86,42 @@ impl Frame {
 
     /// The indices of the least box that holds the boxes of all ranges that are not empty. There are none exactly where they would be too many.
     pub fn of_ranges(alloc: Global, ranges: &[Range]) -> Result<Option<Frame>, Memory>
+        requires { All (λ r. length r ≤ 8) ranges.now }
         ensures some { IfOk result (λ o. IfSome o (λ f. f ≡ box (joined_frame ranges.now))) }
         ensures none { IfOk result (λ o. is_some o ≡ nat_le (box_size (joined_frame ranges.now)) MOST) }
     {
-        let mut joined: Option<Range> = None;
-        for range in ranges {
-            if !range.is_empty() {
-                joined = Some(match &joined {
-                    None => range.joined(alloc, range)?,
-                    Some(before) => before.joined(alloc, range)?,
-                });
+        match joined_range(alloc, ranges)? {
+            None => {
+                let frame = Frame::without_index(alloc)?;
+                Ok(Some(frame))
             }
-        }
-        match joined {
-            None => Frame::without_index(alloc),
-            Some(range) => Frame::of_box(alloc, range.axes()),
+            Some(range) => Frame::of_box(alloc, &range),
         }
     }
 
     // No index.
-    fn without_index(alloc: Global) -> Result<Option<Frame>, Memory>
+    fn without_index(alloc: Global) -> Result<Frame, Memory>
+        ensures { IfOk result (λ f. f ≡ []) }
     {
         let mut low = Vec::new(alloc);
         low.push(0)?;
-        Ok(Some(Frame {
+        Ok(Frame {
             low,
             extents: Shape::vector(alloc, 0),
             count: 0,
-        }))
+        })
     }
 
     // The indices of a box that is not empty, if they are not too many.
-    fn of_box(alloc: Global, axes: &[Axis]) -> Result<Option<Frame>, Memory>
+    fn of_box(alloc: Global, range: &Range) -> Result<Option<Frame>, Memory>
+        requires nonempty { is_empty_box range.now ≡ false }
+        requires rank { length range.now ≤ 8 }
+        ensures some { IfOk result (λ o. IfSome o (λ f. f ≡ box (map span_of range.now))) }
+        ensures none { IfOk result (λ o. is_some o ≡ nat_le (box_size (map span_of range.now)) MOST) }
     {
         let mut low = Vec::new(alloc);
         let mut extents = Vec::new(alloc);
-        for axis in axes {
+        for axis in range.axes() {
             let extent = axis.extent();
             if extent > MOST_ELEMENTS {
                 return Ok(None);
@@ -165,4 +165,34 @@ impl Frame {
         }
         Ok(())
     }
+}
+
+// The least box that holds the boxes of all ranges that are not empty, if there are any.
+fn joined_range(alloc: Global, ranges: &[Range]) -> Result<Option<Range>, Memory>
+    requires { All (λ r. length r ≤ 8) ranges.now }
+    ensures frame { IfOk result (λ o. frame_with o [] ≡ joined_frame ranges.now) }
+    ensures some { IfOk result (λ o. IfSome o IsSomeBox) }
+{
+    let mut joined = None;
+    for range in ranges {
+        joined = joined_with(alloc, joined, range)?;
+    }
+    Ok(joined)
+}
+
+fn joined_with(
+    alloc: Global,
+    joined: Option<Range>,
+    range: &Range,
+) -> Result<Option<Range>, Memory>
+    ensures { IfOk result (λ o. o ≡ joined_next joined range.now) }
+{
+    if range.is_empty() {
+        return Ok(joined);
+    }
+    let next = match joined {
+        None => range.copy(alloc)?,
+        Some(before) => before.joined(alloc, range)?,
+    };
+    Ok(Some(next))
 }

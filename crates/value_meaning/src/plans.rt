@@ -1,6 +1,6 @@
 //! What is known of a with-loop before its first cell.
 
-ghost use Rattle.std.specs.Prelude.{◌≡◌, ◌≤◌, ◌+◌, length, map, IsTrue, IfOk};
+ghost use Rattle.std.specs.Prelude.{◌≡◌, ◌≤◌, ◌+◌, length, map, All, IsTrue, IfOk};
 ghost use Rattle.sac_base.specs.Arrays.{ArrayValue, size, MOST};
 ghost use Rattle.sac_base.specs.Parts.{shape_of_numbers, vector_of};
 ghost use Rattle.sac_base.specs.WithLoops.{index_length as index_length_value, each, range_of, genarray_plan as genarray_value, modarray_plan as modarray_value, fold_plan as fold_value};
@@ -163,7 +163,8 @@ fn ranges_of(
     bounded: bool,
 ) -> Result<Vec<Range>, Stop>
     requires { IsTrue bounded → n ≤ most → length frame.now ≡ n }
-    ensures { TellsItems result (each (range_of n most (frame_if bounded frame.now) frame.now) bounds.now) }
+    ensures told { TellsItems result (each (range_of n most (frame_if bounded frame.now) frame.now) bounds.now) }
+    ensures ranks { IfOk result (λ v. All (λ r. length r ≤ 8) v.items) }
 {
     let mut ranges = Vec::new(alloc);
     for g in bounds {

@@ -97,6 +97,17 @@ impl Axis {
         self.lower.unsigned_abs() + last < u64::from(extent.unsigned_abs())
     }
 
+    fn copy(&self) -> Axis
+        ensures { result ≡ self.now }
+    {
+        Axis {
+            lower: self.lower,
+            upper: self.upper,
+            step: self.step,
+            width: self.width,
+        }
+    }
+
     // The least axis without gaps that holds two.
     fn joined(&self, other: &Axis) -> Axis
         ensures { result ≡ joined_axis self.now other.now }
@@ -179,7 +190,8 @@ impl Range {
 
     /// The components.
     pub fn axes(&self) -> &[Axis]
-        ensures { result.now ≡ self.now }
+        ensures value { result.now ≡ self.now }
+        ensures each { All IsAxis self.now }
     {
         self.axes.as_slice()
     }
@@ -197,6 +209,17 @@ impl Range {
             }
         }
         true
+    }
+
+    /// An equal range.
+    pub fn copy(&self, alloc: Global) -> Result<Range, Memory>
+        ensures { IfOk result (λ r. r ≡ self.now) }
+    {
+        let mut axes = Vec::new(alloc);
+        for axis in &self.axes {
+            axes.push(axis.copy())?;
+        }
+        Ok(Range { axes })
     }
 
     /// The components of the least box that holds the boxes of two ranges, with this range's steps and widths.

@@ -43,8 +43,8 @@ run-returns-in-While t c =
     let same = ap (λ b. Tree.while_do (expr c.in-While.cond) b c.in-While.site) body ∙ sym whole ∙ ap stmt (sym c.in-While.is) in
     subst (λ s. TellsEnv c.repeat_while.result (env_of c.repeat_while.new.env) (statement_in c.args.context.now s (env_of c.args.env.now))) same c.repeat_while.ensures
 
-pub run-returns : goal.run-returns
-run-returns t c =
+pub run-returns-in-Do : goal.run-returns-in-Do
+run-returns-in-Do t c =
     let body = ap block c.deref-in-Do.ensures.value in
     let body' = ap block c.deref-in-Do-2.ensures.value in
     let first : block_in c.args.context.now (block c.in-Do.body.items) (env_of c.args.env.now) ≡ Ok (env_of c.run_block-in-Do.new.env) = ap (λ b. block_in c.args.context.now b (env_of c.args.env.now)) (sym body) ∙ c.in_ok-run_block-in-Do.ensures in

@@ -8,8 +8,13 @@ use Rattle.sac_ast.specs.declared.Operation.{size-Operation}
 use Rattle.sac_base.specs.Outcomes.{and_then}
 use Rattle.value_meaning.specs.Environments.{env_of}
 use Rattle.value_meaning.specs.Evaluation.{meanings_in, block_in, repeat_in}
-use Rattle.value_meaning.specs.WithSource.{generator_of, bounds_in}
-use Rattle.sac_base.specs.WithLoops.{holder, each}
+use Rattle.std.proofs.Common.{length}
+use Rattle.std.specs.Prelude.{fold}
+use Rattle.sac_base.specs.Arrays.{size}
+use Rattle.value_meaning.specs.Cells.{cells_from, array_from}
+use Rattle.value_meaning.specs.Plans.{plan_of}
+use Rattle.value_meaning.specs.WithSource.{generator_of, bounds_in, cells_in}
+use Rattle.sac_base.specs.WithLoops.{holder, each, combined}
 use Rattle.value_meaning.proofs.Measures.{exprs_size, block_size, body_size, cells_size, maybe_size, rank_of}
 use Rattle.value_meaning.proofs.evaluate.+evaluate.Given as goal
 
@@ -52,13 +57,13 @@ abbrev pub invariant-run_block-loop-s : goal.invariant-run_block-loop-s
 invariant-run_block-loop-s l =
     block_in l.context (block (drop l.s-index l.ss)) (env_of l.env) ≡ block_in l.context (block l.ss) (env_of l.initial.env)
 
-abbrev pub invariant-repeat_while-loop-left : goal.invariant-repeat_while-loop-c
-invariant-repeat_while-loop-left l =
+abbrev pub invariant-repeat_while-loop-site : goal.invariant-repeat_while-loop-site
+invariant-repeat_while-loop-site l =
     repeat_in l.context l.left l.site l.test_site (expr l.cond) (block l.body) (env_of l.env)
     ≡ repeat_in l.context l.initial.left l.site l.test_site (expr l.cond) (block l.body) (env_of l.initial.env)
 
-abbrev pub decreases-repeat_while-loop-left : goal.decreases-repeat_while-loop-c
-decreases-repeat_while-loop-left l = l.left
+abbrev pub decreases-repeat_while-loop-site : goal.decreases-repeat_while-loop-site
+decreases-repeat_while-loop-site l = l.left
 
 abbrev pub decreases-evaluate_binary : goal.decreases-evaluate_binary
 decreases-evaluate_binary l = rank_of l.context.now + 4 * max (size-Expression l.left.now) (size-Expression l.right.now) + 3
@@ -86,6 +91,19 @@ decreases-array_cells l = rank_of l.context.now + 4 * cells_size l.gs.now + 5
 
 abbrev pub decreases-fold_cells : goal.decreases-fold_cells
 decreases-fold_cells l = rank_of l.context.now + 4 * cells_size l.gs.now + 5
+
+abbrev pub invariant-array_cells-loop-place : goal.invariant-array_cells-loop-place
+invariant-array_cells-loop-place l = record {
+  told : and_then (cells_in l.context l.gs l.plan.ranges.items (drop l.place l.plan.frame) l.plan.form (env_of l.env))
+      (λ rest. Ok (record { base = l.background.base; shape = l.plan.shape; cells = l.cells.items ++ cells_from l.old l.background (size l.plan.form.shape) l.place rest }))
+    ≡ and_then (cells_in l.context l.gs l.plan.ranges.items l.plan.frame l.plan.form (env_of l.env)) (λ found. Ok (array_from l.old l.background (plan_of l.plan) found));
+  count : length l.cells.items ≡ l.place * size l.plan.form.shape;
+}
+
+abbrev pub invariant-fold_cells-loop-place : goal.invariant-fold_cells-loop-place
+invariant-fold_cells-loop-place l =
+    and_then (cells_in l.context l.gs l.plan.ranges.items (drop l.place l.plan.frame) l.plan.form (env_of l.env)) (λ rest. Ok (fold (combined l.op) l.value rest))
+    ≡ and_then (cells_in l.context l.gs l.plan.ranges.items l.plan.frame l.plan.form (env_of l.env)) (λ found. Ok (fold (combined l.op) l.initial.value found))
 
 abbrev pub decreases-cell_at : goal.decreases-cell_at
 decreases-cell_at l = rank_of l.context.now + 4 * size-Generator l.g.now + 2

@@ -1,5 +1,6 @@
-use Rattle.std.proofs.Common.{◌≡◌, ap, sym, ◌∙◌, length, replicate, pos, arith, ◌≤◌, to_z, of_z}
-use Rattle.sac_base.specs.Arrays.{size}
+use Rattle.std.proofs.Common.{◌≡◌, ap, sym, ◌∙◌, length, replicate, pos, arith, ◌≤◌, subst}
+use Rattle.std.specs.Option.{SomeIff}
+use Rattle.sac_base.specs.Arrays.{size, MOST}
 use Rattle.value_meaning.proofs.FrameSteps.{zero_frame, zero_box}
 use Rattle.value_meaning.proofs.frames.Frame.of_shape.Goals as goal
 
@@ -10,7 +11,7 @@ invariant_of-result c =
     let low = c.loop-k.invariant ∙ ap (λ n. replicate n (pos 0)) k in
     let e = c.elements.ensures in
     let u = c.unwrap-count.ensures in
-    zero_frame ns c.loop-k.low.items c.copy.result _ c.extents.ensures.shape c.requires low c.copy.ensures ?
+    zero_frame ns c.loop-k.low.items c.copy.result _ c.extents.ensures.shape c.requires low c.copy.ensures (subst (λ o. SomeIff o (size ns ≤ MOST) (size ns)) u e).1
 
 pub returns : goal.returns
 returns c =
