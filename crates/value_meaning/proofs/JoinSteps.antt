@@ -1,7 +1,7 @@
 -- The least box that holds the boxes of ranges.
 use Rattle.std.proofs.Common.{◌≡◌, ℕ, zero, suc, ◌+◌, ◌*◌, ◌<◌, ◌≤◌, ◌^◌, List, [], ◌∷◌, ◌++◌, length, get_or, drop, take, map, Bool, true, false, T, refl, sym, ap, ◌∙◌, subst, arith, ℤ, pos, negsuc, ◌+ℤ◌, ◌-ℤ◌, ◌<ℤ◌, ◌≤ℤ◌, All, FitsSigned, w32, w64, to_z, of_z, Option, Some, None, true≢false, cond, mul_comm}
 use Rattle.std.specs.Prelude.{int_lt, not, ◌||◌, filter, fold, nat_le, if◌then◌else◌, IfSome}
-use Rattle.std.specs.Int.{int_min, int_max}
+use Rattle.std.specs.Int.{int_min, int_max, IsNonNegative}
 use Rattle.std.specs.Int.Signed.{lt_z_yes}
 use Rattle.std.proofs.lemmas.Int.{ints, clamps, to_z-of_z}
 use Rattle.std.proofs.lemmas.List.{drop_more, take_more, take_all, length-map}
@@ -10,7 +10,7 @@ use Rattle.std.proofs.Math.Nat.{suc-mul}
 use Rattle.std.proofs.lemmas.List.Elements.{All-head, All-tail, All-nil, All-cons}
 use lib.IntN.{nat_abs}
 use Rattle.sac_base.specs.Arrays.{size, MOST}
-use Rattle.sac_base.specs.Shapes.{AreNatural, IsNonNegative}
+use Rattle.sac_base.specs.Shapes.{AreNatural}
 use Rattle.sac_base.specs.WithLoops.{Axis, Range, Span, span_of, box, box_size, distance, is_empty_box, joined_axis, joined_range, fold_frame}
 use Rattle.value_meaning.specs.Ranges.{IsAxis, IsBound, is_empty_axis}
 use Rattle.value_meaning.specs.Frames.{spans, EachFits, IsFrame, joined_frame, frame_with, range_with, joined_next, IsSomeBox}

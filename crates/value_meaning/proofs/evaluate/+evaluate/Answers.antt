@@ -2,7 +2,8 @@ use Rattle.std.proofs.Common.{rules, ◌≡◌, ℕ, ◌-◌, ◌<◌, ◌≤◌
 use Rattle.std.proofs.lemmas.Grind.{common_steps}
 use Rattle.sac_ast.specs.View.{expr, exprs, stmt, block}
 use Rattle.sac_ast.specs.Tree
-use Rattle.sac_ast.proofs.Views.{stmt_assign, stmt_while, stmt_do, expr_call}
+use Rattle.sac_ast.proofs.Views.{stmt_assign, stmt_while, stmt_do, stmt_if, stmt_replace, expr_call, expr_binary, expr_select, expr_choice}
+use Rattle.value_meaning.proofs.TestSteps.{said, by_test, test_fault, test_true, test_false, turn_test_fault, turn_ends, turn_over, turn_goes}
 use Rattle.value_meaning.specs.Environments.{env_of}
 use Rattle.value_meaning.specs.Evaluation.{meaning_in, meanings_in, statement_in, block_in, repeat_in, calls_in, function_in, names_of_params}
 use Rattle.value_meaning.specs.Tells.{Tells, TellsItems, TellsEnv}
@@ -42,19 +43,6 @@ run-returns-in-While t c =
     let whole = stmt_while c.in-While.cond c.in-While.body c.in-While.site in
     let same = ap (λ b. Tree.while_do (expr c.in-While.cond) b c.in-While.site) body ∙ sym whole ∙ ap stmt (sym c.in-While.is) in
     subst (λ s. TellsEnv c.repeat_while.result (env_of c.repeat_while.new.env) (statement_in c.args.context.now s (env_of c.args.env.now))) same c.repeat_while.ensures
-
-pub run-returns-in-Do : goal.run-returns-in-Do
-run-returns-in-Do t c =
-    let body = ap block c.deref-in-Do.ensures.value in
-    let body' = ap block c.deref-in-Do-2.ensures.value in
-    let first : block_in c.args.context.now (block c.in-Do.body.items) (env_of c.args.env.now) ≡ Ok (env_of c.run_block-in-Do.new.env) = ap (λ b. block_in c.args.context.now b (env_of c.args.env.now)) (sym body) ∙ c.in_ok-run_block-in-Do.ensures in
-    let whole = ap (λ s. statement_in c.args.context.now s (env_of c.args.env.now)) (ap stmt c.in-Do.is ∙ stmt_do c.in-Do.body c.in-Do.cond c.in-Do.site c.in-Do.test) in
-    let go = λ (n : ℕ). λ (b : Tree.Block). repeat_in c.args.context.now n c.in-Do.site c.in-Do.test (expr c.in-Do.cond) b in
-    let then = value_then (block_in c.args.context.now (block c.in-Do.body.items) (env_of c.args.env.now)) (go (c.args.context.now.turns - 1) (block c.in-Do.body.items)) (env_of c.run_block-in-Do.new.env) first in
-    let same : c.saturating_sub.result ≡ c.args.context.now.turns - 1 = search rules in
-    let looped = ap (λ n. go n (block c.in-Do.body.items) (env_of c.run_block-in-Do.new.env)) same in
-    let looped' = ap (λ b. go c.saturating_sub.result b (env_of c.run_block-in-Do.new.env)) body' in
-    subst (λ m. TellsEnv c.repeat_while-in-Do.result (env_of c.repeat_while-in-Do.new.env) m) (looped' ∙ looped ∙ sym then ∙ sym whole) c.repeat_while-in-Do.ensures
 
 pub run_assign-returns-in_err-result_value-in_default : goal.run_assign-returns-in_err-result_value-in_default
 run_assign-returns-in_err-result_value-in_default t c =
@@ -185,3 +173,153 @@ cell_at-returns t c =
     let whole = cell_steps context g c.args.index.now (env_of c.args.env.now) (env_of c.bind_index.new.env) (env_of c.run_block.new.env) start ran in
     subst (λ m. Tells c.evaluate.result m) (sym whole) c.evaluate.ensures
 
+pub run-returns-in_ok-run_block-in-Do : goal.run-returns-in_ok-run_block-in-Do
+run-returns-in_ok-run_block-in-Do t c =
+    let body = ap block c.deref-in-Do.ensures.value in
+    let body' = ap block c.deref-in-Do-2.ensures.value in
+    let first : block_in c.args.context.now (block c.in-Do.body.items) (env_of c.args.env.now) ≡ Ok (env_of c.run_block-in-Do.new.env) = ap (λ b. block_in c.args.context.now b (env_of c.args.env.now)) (sym body) ∙ c.in_ok-run_block-in-Do.ensures in
+    let whole = ap (λ s. statement_in c.args.context.now s (env_of c.args.env.now)) (ap stmt c.in-Do.is ∙ stmt_do c.in-Do.body c.in-Do.cond c.in-Do.site c.in-Do.test) in
+    let go = λ (n : ℕ). λ (b : Tree.Block). repeat_in c.args.context.now n c.in-Do.site c.in-Do.test (expr c.in-Do.cond) b in
+    let then = value_then (block_in c.args.context.now (block c.in-Do.body.items) (env_of c.args.env.now)) (go (c.args.context.now.turns - 1) (block c.in-Do.body.items)) (env_of c.run_block-in-Do.new.env) first in
+    let same : c.saturating_sub.result ≡ c.args.context.now.turns - 1 = search rules in
+    let looped = ap (λ n. go n (block c.in-Do.body.items) (env_of c.run_block-in-Do.new.env)) same in
+    let looped' = ap (λ b. go c.saturating_sub.result b (env_of c.run_block-in-Do.new.env)) body' in
+    subst (λ m. TellsEnv c.repeat_while-in-Do.result (env_of c.repeat_while-in-Do.new.env) m) (looped' ∙ looped ∙ sym then ∙ sym whole) c.repeat_while-in-Do.ensures
+
+
+-- ---- expressions
+
+pub evaluate-returns-in-Binary : goal.evaluate-returns-in-Binary
+evaluate-returns-in-Binary t c =
+    let i = c.in-Binary in
+    let same = ap (λ e. Tree.binary i.op (expr e) (expr c.deref-in-Binary-2.result.now) i.site) c.deref-in-Binary.ensures
+      ∙ ap (λ e. Tree.binary i.op (expr i.left.value) (expr e) i.site) c.deref-in-Binary-2.ensures
+      ∙ sym (expr_binary i.op i.left i.right i.site) ∙ ap expr (sym i.is) in
+    subst (λ tree. Tells c.evaluate_binary.result (meaning_in c.args.context.now tree (env_of c.args.env.now))) same c.evaluate_binary.ensures
+
+pub evaluate-returns-in-Select : goal.evaluate-returns-in-Select
+evaluate-returns-in-Select t c =
+    let i = c.in-Select in
+    let same = ap (λ e. Tree.select (expr e) (expr c.deref-in-Select-2.result.now) i.site) c.deref-in-Select.ensures
+      ∙ ap (λ e. Tree.select (expr i.array.value) (expr e) i.site) c.deref-in-Select-2.ensures
+      ∙ sym (expr_select i.array i.index i.site) ∙ ap expr (sym i.is) in
+    subst (λ tree. Tells c.evaluate_select.result (meaning_in c.args.context.now tree (env_of c.args.env.now))) same c.evaluate_select.ensures
+
+pub evaluate-returns-in_err-evaluate_test-in-Choice : goal.evaluate-returns-in_err-evaluate_test-in-Choice
+evaluate-returns-in_err-evaluate_test-in-Choice t c =
+    let i = c.in-Choice in
+    let M = λ (e : Tree.Expr). meaning_in c.args.context.now e (env_of c.args.env.now) in
+    let stop = c.in_err-evaluate_test-in-Choice.field-0.0 in
+    let is : c.from_residual-in_err-evaluate_test-in-Choice.result ≡ Err stop = search rules in
+    let whole = ap M (ap expr i.is ∙ expr_choice i.test i.first i.second i.site) in
+    let tested = ap (λ e. said i.site (M (expr e))) c.deref-in-Choice.ensures in
+    subst (λ r. Tells r (M (expr c.args.e.now))) (sym is)
+    (same_stop stop (said i.site (M (expr c.deref-in-Choice.result.now))) (M (expr c.args.e.now))
+      (λ f e. whole ∙ test_fault i.site (M (expr i.first.value)) (M (expr i.second.value)) (M (expr i.test.value)) f (sym tested ∙ e))
+      c.in_err-evaluate_test-in-Choice.ensures)
+
+pub evaluate-returns-then-branch : goal.evaluate-returns-then-branch
+evaluate-returns-then-branch t c =
+    let i = c.in-Choice in
+    let M = λ (e : Tree.Expr). meaning_in c.args.context.now e (env_of c.args.env.now) in
+    let whole = ap M (ap expr i.is ∙ expr_choice i.test i.first i.second i.site) in
+    let tested = ap (λ e. said i.site (M (expr e))) c.deref-in-Choice.ensures in
+    let chosen = test_true i.site (M (expr i.first.value)) (M (expr i.second.value)) (M (expr i.test.value)) (sym tested ∙ c.in_ok-evaluate_test-in-Choice.ensures ∙ ap Ok c.if-branch.true) in
+    subst (λ m. Tells c.evaluate-then-branch.result m) (sym (whole ∙ chosen ∙ ap (λ e. M (expr e)) (sym c.deref-then-branch.ensures))) c.evaluate-then-branch.ensures
+
+pub evaluate-returns-else-branch : goal.evaluate-returns-else-branch
+evaluate-returns-else-branch t c =
+    let i = c.in-Choice in
+    let M = λ (e : Tree.Expr). meaning_in c.args.context.now e (env_of c.args.env.now) in
+    let whole = ap M (ap expr i.is ∙ expr_choice i.test i.first i.second i.site) in
+    let tested = ap (λ e. said i.site (M (expr e))) c.deref-in-Choice.ensures in
+    let chosen = test_false i.site (M (expr i.first.value)) (M (expr i.second.value)) (M (expr i.test.value)) (sym tested ∙ c.in_ok-evaluate_test-in-Choice.ensures ∙ ap Ok c.if-branch.false) in
+    subst (λ m. Tells c.evaluate-else-branch.result m) (sym (whole ∙ chosen ∙ ap (λ e. M (expr e)) (sym c.deref-else-branch.ensures))) c.evaluate-else-branch.ensures
+
+-- ---- statements
+
+pub run-returns-in-Replace : goal.run-returns-in-Replace
+run-returns-in-Replace t c =
+    let i = c.in-Replace in
+    let same = sym (stmt_replace i.target i.bracket i.index i.value) ∙ ap stmt (sym i.is) in
+    subst (λ s. TellsEnv c.run_replace.result (env_of c.run_replace.new.env) (statement_in c.args.context.now s (env_of c.args.env.now))) same c.run_replace.ensures
+
+pub run-returns-in_err-evaluate_test-in-If : goal.run-returns-in_err-evaluate_test-in-If
+run-returns-in_err-evaluate_test-in-If t c = ?
+
+pub run-returns-then-branch : goal.run-returns-then-branch
+run-returns-then-branch t c = ?
+
+pub run-returns-else-branch : goal.run-returns-else-branch
+run-returns-else-branch t c = ?
+
+pub repeat_while-returns-in_err-evaluate_test : goal.repeat_while-returns-in_err-evaluate_test
+repeat_while-returns-in_err-evaluate_test t c = ?
+
+pub repeat_while-returns-then-not-branch : goal.repeat_while-returns-then-not-branch
+repeat_while-returns-then-not-branch t c = ?
+
+pub repeat_while-returns-then-left-eq0 : goal.repeat_while-returns-then-left-eq0
+repeat_while-returns-then-left-eq0 t c = ?
+
+pub repeat_while-returns-in_err-run_block : goal.repeat_while-returns-in_err-run_block
+repeat_while-returns-in_err-run_block t c = ?
+
+pub repeat_while-loop-site-preserved : goal.repeat_while-loop-site-preserved
+repeat_while-loop-site-preserved t c = ?
+
+-- ---- with-loops
+
+pub held_cell-loop-i-preserved : goal.held_cell-loop-i-preserved
+held_cell-loop-i-preserved t c = ?
+
+pub held_cell-returns-clause-told : goal.held_cell-returns-clause-told
+held_cell-returns-clause-told t c = ?
+
+pub evaluate_with-returns-in_err-bounds : goal.evaluate_with-returns-in_err-bounds
+evaluate_with-returns-in_err-bounds t c = ?
+
+pub evaluate_with-returns-in_err-shape : goal.evaluate_with-returns-in_err-shape
+evaluate_with-returns-in_err-shape t c = ?
+
+pub evaluate_with-returns-in_err-plan-in-Genarray : goal.evaluate_with-returns-in_err-plan-in-Genarray
+evaluate_with-returns-in_err-plan-in-Genarray t c = ?
+
+pub evaluate_with-returns-in_err-plan-in-Modarray : goal.evaluate_with-returns-in_err-plan-in-Modarray
+evaluate_with-returns-in_err-plan-in-Modarray t c = ?
+
+pub evaluate_with-returns-in_err-plan-in-Fold : goal.evaluate_with-returns-in_err-plan-in-Fold
+evaluate_with-returns-in_err-plan-in-Fold t c = ?
+
+pub evaluate_with-array_cells-requires : goal.evaluate_with-array_cells-requires
+evaluate_with-array_cells-requires t c = ?
+
+pub evaluate_with-array_cells-requires-in-Modarray : goal.evaluate_with-array_cells-requires-in-Modarray
+evaluate_with-array_cells-requires-in-Modarray t c = ?
+
+pub evaluate_with-fold_cells-requires : goal.evaluate_with-fold_cells-requires
+evaluate_with-fold_cells-requires t c = ?
+
+pub evaluate_with-returns-in-Genarray : goal.evaluate_with-returns-in-Genarray
+evaluate_with-returns-in-Genarray t c = ?
+
+pub evaluate_with-returns-in-Modarray : goal.evaluate_with-returns-in-Modarray
+evaluate_with-returns-in-Modarray t c = ?
+
+pub evaluate_with-returns : goal.evaluate_with-returns
+evaluate_with-returns t c = ?
+
+pub evaluate_operation-returns-after-branch-3 : goal.evaluate_operation-returns-after-branch-3
+evaluate_operation-returns-after-branch-3 t c = ?
+
+pub array_cells-returns-in_err-cell : goal.array_cells-returns-in_err-cell
+array_cells-returns-in_err-cell t c = ?
+
+pub array_cells-loop-place-preserved : goal.array_cells-loop-place-preserved
+array_cells-loop-place-preserved t c = ?
+
+pub fold_cells-returns-in_err-cell : goal.fold_cells-returns-in_err-cell
+fold_cells-returns-in_err-cell t c = ?
+
+pub fold_cells-loop-place-preserved : goal.fold_cells-loop-place-preserved
+fold_cells-loop-place-preserved t c = ?
