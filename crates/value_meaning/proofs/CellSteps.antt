@@ -1,6 +1,6 @@
 -- The value of a with-loop from its plan and its cells.
 use Rattle.std.proofs.Common.{◌≡◌, ℕ, zero, suc, ◌+◌, ◌-◌, ◌*◌, ◌/◌, ◌%◌, ◌<◌, ◌≤◌, List, [], ◌∷◌, ◌++◌, length, get_or, take, drop, map, Bool, true, false, refl, sym, ap, ◌∙◌, subst, arith, ℤ, pos, ◌+ℤ◌, Ok, Err, Some, None, Option, cond, mul_assoc, min, true≢false}
-use Rattle.std.proofs.Math.Nat.{add-mul}
+use Rattle.std.proofs.Math.Nat.{add-mul, suc-mul}
 use Rattle.std.specs.Prelude.{flat_map, fold, nat_le, is_some, ◌&&◌, if◌then◌else◌, ◌==◌, nat_lt}
 use Rattle.std.specs.List.{zip}
 use Rattle.std.specs.Option.{SomeIff}
@@ -22,19 +22,6 @@ use Rattle.sac_base.proofs.RowMajor.{size-append}
 use Rattle.value_meaning.specs.Cells.{cell_from, cells_from, array_from, IsArrayPlan}
 use Rattle.value_meaning.proofs.EachSteps.{each_length}
 use Rattle.value_meaning.proofs.FrameSteps.{length-box, box_at, vector_in, zero_spans, vector_of_spans}
-
--- ---- the cells need no bounds
-
-module _ (strip : Generator → Generator) (site : (g : Generator) → (strip g).bounds.site ≡ g.bounds.site) (cell : (g : Generator) → (strip g).cell ≡ g.cell) where
-  same_cell : (form : Form) (gs : List Generator) (rs : List Range) (v : List ℤ) → cell_at form gs rs v ≡ cell_at form (map strip gs) rs v
-  same_cell form [] [] v = refl
-  same_cell form [] (r ∷ rs) v = refl
-  same_cell form (g ∷ gs) [] v = refl
-  same_cell form (g ∷ gs) (r ∷ rs) v = by (holds r v) (same_cell form gs rs v)
-    where
-      by : (b : Bool) → cell_at form gs rs v ≡ cell_at form (map strip gs) rs v → held_cell form (if b then Some g else holder gs rs v) v ≡ held_cell form (if b then Some (strip g) else holder (map strip gs) rs v) v
-      by true e = λ i. held_cell form (Some (record { bounds = record g.bounds { site = sym (site g) i }; cell = sym (cell g) i })) v
-      by false e = e
 
 -- ---- genarray
 
@@ -105,7 +92,7 @@ old_at array ns ms k e h =
     ∙ ap (cells_of_part array) (part_at_front ns ms k h)
 
 module _ (array : ArrayValue) (ns ms : List ℕ) (e : array.shape ≡ ns ++ ms) where
-  old_cells : (k : ℕ) (found : List (Option ArrayValue)) → k + length found ≡ size ns
+  pub old_cells : (k : ℕ) (found : List (Option ArrayValue)) → k + length found ≡ size ns
       → flat_map (λ (q : List ℤ × Option ArrayValue). cell_or_old array q.0 q.1) (zip (drop k (box (shape_spans ns))) found) ≡ cells_from true array (size ms) k found
   old_cells k [] h = zip_none (drop k (box (shape_spans ns)))
     where
@@ -134,3 +121,51 @@ split_size ns n =
     ap (λ xs. size xs * size (drop (min n (length ns)) ns)) (sym (take_min n ns))
     ∙ sym (size-append (take (min n (length ns)) ns) (drop (min n (length ns)) ns))
     ∙ ap size (take-append-drop (min n (length ns)) ns)
+
+-- ---- the plan of a modarray
+
+plan_field : {A : Type 0} (f : Plan → A) (x : A) (m : Ends (List Range)) (b : Bool) (q : List Range → Plan) (p : Plan) (site : Site)
+    → ((rs : List Range) → f (q rs) ≡ x) → and_then m (λ rs. if b then Ok (q rs) else fault F8 site) ≡ Ok p → f p ≡ x
+plan_field f x (Err g) b q p site h e = cc
+plan_field f x (Ok rs) true q p site h e = let is : q rs ≡ p = cc in ap f (sym is) ∙ h rs
+plan_field f x (Ok rs) false q p site h e = cc
+
+module _ (bs : List Bounds) (n : ℕ) (array : ArrayValue) (site : Site) (p : Plan) (e : modarray_plan bs n array site ≡ Ok p) where
+  of_plan : {A : Type 0} (f : Plan → A) (x : A)
+      → ((rs : List Range) → f (record { ranges = rs; indices = box (shape_spans (take n array.shape)); form = record { base = array.base; shape = drop n array.shape }; shape = array.shape }) ≡ x)
+      → f p ≡ x
+  of_plan f x h =
+      plan_field f x (each (range_of n (length array.shape) (Some (take n array.shape)) (take n array.shape)) bs) (nat_le (size (take n array.shape)) MOST)
+      (λ rs. record { ranges = rs; indices = box (shape_spans (take n array.shape)); form = record { base = array.base; shape = drop n array.shape }; shape = array.shape })
+      p site h e
+
+  cut_indices : p.indices ≡ box (shape_spans (take n array.shape))
+  cut_indices = of_plan (λ p. p.indices) (box (shape_spans (take n array.shape))) (λ rs. refl)
+
+  cut_form : p.form.shape ≡ drop n array.shape
+  cut_form = of_plan (λ p. p.form.shape) (drop n array.shape) (λ rs. refl)
+
+  pub modarray_finish : (found : List (Option ArrayValue)) → length found ≡ length p.indices → finish (modarray array site) p found ≡ array_from true array p found
+  modarray_finish found count =
+      let split = sym (take-append-drop n array.shape) in
+      let all : 0 + length found ≡ size (take n array.shape) = count ∙ ap length cut_indices ∙ length_indices (take n array.shape) in
+      let cells =
+        ap (λ vs. flat_map (λ (q : List ℤ × Option ArrayValue). cell_or_old array q.0 q.1) (zip vs found)) cut_indices
+        ∙ old_cells array (take n array.shape) (drop n array.shape) split 0 found all
+        ∙ ap (λ s. cells_from true array (size s) 0 found) (sym cut_form) in
+      λ i. record { base = array.base; shape = p.shape; cells = cells i }
+
+mul_mono : (a b n : ℕ) → a ≤ b → a * n ≤ b * n
+mul_mono zero b n h = omega arith
+mul_mono (suc a) zero n h = absurd (omega arith)
+mul_mono (suc a) (suc b) n h = omega (arith, suc-mul a n, suc-mul b n, mul_mono a b n (omega arith))
+
+-- a cell has no more elements than all cells together
+pub cell_below : (k l n m : ℕ) → k < l → l * n ≡ m → m ≤ MOST → n ≤ MOST
+cell_below k zero n m h e most = absurd (omega arith)
+cell_below k (suc l) n m h e most = omega (arith, suc-mul l n, e, most)
+
+-- and the elements at a place lie among them
+pub cell_within : (k l n m : ℕ) → k < l → l * n ≡ m → k * n + n ≤ m
+cell_within k zero n m h e = absurd (omega arith)
+cell_within k (suc l) n m h e = omega (arith, suc-mul l n, e, mul_mono k l n (omega arith))

@@ -55,34 +55,6 @@ values_step context env es i d vs v all h e inv =
     ∙ ap (λ t. and_then (meanings_in context t env) (λ rest. Ok (vs ++ rest))) (sym (exprs-drop es i d h))
     ∙ inv
 
--- ---- loops
-
-module _ (site test_site : Site) (test : Env → Ends ArrayValue) (body : Env → Ends Env) where
-  pub repeat_test_fault : (left : ℕ) (env : Env) (f : Fault) → test env ≡ Err f → repeat left site test_site test body env ≡ Err f
-  repeat_test_fault zero env f e = rw e refl
-  repeat_test_fault (suc left) env f e = rw e refl
-
-  pub repeat_bad_test : (left : ℕ) (env : Env) (c : ArrayValue) → test env ≡ Ok c → condition c ≡ None → repeat left site test_site test body env ≡ fault F3 test_site
-  repeat_bad_test zero env c e o = rw (e, o) refl
-  repeat_bad_test (suc left) env c e o = rw (e, o) refl
-
-  pub repeat_stops : (left : ℕ) (env : Env) (c : ArrayValue) → test env ≡ Ok c → condition c ≡ Some false → repeat left site test_site test body env ≡ Ok env
-  repeat_stops zero env c e o = rw (e, o) refl
-  repeat_stops (suc left) env c e o = rw (e, o) refl
-
-  pub repeat_over : (env : Env) (c : ArrayValue) → test env ≡ Ok c → condition c ≡ Some true → repeat 0 site test_site test body env ≡ fault F9 site
-  repeat_over env c e o = rw (e, o) refl
-
-  pub repeat_body_fault : (left : ℕ) (env : Env) (c : ArrayValue) (f : Fault) → 0 < left → test env ≡ Ok c → condition c ≡ Some true → body env ≡ Err f → repeat left site test_site test body env ≡ Err f
-  repeat_body_fault zero env c f h e o b = absurd (omega arith)
-  repeat_body_fault (suc left) env c f h e o b = rw (e, o, b) refl
-
-  pub repeat_goes : (left : ℕ) (env next : Env) (c : ArrayValue) → 0 < left → test env ≡ Ok c → condition c ≡ Some true → body env ≡ Ok next → repeat left site test_site test body env ≡ repeat (left - 1) site test_site test body next
-  repeat_goes zero env next c h e o b = absurd (omega arith)
-  repeat_goes (suc left) env next c h e o b =
-      let same : suc left - 1 ≡ left = omega arith in
-      rw (e, o, b) (ap (λ n. repeat n site test_site test body next) (sym same))
-
 -- ---- an assignment whose right side is no call
 
 abbrev pub is_call : Tree.Expr → Bool
@@ -113,3 +85,8 @@ not_call e h = by_layer (out-Expression e) refl
 -- four values, one after another
 pub four_then : {A B C D R : Type 0} (a : Ends A) (b : Ends B) (c : Ends C) (d : Ends D) (next : A → B → C → D → R) (x : A) (y : B) (z : C) (w : D) → a ≡ Ok x → b ≡ Ok y → c ≡ Ok z → d ≡ Ok w → and_then a (λ p. and_then b (λ q. and_then c (λ r. and_then d (λ s. Ok (next p q r s))))) ≡ Ok (next x y z w)
 four_then a b c d next x y z w e1 e2 e3 e4 = rw (e1, e2, e3, e4) refl
+
+-- two ways to go on that agree on the value that is there
+pub then_same : {A B : Type 0} (m : Ends A) (f g : A → Ends B) → ((a : A) → m ≡ Ok a → f a ≡ g a) → and_then m f ≡ and_then m g
+then_same (Err fault) f g same = refl
+then_same (Ok a) f g same = same a refl

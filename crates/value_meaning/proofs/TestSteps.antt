@@ -17,10 +17,7 @@ by_test site m first second = and_then m (λ c. choose site (condition c) first 
 
 module _ {A : Type 0} (site : Site) (first second : Ends A) where
   chosen_fault : (o : Option Bool) (f : Fault) → choose site o (Ok true) (Ok false) ≡ Err f → choose site o first second ≡ Err f
-  chosen_fault None f e = by e
-    where
-      by : Err {T = Bool} (record { kind = Rattle.sac_base.specs.declared.fault.FaultKind.TheVariants.F3; site = site }) ≡ Err f → Err {T = A} (record { kind = Rattle.sac_base.specs.declared.fault.FaultKind.TheVariants.F3; site = site }) ≡ Err f
-      by e = cc
+  chosen_fault None f e = cc
   chosen_fault (Some true) f e = cc
   chosen_fault (Some false) f e = cc
 

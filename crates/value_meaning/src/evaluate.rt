@@ -24,14 +24,14 @@ use crate::calls::{
     assign_all, assign_one, bind_index, bind_params, choose_instance, first_result_of, results_of,
 };
 use crate::environment::{Environment, assign, lookup};
-use crate::finish::{add_cell, combine};
+use crate::finish::{add_cell, cell_size, combine};
 use crate::frames::IndexVector;
 use crate::plans::{Evaluated, Plan, fold_plan, genarray_plan, modarray_plan};
 use crate::ranges::Range;
 use crate::stop::{Stop, fault};
-use crate::defaults::default_base;
+use crate::defaults::default_or_zero;
 use sac_ast::{Bound, Expression, Function, Generator, Index, Operation, Statement, Target};
-use sac_base::{Array, Base, FaultKind, Form, Memory, Name, Op, Site, copy_array, elements, same_shape};
+use sac_base::{Array, Base, FaultKind, Form, Memory, Name, Op, Site, same_shape};
 use std::alloc::Global;
 
 /// The function that runs, and how far it may go on.
@@ -527,13 +527,9 @@ fn evaluate_operation(
             site,
         } => {
             let shape = evaluate(shape, context, env)?;
-            let default = match evaluate_maybe(default, context, env)? {
-                Some(value) => value,
-                None => {
-                    let base = default_base(context.alloc, context.functions, context.current, gs)?;
-                    Array::scalar(context.alloc, base, 0)?
-                }
-            };
+            let given = evaluate_maybe(default, context, env)?;
+            let Context { alloc, functions, current, .. } = *context;
+            let default = default_or_zero(alloc, functions, current, gs, given)?;
             Ok(Evaluated::Genarray {
                 shape,
                 default,
@@ -570,7 +566,7 @@ fn array_cells(
 {
     let mut cells = Vec::new(context.alloc);
     let mut index = IndexVector::new(context.alloc);
-    let size = elements(&plan.form.shape).unwrap_or(0) as usize;
+    let size = cell_size(&plan.form.shape);
     for place in 0..plan.frame.count() {
         plan.frame.index(place, &mut index)?;
         let cell = held_cell(gs, &plan.ranges, &index, &plan.form, context, env)?;

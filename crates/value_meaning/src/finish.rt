@@ -1,14 +1,25 @@
 //! What is made of the cells of a with-loop.
 
 ghost use Rattle.std.specs.Prelude.{◌≡◌, ◌≤◌, ◌+◌, ◌*◌, ◌++◌, IsTrue, length, OnOk, Ok};
+ghost use Rattle.sac_base.specs.Arrays.{size, MOST};
 ghost use Rattle.sac_base.specs.WithLoops.{combined};
 ghost use Rattle.value_meaning.specs.Cells.{cell_from};
 ghost use Rattle.value_meaning.specs.Tells.{Tells};
 
 use crate::stop::Stop;
 use array_ops::{ArrayError, binary};
-use sac_base::{Array, Memory, Op};
+use sac_base::{Array, Memory, Op, Shape, elements};
 use std::alloc::Global;
+
+/// How many elements a cell of a shape has, where they are not more than an array's.
+pub fn cell_size(shape: &Shape) -> usize
+    ensures { size shape.now ≤ MOST → result ≡ size shape.now }
+{
+    match elements(shape) {
+        Some(n) => n as usize,
+        None => 0,
+    }
+}
 
 /// Appends the cell at a place. Where there is none, the old cell stands in its place, of so many elements, or else the default.
 pub fn add_cell(

@@ -1,4 +1,4 @@
-use Rattle.std.proofs.Common.{rules, ◌≡◌, ℕ, ◌-◌, ◌<◌, ◌≤◌, length, true, false, [], ◌∷◌, Ok, Err, Some, None, get_or, ap, sym, ◌∙◌, subst, arith}
+use Rattle.std.proofs.Common.{rules, ◌≡◌, ℕ, ◌-◌, ◌<◌, ◌≤◌, length, true, false, [], ◌∷◌, Ok, Err, Some, None, get_or, ap, sym, ◌∙◌, subst, arith, map, drop, ◌++◌, List, Option, append_assoc, ◌*◌, ◌+◌, ℤ, refl}
 use Rattle.std.proofs.lemmas.Grind.{common_steps}
 use Rattle.sac_ast.specs.View.{expr, exprs, stmt, block}
 use Rattle.sac_ast.specs.Tree
@@ -15,15 +15,25 @@ use Rattle.sac_ast.specs.View.{functions, function, index_view}
 use Rattle.value_meaning.proofs.CallSteps.{function_at, length-functions, runs_inline, runs_deeper, too_deep, no_bindings, no_inner_bindings, cell_steps, same_value, function_steps}
 use Rattle.value_meaning.specs.declared.environment.Environment.{roll-Environment}
 use Rattle.value_meaning.proofs.Measures.{rank_falls, rank_falls_inline, body_below}
-use Rattle.value_meaning.proofs.Steps.{values_step, repeat_test_fault, repeat_bad_test, repeat_stops, repeat_body_fault, repeat_goes, assign_plain, not_call, same_stop, fault_then, value_then}
+use Rattle.value_meaning.proofs.Steps.{values_step, assign_plain, not_call, same_stop, fault_then, value_then, then_same, four_then}
 use Rattle.sac_base.specs.Parts.{condition}
 use Rattle.std.proofs.Common.{min}
-use Rattle.sac_base.specs.WithLoops.{holds, held_cell}
+use Rattle.sac_base.specs.WithLoops.{holds}
 use Rattle.value_meaning.proofs.WithSteps.{holder_goes_on, holder_ends}
 use Rattle.sac_ast.specs.View
 use Rattle.sac_ast.proofs.Views.{generator_is}
-use Rattle.value_meaning.specs.WithSource.{generator_of, bound_in, maybe_in, bounds_in}
-use Rattle.value_meaning.proofs.Steps.{four_then}
+use Rattle.value_meaning.specs.WithSource.{generator_of, bound_in, maybe_in, bounds_in, held_in, cells_in, operation_in}
+use Rattle.value_meaning.specs.Plans.{plan_of, operation_of}
+use Rattle.value_meaning.specs.Cells.{array_from, cells_from, cell_from}
+use Rattle.value_meaning.proofs.CellSteps.{genarray_finish, modarray_finish, cell_below, cell_within}
+use Rattle.value_meaning.proofs.EachSteps.{each_length, each_step, each_fault}
+use Rattle.value_meaning.proofs.WithValue.{whole, whole_fault, bounds_fault, operation_fault}
+use Rattle.sac_base.specs.Arrays.{ArrayValue, size, MOST}
+use Rattle.sac_base.specs.Parts.{shape_of_numbers, vector_of}
+use Rattle.sac_base.specs.WithLoops.{genarray, modarray, fold_by, genarray_plan, modarray_plan, fold_plan, index_length, finish, combined, each, holder}
+use Rattle.sac_base.specs.WithLoops
+use Rattle.sac_base.specs.Outcomes.{Ends, Env, and_then}
+use Rattle.std.specs.Prelude.{fold}
 use Rattle.value_meaning.proofs.evaluate.+evaluate.Goals as goal
 
 pub evaluate_all-loop-e-preserved : goal.evaluate_all-loop-e-preserved
@@ -244,82 +254,297 @@ run-returns-in-Replace t c =
     let same = sym (stmt_replace i.target i.bracket i.index i.value) ∙ ap stmt (sym i.is) in
     subst (λ s. TellsEnv c.run_replace.result (env_of c.run_replace.new.env) (statement_in c.args.context.now s (env_of c.args.env.now))) same c.run_replace.ensures
 
+-- ---- conditionals and loops
+
 pub run-returns-in_err-evaluate_test-in-If : goal.run-returns-in_err-evaluate_test-in-If
-run-returns-in_err-evaluate_test-in-If t c = ?
+run-returns-in_err-evaluate_test-in-If t c =
+    let i = c.in-If in
+    let ctx = c.args.context.now in
+    let env = env_of c.args.env.now in
+    let stop = c.in_err-evaluate_test-in-If.field-0.0 in
+    let is : c.from_residual.result ≡ Err stop = search rules in
+    let whole = ap (λ s. statement_in ctx s env) (ap stmt i.is ∙ stmt_if i.cond i.yes i.no i.site) in
+    subst (λ r. TellsEnv r env (statement_in ctx (stmt c.args.s.now) env)) (sym is)
+    (same_stop stop (said i.site (meaning_in ctx (expr i.cond) env)) (statement_in ctx (stmt c.args.s.now) env)
+      (λ f e. whole ∙ test_fault i.site (block_in ctx (block i.yes.items) env) (block_in ctx (block i.no.items) env) (meaning_in ctx (expr i.cond) env) f e)
+      c.in_err-evaluate_test-in-If.ensures)
 
 pub run-returns-then-branch : goal.run-returns-then-branch
-run-returns-then-branch t c = ?
+run-returns-then-branch t c =
+    let i = c.in-If in
+    let ctx = c.args.context.now in
+    let env = env_of c.args.env.now in
+    let whole = ap (λ s. statement_in ctx s env) (ap stmt i.is ∙ stmt_if i.cond i.yes i.no i.site) in
+    let chosen = test_true i.site (block_in ctx (block i.yes.items) env) (block_in ctx (block i.no.items) env) (meaning_in ctx (expr i.cond) env) (c.in_ok-evaluate_test-in-If.ensures ∙ ap Ok c.if-branch.true) in
+    subst (λ m. TellsEnv c.run_block.result (env_of c.run_block.new.env) m) (ap (λ ss. block_in ctx (block ss) env) c.deref-then-branch.ensures.value ∙ sym chosen ∙ sym whole) c.run_block.ensures
 
 pub run-returns-else-branch : goal.run-returns-else-branch
-run-returns-else-branch t c = ?
+run-returns-else-branch t c =
+    let i = c.in-If in
+    let ctx = c.args.context.now in
+    let env = env_of c.args.env.now in
+    let whole = ap (λ s. statement_in ctx s env) (ap stmt i.is ∙ stmt_if i.cond i.yes i.no i.site) in
+    let chosen = test_false i.site (block_in ctx (block i.yes.items) env) (block_in ctx (block i.no.items) env) (meaning_in ctx (expr i.cond) env) (c.in_ok-evaluate_test-in-If.ensures ∙ ap Ok c.if-branch.false) in
+    subst (λ m. TellsEnv c.run_block-else-branch.result (env_of c.run_block-else-branch.new.env) m) (ap (λ ss. block_in ctx (block ss) env) c.deref-else-branch.ensures.value ∙ sym chosen ∙ sym whole) c.run_block-else-branch.ensures
 
 pub repeat_while-returns-in_err-evaluate_test : goal.repeat_while-returns-in_err-evaluate_test
-repeat_while-returns-in_err-evaluate_test t c = ?
+repeat_while-returns-in_err-evaluate_test t c =
+    let a = c.args in
+    let ctx = a.context.now in
+    let env = env_of c.loop-site.env in
+    let stop = c.in_err-evaluate_test.field-0.0 in
+    let is : c.from_residual.result ≡ Err stop = search rules in
+    let whole = repeat_in ctx a.turns a.site a.test_site (expr a.cond.now) (block a.body.now) (env_of a.env.now) in
+    subst (λ r. TellsEnv r env whole) (sym is)
+    (same_stop stop (said a.test_site (meaning_in ctx (expr a.cond.now) env)) whole
+      (λ f e. sym c.loop-site.invariant ∙ turn_test_fault a.site a.test_site (meaning_in ctx (expr a.cond.now)) (block_in ctx (block a.body.now)) c.loop-site.left env f e)
+      c.in_err-evaluate_test.ensures)
 
 pub repeat_while-returns-then-not-branch : goal.repeat_while-returns-then-not-branch
-repeat_while-returns-then-not-branch t c = ?
+repeat_while-returns-then-not-branch t c =
+    let a = c.args in
+    let ctx = a.context.now in
+    sym c.loop-site.invariant
+    ∙ turn_ends a.site a.test_site (meaning_in ctx (expr a.cond.now)) (block_in ctx (block a.body.now)) c.loop-site.left (env_of c.loop-site.env) (c.in_ok-evaluate_test.ensures ∙ ap Ok c.if-not-branch.true)
 
 pub repeat_while-returns-then-left-eq0 : goal.repeat_while-returns-then-left-eq0
-repeat_while-returns-then-left-eq0 t c = ?
+repeat_while-returns-then-left-eq0 t c =
+    let a = c.args in
+    let ctx = a.context.now in
+    rw c.fault.ensures (sym c.loop-site.invariant
+    ∙ turn_over a.site a.test_site (meaning_in ctx (expr a.cond.now)) (block_in ctx (block a.body.now)) c.loop-site.left (env_of c.loop-site.env) (omega (arith, c.if-left-eq0.true)) (c.in_ok-evaluate_test.ensures ∙ ap Ok c.if-not-branch.false))
 
 pub repeat_while-returns-in_err-run_block : goal.repeat_while-returns-in_err-run_block
-repeat_while-returns-in_err-run_block t c = ?
+repeat_while-returns-in_err-run_block t c =
+    let a = c.args in
+    let ctx = a.context.now in
+    let env = env_of c.loop-site.env in
+    let test = meaning_in ctx (expr a.cond.now) in
+    let body = block_in ctx (block a.body.now) in
+    let stop = c.in_err-run_block.field-0.0 in
+    let is : c.from_residual-in_err-run_block.result ≡ Err stop = search rules in
+    let whole = repeat_in ctx a.turns a.site a.test_site (expr a.cond.now) (block a.body.now) (env_of a.env.now) in
+    let goes = turn_goes a.site a.test_site test body c.loop-site.left env (omega (arith, c.if-left-eq0.false)) (c.in_ok-evaluate_test.ensures ∙ ap Ok c.if-not-branch.false) in
+    subst (λ r. TellsEnv r (env_of c.run_block.new.env) whole) (sym is)
+    (same_stop stop (body env) whole
+      (λ f e. sym c.loop-site.invariant ∙ goes ∙ fault_then (body env) (repeat_in ctx (c.loop-site.left - 1) a.site a.test_site (expr a.cond.now) (block a.body.now)) f e)
+      c.in_err-run_block.ensures)
 
 pub repeat_while-loop-site-preserved : goal.repeat_while-loop-site-preserved
-repeat_while-loop-site-preserved t c = ?
+repeat_while-loop-site-preserved t c =
+    let a = c.args in
+    let ctx = a.context.now in
+    let env = env_of c.loop-site.env in
+    let test = meaning_in ctx (expr a.cond.now) in
+    let body = block_in ctx (block a.body.now) in
+    let goes = turn_goes a.site a.test_site test body c.loop-site.left env (omega (arith, c.if-left-eq0.false)) (c.in_ok-evaluate_test.ensures ∙ ap Ok c.if-not-branch.false) in
+    let then = value_then (body env) (repeat_in ctx (c.loop-site.left - 1) a.site a.test_site (expr a.cond.now) (block a.body.now)) (env_of c.run_block.new.env) c.in_ok-run_block.ensures in
+    sym (goes ∙ then) ∙ c.loop-site.invariant
 
 -- ---- with-loops
 
 pub held_cell-loop-i-preserved : goal.held_cell-loop-i-preserved
-held_cell-loop-i-preserved t c = ?
+held_cell-loop-i-preserved t c =
+    let a = c.args in
+    let g = generator_of a.context.now (env_of a.env.now) in
+    let r = c.index-ranges-i.result in
+    let fails : holds (get_or a.ranges.now c.loop-i.i r) a.index.now ≡ false =
+      ap (λ r. holds r a.index.now) (sym c.index-ranges-i.is) ∙ sym (c.holds.ensures ∙ ap (holds r) c.components.ensures.value) ∙ c.if-holds.false in
+    sym (holder_goes_on g a.gs.now a.ranges.now a.index.now c.loop-i.i r (omega (arith, c.loop-i-test.true, c.min-i-end.ensures)) (omega (arith, c.loop-i-test.true, c.min-i-end.ensures)) fails)
+    ∙ c.loop-i.invariant
 
 pub held_cell-returns-clause-told : goal.held_cell-returns-clause-told
-held_cell-returns-clause-told t c = ?
+held_cell-returns-clause-told t c =
+    let a = c.args in
+    let g = generator_of a.context.now (env_of a.env.now) in
+    ap (λ h. WithLoops.held_cell a.form.now h a.index.now)
+    (sym c.loop-i.invariant ∙ holder_ends g a.gs.now a.ranges.now a.index.now c.loop-i.i (omega (arith, c.loop-i-test.false, c.min-i-end.ensures)))
 
 pub evaluate_with-returns-in_err-bounds : goal.evaluate_with-returns-in_err-bounds
-evaluate_with-returns-in_err-bounds t c = ?
+evaluate_with-returns-in_err-bounds t c =
+    let a = c.args in
+    let ctx = a.context.now in
+    let env = env_of a.env.now in
+    let stop = c.in_err-bounds.field-0.0 in
+    let is : c.from_residual.result ≡ Err stop = search rules in
+    let meant = meaning_in ctx (Tree.with_loop (View.generators a.gs.now) (View.operation a.op.now) a.site) env in
+    subst (λ r. Tells r meant) (sym is)
+    (same_stop stop (each (bounds_in ctx env) a.gs.now) meant (bounds_fault ctx env a.gs.now (View.operation a.op.now) a.site) c.in_err-bounds.ensures)
 
 pub evaluate_with-returns-in_err-shape : goal.evaluate_with-returns-in_err-shape
-evaluate_with-returns-in_err-shape t c = ?
+evaluate_with-returns-in_err-shape t c =
+    let a = c.args in
+    let ctx = a.context.now in
+    let env = env_of a.env.now in
+    let op = View.operation a.op.now in
+    let stop = c.in_err-shape.field-0.0 in
+    let is : c.from_residual-in_err-shape.result ≡ Err stop = search rules in
+    let meant = meaning_in ctx (Tree.with_loop (View.generators a.gs.now) op a.site) env in
+    subst (λ r. Tells r meant) (sym is)
+    (same_stop stop (operation_in ctx op (View.generators a.gs.now) env) meant
+      (λ f e. operation_fault ctx env a.gs.now op a.site c.in_ok-bounds.bounds.items f c.in_ok-bounds.ensures e) c.in_err-shape.ensures)
 
 pub evaluate_with-returns-in_err-plan-in-Genarray : goal.evaluate_with-returns-in_err-plan-in-Genarray
-evaluate_with-returns-in_err-plan-in-Genarray t c = ?
+evaluate_with-returns-in_err-plan-in-Genarray t c =
+    let a = c.args in
+    let i = c.in-Genarray in
+    let ctx = a.context.now in
+    let env = env_of a.env.now in
+    let op = View.operation a.op.now in
+    let stop = c.in_err-plan-in-Genarray.field-0.0 in
+    let is : c.from_residual-in_err-plan-in-Genarray.result ≡ Err stop = search rules in
+    let meant = meaning_in ctx (Tree.with_loop (View.generators a.gs.now) op a.site) env in
+    let eo = c.in_ok-shape.ensures ∙ ap (λ e. Ok (operation_of e)) i.is in
+    let made = λ (bs : List WithLoops.Bounds). genarray_plan bs (shape_of_numbers (vector_of i.shape)) i.default i.site in
+    subst (λ r. Tells r meant) (sym is)
+    (same_stop stop (made c.deref.result.now) meant
+      (λ f e. whole_fault ctx env a.gs.now op a.site c.in_ok-bounds.bounds.items (genarray i.shape i.default i.site) f c.in_ok-bounds.ensures eo (ap made (sym c.deref.ensures.value) ∙ e))
+      c.in_err-plan-in-Genarray.ensures.told)
 
 pub evaluate_with-returns-in_err-plan-in-Modarray : goal.evaluate_with-returns-in_err-plan-in-Modarray
-evaluate_with-returns-in_err-plan-in-Modarray t c = ?
+evaluate_with-returns-in_err-plan-in-Modarray t c =
+    let a = c.args in
+    let i = c.in-Modarray in
+    let ctx = a.context.now in
+    let env = env_of a.env.now in
+    let op = View.operation a.op.now in
+    let stop = c.in_err-plan-in-Modarray.field-0.0 in
+    let is : c.from_residual-in_err-plan-in-Modarray.result ≡ Err stop = search rules in
+    let meant = meaning_in ctx (Tree.with_loop (View.generators a.gs.now) op a.site) env in
+    let eo = c.in_ok-shape.ensures ∙ ap (λ e. Ok (operation_of e)) i.is in
+    let made = λ (bs : List WithLoops.Bounds). modarray_plan bs (index_length bs (length i.array.shape)) i.array i.site in
+    subst (λ r. Tells r meant) (sym is)
+    (same_stop stop (made c.deref-in-Modarray.result.now) meant
+      (λ f e. whole_fault ctx env a.gs.now op a.site c.in_ok-bounds.bounds.items (modarray i.array i.site) f c.in_ok-bounds.ensures eo (ap made (sym c.deref-in-Modarray.ensures.value) ∙ e))
+      c.in_err-plan-in-Modarray.ensures.told)
 
 pub evaluate_with-returns-in_err-plan-in-Fold : goal.evaluate_with-returns-in_err-plan-in-Fold
-evaluate_with-returns-in_err-plan-in-Fold t c = ?
+evaluate_with-returns-in_err-plan-in-Fold t c =
+    let a = c.args in
+    let i = c.in-Fold in
+    let ctx = a.context.now in
+    let env = env_of a.env.now in
+    let op = View.operation a.op.now in
+    let stop = c.in_err-plan-in-Fold.field-0.0 in
+    let is : c.from_residual-in_err-plan-in-Fold.result ≡ Err stop = search rules in
+    let meant = meaning_in ctx (Tree.with_loop (View.generators a.gs.now) op a.site) env in
+    let eo = c.in_ok-shape.ensures ∙ ap (λ e. Ok (operation_of e)) i.is in
+    let made = λ (bs : List WithLoops.Bounds). fold_plan bs (index_length bs 0) i.neutral i.site in
+    subst (λ r. Tells r meant) (sym is)
+    (same_stop stop (made c.deref-in-Fold.result.now) meant
+      (λ f e. whole_fault ctx env a.gs.now op a.site c.in_ok-bounds.bounds.items (fold_by i.op i.neutral i.site) f c.in_ok-bounds.ensures eo (ap made (sym c.deref-in-Fold.ensures.value) ∙ e))
+      c.in_err-plan-in-Fold.ensures)
 
 pub evaluate_with-array_cells-requires : goal.evaluate_with-array_cells-requires
-evaluate_with-array_cells-requires t c = ?
+evaluate_with-array_cells-requires t c = (omega (arith, c.decreases), c.in_ok-plan-in-Genarray.ensures.full)
 
 pub evaluate_with-array_cells-requires-in-Modarray : goal.evaluate_with-array_cells-requires-in-Modarray
-evaluate_with-array_cells-requires-in-Modarray t c = ?
+evaluate_with-array_cells-requires-in-Modarray t c = (omega (arith, c.decreases), c.in_ok-plan-in-Modarray.ensures.full)
 
 pub evaluate_with-fold_cells-requires : goal.evaluate_with-fold_cells-requires
-evaluate_with-fold_cells-requires t c = ?
+evaluate_with-fold_cells-requires t c = (omega (arith, c.decreases), tt)
 
 pub evaluate_with-returns-in-Genarray : goal.evaluate_with-returns-in-Genarray
-evaluate_with-returns-in-Genarray t c = ?
+evaluate_with-returns-in-Genarray t c =
+    let a = c.args in
+    let i = c.in-Genarray in
+    let ctx = a.context.now in
+    let env = env_of a.env.now in
+    let p = plan_of c.in_ok-plan-in-Genarray.plan in
+    let by = genarray i.shape i.default i.site in
+    let eo = c.in_ok-shape.ensures ∙ ap (λ e. Ok (operation_of e)) i.is in
+    let made = λ (bs : List WithLoops.Bounds). genarray_plan bs (shape_of_numbers (vector_of i.shape)) i.default i.site in
+    let all = whole ctx env a.gs.now (View.operation a.op.now) a.site c.in_ok-bounds.bounds.items by p c.in_ok-bounds.ensures eo (ap made (sym c.deref.ensures.value) ∙ c.in_ok-plan-in-Genarray.ensures.told) in
+    let same = then_same (cells_in ctx a.gs.now p.ranges p.indices p.form env) (λ found. Ok (finish by p found)) (λ found. Ok (array_from false i.default p found)) (λ found e. ap Ok (genarray_finish i.shape i.default i.site p found)) in
+    subst (λ m. Tells c.array_cells.result m) (sym (all ∙ same)) c.array_cells.ensures
 
 pub evaluate_with-returns-in-Modarray : goal.evaluate_with-returns-in-Modarray
-evaluate_with-returns-in-Modarray t c = ?
+evaluate_with-returns-in-Modarray t c =
+    let a = c.args in
+    let i = c.in-Modarray in
+    let ctx = a.context.now in
+    let env = env_of a.env.now in
+    let p = plan_of c.in_ok-plan-in-Modarray.plan in
+    let by = modarray i.array i.site in
+    let bs = c.in_ok-bounds.bounds.items in
+    let eo = c.in_ok-shape.ensures ∙ ap (λ e. Ok (operation_of e)) i.is in
+    let made = λ (bs : List WithLoops.Bounds). modarray_plan bs (index_length bs (length i.array.shape)) i.array i.site in
+    let ep = ap made (sym c.deref-in-Modarray.ensures.value) ∙ c.in_ok-plan-in-Modarray.ensures.told in
+    let all = whole ctx env a.gs.now (View.operation a.op.now) a.site bs by p c.in_ok-bounds.ensures eo ep in
+    let cell = WithLoops.cell_at p.form (map (generator_of ctx env) a.gs.now) p.ranges in
+    let same = then_same (cells_in ctx a.gs.now p.ranges p.indices p.form env) (λ found. Ok (finish by p found)) (λ found. Ok (array_from true i.array p found))
+      (λ found e. ap Ok (modarray_finish bs (index_length bs (length i.array.shape)) i.array i.site p ep found (each_length cell p.indices found e))) in
+    subst (λ m. Tells c.array_cells-in-Modarray.result m) (sym (all ∙ same)) c.array_cells-in-Modarray.ensures
 
 pub evaluate_with-returns : goal.evaluate_with-returns
-evaluate_with-returns t c = ?
+evaluate_with-returns t c =
+    let a = c.args in
+    let i = c.in-Fold in
+    let ctx = a.context.now in
+    let env = env_of a.env.now in
+    let p = plan_of c.in_ok-plan-in-Fold.plan in
+    let by = fold_by i.op i.neutral i.site in
+    let eo = c.in_ok-shape.ensures ∙ ap (λ e. Ok (operation_of e)) i.is in
+    let made = λ (bs : List WithLoops.Bounds). fold_plan bs (index_length bs 0) i.neutral i.site in
+    let all = whole ctx env a.gs.now (View.operation a.op.now) a.site c.in_ok-bounds.bounds.items by p c.in_ok-bounds.ensures eo (ap made (sym c.deref-in-Fold.ensures.value) ∙ c.in_ok-plan-in-Fold.ensures) in
+    subst (λ m. Tells c.fold_cells.result m) (sym all) c.fold_cells.ensures
 
-pub evaluate_operation-returns-after-branch-3 : goal.evaluate_operation-returns-after-branch-3
-evaluate_operation-returns-after-branch-3 t c = ?
+-- ---- the cells of a with-loop
 
 pub array_cells-returns-in_err-cell : goal.array_cells-returns-in_err-cell
-array_cells-returns-in_err-cell t c = ?
+array_cells-returns-in_err-cell t c =
+    let a = c.args in
+    let p = a.plan in
+    let ctx = a.context.now in
+    let env = env_of a.env.now in
+    let k = c.loop-place.place in
+    let f = WithLoops.cell_at p.form (map (generator_of ctx env) a.gs.now) p.ranges.items in
+    let meant = and_then (cells_in ctx a.gs.now p.ranges.items p.frame p.form env) (λ found. Ok (array_from a.old a.background.now (plan_of p) found)) in
+    let at : f (get_or p.frame k []) ≡ held_in ctx a.gs.now c.deref.result.now c.index.new.into p.form env =
+      ap f (sym (c.in_ok-index.ensures [])) ∙ ap (λ rs. WithLoops.cell_at p.form (map (generator_of ctx env) a.gs.now) rs c.index.new.into) (sym c.deref.ensures.value) in
+    let stop = c.in_err-cell.field-0.0 in
+    let is : c.from_residual-in_err-cell.result ≡ Err stop = search rules in
+    subst (λ r. Tells r meant) (sym is)
+    (same_stop stop (held_in ctx a.gs.now c.deref.result.now c.index.new.into p.form env) meant
+      (λ fault e. each_fault f p.frame k [] fault
+        (λ rest. Ok (record { base = a.background.now.base; shape = p.shape; cells = c.loop-place.cells.items ++ cells_from a.old a.background.now (size p.form.shape) k rest }))
+        meant (omega (arith, c.loop-place-test.true, c.count-place-end.ensures)) (at ∙ e) c.loop-place.invariant.told)
+      c.in_err-cell.ensures.told)
 
 pub array_cells-loop-place-preserved : goal.array_cells-loop-place-preserved
 array_cells-loop-place-preserved t c = ?
 
 pub fold_cells-returns-in_err-cell : goal.fold_cells-returns-in_err-cell
-fold_cells-returns-in_err-cell t c = ?
+fold_cells-returns-in_err-cell t c =
+    let a = c.args in
+    let p = a.plan.now in
+    let ctx = a.context.now in
+    let env = env_of a.env.now in
+    let k = c.loop-place.place in
+    let f = WithLoops.cell_at p.form (map (generator_of ctx env) a.gs.now) p.ranges.items in
+    let meant = and_then (cells_in ctx a.gs.now p.ranges.items p.frame p.form env) (λ found. Ok (fold (combined a.op) a.neutral found)) in
+    let at : f (get_or p.frame k []) ≡ held_in ctx a.gs.now c.deref.result.now c.index.new.into p.form env =
+      ap f (sym (c.in_ok-index.ensures [])) ∙ ap (λ rs. WithLoops.cell_at p.form (map (generator_of ctx env) a.gs.now) rs c.index.new.into) (sym c.deref.ensures.value) in
+    let stop = c.in_err-cell.field-0.0 in
+    let is : c.from_residual-in_err-cell.result ≡ Err stop = search rules in
+    subst (λ r. Tells r meant) (sym is)
+    (same_stop stop (held_in ctx a.gs.now c.deref.result.now c.index.new.into p.form env) meant
+      (λ fault e. each_fault f p.frame k [] fault (λ rest. Ok (fold (combined a.op) c.loop-place.value rest))
+        meant (omega (arith, c.loop-place-test.true, c.count-place-end.ensures)) (at ∙ e) c.loop-place.invariant)
+      c.in_err-cell.ensures.told)
 
 pub fold_cells-loop-place-preserved : goal.fold_cells-loop-place-preserved
-fold_cells-loop-place-preserved t c = ?
+fold_cells-loop-place-preserved t c =
+    let a = c.args in
+    let p = a.plan.now in
+    let ctx = a.context.now in
+    let env = env_of a.env.now in
+    let k = c.loop-place.place in
+    let f = WithLoops.cell_at p.form (map (generator_of ctx env) a.gs.now) p.ranges.items in
+    let meant = and_then (cells_in ctx a.gs.now p.ranges.items p.frame p.form env) (λ found. Ok (fold (combined a.op) a.neutral found)) in
+    let at : f (get_or p.frame k []) ≡ held_in ctx a.gs.now c.deref.result.now c.index.new.into p.form env =
+      ap f (sym (c.in_ok-index.ensures [])) ∙ ap (λ rs. WithLoops.cell_at p.form (map (generator_of ctx env) a.gs.now) rs c.index.new.into) (sym c.deref.ensures.value) in
+    let value : combined a.op c.loop-place.value c.in_ok-cell.cell ≡ c.in_ok-value.value = cc (c.in_ok-value.ensures) in
+    each_step f p.frame k [] c.in_ok-cell.cell (λ rest. Ok (fold (combined a.op) c.loop-place.value rest)) (λ rest. Ok (fold (combined a.op) c.in_ok-value.value rest))
+      meant (omega (arith, c.loop-place-test.true, c.count-place-end.ensures)) (at ∙ c.in_ok-cell.ensures.told)
+      (λ rest. ap (λ v. Ok (fold (combined a.op) v rest)) value) c.loop-place.invariant

@@ -87,10 +87,10 @@ abbrev pub decreases-evaluate_operation : goal.decreases-evaluate_operation
 decreases-evaluate_operation l = rank_of l.context.now + 4 * size-Operation l.op.now + 2
 
 abbrev pub decreases-array_cells : goal.decreases-array_cells
-decreases-array_cells l = rank_of l.context.now + 4 * cells_size l.gs.now + 5
+decreases-array_cells l = rank_of l.context.now + 4 * cells_size l.gs.now + 4
 
 abbrev pub decreases-fold_cells : goal.decreases-fold_cells
-decreases-fold_cells l = rank_of l.context.now + 4 * cells_size l.gs.now + 5
+decreases-fold_cells l = rank_of l.context.now + 4 * cells_size l.gs.now + 4
 
 abbrev pub invariant-array_cells-loop-place : goal.invariant-array_cells-loop-place
 invariant-array_cells-loop-place l = record {
@@ -106,13 +106,13 @@ invariant-fold_cells-loop-place l =
     ≡ and_then (cells_in l.context l.gs l.plan.ranges.items l.plan.frame l.plan.form (env_of l.env)) (λ found. Ok (fold (combined l.op) l.initial.value found))
 
 abbrev pub decreases-cell_at : goal.decreases-cell_at
-decreases-cell_at l = rank_of l.context.now + 4 * size-Generator l.g.now + 2
+decreases-cell_at l = rank_of l.context.now + 4 * size-Generator l.g.now + 1
 
 abbrev pub decreases-checked_cell : goal.decreases-checked_cell
-decreases-checked_cell l = rank_of l.context.now + 4 * size-Generator l.g.now + 3
+decreases-checked_cell l = rank_of l.context.now + 4 * size-Generator l.g.now + 2
 
 abbrev pub decreases-held_cell : goal.decreases-held_cell
-decreases-held_cell l = rank_of l.context.now + 4 * cells_size l.gs.now + 4
+decreases-held_cell l = rank_of l.context.now + 4 * cells_size l.gs.now + 3
 
 abbrev pub invariant-held_cell-loop-i : goal.invariant-held_cell-loop-i
 invariant-held_cell-loop-i l =
