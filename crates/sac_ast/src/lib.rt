@@ -1,7 +1,7 @@
 //! The trees of a source.
 #![tactic(auto)]
 
-use sac_base::{ArrayType, Name, Op, Site};
+use sac_base::{ArrayType, Base, Name, Op, Site};
 
 /// A whole source.
 #[derive(Drop)]
@@ -135,4 +135,11 @@ pub enum Operation {
         neutral: Expression,
         site: Site,
     },
+}
+
+/// A name that is bound, and the base of what it is bound to, where that has one.
+#[derive(Drop)]
+pub struct Known {
+    pub name: Name,
+    pub base: Option<Base>,
 }

@@ -1,10 +1,10 @@
 -- The value of a with-loop from its plan and its cells.
 use Rattle.std.proofs.Common.{◌≡◌, ℕ, zero, suc, ◌+◌, ◌-◌, ◌*◌, ◌/◌, ◌%◌, ◌<◌, ◌≤◌, List, [], ◌∷◌, ◌++◌, length, get_or, take, drop, map, Bool, true, false, refl, sym, ap, ◌∙◌, subst, arith, ℤ, pos, ◌+ℤ◌, Ok, Err, Some, None, Option, cond, mul_assoc, min, true≢false}
 use Rattle.std.proofs.Math.Nat.{add-mul, suc-mul}
-use Rattle.std.specs.Prelude.{flat_map, fold, nat_le, is_some, ◌&&◌, if◌then◌else◌, ◌==◌, nat_lt}
+use Rattle.std.specs.Prelude.{IfSome, flat_map, fold, nat_le, is_some, ◌&&◌, if◌then◌else◌, ◌==◌, nat_lt}
 use Rattle.std.specs.List.{zip}
 use Rattle.std.specs.Option.{SomeIff}
-use Rattle.std.proofs.lemmas.List.{length-map, drop_more, take_min, take-append-drop}
+use Rattle.std.proofs.lemmas.List.{length-map, length-drop, length-take-le, drop_more, take_min, take-append-drop}
 use Rattle.std.proofs.lemmas.Int.{ints}
 use Rattle.std.proofs.lemmas.Bool.Decides.{nat_tests}
 use Rattle.std.proofs.lemmas.Nat.{mod_below, div_below, div-add-mod'}
@@ -148,7 +148,8 @@ module _ (bs : List Bounds) (n : ℕ) (array : ArrayValue) (site : Site) (p : Pl
   pub modarray_finish : (found : List (Option ArrayValue)) → length found ≡ length p.indices → finish (modarray array site) p found ≡ array_from true array p found
   modarray_finish found count =
       let split = sym (take-append-drop n array.shape) in
-      let all : 0 + length found ≡ size (take n array.shape) = count ∙ ap length cut_indices ∙ length_indices (take n array.shape) in
+      let same : length found ≡ size (take n array.shape) = count ∙ ap length cut_indices ∙ length_indices (take n array.shape) in
+      let all : 0 + length found ≡ size (take n array.shape) = omega (arith, same) in
       let cells =
         ap (λ vs. flat_map (λ (q : List ℤ × Option ArrayValue). cell_or_old array q.0 q.1) (zip vs found)) cut_indices
         ∙ old_cells array (take n array.shape) (drop n array.shape) split 0 found all
@@ -169,3 +170,9 @@ cell_below k (suc l) n m h e most = omega (arith, suc-mul l n, e, most)
 pub cell_within : (k l n m : ℕ) → k < l → l * n ≡ m → k * n + n ≤ m
 cell_within k zero n m h e = absurd (omega arith)
 cell_within k (suc l) n m h e = omega (arith, suc-mul l n, e, mul_mono k l n (omega arith))
+
+pub cell_length : (old : Bool) (background : ArrayValue) (n k all : ℕ) (cell : Option ArrayValue) → IfSome cell (λ a. length a.cells ≡ n) → length background.cells ≡ cond old all n → k * n + n ≤ all → length (cell_from old background n k cell) ≡ n
+cell_length old background n k all (Some c) sized stands within = sized
+cell_length true background n k all None sized stands within =
+    length-take-le n (drop (k * n) background.cells) (omega (arith, length-drop (k * n) background.cells, stands, within))
+cell_length false background n k all None sized stands within = stands

@@ -22,8 +22,7 @@ use Rattle.value_meaning.specs.declared.evaluate.Context.{Context}
 use Rattle.value_meaning.specs.Cells.{array_from, cells_from}
 use Rattle.value_meaning.specs.Evaluation.{meaning_in, cell_in}
 use Rattle.value_meaning.specs.Meaning.{name_count}
-use Rattle.value_meaning.specs.WithSource.{bound_in, maybe_in, bounds_in, generators_in, operation_in, generator_of, cells_in}
-use Rattle.value_meaning.proofs.CellSteps.{same_cell, genarray_finish, old_cells, length_indices, split_size}
+use Rattle.value_meaning.specs.WithSource.{generator_in, bound_in, maybe_in, bounds_in, generators_in, operation_in, generator_of, cells_in}
 use Rattle.value_meaning.proofs.EachSteps.{each_length}
 
 -- ---- the generators, from their bounds
@@ -44,9 +43,9 @@ four (Ok p) (Ok q) (Err f) d make next = refl
 four (Ok p) (Ok q) (Ok r) (Err f) make next = refl
 four (Ok p) (Ok q) (Ok r) (Ok s) make next = refl
 
-generator_from : (context : Context) (env : Env) (g : Generator) → WithSource.generator_in context (View.generator g) env ≡ and_then (bounds_in context env g) (λ b. Ok (with_cell context env g b))
+generator_from : (context : Context) (env : Env) (g : Generator) → generator_in context (View.generator g) env ≡ and_then (bounds_in context env g) (λ b. Ok (with_cell context env g b))
 generator_from context env g =
-    ap (λ tree. WithSource.generator_in context tree env) (generator_is g)
+    ap (λ tree. generator_in context tree env) (generator_is g)
     ∙ four (bound_in context (View.bound g.lower) env) (bound_in context (View.bound g.upper) env) (maybe_in context (View.maybe g.step) env) (maybe_in context (View.maybe g.width) env)
       (λ l u s w. record { lower = l; lower_closed = g.lower_closed; names = name_count (index_view g.index); upper = u; upper_closed = g.upper_closed; step = s; width = w; site = g.site })
       (with_cell context env g)

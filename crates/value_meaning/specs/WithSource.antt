@@ -21,6 +21,9 @@ bound_in context = bound context.turns (bases_in context) (calls_in context)
 abbrev pub maybe_in : Context → MaybeExpr → Env → Ends (Option ArrayValue)
 maybe_in context = maybe context.turns (bases_in context) (calls_in context)
 
+abbrev pub generator_in : Context → Gen → Env → Ends WithLoops.Generator
+generator_in context = generator context.turns (bases_in context) (calls_in context)
+
 abbrev pub generators_in : Context → Gens → Env → Ends (List WithLoops.Generator)
 generators_in context = generators context.turns (bases_in context) (calls_in context)
 

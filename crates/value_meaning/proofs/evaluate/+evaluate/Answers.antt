@@ -1,5 +1,8 @@
 use Rattle.std.proofs.Common.{rules, ◌≡◌, ℕ, ◌-◌, ◌<◌, ◌≤◌, length, true, false, [], ◌∷◌, Ok, Err, Some, None, get_or, ap, sym, ◌∙◌, subst, arith, map, drop, ◌++◌, List, Option, append_assoc, ◌*◌, ◌+◌, ℤ, refl}
 use Rattle.std.proofs.lemmas.Grind.{common_steps}
+use Rattle.std.proofs.lemmas.List.{length-append}
+use Rattle.std.proofs.Math.Nat.{add-mul}
+use Rattle.std.specs.Prelude.{ℤ}
 use Rattle.sac_ast.specs.View.{expr, exprs, stmt, block}
 use Rattle.sac_ast.specs.Tree
 use Rattle.sac_ast.proofs.Views.{stmt_assign, stmt_while, stmt_do, stmt_if, stmt_replace, expr_call, expr_binary, expr_select, expr_choice}
@@ -25,7 +28,7 @@ use Rattle.sac_ast.proofs.Views.{generator_is}
 use Rattle.value_meaning.specs.WithSource.{generator_of, bound_in, maybe_in, bounds_in, held_in, cells_in, operation_in}
 use Rattle.value_meaning.specs.Plans.{plan_of, operation_of}
 use Rattle.value_meaning.specs.Cells.{array_from, cells_from, cell_from}
-use Rattle.value_meaning.proofs.CellSteps.{genarray_finish, modarray_finish, cell_below, cell_within}
+use Rattle.value_meaning.proofs.CellSteps.{genarray_finish, modarray_finish, cell_below, cell_within, cell_length}
 use Rattle.value_meaning.proofs.EachSteps.{each_length, each_step, each_fault}
 use Rattle.value_meaning.proofs.WithValue.{whole, whole_fault, bounds_fault, operation_fault}
 use Rattle.sac_base.specs.Arrays.{ArrayValue, size, MOST}
@@ -512,7 +515,35 @@ array_cells-returns-in_err-cell t c =
       c.in_err-cell.ensures.told)
 
 pub array_cells-loop-place-preserved : goal.array_cells-loop-place-preserved
-array_cells-loop-place-preserved t c = ?
+array_cells-loop-place-preserved t c =
+    let a = c.args in
+    let p = a.plan in
+    let bg = a.background.now in
+    let n = size p.form.shape in
+    let ctx = a.context.now in
+    let env = env_of a.env.now in
+    let k = c.loop-place.place in
+    let items = c.loop-place.cells.items in
+    let cell = c.in_ok-cell.cell in
+    let inside : k < length p.frame = omega (arith, c.loop-place-test.true, c.count-place-end.ensures) in
+    let sized : c.cell_size-size.result ≡ n = c.cell_size-size.ensures (cell_below k (length p.frame) n (size p.shape) inside c.requires.all c.requires.most) in
+    let f = WithLoops.cell_at p.form (map (generator_of ctx env) a.gs.now) p.ranges.items in
+    let meant = and_then (cells_in ctx a.gs.now p.ranges.items p.frame p.form env) (λ found. Ok (array_from a.old bg (plan_of p) found)) in
+    let at : f (get_or p.frame k []) ≡ held_in ctx a.gs.now c.deref.result.now c.index.new.into p.form env =
+      ap f (sym (c.in_ok-index.ensures [])) ∙ ap (λ rs. WithLoops.cell_at p.form (map (generator_of ctx env) a.gs.now) rs c.index.new.into) (sym c.deref.ensures.value) in
+    let added : c.add_cell.new.cells.items ≡ items ++ cell_from a.old bg n k cell = c.in_ok-add_cell.ensures ∙ ap (λ n. items ++ cell_from a.old bg n k cell) sized in
+    let one = cell_length a.old bg n k (size p.shape) cell c.in_ok-cell.ensures.sized c.requires.stands (cell_within k (length p.frame) n (size p.shape) inside c.requires.all) in
+    let all = ap length added ∙ length-append items (cell_from a.old bg n k cell) in
+    record {
+      told = each_step f p.frame k [] cell
+        (λ rest. Ok (record { base = bg.base; shape = p.shape; cells = items ++ cells_from a.old bg n k rest }))
+        (λ rest. Ok (record { base = bg.base; shape = p.shape; cells = c.add_cell.new.cells.items ++ cells_from a.old bg n (k + 1) rest }))
+        meant inside (at ∙ c.in_ok-cell.ensures.told)
+        (λ rest. ap (λ (zs : List ℤ). Ok (record { base = bg.base; shape = p.shape; cells = zs }))
+          (sym (append_assoc items (cell_from a.old bg n k cell) (cells_from a.old bg n (k + 1) rest)) ∙ ap (λ zs. zs ++ cells_from a.old bg n (k + 1) rest) (sym added)))
+        c.loop-place.invariant.told;
+      count = omega (arith, all, one, c.loop-place.invariant.count, add-mul k 1 n);
+    }
 
 pub fold_cells-returns-in_err-cell : goal.fold_cells-returns-in_err-cell
 fold_cells-returns-in_err-cell t c =
