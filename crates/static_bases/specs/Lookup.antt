@@ -1,15 +1,18 @@
 -- Words for looking up bases.
-use Rattle.std.specs.Prelude.{ℕ, zero, suc, List, [], ◌∷◌, Bool, true, false, ◌&&◌, Option, Some, None, bytes_eq}
+use Rattle.std.specs.Prelude.{ℕ, List, [], ◌∷◌, Bool, true, false, ◌&&◌, Option, Some, None, bytes_eq, slice_get}
 use Rattle.sac_base.specs.declared.base.Base.{Base}
 use Rattle.sac_base.specs.declared.name.Name.{Name}
 use Rattle.sac_base.specs.Arrays.{same_base}
 use Rattle.sac_ast.specs.Tree.{FunctionTree}
 use Rattle.sac_ast.specs.Bases.{first_named, counts_beside, same_bases, bases_of_params}
 
+abbrev pub or_none : Option (Option Base) → Option Base
+or_none None = None
+or_none (Some b) = b
+
+-- the base at a place, where it is there
 abbrev pub base_at : List (Option Base) → ℕ → Option Base
-base_at [] k = None
-base_at (b ∷ bs) zero = b
-base_at (b ∷ bs) (suc k) = base_at bs k
+base_at bs k = or_none (slice_get bs k)
 
 -- the same bases, none of which is missing
 abbrev pub same_known : List Base → Option (List Base) → Bool

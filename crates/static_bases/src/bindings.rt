@@ -9,6 +9,7 @@ ghost use Rattle.sac_ast.specs.View;
 
 use crate::base::{base_of, bases_of};
 use crate::call::call_instance;
+use crate::rules::base_at;
 use sac_ast::{
     Bound, Expression, Function, Generator, Index, Known, Operation, Param, Statement, Target,
 };
@@ -32,8 +33,7 @@ fn bind_targets(
     ensures { OnOk result (known.new.items ≡ Bases.with_bases targets.now bases.now known.old.items) }
 {
     for k in 0..targets.len() {
-        let base = if k < bases.len() { bases[k] } else { None };
-        bind(known, &targets[k].name, base)?;
+        bind(known, &targets[k].name, base_at(bases, k))?;
     }
     Ok(())
 }

@@ -109,8 +109,8 @@ pub fn builtin_base(builtin: Builtin, bases: &[Option<Base>]) -> Option<Base>
     }
 }
 
-// The base at a place, where it is there.
-fn base_at(bases: &[Option<Base>], place: usize) -> Option<Base>
+/// The base at a place, where it is there.
+pub fn base_at(bases: &[Option<Base>], place: usize) -> Option<Base>
     ensures { result ≡ base_at_value bases.now place }
 {
     match bases.get(place) {

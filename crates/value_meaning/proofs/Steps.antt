@@ -1,6 +1,5 @@
 -- One step of a list of expressions, of a block and of a loop.
 use Rattle.std.proofs.Common.{◌≡◌, ℕ, zero, suc, ◌+◌, ◌-◌, ◌<◌, List, [], ◌∷◌, ◌++◌, length, get_or, drop, Bool, true, false, refl, sym, ap, ◌∙◌, append_assoc, arith, Some, None, Ok, Err, Vec, Global}
-use Rattle.std.proofs.Math.Seq.{drop-cons}
 use Rattle.sac_base.specs.declared.site.Site.{Site}
 use Rattle.sac_base.specs.declared.fault.Fault.{Fault}
 use Rattle.sac_base.specs.declared.fault.FaultKind.TheVariants.{F3, F9}
@@ -15,6 +14,7 @@ use Rattle.sac_base.specs.declared.name.Name.{Name}
 use Rattle.sac_ast.specs.declared.Statement.{Statement}
 use Rattle.sac_ast.specs.declared.Target.{Target}
 use Rattle.sac_ast.proofs.Views.{expression_opened, expression_layer}
+use Rattle.sac_ast.proofs.Lists.{exprs-drop}
 use Rattle.sac_ast.specs.Tree
 use Rattle.sac_ast.specs.View.{expr, exprs}
 use Rattle.value_meaning.specs.declared.evaluate.Context.{Context}
@@ -39,11 +39,6 @@ pub value_then : {A B : Type 0} (m : Ends A) (next : A → Ends B) (a : A) → m
 value_then m next a e = rw e refl
 
 -- ---- expressions from left to right
-
-exprs-drop : (es : List Expression) (i : ℕ) (d : Expression) → i < length es → exprs (drop i es) ≡ Tree.expr_and (expr (get_or es i d)) (exprs (drop (i + 1) es))
-exprs-drop es i d h =
-    let next : suc i ≡ i + 1 = omega arith in
-    ap exprs (drop-cons es i d h) ∙ ap (λ n. Tree.expr_and (expr (get_or es i d)) (exprs (drop n es))) next
 
 values_next : (m : Ends ArrayValue) (rest : Ends (List ArrayValue)) (vs : List ArrayValue) (v : ArrayValue) → m ≡ Ok v → and_then (and_then m (λ a. and_then rest (λ values. Ok (a ∷ values)))) (λ r. Ok (vs ++ r)) ≡ and_then rest (λ r. Ok ((vs ++ v ∷ []) ++ r))
 values_next m (Ok r) vs v e = rw e (ap Ok (sym (append_assoc vs (v ∷ []) r)))

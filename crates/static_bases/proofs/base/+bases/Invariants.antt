@@ -5,7 +5,7 @@ use Rattle.sac_ast.specs.declared.Expression.{size-Expression}
 use Rattle.sac_ast.specs.declared.Generator.{size-Generator}
 use Rattle.sac_ast.specs.declared.Bound.{size-Bound}
 use Rattle.sac_ast.specs.declared.Operation.{size-Operation}
-use Rattle.sac_ast.proofs.Sizes.{exprs_size, cells_size, maybe_size}
+use Rattle.sac_ast.proofs.Lists.{exprs_size, cells_size, maybe_size}
 use Rattle.static_bases.proofs.base.+bases.Given as goal
 
 abbrev pub decreases-base_of : goal.decreases-base_of

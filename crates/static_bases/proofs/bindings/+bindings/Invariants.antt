@@ -6,7 +6,7 @@ use Rattle.sac_ast.specs.declared.Statement.{size-Statement}
 use Rattle.sac_ast.specs.declared.Generator.{size-Generator}
 use Rattle.sac_ast.specs.declared.Bound.{size-Bound}
 use Rattle.sac_ast.specs.declared.Operation.{size-Operation}
-use Rattle.sac_ast.proofs.Sizes.{exprs_size, block_size, cells_size, maybe_size}
+use Rattle.sac_ast.proofs.Lists.{exprs_size, block_size, cells_size, maybe_size}
 use Rattle.static_bases.proofs.bindings.+bindings.Given as goal
 
 abbrev pub decreases-in_expr : goal.decreases-in_expr

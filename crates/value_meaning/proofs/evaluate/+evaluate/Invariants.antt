@@ -15,7 +15,8 @@ use Rattle.value_meaning.specs.Cells.{cells_from, array_from}
 use Rattle.value_meaning.specs.Plans.{plan_of}
 use Rattle.value_meaning.specs.WithSource.{generator_of, bounds_in, cells_in}
 use Rattle.sac_base.specs.WithLoops.{holder, each, combined}
-use Rattle.value_meaning.proofs.Measures.{exprs_size, block_size, body_size, cells_size, maybe_size, rank_of}
+use Rattle.sac_ast.proofs.Lists.{exprs_size, block_size, cells_size, maybe_size}
+use Rattle.value_meaning.proofs.Measures.{body_size, rank_of}
 use Rattle.value_meaning.proofs.evaluate.+evaluate.Given as goal
 
 abbrev pub decreases-evaluate : goal.decreases-evaluate

@@ -1,0 +1,110 @@
+-- One step of the loops that gather bases.
+use Rattle.std.proofs.Common.{◌≡◌, ℕ, zero, suc, ◌+◌, ◌<◌, List, [], ◌∷◌, ◌++◌, length, get_or, drop, Bool, true, false, refl, sym, ap, ◌∙◌, append_assoc, arith, Option, Some, None, Vec, Global}
+use Rattle.std.specs.Prelude.{slice_get}
+use Rattle.std.proofs.lemmas.List.{drop_more}
+use Rattle.sac_base.specs.declared.base.Base.{Base}
+use Rattle.sac_base.specs.declared.name.Name.{Name}
+use Rattle.sac_base.specs.declared.site.Site.{Site}
+use Rattle.sac_ast.specs.declared.Bound.{Bound}
+use Rattle.sac_ast.specs.declared.Operation.{Operation}
+use Rattle.sac_ast.specs.declared.Generator.{Generator}
+use Rattle.sac_ast.specs.declared.Statement.{Statement}
+use Rattle.sac_ast.specs.declared.Known.{Known}
+use Rattle.sac_ast.specs.declared.Target.{Target}
+use Rattle.sac_ast.specs.declared.Expression.{Expression, Expression-F, out-Expression, roll-Expression, roll-out-Expression}
+use Rattle.sac_ast.specs.declared.Expression.TheVariants.{Call, rolls-Call}
+use Rattle.sac_ast.specs.Tree
+use Rattle.sac_ast.specs.View.{expr, exprs, generator, generators}
+use Rattle.sac_ast.specs.Bases.{Bases, CallBases, base, bases, generator_fits, with_base_of, where_holds, with_bases, first_base, second_base, in_expr, in_stmt}
+use Rattle.sac_ast.proofs.Lists.{exprs-drop, generators-drop}
+use Rattle.sac_ast.proofs.Views.{expression_opened, expression_layer}
+use Rattle.static_bases.specs.Lookup.{base_at}
+
+-- ---- bases of a list
+
+pub bases_step : (calls : CallBases) (known : Bases) (es : List Expression) (i : ℕ) (d : Expression) (bs all : List (Option Base)) (b : Option Base)
+    → i < length es → b ≡ base calls known (expr (get_or es i d)) → bs ++ bases calls known (exprs (drop i es)) ≡ all
+    → (bs ++ b ∷ []) ++ bases calls known (exprs (drop (i + 1) es)) ≡ all
+bases_step calls known es i d bs all b h e inv =
+    append_assoc bs (b ∷ []) (bases calls known (exprs (drop (i + 1) es)))
+    ∙ ap (λ x. bs ++ x ∷ bases calls known (exprs (drop (i + 1) es))) e
+    ∙ ap (λ t. bs ++ bases calls known t) (sym (exprs-drop es i d h))
+    ∙ inv
+
+pub with_step : (calls : CallBases) (known : Bases) (gs : List Generator) (i : ℕ) (d : Generator) (wanted : Option Base) (fits : Bool)
+    → i < length gs → fits ≡ generator_fits calls known (generator (get_or gs i d)) wanted
+    → with_base_of calls known (generators (drop i gs)) wanted ≡ where_holds fits (with_base_of calls known (generators (drop (i + 1) gs)) wanted)
+with_step calls known gs i d wanted fits h e =
+    ap (λ t. with_base_of calls known t wanted) (generators-drop gs i d h)
+    ∙ ap (λ b. where_holds b (with_base_of calls known (generators (drop (i + 1) gs)) wanted)) (sym e)
+
+-- ---- the base at a place
+
+at_first : (bs : List (Option Base)) → first_base bs ≡ base_at bs 0
+at_first [] = refl
+at_first (b ∷ bs) = refl
+
+at_next : (bs : List (Option Base)) (k : ℕ) → base_at (drop k bs) 0 ≡ base_at bs k
+at_next bs zero = refl
+at_next [] (suc k) = refl
+at_next (b ∷ bs) (suc k) = at_next bs k
+
+pub first_at : (bs : List (Option Base)) → base_at bs 0 ≡ first_base bs
+first_at bs = sym (at_first bs)
+
+pub second_at : (bs : List (Option Base)) → base_at bs 1 ≡ second_base bs
+second_at [] = refl
+second_at (b ∷ []) = refl
+second_at (b ∷ c ∷ bs) = refl
+
+-- ---- targets
+
+with_cons : (target : Target) (targets : List Target) (bs : List (Option Base)) (known : Bases)
+    → with_bases (target ∷ targets) bs known ≡ with_bases targets (drop 1 bs) (known ++ record { name = target.name; base = base_at bs 0 } ∷ [])
+with_cons target targets [] known = refl
+with_cons target targets (b ∷ bs) known = refl
+
+drop_next : {A : Type 0} (xs : List A) (k : ℕ) → drop 1 (drop k xs) ≡ drop (k + 1) xs
+drop_next [] zero = refl
+drop_next [] (suc k) = refl
+drop_next (x ∷ xs) zero = refl
+drop_next (x ∷ xs) (suc k) = drop_next xs k
+
+pub targets_step : (targets : List Target) (bs : List (Option Base)) (known : Bases) (k : ℕ) (d : Target) → k < length targets
+    → with_bases (drop (k + 1) targets) (drop (k + 1) bs) (known ++ record { name = (get_or targets k d).name; base = base_at bs k } ∷ []) ≡ with_bases (drop k targets) (drop k bs) known
+targets_step targets bs known k d h = sym (
+    ap (λ ts. with_bases ts (drop k bs) known) (drop_more targets k d h)
+    ∙ with_cons (get_or targets k d) (drop (k + 1) targets) (drop k bs) known
+    ∙ ap (λ b. with_bases (drop (k + 1) targets) (drop 1 (drop k bs)) (known ++ record { name = (get_or targets k d).name; base = b } ∷ [])) (at_next bs k)
+    ∙ ap (λ rest. with_bases (drop (k + 1) targets) rest (known ++ record { name = (get_or targets k d).name; base = base_at bs k } ∷ [])) (drop_next bs k))
+
+-- ---- an assignment whose right side is no call
+
+abbrev is_call : Tree.Expr → Bool
+is_call (Tree.call name es site) = true
+is_call _ = false
+
+plain : (calls : CallBases) (targets : List Target) (e : Tree.Expr) (known : Bases) → is_call e ≡ false
+    → in_stmt calls (Tree.assign targets e) known ≡ with_bases targets (base calls (in_expr calls e known) e ∷ []) (in_expr calls e known)
+plain calls targets (Tree.number n site) known h = refl
+plain calls targets (Tree.truth b site) known h = refl
+plain calls targets (Tree.variable x site) known h = refl
+plain calls targets (Tree.literal es site) known h = refl
+plain calls targets (Tree.unary op e site) known h = refl
+plain calls targets (Tree.binary op e f site) known h = refl
+plain calls targets (Tree.choice c e f site) known h = refl
+plain calls targets (Tree.select e f site) known h = refl
+plain calls targets (Tree.call x es site) known h = cc
+plain calls targets (Tree.builtin b es site) known h = refl
+plain calls targets (Tree.with_loop gs op site) known h = refl
+
+not_call : (e : Expression) → ((name : Name) (es : Vec Expression Global) (site : Site) → e ≡ Call name es site → ⊥) → is_call (expr e) ≡ false
+not_call e h = by_layer (out-Expression e) refl
+  where
+    by_layer : (l : Expression-F Bound Expression Operation Statement Generator) → out-Expression e ≡ l → is_call (expr e) ≡ false
+    by_layer (Expression-F.Call name es site) s = absurd (h name es site (sym (roll-out-Expression e) ∙ ap roll-Expression s ∙ rolls-Call name es site))
+    by_layer l s = ap is_call (expression_opened e ∙ ap expression_layer s)
+
+pub assign_plain : (calls : CallBases) (targets : List Target) (e : Expression) (known : Bases) → ((name : Name) (es : Vec Expression Global) (site : Site) → e ≡ Call name es site → ⊥)
+    → in_stmt calls (Tree.assign targets (expr e)) known ≡ with_bases targets (base calls (in_expr calls (expr e) known) (expr e) ∷ []) (in_expr calls (expr e) known)
+assign_plain calls targets e known h = plain calls targets (expr e) known (not_call e h)
