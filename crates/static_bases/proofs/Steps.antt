@@ -1,8 +1,9 @@
 -- One step of the loops that gather bases.
 use Rattle.std.proofs.Common.{◌≡◌, ℕ, zero, suc, ◌+◌, ◌<◌, List, [], ◌∷◌, ◌++◌, length, get_or, drop, Bool, true, false, refl, sym, ap, ◌∙◌, append_assoc, arith, Option, Some, None, Vec, Global}
-use Rattle.std.specs.Prelude.{slice_get}
-use Rattle.std.proofs.lemmas.List.{drop_more}
+use Rattle.std.specs.Prelude.{slice_get, ◌&&◌}
+use Rattle.std.proofs.lemmas.List.{drop_more, drop_all}
 use Rattle.sac_base.specs.declared.base.Base.{Base}
+use Rattle.sac_base.specs.declared.base.Base.TheVariants.{Int}
 use Rattle.sac_base.specs.declared.name.Name.{Name}
 use Rattle.sac_base.specs.declared.site.Site.{Site}
 use Rattle.sac_ast.specs.declared.Bound.{Bound}
@@ -14,48 +15,18 @@ use Rattle.sac_ast.specs.declared.Target.{Target}
 use Rattle.sac_ast.specs.declared.Expression.{Expression, Expression-F, out-Expression, roll-Expression, roll-out-Expression}
 use Rattle.sac_ast.specs.declared.Expression.TheVariants.{Call, rolls-Call}
 use Rattle.sac_ast.specs.Tree
-use Rattle.sac_ast.specs.View.{expr, exprs, generator, generators}
-use Rattle.sac_ast.specs.Bases.{Bases, CallBases, base, bases, generator_fits, with_base_of, where_holds, with_bases, first_base, second_base, in_expr, in_stmt}
+use Rattle.sac_ast.specs.View.{expr, exprs, generator, generators, bound, maybe}
+use Rattle.sac_ast.specs.Bases.{Bases, CallBases, base, bases, bound_base, maybe_base, are_int, may_match, generator_fits, with_base_of, where_holds, with_bases, first_base, second_base, in_expr, in_stmt}
 use Rattle.sac_ast.proofs.Lists.{exprs-drop, generators-drop}
-use Rattle.sac_ast.proofs.Views.{expression_opened, expression_layer}
+use Rattle.sac_ast.proofs.Views.{expression_opened, expression_layer, generator_is}
 use Rattle.static_bases.specs.Lookup.{base_at}
 
--- ---- bases of a list
-
-pub bases_step : (calls : CallBases) (known : Bases) (es : List Expression) (i : ℕ) (d : Expression) (bs all : List (Option Base)) (b : Option Base)
-    → i < length es → b ≡ base calls known (expr (get_or es i d)) → bs ++ bases calls known (exprs (drop i es)) ≡ all
-    → (bs ++ b ∷ []) ++ bases calls known (exprs (drop (i + 1) es)) ≡ all
-bases_step calls known es i d bs all b h e inv =
-    append_assoc bs (b ∷ []) (bases calls known (exprs (drop (i + 1) es)))
-    ∙ ap (λ x. bs ++ x ∷ bases calls known (exprs (drop (i + 1) es))) e
-    ∙ ap (λ t. bs ++ bases calls known t) (sym (exprs-drop es i d h))
-    ∙ inv
-
-pub with_step : (calls : CallBases) (known : Bases) (gs : List Generator) (i : ℕ) (d : Generator) (wanted : Option Base) (fits : Bool)
-    → i < length gs → fits ≡ generator_fits calls known (generator (get_or gs i d)) wanted
-    → with_base_of calls known (generators (drop i gs)) wanted ≡ where_holds fits (with_base_of calls known (generators (drop (i + 1) gs)) wanted)
-with_step calls known gs i d wanted fits h e =
-    ap (λ t. with_base_of calls known t wanted) (generators-drop gs i d h)
-    ∙ ap (λ b. where_holds b (with_base_of calls known (generators (drop (i + 1) gs)) wanted)) (sym e)
-
 -- ---- the base at a place
-
-at_first : (bs : List (Option Base)) → first_base bs ≡ base_at bs 0
-at_first [] = refl
-at_first (b ∷ bs) = refl
 
 at_next : (bs : List (Option Base)) (k : ℕ) → base_at (drop k bs) 0 ≡ base_at bs k
 at_next bs zero = refl
 at_next [] (suc k) = refl
 at_next (b ∷ bs) (suc k) = at_next bs k
-
-pub first_at : (bs : List (Option Base)) → base_at bs 0 ≡ first_base bs
-first_at bs = sym (at_first bs)
-
-pub second_at : (bs : List (Option Base)) → base_at bs 1 ≡ second_base bs
-second_at [] = refl
-second_at (b ∷ []) = refl
-second_at (b ∷ c ∷ bs) = refl
 
 -- ---- targets
 
@@ -66,9 +37,9 @@ with_cons target targets (b ∷ bs) known = refl
 
 drop_next : {A : Type 0} (xs : List A) (k : ℕ) → drop 1 (drop k xs) ≡ drop (k + 1) xs
 drop_next [] zero = refl
-drop_next [] (suc k) = refl
+drop_next [] (suc k) = sym (drop_all (suc k + 1) [] (omega arith))
 drop_next (x ∷ xs) zero = refl
-drop_next (x ∷ xs) (suc k) = drop_next xs k
+drop_next (x ∷ xs) (suc k) = let same : suc (k + 1) ≡ suc k + 1 = omega arith in drop_next xs k ∙ ap (λ n. drop n (x ∷ xs)) same
 
 pub targets_step : (targets : List Target) (bs : List (Option Base)) (known : Bases) (k : ℕ) (d : Target) → k < length targets
     → with_bases (drop (k + 1) targets) (drop (k + 1) bs) (known ++ record { name = (get_or targets k d).name; base = base_at bs k } ∷ []) ≡ with_bases (drop k targets) (drop k bs) known
@@ -77,6 +48,16 @@ targets_step targets bs known k d h = sym (
     ∙ with_cons (get_or targets k d) (drop (k + 1) targets) (drop k bs) known
     ∙ ap (λ b. with_bases (drop (k + 1) targets) (drop 1 (drop k bs)) (known ++ record { name = (get_or targets k d).name; base = b } ∷ [])) (at_next bs k)
     ∙ ap (λ rest. with_bases (drop (k + 1) targets) rest (known ++ record { name = (get_or targets k d).name; base = base_at bs k } ∷ [])) (drop_next bs k))
+
+-- ---- a generator from its parts
+
+pub fits_from : (calls : CallBases) (known : Bases) (g : Generator) (wanted l u s w b : Option Base)
+    → l ≡ bound_base calls known (bound g.lower) → u ≡ bound_base calls known (bound g.upper)
+    → s ≡ maybe_base calls known (maybe g.step) (Some Int) → w ≡ maybe_base calls known (maybe g.width) (Some Int) → b ≡ base calls known (expr g.cell)
+    → generator_fits calls known (generator g) wanted ≡ (are_int l u s w && may_match wanted b)
+fits_from calls known g wanted l u s w b el eu es ew eb =
+    ap (λ tree. generator_fits calls known tree wanted) (generator_is g)
+    ∙ λ i. are_int (sym el i) (sym eu i) (sym es i) (sym ew i) && may_match wanted (sym eb i)
 
 -- ---- an assignment whose right side is no call
 

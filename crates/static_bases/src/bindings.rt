@@ -4,6 +4,7 @@ ghost use Rattle.std.specs.Prelude.{◌≡◌, ◌++◌, [], ◌∷◌, Some, On
 ghost use Rattle.sac_base.specs.declared.types.ArrayType.{ArrayType as ArrayTypeValue};
 ghost use Rattle.sac_ast.specs.declared.Target.{Target as TargetValue};
 ghost use Rattle.sac_ast.specs.Tree;
+ghost use Rattle.static_bases.specs.Lookup.{in_bounds_of};
 ghost use Rattle.sac_ast.specs.Bases;
 ghost use Rattle.sac_ast.specs.View;
 
@@ -38,9 +39,24 @@ fn bind_targets(
     Ok(())
 }
 
+// Binds targets to the results of a call with arguments of these bases.
+fn bind_results(
+    known: &mut Vec<Known>,
+    targets: &[Target],
+    alloc: Global,
+    functions: &[Function],
+    name: &Name,
+    bases: &[Option<Base>],
+) -> Result<(), Memory>
+    ensures { OnOk result (known.new.items ≡ Bases.with_bases targets.now (Bases.known_bases (Bases.call_bases_in (View.functions functions.now) name.now bases.now)) known.old.items) }
+{
+    let results = result_bases(alloc, call_instance(functions, name, bases))?;
+    bind_targets(known, targets, &results)
+}
+
 // The bases of the results of a function, where there is one.
 fn result_bases(alloc: Global, f: Option<&Function>) -> Result<Vec<Option<Base>>, Memory>
-    ensures { IfOk result (λ bs. bs.items ≡ Bases.known_bases (Bases.bases_of_results (option_map (λ f. View.function f.now) f))) }
+    ensures { IfOk result (λ bs. bs.items ≡ Bases.known_bases (Bases.bases_of_results (option_map (λ f. View.function f.now) f.entry))) }
 {
     match f {
         None => Ok(Vec::new(alloc)),
@@ -171,13 +187,40 @@ fn in_generator(
 ) -> Result<(), Memory>
     ensures { OnOk result (known.new.items ≡ Bases.in_gen (Bases.call_bases_in (View.functions functions.now)) (View.generator g.now) known.old.items) }
 {
+    in_bounds(g, alloc, functions, known)?;
+    in_cell(g, alloc, functions, known)
+}
+
+// Adds the bindings of a generator's block and cell.
+#[cycle(bindings)]
+fn in_cell(
+    g: &Generator,
+    alloc: Global,
+    functions: &[Function],
+    known: &mut Vec<Known>,
+) -> Result<(), Memory>
+    ensures { OnOk result (known.new.items ≡ Bases.in_expr (Bases.call_bases_in (View.functions functions.now)) (View.expr g.now.cell) (Bases.in_block (Bases.call_bases_in (View.functions functions.now)) (View.block g.now.body.items) known.old.items)) }
+{
+    in_block(&g.body, alloc, functions, known)?;
+    in_expr(&g.cell, alloc, functions, known)
+}
+
+// Adds the bindings of a generator's bounds, index, step and width.
+#[cycle(bindings)]
+fn in_bounds(
+    g: &Generator,
+    alloc: Global,
+    functions: &[Function],
+    known: &mut Vec<Known>,
+) -> Result<(), Memory>
+    ensures { OnOk result (known.new.items ≡ in_bounds_of (View.functions functions.now) g.now known.old.items) }
+{
     in_bound(&g.lower, alloc, functions, known)?;
     bind_index(known, &g.index)?;
     in_bound(&g.upper, alloc, functions, known)?;
     in_maybe(&g.step, alloc, functions, known)?;
     in_maybe(&g.width, alloc, functions, known)?;
-    in_block(&g.body, alloc, functions, known)?;
-    in_expr(&g.cell, alloc, functions, known)
+    Ok(())
 }
 
 #[cycle(bindings)]
@@ -257,14 +300,14 @@ fn in_assign(
 ) -> Result<(), Memory>
     ensures { OnOk result (known.new.items ≡ Bases.in_stmt (Bases.call_bases_in (View.functions functions.now)) (Tree.assign targets.now (View.expr value.now)) known.old.items) }
 {
-    in_expr(value, alloc, functions, known)?;
     match value {
         Expression::Call(name, es, _) => {
+            in_exprs(es, alloc, functions, known)?;
             let bases = bases_of(es, alloc, functions, known)?;
-            let results = result_bases(alloc, call_instance(functions, name, &bases))?;
-            bind_targets(known, targets, &results)
+            bind_results(known, targets, alloc, functions, name, &bases)
         }
         _ => {
+            in_expr(value, alloc, functions, known)?;
             let base = base_of(value, alloc, functions, known)?;
             bind_targets(known, targets, &[base])
         }

@@ -1,10 +1,10 @@
 //! The instance that a call takes by the bases of its arguments.
 
-ghost use Rattle.std.specs.Prelude.{◌≡◌, option_map, map};
+ghost use Rattle.std.specs.Prelude.{◌≡◌, option_map, map, find};
 ghost use Rattle.sac_ast.specs.Bases;
 ghost use Rattle.sac_ast.specs.View;
 ghost use Rattle.sac_ast.specs.declared.Param.{Param as ParamValue};
-ghost use Rattle.static_bases.specs.Lookup.{takes_known, same_known};
+ghost use Rattle.static_bases.specs.Lookup.{takes_known, has_each, is_known as is_known_value};
 
 use sac_ast::{Function, Param};
 use sac_base::{Base, Name, same_name};
@@ -16,6 +16,16 @@ pub fn call_instance<'a>(
     bases: &[Option<Base>],
 ) -> Option<&'a Function>
     ensures { option_map (λ f. View.function f.now) result ≡ Bases.instance_by (View.functions functions.now) name.now (Bases.all_known bases.now) }
+{
+    first_taking(functions, name, bases)
+}
+
+fn first_taking<'a>(
+    functions: &'a [Function],
+    name: &Name,
+    bases: &[Option<Base>],
+) -> Option<&'a Function>
+    ensures { option_map (λ f. View.function f.now) result ≡ find (takes_known (View.functions functions.now) name.now bases.now) (View.functions functions.now) }
 {
     for f in functions {
         if takes_bases(functions, name, bases, f) {
@@ -32,14 +42,14 @@ fn takes_bases(
     bases: &[Option<Base>],
     f: &Function,
 ) -> bool
-    ensures { result ≡ takes_known (View.functions functions.now) name.now (Bases.all_known bases.now) (View.function f.now) }
+    ensures { result ≡ takes_known (View.functions functions.now) name.now bases.now (View.function f.now) }
 {
     same_name(&f.name, name) && counts_beside(first_named(functions, name), f) && takes(&f.params, bases)
 }
 
 // An instance counts where it has as many parameters and results as the first of its name.
 fn counts_beside(first: Option<&Function>, f: &Function) -> bool
-    ensures { result ≡ Bases.counts_beside (option_map (λ g. View.function g.now) first) (View.function f.now) }
+    ensures { result ≡ Bases.counts_beside (option_map (λ g. View.function g.now) first.entry) (View.function f.now) }
 {
     match first {
         None => false,
@@ -60,15 +70,24 @@ fn first_named<'a>(functions: &'a [Function], name: &Name) -> Option<&'a Functio
 
 // Whether parameters have these bases, and none is missing.
 fn takes(params: &[Param], bases: &[Option<Base>]) -> bool
-    ensures { result ≡ same_known (map (λ (p : ParamValue). p.ty.base) params.now) (Bases.all_known bases.now) }
+    ensures { result ≡ has_each (map (λ (p : ParamValue). p.ty.base) params.now) bases.now }
 {
     if params.len() != bases.len() {
         return false;
     }
     for k in 0..params.len() {
-        if bases[k] != Some(params[k].ty.base) {
+        if !is_known(params[k].ty.base, bases[k]) {
             return false;
         }
     }
     true
+}
+
+fn is_known(wanted: Base, base: Option<Base>) -> bool
+    ensures { result ≡ is_known_value wanted base }
+{
+    match base {
+        None => false,
+        Some(b) => wanted == b,
+    }
 }

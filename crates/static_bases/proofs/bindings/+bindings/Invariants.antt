@@ -24,6 +24,12 @@ decreases-in_bound l = 4 * size-Bound l.b.now + 2
 abbrev pub decreases-in_generator : goal.decreases-in_generator
 decreases-in_generator l = 4 * size-Generator l.g.now + 3
 
+abbrev pub decreases-in_bounds : goal.decreases-in_bounds
+decreases-in_bounds l = 4 * size-Generator l.g.now + 2
+
+abbrev pub decreases-in_cell : goal.decreases-in_cell
+decreases-in_cell l = 4 * size-Generator l.g.now + 2
+
 abbrev pub decreases-in_generators : goal.decreases-in_generators
 decreases-in_generators l = 4 * cells_size l.gs.now + 4
 
