@@ -173,8 +173,9 @@ fn a_block_is_copied(rt: HostRuntime) -> Result<(), Fail> {
     let alloc = rt.alloc();
     let copy = copy_block(alloc, &sample(alloc)?)?;
     assert_eq!(rt; nodes(&copy), 13);
-    assert_eq!(rt; copy.results[0], Var(17));
-    let wanted = match &copy.lets[1].right {
+    assert!(rt; copy.results.first() == Some(&Var(17)));
+    let second = copy.lets.get(1).ok_or("a second binding")?;
+    let wanted = match &second.right {
         Right::Binary(op, x, y) => *op == Op::Sub && *x == Var(1) && *y == Var(0),
         _ => false,
     };
@@ -188,10 +189,12 @@ fn a_core_is_copied(rt: HostRuntime) -> Result<(), Fail> {
     let core = sample_core(alloc)?.ok_or("a name")?;
     let copy = copy_core(alloc, &core)?;
     assert_eq!(rt; copy.main, 0);
-    assert_eq!(rt; copy.groups[0].as_slice(), [0].as_slice());
-    let function = copy_function(alloc, &copy.functions[0])?;
+    let group = copy.groups.first().ok_or("a group")?;
+    assert_eq!(rt; group.as_slice(), [0].as_slice());
+    let function = copy_function(alloc, copy.functions.first().ok_or("a function")?)?;
     assert_eq!(rt; function.name.as_str(), "main");
-    assert_eq!(rt; function.params[0].0, Var(0));
+    let param = function.params.first().ok_or("a parameter")?;
+    assert_eq!(rt; param.0, Var(0));
     assert_eq!(rt; function.ends, Site { line: 9, col: 1 });
     assert_eq!(rt; nodes(&function.body), 13);
     Ok(())
