@@ -607,7 +607,7 @@ fn if_statement<'a>(place: Place, tokens: &'a [Token<'a>]) -> Read<'a, Statement
     ensures shorter { IfOk result (λ x. length x.1.now < length tokens.now) }
 {
     let (word, rest) = cursor::expect(tokens, b"if")?;
-    let (cond, rest) = parens(place.inside(), rest)?;
+    let (cond, rest) = parens(place, rest)?;
     let (yes, rest) = block(place.inside(), rest)?;
     let (no, rest) = maybe_else(place.inside(), rest)?;
     place::kept(place, node::if_else(cond, yes, no, word.site), rest)

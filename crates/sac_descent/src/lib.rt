@@ -8,3 +8,4 @@ pub mod leaf;
 mod level;
 mod node;
 pub mod place;
+mod probe;

@@ -1,5 +1,5 @@
 //! Where a phrase stands, and how high it is.
-ghost use Rattle.std.specs.Prelude.{◌≡◌, ◌<◌, ◌≤◌, ◌+◌, max, true, IfOk, IfErr};
+ghost use Rattle.std.specs.Prelude.{◌≡◌, ◌<◌, ◌≤◌, ◌+◌, max, true, false, IfOk, IfErr};
 ghost use Rattle.sac_descent.specs.Contract.{IsKept};
 
 use crate::halt::Halt;
@@ -34,7 +34,8 @@ impl Place {
 
     /// Whether a node above one of this height is too high for the place.
     pub fn has_no_room(self, height: u32) -> bool
-        ensures { result ≡ true → (self.checked ≡ true) × (99 < self.depth + (height + 1)) }
+        ensures full { result ≡ true → (self.checked ≡ true) × (99 < self.depth + (height + 1)) }
+        ensures room { result ≡ false → self.checked ≡ true → self.depth + (height + 1) ≤ 99 }
     {
         self.checked && height.saturating_add(self.depth) >= GREATEST_HEIGHT
     }

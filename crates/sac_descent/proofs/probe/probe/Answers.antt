@@ -1,0 +1,10 @@
+use Rattle.std.proofs.Common.{refl}
+use Rattle.sac_descent.proofs.Grown.{tall_more}
+use Rattle.sac_descent.proofs.Steps.{part_nth}
+use Rattle.sac_descent.proofs.Chains.{chain_stop}
+use Rattle.sac_descent.proofs.LevelSteps.{level_high}
+use Rattle.sac_descent.proofs.ListSteps.{stmts_halts}
+use Rattle.sac_descent.proofs.probe.probe.Goals as goal
+
+pub returns : goal.returns
+returns c = refl
