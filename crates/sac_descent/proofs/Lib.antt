@@ -4,3 +4,6 @@ pub mod Grown
 pub mod Chains
 pub mod LevelSteps
 pub mod ListSteps
+pub mod PhraseSteps
+pub mod LoopSteps
+pub mod StatementSteps

@@ -26,7 +26,7 @@ use Rattle.sac_descent.specs.declared.halt.Halt.TheVariants.{High as TooHigh, Me
 use Rattle.sac_descent.specs.declared.place.Place.{Place}
 use Rattle.sac_descent.specs.declared.place.Measured.{Measured}
 use Rattle.sac_descent.specs.Heights.{IsAbove}
-use Rattle.sac_descent.specs.Contract.{StopOf, lexemes_of, IsLowAt, IsLow, IsKept, IsPhraseAt}
+use Rattle.sac_descent.specs.Contract.{StopOf, lexemes_of, IsLowAt, IsLow, IsNear, IsKept, IsPhraseAt, IsPhraseNear}
 use Rattle.sac_descent.specs.Parts.{IsListOf, IsGenerators, AreStatements, IsBlockAt, itself}
 use Rattle.sac_descent.proofs.Steps.{SoFar, list_start, list_more, list_end, list_stop, token_read, starts_there, kept_phrase, high_halted}
 use Rattle.sac_descent.proofs.Grown.{tall_more}
@@ -58,8 +58,8 @@ low_one d n k h = (omega arith, omega arith)
 flat_max : (n m k l x : ℕ) → (n ≡ k) × (k ≤ 99) → (m ≡ l) × (l ≤ 99) → x ≡ max k l → (max n m ≡ x) × (x ≤ 99)
 flat_max n m k l x a b e = (omega arith, omega arith)
 
-low_flat : (d n k : ℕ) → (n ≡ k) × (d + k ≤ 99) → (n ≡ k) × (k ≤ 99)
-low_flat d n k h = (h.0, omega arith)
+near_max : (n m k l x : ℕ) → (n ≡ k) × (k ≤ 100) → (m ≡ l) × (l ≤ 100) → x ≡ max k l → (max n m ≡ x) × (x ≤ 100)
+near_max n m k l x a b e = (omega arith, omega arith)
 
 -- ---- lists of expressions
 
@@ -152,12 +152,12 @@ post_high place ts array rest t behind p open' tall h =
     (selects_over place.depth p.head (View.expr array.tree) p.tail p.same (over_by place.depth array.height (height (View.expr array.tree)) (tall h.0) h.1)))
     h.0
 
-length_map : {A B : Type 0} (f : A → B) (xs : List A) → length (map f xs) ≡ length xs
+pub length_map : {A B : Type 0} (f : A → B) (xs : List A) → length (map f xs) ≡ length xs
 length_map f [] = refl
 length_map f (x ∷ xs) = ap suc (length_map f xs)
 
 -- the height of an index
-index_tall : (s : Site) (es : List Expr) (n m : ℕ) → (length es ≡ 1 → m ≡ n) → (length es ≢ 1 → IsAbove m n) → (n ≡ heights (exprs_of es)) × (heights (exprs_of es) ≤ 99) → (m ≡ height (index_of s es)) × (m ≤ 100)
+pub index_tall : (s : Site) (es : List Expr) (n m : ℕ) → (length es ≡ 1 → m ≡ n) → (length es ≢ 1 → IsAbove m n) → (n ≡ heights (exprs_of es)) × (heights (exprs_of es) ≤ 99) → (m ≡ height (index_of s es)) × (m ≤ 100)
 index_tall s [] n m one several h = let a : m ≡ 1 + n = several (λ (e : 0 ≡ 1). absurd (omega arith)) (omega arith) in (omega arith, omega arith)
 index_tall s (e ∷ []) n m one several h = let a : m ≡ n = one refl in (omega arith, omega arith)
 index_tall s (e ∷ f ∷ es) n m one several h = let a : m ≡ 1 + n = several (λ (q : length (e ∷ f ∷ es) ≡ 1). absurd (omega arith)) (omega arith) in (omega arith, omega arith)
@@ -176,17 +176,17 @@ select_tall place site array node es v n m index tree' room tall trees low one s
 
 pub record GensRead (place : Place) (ts : List Lexeme) (gs : List Generator) (n : ℕ) (rest : List Lexeme) : Type 0 where
   pub parts : Parts (ref generator) ts (map View.generator gs) rest
-  pub low : IsLow place n (gens_height (gens_of (map View.generator gs)))
+  pub low : IsNear place n (gens_height (gens_of (map View.generator gs)))
 
 pub gens_begin : (place : Place) (ts rest : List Lexeme) (gs : List Generator) → gs ≡ [] → rest ≡ ts → GensRead place ts gs 0 rest
 gens_begin place ts rest gs e r = subst (λ l. GensRead place ts gs 0 l) (sym r) (subst (λ l. GensRead place ts l 0 ts) (sym e) (record { parts = no_parts; low = λ c. (refl, omega arith) }))
 
-pub gens_next : (place : Place) (ts : List Lexeme) (gs : List Generator) (n : ℕ) (mid : List Lexeme) (x : Measured Generator) (rest : Bor (List Token)) (hs : List Generator) → GensRead place ts gs n mid → starts (text (codes "(") ∷ []) mid ≡ true → hs ≡ gs ++ (x.tree ∷ []) → IsPhraseAt place generator View.generator gen_height mid (Ok (x, rest)) → GensRead place ts hs (max n x.height) (lexemes_of rest.now)
+pub gens_next : (place : Place) (ts : List Lexeme) (gs : List Generator) (n : ℕ) (mid : List Lexeme) (x : Measured Generator) (rest : Bor (List Token)) (hs : List Generator) → GensRead place ts gs n mid → starts (text (codes "(") ∷ []) mid ≡ true → hs ≡ gs ++ (x.tree ∷ []) → IsPhraseNear place generator View.generator gen_height mid (Ok (x, rest)) → GensRead place ts hs (max n x.height) (lexemes_of rest.now)
 gens_next place ts gs n mid x rest hs l s e f =
     let more : map View.generator (gs ++ (x.tree ∷ [])) ≡ map View.generator gs ++ (View.generator x.tree ∷ []) = map_append View.generator gs (x.tree ∷ []) in
     subst (λ l. GensRead place ts l (max n x.height) (lexemes_of rest.now)) (sym e) (record {
       parts = subst (λ l. Parts (ref generator) ts l (lexemes_of rest.now)) (sym more) (one_more_part l.parts s (read_ref f.0));
-      low = λ c. flat_max n x.height (gens_height (gens_of (map View.generator gs))) (gen_height (View.generator x.tree)) (gens_height (gens_of (map View.generator (gs ++ (x.tree ∷ []))))) (l.low c) (low_flat place.depth x.height (gen_height (View.generator x.tree)) (f.1 c)) (ap (λ l. gens_height (gens_of l)) more ∙ gens_push (map View.generator gs) (View.generator x.tree));
+      low = λ c. near_max n x.height (gens_height (gens_of (map View.generator gs))) (gen_height (View.generator x.tree)) (gens_height (gens_of (map View.generator (gs ++ (x.tree ∷ []))))) (l.low c) (f.1 c) (ap (λ l. gens_height (gens_of l)) more ∙ gens_push (map View.generator gs) (View.generator x.tree));
     })
 
 pub gens_whole : (place : Place) (ts : List Lexeme) (list : Measured (Vec Generator)) (rest : List Lexeme) → GensRead place ts list.tree.items list.height rest → starts (text (codes "(") ∷ []) rest ≡ false → (v : V (many (ref generator))) × Reading (many (ref generator)) ts v rest × IsGenerators place list v

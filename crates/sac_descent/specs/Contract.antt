@@ -39,6 +39,10 @@ IsLowAt place n is = place.checked ≡ true → (n ≡ is) × (place.depth + is 
 abbrev pub IsLow : Place → ℕ → ℕ → Type 0
 IsLow place n is = place.checked ≡ true → (n ≡ is) × (is ≤ 99)
 
+-- the same for a phrase whose own node is not checked
+abbrev pub IsNear : Place → ℕ → ℕ → Type 0
+IsNear place n is = place.checked ≡ true → (n ≡ is) × (is ≤ 100)
+
 -- the height alone
 abbrev pub IsTall : Place → ℕ → ℕ → Type 0
 IsTall place n is = place.checked ≡ true → n ≡ is
@@ -90,6 +94,11 @@ IsKept place node rest (Err (Stuck r)) = ⊥
 abbrev pub IsPhraseAt : {X : Type 0} → Place → (k : Nonterminal) → (X → Tree k) → (Tree k → ℕ) → List Lexeme → Result (Measured X × Bor (List Token)) Halt → Type 0
 IsPhraseAt place k view tall ts (Ok x) = Found k ts (view x.0.tree) (lexemes_of x.1.now) × IsLowAt place x.0.height (tall (view x.0.tree))
 IsPhraseAt place k view tall ts (Err e) = Halted (StopOf e) place.checked place.depth k ts
+
+-- the same for a phrase that ends with a sign: it may be too high, and the phrase around it tells
+abbrev pub IsPhraseNear : {X : Type 0} → Place → (k : Nonterminal) → (X → Tree k) → (Tree k → ℕ) → List Lexeme → Result (Measured X × Bor (List Token)) Halt → Type 0
+IsPhraseNear place k view tall ts (Ok x) = Found k ts (view x.0.tree) (lexemes_of x.1.now) × IsNear place x.0.height (tall (view x.0.tree))
+IsPhraseNear place k view tall ts (Err e) = Halted (StopOf e) place.checked place.depth k ts
 
 -- a part of a phrase is read, whose value is as Means says
 abbrev pub IsPartAt : {X : Type 0} → Place → (s : Rule) → (X → V s → Type 0) → List Lexeme → Result (X × Bor (List Token)) Halt → Type 0

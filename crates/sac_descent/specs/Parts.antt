@@ -24,7 +24,7 @@ use Rattle.sac_grammar.specs.Parsing.{Found, Halted, nth, inject}
 use Rattle.sac_descent.specs.declared.halt.Halt.{Halt}
 use Rattle.sac_descent.specs.declared.place.Place.{Place}
 use Rattle.sac_descent.specs.declared.place.Measured.{Measured}
-use Rattle.sac_descent.specs.Contract.{IsLowAt, IsLow, IsTall, StopOf, lexemes_of}
+use Rattle.sac_descent.specs.Contract.{IsLowAt, IsLow, IsNear, IsTall, StopOf, lexemes_of}
 
 -- two of these with a comma between them
 abbrev pub Comma : Rule → Rule
@@ -59,7 +59,7 @@ IsPrimary place n node v = IsPrimaryOf place node (inject n (rule primary) v)
 
 pub record IsGenerators (place : Place) (list : Measured (Vec Generator)) (v : V (many (ref generator))) : Type 0 where
   pub trees : map View.generator list.tree.items ≡ v
-  pub low : IsLow place list.height (gens_height (gens_of v))
+  pub low : IsNear place list.height (gens_height (gens_of v))
 
 pub record IsMaybe (place : Place) (node : Measured (Option Expression)) (v : (Lexeme × Expr) ⊎ Unit {0}) : Type 0 where
   pub tree : View.maybe node.tree ≡ maybe v
@@ -67,7 +67,7 @@ pub record IsMaybe (place : Place) (node : Measured (Option Expression)) (v : (L
 
 pub record IsOperationOf (place : Place) (node : Measured Operation) (v : V (rule operation)) : Type 0 where
   pub tree : View.operation node.tree ≡ action operation v
-  pub tall : IsTall place node.height (operation_height (action operation v))
+  pub low : IsNear place node.height (operation_height (action operation v))
 
 abbrev pub IsOperation : Place → (n : ℕ) → Measured Operation → V (nth n (rule operation)) → Type 0
 IsOperation place n node v = IsOperationOf place node (inject n (rule operation) v)

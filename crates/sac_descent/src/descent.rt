@@ -6,8 +6,8 @@ ghost use Rattle.sac_ast.specs.Heights.{height, gen_height, bound_height, operat
 ghost use Rattle.sac_ast.specs.View as view;
 ghost use Rattle.sac_ast.specs.Texts.{is_name};
 ghost use Rattle.sac_grammar.specs.Parsing.{nth};
-ghost use Rattle.sac_descent.specs.Contract.{lexemes_of, lexeme, IsPhraseAt, IsPartAt};
-ghost use Rattle.sac_descent.specs.Parts.{IsListOf, IsArguments, IsInParens, IsPair, IsPrimary, IsPrimaryOf, IsGenerators, IsMaybe, IsBlockAt, itself, AssignRest, IsOperation, IsOperationOf, IsBlockOf, IsStatements, IsStatement, IsStatementOf, IsElse, IsAssigned, IsAssignedOf, Comma};
+ghost use Rattle.sac_descent.specs.Contract.{lexemes_of, lexeme, IsPhraseAt, IsPhraseNear, IsPartAt};
+ghost use Rattle.sac_descent.specs.Parts.{IsListOf, IsArguments, IsInParens, IsPair, IsPrimary, IsPrimaryOf, IsGenerators, IsMaybe, IsBlockAt, itself, AssignRest, IsOperation, IsBlockOf, IsStatements, IsStatement, IsStatementOf, IsElse, IsAssigned, IsAssignedOf, Comma};
 ghost use Rattle.sac_descent.specs.Levels.{first_operator, more_operators, IsLevelAt, IsOperandAt};
 
 use crate::cursor;
@@ -322,7 +322,7 @@ fn generators<'a>(place: Place, tokens: &'a [Token<'a>]) -> Read<'a, Vec<Generat
 
 #[cycle(phrase)]
 fn generator<'a>(place: Place, tokens: &'a [Token<'a>]) -> Read<'a, Generator>
-    ensures phrase { IsPhraseAt place generator view.generator gen_height (lexemes_of tokens.now) result }
+    ensures phrase { IsPhraseNear place generator view.generator gen_height (lexemes_of tokens.now) result }
     ensures shorter { IfOk result (λ x. length x.1.now < length tokens.now) }
 {
     let (open, rest) = cursor::expect(tokens, b"(")?;
@@ -353,11 +353,13 @@ fn generator<'a>(place: Place, tokens: &'a [Token<'a>]) -> Read<'a, Generator>
         cell: cell.tree,
         site: open.site,
     };
-    let node = Measured {
-        tree,
-        height: place::node_height(height),
-    };
-    place::kept(place, node, rest)
+    Ok((
+        Measured {
+            tree,
+            height: place::node_height(height),
+        },
+        rest,
+    ))
 }
 
 #[cycle(phrase)]
@@ -443,17 +445,16 @@ fn fold<'a>(place: Place, tokens: &'a [Token<'a>]) -> Read<'a, Operation>
 
 #[cycle(phrase)]
 fn operation<'a>(place: Place, tokens: &'a [Token<'a>]) -> Read<'a, Operation>
-    ensures phrase { IsPhraseAt place operation view.operation operation_height (lexemes_of tokens.now) result }
+    ensures phrase { IsPhraseNear place operation view.operation operation_height (lexemes_of tokens.now) result }
     ensures shorter { IfOk result (λ x. length x.1.now < length tokens.now) }
 {
-    let (node, rest) = if cursor::starts_with(tokens, b"genarray") {
-        genarray(place, tokens)?
+    if cursor::starts_with(tokens, b"genarray") {
+        genarray(place, tokens)
     } else if cursor::starts_with(tokens, b"modarray") {
-        modarray(place, tokens)?
+        modarray(place, tokens)
     } else {
-        fold(place, tokens)?
-    };
-    place::kept(place, node, rest)
+        fold(place, tokens)
+    }
 }
 
 // ---- statements
