@@ -7,3 +7,4 @@ pub mod ListSteps
 pub mod PhraseSteps
 pub mod LoopSteps
 pub mod StatementSteps
+pub mod LeafSteps

@@ -4,6 +4,7 @@ use Rattle.std.specs.Borrow.{Bor}
 use Rattle.std.specs.Global.{Vec}
 use mathlib.Core.Logic.{inl, inr}
 use Rattle.sac_lex.specs.declared.token.Token.{Token}
+use Rattle.sac_base.specs.declared.op.Op.TheVariants.{Add, Sub}
 use Rattle.sac_base.specs.declared.site.Site.{Site}
 use Rattle.sac_ast.specs.declared.Builtin.{Builtin}
 use Rattle.sac_ast.specs.declared.Builtin.TheVariants.{Dim, Shape}
@@ -15,7 +16,7 @@ use Rattle.sac_ast.specs.declared.Index.{Index}
 use Rattle.sac_ast.specs.declared.Target.{Target}
 use Rattle.sac_ast.specs.Texts.{Lexeme}
 use Rattle.sac_ast.specs.Shape.{term, ref, seq, alt, many, name}
-use Rattle.sac_ast.specs.Grammar.{Nonterminal, Tree, Rule, V, sign, listed, opt, parens, items, maybe_items, maybe, concat, block_or_none, body_or_none, is_there, target, rule, action, expression, sum, primary, generator, operation, statement, else_branch, block, assign, index}
+use Rattle.sac_ast.specs.Grammar.{Nonterminal, Tree, Rule, V, one_of, sign, listed, opt, parens, items, maybe_items, maybe, concat, block_or_none, body_or_none, is_there, target, rule, action, expression, sum, primary, generator, operation, statement, else_branch, block, assign, index}
 use Rattle.sac_ast.specs.Heights.{height, heights, gens_height, maybe_height, operation_height, stmt_height, block_height}
 use Rattle.sac_ast.specs.Tree.{Expr, Stmt}
 use Rattle.sac_ast.specs.View as View
@@ -115,6 +116,13 @@ pub record IsAssignedOf (place : Place) (t : Lexeme) (node : Measured Statement)
 
 abbrev pub IsAssigned : Place → Lexeme → (n : ℕ) → Measured Statement → V (nth n AssignRest) → Type 0
 IsAssigned place t n node v = IsAssignedOf place t node (inject n AssignRest v)
+
+abbrev pub Counts : Rule
+Counts = one_of (codes "++", Add) ((codes "--", Sub) ∷ [])
+
+-- a count by one, which is the last alternative
+abbrev pub IsCount : Place → Lexeme → Measured Statement → V Counts → Type 0
+IsCount place t node v = IsAssignedOf place t node (inr (inr (inr v)))
 
 -- the words and names of leaves
 abbrev pub IsBuiltinWord : Builtin × Site → Lexeme ⊎ Lexeme → Type 0

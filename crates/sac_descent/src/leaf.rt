@@ -13,7 +13,7 @@ ghost use Rattle.sac_grammar.specs.Tables.{first_of};
 ghost use Rattle.sac_grammar.specs.Parsing.{nth};
 ghost use Rattle.sac_descent.specs.declared.halt.Halt.TheVariants.{Memory};
 ghost use Rattle.sac_descent.specs.Contract.{lexeme, lexemes_of, IsPartAt, IsLeafAt};
-ghost use Rattle.sac_descent.specs.Parts.{IsPrimary, IsBuiltinWord, IsRelation, AreTargets, AssignRest, IsAssigned};
+ghost use Rattle.sac_descent.specs.Parts.{IsPrimary, IsBuiltinWord, IsRelation, AreTargets, Counts, IsCount};
 
 use crate::cursor;
 use crate::descent::Read;
@@ -298,7 +298,7 @@ pub fn update<'a>(
 /// What stands behind the name of a count by one.
 pub fn step<'a>(place: Place, token: Token<'a>, tokens: &'a [Token<'a>]) -> Read<'a, Statement>
     requires { is_name token.text.now ≡ true }
-    ensures phrase { IsPartAt place (nth 3 AssignRest) (IsAssigned place (lexeme token.entry) 3) (lexemes_of tokens.now) result }
+    ensures phrase { IsPartAt place Counts (IsCount place (lexeme token.entry)) (lexemes_of tokens.now) result }
     ensures shorter { IfOk result (λ x. length x.1.now < length tokens.now) }
 {
     let Some((op, site, rest)) = cursor::operator(&level::STEPS, tokens) else {
