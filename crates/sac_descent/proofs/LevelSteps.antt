@@ -23,6 +23,7 @@ use Rattle.sac_descent.specs.declared.level.Level.{Level}
 use Rattle.sac_descent.specs.declared.level.Level.TheVariants.{Disjunction, Conjunction, Equality, Comparison, Sum, Product}
 use Rattle.sac_descent.specs.declared.place.Place.{Place}
 use Rattle.sac_descent.specs.declared.place.Measured.{Measured}
+use Rattle.sac_descent.specs.Heights.{IsAbove}
 use Rattle.sac_descent.specs.Contract.{lexemes_of, IsLowAt, IsKept, operator_of}
 use Rattle.sac_descent.specs.Levels.{first_operator, more_operators, IsLevelAt, IsOperandAt}
 use Rattle.sac_descent.proofs.Steps.{TheOperator, operator_found, operator_none, kept_phrase, high_halted, memory_halted}
@@ -97,6 +98,12 @@ level_end Equality place ts node rest result c n tall kept = kept_phrase place e
 level_end Comparison place ts node rest result c n tall kept = kept_phrase place comparison View.expr height ts node rest (View.expr node.tree) result refl kept (λ e h. h) tall refl (subst (λ (e : Expr). Found comparison ts e (lexemes_of rest)) (sym (c.same ∙ ap (chain (first_operator Comparison) (more_operators Comparison) c.head) (pairs_same c.tail))) (found (chain_done (first_operator Comparison) (more_operators Comparison) (ref sum) (λ (e : Expr). e) c (operator_none (first_operator Comparison) (more_operators Comparison) (lexemes_of rest) n))))
 level_end Sum place ts node rest result c n tall kept = kept_phrase place sum View.expr height ts node rest (View.expr node.tree) result refl kept (λ e h. h) tall refl (subst (λ (e : Expr). Found sum ts e (lexemes_of rest)) (sym (c.same ∙ ap (chain (first_operator Sum) (more_operators Sum) c.head) (pairs_same c.tail))) (found (chain_done (first_operator Sum) (more_operators Sum) (ref product) (λ (e : Expr). e) c (operator_none (first_operator Sum) (more_operators Sum) (lexemes_of rest) n))))
 level_end Product place ts node rest result c n tall kept = kept_phrase place product View.expr height ts node rest (View.expr node.tree) result refl kept (λ e h. h) tall refl (subst (λ (e : Expr). Found product ts e (lexemes_of rest)) (sym (c.same ∙ ap (chain (first_operator Product) (more_operators Product) c.head) (pairs_same c.tail))) (found (chain_done (first_operator Product) (more_operators Product) (ref prefix) (λ (e : Expr). e) c (operator_none (first_operator Product) (more_operators Product) (lexemes_of rest) n))))
+
+binary_tall : (d l r node k n : ℕ) → d + (l + 1) ≤ 99 → l ≡ k → (r ≡ n) × (d + n ≤ 99) → IsAbove node (max l r) → node ≡ 1 + max k n
+binary_tall d l r node k n room h g above = let e : node ≡ 1 + max l r = above (omega arith) in omega arith
+
+pub level_tall : (d l r node : ℕ) (a b : Expr) (op : Op) (site : Site) (e : Expr) → d + (l + 1) ≤ 99 → l ≡ height a → (r ≡ height b) × (d + height b ≤ 99) → IsAbove node (max l r) → e ≡ tree.binary op a b site → node ≡ height e
+level_tall d l r node a b op site e room h g above whole = binary_tall d l r node (height a) (height b) room h g above ∙ ap height (sym whole)
 
 over_by : (d n m : ℕ) → n ≡ m → 99 < d + (n + 1) → 99 < d + (m + 1)
 over_by d n m e h = omega arith

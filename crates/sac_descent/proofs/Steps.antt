@@ -19,6 +19,17 @@ use Rattle.sac_descent.specs.declared.place.Place.{Place}
 use Rattle.sac_descent.specs.declared.place.Measured.{Measured}
 use Rattle.sac_descent.specs.Contract.{lexeme, lexemes_of, StopOf, IsToken, IsAccepted, IsStuckAt, IsKept, IsLowAt, IsLow, IsTall, IsPhraseAt, IsPartAt, IsLeafAt, IsOperator, operator_of}
 
+-- ---- lengths
+
+pub less_le : (a b c : ℕ) → a < b → b ≤ c → a ≤ c
+less_le a b c h g = omega arith
+
+pub less_three : (a b c d : ℕ) → a < b → b < c → c < d → a < d
+less_three a b c d f g h = omega arith
+
+pub less_four : (a b c d e : ℕ) → a < b → b < c → c < d → d < e → a < e
+less_four a b c d e f g h i = omega arith
+
 -- ---- tokens
 
 pub token_read : {t : Terminal} {ts rest : List Lexeme} {x : Lexeme} → (ts ≡ x ∷ rest) × (matches t x ≡ true) → Reading (term t) ts x rest
@@ -125,6 +136,21 @@ operator_halts {checked} {D} o ps ts rest r e = stuck_halts (one_of o ps) (Stuck
 
 -- ---- results
 
+-- what is left of the alternatives behind the first ones
+abbrev pub last : ℕ → Rule → Rule
+last zero s = s
+last (suc n) (alt a b) = last n b
+last (suc n) s = s
+
+abbrev pub into : (n : ℕ) (s : Rule) → V (last n s) → V s
+into zero s v = v
+into (suc n) (alt a b) v = inr (into n b v)
+into (suc n) nothing v = v
+into (suc n) (term t) v = v
+into (suc n) (ref k) v = v
+into (suc n) (seq a b) v = v
+into (suc n) (many a) v = v
+
 -- a phrase that was read and is kept, or is too high
 pub kept_phrase : {X : Type 0} (place : Place) (k : Nonterminal) (view : X → Tree k) (tall : Tree k → ℕ) (ts : List Lexeme) (node : Measured X) (rest : List Token) (v : Tree k) (result : Result (Measured X × Bor (List Token)) Halt) → gap_of k ≡ 0 → IsKept place node rest result → ((n : Tree k) → 99 < place.depth + tall n → High place.depth k n) → (place.checked ≡ true → node.height ≡ tall v) → view node.tree ≡ v → Found k ts v (lexemes_of rest) → IsPhraseAt place k view tall ts result
 kept_phrase {X} place k view tall ts node rest v (Ok x) gap (same, at, low) over is e f =
@@ -152,6 +178,22 @@ part_first place a b Means ts (Err e) so h = stop_first so h
 pub part_second : {X : Type 0} (place : Place) (a b : Rule) (Means : X → V (alt a b) → Type 0) (ts : List Lexeme) (result : Result (X × Bor (List Token)) Halt) → starts (first first_of a) ts ≡ false → IsPartAt place b (λ x v. Means x (inr v)) ts result → IsPartAt place (alt a b) Means ts result
 part_second place a b Means ts (Ok x) so (v, r, m) = (inr v, read_second so r, m)
 part_second place a b Means ts (Err e) so h = stop_second so h
+
+-- the first token begins none of the alternatives before this one
+abbrev pub NoneBefore : ℕ → Rule → List Lexeme → Type 0
+NoneBefore zero s ts = Unit {0}
+NoneBefore (suc n) (alt a b) ts = (starts (first first_of a) ts ≡ false) × NoneBefore n b ts
+NoneBefore (suc n) s ts = Unit {0}
+
+-- the last of several alternatives
+pub part_last : {X : Type 0} (place : Place) (n : ℕ) (s : Rule) (Means : X → V s → Type 0) (ts : List Lexeme) (result : Result (X × Bor (List Token)) Halt) → NoneBefore n s ts → IsPartAt place (last n s) (λ x v. Means x (into n s v)) ts result → IsPartAt place s Means ts result
+part_last place zero s Means ts result apart h = h
+part_last place (suc n) (alt a b) Means ts result apart h = part_second place a b Means ts result apart.0 (part_last place n b (λ x v. Means x (inr v)) ts result apart.1 h)
+part_last place (suc n) nothing Means ts result apart h = h
+part_last place (suc n) (term t) Means ts result apart h = h
+part_last place (suc n) (ref k) Means ts result apart h = h
+part_last place (suc n) (seq a b) Means ts result apart h = h
+part_last place (suc n) (many a) Means ts result apart h = h
 
 -- the same part with another meaning
 pub part_means : {X : Type 0} (place : Place) (s : Rule) (M N : X → V s → Type 0) (ts : List Lexeme) (result : Result (X × Bor (List Token)) Halt) → ((x : X) (v : V s) → M x v → N x v) → IsPartAt place s M ts result → IsPartAt place s N ts result

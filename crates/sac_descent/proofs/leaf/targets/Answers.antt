@@ -1,0 +1,21 @@
+use Rattle.std.proofs.Common.{◌≡◌, ◌<◌, ◌≤◌, ◌+◌, List, [], ◌∷◌, ◌++◌, refl, sym, ap, ◌∙◌, subst, length, map, codes, arith}
+use Rattle.std.proofs.lemmas.Result.{err_from_is_err_and}
+use Rattle.sac_ast.specs.Shape.{text, name, number}
+use Rattle.sac_ast.specs.declared.Target.{Target}
+use Rattle.sac_grammar.proofs.Parsing.{read_ref, read_then, found, stops, stop_ref, stop_left, stop_right, stop_first, stop_second}
+use Rattle.sac_descent.specs.Contract.{lexeme, lexemes_of}
+use Rattle.sac_descent.proofs.Steps.{token_read, token_halts, starts_there}
+use Rattle.sac_descent.proofs.LeafSteps.{number_digits, number_small, names_begin, names_next, names_whole, names_halts, named_read, names_read, update_tree, update_tall, step_read, number_read}
+use Rattle.sac_descent.proofs.leaf.targets.Goals as goal
+
+pub loop-comma-init : goal.loop-comma-init
+loop-comma-init c = ?
+
+pub returns-in_err-token-clause-phrase : goal.returns-in_err-token-clause-phrase
+returns-in_err-token-clause-phrase c = let p = err_from_is_err_and c.from_residual-in_err-token.result c.from_residual-in_err-token.ensures.1 in rw (p.1, p.2) (λ checked D. names_halts (lexeme c.args.first) _ _ _ _ _ c.loop-comma.invariant.so_far c.in-Some.ensures.token (token_halts name _ _ c.in_err-token.ensures.token))
+
+pub loop-comma-preserved : goal.loop-comma-preserved
+loop-comma-preserved c = ?
+
+pub returns-clause-phrase : goal.returns-clause-phrase
+returns-clause-phrase c = names_whole (lexeme c.args.first) _ _ _ c.loop-comma.invariant.so_far c.in_default.ensures.token
