@@ -24,6 +24,9 @@ use Rattle.sac_descent.specs.Contract.{lexeme, lexemes_of, StopOf, IsToken, IsAc
 pub less_le : (a b c : ℕ) → a < b → b ≤ c → a ≤ c
 less_le a b c h g = omega arith
 
+pub less_two : (a b c d : ℕ) → a < b → b < c → c ≤ d → a ≤ d
+less_two a b c d f g h = omega arith
+
 pub less_three : (a b c d : ℕ) → a < b → b < c → c < d → a < d
 less_three a b c d f g h = omega arith
 

@@ -303,7 +303,7 @@ fn generators<'a>(place: Place, tokens: &'a [Token<'a>]) -> Read<'a, Vec<Generat
     ensures shorter { IfOk result (λ x. length x.1.now ≤ length tokens.now) }
 {
     let mut found = Vec::new(place.alloc);
-    let mut height = 0;
+    let mut height = 0u32;
     let (_read, mut rest) = tokens.split_at(0);
     while cursor::starts_with(rest, b"(") {
         let (next, after) = generator(place, rest)?;
@@ -466,7 +466,7 @@ pub fn statements<'a>(place: Place, tokens: &'a [Token<'a>]) -> Read<'a, Vec<Sta
     ensures shorter { IfOk result (λ x. length x.1.now ≤ length tokens.now) }
 {
     let mut found = Vec::new(place.alloc);
-    let mut height = 0;
+    let mut height = 0u32;
     let (_read, mut rest) = tokens.split_at(0);
     while leaf::starts_statement(rest) {
         let (mut next, after) = statement(place, rest)?;

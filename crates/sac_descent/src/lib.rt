@@ -8,4 +8,3 @@ pub mod leaf;
 mod level;
 mod node;
 pub mod place;
-mod probe;

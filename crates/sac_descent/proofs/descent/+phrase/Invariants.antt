@@ -1,4 +1,9 @@
-use Rattle.std.proofs.Common.{ℕ, ◌+◌, ◌*◌, ◌<◌, ◌≤◌, length}
+use Rattle.std.proofs.Common.{ℕ, ◌≡◌, ◌+◌, ◌*◌, ◌<◌, ◌≤◌, length, true}
+use Rattle.sac_ast.specs.Heights.{height}
+use Rattle.sac_ast.specs.View as View
+use Rattle.sac_descent.specs.Contract.{lexemes_of}
+use Rattle.sac_descent.proofs.LevelSteps.{LevelSoFar}
+use Rattle.sac_descent.proofs.ListSteps.{ListRead, PostRead, GensRead, StmtsRead}
 use Rattle.sac_descent.specs.Heights.{rank}
 use Rattle.sac_descent.proofs.descent.+phrase.Given as goal
 
@@ -90,7 +95,7 @@ abbrev pub decreases-name_or_call : goal.decreases-name_or_call
 decreases-name_or_call l = 64 * length l.tokens.now + 6
 
 abbrev pub decreases-operation : goal.decreases-operation
-decreases-operation l = 64 * length l.tokens.now + 10
+decreases-operation l = 64 * length l.tokens.now + 12
 
 abbrev pub decreases-pair : goal.decreases-pair
 decreases-pair l = 64 * length l.tokens.now + 6
@@ -134,32 +139,33 @@ decreases-chain l = 64 * length l.tokens.now + 2 * rank l.level + 5
 abbrev pub decreases-operand : goal.decreases-operand
 decreases-operand l = 64 * length l.tokens.now + 2 * rank l.level + 4
 
-abbrev pub invariant-chain-loop-op : goal.invariant-chain-loop-op
-invariant-chain-loop-op l = length l.rest < length l.tokens
-
-abbrev pub decreases-chain-loop-op : goal.decreases-chain-loop-op
-decreases-chain-loop-op l = length l.rest
 
 abbrev pub invariant-list-loop-comma : goal.invariant-list-loop-comma
-invariant-list-loop-comma l = length l.rest < length l.tokens
+invariant-list-loop-comma l = record { shorter : length l.rest < length l.tokens; so_far : ListRead l.place (lexemes_of l.tokens) l.found.items l.height (lexemes_of l.rest) }
 
 abbrev pub decreases-list-loop-comma : goal.decreases-list-loop-comma
 decreases-list-loop-comma l = length l.rest
 
 abbrev pub invariant-postfix-loop-open : goal.invariant-postfix-loop-open
-invariant-postfix-loop-open l = length l.rest < length l.tokens
+invariant-postfix-loop-open l = record { shorter : length l.rest < length l.tokens; so_far : PostRead (lexemes_of l.tokens) (View.expr l.array.tree) (lexemes_of l.rest); tall : l.place.checked ≡ true → l.array.height ≡ height (View.expr l.array.tree) }
 
 abbrev pub decreases-postfix-loop-open : goal.decreases-postfix-loop-open
 decreases-postfix-loop-open l = length l.rest
 
+abbrev pub invariant-chain-loop-op : goal.invariant-chain-loop-op
+invariant-chain-loop-op l = record { shorter : length l.rest < length l.tokens; so_far : LevelSoFar l.level (lexemes_of l.tokens) (View.expr l.left.tree) (lexemes_of l.rest); tall : l.place.checked ≡ true → l.left.height ≡ height (View.expr l.left.tree) }
+
+abbrev pub decreases-chain-loop-op : goal.decreases-chain-loop-op
+decreases-chain-loop-op l = length l.rest
+
 abbrev pub invariant-generators-loop-place : goal.invariant-generators-loop-place
-invariant-generators-loop-place l = length l.rest ≤ length l.tokens
+invariant-generators-loop-place l = record { shorter : length l.rest ≤ length l.tokens; so_far : GensRead l.place (lexemes_of l.tokens) l.found.items l.height (lexemes_of l.rest) }
 
 abbrev pub decreases-generators-loop-place : goal.decreases-generators-loop-place
 decreases-generators-loop-place l = length l.rest
 
 abbrev pub invariant-statements-loop-place : goal.invariant-statements-loop-place
-invariant-statements-loop-place l = length l.rest ≤ length l.tokens
+invariant-statements-loop-place l = record { shorter : length l.rest ≤ length l.tokens; so_far : StmtsRead l.place (lexemes_of l.tokens) l.found.items l.height (lexemes_of l.rest) }
 
 abbrev pub decreases-statements-loop-place : goal.decreases-statements-loop-place
 decreases-statements-loop-place l = length l.rest

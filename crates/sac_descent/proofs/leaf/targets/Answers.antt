@@ -4,18 +4,18 @@ use Rattle.sac_ast.specs.Shape.{text, name, number}
 use Rattle.sac_ast.specs.declared.Target.{Target}
 use Rattle.sac_grammar.proofs.Parsing.{read_ref, read_then, found, stops, stop_ref, stop_left, stop_right, stop_first, stop_second}
 use Rattle.sac_descent.specs.Contract.{lexeme, lexemes_of}
-use Rattle.sac_descent.proofs.Steps.{token_read, token_halts, starts_there}
+use Rattle.sac_descent.proofs.Steps.{less_two, token_read, token_halts, starts_there}
 use Rattle.sac_descent.proofs.LeafSteps.{number_digits, number_small, names_begin, names_next, names_whole, names_halts, named_read, names_read, update_tree, update_tall, step_read, number_read}
 use Rattle.sac_descent.proofs.leaf.targets.Goals as goal
 
 pub loop-comma-init : goal.loop-comma-init
-loop-comma-init c = ?
+loop-comma-init c = record { shorter = omega (arith, ap length c.split_at.ensures.back); so_far = names_begin (lexeme c.args.first) (lexemes_of c.args.tokens.now) _ c.in_ok-target.field-0 _ c.in_ok-target.ensures.target (c.in_ok-push.ensures.items ∙ ap (λ l. l ++ (c.in_ok-target.field-0 ∷ [])) c.new-found.ensures.items) (ap lexemes_of c.split_at.ensures.back) }
 
 pub returns-in_err-token-clause-phrase : goal.returns-in_err-token-clause-phrase
 returns-in_err-token-clause-phrase c = let p = err_from_is_err_and c.from_residual-in_err-token.result c.from_residual-in_err-token.ensures.1 in rw (p.1, p.2) (λ checked D. names_halts (lexeme c.args.first) _ _ _ _ _ c.loop-comma.invariant.so_far c.in-Some.ensures.token (token_halts name _ _ c.in_err-token.ensures.token))
 
 pub loop-comma-preserved : goal.loop-comma-preserved
-loop-comma-preserved c = ?
+loop-comma-preserved c = record { shorter = less_two _ _ _ _ c.in_ok-token.ensures.shorter c.in-Some.ensures.shorter c.loop-comma.invariant.shorter; so_far = names_next (lexeme c.args.first) (lexemes_of c.args.tokens.now) c.loop-comma.found.items _ _ _ (lexeme c.in-Some._comma) (lexeme c.in_ok-token.token) c.in_ok-target-2.field-0 _ c.loop-comma.invariant.so_far c.in-Some.ensures.token c.in_ok-token.ensures.token c.in_ok-target-2.ensures.target c.in_ok-push-2.ensures.items }
 
 pub returns-clause-phrase : goal.returns-clause-phrase
-returns-clause-phrase c = names_whole (lexeme c.args.first) _ _ _ c.loop-comma.invariant.so_far c.in_default.ensures.token
+returns-clause-phrase c = names_whole (lexeme c.args.first) (lexemes_of c.args.tokens.now) c.loop-comma.found _ c.loop-comma.invariant.so_far c.in_default.ensures.token
