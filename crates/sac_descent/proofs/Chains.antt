@@ -1,17 +1,17 @@
 -- Operands with operators between them, which group to the left.
-use Rattle.std.proofs.Common.{ℕ, zero, suc, ◌≡◌, ◌<◌, ◌≤◌, ◌+◌, max, Bool, true, false, cond, ◌||◌, List, [], ◌∷◌, ◌++◌, ◌⊎◌, inl, inr, refl, sym, ap, ◌∙◌, subst, length, map, codes, arith, append_assoc, append-nil}
+use Rattle.std.proofs.Common.{ℕ, ◌≡◌, ◌<◌, ◌≤◌, ◌+◌, Bool, true, false, cond, List, [], ◌∷◌, ◌++◌, refl, sym, ap, ◌∙◌, subst, map, arith, append-nil}
 use Rattle.sac_base.specs.declared.op.Op.{Op}
 use Rattle.sac_base.specs.declared.site.Site.{Site}
 use Rattle.sac_ast.specs.Texts.{Lexeme}
-use Rattle.sac_ast.specs.Shape.{Terminal, text, Shape, nothing, term, ref, seq, alt, many, Value}
-use Rattle.sac_ast.specs.Grammar.{Nonterminal, Tree, Rule, V, rule, action, one_of, chosen, chain}
+use Rattle.sac_ast.specs.Shape.{seq, many}
+use Rattle.sac_ast.specs.Grammar.{Nonterminal, Rule, V, one_of, chosen, chain}
 use Rattle.sac_ast.specs.Heights.{height}
 use Rattle.sac_ast.specs.Tree as tree
 use Rattle.sac_ast.specs.Tree.{Expr}
 use Rattle.sac_grammar.specs.Run.{starts, first, is_nullable}
 use Rattle.sac_grammar.specs.Tables.{first_of}
 use Rattle.sac_grammar.specs.Parsing.{Reading, Stop, Halts, Parts}
-use Rattle.sac_grammar.proofs.Parsing.{read_then, stop_left, stop_right, stop_parts, no_parts, one_more_part, read_parts}
+use Rattle.sac_grammar.proofs.Parsing.{read_then, stop_right, stop_parts, no_parts, one_more_part, read_parts}
 use Rattle.sac_descent.proofs.Steps.{TheOperator}
 
 nullable_ops : (o : List ℕ × Op) (ps : List (List ℕ × Op)) → is_nullable (one_of o ps) ≡ false

@@ -1,9 +1,9 @@
 -- Before one more part of a phrase, with which each such phrase is too high.
-use Rattle.std.proofs.Common.{ℕ, zero, suc, ◌≡◌, ◌+◌, ◌<◌, ◌≤◌, length, length-append, arith, Bool, true, false, List, [], ◌∷◌, ◌++◌, ◌⊎◌, inl, inr, refl, sym, ap, ◌∙◌, subst, append_assoc, append-nil}
+use Rattle.std.proofs.Common.{ℕ, ◌≡◌, ◌+◌, ◌≤◌, length, length-append, arith, true, List, [], ◌∷◌, ◌++◌, refl, sym, ap, ◌∙◌, subst, append_assoc}
 use Rattle.sac_ast.specs.Texts.{Lexeme}
-use Rattle.sac_ast.specs.Shape.{Terminal, Shape, nothing, term, ref, seq, alt, many, Value, Matches, MatchesEach, Derives}
+use Rattle.sac_ast.specs.Shape.{Terminal, seq, many, Matches, Derives}
 use Rattle.sac_ast.specs.Grammar.{Nonterminal, Tree, rule, action, Rule, V}
-use Rattle.sac_grammar.specs.Run.{starts, first, SameFirst, RunsEach, SticksAfter, Runs, RunsIn}
+use Rattle.sac_grammar.specs.Run.{starts, first, RunsEach, SticksAfter, Runs, RunsIn}
 use Rattle.sac_grammar.specs.Tables.{first_of, ext_of, rank_of}
 use Rattle.sac_grammar.specs.High.{Tall}
 use Rattle.sac_grammar.specs.Parsing.{Found, Reading, ReadEach, Parts}

@@ -1,5 +1,5 @@
 -- Steps of the functions on phrases without expressions.
-use Rattle.std.proofs.Common.{ℕ, zero, suc, ◌≡◌, ◌<◌, ◌≤◌, ◌+◌, max, Bool, true, false, List, [], ◌∷◌, ◌++◌, ◌⊎◌, inl, inr, Result, Ok, Err, refl, sym, ap, ◌∙◌, subst, length, map, codes, arith, pos, Option, Some, None, IsTrue}
+use Rattle.std.proofs.Common.{ℕ, ◌≡◌, ◌≤◌, ◌+◌, max, Bool, true, false, List, [], ◌∷◌, ◌++◌, refl, sym, ap, ◌∙◌, subst, map, codes, arith, pos, Some, IsTrue}
 use Rattle.std.specs.List.{All, AllByRecursion}
 use Rattle.std.specs.Str.Parse.{digits_value}
 use Rattle.std.specs.Global.{Vec}
@@ -7,30 +7,27 @@ use Rattle.std.proofs.lemmas.List.Elements.{All-from_recursion}
 use Rattle.sac_lex.specs.declared.token.TokenKind.{TokenKind}
 use Rattle.sac_lex.specs.declared.token.TokenKind.TheVariants as kind
 use Rattle.sac_lex.specs.Text.{IsTextOf}
-use Rattle.sac_lex.specs.Spelling.{is_digit, IsRun}
+use Rattle.sac_lex.specs.Spelling.{is_digit}
 use Rattle.sac_base.specs.declared.op.Op.{Op}
 use Rattle.sac_base.specs.declared.op.Op.TheVariants.{Add, Sub}
 use Rattle.sac_base.specs.declared.site.Site.{Site}
 use Rattle.sac_ast.specs.declared.Target.{Target}
-use Rattle.sac_ast.specs.declared.Index.{Index}
 use Rattle.sac_ast.specs.declared.Index.TheVariants.{Named, Parts as PartsOf}
 use Rattle.sac_ast.specs.declared.Expression.{Expression}
 use Rattle.sac_ast.specs.declared.Statement.{Statement}
 use Rattle.sac_ast.specs.Texts.{Lexeme}
-use Rattle.sac_ast.specs.Shape.{Terminal, text, name, number, matches, Shape, nothing, term, ref, seq, alt, many}
-use Rattle.sac_ast.specs.Grammar.{Nonterminal, Tree, Rule, V, rule, action, sign, listed, items, one_of, chosen, target, to_variable, primary, index}
-use Rattle.sac_ast.specs.Heights.{height, stmt_height}
+use Rattle.sac_ast.specs.Shape.{text, name, number, term, ref, seq, many}
+use Rattle.sac_ast.specs.Grammar.{Nonterminal, Tree, Rule, V, rule, sign, items, target, to_variable, primary, index}
 use Rattle.sac_ast.specs.Tree as tree
 use Rattle.sac_ast.specs.Tree.{Expr, Stmt, IndexTree}
 use Rattle.sac_ast.specs.View as View
-use Rattle.sac_grammar.specs.Run.{starts, first}
-use Rattle.sac_grammar.specs.Tables.{first_of}
-use Rattle.sac_grammar.specs.Parsing.{Found, Reading, Stop, Halts, Halted, Parts, nth, inject}
-use Rattle.sac_grammar.proofs.Parsing.{read_ref, read_then, read_first, read_second, found, stops, stop_ref, stop_left, stop_right, stop_parts, no_parts, one_more_part, read_parts}
+use Rattle.sac_grammar.specs.Run.{starts}
+use Rattle.sac_grammar.specs.Parsing.{Reading, Stop, Halts, Parts, nth}
+use Rattle.sac_grammar.proofs.Parsing.{read_ref, read_then, read_first, read_second, found, stop_right, stop_parts, no_parts, one_more_part, read_parts}
 use Rattle.sac_descent.specs.declared.place.Place.{Place}
 use Rattle.sac_descent.specs.declared.place.Measured.{Measured}
 use Rattle.sac_descent.specs.Heights.{IsAbove}
-use Rattle.sac_descent.specs.Contract.{operator_of, lexemes_of}
+use Rattle.sac_descent.specs.Contract.{operator_of}
 use Rattle.sac_descent.specs.Parts.{IsPrimary, AreTargets, Counts, IsCount}
 use Rattle.sac_descent.proofs.Steps.{operator_found, token_read, starts_there}
 use Rattle.sac_descent.proofs.PhraseSteps.{At}
@@ -103,11 +100,14 @@ step_tall node n e f = let p : node ≡ 1 + (1 + max 1 n) = f (omega arith) in o
 
 pub step_read : (place : Place) (t : Lexeme) {ts rest : List Lexeme} (op : Op) (site : Site) (one : Measured Expression) (node : Measured Statement) (u : Lexeme) → operator_of ((codes "++", Add) ∷ (codes "--", Sub) ∷ []) ts ≡ Some (op, site) → ts ≡ u ∷ rest → View.expr one.tree ≡ tree.number (pos 1) site → one.height ≡ 1 → View.stmt node.tree ≡ tree.assign (target t ∷ []) (tree.binary op (to_variable t) (View.expr one.tree) site) → (one.height ≤ 99 → node.height ≡ 1 + (1 + max 1 one.height)) → (v : V Counts) × Reading Counts ts v rest × IsCount place t node v
 step_read place t {ts} {rest} op site one node u o split e h whole above =
-    let f = operator_found (codes "++", Add) ((codes "--", Sub) ∷ []) o split in
-    (f.value, f.reads, record {
-      tree = whole ∙ ap (λ x. tree.assign (target t ∷ []) (tree.binary op (to_variable t) x site)) e ∙ ap (λ (c : Op × Site). tree.assign (target t ∷ []) (tree.binary c.0 (to_variable t) (tree.number (pos 1) c.1) c.1)) (sym f.is);
-      tall = λ k. step_tall node.height one.height h above;
-    })
+    let f = operator_found (codes "++", Add) ((codes "--", Sub) ∷ []) o split in (
+      f.value,
+      f.reads,
+      record {
+        tree = whole ∙ ap (λ x. tree.assign (target t ∷ []) (tree.binary op (to_variable t) x site)) e ∙ ap (λ (c : Op × Site). tree.assign (target t ∷ []) (tree.binary c.0 (to_variable t) (tree.number (pos 1) c.1) c.1)) (sym f.is);
+        tall = λ k. step_tall node.height one.height h above;
+      },
+    )
 
 -- ---- numbers and truth values as expressions
 

@@ -1,20 +1,20 @@
 -- Steps over a level of binary operators.
-use Rattle.std.proofs.Common.{ℕ, zero, suc, ◌≡◌, ◌<◌, ◌≤◌, ◌+◌, max, Bool, true, false, List, [], ◌∷◌, ◌++◌, Option, Some, None, Result, Ok, Err, refl, sym, ap, ◌∙◌, subst, codes, arith, Bor}
+use Rattle.std.proofs.Common.{ℕ, zero, suc, ◌≡◌, ◌<◌, ◌≤◌, ◌+◌, max, true, List, ◌∷◌, Some, None, Result, Ok, Err, refl, sym, ap, ◌∙◌, subst, arith, Bor}
 use Rattle.sac_lex.specs.declared.token.Token.{Token}
 use Rattle.sac_base.specs.declared.op.Op.{Op}
 use Rattle.sac_base.specs.declared.site.Site.{Site}
 use Rattle.sac_ast.specs.Texts.{Lexeme}
-use Rattle.sac_ast.specs.Shape.{ref, seq, many}
-use Rattle.sac_ast.specs.Grammar.{Nonterminal, Tree, Rule, V, rule, action, one_of, chain, disjunction, conjunction, equality, comparison, sum, product, prefix}
+use Rattle.sac_ast.specs.Shape.{ref, seq}
+use Rattle.sac_ast.specs.Grammar.{Tree, V, rule, action, one_of, chain, disjunction, conjunction, equality, comparison, sum, product, prefix}
 use Rattle.sac_ast.specs.Heights.{height}
 use Rattle.sac_ast.specs.Tree as tree
 use Rattle.sac_ast.specs.Tree.{Expr}
 use Rattle.sac_ast.specs.View as View
 use Rattle.sac_ast.specs.declared.Expression.{Expression}
-use Rattle.sac_grammar.specs.Run.{starts, first, Runs, RunsIn}
+use Rattle.sac_grammar.specs.Run.{Runs, RunsIn}
 use Rattle.sac_grammar.specs.Tables.{first_of}
 use Rattle.sac_grammar.specs.Limits.{High}
-use Rattle.sac_grammar.specs.Parsing.{Found, TooTall}
+use Rattle.sac_grammar.specs.Parsing.{Found}
 use Rattle.sac_grammar.proofs.Levels.{derives_rule}
 use Rattle.sac_grammar.proofs.Parsing.{read_ref, found, stops, stop_ref, stop_left}
 use Rattle.sac_descent.specs.declared.halt.Halt.{Halt}
@@ -26,7 +26,7 @@ use Rattle.sac_descent.specs.declared.place.Measured.{Measured}
 use Rattle.sac_descent.specs.Heights.{IsAbove}
 use Rattle.sac_descent.specs.Contract.{lexemes_of, IsLowAt, IsKept, operator_of}
 use Rattle.sac_descent.specs.Levels.{first_operator, more_operators, IsLevelAt, IsOperandAt}
-use Rattle.sac_descent.proofs.Steps.{TheOperator, operator_found, operator_none, kept_phrase, high_halted, memory_halted}
+use Rattle.sac_descent.proofs.Steps.{operator_found, operator_none, kept_phrase, high_halted, memory_halted}
 use Rattle.sac_descent.proofs.Grown.{tall_more}
 use Rattle.sac_descent.proofs.Chains.{Chain, chain_begin, chain_more, chain_done, chain_stop, chain_over, starts_part, pairs_same}
 

@@ -1,28 +1,27 @@
 -- Steps of the loops that read lists of expressions, selections, generators and statements.
-use Rattle.std.proofs.Common.{ℕ, zero, suc, ◌≡◌, ◌≢◌, ◌<◌, ◌≤◌, ◌+◌, max, Bool, true, false, cond, List, [], ◌∷◌, ◌++◌, ◌⊎◌, inl, inr, Result, Ok, Err, refl, sym, ap, ◌∙◌, subst, length, map, codes, arith, append_assoc, append-nil, Bor}
+use Rattle.std.proofs.Common.{ℕ, zero, suc, ◌≡◌, ◌≢◌, ◌<◌, ◌≤◌, ◌+◌, max, Bool, true, false, List, [], ◌∷◌, ◌++◌, Result, Ok, refl, sym, ap, ◌∙◌, subst, length, map, codes, arith, append_assoc, append-nil, Bor}
 use Rattle.std.specs.Global.{Vec}
 use Rattle.sac_lex.specs.declared.token.Token.{Token}
-use Rattle.sac_base.specs.declared.op.Op.{Op}
 use Rattle.sac_base.specs.declared.site.Site.{Site}
 use Rattle.sac_ast.specs.declared.Expression.{Expression}
 use Rattle.sac_ast.specs.declared.Statement.{Statement}
 use Rattle.sac_ast.specs.declared.Generator.{Generator}
 use Rattle.sac_ast.specs.Texts.{Lexeme}
-use Rattle.sac_ast.specs.Shape.{Terminal, text, matches, Shape, nothing, term, ref, seq, alt, many}
+use Rattle.sac_ast.specs.Shape.{text, matches, ref, seq, many}
 use Rattle.sac_ast.specs.Grammar.{Nonterminal, Tree, Rule, V, rule, action, sign, listed, items, concat, index_of, selects, expression, primary, postfix, generator, statement}
-use Rattle.sac_ast.specs.Heights.{height, heights, gen_height, gens_height, stmt_height, block_height}
+use Rattle.sac_ast.specs.Heights.{height, heights, gen_height, gens_height, block_height}
 use Rattle.sac_ast.specs.Tree as tree
 use Rattle.sac_ast.specs.Tree.{Expr, Stmt, Gen}
 use Rattle.sac_ast.specs.View as View
 use Rattle.sac_ast.specs.View.{exprs_of, block_of, gens_of}
-use Rattle.sac_grammar.specs.Run.{starts, first, Runs, RunsIn}
+use Rattle.sac_grammar.specs.Run.{starts, Runs, RunsIn}
 use Rattle.sac_grammar.specs.Tables.{first_of}
 use Rattle.sac_grammar.specs.Limits.{High}
 use Rattle.sac_grammar.specs.Parsing.{Found, Reading, Stop, Halts, Halted, Parts}
 use Rattle.sac_grammar.proofs.Levels.{derives_rule}
-use Rattle.sac_grammar.proofs.Parsing.{read_ref, read_then, found, stops, stop_ref, stop_left, stop_right, stop_parts, no_parts, one_more_part, read_parts}
+use Rattle.sac_grammar.proofs.Parsing.{read_ref, read_then, found, stop_ref, stop_right, stop_parts, no_parts, one_more_part, read_parts}
 use Rattle.sac_descent.specs.declared.halt.Halt.{Halt}
-use Rattle.sac_descent.specs.declared.halt.Halt.TheVariants.{High as TooHigh, Memory}
+use Rattle.sac_descent.specs.declared.halt.Halt.TheVariants.{High as TooHigh}
 use Rattle.sac_descent.specs.declared.place.Place.{Place}
 use Rattle.sac_descent.specs.declared.place.Measured.{Measured}
 use Rattle.sac_descent.specs.Heights.{IsAbove}

@@ -1,5 +1,5 @@
 -- Steps of the functions on expressions: what they have read.
-use Rattle.std.proofs.Common.{ℕ, zero, suc, ◌≡◌, ◌<◌, ◌≤◌, ◌+◌, max, Bool, true, false, List, [], ◌∷◌, ◌++◌, ◌⊎◌, inl, inr, Result, Ok, Err, refl, sym, ap, ◌∙◌, subst, length, map, codes, arith, Bor, Option, Some, None}
+use Rattle.std.proofs.Common.{ℕ, zero, suc, ◌≡◌, ◌<◌, ◌≤◌, ◌+◌, max, Bool, true, false, List, [], ◌∷◌, inl, inr, Result, Ok, Err, refl, sym, ap, ◌∙◌, subst, map, codes, arith, Bor, Some, None}
 use Rattle.std.specs.Global.{Vec}
 use Rattle.sac_lex.specs.declared.token.Token.{Token}
 use Rattle.sac_base.specs.declared.op.Op.{Op}
@@ -12,8 +12,8 @@ use Rattle.sac_ast.specs.declared.Expression.{Expression}
 use Rattle.sac_ast.specs.declared.Generator.{Generator}
 use Rattle.sac_ast.specs.declared.Operation.{Operation}
 use Rattle.sac_ast.specs.Texts.{Lexeme}
-use Rattle.sac_ast.specs.Shape.{Terminal, text, name, number, matches, Shape, nothing, term, ref, seq, alt, many}
-use Rattle.sac_ast.specs.Grammar.{Nonterminal, Tree, Rule, V, rule, action, sign, listed, opt, parens, items, maybe_items, one_of, chosen, target, expression, disjunction, prefix, postfix, primary, generator, operation}
+use Rattle.sac_ast.specs.Shape.{Terminal, text, name, matches, nothing, ref, seq, alt, many}
+use Rattle.sac_ast.specs.Grammar.{Nonterminal, Tree, V, rule, action, sign, listed, opt, parens, items, maybe_items, one_of, chosen, target, expression, disjunction, prefix, postfix, primary, generator, operation}
 use Rattle.sac_ast.specs.Heights.{height, heights, gens_height, operation_height}
 use Rattle.sac_ast.specs.Tree as tree
 use Rattle.sac_ast.specs.Tree.{Expr}
@@ -22,19 +22,19 @@ use Rattle.sac_ast.specs.View.{exprs_of, gens_of}
 use Rattle.sac_grammar.specs.Run.{starts, first, SameFirst, RunsIn}
 use Rattle.sac_grammar.specs.Tables.{first_of, ext_of, rank_of}
 use Rattle.sac_grammar.specs.Limits.{High}
-use Rattle.sac_grammar.specs.Parsing.{Found, TooTall, Reading, Stop, Halts, Halted, nth, inject}
+use Rattle.sac_grammar.specs.Parsing.{Found, Reading, Stop, Halts, Halted, nth}
 use Rattle.sac_grammar.proofs.Machine.{false_true}
 use Rattle.sac_grammar.proofs.High.{tall_before}
 use Rattle.sac_grammar.proofs.Table.{table}
-use Rattle.sac_grammar.proofs.Parsing.{stop_agree, read_ref, read_then, read_first, read_second, read_none, found, stops, stop_ref, stop_ref_at, stop_left, stop_right, stop_first, stop_second}
+use Rattle.sac_grammar.proofs.Parsing.{stop_agree, read_ref, read_then, read_first, read_second, read_none, found, stops, stop_ref, stop_ref_at, stop_right, stop_first, stop_second}
 use Rattle.sac_descent.specs.declared.halt.Halt.{Halt}
-use Rattle.sac_descent.specs.declared.halt.Halt.TheVariants.{High as TooHigh, Memory}
+use Rattle.sac_descent.specs.declared.halt.Halt.TheVariants.{High as TooHigh}
 use Rattle.sac_descent.specs.declared.place.Place.{Place}
 use Rattle.sac_descent.specs.declared.place.Measured.{Measured}
 use Rattle.sac_descent.specs.Heights.{IsAbove}
-use Rattle.sac_descent.specs.Contract.{StopOf, lexemes_of, IsLowAt, IsLow, IsNear, IsTall, IsKept, IsPhraseAt, IsPartAt, operator_of}
-use Rattle.sac_descent.specs.Parts.{IsListOf, IsArguments, IsInParens, IsPair, IsPrimary, IsPrimaryOf, IsGenerators, IsOperationOf, IsBuiltinWord, Comma}
-use Rattle.sac_descent.proofs.Steps.{TheOperator, operator_found, operator_none, high_halted, token_read, starts_there, kept_phrase, part_first, part_means}
+use Rattle.sac_descent.specs.Contract.{StopOf, lexemes_of, IsLowAt, IsNear, IsKept, IsPhraseAt, IsPartAt, operator_of}
+use Rattle.sac_descent.specs.Parts.{IsListOf, IsArguments, IsInParens, IsPair, IsPrimary, IsPrimaryOf, IsGenerators, IsBuiltinWord, Comma}
+use Rattle.sac_descent.proofs.Steps.{operator_found, operator_none, high_halted, token_read, starts_there, kept_phrase, part_first, part_means}
 
 abbrev pub At : Terminal → List Lexeme → Lexeme → List Lexeme → Type 0
 At t ts x rest = (ts ≡ x ∷ rest) × (matches t x ≡ true)
@@ -70,29 +70,45 @@ abbrev Primary : Place → ℕ → Measured Expression → List Lexeme → List 
 Primary place n node ts rest = (v : V (nth n (rule primary))) × Reading (nth n (rule primary)) ts v rest × IsPrimary place n node v
 
 pub variable_read : (place : Place) {ts rest : List Lexeme} {t : Lexeme} (node : Measured Expression) (x : Target) → At name ts t rest → starts (text (codes "(") ∷ []) rest ≡ false → x ≡ target t → View.expr node.tree ≡ tree.variable x.name x.site → node.height ≡ 1 → Primary place 3 node ts rest
-variable_read place {ts} {rest} {t} node x f s e tr h = ((t, inr tt), read_then (token_read f) (read_none s), record {
-  tree = tr ∙ ap (λ (y : Target). tree.variable y.name y.site) e;
-  tall = λ c. h;
-})
+variable_read place {ts} {rest} {t} node x f s e tr h = (
+  (t, inr tt),
+  read_then (token_read f) (read_none s),
+  record {
+    tree = tr ∙ ap (λ (y : Target). tree.variable y.name y.site) e;
+    tall = λ c. h;
+  },
+)
 
 pub call_read : (place : Place) {ts a b c rest : List Lexeme} {t l r : Lexeme} (node : Measured Expression) (x : Target) (list : Measured (Vec Expression)) (v : V (opt (listed (ref expression)))) → At name ts t a → At (text (codes "(")) a l b → Reading (opt (listed (ref expression))) b v c → IsArguments place list v → At (text (codes ")")) c r rest → x ≡ target t → View.expr node.tree ≡ tree.call x.name (View.exprs list.tree.items) x.site → IsAbove node.height list.height → Primary place 3 node ts rest
-call_read place {ts} {a} {b} {c} {rest} {t} {l} {r} node x list v f o g m close e tr h = ((t, inl (l, (v, r))), read_then (token_read f) (read_first (starts_there (text (codes "(")) o) (read_then (token_read o) (read_then g (token_read close)))), record {
-  tree = tr ∙ ap (λ (y : Target). tree.call y.name (View.exprs list.tree.items) y.site) e ∙ ap (λ es. tree.call t.text (exprs_of es) t.site) m.trees;
-  tall = λ k. above_one node.height list.height (heights (exprs_of (maybe_items v))) h (m.low k);
-})
+call_read place {ts} {a} {b} {c} {rest} {t} {l} {r} node x list v f o g m close e tr h = (
+  (t, inl (l, (v, r))),
+  read_then (token_read f) (read_first (starts_there (text (codes "(")) o) (read_then (token_read o) (read_then g (token_read close)))),
+  record {
+    tree = tr ∙ ap (λ (y : Target). tree.call y.name (View.exprs list.tree.items) y.site) e ∙ ap (λ es. tree.call t.text (exprs_of es) t.site) m.trees;
+    tall = λ k. above_one node.height list.height (heights (exprs_of (maybe_items v))) h (m.low k);
+  },
+)
 
 pub builtin_read : (place : Place) {ts a rest : List Lexeme} (node : Measured Expression) (w : Builtin × Site) (x : Measured Expression) (u : V (alt (sign (codes "dim")) (sign (codes "shape")))) (v : V (parens (ref expression))) → Reading (alt (sign (codes "dim")) (sign (codes "shape"))) ts u a → IsBuiltinWord w u → Reading (parens (ref expression)) a v rest → IsInParens place x v → View.expr node.tree ≡ tree.builtin w.0 (exprs_of (View.expr x.tree ∷ [])) w.1 → IsAbove node.height x.height → Primary place 4 node ts rest
-builtin_read place {ts} {a} {rest} node w x (inl t) v f b g m tr h = ((inl t, v), read_then f g, record {
-  tree = tr ∙ ap (λ e. tree.builtin w.0 (exprs_of (e ∷ [])) w.1) m.tree ∙ ap (λ c. tree.builtin c (exprs_of (v.1.0 ∷ [])) w.1) b.0 ∙ ap (λ s. tree.builtin built.Dim (exprs_of (v.1.0 ∷ [])) s) b.1;
-  tall = λ k. above_low node.height x.height (height v.1.0) place.depth h (m.low k);
-})
+builtin_read place {ts} {a} {rest} node w x (inl t) v f b g m tr h = (
+  (inl t, v),
+  read_then f g,
+  record {
+    tree = tr ∙ ap (λ e. tree.builtin w.0 (exprs_of (e ∷ [])) w.1) m.tree ∙ ap (λ c. tree.builtin c (exprs_of (v.1.0 ∷ [])) w.1) b.0 ∙ ap (λ s. tree.builtin built.Dim (exprs_of (v.1.0 ∷ [])) s) b.1;
+    tall = λ k. above_low node.height x.height (height v.1.0) place.depth h (m.low k);
+  },
+)
   where
     above_low : (node n k d : ℕ) → IsAbove node n → (n ≡ k) × (d + k ≤ 99) → node ≡ 1 + max k 0
     above_low node n k d a h = let g : node ≡ 1 + n = a (omega arith) in omega arith
-builtin_read place {ts} {a} {rest} node w x (inr t) v f b g m tr h = ((inr t, v), read_then f g, record {
-  tree = tr ∙ ap (λ e. tree.builtin w.0 (exprs_of (e ∷ [])) w.1) m.tree ∙ ap (λ c. tree.builtin c (exprs_of (v.1.0 ∷ [])) w.1) b.0 ∙ ap (λ s. tree.builtin built.Shape (exprs_of (v.1.0 ∷ [])) s) b.1;
-  tall = λ k. above_low node.height x.height (height v.1.0) place.depth h (m.low k);
-})
+builtin_read place {ts} {a} {rest} node w x (inr t) v f b g m tr h = (
+  (inr t, v),
+  read_then f g,
+  record {
+    tree = tr ∙ ap (λ e. tree.builtin w.0 (exprs_of (e ∷ [])) w.1) m.tree ∙ ap (λ c. tree.builtin c (exprs_of (v.1.0 ∷ [])) w.1) b.0 ∙ ap (λ s. tree.builtin built.Shape (exprs_of (v.1.0 ∷ [])) s) b.1;
+    tall = λ k. above_low node.height x.height (height v.1.0) place.depth h (m.low k);
+  },
+)
   where
     above_low : (node n k d : ℕ) → IsAbove node n → (n ≡ k) × (d + k ≤ 99) → node ≡ 1 + max k 0
     above_low node n k d a h = let g : node ≡ 1 + n = a (omega arith) in omega arith
@@ -101,27 +117,38 @@ reshape_tall : (node n m k l d : ℕ) → IsAbove node (max n m) → (n ≡ k) �
 reshape_tall node n m k l d a h g = let e : node ≡ 1 + max n m = a (omega arith) in omega arith
 
 pub reshape_read : (place : Place) {ts a rest : List Lexeme} {t : Lexeme} (node x y : Measured Expression) (v : V (parens (Comma (ref expression)))) → At (text (codes "reshape")) ts t a → Reading (parens (Comma (ref expression))) a v rest → IsPair place (x, y) v → View.expr node.tree ≡ tree.builtin built.Reshape (exprs_of (View.expr x.tree ∷ View.expr y.tree ∷ [])) t.site → IsAbove node.height (max x.height y.height) → Primary place 5 node ts rest
-reshape_read place {ts} {a} {rest} {t} node x y v f g m tr h = ((t, v), read_then (token_read f) g, record {
-  tree = tr ∙ ap (λ e. tree.builtin built.Reshape (exprs_of (e ∷ View.expr y.tree ∷ [])) t.site) m.first ∙ ap (λ e. tree.builtin built.Reshape (exprs_of (v.1.0.0 ∷ e ∷ [])) t.site) m.second;
-  tall = λ k. reshape_tall node.height x.height y.height (height v.1.0.0) (height v.1.0.1.1) place.depth h (m.first_low k) (m.second_low k);
-})
+reshape_read place {ts} {a} {rest} {t} node x y v f g m tr h = (
+  (t, v),
+  read_then (token_read f) g,
+  record {
+    tree = tr ∙ ap (λ e. tree.builtin built.Reshape (exprs_of (e ∷ View.expr y.tree ∷ [])) t.site) m.first ∙ ap (λ e. tree.builtin built.Reshape (exprs_of (v.1.0.0 ∷ e ∷ [])) t.site) m.second;
+    tall = λ k. reshape_tall node.height x.height y.height (height v.1.0.0) (height v.1.0.1.1) place.depth h (m.first_low k) (m.second_low k);
+  },
+)
 
 pair_tall : (node n m k l d : ℕ) → IsAbove node (max n m) → (n ≡ k) × (d + k ≤ 99) → (m ≡ l) × (d + l ≤ 99) → node ≡ 1 + max k l
 pair_tall node n m k l d a h g = let e : node ≡ 1 + max n m = a (omega arith) in omega arith
 
 pub extreme_read : (place : Place) {ts a rest : List Lexeme} (node x y : Measured Expression) (op : Op) (site : Site) (t : Lexeme) (v : V (parens (Comma (ref expression)))) → operator_of ((codes "min", Min) ∷ (codes "max", Max) ∷ []) ts ≡ Some (op, site) → ts ≡ t ∷ a → Reading (parens (Comma (ref expression))) a v rest → IsPair place (x, y) v → View.expr node.tree ≡ tree.binary op (View.expr x.tree) (View.expr y.tree) site → IsAbove node.height (max x.height y.height) → Primary place 6 node ts rest
 extreme_read place {ts} {a} {rest} node x y op site t v o split g m tr h =
-    let f = operator_found (codes "min", Min) ((codes "max", Max) ∷ []) o split in
-    ((f.value, v), read_then f.reads g, record {
-      tree = tr ∙ ap (λ e. tree.binary op e (View.expr y.tree) site) m.first ∙ ap (λ e. tree.binary op v.1.0.0 e site) m.second ∙ ap (λ (c : Op × Site). tree.binary c.0 v.1.0.0 v.1.0.1.1 c.1) (sym f.is);
-      tall = λ k. pair_tall node.height x.height y.height (height v.1.0.0) (height v.1.0.1.1) place.depth h (m.first_low k) (m.second_low k);
-    })
+    let f = operator_found (codes "min", Min) ((codes "max", Max) ∷ []) o split in (
+      (f.value, v),
+      read_then f.reads g,
+      record {
+        tree = tr ∙ ap (λ e. tree.binary op e (View.expr y.tree) site) m.first ∙ ap (λ e. tree.binary op v.1.0.0 e site) m.second ∙ ap (λ (c : Op × Site). tree.binary c.0 v.1.0.0 v.1.0.1.1 c.1) (sym f.is);
+        tall = λ k. pair_tall node.height x.height y.height (height v.1.0.0) (height v.1.0.1.1) place.depth h (m.first_low k) (m.second_low k);
+      },
+    )
 
 pub array_read : (place : Place) {ts a b rest : List Lexeme} {l r : Lexeme} (node : Measured Expression) (list : Measured (Vec Expression)) (v : V (opt (listed (ref expression)))) → At (text (codes "[")) ts l a → Reading (opt (listed (ref expression))) a v b → IsArguments place list v → At (text (codes "]")) b r rest → View.expr node.tree ≡ tree.literal (View.exprs list.tree.items) l.site → IsAbove node.height list.height → Primary place 8 node ts rest
-array_read place {ts} {a} {b} {rest} {l} {r} node list v o g m close tr h = ((l, (v, r)), read_then (token_read o) (read_then g (token_read close)), record {
-  tree = tr ∙ ap (λ es. tree.literal (exprs_of es) l.site) m.trees;
-  tall = λ k. above_one node.height list.height (heights (exprs_of (maybe_items v))) h (m.low k);
-})
+array_read place {ts} {a} {b} {rest} {l} {r} node list v o g m close tr h = (
+  (l, (v, r)),
+  read_then (token_read o) (read_then g (token_read close)),
+  record {
+    tree = tr ∙ ap (λ es. tree.literal (exprs_of es) l.site) m.trees;
+    tall = λ k. above_one node.height list.height (heights (exprs_of (maybe_items v))) h (m.low k);
+  },
+)
 
 pub parens_primary : (place : Place) (ts : List Lexeme) (result : Result (Measured Expression × Bor (List Token)) Halt) → IsPartAt place (parens (ref expression)) (IsInParens place) ts result → IsPartAt place (nth 7 (rule primary)) (IsPrimary place 7) ts result
 parens_primary place ts result h = part_means place (parens (ref expression)) (IsInParens place) (IsPrimary place 7) ts result (λ x v l. record { tree = l.tree; tall = λ c. (l.low c).0 }) h
@@ -130,10 +157,14 @@ with_tall : (node n m k l : ℕ) → IsAbove node (max n m) → (n ≡ k) × (k 
 with_tall node n m k l a h g = let e : node ≡ 1 + max n m = a (omega arith) in omega arith
 
 pub with_read : (place : Place) {ts a b c d rest : List Lexeme} {w l r k : Lexeme} (node : Measured Expression) (gs : Measured (Vec Generator)) (o : Measured Operation) (v : V (many (ref generator))) → At (text (codes "with")) ts w a → At (text (codes "{")) a l b → Reading (many (ref generator)) b v c → IsGenerators place gs v → At (text (codes "}")) c r d → (e : List Lexeme) → At (text (codes ":")) d k e → Found operation e (View.operation o.tree) rest × IsNear place o.height (operation_height (View.operation o.tree)) → View.expr node.tree ≡ tree.with_loop (View.generators gs.tree.items) (View.operation o.tree) w.site → IsAbove node.height (max gs.height o.height) → Primary place 9 node ts rest
-with_read place {ts} {a} {b} {c} {d} {rest} {w} {l} {r} {k} node gs o v f open' g m close e colon h tr n = ((w, (l, (v, (r, (k, View.operation o.tree))))), read_then (token_read f) (read_then (token_read open') (read_then g (read_then (token_read close) (read_then (token_read colon) (read_ref h.0))))), record {
-  tree = tr ∙ ap (λ xs. tree.with_loop (gens_of xs) (View.operation o.tree) w.site) m.trees;
-  tall = λ q. with_tall node.height gs.height o.height (gens_height (gens_of v)) (operation_height (View.operation o.tree)) n (m.low q) (h.1 q);
-})
+with_read place {ts} {a} {b} {c} {d} {rest} {w} {l} {r} {k} node gs o v f open' g m close e colon h tr n = (
+  (w, (l, (v, (r, (k, View.operation o.tree))))),
+  read_then (token_read f) (read_then (token_read open') (read_then g (read_then (token_read close) (read_then (token_read colon) (read_ref h.0))))),
+  record {
+    tree = tr ∙ ap (λ xs. tree.with_loop (gens_of xs) (View.operation o.tree) w.site) m.trees;
+    tall = λ q. with_tall node.height gs.height o.height (gens_height (gens_of v)) (operation_height (View.operation o.tree)) n (m.low q) (h.1 q);
+  },
+)
 
 -- ---- prefix operators
 
@@ -209,8 +240,7 @@ unary_low d node n k a h = let g : node ≡ 1 + n = a (omega arith) in (omega ar
 pub prefix_read : (place inner : Place) (ts : List Lexeme) (op : Op) (site : Site) (behind : Bor (List Token)) (x node : Measured Expression) (after : List Lexeme) → (operator_of (neg ∷ nots) ts ≡ Some (op, site)) × ((t : Lexeme) × (ts ≡ t ∷ lexemes_of behind.now)) → IsInside place inner → Found prefix (lexemes_of behind.now) (View.expr x.tree) after × IsLowAt inner x.height (height (View.expr x.tree)) → View.expr node.tree ≡ tree.unary op (View.expr x.tree) site → IsAbove node.height x.height → Found prefix ts (View.expr node.tree) after × IsLowAt place node.height (height (View.expr node.tree))
 prefix_read place inner ts op site behind x node after o i h tr above =
     let f = operator_found neg nots o.0 o.1.1 in
-    let whole : tree.unary (chosen neg nots f.value).0 (View.expr x.tree) (chosen neg nots f.value).1 ≡ View.expr node.tree = ap (λ (c : Op × Site). tree.unary c.0 (View.expr x.tree) c.1) f.is ∙ sym tr in
-    (
+    let whole : tree.unary (chosen neg nots f.value).0 (View.expr x.tree) (chosen neg nots f.value).1 ≡ View.expr node.tree = ap (λ (c : Op × Site). tree.unary c.0 (View.expr x.tree) c.1) f.is ∙ sym tr in (
       subst (λ (e : Expr). Found prefix ts e after) whole (found (read_first f.starts_so (read_then f.reads (read_ref h.0)))),
       λ c. subst (λ (e : Expr). (node.height ≡ height e) × (place.depth + height e ≤ 99)) (sym tr) (unary_low place.depth node.height x.height (height (View.expr x.tree)) above (low_inside place inner x.height (height (View.expr x.tree)) i h.1 c)),
     )

@@ -1,36 +1,35 @@
 -- Steps of the functions on statements: what they have read.
-use Rattle.std.proofs.Common.{ℕ, zero, suc, ◌≡◌, ◌≢◌, ◌<◌, ◌≤◌, ◌+◌, max, Bool, true, false, List, [], ◌∷◌, ◌++◌, ◌⊎◌, inl, inr, Result, Ok, Err, refl, sym, ap, ◌∙◌, subst, length, map, codes, arith, Bor, Option, Some, None}
+use Rattle.std.proofs.Common.{ℕ, ◌≡◌, ◌≢◌, ◌<◌, ◌≤◌, ◌+◌, max, true, false, List, [], ◌∷◌, ◌++◌, inl, Result, Ok, Err, refl, sym, ap, ◌∙◌, subst, length, map, codes, arith, Bor, Some}
 use Rattle.std.specs.Global.{Vec}
 use Rattle.sac_lex.specs.declared.token.Token.{Token}
 use Rattle.sac_base.specs.declared.op.Op.{Op}
-use Rattle.sac_base.specs.declared.op.Op.TheVariants.{Add, Sub, Mul, Div, Rem}
+use Rattle.sac_base.specs.declared.op.Op.TheVariants.{Add}
 use Rattle.sac_base.specs.declared.site.Site.{Site}
 use Rattle.sac_ast.specs.declared.Expression.{Expression}
 use Rattle.sac_ast.specs.declared.Statement.{Statement}
 use Rattle.sac_ast.specs.declared.Target.{Target}
 use Rattle.sac_ast.specs.Texts.{Lexeme}
-use Rattle.sac_ast.specs.Shape.{Terminal, text, name, matches, Shape, nothing, term, ref, seq, alt, many}
-use Rattle.sac_ast.specs.Grammar.{Nonterminal, Tree, Rule, V, rule, action, sign, listed, items, opt, parens, one_of, chosen, assign_ops, target, to_variable, index_of, concat, block_or_none, body_or_none, expression, statement, if_statement, else_branch, block, assign}
+use Rattle.sac_ast.specs.Shape.{text, name, term, ref, seq, many}
+use Rattle.sac_ast.specs.Grammar.{Rule, V, rule, action, sign, listed, items, opt, parens, assign_ops, target, to_variable, index_of, concat, block_or_none, expression, statement, if_statement, else_branch, block, assign}
 use Rattle.sac_ast.specs.Heights.{height, heights, stmt_height, block_height}
 use Rattle.sac_ast.specs.Tree as tree
 use Rattle.sac_ast.specs.Tree.{Expr, Stmt, Block}
 use Rattle.sac_ast.specs.View as View
 use Rattle.sac_ast.specs.View.{exprs_of, block_of}
-use Rattle.sac_grammar.specs.Run.{starts, first}
-use Rattle.sac_grammar.specs.Tables.{first_of}
-use Rattle.sac_grammar.specs.Limits.{High, depth_in}
-use Rattle.sac_grammar.specs.Parsing.{Found, TooTall, StopsAt, Reading, Stop, stuck, high, Halts, Halted, nth, inject, is_apart}
-use Rattle.sac_grammar.proofs.Parsing.{read_ref, read_then, read_first, read_second, read_none, found, stops, stop_ref, stop_left, stop_right, stop_first, stop_second, tall_after, stop_agree}
+use Rattle.sac_grammar.specs.Run.{starts}
+use Rattle.sac_grammar.specs.Limits.{depth_in}
+use Rattle.sac_grammar.specs.Parsing.{Found, TooTall, Reading, Halts, nth}
+use Rattle.sac_grammar.proofs.Parsing.{read_ref, read_then, read_first, read_second, found, stops, stop_ref, stop_right, stop_first, tall_after, stop_agree}
 use Rattle.sac_descent.specs.declared.halt.Halt.{Halt}
 use Rattle.sac_descent.specs.declared.halt.Halt.TheVariants.{Stuck, High as TooHigh, Memory}
 use Rattle.sac_descent.specs.declared.place.Place.{Place}
 use Rattle.sac_descent.specs.declared.place.Measured.{Measured}
 use Rattle.sac_descent.specs.Heights.{IsAbove}
-use Rattle.sac_descent.specs.Contract.{StopOf, lexemes_of, IsLowAt, IsLow, IsTall, IsKept, IsPhraseAt, IsPartAt, operator_of}
-use Rattle.sac_descent.specs.Parts.{IsListOf, IsInParens, AreStatements, IsStatements, IsStatement, IsStatementOf, IsBlockOf, IsElse, IsBlockAt, itself, AssignRest, IsAssigned, IsAssignedOf, AreTargets}
-use Rattle.sac_descent.proofs.Steps.{operator_found, token_read, starts_there, kept_phrase, high_halted, part_nth, part_second, part_means}
+use Rattle.sac_descent.specs.Contract.{StopOf, lexemes_of, IsLowAt, IsLow, IsKept, IsPhraseAt, IsPartAt, operator_of}
+use Rattle.sac_descent.specs.Parts.{IsListOf, IsInParens, AreStatements, IsStatement, IsStatementOf, IsBlockOf, IsElse, IsBlockAt, itself, AssignRest, IsAssigned, IsAssignedOf, AreTargets}
+use Rattle.sac_descent.proofs.Steps.{operator_found, token_read, starts_there, kept_phrase, high_halted}
 use Rattle.sac_descent.proofs.ListSteps.{stmts_append, index_tall, length_map}
-use Rattle.sac_descent.proofs.PhraseSteps.{At, IsInside, stop_inside}
+use Rattle.sac_descent.proofs.PhraseSteps.{At, IsInside}
 
 -- ---- blocks
 
@@ -80,19 +79,27 @@ while_tall : (d m node n b k l : ℕ) → m ≡ node → IsAbove node (max n b) 
 while_tall d m node n b k l e a h g = let p : node ≡ 1 + max n b = a (omega arith) in omega arith
 
 pub while_read : (place : Place) {ts a b rest : List Lexeme} {t : Lexeme} (c : Measured Expression) (body : Measured (Vec Statement)) (node : Measured Statement) (list : Measured (Vec Statement)) (v : V (parens (ref expression))) → At (text (codes "while")) ts t a → Reading (parens (ref expression)) a v b → IsInParens place c v → Found block b (map View.stmt body.tree.items) rest × IsLow place body.height (block_height (block_of (map View.stmt body.tree.items))) → View.stmt node.tree ≡ tree.while_do (View.expr c.tree) (View.block body.tree.items) t.site → IsAbove node.height (max c.height body.height) → list.tree.items ≡ node.tree ∷ [] → list.height ≡ node.height → StatementAt place 2 list ts rest
-while_read place {ts} {a} {b} {rest} {t} c body node list v f g m h tr above e n = ((t, (v, map View.stmt body.tree.items)), read_then (token_read f) (read_then g (read_ref h.0)), record {
-  trees = ap (map View.stmt) e ∙ ap (λ s. s ∷ []) (tr ∙ ap (λ x. tree.while_do x (View.block body.tree.items) t.site) m.tree);
-  tall = λ q. while_tall place.depth list.height node.height c.height body.height (height v.1.0) (block_height (block_of (map View.stmt body.tree.items))) n above (m.low q) (h.1 q);
-})
+while_read place {ts} {a} {b} {rest} {t} c body node list v f g m h tr above e n = (
+  (t, (v, map View.stmt body.tree.items)),
+  read_then (token_read f) (read_then g (read_ref h.0)),
+  record {
+    trees = ap (map View.stmt) e ∙ ap (λ s. s ∷ []) (tr ∙ ap (λ x. tree.while_do x (View.block body.tree.items) t.site) m.tree);
+    tall = λ q. while_tall place.depth list.height node.height c.height body.height (height v.1.0) (block_height (block_of (map View.stmt body.tree.items))) n above (m.low q) (h.1 q);
+  },
+)
 
 do_tall : (d m node n b k l : ℕ) → m ≡ node → IsAbove node (max b n) → (n ≡ k) × (d + k ≤ 99) → (b ≡ l) × (l ≤ 99) → m ≡ max (1 + max l k) 0
 do_tall d m node n b k l e a h g = let p : node ≡ 1 + max b n = a (omega arith) in omega arith
 
 pub do_read : (place : Place) {ts a b c d rest : List Lexeme} {t w s : Lexeme} (x : Measured Expression) (body : Measured (Vec Statement)) (node : Measured Statement) (list : Measured (Vec Statement)) (v : V (parens (ref expression))) → At (text (codes "do")) ts t a → Found block a (map View.stmt body.tree.items) b × IsLow place body.height (block_height (block_of (map View.stmt body.tree.items))) → At (text (codes "while")) b w c → Reading (parens (ref expression)) c v d → IsInParens place x v → At (text (codes ";")) d s rest → View.stmt node.tree ≡ tree.do_while (View.block body.tree.items) (View.expr x.tree) t.site w.site → IsAbove node.height (max body.height x.height) → list.tree.items ≡ node.tree ∷ [] → list.height ≡ node.height → StatementAt place 3 list ts rest
-do_read place {ts} {a} {b} {c} {d} {rest} {t} {w} {s} x body node list v f h g i m semi tr above e n = ((t, (map View.stmt body.tree.items, (w, (v, s)))), read_then (token_read f) (read_then (read_ref h.0) (read_then (token_read g) (read_then i (token_read semi)))), record {
-  trees = ap (map View.stmt) e ∙ ap (λ s. s ∷ []) (tr ∙ ap (λ y. tree.do_while (View.block body.tree.items) y t.site w.site) m.tree);
-  tall = λ q. do_tall place.depth list.height node.height x.height body.height (height v.1.0) (block_height (block_of (map View.stmt body.tree.items))) n above (m.low q) (h.1 q);
-})
+do_read place {ts} {a} {b} {c} {d} {rest} {t} {w} {s} x body node list v f h g i m semi tr above e n = (
+  (t, (map View.stmt body.tree.items, (w, (v, s)))),
+  read_then (token_read f) (read_then (read_ref h.0) (read_then (token_read g) (read_then i (token_read semi)))),
+  record {
+    trees = ap (map View.stmt) e ∙ ap (λ s. s ∷ []) (tr ∙ ap (λ y. tree.do_while (View.block body.tree.items) y t.site w.site) m.tree);
+    tall = λ q. do_tall place.depth list.height node.height x.height body.height (height v.1.0) (block_height (block_of (map View.stmt body.tree.items))) n above (m.low q) (h.1 q);
+  },
+)
 
 for_tall : (d m a c b s ka kc kb ks body : ℕ) → (max c (max b s) ≤ 100 → m ≡ max a (1 + max c (max b s))) → (a ≡ ka) × (d + ka ≤ 99) → (c ≡ kc) × (d + kc ≤ 99) → (b ≡ kb) × (kb ≤ 99) → (s ≡ ks) × (d + ks ≤ 99) → body ≡ max kb (max ks 0) → m ≡ max ka (max (1 + max kc body) 0)
 for_tall d m a c b s ka kc kb ks body f ha hc hb hs e = let p : m ≡ max a (1 + max c (max b s)) = f (omega arith) in let q : max b s ≡ body = omega arith in let r : max c (max b s) ≡ max kc body = omega arith in omega arith
@@ -112,8 +119,7 @@ low_kept d n k e h = (e, omega arith)
 
 pub statement_kept : (place : Place) (ts : List Lexeme) (node : Measured (Vec Statement)) (rest : List Token) (v : V (rule statement)) (result : Result (Measured (Vec Statement) × Bor (List Token)) Halt) → Reading (rule statement) ts v (lexemes_of rest) → IsStatementOf place node v → IsKept place node rest result → IsBlockAt place statement itself ts result
 statement_kept place ts node rest v (Ok x) f m (same, at, low) =
-    let trees : map View.stmt x.0.tree.items ≡ action statement v = ap (λ (n : Measured (Vec Statement)). map View.stmt n.tree.items) same ∙ m.trees in
-    (
+    let trees : map View.stmt x.0.tree.items ≡ action statement v = ap (λ (n : Measured (Vec Statement)). map View.stmt n.tree.items) same ∙ m.trees in (
       subst (λ (ss : List Stmt). Found statement ts ss (lexemes_of x.1.now)) (sym trees) (subst (λ l. Found statement ts (action statement v) (lexemes_of l)) (sym at) (found f)),
       λ c. subst (λ (ss : List Stmt). (x.0.height ≡ block_height (block_of ss)) × (block_height (block_of ss) ≤ 99)) (sym trees) (low_kept place.depth x.0.height (block_height (block_of (action statement v))) (ap (λ (n : Measured (Vec Statement)). n.height) same ∙ m.tall c) (subst (λ (n : Measured (Vec Statement)). place.depth + n.height ≤ 99) (sym same) (low c))),
     )
@@ -153,10 +159,14 @@ assign_tall : (node n k d : ℕ) → IsAbove node n → (n ≡ k) × (d + k ≤ 
 assign_tall node n k d a h = let e : node ≡ 1 + n = a (omega arith) in omega arith
 
 pub several_read : (place : Place) (t : Lexeme) {ts a b rest : List Lexeme} {q : Lexeme} (list : Vec Target) (x : Measured Expression) (node : Measured Statement) (ns : V (many (seq (sign (codes ",")) (term name)))) → Reading (many (seq (sign (codes ",")) (term name))) ts ns a → AreTargets t list ns → At (text (codes "=")) a q b → Found expression b (View.expr x.tree) rest × IsLowAt place x.height (height (View.expr x.tree)) → View.stmt node.tree ≡ tree.assign list.items (View.expr x.tree) → IsAbove node.height x.height → AssignedAt place t 0 node ts rest
-several_read place t {ts} {a} {b} {rest} {q} list x node ns f m s g tr above = ((ns, (q, View.expr x.tree)), read_then f (read_then (token_read s) (read_ref g.0)), record {
-  tree = tr ∙ ap (λ xs. tree.assign xs (View.expr x.tree)) m;
-  tall = λ c. assign_tall node.height x.height (height (View.expr x.tree)) place.depth above (g.1 c);
-})
+several_read place t {ts} {a} {b} {rest} {q} list x node ns f m s g tr above = (
+  (ns, (q, View.expr x.tree)),
+  read_then f (read_then (token_read s) (read_ref g.0)),
+  record {
+    tree = tr ∙ ap (λ xs. tree.assign xs (View.expr x.tree)) m;
+    tall = λ c. assign_tall node.height x.height (height (View.expr x.tree)) place.depth above (g.1 c);
+  },
+)
 
 replace_tall : (node i n k l d : ℕ) → IsAbove node (max i n) → (i ≡ k) × (i ≤ 100) → (n ≡ l) × (d + l ≤ 99) → node ≡ 1 + max k l
 replace_tall node i n k l d a h g = let e : node ≡ 1 + max i n = a (omega arith) in omega arith
@@ -172,22 +182,28 @@ index_low place site list index v l is one several c =
 
 pub replace_read : (place : Place) (t : Lexeme) {ts a b c d rest : List Lexeme} {l r q : Lexeme} (y : Target) (list : Measured (Vec Expression)) (index x : Measured Expression) (node : Measured Statement) (v : V (listed (ref expression))) → At (text (codes "[")) ts l a → Reading (listed (ref expression)) a v b → IsListOf place list v → At (text (codes "]")) b r c → At (text (codes "=")) c q d → Found expression d (View.expr x.tree) rest × IsLowAt place x.height (height (View.expr x.tree)) → y ≡ target t → View.expr index.tree ≡ index_of l.site (map View.expr list.tree.items) → (length list.tree.items ≡ 1 → index.height ≡ list.height) → (length list.tree.items ≢ 1 → IsAbove index.height list.height) → View.stmt node.tree ≡ tree.replace y l.site (View.expr index.tree) (View.expr x.tree) → IsAbove node.height (max index.height x.height) → AssignedAt place t 1 node ts rest
 replace_read place t {ts} {a} {b} {c} {d} {rest} {l} {r} {q} y list index x node v o f m close s g e is one several tr above =
-    let is' : View.expr index.tree ≡ index_of l.site (items v) = is ∙ ap (index_of l.site) m.trees in
-    ((l, (v, (r, (q, View.expr x.tree)))), read_then (token_read o) (read_then f (read_then (token_read close) (read_then (token_read s) (read_ref g.0)))), record {
-      tree = tr ∙ ap (λ z. tree.replace z l.site (View.expr index.tree) (View.expr x.tree)) e ∙ ap (λ i. tree.replace (target t) l.site i (View.expr x.tree)) is';
-      tall = λ k. replace_tall node.height index.height x.height (height (index_of l.site (items v))) (height (View.expr x.tree)) place.depth above (let i = index_low place l.site list index v m is one several k in (i.0 ∙ ap height is', i.1)) (g.1 k);
-    })
+    let is' : View.expr index.tree ≡ index_of l.site (items v) = is ∙ ap (index_of l.site) m.trees in (
+      (l, (v, (r, (q, View.expr x.tree)))),
+      read_then (token_read o) (read_then f (read_then (token_read close) (read_then (token_read s) (read_ref g.0)))),
+      record {
+        tree = tr ∙ ap (λ z. tree.replace z l.site (View.expr index.tree) (View.expr x.tree)) e ∙ ap (λ i. tree.replace (target t) l.site i (View.expr x.tree)) is';
+        tall = λ k. replace_tall node.height index.height x.height (height (index_of l.site (items v))) (height (View.expr x.tree)) place.depth above (let i = index_low place l.site list index v m is one several k in (i.0 ∙ ap height is', i.1)) (g.1 k);
+      },
+    )
 
 update_tall : (node n k d : ℕ) → (n ≤ 99 → node ≡ 1 + (1 + max 1 n)) → (n ≡ k) × (d + k ≤ 99) → node ≡ 1 + (1 + max 1 k)
 update_tall node n k d a h = let e : node ≡ 1 + (1 + max 1 n) = a (omega arith) in omega arith
 
 pub compound_read : (place : Place) (t : Lexeme) {ts a rest : List Lexeme} (op : Op) (site : Site) (x : Measured Expression) (node : Measured Statement) (u : Lexeme) → operator_of ((codes "+=", Add) ∷ assign_ops) ts ≡ Some (op, site) → ts ≡ u ∷ a → Found expression a (View.expr x.tree) rest × IsLowAt place x.height (height (View.expr x.tree)) → View.stmt node.tree ≡ tree.assign (target t ∷ []) (tree.binary op (to_variable t) (View.expr x.tree) site) → (x.height ≤ 99 → node.height ≡ 1 + (1 + max 1 x.height)) → AssignedAt place t 2 node ts rest
 compound_read place t {ts} {a} {rest} op site x node u o split g tr above =
-    let f = operator_found (codes "+=", Add) assign_ops o split in
-    ((f.value, View.expr x.tree), read_then f.reads (read_ref g.0), record {
-      tree = tr ∙ ap (λ (c : Op × Site). tree.assign (target t ∷ []) (tree.binary c.0 (to_variable t) (View.expr x.tree) c.1)) (sym f.is);
-      tall = λ k. update_tall node.height x.height (height (View.expr x.tree)) place.depth above (g.1 k);
-    })
+    let f = operator_found (codes "+=", Add) assign_ops o split in (
+      (f.value, View.expr x.tree),
+      read_then f.reads (read_ref g.0),
+      record {
+        tree = tr ∙ ap (λ (c : Op × Site). tree.assign (target t ∷ []) (tree.binary c.0 (to_variable t) (View.expr x.tree) c.1)) (sym f.is);
+        tall = λ k. update_tall node.height x.height (height (View.expr x.tree)) place.depth above (g.1 k);
+      },
+    )
 
 pub assign_kept : (place : Place) {ts a : List Lexeme} (t : Lexeme) (node : Measured Statement) (rest : List Token) (v : V AssignRest) (result : Result (Measured Statement × Bor (List Token)) Halt) → At name ts t a → Reading AssignRest a v (lexemes_of rest) → IsAssignedOf place t node v → IsKept place node rest result → IsPhraseAt place assign View.stmt stmt_height ts result
 assign_kept place {ts} {a} t node rest v result n f m kept = kept_phrase place assign View.stmt stmt_height ts node rest (action assign (t, v)) result refl kept (λ e h. h) m.tall m.tree (found (read_then (token_read n) f))

@@ -1,23 +1,22 @@
 -- From the contracts of the parser's functions to its steps.
-use Rattle.std.proofs.Common.{ℕ, zero, suc, ◌≡◌, ◌<◌, ◌≤◌, ◌+◌, Bool, true, false, cond, ◌||◌, List, [], ◌∷◌, ◌++◌, ◌⊎◌, inl, inr, Option, Some, None, Result, Ok, Err, refl, sym, ap, ◌∙◌, subst, length, map, codes, arith, append_assoc, append-nil, Bor}
+use Rattle.std.proofs.Common.{ℕ, zero, suc, ◌≡◌, ◌<◌, ◌≤◌, ◌+◌, Bool, true, false, cond, ◌||◌, List, [], ◌∷◌, ◌++◌, inl, inr, Option, Some, None, Result, Ok, Err, refl, sym, ap, ◌∙◌, subst, map, codes, arith, Bor}
 use Rattle.sac_lex.specs.declared.token.Token.{Token}
 use Rattle.sac_base.specs.declared.op.Op.{Op}
 use Rattle.sac_base.specs.declared.site.Site.{Site}
 use Rattle.sac_ast.specs.Texts.{Lexeme}
-use Rattle.sac_ast.specs.Shape.{Terminal, text, matches, Shape, nothing, term, ref, seq, alt, many, Value}
-use Rattle.sac_ast.specs.Grammar.{Nonterminal, Tree, Rule, V, rule, action, sign, opt, listed, one_of, chosen, items}
+use Rattle.sac_ast.specs.Shape.{Terminal, text, matches, nothing, term, ref, seq, alt, many}
+use Rattle.sac_ast.specs.Grammar.{Nonterminal, Tree, Rule, V, sign, listed, one_of, chosen}
 use Rattle.sac_grammar.specs.Run.{starts, first}
 use Rattle.sac_grammar.specs.Tables.{first_of}
-use Rattle.sac_grammar.specs.High.{Tops}
-use Rattle.sac_grammar.specs.Limits.{High, depth_in, gap_of}
-use Rattle.sac_grammar.specs.Parsing.{Found, Lost, TooTall, Reading, Stop, stuck, high, StopsAt, StopsIn, Halted, Halts, nth, inject, is_apart, Parts}
-use Rattle.sac_grammar.proofs.Machine.{false_true, or_true_left, or_true_right, or_cases, cases}
-use Rattle.sac_grammar.proofs.Parsing.{read_first, read_second, read_nth, read_then, read_ref, read_none, read_parts, found, stops, stop_ref, stop_left, stop_right, stop_first, stop_second, stop_nth, stop_agree, stop_parts, no_parts, one_more_part, tall_after, Agree}
+use Rattle.sac_grammar.specs.Limits.{High, gap_of}
+use Rattle.sac_grammar.specs.Parsing.{Found, TooTall, Reading, Stop, stuck, high, StopsAt, StopsIn, Halted, Halts, nth, inject, is_apart, Parts}
+use Rattle.sac_grammar.proofs.Machine.{or_true_left, or_true_right}
+use Rattle.sac_grammar.proofs.Parsing.{read_first, read_second, read_nth, read_then, read_ref, read_parts, stop_ref, stop_right, stop_first, stop_second, stop_nth, stop_parts, no_parts, one_more_part, tall_after}
 use Rattle.sac_descent.specs.declared.halt.Halt.{Halt}
 use Rattle.sac_descent.specs.declared.halt.Halt.TheVariants.{Stuck, High as TooHigh, Memory}
 use Rattle.sac_descent.specs.declared.place.Place.{Place}
 use Rattle.sac_descent.specs.declared.place.Measured.{Measured}
-use Rattle.sac_descent.specs.Contract.{lexeme, lexemes_of, StopOf, IsToken, IsAccepted, IsStuckAt, IsKept, IsLowAt, IsLow, IsTall, IsPhraseAt, IsPartAt, IsLeafAt, IsOperator, operator_of}
+use Rattle.sac_descent.specs.Contract.{lexemes_of, StopOf, IsStuckAt, IsKept, IsLowAt, IsPhraseAt, IsPartAt, operator_of}
 
 -- ---- lengths
 
@@ -157,8 +156,7 @@ into (suc n) (many a) v = v
 -- a phrase that was read and is kept, or is too high
 pub kept_phrase : {X : Type 0} (place : Place) (k : Nonterminal) (view : X → Tree k) (tall : Tree k → ℕ) (ts : List Lexeme) (node : Measured X) (rest : List Token) (v : Tree k) (result : Result (Measured X × Bor (List Token)) Halt) → gap_of k ≡ 0 → IsKept place node rest result → ((n : Tree k) → 99 < place.depth + tall n → High place.depth k n) → (place.checked ≡ true → node.height ≡ tall v) → view node.tree ≡ v → Found k ts v (lexemes_of rest) → IsPhraseAt place k view tall ts result
 kept_phrase {X} place k view tall ts node rest v (Ok x) gap (same, at, low) over is e f =
-    let tree : view x.0.tree ≡ v = ap (λ n. view n.tree) same ∙ e in
-    (
+    let tree : view x.0.tree ≡ v = ap (λ n. view n.tree) same ∙ e in (
       subst (λ l. Found k ts (view x.0.tree) (lexemes_of l)) (sym at) (subst (λ w. Found k ts w (lexemes_of rest)) (sym tree) f),
       λ c. (ap (λ (n : Measured X). n.height) same ∙ is c ∙ ap tall (sym tree), subst (λ n. place.depth + n ≤ 99) (is c ∙ ap tall (sym tree)) (low c)),
     )

@@ -1,16 +1,15 @@
 -- A token that is a name, by its text.
-use Rattle.std.proofs.Common.{ℕ, ◌≡◌, Bool, true, false, ◌&&◌, ◌||◌, not, List, [], ◌∷◌, inl, inr, IsTrue, IsFalse, refl, sym, ap, ◌∙◌, subst, arith}
+use Rattle.std.proofs.Common.{ℕ, ◌≡◌, Bool, true, false, ◌&&◌, ◌||◌, not, List, [], ◌∷◌, inl, inr, refl, sym, ap, subst, arith}
 use Rattle.std.specs.Prelude.{◌==◌}
 use Rattle.std.specs.List.{list_any}
-use Rattle.std.specs.Str.{bytes_eq}
-use Rattle.std.specs.Char.{is_ascii_alphabetic, is_ascii_digit, char_set_contains}
+use Rattle.std.specs.Char.{is_ascii_alphabetic, char_set_contains}
 use Rattle.std.proofs.lemmas.Bool.Decides.{nat_tests}
 use Rattle.sac_lex.specs.declared.token.TokenKind.{TokenKind}
 use Rattle.sac_lex.specs.declared.token.TokenKind.TheVariants as kind
 use Rattle.sac_lex.specs.Text.{IsTextOf}
-use Rattle.sac_lex.specs.Spelling.{is_sign, one_byte_signs, before_equals, twice}
-use Rattle.sac_ast.specs.Texts.{is_name, is_number, is_reserved}
-use Rattle.sac_grammar.proofs.Machine.{false_true, and_left, and_right, or_cases, name_no_number}
+use Rattle.sac_lex.specs.Spelling.{one_byte_signs, before_equals, twice}
+use Rattle.sac_ast.specs.Texts.{is_name, is_reserved}
+use Rattle.sac_grammar.proofs.Machine.{false_true, and_left, or_cases, name_no_number}
 
 both_true : (a b : Bool) → a ≡ true → b ≡ true → (a && b) ≡ true
 both_true true b e f = f

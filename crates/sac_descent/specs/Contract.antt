@@ -1,17 +1,13 @@
 -- What the functions of the parser promise.
 use Rattle.std.specs.Prelude.{ℕ, ◌≡◌, ◌+◌, ◌≤◌, ◌<◌, Bool, true, false, List, [], ◌∷◌, Result, Ok, Err, map, Option, Some, None, if◌then◌else◌}
 use Rattle.std.specs.Borrow.{Bor}
-use Rattle.std.specs.Global.{Vec}
 use Rattle.sac_lex.specs.declared.token.Token.{Token}
 use Rattle.sac_lex.specs.declared.token.TokenKind.TheVariants.{Name, Number}
 use Rattle.sac_base.specs.declared.op.Op.{Op}
 use Rattle.sac_base.specs.declared.site.Site.{Site}
 use Rattle.sac_ast.specs.Texts.{Lexeme}
-use Rattle.sac_ast.specs.Shape.{Terminal, text, matches, ref}
-use Rattle.sac_ast.specs.Grammar.{Nonterminal, Tree, Rule, V, sign, listed, items, expression}
-use Rattle.sac_ast.specs.Heights.{height, heights}
-use Rattle.sac_ast.specs.View
-use Rattle.sac_ast.specs.declared.Expression.{Expression}
+use Rattle.sac_ast.specs.Shape.{Terminal, text, matches}
+use Rattle.sac_ast.specs.Grammar.{Nonterminal, Tree, Rule, V}
 use Rattle.sac_grammar.specs.Run.{starts}
 use Rattle.sac_grammar.specs.Parsing.{Found, Reading, Stop, stuck, high, Halted, Halts}
 use Rattle.sac_descent.specs.declared.halt.Halt.{Halt}

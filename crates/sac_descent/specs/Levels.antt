@@ -51,4 +51,3 @@ IsOperandAt Equality place = IsPhraseAt place comparison View.expr height
 IsOperandAt Comparison place = IsPhraseAt place sum View.expr height
 IsOperandAt Sum place = IsPhraseAt place product View.expr height
 IsOperandAt Product place = IsPhraseAt place prefix View.expr height
-

@@ -1,5 +1,5 @@
 -- What the trees of parts of phrases are.
-use Rattle.std.specs.Prelude.{ℕ, ◌≡◌, Bool, true, List, [], ◌∷◌, ◌⊎◌, Result, Ok, Err, map, Option, codes}
+use Rattle.std.specs.Prelude.{ℕ, ◌≡◌, Bool, List, [], ◌∷◌, ◌⊎◌, Result, Ok, Err, map, Option, codes}
 use Rattle.std.specs.Borrow.{Bor}
 use Rattle.std.specs.Global.{Vec}
 use mathlib.Core.Logic.{inl, inr}
@@ -15,8 +15,8 @@ use Rattle.sac_ast.specs.declared.Operation.{Operation}
 use Rattle.sac_ast.specs.declared.Index.{Index}
 use Rattle.sac_ast.specs.declared.Target.{Target}
 use Rattle.sac_ast.specs.Texts.{Lexeme}
-use Rattle.sac_ast.specs.Shape.{term, ref, seq, alt, many, name}
-use Rattle.sac_ast.specs.Grammar.{Nonterminal, Tree, Rule, V, one_of, sign, listed, opt, parens, items, maybe_items, maybe, concat, block_or_none, body_or_none, is_there, target, rule, action, expression, sum, primary, generator, operation, statement, else_branch, block, assign, index}
+use Rattle.sac_ast.specs.Shape.{ref, seq, many}
+use Rattle.sac_ast.specs.Grammar.{Nonterminal, Tree, Rule, V, one_of, sign, listed, opt, parens, items, maybe_items, maybe, concat, block_or_none, body_or_none, is_there, target, rule, action, expression, primary, generator, operation, statement, else_branch, block, assign, index}
 use Rattle.sac_ast.specs.Heights.{height, heights, gens_height, maybe_height, operation_height, stmt_height, block_height}
 use Rattle.sac_ast.specs.Tree.{Expr, Stmt}
 use Rattle.sac_ast.specs.View as View

@@ -90,10 +90,7 @@ pub fn expect<'a>(
 }
 
 /// The first token and the tokens behind it, where it is this word or sign.
-pub fn accept<'a>(
-    tokens: &'a [Token<'a>],
-    bytes: &[u8],
-) -> Option<(Token<'a>, &'a [Token<'a>])>
+pub fn accept<'a>(tokens: &'a [Token<'a>], bytes: &[u8]) -> Option<(Token<'a>, &'a [Token<'a>])>
     ensures token { IsAccepted (text bytes.now) (lexemes_of tokens.now) result }
     ensures shorter { IfSome result (λ x. length x.1.now < length tokens.now) }
 {
@@ -106,9 +103,7 @@ pub fn accept<'a>(
 }
 
 /// The first token, which is to be a name, and the tokens behind it.
-pub fn expect_name<'a>(
-    tokens: &'a [Token<'a>],
-) -> Result<(Token<'a>, &'a [Token<'a>]), Halt<'a>>
+pub fn expect_name<'a>(tokens: &'a [Token<'a>]) -> Result<(Token<'a>, &'a [Token<'a>]), Halt<'a>>
     ensures token { IsToken name lexeme (lexemes_of tokens.now) result }
     ensures name { IfOk result (λ x. is_name x.0.text.now ≡ true) }
     ensures shorter { IfOk result (λ x. length x.1.now < length tokens.now) }
@@ -124,9 +119,7 @@ pub fn expect_name<'a>(
 }
 
 /// The first token, which is to be a number, and the tokens behind it.
-pub fn expect_number<'a>(
-    tokens: &'a [Token<'a>],
-) -> Result<(Token<'a>, &'a [Token<'a>]), Halt<'a>>
+pub fn expect_number<'a>(tokens: &'a [Token<'a>]) -> Result<(Token<'a>, &'a [Token<'a>]), Halt<'a>>
     ensures token { IsToken number lexeme (lexemes_of tokens.now) result }
     ensures kind { IfOk result (λ x. is_number_token x.0) }
     ensures shorter { IfOk result (λ x. length x.1.now < length tokens.now) }
@@ -142,9 +135,7 @@ pub fn expect_number<'a>(
 }
 
 /// The first token, which is to be the end, and the tokens behind it.
-pub fn expect_end<'a>(
-    tokens: &'a [Token<'a>],
-) -> Result<(Token<'a>, &'a [Token<'a>]), Halt<'a>>
+pub fn expect_end<'a>(tokens: &'a [Token<'a>]) -> Result<(Token<'a>, &'a [Token<'a>]), Halt<'a>>
     ensures token { IsToken end lexeme (lexemes_of tokens.now) result }
     ensures shorter { IfOk result (λ x. length x.1.now < length tokens.now) }
 {

@@ -10,12 +10,10 @@ ghost use Rattle.sac_descent.specs.Contract.{lexemes_of, lexeme, IsPhraseAt, IsP
 ghost use Rattle.sac_descent.specs.Parts.{IsListOf, IsArguments, IsInParens, IsPair, IsPrimary, IsPrimaryOf, IsGenerators, IsMaybe, IsBlockAt, itself, AssignRest, IsOperation, IsBlockOf, IsStatements, IsStatement, IsStatementOf, IsElse, IsAssigned, IsAssignedOf, Comma};
 ghost use Rattle.sac_descent.specs.Levels.{first_operator, more_operators, IsLevelAt, IsOperandAt};
 
-use crate::cursor;
 use crate::halt::Halt;
-use crate::leaf;
 use crate::level::{self, Level};
-use crate::node;
 use crate::place::{self, Measured, Place};
+use crate::{cursor, leaf, node};
 use sac_ast::{Bound, Builtin, Expression, Generator, Operation, Statement, Target};
 use sac_base::{Op, Site};
 use sac_lex::Token;
@@ -70,7 +68,7 @@ fn arguments<'a>(place: Place, tokens: &'a [Token<'a>]) -> Read<'a, Vec<Expressi
 
 /// An expression in parentheses.
 #[cycle(phrase)]
-pub fn parens<'a>(place: Place, tokens: &'a [Token<'a>]) -> Read<'a, Expression>
+fn parens<'a>(place: Place, tokens: &'a [Token<'a>]) -> Read<'a, Expression>
     ensures phrase { IsPartAt place (parens (ref expression)) (IsInParens place) (lexemes_of tokens.now) result }
     ensures shorter { IfOk result (λ x. length x.1.now < length tokens.now) }
 {
@@ -85,7 +83,13 @@ pub fn parens<'a>(place: Place, tokens: &'a [Token<'a>]) -> Read<'a, Expression>
 fn pair<'a>(
     place: Place,
     tokens: &'a [Token<'a>],
-) -> Result<((Measured<Expression>, Measured<Expression>), &'a [Token<'a>]), Halt<'a>>
+) -> Result<
+    (
+        (Measured<Expression>, Measured<Expression>),
+        &'a [Token<'a>],
+    ),
+    Halt<'a>,
+>
     ensures phrase { IsPartAt place (parens (Comma (ref expression))) (IsPair place) (lexemes_of tokens.now) result }
     ensures shorter { IfOk result (λ x. length x.1.now < length tokens.now) }
 {
@@ -170,7 +174,10 @@ fn with_loop<'a>(place: Place, tokens: &'a [Token<'a>]) -> Read<'a, Expression>
     let (_close, rest) = cursor::expect(rest, b"}")?;
     let (_colon, rest) = cursor::expect(rest, b":")?;
     let (operation, rest) = operation(place, rest)?;
-    Ok((node::with_loop(place, generators, operation, word.site)?, rest))
+    Ok((
+        node::with_loop(place, generators, operation, word.site)?,
+        rest,
+    ))
 }
 
 /// A primary expression, which may be too high for its place by its last node.
@@ -263,7 +270,7 @@ fn operand<'a>(place: Place, level: Level, tokens: &'a [Token<'a>]) -> Read<'a, 
 
 /// Operands of a level with its operators between them, grouped to the left.
 #[cycle(phrase)]
-pub fn chain<'a>(place: Place, level: Level, tokens: &'a [Token<'a>]) -> Read<'a, Expression>
+fn chain<'a>(place: Place, level: Level, tokens: &'a [Token<'a>]) -> Read<'a, Expression>
     ensures phrase { IsLevelAt level place (lexemes_of tokens.now) result }
     ensures shorter { IfOk result (λ x. length x.1.now < length tokens.now) }
 {
@@ -279,8 +286,9 @@ pub fn chain<'a>(place: Place, level: Level, tokens: &'a [Token<'a>]) -> Read<'a
     place::kept(place, left, rest)
 }
 
+/// An expression: an operand of the loosest level, or a choice between two expressions by it.
 #[cycle(phrase)]
-pub fn expression<'a>(place: Place, tokens: &'a [Token<'a>]) -> Read<'a, Expression>
+fn expression<'a>(place: Place, tokens: &'a [Token<'a>]) -> Read<'a, Expression>
     ensures phrase { IsPhraseAt place expression view.expr height (lexemes_of tokens.now) result }
     ensures shorter { IfOk result (λ x. length x.1.now < length tokens.now) }
 {
@@ -338,9 +346,12 @@ fn generator<'a>(place: Place, tokens: &'a [Token<'a>]) -> Read<'a, Generator>
     let (_colon, rest) = cursor::expect(rest, b":")?;
     let (cell, rest) = expression(place, rest)?;
     let (_end, rest) = cursor::expect(rest, b";")?;
-    let height = lower
-        .height
-        .max(upper.height.max(step.height.max(width.height.max(body.height.max(cell.height)))));
+    let height = lower.height.max(
+        upper.height.max(
+            step.height
+                .max(width.height.max(body.height.max(cell.height))),
+        ),
+    );
     let tree = Generator {
         lower: lower.tree,
         lower_closed,
@@ -376,11 +387,7 @@ fn bound<'a>(place: Place, tokens: &'a [Token<'a>]) -> Read<'a, Bound>
 
 /// A word and a sum behind it, or nothing.
 #[cycle(phrase)]
-fn maybe_sum<'a>(
-    place: Place,
-    word: &[u8],
-    tokens: &'a [Token<'a>],
-) -> Read<'a, Option<Expression>>
+fn maybe_sum<'a>(place: Place, word: &[u8], tokens: &'a [Token<'a>]) -> Read<'a, Option<Expression>>
     ensures phrase { IsPartAt place (opt (seq (sign word.now) (ref sum))) (IsMaybe place) (lexemes_of tokens.now) result }
     ensures shorter { IfOk result (λ x. length x.1.now ≤ length tokens.now) }
 {
@@ -540,7 +547,10 @@ fn while_loop<'a>(place: Place, tokens: &'a [Token<'a>]) -> Read<'a, Vec<Stateme
     let (word, rest) = cursor::expect(tokens, b"while")?;
     let (cond, rest) = parens(place, rest)?;
     let (body, rest) = block(place, rest)?;
-    Ok((leaf::one(place, node::while_do(cond, body, word.site))?, rest))
+    Ok((
+        leaf::one(place, node::while_do(cond, body, word.site))?,
+        rest,
+    ))
 }
 
 #[cycle(phrase)]
@@ -553,7 +563,10 @@ fn do_loop<'a>(place: Place, tokens: &'a [Token<'a>]) -> Read<'a, Vec<Statement>
     let (test, rest) = cursor::expect(rest, b"while")?;
     let (cond, rest) = parens(place, rest)?;
     let (_end, rest) = cursor::expect(rest, b";")?;
-    Ok((leaf::one(place, node::do_while(body, cond, word.site, test.site))?, rest))
+    Ok((
+        leaf::one(place, node::do_while(body, cond, word.site, test.site))?,
+        rest,
+    ))
 }
 
 /// A `for`: its first assignment, and a `while` whose body ends with the last one.
@@ -571,7 +584,10 @@ fn for_loop<'a>(place: Place, tokens: &'a [Token<'a>]) -> Read<'a, Vec<Statement
     let (step, rest) = assign(place, rest)?;
     let (_close, rest) = cursor::expect(rest, b")")?;
     let (body, rest) = block(place, rest)?;
-    Ok((leaf::for_loop(place, start, cond, step, body, word.site)?, rest))
+    Ok((
+        leaf::for_loop(place, start, cond, step, body, word.site)?,
+        rest,
+    ))
 }
 
 /// A statement, which may be too high for its place by its last node.

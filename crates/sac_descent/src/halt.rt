@@ -12,6 +12,7 @@ pub enum Halt<'a> {
     Stuck(&'a [Token<'a>]),
     /// Each phrase that goes on with the first of these tokens is too high.
     High(&'a [Token<'a>]),
+    /// No memory was left.
     Memory,
 }
 

@@ -15,12 +15,10 @@ ghost use Rattle.sac_descent.specs.declared.halt.Halt.TheVariants.{Memory};
 ghost use Rattle.sac_descent.specs.Contract.{lexeme, lexemes_of, IsPartAt, IsLeafAt};
 ghost use Rattle.sac_descent.specs.Parts.{IsPrimary, IsBuiltinWord, IsRelation, AreTargets, Counts, IsCount};
 
-use crate::cursor;
 use crate::descent::Read;
 use crate::halt::Halt;
-use crate::level;
-use crate::node;
 use crate::place::{self, Measured, Place};
+use crate::{cursor, level, node};
 use sac_ast::{Builtin, Expression, Index, Param, Statement, Target};
 use sac_base::{ArrayType, Base, Name, Op, Part, Shape, Site};
 use sac_lex::Token;
@@ -39,17 +37,7 @@ pub const SEVERAL: [&[u8]; 2] = [b",", b"="];
 pub const COMPOUND: [&[u8]; 5] = [b"+=", b"-=", b"*=", b"/=", b"%="];
 
 const EXPRESSION: [&[u8]; 12] = [
-    b"-",
-    b"!",
-    b"true",
-    b"false",
-    b"dim",
-    b"shape",
-    b"reshape",
-    b"min",
-    b"max",
-    b"(",
-    b"[",
+    b"-", b"!", b"true", b"false", b"dim", b"shape", b"reshape", b"min", b"max", b"(", b"[",
     b"with",
 ];
 
@@ -118,14 +106,19 @@ pub fn number_value(digits: &[u8]) -> u32
     value
 }
 
+/// A number.
 pub fn number<'a>(place: Place, tokens: &'a [Token<'a>]) -> Read<'a, Expression>
     ensures phrase { IsPartAt place (nth 0 (rule primary)) (IsPrimary place 0) (lexemes_of tokens.now) result }
     ensures shorter { IfOk result (λ x. length x.1.now < length tokens.now) }
 {
     let (token, rest) = cursor::expect_number(tokens)?;
-    Ok((node::number(number_value(token.text) as i32, token.site), rest))
+    Ok((
+        node::number(number_value(token.text) as i32, token.site),
+        rest,
+    ))
 }
 
+/// The truth value `true`.
 pub fn truth_true<'a>(place: Place, tokens: &'a [Token<'a>]) -> Read<'a, Expression>
     ensures phrase { IsPartAt place (nth 1 (rule primary)) (IsPrimary place 1) (lexemes_of tokens.now) result }
     ensures shorter { IfOk result (λ x. length x.1.now < length tokens.now) }
@@ -134,6 +127,7 @@ pub fn truth_true<'a>(place: Place, tokens: &'a [Token<'a>]) -> Read<'a, Express
     Ok((node::truth(true, token.site), rest))
 }
 
+/// The truth value `false`.
 pub fn truth_false<'a>(place: Place, tokens: &'a [Token<'a>]) -> Read<'a, Expression>
     ensures phrase { IsPartAt place (nth 2 (rule primary)) (IsPrimary place 2) (lexemes_of tokens.now) result }
     ensures shorter { IfOk result (λ x. length x.1.now < length tokens.now) }
@@ -268,10 +262,7 @@ pub fn for_loop<'a>(
     let mut list = Vec::new(place.alloc);
     list.push(start.tree)?;
     list.push(turns.tree)?;
-    Ok(Measured {
-        tree: list,
-        height,
-    })
+    Ok(Measured { tree: list, height })
 }
 
 /// The assignment of an operator's result to its first operand.

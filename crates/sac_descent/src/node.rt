@@ -13,6 +13,7 @@ use crate::place::{Measured, Place, node_height};
 use sac_ast::{Bound, Builtin, Expression, Generator, Index, Operation, Statement, Target};
 use sac_base::{Name, Op, Site};
 
+/// A number.
 pub fn number(n: i32, site: Site) -> Measured<Expression>
     ensures tree { expr result.tree ≡ tree.number n site }
     ensures height { result.height ≡ 1 }
@@ -23,6 +24,7 @@ pub fn number(n: i32, site: Site) -> Measured<Expression>
     }
 }
 
+/// A truth value.
 pub fn truth(truth: bool, site: Site) -> Measured<Expression>
     ensures tree { expr result.tree ≡ tree.truth truth site }
     ensures height { result.height ≡ 1 }
@@ -33,6 +35,7 @@ pub fn truth(truth: bool, site: Site) -> Measured<Expression>
     }
 }
 
+/// A variable.
 pub fn variable(target: Target) -> Measured<Expression>
     ensures tree { expr result.tree ≡ tree.variable target.name target.site }
     ensures height { result.height ≡ 1 }
@@ -43,6 +46,7 @@ pub fn variable(target: Target) -> Measured<Expression>
     }
 }
 
+/// An operator of one operand.
 pub fn unary<'a>(
     place: Place,
     op: Op,
@@ -61,6 +65,7 @@ pub fn unary<'a>(
     })
 }
 
+/// An operator of two operands.
 pub fn binary<'a>(
     place: Place,
     op: Op,
@@ -81,6 +86,7 @@ pub fn binary<'a>(
     })
 }
 
+/// A conditional expression.
 pub fn choice<'a>(
     place: Place,
     cond: Measured<Expression>,
@@ -102,6 +108,7 @@ pub fn choice<'a>(
     })
 }
 
+/// A selection from an array.
 pub fn select<'a>(
     place: Place,
     array: Measured<Expression>,
@@ -121,6 +128,7 @@ pub fn select<'a>(
     })
 }
 
+/// An array literal.
 pub fn literal(list: Measured<Vec<Expression>>, site: Site) -> Measured<Expression>
     ensures tree { expr result.tree ≡ tree.literal (view.exprs list.tree.items) site }
     ensures height { IsAbove result.height list.height }
@@ -149,6 +157,7 @@ pub fn index_of(mut list: Measured<Vec<Expression>>, site: Site) -> Measured<Exp
     }
 }
 
+/// A call.
 pub fn call(name: Name, list: Measured<Vec<Expression>>, site: Site) -> Measured<Expression>
     ensures tree { expr result.tree ≡ tree.call name (view.exprs list.tree.items) site }
     ensures height { IsAbove result.height list.height }
@@ -178,6 +187,7 @@ pub fn builtin<'a>(
     })
 }
 
+/// `reshape` of a shape and an array.
 pub fn reshape<'a>(
     place: Place,
     shape: Measured<Expression>,
@@ -198,6 +208,7 @@ pub fn reshape<'a>(
     })
 }
 
+/// A with-loop.
 pub fn with_loop<'a>(
     place: Place,
     generators: Measured<Vec<Generator>>,
@@ -216,6 +227,7 @@ pub fn with_loop<'a>(
     })
 }
 
+/// An assignment of one or more targets.
 pub fn assign(targets: Vec<Target>, value: Measured<Expression>) -> Measured<Statement>
     ensures tree { stmt result.tree ≡ tree.assign targets.items (expr value.tree) }
     ensures height { IsAbove result.height value.height }
@@ -229,6 +241,7 @@ pub fn assign(targets: Vec<Target>, value: Measured<Expression>) -> Measured<Sta
     }
 }
 
+/// The replacement of an element.
 pub fn replace(
     target: Target,
     bracket: Site,
@@ -249,6 +262,7 @@ pub fn replace(
     }
 }
 
+/// A conditional statement.
 pub fn if_else(
     cond: Measured<Expression>,
     yes: Measured<Vec<Statement>>,
@@ -269,6 +283,7 @@ pub fn if_else(
     }
 }
 
+/// A `while` loop.
 pub fn while_do(
     cond: Measured<Expression>,
     body: Measured<Vec<Statement>>,
@@ -287,6 +302,7 @@ pub fn while_do(
     }
 }
 
+/// A `do` loop, with the site of its `while`.
 pub fn do_while(
     body: Measured<Vec<Statement>>,
     cond: Measured<Expression>,
@@ -307,7 +323,7 @@ pub fn do_while(
     }
 }
 
-/// A bound of a generator. A dot has no height.
+/// A bound that an expression gives.
 pub fn given(value: Measured<Expression>) -> Measured<Bound>
     ensures tree { view.bound result.tree ≡ tree.at (expr value.tree) }
     ensures height { result.height ≡ value.height }
@@ -318,6 +334,7 @@ pub fn given(value: Measured<Expression>) -> Measured<Bound>
     }
 }
 
+/// The bound that a dot stands for, which has no height.
 pub fn dot(site: Site) -> Measured<Bound>
     ensures tree { view.bound result.tree ≡ tree.dot site }
     ensures height { result.height ≡ 0 }
@@ -328,6 +345,7 @@ pub fn dot(site: Site) -> Measured<Bound>
     }
 }
 
+/// A `genarray`, with its default where one is given.
 pub fn genarray(
     shape: Measured<Expression>,
     default: Measured<Option<Expression>>,
@@ -346,6 +364,7 @@ pub fn genarray(
     }
 }
 
+/// A `modarray`.
 pub fn modarray(array: Measured<Expression>, site: Site) -> Measured<Operation>
     ensures tree { view.operation result.tree ≡ tree.modarray (expr array.tree) site }
     ensures height { IsAbove result.height array.height }
@@ -359,6 +378,7 @@ pub fn modarray(array: Measured<Expression>, site: Site) -> Measured<Operation>
     }
 }
 
+/// A `fold`.
 pub fn fold(op: Op, neutral: Measured<Expression>, site: Site) -> Measured<Operation>
     ensures tree { view.operation result.tree ≡ tree.fold op (expr neutral.tree) site }
     ensures height { IsAbove result.height neutral.height }

@@ -12,6 +12,7 @@ const GREATEST_HEIGHT: u32 = 99;
 /// Where a phrase stands.
 #[derive(Clone, Copy)]
 pub struct Place {
+    /// Where trees are put.
     pub alloc: Global,
     /// How many nodes of its function stand around it.
     pub depth: u32,
@@ -45,6 +46,7 @@ impl Place {
 #[derive(Drop)]
 pub struct Measured<T> {
     pub tree: T,
+    /// How many nodes stand one in the other, at most.
     pub height: u32,
 }
 

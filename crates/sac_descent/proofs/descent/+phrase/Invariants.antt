@@ -1,4 +1,4 @@
-use Rattle.std.proofs.Common.{ℕ, ◌≡◌, ◌+◌, ◌*◌, ◌<◌, ◌≤◌, length, true}
+use Rattle.std.proofs.Common.{◌≡◌, ◌+◌, ◌*◌, ◌<◌, ◌≤◌, length, true}
 use Rattle.sac_ast.specs.Heights.{height}
 use Rattle.sac_ast.specs.View as View
 use Rattle.sac_descent.specs.Contract.{lexemes_of}
@@ -138,7 +138,6 @@ decreases-chain l = 64 * length l.tokens.now + 2 * rank l.level + 5
 
 abbrev pub decreases-operand : goal.decreases-operand
 decreases-operand l = 64 * length l.tokens.now + 2 * rank l.level + 4
-
 
 abbrev pub invariant-list-loop-comma : goal.invariant-list-loop-comma
 invariant-list-loop-comma l = record { shorter : length l.rest < length l.tokens; so_far : ListRead l.place (lexemes_of l.tokens) l.found.items l.height (lexemes_of l.rest) }

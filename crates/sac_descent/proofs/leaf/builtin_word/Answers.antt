@@ -1,5 +1,5 @@
 use Rattle.sac_ast.specs.Shape.{text}
-use Rattle.std.proofs.Common.{codes, sym, ◌∙◌, ap, refl, true, false}
+use Rattle.std.proofs.Common.{codes, refl}
 use mathlib.Core.Logic.{inl, inr}
 use Rattle.sac_descent.specs.Contract.{lexeme}
 use Rattle.sac_grammar.proofs.Parsing.{read_first, read_second}

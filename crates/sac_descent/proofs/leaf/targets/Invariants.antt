@@ -1,4 +1,4 @@
-use Rattle.std.proofs.Common.{ℕ, ◌≤◌, length}
+use Rattle.std.proofs.Common.{◌≤◌, length}
 use Rattle.sac_descent.specs.Contract.{lexeme, lexemes_of}
 use Rattle.sac_descent.proofs.LeafSteps.{NamesRead}
 use Rattle.sac_descent.proofs.leaf.targets.Given as goal
