@@ -1,0 +1,5 @@
+pub mod Ranges
+pub mod Frames
+pub mod Plans
+pub mod Cells
+pub mod Tells
