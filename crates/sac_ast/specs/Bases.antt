@@ -11,6 +11,7 @@ use Rattle.sac_base.specs.Arrays.{same_base}
 use Rattle.sac_base.specs.Operators.{result_base}
 use Rattle.sac_ast.specs.declared.Target.{Target}
 use Rattle.sac_ast.specs.declared.Param.{Param}
+use Rattle.sac_ast.specs.declared.Known.{Known}
 use Rattle.sac_ast.specs.declared.Builtin.{Builtin}
 use Rattle.sac_ast.specs.declared.Builtin.TheVariants.{Dim, Shape, Reshape}
 use Rattle.sac_ast.specs.Tree.{IndexTree, named, parts, Expr, Exprs, no_exprs, expr_and, MaybeExpr, left_out, given, Stmt, Block, no_stmts, stmt_and, BoundTree, dot, at, Gen, gen, Gens, no_gens, gen_and, OperationTree, FunctionTree, number, truth, variable, literal, unary, binary, choice, select, call, builtin, with_loop, assign, replace, if_else, while_do, do_while, genarray, modarray, fold}
@@ -36,6 +37,9 @@ abbrev pub operands_fit : Op → Option Base → Option Base → Bool
 operands_fit Eq a b = may_match a b
 operands_fit Ne a b = may_match a b
 operands_fit op a b = may_be (operand_base op) a && may_be (operand_base op) b
+
+abbrev pub are_int : Option Base → Option Base → Option Base → Option Base → Bool
+are_int lower upper step width = may_be Int lower && may_be Int upper && may_be Int step && may_be Int width
 
 -- a base where a rule holds
 abbrev pub where_holds : Bool → Option Base → Option Base
@@ -116,26 +120,26 @@ first_named fs name = find (λ f. bytes_eq f.name name) fs
 abbrev pub takes_bases : List FunctionTree → Name → List Base → FunctionTree → Bool
 takes_bases fs name bs f = bytes_eq f.name name && counts_beside (first_named fs name) f && same_bases (bases_of_params f) bs
 
-abbrev pub results_by : List FunctionTree → Name → Option (List Base) → Option (List Base)
-results_by fs name None = None
-results_by fs name (Some bs) = bases_of_results (find (takes_bases fs name bs) fs)
+-- the first instance of the name that takes these bases
+abbrev pub instance_by : List FunctionTree → Name → Option (List Base) → Option FunctionTree
+instance_by fs name None = None
+instance_by fs name (Some bs) = find (takes_bases fs name bs) fs
 
--- by the first instance of the name that takes these bases
 abbrev pub call_bases_in : List FunctionTree → CallBases
-call_bases_in fs name bs = results_by fs name (all_known bs)
+call_bases_in fs name bs = bases_of_results (instance_by fs name (all_known bs))
 
 -- ---- expressions
 
 -- what names are bound to, the first binding of each name first
 abbrev pub Bases : Type 0
-Bases = List (Name × Option Base)
+Bases = List Known
 
-abbrev pub base_bound : Option (Name × Option Base) → Option Base
+abbrev pub base_bound : Option Known → Option Base
 base_bound None = None
-base_bound (Some p) = p.1
+base_bound (Some k) = k.base
 
 abbrev pub base_of_name : Bases → Name → Option Base
-base_of_name known name = base_bound (find (λ (p : Name × Option Base). bytes_eq p.0 name) known)
+base_of_name known name = base_bound (find (λ (k : Known). bytes_eq k.name name) known)
 
 module _ (call_bases : CallBases) (known : Bases) where
   abbrev mutual
@@ -182,9 +186,7 @@ module _ (call_bases : CallBases) (known : Bases) where
     -- bounds, steps and widths are int, and cells have the operation's base
     pub generator_fits : Gen → Option Base → Bool
     generator_fits (gen lower lower_closed index upper upper_closed step width body cell site) wanted =
-        may_be Int (bound_base lower) && may_be Int (bound_base upper)
-        && may_be Int (maybe_base step (Some Int)) && may_be Int (maybe_base width (Some Int))
-        && may_match wanted (base cell)
+        are_int (bound_base lower) (bound_base upper) (maybe_base step (Some Int)) (maybe_base width (Some Int)) && may_match wanted (base cell)
 
     -- the base of a with-loop whose cells need this one
     pub with_base_of : Gens → Option Base → Option Base
@@ -195,16 +197,16 @@ module _ (call_bases : CallBases) (known : Bases) where
 
 abbrev pub with_bases : List Target → List (Option Base) → Bases → Bases
 with_bases [] bs known = known
-with_bases (target ∷ targets) [] known = with_bases targets [] (known ++ (target.name, None) ∷ [])
-with_bases (target ∷ targets) (b ∷ bs) known = with_bases targets bs (known ++ (target.name, b) ∷ [])
+with_bases (target ∷ targets) [] known = with_bases targets [] (known ++ record { name = target.name; base = None } ∷ [])
+with_bases (target ∷ targets) (b ∷ bs) known = with_bases targets bs (known ++ record { name = target.name; base = b } ∷ [])
 
 abbrev pub known_bases : Option (List Base) → List (Option Base)
 known_bases None = []
 known_bases (Some bs) = map (λ b. Some b) bs
 
 abbrev pub index_bases : IndexTree → Bases
-index_bases (named target) = (target.name, Some Int) ∷ []
-index_bases (parts targets) = map (λ (t : Target). (t.name, Some Int)) targets
+index_bases (named target) = record { name = target.name; base = Some Int } ∷ []
+index_bases (parts targets) = map (λ (t : Target). record { name = t.name; base = Some Int }) targets
 
 -- the bindings of a tree, after those that are known
 module _ (call_bases : CallBases) where
@@ -268,7 +270,7 @@ module _ (call_bases : CallBases) where
 -- ---- functions
 
 abbrev pub bound_params : List Param → Bases
-bound_params params = map (λ (p : Param). (p.name, Some p.ty.base)) params
+bound_params params = map (λ (p : Param). record { name = p.name; base = Some p.ty.base }) params
 
 -- the bindings of a function
 abbrev pub known_in : List FunctionTree → FunctionTree → Bases

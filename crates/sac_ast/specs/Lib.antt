@@ -1,4 +1,3 @@
-pub mod Accepted
 pub mod Bases
 pub mod Grammar
 pub mod Heights

@@ -4,7 +4,7 @@
 mod measure;
 
 pub use measure::height;
-use sac_base::{ArrayType, Name, Op, Site};
+use sac_base::{ArrayType, Base, Name, Op, Site};
 
 /// A whole source.
 #[derive(Drop)]
@@ -163,4 +163,11 @@ pub enum CheckCode {
     C9,
     /// A dot is a bound of a fold.
     C10,
+}
+
+/// A name that is bound, and the base of what it is bound to, where that has one.
+#[derive(Drop)]
+pub struct Known {
+    pub name: Name,
+    pub base: Option<Base>,
 }

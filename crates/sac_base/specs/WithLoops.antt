@@ -1,13 +1,13 @@
 -- What a with-loop gives, once its bounds and the arguments of its operation are known.
-use Rattle.std.specs.Prelude.{ℕ, zero, suc, ◌*◌, List, [], ◌∷◌, ◌++◌, ℤ, pos, ◌+ℤ◌, ◌-ℤ◌, int_lt, int_le, Bool, true, false, ◌&&◌, ◌||◌, not, if◌then◌else◌, Option, Some, None, Result, Ok, Err, map, length, take, drop, replicate, flat_map, filter, fold, nat_le, ◌==◌}
-use Rattle.std.specs.List.{list_all, zip}
+use Rattle.std.specs.Prelude.{ℕ, zero, suc, ◌+◌, List, [], ◌∷◌, ◌++◌, ℤ, pos, ◌+ℤ◌, ◌-ℤ◌, int_lt, int_le, Bool, true, false, ◌&&◌, ◌||◌, not, if◌then◌else◌, Option, Some, None, Result, Ok, Err, map, length, take, drop, replicate, flat_map, filter, fold, nat_le, ◌==◌}
+use Rattle.std.specs.List.{list_all, list_any, zip}
 use Rattle.std.specs.Int.{int_min, int_max, int_rem_euclid}
 use Rattle.sac_base.specs.declared.op.Op.{Op}
 use Rattle.sac_base.specs.declared.site.Site.{Site}
-use Rattle.sac_base.specs.declared.fault.Fault.{Fault}
+use Rattle.sac_base.specs.declared.form.Form.{Form}
 use Rattle.sac_base.specs.declared.fault.FaultKind.{FaultKind}
 use Rattle.sac_base.specs.declared.fault.FaultKind.TheVariants.{F4, F5, F6, F8}
-use Rattle.sac_base.specs.Arrays.{ArrayValue, size, MOST, same_form}
+use Rattle.sac_base.specs.Arrays.{ArrayValue, size, MOST, form_of, same_base, same_shape}
 use Rattle.sac_base.specs.Operators.{binary, all_of}
 use Rattle.sac_base.specs.Parts.{vector_of, shape_of_numbers, part_at, cells_at, Part}
 use Rattle.sac_base.specs.Outcomes.{Ends, and_then, fault}
@@ -35,57 +35,29 @@ pub data Operation : Type 0 where
   modarray : (array : ArrayValue) (site : Site) → Operation
   fold_by : (op : Op) (neutral : ArrayValue) (site : Site) → Operation
 
--- ---- ranges and boxes
+-- ---- boxes
 
--- the parts of a generator once they have been checked: it holds the vectors v with lower <= v < upper and (v - lower) mod step < width in every component
-pub record Range : Type 0 where
-  pub lower : List ℤ
-  pub upper : List ℤ
-  pub step : List ℤ
-  pub width : List ℤ
+-- so many whole numbers, from the first on
+pub record Span : Type 0 where
+  pub low : ℤ
+  pub extent : ℕ
 
-abbrev pub holds_at : ℤ → ℤ → ℤ → ℤ → ℤ → Bool
-holds_at lower upper step width v =
-    int_le lower v && int_lt v upper && int_lt (int_rem_euclid (v -ℤ lower) step) width
-
-abbrev pub holds_in : List ℤ → List ℤ → List ℤ → List ℤ → List ℤ → Bool
-holds_in (l ∷ ls) (u ∷ us) (s ∷ ss) (w ∷ ws) (v ∷ vs) = holds_at l u s w v && holds_in ls us ss ws vs
-holds_in [] [] [] [] [] = true
-holds_in _ _ _ _ _ = false
-
--- the vector is a member of the range
-abbrev pub holds : Range → List ℤ → Bool
-holds r v = holds_in r.lower r.upper r.step r.width v
-
--- so many whole numbers from the first on
 abbrev pub numbers_from : ℤ → ℕ → List ℤ
 numbers_from low zero = []
 numbers_from low (suc n) = low ∷ numbers_from (low +ℤ pos 1) n
 
--- how far the second number lies above the first, and 0 where it does not
-abbrev pub distance : ℤ → ℕ
-distance (pos n) = n
-distance _ = 0
+-- the vectors whose components lie in the spans, in row-major order
+abbrev pub box : List Span → List (List ℤ)
+box [] = [] ∷ []
+box (a ∷ rest) = flat_map (λ v. map (λ vs. v ∷ vs) (box rest)) (numbers_from a.low a.extent)
 
--- the whole numbers from the first up to, and not with, the second
-abbrev pub numbers_between : ℤ → ℤ → List ℤ
-numbers_between low high = numbers_from low (distance (high -ℤ low))
+-- how many they are
+abbrev pub box_size : List Span → ℕ
+box_size spans = size (map (λ (a : Span). a.extent) spans)
 
--- the vectors of a box in row-major order
-abbrev pub box : List ℤ → List ℤ → List (List ℤ)
-box [] highs = [] ∷ []
-box (low ∷ lows) [] = []
-box (low ∷ lows) (high ∷ highs) =
-    flat_map (λ v. map (λ vs. v ∷ vs) (box lows highs)) (numbers_between low high)
-
--- the extents of a box, none of them below 0
-abbrev pub extents : List ℤ → List ℤ → List ℕ
-extents (low ∷ lows) (high ∷ highs) = distance (high -ℤ low) ∷ extents lows highs
-extents _ _ = []
-
--- the index vectors of a shape in row-major order
-abbrev pub indices : List ℕ → List (List ℤ)
-indices shape = box (replicate (length shape) (pos 0)) (map pos shape)
+-- from 0 to below each extent
+abbrev pub shape_spans : List ℕ → List Span
+shape_spans shape = map (λ n. record { low = pos 0; extent = n }) shape
 
 -- the vector is an index of the shape
 abbrev pub lies_in : List ℕ → List ℤ → Bool
@@ -94,9 +66,40 @@ lies_in (n ∷ ns) (v ∷ vs) = int_le (pos 0) v && int_lt v (pos n) && lies_in 
 lies_in [] (v ∷ vs) = false
 lies_in (n ∷ ns) [] = false
 
+-- ---- ranges
+
+-- one component of a generator whose bounds have been checked, the lower bound in it and the upper one not
+pub record Axis : Type 0 where
+  pub lower : ℤ
+  pub upper : ℤ
+  pub step : ℤ
+  pub width : ℤ
+
+abbrev pub Range : Type 0
+Range = List Axis
+
+abbrev pub holds_at : Axis → ℤ → Bool
+holds_at a v = int_le a.lower v && int_lt v a.upper && int_lt (int_rem_euclid (v -ℤ a.lower) a.step) a.width
+
+-- the vector is a member of the range: lower <= v < upper and (v - lower) mod step < width in every component
+abbrev pub holds : Range → List ℤ → Bool
+holds [] [] = true
+holds (a ∷ rest) (v ∷ vs) = holds_at a v && holds rest vs
+holds [] (v ∷ vs) = false
+holds (a ∷ rest) [] = false
+
+-- a whole number that is not negative, and 0 for another
+abbrev pub distance : ℤ → ℕ
+distance (pos n) = n
+distance _ = 0
+
+-- from the lower bound up to, and not with, the upper one
+abbrev pub span_of : Axis → Span
+span_of a = record { low = a.lower; extent = distance (a.upper -ℤ a.lower) }
+
 -- the members of a range in row-major order
 abbrev pub members : Range → List (List ℤ)
-members r = filter (holds r) (box r.lower r.upper)
+members r = filter (holds r) (box (map span_of r))
 
 -- ---- the parts of generators, checked
 
@@ -122,8 +125,9 @@ abbrev pub as_vector : ℕ → Option (List ℤ) → Option (List ℤ)
 as_vector n None = None
 as_vector n (Some zs) = if length zs == n then Some zs else None
 
-abbrev pub part_or : ℕ → Option (List ℤ) → Option ArrayValue → Option (List ℤ)
-part_or n otherwise None = as_vector n otherwise
+-- a part that is given, or what stands for one that is not
+abbrev pub part_or : ℕ → List ℤ → Option ArrayValue → Option (List ℤ)
+part_or n otherwise None = as_vector n (Some otherwise)
 part_or n otherwise (Some a) = as_vector n (vector_of a)
 
 abbrev pub raised : Bool → Option (List ℤ) → Option (List ℤ)
@@ -141,34 +145,38 @@ names_fit n (Some m) = m == n
 
 -- a lower dot is zeros, and a lower bound that is no member is raised by 1
 abbrev pub lower_of : ℕ → Bounds → Option (List ℤ)
-lower_of n g = raised (not g.lower_closed) (part_or n (Some (replicate n (pos 0))) g.lower)
+lower_of n g = raised (not g.lower_closed) (part_or n (replicate n (pos 0)) g.lower)
 
 -- an upper dot is the last index of the frame, and an upper bound that may be a member is raised by 1
 abbrev pub upper_of : ℕ → List ℕ → Bounds → Option (List ℤ)
-upper_of n frame g = raised g.upper_closed (part_or n (Some (map (λ m. pos m -ℤ pos 1) frame)) g.upper)
+upper_of n frame g = raised g.upper_closed (part_or n (map (λ m. pos m -ℤ pos 1) frame) g.upper)
 
 -- a step or a width: a missing one is ones
 abbrev pub step_of : ℕ → Option ArrayValue → Option (List ℤ)
-step_of n part = all_positive (part_or n (Some (replicate n (pos 1))) part)
+step_of n part = all_positive (part_or n (replicate n (pos 1)) part)
 
-abbrev pub range_from : Site → Option (List ℤ) → Option (List ℤ) → Option (List ℤ) → Option (List ℤ) → Ends Range
-range_from site (Some lower) (Some upper) (Some step) (Some width) =
-    Ok (record { lower = lower; upper = upper; step = step; width = width })
-range_from site _ _ _ _ = fault F5 site
+abbrev pub axes : List ℤ → List ℤ → List ℤ → List ℤ → Range
+axes (l ∷ ls) (u ∷ us) (s ∷ ss) (w ∷ ws) = record { lower = l; upper = u; step = s; width = w } ∷ axes ls us ss ws
+axes _ _ _ _ = []
+
+abbrev pub range_from : Option (List ℤ) → Option (List ℤ) → Option (List ℤ) → Option (List ℤ) → Option Range
+range_from (Some lower) (Some upper) (Some step) (Some width) = Some (axes lower upper step width)
+range_from _ _ _ _ = None
 
 -- no member lies outside the frame; a fold has no such bound
 abbrev pub all_within : Option (List ℕ) → Range → Bool
 all_within None r = true
 all_within (Some frame) r = list_all (lies_in frame) (members r)
 
-abbrev pub within_frame : Option (List ℕ) → Site → Range → Ends Range
-within_frame frame site r = if all_within frame r then Ok r else fault F5 site
+abbrev pub within_frame : Option (List ℕ) → Site → Option Range → Ends Range
+within_frame frame site None = fault F5 site
+within_frame frame site (Some r) = if all_within frame r then Ok r else fault F5 site
 
--- a generator whose index has n components, which are at most `most`; `frame` is where its members must lie, and `dots` what an upper dot stands for
+-- a generator whose index has n components, which are at most `most`; `frame` is where its members must lie, and `dots` is the frame that an upper dot speaks of
 abbrev pub range_of : ℕ → ℕ → Option (List ℕ) → List ℕ → Bounds → Ends Range
 range_of n most frame dots g =
     if nat_le n 8 && nat_le n most && names_fit n g.names
-    then and_then (range_from g.site (lower_of n g) (upper_of n dots g) (step_of n g.step) (step_of n g.width)) (within_frame frame g.site)
+    then within_frame frame g.site (range_from (lower_of n g) (upper_of n dots g) (step_of n g.step) (step_of n g.width))
     else fault F5 g.site
 
 -- what each of a list gives, or the first fault
@@ -182,8 +190,8 @@ pub record Plan : Type 0 where
   pub ranges : List Range
   -- the indices of the frame in row-major order
   pub indices : List (List ℤ)
-  -- an array of the form that each cell must have
-  pub form : ArrayValue
+  -- what each cell must be
+  pub form : Form
   -- the shape of the result
   pub shape : List ℕ
 
@@ -193,7 +201,7 @@ genarray_plan gs (Some frame) default site =
     if nat_le (length (frame ++ default.shape)) 8 then
     (if nat_le (size frame) MOST && nat_le (size (frame ++ default.shape)) MOST then
     and_then (each (range_of (length frame) 8 (Some frame) frame) gs) (λ ranges.
-    Ok (record { ranges = ranges; indices = indices frame; form = default; shape = frame ++ default.shape }))
+    Ok (record { ranges = ranges; indices = box (shape_spans frame); form = form_of default; shape = frame ++ default.shape }))
     else fault F8 site) else fault F4 site
 
 -- the frame is the first n extents of the array, and a cell has the rest
@@ -202,48 +210,32 @@ modarray_plan gs n array site =
     let frame = take n array.shape in
     and_then (each (range_of n (length array.shape) (Some frame) frame) gs) (λ ranges.
     if nat_le (size frame) MOST
-    then Ok (record { ranges = ranges; indices = indices frame; form = record { base = array.base; shape = drop n array.shape; cells = [] }; shape = array.shape })
+    then Ok (record { ranges = ranges; indices = box (shape_spans frame); form = record { base = array.base; shape = drop n array.shape }; shape = array.shape })
     else fault F8 site)
-
-abbrev pub has_no_vector : List ℤ → List ℤ → Bool
-has_no_vector [] highs = false
-has_no_vector (low ∷ lows) [] = true
-has_no_vector (low ∷ lows) (high ∷ highs) = not (int_lt low high) || has_no_vector lows highs
 
 -- the box from the lower to the upper bound is empty
 abbrev pub is_empty_box : Range → Bool
-is_empty_box r = has_no_vector r.lower r.upper
+is_empty_box r = list_any (λ (a : Axis). not (int_lt a.lower a.upper)) r
 
-abbrev pub each_with : (ℤ → ℤ → ℤ) → List ℤ → List ℤ → List ℤ
-each_with f (a ∷ as') (b ∷ bs) = f a b ∷ each_with f as' bs
-each_with f _ _ = []
+-- the least span that holds both
+abbrev pub joined_axis : Axis → Axis → Axis
+joined_axis a b = record a { lower = int_min a.lower b.lower; upper = int_max a.upper b.upper }
 
--- the least box that holds the boxes of the ranges
-abbrev pub least_lower : List Range → List ℤ
-least_lower [] = []
-least_lower (r ∷ []) = r.lower
-least_lower (r ∷ q ∷ rest) = each_with int_min r.lower (least_lower (q ∷ rest))
+abbrev pub joined_range : Range → Range → Range
+joined_range (a ∷ as') (b ∷ bs) = joined_axis a b ∷ joined_range as' bs
+joined_range _ _ = []
 
-abbrev pub greatest_upper : List Range → List ℤ
-greatest_upper [] = []
-greatest_upper (r ∷ []) = r.upper
-greatest_upper (r ∷ q ∷ rest) = each_with int_max r.upper (greatest_upper (q ∷ rest))
-
--- how many indices the frame of a fold has, where these are the ranges whose boxes are not empty
-abbrev pub fold_size : List Range → ℕ
-fold_size [] = 0
-fold_size (r ∷ rest) = size (extents (least_lower (r ∷ rest)) (greatest_upper (r ∷ rest)))
-
-abbrev pub fold_indices : List Range → List (List ℤ)
-fold_indices [] = []
-fold_indices (r ∷ rest) = box (least_lower (r ∷ rest)) (greatest_upper (r ∷ rest))
+-- the least box that holds the boxes of these ranges; where there are none it has no index
+abbrev pub fold_frame : List Range → List Span
+fold_frame [] = record { low = pos 0; extent = 0 } ∷ []
+fold_frame (r ∷ rest) = map span_of (fold joined_range r rest)
 
 abbrev pub fold_plan : List Bounds → ℕ → ArrayValue → Site → Ends Plan
 fold_plan gs n neutral site =
     and_then (each (range_of n 8 None []) gs) (λ ranges.
-    let boxes = filter (λ r. not (is_empty_box r)) ranges in
-    if nat_le (fold_size boxes) MOST
-    then Ok (record { ranges = ranges; indices = fold_indices boxes; form = neutral; shape = neutral.shape })
+    let frame = fold_frame (filter (λ r. not (is_empty_box r)) ranges) in
+    if nat_le (box_size frame) MOST
+    then Ok (record { ranges = ranges; indices = box frame; form = form_of neutral; shape = neutral.shape })
     else fault F8 site)
 
 abbrev pub plan : List Bounds → Operation → Ends Plan
@@ -258,17 +250,20 @@ abbrev pub holder : List Generator → List Range → List ℤ → Option Genera
 holder (g ∷ gs) (r ∷ rs) v = if holds r v then Some g else holder gs rs v
 holder _ _ v = None
 
+abbrev pub fits_form : Form → ArrayValue → Bool
+fits_form form a = same_base a.base form.base && same_shape a.shape form.shape
+
 -- its cell, which must have the given form, or none
-abbrev pub held_cell : ArrayValue → Option Generator → List ℤ → Ends (Option ArrayValue)
+abbrev pub held_cell : Form → Option Generator → List ℤ → Ends (Option ArrayValue)
 held_cell form None v = Ok None
 held_cell form (Some g) v =
-    and_then (g.cell v) (λ c. if same_form c form then Ok (Some c) else fault F6 g.bounds.site)
+    and_then (g.cell v) (λ c. if fits_form form c then Ok (Some c) else fault F6 g.bounds.site)
 
-abbrev pub cell_at : ArrayValue → List Generator → List Range → List ℤ → Ends (Option ArrayValue)
+abbrev pub cell_at : Form → List Generator → List Range → List ℤ → Ends (Option ArrayValue)
 cell_at form gs ranges v = held_cell form (holder gs ranges v) v
 
 -- the cells of all indices, or the fault of the first index that has one
-abbrev pub cells_of : ArrayValue → List Generator → List Range → List (List ℤ) → Ends (List (Option ArrayValue))
+abbrev pub cells_of : Form → List Generator → List Range → List (List ℤ) → Ends (List (Option ArrayValue))
 cells_of form gs ranges = each (cell_at form gs ranges)
 
 -- ---- what is made of the cells
