@@ -2,11 +2,12 @@
 use Rattle.std.proofs.Common.{false, ℕ, zero, suc, ◌≡◌, ◌<◌, ◌≤◌, ◌+◌, List, [], ◌∷◌, ◌++◌, inl, inr, refl, sym, ap, ◌∙◌, subst, append_assoc, append-nil, arith, length, length-append, ⊎_elim}
 use Rattle.std.proofs.str.Laws.{order}
 use Rattle.std.specs.List.{AllByRecursion}
+use Rattle.sac_base.specs.declared.site.Site.{Site}
 use Rattle.sac_ast.specs.Texts.{Lexeme}
 use Rattle.sac_ast.specs.Shape.{MatchesEach, ref}
 use Rattle.sac_ast.specs.Tree.{FunctionTree, ProgramTree}
 use Rattle.sac_ast.specs.Grammar.{program, function, Tree, rule, action, IsPhrase, IsProgram}
-use Rattle.sac_ast.specs.Heights.{function_height, open_behind, IsLow}
+use Rattle.sac_ast.specs.Heights.{function_height, open_behind, IsLow, IsTreeOf}
 use Rattle.sac_ast.specs.Refusals.{Starts, IsInReach, IsStuckAt, IsTooDeepAt}
 use Rattle.sac_grammar.specs.Verdicts.{IsRead, NoHighBefore}
 use Rattle.sac_grammar.specs.Tables.{first_of, ext_of, rank_of}
@@ -154,3 +155,14 @@ none_high_in (suc n) ts p r ((fs, last), e, (mid, each, end)) low = none_high ts
 -- behind a program within the limit on heights
 pub none_high_read : (ts : List Lexeme) (p : ProgramTree) (r : List Lexeme) → Found program ts p r → IsLow p → NoHighBefore ts r
 none_high_read ts p r f low = none_high_in f.levels ts p r f.run low
+
+-- ---- where tokens are refused there is no tree
+
+split_program : (before : List Lexeme) (x : Lexeme) (behind' ts : List Lexeme) → ts ≡ before ++ (x ∷ behind') → ts ≡ (before ++ (x ∷ [])) ++ behind'
+split_program before x behind' ts e = e ∙ sym (append_assoc before (x ∷ []) behind')
+
+pub stuck_has_no_tree : (ts : List Lexeme) (site : Site) (p : ProgramTree) → IsStuckAt ts site → IsTreeOf ts p → ⊥
+stuck_has_no_tree ts site p s t = s.none (s.behind, p, subst (λ l. IsProgram l p) (split_program s.before s.token s.behind ts s.whole) t.0)
+
+pub deep_has_no_tree : (ts : List Lexeme) (site : Site) (p : ProgramTree) → IsTooDeepAt ts site → IsTreeOf ts p → ⊥
+deep_has_no_tree ts site p s t = s.none (s.behind, p, subst (λ l. IsTreeOf l p) (split_program s.before s.token s.behind ts s.whole) t)

@@ -2,10 +2,11 @@
 #![tactic(auto)]
 
 ghost use Rattle.std.specs.Prelude.{◌≡◌, ◌<◌, ℕ, true, List, [], ◌∷◌, ◌++◌};
+ghost use Rattle.sac_base.specs.declared.site.Site.{Site};
 ghost use Rattle.sac_ast.specs.Texts.{Lexeme, is_end};
 ghost use Rattle.sac_ast.specs.Grammar.{Nonterminal, Tree, IsPhrase, program};
 ghost use Rattle.sac_ast.specs.Tree.{ProgramTree};
-ghost use Rattle.sac_ast.specs.Heights.{open_behind};
+ghost use Rattle.sac_ast.specs.Heights.{open_behind, IsTreeOf};
 ghost use Rattle.sac_ast.specs.Refusals.{Starts, IsStuckAt, IsTooDeepAt};
 ghost use Rattle.sac_grammar.specs.Verdicts.{IsRead, NoHighBefore};
 ghost use Rattle.sac_grammar.specs.Limits.{High};
@@ -33,4 +34,10 @@ pub fn refusals()
     ensures behind { (ts read : List Lexeme) (p : ProgramTree) (x : Lexeme) (r : List Lexeme) → IsRead ts read → Found program read p (x ∷ r) → NoHighBefore read (x ∷ r) → IsStuckAt ts x.site }
     // Stuck behind the end token: that does not happen.
     ensures ended { (u : List Lexeme) (e : Lexeme) → is_end e.text ≡ true → Lost program (u ++ (e ∷ [])) [] → ⊥ }
+{}
+
+/// Where tokens are refused they have no tree within the limits on nesting.
+pub fn refused_tokens_have_no_tree()
+    ensures stuck { (ts : List Lexeme) (site : Site) (p : ProgramTree) → IsStuckAt ts site → IsTreeOf ts p → ⊥ }
+    ensures deep { (ts : List Lexeme) (site : Site) (p : ProgramTree) → IsTooDeepAt ts site → IsTreeOf ts p → ⊥ }
 {}
