@@ -1,12 +1,8 @@
 -- The choice of an instance.
-use Rattle.std.proofs.Common.{◌≡◌, ℕ, zero, suc, ◌+◌, ◌<◌, ◌≤◌, List, [], ◌∷◌, length, get_or, drop, map, Bool, true, false, refl, sym, ap, ◌∙◌, arith, Option, Some, None, cond}
-use Rattle.std.specs.Prelude.{position, nat_lt, ◌&&◌, not, ◌||◌}
-use Rattle.std.specs.List.{position_or_len, list_all}
-use Rattle.std.proofs.lemmas.List.{drop_more}
+use Rattle.std.proofs.Common.{◌≡◌, ℕ, zero, suc, ◌+◌, ◌<◌, List, [], ◌∷◌, length, get_or, map, Bool, true, false, refl, ap, ◌∙◌, arith, Some, None, cond}
+use Rattle.std.specs.Prelude.{position, nat_lt, not}
+use Rattle.std.specs.List.{position_or_len}
 use Rattle.std.proofs.lemmas.Bool.Decides.{nat_tests}
-use Rattle.sac_base.specs.declared.types.ArrayType.{ArrayType}
-use Rattle.sac_base.specs.Arrays.{ArrayValue}
-use Rattle.sac_base.specs.Types.{all_have, all_below, has, below}
 
 -- the first place at which a test passes
 pub position_here : {A B : Type 0} (p : B → Bool) (f : A → B) (xs : List A) (i : ℕ) (d : A) → i < length xs → p (f (get_or xs i d)) ≡ true → ((k : ℕ) (e : A) → k < i → p (f (get_or xs k e)) ≡ false) → position_or_len p (map f xs) ≡ i

@@ -1,10 +1,7 @@
 -- One step of a list of expressions, of a block and of a loop.
-use Rattle.std.proofs.Common.{◌≡◌, ℕ, zero, suc, ◌+◌, ◌-◌, ◌<◌, List, [], ◌∷◌, ◌++◌, length, get_or, drop, Bool, true, false, refl, sym, ap, ◌∙◌, append_assoc, arith, Some, None, Ok, Err, Vec, Global}
+use Rattle.std.proofs.Common.{◌≡◌, ℕ, ◌+◌, ◌<◌, List, [], ◌∷◌, ◌++◌, length, get_or, drop, Bool, true, false, refl, sym, ap, ◌∙◌, append_assoc, Ok, Err, Vec, Global}
 use Rattle.sac_base.specs.declared.site.Site.{Site}
-use Rattle.sac_base.specs.declared.fault.Fault.{Fault}
-use Rattle.sac_base.specs.declared.fault.FaultKind.TheVariants.{F3, F9}
 use Rattle.sac_base.specs.Arrays.{ArrayValue}
-use Rattle.sac_base.specs.Parts.{condition}
 use Rattle.sac_ast.specs.declared.Expression.{Expression, Expression-F, out-Expression, roll-Expression, roll-out-Expression}
 use Rattle.sac_ast.specs.declared.Bound.{Bound}
 use Rattle.sac_ast.specs.declared.Operation.{Operation}
@@ -18,12 +15,9 @@ use Rattle.sac_ast.proofs.Lists.{exprs-drop}
 use Rattle.sac_ast.specs.Tree
 use Rattle.sac_ast.specs.View.{expr, exprs}
 use Rattle.value_meaning.specs.declared.evaluate.Context.{Context}
-use Rattle.sac_base.specs.Outcomes.{Ends, Env, and_then, fault, with_variables}
-use Rattle.value_meaning.specs.Meaning.{repeat, names}
-use Rattle.with_loops.specs.declared.stop.Stop.{Stop}
-use Rattle.with_loops.specs.declared.stop.Stop.TheVariants.{Faulted, Memory}
+use Rattle.sac_base.specs.Outcomes.{Ends, Env, and_then, with_variables}
+use Rattle.value_meaning.specs.Meaning.{names}
 use Rattle.value_meaning.specs.Evaluation.{meaning_in, meanings_in, statement_in}
-use Rattle.with_loops.specs.Tells.{TellsStop}
 
 -- ---- expressions from left to right
 

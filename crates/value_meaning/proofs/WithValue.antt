@@ -1,13 +1,10 @@
 -- The meaning of a with-loop from what the evaluator has computed.
-use Rattle.std.proofs.Common.{◌≡◌, ℕ, zero, suc, ◌+◌, ◌*◌, ◌≤◌, ◌<◌, List, [], ◌∷◌, ◌++◌, length, take, drop, map, Bool, true, false, refl, sym, ap, ◌∙◌, subst, arith, ℤ, Ok, Err, Some, None, Option, cond, true≢false}
-use Rattle.std.specs.Prelude.{fold, nat_le, if◌then◌else◌, ◌&&◌}
-use Rattle.std.proofs.lemmas.List.{take-append-drop}
+use Rattle.std.proofs.Common.{◌≡◌, suc, List, [], ◌∷◌, ◌++◌, length, map, Bool, true, false, refl, sym, ap, ◌∙◌, arith, ℤ, Ok, Err, Some}
+use Rattle.std.specs.Prelude.{if◌then◌else◌}
 use Rattle.sac_base.specs.declared.fault.Fault.{Fault}
-use Rattle.sac_base.specs.declared.fault.FaultKind.TheVariants.{F6, F8}
+use Rattle.sac_base.specs.declared.fault.FaultKind.TheVariants.{F6}
 use Rattle.sac_base.specs.declared.form.Form.{Form}
-use Rattle.sac_base.specs.declared.op.Op.{Op}
 use Rattle.sac_base.specs.declared.site.Site.{Site}
-use Rattle.sac_base.specs.Arrays.{ArrayValue, size, MOST}
 use Rattle.sac_base.specs.Operators.{all_of, with_first}
 use Rattle.sac_base.specs.Outcomes.{Ends, Env, and_then, fault}
 use Rattle.sac_base.specs.WithLoops.{Bounds, Range, Plan, Operation, box, shape_spans, each, plan, range_of, genarray_plan, modarray_plan, finish, genarray, modarray, fold_by, combined, cells_of, with_value, index_length}
@@ -19,7 +16,6 @@ use Rattle.sac_ast.specs.View.{index_view}
 use Rattle.sac_ast.specs.View
 use Rattle.sac_ast.proofs.Views.{generator_is}
 use Rattle.value_meaning.specs.declared.evaluate.Context.{Context}
-use Rattle.with_loops.specs.Cells.{array_from, cells_from}
 use Rattle.value_meaning.specs.Evaluation.{meaning_in, cell_in}
 use Rattle.value_meaning.specs.Meaning.{name_count}
 use Rattle.value_meaning.specs.WithSource.{generator_in, bound_in, maybe_in, bounds_in, generators_in, operation_in, generator_of, cells_in}
@@ -47,8 +43,8 @@ generator_from : (context : Context) (env : Env) (g : Generator) → generator_i
 generator_from context env g =
     ap (λ tree. generator_in context tree env) (generator_is g)
     ∙ four (bound_in context (View.bound g.lower) env) (bound_in context (View.bound g.upper) env) (maybe_in context (View.maybe g.step) env) (maybe_in context (View.maybe g.width) env)
-      (λ l u s w. record { lower = l; lower_closed = g.lower_closed; names = name_count (index_view g.index); upper = u; upper_closed = g.upper_closed; step = s; width = w; site = g.site })
-      (with_cell context env g)
+    (λ l u s w. record { lower = l; lower_closed = g.lower_closed; names = name_count (index_view g.index); upper = u; upper_closed = g.upper_closed; step = s; width = w; site = g.site })
+    (with_cell context env g)
 
 cons_from : (context : Context) (env : Env) (g : Generator) (gs : List Generator) (m : Ends Bounds) (rest : Ends (List Bounds)) (all : Ends (List WithLoops.Generator))
     → all ≡ and_then rest (λ bs. Ok (with_cells context env gs bs))

@@ -1,5 +1,5 @@
 -- The meaning as the evaluator computes it: in the function that runs, with the levels and turns that are left.
-use Rattle.std.specs.Prelude.{◌≡◌, ℕ, ℤ, Bool, List, [], ◌∷◌, Option, Some, None, Ok, map, slice_get}
+use Rattle.std.specs.Prelude.{ℕ, ℤ, Bool, List, Option, Ok, map, slice_get}
 use Rattle.sac_base.specs.declared.site.Site.{Site}
 use Rattle.sac_base.specs.declared.base.Base.{Base}
 use Rattle.sac_base.specs.declared.fault.Caps.{Caps}

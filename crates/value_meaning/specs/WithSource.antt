@@ -1,8 +1,6 @@
 -- The meaning of with-loops as the evaluator computes it.
-use Rattle.std.specs.Prelude.{◌≡◌, Result, Ok, Err, List, [], ◌∷◌, ℤ, Option, Some, None, Vec, map}
-use Rattle.sac_base.specs.declared.base.Base.{Base}
+use Rattle.std.specs.Prelude.{Ok, List, ℤ, Option, Some, None, map}
 use Rattle.sac_base.specs.declared.form.Form.{Form}
-use Rattle.sac_base.specs.declared.op.Op.{Op}
 use Rattle.sac_base.specs.Arrays.{ArrayValue}
 use Rattle.sac_base.specs.Outcomes.{Ends, Env, and_then}
 use Rattle.sac_base.specs.WithLoops.{Bounds, Range, Operation, each}
@@ -12,7 +10,7 @@ use Rattle.sac_ast.specs.Tree.{Gen, Gens, BoundTree, MaybeExpr, OperationTree}
 use Rattle.sac_ast.specs.View.{index_view}
 use Rattle.sac_ast.specs.View
 use Rattle.value_meaning.specs.declared.evaluate.Context.{Context}
-use Rattle.value_meaning.specs.Evaluation.{bases_in, calls_in, cell_in, meaning_in}
+use Rattle.value_meaning.specs.Evaluation.{bases_in, calls_in, cell_in}
 use Rattle.value_meaning.specs.Meaning.{name_count, generator, generators, operation, default_base, bound, maybe}
 
 abbrev pub bound_in : Context → BoundTree → Env → Ends (Option ArrayValue)

@@ -13,9 +13,7 @@ ghost use Rattle.sac_base.specs.Outcomes.{first_result, with_variables};
 
 use crate::environment::{Environment, assign};
 use sac_ast::{Function, Index, Param, Target};
-use sac_base::{
-    Array, Base, Name, contains, copy_array, same_name,
-};
+use sac_base::{Array, Base, Name, contains, copy_array, same_name};
 use shape_types::below;
 use std::alloc::Global;
 use with_loops::{IndexVector, Stop};

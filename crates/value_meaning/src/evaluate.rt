@@ -525,7 +525,12 @@ fn evaluate_operation(
         } => {
             let shape = evaluate(shape, context, env)?;
             let given = evaluate_maybe(default, context, env)?;
-            let Context { alloc, functions, current, .. } = *context;
+            let Context {
+                alloc,
+                functions,
+                current,
+                ..
+            } = *context;
             let default = default_or_zero(alloc, functions, current, gs, given)?;
             Ok(Evaluated::Genarray {
                 shape,

@@ -10,9 +10,9 @@ ghost use Rattle.with_loops.specs.Tells.{TellsItems, IsOutcome};
 use crate::calls::all_fit;
 use crate::evaluate::{Context, run_function};
 use sac_ast::{Function, Program};
-use sac_base::{Array, Caps, FaultKind, Memory, Outcome, copy_array};
+use sac_base::{Array, Caps, FaultKind, Memory, Outcome};
 use std::alloc::Global;
-use with_loops::{Stop, fault};
+use with_loops::{Stop, copy_all, fault};
 
 /// Runs a program on arguments, and gives what its meaning is: the results of `main`, or the first fault.
 pub fn plain_run(
@@ -69,16 +69,6 @@ fn run_main(
     };
     let args = copy_all(alloc, args)?;
     run_function(args, &context)
-}
-
-fn copy_all(alloc: Global, args: &[Array]) -> Result<Vec<Array>, Memory>
-    ensures { IfOk result (λ copies. copies.items ≡ args.now) }
-{
-    let mut copies = Vec::new(alloc);
-    for array in args {
-        copies.push(copy_array(array)?)?;
-    }
-    Ok(copies)
 }
 
 /// The place of `main`.

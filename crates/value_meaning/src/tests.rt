@@ -1,9 +1,8 @@
 use super::*;
 use sac_ast::{
-    Bound, Builtin, Expression, Function, Generator, Index, Operation, Param, Program, Statement,
-    Target,
+    Bound, Expression, Function, Generator, Index, Operation, Param, Program, Statement, Target,
 };
-use sac_base::{Array, ArrayType, Base, Caps, FaultKind, Name, Op, Outcome, Part, Shape, Site};
+use sac_base::{Array, ArrayType, Base, Caps, FaultKind, Name, Op, Outcome, Part, Site};
 use std::alloc::Global;
 use std::test::Fail;
 
@@ -223,19 +222,28 @@ fn faults(outcome: &Outcome, kind: FaultKind, site: Site) -> bool {
 }
 
 #[test]
-fn expressions(rt: HostRuntime) -> Result<(), Fail> {
+fn operators_have_their_values(rt: HostRuntime) -> Result<(), Fail> {
     let t = Trees { alloc: rt.alloc() };
     let product = t.binary(Op::Mul, t.number(3), t.number(4))?;
     let sum = t.binary(Op::Add, t.number(2), product)?;
     assert!(rt; gives(&t.value(sum)?, &[], &[14]));
+    Ok(())
+}
+
+#[test]
+fn selections_lie_in_the_array(rt: HostRuntime) -> Result<(), Fail> {
+    let t = Trees { alloc: rt.alloc() };
     let last = t.select(t.numbers(&[7, 8, 9])?, t.number(2))?;
     assert!(rt; gives(&t.value(last)?, &[], &[9]));
     let beyond = t.select(t.numbers(&[7, 8, 9])?, t.number(3))?;
-    assert!(rt; faults(&t.value(beyond)?, FaultKind::F5, here()));
-    let small = t.with_number(Op::Lt, "a", 6)?;
-    let chosen = t.choice(small, t.number(1), t.number(2))?;
-    assert!(rt; gives(&t.value(chosen)?, &[], &[1]));
-    // The operands of `&&` are both evaluated.
+    assert!(rt; faults(&t.value(beyond)?, FaultKind::F1, here()));
+    Ok(())
+}
+
+/// The operands of `&&` are both evaluated.
+#[test]
+fn both_operands_are_evaluated(rt: HostRuntime) -> Result<(), Fail> {
+    let t = Trees { alloc: rt.alloc() };
     let zero = t.with_number(Op::Div, "a", 0)?;
     let some = t.binary(Op::Eq, zero, t.number(1))?;
     let none = t.with_number(Op::Lt, "a", 0)?;
@@ -292,76 +300,58 @@ fn turns_of_loops(rt: HostRuntime) -> Result<(), Fail> {
 }
 
 #[test]
-fn with_loops(rt: HostRuntime) -> Result<(), Fail> {
+fn the_first_generator_that_holds_an_index_gives_its_cell(rt: HostRuntime) -> Result<(), Fail> {
     let t = Trees { alloc: rt.alloc() };
-    // The first generator that holds an index gives its cell, and the default stands elsewhere.
     let first = t.range(1, 4, t.component()?, here())?;
     let second = t.range(3, 6, t.number(7), here())?;
     let gs = vec![in t.alloc; first, second]?;
     let e = t.with(gs, t.genarray(7, Some(t.number(9)))?)?;
     assert!(rt; gives(&t.value(e)?, &[7], &[9, 1, 2, 3, 7, 7, 9]));
-    // A default that is left out is zero.
-    let gs = vec![in t.alloc; t.range(1, 2, t.number(4), here())?]?;
-    let e = t.with(gs, t.genarray(3, None)?)?;
-    assert!(rt; gives(&t.value(e)?, &[3], &[0, 4, 0]));
-    // No member lies outside the frame.
+    Ok(())
+}
+
+#[test]
+fn no_member_lies_outside_the_frame(rt: HostRuntime) -> Result<(), Fail> {
+    let t = Trees { alloc: rt.alloc() };
     let gs = vec![in t.alloc; t.range(1, 4, t.number(4), at(3, 3))?]?;
     let e = t.with(gs, t.genarray(3, None)?)?;
     assert!(rt; faults(&t.value(e)?, FaultKind::F5, at(3, 3)));
-    // Every cell has the default's form.
-    let gs = vec![in t.alloc; t.range(1, 2, t.numbers(&[4, 4])?, at(3, 3))?]?;
-    let e = t.with(gs, t.genarray(3, Some(t.number(0)))?)?;
-    assert!(rt; faults(&t.value(e)?, FaultKind::F6, at(3, 3)));
-    let gs = vec![in t.alloc; t.range(1, 3, t.numbers(&[4, 5])?, here())?]?;
-    let rows = t.numbers(&[0, 1])?;
-    let e = t.with(gs, t.genarray(3, Some(rows))?)?;
-    assert!(rt; gives(&t.value(e)?, &[3, 2], &[0, 1, 4, 5, 4, 5]));
+    Ok(())
+}
+
+#[test]
+fn old_cells_stand_where_no_generator_holds(rt: HostRuntime) -> Result<(), Fail> {
+    let t = Trees { alloc: rt.alloc() };
     let gs = vec![in t.alloc; t.range(0, 2, t.component()?, here())?]?;
     let array = t.numbers(&[5, 6, 7])?;
-    let e = t.with(gs, Operation::Modarray { array, site: here() })?;
+    let e = t.with(
+        gs,
+        Operation::Modarray {
+            array,
+            site: here(),
+        },
+    )?;
     assert!(rt; gives(&t.value(e)?, &[3], &[0, 1, 7]));
-    // A fold starts with its neutral value, once.
+    Ok(())
+}
+
+#[test]
+fn a_fold_starts_with_its_neutral_value(rt: HostRuntime) -> Result<(), Fail> {
+    let t = Trees { alloc: rt.alloc() };
     let gs = vec![in t.alloc; t.range(1, 5, t.component()?, here())?]?;
-    let neutral = t.number(100);
     let op = Operation::Fold {
         op: Op::Add,
-        neutral,
+        neutral: t.number(100),
         site: here(),
     };
-    let e = t.with(gs, op)?;
-    assert!(rt; gives(&t.value(e)?, &[], &[110]));
+    assert!(rt; gives(&t.value(t.with(gs, op)?)?, &[], &[110]));
     Ok(())
 }
 
-/// A generator with a step and a width.
-#[test]
-fn steps_and_widths(rt: HostRuntime) -> Result<(), Fail> {
-    let t = Trees { alloc: rt.alloc() };
-    // Each: the step, the width, and the cells where the generator goes from 1 to 7 of 8.
-    for (step, width, cells) in [
-        (1, 1, [0, 1, 1, 1, 1, 1, 1, 0]),
-        (2, 1, [0, 1, 0, 1, 0, 1, 0, 0]),
-        (3, 2, [0, 1, 1, 0, 1, 1, 0, 0]),
-        (5, 5, [0, 1, 1, 1, 1, 1, 1, 0]),
-        (9, 2, [0, 1, 1, 0, 0, 0, 0, 0]),
-    ] {
-        let mut g = t.range(1, 7, t.number(1), here())?;
-        g.step = Some(t.numbers(&[step])?);
-        g.width = Some(t.numbers(&[width])?);
-        let gs = vec![in t.alloc; g]?;
-        let e = t.with(gs, t.genarray(8, None)?)?;
-        assert!(rt; gives(&t.value(e)?, &[8], &cells));
-    }
-    Ok(())
-}
-
-/// `int f(int n) { return (n == 0 ? 0 : 1 + (0 + … f(n - 1))); }` with so many zeros.
-fn counting_down(t: Trees, zeros: u32) -> Result<Function, Fail> {
-    let mut e = t.call("f", t.with_number(Op::Sub, "n", 1)?, at(1, 41))?;
-    for _ in 0..zeros {
-        e = t.binary(Op::Add, t.number(0), e)?;
-    }
-    let next = t.binary(Op::Add, t.number(1), e)?;
+/// `int f(int n) { return (n == 0 ? 0 : 1 + f(n - 1)); }`
+fn counting_down(t: Trees) -> Result<Function, Fail> {
+    let again = t.call("f", t.with_number(Op::Sub, "n", 1)?, at(1, 41))?;
+    let next = t.binary(Op::Add, t.number(1), again)?;
     let value = t.choice(t.with_number(Op::Eq, "n", 0)?, t.number(0), next)?;
     t.function("f", "n", Vec::new(t.alloc), value)
 }
@@ -369,14 +359,14 @@ fn counting_down(t: Trees, zeros: u32) -> Result<Function, Fail> {
 #[test]
 fn depths_of_calls(rt: HostRuntime) -> Result<(), Fail> {
     let t = Trees { alloc: rt.alloc() };
-    // Each: the argument, the limit, the zeros, and whether the limit is kept.
-    for (n, depth, zeros, kept) in [
-        (4, 5, 0, true),
-        (4, 4, 0, false),
-        (199, 200, 93, true),
-        (200, 200, 93, false),
+    // Each: the argument, the limit, and whether it is kept.
+    for (n, depth, kept) in [
+        (4, 5, true),
+        (4, 4, false),
+        (199, 200, true),
+        (200, 200, false),
     ] {
-        let f = counting_down(t, zeros)?;
+        let f = counting_down(t)?;
         let value = t.call("f", t.variable("a")?, at(2, 23))?;
         let arg = Array::scalar(t.alloc, Base::Int, n)?;
         let caps = Caps { turns: 1, depth };
@@ -387,81 +377,5 @@ fn depths_of_calls(rt: HostRuntime) -> Result<(), Fail> {
             assert!(rt; faults(&outcome, FaultKind::F10, at(1, 41)));
         }
     }
-    Ok(())
-}
-
-/// `a[i + di, j + dj]`
-fn neighbour(t: Trees, di: i32, dj: i32) -> Result<Expression, Fail> {
-    let i = t.with_number(Op::Add, "i", di)?;
-    let j = t.with_number(Op::Add, "j", dj)?;
-    let index = t.literal(vec![in t.alloc; i, j]?);
-    t.select(t.variable("a")?, index)
-}
-
-/// One turn of the Game of Life.
-fn life(t: Trees) -> Result<Function, Fail> {
-    let mut sum = neighbour(t, -1, -1)?;
-    for (di, dj) in [
-        (-1, 0),
-        (-1, 1),
-        (0, -1),
-        (0, 1),
-        (1, -1),
-        (1, 0),
-        (1, 1),
-    ] {
-        sum = t.binary(Op::Add, sum, neighbour(t, di, dj)?)?;
-    }
-    let stays = t.choice(t.with_number(Op::Eq, "n", 2)?, neighbour(t, 0, 0)?, t.number(0))?;
-    let cell = t.choice(t.with_number(Op::Eq, "n", 3)?, t.number(1), stays)?;
-    let shape = Expression::Builtin(Builtin::Shape, vec![in t.alloc; t.variable("a")?]?, here());
-    let upper = t.binary(Op::Sub, shape, t.number(1))?;
-    let mut g = t.generator(t.numbers(&[1, 1])?, upper, cell, here())?;
-    g.index = Index::Parts(vec![in t.alloc; t.target("i")?, t.target("j")?]?);
-    g.body = vec![in t.alloc; t.assign("n", sum)?]?;
-    let whole = Expression::Builtin(Builtin::Shape, vec![in t.alloc; t.variable("a")?]?, here());
-    let op = Operation::Genarray {
-        shape: whole,
-        default: Some(t.number(0)),
-        site: here(),
-    };
-    let value = t.with(vec![in t.alloc; g]?, op)?;
-    t.function("life", "a", Vec::new(t.alloc), value)
-}
-
-/// The cells of 64 by 64 with a glider at a place.
-fn glider(alloc: Global, row: usize, column: usize) -> Result<Vec<i32>, Fail> {
-    let mut cells = Vec::new(alloc);
-    for _ in 0..4096 {
-        cells.push(0)?;
-    }
-    for (i, j) in [(0, 1), (1, 2), (2, 0), (2, 1), (2, 2)] {
-        cells[64 * (row + i) + column + j] = 1;
-    }
-    Ok(cells)
-}
-
-/// A glider moves by one cell in each direction in four turns.
-#[test]
-fn a_glider_in_the_game_of_life(rt: HostRuntime) -> Result<(), Fail> {
-    let t = Trees { alloc: rt.alloc() };
-    let begin = t.assign("t", t.number(0))?;
-    let cond = t.with_number(Op::Lt, "t", 20)?;
-    let turn = t.assign("a", t.call("life", t.variable("a")?, here())?)?;
-    let next = t.assign("t", t.with_number(Op::Add, "t", 1)?)?;
-    let again = Statement::While {
-        cond,
-        body: vec![in t.alloc; turn, next]?,
-        site: here(),
-    };
-    let shape = Shape::from_extents(t.alloc, &[64, 64]).ok_or("a shape")?;
-    let arg = Array::new(Base::Int, shape, glider(t.alloc, 10, 20)?);
-    let caps = Caps {
-        turns: 20,
-        depth: 1,
-    };
-    let body = vec![in t.alloc; begin, again]?;
-    let outcome = t.run(Some(life(t)?), body, t.variable("a")?, arg, caps)?;
-    assert!(rt; gives(&outcome, &[64, 64], &glider(t.alloc, 15, 25)?));
     Ok(())
 }

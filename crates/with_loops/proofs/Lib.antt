@@ -7,3 +7,4 @@ pub mod JoinSteps
 pub mod Steps
 pub mod TypeLists
 pub mod Holders
+pub mod GridSteps

@@ -3,3 +3,4 @@ pub mod Frames
 pub mod Plans
 pub mod Cells
 pub mod Tells
+pub mod GridFrames

@@ -1,12 +1,17 @@
 //! The indices of a with-loop's frame.
 
-ghost use Rattle.std.specs.Prelude.{◌≡◌, ◌≤◌, ◌<◌, [], length, slice_index_or, List, ℤ, IfOk, IfSome, OnOk, is_some, nat_le, All, false, map};
+ghost use Rattle.std.specs.Prelude.{◌≡◌, ◌≤◌, ◌<◌, [], length, slice_index_or, List, ℤ, IfOk, IfSome, OnOk, is_some, nat_le, All, FitsSigned, false, true, map, pos};
+ghost use mir.Syntax.{w32};
 ghost use Rattle.sac_base.specs.Arrays.{size, MOST};
+ghost use Rattle.sac_base.specs.declared.grid.Grid1.{Grid1};
+ghost use Rattle.sac_base.specs.Grids.{has_vector, members};
 ghost use Rattle.sac_base.specs.WithLoops.{box, box_size, shape_spans, span_of, is_empty_box};
 ghost use Rattle.with_loops.specs.Frames.{joined_frame, frame_with, joined_next, IsSomeBox};
+ghost use Rattle.with_loops.specs.GridFrames.{box_range, grid_extents};
+ghost use Rattle.with_loops.specs.Ranges.{IsBound};
 
 use crate::ranges::Range;
-use sac_base::{MOST_ELEMENTS, Memory, Shape, elements};
+use sac_base::{Grid, MOST_ELEMENTS, Memory, Shape, elements};
 use std::alloc::Global;
 use std::marker::Model;
 
@@ -97,6 +102,21 @@ impl Frame {
             }
             Some(range) => Frame::of_box(alloc, &range),
         }
+    }
+
+    /// The members of a grid without gaps.
+    pub fn of_grid(alloc: Global, grid: &Grid) -> Result<Frame, Memory>
+        requires dense { All (λ (axis : Grid1). axis.step ≡ pos 1) grid.now }
+        requires most { size (grid_extents grid.now) ≤ MOST }
+        requires words { (index : List ℤ) → has_vector grid.now index ≡ true → All (FitsSigned w32) index }
+        ensures { IfOk result (λ f. f ≡ members grid.now) }
+    {
+        if is_empty(grid) {
+            return Frame::without_index(alloc);
+        }
+        let range = box_of(alloc, grid)?;
+        let frame = Frame::of_box(alloc, &range)?;
+        Ok(frame.unwrap())
     }
 
     // No index.
@@ -191,4 +211,34 @@ fn joined_with(alloc: Global, joined: Option<Range>, range: &Range) -> Result<Op
         Some(before) => before.joined(alloc, range)?,
     };
     Ok(Some(next))
+}
+
+// Whether the box of a grid has no index.
+fn is_empty(grid: &Grid) -> bool
+    ensures { result ≡ is_empty_box (box_range grid.now) }
+{
+    for axis in grid.axes() {
+        if axis.lo >= axis.hi {
+            return true;
+        }
+    }
+    false
+}
+
+// The box of a grid.
+fn box_of(alloc: Global, grid: &Grid) -> Result<Range, Memory>
+    requires lower { All IsBound (map (λ (axis : Grid1). axis.lo) grid.now) }
+    requires upper { All IsBound (map (λ (axis : Grid1). axis.hi) grid.now) }
+    ensures value { IfOk result (λ r. r ≡ box_range grid.now) }
+    ensures rank { IfOk result (λ r. length r ≤ 8) }
+{
+    let mut lower = Vec::new(alloc);
+    let mut upper = Vec::new(alloc);
+    let mut ones = Vec::new(alloc);
+    for axis in grid.axes() {
+        lower.push(axis.lo)?;
+        upper.push(axis.hi)?;
+        ones.push(1)?;
+    }
+    Range::new(alloc, &lower, &upper, &ones, &ones)
 }

@@ -1,6 +1,6 @@
 //! Operations on arrays at a place of the source.
 
-ghost use Rattle.std.specs.Prelude.{◌≡◌, Ok, Result, if◌then◌else◌};
+ghost use Rattle.std.specs.Prelude.{◌≡◌, IfOk, Ok, Result, if◌then◌else◌};
 ghost use Rattle.array_ops.specs.Answers.{Gives};
 ghost use Rattle.sac_base.specs.Arrays.{ArrayValue};
 ghost use Rattle.sac_base.specs.Operators.{binary as binary_value, unary as unary_value};
@@ -12,7 +12,7 @@ ghost use Rattle.with_loops.specs.Tells.{Tells, TellsItems, TellsCondition};
 
 use crate::stop::{Stop, fault};
 use array_ops::{ArrayError, binary, condition, literal, select, unary};
-use sac_base::{Array, ArrayType, FaultKind, Op, Site, contains};
+use sac_base::{Array, ArrayType, FaultKind, Memory, Op, Site, contains, copy_array};
 use std::alloc::Global;
 
 /// An answer of an operation, with the place of its fault in the source.
@@ -88,4 +88,15 @@ fn all_have(types: &[ArrayType], values: &[Array]) -> bool
         }
     }
     true
+}
+
+/// Equal arrays.
+pub fn copy_all(alloc: Global, arrays: &[Array]) -> Result<Vec<Array>, Memory>
+    ensures { IfOk result (λ copies. copies.items ≡ arrays.now) }
+{
+    let mut copies = Vec::new(alloc);
+    for array in arrays {
+        copies.push(copy_array(array)?)?;
+    }
+    Ok(copies)
 }

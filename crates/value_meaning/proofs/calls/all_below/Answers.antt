@@ -1,4 +1,4 @@
-use Rattle.std.proofs.Common.{sym, ◌∙◌, length}
+use Rattle.std.proofs.Common.{sym, ◌∙◌}
 use Rattle.std.proofs.lemmas.List.{length-map}
 use Rattle.sac_ast.specs.declared.Param.{Param}
 use Rattle.value_meaning.specs.Evaluation.{types_of_params}

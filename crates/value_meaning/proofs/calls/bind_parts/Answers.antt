@@ -1,9 +1,9 @@
-use Rattle.std.proofs.Common.{◌≡◌, ◌∙◌, ◌<◌, ◌≤◌, ℕ, List, [], ◌∷◌, length, min, drop, map, ℤ, ap, sym, refl, arith, Ok, inl, inr}
+use Rattle.std.proofs.Common.{◌≡◌, ◌∙◌, ◌≤◌, ℕ, List, [], ◌∷◌, length, min, drop, map, ℤ, ap, sym, refl, arith, Ok, inl, inr}
 use Rattle.std.proofs.lemmas.Bool.{cases_lt}
 use Rattle.std.proofs.lemmas.List.{drop_all}
 use Rattle.sac_base.specs.declared.base.Base.TheVariants.{Int}
 use Rattle.sac_base.specs.declared.name.Name.{Name}
-use Rattle.sac_base.specs.Arrays.{ArrayValue, scalar}
+use Rattle.sac_base.specs.Arrays.{scalar}
 use Rattle.sac_base.specs.Outcomes.{Env, with_variables}
 use Rattle.sac_ast.specs.declared.Target.{Target}
 use Rattle.value_meaning.specs.Environments.{env_of}
@@ -16,9 +16,9 @@ no_values (n ∷ ns) env = refl
 
 parts_end : (ts : List Target) (vs : List ℤ) (k : ℕ) (env : Env) → min (length ts) (length vs) ≤ k → with_variables (names (drop k ts)) (map (scalar Int) (drop k vs)) env ≡ env
 parts_end ts vs k env h = elim (cases_lt (length ts) (length vs)) [
-    inl lt ↦ ap (λ xs. with_variables (names xs) (map (scalar Int) (drop k vs)) env) (drop_all k ts (omega arith))
+  | inl lt ↦ ap (λ xs. with_variables (names xs) (map (scalar Int) (drop k vs)) env) (drop_all k ts (omega arith))
   | inr le ↦ ap (λ xs. with_variables (names (drop k ts)) (map (scalar Int) xs) env) (drop_all k vs (omega arith)) ∙ no_values (names (drop k ts)) env
-  ]
+]
 
 pub returns : goal.returns
 returns c =

@@ -1,5 +1,4 @@
-use Rattle.std.proofs.Common.{◌≡◌, ℕ, ◌<◌, get_or, true, false, length, sym, ap, ◌∙◌, subst, arith}
-use Rattle.sac_ast.specs.declared.Function.{Function}
+use Rattle.std.proofs.Common.{◌≡◌, get_or, true, sym, ◌∙◌, subst, arith}
 use Rattle.sac_ast.specs.View.{function, functions}
 use Rattle.value_meaning.specs.Calls.{is_least}
 use Rattle.value_meaning.proofs.CallChoice.{position_at, position_none}

@@ -1,5 +1,4 @@
-use Rattle.std.proofs.Common.{rules, ◌≡◌, ℕ, ◌-◌, ◌<◌, ◌≤◌, length, true, false, [], ◌∷◌, Ok, Err, Some, None, get_or, ap, sym, ◌∙◌, subst, arith, map, drop, ◌++◌, List, Option, append_assoc, ◌*◌, ◌+◌, ℤ, refl}
-use Rattle.std.proofs.lemmas.Grind.{common_steps}
+use Rattle.std.proofs.Common.{rules, ◌≡◌, ℕ, ◌-◌, ◌<◌, length, true, false, [], ◌∷◌, Ok, Err, None, get_or, ap, sym, ◌∙◌, subst, arith, map, ◌++◌, List, append_assoc, ◌+◌, ℤ}
 use Rattle.std.proofs.lemmas.List.{length-append}
 use Rattle.std.proofs.Math.Nat.{add-mul}
 use Rattle.std.specs.Prelude.{ℤ}
@@ -7,7 +6,7 @@ use Rattle.sac_ast.specs.View.{expr, exprs, stmt, block}
 use Rattle.sac_ast.specs.Tree
 use Rattle.sac_ast.proofs.Views.{stmt_assign, stmt_while, stmt_do, stmt_if, stmt_replace, expr_call, expr_binary, expr_select, expr_choice}
 use Rattle.value_meaning.proofs.TestSteps.{turn_test_fault, turn_ends, turn_over, turn_goes}
-use Rattle.with_loops.proofs.Steps.{said, by_test, test_fault, test_true, test_false}
+use Rattle.with_loops.proofs.Steps.{said, test_fault, test_true, test_false}
 use Rattle.value_meaning.specs.Environments.{env_of}
 use Rattle.value_meaning.specs.Evaluation.{meaning_in, meanings_in, statement_in, block_in, repeat_in, calls_in, function_in, names_of_params}
 use Rattle.with_loops.specs.Tells.{Tells, TellsItems, TellsEnv}
@@ -20,24 +19,21 @@ use Rattle.value_meaning.proofs.CallSteps.{function_at, length-functions, runs_i
 use Rattle.value_meaning.specs.declared.environment.Environment.{roll-Environment}
 use Rattle.value_meaning.proofs.Measures.{rank_falls, rank_falls_inline, body_below}
 use Rattle.value_meaning.proofs.Steps.{values_step, assign_plain, not_call}
-use Rattle.with_loops.proofs.Steps.{same_stop, fault_then, value_then, then_same, four_then}
-use Rattle.sac_base.specs.Parts.{condition}
-use Rattle.std.proofs.Common.{min}
+use Rattle.with_loops.proofs.Steps.{same_stop, fault_then, value_then, then_same}
 use Rattle.sac_base.specs.WithLoops.{holds}
 use Rattle.with_loops.proofs.Holders.{holder_goes_on, holder_ends}
 use Rattle.sac_ast.specs.View
-use Rattle.sac_ast.proofs.Views.{generator_is}
-use Rattle.value_meaning.specs.WithSource.{generator_of, bound_in, maybe_in, bounds_in, held_in, cells_in, operation_in}
+use Rattle.value_meaning.specs.WithSource.{generator_of, bounds_in, held_in, cells_in, operation_in}
 use Rattle.with_loops.specs.Plans.{plan_of, operation_of}
 use Rattle.with_loops.specs.Cells.{array_from, cells_from, cell_from}
 use Rattle.with_loops.proofs.CellSteps.{genarray_finish, modarray_finish, cell_below, cell_within, cell_length}
 use Rattle.with_loops.proofs.EachSteps.{each_length, each_step, each_fault}
 use Rattle.value_meaning.proofs.WithValue.{whole, whole_fault, bounds_fault, operation_fault}
-use Rattle.sac_base.specs.Arrays.{ArrayValue, size, MOST}
+use Rattle.sac_base.specs.Arrays.{size}
 use Rattle.sac_base.specs.Parts.{shape_of_numbers, vector_of}
 use Rattle.sac_base.specs.WithLoops.{genarray, modarray, fold_by, genarray_plan, modarray_plan, fold_plan, index_length, finish, combined, each, holder}
 use Rattle.sac_base.specs.WithLoops
-use Rattle.sac_base.specs.Outcomes.{Ends, Env, and_then}
+use Rattle.sac_base.specs.Outcomes.{and_then}
 use Rattle.std.specs.Prelude.{fold}
 use Rattle.value_meaning.proofs.evaluate.+evaluate.Goals as goal
 
@@ -201,23 +197,22 @@ run-returns-in_ok-run_block-in-Do t c =
     let looped' = ap (λ b. go c.saturating_sub.result b (env_of c.run_block-in-Do.new.env)) body' in
     subst (λ m. TellsEnv c.repeat_while-in-Do.result (env_of c.repeat_while-in-Do.new.env) m) (looped' ∙ looped ∙ sym then ∙ sym whole) c.repeat_while-in-Do.ensures
 
-
 -- ---- expressions
 
 pub evaluate-returns-in-Binary : goal.evaluate-returns-in-Binary
 evaluate-returns-in-Binary t c =
     let i = c.in-Binary in
     let same = ap (λ e. Tree.binary i.op (expr e) (expr c.deref-in-Binary-2.result.now) i.site) c.deref-in-Binary.ensures
-      ∙ ap (λ e. Tree.binary i.op (expr i.left.value) (expr e) i.site) c.deref-in-Binary-2.ensures
-      ∙ sym (expr_binary i.op i.left i.right i.site) ∙ ap expr (sym i.is) in
+    ∙ ap (λ e. Tree.binary i.op (expr i.left.value) (expr e) i.site) c.deref-in-Binary-2.ensures
+    ∙ sym (expr_binary i.op i.left i.right i.site) ∙ ap expr (sym i.is) in
     subst (λ tree. Tells c.evaluate_binary.result (meaning_in c.args.context.now tree (env_of c.args.env.now))) same c.evaluate_binary.ensures
 
 pub evaluate-returns-in-Select : goal.evaluate-returns-in-Select
 evaluate-returns-in-Select t c =
     let i = c.in-Select in
     let same = ap (λ e. Tree.select (expr e) (expr c.deref-in-Select-2.result.now) i.site) c.deref-in-Select.ensures
-      ∙ ap (λ e. Tree.select (expr i.array.value) (expr e) i.site) c.deref-in-Select-2.ensures
-      ∙ sym (expr_select i.array i.index i.site) ∙ ap expr (sym i.is) in
+    ∙ ap (λ e. Tree.select (expr i.array.value) (expr e) i.site) c.deref-in-Select-2.ensures
+    ∙ sym (expr_select i.array i.index i.site) ∙ ap expr (sym i.is) in
     subst (λ tree. Tells c.evaluate_select.result (meaning_in c.args.context.now tree (env_of c.args.env.now))) same c.evaluate_select.ensures
 
 pub evaluate-returns-in_err-evaluate_test-in-Choice : goal.evaluate-returns-in_err-evaluate_test-in-Choice
@@ -230,8 +225,8 @@ evaluate-returns-in_err-evaluate_test-in-Choice t c =
     let tested = ap (λ e. said i.site (M (expr e))) c.deref-in-Choice.ensures in
     subst (λ r. Tells r (M (expr c.args.e.now))) (sym is)
     (same_stop stop (said i.site (M (expr c.deref-in-Choice.result.now))) (M (expr c.args.e.now))
-      (λ f e. whole ∙ test_fault i.site (M (expr i.first.value)) (M (expr i.second.value)) (M (expr i.test.value)) f (sym tested ∙ e))
-      c.in_err-evaluate_test-in-Choice.ensures)
+    (λ f e. whole ∙ test_fault i.site (M (expr i.first.value)) (M (expr i.second.value)) (M (expr i.test.value)) f (sym tested ∙ e))
+    c.in_err-evaluate_test-in-Choice.ensures)
 
 pub evaluate-returns-then-branch : goal.evaluate-returns-then-branch
 evaluate-returns-then-branch t c =
@@ -271,8 +266,8 @@ run-returns-in_err-evaluate_test-in-If t c =
     let whole = ap (λ s. statement_in ctx s env) (ap stmt i.is ∙ stmt_if i.cond i.yes i.no i.site) in
     subst (λ r. TellsEnv r env (statement_in ctx (stmt c.args.s.now) env)) (sym is)
     (same_stop stop (said i.site (meaning_in ctx (expr i.cond) env)) (statement_in ctx (stmt c.args.s.now) env)
-      (λ f e. whole ∙ test_fault i.site (block_in ctx (block i.yes.items) env) (block_in ctx (block i.no.items) env) (meaning_in ctx (expr i.cond) env) f e)
-      c.in_err-evaluate_test-in-If.ensures)
+    (λ f e. whole ∙ test_fault i.site (block_in ctx (block i.yes.items) env) (block_in ctx (block i.no.items) env) (meaning_in ctx (expr i.cond) env) f e)
+    c.in_err-evaluate_test-in-If.ensures)
 
 pub run-returns-then-branch : goal.run-returns-then-branch
 run-returns-then-branch t c =
@@ -302,8 +297,8 @@ repeat_while-returns-in_err-evaluate_test t c =
     let whole = repeat_in ctx a.turns a.site a.test_site (expr a.cond.now) (block a.body.now) (env_of a.env.now) in
     subst (λ r. TellsEnv r env whole) (sym is)
     (same_stop stop (said a.test_site (meaning_in ctx (expr a.cond.now) env)) whole
-      (λ f e. sym c.loop-site.invariant ∙ turn_test_fault a.site a.test_site (meaning_in ctx (expr a.cond.now)) (block_in ctx (block a.body.now)) c.loop-site.left env f e)
-      c.in_err-evaluate_test.ensures)
+    (λ f e. sym c.loop-site.invariant ∙ turn_test_fault a.site a.test_site (meaning_in ctx (expr a.cond.now)) (block_in ctx (block a.body.now)) c.loop-site.left env f e)
+    c.in_err-evaluate_test.ensures)
 
 pub repeat_while-returns-then-not-branch : goal.repeat_while-returns-then-not-branch
 repeat_while-returns-then-not-branch t c =
@@ -332,8 +327,8 @@ repeat_while-returns-in_err-run_block t c =
     let goes = turn_goes a.site a.test_site test body c.loop-site.left env (omega (arith, c.if-left-eq0.false)) (c.in_ok-evaluate_test.ensures ∙ ap Ok c.if-not-branch.false) in
     subst (λ r. TellsEnv r (env_of c.run_block.new.env) whole) (sym is)
     (same_stop stop (body env) whole
-      (λ f e. sym c.loop-site.invariant ∙ goes ∙ fault_then (body env) (repeat_in ctx (c.loop-site.left - 1) a.site a.test_site (expr a.cond.now) (block a.body.now)) f e)
-      c.in_err-run_block.ensures)
+    (λ f e. sym c.loop-site.invariant ∙ goes ∙ fault_then (body env) (repeat_in ctx (c.loop-site.left - 1) a.site a.test_site (expr a.cond.now) (block a.body.now)) f e)
+    c.in_err-run_block.ensures)
 
 pub repeat_while-loop-site-preserved : goal.repeat_while-loop-site-preserved
 repeat_while-loop-site-preserved t c =
@@ -354,7 +349,7 @@ held_cell-loop-i-preserved t c =
     let g = generator_of a.context.now (env_of a.env.now) in
     let r = c.index-ranges-i.result in
     let fails : holds (get_or a.ranges.now c.loop-i.i r) a.index.now ≡ false =
-      ap (λ r. holds r a.index.now) (sym c.index-ranges-i.is) ∙ sym (c.holds.ensures ∙ ap (holds r) c.components.ensures.value) ∙ c.if-holds.false in
+    ap (λ r. holds r a.index.now) (sym c.index-ranges-i.is) ∙ sym (c.holds.ensures ∙ ap (holds r) c.components.ensures.value) ∙ c.if-holds.false in
     sym (holder_goes_on g a.gs.now a.ranges.now a.index.now c.loop-i.i r (omega (arith, c.loop-i-test.true, c.min-i-end.ensures)) (omega (arith, c.loop-i-test.true, c.min-i-end.ensures)) fails)
     ∙ c.loop-i.invariant
 
@@ -387,7 +382,7 @@ evaluate_with-returns-in_err-shape t c =
     let meant = meaning_in ctx (Tree.with_loop (View.generators a.gs.now) op a.site) env in
     subst (λ r. Tells r meant) (sym is)
     (same_stop stop (operation_in ctx op (View.generators a.gs.now) env) meant
-      (λ f e. operation_fault ctx env a.gs.now op a.site c.in_ok-bounds.bounds.items f c.in_ok-bounds.ensures e) c.in_err-shape.ensures)
+    (λ f e. operation_fault ctx env a.gs.now op a.site c.in_ok-bounds.bounds.items f c.in_ok-bounds.ensures e) c.in_err-shape.ensures)
 
 pub evaluate_with-returns-in_err-plan-in-Genarray : goal.evaluate_with-returns-in_err-plan-in-Genarray
 evaluate_with-returns-in_err-plan-in-Genarray t c =
@@ -403,8 +398,8 @@ evaluate_with-returns-in_err-plan-in-Genarray t c =
     let made = λ (bs : List WithLoops.Bounds). genarray_plan bs (shape_of_numbers (vector_of i.shape)) i.default i.site in
     subst (λ r. Tells r meant) (sym is)
     (same_stop stop (made c.deref.result.now) meant
-      (λ f e. whole_fault ctx env a.gs.now op a.site c.in_ok-bounds.bounds.items (genarray i.shape i.default i.site) f c.in_ok-bounds.ensures eo (ap made (sym c.deref.ensures.value) ∙ e))
-      c.in_err-plan-in-Genarray.ensures.told)
+    (λ f e. whole_fault ctx env a.gs.now op a.site c.in_ok-bounds.bounds.items (genarray i.shape i.default i.site) f c.in_ok-bounds.ensures eo (ap made (sym c.deref.ensures.value) ∙ e))
+    c.in_err-plan-in-Genarray.ensures.told)
 
 pub evaluate_with-returns-in_err-plan-in-Modarray : goal.evaluate_with-returns-in_err-plan-in-Modarray
 evaluate_with-returns-in_err-plan-in-Modarray t c =
@@ -420,8 +415,8 @@ evaluate_with-returns-in_err-plan-in-Modarray t c =
     let made = λ (bs : List WithLoops.Bounds). modarray_plan bs (index_length bs (length i.array.shape)) i.array i.site in
     subst (λ r. Tells r meant) (sym is)
     (same_stop stop (made c.deref-in-Modarray.result.now) meant
-      (λ f e. whole_fault ctx env a.gs.now op a.site c.in_ok-bounds.bounds.items (modarray i.array i.site) f c.in_ok-bounds.ensures eo (ap made (sym c.deref-in-Modarray.ensures.value) ∙ e))
-      c.in_err-plan-in-Modarray.ensures.told)
+    (λ f e. whole_fault ctx env a.gs.now op a.site c.in_ok-bounds.bounds.items (modarray i.array i.site) f c.in_ok-bounds.ensures eo (ap made (sym c.deref-in-Modarray.ensures.value) ∙ e))
+    c.in_err-plan-in-Modarray.ensures.told)
 
 pub evaluate_with-returns-in_err-plan-in-Fold : goal.evaluate_with-returns-in_err-plan-in-Fold
 evaluate_with-returns-in_err-plan-in-Fold t c =
@@ -437,8 +432,8 @@ evaluate_with-returns-in_err-plan-in-Fold t c =
     let made = λ (bs : List WithLoops.Bounds). fold_plan bs (index_length bs 0) i.neutral i.site in
     subst (λ r. Tells r meant) (sym is)
     (same_stop stop (made c.deref-in-Fold.result.now) meant
-      (λ f e. whole_fault ctx env a.gs.now op a.site c.in_ok-bounds.bounds.items (fold_by i.op i.neutral i.site) f c.in_ok-bounds.ensures eo (ap made (sym c.deref-in-Fold.ensures.value) ∙ e))
-      c.in_err-plan-in-Fold.ensures)
+    (λ f e. whole_fault ctx env a.gs.now op a.site c.in_ok-bounds.bounds.items (fold_by i.op i.neutral i.site) f c.in_ok-bounds.ensures eo (ap made (sym c.deref-in-Fold.ensures.value) ∙ e))
+    c.in_err-plan-in-Fold.ensures)
 
 pub evaluate_with-array_cells-requires : goal.evaluate_with-array_cells-requires
 evaluate_with-array_cells-requires t c = (omega (arith, c.decreases), c.in_ok-plan-in-Genarray.ensures.full)
@@ -478,7 +473,7 @@ evaluate_with-returns-in-Modarray t c =
     let all = whole ctx env a.gs.now (View.operation a.op.now) a.site bs by p c.in_ok-bounds.ensures eo ep in
     let cell = WithLoops.cell_at p.form (map (generator_of ctx env) a.gs.now) p.ranges in
     let same = then_same (cells_in ctx a.gs.now p.ranges p.indices p.form env) (λ found. Ok (finish by p found)) (λ found. Ok (array_from true i.array p found))
-      (λ found e. ap Ok (modarray_finish bs (index_length bs (length i.array.shape)) i.array i.site p ep found (each_length cell p.indices found e))) in
+    (λ found e. ap Ok (modarray_finish bs (index_length bs (length i.array.shape)) i.array i.site p ep found (each_length cell p.indices found e))) in
     subst (λ m. Tells c.array_cells-in-Modarray.result m) (sym (all ∙ same)) c.array_cells-in-Modarray.ensures
 
 pub evaluate_with-returns : goal.evaluate_with-returns
@@ -506,15 +501,15 @@ array_cells-returns-in_err-cell t c =
     let f = WithLoops.cell_at p.form (map (generator_of ctx env) a.gs.now) p.ranges.items in
     let meant = and_then (cells_in ctx a.gs.now p.ranges.items p.frame p.form env) (λ found. Ok (array_from a.old a.background.now (plan_of p) found)) in
     let at : f (get_or p.frame k []) ≡ held_in ctx a.gs.now c.deref.result.now c.index.new.into p.form env =
-      ap f (sym (c.in_ok-index.ensures [])) ∙ ap (λ rs. WithLoops.cell_at p.form (map (generator_of ctx env) a.gs.now) rs c.index.new.into) (sym c.deref.ensures.value) in
+    ap f (sym (c.in_ok-index.ensures [])) ∙ ap (λ rs. WithLoops.cell_at p.form (map (generator_of ctx env) a.gs.now) rs c.index.new.into) (sym c.deref.ensures.value) in
     let stop = c.in_err-cell.field-0.0 in
     let is : c.from_residual-in_err-cell.result ≡ Err stop = search rules in
     subst (λ r. Tells r meant) (sym is)
     (same_stop stop (held_in ctx a.gs.now c.deref.result.now c.index.new.into p.form env) meant
-      (λ fault e. each_fault f p.frame k [] fault
-        (λ rest. Ok (record { base = a.background.now.base; shape = p.shape; cells = c.loop-place.cells.items ++ cells_from a.old a.background.now (size p.form.shape) k rest }))
-        meant (omega (arith, c.loop-place-test.true, c.count-place-end.ensures)) (at ∙ e) c.loop-place.invariant.told)
-      c.in_err-cell.ensures.told)
+    (λ fault e. each_fault f p.frame k [] fault
+    (λ rest. Ok (record { base = a.background.now.base; shape = p.shape; cells = c.loop-place.cells.items ++ cells_from a.old a.background.now (size p.form.shape) k rest }))
+    meant (omega (arith, c.loop-place-test.true, c.count-place-end.ensures)) (at ∙ e) c.loop-place.invariant.told)
+    c.in_err-cell.ensures.told)
 
 pub array_cells-loop-place-preserved : goal.array_cells-loop-place-preserved
 array_cells-loop-place-preserved t c =
@@ -532,18 +527,18 @@ array_cells-loop-place-preserved t c =
     let f = WithLoops.cell_at p.form (map (generator_of ctx env) a.gs.now) p.ranges.items in
     let meant = and_then (cells_in ctx a.gs.now p.ranges.items p.frame p.form env) (λ found. Ok (array_from a.old bg (plan_of p) found)) in
     let at : f (get_or p.frame k []) ≡ held_in ctx a.gs.now c.deref.result.now c.index.new.into p.form env =
-      ap f (sym (c.in_ok-index.ensures [])) ∙ ap (λ rs. WithLoops.cell_at p.form (map (generator_of ctx env) a.gs.now) rs c.index.new.into) (sym c.deref.ensures.value) in
+    ap f (sym (c.in_ok-index.ensures [])) ∙ ap (λ rs. WithLoops.cell_at p.form (map (generator_of ctx env) a.gs.now) rs c.index.new.into) (sym c.deref.ensures.value) in
     let added : c.add_cell.new.cells.items ≡ items ++ cell_from a.old bg n k cell = c.in_ok-add_cell.ensures ∙ ap (λ n. items ++ cell_from a.old bg n k cell) sized in
     let one = cell_length a.old bg n k (size p.shape) cell c.in_ok-cell.ensures.sized c.requires.stands (cell_within k (length p.frame) n (size p.shape) inside c.requires.all) in
     let all = ap length added ∙ length-append items (cell_from a.old bg n k cell) in
     record {
       told = each_step f p.frame k [] cell
-        (λ rest. Ok (record { base = bg.base; shape = p.shape; cells = items ++ cells_from a.old bg n k rest }))
-        (λ rest. Ok (record { base = bg.base; shape = p.shape; cells = c.add_cell.new.cells.items ++ cells_from a.old bg n (k + 1) rest }))
-        meant inside (at ∙ c.in_ok-cell.ensures.told)
-        (λ rest. ap (λ (zs : List ℤ). Ok (record { base = bg.base; shape = p.shape; cells = zs }))
+          (λ rest. Ok (record { base = bg.base; shape = p.shape; cells = items ++ cells_from a.old bg n k rest }))
+          (λ rest. Ok (record { base = bg.base; shape = p.shape; cells = c.add_cell.new.cells.items ++ cells_from a.old bg n (k + 1) rest }))
+          meant inside (at ∙ c.in_ok-cell.ensures.told)
+          (λ rest. ap (λ (zs : List ℤ). Ok (record { base = bg.base; shape = p.shape; cells = zs }))
           (sym (append_assoc items (cell_from a.old bg n k cell) (cells_from a.old bg n (k + 1) rest)) ∙ ap (λ zs. zs ++ cells_from a.old bg n (k + 1) rest) (sym added)))
-        c.loop-place.invariant.told;
+          c.loop-place.invariant.told;
       count = omega (arith, all, one, c.loop-place.invariant.count, add-mul k 1 n);
     }
 
@@ -557,14 +552,14 @@ fold_cells-returns-in_err-cell t c =
     let f = WithLoops.cell_at p.form (map (generator_of ctx env) a.gs.now) p.ranges.items in
     let meant = and_then (cells_in ctx a.gs.now p.ranges.items p.frame p.form env) (λ found. Ok (fold (combined a.op) a.neutral found)) in
     let at : f (get_or p.frame k []) ≡ held_in ctx a.gs.now c.deref.result.now c.index.new.into p.form env =
-      ap f (sym (c.in_ok-index.ensures [])) ∙ ap (λ rs. WithLoops.cell_at p.form (map (generator_of ctx env) a.gs.now) rs c.index.new.into) (sym c.deref.ensures.value) in
+    ap f (sym (c.in_ok-index.ensures [])) ∙ ap (λ rs. WithLoops.cell_at p.form (map (generator_of ctx env) a.gs.now) rs c.index.new.into) (sym c.deref.ensures.value) in
     let stop = c.in_err-cell.field-0.0 in
     let is : c.from_residual-in_err-cell.result ≡ Err stop = search rules in
     subst (λ r. Tells r meant) (sym is)
     (same_stop stop (held_in ctx a.gs.now c.deref.result.now c.index.new.into p.form env) meant
-      (λ fault e. each_fault f p.frame k [] fault (λ rest. Ok (fold (combined a.op) c.loop-place.value rest))
-        meant (omega (arith, c.loop-place-test.true, c.count-place-end.ensures)) (at ∙ e) c.loop-place.invariant)
-      c.in_err-cell.ensures.told)
+    (λ fault e. each_fault f p.frame k [] fault (λ rest. Ok (fold (combined a.op) c.loop-place.value rest))
+    meant (omega (arith, c.loop-place-test.true, c.count-place-end.ensures)) (at ∙ e) c.loop-place.invariant)
+    c.in_err-cell.ensures.told)
 
 pub fold_cells-loop-place-preserved : goal.fold_cells-loop-place-preserved
 fold_cells-loop-place-preserved t c =
@@ -576,8 +571,8 @@ fold_cells-loop-place-preserved t c =
     let f = WithLoops.cell_at p.form (map (generator_of ctx env) a.gs.now) p.ranges.items in
     let meant = and_then (cells_in ctx a.gs.now p.ranges.items p.frame p.form env) (λ found. Ok (fold (combined a.op) a.neutral found)) in
     let at : f (get_or p.frame k []) ≡ held_in ctx a.gs.now c.deref.result.now c.index.new.into p.form env =
-      ap f (sym (c.in_ok-index.ensures [])) ∙ ap (λ rs. WithLoops.cell_at p.form (map (generator_of ctx env) a.gs.now) rs c.index.new.into) (sym c.deref.ensures.value) in
+    ap f (sym (c.in_ok-index.ensures [])) ∙ ap (λ rs. WithLoops.cell_at p.form (map (generator_of ctx env) a.gs.now) rs c.index.new.into) (sym c.deref.ensures.value) in
     let value : combined a.op c.loop-place.value c.in_ok-cell.cell ≡ c.in_ok-value.value = cc (c.in_ok-value.ensures) in
     each_step f p.frame k [] c.in_ok-cell.cell (λ rest. Ok (fold (combined a.op) c.loop-place.value rest)) (λ rest. Ok (fold (combined a.op) c.in_ok-value.value rest))
-      meant (omega (arith, c.loop-place-test.true, c.count-place-end.ensures)) (at ∙ c.in_ok-cell.ensures.told)
-      (λ rest. ap (λ v. Ok (fold (combined a.op) v rest)) value) c.loop-place.invariant
+    meant (omega (arith, c.loop-place-test.true, c.count-place-end.ensures)) (at ∙ c.in_ok-cell.ensures.told)
+    (λ rest. ap (λ v. Ok (fold (combined a.op) v rest)) value) c.loop-place.invariant

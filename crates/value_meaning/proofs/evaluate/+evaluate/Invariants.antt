@@ -97,7 +97,7 @@ abbrev pub invariant-array_cells-loop-place : goal.invariant-array_cells-loop-pl
 invariant-array_cells-loop-place l = record {
   told : and_then (cells_in l.context l.gs l.plan.ranges.items (drop l.place l.plan.frame) l.plan.form (env_of l.env))
       (λ rest. Ok (record { base = l.background.base; shape = l.plan.shape; cells = l.cells.items ++ cells_from l.old l.background (size l.plan.form.shape) l.place rest }))
-    ≡ and_then (cells_in l.context l.gs l.plan.ranges.items l.plan.frame l.plan.form (env_of l.env)) (λ found. Ok (array_from l.old l.background (plan_of l.plan) found));
+      ≡ and_then (cells_in l.context l.gs l.plan.ranges.items l.plan.frame l.plan.form (env_of l.env)) (λ found. Ok (array_from l.old l.background (plan_of l.plan) found));
   count : length l.cells.items ≡ l.place * size l.plan.form.shape;
 }
 

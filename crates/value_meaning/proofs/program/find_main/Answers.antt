@@ -1,6 +1,5 @@
-use Rattle.std.proofs.Common.{◌≡◌, ℕ, ◌<◌, get_or, true, false, length, sym, ap, ◌∙◌, subst, arith}
-use Rattle.sac_ast.specs.declared.Function.{Function}
-use Rattle.sac_ast.specs.View.{function, functions}
+use Rattle.std.proofs.Common.{◌≡◌, get_or, true, sym, ap, ◌∙◌, arith}
+use Rattle.sac_ast.specs.View.{function}
 use Rattle.value_meaning.specs.Calls.{is_main, MAIN}
 use Rattle.std.specs.Prelude.{bytes_eq}
 use Rattle.value_meaning.proofs.CallChoice.{position_at, position_none}

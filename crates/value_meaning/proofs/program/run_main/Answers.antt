@@ -14,9 +14,9 @@ returns c = λ end.
     let here = function_at fs c.args.place f c.requires ∙ ap (λ (g : Function). Some (function g)) (sym c.index-functions-place.is) in
     let copies = c.in_ok-args.args.items in
     let fits : all_have (types_of_params f.params.items) copies ≡ true =
-      ap (λ ps. all_have (types_of_params ps) copies) (sym c.deref.ensures.value)
-      ∙ ap (all_have (types_of_params c.deref.result.now)) c.in_ok-args.ensures
-      ∙ sym c.all_fit.ensures ∙ c.if-not-all_fit.false in
+    ap (λ ps. all_have (types_of_params ps) copies) (sym c.deref.ensures.value)
+    ∙ ap (all_have (types_of_params c.deref.result.now)) c.in_ok-args.ensures
+    ∙ sym c.all_fit.ensures ∙ c.if-not-all_fit.false in
     let whole = main_steps fs c.args.place f copies c.args.caps end (length fs) here fits refl in
     let same = ap (λ args. main_at fs c.args.place args c.args.caps end) c.in_ok-args.ensures in
     subst (λ m. TellsItems c.run_function.result m) (sym whole ∙ same) c.run_function.ensures
