@@ -1,0 +1,12 @@
+pub mod Chosen
+pub mod Fresh
+pub mod InScope
+pub mod Loops
+pub mod OnlyOnce
+pub mod Rows
+pub mod Runs
+pub mod Scopes
+pub mod Sound
+pub mod Whole
+pub mod WholeScope
+pub mod WithSame

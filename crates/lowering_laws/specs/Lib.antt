@@ -1,0 +1,3 @@
+pub mod Definite
+pub mod Lowering
+pub mod Programs
