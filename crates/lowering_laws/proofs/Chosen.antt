@@ -45,14 +45,14 @@ position_step p x xs = go (p x)
 
 -- ---- the group of a name
 
-bytes_back : (x y : Name) → bytes_eq x y ≡ false → bytes_eq y x ≡ false
+pub bytes_back : (x y : Name) → bytes_eq x y ≡ false → bytes_eq y x ≡ false
 bytes_back x y h = go (bytes_eq y x) refl
   where
     go : (b : Bool) → bytes_eq y x ≡ b → bytes_eq y x ≡ false
     go true e = absurd (let p : bytes_eq x y ≡ bytes_eq y y = ap (λ z. bytes_eq z y) (sym (same_name y x e)) in let q : bytes_eq y y ≡ bytes_eq y x = ap (bytes_eq y) (same_name y x e) in cc)
     go false e = e
 
-placed : {B : Type 0} (g : Name → B) (xs : List Name) (x : Name) → has_name xs x ≡ true → slice_get (map g xs) (place_in xs x) ≡ Some (g x)
+pub placed : {B : Type 0} (g : Name → B) (xs : List Name) (x : Name) → has_name xs x ≡ true → slice_get (map g xs) (place_in xs x) ≡ Some (g x)
 placed g [] x h = absurd (cc)
 placed g (y ∷ ys) x h = go (bytes_eq x y) refl (λ k. placed g ys x k)
   where
@@ -68,7 +68,7 @@ unplaced g (y ∷ ys) x h = go (bytes_eq x y) refl (unplaced g ys x (or_none (by
     go true e again = absurd (let p = (or_none (bytes_eq x y) (has_name ys x) h).0 in cc)
     go false e again = again
 
-abbrev all_names : List FunctionTree → List Name
+abbrev pub all_names : List FunctionTree → List Name
 all_names fs = map (λ (f : FunctionTree). f.name) fs
 
 no_places : (fs : List FunctionTree) (x : Name) (i : ℕ) → has_name (all_names fs) x ≡ false → places_of x i fs ≡ []

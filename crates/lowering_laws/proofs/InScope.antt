@@ -73,7 +73,7 @@ not_there n hi vs l c = go (is_in (numbered n) vs) refl
     go true e = absurd (either (c (numbered n) e) (λ k. omega arith) (λ k. omega arith))
     go false e = e
 
-is_itself : (n : ℕ) → eqb n n ≡ true
+pub is_itself : (n : ℕ) → eqb n n ≡ true
 is_itself n = eq-eqb n n refl
 
 or_first_true : (a b : Bool) → a ≡ true → (a || b) ≡ true
@@ -174,7 +174,7 @@ pub vars_there : (scope : Scope) (xs : List Name) (vs : List Var) → AllKnown s
 vars_there scope [] vs k s = tt
 vars_there scope (x ∷ xs) vs k s = (known_there (var_in scope x) vs k.0 (λ y p. s x y p), vars_there scope xs vs k.1 s)
 
-filter_known : (p : Name → Bool) (scope : Scope) (xs : List Name) → ((x : Name) → p x ≡ true → is_known scope x ≡ true) → AllKnown scope (filter p xs)
+pub filter_known : (p : Name → Bool) (scope : Scope) (xs : List Name) → ((x : Name) → p x ≡ true → is_known scope x ≡ true) → AllKnown scope (filter p xs)
 filter_known p scope [] h = tt
 filter_known p scope (x ∷ xs) h = go (p x) refl (filter_known p scope xs h)
   where
@@ -186,14 +186,14 @@ name_itself : (x : Name) → bytes_eq x x ≡ true
 name_itself x = grind (arith, bytes_eq-Decides x x)
 
 -- names that are pushed have variables
-pushed_known : (xs ys : List Name) (n : ℕ) (scope : Scope) → ((x : Name) → has_name ys x ≡ true → has_name xs x ≡ true) → AllKnown (pushed xs n scope) ys
+pub pushed_known : (xs ys : List Name) (n : ℕ) (scope : Scope) → ((x : Name) → has_name ys x ≡ true → has_name xs x ≡ true) → AllKnown (pushed xs n scope) ys
 pushed_known xs [] n scope h = tt
 pushed_known xs (y ∷ ys) n scope h = (
   push_known xs n scope y (h y (or_first_true (bytes_eq y y) (has_name ys y) (name_itself y))),
   pushed_known xs ys n scope (λ x k. h x (or_second_true (bytes_eq x y) (has_name ys x) k)),
 )
 
-known_wider : (s t : Scope) (xs : List Name) → ((x : Name) → is_known s x ≡ true → is_known t x ≡ true) → AllKnown s xs → AllKnown t xs
+pub known_wider : (s t : Scope) (xs : List Name) → ((x : Name) → is_known s x ≡ true → is_known t x ≡ true) → AllKnown s xs → AllKnown t xs
 known_wider s t [] h k = tt
 known_wider s t (x ∷ xs) h k = (h x k.0, known_wider s t xs h k.1)
 
@@ -285,7 +285,7 @@ module _ (group_of : Name → ℕ) (base_of : Expr → Option Base) (base_of_nam
       go false = h
 
   mutual
-    knows_stmt : (st : Stmt) (scope : Scope) (n : ℕ) (x : Name) → is_known scope x ≡ true → is_known (lowered_stmt group_of base_of base_of_name st scope n).scope x ≡ true
+    pub knows_stmt : (st : Stmt) (scope : Scope) (n : ℕ) (x : Name) → is_known scope x ≡ true → is_known (lowered_stmt group_of base_of base_of_name st scope n).scope x ≡ true
     knows_stmt (assign targets (call name es site)) scope n x h = push_knows (names targets) (lowered_all group_of base_of base_of_name es scope n).next scope x h
     knows_stmt (assign targets e) scope n x h = first_knows targets (lowered group_of base_of base_of_name e scope n).result scope x h
     knows_stmt (Tree.replace target bracket index e) scope n x h = first_knows (target ∷ []) _ scope x h
@@ -306,17 +306,17 @@ module _ (group_of : Name → ℕ) (base_of : Expr → Option Base) (base_of_nam
         let T = lowered group_of base_of base_of_name c (pushed all S.next scope) B.next in
         push_knows all T.next scope x h
 
-    knows_block : (ss : Block) (scope : Scope) (n : ℕ) (x : Name) → is_known scope x ≡ true → is_known (lowered_block group_of base_of base_of_name ss scope n).scope x ≡ true
+    pub knows_block : (ss : Block) (scope : Scope) (n : ℕ) (x : Name) → is_known scope x ≡ true → is_known (lowered_block group_of base_of base_of_name ss scope n).scope x ≡ true
     knows_block no_stmts scope n x h = h
     knows_block (stmt_and st rest) scope n x h =
         let A = lowered_stmt group_of base_of base_of_name st scope n in
         knows_block rest A.scope A.next x (knows_stmt st scope n x h)
 
-and_left : (a b : Bool) → (a && b) ≡ true → a ≡ true
+pub and_left : (a b : Bool) → (a && b) ≡ true → a ≡ true
 and_left true b h = refl
 and_left false b h = absurd (cc)
 
-and_right : (a b : Bool) → (a && b) ≡ true → b ≡ true
+pub and_right : (a b : Bool) → (a && b) ≡ true → b ≡ true
 and_right true b h = h
 and_right false b h = absurd (cc)
 

@@ -1,5 +1,6 @@
 pub mod Chosen
 pub mod Fresh
+pub mod InBases
 pub mod InScope
 pub mod Loops
 pub mod OnlyOnce
@@ -8,5 +9,6 @@ pub mod Runs
 pub mod Scopes
 pub mod Sound
 pub mod Whole
+pub mod WholeBases
 pub mod WholeScope
 pub mod WithSame

@@ -59,7 +59,7 @@ first_shows [] n bound scope env f g z v l b h s e = λ x p. shows_later n bound
 first_shows (t ∷ []) n bound scope env f g z v l b h s e = shows_with n bound scope env f g t.name z v b h s e
 first_shows (t ∷ u ∷ ts) n bound scope env f g z v l b h s e = absurd l
 
-map_map : {A B C : Type 0} (g : B → C) (f : A → B) (xs : List A) → map g (map f xs) ≡ map (λ x. g (f x)) xs
+pub map_map : {A B C : Type 0} (g : B → C) (f : A → B) (xs : List A) → map g (map f xs) ≡ map (λ x. g (f x)) xs
 map_map g f [] = refl
 map_map g f (x ∷ xs) = ap (λ l. g (f x) ∷ l) (map_map g f xs)
 
