@@ -1,21 +1,19 @@
 -- From what the parser has done over the tokens of a program to the meaning of its answer.
-use Rattle.std.proofs.Common.{ℕ, zero, suc, ◌≡◌, ◌<◌, ◌≤◌, ◌+◌, Bool, true, false, List, [], ◌∷◌, ◌++◌, ◌⊎◌, inl, inr, refl, sym, ap, ◌∙◌, subst, append_assoc, append-nil, arith, length, length-append}
+use Rattle.std.proofs.Common.{ℕ, ◌≡◌, ◌<◌, ◌≤◌, ◌+◌, false, List, [], ◌∷◌, ◌++◌, ◌⊎◌, inl, inr, refl, sym, ap, ◌∙◌, subst, append_assoc, append-nil, arith, length, length-append}
 use Rattle.std.specs.List.{AllByRecursion}
-use Rattle.sac_ast.specs.Texts.{Lexeme, is_end}
-use Rattle.sac_ast.specs.Shape.{MatchesEach, term, ref, many, end}
+use Rattle.sac_ast.specs.Texts.{Lexeme}
+use Rattle.sac_ast.specs.Shape.{MatchesEach, ref}
 use Rattle.sac_ast.specs.Tree.{FunctionTree, ProgramTree}
 use Rattle.sac_ast.specs.Grammar.{Nonterminal, Tree, rule, action, program, function, IsPhrase, IsProgram}
-use Rattle.sac_ast.specs.Heights.{function_height, open_behind, opens, closes, IsShallow, IsLow, IsTreeOf}
-use Rattle.sac_ast.specs.Refusals.{Starts, StartsWithin, IsInReach, IsStuckAt, IsTooDeepAt}
-use Rattle.sac_grammar.specs.Run.{starts, SameFirst, first, Runs, RunsEach, RunsIn}
+use Rattle.sac_ast.specs.Heights.{function_height}
+use Rattle.sac_grammar.specs.Run.{starts, SameFirst, RunsIn}
 use Rattle.sac_grammar.specs.Tables.{first_of, ext_of, rank_of}
-use Rattle.sac_grammar.specs.High.{AnyOf}
 use Rattle.sac_grammar.specs.Limits.{High}
-use Rattle.sac_grammar.specs.Parsing.{Found, Lost, TooTall, ReadEach, Parts}
+use Rattle.sac_grammar.specs.Parsing.{Found, Lost, TooTall, ReadEach}
 use Rattle.sac_grammar.proofs.Machine.{false_true, SameEnd}
 use Rattle.sac_grammar.proofs.Table.{table}
 use Rattle.sac_grammar.proofs.High.{same_first_self}
-use Rattle.sac_grammar.proofs.Exact.{phrase_read, same_read, only_read, sound_read, stable_read, read_whole, stuck_at, derives_begins, same_front}
+use Rattle.sac_grammar.proofs.Exact.{phrase_read, same_read, only_read, derives_begins}
 
 -- ---- phrases and reading
 
@@ -54,9 +52,9 @@ tall_at d k ts r t = (
 
 -- ---- no function that is too high ends before the place where the parser stopped
 
--- the parser stopped in a function, or before a token that begins none
+-- the parser stopped in a function, or none begins here
 abbrev pub StopsBefore : List Lexeme → List Lexeme → Type 0
-StopsBefore mid r = Lost function mid r ⊎ (TooTall 0 function mid r ⊎ ((starts (first_of function) mid ≡ false) × (r ≡ mid)))
+StopsBefore mid r = Lost function mid r ⊎ (TooTall 0 function mid r ⊎ (starts (first_of function) mid ≡ false))
 
 -- a function that stands where the parser stopped ends behind the place
 function_after : (mid r : List Lexeme) → StopsBefore mid r → (w z : List Lexeme) (g : FunctionTree) → mid ≡ w ++ z → IsPhrase function w g → length z < length r
@@ -67,7 +65,7 @@ function_after mid r (inr (inl t)) w z g e d =
     let gap : length z + 1 ≤ length r = h.1 in
     omega arith
 function_after mid r (inr (inr n)) w z g e d =
-    false_true (sym (subst (λ l. starts (first_of function) l ≡ false) e n.0) ∙ derives_begins Tree first_of ext_of rank_of rule action table d.0 function w g d.1 z)
+    false_true (sym (subst (λ l. starts (first_of function) l ≡ false) e n) ∙ derives_begins Tree first_of ext_of rank_of rule action table d.0 function w g d.1 z)
 
 pub reached : (ts mid r : List Lexeme) (fs : List FunctionTree) → ReadEach (ref function) ts fs mid → AllByRecursion (λ (f : FunctionTree). function_height f ≤ 100) fs → StopsBefore mid r → (v : List Lexeme) (gs : List FunctionTree) (f w : List Lexeme) (g : FunctionTree) → ts ≡ v ++ (f ++ w) → MatchesEach (IsPhrase function) v gs → IsPhrase function f g → 100 < function_height g → length w < length r
 reached ts mid r [] e low s v [] f w g whole gs d h = function_after mid r s f w g (e ∙ whole ∙ ap (λ l. l ++ (f ++ w)) gs) d
