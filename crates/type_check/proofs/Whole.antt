@@ -1,0 +1,92 @@
+-- The walk over a program finds the earliest of its violations.
+use Rattle.std.proofs.Common.{◌≡◌, ℕ, ◌+◌, ◌<◌, ◌≤◌, List, [], ◌∷◌, ◌++◌, length, map, take, drop, get_or, Bool, true, false, not, Option, Some, None, refl, sym, ap, ◌∙◌, if◌then◌else◌}
+use Rattle.std.specs.Prelude.{◌==◌, filter, flat_map}
+use Rattle.std.specs.List.{list_all}
+use Rattle.std.proofs.lemmas.List.{drop_more}
+use Rattle.sac_base.specs.declared.site.Site.{Site}
+use Rattle.sac_ast.specs.declared.CheckCode.TheVariants.{C3, C4, C6, C7, C8}
+use Rattle.sac_ast.specs.declared.Function.{Function}
+use Rattle.sac_ast.specs.Tree.{FunctionTree, ProgramTree}
+use Rattle.sac_ast.specs.View.{function, functions}
+use Rattle.type_check.specs.Accepted.{Names, Known, Place, with_names, no_names, bound_behind, param_names, known_params, none_known, names_in, values_fit, is_named, main_name, may_stand_together, violations}
+use Rattle.type_check.specs.Accepted as a
+use Rattle.type_check.specs.Walk as w
+use Rattle.type_check.specs.Programs.{stands_with, mains, second_main, main_counted, inline_mains, one_function, ended_first, in_functions, in_program}
+use Rattle.sac_base.specs.declared.base.Base.{Base}
+use Rattle.type_check.specs.declared.violation.Violation.{Violation}
+use Rattle.type_check.specs.First.{earlier, unless, first_of}
+use Rattle.type_check.proofs.Earliest.{earlier_grouped}
+use Rattle.type_check.proofs.Positions.{next_functions}
+use Rattle.type_check.proofs.Same.{joined, one, and_then_one, behind, repeated_params_is, block_is, values_is}
+
+pub function_is : (fs before : List FunctionTree) (f : FunctionTree) → w.in_function fs before f ≡ first_of (a.in_function fs before f)
+function_is fs before f =
+    let place : Place = record { functions = fs; before = before; inline = f.inline; listed = names_in f } in
+    let start = with_names (param_names f.params) no_names in
+    let known = known_params f.params none_known in
+    let body = a.in_block place f.body start known in
+    let values = a.in_values place f.values (bound_behind f.body start) body.known in
+    let twice = a.repeated_params f.params in
+    let first = block_is place f.body start known in
+    let second = ap (λ (r : w.Walked). w.in_values place f.values (bound_behind f.body start) r.known) first ∙ values_is place f.values (bound_behind f.body start) body.known in
+    (λ i. earlier (earlier (earlier (earlier (repeated_params_is no_names f.params i) (first i).first) (second i).first)
+    (unless (length (second i).bases == length f.results) C3 f.ends)) (unless (values_fit (second i).bases f.results) C4 f.ends))
+    ∙ and_then_one _ (twice ++ body.violations ++ values.violations ++ a.unless (length values.bases == length f.results) C3 f.ends) (values_fit values.bases f.results) C4 f.ends
+    (and_then_one _ (twice ++ body.violations ++ values.violations) (length values.bases == length f.results) C3 f.ends
+    (behind _ (twice ++ body.violations) values.violations (joined twice body.violations)))
+
+functions_are : (fs before rest : List FunctionTree) → in_functions fs before rest ≡ first_of (a.in_functions fs before rest)
+functions_are fs before [] = refl
+functions_are fs before (f ∷ rest) =
+    let clash = a.clash_rules before f in
+    let inside = a.in_function fs before f in
+    let later = a.in_functions fs (before ++ f ∷ []) rest in
+    (λ i. earlier (earlier (one (stands_with f before) C6 f.site i) (function_is fs before f i)) (functions_are fs (before ++ f ∷ []) rest i))
+    ∙ behind _ (clash ++ inside) later (joined clash inside)
+
+counted_is : (gs : List FunctionTree) (end : Site) → main_counted gs end ≡ first_of (a.main_count gs end)
+counted_is [] end = refl
+counted_is (g ∷ []) end = refl
+counted_is (g ∷ h ∷ gs) end = refl
+
+inline_is : (gs : List FunctionTree) → inline_mains gs ≡ first_of (flat_map (λ (g : FunctionTree). a.unless (not g.inline) C8 g.site) gs)
+inline_is [] = refl
+inline_is (g ∷ gs) =
+    (λ i. earlier (one (not g.inline) C8 g.site i) (inline_is gs i)) ∙ joined (a.unless (not g.inline) C8 g.site) (flat_map (λ (g : FunctionTree). a.unless (not g.inline) C8 g.site) gs)
+
+pub program_is : (p : ProgramTree) → in_program p ≡ first_of (violations p)
+program_is p =
+    let count = a.main_count (mains p.functions) p.end in
+    let inline = flat_map (λ (g : FunctionTree). a.unless (not g.inline) C8 g.site) (mains p.functions) in
+    let all = a.in_functions p.functions [] p.functions in
+    (λ i. earlier (functions_are p.functions [] p.functions i) (earlier (counted_is (mains p.functions) p.end i) (inline_is (mains p.functions) i)))
+    ∙ ap (earlier (first_of all)) (joined count inline)
+    ∙ joined all (count ++ inline)
+
+-- one step of the loop over the functions
+pub functions_step : (acc found : Option Violation) (fs : List Function) (k : ℕ) (f : Function) → k < length fs → f ≡ get_or fs k f
+    → found ≡ one_function (functions fs) (functions (take k fs)) (function f)
+    → earlier (earlier acc found) (in_functions (functions fs) (functions (take (k + 1) fs)) (functions (drop (k + 1) fs))) ≡ earlier acc (in_functions (functions fs) (functions (take k fs)) (functions (drop k fs)))
+functions_step acc found fs k f h at e =
+    let all = functions fs in
+    let before = functions (take k fs) in
+    let rest = functions (drop (k + 1) fs) in
+    let longer = next_functions fs k f h ∙ ap (λ x. before ++ function x ∷ []) (sym at) in
+    earlier_grouped acc found (in_functions all (functions (take (k + 1) fs)) rest)
+    ∙ (λ i. earlier acc (earlier (e i) (in_functions all (longer i) rest)))
+    ∙ ap (λ gs. earlier acc (in_functions all before (functions gs))) (sym (drop_more fs k f h ∙ ap (λ x. x ∷ drop (k + 1) fs) (sym at)))
+
+-- a function, by what is found in its parts
+pub ended_from : (fs before : List FunctionTree) (f : FunctionTree) (listed b1 b2 : Names) (n1 n2 : Known) (twice body inside : Option Violation) (bases : List (Option Base))
+    → listed ≡ names_in f → b1 ≡ with_names (param_names f.params) no_names → n1 ≡ known_params f.params none_known → twice ≡ w.repeated_params no_names f.params
+    → (let p : Place = record { functions = fs; before = before; inline = f.inline; listed = listed } in
+    (body ≡ (w.in_block p f.body b1 n1).first) × (n2 ≡ (w.in_block p f.body b1 n1).known) × (b2 ≡ bound_behind f.body b1)
+    × (inside ≡ (w.in_values p f.values b2 n2).first) × (bases ≡ (w.in_values p f.values b2 n2).bases))
+    → ended_first twice body inside bases f ≡ w.in_function fs before f
+ended_from fs before f listed b1 b2 n1 n2 twice body inside bases el eb en et h =
+    let body' = h.0 ∙ (λ i. let p : Place = record { functions = fs; before = before; inline = f.inline; listed = el i } in (w.in_block p f.body (eb i) (en i)).first) in
+    let known' = h.1 ∙ (λ i. let p : Place = record { functions = fs; before = before; inline = f.inline; listed = el i } in (w.in_block p f.body (eb i) (en i)).known) in
+    let bound' = h.2 ∙ ap (bound_behind f.body) eb in
+    let inside' = h.3 ∙ (λ i. let p : Place = record { functions = fs; before = before; inline = f.inline; listed = el i } in (w.in_values p f.values (bound' i) (known' i)).first) in
+    let bases' = h.4 ∙ (λ i. let p : Place = record { functions = fs; before = before; inline = f.inline; listed = el i } in (w.in_values p f.values (bound' i) (known' i)).bases) in
+    λ i. ended_first (et i) (body' i) (inside' i) (bases' i) f
