@@ -1,12 +1,12 @@
 -- From what the command tells to what the words ask for.
-use Rattle.std.proofs.Common.{◌≡◌, ℕ, Bool, true, false, cond, List, [], ◌∷◌, Option, Some, None, Result, Ok, Err, IfOk, refl, sym, ap, subst, ◌∙◌, codes}
+use Rattle.std.proofs.Common.{◌≡◌, ℕ, Bool, [], Option, Some, None, refl, sym, ap, ◌∙◌, codes}
 use Rattle.std.specs.Prelude.{option_map}
 use Rattle.clap.specs.Words.{Text, first_of, first_value, rows_of}
 use Rattle.clap.specs.declared.parser.matches.Found.{Found}
 use Rattle.clap.proofs.WalkLemmas.{first_value-rows}
 use Rattle.sac_words.specs.declared.options.Mode.{Mode}
 use Rattle.sac_words.specs.declared.options.Options.{Options}
-use Rattle.sac_words.specs.Meaning.{Meant, Origin, meant, input_meant, input_by, number_or, chunk_by, mode_by, is_flag_given, meant_by, meant_from}
+use Rattle.sac_words.specs.Meaning.{Origin, meant, input_by, number_or, chunk_by, mode_by, is_flag_given, meant_by, meant_from}
 
 module _ (source : Text) (report : Bool) where
   pub no_source : (i : Option Origin) (w : Option ℕ) (k : Option (Option ℕ)) (t d : Option ℕ) (m : Option Mode) → meant_from None i w k t d m report ≡ None

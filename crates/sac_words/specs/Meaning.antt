@@ -1,5 +1,5 @@
 -- What the words ask for.
-use Rattle.std.specs.Prelude.{ℕ, Bool, ◌&&◌, false, nat_le, List, [], ◌∷◌, map, Option, Some, None, option_map, option_and_then, codes, bytes_eq, if◌then◌else◌}
+use Rattle.std.specs.Prelude.{ℕ, ◌≤◌, ⊤, Bool, ◌&&◌, false, nat_le, List, [], ◌∷◌, map, Option, Some, None, option_map, option_and_then, codes, bytes_eq, if◌then◌else◌}
 use Rattle.std.specs.Borrow.{Bor}
 use Rattle.std.specs.Str.{all_ascii_digits}
 use Rattle.std.specs.Str.Parse.{digits_value}
@@ -36,6 +36,11 @@ abbrev pub input_meant : Input → Origin
 input_meant Empty = empty
 input_meant (File name) = file name.now
 input_meant (Generated n) = generated n
+
+-- arrays are generated from 1 to 4096
+abbrev pub IsSized : Input → Type 0
+IsSized (Generated n) = (1 ≤ n) × (n ≤ 4096)
+IsSized input = ⊤
 
 abbrev pub meant : Options → Meant
 meant o = record { source = o.source.now; input = input_meant o.input; workers = o.workers; chunk = o.chunk; caps = o.caps; mode = o.mode; report = o.report }

@@ -2,7 +2,7 @@
 ghost use Rattle.std.specs.Prelude.{◌≡◌, ◌≤◌, false, IfOk, IfSome, Some, None, Err, option_map};
 ghost use Rattle.clap.specs.Words.{app_of, found_of, rule_of, rows_of};
 ghost use Rattle.sac_words.specs.Command.{choice, flag, required, sac_command};
-ghost use Rattle.sac_words.specs.Meaning.{texts, meant, input_meant, meant_by, input_by, mode_by, chunk_by, number_or, is_flag_given, words_mean};
+ghost use Rattle.sac_words.specs.Meaning.{texts, meant, input_meant, IsSized, meant_by, input_by, mode_by, chunk_by, number_or, is_flag_given, words_mean};
 
 use crate::number::number_in;
 use crate::options::{Input, Mode, Options, WordsError};
@@ -87,7 +87,8 @@ fn mode_of(given: Option<&str>) -> Option<Mode>
 
 // At most one of a file and a number may be given.
 fn input_of<'a>(file: Option<&'a str>, number: Option<&'a str>) -> Option<Input<'a>>
-    ensures { option_map input_meant result ≡ input_by (option_map (λ text. text.now) file.entry) (option_map (λ text. text.now) number.entry) }
+    ensures exact { option_map input_meant result ≡ input_by (option_map (λ text. text.now) file.entry) (option_map (λ text. text.now) number.entry) }
+    ensures sized { IfSome result IsSized }
 {
     match (file, number) {
         (None, None) => Some(Input::Empty),
@@ -111,7 +112,8 @@ fn is_given(flag: Option<&str>) -> bool
 }
 
 fn options_of<'a>(matches: &ArgMatches<'a>) -> Option<Options<'a>>
-    ensures { option_map meant result ≡ meant_by (rows_of (found_of matches.now)) }
+    ensures exact { option_map meant result ≡ meant_by (rows_of (found_of matches.now)) }
+    ensures sized { IfSome result (λ options. IsSized options.input) }
 {
     let source = matches.get_str("FILE")?;
     let input = input_of(matches.get_str("input"), matches.get_str("gen"))?;
@@ -139,6 +141,7 @@ fn options_of<'a>(matches: &ArgMatches<'a>) -> Option<Options<'a>>
 /// `Refused` exactly where the words ask for nothing; `Memory` where no memory was found.
 pub fn read_words<'a>(alloc: Global, words: &'a [&'a str]) -> Result<Options<'a>, WordsError>
     ensures read { IfOk result (λ options. words_mean (texts words.entry.now) ≡ Some (meant options)) }
+    ensures sized { IfOk result (λ options. IsSized options.input) }
     ensures refused { result ≡ Err WordsError.Refused → words_mean (texts words.entry.now) ≡ None }
 {
     let Ok(command) = command(alloc) else {

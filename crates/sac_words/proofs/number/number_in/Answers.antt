@@ -1,4 +1,4 @@
-use Rattle.std.proofs.Common.{◌≡◌, inl, inr, rules, arith, ◌<◌, ◌^◌, List, ℕ, Bool, false, true, []}
+use Rattle.std.proofs.Common.{inl, inr, rules, arith}
 use Rattle.sac_words.proofs.Numbers.{plus_is_no_number, parsed, out_of_range, unparsed}
 use Rattle.sac_words.proofs.number.number_in.Goals as goal
 

@@ -1,4 +1,4 @@
-use Rattle.std.proofs.Common.{◌≡◌, rules, refl, sym, ap, ◌∙◌}
+use Rattle.std.proofs.Common.{sym, ◌∙◌}
 use Rattle.sac_words.proofs.Taken.{refused_by, taken_as}
 use Rattle.sac_words.proofs.read.read_words.Goals as goal
 use Rattle.sac_words.proofs.read.read_words.Goals.{in-OutOfMemory, in_default-kind}
@@ -13,9 +13,9 @@ returns-in-Err-clause-refused c =
 pub returns-in-Some-clause-read : goal.returns-in-Some-clause-read
 returns-in-Some-clause-read c =
     let e = c.in-Ok-try_get_matches_from.ensures in
-    taken_as _ _ _ c.in-Ok.ensures e.kinds e.matches ∙ sym c.in-Some.ensures
+    taken_as _ _ _ c.in-Ok.ensures e.kinds e.matches ∙ sym c.in-Some.ensures.exact
 
 pub returns-clause-refused : goal.returns-clause-refused
 returns-clause-refused c =
     let e = c.in-Ok-try_get_matches_from.ensures in
-    λ is. taken_as _ _ _ c.in-Ok.ensures e.kinds e.matches ∙ sym c.in-None.ensures
+    λ is. taken_as _ _ _ c.in-Ok.ensures e.kinds e.matches ∙ sym c.in-None.ensures.exact
