@@ -66,7 +66,7 @@ counted : (gs : List FunctionTree) (end : Site) → main_count gs end ≡ [] →
 counted [] end h e = cc
 counted (g ∷ gs) end h e = cc
 
-main_there : (fs : List FunctionTree) (end : Site) → main_count (filter (is_named main_name) fs) end ≡ [] → IsTrue (is_some (position is_main fs))
+pub main_there : (fs : List FunctionTree) (end : Site) → main_count (filter (is_named main_name) fs) end ≡ [] → IsTrue (is_some (position is_main fs))
 main_there fs end h = main_listed fs (counted (filter (is_named main_name) fs) end h)
 
 -- ---- functions

@@ -3,4 +3,4 @@
 
 mod laws;
 
-pub use laws::accepted_definite;
+pub use laws::{accepted_definite, accepted_main, accepted_typed};
