@@ -9,4 +9,6 @@ pub mod Given
 pub mod Actions
 pub mod Pieces
 pub mod WholeTexts
+pub mod Nesting
+pub mod SameHeights
 pub mod Sources

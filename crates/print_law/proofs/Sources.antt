@@ -13,6 +13,9 @@ use Rattle.sac_ast.specs.Texts.{Lexeme, is_name, is_number, is_reserved}
 use Rattle.sac_ast.specs.Tree.{ProgramTree}
 use Rattle.sac_ast.specs.Grammar.{IsProgram}
 use Rattle.sac_print.specs.Canonical.{program_texts, canonical}
+use Rattle.sac_ast.specs.Heights.{IsTreeOf}
+use Rattle.print_law.proofs.Nesting.{program_part, shallow_texts}
+use Rattle.print_law.proofs.SameHeights.{low_again}
 use Rattle.print_law.specs.Bare.{bare_program}
 use Rattle.print_law.specs.Tokens.{plain, HasTokens}
 use Rattle.print_law.proofs.Fits.{FitsProgram}
@@ -84,6 +87,14 @@ read_again source tokens p h d =
     let c = canonical_tokens p fits in
     let r = program_read p fits (map plain c.0) c.2 in
     (c.0, r.0, c.1, r.1, r.2)
+
+-- the limits on nesting are kept
+pub nested_again : (source : List ℕ) (tokens : List lex.Lexeme) (p : ProgramTree) → IsTokenList source tokens → IsTreeOf (map plain tokens) p → (again : List lex.Lexeme) × (q : ProgramTree) × HasTokens (canonical p) again × IsTreeOf (map plain again) q × (bare_program q ≡ bare_program p)
+nested_again source tokens p h (d, few, low) =
+    let fits = every_tree_fits p (map plain tokens) (source_proper source tokens h) d in
+    let c = canonical_tokens p fits in
+    let r = program_read p fits (map plain c.0) c.2 in
+    (c.0, r.0, c.1, (r.1, shallow_texts (map plain c.0) (program_texts p ++ ([] ∷ [])) 101 c.2 (program_part p fits low) (omega arith), low_again p r.0 r.2 low), r.2)
 
 -- few tokens are the token list
 pub few_tokens : (source : List ℕ) (tokens : List lex.Lexeme) → HasTokens source tokens → length tokens ≤ 200001 → IsTokenList source tokens

@@ -5,4 +5,6 @@ pub mod Table
 pub mod High
 pub mod Grows
 pub mod Parsing
-pub mod Refusals
+pub mod Stops
+pub mod Verdicts
+pub mod Ends

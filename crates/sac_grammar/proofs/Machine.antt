@@ -1,14 +1,13 @@
 -- A predictive parser is exact.
-use Rattle.std.proofs.Common.{ℕ, zero, suc, ◌≡◌, ◌+◌, Bool, true, false, cond, not, ◌&&◌, ◌||◌, List, [], ◌∷◌, ◌++◌, ◌⊎◌, inl, inr, IsTrue, refl, sym, ap, ◌∙◌, subst, append_assoc, append-nil, eqb, arith}
+use Rattle.std.proofs.Common.{ℕ, ◌≡◌, Bool, true, false, cond, not, ◌&&◌, ◌||◌, List, [], ◌∷◌, ◌++◌, ◌⊎◌, inl, inr, refl, sym, ap, ◌∙◌, subst, append_assoc, append-nil, eqb, arith}
 use Rattle.std.proofs.lemmas.Bool.Decides.{nat_tests}
-use Rattle.std.specs.Bool.{⊤}
 use Rattle.std.specs.List.{list_any, list_all}
 use Rattle.std.specs.Str.{bytes_eq}
 use Rattle.std.specs.Prelude.{◌==◌}
 use Rattle.std.specs.Char.{is_ascii_alphabetic, is_ascii_digit}
-use Rattle.sac_ast.specs.Texts.{Lexeme, is_name, is_number, is_end, is_reserved}
-use Rattle.sac_ast.specs.Shape.{Terminal, text, name, number, end, matches, Shape, nothing, term, ref, seq, alt, many, Value, MatchesEach, Matches, DerivesIn, Derives}
-use Rattle.sac_grammar.specs.Run.{starts, is_nullable, first, RunsEach, SticksAfter, Runs, Sticks, RunsIn, SticksIn, Reads, Fails, SameFirst, clash, are_apart, extends, is_predictive}
+use Rattle.sac_ast.specs.Texts.{Lexeme, is_name, is_number, is_end}
+use Rattle.sac_ast.specs.Shape.{Terminal, text, name, number, end, matches, Shape, nothing, term, ref, seq, alt, many, Value, MatchesEach, Matches}
+use Rattle.sac_grammar.specs.Run.{starts, is_nullable, first, RunsEach, SticksAfter, Runs, Sticks, SameFirst, clash, are_apart, extends, is_predictive}
 
 pub false_true : {P : Type 0} → false ≡ true → P
 false_true e = cc
@@ -67,11 +66,11 @@ starts_right : (fs gs : List Terminal) (ts : List Lexeme) → starts (fs ++ gs) 
 starts_right fs gs [] e = refl
 starts_right fs gs (x ∷ ts) e = or_false_right (list_any (λ f. matches f x) fs) _ (sym (any_append x fs gs) ∙ e)
 
-begins_left : (fs gs : List Terminal) (ts : List Lexeme) → starts fs ts ≡ true → starts (fs ++ gs) ts ≡ true
+pub begins_left : (fs gs : List Terminal) (ts : List Lexeme) → starts fs ts ≡ true → starts (fs ++ gs) ts ≡ true
 begins_left fs gs [] e = false_true e
 begins_left fs gs (x ∷ ts) e = any_append x fs gs ∙ or_true_left _ (list_any (λ f. matches f x) gs) e
 
-begins_right : (fs gs : List Terminal) (ts : List Lexeme) → starts gs ts ≡ true → starts (fs ++ gs) ts ≡ true
+pub begins_right : (fs gs : List Terminal) (ts : List Lexeme) → starts gs ts ≡ true → starts (fs ++ gs) ts ≡ true
 begins_right fs gs [] e = false_true e
 begins_right fs gs (x ∷ ts) e = any_append x fs gs ∙ or_true_right (list_any (λ f. matches f x) fs) _ e
 
@@ -110,7 +109,7 @@ end_no_number : {P : Type 0} (t : List ℕ) → is_end t ≡ true → is_number 
 end_no_number [] p q = false_true q
 end_no_number (c ∷ t) p q = false_true p
 
-clash_text : (f g : Terminal) (x : Lexeme) → matches f x ≡ true → matches g x ≡ true → clash f g ≡ true
+pub clash_text : (f g : Terminal) (x : Lexeme) → matches f x ≡ true → matches g x ≡ true → clash f g ≡ true
 clash_text (text a) (text b) x p q = bytes_sym a b x.text p q
 clash_text (text a) name x p q = subst (λ t. is_name t ≡ true) (sym (bytes_same a x.text p)) q
 clash_text (text a) number x p q = subst (λ t. is_number t ≡ true) (sym (bytes_same a x.text p)) q

@@ -3,3 +3,4 @@ pub mod Tables
 pub mod High
 pub mod Limits
 pub mod Parsing
+pub mod Verdicts

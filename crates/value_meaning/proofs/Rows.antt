@@ -1,10 +1,9 @@
 -- The meaning of some programs, computed from the definitions. A column is that of the source text that is shown.
 use Rattle.std.proofs.Common.{◌≡◌, ℕ, refl, List, [], ◌∷◌, ◌++◌, Bool, true, false, Ok, codes, map}
-use Rattle.std.specs.Prelude.{pos, negsuc, ℤ, replicate}
+use Rattle.std.specs.Prelude.{pos, negsuc, ℤ}
 use Rattle.std.specs.Int.{int_wrap}
 use Rattle.sac_base.specs.declared.site.Site.{Site}
-use Rattle.sac_base.specs.declared.base.Base.TheVariants.{Int, Bool as Truth}
-use Rattle.sac_base.specs.declared.op.Op.{Op}
+use Rattle.sac_base.specs.declared.base.Base.TheVariants.{Int}
 use Rattle.sac_base.specs.declared.op.Op.TheVariants.{Add, Mul, Sub, Div, Rem, Lt, Eq, Neg, And}
 use Rattle.sac_base.specs.declared.fault.FaultKind.TheVariants.{F1, F2, F3, F4, F5, F6, F7, F8, F9, F10}
 use Rattle.sac_base.specs.declared.fault.Caps.{Caps}

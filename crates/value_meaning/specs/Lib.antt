@@ -1,2 +1,5 @@
 pub mod Meaning
 pub mod Calls
+pub mod Environments
+pub mod Evaluation
+pub mod WithSource

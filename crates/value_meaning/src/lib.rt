@@ -1,11 +1,14 @@
 //! The value meaning of a program, and the plain evaluator, which computes it from the tree.
 #![tactic(auto)]
 
-use sac_base::Fault;
+mod arrays;
+mod calls;
+mod defaults;
+mod environment;
+mod evaluate;
+mod program;
 
-/// Why an evaluation ended without a value.
-#[derive(Clone, Copy)]
-pub enum Stop {
-    Faulted(Fault),
-    Memory,
-}
+pub use program::plain_run;
+
+#[cfg(test)]
+mod tests;

@@ -1,0 +1,11 @@
+pub mod Blocks
+pub mod Bound
+pub mod Cells
+pub mod Functions
+pub mod Held
+pub mod Instances
+pub mod Loops
+pub mod Outcomes
+pub mod Plains
+pub mod Rights
+pub mod Whole

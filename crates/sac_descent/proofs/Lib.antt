@@ -1,0 +1,10 @@
+pub mod Texts
+pub mod Steps
+pub mod Grown
+pub mod Chains
+pub mod LevelSteps
+pub mod ListSteps
+pub mod PhraseSteps
+pub mod LoopSteps
+pub mod StatementSteps
+pub mod LeafSteps

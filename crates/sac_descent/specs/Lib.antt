@@ -1,0 +1,4 @@
+pub mod Contract
+pub mod Heights
+pub mod Parts
+pub mod Levels

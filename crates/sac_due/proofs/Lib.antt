@@ -1,0 +1,3 @@
+pub mod Stuck
+pub mod First
+pub mod Once

@@ -1,0 +1,76 @@
+-- Brackets that are depth behind the tokens, one more token at a time.
+use Rattle.std.proofs.Common.{ℕ, zero, suc, ◌≡◌, ◌<◌, ◌≤◌, ◌+◌, ◌-◌, cond, List, [], ◌∷◌, ◌++◌, length, take, get_or, refl, sym, ap, ◌∙◌, subst, arith, length-append, length-take-le, ⊎_elim}
+use Rattle.std.proofs.str.Laws.{order}
+use Rattle.sac_ast.specs.Texts.{Lexeme}
+use Rattle.sac_lex.specs.declared.token.Token.{Token}
+use Rattle.sac_descent.specs.Contract.{lexeme, lexemes_of}
+use Rattle.sac_ast.specs.Heights.{opens, closes, open_behind, IsShallow}
+
+pub open_more : (n : ℕ) (ts : List Lexeme) (t : Lexeme) → open_behind n (ts ++ (t ∷ [])) ≡ open_behind (open_behind n ts) (t ∷ [])
+open_more n [] t = refl
+open_more n (x ∷ ts) t = open_more (cond (opens x.text) (n + 1) (cond (closes x.text) (n - 1) n)) ts t
+
+pub take_lexemes : (ts : List Token) (k : ℕ) → lexemes_of (take k ts) ≡ take k (lexemes_of ts)
+take_lexemes ts zero = refl
+take_lexemes [] (suc k) = refl
+take_lexemes (t ∷ ts) (suc k) = ap (λ l. lexeme t ∷ l) (take_lexemes ts k)
+
+-- what the loop knows behind i tokens
+pub record Open (ts : List Token) (i depth : ℕ) : Type 0 where
+  pub is : depth ≡ open_behind 0 (lexemes_of (take i ts))
+  pub few : depth ≤ 200
+  pub before : (k : ℕ) → k ≤ i → open_behind 0 (lexemes_of (take k ts)) ≤ 200
+
+pub open_start : (ts : List Token) → Open ts 0 0
+open_start ts = record { is = refl; few = omega arith; before = λ k le. first k le }
+  where
+    first : (k : ℕ) → k ≤ 0 → open_behind 0 (lexemes_of (take k ts)) ≤ 200
+    first zero le = omega arith
+    first (suc k) le = absurd (omega arith)
+
+pub take_more_token : (ts : List Token) (i : ℕ) (d : Token) → i < length ts → lexemes_of (take (i + 1) ts) ≡ lexemes_of (take i ts) ++ (lexeme (get_or ts i d) ∷ [])
+take_more_token [] i d le = absurd (omega arith)
+take_more_token (x ∷ ts) zero d le = refl
+take_more_token (x ∷ ts) (suc i) d le = ap (λ n. lexemes_of (take n (x ∷ ts))) (let q : suc i + 1 ≡ suc (i + 1) = omega arith in q) ∙ ap (λ l. lexeme x ∷ l) (take_more_token ts i d (omega arith))
+
+pub open_at : (ts : List Token) (i depth next : ℕ) (d : Token) → Open ts i depth → i < length ts → next ≡ open_behind depth (lexeme (get_or ts i d) ∷ []) → next ≡ open_behind 0 (lexemes_of (take (i + 1) ts))
+open_at ts i depth next d o le n = n ∙ ap (λ m. open_behind m (lexeme (get_or ts i d) ∷ [])) o.is ∙ sym (open_more 0 (lexemes_of (take i ts)) (lexeme (get_or ts i d))) ∙ ap (open_behind 0) (sym (take_more_token ts i d le))
+
+pub open_next : (ts : List Token) (i depth next : ℕ) (d : Token) → Open ts i depth → i < length ts → next ≡ open_behind depth (lexeme (get_or ts i d) ∷ []) → next ≤ 200 → Open ts (i + 1) next
+open_next ts i depth next d o le n few =
+    let at = open_at ts i depth next d o le n in
+    record {
+      is = at;
+      few = few;
+      before = λ k h. ⊎_elim (λ (early : k < i + 1). o.before k (omega arith)) (λ (late : i + 1 ≤ k). subst (λ m. open_behind 0 (lexemes_of (take m ts)) ≤ 200) (let q : i + 1 ≡ k = omega arith in q) (subst (λ m. m ≤ 200) at few)) (order k (i + 1));
+    }
+
+front_is : (u r : List Lexeme) → take (length u) (u ++ r) ≡ u
+front_is [] r = refl
+front_is (x ∷ u) r = ap (λ l. x ∷ l) (front_is u r)
+
+lexemes_length' : (ts : List Token) → length (lexemes_of ts) ≡ length ts
+lexemes_length' [] = refl
+lexemes_length' (t ∷ ts) = ap suc (lexemes_length' ts)
+
+take_take : (ts : List Token) (k i : ℕ) → k ≤ i → take k (take i ts) ≡ take k ts
+take_take ts zero i le = refl
+take_take [] (suc k) zero le = refl
+take_take [] (suc k) (suc i) le = refl
+take_take (t ∷ ts) (suc k) zero le = absurd (omega arith)
+take_take (t ∷ ts) (suc k) (suc i) le = ap (λ l. t ∷ l) (take_take ts k i (omega arith))
+
+pub shallow : (ts : List Token) (i depth : ℕ) → i ≤ length ts → Open ts i depth → IsShallow (lexemes_of (take i ts))
+shallow ts i depth le o = λ u r e.
+    let n = ap length e ∙ length-append u r in
+    let m = lexemes_length' (take i ts) ∙ length-take-le i ts le in
+    let k : length u ≤ i = omega arith in
+    let is : lexemes_of (take (length u) ts) ≡ u = ap lexemes_of (sym (take_take ts (length u) i k)) ∙ take_lexemes (take i ts) (length u) ∙ ap (take (length u)) e ∙ front_is u r in
+    subst (λ l. open_behind 0 l ≤ 200) is (o.before (length u) k)
+
+take_whole : (ts : List Token) → take (length ts) ts ≡ ts
+take_whole [] = refl
+take_whole (t ∷ ts) = ap (λ l. t ∷ l) (take_whole ts)
+
+pub shallow_whole : (ts : List Token) (i depth : ℕ) → i ≡ length ts → Open ts i depth → IsShallow (lexemes_of ts)
+shallow_whole ts i depth e o = subst (λ l. IsShallow (lexemes_of l)) (ap (λ n. take n ts) e ∙ take_whole ts) (shallow ts i depth (omega arith) o)

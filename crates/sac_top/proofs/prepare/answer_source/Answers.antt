@@ -1,0 +1,22 @@
+use Rattle.std.proofs.Common.{refl, subst}
+use Rattle.sac_top.specs.Steps
+use Rattle.sac_top.specs.Steps.{IsJudged}
+use Rattle.sac_top.proofs.Whole.{answer_accepted, accepted_fetched, none_fetched, same_calls}
+use Rattle.sac_top.proofs.prepare.answer_source.Goals as goal
+
+pub returns-in_err-checked-clause-calls : goal.returns-in_err-checked-clause-calls
+returns-in_err-checked-clause-calls g c = none_fetched _ _ _ _
+
+pub returns-in-Accepted-clause-answer : goal.returns-in-Accepted-clause-answer
+returns-in-Accepted-clause-answer g c =
+    answer_accepted _ _ _ _ _ _ _ _ (subst (IsJudged c.args.source.now) c.in-Accepted.is c.in_ok-checked.ensures)
+    (same_calls g.F.Files.calls _ _ _ c.answer_program.ensures.calls) c.answer_program.ensures.answer
+
+pub returns-in-Accepted-clause-calls : goal.returns-in-Accepted-clause-calls
+returns-in-Accepted-clause-calls g c =
+    accepted_fetched _ _ _ _ _ _ (subst (IsJudged c.args.source.now) c.in-Accepted.is c.in_ok-checked.ensures)
+    (same_calls g.F.Files.calls _ _ _ c.answer_program.ensures.calls)
+
+pub returns-in-Refused-clause-answer : goal.returns-in-Refused-clause-answer
+returns-in-Refused-clause-answer g c =
+    (0, Steps.refused _ (subst (IsJudged c.args.source.now) c.in-Refused.is c.in_ok-checked.ensures), refl)

@@ -1,0 +1,68 @@
+//! The arguments of `main`.
+ghost use Rattle.std.specs.Prelude.{◌≡◌, ◌≤◌, map, IfOk};
+ghost use Rattle.sac_base.specs.declared.types.ArrayType.{ArrayType as Ty};
+ghost use Rattle.sac_ast.specs.declared.Param.{Param as ParamOf};
+ghost use Rattle.sac_ast.specs.View.{program as tree};
+ghost use Rattle.data_text.specs.Texts.{text_value};
+ghost use Rattle.data_text.specs.Generated.{generated_all};
+ghost use Rattle.data_text.specs.Found.{Tells};
+ghost use Rattle.sac_due.specs.Input.{main_types, main_bases};
+
+use data_text::{DataError, generate, read_arrays};
+use sac_ast::{Param, Program};
+use sac_base::{Array, ArrayType, Base, Memory, copy_type};
+use std::alloc::Global;
+
+fn types_of(alloc: Global, params: &[Param]) -> Result<Vec<ArrayType>, Memory>
+    ensures { IfOk result (λ types. types.items ≡ map (λ (p : ParamOf). p.ty) params.now) }
+{
+    let mut types = Vec::new(alloc);
+    for param in params {
+        types.push(copy_type(&param.ty))?;
+    }
+    Ok(types)
+}
+
+// The types of the parameters of `main`.
+fn main_types(alloc: Global, program: &Program) -> Result<Vec<ArrayType>, Memory>
+    ensures { IfOk result (λ types. types.items ≡ main_types (tree program.now)) }
+{
+    for function in &program.functions {
+        if function.name.as_str() == "main" {
+            return types_of(alloc, &function.params);
+        }
+    }
+    Ok(Vec::new(alloc))
+}
+
+fn bases_of(alloc: Global, types: &[ArrayType]) -> Result<Vec<Base>, Memory>
+    ensures { IfOk result (λ bases. bases.items ≡ map (λ (ty : Ty). ty.base) types.now) }
+{
+    let mut bases = Vec::new(alloc);
+    for ty in types {
+        bases.push(ty.base)?;
+    }
+    Ok(bases)
+}
+
+/// The arguments that a text gives.
+pub fn read_arguments(
+    alloc: Global,
+    program: &Program,
+    text: &[u8],
+) -> Result<Vec<Array>, DataError>
+    ensures { Tells result (text_value text.now (main_bases (tree program.now))) }
+{
+    let types = main_types(alloc, program)?;
+    let bases = bases_of(alloc, &types)?;
+    read_arrays(alloc, text, &bases)
+}
+
+/// The arguments that are generated from a number.
+pub fn generate_arguments(alloc: Global, program: &Program, n: u32) -> Result<Vec<Array>, DataError>
+    requires { (1 ≤ n) × (n ≤ 4096) }
+    ensures { Tells result (generated_all (main_types (tree program.now)) 0 n) }
+{
+    let types = main_types(alloc, program)?;
+    generate(alloc, &types, n)
+}

@@ -1,0 +1,66 @@
+//! What a run comes to before it writes.
+ghost use Rattle.std.specs.Prelude.{◌≡◌, ◌≤◌, ℕ, None, IfOk, OnErr, length};
+ghost use Rattle.sac_io.specs.Count.{Rose};
+ghost use Rattle.sac_words.specs.Meaning.{texts, meant, words_mean, IsSized};
+ghost use Rattle.sac_due.specs.Answer.{Calls, Fetches, IsAnswer};
+ghost use Rattle.sac_top.specs.Steps.{ending, IsSourceAnswer, MayFetchMore};
+
+use crate::line::{Answer, answer_line};
+use crate::run::answer_program;
+use crate::source::{Judged, judge};
+use sac_base::Memory;
+use sac_due::Status;
+use sac_io::{FetchError, Fetched, Files};
+use sac_words::{Options, WordsError, read_words};
+use std::alloc::Global;
+
+/// The longest source, in bytes.
+const SOURCE_LIMIT: u64 = 1_048_576;
+
+const USAGE: &str =
+    "usage: sac FILE [--input FILE] [--workers N] [--chunk K] [--turns T] [--depth C] [--mode run|check|print] [--report] [--gen N]";
+
+fn answer_source<F: Files>(
+    alloc: Global,
+    options: &Options,
+    source: &[u8],
+    files: &mut F,
+) -> Result<Answer, Memory>
+    requires sized { IsSized options.now.input }
+    requires fits { length source.now ≤ 1048576 }
+    ensures answer { IfOk result (λ answer. (count : ℕ) × IsSourceAnswer (meant options.now) source.now (F.files files.old)
+        (Rose (F.faults files.old) (F.faults files.new)) count (ending answer) × Calls (F.calls files.old) (F.calls files.new) count) }
+    ensures never_falls { F.faults files.old ≤ F.faults files.new }
+    ensures calls { OnErr result ((count : ℕ) × MayFetchMore (meant options.now) source.now count × Calls (F.calls files.old) (F.calls files.new) count) }
+{
+    match judge(alloc, source)? {
+        Judged::Accepted(checked) => answer_program(alloc, &checked, options, files),
+        Judged::Refused(text) => Ok(Answer {
+            status: Status::Source,
+            text,
+        }),
+    }
+}
+
+/// What the words and the files come to.
+pub fn prepare<F: Files>(alloc: Global, words: &[&str], files: &mut F) -> Result<Answer, Memory>
+    ensures answer { IfOk result (λ answer. (count : ℕ) × IsAnswer (texts words.now) (F.files files.old)
+        (Rose (F.faults files.old) (F.faults files.new)) count (ending answer) × Calls (F.calls files.old) (F.calls files.new) count) }
+    ensures never_falls { F.faults files.old ≤ F.faults files.new }
+    ensures calls { OnErr result (Fetches (texts words.now) (F.files files.old) Status.Memory (F.calls files.old) (F.calls files.new)) }
+    ensures unfetched { words_mean (texts words.now) ≡ None → files.new ≡ files.old }
+{
+    let options = match read_words(alloc, words) {
+        Ok(options) => options,
+        Err(WordsError::Refused) => return answer_line(alloc, Status::Usage, USAGE),
+        Err(WordsError::Memory) => return Err(Memory),
+    };
+    let mut source = Vec::new(alloc);
+    match files.fetch(options.source, SOURCE_LIMIT, &mut source) {
+        Ok(Fetched::Whole) => answer_source(alloc, &options, &source, files),
+        Ok(Fetched::Longer) => answer_line(alloc, Status::Source, "refused source size"),
+        Err(FetchError::Missing) => answer_line(alloc, Status::ReadFault, "read fault source"),
+        Err(FetchError::Failed) => answer_line(alloc, Status::ReadFault, "read fault source"),
+        Err(FetchError::Memory) => Err(Memory),
+    }
+}

@@ -1,0 +1,11 @@
+//! The base of each expression of a function, which is known before the program runs.
+#![tactic(auto)]
+
+mod base;
+mod bindings;
+mod call;
+mod rules;
+
+pub use base::{base_of, bases_of};
+pub use bindings::{base_in, known_in};
+pub use call::call_instance;

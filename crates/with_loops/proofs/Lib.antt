@@ -1,0 +1,10 @@
+pub mod RangeSteps
+pub mod FrameSteps
+pub mod BoundSteps
+pub mod EachSteps
+pub mod CellSteps
+pub mod JoinSteps
+pub mod Steps
+pub mod TypeLists
+pub mod Holders
+pub mod GridSteps

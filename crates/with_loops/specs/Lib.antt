@@ -1,0 +1,6 @@
+pub mod Ranges
+pub mod Frames
+pub mod Plans
+pub mod Cells
+pub mod Tells
+pub mod GridFrames
