@@ -1,0 +1,14 @@
+pub mod Chosen
+pub mod Fresh
+pub mod InBases
+pub mod InScope
+pub mod Loops
+pub mod OnlyOnce
+pub mod Rows
+pub mod Runs
+pub mod Scopes
+pub mod Sound
+pub mod Whole
+pub mod WholeBases
+pub mod WholeScope
+pub mod WithSame

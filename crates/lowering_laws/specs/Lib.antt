@@ -1,0 +1,4 @@
+pub mod Definite
+pub mod Lowering
+pub mod Programs
+pub mod Typed

@@ -1,0 +1,6 @@
+//! What a source becomes as a core, and that it keeps its outcome: the definitions and laws on which the lowering stands.
+#![tactic(auto)]
+
+mod laws;
+
+pub use laws::{lowered_functions, lowered_instances, lowered_outcome, lowered_scopes};
