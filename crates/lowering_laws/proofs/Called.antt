@@ -1,12 +1,12 @@
 -- The groups that what is lowered calls are those of the names that its source calls.
-use Rattle.std.proofs.Common.{◌≡◌, ℕ, zero, suc, ◌+◌, ◌<◌, Bool, true, false, List, [], ◌∷◌, ◌++◌, length, Option, Some, None, refl, ap, sym, subst, ◌∙◌, arith}
+use Rattle.std.proofs.Common.{◌≡◌, ℕ, ◌+◌, true, List, [], ◌∷◌, ◌++◌, length, Option, Some, None, refl, ap, sym, subst, ◌∙◌}
 use Rattle.sac_base.specs.declared.base.Base.{Base}
 use Rattle.sac_base.specs.declared.name.Name.{Name}
 use Rattle.sac_base.specs.declared.site.Site.{Site}
 use Rattle.sac_ast.specs.Tree.{Expr, Exprs, no_exprs, expr_and, MaybeExpr, left_out, given, Stmt, Block, no_stmts, stmt_and, BoundTree, dot, at, Gen, gen, Gens, no_gens, gen_and, OperationTree, number, truth, variable, choice, call, builtin, with_loop, assign, if_else, while_do, do_while, genarray, modarray}
 use Rattle.sac_ast.specs.Tree
 use Rattle.core_ir.specs.declared.tree.Var.{Var}
-use Rattle.core_ir.specs.Terms.{BlockTerm, LetTerm, RightTerm, Gives, Plain, PlainTerm, chain}
+use Rattle.core_ir.specs.Terms.{LetTerm, RightTerm, Gives, Plain, PlainTerm, chain}
 use Rattle.core_ir.specs.WellFormed.{calls_in, calls_in_right, calls_in_gens}
 use Rattle.value_meaning.specs.Meaning.{names, default_base}
 use Rattle.lowering_laws.specs.Lowering.{Scope, var_in, numbered, variables_from, pushed, vars_in, once, names_bound, merged, carried, binding, used, built_in, index_scope, after_index, start_of, starts, lowered, lowered_all, lowered_maybe, lowered_bound, lowered_gen, lowered_gens, lowered_operation, lowered_stmt, lowered_block}

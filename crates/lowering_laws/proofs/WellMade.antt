@@ -1,25 +1,22 @@
 -- The core of a program whose functions stand together is well formed.
-use Rattle.std.proofs.Common.{◌≡◌, ℕ, zero, suc, ◌+◌, ◌<◌, ◌≤◌, ◌^◌, Bool, true, false, ◌||◌, List, [], ◌∷◌, ◌++◌, map, length, Option, Some, None, refl, ap, sym, subst, ◌∙◌, arith}
-use Rattle.std.specs.Prelude.{bytes_eq, slice_get, unwrap_or, option_map, position, is_some, IsTrue, All, AllPairs, Contains, slice_index_or, if◌then◌else◌}
+use Rattle.std.proofs.Common.{◌≡◌, ℕ, zero, suc, ◌+◌, ◌<◌, ◌≤◌, Bool, true, false, ◌||◌, List, [], ◌∷◌, ◌++◌, map, length, Option, Some, None, refl, ap, sym, subst, ◌∙◌, arith}
+use Rattle.std.specs.Prelude.{bytes_eq, slice_get, unwrap_or, option_map, position, is_some, IsTrue, All, AllPairs, Contains, if◌then◌else◌}
 use Rattle.std.proofs.lemmas.Option.{slice_get-map}
 use Rattle.sac_base.specs.declared.name.Name.{Name}
-use Rattle.sac_base.specs.declared.types.ArrayType.{ArrayType}
 use Rattle.sac_base.specs.Types.{compatible}
 use Rattle.sac_ast.specs.declared.Param.{Param}
 use Rattle.sac_ast.specs.Tree.{FunctionTree, ProgramTree}
-use Rattle.sac_ast.specs.Bases.{base_in, bases_of_params}
-use Rattle.core_ir.specs.declared.tree.Var.{Var}
-use Rattle.core_ir.specs.Terms.{FunTerm, CoreTerm, Gives, chain}
-use Rattle.core_ir.specs.Outcome as core
+use Rattle.sac_ast.specs.Bases.{base_in}
+use Rattle.core_ir.specs.Terms.{FunTerm}
 use Rattle.core_ir.specs.WellFormed.{bases, calls_in, MayShareName, PlacesShare, CallsBackward, IsWellFormed}
-use Rattle.value_meaning.specs.Calls.{param_names, param_types, is_main}
+use Rattle.value_meaning.specs.Calls.{param_names, is_main}
 use Rattle.lowering_laws.specs.Lowering.{has_name, pushed, lowered_block, lowered_all}
 use Rattle.lowering_laws.specs.Programs.{group_of, groups_of, function_names, place_in, places_of, lowered_params, name_base, lowered_function, lowered_program, IsDefiniteProgram}
 use Rattle.lowering_laws.specs.Standing.{CallsInFunction, all_names, MayStandTogether, StandsBefore, IsStanding}
 use Rattle.lowering_laws.specs.Typed.{AreTypedFunctions}
 use Rattle.lowering_laws.proofs.Scopes.{same_name, listed_once, never_listed}
 use Rattle.lowering_laws.proofs.Called.{FromNames, two, inner, calls_all, calls_block}
-use Rattle.lowering_laws.proofs.Chosen.{placed, unplaced, same_types, At, position_at}
+use Rattle.lowering_laws.proofs.Chosen.{placed, unplaced, same_types, position_at}
 use Rattle.lowering_laws.proofs.WholeBases.{EachOf, all_each, same_bases_of, functions_well_formed}
 
 -- ---- lists
