@@ -1,0 +1,6 @@
+//! What acceptance of a program says for its lowering to the core.
+#![tactic(auto)]
+
+mod laws;
+
+pub use laws::accepted_definite;
