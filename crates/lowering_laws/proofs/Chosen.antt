@@ -17,6 +17,7 @@ use Rattle.value_meaning.specs.Calls.{param_types, fits}
 use Rattle.value_meaning.specs.Calls as source
 use Rattle.lowering_laws.specs.Lowering.{has_name}
 use Rattle.lowering_laws.specs.Programs.{function_names, place_in, group_of, places_of, groups_of, lowered_params, lowered_function, lowered_program}
+use Rattle.lowering_laws.specs.Standing.{all_names}
 use Rattle.lowering_laws.proofs.Scopes.{same_name, or_none, listed_once, never_listed}
 
 -- ---- positions
@@ -60,16 +61,13 @@ placed g (y ∷ ys) x h = go (bytes_eq x y) refl (λ k. placed g ys x k)
     go true e again = ap (λ z. Some (g z)) (sym (same_name x y e))
     go false e again = again (sym (λ i. e i || has_name ys x) ∙ h)
 
-unplaced : {B : Type 0} (g : Name → B) (xs : List Name) (x : Name) → has_name xs x ≡ false → slice_get (map g xs) (place_in xs x) ≡ None
+pub unplaced : {B : Type 0} (g : Name → B) (xs : List Name) (x : Name) → has_name xs x ≡ false → slice_get (map g xs) (place_in xs x) ≡ None
 unplaced g [] x h = refl
 unplaced g (y ∷ ys) x h = go (bytes_eq x y) refl (unplaced g ys x (or_none (bytes_eq x y) (has_name ys x) h).1)
   where
     go : (b : Bool) → bytes_eq x y ≡ b → slice_get (map g ys) (place_in ys x) ≡ None → slice_get (g y ∷ map g ys) (if b then 0 else suc (place_in ys x)) ≡ None
     go true e again = absurd (let p = (or_none (bytes_eq x y) (has_name ys x) h).0 in cc)
     go false e again = again
-
-abbrev pub all_names : List FunctionTree → List Name
-all_names fs = map (λ (f : FunctionTree). f.name) fs
 
 no_places : (fs : List FunctionTree) (x : Name) (i : ℕ) → has_name (all_names fs) x ≡ false → places_of x i fs ≡ []
 no_places [] x i h = refl

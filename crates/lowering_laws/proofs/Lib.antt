@@ -1,3 +1,4 @@
+pub mod Called
 pub mod Chosen
 pub mod Fresh
 pub mod InBases
@@ -8,6 +9,7 @@ pub mod Rows
 pub mod Runs
 pub mod Scopes
 pub mod Sound
+pub mod WellMade
 pub mod Whole
 pub mod WholeBases
 pub mod WholeScope

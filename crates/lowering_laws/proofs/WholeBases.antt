@@ -16,9 +16,10 @@ use Rattle.lowering_laws.specs.Lowering.{numbered, variables_from, pushed, has_n
 use Rattle.lowering_laws.specs.Definite.{with_names, bound_behind}
 use Rattle.lowering_laws.specs.Programs.{group_of, groups_of, function_names, places_of, lowered_params, name_base, lowered_function, lowered_program, no_names, result_count, IsDefiniteFunction, AreDefiniteFunctions, IsDefiniteProgram}
 use Rattle.lowering_laws.specs.Typed.{InstanceBases, ParamsTyped, IsTypedFunction, AreTypedFunctions}
+use Rattle.lowering_laws.specs.Standing.{all_names}
 use Rattle.lowering_laws.proofs.Scopes.{Below, below_pushed, listed_once}
 use Rattle.lowering_laws.proofs.Fresh.{grows_block, Covers, covers_pushed, covers_block}
-use Rattle.lowering_laws.proofs.Chosen.{all_names, placed, bytes_back, same_types}
+use Rattle.lowering_laws.proofs.Chosen.{placed, bytes_back, same_types}
 use Rattle.lowering_laws.proofs.Sound.{map_map}
 use Rattle.lowering_laws.proofs.Whole.{nothing_below}
 use Rattle.lowering_laws.proofs.WholeScope.{function_scoped, function_once}
@@ -72,7 +73,7 @@ place_listed (g ∷ gs) i (suc place) f x p q = go (bytes_eq g.name x) (place_li
 listed_contains : (xs : List ℕ) (place : ℕ) → Listed xs place → Contains xs place
 listed_contains xs place l = (l.at, l.within, l.is)
 
-same_bases_of : (f : FunctionTree) → bases (param_types f) ≡ bases_of_params f
+pub same_bases_of : (f : FunctionTree) → bases (param_types f) ≡ bases_of_params f
 same_bases_of f = map_map (λ (t : ArrayType). t.base) (λ (p : Param). p.ty) f.params
 
 group_bases : (p : ProgramTree) (x : Name) (us ts : List Base) → InstanceBases p.functions x us ts → GroupBases (lowered_program p) (group_of p.functions x) us ts
@@ -146,11 +147,11 @@ function_well_formed p f d t = record {
 }
 
 -- each of a list, from each in turn
-abbrev EachOf : {A : Type 0} → (A → Type 0) → List A → Type 0
+abbrev pub EachOf : {A : Type 0} → (A → Type 0) → List A → Type 0
 EachOf P [] = Unit {0}
 EachOf P (x ∷ xs) = P x × EachOf P xs
 
-all_each : {A : Type 0} (P : A → Type 0) (xs : List A) → EachOf P xs → All P xs
+pub all_each : {A : Type 0} (P : A → Type 0) (xs : List A) → EachOf P xs → All P xs
 all_each P [] e k d l = absurd (omega arith)
 all_each P (x ∷ xs) e zero d l = e.0
 all_each P (x ∷ xs) e (suc k) d l = all_each P xs e.1 k d (omega arith)

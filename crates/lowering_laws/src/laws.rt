@@ -7,9 +7,10 @@ ghost use Rattle.sac_ast.specs.Tree.{FunctionTree, ProgramTree};
 ghost use Rattle.core_ir.specs.Binders.{bound_in};
 ghost use Rattle.core_ir.specs.Outcome.{param_vars};
 ghost use Rattle.core_ir.specs.Scopes.{Scoped};
-ghost use Rattle.core_ir.specs.WellFormed.{Distinct, IsFunction};
+ghost use Rattle.core_ir.specs.WellFormed.{Distinct, IsFunction, IsWellFormed};
 ghost use Rattle.lowering_laws.specs.Programs.{IsDefiniteProgram, HasOutcomeOf, TakesTheSameInstances, lowered_function, lowered_program};
 ghost use Rattle.lowering_laws.specs.Typed.{AreTypedFunctions};
+ghost use Rattle.lowering_laws.specs.Standing.{IsStanding};
 
 /// Law: the core of a program has the program's outcome on all arguments and under all limits, faults and their sites included, where each variable that is used is bound on every path to its use and each call has as many targets as results.
 pub fn lowered_outcome()
@@ -30,4 +31,9 @@ pub fn lowered_scopes()
 /// Law: where the phrases of a program have the bases that are asked for, each function of its core is well formed: variables are bound once, used where they are in scope, and have agreeing bases.
 pub fn lowered_functions()
     ensures { (p : ProgramTree) → IsDefiniteProgram p → AreTypedFunctions p.functions p.functions → All (IsFunction (lowered_program p)) (lowered_program p).functions }
+{}
+
+/// Law: the core of a program is well formed, where besides its functions stand together as the core asks: called names have instances, inline functions call inline functions that stand before them, and instances of a name may share it.
+pub fn lowered_core()
+    ensures { (p : ProgramTree) → IsDefiniteProgram p → AreTypedFunctions p.functions p.functions → IsStanding p → IsWellFormed (lowered_program p) }
 {}

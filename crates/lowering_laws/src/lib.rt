@@ -3,4 +3,6 @@
 
 mod laws;
 
-pub use laws::{lowered_functions, lowered_instances, lowered_outcome, lowered_scopes};
+pub use laws::{
+    lowered_core, lowered_functions, lowered_instances, lowered_outcome, lowered_scopes,
+};

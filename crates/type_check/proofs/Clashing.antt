@@ -13,7 +13,7 @@ use Rattle.sac_ast.specs.declared.Function.{Function}
 use Rattle.sac_ast.specs.Tree.{FunctionTree}
 use Rattle.sac_ast.specs.View.{function, functions}
 use Rattle.sac_ast.specs.Bases.{same_bases}
-use Rattle.type_check.specs.Accepted.{is_named, may_stand_together, base_list, values_fit, main_name}
+use Rattle.type_check.specs.Accepted.{is_named, may_stand_together, values_fit, main_name}
 use Rattle.type_check.specs.Groups.{first_place, next_place}
 use Rattle.type_check.specs.Programs.{stands_with, named_stands, inline_main, inline_mains, mains}
 use Rattle.type_check.specs.declared.violation.Violation.{Violation}

@@ -7,3 +7,4 @@ pub mod Walks
 pub mod Same
 pub mod Clashing
 pub mod Whole
+pub mod Rows

@@ -1,17 +1,16 @@
 -- Steps of the loops over lists of names.
-use Rattle.std.proofs.Common.{◌≡◌, ℕ, zero, suc, ◌+◌, ◌<◌, ◌≤◌, List, [], ◌∷◌, length, drop, get_or, Bool, true, false, not, Option, Some, None, refl, sym, ap, ◌∙◌, arith}
+use Rattle.std.proofs.Common.{◌≡◌, ℕ, zero, suc, ◌+◌, ◌<◌, ◌≤◌, List, [], ◌∷◌, length, drop, get_or, Option, Some, None, refl, sym, ap, ◌∙◌, arith}
 use Rattle.std.proofs.lemmas.List.{drop_more, drop_all}
 use Rattle.sac_base.specs.declared.base.Base.{Base}
 use Rattle.sac_base.specs.declared.base.Base.TheVariants.{Int}
-use Rattle.sac_base.specs.declared.name.Name.{Name}
-use Rattle.sac_ast.specs.declared.CheckCode.TheVariants.{C4, C9}
+use Rattle.sac_ast.specs.declared.CheckCode.TheVariants.{C4}
 use Rattle.sac_ast.specs.declared.Target.{Target}
 use Rattle.sac_ast.specs.declared.Param.{Param}
-use Rattle.sac_ast.specs.Bases.{may_be, may_match, first_base}
-use Rattle.type_check.specs.Accepted.{Names, with_names, no_names, Known, bind, base_of, later_bases, known_params}
+use Rattle.sac_ast.specs.Bases.{may_be, may_match}
+use Rattle.type_check.specs.Accepted.{Names, with_names, no_names, Known, bind, base_of, later_bases}
 use Rattle.type_check.specs.declared.violation.Violation.{Violation}
 use Rattle.type_check.specs.First.{earlier, unless}
-use Rattle.type_check.specs.Walk.{Walked, repeated_targets, repeated_params, unless_new, base_behind, in_targets, in_index_names, cell_rule, cell_rules}
+use Rattle.type_check.specs.Walk.{repeated_targets, repeated_params, unless_new, base_behind, in_targets, in_index_names, cell_rule, cell_rules}
 use Rattle.type_check.specs.declared.judged.Cell.{Cell}
 use Rattle.type_check.proofs.Earliest.{earlier_grouped, earlier_none}
 

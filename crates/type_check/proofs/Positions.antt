@@ -1,5 +1,5 @@
 -- Where items stand in a list.
-use Rattle.std.proofs.Common.{◌≡◌, ℕ, zero, suc, ◌+◌, ◌<◌, ◌≤◌, List, [], ◌∷◌, ◌++◌, length, take, drop, get_or, map, Bool, true, false, Option, Some, None, refl, sym, ap, ◌∙◌, true≢false, slice_get, bytes_eq, is_some, if◌then◌else◌, ◌&&◌, arith, option_copied}
+use Rattle.std.proofs.Common.{◌≡◌, ℕ, zero, suc, ◌+◌, ◌<◌, ◌≤◌, List, [], ◌∷◌, ◌++◌, length, take, drop, get_or, Bool, true, false, Option, Some, None, refl, sym, ap, ◌∙◌, true≢false, slice_get, bytes_eq, is_some, if◌then◌else◌, ◌&&◌, arith, option_copied}
 use Rattle.std.specs.Prelude.{not, ◌||◌, find, option_map, nat_lt, filter, ◌==◌}
 use Rattle.sac_base.specs.declared.base.Base.{Base}
 use Rattle.sac_base.specs.declared.name.Name.{Name}
@@ -11,7 +11,6 @@ use Rattle.type_check.specs.Accepted.{is_named, count_named, is_inline, numbers_
 use Rattle.type_check.specs.Groups.{next_place, first_place, or_here, last_place, is_below, kept_first, with_first, with_last, takes_beside, has_each}
 use Rattle.type_check.specs.First.{earlier, unless}
 use Rattle.type_check.specs.Walk.{call_rules}
-use Rattle.type_check.proofs.Places.{text_turned}
 use Rattle.std.proofs.lemmas.List.{map-append, take_more, take_all, length-map, length-take-le}
 use Rattle.std.proofs.lemmas.Option.{slice_get_past, slice_get-get_or}
 use Rattle.std.specs.Prelude.{IfSome}

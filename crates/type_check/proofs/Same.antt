@@ -1,6 +1,5 @@
 -- The walk finds the earliest of the violations, and the bases and bindings that the rules speak of.
-use Rattle.std.proofs.Common.{◌≡◌, ℕ, List, [], ◌∷◌, ◌++◌, length, map, Bool, true, false, not, ◌&&◌, ◌||◌, Option, Some, None, refl, sym, ap, ◌∙◌, if◌then◌else◌, is_some}
-use Rattle.std.specs.Prelude.{◌==◌}
+use Rattle.std.proofs.Common.{◌≡◌, ℕ, List, [], ◌∷◌, ◌++◌, length, map, Bool, not, ◌&&◌, ◌||◌, Option, Some, None, refl, sym, ap, ◌∙◌, if◌then◌else◌, is_some}
 use Rattle.sac_base.specs.declared.base.Base.{Base}
 use Rattle.sac_base.specs.declared.base.Base.TheVariants.{Int, Bool as Truth}
 use Rattle.sac_base.specs.declared.name.Name.{Name}
@@ -12,7 +11,7 @@ use Rattle.sac_ast.specs.declared.CheckCode.{CheckCode}
 use Rattle.sac_ast.specs.declared.CheckCode.TheVariants.{C1, C2, C3, C4, C5, C8, C9, C10}
 use Rattle.sac_ast.specs.declared.Target.{Target}
 use Rattle.sac_ast.specs.declared.Param.{Param}
-use Rattle.sac_ast.specs.Tree.{named, parts, Expr, Exprs, no_exprs, expr_and, MaybeExpr, left_out, given, Stmt, Block, no_stmts, stmt_and, BoundTree, dot, at, Gen, gen, Gens, no_gens, gen_and, OperationTree, FunctionTree, number, truth, variable, literal, unary, binary, choice, select, call, builtin, with_loop, assign, replace, if_else, while_do, do_while, genarray, modarray, fold}
+use Rattle.sac_ast.specs.Tree.{Expr, Exprs, no_exprs, expr_and, MaybeExpr, left_out, given, Stmt, Block, no_stmts, stmt_and, BoundTree, dot, at, Gen, gen, Gens, no_gens, gen_and, OperationTree, number, truth, variable, literal, unary, binary, choice, select, call, builtin, with_loop, assign, replace, if_else, while_do, do_while, genarray, modarray, fold}
 use Rattle.sac_ast.specs.Bases.{where_holds, may_be, may_match, operand_base, operands_fit, agree, common_base, literal_base, builtin_base, first_base, all_known, known_bases, call_bases_in, first_named, are_int}
 use Rattle.type_check.specs.declared.violation.Violation.{Violation}
 use Rattle.type_check.specs.declared.judged.Cell.{Cell}
@@ -20,7 +19,7 @@ use Rattle.type_check.specs.Accepted.{Names, Known, Place, with_names, no_names,
 use Rattle.type_check.specs.Accepted as a
 use Rattle.type_check.specs.Walk as w
 use Rattle.type_check.specs.First.{earlier, unless, is_clean, first_of}
-use Rattle.type_check.proofs.Earliest.{earlier_grouped, earlier_none, first_of_append, first_of_unless, clean_first}
+use Rattle.type_check.proofs.Earliest.{earlier_grouped, first_of_append, first_of_unless, clean_first}
 
 -- ---- what the walk keeps of a list of violations
 

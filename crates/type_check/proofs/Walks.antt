@@ -1,13 +1,10 @@
 -- What the walk finds in a phrase, from what it finds in the parts.
-use Rattle.std.proofs.Common.{◌≡◌, ℕ, suc, ◌+◌, ◌<◌, ◌≤◌, List, [], ◌∷◌, ◌++◌, length, take, drop, get_or, Bool, true, false, ◌&&◌, ◌||◌, Option, Some, None, Vec, Global, refl, sym, ap, ◌∙◌, append_assoc, bytes_eq}
-use Rattle.std.specs.List.{list_any}
+use Rattle.std.proofs.Common.{◌≡◌, ℕ, ◌+◌, ◌<◌, List, [], ◌∷◌, ◌++◌, length, take, drop, get_or, Bool, true, false, ◌&&◌, ◌||◌, Option, None, Vec, Global, refl, sym, ap, ◌∙◌, append_assoc, bytes_eq}
 use Rattle.std.proofs.lemmas.List.Folds.{list_any-append}
 use Rattle.std.proofs.lemmas.List.{take-append-drop, drop_more}
 use Rattle.sac_base.specs.declared.base.Base.{Base}
-use Rattle.sac_base.specs.declared.base.Base.TheVariants.{Bool as Truth}
 use Rattle.sac_base.specs.declared.name.Name.{Name}
 use Rattle.sac_base.specs.declared.site.Site.{Site}
-use Rattle.sac_ast.specs.declared.CheckCode.TheVariants.{C4}
 use Rattle.sac_ast.specs.declared.Target.{Target}
 use Rattle.sac_ast.specs.declared.Bound.{Bound}
 use Rattle.sac_ast.specs.declared.Operation.{Operation}
@@ -16,14 +13,13 @@ use Rattle.sac_ast.specs.declared.Statement.{Statement}
 use Rattle.sac_ast.specs.declared.Expression.{Expression, Expression-F, out-Expression, roll-Expression, roll-out-Expression}
 use Rattle.sac_ast.specs.declared.Expression.TheVariants.{Call, rolls-Call}
 use Rattle.sac_ast.specs.Tree
-use Rattle.sac_ast.specs.Bases.{may_be, may_match, where_holds, common_base}
 use Rattle.sac_ast.specs.View.{expr, exprs, stmt, block, generator, generators}
 use Rattle.sac_ast.proofs.Views.{expression_opened, expression_layer}
 use Rattle.sac_ast.proofs.Lists.{exprs-drop, generators-drop}
 use Rattle.type_check.specs.Accepted.{Names, Known, Place, bind, base_of, no_names, bound_after, bound_behind}
 use Rattle.type_check.specs.declared.violation.Violation.{Violation}
 use Rattle.type_check.specs.declared.judged.Cell.{Cell}
-use Rattle.type_check.specs.First.{earlier, unless, is_clean}
+use Rattle.type_check.specs.First.{earlier}
 use Rattle.type_check.specs.Tables.{among, with_common}
 use Rattle.type_check.specs.Walk.{Walked, in_value, in_values, in_generator, in_generators, in_statement, in_block, in_targets, repeated_targets, several_targets, call_first, call_bases, choice_found, replaced_first, use_rules, bound_by_both}
 use Rattle.type_check.proofs.Earliest.{earlier_grouped}

@@ -1,17 +1,16 @@
 -- The walk over a program finds the earliest of its violations.
-use Rattle.std.proofs.Common.{◌≡◌, ℕ, ◌+◌, ◌<◌, ◌≤◌, List, [], ◌∷◌, ◌++◌, length, map, take, drop, get_or, Bool, true, false, not, Option, Some, None, refl, sym, ap, ◌∙◌, if◌then◌else◌}
-use Rattle.std.specs.Prelude.{◌==◌, filter, flat_map}
-use Rattle.std.specs.List.{list_all}
+use Rattle.std.proofs.Common.{◌≡◌, ℕ, ◌+◌, ◌<◌, List, [], ◌∷◌, ◌++◌, length, take, drop, get_or, not, Option, refl, sym, ap, ◌∙◌}
+use Rattle.std.specs.Prelude.{◌==◌, flat_map}
 use Rattle.std.proofs.lemmas.List.{drop_more}
 use Rattle.sac_base.specs.declared.site.Site.{Site}
-use Rattle.sac_ast.specs.declared.CheckCode.TheVariants.{C3, C4, C6, C7, C8}
+use Rattle.sac_ast.specs.declared.CheckCode.TheVariants.{C3, C4, C6, C8}
 use Rattle.sac_ast.specs.declared.Function.{Function}
 use Rattle.sac_ast.specs.Tree.{FunctionTree, ProgramTree}
 use Rattle.sac_ast.specs.View.{function, functions}
 use Rattle.type_check.specs.Accepted.{Names, Known, Place, with_names, no_names, bound_behind, param_names, known_params, none_known, names_in, values_fit, is_named, main_name, may_stand_together, violations}
 use Rattle.type_check.specs.Accepted as a
 use Rattle.type_check.specs.Walk as w
-use Rattle.type_check.specs.Programs.{stands_with, mains, second_main, main_counted, inline_mains, one_function, ended_first, in_functions, in_program}
+use Rattle.type_check.specs.Programs.{stands_with, mains, main_counted, inline_mains, one_function, ended_first, in_functions, in_program}
 use Rattle.sac_base.specs.declared.base.Base.{Base}
 use Rattle.type_check.specs.declared.violation.Violation.{Violation}
 use Rattle.type_check.specs.First.{earlier, unless, first_of}

@@ -1,16 +1,15 @@
 -- Which programs are accepted. The violations of a program are a list of rules and sites, one for each place at which a rule is violated; a program
 -- is accepted where there is none, and is else refused at the first site in the text, with the least rule that is violated there.
-use Rattle.std.specs.Prelude.{◌≡◌, ◌≤◌, ◌<◌, ◌⊎◌, ℕ, suc, filter, List, [], ◌∷◌, ◌++◌, Bool, true, false, not, ◌&&◌, ◌||◌, if◌then◌else◌, Option, Some, None, map, flat_map, length, bytes_eq, is_some, ◌==◌, All, Contains, codes}
+use Rattle.std.specs.Prelude.{◌≡◌, ◌≤◌, ◌<◌, ◌⊎◌, ℕ, filter, List, [], ◌∷◌, ◌++◌, Bool, true, false, not, ◌&&◌, ◌||◌, if◌then◌else◌, Option, Some, None, map, flat_map, length, bytes_eq, is_some, ◌==◌, All, Contains, codes}
 use Rattle.std.specs.List.{list_any, list_all}
 use Rattle.sac_base.specs.declared.base.Base.{Base}
 use Rattle.sac_base.specs.declared.base.Base.TheVariants.{Int, Bool as Truth}
 use Rattle.sac_base.specs.declared.name.Name.{Name}
-use Rattle.sac_base.specs.declared.op.Op.{Op}
 use Rattle.sac_base.specs.declared.site.Site.{Site}
 use Rattle.sac_base.specs.declared.types.ArrayType.{ArrayType}
 use Rattle.sac_base.specs.Types.{compatible}
 use Rattle.sac_ast.specs.declared.Builtin.{Builtin}
-use Rattle.sac_ast.specs.declared.Builtin.TheVariants.{Dim, Shape, Reshape}
+use Rattle.sac_ast.specs.declared.Builtin.TheVariants.{Reshape}
 use Rattle.sac_ast.specs.declared.CheckCode.{CheckCode}
 use Rattle.sac_ast.specs.declared.CheckCode.TheVariants.{C1, C2, C3, C4, C5, C6, C7, C8, C9, C10}
 use Rattle.sac_ast.specs.declared.Param.{Param}

@@ -1,5 +1,5 @@
 -- What tables by names hold.
-use Rattle.std.specs.Prelude.{ℕ, ◌<◌, ◌≡◌, List, [], ◌∷◌, Bool, ◌&&◌, ◌||◌, Option, Some, None, bytes_eq, slice_get, length}
+use Rattle.std.specs.Prelude.{ℕ, ◌≡◌, List, ◌&&◌, ◌||◌, Option, Some, bytes_eq, slice_get}
 use Rattle.std.specs.List.{list_any}
 use Rattle.indexmap.specs.IndexSet.{IndexSet, contains_by}
 use Rattle.indexmap.specs.IndexMap.{IndexMap, get_by}

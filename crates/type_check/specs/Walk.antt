@@ -1,21 +1,20 @@
 -- What the walk over a function finds: the same as the rules of acceptance, with the earliest violation in the place of all.
-use Rattle.std.specs.Prelude.{ℕ, List, [], ◌∷◌, ◌++◌, Bool, true, false, not, ◌&&◌, ◌||◌, if◌then◌else◌, Option, Some, None, length, is_some, map, drop, ◌==◌}
+use Rattle.std.specs.Prelude.{ℕ, List, [], ◌∷◌, ◌++◌, Bool, false, not, ◌&&◌, ◌||◌, if◌then◌else◌, Option, Some, None, length, is_some, drop, ◌==◌}
 use Rattle.sac_base.specs.declared.base.Base.{Base}
 use Rattle.sac_base.specs.declared.base.Base.TheVariants.{Int, Bool as Truth}
 use Rattle.sac_base.specs.declared.name.Name.{Name}
 use Rattle.sac_base.specs.declared.site.Site.{Site}
-use Rattle.sac_base.specs.declared.types.ArrayType.{ArrayType}
 use Rattle.sac_base.specs.Operators.{result_base}
 use Rattle.sac_ast.specs.declared.Builtin.{Builtin}
-use Rattle.sac_ast.specs.declared.Builtin.TheVariants.{Dim, Shape, Reshape}
+use Rattle.sac_ast.specs.declared.Builtin.TheVariants.{Reshape}
 use Rattle.sac_ast.specs.declared.CheckCode.TheVariants.{C1, C2, C3, C4, C5, C8, C9, C10}
 use Rattle.sac_ast.specs.declared.Param.{Param}
 use Rattle.sac_ast.specs.declared.Target.{Target}
 use Rattle.sac_ast.specs.declared.Generator.{Generator}
 use Rattle.sac_ast.specs.View
-use Rattle.sac_ast.specs.Tree.{IndexTree, named, parts, Expr, Exprs, no_exprs, expr_and, MaybeExpr, left_out, given, Stmt, Block, no_stmts, stmt_and, BoundTree, dot, at, Gen, gen, Gens, no_gens, gen_and, OperationTree, FunctionTree, ProgramTree, number, truth, variable, literal, unary, binary, choice, select, call, builtin, with_loop, assign, replace, if_else, while_do, do_while, genarray, modarray, fold}
+use Rattle.sac_ast.specs.Tree.{Expr, Exprs, no_exprs, expr_and, MaybeExpr, left_out, given, Stmt, Block, no_stmts, stmt_and, BoundTree, dot, at, Gen, gen, Gens, no_gens, gen_and, OperationTree, FunctionTree, number, truth, variable, literal, unary, binary, choice, select, call, builtin, with_loop, assign, replace, if_else, while_do, do_while, genarray, modarray, fold}
 use Rattle.sac_ast.specs.Bases.{are_int, where_holds, may_be, may_match, operand_base, operands_fit, agree, common_base, literal_base, builtin_base, first_base, all_known, known_bases, call_bases_in, first_named}
-use Rattle.type_check.specs.Accepted.{Names, with_names, target_names, index_targets, index_names, bound_after, bound_behind, Known, bind, base_of, no_names, numbers_fit, some_takes, Place, stands_earlier, is_fold, later_bases, none_known, known_params, param_names, names_in, values_fit}
+use Rattle.type_check.specs.Accepted.{Names, with_names, index_targets, index_names, bound_after, bound_behind, Known, bind, base_of, no_names, numbers_fit, some_takes, Place, stands_earlier, is_fold, later_bases, none_known, known_params, param_names, names_in, values_fit}
 use Rattle.type_check.specs.declared.violation.Violation.{Violation}
 use Rattle.type_check.specs.declared.judged.Cell.{Cell}
 use Rattle.type_check.specs.First.{earlier, unless, is_clean}

@@ -16,3 +16,6 @@ mod violation;
 mod walk;
 
 pub use program::{CheckError, Checked, check};
+
+#[cfg(test)]
+mod tests;

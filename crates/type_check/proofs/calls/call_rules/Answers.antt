@@ -1,11 +1,9 @@
-use Rattle.std.proofs.Common.{◌≡◌, sym, ap, ◌∙◌, length, take, ◌||◌, not}
+use Rattle.std.proofs.Common.{◌≡◌, sym, ap, ◌∙◌, take, ◌||◌, not}
 use Rattle.std.specs.Prelude.{option_map, ◌==◌}
 use Rattle.std.proofs.lemmas.List.{take-map}
-use Rattle.sac_ast.specs.declared.CheckCode.TheVariants.{C2, C3, C4, C8}
 use Rattle.sac_ast.specs.View.{function, functions}
-use Rattle.sac_ast.specs.Bases.{first_named}
 use Rattle.type_check.specs.Accepted.{is_inline, count_named}
-use Rattle.type_check.specs.First.{earlier, unless}
+use Rattle.type_check.specs.First.{earlier}
 use Rattle.type_check.specs.Places.{place}
 use Rattle.type_check.proofs.Positions.{rules_from, counts_below}
 use Rattle.type_check.proofs.calls.call_rules.Goals as goal

@@ -1,6 +1,5 @@
-use Rattle.std.proofs.Common.{◌≡◌, sym, ap, ◌∙◌, ◌||◌, not, is_some}
-use Rattle.std.specs.Prelude.{option_map}
-use Rattle.sac_ast.specs.View.{function, functions}
+use Rattle.std.proofs.Common.{sym, ap, ◌∙◌, ◌||◌, is_some}
+use Rattle.sac_ast.specs.View.{functions}
 use Rattle.sac_ast.specs.Bases.{all_known, instance_by}
 use Rattle.type_check.proofs.Positions.{some_found}
 use Rattle.type_check.proofs.calls.some_takes.Goals as goal

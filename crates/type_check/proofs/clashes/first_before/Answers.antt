@@ -1,4 +1,4 @@
-use Rattle.std.proofs.Common.{◌≡◌, sym, ◌∙◌}
+use Rattle.std.proofs.Common.{sym}
 use Rattle.type_check.proofs.Clashing.{skipped_all, skipped}
 use Rattle.type_check.proofs.clashes.first_before.Goals as goal
 

@@ -1,4 +1,4 @@
-use Rattle.std.proofs.Common.{◌≡◌, ◌+◌, take, drop, sym, ap, ◌∙◌, ◌&&◌}
+use Rattle.std.proofs.Common.{◌+◌, take, drop, sym, ap, ◌∙◌, ◌&&◌}
 use Rattle.std.specs.List.{list_all}
 use Rattle.sac_ast.specs.View.{function, functions}
 use Rattle.type_check.specs.Accepted.{may_stand_together}

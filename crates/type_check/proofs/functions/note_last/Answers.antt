@@ -1,4 +1,4 @@
-use Rattle.std.proofs.Common.{◌≡◌, ap, ◌∙◌, Some}
+use Rattle.std.proofs.Common.{ap, ◌∙◌, Some}
 use Rattle.std.proofs.lemmas.Map.Text.{hash_map_updates_str}
 use Rattle.type_check.specs.Tables.{place_of}
 use Rattle.type_check.specs.Groups.{with_last}

@@ -1,4 +1,4 @@
-use Rattle.std.proofs.Common.{rules, ◌≡◌, ◌≤◌, ◌<◌, sym, ◌∙◌, length}
+use Rattle.std.proofs.Common.{rules, ◌≤◌, ◌<◌, sym, ◌∙◌, length}
 use Rattle.type_check.specs.Tables.{has}
 use Rattle.type_check.proofs.Places.{params_step, params_end}
 use Rattle.type_check.proofs.listing.list_params.Goals as goal

@@ -1,5 +1,5 @@
-use Rattle.std.proofs.Common.{◌≡◌, sym, ap, ◌∙◌}
-use Rattle.type_check.specs.Accepted.{Names, with_names, param_names, no_names, names_in_block, names_in_exprs}
+use Rattle.std.proofs.Common.{◌≡◌, ◌∙◌}
+use Rattle.type_check.specs.Accepted.{with_names, param_names, no_names, names_in_block, names_in_exprs}
 use Rattle.sac_ast.specs.View.{block, exprs}
 use Rattle.type_check.specs.Tables.{has, among}
 use Rattle.type_check.proofs.listing.listed.Goals as goal

@@ -1,4 +1,4 @@
-use Rattle.std.proofs.Common.{◌≡◌, [], ◌∷◌, ap, ◌∙◌}
+use Rattle.std.proofs.Common.{[], ◌∷◌, ap, ◌∙◌}
 use Rattle.type_check.specs.Accepted.{with_names}
 use Rattle.type_check.specs.Tables.{among}
 use Rattle.type_check.proofs.Places.{inserted}

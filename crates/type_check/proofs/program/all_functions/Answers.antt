@@ -1,4 +1,4 @@
-use Rattle.std.proofs.Common.{rules, ◌≡◌, ◌<◌, ◌+◌, length, take, drop, sym, ap, ◌∙◌}
+use Rattle.std.proofs.Common.{rules, ◌<◌, ◌+◌, length, take, drop, sym, ap, ◌∙◌}
 use Rattle.sac_ast.specs.View.{function, functions}
 use Rattle.sac_ast.specs.declared.Function.{Function}
 use Rattle.type_check.specs.First.{earlier}

@@ -1,8 +1,6 @@
-use Rattle.std.proofs.Common.{rules, ◌≡◌, ◌≤◌, ◌<◌, ◌+◌, sym, ap, ◌∙◌, length, drop}
+use Rattle.std.proofs.Common.{rules, ◌<◌, ◌+◌, ap, ◌∙◌, length, drop}
 use Rattle.sac_ast.specs.declared.CheckCode.TheVariants.{C4}
-use Rattle.sac_ast.specs.declared.Target.{Target}
 use Rattle.sac_ast.specs.Bases.{may_match}
-use Rattle.type_check.specs.Accepted.{bind}
 use Rattle.type_check.specs.First.{earlier, unless}
 use Rattle.type_check.specs.Tables.{entered}
 use Rattle.type_check.specs.Walk.{in_targets}

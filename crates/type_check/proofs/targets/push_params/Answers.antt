@@ -1,7 +1,7 @@
-use Rattle.std.proofs.Common.{rules, ◌≡◌, ◌≤◌, ◌<◌, [], ◌∷◌, sym, ap, ◌∙◌, length}
+use Rattle.std.proofs.Common.{rules, ◌≤◌, ◌<◌, [], ◌∷◌, sym, ap, ◌∙◌, length}
 use Rattle.type_check.specs.Accepted.{with_names}
 use Rattle.type_check.specs.Tables.{among}
-use Rattle.type_check.proofs.Places.{params_step, params_end, kept_twice}
+use Rattle.type_check.proofs.Places.{params_step, params_end}
 use Rattle.type_check.proofs.targets.push_params.Goals as goal
 
 pub loop-param-preserved : goal.loop-param-preserved

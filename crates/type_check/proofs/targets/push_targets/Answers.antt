@@ -1,4 +1,4 @@
-use Rattle.std.proofs.Common.{rules, ◌≡◌, ◌≤◌, ◌<◌, [], ◌∷◌, sym, ap, ◌∙◌, length}
+use Rattle.std.proofs.Common.{rules, ◌≤◌, ◌<◌, [], ◌∷◌, sym, ap, ◌∙◌, length}
 use Rattle.type_check.specs.Accepted.{with_names}
 use Rattle.type_check.specs.Tables.{among}
 use Rattle.type_check.proofs.Places.{targets_step, targets_end, kept_twice}

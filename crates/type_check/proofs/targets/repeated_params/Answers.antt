@@ -1,8 +1,8 @@
-use Rattle.std.proofs.Common.{rules, ◌≡◌, ◌≤◌, ◌<◌, ◌+◌, sym, ap, ◌∙◌, length, drop}
+use Rattle.std.proofs.Common.{rules, ◌<◌, ◌+◌, ap, ◌∙◌, length, drop}
 use Rattle.type_check.specs.First.{earlier}
 use Rattle.type_check.specs.Tables.{has}
 use Rattle.type_check.specs.Walk.{repeated_params}
-use Rattle.type_check.proofs.Lists.{few_repeated, params_repeated_step}
+use Rattle.type_check.proofs.Lists.{params_repeated_step}
 use Rattle.type_check.proofs.targets.repeated_params.Goals as goal
 
 pub loop-param-preserved : goal.loop-param-preserved

@@ -1,4 +1,4 @@
-use Rattle.std.proofs.Common.{rules, ◌≡◌, ◌≤◌, ◌<◌, ◌+◌, sym, ap, ◌∙◌, length, drop}
+use Rattle.std.proofs.Common.{rules, ◌<◌, ◌+◌, ap, ◌∙◌, length, drop}
 use Rattle.type_check.specs.First.{earlier}
 use Rattle.type_check.specs.Tables.{has}
 use Rattle.type_check.specs.Walk.{repeated_targets}

@@ -1,4 +1,4 @@
-use Rattle.std.proofs.Common.{rules, ◌≡◌, ◌<◌, ◌+◌, None, false, ap, ◌∙◌, length, drop}
+use Rattle.std.proofs.Common.{rules, ◌<◌, ◌+◌, None, false, ap, ◌∙◌, length, drop}
 use Rattle.type_check.specs.First.{earlier}
 use Rattle.type_check.specs.Walk.{cell_rules}
 use Rattle.type_check.proofs.Lists.{cells_step}

@@ -1,4 +1,4 @@
-use Rattle.std.proofs.Common.{rules, ◌≡◌, ℕ, ◌<◌, ◌+◌, ◌++◌, List, [], ◌∷◌, Bor, Some, sym, ap, ◌∙◌, subst, length, take, drop}
+use Rattle.std.proofs.Common.{rules, ◌≡◌, ℕ, ◌<◌, ◌+◌, ◌++◌, List, Bor, sym, ap, ◌∙◌, subst, length, take, drop}
 use Rattle.std.specs.Prelude.{IfOk, OnOk}
 use Rattle.sac_ast.specs.Tree
 use Rattle.sac_ast.specs.View.{expr, exprs, stmt, block, generators}

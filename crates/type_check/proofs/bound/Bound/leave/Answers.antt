@@ -1,4 +1,4 @@
-use Rattle.std.proofs.Common.{◌≡◌, sym, subst, List, ℕ, Bor, take, ◌∙◌}
+use Rattle.std.proofs.Common.{sym, subst, List, ℕ, Bor}
 use Rattle.type_check.specs.Tables.{IsPlaced}
 use Rattle.type_check.proofs.Places.{placed_below}
 use Rattle.type_check.proofs.bound.Bound.leave.Goals as goal

@@ -1,8 +1,8 @@
-use Rattle.std.proofs.Common.{rules, ◌≡◌, refl, if◌then◌else◌, sym, ap, ◌∙◌, Some, List, ℕ, Bor, length, ◌<◌, subst, bytes_eq, is_ok}
+use Rattle.std.proofs.Common.{rules, ◌≡◌, refl, if◌then◌else◌, sym, ap, ◌∙◌, Some, List, ℕ, Bor, length, subst, bytes_eq, is_ok}
 use Rattle.std.specs.Map.{lookup}
 use Rattle.std.proofs.lemmas.Map.Text.{hash_map_updates_str}
-use Rattle.type_check.specs.Tables.{IsPlaced, place_of}
-use Rattle.type_check.proofs.Places.{placed_beside, placed_either}
+use Rattle.type_check.specs.Tables.{place_of}
+use Rattle.type_check.proofs.Places.{placed_either}
 use Rattle.type_check.proofs.bound.Bound.push.Goals as goal
 
 pub invariant_of-self : goal.invariant_of-self

@@ -1,4 +1,4 @@
-use Rattle.std.proofs.Common.{rules, ◌≡◌, ◌≤◌, ◌<◌, ◌+◌, List, ℕ, Bor, [], sym, ap, ◌∙◌, subst, length, drop, take, get_or, true, false}
+use Rattle.std.proofs.Common.{rules, ◌≡◌, ◌<◌, ◌+◌, List, ℕ, Bor, [], sym, ap, ◌∙◌, length, drop, take, get_or, true, false}
 use Rattle.std.proofs.lemmas.List.{get_or_default}
 use Rattle.type_check.specs.Tables.{among, has, with_common}
 use Rattle.type_check.proofs.Places.{common_step, common_skip, kept_twice}

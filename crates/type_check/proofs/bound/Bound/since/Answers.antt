@@ -1,4 +1,4 @@
-use Rattle.std.proofs.Common.{rules, ◌≡◌, ◌≤◌, ◌<◌, ◌||◌, ◌+◌, sym, ap, ◌∙◌, subst, length, drop}
+use Rattle.std.proofs.Common.{rules, ◌≤◌, ◌<◌, ◌||◌, ◌+◌, sym, ap, ◌∙◌, length, drop}
 use Rattle.type_check.specs.Tables.{among}
 use Rattle.type_check.proofs.Places.{since_step, since_end}
 use Rattle.type_check.proofs.bound.Bound.since.Goals as goal

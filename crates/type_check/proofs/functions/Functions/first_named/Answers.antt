@@ -1,5 +1,5 @@
-use Rattle.std.proofs.Common.{rules, ◌≡◌, sym, ap, ◌∙◌}
-use Rattle.sac_ast.specs.View.{function, functions}
+use Rattle.std.proofs.Common.{sym, ap, ◌∙◌}
+use Rattle.sac_ast.specs.View.{functions}
 use Rattle.type_check.specs.Accepted.{is_named}
 use Rattle.type_check.specs.Tables.{place_of}
 use Rattle.type_check.proofs.Positions.{at_place, find_is, read_at}

@@ -1,8 +1,7 @@
-use Rattle.std.proofs.Common.{rules, ◌≡◌, sym, ap, ◌∙◌}
+use Rattle.std.proofs.Common.{sym, ap, ◌∙◌}
 use Rattle.std.specs.Prelude.{find}
-use Rattle.sac_ast.specs.View.{function, functions}
+use Rattle.sac_ast.specs.View.{functions}
 use Rattle.sac_ast.specs.Bases.{first_named}
-use Rattle.type_check.specs.Accepted.{is_named}
 use Rattle.type_check.specs.Tables.{place_of}
 use Rattle.type_check.specs.Groups.{takes_beside}
 use Rattle.type_check.proofs.Positions.{found_from, taken_later, functions_behind}

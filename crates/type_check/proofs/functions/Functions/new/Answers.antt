@@ -1,4 +1,4 @@
-use Rattle.std.proofs.Common.{rules, ◌≡◌, ◌≤◌, ◌<◌, sym, ap, ◌∙◌, length}
+use Rattle.std.proofs.Common.{rules, ◌≤◌, ◌<◌, sym, ap, ◌∙◌, length}
 use Rattle.type_check.specs.Accepted.{is_named}
 use Rattle.type_check.specs.Tables.{place_of}
 use Rattle.type_check.specs.Groups.{first_place, last_place, with_first, with_last}
