@@ -1,5 +1,5 @@
 -- One turn of a loop.
-use Rattle.std.proofs.Common.{◌≡◌, ℕ, zero, suc, ◌-◌, ◌<◌, List, Bool, true, false, refl, sym, ap, ◌∙◌, arith, Option, Some, Ok, Err}
+use Rattle.std.proofs.Common.{◌≡◌, ℕ, zero, suc, ◌-◌, ◌<◌, List, Bool, true, false, refl, sym, ap, ◌∙◌, arith, Option, Some, Result, Ok, Err}
 use Rattle.std.specs.Prelude.{if◌then◌else◌}
 use Rattle.sac_base.specs.declared.site.Site.{Site}
 use Rattle.sac_base.specs.declared.fault.Fault.{Fault}
@@ -9,7 +9,7 @@ use Rattle.sac_base.specs.Outcomes.{Ends, and_then, choose, fault}
 use Rattle.core_ir.specs.Meaning.{Answer, repeat}
 use Rattle.with_loops.specs.declared.stop.Stop.{Stop}
 use Rattle.with_loops.specs.declared.stop.Stop.TheVariants.{Faulted, Memory}
-use Rattle.with_loops.specs.Tells.{TellsStop, TellsCondition}
+use Rattle.with_loops.specs.Tells.{Tells, TellsStop, TellsCondition}
 use Rattle.with_loops.proofs.Steps.{said, test_fault, test_true, test_false}
 
 module _ (site test_site : Site) (test : List ArrayValue → Ends ArrayValue) (body : List ArrayValue → Answer) where
@@ -41,3 +41,8 @@ condition_stops site o Memory x y h = tt
 pub condition_says : {A : Type 0} (site : Site) (o : Option Bool) (b : Bool) (x y : Ends A) → o ≡ Some b → choose site o x y ≡ (if b then x else y)
 condition_says site o true x y h = ap (λ o. choose site o x y) h
 condition_says site o false x y h = ap (λ o. choose site o x y) h
+
+pub condition_tells : (r : Result Bool Stop) (site : Site) (o : Option Bool) → TellsCondition r site o → Tells r (choose site o (Ok true) (Ok false))
+condition_tells (Ok true) site o h = ap (λ o. choose site o (Ok true) (Ok false)) h
+condition_tells (Ok false) site o h = ap (λ o. choose site o (Ok true) (Ok false)) h
+condition_tells (Err stop) site o h = condition_stops site o stop (Ok true) (Ok false) h

@@ -1,6 +1,8 @@
 -- The cells of parted loops: each index of a frame that is covered has one.
 use Rattle.std.proofs.Common.{◌≡◌, ℕ, zero, suc, ◌+◌, ◌*◌, ◌<◌, ◌≤◌, List, [], ◌∷◌, ◌++◌, length, get_or, map, Bool, true, false, refl, sym, ap, ◌∙◌, subst, arith, ℤ, pos, Option, Some, None, All, cond, true≢false}
-use Rattle.std.specs.Prelude.{filter, Contains}
+use Rattle.std.specs.Prelude.{filter, Contains, IfSome}
+use Rattle.std.proofs.lemmas.List.{length-append}
+use Rattle.std.proofs.Math.Nat.{add-mul}
 use Rattle.std.specs.List.{flat_map}
 use Rattle.std.proofs.lemmas.List.Elements.{All-head, All-tail, All-nil, All-cons, All-contains}
 use Rattle.sac_base.specs.declared.grid.Grid1.{Grid1}
@@ -51,3 +53,8 @@ pub count_elements : (g : List Grid1) (cell : List ℕ) (k n : ℕ) → IsFrame 
 count_elements g cell k n frame past within e =
     let same : k ≡ length (members g) = omega arith in
     e ∙ ap (λ m. m * size cell) (same ∙ count_members g frame) ∙ sym (size-append (extents g) cell)
+
+-- one cell more
+pub grown : (items new : List ℤ) (cell : Option ArrayValue) (k n : ℕ) → new ≡ items ++ elements_of cell → IfSome cell (λ (a : ArrayValue). length a.cells ≡ n) → (cell ≡ None → ⊥) → length items ≡ k * n → length new ≡ (k + 1) * n
+grown items new None k n e sized some count = absurd (some refl)
+grown items new (Some a) k n e sized some count = omega (arith, ap length e ∙ length-append items a.cells, sized, count, add-mul k 1 n)

@@ -8,7 +8,10 @@ use Rattle.core_ir.specs.declared.tree.Right.TheVariants as right
 use Rattle.core_ir.specs.declared.tree.Var.{Var}
 use Rattle.core_ir.specs.declared.tree.WithLoop.{WithLoop}
 use Rattle.core_ir.specs.View.{right_term}
-use Rattle.core_run.specs.Evaluation.{IsPlain}
+use Rattle.core_ir.specs.Meaning.{Env, one}
+use Rattle.core_ir.specs.Terms.{RightTerm}
+use Rattle.core_run.specs.declared.evaluate.Context.{Context}
+use Rattle.core_run.specs.Evaluation.{IsPlain, plain_in, right_in}
 
 pub plain_rest : (r : Right)
     → ((x : Var) (a b : Block) → r ≡ right.If x a b → ⊥)
@@ -34,3 +37,11 @@ plain_rest (right.With with') i l c w p = absurd (w with' refl)
 plain_rest (right.Parted parted) i l c w p = absurd (p parted refl)
 plain_rest (right.Always k) i l c w p = tt
 plain_rest (right.Check x t) i l c w p = tt
+
+pub plain_means : (context : Context) (r : RightTerm) (s : Site) (e : Env) → IsPlain r → right_in context r s e ≡ one (plain_in r s e)
+plain_means context (RightTerm.Plain p) s e h = refl
+plain_means context (RightTerm.If x a b) s e h = absurd h
+plain_means context (RightTerm.Loop first start params test body site) s e h = absurd h
+plain_means context (RightTerm.Call group xs) s e h = absurd h
+plain_means context (RightTerm.With o gens) s e h = absurd h
+plain_means context (RightTerm.Parted frame base cell o parts) s e h = absurd h
