@@ -1,0 +1,6 @@
+pub mod Sequences
+pub mod Steps
+pub mod Merges
+pub mod Teams
+pub mod Verdicts
+pub mod Wholes

@@ -1,0 +1,79 @@
+-- One cell more.
+use Rattle.std.proofs.Common.{◌≡◌, ℕ, suc, ◌+◌, ◌-◌, ◌*◌, ◌<◌, ◌≤◌, Bool, List, [], ◌∷◌, ◌++◌, ℤ, length, take, Option, None, Some, Ok, Err, refl, sym, ap, ◌∙◌, arith, subst}
+use Rattle.std.proofs.lemmas.List.{length-take-le}
+use Rattle.std.proofs.Math.Seq.{take-append_seam, take-append-add}
+use Rattle.std.proofs.Math.Nat.{suc-mul}
+use borrow.Rule.Slice.PartMut.{put_mid, post_of}
+use Rattle.sac_base.specs.declared.fault.Fault.{Fault}
+use Rattle.sac_base.specs.declared.op.Op.{Op}
+use Rattle.sac_base.specs.Verdict.{each, present, joined, combined}
+use Rattle.wl_core.specs.declared.setup.Job.{Job}
+use Rattle.wl_core.specs.Machine.{CellValue, combine, both}
+use Rattle.worker_team.specs.declared.plan.Stop.{Stop}
+use Rattle.worker_team.specs.declared.plan.Stop.TheVariants.{Faulted, Memory}
+use Rattle.worker_team.specs.declared.cells.CellEnd.TheVariants.{Stopped}
+use Rattle.worker_team.specs.Segments.{Tells, cells_from, cost_from, value_if, Costs, Gathered, Ran, Same}
+use Rattle.worker_team.proofs.Sequences.{cells-append, cells_more, cost_more, each-both, each-front, each-back, joined-both, combined_more, same_sum, same_of}
+
+module _ (cell : ℕ → CellValue) (start k : ℕ) (values : List (Option (List ℤ))) (before : each (cells_from cell start k) ≡ Ok values) where
+  -- the values so far, and the next
+  pub each_more : (v : Option (List ℤ)) → cell (start + k) ≡ Ok v → each (cells_from cell start (k + 1)) ≡ Ok (values ++ v ∷ [])
+  each_more v e =
+      let one : each (cell (start + k) ∷ []) ≡ Ok (v ∷ []) = (λ j. each (e j ∷ [])) in
+      ap (λ l. each l) (cells_more cell start k) ∙ each-both (cells_from cell start k) (cell (start + k) ∷ []) values (v ∷ []) before one
+
+  -- their elements, and those of the next
+  pub stored_more : (x front rows : List ℤ) → cell (start + k) ≡ Ok (Some x) → front ≡ joined (present values) → rows ≡ front ++ x
+      → (vs : List (Option (List ℤ))) × (each (cells_from cell start (k + 1)) ≡ Ok vs) × (rows ≡ joined (present vs))
+  stored_more x front rows e f r =
+      let one : joined (present (Some x ∷ [])) ≡ x = no_more x in
+      (values ++ Some x ∷ [], each_more (Some x) e, r ∙ (λ j. f j ++ x) ∙ (λ j. joined (present values) ++ sym one j) ∙ sym (joined-both values (Some x ∷ [])))
+    where
+      no_more : (l : List ℤ) → l ++ [] ≡ l
+      no_more [] = refl
+      no_more (y ∷ l) = λ j. y ∷ no_more l j
+
+  -- their combination, and the next
+  pub combined_next : (op : Op) (v all : Option (List ℤ)) → cell (start + k) ≡ Ok v → combined (combine op) (present values) ≡ all
+      → (vs : List (Option (List ℤ))) × (each (cells_from cell start (k + 1)) ≡ Ok vs) × (combined (combine op) (present vs) ≡ both (combine op) all v)
+  combined_next op v all e f = (values ++ v ∷ [], each_more v e, combined_more (combine op) values v ∙ (λ j. both (combine op) (f j) v))
+
+  -- the first fault
+  pub fault_here : (n : ℕ) (fault : Fault) → k < n → cell (start + k) ≡ Err fault → each (cells_from cell start n) ≡ Err fault
+  fault_here n fault lt e =
+      let one : each (cell (start + k) ∷ []) ≡ Err fault = (λ j. each (e j ∷ [])) in
+      let upto : each (cells_from cell start (k + 1)) ≡ Err fault = ap (λ l. each l) (cells_more cell start k) ∙ each-back (cells_from cell start k) (cell (start + k) ∷ []) values fault before one in
+      let n-is : n ≡ (k + 1) + (n - (k + 1)) = omega arith in
+      ap (λ m. each (cells_from cell start m)) n-is ∙ ap (λ l. each l) (cells-append cell start (k + 1) (n - (k + 1))) ∙ each-front (cells_from cell start (k + 1)) (cells_from cell (start + (k + 1)) (n - (k + 1))) fault upto
+
+  pub stops_here : (job : Job) (width n : ℕ) (into rows : List ℤ) (stop : Stop) → k < n → Tells (cell (start + k)) into (Stopped stop) → Ran job width (cells_from cell start n) rows (Err stop)
+  stops_here job width n into rows (Faulted fault) lt e = fault_here n fault lt e
+  stops_here job width n into rows Memory lt e = tt
+
+  pub stops_gather : (op : Op) (n : ℕ) (into row : List ℤ) (stop : Stop) → k < n → Tells (cell (start + k)) into (Stopped stop) → Gathered op (cells_from cell start n) row (Err stop)
+  stops_gather op n into row (Faulted fault) lt e = fault_here n fault lt e
+  stops_gather op n into row Memory lt e = tt
+
+-- the cost so far, and that of the next cell
+pub costs_more : (cost : ℕ → ℕ → ℕ) (start k : ℕ) (a b c : ℕ → ℕ) → Costs cost start k a b → ((kind : ℕ) → Same (c kind) (b kind + cost kind (start + k))) → Costs cost start (k + 1) a c
+costs_more cost start k a b c so_far next kind =
+    let s : Same (b kind + cost kind (start + k)) ((a kind + cost_from (cost kind) start k) + cost kind (start + k)) = same_sum (b kind) (a kind + cost_from (cost kind) start k) (cost kind (start + k)) (cost kind (start + k)) (so_far kind) refl in
+    let more = cost_more (cost kind) start k in
+    let e : (a kind + cost_from (cost kind) start k) + cost kind (start + k) ≡ a kind + cost_from (cost kind) start (k + 1) = omega arith in
+    next kind ∙ s ∙ same_of _ _ e
+
+pub costs_none : (cost : ℕ → ℕ → ℕ) (start : ℕ) (a b : ℕ → ℕ) → ((kind : ℕ) → b kind ≡ a kind) → Costs cost start 0 a b
+costs_none cost start a b e kind = let z : a kind + 0 ≡ a kind = omega arith in same_of (b kind) (a kind + 0) (e kind ∙ sym z)
+
+-- the elements before a part that was written, and that part
+pub put_front : (a k w : ℕ) (xs ys : List ℤ) → a ≤ length xs → length ys ≡ w → take (a + w) (put_mid a k xs ys) ≡ take a xs ++ ys
+put_front a k w xs ys le len =
+    let front : List ℤ = take a xs in
+    let rest : List ℤ = ys ++ post_of a k xs in
+    let len_front : length front ≡ a = length-take-le a xs le in
+    ap (λ (n : ℕ). take (n + w) (front ++ rest)) (sym len_front) ∙ take-append-add front rest w ∙ ap (λ (l : List ℤ). front ++ l) (ap (λ (n : ℕ). take n rest) (sym len) ∙ take-append_seam ys (post_of a k xs))
+
+pub row_written : (i k w : ℕ) (xs ys : List ℤ) → i * w ≤ length xs → length ys ≡ w → take ((i + 1) * w) (put_mid (i * w) k xs ys) ≡ take (i * w) xs ++ ys
+row_written i k w xs ys le len =
+    let e : (i + 1) * w ≡ i * w + w = (let a : (i + 1) * w ≡ suc i * w = ap (λ (n : ℕ). n * w) (let q : i + 1 ≡ suc i = omega arith in q) in a ∙ suc-mul i w) in
+    ap (λ (n : ℕ). take n (put_mid (i * w) k xs ys)) e ∙ put_front (i * w) k w xs ys le len

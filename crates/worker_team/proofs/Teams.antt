@@ -1,0 +1,119 @@
+-- The first chunk and those behind it.
+use Rattle.std.proofs.Common.{◌≡◌, ℕ, zero, suc, ◌+◌, ◌-◌, ◌*◌, ◌/◌, ◌%◌, ◌<◌, ◌≤◌, min, Bool, false, List, [], ◌∷◌, ◌++◌, ℤ, length, take, Option, Some, None, Ok, Err, refl, sym, ap, subst, ◌∙◌, arith}
+use Rattle.std.specs.Int.{div_ceil}
+use Rattle.std.proofs.Math.Nat.{div-eq-sub-div, add-mod_right, suc-mul, mul-le-mul_right}
+use Rattle.std.proofs.lemmas.Grind.{div_ceil_times}
+use Rattle.wl_core.specs.declared.setup.Job.{Job}
+use Rattle.wl_core.specs.declared.setup.Job.TheVariants.{Write as Store, Fold}
+use Rattle.wl_core.specs.Machine.{CellValue}
+use Rattle.worker_team.specs.Segments.{cells_from, cost_from, ChunkRoom, CostBoth, Costs, HasRoom, HasRows, Ran, Same}
+use Rattle.worker_team.proofs.Sequences.{cells-append, cost-append, same_sum, same_of}
+
+-- ---- how many chunks
+
+-- one chunk less
+pub chunk_less : (left size : ℕ) → 0 < size → size ≤ left → div_ceil left size ≡ suc (div_ceil (left - size) size)
+chunk_less left size some le =
+    let quotient : left / size ≡ (left - size) / size + 1 = div-eq-sub-div some le in
+    let back : (left - size) + size ≡ left = omega arith in
+    let remainder : left % size ≡ (left - size) % size = ap (λ (n : ℕ). n % size) (sym back) ∙ add-mod_right (left - size) size in
+    let least : min 1 (left % size) ≡ min 1 ((left - size) % size) = ap (λ (n : ℕ). min 1 n) remainder in
+    omega arith
+
+-- a stretch that is not longer than a chunk is one
+pub chunk_one : (left size : ℕ) → 0 < left → left ≤ size → div_ceil left size ≡ 1
+chunk_one left size some le =
+    let bounds = div_ceil_times left size (omega arith) in
+    let few : div_ceil left size * size < left + size = bounds.1 in
+    let covers : left ≤ div_ceil left size * size = bounds.0 in
+    by_count (div_ceil left size) left size some le few covers
+  where
+    by_count : (n left size : ℕ) → 0 < left → left ≤ size → n * size < left + size → left ≤ n * size → n ≡ 1
+    by_count zero left size some le few covers = absurd (let z : 0 * size ≡ 0 = omega arith in omega arith)
+    by_count (suc zero) left size some le few covers = refl
+    by_count (suc (suc n)) left size some le few covers =
+        absurd (let e : suc (suc n) * size ≡ suc n * size + size = suc-mul (suc n) size in let f : suc n * size ≡ n * size + size = suc-mul n size in omega arith)
+
+-- ---- room
+
+pub room_of_one : (job : Job) (width size left len : ℕ) → 0 < left → left ≤ size → HasRoom job width size left len → ChunkRoom job width left len
+room_of_one Store width size left len some le room = room
+room_of_one (Fold base op) width size left len some le room =
+    let one : div_ceil left size ≡ 1 = chunk_one left size some le in
+    let e : 1 * (width + width) ≡ width + width = omega arith in
+    room ∙ ap (λ (n : ℕ). n * (width + width)) one ∙ e
+
+-- the first chunk's room is a part, and the rest is room for the others
+pub room_of_rest : (job : Job) (width size left len mine : ℕ) → 0 < size → size < left → HasRoom job width size left len → ChunkRoom job width size mine → (mine ≤ len) × HasRoom job width size (left - size) (len - mine)
+room_of_rest Store width size left len mine some lt room is =
+    let split : left ≡ size + (left - size) = omega arith in
+    let e : left * width ≡ size * width + (left - size) * width = ap (λ (n : ℕ). n * width) split ∙ spread size (left - size) width in
+    (omega arith, omega arith)
+  where
+    spread : (a b w : ℕ) → (a + b) * w ≡ a * w + b * w
+    spread zero b w = let z : 0 + b ≡ b = omega arith in let y : 0 * w ≡ 0 = omega arith in ap (λ (n : ℕ). n * w) z ∙ (let k : b * w ≡ 0 * w + b * w = omega arith in k)
+    spread (suc a) b w = let e : suc a + b ≡ suc (a + b) = omega arith in let i = spread a b w in let f : suc (a + b) * w ≡ (a + b) * w + w = suc-mul (a + b) w in let h : suc a * w ≡ a * w + w = suc-mul a w in ap (λ (n : ℕ). n * w) e ∙ (let k : suc (a + b) * w ≡ suc a * w + b * w = omega arith in k)
+room_of_rest (Fold base op) width size left len mine some lt room is =
+    let less : div_ceil left size ≡ suc (div_ceil (left - size) size) = chunk_less left size some (omega arith) in
+    let e : suc (div_ceil (left - size) size) * (width + width) ≡ div_ceil (left - size) size * (width + width) + (width + width) = suc-mul (div_ceil (left - size) size) (width + width) in
+    let all : len ≡ div_ceil (left - size) size * (width + width) + (width + width) = room ∙ ap (λ (n : ℕ). n * (width + width)) less ∙ e in
+    (omega arith, omega arith)
+
+-- both sides have a row
+pub rows_of_both : (job : Job) (width size left mine rest : ℕ) → 0 < size → 0 < left → ChunkRoom job width size mine → HasRoom job width size left rest → HasRows job width mine rest
+rows_of_both Store width size left mine rest some_size some is room = tt
+rows_of_both (Fold base op) width size left mine rest some_size some is room =
+    let covers : left ≤ div_ceil left size * size = (div_ceil_times left size some_size).0 in
+    (omega arith, one_row (div_ceil left size) covers (omega arith))
+  where
+    one_row : (n : ℕ) → left ≤ n * size → rest ≡ n * (width + width) → width ≤ rest
+    one_row zero c e = absurd (let z : 0 * size ≡ 0 = omega arith in omega arith)
+    one_row (suc n) c e = let f : suc n * (width + width) ≡ n * (width + width) + (width + width) = suc-mul n (width + width) in omega arith
+
+-- the room of a first chunk in a stretch is below any bound of the whole
+pub first_bound : (job : Job) (width size left len : ℕ) → 0 < size → size < left → HasRoom job width size left len → (n : ℕ) × ChunkRoom job width size n × (n ≤ len)
+first_bound Store width size left len some lt room =
+    (size * width, refl, (let le : size * width ≤ left * width = mul-le-mul_right width (let k : size ≤ left = omega arith in k) in omega arith))
+first_bound (Fold base op) width size left len some lt room =
+    (width + width, refl, (room_of_rest (Fold base op) width size left len (width + width) some lt room refl).0)
+
+-- ---- what is made of none, and of both
+
+pub ran_none : (job : Job) (width size : ℕ) (cell : ℕ → CellValue) (start left : ℕ) (rows : List ℤ) → left ≡ 0 → HasRoom job width size left (length rows) → Ran job width (cells_from cell start left) rows (Ok false)
+ran_none job width size cell start left rows none room =
+    subst (λ (n : ℕ). Ran job width (cells_from cell start n) rows (Ok false)) (sym none) (at_none job (subst (λ (n : ℕ). HasRoom job width size n (length rows)) none room))
+  where
+    empty : (xs : List ℤ) → length xs ≡ 0 → xs ≡ []
+    empty [] e = refl
+    empty (x ∷ xs) e = absurd (omega arith)
+
+    at_none : (job : Job) → HasRoom job width size 0 (length rows) → Ran job width [] rows (Ok false)
+    at_none Store room = ([], refl, empty rows (let z : 0 * width ≡ 0 = omega arith in omega arith))
+    at_none (Fold base op) room = ([], refl, refl)
+
+pub cells_split : (cell : ℕ → CellValue) (start size left : ℕ) → size ≤ left → cells_from cell start left ≡ cells_from cell start size ++ cells_from cell (start + size) (left - size)
+cells_split cell start size left le = let e : left ≡ size + (left - size) = omega arith in ap (cells_from cell start) e ∙ cells-append cell start size (left - size)
+
+-- ---- counts
+
+pub cost_alone : (cost : ℕ → ℕ → ℕ) (start n : ℕ) (h h' w w' : ℕ → ℕ) → ((kind : ℕ) → h' kind ≡ h kind) → Costs cost start n w w' → CostBoth cost start n h w h' w'
+cost_alone cost start n h h' w w' same costs kind =
+    let s : Same (h' kind + w' kind) (h kind + (w kind + cost_from (cost kind) start n)) = same_sum (h' kind) (h kind) (w' kind) (w kind + cost_from (cost kind) start n) (same_of _ _ (same kind)) (costs kind) in
+    let e : h kind + (w kind + cost_from (cost kind) start n) ≡ (h kind + w kind) + cost_from (cost kind) start n = omega arith in
+    s ∙ same_of _ _ e
+
+pub cost_split : (cost : ℕ → ℕ → ℕ) (start size left : ℕ) (h h' w w' : ℕ → ℕ) → size ≤ left → Costs cost start size w w' → Costs cost (start + size) (left - size) h h' → CostBoth cost start left h w h' w'
+cost_split cost start size left h h' w w' le mine rest kind =
+    let a : ℕ = cost_from (cost kind) start size in
+    let b : ℕ = cost_from (cost kind) (start + size) (left - size) in
+    let s : Same (h' kind + w' kind) ((h kind + b) + (w kind + a)) = same_sum (h' kind) (h kind + b) (w' kind) (w kind + a) (rest kind) (mine kind) in
+    let all : cost_from (cost kind) start left ≡ a + b = (let e : left ≡ size + (left - size) = omega arith in ap (cost_from (cost kind) start) e ∙ cost-append (cost kind) start size (left - size)) in
+    let e : (h kind + b) + (w kind + a) ≡ (h kind + w kind) + cost_from (cost kind) start left = omega arith in
+    s ∙ same_of _ _ e
+
+-- a context that began with nothing was handed back
+pub cost_home : (cost : ℕ → ℕ → ℕ) (start n : ℕ) (h h' k w w' : ℕ → ℕ) → CostBoth cost start n h w h' w' → ((kind : ℕ) → w kind ≡ 0) → ((kind : ℕ) → Same (k kind) (h' kind + w' kind)) → Costs cost start n h k
+cost_home cost start n h h' k w w' costs none back kind =
+    let z = none kind in
+    let e : (h kind + w kind) + cost_from (cost kind) start n ≡ h kind + cost_from (cost kind) start n = omega arith in
+    back kind ∙ costs kind ∙ same_of _ _ e

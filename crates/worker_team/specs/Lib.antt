@@ -1,0 +1,4 @@
+pub mod Segments
+pub mod Crews
+pub mod Endings
+pub mod Samples

@@ -1,0 +1,84 @@
+// What the cells of a phase are, and how a worker computes them.
+ghost use Rattle.std.specs.Prelude.{◌≡◌, ℕ, ◌+◌, ◌<◌, [], length, IfOk};
+ghost use Rattle.wl_core.specs.Machine.{CellValue};
+ghost use Rattle.worker_team.specs.Segments.{IsComputed, Same, Tells};
+
+use crate::plan::Stop;
+use count_table::{Phase, WorkerSeat};
+use sac_base::{Cell, Memory};
+
+/// What a computed cell came to.
+#[derive(Clone, Copy, Debug, PartialEq, Eq)]
+pub enum CellEnd {
+    /// Its elements were written.
+    Value,
+    /// No generator of a fold holds the index.
+    NotHeld,
+    Stopped(Stop),
+}
+
+/// The cells of one phase. Each worker computes them with a context of its own, and each context is handed back to the
+/// caller's `H` once its worker is done.
+///
+/// A context counts things of several kinds, as the buffers that it took. Each count is modulo 2^64.
+pub trait PhaseCells<H>: Sync {
+    /// What one worker computes cells with.
+    type Worker: Send;
+
+    /// What the cell of each position comes to.
+    ghost cell: { Self → ℕ → CellValue };
+
+    /// How many positions there are, how many elements a cell has, and how many shared buffers there are.
+    ghost positions: { Self → ℕ };
+
+    ghost width: { Self → ℕ };
+
+    ghost shared: { Self → ℕ };
+
+    /// A context between two cells, and a home that contexts may be handed back to.
+    ghost idle: { Self → Self.Worker → Type 0 };
+
+    ghost open_home: { Self → H → Type 0 };
+
+    /// How much a context or a home has counted of each kind, and how much more after the cell of a position.
+    ghost spent: { Self → Self.Worker → ℕ → ℕ };
+
+    ghost kept: { Self → H → ℕ → ℕ };
+
+    ghost cost: { Self → ℕ → ℕ → ℕ };
+
+    /// A new context, which has counted nothing.
+    fn begin(&self) -> Result<Self::Worker, Memory>
+        ensures idle { IfOk result (λ w. idle self.now w) }
+        ensures spent { IfOk result (λ w. (kind : ℕ) → spent self.now w kind ≡ 0) }
+    ;
+
+    /// Computes the cell of a position into the elements that are given. The seat keeps and releases shared buffers by the
+    /// table, and ends as it began.
+    fn cell(
+        &self,
+        worker: &mut Self::Worker,
+        table: &Phase<()>,
+        seat: &mut WorkerSeat<()>,
+        position: usize,
+        into: &mut [Cell],
+    ) -> CellEnd
+        requires idle { idle self.now worker.old }
+        requires shared { table.now.buffers ≡ shared self.now }
+        requires seat { (seat.old.phase ≡ table.now) × (seat.old.holds ≡ []) }
+        requires position { position < positions self.now }
+        requires width { length into.old ≡ width self.now }
+        ensures tells { Tells (cell self.now position) into.new result }
+        ensures idle { idle self.now worker.new }
+        ensures seat { seat.new ≡ seat.old }
+        ensures spent { IsComputed result → (kind : ℕ) → Same (spent self.now worker.new kind) (spent self.now worker.old kind + cost self.now kind position) }
+    ;
+
+    /// Hands a context back.
+    fn finish(&self, worker: Self::Worker, home: &mut H)
+        requires idle { idle self.now worker }
+        requires home { open_home self.now home.old }
+        ensures home { open_home self.now home.new }
+        ensures kept { (kind : ℕ) → Same (kept self.now home.new kind) (kept self.now home.old kind + spent self.now worker kind) }
+    ;
+}

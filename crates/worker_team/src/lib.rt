@@ -1,0 +1,22 @@
+//! One with-loop's cells, computed by 1 to 64 workers.
+//!
+//! The positions are cut into at most as many chunks as there are workers, and worker k computes chunk k, in a thread of
+//! its own. Each worker has a context and a seat of its own. Whatever the schedule, the answer is that of the cells taken
+//! one after another.
+#![tactic(auto)]
+
+mod cells;
+mod crew;
+mod law;
+mod phases;
+mod plan;
+mod share;
+mod worker;
+
+pub use cells::{CellEnd, PhaseCells};
+pub use law::answers_are_verdicts;
+pub use phases::{array_phase, fold_phase};
+pub use plan::{Gate, NoGate, Plan, Stop};
+
+#[cfg(test)]
+mod tests;
