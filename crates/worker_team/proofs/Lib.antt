@@ -4,3 +4,5 @@ pub mod Merges
 pub mod Teams
 pub mod Verdicts
 pub mod Wholes
+pub mod Runs
+pub mod Ramps

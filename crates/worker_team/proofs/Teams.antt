@@ -1,11 +1,15 @@
 -- The first chunk and those behind it.
-use Rattle.std.proofs.Common.{◌≡◌, ℕ, zero, suc, ◌+◌, ◌-◌, ◌*◌, ◌/◌, ◌%◌, ◌<◌, ◌≤◌, min, Bool, false, List, [], ◌∷◌, ◌++◌, ℤ, length, take, Option, Some, None, Ok, Err, refl, sym, ap, subst, ◌∙◌, arith}
+use Rattle.std.proofs.Common.{◌≡◌, ℕ, zero, suc, ◌+◌, ◌-◌, ◌*◌, ◌/◌, ◌%◌, ◌<◌, ◌≤◌, min, Bool, false, cond, List, [], ◌∷◌, ◌++◌, ℤ, length, take, map, append-nil, rules, Option, Some, None, Result, Ok, Err, IfOk, refl, sym, ap, subst, ◌∙◌, arith}
+use Rattle.std.specs.Prelude.{IsOk}
 use Rattle.std.specs.Int.{div_ceil}
 use Rattle.std.proofs.Math.Nat.{div-eq-sub-div, add-mod_right, suc-mul, mul-le-mul_right}
 use Rattle.std.proofs.lemmas.Grind.{div_ceil_times}
 use Rattle.wl_core.specs.declared.setup.Job.{Job}
 use Rattle.wl_core.specs.declared.setup.Job.TheVariants.{Write as Store, Fold}
 use Rattle.wl_core.specs.Machine.{CellValue}
+use Rattle.count_table.specs.Seats.{WorkerState, FrameState}
+use Rattle.worker_team.specs.declared.plan.Stop.{Stop}
+use Rattle.worker_team.specs.Crews.{IsBack}
 use Rattle.worker_team.specs.Segments.{cells_from, cost_from, ChunkRoom, CostBoth, Costs, HasRoom, HasRows, Ran, Same}
 use Rattle.worker_team.proofs.Sequences.{cells-append, cost-append, same_sum, same_of}
 
@@ -117,3 +121,49 @@ cost_home cost start n h h' k w w' costs none back kind =
     let z = none kind in
     let e : (h kind + w kind) + cost_from (cost kind) start n ≡ h kind + cost_from (cost kind) start n = omega arith in
     back kind ∙ costs kind ∙ same_of _ _ e
+
+-- ---- answers
+
+pub of_ok : (r : Result Bool Stop) (P : Type 0) → IsOk r → IfOk r (λ held. P) → P
+of_ok (Ok held) P is h = h
+of_ok (Err stop) P is h = absurd (cc)
+
+pub on_ok : (r : Result Bool Stop) (P Q : Type 0) → IfOk r (λ held. P) → (P → Q) → IfOk r (λ held. Q)
+on_ok (Ok held) P Q h f = f h
+on_ok (Err stop) P Q h f = tt
+
+pub on_both : (r first later : Result Bool Stop) (P Q S : Type 0) → IfOk r (λ held. IsOk first × IsOk later) → IfOk first (λ held. P) → IfOk later (λ held. Q) → (P → Q → S) → IfOk r (λ held. S)
+on_both (Ok held) first later P Q S is p q f = f (of_ok first P is.0 p) (of_ok later Q is.1 q)
+on_both (Err stop) first later P Q S is p q f = tt
+
+-- ---- seats
+
+pub some_chunks : (left size : ℕ) → 0 < size → 0 < left → 1 ≤ div_ceil left size
+some_chunks left size some_size some = count (div_ceil left size) (div_ceil_times left size some_size).0
+  where
+    count : (n : ℕ) → left ≤ n * size → 1 ≤ n
+    count zero le = absurd (let z : 0 * size ≡ 0 = omega arith in omega arith)
+    count (suc n) le = omega arith
+
+-- a seat was made, and came back once the others were back
+pub back : (f₀ f₁ f₂ f₃ : FrameState (Unit {0})) (w : WorkerState (Unit {0})) → f₁ ≡ record f₀ { made = f₀.made + 1; out = f₀.out + 1 } → IsBack f₁ f₂ → w.drawn ≡ [] → w.ended ≡ false
+    → f₃ ≡ record f₂ { out = f₂.out - 1; drawn = f₂.drawn ++ map (λ c. (c, w.number)) w.drawn; nones = f₂.nones + cond w.ended 1 0 }
+    → IsBack f₀ f₃
+back f₀ f₁ f₂ f₃ w seated is drawn going left =
+    let out₁ = ap (λ (f : FrameState (Unit {0})). f.out) seated in
+    let out₃ = ap (λ (f : FrameState (Unit {0})). f.out) left in
+    let out₂ = is.out in
+    let none : cond {A = ℕ} w.ended 1 0 ≡ 0 = ap (λ (b : Bool). cond {A = ℕ} b 1 0) going in
+    let nones₃ = ap (λ (f : FrameState (Unit {0})). f.nones) left in
+    let nones₂ = is.nones in
+    let nones₁ = ap (λ (f : FrameState (Unit {0})). f.nones) seated in
+    record {
+      phase = ap (λ (f : FrameState (Unit {0})). f.phase) left ∙ is.phase ∙ ap (λ (f : FrameState (Unit {0})). f.phase) seated;
+      opening = ap (λ (f : FrameState (Unit {0})). f.opening) left ∙ is.opening ∙ ap (λ (f : FrameState (Unit {0})). f.opening) seated;
+      out = omega arith;
+      drawn = ap (λ (f : FrameState (Unit {0})). f.drawn) left ∙ ap (λ (l : List ℕ). f₂.drawn ++ map (λ (c : ℕ). (c, w.number)) l) drawn ∙ append-nil f₂.drawn ∙ is.drawn ∙ ap (λ (f : FrameState (Unit {0})). f.drawn) seated;
+      nones = omega arith;
+    }
+
+pub back-here : (f : FrameState (Unit {0})) → IsBack f f
+back-here f = record { phase = refl; opening = refl; out = refl; drawn = refl; nones = refl }

@@ -2,3 +2,4 @@ pub mod Segments
 pub mod Crews
 pub mod Endings
 pub mod Samples
+pub mod Schedules

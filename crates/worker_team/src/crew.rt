@@ -1,5 +1,5 @@
 // A worker for each chunk, each in a thread of its own.
-ghost use Rattle.std.specs.Prelude.{◌≡◌, ℕ, ◌+◌, ◌-◌, ◌*◌, ◌^◌, ◌<◌, ◌≤◌, ◌++◌, ℤ, List, length, IfOk};
+ghost use Rattle.std.specs.Prelude.{◌≡◌, ℕ, ◌+◌, ◌-◌, ◌*◌, ◌^◌, ◌<◌, ◌≤◌, ◌++◌, ℤ, List, length, IfOk, IsOk};
 ghost use Rattle.std.specs.Thread.{IsSync, IsSend};
 ghost use Rattle.wl_core.specs.Machine.{CellValue, TakesBase};
 ghost use Rattle.worker_team.specs.Segments.{cells_from, ChunkRoom, CostBoth, Costs, HasRoom, HasRows, MergesRows, Ran};
@@ -165,7 +165,8 @@ fn merge(
 ) -> Result<bool, Stop>
     requires rows { HasRows share.job share.width (length mine.old) (length rest.now) }
     requires takes { TakesBase share.job }
-    ensures { (xs : List CellValue) → (ys : List CellValue) → Ran share.job share.width xs mine.old first → Ran share.job share.width ys rest.now later → Ran share.job share.width (xs ++ ys) (mine.new ++ rest.now) result }
+    ensures ran { (xs : List CellValue) → (ys : List CellValue) → Ran share.job share.width xs mine.old first → Ran share.job share.width ys rest.now later → Ran share.job share.width (xs ++ ys) (mine.new ++ rest.now) result }
+    ensures both { IfOk result (λ _. IsOk first × IsOk later) }
 {
     match (first, later) {
         (Err(stop), _) => Err(stop),

@@ -14,7 +14,7 @@ mod share;
 mod worker;
 
 pub use cells::{CellEnd, PhaseCells};
-pub use law::answers_are_verdicts;
+pub use law::{answers_are_verdicts, each_schedule_is_a_run};
 pub use phases::{array_phase, fold_phase};
 pub use plan::{Gate, NoGate, Plan, Stop};
 

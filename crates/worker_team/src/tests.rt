@@ -1,37 +1,41 @@
-ghost use Rattle.std.specs.Prelude.{◌≡◌, ◌≢◌, ℕ, ◌+◌, ◌*◌, ◌%◌, ◌^◌, ◌<◌, ◌≤◌, All, None, Ok, length, IfOk, IsTrue, [], ◌∷◌};
-ghost use Rattle.worker_team.specs.Samples.{ramp_cell, even_cell};
+ghost use Rattle.std.specs.Prelude.{◌≡◌, ℕ, ◌+◌, ◌*◌, ◌≤◌, length};
+ghost use Rattle.worker_team.specs.Samples.{ramp_cell};
 
 use crate::{CellEnd, Gate, NoGate, PhaseCells, Plan, Stop, array_phase, fold_phase};
 use count_table::{Phase, Tally, WorkerSeat};
 use sac_base::{Base, Caps, Cell, Fault, FaultKind, Memory, Op, Site};
+use std::alloc::Global;
 use std::sync::atomic::{AtomicU64, Ordering};
 use std::test::Fail;
 use std::thread::{self, Threads};
 
-fn zero_divisor(line: u32) -> CellEnd {
-    CellEnd::Stopped(Stop::Faulted(Fault {
+fn zero_divisor(line: u32) -> Fault
+    ensures { result ≡ Rattle.worker_team.specs.Samples.zero_divisor line }
+{
+    Fault {
         kind: FaultKind::F2,
         site: Site { line, col: 28 },
-    }))
+    }
 }
 
-// Each element has its position as its value, and two positions fault. A context counts the cells.
+// Three elements for each position, which have its number as their value. Two positions fault, and those from `held` on are
+// not held. A context counts the cells that it computed.
 #[derive(Drop)]
 struct Ramp {
     count: usize,
-    width: usize,
     first: usize,
     second: usize,
+    held: usize,
 }
 
 impl PhaseCells<u64> for Ramp {
     type Worker = u64;
 
-    ghost cell = { λ s p. ramp_cell s.width s.first s.second p };
+    ghost cell = { λ s p. ramp_cell s.first s.second s.held p };
 
     ghost positions = { λ s. s.count };
 
-    ghost width = { λ s. s.width };
+    ghost width = { λ s. 3 };
 
     ghost shared = { λ s. 1 };
 
@@ -60,13 +64,19 @@ impl PhaseCells<u64> for Ramp {
         table.keep(seat, 0);
         table.release(seat, 0);
         if position == self.first {
-            return zero_divisor(3);
+            return CellEnd::Stopped(Stop::Faulted(zero_divisor(3)));
         }
         if position == self.second {
-            return zero_divisor(4);
+            return CellEnd::Stopped(Stop::Faulted(zero_divisor(4)));
         }
-        into.fill((position % 1000) as i32);
         *worker = worker.wrapping_add(1);
+        if position >= self.held {
+            return CellEnd::NotHeld;
+        }
+        let value = (position % 1000) as i32;
+        into[0] = value;
+        into[1] = value;
+        into[2] = value;
         CellEnd::Value
     }
 
@@ -76,10 +86,10 @@ impl PhaseCells<u64> for Ramp {
 }
 
 fn plan(workers: u32) -> Plan
-    ensures { result.workers ≡ workers }
+    ensures { (1 ≤ result.workers) × (result.workers ≤ 64) }
 {
     Plan {
-        workers,
+        workers: workers.clamp(1, 64),
         chunk: None,
         caps: Caps {
             turns: 1000,
@@ -88,25 +98,65 @@ fn plan(workers: u32) -> Plan
     }
 }
 
-// Three elements for each of ten positions.
+// The phase that stores the cells. All positions are held.
+fn stored<G: Gate, R: Threads + Sync>(
+    rt: &R,
+    alloc: Global,
+    ramp: &Ramp,
+    gate: &G,
+    workers: u32,
+    home: &mut u64,
+    buffer: &mut [Cell],
+    tally: &mut Tally,
+) -> Result<(), Stop>
+    requires count { ramp.now.count ≤ 16777216 }
+    requires held { ramp.now.count ≤ ramp.now.held }
+    requires room { length buffer.old ≡ ramp.now.count * 3 }
+{
+    array_phase(
+        rt, alloc, ramp, gate, plan(workers), home, &mut [1], ramp.count, 3, buffer, tally,
+    )
+}
+
+// The phase that combines the cells that are held.
+fn combined<R: Threads + Sync>(
+    rt: &R,
+    alloc: Global,
+    ramp: &Ramp,
+    workers: u32,
+    op: Op,
+    value: &mut [Cell],
+    tally: &mut Tally,
+) -> Result<(), Stop>
+    requires count { ramp.now.count ≤ 16777216 }
+    requires op { op ≡ Op.Add }
+    requires room { length value.old ≡ 3 }
+{
+    let mut home = 0;
+    fold_phase(
+        rt, alloc, ramp, &NoGate, plan(workers), &mut home, &mut [1], ramp.count, Base::Int, op,
+        value, tally,
+    )
+}
+
+const WORKERS: [u32; 4] = [1, 2, 8, 64];
+
 #[test]
 fn cells_come_in_order(rt: HostRuntime) -> Result<(), Fail> {
     let ramp = Ramp {
         count: 10,
-        width: 3,
         first: 10,
         second: 10,
+        held: 10,
     };
     let mut tally = Tally::new();
-    for workers in [1u32, 2, 8, 64] {
-        let (mut home, mut counts, mut buffer) = (0, [1], [7; 30]);
-        let end = array_phase(
-            &rt, rt.alloc(), &ramp, &NoGate, plan(workers), &mut home, &mut counts, 10, 3,
-            &mut buffer, &mut tally,
+    for workers in WORKERS {
+        let (mut home, mut buffer) = (0, [7; 30]);
+        let end = stored(
+            &rt, rt.alloc(), &ramp, &NoGate, workers, &mut home, &mut buffer, &mut tally,
         );
-        assert!(rt; end == Ok(()) && home == 10 && counts == [1]);
-        assert_eq!(rt; buffer[..6], [0, 0, 0, 1, 1, 1]);
-        assert_eq!(rt; buffer[24..], [8, 8, 8, 9, 9, 9]);
+        assert!(rt; end == Ok(()) && home == 10);
+        assert!(rt; buffer[..6] == [0, 0, 0, 1, 1, 1] && buffer[24..] == [8, 8, 8, 9, 9, 9]);
     }
     assert_eq!(rt; tally.phases(), 4);
     Ok(())
@@ -117,112 +167,42 @@ fn cells_come_in_order(rt: HostRuntime) -> Result<(), Fail> {
 fn the_least_fault_is_the_answer(rt: HostRuntime) -> Result<(), Fail> {
     let ramp = Ramp {
         count: 16,
-        width: 1,
         first: 2,
         second: 9,
+        held: 16,
     };
     let mut tally = Tally::new();
-    let wanted = Fault {
-        kind: FaultKind::F2,
-        site: Site { line: 3, col: 28 },
-    };
-    for workers in [1u32, 2, 8, 64] {
-        let (mut home, mut counts, mut buffer) = (0, [1], [0; 16]);
-        let end = array_phase(
-            &rt, rt.alloc(), &ramp, &NoGate, plan(workers), &mut home, &mut counts, 16, 1,
-            &mut buffer, &mut tally,
+    for workers in WORKERS {
+        let end = stored(
+            &rt, rt.alloc(), &ramp, &NoGate, workers, &mut 0, &mut [0; 48], &mut tally,
         );
-        assert_eq!(rt; end, Err(Stop::Faulted(wanted)));
+        assert_eq!(rt; end, Err(Stop::Faulted(zero_divisor(3))));
     }
     assert_eq!(rt; tally.phases(), 4);
     Ok(())
 }
 
-// The neutral value is taken once, also where there is no position.
+// The neutral value is taken once, also where no position is held or there is none. Row by row: how many positions there
+// are, how many of them are held, and what 5 and their numbers come to.
 #[test]
 fn a_fold_takes_its_neutral_value_once(rt: HostRuntime) -> Result<(), Fail> {
     let mut tally = Tally::new();
-    for (count, wanted) in [(4usize, 11), (0, 5)] {
+    for (count, held, wanted) in [(4, 4, 11), (4, 3, 8), (4, 0, 5), (0, 0, 5)] {
         let ramp = Ramp {
             count,
-            width: 1,
             first: 4,
             second: 4,
+            held,
         };
-        for workers in [1u32, 2, 8, 64] {
-            let (mut home, mut counts, mut value) = (0, [1], [5]);
-            let end = fold_phase(
-                &rt, rt.alloc(), &ramp, &NoGate, plan(workers), &mut home, &mut counts, count,
-                Base::Int, Op::Add, &mut value, &mut tally,
+        for workers in WORKERS {
+            let mut value = [5; 3];
+            let end = combined(
+                &rt, rt.alloc(), &ramp, workers, Op::Add, &mut value, &mut tally,
             );
-            assert!(rt; end == Ok(()) && value == [wanted]);
+            assert!(rt; end == Ok(()) && value == [wanted; 3]);
         }
     }
-    assert_eq!(rt; tally.phases(), 8);
-    Ok(())
-}
-
-// The even positions are held, and have their number as value. A context counts nothing.
-#[derive(Drop)]
-struct Evens {
-    count: usize,
-}
-
-impl PhaseCells<()> for Evens {
-    type Worker = ();
-
-    ghost cell = { λ s p. even_cell p };
-
-    ghost positions = { λ s. s.count };
-
-    ghost width = { λ s. 1 };
-
-    ghost shared = { λ s. 0 };
-
-    ghost idle = { λ s w. Unit {0} };
-
-    ghost open_home = { λ s h. Unit {0} };
-
-    ghost spent = { λ s w kind. 0 };
-
-    ghost kept = { λ s h kind. 0 };
-
-    ghost cost = { λ s kind p. 0 };
-
-    fn begin(&self) -> Result<(), Memory> {
-        Ok(())
-    }
-
-    fn cell(
-        &self,
-        _worker: &mut (),
-        _table: &Phase<()>,
-        _seat: &mut WorkerSeat<()>,
-        position: usize,
-        into: &mut [Cell],
-    ) -> CellEnd {
-        if position % 2 != 0 {
-            return CellEnd::NotHeld;
-        }
-        into[0] = (position % 1000) as i32;
-        CellEnd::Value
-    }
-
-    fn finish(&self, _worker: (), _home: &mut ()) {}
-}
-
-#[test]
-fn positions_that_are_not_held_are_passed_over(rt: HostRuntime) -> Result<(), Fail> {
-    let evens = Evens { count: 9 };
-    let mut tally = Tally::new();
-    for workers in [1u32, 2, 9, 64] {
-        let (mut home, mut counts, mut value) = ((), [0u64; 0], [-1]);
-        let end = fold_phase(
-            &rt, rt.alloc(), &evens, &NoGate, plan(workers), &mut home, &mut counts, 9,
-            Base::Int, Op::Max, &mut value, &mut tally,
-        );
-        assert!(rt; end == Ok(()) && value == [8]);
-    }
+    assert_eq!(rt; tally.phases(), 16);
     Ok(())
 }
 
@@ -258,21 +238,20 @@ impl Gate for Meeting {
 fn two_chunks_run_side_by_side(rt: HostRuntime) -> Result<(), Fail> {
     let ramp = Ramp {
         count: 2,
-        width: 1,
         first: 2,
         second: 2,
+        held: 2,
     };
     let gate = Meeting {
         first: AtomicU64::new(0),
         second: AtomicU64::new(0),
         met: AtomicU64::new(0),
     };
-    let (mut home, mut counts, mut buffer) = (0, [1], [7; 2]);
-    let end = array_phase(
-        &rt, rt.alloc(), &ramp, &gate, plan(2), &mut home, &mut counts, 2, 1, &mut buffer,
-        &mut Tally::new(),
+    let mut buffer = [7; 6];
+    let end = stored(
+        &rt, rt.alloc(), &ramp, &gate, 2, &mut 0, &mut buffer, &mut Tally::new(),
     );
-    assert!(rt; end == Ok(()) && buffer == [0, 1]);
+    assert!(rt; end == Ok(()) && buffer == [0, 0, 0, 1, 1, 1]);
     assert_eq!(rt; gate.met.load(Ordering::SeqCst), 2);
     Ok(())
 }
