@@ -1,5 +1,5 @@
 -- A whole phase.
-use Rattle.std.proofs.Common.{◌≡◌, ℕ, ◌+◌, ◌%◌, ◌^◌, Bool, true, false, List, [], ◌∷◌, ℤ, length, take, Option, Some, None, Result, Ok, Err, refl, sym, ap, subst, ◌∙◌, arith}
+use Rattle.std.proofs.Common.{◌≡◌, ℕ, zero, suc, ◌+◌, ◌<◌, ◌≤◌, Bool, true, false, List, [], ◌∷◌, ℤ, length, take, Option, Some, None, Result, Ok, Err, refl, sym, ap, subst, ◌∙◌, arith}
 use Rattle.std.specs.Prelude.{fold}
 use Rattle.sac_base.specs.declared.base.Base.{Base}
 use Rattle.sac_base.specs.declared.op.Op.{Op}
@@ -10,9 +10,10 @@ use Rattle.wl_core.proofs.FoldLaws.{foldable, elementwise-foldable}
 use Rattle.count_table.specs.Tallied.{PhaseTotals}
 use Rattle.worker_team.specs.declared.plan.Stop.{Stop}
 use Rattle.worker_team.specs.declared.plan.Stop.TheVariants.{Faulted, Memory}
-use Rattle.worker_team.specs.Segments.{value_if, Ran}
+use Rattle.worker_team.specs.Segments.{cells_from, value_if, HasRoom, Ran}
 use Rattle.worker_team.specs.Endings.{IsClosed, IsCombined, one_phase}
 use Rattle.worker_team.proofs.Sequences.{from_first}
+use Rattle.worker_team.proofs.Teams.{rows_of_both}
 
 pub closed : (before after : PhaseTotals) (end : Result Bool Stop) → after ≡ one_phase before → IsClosed before after end
 closed before after (Ok held) e = e
@@ -43,3 +44,16 @@ with_neutral base op takes width cells rows neutral value held r e =
     there : (held : Bool) (x y : List ℤ) → value_if held x ≡ both (combine op) (Some neutral) (Some (take width rows)) → Some y ≡ both (combine op) (Some neutral) (Some (take width rows)) → x ≡ y
     there true x y e f = cc
     there false x y e f = absurd (cc)
+
+-- where a cell is held there is a position
+pub some_held : (base : Base) (op : Op) (width : ℕ) (cell : ℕ → CellValue) (n : ℕ) (rows : List ℤ) → Ran (Fold base op) width (cells_from cell 0 n) rows (Ok true) → 0 < n
+some_held base op width cell zero rows r =
+    let none : r.0 ≡ [] = cc in
+    let e : None ≡ Some (take width rows) = (λ j. combined (combine op) (present (sym none j))) ∙ r.2 in
+    absurd (cc)
+some_held base op width cell (suc n) rows r = omega arith
+
+-- then there is a row
+pub row_held : (base : Base) (op : Op) (width size : ℕ) (cell : ℕ → CellValue) (n : ℕ) (rows : List ℤ) → 1 ≤ size → HasRoom (Fold base op) width size n (length rows) → Ran (Fold base op) width (cells_from cell 0 n) rows (Ok true) → width ≤ length rows
+row_held base op width size cell n rows some room r =
+    (rows_of_both (Fold base op) width size n (width + width) (length rows) (omega arith) (some_held base op width cell n rows r) refl room).1

@@ -98,16 +98,47 @@ pub fn fold_phase<H: Send, C: PhaseCells<H>, G: Gate, R: Threads + Sync>(
     ensures tally { IsTallied tally.old tally.new result }
 {
     let cuts = cut(positions as u64, plan.workers, None);
+    let Ok(mut rows) = blank_rows(alloc, cuts.count as usize, value.len()) else {
+        return Err(Stop::Memory);
+    };
+    run_fold(
+        rt, alloc, cells, gate, home, counts, cuts, base, op, &mut rows, value, tally,
+    )
+}
+
+// Runs a phase that combines its cells, and combines what they come to with the neutral value.
+fn run_fold<H: Send, C: PhaseCells<H>, G: Gate, R: Threads + Sync>(
+    rt: &R,
+    alloc: Global,
+    cells: &C,
+    gate: &G,
+    home: &mut H,
+    counts: &mut [u64],
+    cuts: Cuts,
+    base: Base,
+    op: Op,
+    rows: &mut [Cell],
+    value: &mut [Cell],
+    tally: &mut Tally,
+) -> Result<(), Stop>
+    requires suits { Suits (C.cell cells.now) (C.positions cells.now) (C.width cells.now) (C.shared cells.now) (length counts.old) (record { job = Job.Fold base op; width = length value.old; size = cuts.size }) 0 cuts.positions }
+    requires cuts { (cuts.count ≡ div_ceil cuts.positions cuts.size) × (cuts.count ≤ 64) }
+    requires counts { All (λ n. (1 ≤ n) × (n ≤ 2 ^ 62)) counts.old }
+    requires home { C.open_home cells.now home.old }
+    requires room { HasRoom (Job.Fold base op) (length value.old) cuts.size cuts.positions (length rows.old) }
+    ensures combined { IsCombined op (cells_from (C.cell cells.now) 0 cuts.positions) value.old value.new result }
+    ensures home { C.open_home cells.now home.new }
+    ensures kept { IfOk result (λ _. Costs (C.cost cells.now) 0 cuts.positions (C.kept cells.now home.old) (C.kept cells.now home.new)) }
+    ensures counts { counts.new ≡ counts.old }
+    ensures tally { IsTallied tally.old tally.new result }
+{
     let share = Share {
         job: Job::Fold(base, op),
         width: value.len(),
         size: cuts.size as usize,
     };
-    let Ok(mut rows) = blank_rows(alloc, cuts.count as usize, share.width) else {
-        return Err(Stop::Memory);
-    };
     let end = run_phase(
-        rt, alloc, cells, gate, home, counts, cuts, share, &mut rows, tally,
+        rt, alloc, cells, gate, home, counts, cuts, share, rows, tally,
     );
     match end {
         Ok(held) => {
