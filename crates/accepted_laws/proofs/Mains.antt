@@ -14,14 +14,14 @@ use Rattle.accepted_laws.specs.Stands.{MainStands}
 use Rattle.accepted_laws.proofs.Clean.{nil_left, nil_right, nil2, holds}
 use Rattle.accepted_laws.proofs.Whole.{main_there}
 
-abbrev outer : FunctionTree → List Violation
+abbrev pub outer : FunctionTree → List Violation
 outer g = unless (not g.inline) C8 g.site
 
 not_false : (b : Bool) → not b ≡ true → b ≡ false
 not_false true h = absurd (cc)
 not_false false h = refl
 
-not_inline : (gs : List FunctionTree) (place : ℕ) (f : FunctionTree) → flat_map outer (filter (is_named main_name) gs) ≡ [] → slice_get gs place ≡ Some f → is_main f ≡ true → f.inline ≡ false
+pub not_inline : (gs : List FunctionTree) (place : ℕ) (f : FunctionTree) → flat_map outer (filter (is_named main_name) gs) ≡ [] → slice_get gs place ≡ Some f → is_main f ≡ true → f.inline ≡ false
 not_inline [] place f h e k = absurd (cc)
 not_inline (g ∷ gs) zero f h e k =
     let alike : g ≡ f = cc in

@@ -25,7 +25,7 @@ use Rattle.accepted_laws.proofs.Clean.{nil2, holds}
 pub itself : (x : Name) → bytes_eq x x ≡ true
 itself x = grind (arith, bytes_eq-Decides x x)
 
-flip : (x y : Name) → bytes_eq x y ≡ bytes_eq y x
+pub flip : (x y : Name) → bytes_eq x y ≡ bytes_eq y x
 flip x y = go (bytes_eq x y) refl (bytes_eq y x) refl
   where
     go : (b : Bool) → bytes_eq x y ≡ b → (c : Bool) → bytes_eq y x ≡ c → b ≡ c
