@@ -7,12 +7,12 @@ ghost use Rattle.lowering_laws.specs.Typed.{AreTypedFunctions};
 ghost use Rattle.accepted_laws.specs.Formed.{ProgramFormed};
 ghost use Rattle.accepted_laws.specs.Stands.{MainStands};
 
-/// Law: in an accepted program that is read from a source, each use is of a variable that is bound on every path to it, each call has as many targets as results, and there is a `main`.
+/// Law: in an accepted program of the form that the grammar gives, each use is of a variable that is bound on every path to it, each call has as many targets as results, and there is a `main`.
 pub fn accepted_definite()
     ensures { (p : ProgramTree) → ProgramFormed p → IsAccepted p → IsDefiniteProgram p }
 {}
 
-/// Law: the phrases of an accepted program that is read from a source have the bases that the core asks for: the bases that acceptance finds are those of the list of all bindings.
+/// Law: the phrases of an accepted program of the form that the grammar gives have the bases that the core asks for: the bases that acceptance finds are those of the list of all bindings.
 pub fn accepted_typed()
     ensures { (p : ProgramTree) → ProgramFormed p → IsAccepted p → AreTypedFunctions p.functions p.functions }
 {}
