@@ -1,0 +1,2 @@
+pub mod Accumulated
+pub mod Whole

@@ -1,0 +1,4 @@
+pub mod Behind
+pub mod Building
+pub mod Functions
+pub mod Looks
