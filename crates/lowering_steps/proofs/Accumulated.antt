@@ -1,5 +1,5 @@
 -- Making one binding after another makes what the lowering says.
-use Rattle.std.proofs.Common.{◌≡◌, ℕ, suc, ◌+◌, List, [], ◌∷◌, ◌++◌, length, Option, Some, None, true, false, refl, ap, sym, ◌∙◌, arith}
+use Rattle.std.proofs.Common.{◌≡◌, ℕ, suc, ◌+◌, List, [], ◌∷◌, ◌++◌, length, Option, Some, None, true, false, refl, ap, ◌∙◌, arith}
 use Rattle.std.specs.Prelude.{pos}
 use Rattle.sac_base.specs.declared.base.Base.{Base}
 use Rattle.sac_base.specs.declared.name.Name.{Name}
@@ -13,10 +13,10 @@ use Rattle.core_ir.specs.declared.tree.CoreOp.TheVariants as making
 use Rattle.core_ir.specs.Terms.{PlainTerm, BlockTerm, RightTerm, LetTerm, Gives, Plain, chain}
 use Rattle.core_ir.specs.Terms
 use Rattle.value_meaning.specs.Meaning.{names, default_base}
-use Rattle.lowering_laws.specs.Lowering.{Scope, var_in, numbered, variables_from, pushed, vars_in, once, names_bound, merged, carried, Lowered, LoweredList, LoweredOption, LoweredBlock, LoweredGen, LoweredGens, LoweredOperation, binding, built_in, used, start_of, starts, index_scope, index_names, after_index, first_bound, lowered, lowered_all, lowered_maybe, lowered_bound, lowered_gen, lowered_gens, lowered_operation, lowered_stmt, lowered_block}
+use Rattle.lowering_laws.specs.Lowering.{Scope, var_in, numbered, variables_from, pushed, vars_in, once, names_bound, merged, carried, Lowered, LoweredBlock, binding, built_in, used, start_of, starts, index_scope, index_names, after_index, first_bound, lowered, lowered_all, lowered_maybe, lowered_bound, lowered_gen, lowered_gens, lowered_operation, lowered_stmt, lowered_block}
 use Rattle.lowering_steps.specs.Looks.{Look, with_var, with_vars, vars_of}
 use Rattle.lowering_steps.specs.Behind.{behind, anew, made_of, list_of, option_of, scope_of, gen_of, gens_of, operation_of}
-use Rattle.lowering_steps.specs.Building.{Built, Made, MadeList, MadeOption, MadeScope, MadeNames, MadeBlock, MadeGen, MadeGens, MadeOperation, with_let, bound_at, fresh_at, nested, resumed, use_at, start_at, declared, index_declared, first_var, block_of, block_giving, bound_in, bound_in_both, make_starts, make, make_all, make_maybe, make_bound, make_gen, make_gens, make_operation, make_stmt, make_block}
+use Rattle.lowering_steps.specs.Building.{Built, Made, MadeList, MadeOption, MadeScope, MadeNames, MadeBlock, MadeGen, with_let, bound_at, fresh_at, nested, resumed, use_at, start_at, declared, index_declared, first_var, block_of, block_giving, bound_in_both, make_starts, make, make_all, make_maybe, make_bound, make_gen, make_gens, make_operation, make_stmt, make_block}
 
 -- ---- lists
 
@@ -135,11 +135,11 @@ module _ (group_of : Name → ℕ) (base_of : Expr → Option Base) (base_of_nam
         let s2 = behind s A.lets B.next in
         let r = RightTerm.If A.result (chain B.lets (Gives (B.result ∷ []))) (chain C.lets (Gives (C.result ∷ []))) in
         (λ i. let a = made c sc s i in let b = block_of a.state (M e (var_in sc) (nested a.state)) in let d = block_of b.state (M f (var_in sc) (nested b.state)) in
-          bound_at d.state site (RightTerm.If a.result b.block d.block))
+        bound_at d.state site (RightTerm.If a.result b.block d.block))
         ∙ (λ i. let b = block_of s1 (made e sc (anew A.next) i) in let d = block_of b.state (M f (var_in sc) (nested b.state)) in
-          bound_at d.state site (RightTerm.If A.result b.block d.block))
+        bound_at d.state site (RightTerm.If A.result b.block d.block))
         ∙ (λ i. let d = block_of s2 (made f sc (anew B.next) i) in
-          bound_at d.state site (RightTerm.If A.result (chain B.lets (Gives (B.result ∷ []))) d.block))
+        bound_at d.state site (RightTerm.If A.result (chain B.lets (Gives (B.result ∷ []))) d.block))
         ∙ one_more s A.lets C.next site r
     made (Tree.select e f site) sc s =
         let A = L e sc s.next in
@@ -208,18 +208,18 @@ module _ (group_of : Name → ℕ) (base_of : Expr → Option Base) (base_of_nam
         let B = LB body inner first in
         let C = L cell B.scope B.next in
         let ended : MadeOption → MadeOption → MadeOption → MadeOption → MadeNames → Made → MadeGen = λ l u t w i x.
-            let c = block_of i.state x in
-            record {
-              state = c.state;
-              gen = record {
-                head = record { lower = l.result; lower_closed = lower_closed; upper = u.result; upper_closed = upper_closed; step = t.result; width = w.result; index = numbered w.state.next; names = i.results; site = site };
-                body = c.block;
-              };
-            } in
+        let c = block_of i.state x in
+        record {
+          state = c.state;
+          gen = record {
+            head = record { lower = l.result; lower_closed = lower_closed; upper = u.result; upper_closed = upper_closed; step = t.result; width = w.result; index = numbered w.state.next; names = i.results; site = site };
+            body = c.block;
+          };
+        } in
         let last : MadeOption → MadeOption → MadeOption → MadeOption → MadeNames → MadeGen = λ l u t w i.
-            let b = MB body i.scope (nested i.state) in ended l u t w i (M cell b.scope b.state) in
+        let b = MB body i.scope (nested i.state) in ended l u t w i (M cell b.scope b.state) in
         let go : MadeOption → MadeOption → MadeOption → MadeOption → MadeGen = λ l u t w.
-            let f = fresh_at w.state in last l u t w (index_declared index f.result (var_in sc) f.state) in
+        let f = fresh_at w.state in last l u t w (index_declared index f.result (var_in sc) f.state) in
         let s1 = behind s LO.lets LO.next in
         let s2 = behind s1 UP.lets UP.next in
         let s3 = behind s2 T.lets T.next in
@@ -267,12 +267,12 @@ module _ (group_of : Name → ℕ) (base_of : Expr → Option Base) (base_of_nam
         let B = LB fs sc A.next in
         let C = LB ss sc B.next in
         let last : Made → MadeScope → MadeScope → MadeScope = λ a b d.
-            let both = bound_in_both b.scope d.scope (once [] (names_bound fs ++ names_bound ss)) in
-            let t = declared both (var_in sc) (resumed a.state d.state) in
-            record {
-              state = with_let t.state t.results site (RightTerm.If a.result (chain b.state.lets (Gives (vars_of b.scope both))) (chain d.state.lets (Gives (vars_of d.scope both))));
-              scope = t.scope;
-            } in
+        let both = bound_in_both b.scope d.scope (once [] (names_bound fs ++ names_bound ss)) in
+        let t = declared both (var_in sc) (resumed a.state d.state) in
+        record {
+          state = with_let t.state t.results site (RightTerm.If a.result (chain b.state.lets (Gives (vars_of b.scope both))) (chain d.state.lets (Gives (vars_of d.scope both))));
+          scope = t.scope;
+        } in
         let both = merged (names_bound fs ++ names_bound ss) B.scope C.scope in
         (λ i. let a = made c sc s i in let b = MB fs (var_in sc) (nested a.state) in last a b (MB ss (var_in sc) (nested b.state)))
         ∙ (λ i. let b = made_block fs sc (anew A.next) i in last (made_of s A) b (MB ss (var_in sc) (nested b.state)))
@@ -286,8 +286,8 @@ module _ (group_of : Name → ℕ) (base_of : Expr → Option Base) (base_of_nam
         let B = LB body inside T.next in
         let after : ℕ → Built = λ m. record { lets = s.lets; next = m } in
         let last : MadeNames → MadeBlock → MadeBlock → MadeScope = λ p t b.
-            let d = declared all (var_in sc) b.state in
-            record { state = with_let d.state d.results site (RightTerm.Loop false (vars_in sc all) p.results t.block b.block site); scope = d.scope } in
+        let d = declared all (var_in sc) b.state in
+        record { state = with_let d.state d.results site (RightTerm.Loop false (vars_in sc all) p.results t.block b.block site); scope = d.scope } in
         (λ i. let p = declared_is all sc s i in let t = block_of p.state (M c p.scope (nested p.state)) in last p t (block_giving all t.state (MB body p.scope (nested t.state))))
         ∙ (λ i. let t = block_of (after (n + length all)) (made c inside (anew (n + length all)) i) in last (taken all sc s) t (block_giving all t.state (MB body (var_in inside) (nested t.state))))
         ∙ (λ i. last (taken all sc s) (record { state = after T.next; block = chain T.lets (Gives (T.result ∷ [])) }) (block_giving all (after T.next) (made_block body inside (anew T.next) i)))
@@ -301,10 +301,10 @@ module _ (group_of : Name → ℕ) (base_of : Expr → Option Base) (base_of_nam
         let T = L c inside B.next in
         let after : ℕ → Built = λ m. behind s S.lets m in
         let last : MadeList → MadeNames → MadeBlock → MadeBlock → MadeScope = λ x p b t.
-            let d = declared all (var_in sc) t.state in
-            record { state = with_let d.state d.results site (RightTerm.Loop true x.results p.results t.block b.block test); scope = d.scope } in
+        let d = declared all (var_in sc) t.state in
+        record { state = with_let d.state d.results site (RightTerm.Loop true x.results p.results t.block b.block test); scope = d.scope } in
         let go : MadeList → MadeNames → MadeScope = λ x p.
-            let b = block_giving all p.state (MB body p.scope (nested p.state)) in last x p b (block_of b.state (M c p.scope (nested b.state))) in
+        let b = block_giving all p.state (MB body p.scope (nested p.state)) in last x p b (block_of b.state (M c p.scope (nested b.state))) in
         (λ i. let x = starts_made base_of_name site all sc s i in go x (declared all (var_in sc) x.state))
         ∙ (λ i. go (list_of s S) (declared_is all sc (after S.next) i))
         ∙ (λ i. let b = block_giving all (after (S.next + length all)) (made_block body inside (anew (S.next + length all)) i) in last (list_of s S) (taken all sc (after S.next)) b (block_of b.state (M c (var_in inside) (nested b.state))))

@@ -1,5 +1,5 @@
 -- What a function becomes is what its parameters, its block and its values make.
-use Rattle.std.proofs.Common.{◌≡◌, ℕ, suc, ◌+◌, List, [], ◌∷◌, ◌++◌, length, map, Option, refl, ◌∙◌, arith}
+use Rattle.std.proofs.Common.{◌≡◌, ℕ, suc, ◌+◌, List, [], ◌∷◌, length, map, Option, ◌∙◌, arith}
 use Rattle.sac_base.specs.declared.base.Base.{Base}
 use Rattle.sac_base.specs.declared.name.Name.{Name}
 use Rattle.sac_ast.specs.declared.Param.{Param}
@@ -9,7 +9,6 @@ use Rattle.core_ir.specs.Terms.{FunTerm, Gives, chain}
 use Rattle.value_meaning.specs.Calls.{param_names}
 use Rattle.lowering_laws.specs.Lowering.{Scope, var_in, numbered, pushed, lowered_block}
 use Rattle.lowering_laws.specs.Programs.{group_of, name_base, lowered_params, lowered_function}
-use Rattle.lowering_steps.specs.Looks.{unbound}
 use Rattle.lowering_steps.specs.Building.{Built, MadeList, make_block, make_all}
 use Rattle.lowering_steps.specs.Behind.{anew}
 use Rattle.lowering_steps.specs.Functions.{MadeParams, params_declared, function_by, function_made}
@@ -45,14 +44,14 @@ module _ (group_of_name : Name → ℕ) (base_of : Expr → Option Base) (base_o
       let sc = pushed xs 0 [] in
       let B = lowered_block group_of_name base_of base_of_name f.body sc n in
       let ended : MadeParams → MadeList → FunTerm = λ p v. record {
-            name = f.name;
-            site = f.site;
-            params = p.params;
-            results = f.results;
-            is_inline = f.inline;
-            body = chain v.state.lets (Gives v.results);
-            ends = f.ends;
-          } in
+        name = f.name;
+        site = f.site;
+        params = p.params;
+        results = f.results;
+        is_inline = f.inline;
+        body = chain v.state.lets (Gives v.results);
+        ends = f.ends;
+      } in
       let zero_more : 0 + n ≡ n = omega arith in
       let from : ℕ → MadeParams = λ m. record { state = anew m; params = lowered_params 0 f.params; scope = var_in sc } in
       let go : MadeParams → FunTerm = λ q. let b = make_block group_of_name base_of base_of_name f.body q.scope q.state in ended q (make_all group_of_name base_of base_of_name f.values b.scope b.state) in

@@ -2,3 +2,4 @@ pub mod Behind
 pub mod Building
 pub mod Functions
 pub mod Looks
+pub mod Parts
