@@ -1,7 +1,11 @@
 -- Steps of loops: what is made so far, before what the rest makes, is the whole.
-use Rattle.std.proofs.Common.{◌≡◌, ℕ, suc, List, [], ◌∷◌, ◌++◌, Bool, true, false, ◌||◌, cond, Option, refl, sym, subst, ◌∙◌}
-use Rattle.std.specs.Prelude.{bytes_eq, filter, if◌then◌else◌}
+use Rattle.std.proofs.Common.{◌≡◌, ℕ, suc, ◌+◌, Bool, true, false, ◌||◌, cond, List, [], ◌∷◌, ◌++◌, map, length, Option, Some, None, refl, sym, subst, ◌∙◌, arith}
+use Rattle.std.specs.Prelude.{bytes_eq, filter, if◌then◌else◌, position, unwrap_or, nat_lt, not}
+use Rattle.std.specs.List.{position_or_len}
+use Rattle.std.proofs.lemmas.Bool.{ltb-false}
 use Rattle.std.proofs.lemmas.List.{append_assoc, append-nil}
+use Rattle.std.proofs.lemmas.List.Recursion.{is_position_or_len}
+use Rattle.std.proofs.lemmas.List.Sums.{prefix_len-le-length}
 use Rattle.std.proofs.lemmas.Slice.Eq.{bytes_eq-Decides}
 use Rattle.sac_base.specs.declared.base.Base.{Base}
 use Rattle.sac_base.specs.declared.name.Name.{Name}
@@ -13,7 +17,7 @@ use Rattle.core_ir.specs.declared.tree.Var.{Var}
 use Rattle.core_ir.specs.Terms.{GenTerm, GensTerm, NoGens, gens_of}
 use Rattle.core_ir.specs.Terms
 use Rattle.lowering_laws.specs.Lowering.{has_name, once}
-use Rattle.lowering_laws.specs.Programs.{places_of}
+use Rattle.lowering_laws.specs.Programs.{place_in, places_of}
 use Rattle.lowering_steps.specs.Looks.{Look, with_var}
 use Rattle.lowering_steps.specs.Building.{Built, Made, MadeList, MadeNames, MadeScope, MadeGen, MadeGens, fresh_at, start_at, declared, make_starts, make, make_all, make_gen, make_gens, make_stmt, make_block}
 use Rattle.lowering_steps.specs.Functions.{MadeParams, params_declared}
@@ -130,7 +134,24 @@ module _ (G : Name → ℕ) (B : Expr → Option Base) (N : Name → Base) where
 
 -- ---- programs
 
--- a name that is not the first is one place further
+-- the place of a name among keys is the first at which a search by the name's test stops, or their number
+pub place_is : {K : Type 0} (text : K → Name) (ks : List K) (x : Name) → place_in (map text ks) x ≡ unwrap_or (position (λ k. bytes_eq x (text k)) ks) (length ks)
+place_is {K} text ks x =
+    is_position_or_len (λ l. place_in (map text l) x) test refl step ks ∙ sym (go (nat_lt (position_or_len test ks) (length ks)) refl)
+  where
+    test : K → Bool
+    test k = bytes_eq x (text k)
+
+    step : (y : K) (ys : List K) → place_in (map text (y ∷ ys)) x ≡ cond (test y) 0 (1 + place_in (map text ys) x)
+    step y ys = let e : suc (place_in (map text ys) x) ≡ 1 + place_in (map text ys) x = omega arith in λ i. cond (test y) 0 (e i)
+
+    go : (b : Bool) → nat_lt (position_or_len test ks) (length ks) ≡ b → unwrap_or (cond b (Some (position_or_len test ks)) None) (length ks) ≡ position_or_len test ks
+    go true e = refl
+    go false e =
+        let few = prefix_len-le-length (λ k. not (test k)) ks in
+        let many = ltb-false (position_or_len test ks) (length ks) e in
+        omega (arith, few, many)
+
 pub places_take : (done : List ℕ) (x : Name) (i : ℕ) (f : FunctionTree) (fs : List FunctionTree) → bytes_eq f.name x ≡ true → (done ++ (i ∷ [])) ++ places_of x (suc i) fs ≡ done ++ places_of x i (f ∷ fs)
 places_take done x i f fs h = one_on done i (places_of x (suc i) fs) ∙ sym (λ j. done ++ cond (h j) (i ∷ places_of x (suc i) fs) (places_of x (suc i) fs))
 
