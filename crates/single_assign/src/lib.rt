@@ -9,3 +9,8 @@ mod program;
 mod scope;
 
 pub use program::to_core;
+
+#[cfg(test)]
+mod tests;
+#[cfg(test)]
+mod text;
