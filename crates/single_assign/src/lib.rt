@@ -9,8 +9,3 @@ mod program;
 mod scope;
 
 pub use program::to_core;
-
-#[cfg(test)]
-mod tests;
-#[cfg(test)]
-mod text;
