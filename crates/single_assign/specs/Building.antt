@@ -1,0 +1,228 @@
+-- The lowering as it goes: bindings are added to those that are there, and numbers are taken one after another.
+use Rattle.std.specs.Prelude.{ℕ, suc, ◌+◌, List, [], ◌∷◌, ◌++◌, map, length, Option, Some, None, true, false, pos}
+use Rattle.sac_base.specs.declared.base.Base.{Base}
+use Rattle.sac_base.specs.declared.base.Base.TheVariants.{Int, Bool as Truth}
+use Rattle.sac_base.specs.declared.name.Name.{Name}
+use Rattle.sac_base.specs.declared.site.Site.{Site}
+use Rattle.sac_base.specs.Arrays.{scalar}
+use Rattle.sac_base.specs.Operators.{of_truth}
+use Rattle.sac_ast.specs.declared.Target.{Target}
+use Rattle.sac_ast.specs.Tree.{IndexTree, named, parts, Expr, Exprs, no_exprs, expr_and, MaybeExpr, left_out, given, Stmt, Block, no_stmts, stmt_and, BoundTree, dot, at, Gen, gen, Gens, no_gens, gen_and, OperationTree, number, truth, variable, choice, call, builtin, with_loop, assign, if_else, while_do, do_while, genarray, modarray}
+use Rattle.sac_ast.specs.Tree
+use Rattle.core_ir.specs.declared.tree.Var.{Var}
+use Rattle.core_ir.specs.declared.tree.CoreOp.{CoreOp}
+use Rattle.core_ir.specs.declared.tree.CoreOp.TheVariants as making
+use Rattle.core_ir.specs.Terms.{PlainTerm, BlockTerm, RightTerm, GensTerm, GenHead, LetTerm, Gives, Plain, NoGens, chain}
+use Rattle.core_ir.specs.Terms
+use Rattle.core_ir.specs.Meaning.{missing}
+use Rattle.value_meaning.specs.Meaning.{names, default_base}
+use Rattle.lowering_laws.specs.Lowering.{Scope, var_in, numbered, variables_from, pushed, vars_in, once, names_bound, merged, carried, binding, built_in, index_scope, index_names, after_index, first_bound}
+
+-- the bindings that are made, and the number of the next variable
+pub record Built : Type 0 where
+  pub lets : List LetTerm
+  pub next : ℕ
+
+pub record Made : Type 0 where
+  pub state : Built
+  pub result : Var
+
+pub record MadeList : Type 0 where
+  pub state : Built
+  pub results : List Var
+
+pub record MadeOption : Type 0 where
+  pub state : Built
+  pub result : Option Var
+
+pub record MadeScope : Type 0 where
+  pub state : Built
+  pub scope : Scope
+
+pub record MadeGen : Type 0 where
+  pub state : Built
+  pub head : GenHead
+  pub body : BlockTerm
+
+pub record MadeGens : Type 0 where
+  pub state : Built
+  pub gens : GensTerm
+
+pub record MadeOperation : Type 0 where
+  pub state : Built
+  pub op : CoreOp
+  pub site : Site
+
+-- a binding more
+abbrev pub with_let : Built → List Var → Site → RightTerm → Built
+with_let s targets site right = record { lets = s.lets ++ (record { targets = targets; site = site; right = right } ∷ []); next = s.next }
+
+-- a binding more of a new variable
+abbrev pub bound_at : Built → Site → RightTerm → Made
+bound_at s site right = record { state = record { lets = s.lets ++ (binding (numbered s.next) site right ∷ []); next = suc s.next }; result = numbered s.next }
+
+-- no bindings, with new variables from here on
+abbrev pub nested : Built → Built
+nested s = record { lets = []; next = s.next }
+
+-- goes on with the variables after those of another
+abbrev pub resumed : Built → Built → Built
+resumed s inner = record { lets = s.lets; next = inner.next }
+
+-- so many numbers are taken
+abbrev pub skipped : Built → ℕ → Built
+skipped s count = record { lets = s.lets; next = s.next + count }
+
+abbrev pub use_at : Built → Site → Option Var → Made
+use_at s site None = bound_at s site (Plain (PlainTerm.Const missing))
+use_at s site (Some x) = record { state = s; result = x }
+
+abbrev pub start_at : Base → Built → Site → Option Var → Made
+start_at base s site None = bound_at s site (Plain (PlainTerm.Const (scalar base (pos 0))))
+start_at base s site (Some x) = record { state = s; result = x }
+
+abbrev pub make_starts : (Name → Base) → Site → List Name → Scope → Built → MadeList
+make_starts base_of_name site [] scope s = record { state = s; results = [] }
+make_starts base_of_name site (x ∷ xs) scope s =
+    let a = start_at (base_of_name x) s site (var_in scope x) in
+    let b = make_starts base_of_name site xs scope a.state in
+    record { state = b.state; results = a.result ∷ b.results }
+
+module _ (group_of : Name → ℕ) (base_of : Expr → Option Base) (base_of_name : Name → Base) where
+  abbrev mutual
+    pub make : Expr → Scope → Built → Made
+    make (number z site) scope s = bound_at s site (Plain (PlainTerm.Const (scalar Int z)))
+    make (truth b site) scope s = bound_at s site (Plain (PlainTerm.Const (scalar Truth (of_truth b))))
+    make (variable name site) scope s = use_at s site (var_in scope name)
+    make (Tree.literal es site) scope s =
+        let a = make_all es scope s in
+        bound_at a.state site (Plain (PlainTerm.Literal a.results))
+    make (Tree.unary op e site) scope s =
+        let a = make e scope s in
+        bound_at a.state site (Plain (PlainTerm.Unary op a.result))
+    make (Tree.binary op e f site) scope s =
+        let a = make e scope s in
+        let b = make f scope a.state in
+        bound_at b.state site (Plain (PlainTerm.Binary op a.result b.result))
+    make (choice c e f site) scope s =
+        let a = make c scope s in
+        let b = make e scope (nested a.state) in
+        let d = make f scope (nested b.state) in
+        bound_at (resumed a.state d.state) site (RightTerm.If a.result (chain b.state.lets (Gives (b.result ∷ []))) (chain d.state.lets (Gives (d.result ∷ []))))
+    make (Tree.select e i site) scope s =
+        let a = make e scope s in
+        let b = make i scope a.state in
+        bound_at b.state site (Plain (PlainTerm.Select a.result b.result))
+    make (call name es site) scope s =
+        let a = make_all es scope s in
+        bound_at a.state site (RightTerm.Call (group_of name) a.results)
+    make (builtin b es site) scope s =
+        let a = make_all es scope s in
+        bound_at a.state site (Plain (built_in b a.results))
+    make (with_loop gs op site) scope s =
+        let a = make_gens gs scope s in
+        let b = make_operation op (default_base base_of gs) scope a.state in
+        bound_at b.state b.site (RightTerm.With b.op a.gens)
+
+    pub make_all : Exprs → Scope → Built → MadeList
+    make_all no_exprs scope s = record { state = s; results = [] }
+    make_all (expr_and e es) scope s =
+        let a = make e scope s in
+        let b = make_all es scope a.state in
+        record { state = b.state; results = a.result ∷ b.results }
+
+    pub make_maybe : MaybeExpr → Scope → Built → MadeOption
+    make_maybe left_out scope s = record { state = s; result = None }
+    make_maybe (given e) scope s = let a = make e scope s in record { state = a.state; result = Some a.result }
+
+    pub make_bound : BoundTree → Scope → Built → MadeOption
+    make_bound (dot site) scope s = record { state = s; result = None }
+    make_bound (at e) scope s = let a = make e scope s in record { state = a.state; result = Some a.result }
+
+    pub make_gen : Gen → Scope → Built → MadeGen
+    make_gen (gen lower lower_closed index upper upper_closed step width body cell site) scope s =
+        let l = make_bound lower scope s in
+        let u = make_bound upper scope l.state in
+        let t = make_maybe step scope u.state in
+        let w = make_maybe width scope t.state in
+        let b = make_block body (index_scope index w.state.next scope) (record { lets = []; next = after_index index w.state.next }) in
+        let c = make cell b.scope b.state in
+        record {
+          state = resumed w.state c.state;
+          head = record { lower = l.result; lower_closed = lower_closed; upper = u.result; upper_closed = upper_closed; step = t.result; width = w.result; index = numbered w.state.next; names = index_names index w.state.next; site = site };
+          body = chain c.state.lets (Gives (c.result ∷ []));
+        }
+
+    pub make_gens : Gens → Scope → Built → MadeGens
+    make_gens no_gens scope s = record { state = s; gens = NoGens }
+    make_gens (gen_and g gs) scope s =
+        let a = make_gen g scope s in
+        let b = make_gens gs scope a.state in
+        record { state = b.state; gens = Terms.Gen a.head a.body b.gens }
+
+    pub make_operation : OperationTree → Base → Scope → Built → MadeOperation
+    make_operation (genarray shape left_out site) base scope s =
+        let a = make shape scope s in
+        let b = bound_at a.state site (Plain (PlainTerm.Const (scalar base (pos 0)))) in
+        record { state = b.state; op = making.Genarray a.result b.result; site = site }
+    make_operation (genarray shape (given e) site) base scope s =
+        let a = make shape scope s in
+        let b = make e scope a.state in
+        record { state = b.state; op = making.Genarray a.result b.result; site = site }
+    make_operation (modarray array site) base scope s =
+        let a = make array scope s in
+        record { state = a.state; op = making.Modarray a.result; site = site }
+    make_operation (Tree.fold op neutral site) base scope s =
+        let a = make neutral scope s in
+        record { state = a.state; op = making.Fold op a.result; site = site }
+
+    pub make_stmt : Stmt → Scope → Built → MadeScope
+    make_stmt (assign targets (call name es site)) scope s =
+        let a = make_all es scope s in
+        record {
+          state = with_let (skipped a.state (length (names targets))) (variables_from a.state.next (length (names targets))) site (RightTerm.Call (group_of name) a.results);
+          scope = pushed (names targets) a.state.next scope;
+        }
+    make_stmt (assign targets e) scope s =
+        let a = make e scope s in
+        record { state = a.state; scope = first_bound targets a.result scope }
+    make_stmt (Tree.replace target bracket index e) scope s =
+        let i = make index scope s in
+        let v = make e scope i.state in
+        let a = use_at v.state bracket (var_in scope target.name) in
+        let r = bound_at a.state bracket (Plain (PlainTerm.Replace a.result i.result v.result)) in
+        record { state = r.state; scope = (target.name, r.result) ∷ scope }
+    make_stmt (if_else c first second site) scope s =
+        let a = make c scope s in
+        let b = make_block first scope (nested a.state) in
+        let d = make_block second scope (nested b.state) in
+        let both = merged (names_bound first ++ names_bound second) b.scope d.scope in
+        record {
+          state = with_let (skipped (resumed a.state d.state) (length both)) (variables_from d.state.next (length both)) site (RightTerm.If a.result (chain b.state.lets (Gives (vars_in b.scope both))) (chain d.state.lets (Gives (vars_in d.scope both))));
+          scope = pushed both d.state.next scope;
+        }
+    make_stmt (while_do c body site) scope s =
+        let all = carried (names_bound body) scope in
+        let inside = pushed all s.next scope in
+        let t = make c inside (nested (skipped s (length all))) in
+        let b = make_block body inside (nested t.state) in
+        record {
+          state = with_let (skipped (resumed s b.state) (length all)) (variables_from b.state.next (length all)) site (RightTerm.Loop false (vars_in scope all) (variables_from s.next (length all)) (chain t.state.lets (Gives (t.result ∷ []))) (chain b.state.lets (Gives (vars_in b.scope all))) site);
+          scope = pushed all b.state.next scope;
+        }
+    make_stmt (do_while body c site test) scope s =
+        let all = once [] (names_bound body) in
+        let i = make_starts base_of_name site all scope s in
+        let inside = pushed all i.state.next scope in
+        let b = make_block body inside (nested (skipped i.state (length all))) in
+        let t = make c inside (nested b.state) in
+        record {
+          state = with_let (skipped (resumed i.state t.state) (length all)) (variables_from t.state.next (length all)) site (RightTerm.Loop true i.results (variables_from i.state.next (length all)) (chain t.state.lets (Gives (t.result ∷ []))) (chain b.state.lets (Gives (vars_in b.scope all))) test);
+          scope = pushed all t.state.next scope;
+        }
+
+    pub make_block : Block → Scope → Built → MadeScope
+    make_block no_stmts scope s = record { state = s; scope = scope }
+    make_block (stmt_and st rest) scope s =
+        let a = make_stmt st scope s in
+        make_block rest a.scope a.state
