@@ -1,1 +1,4 @@
+pub mod Looks
 pub mod Building
+pub mod Views
+pub mod Functions

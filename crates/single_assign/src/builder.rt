@@ -1,5 +1,11 @@
 //! Bindings of the core that are made one after another.
 
+ghost use Rattle.std.specs.Prelude.{◌≡◌, [], IfOk, OnOk};
+ghost use Rattle.core_ir.specs.Terms.{Gives, chain};
+ghost use Rattle.core_ir.specs.View.{block_term, right_term};
+ghost use Rattle.single_assign.specs.Building.{Built, bound_at, fresh_at, nested, resumed, with_let};
+ghost use Rattle.single_assign.specs.Views.{built, made};
+
 use core_ir::{Block, Let, Right, Var};
 use sac_base::{Memory, Site};
 use std::alloc::Global;
@@ -12,7 +18,9 @@ pub struct Builder {
 }
 
 impl Builder {
-    pub fn new(alloc: Global) -> Builder {
+    pub fn new(alloc: Global) -> Builder
+        ensures { built result ≡ record { lets = []; next = 0 } }
+    {
         Builder {
             lets: Vec::new(alloc),
             next: 0,
@@ -20,7 +28,9 @@ impl Builder {
     }
 
     /// A new variable. Where there is no more number of 32 bits, memory is wanting.
-    pub fn fresh(&mut self) -> Result<Var, Memory> {
+    pub fn fresh(&mut self) -> Result<Var, Memory>
+        ensures { IfOk result (λ x. made (built self.new) x ≡ fresh_at (built self.old)) }
+    {
         match u32::try_from(self.next) {
             Ok(number) => {
                 self.next = u64::from(number) + 1;
@@ -31,7 +41,9 @@ impl Builder {
     }
 
     /// Binds variables.
-    pub fn push(&mut self, targets: Vec<Var>, site: Site, right: Right) -> Result<(), Memory> {
+    pub fn push(&mut self, targets: Vec<Var>, site: Site, right: Right) -> Result<(), Memory>
+        ensures { OnOk result (built self.new ≡ with_let (built self.old) targets.items site (right_term right)) }
+    {
         self.lets.push(Let {
             targets,
             site,
@@ -41,7 +53,9 @@ impl Builder {
     }
 
     /// Binds a new variable.
-    pub fn bind(&mut self, alloc: Global, site: Site, right: Right) -> Result<Var, Memory> {
+    pub fn bind(&mut self, alloc: Global, site: Site, right: Right) -> Result<Var, Memory>
+        ensures { IfOk result (λ x. made (built self.new) x ≡ bound_at (built self.old) site (right_term right)) }
+    {
         let var = self.fresh()?;
         let targets = Vec::from_slice(alloc, &[var])?;
         self.push(targets, site, right)?;
@@ -49,7 +63,9 @@ impl Builder {
     }
 
     /// No bindings, with new variables from here on.
-    pub fn nested(&self, alloc: Global) -> Builder {
+    pub fn nested(&self, alloc: Global) -> Builder
+        ensures { built result ≡ nested (built self.now) }
+    {
         Builder {
             lets: Vec::new(alloc),
             next: self.next,
@@ -57,12 +73,16 @@ impl Builder {
     }
 
     /// Goes on with the variables after those of another.
-    pub fn resume(&mut self, other: &Builder) {
+    pub fn resume(&mut self, other: &Builder)
+        ensures { built self.new ≡ resumed (built self.old) (built other.now) }
+    {
         self.next = other.next;
     }
 
     /// The block of the bindings, which gives these variables.
-    pub fn finish(self, results: Vec<Var>) -> Block {
+    pub fn finish(self, results: Vec<Var>) -> Block
+        ensures { block_term result ≡ chain (built self).lets (Gives results.items) }
+    {
         let Builder { lets, .. } = self;
         Block { lets, results }
     }

@@ -1,10 +1,21 @@
 //! Expressions and statements as bindings of the core.
 
+ghost use Rattle.std.specs.Prelude.{◌≡◌, IfOk, OnOk, pos, length};
+ghost use Rattle.sac_base.specs.Arrays.{scalar};
+ghost use Rattle.sac_ast.specs.Tree;
+ghost use Rattle.sac_ast.specs.View.{expr, exprs, maybe, bound, index_view, generator, generators, operation, stmt, block};
+ghost use Rattle.core_ir.specs.Terms.{Plain, PlainTerm};
+ghost use Rattle.core_ir.specs.View.{block_term, gen_term, right_term};
+ghost use Rattle.lowering_laws.specs.Lowering.{built_in as built_in_value};
+ghost use Rattle.single_assign.specs.Building.{block_giving, block_of, bound_at, first_var, given_bound, index_declared, nested, start_at, use_at};
+ghost use Rattle.single_assign.specs.Looks.{look, texts};
+ghost use Rattle.single_assign.specs.Views.{built, made, made_list, made_option, made_scope, made_names, made_block, made_gen, made_gens, made_operation, make_in, make_all_in, make_maybe_in, make_bound_in, make_gen_in, make_gens_in, make_operation_in, make_stmt_in, make_block_in, make_inside_in, make_cell_in, make_default_in, make_starts_in, make_if_in, make_while_in, make_do_in, made_given, name_base_in};
+
 use crate::builder::Builder;
 use crate::context::Context;
-use crate::names::{add_block, known, known_in_both, names_of, once};
+use crate::names::{known, known_in_both, names_of, once_bound, once_bound_in_either};
 use crate::scope::Scope;
-use core_ir::{CoreGen, CoreOp, Right, Var, WithLoop};
+use core_ir::{Block, CoreGen, CoreOp, Right, Var, WithLoop};
 use sac_ast::{Bound, Builtin, Expression, Generator, Index, Operation, Statement, Target};
 use sac_base::{Array, Base, Cell, FaultKind, Memory, Name, Site};
 
@@ -15,51 +26,100 @@ pub struct Making {
     pub site: Site,
 }
 
+/// The names that a conditional or a loop gives new variables, and the right side that they are bound to.
+#[derive(Drop)]
+pub struct Given<'n> {
+    pub names: Vec<&'n str>,
+    pub right: Right,
+}
+
 fn constant(
     cx: &Context<'_>,
     base: Base,
     n: Cell,
     site: Site,
     out: &mut Builder,
-) -> Result<Var, Memory> {
+) -> Result<Var, Memory>
+    ensures { IfOk result (λ x. made (built out.new) x ≡ bound_at (built out.old) site (Plain (PlainTerm.Const (scalar base n)))) }
+{
     let array = Array::scalar(cx.alloc, base, n)?;
     out.bind(cx.alloc, site, Right::Const(array))
 }
 
-/// The variable of a name. One that has none is 0.
+// The variable of a name. One that has none is 0.
 fn used(
     cx: &Context<'_>,
     name: &Name,
     site: Site,
     scope: &Scope<'_>,
     out: &mut Builder,
-) -> Result<Var, Memory> {
-    match scope.find(name) {
+) -> Result<Var, Memory>
+    ensures { IfOk result (λ x. made (built out.new) x ≡ use_at (built out.old) site (look scope.now name.now)) }
+{
+    match scope.find(name.as_str()) {
         Some(var) => Ok(var),
         None => constant(cx, Base::Int, 0, site, out),
     }
 }
 
-fn built_in(builtin: Builtin, vars: &[Var]) -> Right {
-    match (builtin, vars) {
-        (Builtin::Dim, [x, ..]) => Right::Dim(*x),
-        (Builtin::Shape, [x, ..]) => Right::ShapeOf(*x),
-        (Builtin::Reshape, [x, y, ..]) => Right::Reshape(*x, *y),
-        _ => Right::Always(FaultKind::F4),
+fn built_in(builtin: Builtin, vars: &[Var]) -> Right
+    ensures { right_term result ≡ Plain (built_in_value builtin vars.now) }
+{
+    match builtin {
+        Builtin::Dim => match vars {
+            [x, ..] => Right::Dim(*x),
+            _ => Right::Always(FaultKind::F4),
+        },
+        Builtin::Shape => match vars {
+            [x, ..] => Right::ShapeOf(*x),
+            _ => Right::Always(FaultKind::F4),
+        },
+        Builtin::Reshape => match vars {
+            [x, y, ..] => Right::Reshape(*x, *y),
+            _ => Right::Always(FaultKind::F4),
+        },
     }
 }
 
-fn only(cx: &Context<'_>, var: Var) -> Result<Vec<Var>, Memory> {
-    Ok(Vec::from_slice(cx.alloc, &[var])?)
+// The block of what was made inside, which gives a variable.
+fn close(
+    cx: &Context<'_>,
+    inner: Builder,
+    var: Var,
+    out: &mut Builder,
+) -> Result<Block, Memory>
+    ensures { IfOk result (λ b. made_block (built out.new) (block_term b) ≡ block_of (built out.old) (made (built inner) var)) }
+{
+    let results = Vec::from_slice(cx.alloc, &[var])?;
+    out.resume(&inner);
+    Ok(inner.finish(results))
 }
 
-#[cycle(lowering)]
-pub fn lower<'a>(
-    e: &'a Expression,
-    cx: &Context<'a>,
-    scope: &Scope<'a>,
+// The block of what was made inside, which gives the variables of names.
+fn close_giving(
+    cx: &Context<'_>,
+    inner: Builder,
+    names: &[&str],
+    scope: &Scope<'_>,
     out: &mut Builder,
-) -> Result<Var, Memory> {
+) -> Result<Block, Memory>
+    ensures { IfOk result (λ b. made_block (built out.new) (block_term b) ≡ block_giving (texts names.now) (built out.old) (made_scope (built inner) (look scope.now))) }
+{
+    let results = scope.vars(cx.alloc, names)?;
+    out.resume(&inner);
+    Ok(inner.finish(results))
+}
+
+/// Binds what an expression needs, and tells the variable that has its value.
+#[cycle(lowering)]
+pub fn lower(
+    e: &Expression,
+    cx: &Context<'_>,
+    scope: &Scope<'_>,
+    out: &mut Builder,
+) -> Result<Var, Memory>
+    ensures { IfOk result (λ x. made (built out.new) x ≡ make_in cx.now (expr e.now) (look scope.now) (built out.old)) }
+{
     match e {
         Expression::Number(n, site) => constant(cx, Base::Int, *n, *site, out),
         Expression::Truth(b, site) => constant(cx, Base::Bool, i32::from(*b), *site, out),
@@ -79,13 +139,8 @@ pub fn lower<'a>(
         }
         Expression::Choice(c, left, right, site) => {
             let cond = lower(c, cx, scope, out)?;
-            let mut first = out.nested(cx.alloc);
-            let x = lower(left, cx, scope, &mut first)?;
-            let mut second = first.nested(cx.alloc);
-            let y = lower(right, cx, scope, &mut second)?;
-            out.resume(&second);
-            let yes = first.finish(only(cx, x)?);
-            let no = second.finish(only(cx, y)?);
+            let yes = lower_inside(left, cx, scope, out)?;
+            let no = lower_inside(right, cx, scope, out)?;
             out.bind(cx.alloc, *site, Right::If { cond, yes, no })
         }
         Expression::Select(array, index, site) => {
@@ -106,22 +161,22 @@ pub fn lower<'a>(
             let gens = lower_generators(gs, cx, scope, out)?;
             let base = cx.default_base(gs)?;
             let making = lower_operation(op, base, cx, scope, out)?;
-            let right = Right::With(WithLoop {
-                gens,
-                op: making.op,
-            });
-            out.bind(cx.alloc, making.site, right)
+            let op = making.op;
+            out.bind(cx.alloc, making.site, Right::With(WithLoop { gens, op }))
         }
     }
 }
 
+/// The variables of expressions, from left to right.
 #[cycle(lowering)]
-pub fn lower_all<'a>(
-    es: &'a [Expression],
-    cx: &Context<'a>,
-    scope: &Scope<'a>,
+pub fn lower_all(
+    es: &[Expression],
+    cx: &Context<'_>,
+    scope: &Scope<'_>,
     out: &mut Builder,
-) -> Result<Vec<Var>, Memory> {
+) -> Result<Vec<Var>, Memory>
+    ensures { IfOk result (λ v. made_list (built out.new) v.items ≡ make_all_in cx.now (exprs es.now) (look scope.now) (built out.old)) }
+{
     let mut vars = Vec::new(cx.alloc);
     for e in es {
         let x = lower(e, cx, scope, out)?;
@@ -130,13 +185,30 @@ pub fn lower_all<'a>(
     Ok(vars)
 }
 
+// The block of an expression.
 #[cycle(lowering)]
-fn lower_maybe<'a>(
-    e: &'a Option<Expression>,
-    cx: &Context<'a>,
-    scope: &Scope<'a>,
+fn lower_inside(
+    e: &Expression,
+    cx: &Context<'_>,
+    scope: &Scope<'_>,
     out: &mut Builder,
-) -> Result<Option<Var>, Memory> {
+) -> Result<Block, Memory>
+    ensures { IfOk result (λ b. made_block (built out.new) (block_term b) ≡ make_inside_in cx.now (expr e.now) (look scope.now) (built out.old)) }
+{
+    let mut inner = out.nested(cx.alloc);
+    let x = lower(e, cx, scope, &mut inner)?;
+    close(cx, inner, x, out)
+}
+
+#[cycle(lowering)]
+fn lower_maybe(
+    e: &Option<Expression>,
+    cx: &Context<'_>,
+    scope: &Scope<'_>,
+    out: &mut Builder,
+) -> Result<Option<Var>, Memory>
+    ensures { IfOk result (λ x. made_option (built out.new) x ≡ make_maybe_in cx.now (maybe e.now) (look scope.now) (built out.old)) }
+{
     match e {
         None => Ok(None),
         Some(e) => {
@@ -147,12 +219,14 @@ fn lower_maybe<'a>(
 }
 
 #[cycle(lowering)]
-fn lower_bound<'a>(
-    b: &'a Bound,
-    cx: &Context<'a>,
-    scope: &Scope<'a>,
+fn lower_bound(
+    b: &Bound,
+    cx: &Context<'_>,
+    scope: &Scope<'_>,
     out: &mut Builder,
-) -> Result<Option<Var>, Memory> {
+) -> Result<Option<Var>, Memory>
+    ensures { IfOk result (λ x. made_option (built out.new) x ≡ make_bound_in cx.now (bound b.now) (look scope.now) (built out.old)) }
+{
     match b {
         Bound::Dot(_) => Ok(None),
         Bound::Given(e) => {
@@ -162,17 +236,19 @@ fn lower_bound<'a>(
     }
 }
 
-/// The names of an index as new variables: those of its components, where it has names for them.
-fn index_names<'a>(
-    index: &'a Index,
+// The names of an index as new variables: those of its components, where it has names for them.
+fn index_names(
+    index: &Index,
     var: Var,
-    cx: &Context<'a>,
-    scope: &mut Scope<'a>,
+    cx: &Context<'_>,
+    scope: &mut Scope<'_>,
     out: &mut Builder,
-) -> Result<Vec<Var>, Memory> {
+) -> Result<Vec<Var>, Memory>
+    ensures { IfOk result (λ v. made_names (built out.new) v.items (look scope.new) ≡ index_declared (index_view index.now) var (look scope.old) (built out.old)) }
+{
     match index {
         Index::Named(target) => {
-            scope.push(&target.name, var)?;
+            scope.bind(cx.alloc, target.name.as_str(), var)?;
             Ok(Vec::new(cx.alloc))
         }
         Index::Parts(targets) => {
@@ -183,22 +259,22 @@ fn index_names<'a>(
 }
 
 #[cycle(lowering)]
-fn lower_generator<'a>(
-    g: &'a Generator,
-    cx: &Context<'a>,
-    scope: &Scope<'a>,
+fn lower_generator(
+    g: &Generator,
+    cx: &Context<'_>,
+    scope: &Scope<'_>,
     out: &mut Builder,
-) -> Result<CoreGen, Memory> {
+) -> Result<CoreGen, Memory>
+    ensures { IfOk result (λ r. made_gen (built out.new) (gen_term r) ≡ make_gen_in cx.now (generator g.now) (look scope.now) (built out.old)) }
+{
     let lower = lower_bound(&g.lower, cx, scope, out)?;
     let upper = lower_bound(&g.upper, cx, scope, out)?;
     let step = lower_maybe(&g.step, cx, scope, out)?;
     let width = lower_maybe(&g.width, cx, scope, out)?;
     let index = out.fresh()?;
-    let mut inside = scope.copy(cx.alloc)?;
+    let mut inside = (&*scope).inside(cx.alloc);
     let names = index_names(&g.index, index, cx, &mut inside, out)?;
-    let mut inner = out.nested(cx.alloc);
-    let cell = lower_cell(g, cx, &mut inside, &mut inner)?;
-    out.resume(&inner);
+    let body = lower_cell(g, cx, &mut inside, out)?;
     Ok(CoreGen {
         lower,
         lower_closed: g.lower_closed,
@@ -208,29 +284,36 @@ fn lower_generator<'a>(
         width,
         index,
         names,
-        body: inner.finish(only(cx, cell)?),
+        body,
         site: g.site,
     })
 }
 
+// The block of a generator, which gives its cell.
 #[cycle(lowering)]
-fn lower_cell<'a>(
-    g: &'a Generator,
-    cx: &Context<'a>,
-    scope: &mut Scope<'a>,
+fn lower_cell(
+    g: &Generator,
+    cx: &Context<'_>,
+    scope: &mut Scope<'_>,
     out: &mut Builder,
-) -> Result<Var, Memory> {
-    lower_block(&g.body, cx, scope, out)?;
-    lower(&g.cell, cx, scope, out)
+) -> Result<Block, Memory>
+    ensures { IfOk result (λ b. made_block (built out.new) (block_term b) ≡ make_cell_in cx.now (block g.now.body.items) (expr g.now.cell) (look scope.old) (built out.old)) }
+{
+    let mut inner = out.nested(cx.alloc);
+    lower_block(&g.body, cx, scope, &mut inner)?;
+    let x = lower(&g.cell, cx, scope, &mut inner)?;
+    close(cx, inner, x, out)
 }
 
 #[cycle(lowering)]
-fn lower_generators<'a>(
-    gs: &'a [Generator],
-    cx: &Context<'a>,
-    scope: &Scope<'a>,
+fn lower_generators(
+    gs: &[Generator],
+    cx: &Context<'_>,
+    scope: &Scope<'_>,
     out: &mut Builder,
-) -> Result<Vec<CoreGen>, Memory> {
+) -> Result<Vec<CoreGen>, Memory>
+    ensures { IfOk result (λ v. made_gens (built out.new) v.items ≡ make_gens_in cx.now (generators gs.now) (look scope.now) (built out.old)) }
+{
     let mut gens = Vec::new(cx.alloc);
     for g in gs {
         let generator = lower_generator(g, cx, scope, out)?;
@@ -239,54 +322,70 @@ fn lower_generators<'a>(
     Ok(gens)
 }
 
+// The default of a genarray; one that is left out is zero of a base.
 #[cycle(lowering)]
-fn lower_operation<'a>(
-    op: &'a Operation,
+fn lower_default(
+    e: &Option<Expression>,
     base: Base,
-    cx: &Context<'a>,
-    scope: &Scope<'a>,
+    site: Site,
+    cx: &Context<'_>,
+    scope: &Scope<'_>,
     out: &mut Builder,
-) -> Result<Making, Memory> {
+) -> Result<Var, Memory>
+    ensures { IfOk result (λ x. made (built out.new) x ≡ make_default_in cx.now (maybe e.now) base site (look scope.now) (built out.old)) }
+{
+    match e {
+        None => constant(cx, base, 0, site, out),
+        Some(e) => lower(e, cx, scope, out),
+    }
+}
+
+#[cycle(lowering)]
+fn lower_operation(
+    op: &Operation,
+    base: Base,
+    cx: &Context<'_>,
+    scope: &Scope<'_>,
+    out: &mut Builder,
+) -> Result<Making, Memory>
+    ensures { IfOk result (λ m. made_operation (built out.new) m ≡ make_operation_in cx.now (operation op.now) base (look scope.now) (built out.old)) }
+{
     match op {
         Operation::Genarray {
             shape,
             default,
             site,
         } => {
+            let site = *site;
             let shape = lower(shape, cx, scope, out)?;
-            let default = match lower_maybe(default, cx, scope, out)? {
-                Some(x) => x,
-                None => constant(cx, base, 0, *site, out)?,
-            };
-            Ok(Making {
-                op: CoreOp::Genarray { shape, default },
-                site: *site,
-            })
+            let default = lower_default(default, base, site, cx, scope, out)?;
+            let op = CoreOp::Genarray { shape, default };
+            Ok(Making { op, site })
         }
         Operation::Modarray { array, site } => {
+            let site = *site;
             let array = lower(array, cx, scope, out)?;
-            Ok(Making {
-                op: CoreOp::Modarray { array },
-                site: *site,
-            })
+            let op = CoreOp::Modarray { array };
+            Ok(Making { op, site })
         }
         Operation::Fold { op, neutral, site } => {
+            let site = *site;
             let neutral = lower(neutral, cx, scope, out)?;
-            Ok(Making {
-                op: CoreOp::Fold { op: *op, neutral },
-                site: *site,
-            })
+            let op = CoreOp::Fold { op: *op, neutral };
+            Ok(Making { op, site })
         }
     }
 }
 
 #[cycle(lowering)]
-fn lower_statement<'a>(
-    s: &'a Statement,
-    cx: &Context<'a>,
-    scope: &mut Scope<'a>,
+fn lower_statement(
+    s: &Statement,
+    cx: &Context<'_>,
+    scope: &mut Scope<'_>,
     out: &mut Builder,
-) -> Result<(), Memory> {
+) -> Result<(), Memory>
+    ensures { OnOk result (made_scope (built out.new) (look scope.new) ≡ make_stmt_in cx.now (stmt s.now) (look scope.old) (built out.old)) }
+{
     match s {
         Statement::Assign { targets, value } => lower_assign(value, targets, cx, scope, out),
         Statement::Replace {
@@ -299,7 +398,7 @@ fn lower_statement<'a>(
             let v = lower(value, cx, scope, out)?;
             let a = used(cx, &target.name, *bracket, scope, out)?;
             let x = out.bind(cx.alloc, *bracket, Right::Replace(a, i, v))?;
-            scope.push(&target.name, x)
+            scope.bind(cx.alloc, target.name.as_str(), x)
         }
         Statement::If {
             cond,
@@ -307,27 +406,38 @@ fn lower_statement<'a>(
             no,
             site,
         } => {
-            let cond = lower(cond, cx, scope, out)?;
-            lower_branches(yes, no, cond, *site, cx, scope, out)
+            let site = *site;
+            let given = lower_if(yes, no, cond, cx, scope, out)?;
+            bind_given(given, site, cx, scope, out)
         }
-        Statement::While { cond, body, site } => lower_while(body, cond, *site, cx, scope, out),
+        Statement::While { cond, body, site } => {
+            let site = *site;
+            let given = lower_while(body, cond, site, cx, scope, out)?;
+            bind_given(given, site, cx, scope, out)
+        }
         Statement::Do {
             body,
             cond,
             site,
             test,
-        } => lower_do(body, cond, *site, *test, cx, scope, out),
+        } => {
+            let site = *site;
+            let given = lower_do(body, cond, site, *test, cx, scope, out)?;
+            bind_given(given, site, cx, scope, out)
+        }
     }
 }
 
 #[cycle(lowering)]
-fn lower_assign<'a>(
-    value: &'a Expression,
-    targets: &'a [Target],
-    cx: &Context<'a>,
-    scope: &mut Scope<'a>,
+fn lower_assign(
+    value: &Expression,
+    targets: &[Target],
+    cx: &Context<'_>,
+    scope: &mut Scope<'_>,
     out: &mut Builder,
-) -> Result<(), Memory> {
+) -> Result<(), Memory>
+    ensures { OnOk result (made_scope (built out.new) (look scope.new) ≡ make_stmt_in cx.now (Tree.assign targets.now (expr value.now)) (look scope.old) (built out.old)) }
+{
     match value {
         Expression::Call(name, es, site) => {
             let args = lower_all(es, cx, scope, out)?;
@@ -338,135 +448,186 @@ fn lower_assign<'a>(
         }
         _ => {
             let x = lower(value, cx, scope, out)?;
-            match targets.first() {
-                Some(target) => scope.push(&target.name, x),
-                None => Ok(()),
-            }
+            bind_first(targets, x, cx, scope)
         }
     }
 }
 
-#[cycle(lowering)]
-fn lower_branches<'a>(
-    yes: &'a [Statement],
-    no: &'a [Statement],
-    cond: Var,
+// A right side that is no call binds the first target.
+fn bind_first(
+    targets: &[Target],
+    var: Var,
+    cx: &Context<'_>,
+    scope: &mut Scope<'_>,
+) -> Result<(), Memory>
+    ensures { OnOk result (look scope.new ≡ first_var targets.now var (look scope.old)) }
+{
+    match targets.first() {
+        Some(target) => scope.bind(cx.alloc, target.name.as_str(), var),
+        None => Ok(()),
+    }
+}
+
+// Binds the names that a conditional or a loop gives to new variables.
+fn bind_given(
+    given: Given<'_>,
     site: Site,
-    cx: &Context<'a>,
-    scope: &mut Scope<'a>,
+    cx: &Context<'_>,
+    scope: &mut Scope<'_>,
     out: &mut Builder,
-) -> Result<(), Memory> {
-    let mut first_scope = scope.copy(cx.alloc)?;
-    let mut first = out.nested(cx.alloc);
-    lower_block(yes, cx, &mut first_scope, &mut first)?;
-    let mut second_scope = scope.copy(cx.alloc)?;
-    let mut second = first.nested(cx.alloc);
-    lower_block(no, cx, &mut second_scope, &mut second)?;
-    let mut bound = Vec::new(cx.alloc);
-    add_block(yes, &mut bound)?;
-    add_block(no, &mut bound)?;
-    let bound = once(cx.alloc, &bound)?;
-    let both = known_in_both(cx.alloc, &bound, &first_scope, &second_scope)?;
-    out.resume(&second);
-    let yes = first.finish(first_scope.vars(cx.alloc, &both)?);
-    let no = second.finish(second_scope.vars(cx.alloc, &both)?);
-    let targets = scope.declare(cx.alloc, &both, out)?;
-    out.push(targets, site, Right::If { cond, yes, no })
+) -> Result<(), Memory>
+    ensures { OnOk result (made_scope (built out.new) (look scope.new) ≡ given_bound site (look scope.old) (made_given (built out.old) given.entry)) }
+{
+    let targets = scope.declare(cx.alloc, &given.names, out)?;
+    out.push(targets, site, given.right)
 }
 
 #[cycle(lowering)]
-fn lower_while<'a>(
-    body: &'a [Statement],
-    cond: &'a Expression,
-    site: Site,
-    cx: &Context<'a>,
-    scope: &mut Scope<'a>,
+fn lower_if<'n>(
+    yes: &'n [Statement],
+    no: &'n [Statement],
+    cond: &'n Expression,
+    cx: &Context<'_>,
+    scope: &Scope<'_>,
     out: &mut Builder,
-) -> Result<(), Memory> {
-    let mut bound = Vec::new(cx.alloc);
-    add_block(body, &mut bound)?;
-    let bound = once(cx.alloc, &bound)?;
-    let carried = known(cx.alloc, &bound, scope)?;
-    let start = scope.vars(cx.alloc, &carried)?;
-    let mut inside = scope.copy(cx.alloc)?;
-    let params = inside.declare(cx.alloc, &carried, out)?;
-    let mut test = out.nested(cx.alloc);
-    let x = lower(cond, cx, &inside, &mut test)?;
-    let mut turn = test.nested(cx.alloc);
-    lower_block(body, cx, &mut inside, &mut turn)?;
-    out.resume(&turn);
+) -> Result<Given<'n>, Memory>
+    ensures { IfOk result (λ g. made_given (built out.new) g ≡ make_if_in cx.now (expr cond.now) (block yes.now) (block no.now) (look scope.now) (built out.old)) }
+{
+    let cond = lower(cond, cx, scope, out)?;
+    let bound = once_bound_in_either(cx.alloc, yes, no)?;
+    let mut first = (&*scope).inside(cx.alloc);
+    let mut yes_out = out.nested(cx.alloc);
+    lower_block(yes, cx, &mut first, &mut yes_out)?;
+    let mut second = (&*scope).inside(cx.alloc);
+    let mut no_out = yes_out.nested(cx.alloc);
+    lower_block(no, cx, &mut second, &mut no_out)?;
+    let names = known_in_both(cx.alloc, &bound, &first, &second)?;
+    let yes = close_giving(cx, yes_out, &names, &first, out)?;
+    let no = close_giving(cx, no_out, &names, &second, out)?;
+    Ok(Given {
+        names,
+        right: Right::If { cond, yes, no },
+    })
+}
+
+// The block of a turn of a loop, which gives the variables of names.
+#[cycle(lowering)]
+fn lower_turn(
+    ss: &[Statement],
+    names: &[&str],
+    cx: &Context<'_>,
+    scope: &Scope<'_>,
+    out: &mut Builder,
+) -> Result<Block, Memory>
+    ensures { IfOk result (λ b. made_block (built out.new) (block_term b) ≡ block_giving (texts names.now) (built out.old) (make_block_in cx.now (block ss.now) (look scope.now) (nested (built out.old)))) }
+{
+    let mut inner = out.nested(cx.alloc);
+    let mut inside = (&*scope).inside(cx.alloc);
+    lower_block(ss, cx, &mut inside, &mut inner)?;
+    close_giving(cx, inner, names, &inside, out)
+}
+
+#[cycle(lowering)]
+fn lower_while<'n>(
+    body: &'n [Statement],
+    cond: &'n Expression,
+    test_site: Site,
+    cx: &Context<'_>,
+    scope: &Scope<'_>,
+    out: &mut Builder,
+) -> Result<Given<'n>, Memory>
+    ensures { IfOk result (λ g. made_given (built out.new) g ≡ make_while_in cx.now (expr cond.now) (block body.now) test_site (look scope.now) (built out.old)) }
+{
+    let bound = once_bound(cx.alloc, body)?;
+    let names = known(cx.alloc, &bound, scope)?;
+    let start = scope.vars(cx.alloc, &names)?;
+    let mut inside = (&*scope).inside(cx.alloc);
+    let params = inside.declare(cx.alloc, &names, out)?;
+    let test = lower_inside(cond, cx, &inside, out)?;
+    let body = lower_turn(body, &names, cx, &inside, out)?;
     let right = Right::Loop {
         first_body: false,
         start,
         params,
-        test: test.finish(only(cx, x)?),
-        body: turn.finish(inside.vars(cx.alloc, &carried)?),
-        test_site: site,
+        test,
+        body,
+        test_site,
     };
-    let targets = scope.declare(cx.alloc, &carried, out)?;
-    out.push(targets, site, right)
+    Ok(Given { names, right })
 }
 
-/// The first values of what a `do` carries: a name that has no variable has a value that is never read.
-fn starts<'a>(
-    names: &[&'a Name],
+// The first values of what a `do` carries: a name that has no variable has a value that is never read.
+fn starts(
+    names: &[&str],
     site: Site,
-    cx: &Context<'a>,
-    scope: &Scope<'a>,
+    cx: &Context<'_>,
+    scope: &Scope<'_>,
     out: &mut Builder,
-) -> Result<Vec<Var>, Memory> {
+) -> Result<Vec<Var>, Memory>
+    ensures { IfOk result (λ v. made_list (built out.new) v.items ≡ make_starts_in cx.now site (texts names.now) (look scope.now) (built out.old)) }
+{
     let mut vars = Vec::new(cx.alloc);
     for name in names {
-        let x = match scope.find(name) {
-            Some(x) => x,
-            None => constant(cx, cx.base_of_name(name), 0, site, out)?,
-        };
+        let x = start(name, site, cx, scope, out)?;
         vars.push(x)?;
     }
     Ok(vars)
 }
 
+fn start(
+    name: &str,
+    site: Site,
+    cx: &Context<'_>,
+    scope: &Scope<'_>,
+    out: &mut Builder,
+) -> Result<Var, Memory>
+    ensures { IfOk result (λ x. made (built out.new) x ≡ start_at (name_base_in cx.now name.now) (built out.old) site (look scope.now name.now)) }
+{
+    match scope.find(name) {
+        Some(x) => Ok(x),
+        None => constant(cx, cx.base_of_name(name), 0, site, out),
+    }
+}
+
 #[cycle(lowering)]
-fn lower_do<'a>(
-    body: &'a [Statement],
-    cond: &'a Expression,
+fn lower_do<'n>(
+    body: &'n [Statement],
+    cond: &'n Expression,
     site: Site,
     test_site: Site,
-    cx: &Context<'a>,
-    scope: &mut Scope<'a>,
+    cx: &Context<'_>,
+    scope: &Scope<'_>,
     out: &mut Builder,
-) -> Result<(), Memory> {
-    let mut bound = Vec::new(cx.alloc);
-    add_block(body, &mut bound)?;
-    let carried = once(cx.alloc, &bound)?;
-    let start = starts(&carried, site, cx, scope, out)?;
-    let mut inside = scope.copy(cx.alloc)?;
-    let params = inside.declare(cx.alloc, &carried, out)?;
-    let mut after = inside.copy(cx.alloc)?;
-    let mut turn = out.nested(cx.alloc);
-    lower_block(body, cx, &mut after, &mut turn)?;
-    let mut test = turn.nested(cx.alloc);
-    let x = lower(cond, cx, &inside, &mut test)?;
-    out.resume(&test);
+) -> Result<Given<'n>, Memory>
+    ensures { IfOk result (λ g. made_given (built out.new) g ≡ make_do_in cx.now (block body.now) (expr cond.now) site test_site (look scope.now) (built out.old)) }
+{
+    let names = once_bound(cx.alloc, body)?;
+    let start = starts(&names, site, cx, scope, out)?;
+    let mut inside = (&*scope).inside(cx.alloc);
+    let params = inside.declare(cx.alloc, &names, out)?;
+    let body = lower_turn(body, &names, cx, &inside, out)?;
+    let test = lower_inside(cond, cx, &inside, out)?;
     let right = Right::Loop {
         first_body: true,
         start,
         params,
-        test: test.finish(only(cx, x)?),
-        body: turn.finish(after.vars(cx.alloc, &carried)?),
+        test,
+        body,
         test_site,
     };
-    let targets = scope.declare(cx.alloc, &carried, out)?;
-    out.push(targets, site, right)
+    Ok(Given { names, right })
 }
 
+/// Binds what the statements of a block need, one after another.
 #[cycle(lowering)]
-pub fn lower_block<'a>(
-    ss: &'a [Statement],
-    cx: &Context<'a>,
-    scope: &mut Scope<'a>,
+pub fn lower_block(
+    ss: &[Statement],
+    cx: &Context<'_>,
+    scope: &mut Scope<'_>,
     out: &mut Builder,
-) -> Result<(), Memory> {
+) -> Result<(), Memory>
+    ensures { OnOk result (made_scope (built out.new) (look scope.new) ≡ make_block_in cx.now (block ss.now) (look scope.old) (built out.old)) }
+{
     for s in ss {
         lower_statement(s, cx, scope, out)?;
     }

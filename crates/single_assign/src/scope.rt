@@ -1,53 +1,67 @@
 //! The variables of names.
 
+ghost use Rattle.std.specs.Prelude.{◌≡◌, IfOk, OnOk};
+ghost use Rattle.single_assign.specs.Building.{declared};
+ghost use Rattle.single_assign.specs.Looks.{look, texts, unbound, vars_of, with_var};
+ghost use Rattle.single_assign.specs.Views.{built, made_names};
+
 use crate::builder::Builder;
 use core_ir::Var;
-use sac_base::{Memory, Name, same_name};
+use indexmap::IndexMap;
+use sac_base::Memory;
 use std::alloc::Global;
 
-/// A name, and the variable that has its value.
-#[derive(Clone, Copy)]
-pub struct Entry<'a> {
-    name: &'a Name,
-    var: Var,
-}
-
-/// Names with their variables; the newest entry of a name counts.
+/// The variables that names have: those of this scope, and behind them those of the scope around it.
 #[derive(Drop)]
 pub struct Scope<'a> {
-    entries: Vec<Entry<'a>>,
+    outer: Option<&'a Scope<'a>>,
+    vars: IndexMap<String, Var>,
 }
 
 impl<'a> Scope<'a> {
-    pub fn new(alloc: Global) -> Scope<'a> {
+    pub fn new(alloc: Global) -> Scope<'a>
+        ensures { look result ≡ unbound }
+    {
         Scope {
-            entries: Vec::new(alloc),
+            outer: None,
+            vars: IndexMap::new(alloc),
         }
     }
 
-    pub fn push(&mut self, name: &'a Name, var: Var) -> Result<(), Memory> {
-        self.entries.push(Entry { name, var })?;
+    /// A scope inside this one.
+    pub fn inside(&'a self, alloc: Global) -> Scope<'a>
+        ensures { look result ≡ look self.now }
+    {
+        Scope {
+            outer: Some(self),
+            vars: IndexMap::new(alloc),
+        }
+    }
+
+    pub fn find(&self, name: &str) -> Option<Var>
+        ensures { result ≡ look self.now name.now }
+    {
+        match self.vars.get(name) {
+            Some(var) => Some(*var),
+            None => match self.outer {
+                Some(outer) => outer.find(name),
+                None => None,
+            },
+        }
+    }
+
+    /// Binds a name to a variable.
+    pub fn bind(&mut self, alloc: Global, name: &str, var: Var) -> Result<(), Memory>
+        ensures { OnOk result (look self.new ≡ with_var name.now var (look self.old)) }
+    {
+        self.vars.insert(String::from_str(alloc, name)?, var)?;
         Ok(())
     }
 
-    pub fn find(&self, name: &Name) -> Option<Var> {
-        let mut found = None;
-        for entry in &self.entries {
-            if same_name(name, entry.name) {
-                found = Some(entry.var);
-            }
-        }
-        found
-    }
-
-    pub fn copy(&self, alloc: Global) -> Result<Scope<'a>, Memory> {
-        Ok(Scope {
-            entries: Vec::from_slice(alloc, &self.entries)?,
-        })
-    }
-
     /// The variables of names; the first variable stands for that of a name that has none.
-    pub fn vars(&self, alloc: Global, names: &[&'a Name]) -> Result<Vec<Var>, Memory> {
+    pub fn vars(&self, alloc: Global, names: &[&str]) -> Result<Vec<Var>, Memory>
+        ensures { IfOk result (λ v. v.items ≡ vars_of (look self.now) (texts names.now)) }
+    {
         let mut vars = Vec::new(alloc);
         for name in names {
             vars.push(self.find(name).unwrap_or(Var(0)))?;
@@ -59,13 +73,15 @@ impl<'a> Scope<'a> {
     pub fn declare(
         &mut self,
         alloc: Global,
-        names: &[&'a Name],
+        names: &[&str],
         out: &mut Builder,
-    ) -> Result<Vec<Var>, Memory> {
+    ) -> Result<Vec<Var>, Memory>
+        ensures { IfOk result (λ v. made_names (built out.new) v.items (look self.new) ≡ declared (texts names.now) (look self.old) (built out.old)) }
+    {
         let mut vars = Vec::new(alloc);
         for name in names {
             let var = out.fresh()?;
-            self.push(name, var)?;
+            self.bind(alloc, name, var)?;
             vars.push(var)?;
         }
         Ok(vars)

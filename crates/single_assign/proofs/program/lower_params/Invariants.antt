@@ -1,0 +1,9 @@
+use Rattle.std.proofs.Common.{◌≡◌, drop}
+use Rattle.single_assign.specs.Looks.{look}
+use Rattle.single_assign.specs.Functions.{after_params, params_declared}
+use Rattle.single_assign.specs.Views.{built}
+use Rattle.single_assign.proofs.program.lower_params.Given as goal
+
+abbrev pub invariant-loop-param : goal.invariant-loop-param
+invariant-loop-param l =
+    after_params l.typed.items (params_declared (drop l.param-index l.params) (look l.scope) (built l.out)) ≡ params_declared l.params (look l.initial.scope) (built l.initial.out)
