@@ -1,2 +1,5 @@
 pub mod Once
+pub mod Scopes
+pub mod Steps
 pub mod Accumulated
+pub mod Whole

@@ -1,7 +1,5 @@
 -- What is made of a function in a context.
-use Rattle.std.specs.Prelude.{ℕ, suc, List, [], ◌∷◌, map, Option}
-use Rattle.std.specs.Borrow.{Bor}
-use Rattle.indexmap.specs.IndexSet.{IndexSet}
+use Rattle.std.specs.Prelude.{ℕ, suc, List, [], ◌∷◌, ◌++◌, length, map, Option}
 use Rattle.sac_base.specs.declared.base.Base.{Base}
 use Rattle.sac_base.specs.declared.name.Name.{Name}
 use Rattle.sac_base.specs.declared.types.ArrayType.{ArrayType}
@@ -12,12 +10,11 @@ use Rattle.core_ir.specs.declared.tree.Var.{Var}
 use Rattle.core_ir.specs.Terms.{FunTerm, Gives, chain}
 use Rattle.value_meaning.specs.Calls.{param_names}
 use Rattle.lowering_laws.specs.Lowering.{numbered, pushed, lowered_block, lowered_all}
-use Rattle.lowering_laws.specs.Programs.{place_in, lowered_params, name_base}
+use Rattle.lowering_laws.specs.Programs.{lowered_params, name_base}
 use Rattle.single_assign.specs.declared.context.Context.{Context}
-use Rattle.single_assign.specs.Looks.{Look, texts, unbound, with_var}
-use Rattle.single_assign.specs.Building.{Built, make_block, make_all}
+use Rattle.single_assign.specs.Looks.{Look, with_var}
+use Rattle.single_assign.specs.Building.{Built}
 use Rattle.single_assign.specs.Views.{group_in, base_of_in, name_base_in}
-use Rattle.std.specs.Prelude.{length, ◌++◌}
 
 -- parameters that were bound to new variables
 pub record MadeParams : Type 0 where
@@ -60,7 +57,3 @@ function_of group_of fs f = function_by group_of (base_in fs f) (name_base fs f)
 
 abbrev pub functions_by : (Name → ℕ) → List FunctionTree → List FunctionTree → List FunTerm
 functions_by group_of fs gs = map (function_of group_of fs) gs
-
--- the place of a name in a set
-abbrev pub place_by : {S : Type 0} → IndexSet (Bor (List ℕ)) S → Name → ℕ
-place_by names = place_in (texts names.keys)

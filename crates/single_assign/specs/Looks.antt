@@ -1,5 +1,6 @@
 -- Names and their variables, as functions: nothing here knows in what order names were bound.
-use Rattle.std.specs.Prelude.{ℕ, suc, List, [], ◌∷◌, map, Option, Some, None, if◌then◌else◌, bytes_eq, String, Global}
+use Rattle.std.specs.Prelude.{ℕ, suc, List, [], ◌∷◌, map, Option, Some, None, if◌then◌else◌, bytes_eq, String}
+use Rattle.std.specs.Global.{Global}
 use Rattle.std.specs.Borrow.{Bor}
 use Rattle.indexmap.specs.IndexMap.{IndexMap, get_by_text}
 use Rattle.sac_base.specs.declared.name.Name.{Name}

@@ -1,5 +1,7 @@
 -- What the builders, scopes and contexts of the code stand for, and what is made in them.
 use Rattle.std.specs.Prelude.{ℕ, List, [], ◌∷◌, ◌++◌, map, Option, pos, true, false}
+use Rattle.std.specs.Borrow.{Bor}
+use Rattle.indexmap.specs.IndexSet.{IndexSet}
 use Rattle.sac_base.specs.declared.base.Base.{Base}
 use Rattle.sac_base.specs.Arrays.{scalar}
 use Rattle.sac_base.specs.declared.name.Name.{Name}
@@ -74,8 +76,12 @@ after_gens gs m = record { state = m.state; gens = onto (map gen_term gs) m.gens
 
 -- ---- what is made in a context
 
+-- the place of a name in a set
+abbrev pub place_by : {S : Type 0} → IndexSet (Bor (List ℕ)) S → Name → ℕ
+place_by names = place_in (texts names.keys)
+
 abbrev pub group_in : Context → Name → ℕ
-group_in cx = place_in (texts cx.names.now.keys)
+group_in cx = place_by cx.names.now
 
 abbrev pub base_of_in : Context → Expr → Option Base
 base_of_in cx = Bases.base (Bases.call_bases_in (functions cx.functions.now)) cx.known.now

@@ -3,7 +3,7 @@
 ghost use Rattle.std.specs.Prelude.{◌≡◌, IfOk};
 ghost use Rattle.sac_ast.specs.View.{generators};
 ghost use Rattle.value_meaning.specs.Meaning.{default_base as default_base_value, or_int as or_int_value};
-ghost use Rattle.single_assign.specs.Views.{base_of_in, group_in, name_base_in};
+ghost use Rattle.single_assign.specs.Views.{base_of_in, group_in, name_base_in, place_by};
 
 use indexmap::IndexSet;
 use sac_ast::{Function, Generator, Known};
@@ -26,11 +26,7 @@ impl Context<'_> {
     pub fn group_of(&self, name: &Name) -> Result<u32, Memory>
         ensures { IfOk result (λ group. group ≡ group_in self.now name.now) }
     {
-        let group = match self.names.get_index_of(name.as_str()) {
-            Some(group) => group,
-            None => self.names.len(),
-        };
-        match u32::try_from(group) {
+        match u32::try_from(place_of(self.names, name)) {
             Ok(group) => Ok(group),
             Err(_) => Err(Memory),
         }
@@ -69,5 +65,15 @@ fn or_int(base: Option<Base>) -> Base
     match base {
         None => Base::Int,
         Some(base) => base,
+    }
+}
+
+// The place of a name in a set, or the number of names.
+fn place_of(names: &IndexSet<&str>, name: &Name) -> usize
+    ensures { result ≡ place_by names.now name.now }
+{
+    match names.get_index_of(name.as_str()) {
+        Some(place) => place,
+        None => names.len(),
     }
 }

@@ -2,7 +2,7 @@
 
 ghost use Rattle.std.specs.Prelude.{◌≡◌, IfOk, OnOk};
 ghost use Rattle.single_assign.specs.Building.{declared};
-ghost use Rattle.single_assign.specs.Looks.{look, texts, unbound, vars_of, with_var};
+ghost use Rattle.single_assign.specs.Looks.{look, own, texts, unbound, vars_of, with_var};
 ghost use Rattle.single_assign.specs.Views.{built, made_names};
 
 use crate::builder::Builder;
@@ -54,8 +54,7 @@ impl<'a> Scope<'a> {
     pub fn bind(&mut self, alloc: Global, name: &str, var: Var) -> Result<(), Memory>
         ensures { OnOk result (look self.new ≡ with_var name.now var (look self.old)) }
     {
-        self.vars.insert(String::from_str(alloc, name)?, var)?;
-        Ok(())
+        bind_in(&mut self.vars, alloc, name, var)
     }
 
     /// The variables of names; the first variable stands for that of a name that has none.
@@ -86,4 +85,17 @@ impl<'a> Scope<'a> {
         }
         Ok(vars)
     }
+}
+
+fn bind_in(
+    vars: &mut IndexMap<String, Var>,
+    alloc: Global,
+    name: &str,
+    var: Var,
+) -> Result<(), Memory>
+    ensures { OnOk result (own vars.new ≡ with_var name.now var (own vars.old)) }
+{
+    let key = String::from_str(alloc, name)?;
+    vars.insert(key, var)?;
+    Ok(())
 }

@@ -1,7 +1,8 @@
 use Rattle.std.proofs.Common.{◌≡◌, ◌++◌, drop, map}
 use Rattle.sac_ast.specs.View.{functions}
 use Rattle.core_ir.specs.View.{fun_term}
-use Rattle.single_assign.specs.Functions.{functions_by, place_by}
+use Rattle.single_assign.specs.Functions.{functions_by}
+use Rattle.single_assign.specs.Views.{place_by}
 use Rattle.single_assign.proofs.program.lower_functions.Given as goal
 
 abbrev pub invariant-loop-f : goal.invariant-loop-f
