@@ -1,10 +1,10 @@
 //! Expressions and statements as bindings of the core.
 
-ghost use Rattle.std.specs.Prelude.{◌≡◌, IfOk, OnOk, pos, length};
+ghost use Rattle.std.specs.Prelude.{◌≡◌, IfOk, OnOk, map};
 ghost use Rattle.sac_base.specs.Arrays.{scalar};
 ghost use Rattle.sac_ast.specs.Tree;
 ghost use Rattle.sac_ast.specs.View.{expr, exprs, maybe, bound, index_view, generator, generators, operation, stmt, block};
-ghost use Rattle.core_ir.specs.Terms.{Plain, PlainTerm};
+ghost use Rattle.core_ir.specs.Terms.{Plain, PlainTerm, RightTerm, gens_of};
 ghost use Rattle.core_ir.specs.View.{block_term, gen_term, right_term};
 ghost use Rattle.lowering_laws.specs.Lowering.{built_in as built_in_value};
 ghost use Rattle.single_assign.specs.Building.{block_giving, block_of, bound_at, first_var, given_bound, index_declared, nested, start_at, use_at};
@@ -79,6 +79,12 @@ fn built_in(builtin: Builtin, vars: &[Var]) -> Right
             _ => Right::Always(FaultKind::F4),
         },
     }
+}
+
+fn with_loop(gens: Vec<CoreGen>, op: CoreOp) -> Right
+    ensures { right_term result ≡ RightTerm.With op (gens_of (map gen_term gens.items)) }
+{
+    Right::With(WithLoop { gens, op })
 }
 
 // The block of what was made inside, which gives a variable.
@@ -161,8 +167,7 @@ pub fn lower(
             let gens = lower_generators(gs, cx, scope, out)?;
             let base = cx.default_base(gs)?;
             let making = lower_operation(op, base, cx, scope, out)?;
-            let op = making.op;
-            out.bind(cx.alloc, making.site, Right::With(WithLoop { gens, op }))
+            out.bind(cx.alloc, making.site, with_loop(gens, making.op))
         }
     }
 }
