@@ -2,12 +2,11 @@
 use Rattle.std.proofs.Common.{◌≡◌, Bool, true, false, refl, sym, ap, ◌∙◌, Option, Some, None, Ok, Err, Result, OnOk, true≢false, String, Global}
 use Rattle.std.specs.Prelude.{bytes_eq, if◌then◌else◌}
 use Rattle.std.proofs.lemmas.Slice.Eq.{bytes_eq-Decides}
-use Rattle.std.proofs.lemmas.Map.Text.{hash_map_updates_text}
 use Rattle.sac_base.specs.declared.name.Name.{Name}
 use Rattle.core_ir.specs.declared.tree.Var.{Var}
-use Rattle.indexmap.specs.IndexMap.{IndexMap}
 use Rattle.single_assign.specs.declared.scope.Scope.{Scope, Scope-F, out-Scope, roll-Scope, map-Scope, fold-roll-Scope, fold_out-Scope}
-use Rattle.single_assign.specs.Looks.{Look, with_var, own, or_else, over, outer_of, scope_step, look}
+use Rattle.lowering_steps.specs.Looks.{Look, with_var}
+use Rattle.single_assign.specs.Looks.{own, or_else, over, outer_of, scope_step, look}
 
 pub name_turned : (a b : Name) → bytes_eq a b ≡ bytes_eq b a
 name_turned a b = by (bytes_eq a b) (bytes_eq b a) refl refl

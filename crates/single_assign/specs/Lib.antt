@@ -1,4 +1,3 @@
 pub mod Looks
-pub mod Building
 pub mod Views
 pub mod Functions

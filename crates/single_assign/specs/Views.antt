@@ -1,28 +1,27 @@
 -- What the builders, scopes and contexts of the code stand for, and what is made in them.
-use Rattle.std.specs.Prelude.{ℕ, List, [], ◌∷◌, ◌++◌, map, Option, pos, true, false}
+use Rattle.std.specs.Prelude.{ℕ, List, map, Option}
 use Rattle.std.specs.Borrow.{Bor}
 use Rattle.indexmap.specs.IndexSet.{IndexSet}
 use Rattle.sac_base.specs.declared.base.Base.{Base}
-use Rattle.sac_base.specs.Arrays.{scalar}
 use Rattle.sac_base.specs.declared.name.Name.{Name}
 use Rattle.sac_base.specs.declared.site.Site.{Site}
-use Rattle.sac_ast.specs.Tree.{Expr, Exprs, MaybeExpr, left_out, given, Stmt, Block, BoundTree, Gen, Gens, OperationTree}
+use Rattle.sac_ast.specs.Tree.{Expr, Exprs, MaybeExpr, Stmt, Block, BoundTree, Gen, Gens, OperationTree}
 use Rattle.sac_ast.specs.Bases
 use Rattle.sac_ast.specs.View.{functions}
 use Rattle.core_ir.specs.declared.tree.Var.{Var}
 use Rattle.core_ir.specs.declared.tree.CoreGen.{CoreGen}
-use Rattle.core_ir.specs.Terms.{BlockTerm, PlainTerm, RightTerm, Plain, GenTerm, GensTerm, gens_of}
-use Rattle.core_ir.specs.Terms
+use Rattle.core_ir.specs.Terms.{BlockTerm, GenTerm, gens_of}
 use Rattle.core_ir.specs.View.{let_term, gen_term, right_term}
 use Rattle.value_meaning.specs.Meaning.{or_int}
-use Rattle.lowering_laws.specs.Lowering.{once, names_bound}
 use Rattle.lowering_laws.specs.Programs.{place_in}
+use Rattle.lowering_steps.specs.Looks.{Look}
+use Rattle.lowering_steps.specs.Building.{Built, Made, MadeList, MadeOption, MadeScope, MadeNames, MadeBlock, MadeGen, MadeGens, MadeOperation, MadeGiven, make, make_all, make_maybe, make_bound, make_gen, make_gens, make_operation, make_stmt, make_block, make_starts}
+use Rattle.lowering_steps.specs.Parts.{make_default, make_inside, make_cell, make_turn, make_if, make_while, make_do}
 use Rattle.single_assign.specs.declared.builder.Builder.{Builder}
 use Rattle.single_assign.specs.declared.context.Context.{Context}
 use Rattle.single_assign.specs.declared.lower.Given.{Given}
 use Rattle.single_assign.specs.declared.lower.Making.{Making}
-use Rattle.single_assign.specs.Looks.{Look, texts, vars_of}
-use Rattle.single_assign.specs.Building.{Built, Made, MadeList, MadeOption, MadeScope, MadeNames, MadeBlock, MadeGen, MadeGens, MadeOperation, MadeGiven, block_giving, block_of, bound_at, bound_in, bound_in_both, declared, nested, make, make_all, make_maybe, make_bound, make_gen, make_gens, make_operation, make_stmt, make_block, make_starts}
+use Rattle.single_assign.specs.Looks.{texts}
 
 abbrev pub built : Builder → Built
 built b = record { lets = map let_term b.lets.items; next = b.next }
@@ -58,21 +57,6 @@ made_operation s m = record { state = s; op = m.op; site = m.site }
 
 abbrev pub made_given : Built → Given → MadeGiven
 made_given s g = record { state = s; names = texts g.names.items; right = right_term g.right }
-
--- ---- what stands before what is made
-
-abbrev pub after_list : List Var → MadeList → MadeList
-after_list xs m = record { state = m.state; results = xs ++ m.results }
-
-abbrev pub after_names : List Var → MadeNames → MadeNames
-after_names xs m = record { state = m.state; results = xs ++ m.results; scope = m.scope }
-
-abbrev pub onto : List GenTerm → GensTerm → GensTerm
-onto [] rest = rest
-onto (g ∷ gs) rest = Terms.Gen g.head g.body (onto gs rest)
-
-abbrev pub after_gens : List CoreGen → MadeGens → MadeGens
-after_gens gs m = record { state = m.state; gens = onto (map gen_term gs) m.gens }
 
 -- ---- what is made in a context
 
@@ -117,45 +101,28 @@ abbrev pub make_block_in : Context → Block → Look → Built → MadeScope
 make_block_in cx = make_block (group_in cx) (base_of_in cx) (name_base_in cx)
 
 abbrev pub make_default_in : Context → MaybeExpr → Base → Site → Look → Built → Made
-make_default_in cx left_out base site scope s = bound_at s site (Plain (PlainTerm.Const (scalar base (pos 0))))
-make_default_in cx (given e) base site scope s = make_in cx e scope s
+make_default_in cx = make_default (group_in cx) (base_of_in cx) (name_base_in cx)
 
 -- the block of an expression, and that of a generator
 abbrev pub make_inside_in : Context → Expr → Look → Built → MadeBlock
-make_inside_in cx e scope s = block_of s (make_in cx e scope (nested s))
+make_inside_in cx = make_inside (group_in cx) (base_of_in cx) (name_base_in cx)
 
 abbrev pub make_cell_in : Context → Block → Expr → Look → Built → MadeBlock
-make_cell_in cx body cell scope s =
-    let b = make_block_in cx body scope (nested s) in
-    block_of s (make_in cx cell b.scope b.state)
+make_cell_in cx = make_cell (group_in cx) (base_of_in cx) (name_base_in cx)
+
+-- the block of a turn of a loop
+abbrev pub make_turn_in : Context → List Name → Block → Look → Built → MadeBlock
+make_turn_in cx = make_turn (group_in cx) (base_of_in cx) (name_base_in cx)
 
 abbrev pub make_starts_in : Context → Site → List Name → Look → Built → MadeList
 make_starts_in cx site xs scope s = make_starts (name_base_in cx) site xs scope s
 
 -- conditionals and loops, but for the binding itself
 abbrev pub make_if_in : Context → Expr → Block → Block → Look → Built → MadeGiven
-make_if_in cx c first second scope s =
-    let a = make_in cx c scope s in
-    let b = make_block_in cx first scope (nested a.state) in
-    let d = make_block_in cx second scope (nested b.state) in
-    let both = bound_in_both b.scope d.scope (once [] (names_bound first ++ names_bound second)) in
-    let p = block_giving both a.state b in
-    let q = block_giving both p.state d in
-    record { state = q.state; names = both; right = RightTerm.If a.result p.block q.block }
+make_if_in cx = make_if (group_in cx) (base_of_in cx) (name_base_in cx)
 
 abbrev pub make_while_in : Context → Expr → Block → Site → Look → Built → MadeGiven
-make_while_in cx c body site scope s =
-    let all = bound_in scope (once [] (names_bound body)) in
-    let p = declared all scope s in
-    let t = make_inside_in cx c p.scope p.state in
-    let b = block_giving all t.state (make_block_in cx body p.scope (nested t.state)) in
-    record { state = b.state; names = all; right = RightTerm.Loop false (vars_of scope all) p.results t.block b.block site }
+make_while_in cx = make_while (group_in cx) (base_of_in cx) (name_base_in cx)
 
 abbrev pub make_do_in : Context → Block → Expr → Site → Site → Look → Built → MadeGiven
-make_do_in cx body c site test scope s =
-    let all = once [] (names_bound body) in
-    let i = make_starts_in cx site all scope s in
-    let p = declared all scope i.state in
-    let b = block_giving all p.state (make_block_in cx body p.scope (nested p.state)) in
-    let t = make_inside_in cx c p.scope b.state in
-    record { state = t.state; names = all; right = RightTerm.Loop true i.results p.results t.block b.block test }
+make_do_in cx = make_do (group_in cx) (base_of_in cx) (name_base_in cx)

@@ -10,5 +10,3 @@ mod scope;
 
 pub use program::to_core;
 
-#[cfg(test)]
-mod tests;

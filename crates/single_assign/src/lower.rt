@@ -7,9 +7,9 @@ ghost use Rattle.sac_ast.specs.View.{expr, exprs, maybe, bound, index_view, gene
 ghost use Rattle.core_ir.specs.Terms.{Plain, PlainTerm, RightTerm, gens_of};
 ghost use Rattle.core_ir.specs.View.{block_term, gen_term, right_term};
 ghost use Rattle.lowering_laws.specs.Lowering.{built_in as built_in_value};
-ghost use Rattle.single_assign.specs.Building.{block_giving, block_of, bound_at, first_var, given_bound, index_declared, nested, start_at, use_at};
+ghost use Rattle.lowering_steps.specs.Building.{block_giving, block_of, bound_at, first_var, given_bound, index_declared, start_at, use_at};
 ghost use Rattle.single_assign.specs.Looks.{look, texts};
-ghost use Rattle.single_assign.specs.Views.{built, made, made_list, made_option, made_scope, made_names, made_block, made_gen, made_gens, made_operation, make_in, make_all_in, make_maybe_in, make_bound_in, make_gen_in, make_gens_in, make_operation_in, make_stmt_in, make_block_in, make_inside_in, make_cell_in, make_default_in, make_starts_in, make_if_in, make_while_in, make_do_in, made_given, name_base_in};
+ghost use Rattle.single_assign.specs.Views.{built, made, made_list, made_option, made_scope, made_names, made_block, made_gen, made_gens, made_operation, make_in, make_all_in, make_maybe_in, make_bound_in, make_gen_in, make_gens_in, make_operation_in, make_stmt_in, make_block_in, make_inside_in, make_cell_in, make_default_in, make_starts_in, make_if_in, make_turn_in, make_while_in, make_do_in, made_given, name_base_in};
 
 use crate::builder::Builder;
 use crate::context::Context;
@@ -524,7 +524,7 @@ fn lower_turn(
     scope: &Scope<'_>,
     out: &mut Builder,
 ) -> Result<Block, Memory>
-    ensures { IfOk result (λ b. made_block (built out.new) (block_term b) ≡ block_giving (texts names.now) (built out.old) (make_block_in cx.now (block ss.now) (look scope.now) (nested (built out.old)))) }
+    ensures { IfOk result (λ b. made_block (built out.new) (block_term b) ≡ make_turn_in cx.now (texts names.now) (block ss.now) (look scope.now) (built out.old)) }
 {
     let mut inner = out.nested(cx.alloc);
     let mut inside = (&*scope).inside(cx.alloc);

@@ -6,7 +6,8 @@ ghost use Rattle.sac_ast.specs.View.{function, functions as trees, program as tr
 ghost use Rattle.core_ir.specs.View.{core_term, fun_term};
 ghost use Rattle.value_meaning.specs.Calls.{is_main};
 ghost use Rattle.lowering_laws.specs.Programs.{function_names as names_of_functions, lowered_program, places_of as places_of_name};
-ghost use Rattle.single_assign.specs.Functions.{function_in, function_of, functions_by, params_declared, params_made};
+ghost use Rattle.lowering_steps.specs.Functions.{params_declared};
+ghost use Rattle.single_assign.specs.Functions.{function_in, function_of, functions_by, params_made};
 ghost use Rattle.single_assign.specs.Looks.{look, texts};
 ghost use Rattle.single_assign.specs.Views.{built, place_by};
 

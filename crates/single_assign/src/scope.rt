@@ -1,8 +1,9 @@
 //! The variables of names.
 
 ghost use Rattle.std.specs.Prelude.{◌≡◌, IfOk, OnOk};
-ghost use Rattle.single_assign.specs.Building.{declared};
-ghost use Rattle.single_assign.specs.Looks.{look, own, texts, unbound, vars_of, with_var};
+ghost use Rattle.lowering_steps.specs.Building.{declared};
+ghost use Rattle.lowering_steps.specs.Looks.{unbound, vars_of, with_var};
+ghost use Rattle.single_assign.specs.Looks.{look, own, texts};
 ghost use Rattle.single_assign.specs.Views.{built, made_names};
 
 use crate::builder::Builder;

@@ -1,4 +1,4 @@
-use Rattle.std.proofs.Common.{◌≡◌, ◌+◌, ◌*◌, drop}
+use Rattle.std.proofs.Common.{◌≡◌, ◌+◌, ◌*◌, drop, map}
 use Rattle.std.specs.Prelude.{max}
 use Rattle.sac_ast.specs.declared.Expression.{size-Expression}
 use Rattle.sac_ast.specs.declared.Statement.{size-Statement}
@@ -8,7 +8,9 @@ use Rattle.sac_ast.specs.declared.Operation.{size-Operation}
 use Rattle.sac_ast.specs.View.{exprs, generators, block}
 use Rattle.sac_ast.proofs.Lists.{exprs_size, block_size, cells_size, maybe_size}
 use Rattle.single_assign.specs.Looks.{look}
-use Rattle.single_assign.specs.Views.{after_list, after_gens, built, make_all_in, make_gens_in, make_block_in}
+use Rattle.core_ir.specs.View.{gen_term}
+use Rattle.lowering_steps.specs.Parts.{after_list, after_gens}
+use Rattle.single_assign.specs.Views.{built, make_all_in, make_gens_in, make_block_in}
 use Rattle.single_assign.proofs.lower.+lowering.Given as goal
 
 abbrev pub decreases-lower : goal.decreases-lower
@@ -68,7 +70,7 @@ invariant-lower_all-loop-e l =
 
 abbrev pub invariant-lower_generators-loop-g : goal.invariant-lower_generators-loop-g
 invariant-lower_generators-loop-g l =
-    after_gens l.gens.items (make_gens_in l.cx (generators (drop l.g-index l.gs)) (look l.scope) (built l.out)) ≡ make_gens_in l.cx (generators l.gs) (look l.scope) (built l.initial.out)
+    after_gens (map gen_term l.gens.items) (make_gens_in l.cx (generators (drop l.g-index l.gs)) (look l.scope) (built l.out)) ≡ make_gens_in l.cx (generators l.gs) (look l.scope) (built l.initial.out)
 
 abbrev pub invariant-lower_block-loop-s : goal.invariant-lower_block-loop-s
 invariant-lower_block-loop-s l =

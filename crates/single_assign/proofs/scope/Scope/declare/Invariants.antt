@@ -1,7 +1,8 @@
 use Rattle.std.proofs.Common.{◌≡◌, drop}
-use Rattle.single_assign.specs.Building.{declared}
+use Rattle.lowering_steps.specs.Building.{declared}
+use Rattle.lowering_steps.specs.Parts.{after_names}
 use Rattle.single_assign.specs.Looks.{look, texts}
-use Rattle.single_assign.specs.Views.{after_names, built}
+use Rattle.single_assign.specs.Views.{built}
 use Rattle.single_assign.proofs.scope.Scope.declare.Given as goal
 
 abbrev pub invariant-loop-name : goal.invariant-loop-name

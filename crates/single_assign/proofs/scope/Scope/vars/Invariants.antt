@@ -1,5 +1,6 @@
 use Rattle.std.proofs.Common.{◌≡◌, ◌++◌, drop}
-use Rattle.single_assign.specs.Looks.{look, texts, vars_of}
+use Rattle.lowering_steps.specs.Looks.{vars_of}
+use Rattle.single_assign.specs.Looks.{look, texts}
 use Rattle.single_assign.proofs.scope.Scope.vars.Given as goal
 
 abbrev pub invariant-loop-name : goal.invariant-loop-name
