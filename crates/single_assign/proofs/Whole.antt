@@ -1,17 +1,18 @@
 -- What is made of functions and of the lists of a program.
-use Rattle.std.proofs.Common.{◌≡◌, ℕ, suc, ◌+◌, ◌<◌, List, [], ◌∷◌, ◌++◌, length, drop, get_or, Bool, true, false, Option, refl, ap, sym, ◌∙◌, arith, Bor}
-use Rattle.std.specs.Prelude.{◌||◌, bytes_eq, if◌then◌else◌}
-use Rattle.std.proofs.lemmas.List.{append_assoc, drop_more}
+use Rattle.std.proofs.Common.{◌≡◌, ℕ, suc, ◌+◌, ◌<◌, List, [], ◌∷◌, ◌++◌, length, drop, map, get_or, Bool, true, false, Option, refl, ap, sym, ◌∙◌, Bor}
+use Rattle.std.specs.Prelude.{◌||◌, bytes_eq, if◌then◌else◌, position, unwrap_or}
+use Rattle.std.proofs.lemmas.List.{drop_more}
 use Rattle.indexmap.specs.IndexSet.{insert_key}
 use Rattle.sac_base.specs.declared.base.Base.{Base}
 use Rattle.sac_base.specs.declared.name.Name.{Name}
 use Rattle.sac_base.specs.declared.types.ArrayType.{ArrayType}
 use Rattle.sac_ast.specs.declared.Function.{Function}
-use Rattle.sac_ast.specs.Tree.{Expr, FunctionTree}
+use Rattle.sac_ast.specs.Tree.{Expr, FunctionTree, ProgramTree}
 use Rattle.sac_ast.specs.View.{functions}
 use Rattle.core_ir.specs.declared.tree.Var.{Var}
-use Rattle.core_ir.specs.Terms.{BlockTerm, FunTerm, Gives, chain}
-use Rattle.lowering_laws.specs.Programs.{places_of}
+use Rattle.core_ir.specs.Terms.{BlockTerm, FunTerm, CoreTerm, Gives, chain}
+use Rattle.value_meaning.specs.Calls.{is_main}
+use Rattle.lowering_laws.specs.Programs.{function_names, lowered_program, place_in, places_of}
 use Rattle.lowering_steps.specs.Behind.{anew}
 use Rattle.lowering_steps.specs.Looks.{Look, unbound}
 use Rattle.lowering_steps.specs.Building.{Built, MadeList, MadeScope, make_block, make_all}
@@ -19,7 +20,7 @@ use Rattle.lowering_steps.specs.Functions.{MadeParams, params_declared, function
 use Rattle.lowering_steps.proofs.Whole.{function_is}
 use Rattle.single_assign.specs.Looks.{texts}
 use Rattle.single_assign.specs.Views.{made_list, made_scope}
-use Rattle.single_assign.specs.Functions.{params_made}
+use Rattle.single_assign.specs.Functions.{functions_by, params_made}
 use Rattle.single_assign.proofs.Once.{among, once_but, once_kept, inserted, names_left}
 
 -- ---- functions
@@ -52,6 +53,11 @@ module _ (group_of : Name → ℕ) (base_of : Expr → Option Base) (base_of_nam
       ∙ (λ i. whole (params_declared f.params (k i) (n i)))
       ∙ function_is group_of base_of base_of_name f
 
+-- a list with one more element, before others
+pub map_next : {A B : Type 0} (f : A → B) (xs : List A) (x : A) (rest : List B) → map f (xs ++ x ∷ []) ++ rest ≡ map f xs ++ (f x ∷ rest)
+map_next f [] x rest = refl
+map_next f (y ∷ xs) x rest = ap (λ l. f y ∷ l) (map_next f xs x rest)
+
 -- ---- the names of functions
 
 pub insert_once : (ks : List (Bor (List ℕ))) (k : Bor (List ℕ)) (xs : List Name)
@@ -65,3 +71,15 @@ insert_once ks k xs = by (among ks k.now) refl (inserted ks k)
 
 pub names_next : (fs : List Function) (k : ℕ) (d : Function) → k < length fs → names_left (functions (drop k fs)) ≡ (get_or fs k d).name ∷ names_left (functions (drop (k + 1) fs))
 names_next fs k d h = ap (λ gs. names_left (functions gs)) (drop_more fs k d h)
+
+-- ---- programs
+
+abbrev pub core_of : List FunTerm → List (List ℕ) → ℕ → CoreTerm
+core_of funs groups main = record { functions = funs; groups = groups; main = main }
+
+pub program_ends : (p : ProgramTree) (funs : List FunTerm) (groups : List (List ℕ)) (main : ℕ) (names : List Name)
+    → names ≡ function_names p.functions → funs ≡ functions_by (place_in names) p.functions p.functions → groups ≡ map (λ x. places_of x 0 p.functions) names → main ≡ unwrap_or (position is_main p.functions) 0
+    → core_of funs groups main ≡ lowered_program p
+program_ends p funs groups main names n f g m =
+    (λ i. core_of (f i) (g i) (m i))
+    ∙ (λ i. core_of (functions_by (place_in (n i)) p.functions p.functions) (map (λ x. places_of x 0 p.functions) (n i)) (unwrap_or (position is_main p.functions) 0))
