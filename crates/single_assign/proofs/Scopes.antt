@@ -1,10 +1,10 @@
 -- Binding a name in a scope.
-use Rattle.std.proofs.Common.{◌≡◌, Bool, true, false, refl, sym, ap, ◌∙◌, Option, Some, None, Ok, Err, Result, OnOk, true≢false, String, Global}
+use Rattle.std.proofs.Common.{◌≡◌, Bool, true, false, refl, sym, ap, ◌∙◌, Some, Ok, Err, Result, OnOk, true≢false}
 use Rattle.std.specs.Prelude.{bytes_eq, if◌then◌else◌}
 use Rattle.std.proofs.lemmas.Slice.Eq.{bytes_eq-Decides}
 use Rattle.sac_base.specs.declared.name.Name.{Name}
 use Rattle.core_ir.specs.declared.tree.Var.{Var}
-use Rattle.single_assign.specs.declared.scope.Scope.{Scope, Scope-F, out-Scope, roll-Scope, map-Scope, fold-roll-Scope, fold_out-Scope}
+use Rattle.single_assign.specs.declared.scope.Scope.{Scope, out-Scope, roll-Scope, map-Scope, fold-roll-Scope, fold_out-Scope}
 use Rattle.lowering_steps.specs.Looks.{Look, with_var}
 use Rattle.single_assign.specs.Looks.{own, or_else, over, outer_of, scope_step, look}
 

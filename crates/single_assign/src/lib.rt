@@ -9,4 +9,3 @@ mod program;
 mod scope;
 
 pub use program::to_core;
-

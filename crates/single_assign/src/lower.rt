@@ -88,12 +88,7 @@ fn with_loop(gens: Vec<CoreGen>, op: CoreOp) -> Right
 }
 
 // The block of what was made inside, which gives a variable.
-fn close(
-    cx: &Context<'_>,
-    inner: Builder,
-    var: Var,
-    out: &mut Builder,
-) -> Result<Block, Memory>
+fn close(cx: &Context<'_>, inner: Builder, var: Var, out: &mut Builder) -> Result<Block, Memory>
     ensures { IfOk result (λ b. made_block (built out.new) (block_term b) ≡ block_of (built out.old) (made (built inner) var)) }
 {
     let results = Vec::from_slice(cx.alloc, &[var])?;

@@ -47,10 +47,7 @@ fn lower_program(alloc: Global, program: &Program) -> Result<Core, Memory>
 }
 
 // The names of functions, each once.
-fn function_names<'a>(
-    alloc: Global,
-    functions: &'a [Function],
-) -> Result<IndexSet<&'a str>, Memory>
+fn function_names<'a>(alloc: Global, functions: &'a [Function]) -> Result<IndexSet<&'a str>, Memory>
     ensures { IfOk result (λ names. texts names.keys ≡ names_of_functions (trees functions.now)) }
 {
     let mut names = IndexSet::new(alloc);
@@ -83,11 +80,7 @@ fn places_of(alloc: Global, functions: &[Function], name: &str) -> Result<Vec<u3
     Ok(places)
 }
 
-fn groups(
-    alloc: Global,
-    functions: &[Function],
-    names: &[&str],
-) -> Result<Vec<Vec<u32>>, Memory>
+fn groups(alloc: Global, functions: &[Function], names: &[&str]) -> Result<Vec<Vec<u32>>, Memory>
     ensures { IfOk result (λ v. map (λ g. g.items) v.items ≡ map (λ x. places_of_name x 0 (trees functions.now)) (texts names.now)) }
 {
     let mut groups = Vec::new(alloc);

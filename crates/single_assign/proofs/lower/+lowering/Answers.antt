@@ -1,11 +1,10 @@
-use Rattle.std.proofs.Common.{rules, ◌≡◌, ◌+◌, ◌<◌, ◌≤◌, refl, sym, ap, ◌∙◌, subst, length, drop, get_or, map}
+use Rattle.std.proofs.Common.{rules, ◌≡◌, ◌+◌, ◌<◌, ◌≤◌, sym, ap, ◌∙◌, subst, length, drop, get_or, map}
 use Rattle.std.specs.Prelude.{IfOk, OnOk}
 use Rattle.sac_ast.specs.Tree
 use Rattle.sac_ast.specs.View.{expr, exprs, generator, generators, operation, stmt, block, bound, maybe, index_view}
 use Rattle.sac_ast.proofs.Views.{expr_call, expr_with, stmt_assign, generator_is, operation_genarray}
 use Rattle.sac_ast.proofs.Lists.{generators-drop}
-use Rattle.core_ir.specs.Terms.{gens_of}
-use Rattle.core_ir.specs.View.{gen_term, right_term}
+use Rattle.core_ir.specs.View.{gen_term}
 use Rattle.value_meaning.specs.Meaning.{default_base}
 use Rattle.std.proofs.lemmas.List.{drop_all}
 use Rattle.lowering_steps.specs.Building.{bound_at}
@@ -13,9 +12,9 @@ use Rattle.lowering_steps.specs.Parts.{after_gens}
 use Rattle.lowering_steps.proofs.Arms.{with_arm, assign_call_arm, assign_arm, generator_arm, genarray_arm}
 use Rattle.lowering_steps.proofs.Steps.{gens_step, gens_end}
 use Rattle.single_assign.specs.Looks.{look, texts}
-use Rattle.single_assign.specs.Views.{built, made, made_scope, made_gen, made_gens, group_in, base_of_in, name_base_in, make_in, make_all_in, make_gen_in, make_gens_in, make_operation_in, make_stmt_in}
+use Rattle.single_assign.specs.Views.{built, made, made_scope, made_gen, group_in, base_of_in, name_base_in, make_in, make_all_in, make_gen_in, make_gens_in, make_operation_in, make_stmt_in}
 use Rattle.single_assign.proofs.Scopes.{on_ok_then}
-use Rattle.single_assign.proofs.Loops.{not_call, terms_next}
+use Rattle.single_assign.proofs.Loops.{gen_roll, not_call, terms_next}
 use Rattle.single_assign.proofs.lower.+lowering.Goals as goal
 
 pub lower-returns-in_ok-making-in-With : goal.lower-returns-in_ok-making-in-With
@@ -31,7 +30,7 @@ lower-returns-in_ok-making-in-With t c =
     let base = c.in_ok-base-in-With.base in
     let p = c.in_ok-gens-in-With.ensures ∙ ap (λ gs. make_gens_in cx (generators gs) l s) c.deref-in-With.ensures.value in
     let g = c.in_ok-base-in-With.ensures ∙ ap (λ gs. default_base (base_of_in cx) (generators gs)) c.deref-in-With-2.ensures.value in
-    let q = c.in_ok-making-in-With.ensures ∙ ap (λ op. make_operation_in cx (operation op) base l s1) c.deref-in-With-3.ensures.value in
+    let q = c.in_ok-making-in-With.ensures ∙ ap (λ op. make_operation_in cx (operation op) base l s1) c.deref-in-With-3.ensures in
     let whole =
     with_arm (group_in cx) (base_of_in cx) (name_base_in cx) w.field-2 (generators w.gs.items) (operation w.op.value) l s p g q (λ i. bound_at s2 making.site (c.with_loop.ensures i))
     ∙ sym (ap (λ e. make_in cx e l s) (ap expr w.is ∙ expr_with w.gs w.op w.field-2)) in
@@ -66,8 +65,9 @@ lower_generator-returns t c =
     let cx = a.cx.now in
     let l = look a.scope.now in
     let s = built a.out.now in
-    generator_arm (group_in cx) (base_of_in cx) (name_base_in cx) (bound g.lower) (bound g.upper) g.lower_closed g.upper_closed (maybe g.step) (maybe g.width) (index_view g.index) (block g.body.items) (expr g.cell) g.site l s
-    c.in_ok-lower.ensures c.in_ok-upper.ensures c.in_ok-step.ensures c.in_ok-width.ensures c.in_ok-index.ensures c.inside.ensures c.in_ok-names.ensures c.in_ok-body.ensures
+    ap (made_gen (built c.lower_cell.new.out)) (gen_roll _)
+    ∙ generator_arm (group_in cx) (base_of_in cx) (name_base_in cx) (bound g.lower) (bound g.upper) g.lower_closed g.upper_closed (maybe g.step) (maybe g.width) (index_view g.index) (block g.body.items) (expr g.cell) g.site l s
+    c.in_ok-lower.ensures c.in_ok-upper.ensures c.in_ok-step.ensures c.in_ok-width.ensures c.in_ok-index.ensures c.inside-inside.ensures c.in_ok-names.ensures c.in_ok-body.ensures
     ∙ sym (ap (λ tree. make_gen_in cx tree l s) (generator_is g))
 
 pub lower_generators-loop-g-preserved : goal.lower_generators-loop-g-preserved
@@ -116,6 +116,6 @@ lower_statement-returns-in-Assign t c =
     let cx = a.cx.now in
     let l = look a.scope.now in
     let s = built a.out.now in
-    let whole = ap (λ targets. make_stmt_in cx (Tree.assign targets (expr i.value)) l s) c.deref-in-Assign.ensures.value
+    let whole = ap (λ targets. make_stmt_in cx (Tree.assign targets (expr i.value)) l s) c.deref.ensures.value
     ∙ sym (ap (λ st. make_stmt_in cx st l s) (ap stmt i.is ∙ stmt_assign i.targets i.value)) in
     subst (λ m. OnOk c.lower_assign.result (made_scope (built c.lower_assign.new.out) (look c.lower_assign.new.scope) ≡ m)) whole c.lower_assign.ensures

@@ -1,8 +1,4 @@
-use Rattle.std.proofs.Common.{rules, ◌≡◌, ◌<◌, ◌+◌, ◌++◌, List, ℕ, Bor, [], ◌∷◌, refl, sym, ap, ◌∙◌, length, drop, get_or, true, false}
-use Rattle.std.specs.List.{list_any}
-use Rattle.std.specs.Prelude.{bytes_eq}
-use Rattle.std.proofs.lemmas.List.{get_or_default}
-use Rattle.lowering_laws.specs.Lowering.{once}
+use Rattle.std.proofs.Common.{rules, ◌≡◌, ◌<◌, ◌+◌, ◌++◌, List, ℕ, Bor, [], sym, ◌∙◌, length, drop, get_or, true, false}
 use Rattle.single_assign.specs.Looks.{texts}
 use Rattle.single_assign.proofs.Once.{among, once_but, once_start, once_kept, once_left, once_next, inserted, not_met, was_met}
 use Rattle.single_assign.proofs.names.once.Goals.{then-branch+in_ok-push, else-branch}

@@ -1,4 +1,4 @@
-use Rattle.std.proofs.Common.{rules, ◌≡◌, ◌<◌, ◌+◌, ◌++◌, ◌∷◌, sym, ap, ◌∙◌, length, drop}
+use Rattle.std.proofs.Common.{rules, ◌<◌, ◌+◌, ◌++◌, ◌∷◌, sym, ap, ◌∙◌, length, drop}
 use Rattle.sac_ast.specs.View.{functions}
 use Rattle.single_assign.specs.Looks.{texts}
 use Rattle.single_assign.proofs.Once.{among, once_but, once_start, names_left}

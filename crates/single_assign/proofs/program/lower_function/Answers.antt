@@ -1,4 +1,4 @@
-use Rattle.std.proofs.Common.{◌≡◌, ap, ◌∙◌}
+use Rattle.std.proofs.Common.{ap, ◌∙◌}
 use Rattle.sac_ast.specs.View.{function, block, exprs}
 use Rattle.core_ir.specs.View.{block_term}
 use Rattle.lowering_steps.specs.Functions.{params_declared}

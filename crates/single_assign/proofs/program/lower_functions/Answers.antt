@@ -1,4 +1,4 @@
-use Rattle.std.proofs.Common.{rules, ◌≡◌, ◌<◌, ◌+◌, ◌++◌, ◌∷◌, sym, ap, ◌∙◌, length, drop, map}
+use Rattle.std.proofs.Common.{rules, ◌<◌, ◌+◌, ◌++◌, ◌∷◌, sym, ap, ◌∙◌, length, drop, map}
 use Rattle.std.proofs.lemmas.List.{drop_more}
 use Rattle.sac_ast.specs.View.{function, functions}
 use Rattle.core_ir.specs.View.{fun_term}

@@ -1,4 +1,4 @@
-use Rattle.std.proofs.Common.{◌≡◌, ap, ◌∙◌, map}
+use Rattle.std.proofs.Common.{ap, ◌∙◌, map}
 use Rattle.std.specs.Prelude.{position, unwrap_or}
 use Rattle.sac_ast.specs.View.{functions, program}
 use Rattle.value_meaning.specs.Calls.{is_main}
