@@ -1,5 +1,5 @@
 -- What is made of a function in a context.
-use Rattle.std.specs.Prelude.{ℕ, List, map}
+use Rattle.std.specs.Prelude.{ℕ, zero, suc, List, [], ◌∷◌, ◌++◌, map}
 use Rattle.sac_base.specs.declared.name.Name.{Name}
 use Rattle.sac_base.specs.declared.types.ArrayType.{ArrayType}
 use Rattle.sac_ast.specs.Bases.{base_in}
@@ -24,3 +24,9 @@ function_of group_of fs f = function_by group_of (base_in fs f) (name_base fs f)
 
 abbrev pub functions_by : (Name → ℕ) → List FunctionTree → List FunctionTree → List FunTerm
 functions_by group_of fs gs = map (function_of group_of fs) gs
+
+-- a place is added to a group, where there is one
+abbrev pub with_place : ℕ → ℕ → List (List ℕ) → List (List ℕ)
+with_place group place [] = []
+with_place zero place (g ∷ gs) = (g ++ place ∷ []) ∷ gs
+with_place (suc group) place (g ∷ gs) = g ∷ with_place group place gs

@@ -6,9 +6,9 @@ ghost use Rattle.value_meaning.specs.Meaning.{default_base as default_base_value
 ghost use Rattle.single_assign.specs.Views.{base_of_in, group_in, name_base_in, place_by};
 
 use indexmap::IndexSet;
-use sac_ast::{Function, Generator, Known};
+use sac_ast::{Function, Generator};
 use sac_base::{Base, Memory, Name};
-use static_bases::base_of;
+use static_bases::{Bindings, base_of};
 use std::alloc::Global;
 
 #[derive(Clone, Copy)]
@@ -18,7 +18,7 @@ pub struct Context<'a> {
     /// The names of functions, in the order of their groups.
     pub names: &'a IndexSet<&'a str>,
     /// What the names of the function are bound to.
-    pub known: &'a [Known],
+    pub known: &'a Bindings,
 }
 
 impl Context<'_> {
@@ -36,12 +36,7 @@ impl Context<'_> {
     pub fn base_of_name(&self, name: &str) -> Base
         ensures { result ≡ name_base_in self.now name.now }
     {
-        for known in self.known {
-            if known.name.as_str() == name {
-                return or_int(known.base);
-            }
-        }
-        Base::Int
+        or_int(self.known.base_of(name))
     }
 
     /// The base of the cells that a genarray without a default has.

@@ -6,10 +6,11 @@ ghost use Rattle.sac_ast.specs.View;
 
 use crate::call::call_instance;
 use crate::rules::{
-    base_of_name, builtin_base, choice_base, literal_base, may_be, may_match, operand_base,
+    builtin_base, choice_base, literal_base, may_be, may_match, operand_base,
     operands_fit, where_holds,
 };
-use sac_ast::{Bound, Expression, Function, Generator, Known, Operation};
+use crate::table::Bindings;
+use sac_ast::{Bound, Expression, Function, Generator, Operation};
 use sac_base::{Base, Memory, Name, result_base};
 use std::alloc::Global;
 
@@ -19,14 +20,14 @@ pub fn base_of(
     e: &Expression,
     alloc: Global,
     functions: &[Function],
-    known: &[Known],
+    known: &Bindings,
 ) -> Result<Option<Base>, Memory>
-    ensures { IfOk result (λ b. b ≡ Bases.base (Bases.call_bases_in (View.functions functions.now)) known.now (View.expr e.now)) }
+    ensures { IfOk result (λ b. b ≡ Bases.base (Bases.call_bases_in (View.functions functions.now)) known.now.list.items (View.expr e.now)) }
 {
     match e {
         Expression::Number(_, _) => Ok(Some(Base::Int)),
         Expression::Truth(_, _) => Ok(Some(Base::Bool)),
-        Expression::Variable(name, _) => Ok(base_of_name(known, name)),
+        Expression::Variable(name, _) => Ok(known.base_of(name.as_str())),
         Expression::Literal(es, _) => {
             let bases = bases_of(es, alloc, functions, known)?;
             Ok(literal_base(&bases))
@@ -90,9 +91,9 @@ pub fn bases_of(
     es: &[Expression],
     alloc: Global,
     functions: &[Function],
-    known: &[Known],
+    known: &Bindings,
 ) -> Result<Vec<Option<Base>>, Memory>
-    ensures { IfOk result (λ bs. bs.items ≡ Bases.bases (Bases.call_bases_in (View.functions functions.now)) known.now (View.exprs es.now)) }
+    ensures { IfOk result (λ bs. bs.items ≡ Bases.bases (Bases.call_bases_in (View.functions functions.now)) known.now.list.items (View.exprs es.now)) }
 {
     let mut bases = Vec::new(alloc);
     for e in es {
@@ -109,9 +110,9 @@ fn maybe_base(
     other: Option<Base>,
     alloc: Global,
     functions: &[Function],
-    known: &[Known],
+    known: &Bindings,
 ) -> Result<Option<Base>, Memory>
-    ensures { IfOk result (λ b. b ≡ Bases.maybe_base (Bases.call_bases_in (View.functions functions.now)) known.now (View.maybe e.now) other) }
+    ensures { IfOk result (λ b. b ≡ Bases.maybe_base (Bases.call_bases_in (View.functions functions.now)) known.now.list.items (View.maybe e.now) other) }
 {
     match e {
         None => Ok(other),
@@ -124,9 +125,9 @@ fn bound_base(
     b: &Bound,
     alloc: Global,
     functions: &[Function],
-    known: &[Known],
+    known: &Bindings,
 ) -> Result<Option<Base>, Memory>
-    ensures { IfOk result (λ base. base ≡ Bases.bound_base (Bases.call_bases_in (View.functions functions.now)) known.now (View.bound b.now)) }
+    ensures { IfOk result (λ base. base ≡ Bases.bound_base (Bases.call_bases_in (View.functions functions.now)) known.now.list.items (View.bound b.now)) }
 {
     match b {
         Bound::Dot(_) => Ok(Some(Base::Int)),
@@ -141,9 +142,9 @@ fn operation_base(
     cell: Option<Base>,
     alloc: Global,
     functions: &[Function],
-    known: &[Known],
+    known: &Bindings,
 ) -> Result<Option<Base>, Memory>
-    ensures { IfOk result (λ b. b ≡ Bases.operation_base (Bases.call_bases_in (View.functions functions.now)) known.now (View.operation op.now) cell) }
+    ensures { IfOk result (λ b. b ≡ Bases.operation_base (Bases.call_bases_in (View.functions functions.now)) known.now.list.items (View.operation op.now) cell) }
 {
     match op {
         Operation::Genarray { shape, default, .. } => {
@@ -165,9 +166,9 @@ fn cell_base(
     gs: &[Generator],
     alloc: Global,
     functions: &[Function],
-    known: &[Known],
+    known: &Bindings,
 ) -> Result<Option<Base>, Memory>
-    ensures { IfOk result (λ b. b ≡ Bases.cell_base (Bases.call_bases_in (View.functions functions.now)) known.now (View.generators gs.now)) }
+    ensures { IfOk result (λ b. b ≡ Bases.cell_base (Bases.call_bases_in (View.functions functions.now)) known.now.list.items (View.generators gs.now)) }
 {
     match gs.first() {
         None => Ok(Some(Base::Int)),
@@ -182,9 +183,9 @@ fn with_base(
     wanted: Option<Base>,
     alloc: Global,
     functions: &[Function],
-    known: &[Known],
+    known: &Bindings,
 ) -> Result<Option<Base>, Memory>
-    ensures { IfOk result (λ b. b ≡ Bases.with_base_of (Bases.call_bases_in (View.functions functions.now)) known.now (View.generators gs.now) wanted) }
+    ensures { IfOk result (λ b. b ≡ Bases.with_base_of (Bases.call_bases_in (View.functions functions.now)) known.now.list.items (View.generators gs.now) wanted) }
 {
     for g in gs {
         if !generator_fits(g, wanted, alloc, functions, known)? {
@@ -201,9 +202,9 @@ fn generator_fits(
     wanted: Option<Base>,
     alloc: Global,
     functions: &[Function],
-    known: &[Known],
+    known: &Bindings,
 ) -> Result<bool, Memory>
-    ensures { IfOk result (λ b. b ≡ Bases.generator_fits (Bases.call_bases_in (View.functions functions.now)) known.now (View.generator g.now) wanted) }
+    ensures { IfOk result (λ b. b ≡ Bases.generator_fits (Bases.call_bases_in (View.functions functions.now)) known.now.list.items (View.generator g.now) wanted) }
 {
     let int = Some(Base::Int);
     let lower = bound_base(&g.lower, alloc, functions, known)?;

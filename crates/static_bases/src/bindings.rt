@@ -11,44 +11,37 @@ ghost use Rattle.sac_ast.specs.View;
 use crate::base::{base_of, bases_of};
 use crate::call::call_instance;
 use crate::rules::base_at;
+use crate::table::Bindings;
 use sac_ast::{
-    Bound, Expression, Function, Generator, Index, Known, Operation, Param, Statement, Target,
+    Bound, Expression, Function, Generator, Index, Operation, Param, Statement, Target,
 };
-use sac_base::{ArrayType, Base, Memory, Name, copy_name};
+use sac_base::{ArrayType, Base, Memory, Name};
 use std::alloc::Global;
-
-fn bind(known: &mut Vec<Known>, name: &Name, base: Option<Base>) -> Result<(), Memory>
-    ensures { OnOk result (known.new.items ≡ known.old.items ++ record { name = name.now; base = base } ∷ []) }
-{
-    let name = copy_name(name)?;
-    known.push(Known { name, base })?;
-    Ok(())
-}
 
 // Binds targets to values of these bases; those beyond them have none.
 fn bind_targets(
-    known: &mut Vec<Known>,
+    known: &mut Bindings,
     targets: &[Target],
     bases: &[Option<Base>],
 ) -> Result<(), Memory>
-    ensures { OnOk result (known.new.items ≡ Bases.with_bases targets.now bases.now known.old.items) }
+    ensures { OnOk result (known.new.list.items ≡ Bases.with_bases targets.now bases.now known.old.list.items) }
 {
     for k in 0..targets.len() {
-        bind(known, &targets[k].name, base_at(bases, k))?;
+        known.bind(&targets[k].name, base_at(bases, k))?;
     }
     Ok(())
 }
 
 // Binds targets to the results of a call with arguments of these bases.
 fn bind_results(
-    known: &mut Vec<Known>,
+    known: &mut Bindings,
     targets: &[Target],
     alloc: Global,
     functions: &[Function],
     name: &Name,
     bases: &[Option<Base>],
 ) -> Result<(), Memory>
-    ensures { OnOk result (known.new.items ≡ Bases.with_bases targets.now (Bases.known_bases (Bases.call_bases_in (View.functions functions.now) name.now bases.now)) known.old.items) }
+    ensures { OnOk result (known.new.list.items ≡ Bases.with_bases targets.now (Bases.known_bases (Bases.call_bases_in (View.functions functions.now) name.now bases.now)) known.old.list.items) }
 {
     let results = result_bases(alloc, call_instance(functions, name, bases))?;
     bind_targets(known, targets, &results)
@@ -74,29 +67,29 @@ fn bases_of_types(alloc: Global, types: &[ArrayType]) -> Result<Vec<Option<Base>
     Ok(bases)
 }
 
-fn bind_params(known: &mut Vec<Known>, params: &[Param]) -> Result<(), Memory>
-    ensures { OnOk result (known.new.items ≡ known.old.items ++ Bases.bound_params params.now) }
+fn bind_params(known: &mut Bindings, params: &[Param]) -> Result<(), Memory>
+    ensures { OnOk result (known.new.list.items ≡ known.old.list.items ++ Bases.bound_params params.now) }
 {
     for param in params {
-        bind(known, &param.name, Some(param.ty.base))?;
+        known.bind(&param.name, Some(param.ty.base))?;
     }
     Ok(())
 }
 
-fn bind_index(known: &mut Vec<Known>, index: &Index) -> Result<(), Memory>
-    ensures { OnOk result (known.new.items ≡ known.old.items ++ Bases.index_bases (View.index_view index.now)) }
+fn bind_index(known: &mut Bindings, index: &Index) -> Result<(), Memory>
+    ensures { OnOk result (known.new.list.items ≡ known.old.list.items ++ Bases.index_bases (View.index_view index.now)) }
 {
     match index {
-        Index::Named(target) => bind(known, &target.name, Some(Base::Int)),
+        Index::Named(target) => known.bind(&target.name, Some(Base::Int)),
         Index::Parts(targets) => bind_parts(known, targets),
     }
 }
 
-fn bind_parts(known: &mut Vec<Known>, targets: &[Target]) -> Result<(), Memory>
-    ensures { OnOk result (known.new.items ≡ known.old.items ++ map (λ (t : TargetValue). record { name = t.name; base = Some Base.Int }) targets.now) }
+fn bind_parts(known: &mut Bindings, targets: &[Target]) -> Result<(), Memory>
+    ensures { OnOk result (known.new.list.items ≡ known.old.list.items ++ map (λ (t : TargetValue). record { name = t.name; base = Some Base.Int }) targets.now) }
 {
     for target in targets {
-        bind(known, &target.name, Some(Base::Int))?;
+        known.bind(&target.name, Some(Base::Int))?;
     }
     Ok(())
 }
@@ -107,9 +100,9 @@ fn in_expr(
     e: &Expression,
     alloc: Global,
     functions: &[Function],
-    known: &mut Vec<Known>,
+    known: &mut Bindings,
 ) -> Result<(), Memory>
-    ensures { OnOk result (known.new.items ≡ Bases.in_expr (Bases.call_bases_in (View.functions functions.now)) (View.expr e.now) known.old.items) }
+    ensures { OnOk result (known.new.list.items ≡ Bases.in_expr (Bases.call_bases_in (View.functions functions.now)) (View.expr e.now) known.old.list.items) }
 {
     match e {
         Expression::Number(_, _) | Expression::Truth(_, _) | Expression::Variable(_, _) => Ok(()),
@@ -138,9 +131,9 @@ fn in_exprs(
     es: &[Expression],
     alloc: Global,
     functions: &[Function],
-    known: &mut Vec<Known>,
+    known: &mut Bindings,
 ) -> Result<(), Memory>
-    ensures { OnOk result (known.new.items ≡ Bases.in_exprs (Bases.call_bases_in (View.functions functions.now)) (View.exprs es.now) known.old.items) }
+    ensures { OnOk result (known.new.list.items ≡ Bases.in_exprs (Bases.call_bases_in (View.functions functions.now)) (View.exprs es.now) known.old.list.items) }
 {
     for e in es {
         in_expr(e, alloc, functions, known)?;
@@ -153,9 +146,9 @@ fn in_maybe(
     e: &Option<Expression>,
     alloc: Global,
     functions: &[Function],
-    known: &mut Vec<Known>,
+    known: &mut Bindings,
 ) -> Result<(), Memory>
-    ensures { OnOk result (known.new.items ≡ Bases.in_maybe (Bases.call_bases_in (View.functions functions.now)) (View.maybe e.now) known.old.items) }
+    ensures { OnOk result (known.new.list.items ≡ Bases.in_maybe (Bases.call_bases_in (View.functions functions.now)) (View.maybe e.now) known.old.list.items) }
 {
     match e {
         None => Ok(()),
@@ -168,9 +161,9 @@ fn in_bound(
     b: &Bound,
     alloc: Global,
     functions: &[Function],
-    known: &mut Vec<Known>,
+    known: &mut Bindings,
 ) -> Result<(), Memory>
-    ensures { OnOk result (known.new.items ≡ Bases.in_bound (Bases.call_bases_in (View.functions functions.now)) (View.bound b.now) known.old.items) }
+    ensures { OnOk result (known.new.list.items ≡ Bases.in_bound (Bases.call_bases_in (View.functions functions.now)) (View.bound b.now) known.old.list.items) }
 {
     match b {
         Bound::Dot(_) => Ok(()),
@@ -183,9 +176,9 @@ fn in_generator(
     g: &Generator,
     alloc: Global,
     functions: &[Function],
-    known: &mut Vec<Known>,
+    known: &mut Bindings,
 ) -> Result<(), Memory>
-    ensures { OnOk result (known.new.items ≡ Bases.in_gen (Bases.call_bases_in (View.functions functions.now)) (View.generator g.now) known.old.items) }
+    ensures { OnOk result (known.new.list.items ≡ Bases.in_gen (Bases.call_bases_in (View.functions functions.now)) (View.generator g.now) known.old.list.items) }
 {
     in_bounds(g, alloc, functions, known)?;
     in_cell(g, alloc, functions, known)
@@ -197,9 +190,9 @@ fn in_cell(
     g: &Generator,
     alloc: Global,
     functions: &[Function],
-    known: &mut Vec<Known>,
+    known: &mut Bindings,
 ) -> Result<(), Memory>
-    ensures { OnOk result (known.new.items ≡ Bases.in_expr (Bases.call_bases_in (View.functions functions.now)) (View.expr g.now.cell) (Bases.in_block (Bases.call_bases_in (View.functions functions.now)) (View.block g.now.body.items) known.old.items)) }
+    ensures { OnOk result (known.new.list.items ≡ Bases.in_expr (Bases.call_bases_in (View.functions functions.now)) (View.expr g.now.cell) (Bases.in_block (Bases.call_bases_in (View.functions functions.now)) (View.block g.now.body.items) known.old.list.items)) }
 {
     in_block(&g.body, alloc, functions, known)?;
     in_expr(&g.cell, alloc, functions, known)
@@ -211,9 +204,9 @@ fn in_bounds(
     g: &Generator,
     alloc: Global,
     functions: &[Function],
-    known: &mut Vec<Known>,
+    known: &mut Bindings,
 ) -> Result<(), Memory>
-    ensures { OnOk result (known.new.items ≡ in_bounds_of (View.functions functions.now) g.now known.old.items) }
+    ensures { OnOk result (known.new.list.items ≡ in_bounds_of (View.functions functions.now) g.now known.old.list.items) }
 {
     in_bound(&g.lower, alloc, functions, known)?;
     bind_index(known, &g.index)?;
@@ -228,9 +221,9 @@ fn in_generators(
     gs: &[Generator],
     alloc: Global,
     functions: &[Function],
-    known: &mut Vec<Known>,
+    known: &mut Bindings,
 ) -> Result<(), Memory>
-    ensures { OnOk result (known.new.items ≡ Bases.in_gens (Bases.call_bases_in (View.functions functions.now)) (View.generators gs.now) known.old.items) }
+    ensures { OnOk result (known.new.list.items ≡ Bases.in_gens (Bases.call_bases_in (View.functions functions.now)) (View.generators gs.now) known.old.list.items) }
 {
     for g in gs {
         in_generator(g, alloc, functions, known)?;
@@ -243,9 +236,9 @@ fn in_operation(
     op: &Operation,
     alloc: Global,
     functions: &[Function],
-    known: &mut Vec<Known>,
+    known: &mut Bindings,
 ) -> Result<(), Memory>
-    ensures { OnOk result (known.new.items ≡ Bases.in_operation (Bases.call_bases_in (View.functions functions.now)) (View.operation op.now) known.old.items) }
+    ensures { OnOk result (known.new.list.items ≡ Bases.in_operation (Bases.call_bases_in (View.functions functions.now)) (View.operation op.now) known.old.list.items) }
 {
     match op {
         Operation::Genarray { shape, default, .. } => {
@@ -262,9 +255,9 @@ fn in_stmt(
     s: &Statement,
     alloc: Global,
     functions: &[Function],
-    known: &mut Vec<Known>,
+    known: &mut Bindings,
 ) -> Result<(), Memory>
-    ensures { OnOk result (known.new.items ≡ Bases.in_stmt (Bases.call_bases_in (View.functions functions.now)) (View.stmt s.now) known.old.items) }
+    ensures { OnOk result (known.new.list.items ≡ Bases.in_stmt (Bases.call_bases_in (View.functions functions.now)) (View.stmt s.now) known.old.list.items) }
 {
     match s {
         Statement::Assign { targets, value } => in_assign(value, targets, alloc, functions, known),
@@ -277,7 +270,7 @@ fn in_stmt(
         } => {
             in_expr(index, alloc, functions, known)?;
             in_expr(value, alloc, functions, known)?;
-            bind(known, &target.name, None)
+            known.bind(&target.name, None)
         }
         Statement::If { cond, yes, no, .. } => {
             in_expr(cond, alloc, functions, known)?;
@@ -301,9 +294,9 @@ fn in_assign(
     targets: &[Target],
     alloc: Global,
     functions: &[Function],
-    known: &mut Vec<Known>,
+    known: &mut Bindings,
 ) -> Result<(), Memory>
-    ensures { OnOk result (known.new.items ≡ Bases.in_stmt (Bases.call_bases_in (View.functions functions.now)) (Tree.assign targets.now (View.expr value.now)) known.old.items) }
+    ensures { OnOk result (known.new.list.items ≡ Bases.in_stmt (Bases.call_bases_in (View.functions functions.now)) (Tree.assign targets.now (View.expr value.now)) known.old.list.items) }
 {
     match value {
         Expression::Call(name, es, _) => {
@@ -324,9 +317,9 @@ fn in_block(
     ss: &[Statement],
     alloc: Global,
     functions: &[Function],
-    known: &mut Vec<Known>,
+    known: &mut Bindings,
 ) -> Result<(), Memory>
-    ensures { OnOk result (known.new.items ≡ Bases.in_block (Bases.call_bases_in (View.functions functions.now)) (View.block ss.now) known.old.items) }
+    ensures { OnOk result (known.new.list.items ≡ Bases.in_block (Bases.call_bases_in (View.functions functions.now)) (View.block ss.now) known.old.list.items) }
 {
     for s in ss {
         in_stmt(s, alloc, functions, known)?;
@@ -335,10 +328,10 @@ fn in_block(
 }
 
 /// What the names of a function are bound to; the first binding of a name counts.
-pub fn known_in(alloc: Global, functions: &[Function], f: &Function) -> Result<Vec<Known>, Memory>
-    ensures { IfOk result (λ known. known.items ≡ Bases.known_in (View.functions functions.now) (View.function f.now)) }
+pub fn known_in(alloc: Global, functions: &[Function], f: &Function) -> Result<Bindings, Memory>
+    ensures { IfOk result (λ known. known.list.items ≡ Bases.known_in (View.functions functions.now) (View.function f.now)) }
 {
-    let mut known = Vec::new(alloc);
+    let mut known = Bindings::new(alloc);
     bind_params(&mut known, &f.params)?;
     in_block(&f.body, alloc, functions, &mut known)?;
     in_exprs(&f.values, alloc, functions, &mut known)?;

@@ -5,7 +5,9 @@ mod base;
 mod bindings;
 mod call;
 mod rules;
+mod table;
 
 pub use base::{base_of, bases_of};
 pub use bindings::{base_in, known_in};
 pub use call::call_instance;
+pub use table::Bindings;

@@ -4,8 +4,8 @@ ghost use Rattle.std.specs.Prelude.{◌≡◌, [], ◌∷◌};
 ghost use Rattle.sac_ast.specs.Bases;
 ghost use Rattle.static_bases.specs.Lookup.{base_at as base_at_value};
 
-use sac_ast::{Builtin, Known};
-use sac_base::{Base, Name, Op, same_name};
+use sac_ast::Builtin;
+use sac_base::{Base, Op};
 
 /// Whether a base, where it is there, is the one that is asked for.
 pub fn may_be(wanted: Base, base: Option<Base>) -> bool
@@ -117,16 +117,4 @@ pub fn base_at(bases: &[Option<Base>], place: usize) -> Option<Base>
         Some(base) => *base,
         None => None,
     }
-}
-
-/// The base of what a name is bound to first.
-pub fn base_of_name(known: &[Known], name: &Name) -> Option<Base>
-    ensures { result ≡ Bases.base_of_name known.now name.now }
-{
-    for k in known {
-        if same_name(&k.name, name) {
-            return k.base;
-        }
-    }
-    None
 }

@@ -34,10 +34,10 @@ decreases-generator_fits l = 4 * size-Generator l.g.now + 3
 
 abbrev pub invariant-bases_of-loop-e : goal.invariant-bases_of-loop-e
 invariant-bases_of-loop-e l =
-    l.bases.items ++ bases (call_bases_in (functions l.functions)) l.known (exprs (drop l.e-index l.es))
-    ≡ bases (call_bases_in (functions l.functions)) l.known (exprs l.es)
+    l.bases.items ++ bases (call_bases_in (functions l.functions)) l.known.list.items (exprs (drop l.e-index l.es))
+    ≡ bases (call_bases_in (functions l.functions)) l.known.list.items (exprs l.es)
 
 abbrev pub invariant-with_base-loop-g : goal.invariant-with_base-loop-g
 invariant-with_base-loop-g l =
-    with_base_of (call_bases_in (functions l.functions)) l.known (generators (drop l.g-index l.gs)) l.wanted
-    ≡ with_base_of (call_bases_in (functions l.functions)) l.known (generators l.gs) l.wanted
+    with_base_of (call_bases_in (functions l.functions)) l.known.list.items (generators (drop l.g-index l.gs)) l.wanted
+    ≡ with_base_of (call_bases_in (functions l.functions)) l.known.list.items (generators l.gs) l.wanted
