@@ -1,0 +1,5 @@
+pub mod Above
+pub mod Law
+pub mod Numbers
+pub mod Occurrences
+pub mod Steps
