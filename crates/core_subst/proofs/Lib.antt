@@ -1,4 +1,5 @@
 pub mod Above
+pub mod Hiding
 pub mod Law
 pub mod Numbers
 pub mod Occurrences

@@ -1,12 +1,12 @@
 -- The variables of a term: which it uses, which are free in it, and the numbers above all of them.
-use Rattle.std.specs.Prelude.{◌≡◌, ℕ, suc, ◌<◌, false, ◌^◌, max, Bool, not, ◌&&◌, if◌then◌else◌, nat_lt, List, [], ◌∷◌, ◌++◌, map, Option, Some, None}
+use Rattle.std.specs.Prelude.{◌≡◌, ℕ, suc, false, ◌^◌, max, Bool, not, ◌&&◌, if◌then◌else◌, nat_lt, List, [], ◌∷◌, ◌++◌, map, Option, Some, None}
 use Rattle.std.specs.List.Sorted.{IsStrictlyIncreasing}
 use Rattle.core_ir.specs.declared.tree.Var.{Var}
 use Rattle.core_ir.specs.Terms.{BlockTerm, RightTerm, GensTerm, PartsTerm, GenHead, FunTerm, Gives, Bind, Plain, NoGens, Gen, NoParts, Part}
 use Rattle.core_ir.specs.Binders.{is_in, bound_in}
 use Rattle.core_ir.specs.Outcome.{param_vars}
 use Rattle.core_ir.specs.Scopes.{plain_uses, op_uses, parted_uses, head_uses}
-use Rattle.core_ir.specs.Uses.{AvoidsAll, Avoids}
+use Rattle.core_ir.specs.Uses.{Avoids}
 
 -- ---- free variables
 

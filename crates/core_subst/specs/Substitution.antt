@@ -1,12 +1,13 @@
 -- The term in which free uses of variables are replaced.
-use Rattle.std.specs.Prelude.{◌≡◌, ℕ, cond, eqb, List, [], ◌∷◌, ◌++◌, map, option_map}
-use Rattle.sac_base.specs.declared.site.Site.{Site}
+use Rattle.std.specs.Prelude.{◌≡◌, ℕ, cond, eqb, List, [], ◌∷◌, map, option_map, unwrap_or}
+use Rattle.std.specs.Ordering.{nat_cmp}
+use Rattle.std.specs.BTreeMap.{BTreeMap, get}
 use Rattle.core_ir.specs.declared.tree.Var.{Var}
 use Rattle.core_ir.specs.declared.tree.CoreOp.{CoreOp}
 use Rattle.core_ir.specs.declared.tree.CoreOp.TheVariants as making
 use Rattle.core_ir.specs.declared.tree.PartedOp.{PartedOp}
 use Rattle.core_ir.specs.declared.tree.PartedOp.TheVariants as parted
-use Rattle.core_ir.specs.Meaning.{Env, CallMeaning, run, right_value}
+use Rattle.core_ir.specs.Meaning.{Env, CallMeaning, run}
 use Rattle.core_ir.specs.Binders.{is_in}
 use Rattle.core_ir.specs.Terms.{PlainTerm, BlockTerm, RightTerm, GensTerm, PartsTerm, LetTerm, GenTerm, PartTerm, GenHead, Gives, Bind, Plain, NoGens, Gen, NoParts, Part}
 
@@ -15,13 +16,9 @@ abbrev pub partner : List (Var × Var) → Var → Var
 partner [] x = x
 partner (p ∷ ps) x = cond (eqb p.0.0 x.0) p.1 (partner ps x)
 
--- the same, but the hidden variables stay
-abbrev pub image : List Var → List (Var × Var) → Var → Var
-image hidden ps x = cond (is_in x hidden) x (partner ps x)
-
--- the environment in which each variable has the value of its image
-abbrev pub through : List Var → List (Var × Var) → Env → Env
-through hidden ps e x = e (image hidden ps x)
+-- the same where binders hide the variables xs, which stay
+abbrev pub below : List Var → (Var → Var) → Var → Var
+below xs f x = cond (is_in x xs) x (f x)
 
 abbrev pub seconds : List (Var × Var) → List Var
 seconds [] = []
@@ -54,46 +51,49 @@ parted_op_with f (parted.Fold op x) = parted.Fold op (f x)
 abbrev pub gen_head_with : (Var → Var) → GenHead → GenHead
 gen_head_with f h = record h { lower = option_map f h.lower; upper = option_map f h.upper; step = option_map f h.step; width = option_map f h.width }
 
--- the block in which free uses are replaced, where these variables are hidden already
+-- the block in which each free use of x is one of f x
 abbrev mutual
-  pub substituted : List (Var × Var) → List Var → BlockTerm → BlockTerm
-  substituted ps hidden (Gives xs) = Gives (map (image hidden ps) xs)
-  substituted ps hidden (Bind xs s r b) = Bind xs s (substituted_right ps hidden r) (substituted ps (hidden ++ xs) b)
+  pub substituted : (Var → Var) → BlockTerm → BlockTerm
+  substituted f (Gives xs) = Gives (map f xs)
+  substituted f (Bind xs s r b) = Bind xs s (substituted_right f r) (substituted (below xs f) b)
 
-  pub substituted_right : List (Var × Var) → List Var → RightTerm → RightTerm
-  substituted_right ps hidden (Plain p) = Plain (plain_with (image hidden ps) p)
-  substituted_right ps hidden (RightTerm.If x a b) = RightTerm.If (image hidden ps x) (substituted ps hidden a) (substituted ps hidden b)
-  substituted_right ps hidden (RightTerm.Loop first start params test body s) =
-      RightTerm.Loop first (map (image hidden ps) start) params (substituted ps (hidden ++ params) test) (substituted ps (hidden ++ params) body) s
-  substituted_right ps hidden (RightTerm.Call g xs) = RightTerm.Call g (map (image hidden ps) xs)
-  substituted_right ps hidden (RightTerm.With op gens) = RightTerm.With (core_op_with (image hidden ps) op) (substituted_gens ps hidden gens)
-  substituted_right ps hidden (RightTerm.Parted frame base cell op parts) =
-      RightTerm.Parted frame base cell (parted_op_with (image hidden ps) op) (substituted_parts ps hidden parts)
+  pub substituted_right : (Var → Var) → RightTerm → RightTerm
+  substituted_right f (Plain p) = Plain (plain_with f p)
+  substituted_right f (RightTerm.If x a b) = RightTerm.If (f x) (substituted f a) (substituted f b)
+  substituted_right f (RightTerm.Loop first start params test body s) =
+      RightTerm.Loop first (map f start) params (substituted (below params f) test) (substituted (below params f) body) s
+  substituted_right f (RightTerm.Call g xs) = RightTerm.Call g (map f xs)
+  substituted_right f (RightTerm.With op gens) = RightTerm.With (core_op_with f op) (substituted_gens f gens)
+  substituted_right f (RightTerm.Parted frame base cell op parts) = RightTerm.Parted frame base cell (parted_op_with f op) (substituted_parts f parts)
 
-  pub substituted_gens : List (Var × Var) → List Var → GensTerm → GensTerm
-  substituted_gens ps hidden NoGens = NoGens
-  substituted_gens ps hidden (Gen h b rest) =
-      Gen (gen_head_with (image hidden ps) h) (substituted ps (hidden ++ (h.index ∷ h.names)) b) (substituted_gens ps hidden rest)
+  pub substituted_gens : (Var → Var) → GensTerm → GensTerm
+  substituted_gens f NoGens = NoGens
+  substituted_gens f (Gen h b rest) = Gen (gen_head_with f h) (substituted (below (h.index ∷ h.names) f) b) (substituted_gens f rest)
 
-  pub substituted_parts : List (Var × Var) → List Var → PartsTerm → PartsTerm
-  substituted_parts ps hidden NoParts = NoParts
-  substituted_parts ps hidden (Part h b rest) = Part h (substituted ps (hidden ++ (h.index ∷ [])) b) (substituted_parts ps hidden rest)
+  pub substituted_parts : (Var → Var) → PartsTerm → PartsTerm
+  substituted_parts f NoParts = NoParts
+  substituted_parts f (Part h b rest) = Part h (substituted (below (h.index ∷ []) f) b) (substituted_parts f rest)
 
--- the same of a generator and of a part alone
-abbrev pub substituted_gen : List (Var × Var) → List Var → GenTerm → GenTerm
-substituted_gen ps hidden g = record { head = gen_head_with (image hidden ps) g.head; body = substituted ps (hidden ++ (g.head.index ∷ g.head.names)) g.body }
+-- the same of a binding, of a generator and of a part alone
+abbrev pub substituted_let : (Var → Var) → LetTerm → LetTerm
+substituted_let f l = record l { right = substituted_right f l.right }
 
-abbrev pub substituted_part : List (Var × Var) → List Var → PartTerm → PartTerm
-substituted_part ps hidden p = record p { body = substituted ps (hidden ++ (p.head.index ∷ [])) p.body }
+abbrev pub substituted_gen : (Var → Var) → GenTerm → GenTerm
+substituted_gen f g = record { head = gen_head_with f g.head; body = substituted (below (g.head.index ∷ g.head.names) f) g.body }
 
-abbrev pub substituted_let : List (Var × Var) → List Var → LetTerm → LetTerm
-substituted_let ps hidden l = record l { right = substituted_right ps hidden l.right }
+abbrev pub substituted_part : (Var → Var) → PartTerm → PartTerm
+substituted_part f p = record p { body = substituted (below (p.head.index ∷ []) f) p.body }
 
 -- the new block means what the old one does where each first member has the value of its second
 abbrev pub MeansThrough : List (Var × Var) → BlockTerm → BlockTerm → Type 0
 MeansThrough ps old new = (calls : CallMeaning) (turns : ℕ) (e : Env) → run calls turns new e ≡ run calls turns old (λ x. e (partner ps x))
 
--- the same of a right side
-abbrev pub RightMeansThrough : List (Var × Var) → RightTerm → RightTerm → Type 0
-RightMeansThrough ps old new =
-    (calls : CallMeaning) (turns : ℕ) (s : Site) (e : Env) → right_value calls turns new s e ≡ right_value calls turns old s (λ x. e (partner ps x))
+-- ---- pairs that are kept as a map
+
+-- what stands for x by the map
+abbrev pub partner_at : BTreeMap ℕ Var → Var → Var
+partner_at partners x = unwrap_or (get nat_cmp partners x.0) x
+
+-- the same where these variables are hidden
+abbrev pub image : BTreeMap ℕ Var → List Var → Var → Var
+image partners hidden = below hidden (partner_at partners)

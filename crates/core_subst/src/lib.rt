@@ -6,7 +6,7 @@ mod replace;
 mod unbound;
 
 pub use greatest::fresh;
-pub use replace::{partner_of, substitute, substitute_right, substitute_vars};
+pub use replace::substitute;
 pub use unbound::free;
 
 #[cfg(test)]

@@ -179,6 +179,14 @@ fn a_cell_has_its_index_and_the_array_free(rt: HostRuntime) -> Result<(), Fail> 
     Ok(())
 }
 
+/// A use of the variable 0, and a binding of it that hides it from the result.
+fn bound_again(alloc: Global) -> Result<Block, Memory> {
+    let mut lets = Vec::new(alloc);
+    bind(alloc, &mut lets, 2, Right::Copy(Var(0)))?;
+    bind(alloc, &mut lets, 0, Right::Copy(Var(2)))?;
+    gives(alloc, lets, 0)
+}
+
 #[test]
 fn a_free_variable_is_replaced(rt: HostRuntime) -> Result<(), Fail> {
     let alloc = rt.alloc();
@@ -190,5 +198,33 @@ fn a_free_variable_is_replaced(rt: HostRuntime) -> Result<(), Fail> {
         free(alloc, &body)?.as_slice(),
         [Var(17), Var(21)].as_slice()
     );
+    Ok(())
+}
+
+#[test]
+fn a_bound_variable_stays_and_the_first_pair_counts(rt: HostRuntime) -> Result<(), Fail> {
+    let alloc = rt.alloc();
+    assert_eq!(rt;
+        free(alloc, &bound_again(alloc)?)?.as_slice(),
+        [].as_slice()
+    );
+    let pairs = [(Var(0), Var(9)), (Var(0), Var(8))];
+    let block = substitute(alloc, bound_again(alloc)?, &pairs)?;
+    assert_eq!(rt; free(alloc, &block)?.as_slice(), [Var(9)].as_slice());
+    assert_eq!(rt; block.results.as_slice(), [Var(0)].as_slice());
+    Ok(())
+}
+
+#[test]
+fn a_new_variable_is_above_all_others(rt: HostRuntime) -> Result<(), Fail> {
+    let alloc = rt.alloc();
+    let none = Block {
+        lets: Vec::new(alloc),
+        results: Vec::new(alloc),
+    };
+    let empty = function(alloc, &[], none)?.ok_or("a name")?;
+    assert_eq!(rt; fresh(&empty), Some(Var(0)));
+    let last = function(alloc, &[Var(u32::MAX)], raised(alloc)?)?.ok_or("a name")?;
+    assert_eq!(rt; fresh(&last), None);
     Ok(())
 }

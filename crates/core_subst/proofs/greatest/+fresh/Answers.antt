@@ -1,5 +1,4 @@
 use Rattle.std.proofs.Common.{refl, arith, ap, sym, ◌∙◌}
-use Rattle.core_ir.specs.declared.tree.Block.{out-Block}
 use Rattle.core_ir.specs.declared.tree.WithLoop.{out-WithLoop}
 use Rattle.core_ir.specs.declared.tree.PartedLoop.{out-PartedLoop}
 use Rattle.core_ir.specs.Scopes.{op_uses, parted_uses}
