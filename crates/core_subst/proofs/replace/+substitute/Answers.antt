@@ -1,4 +1,5 @@
-use Rattle.std.proofs.Common.{rules, ◌∙◌, map, refl}
+use Rattle.std.proofs.Common.{rules, List, ◌∙◌, map, refl}
+use Rattle.core_ir.specs.declared.tree.Var.{Var}
 use Rattle.core_ir.specs.declared.tree.PartedLoop.{out-PartedLoop}
 use Rattle.core_ir.specs.declared.tree.WithLoop.{out-WithLoop}
 use Rattle.core_subst.specs.Substitution.{image, core_op_with, parted_op_with}
@@ -26,7 +27,7 @@ in_parted-loop-part-preserved t c =
     let v = c.loop-part.invariant in
     record {
       replaced = part_turn (image c.args.partners.now c.args.hidden.now.items) (image c.args.partners.now c.loop-part.hidden.items) c.loop-part.replaced.items _ c.loop-part.part-iterator.rest.items _ c.in-Some.part _ _ v.replaced c.in-Some.ensures.steps.0 c.in_ok-push.ensures.items c.in_ok-in_part.ensures.replaced (λ i. image c.args.partners.now (v.hidden i));
-      hidden = c.in_ok-in_part.ensures.hidden ∙ c.loop-part.invariant.hidden;
+      hidden = ◌∙◌ {A = List Var} c.in_ok-in_part.ensures.hidden c.loop-part.invariant.hidden;
     }
 
 pub in_parted-returns-clause-replaced : goal.in_parted-returns-clause-replaced
@@ -39,7 +40,7 @@ in_with-loop-generator-preserved t c =
     let v = c.loop-generator.invariant in
     record {
       replaced = gen_turn (image c.args.partners.now c.args.hidden.now.items) (image c.args.partners.now c.loop-generator.hidden.items) c.loop-generator.replaced.items _ c.loop-generator.generator-iterator.rest.items _ c.in-Some.generator _ _ v.replaced c.in-Some.ensures.steps.0 c.in_ok-push.ensures.items c.in_ok-in_gen.ensures.replaced (λ i. image c.args.partners.now (v.hidden i));
-      hidden = c.in_ok-in_gen.ensures.hidden ∙ c.loop-generator.invariant.hidden;
+      hidden = ◌∙◌ {A = List Var} c.in_ok-in_gen.ensures.hidden c.loop-generator.invariant.hidden;
     }
 
 pub in_with-returns-clause-replaced : goal.in_with-returns-clause-replaced
