@@ -1,5 +1,5 @@
 -- Where no rule is violated, each variable that is used is bound on every path, and each call has as many targets as results.
-use Rattle.std.proofs.Common.{◌≡◌, ℕ, Bool, true, false, not, ◌||◌, ◌&&◌, List, [], ◌∷◌, ◌++◌, length, Option, Some, None, is_some, refl, ap, sym, subst, ◌∙◌}
+use Rattle.std.proofs.Common.{◌≡◌, ℕ, Bool, true, not, ◌||◌, ◌&&◌, List, [], ◌∷◌, ◌++◌, length, Option, Some, None, is_some, refl, ap, sym, subst, ◌∙◌}
 use Rattle.std.specs.Prelude.{◌==◌}
 use Rattle.std.proofs.lemmas.Bool.{eqb-true}
 use Rattle.sac_base.specs.declared.base.Base.{Base}
@@ -10,14 +10,14 @@ use Rattle.sac_ast.specs.declared.CheckCode.TheVariants.{C2, C3, C4, C8}
 use Rattle.sac_ast.specs.declared.Target.{Target}
 use Rattle.sac_ast.specs.Tree.{IndexTree, named, parts, Expr, Exprs, no_exprs, expr_and, MaybeExpr, left_out, given, Stmt, Block, no_stmts, stmt_and, BoundTree, dot, at, Gen, gen, Gens, no_gens, gen_and, OperationTree, FunctionTree, number, truth, variable, literal, unary, binary, choice, select, call, builtin, with_loop, assign, replace, if_else, while_do, do_while, genarray, modarray, fold}
 use Rattle.sac_ast.specs.Bases.{may_be, may_match, operand_base, operands_fit, agree, all_known, first_named}
-use Rattle.type_check.specs.Accepted.{Names, Known, Place, Finding, Findings, unless, call_rules, numbers_fit, some_takes, stands_earlier, use_rules, builtin_rules, cell_rules, first_cell, is_fold, several_targets, repeated_targets, bind, base_of}
+use Rattle.type_check.specs.Accepted.{Names, Known, Place, Findings, unless, call_rules, numbers_fit, some_takes, stands_earlier, use_rules, builtin_rules, cell_rules, first_cell, is_fold, several_targets, repeated_targets, bind, base_of}
 use Rattle.type_check.specs.Accepted as a
 use Rattle.value_meaning.specs.Meaning.{names}
-use Rattle.lowering_laws.specs.Definite.{AtMostOne, HasName, IsDefinite, AreDefinite, MaybeDefinite, BoundDefinite, GenDefinite, GensDefinite, OperationDefinite, StmtDefinite, BlockDefinite}
+use Rattle.lowering_laws.specs.Definite.{AtMostOne, IsDefinite, AreDefinite, MaybeDefinite, BoundDefinite, GenDefinite, GensDefinite, OperationDefinite, StmtDefinite, BlockDefinite}
 use Rattle.lowering_laws.specs.Definite as d
 use Rattle.lowering_laws.specs.Programs.{count_in, result_count}
 use Rattle.accepted_laws.specs.Formed.{IsFormed, AreFormed, MaybeFormed, BoundFormed, GenFormed, GensFormed, OperationFormed, StmtFormed, BlockFormed}
-use Rattle.accepted_laws.proofs.Clean.{nil_left, nil_right, nil2, nil3, nil4, nil5, nil8, holds, both, implied, used_bound}
+use Rattle.accepted_laws.proofs.Clean.{nil_left, nil_right, nil2, nil3, nil4, nil5, nil8, holds, both, used_bound}
 
 -- ---- the same names are bound
 

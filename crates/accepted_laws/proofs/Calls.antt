@@ -1,7 +1,7 @@
 -- What a call gives that violates no rule, and which operators fit.
-use Rattle.std.proofs.Common.{◌≡◌, ℕ, zero, suc, Bool, true, false, not, ◌||◌, ◌&&◌, List, [], ◌∷◌, ◌++◌, map, length, Option, Some, None, is_some, refl, ap, sym, ◌∙◌}
+use Rattle.std.proofs.Common.{◌≡◌, ℕ, suc, Bool, true, false, not, ◌||◌, ◌&&◌, List, [], ◌∷◌, length, Option, Some, None, is_some, refl, ap, sym, ◌∙◌}
 use Rattle.std.specs.Prelude.{bytes_eq, find, slice_get, if◌then◌else◌, ◌==◌}
-use Rattle.std.specs.List.{list_any, list_all}
+use Rattle.std.specs.List.{list_any}
 use Rattle.std.proofs.lemmas.Bool.{eqb-true}
 use Rattle.std.proofs.lemmas.List.{length-map}
 use Rattle.sac_base.specs.declared.base.Base.{Base}
@@ -16,14 +16,13 @@ use Rattle.sac_base.specs.Operators.{result_base}
 use Rattle.sac_base.specs.Verdict.{folds}
 use Rattle.sac_ast.specs.declared.CheckCode.TheVariants.{C2, C3, C4, C8}
 use Rattle.sac_ast.specs.Tree.{FunctionTree}
-use Rattle.sac_ast.specs.Bases.{may_be, may_match, operand_base, operands_fit, common_base, with_base, all_known, known_bases, same_bases, bases_of_params, bases_of_results, counts_beside, first_named, takes_bases, instance_by, call_bases_in}
+use Rattle.sac_ast.specs.Bases.{may_be, operand_base, operands_fit, common_base, with_base, all_known, known_bases, same_bases, bases_of_params, bases_of_results, counts_beside, first_named, takes_bases, instance_by, call_bases_in}
 use Rattle.core_ir.specs.WellFormed.{UnaryBase, BinaryBase, bases}
 use Rattle.type_check.specs.Accepted.{Place, Findings, unless, call_rules, numbers_fit, some_takes, stands_earlier, is_clean, in_call}
 use Rattle.lowering_laws.specs.Programs.{count_in, result_count}
 use Rattle.lowering_laws.specs.Typed.{InstanceBases}
 use Rattle.accepted_laws.specs.Formed.{TakesOne, TakesTwo, IsFolding}
 use Rattle.accepted_laws.proofs.Clean.{nil2, nil4, holds, both, implied}
-use Rattle.accepted_laws.proofs.Bound.{call_clean}
 use Rattle.accepted_laws.proofs.Told.{same, somes}
 
 -- ---- operators

@@ -1,7 +1,9 @@
 pub mod Bound
 pub mod Calls
 pub mod Clean
+pub mod EachCall
 pub mod Mains
+pub mod Standing
 pub mod Told
 pub mod Typing
 pub mod Whole

@@ -1,5 +1,5 @@
 -- The `main` of an accepted program's core stands at its place, and is not inline.
-use Rattle.std.proofs.Common.{◌≡◌, ℕ, zero, suc, Bool, true, false, not, List, [], ◌∷◌, ◌++◌, map, Option, Some, None, is_some, IsTrue, if◌then◌else◌, refl, ap, sym, subst, ◌∙◌}
+use Rattle.std.proofs.Common.{◌≡◌, ℕ, zero, suc, Bool, true, false, not, List, [], ◌∷◌, Option, Some, None, is_some, IsTrue, if◌then◌else◌, refl, ap, sym, subst, ◌∙◌}
 use Rattle.std.specs.Prelude.{filter, flat_map, position, slice_get, unwrap_or, option_map}
 use Rattle.std.proofs.lemmas.Option.{slice_get-map}
 use Rattle.sac_ast.specs.declared.CheckCode.TheVariants.{C8}
@@ -14,14 +14,14 @@ use Rattle.accepted_laws.specs.Stands.{MainStands}
 use Rattle.accepted_laws.proofs.Clean.{nil_left, nil_right, nil2, holds}
 use Rattle.accepted_laws.proofs.Whole.{main_there}
 
-abbrev outer : FunctionTree → List Violation
+abbrev pub outer : FunctionTree → List Violation
 outer g = unless (not g.inline) C8 g.site
 
 not_false : (b : Bool) → not b ≡ true → b ≡ false
 not_false true h = absurd (cc)
 not_false false h = refl
 
-not_inline : (gs : List FunctionTree) (place : ℕ) (f : FunctionTree) → flat_map outer (filter (is_named main_name) gs) ≡ [] → slice_get gs place ≡ Some f → is_main f ≡ true → f.inline ≡ false
+pub not_inline : (gs : List FunctionTree) (place : ℕ) (f : FunctionTree) → flat_map outer (filter (is_named main_name) gs) ≡ [] → slice_get gs place ≡ Some f → is_main f ≡ true → f.inline ≡ false
 not_inline [] place f h e k = absurd (cc)
 not_inline (g ∷ gs) zero f h e k =
     let alike : g ≡ f = cc in

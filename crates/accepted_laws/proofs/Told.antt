@@ -1,5 +1,5 @@
 -- What acceptance finds names bound to first is what the list of all bindings says of them.
-use Rattle.std.proofs.Common.{◌≡◌, ℕ, suc, Bool, true, false, not, ◌||◌, ◌&&◌, List, [], ◌∷◌, ◌++◌, map, length, Option, Some, None, is_some, refl, ap, sym, subst, ◌∙◌, append_assoc, arith}
+use Rattle.std.proofs.Common.{◌≡◌, Bool, true, false, not, ◌||◌, List, [], ◌∷◌, ◌++◌, map, length, Option, Some, None, is_some, refl, ap, sym, ◌∙◌, append_assoc, arith}
 use Rattle.std.specs.Prelude.{bytes_eq, find, if◌then◌else◌}
 use Rattle.std.specs.List.{list_any}
 use Rattle.std.proofs.lemmas.List.{append-nil}
@@ -14,7 +14,7 @@ use Rattle.sac_ast.specs.declared.Target.{Target}
 use Rattle.sac_ast.specs.declared.Param.{Param}
 use Rattle.sac_ast.specs.Tree.{IndexTree, named, parts}
 use Rattle.sac_ast.specs.Bases.{Bases, base_bound, base_of_name, may_be, may_match, first_base, with_bases, index_bases, bound_params}
-use Rattle.type_check.specs.Accepted.{Names, Known, with_names, unless, target_names, index_targets, index_names, param_names, bound_first, bind, base_first, base_of, later_bases, in_targets, in_index_names, known_params, repeated}
+use Rattle.type_check.specs.Accepted.{Names, Known, with_names, unless, target_names, index_targets, param_names, bound_first, bind, base_first, base_of, later_bases, in_targets, in_index_names, known_params, repeated}
 use Rattle.value_meaning.specs.Meaning.{or_int}
 use Rattle.lowering_laws.specs.Typed.{TargetsTyped, IntTargets, ParamsTyped}
 use Rattle.lowering_laws.proofs.Scopes.{same_name}
@@ -25,7 +25,7 @@ use Rattle.accepted_laws.proofs.Clean.{nil2, holds}
 pub itself : (x : Name) → bytes_eq x x ≡ true
 itself x = grind (arith, bytes_eq-Decides x x)
 
-flip : (x y : Name) → bytes_eq x y ≡ bytes_eq y x
+pub flip : (x y : Name) → bytes_eq x y ≡ bytes_eq y x
 flip x y = go (bytes_eq x y) refl (bytes_eq y x) refl
   where
     go : (b : Bool) → bytes_eq x y ≡ b → (c : Bool) → bytes_eq y x ≡ c → b ≡ c

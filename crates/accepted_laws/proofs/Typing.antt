@@ -1,30 +1,27 @@
 -- Where no rule is violated, each phrase has the bases that the core asks for: those that acceptance finds are those of the list of all bindings.
-use Rattle.std.proofs.Common.{◌≡◌, ℕ, Bool, true, false, not, ◌||◌, ◌&&◌, List, [], ◌∷◌, ◌++◌, map, length, Option, Some, None, is_some, refl, ap, sym, subst, ◌∙◌, arith}
+use Rattle.std.proofs.Common.{◌≡◌, Bool, true, ◌&&◌, List, [], ◌∷◌, ◌++◌, length, Option, Some, None, is_some, refl, ap, sym, subst, ◌∙◌, arith}
 use Rattle.std.specs.List.{list_all}
 use Rattle.sac_base.specs.declared.base.Base.{Base}
 use Rattle.sac_base.specs.declared.base.Base.TheVariants.{Int, Bool as Truth}
 use Rattle.sac_base.specs.declared.name.Name.{Name}
 use Rattle.sac_base.specs.Arrays.{same_base}
 use Rattle.sac_base.specs.Operators.{result_base}
-use Rattle.sac_ast.specs.declared.Builtin.{Builtin}
 use Rattle.sac_ast.specs.declared.Builtin.TheVariants.{Dim, Shape, Reshape}
 use Rattle.sac_ast.specs.declared.CheckCode.TheVariants.{C4}
-use Rattle.sac_ast.specs.declared.Known.{Known as Binding}
 use Rattle.sac_ast.specs.declared.Target.{Target}
-use Rattle.sac_ast.specs.Tree.{IndexTree, named, parts, Expr, Exprs, no_exprs, expr_and, MaybeExpr, left_out, given, Stmt, Block, no_stmts, stmt_and, BoundTree, dot, at, Gen, gen, Gens, no_gens, gen_and, OperationTree, number, truth, variable, literal, unary, binary, choice, select, call, builtin, with_loop, assign, replace, if_else, while_do, do_while, genarray, modarray, fold}
-use Rattle.sac_ast.specs.Bases.{Bases, where_holds, may_be, may_match, operand_base, operands_fit, agree, common_base, literal_base, first_base, are_int, known_bases, call_bases_in, base_of_name, value_base, with_bases, index_bases}
+use Rattle.sac_ast.specs.Tree.{IndexTree, named, parts, Expr, Exprs, no_exprs, expr_and, MaybeExpr, left_out, given, Stmt, Block, no_stmts, stmt_and, BoundTree, dot, at, gen, Gens, no_gens, gen_and, OperationTree, number, truth, variable, literal, unary, binary, choice, select, call, builtin, with_loop, assign, replace, if_else, while_do, do_while, genarray, modarray, fold}
+use Rattle.sac_ast.specs.Bases.{Bases, where_holds, may_be, may_match, operand_base, operands_fit, agree, common_base, literal_base, first_base, are_int, known_bases, call_bases_in, value_base, with_bases, index_bases}
 use Rattle.sac_ast.specs.Bases as b
-use Rattle.type_check.specs.declared.judged.Cell.{Cell}
-use Rattle.type_check.specs.Accepted.{Names, Known, Place, Finding, Findings, Passage, base_first, target_names, unless, with_names, index_targets, index_names, bound_after, bound_behind, base_of, bind, use_rules, builtin_rules, cell_rules, first_cell, is_fold, is_clean, several_targets, repeated_targets, in_call, in_targets, in_index_names}
+use Rattle.type_check.specs.Accepted.{Names, Known, Place, Finding, Passage, base_first, target_names, unless, with_names, index_targets, index_names, bound_after, bound_behind, base_of, bind, use_rules, cell_rules, first_cell, is_fold, is_clean, several_targets, repeated_targets, in_call, in_targets, in_index_names}
 use Rattle.type_check.specs.Accepted as a
 use Rattle.value_meaning.specs.Meaning.{default_base, or_int}
 use Rattle.lowering_laws.specs.Definite as d
-use Rattle.lowering_laws.specs.Typed.{InstanceBases, TargetsTyped, FirstTyped, IntTargets, IsTyped, LiteralTyped, AllTyped, AreTyped, MaybeTyped, BoundTyped, GensTyped, OperationTyped, StmtTyped, BlockTyped}
+use Rattle.lowering_laws.specs.Typed.{InstanceBases, FirstTyped, IntTargets, IsTyped, LiteralTyped, AllTyped, AreTyped, MaybeTyped, BoundTyped, GensTyped, OperationTyped, StmtTyped, BlockTyped}
 use Rattle.accepted_laws.specs.Formed.{IsFormed, AreFormed, MaybeFormed, BoundFormed, GensFormed, OperationFormed, StmtFormed, BlockFormed}
-use Rattle.accepted_laws.proofs.Clean.{nil_left, nil_right, nil2, nil3, nil4, nil5, nil8, holds, both, used_bound}
+use Rattle.accepted_laws.proofs.Clean.{nil_left, nil2, nil3, nil4, nil5, nil8, holds, both, used_bound}
 use Rattle.accepted_laws.proofs.Bound.{call_clean}
-use Rattle.accepted_laws.proofs.Calls.{unary_fits, binary_fits, fold_fits, pair_base, Called, call_gives, call_bases_are}
-use Rattle.accepted_laws.proofs.Told.{same, itself, told, told_append, targets_told, index_told, Extends, Based, Covered, extends_more, extends_bind, based_again, covered_bind, covered_later, covered_targets, covered_names, extends_targets, extends_names, based_names, based_targets, based_bind, somes, name_bases, base_told, name_is, bound_is, targets_typed, index_typed}
+use Rattle.accepted_laws.proofs.Calls.{unary_fits, binary_fits, fold_fits, pair_base, call_gives, call_bases_are}
+use Rattle.accepted_laws.proofs.Told.{same, told, told_append, targets_told, index_told, Extends, Based, Covered, extends_more, extends_bind, based_again, covered_bind, covered_later, covered_targets, covered_names, extends_targets, extends_names, based_names, based_targets, somes, name_bases, base_told, name_is, targets_typed, index_typed}
 
 -- what is known stays known, and tells bases
 pub record Grown (known after : Known) : Type 0 where

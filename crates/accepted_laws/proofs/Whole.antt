@@ -1,5 +1,5 @@
 -- An accepted program is definite.
-use Rattle.std.proofs.Common.{◌≡◌, ℕ, Bool, true, false, not, ◌||◌, ◌&&◌, List, [], ◌∷◌, ◌++◌, length, Option, Some, None, is_some, IsTrue, cond, suc, if◌then◌else◌, refl, ap, sym, subst, ◌∙◌, append_assoc, rules, arith}
+use Rattle.std.proofs.Common.{◌≡◌, ℕ, Bool, true, false, not, ◌||◌, ◌&&◌, List, [], ◌∷◌, ◌++◌, length, Option, Some, None, is_some, IsTrue, cond, suc, if◌then◌else◌, refl, ap, sym, subst, ◌∙◌, append_assoc, arith}
 use Rattle.std.specs.Prelude.{bytes_eq, ◌==◌, filter, find, position, flat_map, option_map}
 use Rattle.std.specs.List.{list_all}
 use Rattle.std.proofs.lemmas.Bool.{eqb-true}
@@ -7,16 +7,15 @@ use Rattle.std.proofs.lemmas.Slice.Eq.{bytes_eq-Decides}
 use Rattle.sac_base.specs.declared.name.Name.{Name}
 use Rattle.sac_base.specs.declared.site.Site.{Site}
 use Rattle.sac_base.specs.Types.{compatible}
-use Rattle.sac_ast.specs.declared.CheckCode.TheVariants.{C3, C4, C6, C7, C8}
+use Rattle.sac_ast.specs.declared.CheckCode.TheVariants.{C3, C4, C6, C8}
 use Rattle.sac_ast.specs.Tree.{FunctionTree, ProgramTree}
 use Rattle.sac_ast.specs.Bases.{first_named, same_bases, bases_of_params}
-use Rattle.type_check.specs.Accepted.{Names, Known, Place, unless, is_named, main_name, main_count, main_rules, may_stand_together, same_truth, base_list, param_types, values_fit, clash_rules, in_function, in_functions, names_in, known_params, none_known, repeated_params, IsAccepted}
+use Rattle.type_check.specs.Accepted.{Names, Place, unless, is_named, main_name, main_count, main_rules, may_stand_together, same_truth, base_list, param_types, values_fit, clash_rules, in_function, in_functions, names_in, known_params, none_known, repeated_params, IsAccepted}
 use Rattle.type_check.specs.Accepted as a
-use Rattle.lowering_laws.specs.Definite.{BlockDefinite, AreDefinite}
-use Rattle.lowering_laws.specs.Definite as d
-use Rattle.lowering_laws.specs.Programs.{no_names, count_in, result_count, IsDefiniteFunction, AreDefiniteFunctions, IsDefiniteProgram}
+use Rattle.lowering_laws.specs.Definite.{AreDefinite}
+use Rattle.lowering_laws.specs.Programs.{count_in, result_count, IsDefiniteFunction, AreDefiniteFunctions, IsDefiniteProgram}
 use Rattle.lowering_laws.proofs.Chosen.{position_step}
-use Rattle.value_meaning.specs.Calls.{param_names, is_main}
+use Rattle.value_meaning.specs.Calls.{is_main}
 use Rattle.accepted_laws.specs.Formed.{FunctionFormed, FunctionsFormed, ProgramFormed}
 use Rattle.accepted_laws.proofs.Clean.{nil2, nil3, nil5, holds, both}
 use Rattle.accepted_laws.proofs.Bound.{behind_same, definite_block, definite_all}

@@ -1,24 +1,21 @@
 -- The functions of an accepted program have the bases that the core asks for.
-use Rattle.std.proofs.Common.{◌≡◌, ℕ, Bool, true, false, ◌&&◌, List, [], ◌∷◌, ◌++◌, map, length, Option, Some, None, refl, ap, sym, subst, ◌∙◌, append_assoc, arith}
+use Rattle.std.proofs.Common.{◌≡◌, true, List, [], ◌∷◌, ◌++◌, length, Option, Some, refl, ap, sym, subst, ◌∙◌, arith}
 use Rattle.std.specs.Prelude.{◌==◌}
 use Rattle.std.proofs.lemmas.Bool.{eqb-true}
-use Rattle.std.specs.Prelude.{flat_map, filter}
 use Rattle.sac_base.specs.declared.base.Base.{Base}
 use Rattle.sac_base.specs.declared.types.ArrayType.{ArrayType}
-use Rattle.sac_base.specs.Arrays.{same_base}
-use Rattle.sac_ast.specs.declared.CheckCode.TheVariants.{C3, C4, C8}
-use Rattle.sac_ast.specs.declared.Param.{Param}
+use Rattle.sac_ast.specs.declared.CheckCode.TheVariants.{C3, C4}
 use Rattle.sac_ast.specs.Tree.{FunctionTree, ProgramTree}
-use Rattle.sac_ast.specs.Bases.{Bases, call_bases_in, known_in, bound_params, may_be, in_block, in_exprs}
+use Rattle.sac_ast.specs.Bases.{call_bases_in, known_in, bound_params, may_be, in_block}
 use Rattle.core_ir.specs.WellFormed.{bases}
-use Rattle.type_check.specs.Accepted.{Place, Known, unless, names_in, param_names, no_names, with_names, bound_behind, repeated_params, known_params, none_known, values_fit, clash_rules, in_function, in_functions, main_rules, IsAccepted}
+use Rattle.type_check.specs.Accepted.{Place, unless, names_in, param_names, no_names, with_names, bound_behind, repeated_params, known_params, none_known, values_fit, clash_rules, in_function, in_functions, main_rules, IsAccepted}
 use Rattle.type_check.specs.Accepted as a
 use Rattle.lowering_laws.specs.Typed.{InstanceBases, AreTyped, IsTypedFunction, AreTypedFunctions}
 use Rattle.sac_ast.specs.Bases as b
 use Rattle.accepted_laws.specs.Formed.{FunctionFormed, FunctionsFormed, ProgramFormed}
 use Rattle.accepted_laws.proofs.Clean.{nil2, nil3, nil5, holds, both}
 use Rattle.accepted_laws.proofs.Told.{same, told, params_told, somes, Extends, Covered, Based, covered_params, based_params, params_typed, name_bases}
-use Rattle.accepted_laws.proofs.Typing.{BlockFacts, ExprsFacts, block_facts, exprs_facts}
+use Rattle.accepted_laws.proofs.Typing.{block_facts, exprs_facts}
 
 -- values have the bases of the results
 values_same : (ts : List Base) (types : List ArrayType) → length (somes ts) ≡ length types → values_fit (somes ts) types ≡ true → ts ≡ bases types

@@ -1,8 +1,10 @@
 //! Laws of accepted programs.
 
+ghost use Rattle.std.specs.Prelude.{◌<◌, ◌^◌, length};
 ghost use Rattle.sac_ast.specs.Tree.{ProgramTree};
 ghost use Rattle.type_check.specs.Accepted.{IsAccepted};
 ghost use Rattle.lowering_laws.specs.Programs.{IsDefiniteProgram, lowered_program};
+ghost use Rattle.lowering_laws.specs.Standing.{IsStanding};
 ghost use Rattle.lowering_laws.specs.Typed.{AreTypedFunctions};
 ghost use Rattle.accepted_laws.specs.Formed.{ProgramFormed};
 ghost use Rattle.accepted_laws.specs.Stands.{MainStands};
@@ -20,4 +22,9 @@ pub fn accepted_typed()
 /// Law: the core of an accepted program has a `main`, which is not inline.
 pub fn accepted_main()
     ensures { (p : ProgramTree) → IsAccepted p → MainStands (lowered_program p) }
+{}
+
+/// Law: the functions of an accepted program stand together as the core asks, where there are fewer than 2^32: called names have instances, inline functions call inline functions that stand before them, and instances of a name may share it.
+pub fn accepted_standing()
+    ensures { (p : ProgramTree) → length p.functions < 2 ^ 32 → IsAccepted p → IsStanding p }
 {}

@@ -9,23 +9,41 @@ ghost use Rattle.data_text.specs.Found.{Tells};
 ghost use Rattle.sac_words.specs.Meaning.{meant, input_meant, IsSized, file};
 ghost use Rattle.sac_due.specs.Input.{main_types, main_bases};
 ghost use Rattle.sac_due.specs.Due.{ended, run_on};
-ghost use Rattle.sac_top.specs.Steps.{ending, tree, file_of, file_in, IsFileAnswer, IsRunAnswer, IsProgramAnswer};
+ghost use Rattle.sac_build.specs.Read.{IsRead};
+ghost use Rattle.sac_top.specs.Steps.{ending, ends_of, tree, file_of, file_in, IsFileAnswer, IsRunAnswer, IsProgramAnswer};
 
 use crate::arguments::{generate_arguments, read_arguments};
 use crate::line::{Answer, answer_line, refused_data};
 use crate::results::answer_outcome;
 use data_text::DataError;
-use sac_base::{Array, Memory};
+use sac_base::{Array, Caps, Memory, Outcome};
+use sac_build::{compile_core, core_run};
 use sac_due::Status;
 use sac_io::{FetchError, Fetched, Files};
 use sac_print::print_program;
 use sac_words::{Input, Mode, Options};
 use std::alloc::Global;
 use type_check::Checked;
-use value_meaning::plain_run;
 
 /// The longest input, in bytes.
 const INPUT_LIMIT: u64 = 67_108_864;
+
+// What an accepted program comes to: it is compiled, and its core is run.
+fn outcome_of(
+    alloc: Global,
+    checked: &Checked,
+    args: &[Array],
+    caps: Caps,
+) -> Result<Outcome, Memory>
+    requires { IsRead (tree checked.now) }
+    ensures { IfOk result (λ o. ends_of o ≡ outcome (tree checked.now) args.now caps) }
+{
+    let core = compile_core(alloc, checked)?;
+    match core_run(alloc, &core, args, caps)? {
+        Ok(values) => Ok(Outcome::Values(values)),
+        Err(fault) => Ok(Outcome::Faulted(fault)),
+    }
+}
 
 fn answer_run(
     alloc: Global,
@@ -33,9 +51,10 @@ fn answer_run(
     options: &Options,
     args: &[Array],
 ) -> Result<Answer, Memory>
+    requires { IsRead (tree checked.now) }
     ensures { IfOk result (λ answer. ending answer ≡ ended (input_meant options.now.input) (outcome (tree checked.now) args.now options.now.caps)) }
 {
-    let outcome = plain_run(alloc, checked.program(), args, options.caps)?;
+    let outcome = outcome_of(alloc, checked, args, options.caps)?;
     answer_outcome(alloc, &outcome, options.input)
 }
 
@@ -46,6 +65,7 @@ fn answer_given(
     options: &Options,
     given: Result<Vec<Array>, DataError>,
 ) -> Result<Answer, Memory>
+    requires { IsRead (tree checked.now) }
     ensures { (r : Result (List ArrayValue) Refusal) → Tells given r
         → IfOk result (λ answer. ending answer ≡ run_on (meant options.now) (tree checked.now) r) }
 {
@@ -65,6 +85,7 @@ fn answer_text(
     options: &Options,
     text: &[u8],
 ) -> Result<Answer, Memory>
+    requires { IsRead (tree checked.now) }
     ensures { IfOk result (λ answer. ending answer ≡ run_on (meant options.now) (tree checked.now) (text_value text.now (main_bases (tree checked.now)))) }
 {
     let given = read_arguments(alloc, checked.program(), text);
@@ -77,7 +98,8 @@ fn answer_generated(
     options: &Options,
     n: u32,
 ) -> Result<Answer, Memory>
-    requires { (1 ≤ n) × (n ≤ 4096) }
+    requires sized { (1 ≤ n) × (n ≤ 4096) }
+    requires read { IsRead (tree checked.now) }
     ensures { IfOk result (λ answer. ending answer ≡ run_on (meant options.now) (tree checked.now) (generated_all (main_types (tree checked.now)) 0 n)) }
 {
     let given = generate_arguments(alloc, checked.program(), n);
@@ -91,7 +113,8 @@ fn answer_file<F: Files>(
     name: &str,
     files: &mut F,
 ) -> Result<Answer, Memory>
-    requires { input_meant options.now.input ≡ file name.now }
+    requires named { input_meant options.now.input ≡ file name.now }
+    requires read { IsRead (tree checked.now) }
     ensures answer { IfOk result (λ answer. IsFileAnswer (meant options.now) (tree checked.now) (F.files files.old)
         (Rose (F.faults files.old) (F.faults files.new)) name.now (ending answer)) }
     ensures never_falls { F.faults files.old ≤ F.faults files.new }
@@ -113,7 +136,8 @@ fn answer_input<F: Files>(
     options: &Options,
     files: &mut F,
 ) -> Result<Answer, Memory>
-    requires { IsSized options.now.input }
+    requires sized { IsSized options.now.input }
+    requires read { IsRead (tree checked.now) }
     ensures answer { IfOk result (λ answer. IsRunAnswer (meant options.now) (tree checked.now) (F.files files.old)
         (Rose (F.faults files.old) (F.faults files.new)) (ending answer)) }
     ensures never_falls { F.faults files.old ≤ F.faults files.new }
@@ -134,7 +158,8 @@ pub fn answer_program<F: Files>(
     options: &Options,
     files: &mut F,
 ) -> Result<Answer, Memory>
-    requires { IsSized options.now.input }
+    requires sized { IsSized options.now.input }
+    requires read { IsRead (tree checked.now) }
     ensures answer { IfOk result (λ answer. IsProgramAnswer (meant options.now) (tree checked.now) (F.files files.old)
         (Rose (F.faults files.old) (F.faults files.new)) (ending answer)) }
     ensures never_falls { F.faults files.old ≤ F.faults files.new }

@@ -1,5 +1,5 @@
 -- What two neighbouring workers make together.
-use Rattle.std.proofs.Common.{◌≡◌, ℕ, ◌+◌, ◌≤◌, Bool, List, ◌++◌, ℤ, length, take, Ok, Err, refl, sym, ap, ◌∙◌, arith}
+use Rattle.std.proofs.Common.{◌≡◌, ℕ, ◌≤◌, Bool, List, ◌++◌, ℤ, length, take, Ok, Err, sym, ◌∙◌, arith}
 use Rattle.std.proofs.lemmas.List.{take-append-le}
 use Rattle.sac_base.specs.Verdict.{fold_op}
 use Rattle.wl_core.specs.declared.setup.Job.{Job}

@@ -1,11 +1,11 @@
 -- A phase whose worker k computes chunk k is a run of the machine.
-use Rattle.std.proofs.Common.{◌≡◌, ◌≢◌, ℕ, zero, suc, ◌+◌, ◌<◌, ◌≤◌, ◌⊎◌, true, false, ℤ, List, [], ◌∷◌, ◌++◌, length, Option, Some, Ok, Err, refl, sym, ap, subst, ◌∙◌, inl, inr, ⊎_elim, arith}
+use Rattle.std.proofs.Common.{◌≡◌, ◌≢◌, ℕ, zero, suc, ◌+◌, ◌<◌, ◌≤◌, true, false, ℤ, List, [], ◌∷◌, ◌++◌, Option, Some, Ok, Err, refl, sym, ap, subst, ◌∙◌, inl, inr, ⊎_elim, arith}
 use Rattle.std.specs.Prelude.{slice_get}
 use Rattle.std.proofs.lemmas.Bool.{cases_eq}
 use Rattle.sac_base.specs.declared.fault.Fault.{Fault}
 use Rattle.wl_core.specs.declared.events.Event.{Event}
 use Rattle.wl_core.specs.declared.events.Event.TheVariants.{Draw, Write, Stop}
-use Rattle.wl_core.specs.Machine.{SetupValue, StateValue, Steps, Runs, Works, Finished, HoldsNothing, opened, put, first, end, chunks, listed, store, gather}
+use Rattle.wl_core.specs.Machine.{SetupValue, StateValue, Steps, Runs, Works, Finished, HoldsNothing, opened, put, first, end, chunks, store, gather}
 use Rattle.wl_core.proofs.Functions.{put_same, put_other}
 use Rattle.worker_team.specs.Schedules.{draws, AllDone, IsAtWork, IsBegun, IsShared}
 

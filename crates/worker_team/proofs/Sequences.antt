@@ -1,5 +1,5 @@
 -- Cells that follow one another, cut in two.
-use Rattle.std.proofs.Common.{◌≡◌, ℕ, zero, suc, ◌+◌, ◌%◌, ◌^◌, List, [], ◌∷◌, ◌++◌, ℤ, length, Option, None, Some, Result, Ok, Err, refl, sym, ap, ◌∙◌, arith, subst}
+use Rattle.std.proofs.Common.{◌≡◌, ℕ, zero, suc, ◌+◌, ◌%◌, ◌^◌, List, [], ◌∷◌, ◌++◌, ℤ, Option, None, Some, Ok, Err, refl, sym, ap, ◌∙◌, arith}
 use Rattle.std.specs.Prelude.{fold}
 use Rattle.std.proofs.lemmas.List.Sums.{fold-append, fold_push}
 use Rattle.std.proofs.Math.Nat.{add-mod-mod, mod-add-mod}

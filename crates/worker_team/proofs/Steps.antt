@@ -1,5 +1,5 @@
 -- One cell more.
-use Rattle.std.proofs.Common.{◌≡◌, ℕ, suc, ◌+◌, ◌-◌, ◌*◌, ◌<◌, ◌≤◌, Bool, List, [], ◌∷◌, ◌++◌, ℤ, length, take, Option, None, Some, Ok, Err, refl, sym, ap, ◌∙◌, arith, subst}
+use Rattle.std.proofs.Common.{◌≡◌, ℕ, suc, ◌+◌, ◌-◌, ◌*◌, ◌<◌, ◌≤◌, List, [], ◌∷◌, ◌++◌, ℤ, length, take, Option, Some, Ok, Err, refl, sym, ap, ◌∙◌, arith}
 use Rattle.std.proofs.lemmas.List.{length-take-le}
 use Rattle.std.proofs.Math.Seq.{take-append_seam, take-append-add}
 use Rattle.std.proofs.Math.Nat.{suc-mul}
@@ -12,7 +12,7 @@ use Rattle.wl_core.specs.Machine.{CellValue, combine, both}
 use Rattle.worker_team.specs.declared.plan.Stop.{Stop}
 use Rattle.worker_team.specs.declared.plan.Stop.TheVariants.{Faulted, Memory}
 use Rattle.worker_team.specs.declared.cells.CellEnd.TheVariants.{Stopped}
-use Rattle.worker_team.specs.Segments.{Tells, cells_from, cost_from, value_if, Costs, Gathered, Ran, Same}
+use Rattle.worker_team.specs.Segments.{Tells, cells_from, cost_from, Costs, Gathered, Ran, Same}
 use Rattle.worker_team.proofs.Sequences.{cells-append, cells_more, cost_more, each-both, each-front, each-back, joined-both, combined_more, same_sum, same_of}
 
 module _ (cell : ℕ → CellValue) (start k : ℕ) (values : List (Option (List ℤ))) (before : each (cells_from cell start k) ≡ Ok values) where

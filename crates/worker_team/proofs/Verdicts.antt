@@ -1,14 +1,12 @@
 -- What phases answer, as the machine's verdict.
-use Rattle.std.proofs.Common.{◌≡◌, ℤ, List, Option, Some, Ok, Err, refl, sym, ap, ◌∙◌, subst, IsTrue}
+use Rattle.std.proofs.Common.{◌≡◌, ℤ, List, Option, Some, Ok, Err, sym, ap, ◌∙◌, subst, IsTrue}
 use Rattle.sac_base.specs.declared.base.Base.{Base}
 use Rattle.sac_base.specs.declared.fault.Fault.{Fault}
 use Rattle.sac_base.specs.declared.op.Op.{Op}
-use Rattle.sac_base.specs.Verdict.{each, present, joined, combined, folds, fold_op}
-use Rattle.wl_core.specs.declared.setup.Job.{Job}
+use Rattle.sac_base.specs.Verdict.{each, present, combined, folds, fold_op}
 use Rattle.wl_core.specs.declared.setup.Job.TheVariants.{Write as Store, Fold}
 use Rattle.wl_core.specs.Machine.{SetupValue, TakesBase, Cells, Partial, Faulted, both, combine, sequential, verdict_by}
 use Rattle.wl_core.proofs.FoldLaws.{foldable, elementwise-foldable}
-use Rattle.worker_team.specs.declared.plan.Stop.TheVariants.{Faulted as FaultedAt}
 use Rattle.worker_team.specs.Endings.{IsArray, IsCombined}
 use Rattle.worker_team.proofs.Sequences.{from_first}
 

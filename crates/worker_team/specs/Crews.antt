@@ -1,5 +1,5 @@
 -- What the workers of a phase begin with, and what they leave.
-use Rattle.std.specs.Prelude.{◌≡◌, ℕ, ◌+◌, ◌<◌, ◌≤◌, false, List, [], Option, Some, None, Ok}
+use Rattle.std.specs.Prelude.{◌≡◌, ℕ, ◌+◌, ◌<◌, ◌≤◌, false, [], None, Ok}
 use Rattle.std.specs.Int.{div_ceil}
 use Rattle.count_table.specs.Seats.{PhaseId, WorkerState, FrameState}
 use Rattle.wl_core.specs.Machine.{CellValue, IsFold, TakesBase}

@@ -1,5 +1,5 @@
 -- What a whole phase answers.
-use Rattle.std.specs.Prelude.{◌≡◌, ℕ, ◌+◌, ◌%◌, ◌^◌, ℤ, List, Bool, fold, Option, Some, None, Result, Ok, Err}
+use Rattle.std.specs.Prelude.{◌≡◌, ◌+◌, ◌%◌, ◌^◌, ℤ, List, Bool, fold, Option, Result, Ok, Err}
 use Rattle.sac_base.specs.Verdict.{each, present, joined}
 use Rattle.sac_base.specs.declared.op.Op.{Op}
 use Rattle.wl_core.specs.Machine.{CellValue, combine}

@@ -1,4 +1,5 @@
 pub mod Segments
 pub mod Crews
 pub mod Endings
+pub mod Samples
 pub mod Schedules

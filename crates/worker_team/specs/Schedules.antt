@@ -1,6 +1,6 @@
 -- A phase whose worker k computes chunk k, as a run of the machine of a parallel phase. The draws come first, in the order of the chunks,
 -- and then each worker's writes and its stop, whatever their order among the workers.
-use Rattle.std.specs.Prelude.{◌≡◌, ℕ, ◌+◌, ◌<◌, ◌⊎◌, true, false, List}
+use Rattle.std.specs.Prelude.{◌≡◌, ℕ, ◌<◌, ◌⊎◌, true, false, List}
 use Rattle.wl_core.specs.declared.events.Event.{Event}
 use Rattle.wl_core.specs.declared.events.Event.TheVariants.{Draw}
 use Rattle.wl_core.specs.Machine.{SetupValue, StateValue, first, end, chunks, listed}

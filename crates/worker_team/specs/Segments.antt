@@ -1,5 +1,5 @@
 -- What workers make of the cells of positions that follow one another.
-use Rattle.std.specs.Prelude.{◌≡◌, ℕ, zero, suc, ◌+◌, ◌*◌, ◌%◌, ◌^◌, ◌≤◌, ℤ, List, [], ◌∷◌, ◌++◌, length, take, Bool, cond, Option, Some, None, Result, Ok, Err}
+use Rattle.std.specs.Prelude.{◌≡◌, ℕ, zero, suc, ◌+◌, ◌*◌, ◌%◌, ◌^◌, ◌≤◌, ℤ, List, [], ◌∷◌, length, take, Bool, cond, Option, Some, None, Result, Ok, Err}
 use Rattle.std.specs.Int.{div_ceil}
 use Rattle.sac_base.specs.Verdict.{each, present, joined, combined}
 use Rattle.sac_base.specs.declared.op.Op.{Op}

@@ -15,5 +15,8 @@ mod worker;
 
 pub use cells::{CellEnd, PhaseCells};
 pub use law::{answers_are_verdicts, each_schedule_is_a_run};
-pub use phases::array_phase;
+pub use phases::{array_phase, fold_phase};
 pub use plan::{Gate, NoGate, Plan, Stop};
+
+#[cfg(test)]
+mod tests;

@@ -1,4 +1,4 @@
-use Rattle.std.proofs.Common.{◌≡◌, ℕ, ◌+◌, ◌-◌, ◌<◌, ◌≤◌, List, ◌++◌, length, refl, sym, subst, ◌∙◌, arith}
+use Rattle.std.proofs.Common.{◌≡◌, ℕ, ◌+◌, ◌-◌, ◌<◌, ◌≤◌, List, ◌++◌, length, sym, subst, arith}
 use Rattle.wl_core.specs.Machine.{CellValue}
 use Rattle.worker_team.specs.Segments.{cells_from, ChunkRoom, CostBoth, Costs, HasRoom, Ran}
 use Rattle.worker_team.proofs.Teams.{room_of_one, room_of_rest, rows_of_both, first_bound, cells_split, cost_split, on_both}

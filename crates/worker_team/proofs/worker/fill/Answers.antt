@@ -1,7 +1,7 @@
-use Rattle.std.proofs.Common.{◌≡◌, ℕ, ◌+◌, ◌-◌, ◌*◌, ◌≤◌, ℤ, List, [], length, take, drop, refl, ap, sym, subst, ◌∙◌, arith, rules, length-take, length-drop}
+use Rattle.std.proofs.Common.{◌≡◌, ℕ, ◌+◌, ◌-◌, ◌*◌, ◌≤◌, [], length, take, refl, ap, sym, subst, ◌∙◌, arith, rules}
 use Rattle.std.proofs.lemmas.List.{take_all}
 use borrow.Rule.Slice.PartMut.{put_mid}
-use Rattle.sac_base.specs.Verdict.{each, present, joined}
+use Rattle.sac_base.specs.Verdict.{each}
 use Rattle.wl_core.specs.declared.setup.Job.TheVariants.{Write as Store}
 use Rattle.worker_team.specs.declared.cells.CellEnd.{CellEnd}
 use Rattle.worker_team.specs.Segments.{cells_from, Costs, Tells}

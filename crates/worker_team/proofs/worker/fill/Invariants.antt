@@ -1,4 +1,4 @@
-use Rattle.std.proofs.Common.{◌≡◌, ◌*◌, List, ℤ, Option, Ok, length, take}
+use Rattle.std.proofs.Common.{◌≡◌, ◌*◌, List, ℤ, Option, Ok, take}
 use Rattle.sac_base.specs.Verdict.{each, present, joined}
 use Rattle.worker_team.specs.Segments.{cells_from, Costs}
 use Rattle.worker_team.proofs.worker.fill.Given as goal

@@ -1,4 +1,4 @@
-use Rattle.std.proofs.Common.{◌≡◌, List, ℤ, Option, Ok, length}
+use Rattle.std.proofs.Common.{◌≡◌, List, ℤ, Option, Ok}
 use Rattle.sac_base.specs.Verdict.{each, present, combined}
 use Rattle.wl_core.specs.Machine.{combine}
 use Rattle.worker_team.specs.Segments.{cells_from, value_if, Costs}

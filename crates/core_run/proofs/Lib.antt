@@ -1,0 +1,17 @@
+pub mod Environments
+pub mod Choices
+pub mod Indices
+pub mod Measures
+pub mod Sizes
+pub mod Cells
+pub mod Blocks
+pub mod Loops
+pub mod CallSteps
+pub mod WithSteps
+pub mod Fitting
+pub mod PartSteps
+pub mod PlainSteps
+pub mod WithWhole
+pub mod PartedWhole
+pub mod MainSteps
+pub mod Built

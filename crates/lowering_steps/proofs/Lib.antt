@@ -1,0 +1,4 @@
+pub mod Accumulated
+pub mod Arms
+pub mod Steps
+pub mod Whole

@@ -1,0 +1,3 @@
+pub mod Latest
+pub mod Owning
+pub mod Pieces

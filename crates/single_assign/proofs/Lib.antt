@@ -1,0 +1,4 @@
+pub mod Once
+pub mod Scopes
+pub mod Loops
+pub mod Whole

@@ -1,0 +1,9 @@
+use Rattle.std.proofs.Common.{◌≡◌, drop}
+use Rattle.lowering_steps.specs.Parts.{after_list}
+use Rattle.single_assign.specs.Looks.{look, texts}
+use Rattle.single_assign.specs.Views.{built, make_starts_in}
+use Rattle.single_assign.proofs.lower.starts.Given as goal
+
+abbrev pub invariant-loop-name : goal.invariant-loop-name
+invariant-loop-name l =
+    after_list l.vars.items (make_starts_in l.cx l.site (texts (drop l.name-index l.names)) (look l.scope) (built l.out)) ≡ make_starts_in l.cx l.site (texts l.names) (look l.scope) (built l.initial.out)

@@ -1,0 +1,10 @@
+use Rattle.std.proofs.Common.{◌≡◌, ◌++◌, drop}
+use Rattle.sac_ast.specs.View.{functions}
+use Rattle.lowering_laws.specs.Programs.{function_names}
+use Rattle.single_assign.specs.Looks.{texts}
+use Rattle.single_assign.proofs.Once.{among, once_but, names_left}
+use Rattle.single_assign.proofs.program.function_names.Given as goal
+
+abbrev pub invariant-loop-f : goal.invariant-loop-f
+invariant-loop-f l =
+    texts l.names.keys ++ once_but (among l.names.keys) (names_left (functions (drop l.f-index l.functions))) ≡ function_names (functions l.functions)

@@ -1,0 +1,10 @@
+use Rattle.std.proofs.Common.{◌≡◌, drop}
+use Rattle.single_assign.specs.Looks.{look}
+use Rattle.lowering_steps.specs.Functions.{params_declared}
+use Rattle.lowering_steps.specs.Parts.{after_params}
+use Rattle.single_assign.specs.Views.{built}
+use Rattle.single_assign.proofs.program.lower_params.Given as goal
+
+abbrev pub invariant-loop-param : goal.invariant-loop-param
+invariant-loop-param l =
+    after_params l.typed.items (params_declared (drop l.param-index l.params) (look l.scope) (built l.out)) ≡ params_declared l.params (look l.initial.scope) (built l.initial.out)

@@ -1,0 +1,22 @@
+use Rattle.std.proofs.Common.{ap, ◌∙◌, map}
+use Rattle.std.specs.Prelude.{position, unwrap_or}
+use Rattle.sac_ast.specs.View.{functions, program}
+use Rattle.value_meaning.specs.Calls.{is_main}
+use Rattle.lowering_laws.specs.Programs.{function_names, places_of}
+use Rattle.core_ir.specs.View.{fun_term}
+use Rattle.single_assign.specs.Functions.{functions_by}
+use Rattle.single_assign.specs.Looks.{texts}
+use Rattle.single_assign.specs.Views.{place_by}
+use Rattle.single_assign.proofs.Whole.{program_ends}
+use Rattle.single_assign.proofs.program.lower_program.Goals as goal
+
+pub returns : goal.returns
+returns c =
+    let keys = c.in_ok-names.names.keys in
+    let names = c.in_ok-names.ensures ∙ ap (λ fs. function_names (functions fs)) c.deref.ensures.value in
+    let funs = c.in_ok-functions.ensures ∙ ap (λ fs. functions_by (place_by c.in_ok-names.names) (functions fs) (functions fs)) c.deref-2.ensures.value in
+    let groups = c.in_ok-groups.ensures
+    ∙ ap (λ fs. map (λ x. places_of x 0 (functions fs)) (texts c.as_slice.result.now)) c.deref-3.ensures.value
+    ∙ ap (λ ks. map (λ x. places_of x 0 (functions c.args.program.now.functions.items)) (texts ks)) c.as_slice.ensures.keys in
+    let main = c.in_ok-main.ensures ∙ ap (λ fs. unwrap_or (position is_main (functions fs)) 0) c.deref-4.ensures.value in
+    program_ends (program c.args.program.now) (map fun_term c.in_ok-functions.functions.items) (map (λ g. g.items) c.in_ok-groups.groups.items) c.in_ok-main.main (texts keys) names funs groups main

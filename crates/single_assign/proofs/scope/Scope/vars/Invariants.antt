@@ -1,0 +1,7 @@
+use Rattle.std.proofs.Common.{◌≡◌, ◌++◌, drop}
+use Rattle.lowering_steps.specs.Looks.{vars_of}
+use Rattle.single_assign.specs.Looks.{look, texts}
+use Rattle.single_assign.proofs.scope.Scope.vars.Given as goal
+
+abbrev pub invariant-loop-name : goal.invariant-loop-name
+invariant-loop-name l = l.vars.items ++ vars_of (look l.self) (texts (drop l.name-index l.names)) ≡ vars_of (look l.self) (texts l.names)

@@ -1,0 +1,195 @@
+//! The core of a whole program.
+
+ghost use Rattle.std.specs.Prelude.{◌≡◌, ℕ, IfOk, List, map, position, unwrap_or};
+ghost use Rattle.sac_ast.specs.Tree.{FunctionTree};
+ghost use Rattle.sac_ast.specs.View.{function, functions as trees, program as tree};
+ghost use Rattle.core_ir.specs.View.{core_term, fun_term};
+ghost use Rattle.value_meaning.specs.Calls.{is_main};
+ghost use Rattle.lowering_laws.specs.Programs.{function_names as names_of_functions, lowered_program, places_of as places_of_name};
+ghost use Rattle.lowering_steps.specs.Functions.{params_declared};
+ghost use Rattle.single_assign.specs.Functions.{function_in, function_of, functions_by, params_made};
+ghost use Rattle.single_assign.specs.Looks.{look, texts};
+ghost use Rattle.single_assign.specs.Views.{built, place_by};
+
+use crate::builder::Builder;
+use crate::context::Context;
+use crate::lower::{lower_all, lower_block};
+use crate::scope::Scope;
+use core_ir::{Core, CoreFun, Var};
+use indexmap::IndexSet;
+use sac_ast::{Function, Param, Program};
+use sac_base::{ArrayType, Memory, copy_name, copy_type};
+use static_bases::known_in;
+use std::alloc::Global;
+use type_check::Checked;
+
+/// The core of an accepted program: each assignment makes new variables, each conditional gives the variables bound in it, and each loop carries those that it binds.
+///
+/// Where it would need 2^32 functions or groups, or more variables in a function, memory is wanting.
+pub fn to_core(alloc: Global, checked: &Checked) -> Result<Core, Memory>
+    ensures { IfOk result (λ core. core_term core ≡ lowered_program (tree checked.now.program)) }
+{
+    lower_program(alloc, checked.program())
+}
+
+fn lower_program(alloc: Global, program: &Program) -> Result<Core, Memory>
+    ensures { IfOk result (λ core. core_term core ≡ lowered_program (tree program.now)) }
+{
+    let names = function_names(alloc, &program.functions)?;
+    let functions = lower_functions(alloc, &program.functions, &names)?;
+    let groups = groups(alloc, &program.functions, names.as_slice())?;
+    let main = main_place(&program.functions)?;
+    Ok(Core {
+        functions,
+        groups,
+        main,
+    })
+}
+
+// The names of functions, each once.
+fn function_names<'a>(alloc: Global, functions: &'a [Function]) -> Result<IndexSet<&'a str>, Memory>
+    ensures { IfOk result (λ names. texts names.keys ≡ names_of_functions (trees functions.now)) }
+{
+    let mut names = IndexSet::new(alloc);
+    for f in functions {
+        names.insert(f.name.as_str())?;
+    }
+    Ok(names)
+}
+
+fn small_place(place: usize) -> Result<u32, Memory>
+    ensures { IfOk result (λ small. small ≡ place) }
+{
+    match u32::try_from(place) {
+        Ok(small) => Ok(small),
+        Err(_) => Err(Memory),
+    }
+}
+
+// The places of a name's instances.
+fn places_of(alloc: Global, functions: &[Function], name: &str) -> Result<Vec<u32>, Memory>
+    ensures { IfOk result (λ v. v.items ≡ places_of_name name.now 0 (trees functions.now)) }
+{
+    let mut places = Vec::new(alloc);
+    for k in 0..functions.len() {
+        if functions[k].name.as_str() == name {
+            let place = small_place(k)?;
+            places.push(place)?;
+        }
+    }
+    Ok(places)
+}
+
+fn groups(alloc: Global, functions: &[Function], names: &[&str]) -> Result<Vec<Vec<u32>>, Memory>
+    ensures { IfOk result (λ v. map (λ g. g.items) v.items ≡ map (λ x. places_of_name x 0 (trees functions.now)) (texts names.now)) }
+{
+    let mut groups = Vec::new(alloc);
+    for name in names {
+        let places = places_of(alloc, functions, name)?;
+        groups.push(places)?;
+    }
+    Ok(groups)
+}
+
+// The place of `main`, and 0 where there is none.
+fn main_place(functions: &[Function]) -> Result<u32, Memory>
+    ensures { IfOk result (λ place. place ≡ unwrap_or (position is_main (trees functions.now)) 0) }
+{
+    match find_main(functions) {
+        Some(place) => small_place(place),
+        None => Ok(0),
+    }
+}
+
+fn find_main(functions: &[Function]) -> Option<usize>
+    ensures { result ≡ position is_main (trees functions.now) }
+{
+    for i in 0..functions.len() {
+        if functions[i].name.as_str() == "main" {
+            return Some(i);
+        }
+    }
+    None
+}
+
+fn lower_functions(
+    alloc: Global,
+    functions: &[Function],
+    names: &IndexSet<&str>,
+) -> Result<Vec<CoreFun>, Memory>
+    ensures { IfOk result (λ v. map fun_term v.items ≡ functions_by (place_by names.now) (trees functions.now) (trees functions.now)) }
+{
+    let mut cores = Vec::new(alloc);
+    for f in functions {
+        let core = lower_one(alloc, functions, names, f)?;
+        cores.push(core)?;
+    }
+    Ok(cores)
+}
+
+fn lower_one(
+    alloc: Global,
+    functions: &[Function],
+    names: &IndexSet<&str>,
+    f: &Function,
+) -> Result<CoreFun, Memory>
+    ensures { IfOk result (λ core. fun_term core ≡ function_of (place_by names.now) (trees functions.now) (function f.now)) }
+{
+    let known = known_in(alloc, functions, f)?;
+    let cx = Context {
+        alloc,
+        functions,
+        names,
+        known: &known,
+    };
+    lower_function(f, &cx)
+}
+
+// The parameters of a function as variables.
+fn lower_params(
+    params: &[Param],
+    alloc: Global,
+    scope: &mut Scope<'_>,
+    out: &mut Builder,
+) -> Result<Vec<(Var, ArrayType)>, Memory>
+    ensures { IfOk result (λ v. params_made (built out.new) v.items (look scope.new) ≡ params_declared params.now (look scope.old) (built out.old)) }
+{
+    let mut typed = Vec::new(alloc);
+    for param in params {
+        let var = out.fresh()?;
+        scope.bind(alloc, param.name.as_str(), var)?;
+        typed.push((var, copy_type(&param.ty)))?;
+    }
+    Ok(typed)
+}
+
+fn copy_types(alloc: Global, types: &[ArrayType]) -> Result<Vec<ArrayType>, Memory>
+    ensures { IfOk result (λ v. v.items ≡ types.now) }
+{
+    let mut copies = Vec::new(alloc);
+    for ty in types {
+        copies.push(copy_type(ty))?;
+    }
+    Ok(copies)
+}
+
+fn lower_function(f: &Function, cx: &Context<'_>) -> Result<CoreFun, Memory>
+    ensures { IfOk result (λ core. fun_term core ≡ function_in cx.now (function f.now)) }
+{
+    let mut scope = Scope::new(cx.alloc);
+    let mut out = Builder::new(cx.alloc);
+    let params = lower_params(&f.params, cx.alloc, &mut scope, &mut out)?;
+    lower_block(&f.body, cx, &mut scope, &mut out)?;
+    let values = lower_all(&f.values, cx, &scope, &mut out)?;
+    let name = copy_name(&f.name)?;
+    let results = copy_types(cx.alloc, &f.results)?;
+    Ok(CoreFun {
+        name,
+        site: f.site,
+        params,
+        results,
+        inline: f.inline,
+        body: out.finish(values),
+        ends: f.ends,
+    })
+}

@@ -1,0 +1,4 @@
+pub mod Cores
+pub mod Fitting
+pub mod Lengths
+pub mod Read

@@ -1,0 +1,13 @@
+-- What the cells of the tests come to.
+use Rattle.std.specs.Prelude.{ℕ, ◌%◌, ◌==◌, nat_lt, pos, cond, [], ◌∷◌, Some, None, Ok, Err}
+use Rattle.sac_base.specs.declared.fault.Fault.{Fault}
+use Rattle.sac_base.specs.declared.fault.FaultKind.TheVariants.{F2}
+use Rattle.wl_core.specs.Machine.{CellValue}
+
+abbrev pub zero_divisor : ℕ → Fault
+zero_divisor line = record { kind = F2; site = record { line = line; col = 28 } }
+
+-- three elements that have the position as their value, below 1000. Two positions fault, and those from `held` on are not held
+abbrev pub ramp_cell : ℕ → ℕ → ℕ → ℕ → CellValue
+ramp_cell first second held p =
+    cond (p == first) (Err (zero_divisor 3)) (cond (p == second) (Err (zero_divisor 4)) (cond (nat_lt p held) (Ok (Some (pos (p % 1000) ∷ pos (p % 1000) ∷ pos (p % 1000) ∷ []))) (Ok None)))
