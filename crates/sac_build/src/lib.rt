@@ -5,3 +5,6 @@ mod compiler;
 
 pub use compiler::{Compiled, compile, compile_core};
 pub use core_run::core_run;
+
+#[cfg(test)]
+mod tests;
