@@ -1,0 +1,5 @@
+pub mod CodeTrees
+pub mod Collected
+pub mod Placed
+pub mod Recorded
+pub mod Taken

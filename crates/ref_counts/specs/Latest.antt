@@ -1,0 +1,25 @@
+-- Where each variable is used last in a list of uses.
+use Rattle.std.specs.Prelude.{◌≡◌, ◌+◌, ◌-◌, ◌^◌, min, length, ℕ, Bool, true, false, nat_eq, nat_le, drop, List, Option, Some, None}
+use Rattle.std.specs.HashMap.{get, HashMap}
+use Rattle.core_ir.specs.declared.tree.Var.{Var}
+use Rattle.core_ir.specs.Terms.{RightTerm}
+use Rattle.core_ir.specs.Binders.{is_in}
+
+-- the place is not before the other
+abbrev pub reaches : Option ℕ → ℕ → Bool
+reaches None from = false
+reaches (Some place) from = nat_le from place
+
+module _ {S : Type 0} where
+  -- the variable is used at this place of the list or later
+  abbrev pub is_used : HashMap ℕ ℕ S → ℕ → Var → Bool
+  is_used last from x = reaches (get nat_eq last x.0) from
+
+  -- the map has the place of each variable's last use
+  abbrev pub AreLast : HashMap ℕ ℕ S → List Var → Type 0
+  AreLast last uses = (x : Var) (from : ℕ) → is_used last from x ≡ is_in x (drop from uses)
+
+-- the place of the first use that a right side does not hand on, where its uses lie between these places
+abbrev pub read_place : RightTerm → ℕ → ℕ → ℕ
+read_place (RightTerm.Loop first start params test body s) from to = min (from + length start) (2 ^ 64 - 1)
+read_place _ from to = to

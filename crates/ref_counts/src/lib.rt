@@ -1,0 +1,11 @@
+//! References are counted: where code keeps and where it releases them.
+#![tactic(auto)]
+
+mod functions;
+mod last;
+mod place;
+mod split;
+mod steps;
+mod uses;
+
+pub use functions::count_refs;

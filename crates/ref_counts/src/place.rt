@@ -1,0 +1,185 @@
+//! Steps that keep and release are put between bindings.
+
+ghost use Rattle.std.specs.Prelude.{◌≡◌, ◌+◌, [], ◌∷◌, ◌++◌, IfOk, drop, length, List};
+ghost use Rattle.core_ir.specs.declared.tree.Var.{Var};
+ghost use Rattle.core_ir.specs.Terms.{BlockTerm, Gives, chain};
+ghost use Rattle.core_ir.specs.View.{block_term, let_term, right_term, with_term, parted_term, gen_term, part_term};
+ghost use Rattle.counted_code.specs.Prompt.{uses, uses_right};
+ghost use Rattle.counted_code.specs.Terms.{Giving};
+ghost use Rattle.counted_code.specs.View.{code_term, code_right_term, steps_before, code_with_term, code_parted_term};
+ghost use Rattle.ref_counts.specs.Latest.{AreLast};
+ghost use Rattle.ref_counts.specs.Pieces.{code_gen_term, code_part_term, placing_gen, placing_part};
+ghost use Rattle.ref_placing.specs.Placing.{placing, placing_right};
+
+use crate::last::{LastUses, last_uses};
+use crate::split::{by_passing, by_use, needing_more};
+use crate::steps::{branches, copy_vars, count_uses, handed_on, push_binding, push_keeps, push_releases, read_from};
+use crate::uses::add_uses;
+use core_ir::{Block, CoreGen, CorePart, Let, PartedLoop, Right, Var, WithLoop};
+use counted_code::{CodeBlock, CodeGen, CodePart, CodeParted, CodeRight, CodeStep, CodeWith};
+use sac_base::{Memory, copy_array, copy_type};
+use std::alloc::Global;
+
+/// The block with the steps that its references need: it ends those of `refs`.
+#[cycle(place)]
+pub fn place_block(alloc: Global, block: &Block, refs: &[Var]) -> Result<CodeBlock, Memory>
+    ensures { IfOk result (λ c. code_term c ≡ placing refs.now (block_term block.now)) }
+{
+    let mut uses = Vec::new(alloc);
+    add_uses(block, &mut uses)?;
+    let last = last_uses(alloc, &uses)?;
+    let mut steps = Vec::new(alloc);
+    let mut owned = copy_vars(alloc, refs)?;
+    let mut from = 0usize;
+    for binding in &block.lets {
+        let to = from + count_uses(alloc, &binding.right)?;
+        owned = place_let(alloc, binding, &last, from, to, &owned, &mut steps)?;
+        from = to;
+    }
+    place_results(alloc, &block.results, &last, from, &owned, &mut steps)?;
+    Ok(CodeBlock {
+        steps,
+        results: copy_vars(alloc, &block.results)?,
+    })
+}
+
+/// Appends the steps before a block's results.
+fn place_results(alloc: Global, results: &[Var], last: &LastUses, from: usize, owned: &[Var], steps: &mut Vec<CodeStep>) -> Result<(), Memory>
+    ensures { (us : List Var) → AreLast last.now us → drop from us ≡ results.now → IfOk result (λ done. steps_before steps.new.items (Giving results.now) ≡ steps_before steps.old.items (placing owned.now (Gives results.now))) }
+{
+    let live = by_use(alloc, last, from, owned)?;
+    push_releases(&live.second, steps)?;
+    let more = needing_more(alloc, results, &live.first)?;
+    push_keeps(&more, steps)
+}
+
+/// Appends a binding with the steps before it, and answers the variables whose references are there after it.
+#[cycle(place)]
+fn place_let(alloc: Global, binding: &Let, last: &LastUses, from: usize, to: usize, owned: &[Var], steps: &mut Vec<CodeStep>) -> Result<Vec<Var>, Memory>
+    ensures { (us : List Var) (rest : BlockTerm) → AreLast last.now us → drop from us ≡ uses_right (let_term binding.now).right ++ uses rest → to ≡ from + length (uses_right (let_term binding.now).right) → IfOk result (λ left. steps_before steps.new.items (placing left.items rest) ≡ steps_before steps.old.items (placing owned.now (chain (let_term binding.now ∷ []) rest))) }
+{
+    let live = by_use(alloc, last, from, owned)?;
+    push_releases(&live.second, steps)?;
+    let handed = handed_on(alloc, &binding.right)?;
+    let read_from = read_from(&binding.right, from, to);
+    let split = by_passing(alloc, branches(&binding.right), &handed, last, read_from, &live.first)?;
+    let more = needing_more(alloc, &handed, &split.first)?;
+    push_keeps(&more, steps)?;
+    let right = place_right(alloc, &binding.right, &split.first)?;
+    let targets = copy_vars(alloc, &binding.targets)?;
+    push_binding(targets, binding.site, right, steps)?;
+    let mut left = copy_vars(alloc, &binding.targets)?;
+    left.extend_from_slice(&split.second)?;
+    Ok(left)
+}
+
+/// The right side, whose branches end the references of `mine`.
+#[cycle(place)]
+fn place_right(alloc: Global, right: &Right, mine: &[Var]) -> Result<CodeRight, Memory>
+    ensures { IfOk result (λ r. code_right_term r ≡ placing_right mine.now (right_term right.now)) }
+{
+    match right {
+        Right::Const(a) => Ok(CodeRight::Const(copy_array(a)?)),
+        Right::Copy(x) => Ok(CodeRight::Copy(*x)),
+        Right::Unary(op, x) => Ok(CodeRight::Unary(*op, *x)),
+        Right::Binary(op, x, y) => Ok(CodeRight::Binary(*op, *x, *y)),
+        Right::Literal(xs) => Ok(CodeRight::Literal(copy_vars(alloc, xs)?)),
+        Right::Dim(x) => Ok(CodeRight::Dim(*x)),
+        Right::ShapeOf(x) => Ok(CodeRight::ShapeOf(*x)),
+        Right::Reshape(x, y) => Ok(CodeRight::Reshape(*x, *y)),
+        Right::Select(x, y) => Ok(CodeRight::Select(*x, *y)),
+        Right::Replace(x, y, z) => Ok(CodeRight::Replace(*x, *y, *z)),
+        Right::If { cond, yes, no } => Ok(CodeRight::If {
+            cond: *cond,
+            yes: place_block(alloc, yes, mine)?,
+            no: place_block(alloc, no, mine)?,
+        }),
+        Right::Loop {
+            first_body,
+            start,
+            params,
+            test,
+            body,
+            test_site,
+        } => Ok(CodeRight::Loop {
+            first_body: *first_body,
+            start: copy_vars(alloc, start)?,
+            params: copy_vars(alloc, params)?,
+            test: place_block(alloc, test, &[])?,
+            body: place_block(alloc, body, params)?,
+            test_site: *test_site,
+        }),
+        Right::Call { group, args } => Ok(CodeRight::Call {
+            group: *group,
+            args: copy_vars(alloc, args)?,
+        }),
+        Right::With(w) => Ok(CodeRight::With(place_with(alloc, w)?)),
+        Right::Parted(p) => Ok(CodeRight::Parted(place_parted(alloc, p)?)),
+        Right::Always(kind) => Ok(CodeRight::Always(*kind)),
+        Right::Check(x, ty) => Ok(CodeRight::Check(*x, copy_type(ty))),
+    }
+}
+
+#[cycle(place)]
+fn place_with(alloc: Global, with: &WithLoop) -> Result<CodeWith, Memory>
+    ensures { IfOk result (λ w. code_with_term w ≡ placing_right [] (with_term with.now)) }
+{
+    let mut gens = Vec::new(alloc);
+    for generator in &with.gens {
+        gens.push(place_gen(alloc, generator)?)?;
+    }
+    Ok(CodeWith { gens, op: with.op })
+}
+
+#[cycle(place)]
+fn place_gen(alloc: Global, generator: &CoreGen) -> Result<CodeGen, Memory>
+    ensures { IfOk result (λ g. code_gen_term g ≡ placing_gen (gen_term generator.now)) }
+{
+    let mut own = Vec::new(alloc);
+    own.push(generator.index)?;
+    own.extend_from_slice(&generator.names)?;
+    Ok(CodeGen {
+        lower: generator.lower,
+        lower_closed: generator.lower_closed,
+        upper: generator.upper,
+        upper_closed: generator.upper_closed,
+        step: generator.step,
+        width: generator.width,
+        index: generator.index,
+        names: copy_vars(alloc, &generator.names)?,
+        body: place_block(alloc, &generator.body, &own)?,
+        site: generator.site,
+    })
+}
+
+#[cycle(place)]
+fn place_parted(alloc: Global, parted: &PartedLoop) -> Result<CodeParted, Memory>
+    ensures { IfOk result (λ p. code_parted_term p ≡ placing_right [] (parted_term parted.now)) }
+{
+    let mut parts = Vec::new(alloc);
+    for part in &parted.parts {
+        parts.push(place_part(alloc, part)?)?;
+    }
+    let frame = parted.frame.copy(alloc)?;
+    let cell = parted.cell.copy();
+    Ok(CodeParted {
+        frame,
+        base: parted.base,
+        cell,
+        op: parted.op,
+        parts,
+        reuse: None,
+    })
+}
+
+#[cycle(place)]
+fn place_part(alloc: Global, part: &CorePart) -> Result<CodePart, Memory>
+    ensures { IfOk result (λ p. code_part_term p ≡ placing_part (part_term part.now)) }
+{
+    Ok(CodePart {
+        grid: part.grid.copy(alloc)?,
+        index: part.index,
+        body: place_block(alloc, &part.body, &[part.index])?,
+        site: part.site,
+    })
+}
