@@ -1,7 +1,13 @@
 -- The term of a tree of counted code, by the lists that its vectors hold.
-use Rattle.std.proofs.Common.{◌≡◌, ℕ, Bool, List, [], ◌∷◌, ◌++◌, map, refl, ap, ◌∙◌, sym}
+use Rattle.std.proofs.Common.{◌≡◌, ℕ, ◌≤◌, Bool, List, [], ◌∷◌, ◌++◌, map, length, take, take_all, Option, None, refl, ap, ◌∙◌, sym}
 use Rattle.sac_base.specs.declared.site.Site.{Site}
 use Rattle.core_ir.specs.declared.tree.Var.{Var}
+use Rattle.core_ir.specs.declared.tree.CoreGen.{CoreGen}
+use Rattle.core_ir.specs.declared.tree.CorePart.{CorePart}
+use Rattle.core_ir.specs.declared.tree.WithLoop.{WithLoop, out-WithLoop}
+use Rattle.core_ir.specs.declared.tree.PartedLoop.{PartedLoop, out-PartedLoop}
+use Rattle.core_ir.specs.View.{with_term, parted_term, gen_term, part_term}
+use Rattle.core_ir.proofs.Trees as core
 use Rattle.core_ir.specs.Terms.{GensTerm, PartsTerm, GenTerm, PartTerm, NoGens, Gen, NoParts, Part, gens_of, parts_of}
 use Rattle.counted_code.specs.declared.tree.CodeBlock.{CodeBlock, Row_of-CodeStep, end_of-CodeStep, more_of-CodeStep, items-the_row-CodeStep, items_shown-the_row-CodeStep-0, items_hidden-the_row-CodeStep-0}
 use Rattle.counted_code.specs.declared.tree.CodeStep.{CodeStep}
@@ -13,7 +19,7 @@ use Rattle.counted_code.specs.declared.tree.CodeParted.{CodeParted, CodeParted',
 use Rattle.counted_code.specs.Terms.{CodeTerm, CodeRightTerm, CodeGensTerm, CodePartsTerm, Giving, WithCode, PartedCode, NoCodeGens, GenCode, NoCodeParts, PartCode}
 use Rattle.counted_code.specs.View.{code_term, steps_before, steps_term, step_term, code_right_term, code_with_term, code_gens_term, code_parted_term, code_parts_term}
 use Rattle.ref_counts.specs.Pieces.{CodeGenTerm, CodePartTerm, code_gen_term, code_part_term, code_gens_of, code_parts_of, placing_gen, placing_part}
-use Rattle.ref_placing.specs.Placing.{placing, placing_gens, placing_parts}
+use Rattle.ref_placing.specs.Placing.{placing, placing_right, placing_gens, placing_parts}
 
 steps_items : {n : _} → (k : Row_of-CodeStep n) (rs : List Var) → steps_term k rs ≡ steps_before (items-the_row-CodeStep n k) (Giving rs)
 steps_items end_of-CodeStep rs = refl
@@ -30,15 +36,15 @@ gens_items : {n : _} → (k : Row_of-CodeGen n) → code_gens_term k ≡ code_ge
 gens_items end_of-CodeGen = refl
 gens_items (more_of-CodeGen lower lower_closed upper upper_closed step width index names shape body results site rest) =
     λ i. GenCode (record { lower = lower; lower_closed = lower_closed; upper = upper; upper_closed = upper_closed; step = step; width = width; index = index; names = names.items; site = site })
-      ((steps_items body results.items ∙ ap (λ ss. steps_before ss (Giving results.items)) (sym (items_shown-the_row-CodeStep-0 shape body))) i)
-      (gens_items rest i)
+    ((steps_items body results.items ∙ ap (λ ss. steps_before ss (Giving results.items)) (sym (items_shown-the_row-CodeStep-0 shape body))) i)
+    (gens_items rest i)
 
 parts_items : {n : _} → (k : Row_of-CodePart n) → code_parts_term k ≡ code_parts_of (map code_part_term (items-the_row-CodePart n k))
 parts_items end_of-CodePart = refl
 parts_items (more_of-CodePart grid index shape body results site rest) =
     λ i. PartCode (record { grid = grid; index = index; site = site })
-      ((steps_items body results.items ∙ ap (λ ss. steps_before ss (Giving results.items)) (sym (items_shown-the_row-CodeStep-0 shape body))) i)
-      (parts_items rest i)
+    ((steps_items body results.items ∙ ap (λ ss. steps_before ss (Giving results.items)) (sym (items_shown-the_row-CodeStep-0 shape body))) i)
+    (parts_items rest i)
 
 pub with_out : (w : CodeWith) → code_with_term w ≡ WithCode (out-CodeWith w).op (code_gens_of (map code_gen_term (out-CodeWith w).gens.items))
 with_out (CodeWith' shape row op) =
@@ -63,3 +69,22 @@ gens_placed (g ∷ gs) = ap (λ rest. GenCode g.head (placing (g.head.index ∷ 
 pub parts_placed : (ps : List PartTerm) → placing_parts (parts_of ps) ≡ code_parts_of (map placing_part ps)
 parts_placed [] = refl
 parts_placed (p ∷ ps) = ap (λ rest. PartCode p.head (placing (p.head.index ∷ []) p.body) rest) (parts_placed ps)
+
+-- after a loop over the generators, or the parts
+gens_mapped : (gs : List CoreGen) → map (λ g. placing_gen (gen_term g)) gs ≡ map placing_gen (map gen_term gs)
+gens_mapped [] = refl
+gens_mapped (g ∷ gs) = ap (λ rest. placing_gen (gen_term g) ∷ rest) (gens_mapped gs)
+
+parts_mapped : (ps : List CorePart) → map (λ p. placing_part (part_term p)) ps ≡ map placing_part (map part_term ps)
+parts_mapped [] = refl
+parts_mapped (p ∷ ps) = ap (λ rest. placing_part (part_term p) ∷ rest) (parts_mapped ps)
+
+pub with_done : (x : CodeWith-F the_data the_data-1 the_data-2 the_data-3 the_data-4 the_data-5 the_data-6 the_data-7) (w : WithLoop) (items : List CoreGen) (n : ℕ) → x.op ≡ (out-WithLoop w).op → map code_gen_term x.gens.items ≡ map (λ g. placing_gen (gen_term g)) (take n items) → length items ≤ n → items ≡ (out-WithLoop w).gens.items → code_with_term (roll-CodeWith x) ≡ placing_right [] (with_term w)
+with_done x w items n op placed over all =
+    let whole = placed ∙ ap (map (λ g. placing_gen (gen_term g))) (take_all n items over ∙ all) ∙ gens_mapped (out-WithLoop w).gens.items in
+    with_roll x ∙ (λ i. WithCode (op i) (code_gens_of (whole i))) ∙ ap (WithCode (out-WithLoop w).op) (sym (gens_placed (map gen_term (out-WithLoop w).gens.items))) ∙ ap (placing_right []) (sym (core.with_out w))
+
+pub parted_done : (x : CodeParted-F the_data the_data-1 the_data-2 the_data-3 the_data-4 the_data-5 the_data-6 the_data-7) (w : PartedLoop) (items : List CorePart) (n : ℕ) → x.frame ≡ (out-PartedLoop w).frame → x.base ≡ (out-PartedLoop w).base → x.cell ≡ (out-PartedLoop w).cell → x.op ≡ (out-PartedLoop w).op → x.reuse ≡ None → map code_part_term x.parts.items ≡ map (λ p. placing_part (part_term p)) (take n items) → length items ≤ n → items ≡ (out-PartedLoop w).parts.items → code_parted_term (roll-CodeParted x) ≡ placing_right [] (parted_term w)
+parted_done x w items n frame base cell op unmarked placed over all =
+    let whole = placed ∙ ap (map (λ p. placing_part (part_term p))) (take_all n items over ∙ all) ∙ parts_mapped (out-PartedLoop w).parts.items in
+    parted_roll x ∙ (λ i. PartedCode (frame i) (base i) (cell i) (op i) (code_parts_of (whole i)) (unmarked i)) ∙ ap (λ ps. PartedCode (out-PartedLoop w).frame (out-PartedLoop w).base (out-PartedLoop w).cell (out-PartedLoop w).op ps None) (sym (parts_placed (map part_term (out-PartedLoop w).parts.items))) ∙ ap (placing_right []) (sym (core.parted_out w))

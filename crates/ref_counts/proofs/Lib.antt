@@ -1,5 +1,8 @@
+pub mod Appended
+pub mod Blocks
 pub mod CodeTrees
 pub mod Collected
+pub mod Forks
 pub mod Placed
 pub mod Recorded
 pub mod Taken

@@ -11,13 +11,15 @@ use Rattle.counted_code.specs.declared.tree.CodeStep.{CodeStep}
 use Rattle.counted_code.specs.Prompt.{uses, uses_right, hands}
 use Rattle.counted_code.specs.Terms.{CodeTerm, CodeRightTerm, Giving, Binding}
 use Rattle.counted_code.specs.View.{steps_before}
+use Rattle.ref_counts.specs.declared.held.Owned.{Owned}
 use Rattle.ref_counts.specs.Latest.{is_used, AreLast, read_place}
+use Rattle.ref_counts.specs.Owning.{owned_vars, IsSound, ends, EndsOf}
 use Rattle.ref_placing.specs.Placing.{keeps, releases, used, unused, surplus, read_after, is_conditional, takes, given, left, placing, placing_right}
 use Rattle.ref_placing.proofs.Lists.{append_assoc}
 
 -- ---- places in a list of uses
 
-dropped : (us : List Var) (from to : ℕ) (xs ys : List Var) → drop from us ≡ xs ++ ys → to ≡ from + length xs → drop to us ≡ ys
+pub dropped : (us : List Var) (from to : ℕ) (xs ys : List Var) → drop from us ≡ xs ++ ys → to ≡ from + length xs → drop to us ≡ ys
 dropped us from to xs ys p q =
     ap (λ n. drop n us) q ∙ sym (drop-drop (length xs) from us) ∙ ap (drop (length xs)) p ∙ drop-append_seam xs ys
 
@@ -46,39 +48,43 @@ module _ {S : Type 0} where
   known_at : (last : HashMap ℕ ℕ S) (us : List Var) (from : ℕ) (rest : List Var) → AreLast last us → drop from us ≡ rest → (x : Var) → is_used last from x ≡ is_in x rest
   known_at last us from rest known e x = known x from ∙ ap (is_in x) e
 
-  pub used_as : (last : HashMap ℕ ℕ S) (us : List Var) (from : ℕ) (rest owned : List Var) → AreLast last us → drop from us ≡ rest → filter (λ x. is_used last from x) owned ≡ used owned rest
-  used_as last us from rest owned known e = λ i. filter (λ x. known_at last us from rest known e x i) owned
+  not_not : (b : Bool) → not (not b) ≡ b
+  not_not true = refl
+  not_not false = refl
 
-  pub unused_as : (last : HashMap ℕ ℕ S) (us : List Var) (from : ℕ) (rest owned : List Var) → AreLast last us → drop from us ≡ rest → filter (λ x. not (is_used last from x)) owned ≡ unused owned rest
+  used_as : (last : HashMap ℕ ℕ S) (us : List Var) (from : ℕ) (rest owned : List Var) → AreLast last us → drop from us ≡ rest → filter (λ x. not (not (is_used last from x))) owned ≡ used owned rest
+  used_as last us from rest owned known e = λ i. filter (λ x. (not_not (is_used last from x) ∙ known_at last us from rest known e x) i) owned
+
+  unused_as : (last : HashMap ℕ ℕ S) (us : List Var) (from : ℕ) (rest owned : List Var) → AreLast last us → drop from us ≡ rest → filter (λ x. not (is_used last from x)) owned ≡ unused owned rest
   unused_as last us from rest owned known e = λ i. filter (λ x. not (known_at last us from rest known e x i)) owned
 
   -- ---- before the results
 
-  pub results_placed : (last : HashMap ℕ ℕ S) (us : List Var) (from : ℕ) (owned results live dead more : List Var) (s0 s1 s2 : List CodeStep) → AreLast last us → drop from us ≡ results → live ≡ filter (λ x. is_used last from x) owned → dead ≡ filter (λ x. not (is_used last from x)) owned → more ≡ surplus results live → ((t : CodeTerm) → steps_before s1 t ≡ steps_before s0 (releases dead t)) → ((t : CodeTerm) → steps_before s2 t ≡ steps_before s1 (keeps more t)) → steps_before s2 (Giving results) ≡ steps_before s0 (placing owned (Gives results))
-  results_placed last us from owned results live dead more s0 s1 s2 known e lives deads mores first second =
-      let l = lives ∙ used_as last us from results owned known e in
-      let d = deads ∙ unused_as last us from results owned known e in
+  pub results_placed : (last : HashMap ℕ ℕ S) (us : List Var) (from : ℕ) (results live dead more : List Var) (owned left : Owned) (s0 s1 s2 : List CodeStep) → AreLast last us → drop from us ≡ results → EndsOf last (ends last from true []) owned left [] dead → live ≡ owned_vars left → more ≡ surplus results live → ((t : CodeTerm) → steps_before s1 t ≡ steps_before s0 (releases dead t)) → ((t : CodeTerm) → steps_before s2 t ≡ steps_before s1 (keeps more t)) → steps_before s2 (Giving results) ≡ steps_before s0 (placing (owned_vars owned) (Gives results))
+  results_placed last us from results live dead more owned left s0 s1 s2 known e ended lives mores first second =
+      let l = lives ∙ ended.left ∙ used_as last us from results (owned_vars owned) known e in
+      let d = ended.taken ∙ unused_as last us from results (owned_vars owned) known e in
       let m = mores ∙ ap (surplus results) l in
       second (Giving results) ∙ first (keeps more (Giving results)) ∙ (λ i. steps_before s0 (releases (d i) (keeps (m i) (Giving results))))
 
   -- ---- before and at a binding
 
-  pub binding_placed : (last : HashMap ℕ ℕ S) (us : List Var) (from to : ℕ) (r : RightTerm) (targets : List Var) (site : Site) (rest : BlockTerm) (owned live dead handed mine stay more out : List Var) (all : Bool) (q : CodeRightTerm) (s0 s1 s2 s3 : List CodeStep) →
+  pub binding_placed : (last : HashMap ℕ ℕ S) (us : List Var) (from to : ℕ) (r : RightTerm) (targets : List Var) (site : Site) (rest : BlockTerm) (dead handed mine more : List Var) (owned live stay out : Owned) (all : Bool) (q : CodeRightTerm) (s0 s1 s2 s3 : List CodeStep) →
       AreLast last us → drop from us ≡ uses_right r ++ uses rest → to ≡ from + length (uses_right r) → to < 2 ^ 64 →
-      live ≡ filter (λ x. is_used last from x) owned → dead ≡ filter (λ x. not (is_used last from x)) owned → handed ≡ hands r → all ≡ is_conditional r →
-      mine ≡ filter (λ x. (all || is_in x handed) && not (is_used last (read_place r from to) x)) live → stay ≡ filter (λ x. not ((all || is_in x handed) && not (is_used last (read_place r from to) x))) live →
-      more ≡ surplus handed mine → q ≡ placing_right mine r → out ≡ targets ++ stay →
+      EndsOf last (ends last from true []) owned live [] dead → handed ≡ hands r → all ≡ is_conditional r →
+      EndsOf last (ends last (read_place r from to) all handed) live stay [] mine →
+      more ≡ surplus handed mine → q ≡ placing_right mine r → owned_vars out ≡ targets ++ owned_vars stay →
       ((t : CodeTerm) → steps_before s1 t ≡ steps_before s0 (releases dead t)) → ((t : CodeTerm) → steps_before s2 t ≡ steps_before s1 (keeps more t)) → ((t : CodeTerm) → steps_before s3 t ≡ steps_before s2 (Binding targets site q t)) →
-      steps_before s3 (placing out rest) ≡ steps_before s0 (placing owned (Bind targets site r rest))
-  binding_placed last us from to r targets site rest owned live dead handed mine stay more out all q s0 s1 s2 s3 known e at lt lives deads handeds alls mines stays mores rights outs first second third =
+      steps_before s3 (placing (owned_vars out) rest) ≡ steps_before s0 (placing (owned_vars owned) (Bind targets site r rest))
+  binding_placed last us from to r targets site rest dead handed mine more owned live stay out all q s0 s1 s2 s3 known e at lt ended handeds alls passed mores rights outs first second third =
       let later = uses rest in
-      let l = lives ∙ used_as last us from (uses_right r ++ later) owned known e in
-      let d = deads ∙ unused_as last us from (uses_right r ++ later) owned known e in
+      let l = ended.left ∙ used_as last us from (uses_right r ++ later) (owned_vars owned) known e in
+      let d = ended.taken ∙ unused_as last us from (uses_right r ++ later) (owned_vars owned) known e in
       let read = known_at last us (read_place r from to) (read_after r ++ later) known (read_places us from to r later e at lt) in
-      let m = mines ∙ (λ i. filter (λ x. (alls i || is_in x (handeds i)) && not (read x i)) (l i)) in
-      let s = stays ∙ (λ i. filter (λ x. not ((alls i || is_in x (handeds i)) && not (read x i))) (l i)) in
+      let m = passed.taken ∙ (λ i. filter (λ x. (alls i || is_in x (handeds i)) && not (read x i)) (l i)) in
+      let s = passed.left ∙ (λ i. filter (λ x. not ((alls i || is_in x (handeds i)) && not (read x i))) (l i)) in
       let k = mores ∙ (λ i. surplus (handeds i) (m i)) in
       let w = rights ∙ (λ i. placing_right (m i) r) in
       let o = outs ∙ ap (λ ys. targets ++ ys) s in
-      third (placing out rest) ∙ second (Binding targets site q (placing out rest)) ∙ first (keeps more (Binding targets site q (placing out rest)))
+      third (placing (owned_vars out) rest) ∙ second (Binding targets site q (placing (owned_vars out) rest)) ∙ first (keeps more (Binding targets site q (placing (owned_vars out) rest)))
       ∙ (λ i. steps_before s0 (releases (d i) (keeps (k i) (Binding targets site (w i) (placing (o i) rest)))))

@@ -1,14 +1,19 @@
 //! Functions and programs.
 
-ghost use Rattle.std.specs.Prelude.{◌≡◌, IfOk, map};
+ghost use Rattle.std.specs.Prelude.{◌≡◌, IfOk, List, map};
 ghost use Rattle.core_ir.specs.declared.tree.Var.{Var};
 ghost use Rattle.sac_base.specs.declared.types.ArrayType.{ArrayType};
+ghost use Rattle.sac_base.specs.Arrays.{ArrayValue};
+ghost use Rattle.sac_base.specs.declared.fault.Caps.{Caps};
+ghost use Rattle.core_ir.specs.Outcome.{outcome};
 ghost use Rattle.core_ir.specs.View.{fun_term, core_term};
 ghost use Rattle.core_ir.specs.WellFormed.{IsWellFormed};
 ghost use Rattle.counted_code.specs.Counts.{IsWellCounted, IsUnmarked};
+ghost use Rattle.counted_code.specs.Outcome.{whole_run, outcome_of};
 ghost use Rattle.counted_code.specs.Prompt.{IsPrompt};
 ghost use Rattle.counted_code.specs.Terms.{core_of_code};
 ghost use Rattle.counted_code.specs.View.{code_fun_term, code_program};
+ghost use Rattle.counted_laws.specs.Simulation.{LeavesNothing};
 ghost use Rattle.ref_placing.specs.Placing.{placing_fun, placing_core};
 
 use crate::place::place_block;
@@ -19,10 +24,13 @@ use std::alloc::Global;
 
 /// The program with steps that keep and release references: each reference is handed on or released at its last use, and one is added only where the next step hands it on.
 pub fn count_refs(alloc: Global, core: Core) -> Result<Code, Memory>
+    ensures placed { IfOk result (λ code. code_program code ≡ placing_core (core_term core)) }
     ensures counted { IsWellFormed (core_term core) → IfOk result (λ code. IsWellCounted (code_program code)) }
     ensures prompt { IsWellFormed (core_term core) → IfOk result (λ code. IsPrompt (code_program code)) }
     ensures unmarked { IfOk result (λ code. IsUnmarked (code_program code)) }
     ensures same { IfOk result (λ code. core_of_code (code_program code) ≡ core_term core) }
+    ensures outcome { IsWellFormed (core_term core) → (args : List ArrayValue) (caps : Caps) → IfOk result (λ code. outcome_of (whole_run (code_program code) args caps) ≡ outcome (core_term core) args caps) }
+    ensures nothing_left { IsWellFormed (core_term core) → (args : List ArrayValue) (caps : Caps) → IfOk result (λ code. LeavesNothing (whole_run (code_program code) args caps)) }
 {
     place_core(alloc, core)
 }

@@ -2,6 +2,7 @@
 #![tactic(auto)]
 
 mod functions;
+mod held;
 mod last;
 mod place;
 mod split;
@@ -9,3 +10,6 @@ mod steps;
 mod uses;
 
 pub use functions::count_refs;
+
+#[cfg(test)]
+mod tests;

@@ -8,12 +8,16 @@ ghost use Rattle.counted_code.specs.Prompt.{uses, uses_right};
 ghost use Rattle.counted_code.specs.Terms.{Giving};
 ghost use Rattle.counted_code.specs.View.{code_term, code_right_term, steps_before, code_with_term, code_parted_term};
 ghost use Rattle.ref_counts.specs.Latest.{AreLast};
+ghost use Rattle.ref_counts.specs.Owning.{owned_vars, IsSound};
 ghost use Rattle.ref_counts.specs.Pieces.{code_gen_term, code_part_term, placing_gen, placing_part};
 ghost use Rattle.ref_placing.specs.Placing.{placing, placing_right};
 
+use crate::held::{Owned, add_vars, take_ending, with_all};
 use crate::last::{LastUses, last_uses};
-use crate::split::{by_passing, by_use, needing_more};
-use crate::steps::{branches, copy_vars, count_uses, handed_on, push_binding, push_keeps, push_releases, read_from};
+use crate::split::needing_more;
+use crate::steps::{
+    branches, copy_vars, count_uses, handed_on, push_binding, push_keeps, push_releases, read_from,
+};
 use crate::uses::add_uses;
 use core_ir::{Block, CoreGen, CorePart, Let, PartedLoop, Right, Var, WithLoop};
 use counted_code::{CodeBlock, CodeGen, CodePart, CodeParted, CodeRight, CodeStep, CodeWith};
@@ -29,14 +33,14 @@ pub fn place_block(alloc: Global, block: &Block, refs: &[Var]) -> Result<CodeBlo
     add_uses(block, &mut uses)?;
     let last = last_uses(alloc, &uses)?;
     let mut steps = Vec::new(alloc);
-    let mut owned = copy_vars(alloc, refs)?;
+    let mut owned = with_all(alloc, Owned::Gone, &last, refs)?;
     let mut from = 0usize;
     for binding in &block.lets {
         let to = from + count_uses(alloc, &binding.right)?;
-        owned = place_let(alloc, binding, &last, from, to, &owned, &mut steps)?;
+        owned = place_let(alloc, binding, &last, from, to, owned, &mut steps)?;
         from = to;
     }
-    place_results(alloc, &block.results, &last, from, &owned, &mut steps)?;
+    place_results(alloc, &block.results, &last, from, owned, &mut steps)?;
     Ok(CodeBlock {
         steps,
         results: copy_vars(alloc, &block.results)?,
@@ -44,33 +48,59 @@ pub fn place_block(alloc: Global, block: &Block, refs: &[Var]) -> Result<CodeBlo
 }
 
 /// Appends the steps before a block's results.
-fn place_results(alloc: Global, results: &[Var], last: &LastUses, from: usize, owned: &[Var], steps: &mut Vec<CodeStep>) -> Result<(), Memory>
-    ensures { (us : List Var) → AreLast last.now us → drop from us ≡ results.now → IfOk result (λ done. steps_before steps.new.items (Giving results.now) ≡ steps_before steps.old.items (placing owned.now (Gives results.now))) }
+fn place_results(
+    alloc: Global,
+    results: &[Var],
+    last: &LastUses,
+    from: usize,
+    owned: Owned,
+    steps: &mut Vec<CodeStep>,
+) -> Result<(), Memory>
+    ensures { (us : List Var) → AreLast last.now us → IsSound last.now owned → drop from us ≡ results.now → IfOk result (λ done. steps_before steps.new.items (Giving results.now) ≡ steps_before steps.old.items (placing (owned_vars owned) (Gives results.now))) }
 {
-    let live = by_use(alloc, last, from, owned)?;
-    push_releases(&live.second, steps)?;
-    let more = needing_more(alloc, results, &live.first)?;
+    let mut dead = Vec::new(alloc);
+    let left = take_ending(alloc, owned, last, from, true, &[], &mut dead)?;
+    push_releases(&dead, steps)?;
+    let mut live = Vec::new(alloc);
+    add_vars(&left, &mut live)?;
+    let more = needing_more(alloc, results, &live)?;
     push_keeps(&more, steps)
 }
 
 /// Appends a binding with the steps before it, and answers the variables whose references are there after it.
 #[cycle(place)]
-fn place_let(alloc: Global, binding: &Let, last: &LastUses, from: usize, to: usize, owned: &[Var], steps: &mut Vec<CodeStep>) -> Result<Vec<Var>, Memory>
-    ensures { (us : List Var) (rest : BlockTerm) → AreLast last.now us → drop from us ≡ uses_right (let_term binding.now).right ++ uses rest → to ≡ from + length (uses_right (let_term binding.now).right) → IfOk result (λ left. steps_before steps.new.items (placing left.items rest) ≡ steps_before steps.old.items (placing owned.now (chain (let_term binding.now ∷ []) rest))) }
+fn place_let(
+    alloc: Global,
+    binding: &Let,
+    last: &LastUses,
+    from: usize,
+    to: usize,
+    owned: Owned,
+    steps: &mut Vec<CodeStep>,
+) -> Result<Owned, Memory>
+    ensures { (us : List Var) (rest : BlockTerm) → AreLast last.now us → IsSound last.now owned → drop from us ≡ uses_right (let_term binding.now).right ++ uses rest → to ≡ from + length (uses_right (let_term binding.now).right) → IfOk result (λ left. IsSound last.now left × (steps_before steps.new.items (placing (owned_vars left) rest) ≡ steps_before steps.old.items (placing (owned_vars owned) (chain (let_term binding.now ∷ []) rest)))) }
 {
-    let live = by_use(alloc, last, from, owned)?;
-    push_releases(&live.second, steps)?;
+    let mut dead = Vec::new(alloc);
+    let live = take_ending(alloc, owned, last, from, true, &[], &mut dead)?;
+    push_releases(&dead, steps)?;
     let handed = handed_on(alloc, &binding.right)?;
     let read_from = read_from(&binding.right, from, to);
-    let split = by_passing(alloc, branches(&binding.right), &handed, last, read_from, &live.first)?;
-    let more = needing_more(alloc, &handed, &split.first)?;
+    let mut mine = Vec::new(alloc);
+    let stay = take_ending(
+        alloc,
+        live,
+        last,
+        read_from,
+        branches(&binding.right),
+        &handed,
+        &mut mine,
+    )?;
+    let more = needing_more(alloc, &handed, &mine)?;
     push_keeps(&more, steps)?;
-    let right = place_right(alloc, &binding.right, &split.first)?;
+    let right = place_right(alloc, &binding.right, &mine)?;
     let targets = copy_vars(alloc, &binding.targets)?;
     push_binding(targets, binding.site, right, steps)?;
-    let mut left = copy_vars(alloc, &binding.targets)?;
-    left.extend_from_slice(&split.second)?;
-    Ok(left)
+    with_all(alloc, stay, last, &binding.targets)
 }
 
 /// The right side, whose branches end the references of `mine`.

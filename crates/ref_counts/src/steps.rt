@@ -85,7 +85,12 @@ pub fn push_keeps(vars: &[Var], steps: &mut Vec<CodeStep>) -> Result<(), Memory>
 }
 
 /// Appends a binding.
-pub fn push_binding(targets: Vec<Var>, site: Site, right: CodeRight, steps: &mut Vec<CodeStep>) -> Result<(), Memory>
+pub fn push_binding(
+    targets: Vec<Var>,
+    site: Site,
+    right: CodeRight,
+    steps: &mut Vec<CodeStep>,
+) -> Result<(), Memory>
     ensures { IfOk result (λ done. (t : CodeTerm) → steps_before steps.new.items t ≡ steps_before steps.old.items (Binding targets.items site (code_right_term right) t)) }
 {
     steps.push(CodeStep::Bind(CodeLet {

@@ -43,7 +43,10 @@ pub fn add_right(right: &Right, out: &mut Vec<Var>) -> Result<(), Memory>
             Ok(())
         }
         Right::Loop {
-            start, test, body, ..
+            start,
+            test,
+            body,
+            ..
         } => {
             add_all(start, out)?;
             add_uses(test, out)?;

@@ -1,0 +1,105 @@
+-- Trees of variables, and those that are taken out of them.
+use Rattle.std.proofs.Common.{◌≡◌, ℕ, ◌+◌, ◌-◌, ◌^◌, ◌<◌, ◌≤◌, Bool, true, false, cond, eqb, not, List, [], ◌∷◌, ◌++◌, Option, Some, None, refl, ap, ◌∙◌, sym, subst, arith, true≢false, inl, inr}
+use Rattle.std.specs.Prelude.{◌&&◌, ◌||◌, ◌⊎◌, filter, min, nat_eq, nat_le}
+use Rattle.std.specs.HashMap.{get, HashMap}
+use Rattle.std.proofs.lemmas.Bool.{le-leb}
+use Rattle.std.proofs.lemmas.List.Elements.{filter-append}
+use Rattle.core_ir.specs.declared.tree.Var.{Var}
+use Rattle.core_ir.specs.Binders.{is_in}
+use Rattle.ref_placing.proofs.Lists.{same_var, self, or_left, or_right, or_either, append_assoc}
+use Rattle.ref_counts.specs.declared.held.Owned.{Owned, Gone, One, Fork'}
+use Rattle.ref_counts.specs.Latest.{reaches, is_used}
+use Rattle.ref_counts.specs.Owning.{owned_vars, IsBound, IsSound, ends, EndsOf}
+use Rattle.ref_counts.proofs.Recorded.{in_append}
+
+append_nil : (xs : List Var) → xs ++ [] ≡ xs
+append_nil [] = refl
+append_nil (x ∷ xs) = ap (λ ys. x ∷ ys) (append_nil xs)
+
+-- ---- filters that nothing passes
+
+-- a test that fails at each of the variables
+abbrev Fails : (Var → Bool) → List Var → Type 0
+Fails e xs = (x : Var) → is_in x xs ≡ true → e x ≡ false
+
+fails_rest : (e : Var → Bool) (x : Var) (xs : List Var) → Fails e (x ∷ xs) → Fails e xs
+fails_rest e x xs h y i = h y (or_right (eqb x.0 y.0) (is_in y xs) i)
+
+fails_first : (e : Var → Bool) (x : Var) (xs : List Var) → Fails e (x ∷ xs) → e x ≡ false
+fails_first e x xs h = h x (or_left (eqb x.0 x.0) (is_in x xs) (self x))
+
+filter_none : (e : Var → Bool) (xs : List Var) → Fails e xs → filter e xs ≡ []
+filter_none e [] h = refl
+filter_none e (x ∷ xs) h = ap (λ b. cond b (x ∷ filter e xs) (filter e xs)) (fails_first e x xs h) ∙ filter_none e xs (fails_rest e x xs h)
+
+filter_whole : (e : Var → Bool) (xs : List Var) → Fails e xs → filter (λ x. not (e x)) xs ≡ xs
+filter_whole e [] h = refl
+filter_whole e (x ∷ xs) h = ap (λ b. cond (not b) (x ∷ filter (λ x. not (e x)) xs) (filter (λ x. not (e x)) xs)) (fails_first e x xs h) ∙ ap (λ ys. x ∷ ys) (filter_whole e xs (fails_rest e x xs h))
+
+used_stays : (p u : Bool) → u ≡ true → (p && not u) ≡ false
+used_stays true u h = ap not h
+used_stays false u h = refl
+
+module _ {S : Type 0} where
+  -- ---- places before which variables are used
+
+  pub bound_none : (last : HashMap ℕ ℕ S) (n : ℕ) → IsBound last [] n
+  bound_none last n x from i lt = elim (true≢false (sym i)) [ ]
+
+  pub bound_zero : (last : HashMap ℕ ℕ S) (xs : List Var) → IsBound last xs 0
+  bound_zero last xs x from i lt = elim (no lt) [ ]
+    where
+      no : from < 0 → ⊥
+      no p = omega (arith, p)
+
+  pub bound_one : (last : HashMap ℕ ℕ S) (x : Var) (place n : ℕ) → get nat_eq last x.0 ≡ Some place → n ≡ min (place + 1) (2 ^ 64 - 1) → IsBound last (x ∷ []) n
+  bound_one last x place n found e y from i lt = ap (λ o. reaches o from) (same ∙ found) ∙ le-leb from place (omega (arith, lt, e))
+    where
+      that_one : (eqb x.0 y.0 ≡ true) ⊎ (false ≡ true) → x ≡ y
+      that_one (inl p) = same_var x y p
+      that_one (inr p) = elim (true≢false (sym p)) [ ]
+
+      same : get nat_eq last y.0 ≡ get nat_eq last x.0
+      same = ap (λ z. get nat_eq last z.0) (sym (that_one (or_either (eqb x.0 y.0) false i)))
+
+  pub bound_both : (last : HashMap ℕ ℕ S) (xs ys : List Var) (m n k : ℕ) → IsBound last xs m → IsBound last ys n → k ≡ min m n → IsBound last (xs ++ ys) k
+  bound_both last xs ys m n k a b e x from i lt = go (or_either (is_in x xs) (is_in x ys) (sym (in_append x xs ys) ∙ i))
+    where
+      go : (is_in x xs ≡ true) ⊎ (is_in x ys ≡ true) → is_used last from x ≡ true
+      go (inl p) = a x from p (omega (arith, lt, e))
+      go (inr p) = b x from p (omega (arith, lt, e))
+
+  -- ---- what is taken out
+
+  pub gone_ends : (last : HashMap ℕ ℕ S) (e : Var → Bool) (out : List Var) → EndsOf last e Gone Gone out out
+  gone_ends last e out = record { taken = sym (append_nil out); left = refl; sound = tt }
+
+  pub one_ends : (last : HashMap ℕ ℕ S) (e : Var → Bool) (x : Var) (out after : List Var) → e x ≡ true → after ≡ out ++ (x ∷ []) → EndsOf last e (One x) Gone out after
+  one_ends last e x out after p q = record {
+    taken = q ∙ ap (λ b. out ++ cond b (x ∷ []) []) (sym p);
+    left = ap (λ b. cond (not b) (x ∷ []) []) (sym p);
+    sound = tt;
+  }
+
+  pub one_stays : (last : HashMap ℕ ℕ S) (e : Var → Bool) (x : Var) (out : List Var) → e x ≡ false → EndsOf last e (One x) (One x) out out
+  one_stays last e x out p = record {
+    taken = sym (append_nil out) ∙ ap (λ b. out ++ cond b (x ∷ []) []) (sym p);
+    left = ap (λ b. cond (not b) (x ∷ []) []) (sym p);
+    sound = tt;
+  }
+
+  pub all_stay : (last : HashMap ℕ ℕ S) (from : ℕ) (all : Bool) (handed : List Var) (tree : Owned) (n : ℕ) (out : List Var) → IsSound last tree → IsBound last (owned_vars tree) n → from < n → EndsOf last (ends last from all handed) tree tree out out
+  all_stay last from all handed tree n out sound bound lt =
+      let fails : Fails (ends last from all handed) (owned_vars tree) = λ x i. used_stays (all || is_in x handed) (is_used last from x) (bound x from i lt) in
+      record {
+        taken = sym (append_nil out) ∙ ap (λ xs. out ++ xs) (sym (filter_none (ends last from all handed) (owned_vars tree) fails));
+        left = sym (filter_whole (ends last from all handed) (owned_vars tree) fails);
+        sound = sound;
+      }
+
+  pub both_end : (last : HashMap ℕ ℕ S) (e : Var → Bool) (tree a b c d t : Owned) (o1 o2 o3 : List Var) → owned_vars tree ≡ owned_vars a ++ owned_vars b → EndsOf last e a c o1 o2 → EndsOf last e b d o2 o3 → owned_vars t ≡ owned_vars c ++ owned_vars d → (IsSound last c → IsSound last d → IsSound last t) → EndsOf last e tree t o1 o3
+  both_end last e tree a b c d t o1 o2 o3 whole first second joined sound = record {
+    taken = second.taken ∙ ap (λ xs. xs ++ filter e (owned_vars b)) first.taken ∙ sym (append_assoc o1 (filter e (owned_vars a)) (filter e (owned_vars b))) ∙ ap (λ xs. o1 ++ xs) (sym (filter-append e (owned_vars a) (owned_vars b))) ∙ ap (λ xs. o1 ++ filter e xs) (sym whole);
+    left = joined ∙ (λ i. first.left i ++ second.left i) ∙ sym (filter-append (λ x. not (e x)) (owned_vars a) (owned_vars b)) ∙ ap (filter (λ x. not (e x))) (sym whole);
+    sound = sound first.sound second.sound;
+  }

@@ -1,0 +1,164 @@
+//! The variables whose references a block has at a place.
+
+ghost use Rattle.std.specs.Prelude.{◌≡◌, ◌∷◌, ◌++◌, IfOk};
+ghost use Rattle.ref_counts.specs.Owning.{owned_vars, IsSound, IsBound, EndsOf, ends};
+
+use crate::last::{LastUses, is_used_from};
+use crate::split::stands_in;
+use core_ir::Var;
+use sac_base::Memory;
+use std::alloc::Global;
+
+/// Variables in an order, as a tree. A fork says before which place each of its variables is used once more, so those that are used no more are found without a walk over the others. What was taken out leaves its place, so the depth is the logarithm of the number of variables that were put in.
+#[derive(Drop)]
+pub enum Owned {
+    Gone,
+    One(Var),
+    Fork {
+        leaves: usize,
+        used_before: usize,
+        first: Box<Owned>,
+        second: Box<Owned>,
+    },
+}
+
+/// The leaves of the tree, or `usize::MAX` where there are more.
+fn count_leaves(tree: &Owned) -> usize {
+    match tree {
+        Owned::Fork { leaves, .. } => *leaves,
+        _ => 1,
+    }
+}
+
+/// A place before which each of the variables is used at that place or later.
+fn bound_of(tree: &Owned, last: &LastUses) -> usize
+    ensures { IsSound last.now tree.now → IsBound last.now (owned_vars tree.now) result }
+{
+    match tree {
+        Owned::Gone => usize::MAX,
+        Owned::One(x) => match last.get(&x.0) {
+            Some(place) => place.saturating_add(1),
+            None => 0,
+        },
+        Owned::Fork { used_before, .. } => *used_before,
+    }
+}
+
+/// The variables of the first tree, then those of the second.
+fn fork(alloc: Global, last: &LastUses, first: Owned, second: Owned) -> Result<Owned, Memory>
+    ensures vars { IfOk result (λ t. owned_vars t ≡ owned_vars first ++ owned_vars second) }
+    ensures sound { IsSound last.now first → IsSound last.now second → IfOk result (λ t. IsSound last.now t) }
+{
+    let leaves = count_leaves(&first).saturating_add(count_leaves(&second));
+    let used_before = bound_of(&first, last).min(bound_of(&second, last));
+    Ok(Owned::Fork {
+        leaves,
+        used_before,
+        first: Box::new(alloc, first)?,
+        second: Box::new(alloc, second)?,
+    })
+}
+
+/// The tree with one variable more, before the others.
+pub fn with_front(alloc: Global, tree: Owned, last: &LastUses, x: Var) -> Result<Owned, Memory>
+    ensures vars { IfOk result (λ t. owned_vars t ≡ x ∷ owned_vars tree) }
+    ensures sound { IsSound last.now tree → IfOk result (λ t. IsSound last.now t) }
+{
+    match tree {
+        Owned::Gone => fork(alloc, last, Owned::One(x), Owned::Gone),
+        Owned::One(y) => fork(alloc, last, Owned::One(x), Owned::One(y)),
+        Owned::Fork {
+            leaves,
+            used_before,
+            first,
+            second,
+        } => {
+            if count_leaves(&first) < count_leaves(&second) {
+                let first = with_front(alloc, Box::into_inner(first), last, x)?;
+                return fork(alloc, last, first, Box::into_inner(second));
+            }
+            let tree = Owned::Fork {
+                leaves,
+                used_before,
+                first,
+                second,
+            };
+            fork(alloc, last, Owned::One(x), tree)
+        }
+    }
+}
+
+/// The tree with more variables, before the others.
+pub fn with_all(alloc: Global, tree: Owned, last: &LastUses, xs: &[Var]) -> Result<Owned, Memory>
+    ensures vars { IfOk result (λ t. owned_vars t ≡ xs.now ++ owned_vars tree) }
+    ensures sound { IsSound last.now tree → IfOk result (λ t. IsSound last.now t) }
+{
+    let mut tree = tree;
+    let mut left = xs.len();
+    while left > 0 {
+        left -= 1;
+        tree = with_front(alloc, tree, last, xs[left])?;
+    }
+    Ok(tree)
+}
+
+/// Takes out the variables that pass and are not used at this place or later: those of `handed` pass, or all. Appends them to `out`.
+pub fn take_ending(
+    alloc: Global,
+    tree: Owned,
+    last: &LastUses,
+    from: usize,
+    all: bool,
+    handed: &[Var],
+    out: &mut Vec<Var>,
+) -> Result<Owned, Memory>
+    ensures { IsSound last.now tree → IfOk result (λ t. EndsOf last.now (ends last.now from all handed.now) tree t out.old.items out.new.items) }
+{
+    match tree {
+        Owned::Gone => Ok(Owned::Gone),
+        Owned::One(x) => {
+            let passes = all || stands_in(handed, x);
+            let used = is_used_from(last, from, x);
+            if passes && !used {
+                out.push(x)?;
+                return Ok(Owned::Gone);
+            }
+            Ok(Owned::One(x))
+        }
+        Owned::Fork {
+            leaves,
+            used_before,
+            first,
+            second,
+        } => {
+            if from < used_before {
+                return Ok(Owned::Fork {
+                    leaves,
+                    used_before,
+                    first,
+                    second,
+                });
+            }
+            let first = take_ending(alloc, Box::into_inner(first), last, from, all, handed, out)?;
+            let second = take_ending(alloc, Box::into_inner(second), last, from, all, handed, out)?;
+            fork(alloc, last, first, second)
+        }
+    }
+}
+
+/// Appends the variables of the tree.
+pub fn add_vars(tree: &Owned, out: &mut Vec<Var>) -> Result<(), Memory>
+    ensures { IfOk result (λ done. out.new.items ≡ out.old.items ++ owned_vars tree.now) }
+{
+    match tree {
+        Owned::Gone => Ok(()),
+        Owned::One(x) => {
+            out.push(*x)?;
+            Ok(())
+        }
+        Owned::Fork { first, second, .. } => {
+            add_vars(first, out)?;
+            add_vars(second, out)
+        }
+    }
+}
