@@ -1,14 +1,15 @@
 -- The term of a tree of counted code, by the lists that its vectors hold.
 use Rattle.std.proofs.Common.{◌≡◌, ℕ, ◌≤◌, Bool, List, [], ◌∷◌, ◌++◌, map, length, take, take_all, Option, None, refl, ap, ◌∙◌, sym}
+use Rattle.sac_base.specs.declared.grid.Grid1.{Grid1}
 use Rattle.sac_base.specs.declared.site.Site.{Site}
 use Rattle.core_ir.specs.declared.tree.Var.{Var}
-use Rattle.core_ir.specs.declared.tree.CoreGen.{CoreGen}
-use Rattle.core_ir.specs.declared.tree.CorePart.{CorePart}
+use Rattle.core_ir.specs.declared.tree.CoreGen.{CoreGen, CoreGen', out-CoreGen}
+use Rattle.core_ir.specs.declared.tree.CorePart.{CorePart, CorePart', out-CorePart}
 use Rattle.core_ir.specs.declared.tree.WithLoop.{WithLoop, out-WithLoop}
 use Rattle.core_ir.specs.declared.tree.PartedLoop.{PartedLoop, out-PartedLoop}
-use Rattle.core_ir.specs.View.{with_term, parted_term, gen_term, part_term}
+use Rattle.core_ir.specs.View.{block_term, right_term, with_term, parted_term, gen_term, part_term}
 use Rattle.core_ir.proofs.Trees as core
-use Rattle.core_ir.specs.Terms.{GensTerm, PartsTerm, GenTerm, PartTerm, NoGens, Gen, NoParts, Part, gens_of, parts_of}
+use Rattle.core_ir.specs.Terms.{BlockTerm, GensTerm, PartsTerm, GenTerm, PartTerm, NoGens, Gen, NoParts, Part, gens_of, parts_of}
 use Rattle.counted_code.specs.declared.tree.CodeBlock.{CodeBlock, Row_of-CodeStep, end_of-CodeStep, more_of-CodeStep, items-the_row-CodeStep, items_shown-the_row-CodeStep-0, items_hidden-the_row-CodeStep-0}
 use Rattle.counted_code.specs.declared.tree.CodeStep.{CodeStep}
 use Rattle.counted_code.specs.declared.tree.CodeRight.TheBlock.{the_data, the_data-1, the_data-2, the_data-3, the_data-4, the_data-5, the_data-6, the_data-7, hidden-the_row-CodeStep-0}
@@ -16,7 +17,7 @@ use Rattle.counted_code.specs.declared.tree.CodeGen.{CodeGen}
 use Rattle.counted_code.specs.declared.tree.CodePart.{CodePart}
 use Rattle.counted_code.specs.declared.tree.CodeWith.{CodeWith, CodeWith', CodeWith-F, out-CodeWith, roll-CodeWith, out-roll-CodeWith, outs-CodeWith', Row_of-CodeGen, end_of-CodeGen, more_of-CodeGen, items-the_row-CodeGen, items_shown-the_row-CodeGen-2}
 use Rattle.counted_code.specs.declared.tree.CodeParted.{CodeParted, CodeParted', CodeParted-F, out-CodeParted, roll-CodeParted, out-roll-CodeParted, outs-CodeParted', Row_of-CodePart, end_of-CodePart, more_of-CodePart, items-the_row-CodePart, items_shown-the_row-CodePart-1}
-use Rattle.counted_code.specs.Terms.{CodeTerm, CodeRightTerm, CodeGensTerm, CodePartsTerm, Giving, WithCode, PartedCode, NoCodeGens, GenCode, NoCodeParts, PartCode}
+use Rattle.counted_code.specs.Terms.{CodeTerm, CodeRightTerm, CodeGensTerm, CodePartsTerm, Giving, IfCode, LoopCode, WithCode, PartedCode, NoCodeGens, GenCode, NoCodeParts, PartCode}
 use Rattle.counted_code.specs.View.{code_term, steps_before, steps_term, step_term, code_right_term, code_with_term, code_gens_term, code_parted_term, code_parts_term}
 use Rattle.ref_counts.specs.Pieces.{CodeGenTerm, CodePartTerm, code_gen_term, code_part_term, code_gens_of, code_parts_of, placing_gen, placing_part}
 use Rattle.ref_placing.specs.Placing.{placing, placing_right, placing_gens, placing_parts}
@@ -88,3 +89,35 @@ pub parted_done : (x : CodeParted-F the_data the_data-1 the_data-2 the_data-3 th
 parted_done x w items n frame base cell op unmarked placed over all =
     let whole = placed ∙ ap (map (λ p. placing_part (part_term p))) (take_all n items over ∙ all) ∙ parts_mapped (out-PartedLoop w).parts.items in
     parted_roll x ∙ (λ i. PartedCode (frame i) (base i) (cell i) (op i) (code_parts_of (whole i)) (unmarked i)) ∙ ap (λ ps. PartedCode (out-PartedLoop w).frame (out-PartedLoop w).base (out-PartedLoop w).cell (out-PartedLoop w).op ps None) (sym (parts_placed (map part_term (out-PartedLoop w).parts.items))) ∙ ap (placing_right []) (sym (core.parted_out w))
+
+-- ---- blocks in a right side, a generator and a part
+
+pub if_done : (c : Var) (mine : List Var) (first second : CodeBlock) (a b : BlockTerm) → code_term first ≡ placing mine a → code_term second ≡ placing mine b →
+    IfCode c (steps_term (hidden-the_row-CodeStep-0 first.steps) first.results.items) (steps_term (hidden-the_row-CodeStep-0 second.steps) second.results.items) ≡ IfCode c (placing mine a) (placing mine b)
+if_done c mine first second a b p q = λ i. IfCode c ((block_hidden first ∙ p) i) ((block_hidden second ∙ q) i)
+
+pub loop_done : (first : Bool) (start starts starts_copy params names names_copy refs : List Var) (test body : CodeBlock) (a b : BlockTerm) (s : Site) → starts_copy ≡ starts → starts ≡ start → names_copy ≡ names → names ≡ params → code_term test ≡ placing [] a → code_term body ≡ placing refs b → refs ≡ params →
+    LoopCode first starts_copy names_copy (steps_term (hidden-the_row-CodeStep-0 test.steps) test.results.items) (steps_term (hidden-the_row-CodeStep-0 body.steps) body.results.items) s ≡ LoopCode first start params (placing [] a) (placing params b) s
+loop_done first start starts starts_copy params names names_copy refs test body a b s copied is named are p q same =
+    λ i. LoopCode first ((copied ∙ is) i) ((named ∙ are) i) ((block_hidden test ∙ p) i) ((block_hidden body ∙ q ∙ ap (λ xs. placing xs b) same) i) s
+
+pub gen_done : (g : CoreGen) (names own : List Var) (body : CodeTerm) → names ≡ (out-CoreGen g).names.items → own ≡ (out-CoreGen g).index ∷ (out-CoreGen g).names.items → body ≡ placing own (block_term (out-CoreGen g).body) →
+    ◌≡◌ {A = CodeGenTerm} (record {
+      head = record { lower = (out-CoreGen g).lower; lower_closed = (out-CoreGen g).lower_closed; upper = (out-CoreGen g).upper; upper_closed = (out-CoreGen g).upper_closed; step = (out-CoreGen g).step; width = (out-CoreGen g).width; index = (out-CoreGen g).index; names = names; site = (out-CoreGen g).site };
+      body = body;
+    }) (placing_gen (gen_term g))
+unfolding out-CoreGen denote.Hole.Carrier.out
+gen_done (CoreGen' lower lower_closed upper upper_closed step width index names_of body_of site) names own body n o b =
+    λ i. record {
+      head = record { lower = lower; lower_closed = lower_closed; upper = upper; upper_closed = upper_closed; step = step; width = width; index = index; names = n i; site = site };
+      body = (b ∙ ap (λ xs. placing xs (block_term body_of)) o) i;
+    }
+
+pub part_done : (p : CorePart) (grid : List Grid1) (body : CodeTerm) → grid ≡ (out-CorePart p).grid → body ≡ placing ((out-CorePart p).index ∷ []) (block_term (out-CorePart p).body) →
+    ◌≡◌ {A = CodePartTerm} (record { head = record { grid = grid; index = (out-CorePart p).index; site = (out-CorePart p).site }; body = body }) (placing_part (part_term p))
+unfolding out-CorePart denote.Hole.Carrier.out
+part_done (CorePart' grid_of index body_of site) grid body g b = λ i. record { head = record { grid = g i; index = index; site = site }; body = b i }
+
+-- a generator's index and names
+pub owns : (index : Var) (none one names found all own : List Var) → none ≡ [] → one ≡ none ++ (index ∷ []) → found ≡ names → all ≡ one ++ found → own ≡ all → own ≡ index ∷ names
+owns index none one names found all own empty first same more is = is ∙ more ∙ (λ i. (first ∙ ap (λ xs. xs ++ (index ∷ [])) empty) i ++ same i)

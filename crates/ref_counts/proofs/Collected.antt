@@ -57,3 +57,18 @@ pub collected_all : {A : Type 0} (f : List A → List Var) (first out : List Var
 collected_all f first out i items all z p over q =
     let none : f (drop i items) ≡ [] = at_drop_all f items i over ∙ z in
     sym (append_nil out) ∙ (λ j. out ++ sym none j) ∙ p ∙ ap (λ xs. first ++ f xs) q
+
+pub block_collected : (b : Block) (first out after rs : List Var) (i : ℕ) (items : List Let) → out ++ let_uses (drop i items) ≡ first ++ let_uses items → length items ≤ i → items ≡ (out-Block b).lets.items → rs ≡ (out-Block b).results.items → after ≡ out ++ rs → after ≡ first ++ uses (block_term b)
+block_collected b first out after rs i items p over all results last =
+    last ∙ (λ j. collected_all let_uses first out i items (out-Block b).lets.items refl p over all j ++ results j)
+    ∙ sym (append_assoc first (let_uses (out-Block b).lets.items) (out-Block b).results.items) ∙ ap (λ us. first ++ us) (sym (block_used b))
+
+pub with_collected : (w : WithLoop) (first start out : List Var) (i : ℕ) (items : List CoreGen) → start ≡ first ++ op_uses (out-WithLoop w).op → out ++ gen_uses (drop i items) ≡ start ++ gen_uses items → length items ≤ i → items ≡ (out-WithLoop w).gens.items → out ≡ first ++ uses_right (with_term w)
+with_collected w first start out i items s p over all =
+    collected_all gen_uses start out i items (out-WithLoop w).gens.items refl p over all ∙ ap (λ us. us ++ gen_uses (out-WithLoop w).gens.items) s
+    ∙ sym (append_assoc first (op_uses (out-WithLoop w).op) (gen_uses (out-WithLoop w).gens.items)) ∙ ap (λ us. first ++ us) (sym (with_used w))
+
+pub parted_collected : (w : PartedLoop) (first start out : List Var) (i : ℕ) (items : List CorePart) → start ≡ first ++ parted_uses (out-PartedLoop w).op → out ++ part_uses (drop i items) ≡ start ++ part_uses items → length items ≤ i → items ≡ (out-PartedLoop w).parts.items → out ≡ first ++ uses_right (parted_term w)
+parted_collected w first start out i items s p over all =
+    collected_all part_uses start out i items (out-PartedLoop w).parts.items refl p over all ∙ ap (λ us. us ++ part_uses (out-PartedLoop w).parts.items) s
+    ∙ sym (append_assoc first (parted_uses (out-PartedLoop w).op) (part_uses (out-PartedLoop w).parts.items)) ∙ ap (λ us. first ++ us) (sym (parted_used w))

@@ -103,3 +103,17 @@ module _ {S : Type 0} where
     left = joined ∙ (λ i. first.left i ++ second.left i) ∙ sym (filter-append (λ x. not (e x)) (owned_vars a) (owned_vars b)) ∙ ap (filter (λ x. not (e x))) (sym whole);
     sound = sound first.sound second.sound;
   }
+
+  -- where each variable is used once more, nothing is taken out
+  pub pruned : (last : HashMap ℕ ℕ S) (from : ℕ) (all : Bool) (handed : List Var) (tree rest : Owned) (n : ℕ) (out : List Var) → tree ≡ rest → (IsSound last rest → IsBound last (owned_vars rest) n) → from < n → IsSound last tree → EndsOf last (ends last from all handed) tree rest out out
+  pruned last from all handed tree rest n out e bound lt sound =
+      let s = subst (IsSound last) e sound in
+      subst (λ a. EndsOf last (ends last from all handed) a rest out out) (sym e) (all_stay last from all handed rest n out s (bound s) lt)
+
+  pub fork_sound : (last : HashMap ℕ ℕ S) (a b first second : Owned) (m n k : ℕ) → first ≡ a → second ≡ b → (IsSound last a → IsBound last (owned_vars a) m) → (IsSound last b → IsBound last (owned_vars b) n) → k ≡ min m n → IsSound last a → IsSound last b →
+      IsBound last (owned_vars first ++ owned_vars second) k × IsSound last first × IsSound last second
+  fork_sound last a b first second m n k p q bound_a bound_b e sound_a sound_b = (
+    subst (λ xs. IsBound last xs k) (λ i. owned_vars (sym p i) ++ owned_vars (sym q i)) (bound_both last (owned_vars a) (owned_vars b) m n k (bound_a sound_a) (bound_b sound_b) e),
+    subst (IsSound last) (sym p) sound_a,
+    subst (IsSound last) (sym q) sound_b,
+  )

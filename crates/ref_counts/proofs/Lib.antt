@@ -6,3 +6,4 @@ pub mod Forks
 pub mod Placed
 pub mod Recorded
 pub mod Taken
+pub mod Whole

@@ -57,8 +57,9 @@ module _ {S : Type 0} where
       go false = known x from ∙ before (nat_le from (length xs)) refl
 
   -- after the uses up to a place, those up to the next
-  pub last_more : (m n : HashMap ℕ ℕ S) (us : List Var) (i : ℕ) (y : Var) → AreLast m (take i us) → i < length us → slice_index_or us i y ≡ y → ((q : ℕ) → get nat_eq n q ≡ cond (nat_eq y.0 q) (Some i) (get nat_eq m q)) → AreLast n (take (i + 1) us)
-  last_more m n us i y known lt at writes =
+  pub last_more : (m n : HashMap ℕ ℕ S) (us : List Var) (i : ℕ) (d : Var) → AreLast m (take i us) → i < length us → ((q : ℕ) → get nat_eq n q ≡ cond (nat_eq (slice_index_or us i d).0 q) (Some i) (get nat_eq m q)) → AreLast n (take (i + 1) us)
+  last_more m n us i d known lt writes =
+      let y = slice_index_or us i d in
       let size = length-take-le i us (omega (arith, lt)) in
-      subst (AreLast n) (ap (λ v. take i us ++ v ∷ []) (sym at) ∙ sym (take_more us i y lt))
+      subst (AreLast n) (sym (take_more us i d lt))
       (last_step m n (take i us) y known (subst (λ k. (q : ℕ) → get nat_eq n q ≡ cond (nat_eq y.0 q) (Some k) (get nat_eq m q)) (sym size) writes))

@@ -6,28 +6,33 @@ use Rattle.std.proofs.lemmas.List.{take_more}
 use Rattle.core_ir.specs.declared.tree.Var.{Var}
 use Rattle.core_ir.specs.Binders.{is_in}
 use Rattle.ref_placing.specs.Placing.{without, surplus}
+use Rattle.ref_placing.proofs.Lists.{or_none}
+
+-- the element at a place, and the rest
+pub drop_here : {A : Type 0} (xs : List A) (i : ℕ) (d : A) → i < length xs → drop i xs ≡ slice_index_or xs i d ∷ drop (i + 1) xs
+drop_here xs i d lt = drop-cons xs i d lt ∙ (λ j. slice_index_or xs i d ∷ drop (sym (add-one i) j) xs)
+
+without_none : (x : Var) (xs : List Var) → is_in x xs ≡ false → without x xs ≡ xs
+without_none x [] p = refl
+without_none x (y ∷ ys) p = ap (λ b. cond b ys (y ∷ without x ys)) (or_none (eqb y.0 x.0) (is_in x ys) p).0 ∙ ap (λ zs. y ∷ zs) (without_none x ys (or_none (eqb y.0 x.0) (is_in x ys) p).1)
 
 append_assoc : (xs ys zs : List Var) → (xs ++ ys) ++ zs ≡ xs ++ (ys ++ zs)
 append_assoc [] ys zs = refl
 append_assoc (x ∷ xs) ys zs = ap (λ l. x ∷ l) (append_assoc xs ys zs)
 
--- the element at a place, and the rest
-pub from_place : (xs : List Var) (i : ℕ) (y : Var) → i < length xs → slice_index_or xs i y ≡ y → drop i xs ≡ y ∷ drop (i + 1) xs
-from_place xs i y lt at = drop-cons xs i y lt ∙ (λ j. at j ∷ drop (sym (add-one i) j) xs)
+-- one place of those that may need a reference more
+pub more_needed : (whole here rest free left more next : List Var) (x : Var) (there : Bool) → here ≡ x ∷ rest → there ≡ is_in x free → left ≡ without x free → next ≡ cond there more (more ++ (x ∷ [])) → more ++ surplus here free ≡ whole → next ++ surplus rest left ≡ whole
+more_needed whole here rest free left more next x there h t l n was = go there t n
+  where
+    go : (b : Bool) → b ≡ is_in x free → next ≡ cond b more (more ++ (x ∷ [])) → next ++ surplus rest left ≡ whole
+    go true e m =
+        (λ i. m i ++ surplus rest (l i)) ∙ ap (λ b. more ++ cond b (surplus rest (without x free)) (x ∷ surplus rest free)) e ∙ ap (λ ys. more ++ surplus ys free) (sym h) ∙ was
+    go false e m =
+        (λ i. m i ++ surplus rest ((l ∙ without_none x free (sym e)) i)) ∙ append_assoc more (x ∷ []) (surplus rest free)
+        ∙ ap (λ b. more ++ cond b (surplus rest (without x free)) (x ∷ surplus rest free)) e ∙ ap (λ ys. more ++ surplus ys free) (sym h) ∙ was
 
--- it is the one
-pub there_is : (x : Var) (xs : List Var) (i : ℕ) (y : Var) → drop i xs ≡ y ∷ drop (i + 1) xs → eqb y.0 x.0 ≡ true → is_in x (drop i xs) ≡ true
-there_is x xs i y e p = ap (is_in x) e ∙ ap (λ b. b || is_in x (drop (i + 1) xs)) p
+pub added : (more next : List Var) (x : Var) (there : Bool) → next ≡ more ++ (x ∷ []) → there ≡ false → next ≡ cond there more (more ++ (x ∷ []))
+added more next x there e other = e ∙ ap (λ b. cond b more (more ++ (x ∷ []))) (sym other)
 
-pub taken_out : (x : Var) (xs : List Var) (i : ℕ) (y : Var) → drop i xs ≡ y ∷ drop (i + 1) xs → eqb y.0 x.0 ≡ true → without x (drop i xs) ≡ drop (i + 1) xs
-taken_out x xs i y e p = ap (without x) e ∙ ap (λ b. cond b (drop (i + 1) xs) (y ∷ without x (drop (i + 1) xs))) p
-
--- it is another
-pub not_there : (x : Var) (xs : List Var) (i : ℕ) (y : Var) → drop i xs ≡ y ∷ drop (i + 1) xs → eqb y.0 x.0 ≡ false → is_in x (drop (i + 1) xs) ≡ is_in x (drop i xs)
-not_there x xs i y e p = sym (ap (is_in x) e ∙ ap (λ b. b || is_in x (drop (i + 1) xs)) p)
-
-pub passed_by : (x : Var) (xs : List Var) (i : ℕ) (y : Var) → i < length xs → slice_index_or xs i y ≡ y → eqb y.0 x.0 ≡ false → take (i + 1) xs ++ without x (drop (i + 1) xs) ≡ take i xs ++ without x (drop i xs)
-passed_by x xs i y lt at p =
-    ap (λ l. l ++ without x (drop (i + 1) xs)) (take_more xs i y lt ∙ ap (λ v. take i xs ++ v ∷ []) at)
-    ∙ append_assoc (take i xs) (y ∷ []) (without x (drop (i + 1) xs))
-    ∙ ap (λ l. take i xs ++ l) (sym (ap (without x) (from_place xs i y lt at) ∙ ap (λ b. cond b (drop (i + 1) xs) (y ∷ without x (drop (i + 1) xs))) p))
+pub not_added : (more next : List Var) (x : Var) (there : Bool) → next ≡ more → there ≡ true → next ≡ cond there more (more ++ (x ∷ []))
+not_added more next x there e is = e ∙ ap (λ b. cond b more (more ++ (x ∷ []))) (sym is)

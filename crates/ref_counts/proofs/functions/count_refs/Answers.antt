@@ -44,10 +44,10 @@ pub returns-clause-outcome : goal.returns-clause-outcome
 returns-clause-outcome c formed args caps =
     let core = core_term c.args.core in
     carried code_program (placing_core core) (λ p. outcome_of (whole_run p args caps) ≡ outcome core args caps) c.place_core.result
-      ((ends_as_core (placing_core core) (well_counted core formed) (no_marks core.functions) args caps).0 ∙ ap (λ k. outcome k args caps) (same_core_code core)) c.place_core.ensures
+    ((ends_as_core (placing_core core) (well_counted core formed) (no_marks core.functions) args caps).0 ∙ ap (λ k. outcome k args caps) (same_core_code core)) c.place_core.ensures
 
 pub returns-clause-nothing_left : goal.returns-clause-nothing_left
 returns-clause-nothing_left c formed args caps =
     let core = core_term c.args.core in
     carried code_program (placing_core core) (λ p. LeavesNothing (whole_run p args caps)) c.place_core.result
-      (ends_as_core (placing_core core) (well_counted core formed) (no_marks core.functions) args caps).1 c.place_core.ensures
+    (ends_as_core (placing_core core) (well_counted core formed) (no_marks core.functions) args caps).1 c.place_core.ensures
