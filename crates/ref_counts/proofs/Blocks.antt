@@ -1,5 +1,5 @@
 -- A block's bindings, placed one after another.
-use Rattle.std.proofs.Common.{◌≡◌, ℕ, ◌+◌, ◌-◌, ◌<◌, ◌≤◌, List, [], ◌∷◌, ◌++◌, map, length, drop, slice_index_or, refl, ap, ◌∙◌, sym, arith, length-drop, length-append}
+use Rattle.std.proofs.Common.{◌≡◌, ℕ, ◌+◌, ◌<◌, ◌≤◌, List, [], ◌∷◌, ◌++◌, map, length, drop, slice_index_or, refl, ap, ◌∙◌, sym, arith, length-drop, length-append}
 use Rattle.std.proofs.lemmas.List.{at_drop_all}
 use Rattle.core_ir.specs.declared.tree.Var.{Var}
 use Rattle.core_ir.specs.declared.tree.Block.{Block, out-Block}
@@ -14,7 +14,6 @@ use Rattle.counted_code.specs.View.{steps_before}
 use Rattle.ref_placing.specs.Placing.{placing}
 use Rattle.ref_placing.proofs.Lists.{append_assoc}
 use Rattle.ref_counts.proofs.Collected.{let_uses, lets_used, block_used}
-use Rattle.ref_counts.proofs.Placed.{dropped}
 use Rattle.ref_counts.proofs.Taken.{drop_here}
 
 -- places stay within the list

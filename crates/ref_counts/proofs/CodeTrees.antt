@@ -1,5 +1,5 @@
 -- The term of a tree of counted code, by the lists that its vectors hold.
-use Rattle.std.proofs.Common.{◌≡◌, ℕ, ◌≤◌, Bool, List, [], ◌∷◌, ◌++◌, map, length, take, take_all, Option, None, refl, ap, ◌∙◌, sym}
+use Rattle.std.proofs.Common.{◌≡◌, ℕ, ◌≤◌, Bool, List, [], ◌∷◌, ◌++◌, map, length, take, take_all, None, refl, ap, ◌∙◌, sym}
 use Rattle.sac_base.specs.declared.grid.Grid1.{Grid1}
 use Rattle.sac_base.specs.declared.site.Site.{Site}
 use Rattle.core_ir.specs.declared.tree.Var.{Var}
@@ -7,18 +7,16 @@ use Rattle.core_ir.specs.declared.tree.CoreGen.{CoreGen, CoreGen', out-CoreGen}
 use Rattle.core_ir.specs.declared.tree.CorePart.{CorePart, CorePart', out-CorePart}
 use Rattle.core_ir.specs.declared.tree.WithLoop.{WithLoop, out-WithLoop}
 use Rattle.core_ir.specs.declared.tree.PartedLoop.{PartedLoop, out-PartedLoop}
-use Rattle.core_ir.specs.View.{block_term, right_term, with_term, parted_term, gen_term, part_term}
+use Rattle.core_ir.specs.View.{block_term, with_term, parted_term, gen_term, part_term}
 use Rattle.core_ir.proofs.Trees as core
-use Rattle.core_ir.specs.Terms.{BlockTerm, GensTerm, PartsTerm, GenTerm, PartTerm, NoGens, Gen, NoParts, Part, gens_of, parts_of}
+use Rattle.core_ir.specs.Terms.{BlockTerm, GenTerm, PartTerm, gens_of, parts_of}
 use Rattle.counted_code.specs.declared.tree.CodeBlock.{CodeBlock, Row_of-CodeStep, end_of-CodeStep, more_of-CodeStep, items-the_row-CodeStep, items_shown-the_row-CodeStep-0, items_hidden-the_row-CodeStep-0}
 use Rattle.counted_code.specs.declared.tree.CodeStep.{CodeStep}
 use Rattle.counted_code.specs.declared.tree.CodeRight.TheBlock.{the_data, the_data-1, the_data-2, the_data-3, the_data-4, the_data-5, the_data-6, the_data-7, hidden-the_row-CodeStep-0}
-use Rattle.counted_code.specs.declared.tree.CodeGen.{CodeGen}
-use Rattle.counted_code.specs.declared.tree.CodePart.{CodePart}
 use Rattle.counted_code.specs.declared.tree.CodeWith.{CodeWith, CodeWith', CodeWith-F, out-CodeWith, roll-CodeWith, out-roll-CodeWith, outs-CodeWith', Row_of-CodeGen, end_of-CodeGen, more_of-CodeGen, items-the_row-CodeGen, items_shown-the_row-CodeGen-2}
 use Rattle.counted_code.specs.declared.tree.CodeParted.{CodeParted, CodeParted', CodeParted-F, out-CodeParted, roll-CodeParted, out-roll-CodeParted, outs-CodeParted', Row_of-CodePart, end_of-CodePart, more_of-CodePart, items-the_row-CodePart, items_shown-the_row-CodePart-1}
-use Rattle.counted_code.specs.Terms.{CodeTerm, CodeRightTerm, CodeGensTerm, CodePartsTerm, Giving, IfCode, LoopCode, WithCode, PartedCode, NoCodeGens, GenCode, NoCodeParts, PartCode}
-use Rattle.counted_code.specs.View.{code_term, steps_before, steps_term, step_term, code_right_term, code_with_term, code_gens_term, code_parted_term, code_parts_term}
+use Rattle.counted_code.specs.Terms.{CodeTerm, Giving, IfCode, LoopCode, WithCode, PartedCode, GenCode, PartCode}
+use Rattle.counted_code.specs.View.{code_term, steps_before, steps_term, step_term, code_with_term, code_gens_term, code_parted_term, code_parts_term}
 use Rattle.ref_counts.specs.Pieces.{CodeGenTerm, CodePartTerm, code_gen_term, code_part_term, code_gens_of, code_parts_of, placing_gen, placing_part}
 use Rattle.ref_placing.specs.Placing.{placing, placing_right, placing_gens, placing_parts}
 

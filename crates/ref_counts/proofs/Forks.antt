@@ -1,13 +1,13 @@
 -- Trees of variables, and those that are taken out of them.
-use Rattle.std.proofs.Common.{◌≡◌, ℕ, ◌+◌, ◌-◌, ◌^◌, ◌<◌, ◌≤◌, Bool, true, false, cond, eqb, not, List, [], ◌∷◌, ◌++◌, Option, Some, None, refl, ap, ◌∙◌, sym, subst, arith, true≢false, inl, inr}
-use Rattle.std.specs.Prelude.{◌&&◌, ◌||◌, ◌⊎◌, filter, min, nat_eq, nat_le}
+use Rattle.std.proofs.Common.{◌≡◌, ℕ, ◌+◌, ◌-◌, ◌^◌, ◌<◌, Bool, true, false, cond, eqb, not, List, [], ◌∷◌, ◌++◌, Some, refl, ap, ◌∙◌, sym, subst, arith, true≢false, inl, inr}
+use Rattle.std.specs.Prelude.{◌&&◌, ◌||◌, ◌⊎◌, filter, min, nat_eq}
 use Rattle.std.specs.HashMap.{get, HashMap}
 use Rattle.std.proofs.lemmas.Bool.{le-leb}
 use Rattle.std.proofs.lemmas.List.Elements.{filter-append}
 use Rattle.core_ir.specs.declared.tree.Var.{Var}
 use Rattle.core_ir.specs.Binders.{is_in}
 use Rattle.ref_placing.proofs.Lists.{same_var, self, or_left, or_right, or_either, append_assoc}
-use Rattle.ref_counts.specs.declared.held.Owned.{Owned, Gone, One, Fork'}
+use Rattle.ref_counts.specs.declared.held.Owned.{Owned, Gone, One}
 use Rattle.ref_counts.specs.Latest.{reaches, is_used}
 use Rattle.ref_counts.specs.Owning.{owned_vars, IsBound, IsSound, ends, EndsOf}
 use Rattle.ref_counts.proofs.Recorded.{in_append}

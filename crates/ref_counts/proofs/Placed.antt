@@ -1,7 +1,7 @@
 -- Steps that are appended are those of the placing.
-use Rattle.std.proofs.Common.{◌≡◌, ℕ, zero, suc, ◌+◌, ◌-◌, ◌*◌, ◌^◌, ◌<◌, ◌≤◌, Bool, true, false, not, List, [], ◌∷◌, ◌++◌, map, length, drop, refl, ap, ◌∙◌, sym, subst, arith}
-use Rattle.std.specs.Prelude.{◌&&◌, ◌||◌, filter, nat_eq, min, Result, Ok, Err, IfOk}
-use Rattle.std.specs.HashMap.{get, HashMap}
+use Rattle.std.proofs.Common.{◌≡◌, ℕ, ◌+◌, ◌-◌, ◌^◌, ◌<◌, Bool, true, false, not, List, [], ◌∷◌, ◌++◌, length, drop, refl, ap, ◌∙◌, sym, subst, arith}
+use Rattle.std.specs.Prelude.{◌&&◌, ◌||◌, filter, min, Result, Ok, Err, IfOk}
+use Rattle.std.specs.HashMap.{HashMap}
 use lib.Seq.{drop-drop, drop-append_seam}
 use Rattle.sac_base.specs.declared.site.Site.{Site}
 use Rattle.core_ir.specs.declared.tree.Var.{Var}
@@ -16,7 +16,7 @@ use Rattle.counted_code.specs.View.{steps_before}
 use Rattle.ref_counts.specs.declared.held.Owned.{Owned}
 use Rattle.ref_counts.specs.Latest.{is_used, AreLast, read_place}
 use Rattle.ref_counts.specs.Owning.{owned_vars, IsSound, ends, EndsOf}
-use Rattle.ref_placing.specs.Placing.{keeps, releases, used, unused, surplus, read_after, is_conditional, takes, given, left, placing, placing_right}
+use Rattle.ref_placing.specs.Placing.{keeps, releases, used, unused, surplus, read_after, is_conditional, left, placing, placing_right}
 use Rattle.ref_placing.proofs.Lists.{append_assoc}
 
 -- ---- places in a list of uses

@@ -1,5 +1,5 @@
 -- The places of last uses, as a list is gone through.
-use Rattle.std.proofs.Common.{◌≡◌, ℕ, zero, suc, ◌+◌, ◌<◌, ◌≤◌, Bool, true, false, cond, eqb, List, [], ◌∷◌, ◌++◌, length, take, drop, Option, Some, None, refl, ap, ◌∙◌, sym, subst, arith}
+use Rattle.std.proofs.Common.{◌≡◌, ℕ, zero, suc, ◌+◌, ◌<◌, Bool, true, false, cond, eqb, List, [], ◌∷◌, ◌++◌, length, take, drop, Some, refl, ap, ◌∙◌, sym, subst, arith}
 use Rattle.std.specs.Prelude.{◌||◌, nat_le, nat_eq, slice_index_or}
 use Rattle.std.specs.HashMap.{get, HashMap}
 use lib.Dec.{leb-zero, leb-suc-zero, leb-suc-suc}
@@ -8,7 +8,7 @@ use Rattle.std.proofs.lemmas.List.{at_drop_all, take_more}
 use lib.Seq.{length-take-le}
 use Rattle.core_ir.specs.declared.tree.Var.{Var}
 use Rattle.core_ir.specs.Binders.{is_in}
-use Rattle.ref_counts.specs.Latest.{reaches, is_used, AreLast}
+use Rattle.ref_counts.specs.Latest.{reaches, AreLast}
 
 or_false : (b : Bool) → (b || false) ≡ b
 or_false true = refl

@@ -1,5 +1,5 @@
 -- Where each variable is used last in a list of uses.
-use Rattle.std.specs.Prelude.{◌≡◌, ◌+◌, ◌-◌, ◌^◌, min, length, ℕ, Bool, true, false, nat_eq, nat_le, drop, List, Option, Some, None}
+use Rattle.std.specs.Prelude.{◌≡◌, ◌+◌, ◌-◌, ◌^◌, min, length, ℕ, Bool, false, nat_eq, nat_le, drop, List, Option, Some, None}
 use Rattle.std.specs.HashMap.{get, HashMap}
 use Rattle.core_ir.specs.declared.tree.Var.{Var}
 use Rattle.core_ir.specs.Terms.{RightTerm}

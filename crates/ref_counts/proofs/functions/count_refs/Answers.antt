@@ -1,6 +1,5 @@
-use Rattle.std.proofs.Common.{◌≡◌, refl, ap, ◌∙◌, sym, subst}
-use Rattle.std.specs.Prelude.{IfOk, Result, Ok, Err, List}
-use Rattle.core_ir.specs.Terms.{CoreTerm}
+use Rattle.std.proofs.Common.{◌≡◌, ap, ◌∙◌, sym, subst}
+use Rattle.std.specs.Prelude.{IfOk, Result, Ok, Err}
 use Rattle.core_ir.specs.View.{core_term}
 use Rattle.core_ir.specs.Outcome.{outcome}
 use Rattle.counted_code.specs.Counts.{IsWellCounted, IsUnmarked}

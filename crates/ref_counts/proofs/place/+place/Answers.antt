@@ -102,8 +102,8 @@ place_parted-returns t c =
 pub place_gen-returns : goal.place_gen-returns
 place_gen-returns t c =
     gen_done c.args.generator.now c.in_ok-copy_vars.field-0.items c.deref-3.result.now _ (c.in_ok-copy_vars.ensures ∙ c.deref-2.ensures.value)
-      (owns (out-CoreGen c.args.generator.now).index c.new-own.result.items c.push.new.self.items (out-CoreGen c.args.generator.now).names.items c.deref.result.now c.extend_from_slice.new.self.items c.deref-3.result.now
-      c.new-own.ensures.items c.in_ok-push.ensures.items c.deref.ensures.value c.in_ok-extend_from_slice.ensures.items c.deref-3.ensures.value) c.in_ok-place_block.ensures
+    (owns (out-CoreGen c.args.generator.now).index c.new-own.result.items c.push.new.self.items (out-CoreGen c.args.generator.now).names.items c.deref.result.now c.extend_from_slice.new.self.items c.deref-3.result.now
+    c.new-own.ensures.items c.in_ok-push.ensures.items c.deref.ensures.value c.in_ok-extend_from_slice.ensures.items c.deref-3.ensures.value) c.in_ok-place_block.ensures
 
 pub place_part-returns : goal.place_part-returns
 place_part-returns t c = part_done c.args.part.now _ _ c.in_ok-copy.ensures c.in_ok-place_block.ensures

@@ -1,8 +1,5 @@
-use Rattle.std.proofs.Common.{◌++◌, refl, arith, ap, sym, ◌∙◌}
-use Rattle.core_ir.specs.declared.tree.Block.{out-Block}
-use Rattle.core_ir.specs.declared.tree.WithLoop.{out-WithLoop}
-use Rattle.core_ir.specs.declared.tree.PartedLoop.{out-PartedLoop}
-use Rattle.ref_counts.proofs.Collected.{let_uses, gen_uses, part_uses, block_collected, with_collected, parted_collected}
+use Rattle.std.proofs.Common.{arith}
+use Rattle.ref_counts.proofs.Collected.{block_collected, with_collected, parted_collected}
 use Rattle.ref_counts.proofs.uses.+uses.Goals as goal
 
 pub add_uses-returns : goal.add_uses-returns
