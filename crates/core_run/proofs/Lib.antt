@@ -1,0 +1,11 @@
+pub mod Environments
+pub mod Choices
+pub mod Indices
+pub mod Measures
+pub mod Blocks
+pub mod Loops
+pub mod CallSteps
+pub mod WithSteps
+pub mod Fitting
+pub mod PartSteps
+pub mod PlainSteps

@@ -1,0 +1,10 @@
+use Rattle.std.proofs.Common.{sym, ◌∙◌}
+use Rattle.std.proofs.lemmas.List.{length-map}
+use Rattle.sac_base.specs.declared.types.ArrayType.{ArrayType}
+use Rattle.core_ir.specs.declared.tree.Var.{Var}
+use Rattle.core_run.specs.Evaluation.{types_of_params}
+use Rattle.with_loops.proofs.TypeLists.{have_length}
+use Rattle.core_run.proofs.calls.all_fit.Goals as goal
+
+pub returns-then-params-args : goal.returns-then-params-args
+returns-then-params-args c = sym (have_length (types_of_params c.args.params.now) c.args.args.now (λ e. c.if-params-args.true (sym (length-map c.args.params.now (λ (p : Var × ArrayType). p.1)) ∙ e)))

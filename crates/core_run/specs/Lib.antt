@@ -1,0 +1,4 @@
+pub mod Answers
+pub mod Environments
+pub mod Evaluation
+pub mod Fits
