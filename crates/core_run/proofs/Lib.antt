@@ -9,3 +9,6 @@ pub mod WithSteps
 pub mod Fitting
 pub mod PartSteps
 pub mod PlainSteps
+pub mod WithWhole
+pub mod PartedWhole
+pub mod MainSteps

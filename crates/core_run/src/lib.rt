@@ -9,3 +9,6 @@ mod plain;
 mod program;
 
 pub use program::core_run;
+
+#[cfg(test)]
+mod tests;

@@ -488,14 +488,14 @@ repeat-returns-in_err-run_test t c =
     let test_site = a.turns.now.test_site in
     let test' = λ (vs : List ArrayValue). first (turn_in ctx params T env vs) in
     let body' = turn_in ctx params B env in
-    let left = c.loop-turns.left in
-    let vs = c.loop-turns.values.items in
+    let left = c.loop-values.left in
+    let vs = c.loop-values.values.items in
     let whole' = repeat_in ctx a.most site test_site params T B env a.start.items in
     let stop = c.in_err-run_test.field-0.0 in
     let is : c.from_residual.result ≡ Err stop = search rules in
     subst (λ r. TellsItems r whole') (sym is)
     (same_stop stop (said test_site (test' c.deref.result.now)) whole'
-      (λ f h. sym c.loop-turns.invariant ∙ turn_test_fault site test_site test' body' left vs f (ap (λ vs. said test_site (test' vs)) (sym c.deref.ensures.value) ∙ h))
+      (λ f h. sym c.loop-values.invariant ∙ turn_test_fault site test_site test' body' left vs f (ap (λ vs. said test_site (test' vs)) (sym c.deref.ensures.value) ∙ h))
       c.in_err-run_test.ensures)
 
 pub repeat-returns-then-not-branch : goal.repeat-returns-then-not-branch
@@ -510,10 +510,10 @@ repeat-returns-then-not-branch t c =
     let test_site = a.turns.now.test_site in
     let test' = λ (vs : List ArrayValue). first (turn_in ctx params T env vs) in
     let body' = turn_in ctx params B env in
-    let left = c.loop-turns.left in
-    let vs = c.loop-turns.values.items in
+    let left = c.loop-values.left in
+    let vs = c.loop-values.values.items in
     let whole' = repeat_in ctx a.most site test_site params T B env a.start.items in
-    sym c.loop-turns.invariant ∙ turn_ends site test_site test' body' left vs (ap (λ vs. said test_site (test' vs)) (sym c.deref.ensures.value) ∙ c.in_ok-run_test.ensures ∙ ap (λ b. Ok b) c.if-not-branch.true)
+    sym c.loop-values.invariant ∙ turn_ends site test_site test' body' left vs (ap (λ vs. said test_site (test' vs)) (sym c.deref.ensures.value) ∙ c.in_ok-run_test.ensures ∙ ap (λ b. Ok b) c.if-not-branch.true)
 
 pub repeat-returns-then-left-eq0 : goal.repeat-returns-then-left-eq0
 repeat-returns-then-left-eq0 t c =
@@ -527,10 +527,10 @@ repeat-returns-then-left-eq0 t c =
     let test_site = a.turns.now.test_site in
     let test' = λ (vs : List ArrayValue). first (turn_in ctx params T env vs) in
     let body' = turn_in ctx params B env in
-    let left = c.loop-turns.left in
-    let vs = c.loop-turns.values.items in
+    let left = c.loop-values.left in
+    let vs = c.loop-values.values.items in
     let whole' = repeat_in ctx a.most site test_site params T B env a.start.items in
-    rw c.fault.ensures (sym c.loop-turns.invariant
+    rw c.fault.ensures (sym c.loop-values.invariant
     ∙ turn_over site test_site test' body' left vs (omega (arith, c.if-left-eq0.true)) (ap (λ vs. said test_site (test' vs)) (sym c.deref.ensures.value) ∙ c.in_ok-run_test.ensures ∙ ap (λ b. Ok b) c.if-not-branch.false))
 
 pub repeat-returns-in_err-values : goal.repeat-returns-in_err-values
@@ -545,19 +545,19 @@ repeat-returns-in_err-values t c =
     let test_site = a.turns.now.test_site in
     let test' = λ (vs : List ArrayValue). first (turn_in ctx params T env vs) in
     let body' = turn_in ctx params B env in
-    let left = c.loop-turns.left in
-    let vs = c.loop-turns.values.items in
+    let left = c.loop-values.left in
+    let vs = c.loop-values.values.items in
     let whole' = repeat_in ctx a.most site test_site params T B env a.start.items in
     let goes = turn_goes site test_site test' body' left vs (omega (arith, c.if-left-eq0.false)) (ap (λ vs. said test_site (test' vs)) (sym c.deref.ensures.value) ∙ c.in_ok-run_test.ensures ∙ ap (λ b. Ok b) c.if-not-branch.false) in
     let stop = c.in_err-values.field-0.0 in
     let is : c.from_residual-in_err-values.result ≡ Err stop = search rules in
     subst (λ r. TellsItems r whole') (sym is)
     (same_stop stop (body' c.deref-2.result.now) whole'
-      (λ f h. sym c.loop-turns.invariant ∙ goes ∙ fault_then (body' vs) (repeat (left - 1) site test_site test' body') f (ap body' (sym c.deref-2.ensures.value) ∙ h))
+      (λ f h. sym c.loop-values.invariant ∙ goes ∙ fault_then (body' vs) (repeat (left - 1) site test_site test' body') f (ap body' (sym c.deref-2.ensures.value) ∙ h))
       c.in_err-values.ensures)
 
-pub repeat-loop-turns-preserved : goal.repeat-loop-turns-preserved
-repeat-loop-turns-preserved t c =
+pub repeat-loop-values-preserved : goal.repeat-loop-values-preserved
+repeat-loop-values-preserved t c =
     let a = c.args in
     let ctx = a.context.now in
     let env = env_of a.env.now in
@@ -568,12 +568,12 @@ repeat-loop-turns-preserved t c =
     let test_site = a.turns.now.test_site in
     let test' = λ (vs : List ArrayValue). first (turn_in ctx params T env vs) in
     let body' = turn_in ctx params B env in
-    let left = c.loop-turns.left in
-    let vs = c.loop-turns.values.items in
+    let left = c.loop-values.left in
+    let vs = c.loop-values.values.items in
     let whole' = repeat_in ctx a.most site test_site params T B env a.start.items in
     let goes = turn_goes site test_site test' body' left vs (omega (arith, c.if-left-eq0.false)) (ap (λ vs. said test_site (test' vs)) (sym c.deref.ensures.value) ∙ c.in_ok-run_test.ensures ∙ ap (λ b. Ok b) c.if-not-branch.false) in
     let then = value_then (body' vs) (repeat (left - 1) site test_site test' body') c.in_ok-values.values.items (ap body' (sym c.deref-2.ensures.value) ∙ c.in_ok-values.ensures) in
-    sym (goes ∙ then) ∙ c.loop-turns.invariant
+    sym (goes ∙ then) ∙ c.loop-values.invariant
 
 pub held_cell-loop-i-preserved : goal.held_cell-loop-i-preserved
 held_cell-loop-i-preserved t c =
@@ -819,19 +819,19 @@ join_parts-returns-in_err-cell t c =
     let form = a.form.now in
     let grid = a.grid.now in
     let shape = extents grid ++ form.shape in
-    let fr = c.in_ok-frame.frame in
+    let fr = members grid in
+    let same = c.in_ok-frame.ensures in
     let k = c.loop-place.place in
     let items = c.loop-place.cells.items in
     let f = cell_at (cell_form form.base form.shape) (map (part_of ctx env) ps) in
     let meant = and_then (parts_in ctx ps fr form env) (λ found. Ok (joined form.base shape found)) in
-    let inside : k < length fr = omega (arith, c.loop-place-test.true, c.count-place-end.ensures) in
-    let at : f (get_or fr k []) ≡ part_held_in ctx ps c.index.new.into form env = ap f (sym (c.in_ok-index.ensures [])) in
+    let inside : k < length fr = subst (λ (xs : List (List ℤ)). k < length xs) same (omega (arith, c.loop-place-test.true, c.count-place-end.ensures)) in
+    let at : f (get_or fr k []) ≡ part_held_in ctx ps c.index.new.into form env = ap (λ (xs : List (List ℤ)). f (get_or xs k [])) (sym same) ∙ ap f (sym (c.in_ok-index.ensures [])) in
     let stop = c.in_err-cell.field-0.0 in
     let is : c.from_residual-in_err-cell.result ≡ Err stop = search rules in
-    let whole' : ◌≡◌ {A = Ends ArrayValue} (and_then (parts_in ctx ps (members grid) form env) (λ found. Ok (joined form.base shape found))) meant = ap (λ m. and_then (parts_in ctx ps m form env) (λ found. Ok (joined form.base shape found))) (sym c.in_ok-frame.ensures) in
-    subst (λ r. Tells r (and_then (parts_in ctx ps (members grid) form env) (λ found. Ok (joined form.base shape found)))) (sym is)
-    (same_stop stop (part_held_in ctx ps c.index.new.into form env) (and_then (parts_in ctx ps (members grid) form env) (λ found. Ok (joined form.base shape found)))
-      (λ fault e. whole' ∙ each_fault f fr k [] fault (λ rest. Ok (record { base = form.base; shape = shape; cells = items ++ (joined form.base shape rest).cells })) meant inside (at ∙ e) c.loop-place.invariant.told)
+    subst (λ r. Tells r meant) (sym is)
+    (same_stop stop (part_held_in ctx ps c.index.new.into form env) meant
+      (λ fault e. each_fault f fr k [] fault (λ rest. Ok (record { base = form.base; shape = shape; cells = items ++ (joined form.base shape rest).cells })) meant inside (at ∙ e) c.loop-place.invariant.told)
       c.in_err-cell.ensures.told)
 
 pub join_parts-loop-place-preserved : goal.join_parts-loop-place-preserved
@@ -843,17 +843,19 @@ join_parts-loop-place-preserved t c =
     let form = a.form.now in
     let grid = a.grid.now in
     let shape = extents grid ++ form.shape in
-    let fr = c.in_ok-frame.frame in
+    let fr = members grid in
+    let same = c.in_ok-frame.ensures in
     let k = c.loop-place.place in
     let items = c.loop-place.cells.items in
     let f = cell_at (cell_form form.base form.shape) (map (part_of ctx env) ps) in
     let meant = and_then (parts_in ctx ps fr form env) (λ found. Ok (joined form.base shape found)) in
-    let inside : k < length fr = omega (arith, c.loop-place-test.true, c.count-place-end.ensures) in
-    let at : f (get_or fr k []) ≡ part_held_in ctx ps c.index.new.into form env = ap f (sym (c.in_ok-index.ensures [])) in
+    let inside : k < length fr = subst (λ (xs : List (List ℤ)). k < length xs) same (omega (arith, c.loop-place-test.true, c.count-place-end.ensures)) in
+    let at : f (get_or fr k []) ≡ part_held_in ctx ps c.index.new.into form env = ap (λ (xs : List (List ℤ)). f (get_or xs k [])) (sym same) ∙ ap f (sym (c.in_ok-index.ensures [])) in
     let cell = c.in_ok-cell.cell in
     let v = get_or fr k [] in
-    let member : has_vector grid v ≡ true = subst (λ (xs : List (List ℤ)). has_vector grid (get_or xs k []) ≡ true) (sym c.in_ok-frame.ensures) (member_holds grid k [] (subst (λ (xs : List (List ℤ)). k < length xs) c.in_ok-frame.ensures inside)) in
-    let here : has_vector grid c.index.new.into ≡ true = subst (λ w. has_vector grid w ≡ true) (sym (c.in_ok-index.ensures [])) member in
+    let member : has_vector grid v ≡ true = member_holds grid k [] inside in
+    let read : v ≡ c.index.new.into = ap (λ (xs : List (List ℤ)). get_or xs k []) (sym same) ∙ sym (c.in_ok-index.ensures []) in
+    let here : has_vector grid c.index.new.into ≡ true = subst (λ w. has_vector grid w ≡ true) read member in
     let some = covered_one grid ps c.index.new.into c.requires.1.1.covered here in
     let added = c.in_ok-append.ensures in
     record {
@@ -887,15 +889,15 @@ join_parts-returns t c =
     let form = a.form.now in
     let grid = a.grid.now in
     let shape = extents grid ++ form.shape in
-    let fr = c.in_ok-frame.frame in
+    let fr = members grid in
+    let same = c.in_ok-frame.ensures in
     let k = c.loop-place.place in
     let items = c.loop-place.cells.items in
     let f = cell_at (cell_form form.base form.shape) (map (part_of ctx env) ps) in
     let meant = and_then (parts_in ctx ps fr form env) (λ found. Ok (joined form.base shape found)) in
-    let past : length fr ≤ k = omega (arith, c.loop-place-test.false, c.count-place-end.ensures) in
+    let past : length fr ≤ k = subst (λ (xs : List (List ℤ)). length xs ≤ k) same (omega (arith, c.loop-place-test.false, c.count-place-end.ensures)) in
     let ends = each_end f fr k (λ rest. Ok (record { base = form.base; shape = shape; cells = items ++ (joined form.base shape rest).cells })) meant past c.loop-place.invariant.told in
-    ap (λ m. and_then (parts_in ctx ps m form env) (λ found. Ok (joined form.base shape found))) (sym c.in_ok-frame.ensures)
-    ∙ ends
+    ends
     ∙ ap (λ (zs : List ℤ). Ok (record { base = form.base; shape = shape; cells = zs })) (append-nil items)
     ∙ ap (λ s. Ok (record { base = form.base; shape = s; cells = items })) (sym c.joined_shape-shape.ensures)
     ∙ ap (λ (x : ArrayValue). Ok x) (sym c.new-2.ensures)

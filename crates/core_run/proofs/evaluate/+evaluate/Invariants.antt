@@ -112,9 +112,9 @@ invariant-fold_cells-loop-place l =
 
 abbrev pub invariant-join_parts-loop-place : goal.invariant-join_parts-loop-place
 invariant-join_parts-loop-place l = record {
-  told : and_then (parts_in l.context l.parts (drop l.place l.frame) l.form (env_of l.env))
+  told : and_then (parts_in l.context l.parts (drop l.place (members l.grid)) l.form (env_of l.env))
       (λ rest. Ok (record { base = l.form.base; shape = extents l.grid ++ l.form.shape; cells = l.cells.items ++ (joined l.form.base (extents l.grid ++ l.form.shape) rest).cells }))
-    ≡ and_then (parts_in l.context l.parts l.frame l.form (env_of l.env)) (λ found. Ok (joined l.form.base (extents l.grid ++ l.form.shape) found));
+    ≡ and_then (parts_in l.context l.parts (members l.grid) l.form (env_of l.env)) (λ found. Ok (joined l.form.base (extents l.grid ++ l.form.shape) found));
   count : length l.cells.items ≡ l.place * size l.form.shape;
 }
 
@@ -128,3 +128,11 @@ invariant-part_cell-loop-part l = record {
   told : part_held_in l.context (drop l.part-index l.parts) l.index l.form (env_of l.env) ≡ part_held_in l.context l.parts l.index l.form (env_of l.env);
   none : (k : ℕ) (d : CorePart) → k < l.part-index → has_vector (part_term (get_or l.parts k d)).head.grid l.index ≡ false;
 }
+
+abbrev pub invariant-repeat-loop-values : goal.invariant-repeat-loop-values
+invariant-repeat-loop-values l =
+    repeat_in l.context l.left l.turns.site l.turns.test_site l.turns.params.now (block_term l.test) (block_term l.body) (env_of l.env) l.values.items
+    ≡ repeat_in l.context l.initial.left l.turns.site l.turns.test_site l.turns.params.now (block_term l.test) (block_term l.body) (env_of l.env) l.initial.values.items
+
+abbrev pub decreases-repeat-loop-values : goal.decreases-repeat-loop-values
+decreases-repeat-loop-values l = l.left
