@@ -2,6 +2,8 @@ pub mod Environments
 pub mod Choices
 pub mod Indices
 pub mod Measures
+pub mod Sizes
+pub mod Cells
 pub mod Blocks
 pub mod Loops
 pub mod CallSteps

@@ -1,5 +1,5 @@
 -- How far an evaluation may still go: by the levels that are left, then by the height of the tree.
-use Rattle.std.proofs.Common.{◌≡◌, ℕ, zero, suc, ◌+◌, ◌-◌, ◌*◌, ◌<◌, ◌≤◌, List, length, arith, get_or}
+use Rattle.std.proofs.Common.{◌≡◌, ℕ, zero, suc, ◌+◌, ◌-◌, ◌*◌, ◌<◌, ◌≤◌, List, length, arith, get_or, sym, subst}
 use Rattle.std.proofs.Math.Nat.{mul-le-mul_right, add-mul}
 use denote.Param.Weighed.{most, at_most}
 use Rattle.core_ir.specs.declared.tree.Block.{size-Block}
@@ -44,6 +44,13 @@ rank_falls left nest fs h = more ((left - 1) * (length fs + 1) + length fs) (lef
 pub rank_falls_inline : (left nest : ℕ) (fs : List CoreFun) → 1 ≤ nest → rank left (nest - 1) fs + height fs ≤ rank left nest fs
 unfolding rank
 rank_falls_inline left nest fs h = more (left * (length fs + 1) + (nest - 1)) (left * (length fs + 1) + nest) (height fs) (omega arith)
+
+-- the same of the evaluator's states
+pub falls_inline : (c : Context) → 1 ≤ c.nest → rank_of (record { alloc = c.alloc; core = c.core; missing = c.missing; turns = c.turns; left = c.left; nest = c.nest - 1 }) + height c.core.now.functions.items ≤ rank_of c
+falls_inline c h = rank_falls_inline c.left c.nest c.core.now.functions.items h
+
+pub falls_deeper : (c : Context) (nest : ℕ) → nest ≡ length c.core.now.functions.items → 1 ≤ c.left → rank_of (record { alloc = c.alloc; core = c.core; missing = c.missing; turns = c.turns; left = c.left - 1; nest = nest }) + height c.core.now.functions.items ≤ rank_of c
+falls_deeper c nest e h = subst (λ n. rank (c.left - 1) n c.core.now.functions.items + height c.core.now.functions.items ≤ rank_of c) (sym e) (rank_falls c.left c.nest c.core.now.functions.items h)
 
 pub body_below : (fs : List CoreFun) (i : ℕ) (d : CoreFun) → i < length fs → 8 * body_size (get_or fs i d) + 8 ≤ height fs
 unfolding height

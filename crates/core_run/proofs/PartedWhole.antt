@@ -15,6 +15,10 @@ use Rattle.core_ir.specs.declared.tree.PartedOp.TheVariants as parted
 use Rattle.core_ir.specs.declared.tree.Var.{Var}
 use Rattle.core_ir.specs.Meaning.{Env, Cells, cell_at, cell_form, extents, joined, parted_value, neutral_fits, made_of}
 use Rattle.core_ir.specs.WellFormed.{IsFrame}
+use Rattle.std.specs.Prelude.{ℤ, map}
+use Rattle.core_ir.specs.declared.tree.CorePart.{CorePart}
+use Rattle.core_run.specs.declared.evaluate.Context.{Context}
+use Rattle.core_run.specs.Evaluation.{parts_in}
 use Rattle.core_run.specs.Fits.{FitsFrame, IsJoined}
 
 pub fits_fold : (op : PartedOp) (frame : List Grid1) (cell : List ℕ) (grids : List (List Grid1)) (o : Op) (x : Var) → op ≡ parted.Fold o x → FitsFrame op frame cell grids → IsFrame frame
@@ -43,3 +47,11 @@ module _ (frame : List Grid1) (base : Base) (cell : List ℕ) (parts : List Cell
   parted_joins parted.Genarray not = refl
   parted_joins (parted.Modarray x) not = refl
   parted_joins (parted.Fold o x) not = absurd (not o x refl)
+
+-- the same parts, indices and cells
+module _ (context : Context) (e : Env) (ps qs : List CorePart) (xs ys : List (List ℤ)) (base : Base) (c d : List ℕ) (parts : ps ≡ qs) (indices : xs ≡ ys) (shape : c ≡ d) where
+  pub folds_same : (o : Op) (neutral : ArrayValue) → and_then (parts_in context ps xs (record { base = base; shape = c }) e) (λ found. Ok (fold (combined o) neutral found)) ≡ and_then (parts_in context qs ys (record { base = base; shape = d }) e) (λ found. Ok (fold (combined o) neutral found))
+  folds_same o neutral = λ j. and_then (parts_in context (parts j) (indices j) (record { base = base; shape = shape j }) e) (λ found. Ok (fold (combined o) neutral found))
+
+  pub joins_same : (frame : List Grid1) → and_then (parts_in context ps xs (record { base = base; shape = c }) e) (λ found. Ok (joined base (extents frame ++ c) found)) ≡ and_then (parts_in context qs ys (record { base = base; shape = d }) e) (λ found. Ok (joined base (extents frame ++ d) found))
+  joins_same frame = λ j. and_then (parts_in context (parts j) (indices j) (record { base = base; shape = shape j }) e) (λ found. Ok (joined base (extents frame ++ shape j) found))

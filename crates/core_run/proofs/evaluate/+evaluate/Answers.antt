@@ -1,10 +1,12 @@
 use Rattle.std.proofs.Common.{rules, ◌≡◌, ℕ, ◌+◌, ◌-◌, ◌*◌, ◌<◌, ◌≤◌, length, true, false, [], ◌∷◌, ◌++◌, Ok, Err, Some, None, get_or, ap, sym, ◌∙◌, subst, arith, map, drop, List, Option, append_assoc, append-nil, refl, Vec, Global, All}
-use Rattle.std.specs.Prelude.{ℤ, fold, if◌then◌else◌, IfNone}
-use Rattle.std.proofs.lemmas.List.{drop_all, length-append, length-map}
+use Rattle.std.specs.Prelude.{ℤ, fold, IfNone}
+use Rattle.std.proofs.lemmas.List.{drop_all, take_all, length-append, length-map}
+use Rattle.std.proofs.lemmas.List.Elements.{All-more}
+use Rattle.core_ir.proofs.Trees.{block_out}
 use Rattle.std.proofs.Math.Nat.{add-mul}
 use Rattle.sac_base.specs.declared.form.Form.{Form}
 use Rattle.sac_base.specs.declared.base.Base.TheVariants.{Int}
-use Rattle.sac_base.specs.Arrays.{ArrayValue, scalar, vector, size, MOST}
+use Rattle.sac_base.specs.Arrays.{ArrayValue, scalar, vector, size, same_form, MOST}
 use Rattle.sac_base.specs.Grids.{has_vector, members}
 use Rattle.sac_base.specs.Outcomes.{Ends, and_then, choose, first_result}
 use Rattle.sac_base.specs.Parts.{condition, shape_of_numbers, vector_of}
@@ -12,9 +14,9 @@ use Rattle.sac_base.specs.WithLoops.{Range, genarray, modarray, fold_by, genarra
 use Rattle.sac_base.specs.WithLoops
 use Rattle.core_ir.specs.declared.tree.Block.{out-Block}
 use Rattle.core_ir.specs.declared.tree.CoreFun.{CoreFun}
-use Rattle.core_ir.specs.declared.tree.CoreGen.{CoreGen}
-use Rattle.core_ir.specs.declared.tree.CorePart.{CorePart}
-use Rattle.core_ir.specs.declared.tree.Let.{Let}
+use Rattle.core_ir.specs.declared.tree.CoreGen.{CoreGen, size-CoreGen, out-CoreGen}
+use Rattle.core_ir.specs.declared.tree.CorePart.{CorePart, size-CorePart, out-CorePart}
+use Rattle.core_ir.specs.declared.tree.Let.{Let, size-Let}
 use Rattle.core_ir.specs.declared.tree.PartedLoop.{out-PartedLoop}
 use Rattle.core_ir.specs.declared.tree.WithLoop.{out-WithLoop}
 use Rattle.core_ir.specs.Meaning.{Env, bind, bind_all, cell_at, cell_form, extents, first, joined, loop_value, one, operation, parted_value, repeat, elements_of, no_variables}
@@ -24,12 +26,16 @@ use Rattle.core_ir.specs.View.{block_term, let_term, right_term, with_term, part
 use Rattle.core_run.specs.declared.environment.Environment.{roll-Environment}
 use Rattle.core_run.specs.Environments.{env_of}
 use Rattle.core_run.specs.Evaluation.{calls_in, run_in, right_in, plain_in, turn_in, test_in, repeat_in, loop_in, run_chosen_in, function_in, generator_of, bounds_in, cell_in, checked_in, held_in, cells_in, part_of, part_cell_in, part_held_in, parts_in, types_of_params, vars_of_params}
-use Rattle.core_run.specs.Fits.{FitsBlock, FitsRight, FitsGen, FitsGens, FitsPart, FitsParts, IsJoined}
+use Rattle.core_run.specs.Fits.{FitsBlock, FitsRight, FitsGen, FitsGens, FitsPart, FitsParts, IsJoined, grids_of}
 use Rattle.core_run.proofs.Blocks.{no_bindings, no_inner_bindings, same_value, then_next, then_fault, block_at, fits_lets, fits_let, fits_gen, fits_part, fits_gens, fits_parts, fits_function}
+use Rattle.core_run.proofs.Cells.{gen_body_term, part_body_term, part_grid, part_site, cell_runs, part_runs}
+use Rattle.core_run.proofs.Sizes.{if_first, if_second, loop_blocks, with_below, parted_below, let_below, right_below, gen_body, part_body, gens_below, parts_below, gen_below, part_below}
+use Rattle.core_run.proofs.WithWhole.{genarray_stops, genarray_tells, modarray_stops, modarray_tells, fold_stops, fold_tells}
+use Rattle.core_run.proofs.PartedWhole.{fits_fold, fits_joined, parted_folds, parted_joins, folds_same, joins_same}
 use Rattle.core_run.proofs.CallSteps.{runs_inline, runs_deeper, too_deep, too_nested}
 use Rattle.core_run.proofs.Choices.{function_at}
 use Rattle.core_run.proofs.Loops.{condition_stops, condition_says, condition_tells, turn_test_fault, turn_ends, turn_over, turn_goes}
-use Rattle.core_run.proofs.Measures.{rank_falls, rank_falls_inline, body_below}
+use Rattle.core_run.proofs.Measures.{falls_inline, falls_deeper, body_below, body_size, gens_size, parts_size}
 use Rattle.core_run.proofs.PartSteps.{member_holds, covered_one, count_elements, grown}
 use Rattle.core_run.proofs.PlainSteps.{plain_rest, plain_means}
 use Rattle.core_run.proofs.WithSteps.{with_means, parted_means, whole, whole_fault, part_here, part_next}
@@ -48,7 +54,8 @@ run_block-run_let-requires t c =
     let rest = Gives (out-Block c.args.block.now).results.items in
     let all = subst (λ ls. FitsBlock (chain (map let_term ls) rest)) (sym c.deref-binding-items.ensures.value) (fits_lets c.args.block.now c.requires.1) in
     let here = fits_let items rest c.loop-binding.binding-index c.binding-item.result c.loop-binding-test.true all in
-    (omega (arith, c.decreases), (c.requires.0, subst (λ (l : Let). FitsRight (right_term l.right)) (sym c.binding-item.is) here))
+    let size = let_below c.args.block.now items c.loop-binding.binding-index c.binding-item.result c.deref-binding-items.ensures.value c.loop-binding-test.true in
+    (omega (arith, c.decreases, size, ap size-Let c.binding-item.is), (c.requires.0, subst (λ (l : Let). FitsRight (right_term l.right)) (sym c.binding-item.is) here))
 
 pub run_block-loop-binding-preserved : goal.run_block-loop-binding-preserved
 run_block-loop-binding-preserved t c =
@@ -100,13 +107,19 @@ run_inner-returns t c =
     subst (λ e. TellsItems c.run_block.result (run_in c.args.context.now (block_term c.args.block.now) e)) (no_inner_bindings c.args.env c.new.result c.new.ensures.items) c.run_block.ensures
 
 pub run_let-evaluate-requires : goal.run_let-evaluate-requires
-run_let-evaluate-requires t c = (omega (arith, c.decreases), c.requires)
+run_let-evaluate-requires t c = (omega (arith, c.decreases, right_below c.args.binding.now), c.requires)
 
 pub evaluate-run_inner-requires : goal.evaluate-run_inner-requires
-evaluate-run_inner-requires t c = let f = subst (λ r. FitsRight (right_term r)) c.in-If.is c.requires.1 in (omega (arith, c.decreases), (c.requires.0, f.0))
+evaluate-run_inner-requires t c =
+    let i = c.in-If in
+    let f = subst (λ r. FitsRight (right_term r)) i.is c.requires.1 in
+    (omega (arith, c.decreases, if_first c.args.right.now i.cond i.yes i.no i.is), (c.requires.0, f.0))
 
 pub evaluate-run_inner-requires-else-branch : goal.evaluate-run_inner-requires-else-branch
-evaluate-run_inner-requires-else-branch t c = let f = subst (λ r. FitsRight (right_term r)) c.in-If.is c.requires.1 in (omega (arith, c.decreases), (c.requires.0, f.1))
+evaluate-run_inner-requires-else-branch t c =
+    let i = c.in-If in
+    let f = subst (λ r. FitsRight (right_term r)) i.is c.requires.1 in
+    (omega (arith, c.decreases, if_second c.args.right.now i.cond i.yes i.no i.is), (c.requires.0, f.1))
 
 pub evaluate-returns-in_err-condition_at-in-If : goal.evaluate-returns-in_err-condition_at-in-If
 evaluate-returns-in_err-condition_at-in-If t c =
@@ -153,7 +166,10 @@ evaluate-returns-else-branch t c =
     subst (λ m. TellsItems c.run_inner-else-branch.result m) (sym (whole' ∙ says)) c.run_inner-else-branch.ensures
 
 pub evaluate-run_loop-requires : goal.evaluate-run_loop-requires
-evaluate-run_loop-requires t c = let f = subst (λ r. FitsRight (right_term r)) c.in-Loop.is c.requires.1 in (omega (arith, c.decreases), (c.requires.0, f))
+evaluate-run_loop-requires t c =
+    let i = c.in-Loop in
+    let f = subst (λ r. FitsRight (right_term r)) i.is c.requires.1 in
+    (omega (arith, c.decreases, loop_blocks c.args.right.now i.first_body i.start i.params i.test i.body i.test_site i.is), (c.requires.0, f))
 
 pub evaluate-returns-in_ok-start-in-Loop : goal.evaluate-returns-in_ok-start-in-Loop
 evaluate-returns-in_ok-start-in-Loop t c =
@@ -162,8 +178,8 @@ evaluate-returns-in_ok-start-in-Loop t c =
     let env = env_of c.args.env.now in
     let s = c.args.site in
     let whole' = ap (λ r. right_in ctx (right_term r) s env) i.is in
-    let p = c.in_ok-start-in-Loop.ensures ∙ ap (map env) c.deref-in-Loop.ensures.value in
-    let q = c.deref-in-Loop-2.ensures.value in
+    let p = c.in_ok-start-in-Loop.ensures ∙ ap (map env) c.deref.ensures.value in
+    let q = c.deref-in-Loop.ensures.value in
     subst (λ m. TellsItems c.run_loop.result m) ((λ j. loop_in ctx i.first_body s i.test_site (q j) (block_term i.test) (block_term i.body) env (p j)) ∙ sym whole') c.run_loop.ensures
 
 pub evaluate-call-requires : goal.evaluate-call-requires
@@ -180,10 +196,10 @@ evaluate-returns-in_ok-args-in-Call t c =
     subst (λ m. TellsItems c.call.result m) (ap (λ vs. calls_in ctx i.group vs s) p ∙ sym whole') c.call.ensures
 
 pub evaluate-run_with-requires : goal.evaluate-run_with-requires
-evaluate-run_with-requires t c = (omega (arith, c.decreases), (c.requires.0, subst (λ r. FitsRight (right_term r)) c.in-With.is c.requires.1))
+evaluate-run_with-requires t c = (omega (arith, c.decreases, with_below c.args.right.now c.in-With.with c.in-With.is), (c.requires.0, subst (λ r. FitsRight (right_term r)) c.in-With.is c.requires.1))
 
 pub evaluate-run_parted-requires : goal.evaluate-run_parted-requires
-evaluate-run_parted-requires t c = (omega (arith, c.decreases), (c.requires.0, subst (λ r. FitsRight (right_term r)) c.in-Parted.is c.requires.1))
+evaluate-run_parted-requires t c = (omega (arith, c.decreases, parted_below c.args.right.now c.in-Parted.parted c.in-Parted.is), (c.requires.0, subst (λ r. FitsRight (right_term r)) c.in-Parted.is c.requires.1))
 
 pub evaluate-returns-in_err-array-in-With : goal.evaluate-returns-in_err-array-in-With
 evaluate-returns-in_err-array-in-With t c =
@@ -208,8 +224,8 @@ evaluate-returns-in_ok-array-in-With t c =
     let meant = right_in ctx (right_term c.args.right.now) s env in
     let value = with_value (map (generator_of ctx env) (out-WithLoop i.with).gens.items) (operation (out-WithLoop i.with).op s env) in
     let whole' = ap (λ r. right_in ctx (right_term r) s env) i.is ∙ with_means ctx i.with s env in
-    let then = value_then value (λ a. Ok (a ∷ [])) c.in_ok-array-in-With.array c.in_ok-array-in-With.ensures in
-    subst (λ m. TellsItems c.one.result m) (sym (whole' ∙ then)) c.one.ensures
+    let goes_on = value_then value (λ a. Ok (a ∷ [])) c.in_ok-array-in-With.array c.in_ok-array-in-With.ensures in
+    subst (λ m. TellsItems c.one.result m) (sym (whole' ∙ goes_on)) c.one.ensures
 
 pub evaluate-returns-in_err-array-in-Parted : goal.evaluate-returns-in_err-array-in-Parted
 evaluate-returns-in_err-array-in-Parted t c =
@@ -234,8 +250,8 @@ evaluate-returns-in_ok-array-in-Parted t c =
     let meant = right_in ctx (right_term c.args.right.now) s env in
     let value = parted_value (out-PartedLoop i.parted).frame (out-PartedLoop i.parted).base (out-PartedLoop i.parted).cell (out-PartedLoop i.parted).op (map (part_of ctx env) (out-PartedLoop i.parted).parts.items) s env in
     let whole' = ap (λ r. right_in ctx (right_term r) s env) i.is ∙ parted_means ctx i.parted s env in
-    let then = value_then value (λ a. Ok (a ∷ [])) c.in_ok-array-in-Parted.array c.in_ok-array-in-Parted.ensures in
-    subst (λ m. TellsItems c.one-in-Parted.result m) (sym (whole' ∙ then)) c.one-in-Parted.ensures
+    let goes_on = value_then value (λ a. Ok (a ∷ [])) c.in_ok-array-in-Parted.array c.in_ok-array-in-Parted.ensures in
+    subst (λ m. TellsItems c.one-in-Parted.result m) (sym (whole' ∙ goes_on)) c.one-in-Parted.ensures
 
 pub evaluate-plain_value-requires : goal.evaluate-plain_value-requires
 evaluate-plain_value-requires t c = plain_rest c.args.right.now c.in_default.not-If c.in_default.not-Loop c.in_default.not-Call c.in_default.not-With c.in_default.not-Parted
@@ -261,8 +277,8 @@ evaluate-returns-in_ok-array-in_default t c =
     let meant = right_in ctx (right_term c.args.right.now) s env in
     let value = plain_in (right_term c.args.right.now) s env in
     let whole' = plain_means ctx (right_term c.args.right.now) s env (plain_rest c.args.right.now c.in_default.not-If c.in_default.not-Loop c.in_default.not-Call c.in_default.not-With c.in_default.not-Parted) in
-    let then = value_then value (λ a. Ok (a ∷ [])) (c.in_ok-array-in_default).array (c.in_ok-array-in_default).ensures in
-    subst (λ m. TellsItems c.one-in_default.result m) (sym (whole' ∙ then)) c.one-in_default.ensures
+    let goes_on = value_then value (λ a. Ok (a ∷ [])) (c.in_ok-array-in_default).array (c.in_ok-array-in_default).ensures in
+    subst (λ m. TellsItems c.one-in_default.result m) (sym (whole' ∙ goes_on)) c.one-in_default.ensures
 
 pub run_loop-run_turn-requires : goal.run_loop-run_turn-requires
 run_loop-run_turn-requires t c = (omega (arith, c.decreases), (c.requires.0, c.requires.1.1))
@@ -309,9 +325,9 @@ run_loop-returns-in_ok-values t c =
     let test' = λ (vs : List ArrayValue). first (turn_in ctx params T env vs) in
     let body' = turn_in ctx params B env in
     let whole' = ap (λ b. loop_in ctx b site test_site params T B env vs) c.if-first_body.true in
-    let same : c.saturating_sub.result ≡ ctx.turns - 1 = search rules in
-    let then = value_then (body' vs) (repeat (ctx.turns - 1) site test_site test' body') c.in_ok-values.values.items (ap body' (sym c.deref.ensures.value) ∙ c.in_ok-values.ensures) in
-    subst (λ m. TellsItems c.repeat.result m) (ap (λ n. repeat n site test_site test' body' c.in_ok-values.values.items) same ∙ sym (whole' ∙ then)) c.repeat.ensures
+    let same : c.saturating_sub-left.result ≡ ctx.turns - 1 = search rules in
+    let goes_on = value_then (body' vs) (repeat (ctx.turns - 1) site test_site test' body') c.in_ok-values.values.items (ap body' (sym c.deref.ensures.value) ∙ c.in_ok-values.ensures) in
+    subst (λ m. TellsItems c.repeat.result m) (ap (λ n. repeat n site test_site test' body' c.in_ok-values.values.items) same ∙ sym (whole' ∙ goes_on)) c.repeat.ensures
 
 pub run_loop-returns-else-first_body : goal.run_loop-returns-else-first_body
 run_loop-returns-else-first_body t c =
@@ -364,34 +380,38 @@ run_test-returns t c =
     let meant = test_in ctx a.turns.now.params.now (block_term a.test.now) site (env_of a.env.now) a.values.now in
     let vs = c.in_ok-results.results.items in
     let one' = value_then turn (λ vs. Ok (first_result vs)) vs c.in_ok-results.ensures in
-    let then = value_then (first turn) (λ v. choose site (condition v) (Ok true) (Ok false)) (first_result vs) one' in
+    let goes_on = value_then (first turn) (λ v. choose site (condition v) (Ok true) (Ok false)) (first_result vs) one' in
     let same = ap (λ v. choose site (condition v) (Ok true) (Ok false)) (sym c.in_ok-said.ensures) in
-    subst (λ m. Tells c.condition_at.result m) (sym (then ∙ same)) (condition_tells c.condition_at.result site (condition c.in_ok-said.said) c.condition_at.ensures)
+    subst (λ m. Tells c.condition_at.result m) (sym (goes_on ∙ same)) (condition_tells c.condition_at.result site (condition c.in_ok-said.said) c.condition_at.ensures)
 
 pub run_at-run_function-requires : goal.run_at-run_function-requires
 run_at-run_function-requires t c =
-    let fs = c.args.context.now.core.now.functions.items in
-    let d = c.index-context-place.result in
-    let h = rank_falls_inline c.args.context.now.left c.args.context.now.nest fs (omega (arith, c.if-nest-eq0.false)) in
-    let b = body_below fs c.args.place d c.requires.1 in
-    (omega (arith, h, b, c.decreases), (c.requires.0, fits_function fs c.args.place d c.requires.1 c.requires.0))
+    let ctx = c.args.context.now in
+    let fs = ctx.core.now.functions.items in
+    let f = c.index-function.result.now in
+    let falls = falls_inline ctx (omega (arith, c.if-nest-eq0.false)) in
+    let body = body_below fs c.args.place f c.requires.1 in
+    (omega (arith, falls, body, ap body_size c.index-function.ensures, c.decreases),
+      (c.requires.0, subst (λ (f : CoreFun). FitsBlock (block_term f.body)) (sym c.index-function.ensures) (fits_function fs c.args.place f c.requires.1 c.requires.0)))
 
 pub run_at-run_function-requires-else-function : goal.run_at-run_function-requires-else-function
 run_at-run_function-requires-else-function t c =
-    let fs = c.args.context.now.core.now.functions.items in
-    let d = c.index-context-place.result in
-    let h = rank_falls c.args.context.now.left c.args.context.now.nest fs (omega (arith, c.if-left-eq0.false)) in
-    let b = body_below fs c.args.place d c.requires.1 in
-    (omega (arith, h, b, c.decreases), (c.requires.0, fits_function fs c.args.place d c.requires.1 c.requires.0))
+    let ctx = c.args.context.now in
+    let fs = ctx.core.now.functions.items in
+    let f = c.index-function.result.now in
+    let count : c.len-nest.result ≡ length fs = omega (arith, c.len-nest.ensures, ctx.core.now.functions.ok.0) in
+    let falls = falls_deeper ctx c.len-nest.result count (omega (arith, c.if-left-eq0.false)) in
+    let body = body_below fs c.args.place f c.requires.1 in
+    (omega (arith, falls, body, ap body_size c.index-function.ensures, c.decreases),
+      (c.requires.0, subst (λ (f : CoreFun). FitsBlock (block_term f.body)) (sym c.index-function.ensures) (fits_function fs c.args.place f c.requires.1 c.requires.0)))
 
 pub run_at-returns-then-nest-eq0 : goal.run_at-returns-then-nest-eq0
 run_at-returns-then-nest-eq0 t c =
     let ctx = c.args.context.now in
     let core = core_term ctx.core.now in
     let fs = ctx.core.now.functions.items in
-    let d = c.index-context-place.result in
-    let here = function_at fs c.args.place d c.requires.1 in
-    let f = get_or fs c.args.place d in
+    let f = c.index-function.result.now in
+    let here = function_at fs c.args.place f c.requires.1 ∙ ap (λ (f : CoreFun). Some (fun_term f)) (sym c.index-function.ensures) in
     let outer = run_deeper core ctx.turns ctx.left in
     let inner = run_inline core ctx.turns outer ctx.nest in
     rw c.fault.ensures (too_nested core ctx.turns c.args.place (fun_term f) c.args.args.items c.args.site here outer ctx.nest (omega (arith, c.if-nest-eq0.true)) c.if-function.true)
@@ -401,9 +421,8 @@ run_at-returns-then-left-eq0 t c =
     let ctx = c.args.context.now in
     let core = core_term ctx.core.now in
     let fs = ctx.core.now.functions.items in
-    let d = c.index-context-place.result in
-    let here = function_at fs c.args.place d c.requires.1 in
-    let f = get_or fs c.args.place d in
+    let f = c.index-function.result.now in
+    let here = function_at fs c.args.place f c.requires.1 ∙ ap (λ (f : CoreFun). Some (fun_term f)) (sym c.index-function.ensures) in
     let outer = run_deeper core ctx.turns ctx.left in
     let inner = run_inline core ctx.turns outer ctx.nest in
     rw c.fault-then-left-eq0.ensures (too_deep core ctx.turns c.args.place (fun_term f) c.args.args.items c.args.site here inner ctx.left (omega (arith, c.if-left-eq0.true)) c.if-function.false)
@@ -413,9 +432,8 @@ run_at-returns-else-nest-eq0 t c =
     let ctx = c.args.context.now in
     let core = core_term ctx.core.now in
     let fs = ctx.core.now.functions.items in
-    let d = c.index-context-place.result in
-    let here = function_at fs c.args.place d c.requires.1 in
-    let f = get_or fs c.args.place d in
+    let f = c.index-function.result.now in
+    let here = function_at fs c.args.place f c.requires.1 ∙ ap (λ (f : CoreFun). Some (fun_term f)) (sym c.index-function.ensures) in
     let outer = run_deeper core ctx.turns ctx.left in
     let inner = run_inline core ctx.turns outer ctx.nest in
     let meant = runs_inline core ctx.turns c.args.place (fun_term f) c.args.args.items c.args.site here outer ctx.nest (omega (arith, c.if-nest-eq0.false)) c.if-function.true in
@@ -426,12 +444,12 @@ run_at-returns-else-left-eq0 t c =
     let ctx = c.args.context.now in
     let core = core_term ctx.core.now in
     let fs = ctx.core.now.functions.items in
-    let d = c.index-context-place.result in
-    let here = function_at fs c.args.place d c.requires.1 in
-    let f = get_or fs c.args.place d in
+    let f = c.index-function.result.now in
+    let here = function_at fs c.args.place f c.requires.1 ∙ ap (λ (f : CoreFun). Some (fun_term f)) (sym c.index-function.ensures) in
     let outer = run_deeper core ctx.turns ctx.left in
     let inner = run_inline core ctx.turns outer ctx.nest in
-    let meant = runs_deeper core ctx.turns c.args.place (fun_term f) c.args.args.items c.args.site here inner ctx.left (length fs) (omega (arith, c.if-left-eq0.false)) (sym (length-map fs fun_term)) c.if-function.false in
+    let count : c.len-nest.result ≡ length fs = omega (arith, c.len-nest.ensures, ctx.core.now.functions.ok.0) in
+    let meant = runs_deeper core ctx.turns c.args.place (fun_term f) c.args.args.items c.args.site here inner ctx.left c.len-nest.result (omega (arith, c.if-left-eq0.false)) (count ∙ sym (length-map fs fun_term)) c.if-function.false in
     subst (λ m. TellsItems c.run_function-else-function.result m) (sym meant) c.run_function-else-function.ensures
 
 pub run_function-run_block-requires : goal.run_function-run_block-requires
@@ -466,9 +484,9 @@ run_function-returns t c =
     let ran = run_in ctx (block_term f.body) (env_of c.bind_params.new.env) in
     let whole' = ap (λ e. and_then (run_in ctx (block_term f.body) e) (results_in f.results.items f.ends)) start in
     let vs = c.in_ok-values.values.items in
-    let then = value_then ran (results_in f.results.items f.ends) vs c.in_ok-values.ensures in
+    let goes_on = value_then ran (results_in f.results.items f.ends) vs c.in_ok-values.ensures in
     let types = ap (λ types. results_in types f.ends vs) c.deref-2.ensures.value in
-    subst (λ m. TellsItems c.results_of.result m) (types ∙ sym then ∙ sym whole') c.results_of.ensures
+    subst (λ m. TellsItems c.results_of.result m) (types ∙ sym goes_on ∙ sym whole') c.results_of.ensures
 
 pub repeat-run_test-requires : goal.repeat-run_test-requires
 repeat-run_test-requires t c = (omega (arith, c.decreases), (c.requires.0, c.requires.1.0))
@@ -552,8 +570,8 @@ repeat-returns-in_err-values t c =
     let stop = c.in_err-values.field-0.0 in
     let is : c.from_residual-in_err-values.result ≡ Err stop = search rules in
     subst (λ r. TellsItems r whole') (sym is)
-    (same_stop stop (body' c.deref-2.result.now) whole'
-      (λ f h. sym c.loop-values.invariant ∙ goes ∙ fault_then (body' vs) (repeat (left - 1) site test_site test' body') f (ap body' (sym c.deref-2.ensures.value) ∙ h))
+    (same_stop stop (body' c.deref-in-loop-values.result.now) whole'
+      (λ f h. sym c.loop-values.invariant ∙ goes ∙ fault_then (body' vs) (repeat (left - 1) site test_site test' body') f (ap body' (sym c.deref-in-loop-values.ensures.value) ∙ h))
       c.in_err-values.ensures)
 
 pub repeat-loop-values-preserved : goal.repeat-loop-values-preserved
@@ -572,8 +590,8 @@ repeat-loop-values-preserved t c =
     let vs = c.loop-values.values.items in
     let whole' = repeat_in ctx a.most site test_site params T B env a.start.items in
     let goes = turn_goes site test_site test' body' left vs (omega (arith, c.if-left-eq0.false)) (ap (λ vs. said test_site (test' vs)) (sym c.deref.ensures.value) ∙ c.in_ok-run_test.ensures ∙ ap (λ b. Ok b) c.if-not-branch.false) in
-    let then = value_then (body' vs) (repeat (left - 1) site test_site test' body') c.in_ok-values.values.items (ap body' (sym c.deref-2.ensures.value) ∙ c.in_ok-values.ensures) in
-    sym (goes ∙ then) ∙ c.loop-values.invariant
+    let goes_on = value_then (body' vs) (repeat (left - 1) site test_site test' body') c.in_ok-values.values.items (ap body' (sym c.deref-in-loop-values.ensures.value) ∙ c.in_ok-values.ensures) in
+    sym (goes ∙ goes_on) ∙ c.loop-values.invariant
 
 pub held_cell-loop-i-preserved : goal.held_cell-loop-i-preserved
 held_cell-loop-i-preserved t c =
@@ -594,7 +612,11 @@ held_cell-returns-clause-told t c =
 
 pub held_cell-checked_cell-requires : goal.held_cell-checked_cell-requires
 held_cell-checked_cell-requires t c =
-    (omega (arith, c.decreases), (c.requires.0, fits_gen c.args.gens.now c.loop-i.i c.index-gens-i.result (omega (arith, c.loop-i-test.true, c.min-i-end.ensures)) c.requires.1))
+    let gs = c.args.gens.now in
+    let k = c.loop-i.i in
+    let g = c.index-gens-i.result in
+    let inside : k < length gs = omega (arith, c.loop-i-test.true, c.min-i-end.ensures) in
+    (omega (arith, c.decreases, gen_below gs k g inside, ap size-CoreGen c.index-gens-i.is), (c.requires.0, subst FitsGen (sym c.index-gens-i.is) (fits_gen gs k g inside c.requires.1)))
 
 pub checked_cell-cell_at-requires : goal.checked_cell-cell_at-requires
 checked_cell-cell_at-requires t c = (omega (arith, c.decreases), c.requires)
@@ -692,18 +714,15 @@ fold_cells-loop-place-preserved t c =
     (λ rest. ap (λ v. Ok (fold (combined a.op) v rest)) value) c.loop-place.invariant
 
 pub cell_at-run_block-requires : goal.cell_at-run_block-requires
-cell_at-run_block-requires t c = (omega (arith, c.decreases), c.requires)
+cell_at-run_block-requires t c = (omega (arith, c.decreases, gen_body c.args.g.now), (c.requires.0, subst FitsBlock (gen_body_term c.args.g.now) c.requires.1))
 
 pub cell_at-returns-in_err-results : goal.cell_at-returns-in_err-results
 cell_at-returns-in_err-results t c =
     let a = c.args in
     let ctx = a.context.now in
     let g = a.g.now in
-    let start =
-      (λ j. bind_all (bind (sym (no_inner_bindings a.env c.new.result c.new.ensures.items) j) (gen_term g).head.index (vector Int a.index.now)) (sym c.deref.ensures.value j) (map (scalar Int) a.index.now))
-      ∙ same_value _ _ c.in_ok-bind_index.ensures in
-    let ran = run_in ctx (gen_term g).body (env_of c.bind_index.new.env) in
-    let whole' = ap (λ e. first (run_in ctx (gen_term g).body e)) start in
+    let ran = run_in ctx (block_term (out-CoreGen g).body) (env_of c.bind_index.new.env) in
+    let whole' = cell_runs ctx a.env c.new.result c.new.ensures.items a.index.now (env_of c.bind_index.new.env) g c.deref.result.now c.deref.ensures.value c.in_ok-bind_index.ensures in
     let meant = cell_in ctx g a.index.now (env_of a.env.now) in
     let stop = c.in_err-results.field-0.0 in
     let is : c.from_residual-in_err-results.result ≡ Err stop = search rules in
@@ -715,28 +734,21 @@ cell_at-returns t c =
     let a = c.args in
     let ctx = a.context.now in
     let g = a.g.now in
-    let start =
-      (λ j. bind_all (bind (sym (no_inner_bindings a.env c.new.result c.new.ensures.items) j) (gen_term g).head.index (vector Int a.index.now)) (sym c.deref.ensures.value j) (map (scalar Int) a.index.now))
-      ∙ same_value _ _ c.in_ok-bind_index.ensures in
-    let ran = run_in ctx (gen_term g).body (env_of c.bind_index.new.env) in
-    let whole' = ap (λ e. first (run_in ctx (gen_term g).body e)) start in
-    let meant = cell_in ctx g a.index.now (env_of a.env.now) in
+    let ran = run_in ctx (block_term (out-CoreGen g).body) (env_of c.bind_index.new.env) in
+    let whole' = cell_runs ctx a.env c.new.result c.new.ensures.items a.index.now (env_of c.bind_index.new.env) g c.deref.result.now c.deref.ensures.value c.in_ok-bind_index.ensures in
     whole' ∙ value_then ran (λ vs. Ok (first_result vs)) c.in_ok-results.results.items c.in_ok-results.ensures ∙ ap (λ v. Ok v) (sym c.in_ok-cell.ensures)
 
 pub cell_of_part-run_block-requires : goal.cell_of_part-run_block-requires
-cell_of_part-run_block-requires t c = (omega (arith, c.decreases), c.requires)
+cell_of_part-run_block-requires t c = (omega (arith, c.decreases, part_body c.args.part.now), (c.requires.0, subst FitsBlock (part_body_term c.args.part.now) c.requires.1))
 
 pub cell_of_part-returns-in_err-results : goal.cell_of_part-returns-in_err-results
 cell_of_part-returns-in_err-results t c =
     let a = c.args in
     let ctx = a.context.now in
-    let g = a.part.now in
-    let start =
-      (λ j. bind (sym (no_inner_bindings a.env c.new.result c.new.ensures.items) j) (part_term g).head.index (vector Int a.index.now))
-      ∙ same_value _ _ c.in_ok-bind_index.ensures in
-    let ran = run_in ctx (part_term g).body (env_of c.bind_index.new.env) in
-    let whole' = ap (λ e. first (run_in ctx (part_term g).body e)) start in
-    let meant = part_cell_in ctx g a.index.now (env_of a.env.now) in
+    let p = a.part.now in
+    let ran = run_in ctx (block_term (out-CorePart p).body) (env_of c.bind_index.new.env) in
+    let whole' = part_runs ctx a.env c.new.result c.new.ensures.items a.index.now (env_of c.bind_index.new.env) p c.in_ok-bind_index.ensures in
+    let meant = part_cell_in ctx p a.index.now (env_of a.env.now) in
     let stop = c.in_err-results.field-0.0 in
     let is : c.from_residual-in_err-results.result ≡ Err stop = search rules in
     subst (λ r. Tells r meant) (sym is)
@@ -746,13 +758,9 @@ pub cell_of_part-returns : goal.cell_of_part-returns
 cell_of_part-returns t c =
     let a = c.args in
     let ctx = a.context.now in
-    let g = a.part.now in
-    let start =
-      (λ j. bind (sym (no_inner_bindings a.env c.new.result c.new.ensures.items) j) (part_term g).head.index (vector Int a.index.now))
-      ∙ same_value _ _ c.in_ok-bind_index.ensures in
-    let ran = run_in ctx (part_term g).body (env_of c.bind_index.new.env) in
-    let whole' = ap (λ e. first (run_in ctx (part_term g).body e)) start in
-    let meant = part_cell_in ctx g a.index.now (env_of a.env.now) in
+    let p = a.part.now in
+    let ran = run_in ctx (block_term (out-CorePart p).body) (env_of c.bind_index.new.env) in
+    let whole' = part_runs ctx a.env c.new.result c.new.ensures.items a.index.now (env_of c.bind_index.new.env) p c.in_ok-bind_index.ensures in
     whole' ∙ value_then ran (λ vs. Ok (first_result vs)) c.in_ok-results.results.items c.in_ok-results.ensures ∙ ap (λ v. Ok v) (sym c.in_ok-cell.ensures)
 
 pub fold_parts-part_cell-requires : goal.fold_parts-part_cell-requires
@@ -807,8 +815,8 @@ join_parts-of_grid-requires-clause-most t c = c.requires.1.1.dense.most
 pub join_parts-of_grid-requires-clause-words : goal.join_parts-of_grid-requires-clause-words
 join_parts-of_grid-requires-clause-words t c = c.requires.1.1.dense.words
 
-pub join_parts-joined_shape-requires : goal.join_parts-joined_shape-requires
-join_parts-joined_shape-requires t c = c.requires.1.1.result
+pub join_parts-joined_shape-shape-requires : goal.join_parts-joined_shape-shape-requires
+join_parts-joined_shape-shape-requires t c = c.requires.1.1.result
 
 pub join_parts-returns-in_err-cell : goal.join_parts-returns-in_err-cell
 join_parts-returns-in_err-cell t c =
@@ -866,7 +874,7 @@ join_parts-loop-place-preserved t c =
         (λ rest. ap (λ (zs : List ℤ). Ok (record { base = form.base; shape = shape; cells = zs }))
           (sym (append_assoc items (elements_of cell) (joined form.base shape rest).cells) ∙ ap (λ zs. zs ++ (joined form.base shape rest).cells) (sym added)))
         c.loop-place.invariant.told;
-      count = grown items c.append.new.cells.items cell k (size form.shape) added c.in_ok-cell.ensures.sized (λ o. some (subst (λ o. IfNone o _) o c.in_ok-cell.ensures.none)) c.loop-place.invariant.count;
+      count = grown items c.append.new.cells.items cell k (size form.shape) added c.in_ok-cell.ensures.sized (λ o. some (subst (λ o. IfNone o (All (λ (p : CorePart). has_vector (part_term p).head.grid c.index.new.into ≡ false) ps)) o c.in_ok-cell.ensures.none)) c.loop-place.invariant.count;
     }
 
 pub join_parts-new-requires-clause-full : goal.join_parts-new-requires-clause-full
@@ -900,11 +908,15 @@ join_parts-returns t c =
     ends
     ∙ ap (λ (zs : List ℤ). Ok (record { base = form.base; shape = shape; cells = zs })) (append-nil items)
     ∙ ap (λ s. Ok (record { base = form.base; shape = s; cells = items })) (sym c.joined_shape-shape.ensures)
-    ∙ ap (λ (x : ArrayValue). Ok x) (sym c.new-2.ensures)
+    ∙ ap (λ (x : ArrayValue). Ok x) (sym c.new.ensures)
 
 pub part_cell-cell_of_part-requires : goal.part_cell-cell_of_part-requires
 part_cell-cell_of_part-requires t c =
-    (omega (arith, c.decreases), (c.requires.0, subst FitsPart (sym c.part-item.is) (fits_part c.args.parts.now c.loop-part.part-index c.part-item.result c.loop-part-test.true c.requires.1)))
+    let ps = c.args.parts.now in
+    let k = c.loop-part.part-index in
+    let p = c.part-item.result in
+    let h = c.loop-part-test.true in
+    (omega (arith, c.decreases, part_below ps k p h, ap size-CorePart c.part-item.is), (c.requires.0, subst FitsPart (sym c.part-item.is) (fits_part ps k p h c.requires.1)))
 
 pub part_cell-loop-part-preserved : goal.part_cell-loop-part-preserved
 part_cell-loop-part-preserved t c =
@@ -915,11 +927,192 @@ part_cell-loop-part-preserved t c =
     let v = a.index.now in
     let form = a.form.now in
     let k = c.loop-part.part-index in
-    let part = c.part-item.result in
+    let p = c.part-item.result in
     let h = c.loop-part-test.true in
-    let fails : has_vector (part_term (get_or ps k part)).head.grid v ≡ false = ap (λ p. has_vector (part_term p).head.grid v) (sym c.part-item.is) ∙ sym c.holds_index.ensures ∙ c.if-holds_index.false in
+    let fails : has_vector (part_term (get_or ps k p)).head.grid v ≡ false =
+      ap (λ p. has_vector (part_term p).head.grid v) (sym c.part-item.is) ∙ (λ j. has_vector (part_grid p j) (sym c.components.ensures.value j)) ∙ sym c.holds_index.ensures ∙ c.if-holds_index.false in
     record {
-      told = part_next ctx env ps v form k part h fails ∙ c.loop-part.invariant.told;
-      none = ?;
+      told = part_next ctx env ps v form k p h fails ∙ c.loop-part.invariant.told;
+      none = All-more (λ (p : CorePart). has_vector (part_term p).head.grid v ≡ false) ps k p h c.loop-part.invariant.none fails;
     }
 
+pub part_cell-returns : goal.part_cell-returns
+part_cell-returns t c =
+    let a = c.args in
+    let ps = a.parts.now in
+    let k = c.loop-part.part-index in
+    let past : length ps ≤ k = omega (arith, c.loop-part-test.false) in
+    record {
+      told = sym c.loop-part.invariant.told ∙ ap (λ (qs : List CorePart). part_held_in a.context.now qs a.index.now a.form.now (env_of a.env.now)) (drop_all k ps past);
+      sized = tt;
+      none = subst (All (λ (p : CorePart). has_vector (part_term p).head.grid a.index.now ≡ false)) (take_all k ps past) c.loop-part.invariant.none;
+    }
+
+pub run_block-loop-binding-init : goal.run_block-loop-binding-init
+run_block-loop-binding-init t c =
+    let ctx = c.args.context.now in
+    let b = c.args.block.now in
+    let e = env_of c.args.env.now in
+    ap (λ ls. run_in ctx (chain (map let_term ls) (Gives (out-Block b).results.items)) e) c.deref-binding-items.ensures.value ∙ ap (λ t. run_in ctx t e) (sym (block_out b))
+
+pub run_with-array_cells-requires : goal.run_with-array_cells-requires
+run_with-array_cells-requires t c =
+    let w = c.args.with.now in
+    let gens = c.deref-in-Genarray-2.ensures.value in
+    (omega (arith, c.decreases, gens_below w, ap gens_size gens), (c.requires.0, (subst FitsGens (sym gens) (fits_gens w c.requires.1), c.in_ok-plan-in-Genarray.ensures.full)))
+
+pub run_with-array_cells-requires-in-Modarray : goal.run_with-array_cells-requires-in-Modarray
+run_with-array_cells-requires-in-Modarray t c =
+    let w = c.args.with.now in
+    let gens = c.deref-in-Modarray-2.ensures.value in
+    (omega (arith, c.decreases, gens_below w, ap gens_size gens), (c.requires.0, (subst FitsGens (sym gens) (fits_gens w c.requires.1), c.in_ok-plan-in-Modarray.ensures.full)))
+
+pub run_with-fold_cells-requires : goal.run_with-fold_cells-requires
+run_with-fold_cells-requires t c =
+    let w = c.args.with.now in
+    let gens = c.deref-in-Fold-2.ensures.value in
+    (omega (arith, c.decreases, gens_below w, ap gens_size gens), (c.requires.0, subst FitsGens (sym gens) (fits_gens w c.requires.1)))
+
+pub run_with-returns-in_err-plan-in-Genarray : goal.run_with-returns-in_err-plan-in-Genarray
+run_with-returns-in_err-plan-in-Genarray t c =
+    let a = c.args in
+    let w = a.with.now in
+    let i = c.in-Genarray in
+    let ctx = a.context.now in
+    let env = env_of a.env.now in
+    let gs = (out-WithLoop w).gens.items in
+    let op = (out-WithLoop w).op in
+    let bs = c.deref-in-Genarray.result.now in
+    let same = c.deref-in-Genarray.ensures.value ∙ c.in_ok-bounds.ensures ∙ ap (map (bounds_in env)) c.deref.ensures.value in
+    let stop = c.in_err-plan-in-Genarray.field-0.0 in
+    let is : c.from_residual-in_err-plan-in-Genarray.result ≡ Err stop = search rules in
+    let meant = with_value (map (generator_of ctx env) gs) (operation op a.site env) in
+    subst (λ r. Tells r meant) (sym is) (genarray_stops ctx env gs a.site bs same op c.lookup.result.now c.lookup-default.result.now i.shape i.default i.is c.lookup.ensures c.lookup-default.ensures stop c.in_err-plan-in-Genarray.ensures.told)
+
+pub run_with-returns-in_err-plan-in-Modarray : goal.run_with-returns-in_err-plan-in-Modarray
+run_with-returns-in_err-plan-in-Modarray t c =
+    let a = c.args in
+    let w = a.with.now in
+    let i = c.in-Modarray in
+    let ctx = a.context.now in
+    let env = env_of a.env.now in
+    let gs = (out-WithLoop w).gens.items in
+    let op = (out-WithLoop w).op in
+    let bs = c.deref-in-Modarray.result.now in
+    let same = c.deref-in-Modarray.ensures.value ∙ c.in_ok-bounds.ensures ∙ ap (map (bounds_in env)) c.deref.ensures.value in
+    let stop = c.in_err-plan-in-Modarray.field-0.0 in
+    let is : c.from_residual-in_err-plan-in-Modarray.result ≡ Err stop = search rules in
+    let meant = with_value (map (generator_of ctx env) gs) (operation op a.site env) in
+    subst (λ r. Tells r meant) (sym is) (modarray_stops ctx env gs a.site bs same op c.lookup-array.result.now i.array i.is c.lookup-array.ensures stop c.in_err-plan-in-Modarray.ensures.told)
+
+pub run_with-returns-in_err-plan-in-Fold : goal.run_with-returns-in_err-plan-in-Fold
+run_with-returns-in_err-plan-in-Fold t c =
+    let a = c.args in
+    let w = a.with.now in
+    let i = c.in-Fold in
+    let ctx = a.context.now in
+    let env = env_of a.env.now in
+    let gs = (out-WithLoop w).gens.items in
+    let op = (out-WithLoop w).op in
+    let bs = c.deref-in-Fold.result.now in
+    let same = c.deref-in-Fold.ensures.value ∙ c.in_ok-bounds.ensures ∙ ap (map (bounds_in env)) c.deref.ensures.value in
+    let neutral = c.in_ok-neutral-in-Fold.neutral in
+    let stop = c.in_err-plan-in-Fold.field-0.0 in
+    let is : c.from_residual-in_err-plan-in-Fold.result ≡ Err stop = search rules in
+    let meant = with_value (map (generator_of ctx env) gs) (operation op a.site env) in
+    subst (λ r. Tells r meant) (sym is) (fold_stops ctx env gs a.site bs same op i.op neutral i.neutral i.is (c.in_ok-neutral-in-Fold.ensures ∙ c.lookup-in-Fold.ensures) stop c.in_err-plan-in-Fold.ensures)
+
+pub run_with-returns-in-Genarray : goal.run_with-returns-in-Genarray
+run_with-returns-in-Genarray t c =
+    let a = c.args in
+    let w = a.with.now in
+    let i = c.in-Genarray in
+    let ctx = a.context.now in
+    let env = env_of a.env.now in
+    let gs = (out-WithLoop w).gens.items in
+    let op = (out-WithLoop w).op in
+    let bs = c.deref-in-Genarray.result.now in
+    let same = c.deref-in-Genarray.ensures.value ∙ c.in_ok-bounds.ensures ∙ ap (map (bounds_in env)) c.deref.ensures.value in
+    let p = plan_of c.in_ok-plan-in-Genarray.plan in
+    let told = genarray_tells ctx env gs a.site bs same op c.lookup.result.now c.lookup-default.result.now i.shape i.default i.is c.lookup.ensures c.lookup-default.ensures p c.in_ok-plan-in-Genarray.ensures.told in
+    let gens = ap (λ (gs : List CoreGen). and_then (cells_in ctx gs p.ranges p.indices p.form env) (λ found. Ok (array_from false c.lookup-default.result.now p found))) c.deref-in-Genarray-2.ensures.value in
+    subst (λ m. Tells c.array_cells.result m) (gens ∙ told) c.array_cells.ensures
+
+pub run_with-returns-in-Modarray : goal.run_with-returns-in-Modarray
+run_with-returns-in-Modarray t c =
+    let a = c.args in
+    let w = a.with.now in
+    let i = c.in-Modarray in
+    let ctx = a.context.now in
+    let env = env_of a.env.now in
+    let gs = (out-WithLoop w).gens.items in
+    let op = (out-WithLoop w).op in
+    let bs = c.deref-in-Modarray.result.now in
+    let same = c.deref-in-Modarray.ensures.value ∙ c.in_ok-bounds.ensures ∙ ap (map (bounds_in env)) c.deref.ensures.value in
+    let p = plan_of c.in_ok-plan-in-Modarray.plan in
+    let told = modarray_tells ctx env gs a.site bs same op c.lookup-array.result.now i.array i.is c.lookup-array.ensures p c.in_ok-plan-in-Modarray.ensures.told in
+    let gens = ap (λ (gs : List CoreGen). and_then (cells_in ctx gs p.ranges p.indices p.form env) (λ found. Ok (array_from true c.lookup-array.result.now p found))) c.deref-in-Modarray-2.ensures.value in
+    subst (λ m. Tells c.array_cells-in-Modarray.result m) (gens ∙ told) c.array_cells-in-Modarray.ensures
+
+pub run_with-returns : goal.run_with-returns
+run_with-returns t c =
+    let a = c.args in
+    let w = a.with.now in
+    let i = c.in-Fold in
+    let ctx = a.context.now in
+    let env = env_of a.env.now in
+    let gs = (out-WithLoop w).gens.items in
+    let op = (out-WithLoop w).op in
+    let bs = c.deref-in-Fold.result.now in
+    let same = c.deref-in-Fold.ensures.value ∙ c.in_ok-bounds.ensures ∙ ap (map (bounds_in env)) c.deref.ensures.value in
+    let neutral = c.in_ok-neutral-in-Fold.neutral in
+    let p = plan_of c.in_ok-plan-in-Fold.plan in
+    let told = fold_tells ctx env gs a.site bs same op i.op neutral i.neutral i.is (c.in_ok-neutral-in-Fold.ensures ∙ c.lookup-in-Fold.ensures) p c.in_ok-plan-in-Fold.ensures in
+    let gens = ap (λ (gs : List CoreGen). and_then (cells_in ctx gs p.ranges p.indices p.form env) (λ found. Ok (fold (combined i.op) neutral found))) c.deref-in-Fold-2.ensures.value in
+    subst (λ m. Tells c.fold_cells.result m) (gens ∙ told) c.fold_cells.ensures
+
+pub run_parted-fold_parts-requires : goal.run_parted-fold_parts-requires
+run_parted-fold_parts-requires t c =
+    let p = c.args.parted.now in
+    let parts = c.deref.ensures.value in
+    let fits = fits_parts p c.requires.1 in
+    (omega (arith, c.decreases, parts_below p, ap parts_size parts), (c.requires.0, subst FitsParts (sym parts) fits.1))
+
+pub run_parted-join_parts-requires : goal.run_parted-join_parts-requires
+run_parted-join_parts-requires t c =
+    let p = c.args.parted.now in
+    let o = out-PartedLoop p in
+    let parts = c.deref-in_default.ensures.value in
+    let fits = fits_parts p c.requires.1 in
+    let joins = fits_joined o.op o.frame o.cell (grids_of o.parts.items) c.in_default.not-Fold fits.0 in
+    let same = subst (λ ps. IsJoined o.frame o.cell (grids_of ps)) (sym parts) joins in
+    (omega (arith, c.decreases, parts_below p, ap parts_size parts),
+      (c.requires.0, (subst FitsParts (sym parts) fits.1, subst (λ cell. IsJoined o.frame cell (grids_of c.deref-in_default.result.now)) (sym c.copy.ensures) same)))
+
+pub run_parted-returns-in-Fold : goal.run_parted-returns-in-Fold
+run_parted-returns-in-Fold t c =
+    let a = c.args in
+    let i = c.in-Fold in
+    let o = out-PartedLoop a.parted.now in
+    let ctx = a.context.now in
+    let env = env_of a.env.now in
+    let neutral = c.in_ok-neutral-in-Fold.neutral in
+    let shape : c.copy.result ≡ o.cell = c.copy.ensures in
+    let parts : c.deref.result.now ≡ o.parts.items = c.deref.ensures.value in
+    let frame : c.in_ok-frame-in-Fold.frame ≡ members o.frame = c.in_ok-frame-in-Fold.ensures in
+    let fits : same_form neutral (cell_form o.base o.cell) ≡ true = ap (λ cell. same_form neutral (cell_form o.base cell)) (sym shape) ∙ sym c.fits_form.ensures.told ∙ c.if-not-fits_form.false in
+    let whole' = parted_folds o.frame o.base o.cell (map (part_of ctx env) o.parts.items) a.site env o.op i.op i.neutral neutral i.is (c.in_ok-neutral-in-Fold.ensures ∙ c.lookup.ensures) fits in
+    let same = folds_same ctx env c.deref.result.now o.parts.items c.in_ok-frame-in-Fold.frame (members o.frame) o.base c.copy.result o.cell parts frame shape i.op neutral in
+    subst (λ m. Tells c.fold_parts.result m) (same ∙ sym whole') c.fold_parts.ensures
+
+pub run_parted-returns : goal.run_parted-returns
+run_parted-returns t c =
+    let a = c.args in
+    let o = out-PartedLoop a.parted.now in
+    let ctx = a.context.now in
+    let env = env_of a.env.now in
+    let shape : c.copy.result ≡ o.cell = c.copy.ensures in
+    let parts : c.deref-in_default.result.now ≡ o.parts.items = c.deref-in_default.ensures.value in
+    let whole' = parted_joins o.frame o.base o.cell (map (part_of ctx env) o.parts.items) a.site env o.op c.in_default.not-Fold in
+    let same = joins_same ctx env c.deref-in_default.result.now o.parts.items (members o.frame) (members o.frame) o.base c.copy.result o.cell parts refl shape o.frame in
+    subst (λ m. Tells c.join_parts.result m) (same ∙ sym whole') c.join_parts.ensures

@@ -1,4 +1,4 @@
-use Rattle.std.proofs.Common.{◌≡◌, ◌++◌, ◌+◌, ◌*◌, ℕ, ◌<◌, get_or, false, max, Ok, map, drop, length}
+use Rattle.std.proofs.Common.{◌≡◌, ◌++◌, ◌+◌, ◌*◌, ℕ, ◌<◌, get_or, false, max, Ok, map, drop, take, length, All}
 use Rattle.std.specs.Prelude.{fold}
 use Rattle.sac_base.specs.Arrays.{size}
 use Rattle.sac_base.specs.Grids.{has_vector, members}
@@ -28,7 +28,7 @@ abbrev pub decreases-run_inner : goal.decreases-run_inner
 decreases-run_inner l = rank_of l.context.now + 8 * size-Block l.block.now + 2
 
 abbrev pub decreases-run_let : goal.decreases-run_let
-decreases-run_let l = rank_of l.context.now + 8 * size-Let l.binding.now + 3
+decreases-run_let l = rank_of l.context.now + 8 * size-Let l.binding.now + 4
 
 abbrev pub decreases-evaluate : goal.decreases-evaluate
 decreases-evaluate l = rank_of l.context.now + 8 * size-Right l.right.now + 3
@@ -126,7 +126,7 @@ invariant-fold_parts-loop-place l =
 abbrev pub invariant-part_cell-loop-part : goal.invariant-part_cell-loop-part
 invariant-part_cell-loop-part l = record {
   told : part_held_in l.context (drop l.part-index l.parts) l.index l.form (env_of l.env) ≡ part_held_in l.context l.parts l.index l.form (env_of l.env);
-  none : (k : ℕ) (d : CorePart) → k < l.part-index → has_vector (part_term (get_or l.parts k d)).head.grid l.index ≡ false;
+  none : All (λ (p : CorePart). has_vector (part_term p).head.grid l.index ≡ false) (take l.part-index l.parts);
 }
 
 abbrev pub invariant-repeat-loop-values : goal.invariant-repeat-loop-values
