@@ -1,10 +1,8 @@
 -- One step of a block, and what fits in a tree that fits.
-use Rattle.std.proofs.Common.{◌≡◌, ℕ, zero, suc, ◌+◌, ◌<◌, List, [], ◌∷◌, length, get_or, drop, map, refl, sym, ap, ◌∙◌, subst, arith, Some, None, Ok, Err, Vec, Global, All}
+use Rattle.std.proofs.Common.{◌≡◌, ℕ, zero, suc, ◌+◌, ◌<◌, List, [], ◌∷◌, length, get_or, drop, map, ap, ◌∙◌, subst, arith, Some, None, Ok, Err, Vec, Global, All}
 use Rattle.std.specs.Borrow.{Bor}
 use Rattle.std.proofs.lemmas.List.{drop_more, length-map}
 use Rattle.sac_base.specs.declared.fault.Fault.{Fault}
-use Rattle.sac_base.specs.declared.site.Site.{Site}
-use Rattle.sac_base.specs.Arrays.{ArrayValue}
 use Rattle.sac_base.specs.Outcomes.{Ends, and_then}
 use Rattle.core_ir.specs.declared.tree.Block.{Block, out-Block}
 use Rattle.core_ir.specs.declared.tree.CoreFun.{CoreFun}

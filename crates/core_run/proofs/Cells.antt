@@ -1,17 +1,14 @@
 -- The cells of generators and parts, from their bodies.
-use Rattle.std.proofs.Common.{◌≡◌, List, [], map, refl, sym, ap, ◌∙◌, Ok, Some, Vec, Global, false}
+use Rattle.std.proofs.Common.{◌≡◌, List, [], map, sym, ap, ◌∙◌, Ok, Some, Vec, Global}
 use Rattle.std.specs.Prelude.{ℤ}
 use Rattle.std.specs.Borrow.{Bor}
 use Rattle.sac_base.specs.declared.base.Base.TheVariants.{Int}
-use Rattle.sac_base.specs.declared.grid.Grid1.{Grid1}
 use Rattle.sac_base.specs.Arrays.{scalar, vector}
-use Rattle.sac_base.specs.Grids.{has_vector}
 use Rattle.sac_base.specs.Outcomes.{Ends}
 use Rattle.core_ir.specs.declared.tree.CoreGen.{CoreGen, CoreGen', out-CoreGen, outs-CoreGen'}
 use Rattle.core_ir.specs.declared.tree.CorePart.{CorePart, CorePart', out-CorePart, outs-CorePart'}
 use Rattle.core_ir.specs.declared.tree.Var.{Var}
 use Rattle.core_ir.specs.Meaning.{Env, bind, bind_all, first}
-use Rattle.core_ir.specs.Terms.{GenTerm, PartTerm}
 use Rattle.core_ir.specs.View.{block_term, gen_term, part_term}
 use Rattle.core_run.specs.declared.evaluate.Context.{Context}
 use Rattle.core_run.specs.declared.environment.Binding.{Binding}

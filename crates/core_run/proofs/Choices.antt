@@ -1,5 +1,5 @@
 -- The choice of a function among places.
-use Rattle.std.proofs.Common.{◌≡◌, ℕ, zero, suc, ◌+◌, ◌<◌, ◌≤◌, List, [], ◌∷◌, ◌++◌, length, get_or, drop, map, Bool, true, false, refl, sym, ap, ◌∙◌, arith, Option, Some, None}
+use Rattle.std.proofs.Common.{◌≡◌, ℕ, zero, suc, ◌+◌, ◌<◌, ◌≤◌, List, [], ◌∷◌, ◌++◌, length, get_or, drop, map, true, false, refl, sym, ap, ◌∙◌, arith, Option, Some, None}
 use Rattle.std.specs.Prelude.{slice_get, ◌&&◌, if◌then◌else◌}
 use Rattle.std.specs.List.{list_all}
 use Rattle.std.proofs.lemmas.List.{drop_more, length-map}
@@ -9,7 +9,7 @@ use Rattle.sac_base.specs.Arrays.{ArrayValue}
 use Rattle.core_ir.specs.declared.tree.CoreFun.{CoreFun}
 use Rattle.core_ir.specs.Terms.{FunTerm}
 use Rattle.core_ir.specs.View.{fun_term}
-use Rattle.core_ir.specs.Outcome.{Instance, instances, instance_of, is_least, least_among}
+use Rattle.core_ir.specs.Outcome.{Instance, instances, instance_of, least_among}
 use Rattle.core_run.specs.Evaluation.{least_at, beside_at, is_beside}
 
 pub get_or-map : {A B : Type 0} (f : A → B) (xs : List A) (i : ℕ) (d : A) → get_or (map f xs) i (f d) ≡ f (get_or xs i d)

@@ -1,5 +1,5 @@
 -- Binding a variable.
-use Rattle.std.proofs.Common.{◌≡◌, ℕ, zero, suc, ◌+◌, ◌-◌, ◌<◌, ◌≤◌, List, [], ◌∷◌, ◌++◌, length, get_or, take, Bool, true, false, cond, eqb, refl, sym, ap, ◌∙◌, arith, Option, Some, None, Ok, Err, Result, OnOk, Vec, Global}
+use Rattle.std.proofs.Common.{◌≡◌, ℕ, zero, suc, ◌+◌, ◌-◌, ◌<◌, ◌≤◌, List, [], ◌∷◌, ◌++◌, length, get_or, take, Bool, true, false, cond, eqb, refl, sym, ap, ◌∙◌, arith, Ok, Err, Result, OnOk, Vec, Global}
 use Rattle.std.proofs.lemmas.List.{take_more}
 use Rattle.sac_base.specs.Arrays.{ArrayValue}
 use Rattle.core_ir.specs.declared.tree.Var.{Var}

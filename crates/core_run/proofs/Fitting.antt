@@ -1,11 +1,11 @@
 -- A core that is well formed fits.
-use Rattle.std.proofs.Common.{◌≡◌, ℕ, List, map, All}
+use Rattle.std.proofs.Common.{ℕ, List}
 use Rattle.sac_base.specs.declared.base.Base.{Base}
 use Rattle.sac_base.specs.declared.grid.Grid1.{Grid1}
 use Rattle.core_ir.specs.declared.tree.PartedOp.{PartedOp}
 use Rattle.core_ir.specs.declared.tree.PartedOp.TheVariants as parted
-use Rattle.core_ir.specs.Terms.{BlockTerm, RightTerm, GensTerm, PartsTerm, FunTerm, CoreTerm, Gives, Bind, Plain, NoGens, Gen, NoParts, Part}
-use Rattle.core_ir.specs.WellFormed.{Bases, BlockBases, RightBases, GensBases, PartsBases, PartedFits, IsFunction, IsWellFormed, param_bases, bases}
+use Rattle.core_ir.specs.Terms.{BlockTerm, RightTerm, GensTerm, PartsTerm, CoreTerm, Gives, Bind, Plain, NoGens, Gen, NoParts, Part}
+use Rattle.core_ir.specs.WellFormed.{Bases, BlockBases, RightBases, GensBases, PartsBases, PartedFits, IsWellFormed}
 use Rattle.core_run.specs.Fits.{FitsBlock, FitsRight, FitsGensTerm, FitsPartsTerm, FitsFrame, FitsCore}
 
 frame_fits : (o : PartedOp) (frame : List Grid1) (cell : List ℕ) (grids : List (List Grid1)) → PartedFits o frame cell grids → FitsFrame o frame cell grids

@@ -1,5 +1,5 @@
 -- The outcome of a core, from its main function.
-use Rattle.std.proofs.Common.{◌≡◌, ℕ, List, length, get_or, true, false, sym, ap, ◌∙◌, Some, None}
+use Rattle.std.proofs.Common.{◌≡◌, ℕ, List, length, true, false, sym, ap, ◌∙◌, Some, None}
 use Rattle.std.specs.Prelude.{slice_get, if◌then◌else◌}
 use Rattle.sac_base.specs.declared.fault.Caps.{Caps}
 use Rattle.sac_base.specs.declared.fault.FaultKind.TheVariants.{F7}

@@ -1,20 +1,19 @@
 -- The cells of parted loops: each index of a frame that is covered has one.
-use Rattle.std.proofs.Common.{◌≡◌, ℕ, zero, suc, ◌+◌, ◌*◌, ◌<◌, ◌≤◌, List, [], ◌∷◌, ◌++◌, length, get_or, map, Bool, true, false, refl, sym, ap, ◌∙◌, subst, arith, ℤ, pos, Option, Some, None, All, cond, true≢false}
-use Rattle.std.specs.Prelude.{filter, Contains, IfSome}
+use Rattle.std.proofs.Common.{◌≡◌, ℕ, zero, suc, ◌+◌, ◌*◌, ◌<◌, ◌≤◌, List, [], ◌∷◌, ◌++◌, length, get_or, map, Bool, true, false, refl, sym, ap, ◌∙◌, arith, ℤ, Option, Some, None, All, cond, true≢false}
+use Rattle.std.specs.Prelude.{filter, IfSome}
 use Rattle.std.proofs.lemmas.List.{length-append}
 use Rattle.std.proofs.Math.Nat.{add-mul}
-use Rattle.std.specs.List.{flat_map}
 use Rattle.std.proofs.lemmas.List.Elements.{All-head, All-tail, All-nil, All-cons, All-contains}
 use Rattle.sac_base.specs.declared.grid.Grid1.{Grid1}
-use Rattle.sac_base.specs.Arrays.{ArrayValue, size, MOST}
+use Rattle.sac_base.specs.Arrays.{ArrayValue, size}
 use Rattle.sac_base.specs.Grids.{has_vector, members}
-use Rattle.sac_base.specs.WithLoops.{box_size, span_of}
+use Rattle.sac_base.specs.WithLoops.{span_of}
 use Rattle.sac_base.proofs.RowMajor.{size-append}
 use Rattle.core_ir.specs.declared.tree.CorePart.{CorePart}
 use Rattle.core_ir.specs.Meaning.{extents, elements_of}
 use Rattle.core_ir.specs.View.{part_term}
 use Rattle.core_ir.specs.WellFormed.{IsFrame, Covered}
-use Rattle.with_loops.specs.GridFrames.{box_range, grid_extents}
+use Rattle.with_loops.specs.GridFrames.{box_range}
 use Rattle.with_loops.proofs.FrameSteps.{length-box}
 use Rattle.with_loops.proofs.GridSteps.{members_box, box_extents}
 use Rattle.core_run.specs.Fits.{grids_of}

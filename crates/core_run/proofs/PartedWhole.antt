@@ -13,9 +13,9 @@ use Rattle.sac_base.specs.WithLoops.{each, combined}
 use Rattle.core_ir.specs.declared.tree.PartedOp.{PartedOp}
 use Rattle.core_ir.specs.declared.tree.PartedOp.TheVariants as parted
 use Rattle.core_ir.specs.declared.tree.Var.{Var}
-use Rattle.core_ir.specs.Meaning.{Env, Cells, cell_at, cell_form, extents, joined, parted_value, neutral_fits, made_of}
+use Rattle.core_ir.specs.Meaning.{Env, Cells, cell_at, cell_form, extents, joined, parted_value, made_of}
 use Rattle.core_ir.specs.WellFormed.{IsFrame}
-use Rattle.std.specs.Prelude.{ℤ, map}
+use Rattle.std.specs.Prelude.{ℤ}
 use Rattle.core_ir.specs.declared.tree.CorePart.{CorePart}
 use Rattle.core_run.specs.declared.evaluate.Context.{Context}
 use Rattle.core_run.specs.Evaluation.{parts_in}

@@ -1,20 +1,19 @@
 -- With-loops and parted loops from their parts.
-use Rattle.std.proofs.Common.{◌≡◌, ℕ, zero, suc, ◌+◌, ◌<◌, List, [], ◌∷◌, length, get_or, drop, map, Bool, true, false, refl, sym, ap, ◌∙◌, arith, ℤ, Ok, Err, Some, None, Option}
-use Rattle.std.specs.Prelude.{fold, if◌then◌else◌}
+use Rattle.std.proofs.Common.{◌≡◌, ℕ, ◌+◌, ◌<◌, List, [], ◌∷◌, length, get_or, drop, map, true, false, refl, sym, ap, ◌∙◌, ℤ, Ok, Err}
+use Rattle.std.specs.Prelude.{if◌then◌else◌}
 use Rattle.std.proofs.lemmas.List.{drop_more}
 use Rattle.sac_base.specs.declared.fault.Fault.{Fault}
 use Rattle.sac_base.specs.declared.form.Form.{Form}
 use Rattle.sac_base.specs.declared.site.Site.{Site}
-use Rattle.sac_base.specs.Arrays.{ArrayValue}
 use Rattle.sac_base.specs.Grids.{has_vector}
-use Rattle.sac_base.specs.Outcomes.{Ends, and_then}
+use Rattle.sac_base.specs.Outcomes.{and_then}
 use Rattle.sac_base.specs.WithLoops.{Bounds, Plan, Operation, plan, finish, cells_of, with_value}
 use Rattle.sac_base.specs.WithLoops
 use Rattle.core_ir.specs.declared.tree.CoreGen.{CoreGen}
 use Rattle.core_ir.specs.declared.tree.CorePart.{CorePart}
 use Rattle.core_ir.specs.declared.tree.PartedLoop.{PartedLoop, out-PartedLoop}
 use Rattle.core_ir.specs.declared.tree.WithLoop.{WithLoop, out-WithLoop}
-use Rattle.core_ir.specs.Meaning.{Env, one, operation, generators, cells, parted_value, cell_at, cell_form, held}
+use Rattle.core_ir.specs.Meaning.{Env, one, operation, generators, cells, parted_value, cell_form, held}
 use Rattle.core_ir.specs.Terms.{gens_of, parts_of}
 use Rattle.core_ir.specs.View.{with_term, parted_term, gen_term, part_term}
 use Rattle.core_ir.proofs.Trees.{with_out, parted_out}

@@ -1,5 +1,5 @@
 -- A with-loop from the operands of its operation.
-use Rattle.std.proofs.Common.{◌≡◌, List, Bool, map, false, true, sym, ap, ◌∙◌, length, Ok, Err}
+use Rattle.std.proofs.Common.{◌≡◌, List, map, false, true, sym, ap, ◌∙◌, length, Ok}
 use Rattle.std.specs.Prelude.{fold}
 use Rattle.sac_base.specs.declared.site.Site.{Site}
 use Rattle.sac_base.specs.declared.op.Op.{Op}

@@ -1,6 +1,5 @@
 -- The meaning as the evaluator computes it: in a core that runs, with the levels and turns that are left.
-use Rattle.std.specs.Prelude.{ℕ, ◌-◌, ℤ, Bool, true, false, not, ◌&&◌, ◌||◌, List, [], ◌∷◌, Option, Some, None, Ok, map, slice_get, ⊤}
-use Rattle.std.specs.List.{list_all}
+use Rattle.std.specs.Prelude.{ℕ, ℤ, Bool, true, false, not, ◌||◌, List, Option, Some, None, Ok, map, slice_get, ⊤}
 use Rattle.sac_base.specs.declared.base.Base.TheVariants.{Int}
 use Rattle.sac_base.specs.declared.form.Form.{Form}
 use Rattle.sac_base.specs.declared.site.Site.{Site}
@@ -17,7 +16,7 @@ use Rattle.core_ir.specs.declared.tree.CoreGen.{CoreGen}
 use Rattle.core_ir.specs.declared.tree.CorePart.{CorePart}
 use Rattle.core_ir.specs.Terms.{BlockTerm, RightTerm, FunTerm, Plain}
 use Rattle.core_ir.specs.View.{core_term, fun_term, gen_term, part_term}
-use Rattle.core_ir.specs.Meaning.{Env, Answer, CallMeaning, Cells, run, right_value, repeat, loop_value, first, missing, plain_value, generator, with_index, bind, bind_all, cell_at, cell_form, held}
+use Rattle.core_ir.specs.Meaning.{Env, Answer, CallMeaning, Cells, run, right_value, repeat, loop_value, first, missing, plain_value, generator, with_index, bind, bind_all, cell_at, cell_form}
 use Rattle.core_ir.specs.Outcome.{Instance, instances, is_least, param_types, least_among, call_by, run_chosen, run_inline, run_deeper, function_value}
 use Rattle.core_run.specs.declared.evaluate.Context.{Context}
 

@@ -1,4 +1,4 @@
-use Rattle.std.proofs.Common.{◌≡◌, sym, ◌∙◌, map}
+use Rattle.std.proofs.Common.{sym, ◌∙◌, map}
 use Rattle.core_ir.specs.Outcome.{instances}
 use Rattle.core_ir.specs.View.{fun_term}
 use Rattle.core_run.proofs.Choices.{least_here, least_next}

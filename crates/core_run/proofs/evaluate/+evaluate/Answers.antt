@@ -1,15 +1,13 @@
-use Rattle.std.proofs.Common.{rules, ◌≡◌, ℕ, ◌+◌, ◌-◌, ◌*◌, ◌<◌, ◌≤◌, length, true, false, [], ◌∷◌, ◌++◌, Ok, Err, Some, None, get_or, ap, sym, ◌∙◌, subst, arith, map, drop, List, Option, append_assoc, append-nil, refl, Vec, Global, All}
+use Rattle.std.proofs.Common.{rules, ◌≡◌, ◌+◌, ◌-◌, ◌<◌, ◌≤◌, length, true, false, [], ◌∷◌, ◌++◌, Ok, Err, Some, None, get_or, ap, sym, ◌∙◌, subst, arith, map, drop, List, append_assoc, append-nil, refl, All}
 use Rattle.std.specs.Prelude.{ℤ, fold, IfNone}
 use Rattle.std.proofs.lemmas.List.{drop_all, take_all, length-append, length-map}
 use Rattle.std.proofs.lemmas.List.Elements.{All-more}
 use Rattle.core_ir.proofs.Trees.{block_out}
 use Rattle.std.proofs.Math.Nat.{add-mul}
-use Rattle.sac_base.specs.declared.form.Form.{Form}
-use Rattle.sac_base.specs.declared.base.Base.TheVariants.{Int}
-use Rattle.sac_base.specs.Arrays.{ArrayValue, scalar, vector, size, same_form, MOST}
+use Rattle.sac_base.specs.Arrays.{ArrayValue, size, same_form, MOST}
 use Rattle.sac_base.specs.Grids.{has_vector, members}
-use Rattle.sac_base.specs.Outcomes.{Ends, and_then, choose, first_result}
-use Rattle.sac_base.specs.Parts.{condition, shape_of_numbers, vector_of}
+use Rattle.sac_base.specs.Outcomes.{and_then, choose, first_result}
+use Rattle.sac_base.specs.Parts.{condition}
 use Rattle.sac_base.specs.WithLoops.{Range, genarray, modarray, fold_by, genarray_plan, modarray_plan, fold_plan, index_length, finish, combined, each, holder, holds, with_value}
 use Rattle.sac_base.specs.WithLoops
 use Rattle.core_ir.specs.declared.tree.Block.{out-Block}
@@ -19,33 +17,33 @@ use Rattle.core_ir.specs.declared.tree.CorePart.{CorePart, size-CorePart, out-Co
 use Rattle.core_ir.specs.declared.tree.Let.{Let, size-Let}
 use Rattle.core_ir.specs.declared.tree.PartedLoop.{out-PartedLoop}
 use Rattle.core_ir.specs.declared.tree.WithLoop.{out-WithLoop}
-use Rattle.core_ir.specs.Meaning.{Env, bind, bind_all, cell_at, cell_form, extents, first, joined, loop_value, one, operation, parted_value, repeat, elements_of, no_variables}
-use Rattle.core_ir.specs.Outcome.{run_deeper, run_inline, results_in, function_value}
-use Rattle.core_ir.specs.Terms.{BlockTerm, RightTerm, Gives, chain}
-use Rattle.core_ir.specs.View.{block_term, let_term, right_term, with_term, parted_term, fun_term, core_term, gen_term, part_term}
+use Rattle.core_ir.specs.Meaning.{bind_all, cell_at, cell_form, extents, first, joined, operation, parted_value, repeat, elements_of}
+use Rattle.core_ir.specs.Outcome.{run_deeper, run_inline, results_in}
+use Rattle.core_ir.specs.Terms.{Gives, chain}
+use Rattle.core_ir.specs.View.{block_term, let_term, right_term, fun_term, core_term, part_term}
 use Rattle.core_run.specs.declared.environment.Environment.{roll-Environment}
 use Rattle.core_run.specs.Environments.{env_of}
-use Rattle.core_run.specs.Evaluation.{calls_in, run_in, right_in, plain_in, turn_in, test_in, repeat_in, loop_in, run_chosen_in, function_in, generator_of, bounds_in, cell_in, checked_in, held_in, cells_in, part_of, part_cell_in, part_held_in, parts_in, types_of_params, vars_of_params}
+use Rattle.core_run.specs.Evaluation.{calls_in, run_in, right_in, plain_in, turn_in, test_in, repeat_in, loop_in, function_in, generator_of, bounds_in, cell_in, held_in, cells_in, part_of, part_cell_in, part_held_in, parts_in, vars_of_params}
 use Rattle.core_run.specs.Fits.{FitsBlock, FitsRight, FitsGen, FitsGens, FitsPart, FitsParts, IsJoined, grids_of}
 use Rattle.core_run.proofs.Blocks.{no_bindings, no_inner_bindings, same_value, then_next, then_fault, block_at, fits_lets, fits_let, fits_gen, fits_part, fits_gens, fits_parts, fits_function}
-use Rattle.core_run.proofs.Cells.{gen_body_term, part_body_term, part_grid, part_site, cell_runs, part_runs}
+use Rattle.core_run.proofs.Cells.{gen_body_term, part_body_term, part_grid, cell_runs, part_runs}
 use Rattle.core_run.proofs.Sizes.{if_first, if_second, loop_blocks, with_below, parted_below, let_below, right_below, gen_body, part_body, gens_below, parts_below, gen_below, part_below}
 use Rattle.core_run.proofs.WithWhole.{genarray_stops, genarray_tells, modarray_stops, modarray_tells, fold_stops, fold_tells}
-use Rattle.core_run.proofs.PartedWhole.{fits_fold, fits_joined, parted_folds, parted_joins, folds_same, joins_same}
+use Rattle.core_run.proofs.PartedWhole.{fits_joined, parted_folds, parted_joins, folds_same, joins_same}
 use Rattle.core_run.proofs.CallSteps.{runs_inline, runs_deeper, too_deep, too_nested}
 use Rattle.core_run.proofs.Choices.{function_at}
 use Rattle.core_run.proofs.Loops.{condition_stops, condition_says, condition_tells, turn_test_fault, turn_ends, turn_over, turn_goes}
 use Rattle.core_run.proofs.Measures.{falls_inline, falls_deeper, body_below, body_size, gens_size, parts_size}
 use Rattle.core_run.proofs.PartSteps.{member_holds, covered_one, count_elements, grown}
 use Rattle.core_run.proofs.PlainSteps.{plain_rest, plain_means}
-use Rattle.core_run.proofs.WithSteps.{with_means, parted_means, whole, whole_fault, part_here, part_next}
+use Rattle.core_run.proofs.WithSteps.{with_means, parted_means, part_next}
 use Rattle.with_loops.specs.Cells.{array_from, cells_from, cell_from}
 use Rattle.with_loops.specs.Plans.{plan_of}
-use Rattle.with_loops.specs.Tells.{Tells, TellsItems, TellsEnv, TellsStop, TellsCondition}
-use Rattle.with_loops.proofs.CellSteps.{genarray_finish, modarray_finish, cell_below, cell_within, cell_length}
-use Rattle.with_loops.proofs.EachSteps.{each_length, each_step, each_fault, each_end}
+use Rattle.with_loops.specs.Tells.{Tells, TellsItems, TellsStop, TellsCondition}
+use Rattle.with_loops.proofs.CellSteps.{cell_below, cell_within, cell_length}
+use Rattle.with_loops.proofs.EachSteps.{each_step, each_fault, each_end}
 use Rattle.with_loops.proofs.Holders.{holder_goes_on, holder_ends}
-use Rattle.with_loops.proofs.Steps.{same_stop, fault_then, value_then, then_same, test_fault, said}
+use Rattle.with_loops.proofs.Steps.{same_stop, fault_then, value_then, said}
 use Rattle.core_run.proofs.evaluate.+evaluate.Goals as goal
 
 pub run_block-run_let-requires : goal.run_block-run_let-requires

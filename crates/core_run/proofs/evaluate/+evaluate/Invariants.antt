@@ -1,4 +1,4 @@
-use Rattle.std.proofs.Common.{◌≡◌, ◌++◌, ◌+◌, ◌*◌, ℕ, ◌<◌, get_or, false, max, Ok, map, drop, take, length, All}
+use Rattle.std.proofs.Common.{◌≡◌, ◌++◌, ◌+◌, ◌*◌, false, max, Ok, map, drop, take, length, All}
 use Rattle.std.specs.Prelude.{fold}
 use Rattle.sac_base.specs.Arrays.{size}
 use Rattle.sac_base.specs.Grids.{has_vector, members}
@@ -11,11 +11,11 @@ use Rattle.core_ir.specs.declared.tree.Let.{size-Let}
 use Rattle.core_ir.specs.declared.tree.PartedLoop.{size-PartedLoop}
 use Rattle.core_ir.specs.declared.tree.Right.{size-Right}
 use Rattle.core_ir.specs.declared.tree.WithLoop.{size-WithLoop}
-use Rattle.core_ir.specs.Meaning.{cell_at, cell_form, elements_of, extents, joined}
+use Rattle.core_ir.specs.Meaning.{extents, joined}
 use Rattle.core_ir.specs.Terms.{Gives, chain}
 use Rattle.core_ir.specs.View.{block_term, let_term, part_term}
 use Rattle.core_run.specs.Environments.{env_of}
-use Rattle.core_run.specs.Evaluation.{run_in, repeat_in, generator_of, cells_in, part_of, part_held_in, parts_in}
+use Rattle.core_run.specs.Evaluation.{run_in, repeat_in, generator_of, cells_in, part_held_in, parts_in}
 use Rattle.core_run.proofs.Measures.{rank_of, body_size, gens_size, parts_size}
 use Rattle.with_loops.specs.Cells.{cells_from, array_from}
 use Rattle.with_loops.specs.Plans.{plan_of}

@@ -1,5 +1,4 @@
-use Rattle.std.proofs.Common.{◌≡◌, ap, sym, ◌∙◌, length}
-use Rattle.sac_base.specs.Grids.{has_vector}
+use Rattle.std.proofs.Common.{ap, sym, ◌∙◌, length}
 use Rattle.core_run.proofs.Indices.{no_member}
 use Rattle.core_run.proofs.operands.holds_index.Goals as goal
 

@@ -1,9 +1,8 @@
 use Rattle.std.proofs.Common.{◌≡◌, ◌<◌, length, get_or, true, Some, sym, ap, ◌∙◌, subst, arith}
-use Rattle.std.specs.Prelude.{slice_get}
 use Rattle.std.proofs.lemmas.List.{length-map}
 use Rattle.sac_base.specs.Types.{all_have}
 use Rattle.core_ir.specs.declared.tree.CoreFun.{CoreFun}
-use Rattle.core_ir.specs.Outcome.{call_by, run_deeper, run_inline, function_value, outcome}
+use Rattle.core_ir.specs.Outcome.{call_by, run_deeper, run_inline, function_value}
 use Rattle.core_ir.specs.View.{block_term, core_term, fun_term}
 use Rattle.core_run.specs.Evaluation.{types_of_params}
 use Rattle.core_run.specs.Fits.{FitsBlock}
