@@ -14,3 +14,4 @@ pub mod PlainSteps
 pub mod WithWhole
 pub mod PartedWhole
 pub mod MainSteps
+pub mod Built

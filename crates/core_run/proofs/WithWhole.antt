@@ -56,7 +56,7 @@ module _ (context : Context) (e : Env) (gs : List CoreGen) (s : Site) (bs : List
         sym (by_operation (modarray array s) is_modarray
         ∙ whole context e gs (modarray array s) bs same p ep
         ∙ then_same (cells_in context gs p.ranges p.indices p.form e) (λ found. Ok (finish (modarray array s) p found)) (λ found. Ok (array_from true array p found))
-          (λ found h. ap Ok (modarray_finish bs (index_length bs (length array.shape)) array s p ep found (each_length (WithLoops.cell_at p.form (map (generator_of context e) gs) p.ranges) p.indices found h))))
+        (λ found h. ap Ok (modarray_finish bs (index_length bs (length array.shape)) array s p ep found (each_length (WithLoops.cell_at p.form (map (generator_of context e) gs) p.ranges) p.indices found h))))
 
   module _ (o : Op) (neutral : ArrayValue) (x : Var) (is : op ≡ making.Fold o x) (ne : neutral ≡ e x) where
     is_fold : operation op s e ≡ fold_by o neutral s

@@ -36,7 +36,8 @@ pub fn core_run(
 // The first place of a source, which stands for the site of a main function that is not there.
 const START: Site = Site { line: 1, col: 1 };
 
-fn run_main(alloc: Global, core: &Core, args: &[Array], caps: Caps) -> Result<Vec<Array>, Stop>
+/// The same with the fault, or the want of memory, as what stopped the run. It asks only what the evaluator itself needs of the core.
+pub fn run_main(alloc: Global, core: &Core, args: &[Array], caps: Caps) -> Result<Vec<Array>, Stop>
     requires { FitsCore (core_term core.now) }
     ensures { TellsItems result (outcome (core_term core.now) args.now caps) }
 {

@@ -23,12 +23,12 @@ fn vars(alloc: Global, numbers: &[u32]) -> Result<Vec<Var>, Memory> {
 }
 
 /// A block that gives a variable.
-fn gives(alloc: Global, result: u32) -> Result<Block, Memory>
+fn gives(alloc: Global, var: u32) -> Result<Block, Memory>
     ensures { IfOk result (λ b. FitsBlock (block_term b)) }
 {
     Ok(Block {
         lets: Vec::new(alloc),
-        results: vars(alloc, &[result])?,
+        results: vars(alloc, &[var])?,
     })
 }
 

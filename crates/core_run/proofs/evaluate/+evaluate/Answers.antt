@@ -84,8 +84,8 @@ run_block-returns-in_err-run_let t c =
     let is : c.from_residual.result ≡ Err stop = search rules in
     subst (λ r. TellsItems r whole') (sym is)
     (same_stop stop (and_then meant (λ vs. Ok (bind_all e item.targets.items vs))) whole'
-      (λ f h. sym c.loop-binding.invariant ∙ at ∙ then_fault meant (bind_all e item.targets.items) f (λ vs. next (bind_all e item.targets.items vs)) h)
-      c.in_err-run_let.ensures)
+    (λ f h. sym c.loop-binding.invariant ∙ at ∙ then_fault meant (bind_all e item.targets.items) f (λ vs. next (bind_all e item.targets.items vs)) h)
+    c.in_err-run_let.ensures)
 
 pub run_block-returns : goal.run_block-returns
 run_block-returns t c =
@@ -306,8 +306,8 @@ run_loop-returns-in_err-values t c =
     let meant = loop_in ctx a.first_body site test_site params T B env vs in
     subst (λ r. TellsItems r meant) (sym is)
     (same_stop stop (turn_in ctx params B env c.deref.result.now) meant
-      (λ f h. whole' ∙ fault_then (body' vs) (repeat (ctx.turns - 1) site test_site test' body') f (ap body' (sym c.deref.ensures.value) ∙ h))
-      c.in_err-values.ensures)
+    (λ f h. whole' ∙ fault_then (body' vs) (repeat (ctx.turns - 1) site test_site test' body') f (ap body' (sym c.deref.ensures.value) ∙ h))
+    c.in_err-values.ensures)
 
 pub run_loop-returns-in_ok-values : goal.run_loop-returns-in_ok-values
 run_loop-returns-in_ok-values t c =
@@ -350,8 +350,8 @@ pub run_turn-returns : goal.run_turn-returns
 run_turn-returns t c =
     let a = c.args in
     let start =
-      (λ j. bind_all (sym (no_inner_bindings a.env c.new.result c.new.ensures.items) j) a.turns.now.params.now (sym c.in_ok-values.ensures j))
-      ∙ same_value _ _ c.in_ok-bind_all.ensures in
+    (λ j. bind_all (sym (no_inner_bindings a.env c.new.result c.new.ensures.items) j) a.turns.now.params.now (sym c.in_ok-values.ensures j))
+    ∙ same_value _ _ c.in_ok-bind_all.ensures in
     subst (λ e. TellsItems c.run_block.result (run_in a.context.now (block_term a.body.now) e)) (sym start) c.run_block.ensures
 
 pub run_test-run_turn-requires : goal.run_test-run_turn-requires
@@ -388,9 +388,10 @@ run_at-run_function-requires t c =
     let fs = ctx.core.now.functions.items in
     let f = c.index-function.result.now in
     let falls = falls_inline ctx (omega (arith, c.if-nest-eq0.false)) in
-    let body = body_below fs c.args.place f c.requires.1 in
-    (omega (arith, falls, body, ap body_size c.index-function.ensures, c.decreases),
-      (c.requires.0, subst (λ (f : CoreFun). FitsBlock (block_term f.body)) (sym c.index-function.ensures) (fits_function fs c.args.place f c.requires.1 c.requires.0)))
+    let body = body_below fs c.args.place f c.requires.1 in (
+      omega (arith, falls, body, ap body_size c.index-function.ensures, c.decreases),
+      (c.requires.0, subst (λ (f : CoreFun). FitsBlock (block_term f.body)) (sym c.index-function.ensures) (fits_function fs c.args.place f c.requires.1 c.requires.0)),
+    )
 
 pub run_at-run_function-requires-else-function : goal.run_at-run_function-requires-else-function
 run_at-run_function-requires-else-function t c =
@@ -399,9 +400,10 @@ run_at-run_function-requires-else-function t c =
     let f = c.index-function.result.now in
     let count : c.len-nest.result ≡ length fs = omega (arith, c.len-nest.ensures, ctx.core.now.functions.ok.0) in
     let falls = falls_deeper ctx c.len-nest.result count (omega (arith, c.if-left-eq0.false)) in
-    let body = body_below fs c.args.place f c.requires.1 in
-    (omega (arith, falls, body, ap body_size c.index-function.ensures, c.decreases),
-      (c.requires.0, subst (λ (f : CoreFun). FitsBlock (block_term f.body)) (sym c.index-function.ensures) (fits_function fs c.args.place f c.requires.1 c.requires.0)))
+    let body = body_below fs c.args.place f c.requires.1 in (
+      omega (arith, falls, body, ap body_size c.index-function.ensures, c.decreases),
+      (c.requires.0, subst (λ (f : CoreFun). FitsBlock (block_term f.body)) (sym c.index-function.ensures) (fits_function fs c.args.place f c.requires.1 c.requires.0)),
+    )
 
 pub run_at-returns-then-nest-eq0 : goal.run_at-returns-then-nest-eq0
 run_at-returns-then-nest-eq0 t c =
@@ -459,9 +461,9 @@ run_function-returns-in_err-values t c =
     let f = c.args.function.now in
     let args = c.args.args.items in
     let start =
-      ap (λ e. bind_all e (vars_of_params f.params.items) args) (sym (no_bindings c.new.result c.new.ensures.items))
-      ∙ ap (λ ps. bind_all (env_of (roll-Environment (record { outer = None; bindings = c.new.result }))) (vars_of_params ps) args) (sym c.deref.ensures.value)
-      ∙ same_value _ _ c.in_ok-bind_params.ensures in
+    ap (λ e. bind_all e (vars_of_params f.params.items) args) (sym (no_bindings c.new.result c.new.ensures.items))
+    ∙ ap (λ ps. bind_all (env_of (roll-Environment (record { outer = None; bindings = c.new.result }))) (vars_of_params ps) args) (sym c.deref.ensures.value)
+    ∙ same_value _ _ c.in_ok-bind_params.ensures in
     let ran = run_in ctx (block_term f.body) (env_of c.bind_params.new.env) in
     let whole' = ap (λ e. and_then (run_in ctx (block_term f.body) e) (results_in f.results.items f.ends)) start in
     let stop = c.in_err-values.field-0.0 in
@@ -476,9 +478,9 @@ run_function-returns t c =
     let f = c.args.function.now in
     let args = c.args.args.items in
     let start =
-      ap (λ e. bind_all e (vars_of_params f.params.items) args) (sym (no_bindings c.new.result c.new.ensures.items))
-      ∙ ap (λ ps. bind_all (env_of (roll-Environment (record { outer = None; bindings = c.new.result }))) (vars_of_params ps) args) (sym c.deref.ensures.value)
-      ∙ same_value _ _ c.in_ok-bind_params.ensures in
+    ap (λ e. bind_all e (vars_of_params f.params.items) args) (sym (no_bindings c.new.result c.new.ensures.items))
+    ∙ ap (λ ps. bind_all (env_of (roll-Environment (record { outer = None; bindings = c.new.result }))) (vars_of_params ps) args) (sym c.deref.ensures.value)
+    ∙ same_value _ _ c.in_ok-bind_params.ensures in
     let ran = run_in ctx (block_term f.body) (env_of c.bind_params.new.env) in
     let whole' = ap (λ e. and_then (run_in ctx (block_term f.body) e) (results_in f.results.items f.ends)) start in
     let vs = c.in_ok-values.values.items in
@@ -511,8 +513,8 @@ repeat-returns-in_err-run_test t c =
     let is : c.from_residual.result ≡ Err stop = search rules in
     subst (λ r. TellsItems r whole') (sym is)
     (same_stop stop (said test_site (test' c.deref.result.now)) whole'
-      (λ f h. sym c.loop-values.invariant ∙ turn_test_fault site test_site test' body' left vs f (ap (λ vs. said test_site (test' vs)) (sym c.deref.ensures.value) ∙ h))
-      c.in_err-run_test.ensures)
+    (λ f h. sym c.loop-values.invariant ∙ turn_test_fault site test_site test' body' left vs f (ap (λ vs. said test_site (test' vs)) (sym c.deref.ensures.value) ∙ h))
+    c.in_err-run_test.ensures)
 
 pub repeat-returns-then-not-branch : goal.repeat-returns-then-not-branch
 repeat-returns-then-not-branch t c =
@@ -569,8 +571,8 @@ repeat-returns-in_err-values t c =
     let is : c.from_residual-in_err-values.result ≡ Err stop = search rules in
     subst (λ r. TellsItems r whole') (sym is)
     (same_stop stop (body' c.deref-in-loop-values.result.now) whole'
-      (λ f h. sym c.loop-values.invariant ∙ goes ∙ fault_then (body' vs) (repeat (left - 1) site test_site test' body') f (ap body' (sym c.deref-in-loop-values.ensures.value) ∙ h))
-      c.in_err-values.ensures)
+    (λ f h. sym c.loop-values.invariant ∙ goes ∙ fault_then (body' vs) (repeat (left - 1) site test_site test' body') f (ap body' (sym c.deref-in-loop-values.ensures.value) ∙ h))
+    c.in_err-values.ensures)
 
 pub repeat-loop-values-preserved : goal.repeat-loop-values-preserved
 repeat-loop-values-preserved t c =
@@ -597,7 +599,7 @@ held_cell-loop-i-preserved t c =
     let g = generator_of a.context.now (env_of a.env.now) in
     let r = c.index-ranges-i.result in
     let fails : holds (get_or a.ranges.now c.loop-i.i r) a.index.now ≡ false =
-      ap (λ r. holds r a.index.now) (sym c.index-ranges-i.is) ∙ sym (c.holds.ensures ∙ ap (holds r) c.components.ensures.value) ∙ c.if-holds.false in
+    ap (λ r. holds r a.index.now) (sym c.index-ranges-i.is) ∙ sym (c.holds.ensures ∙ ap (holds r) c.components.ensures.value) ∙ c.if-holds.false in
     sym (holder_goes_on g a.gens.now a.ranges.now a.index.now c.loop-i.i r (omega (arith, c.loop-i-test.true, c.min-i-end.ensures)) (omega (arith, c.loop-i-test.true, c.min-i-end.ensures)) fails)
     ∙ c.loop-i.invariant
 
@@ -781,8 +783,8 @@ fold_parts-returns-in_err-cell t c =
     let is : c.from_residual-in_err-cell.result ≡ Err stop = search rules in
     subst (λ r. Tells r meant) (sym is)
     (same_stop stop (part_held_in ctx ps c.index.new.into form env) meant
-      (λ fault e. each_fault f fr k [] fault (λ rest. Ok (fold (combined a.op) c.loop-place.value rest)) meant inside (at ∙ e) c.loop-place.invariant)
-      c.in_err-cell.ensures.told)
+    (λ fault e. each_fault f fr k [] fault (λ rest. Ok (fold (combined a.op) c.loop-place.value rest)) meant inside (at ∙ e) c.loop-place.invariant)
+    c.in_err-cell.ensures.told)
 
 pub fold_parts-loop-place-preserved : goal.fold_parts-loop-place-preserved
 fold_parts-loop-place-preserved t c =
@@ -799,7 +801,7 @@ fold_parts-loop-place-preserved t c =
     let at : f (get_or fr k []) ≡ part_held_in ctx ps c.index.new.into form env = ap f (sym (c.in_ok-index.ensures [])) in
     let value : combined a.op c.loop-place.value c.in_ok-cell.cell ≡ c.in_ok-value.value = cc (c.in_ok-value.ensures) in
     each_step f fr k [] c.in_ok-cell.cell (λ rest. Ok (fold (combined a.op) c.loop-place.value rest)) (λ rest. Ok (fold (combined a.op) c.in_ok-value.value rest))
-      meant inside (at ∙ c.in_ok-cell.ensures.told) (λ rest. ap (λ v. Ok (fold (combined a.op) v rest)) value) c.loop-place.invariant
+    meant inside (at ∙ c.in_ok-cell.ensures.told) (λ rest. ap (λ v. Ok (fold (combined a.op) v rest)) value) c.loop-place.invariant
 
 pub join_parts-part_cell-requires : goal.join_parts-part_cell-requires
 join_parts-part_cell-requires t c = (omega (arith, c.decreases), (c.requires.0, c.requires.1.0))
@@ -837,8 +839,8 @@ join_parts-returns-in_err-cell t c =
     let is : c.from_residual-in_err-cell.result ≡ Err stop = search rules in
     subst (λ r. Tells r meant) (sym is)
     (same_stop stop (part_held_in ctx ps c.index.new.into form env) meant
-      (λ fault e. each_fault f fr k [] fault (λ rest. Ok (record { base = form.base; shape = shape; cells = items ++ (joined form.base shape rest).cells })) meant inside (at ∙ e) c.loop-place.invariant.told)
-      c.in_err-cell.ensures.told)
+    (λ fault e. each_fault f fr k [] fault (λ rest. Ok (record { base = form.base; shape = shape; cells = items ++ (joined form.base shape rest).cells })) meant inside (at ∙ e) c.loop-place.invariant.told)
+    c.in_err-cell.ensures.told)
 
 pub join_parts-loop-place-preserved : goal.join_parts-loop-place-preserved
 join_parts-loop-place-preserved t c =
@@ -866,12 +868,12 @@ join_parts-loop-place-preserved t c =
     let added = c.in_ok-append.ensures in
     record {
       told = each_step f fr k [] cell
-        (λ rest. Ok (record { base = form.base; shape = shape; cells = items ++ (joined form.base shape rest).cells }))
-        (λ rest. Ok (record { base = form.base; shape = shape; cells = c.append.new.cells.items ++ (joined form.base shape rest).cells }))
-        meant inside (at ∙ c.in_ok-cell.ensures.told)
-        (λ rest. ap (λ (zs : List ℤ). Ok (record { base = form.base; shape = shape; cells = zs }))
+          (λ rest. Ok (record { base = form.base; shape = shape; cells = items ++ (joined form.base shape rest).cells }))
+          (λ rest. Ok (record { base = form.base; shape = shape; cells = c.append.new.cells.items ++ (joined form.base shape rest).cells }))
+          meant inside (at ∙ c.in_ok-cell.ensures.told)
+          (λ rest. ap (λ (zs : List ℤ). Ok (record { base = form.base; shape = shape; cells = zs }))
           (sym (append_assoc items (elements_of cell) (joined form.base shape rest).cells) ∙ ap (λ zs. zs ++ (joined form.base shape rest).cells) (sym added)))
-        c.loop-place.invariant.told;
+          c.loop-place.invariant.told;
       count = grown items c.append.new.cells.items cell k (size form.shape) added c.in_ok-cell.ensures.sized (λ o. some (subst (λ o. IfNone o (All (λ (p : CorePart). has_vector (part_term p).head.grid c.index.new.into ≡ false) ps)) o c.in_ok-cell.ensures.none)) c.loop-place.invariant.count;
     }
 
@@ -928,7 +930,7 @@ part_cell-loop-part-preserved t c =
     let p = c.part-item.result in
     let h = c.loop-part-test.true in
     let fails : has_vector (part_term (get_or ps k p)).head.grid v ≡ false =
-      ap (λ p. has_vector (part_term p).head.grid v) (sym c.part-item.is) ∙ (λ j. has_vector (part_grid p j) (sym c.components.ensures.value j)) ∙ sym c.holds_index.ensures ∙ c.if-holds_index.false in
+    ap (λ p. has_vector (part_term p).head.grid v) (sym c.part-item.is) ∙ (λ j. has_vector (part_grid p j) (sym c.components.ensures.value j)) ∙ sym c.holds_index.ensures ∙ c.if-holds_index.false in
     record {
       told = part_next ctx env ps v form k p h fails ∙ c.loop-part.invariant.told;
       none = All-more (λ (p : CorePart). has_vector (part_term p).head.grid v ≡ false) ps k p h c.loop-part.invariant.none fails;
@@ -1083,9 +1085,10 @@ run_parted-join_parts-requires t c =
     let parts = c.deref-in_default.ensures.value in
     let fits = fits_parts p c.requires.1 in
     let joins = fits_joined o.op o.frame o.cell (grids_of o.parts.items) c.in_default.not-Fold fits.0 in
-    let same = subst (λ ps. IsJoined o.frame o.cell (grids_of ps)) (sym parts) joins in
-    (omega (arith, c.decreases, parts_below p, ap parts_size parts),
-      (c.requires.0, (subst FitsParts (sym parts) fits.1, subst (λ cell. IsJoined o.frame cell (grids_of c.deref-in_default.result.now)) (sym c.copy.ensures) same)))
+    let same = subst (λ ps. IsJoined o.frame o.cell (grids_of ps)) (sym parts) joins in (
+      omega (arith, c.decreases, parts_below p, ap parts_size parts),
+      (c.requires.0, (subst FitsParts (sym parts) fits.1, subst (λ cell. IsJoined o.frame cell (grids_of c.deref-in_default.result.now)) (sym c.copy.ensures) same)),
+    )
 
 pub run_parted-returns-in-Fold : goal.run_parted-returns-in-Fold
 run_parted-returns-in-Fold t c =

@@ -101,7 +101,7 @@ abbrev pub invariant-array_cells-loop-place : goal.invariant-array_cells-loop-pl
 invariant-array_cells-loop-place l = record {
   told : and_then (cells_in l.context l.gens l.plan.ranges.items (drop l.place l.plan.frame) l.plan.form (env_of l.env))
       (λ rest. Ok (record { base = l.background.base; shape = l.plan.shape; cells = l.cells.items ++ cells_from l.old l.background (size l.plan.form.shape) l.place rest }))
-    ≡ and_then (cells_in l.context l.gens l.plan.ranges.items l.plan.frame l.plan.form (env_of l.env)) (λ found. Ok (array_from l.old l.background (plan_of l.plan) found));
+      ≡ and_then (cells_in l.context l.gens l.plan.ranges.items l.plan.frame l.plan.form (env_of l.env)) (λ found. Ok (array_from l.old l.background (plan_of l.plan) found));
   count : length l.cells.items ≡ l.place * size l.plan.form.shape;
 }
 
@@ -114,7 +114,7 @@ abbrev pub invariant-join_parts-loop-place : goal.invariant-join_parts-loop-plac
 invariant-join_parts-loop-place l = record {
   told : and_then (parts_in l.context l.parts (drop l.place (members l.grid)) l.form (env_of l.env))
       (λ rest. Ok (record { base = l.form.base; shape = extents l.grid ++ l.form.shape; cells = l.cells.items ++ (joined l.form.base (extents l.grid ++ l.form.shape) rest).cells }))
-    ≡ and_then (parts_in l.context l.parts (members l.grid) l.form (env_of l.env)) (λ found. Ok (joined l.form.base (extents l.grid ++ l.form.shape) found));
+      ≡ and_then (parts_in l.context l.parts (members l.grid) l.form (env_of l.env)) (λ found. Ok (joined l.form.base (extents l.grid ++ l.form.shape) found));
   count : length l.cells.items ≡ l.place * size l.form.shape;
 }
 
