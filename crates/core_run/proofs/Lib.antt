@@ -15,3 +15,4 @@ pub mod WithWhole
 pub mod PartedWhole
 pub mod MainSteps
 pub mod Built
+pub mod Constant

@@ -1,8 +1,10 @@
-ghost use Rattle.std.specs.Prelude.{◌≡◌, IfOk, ◌∷◌, []};
-ghost use Rattle.core_ir.specs.Terms.{Bind, Gives};
+ghost use Rattle.std.specs.Prelude.{◌≡◌, IfOk, ◌∷◌, [], false};
 ghost use Rattle.core_ir.specs.View.{block_term, core_term, right_term};
+ghost use Rattle.core_ir.specs.WellFormed.{IsWellFormed};
 ghost use Rattle.core_run.specs.Fits.{FitsBlock, FitsCore, FitsRight};
+ghost use Rattle.sac_base.specs.declared.name.Name.{Name as NameValue};
 
+use crate::core_run;
 use crate::program::run_main;
 use core_ir::{Block, Core, CoreFun, CoreGen, CoreOp, Let, Right, Var, WithLoop};
 use sac_base::{Array, ArrayType, Base, Caps, FaultKind, Memory, Name, Op, Part, Site};
@@ -152,7 +154,8 @@ fn calling(alloc: Global, group: u32) -> Result<Block, Memory>
 /// A core whose one function has no parameters and this body. Group 0 holds it.
 fn core_of(alloc: Global, body: Block) -> Result<Core, Fail>
     requires { FitsBlock (block_term body) }
-    ensures { IfOk result (λ c. FitsCore (core_term c)) }
+    ensures fits { IfOk result (λ c. FitsCore (core_term c)) }
+    ensures whole { IfOk result (λ c. (n : NameValue) × (core_term c ≡ record { functions = record { name = n; site = record { line = 20; col = 1 }; params = []; results = record { base = Base.Int; part = Part.Star } ∷ []; is_inline = false; body = block_term body; ends = record { line = 21; col = 1 } } ∷ []; groups = (0 ∷ []) ∷ []; main = 0 })) }
 {
     let name = Name::from_bytes(alloc, b"main")?.ok_or("a name")?;
     let any = ArrayType {
@@ -163,12 +166,12 @@ fn core_of(alloc: Global, body: Block) -> Result<Core, Fail>
     let groups = vec![in alloc; Vec::from_slice(alloc, &[0u32])?]?;
     let main = CoreFun {
         name,
-        site: at(20, 1),
+        site: Site { line: 20, col: 1 },
         params: Vec::new(alloc),
         results,
         inline: false,
         body,
-        ends: at(21, 1),
+        ends: Site { line: 21, col: 1 },
     };
     let functions = vec![in alloc; main]?;
     Ok(Core {
@@ -176,6 +179,33 @@ fn core_of(alloc: Global, body: Block) -> Result<Core, Fail>
         groups,
         main: 0,
     })
+}
+
+/// A core that gives 14, which is well formed.
+fn fourteen(alloc: Global) -> Result<Core, Fail>
+    ensures { IfOk result (λ c. IsWellFormed (core_term c)) }
+{
+    let value = Array::scalar(alloc, Base::Int, 14)?;
+    let targets = vec![in alloc; Var(1)]?;
+    let binding = Let {
+        targets,
+        site: at(1, 1),
+        right: Right::Const(value),
+    };
+    let lets = vec![in alloc; binding]?;
+    let results = vec![in alloc; Var(1)]?;
+    let core = core_of(alloc, Block { lets, results })?;
+    Ok(core)
+}
+
+/// What the core that gives 14 comes to on arguments.
+fn run_fourteen(alloc: Global, args: &[Array]) -> Result<Result<Vec<Array>, Stop>, Fail> {
+    let core = fourteen(alloc)?;
+    let caps = Caps { turns: 0, depth: 0 };
+    match core_run(alloc, &core, args, caps)? {
+        Ok(values) => Ok(Ok(values)),
+        Err(fault) => Ok(Err(Stop::Faulted(fault))),
+    }
 }
 
 /// What a core with this body comes to, with at most five nested calls.
@@ -199,6 +229,15 @@ fn is_fault(answer: &Result<Vec<Array>, Stop>, kind: FaultKind, site: Site) -> b
         Err(Stop::Faulted(fault)) => fault.kind == kind && fault.site == site,
         _ => false,
     }
+}
+
+#[test]
+fn arguments_are_as_many_as_parameters(rt: HostRuntime) -> Result<(), Fail> {
+    let alloc = rt.alloc();
+    assert!(rt; has_cells(&run_fourteen(alloc, &[])?, &[14]));
+    let args = [Array::scalar(alloc, Base::Int, 1)?];
+    assert!(rt; is_fault(&run_fourteen(alloc, &args)?, FaultKind::F7, at(20, 1)));
+    Ok(())
 }
 
 #[test]
