@@ -1,18 +1,21 @@
--- What a contract sees of a heap: at each place nothing or a live buffer, and three counters.
-use Rattle.std.specs.Prelude.{◌≡◌, ℕ, zero, suc, ◌+◌, ◌%◌, ◌^◌, List, [], ℤ, Option, Some, None, IsSomeAnd, length, slice_index_or, slice_set}
+-- What a contract sees of a heap: at each place nothing or a live buffer, the number of the next one, and three counters.
+use Rattle.std.specs.Prelude.{◌≡◌, ◌<◌, ℕ, zero, suc, ◌+◌, ◌%◌, ◌^◌, List, [], ℤ, Option, Some, None, IsSomeAnd, length, slice_index_or, slice_set}
 
 -- the cells of a buffer that is in, or the number of cells of one that is out
 pub data Content : Type 0 where
   In : List ℤ → Content
   Out : ℕ → Content
 
--- a live buffer: how many references lead to it, and what it has
+-- a live buffer: its number, how many references lead to it, and what it has
 pub record Held : Type 0 where
+  pub born : ℕ
   pub count : ℕ
   pub content : Content
 
 pub record HeapValue : Type 0 where
   pub places : List (Option Held)
+  -- the number of the next buffer
+  pub births : ℕ
   pub taken : ℕ
   pub given : ℕ
   pub reused : ℕ
@@ -32,6 +35,14 @@ IsIn x = elim x.content [ In cells ↦ Unit {0} | Out len ↦ ⊥ ]
 -- the buffer is in, and has one reference
 abbrev pub IsInAndSole : Held → Type 0
 IsInAndSole x = IsIn x × (x.count ≡ 1)
+
+-- the buffer of this number is in
+abbrev pub IsNamed : ℕ → Held → Type 0
+IsNamed born x = IsIn x × (x.born ≡ born)
+
+-- the buffer of this number is in, and may have one reference more
+abbrev pub HasRoom : ℕ → Held → Type 0
+HasRoom born x = IsIn x × (x.born ≡ born) × (x.count < 2 ^ 62)
 
 -- how many cells the buffer has
 abbrev pub len_of : Content → ℕ

@@ -9,9 +9,9 @@ content_unless None cells = In cells
 content_unless (Some len) cells = Out len
 
 -- a place with count 0 has nothing
-abbrev pub held_as : ℕ → Content → Option Held
-held_as zero content = None
-held_as (suc n) content = Some (record { count = suc n; content = content })
+abbrev pub held_as : ℕ → ℕ → Content → Option Held
+held_as born zero content = None
+held_as born (suc n) content = Some (record { born = born; count = suc n; content = content })
 
 abbrev pub held_of : Place → Option Held
-held_of p = held_as p.count (content_unless p.out_len p.cells.items)
+held_of p = held_as p.born p.count (content_unless p.out_len p.cells.items)

@@ -1,5 +1,5 @@
-ghost use Rattle.std.specs.Prelude.{◌≡◌, ◌≢◌, ◌+◌, ◌<◌, ◌≤◌, ◌%◌, ◌^◌, ◌==◌, ◌↔◌, ℕ, pos, [], length, replicate, count_by, is_some, Some, None, OnErr, OnOk, IfOk, ⊤};
-ghost use Rattle.buffer_heap.specs.Heaps.{In, Out, Held, HeapValue, at, IsLive, IsIn, IsInAndSole, with_place, with_count, with_content, count_of, content_of, lifted, released};
+ghost use Rattle.std.specs.Prelude.{◌≡◌, IsTrue, ◌≢◌, ◌+◌, ◌<◌, ◌≤◌, ◌%◌, ◌^◌, ◌==◌, ◌↔◌, ℕ, pos, [], length, replicate, count_by, is_some, Some, None, OnErr, OnOk, IfOk, ⊤};
+ghost use Rattle.buffer_heap.specs.Heaps.{In, Out, Held, HeapValue, at, IsLive, IsIn, IsInAndSole, IsNamed, HasRoom, with_place, with_count, with_content, count_of, content_of, lifted, released};
 ghost use Rattle.buffer_heap.specs.Places.{held_of};
 ghost use Rattle.sac_base.specs.declared.outcome.Released.TheVariants.{Freed};
 
@@ -8,15 +8,18 @@ use std::alloc::Global;
 use std::marker::Model;
 use std::mem;
 
-/// A place in a heap. A buffer stays at its place until it is freed, and then the place may get another buffer.
+/// A place in a heap, and the number of the buffer that it names there. A buffer stays at its place until it is freed, and then the place may get another buffer, which has another number.
 #[derive(Clone, Copy, Debug, PartialEq, Eq)]
 pub struct BufferId {
     place: usize,
+    born: u64,
 }
 
 // A live buffer, or nothing where the count is 0. Then `next` is the place to try after this one.
 #[derive(Drop)]
 struct Place {
+    // the number of the buffer
+    born: u64,
     count: u64,
     cells: Vec<Cell>,
     // the number of the cells while they are handed out
@@ -32,6 +35,8 @@ pub struct Heap {
     places: Vec<Place>,
     // The place to try first for a new buffer, the top of a stack that runs through the vacant places' `next`.
     vacant: usize,
+    // how many buffers were taken, which is the number of the next one
+    births: u64,
     taken: u64,
     given: u64,
     reused: u64,
@@ -47,6 +52,7 @@ impl Model for Heap {
 
     ghost view = { λ h. record {
       places = map held_of h.places.items;
+      births = h.births;
       taken = h.taken;
       given = h.given;
       reused = h.reused;
@@ -59,12 +65,13 @@ const NO_PLACE: usize = usize::MAX;
 impl Heap {
     /// A heap with no buffer, all its counters 0. It allocates nothing.
     pub fn new(alloc: Global) -> Self
-        ensures { result ≡ record { places = []; taken = 0; given = 0; reused = 0 } }
+        ensures { result ≡ record { places = []; births = 0; taken = 0; given = 0; reused = 0 } }
     {
         Heap {
             alloc,
             places: Vec::new(alloc),
             vacant: NO_PLACE,
+            births: 0,
             taken: 0,
             given: 0,
             reused: 0,
@@ -123,21 +130,75 @@ impl Heap {
     pub fn take(&mut self, len: u64) -> Result<BufferId, Memory>
         requires { len ≤ 16777216 }
         ensures vacant { IfOk result (λ id. at self.old id.place ≡ None) }
-        ensures holds { IfOk result (λ id. at self.new id.place ≡ Some (record { count = 1; content = In (replicate len (pos 0)) })) }
+        ensures holds { IfOk result (λ id. at self.new id.place ≡ Some (record { born = id.born; count = 1; content = In (replicate len (pos 0)) })) }
         ensures others { IfOk result (λ id. (b : ℕ) → b ≢ id.place → at self.new b ≡ at self.old b) }
+        ensures number { IfOk result (λ id. (id.born ≡ self.old.births) × (self.new.births ≡ self.old.births + 1)) }
         ensures counters { OnOk result ((self.new.taken ≡ (self.old.taken + 1) % 2 ^ 64) × (self.new.given ≡ self.old.given) × (self.new.reused ≡ self.old.reused)) }
         ensures unchanged { OnErr result (self.new ≡ self.old) }
     {
         let mut cells = Vec::new(self.alloc);
         cells.resize(len as usize, 0)?;
+        self.put(cells)
+    }
+
+    /// A buffer of these cells with one reference.
+    ///
+    /// # Errors
+    ///
+    /// `Memory`: nothing has changed.
+    pub fn put(&mut self, cells: Vec<Cell>) -> Result<BufferId, Memory>
+        ensures vacant { IfOk result (λ id. at self.old id.place ≡ None) }
+        ensures holds { IfOk result (λ id. at self.new id.place ≡ Some (record { born = id.born; count = 1; content = In cells.items })) }
+        ensures others { IfOk result (λ id. (b : ℕ) → b ≢ id.place → at self.new b ≡ at self.old b) }
+        ensures number { IfOk result (λ id. (id.born ≡ self.old.births) × (self.new.births ≡ self.old.births + 1)) }
+        ensures counters { OnOk result ((self.new.taken ≡ (self.old.taken + 1) % 2 ^ 64) × (self.new.given ≡ self.old.given) × (self.new.reused ≡ self.old.reused)) }
+        ensures unchanged { OnErr result (self.new ≡ self.old) }
+    {
+        if self.births == u64::MAX {
+            return Err(Memory);
+        }
         let id = self.store(Place {
+            born: self.births,
             count: 1,
             cells,
             out_len: None,
             next: NO_PLACE,
         })?;
+        self.births += 1;
         self.taken = self.taken.wrapping_add(1);
         Ok(id)
+    }
+
+    /// Whether the buffer is live and in.
+    pub fn is_held(&self, id: BufferId) -> bool
+        ensures { IsTrue result ↔ IsLive self.now id.place (IsNamed id.born) }
+    {
+        match self.places.get(id.place) {
+            Some(place) => place.born == id.born && place.count > 0 && place.out_len.is_none(),
+            None => false,
+        }
+    }
+
+    /// Whether the buffer is live and in, and may have one reference more.
+    pub fn has_room(&self, id: BufferId) -> bool
+        ensures { IsTrue result ↔ IsLive self.now id.place (HasRoom id.born) }
+    {
+        match self.places.get(id.place) {
+            Some(place) => place.born == id.born
+                && place.count > 0
+                && place.count < 1 << 62
+                && place.out_len.is_none(),
+            None => false,
+        }
+    }
+
+    /// Gives back all buffers, however many references they have.
+    pub fn clear(&mut self)
+        ensures { self.new ≡ record self.old { places = []; given = (self.old.given + count_by is_some self.old.places) % 2 ^ 64 } }
+    {
+        self.given = self.given.wrapping_add(self.live());
+        self.places.clear();
+        self.vacant = NO_PLACE;
     }
 
     /// One reference more to a buffer that is in.
@@ -216,18 +277,24 @@ impl Heap {
         ensures vacant { IfOk result (λ id. at self.old id.place ≡ None) }
         ensures holds { IfOk result (λ id. at self.new id.place ≡ held_of place) }
         ensures others { IfOk result (λ id. (b : ℕ) → b ≢ id.place → at self.new b ≡ at self.old b) }
-        ensures counters { (self.new.taken ≡ self.old.taken) × (self.new.given ≡ self.old.given) × (self.new.reused ≡ self.old.reused) }
+        ensures number { IfOk result (λ id. id.born ≡ place.born) }
+        ensures counters { (self.new.births ≡ self.old.births) × (self.new.taken ≡ self.old.taken) × (self.new.given ≡ self.old.given) × (self.new.reused ≡ self.old.reused) }
         ensures unchanged { OnErr result (self.new ≡ self.old) }
     {
         let vacant = self.vacant;
         if vacant < self.places.len() && self.places[vacant].count == 0 {
+            let born = place.born;
             self.vacant = self.places[vacant].next;
             self.places[vacant] = place;
-            return Ok(BufferId { place: vacant });
+            return Ok(BufferId {
+                place: vacant,
+                born,
+            });
         }
         let end = self.places.len();
+        let born = place.born;
         self.places.push(place)?;
-        Ok(BufferId { place: end })
+        Ok(BufferId { place: end, born })
     }
 }
 

@@ -84,3 +84,38 @@ fn freed_places_are_used_again(rt: HostRuntime) -> Result<(), Fail> {
     assert_eq!(rt; heap.live(), 0);
     Ok(())
 }
+
+#[test]
+fn a_reference_names_one_buffer(rt: HostRuntime) -> Result<(), Fail> {
+    let mut heap = Heap::new(rt.alloc());
+    let a = heap.put(vec![in rt.alloc(); 4, 5]?)?;
+    assert_eq!(rt; heap.cells(a), [4, 5].as_slice());
+    assert!(rt; heap.is_held(a) && heap.has_room(a));
+    let lifted = heap.lift(a);
+    assert!(rt; !heap.is_held(a) && !heap.has_room(a));
+    heap.settle(a, lifted);
+    heap.release(a);
+    assert!(rt; !heap.is_held(a));
+    let b = heap.take(2)?;
+    assert_eq!(rt; (a.place, a.born, b.place, b.born), (0, 0, 0, 1));
+    assert!(rt; !heap.is_held(a) && heap.is_held(b));
+    Ok(())
+}
+
+#[test]
+fn all_buffers_are_given_back_together(rt: HostRuntime) -> Result<(), Fail> {
+    let mut heap = Heap::new(rt.alloc());
+    let a = heap.take(1)?;
+    let b = heap.take(2)?;
+    let c = heap.take(3)?;
+    heap.keep(b);
+    heap.release(a);
+    let lifted = heap.lift(c);
+    assert_eq!(rt; lifted.len(), 3);
+    heap.clear();
+    assert_eq!(rt;
+        (heap.live(), heap.taken(), heap.given(), heap.reused()),
+        (0, 3, 3, 0)
+    );
+    Ok(())
+}
