@@ -1,10 +1,10 @@
 -- Short vectors, element by element.
-use Rattle.std.proofs.Common.{◌≡◌, ℕ, zero, suc, ◌+◌, ◌*◌, ◌<◌, ◌≤◌, Bool, true, cond, List, [], ◌∷◌, ◌++◌, length, drop, get_or, ℤ, pos, Option, Some, None, Ok, refl, ap, ◌∙◌, sym, subst, arith}
-use Rattle.std.specs.Prelude.{nat_lt, IfSome}
+use Rattle.std.proofs.Common.{◌≡◌, ℕ, zero, suc, ◌+◌, ◌<◌, Bool, true, cond, List, [], ◌∷◌, ◌++◌, length, drop, get_or, ℤ, pos, Option, Some, None, Ok, refl, ap, ◌∙◌, arith}
+use Rattle.std.specs.Prelude.{IfSome}
 use Rattle.std.proofs.lemmas.List.{length_push}
 use Rattle.sac_base.specs.declared.base.Base.{Base}
 use Rattle.sac_base.specs.declared.op.Op.{Op}
-use Rattle.sac_base.specs.Arrays.{ArrayValue, size, vector}
+use Rattle.sac_base.specs.Arrays.{size, vector}
 use Rattle.sac_base.specs.Operators.{apply_two, combined}
 use Rattle.array_ops.proofs.Combining.{with_done, pair_done}
 use Rattle.counted_code.specs.Values.{Small}

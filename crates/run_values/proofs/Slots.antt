@@ -1,15 +1,15 @@
 -- The slots of variables after one has changed.
-use Rattle.std.proofs.Common.{◌≡◌, ◌≢◌, ℕ, zero, suc, ◌+◌, ◌<◌, ◌≤◌, Bool, true, false, cond, eqb, List, [], ◌∷◌, ◌++◌, length, take, replicate, reverse, refl, ap, ◌∙◌, sym, subst, slice_set, arith}
-use Rattle.std.specs.Prelude.{nat_lt, slice_index_or}
+use Rattle.std.proofs.Common.{◌≡◌, ℕ, zero, suc, ◌+◌, ◌<◌, ◌≤◌, Bool, true, false, cond, eqb, List, [], ◌∷◌, ◌++◌, length, take, replicate, reverse, refl, ap, ◌∙◌, sym, subst, slice_set, arith}
+use Rattle.std.specs.Prelude.{slice_index_or}
 use Rattle.std.proofs.lemmas.Bool.{eqb-true, eq-eqb, true≢false}
-use Rattle.std.proofs.lemmas.List.{get_or-set_same, get_or-set_other, get_or_append_left, get_or_past, reverse-append}
+use Rattle.std.proofs.lemmas.List.{get_or-set_same, get_or-set_other, reverse-append}
 use Rattle.core_ir.specs.declared.tree.Var.{Var}
-use Rattle.counted_code.specs.Machine.{Values, bind_value}
+use Rattle.counted_code.specs.Machine.{bind_value}
 use Rattle.run_values.specs.declared.frames.Undo.{Undo}
 use Rattle.run_values.specs.declared.frames.Undo.TheVariants.{Bound}
 use Rattle.run_values.specs.declared.value.RunValue.{RunValue}
 use Rattle.run_values.specs.declared.value.RunValue.TheVariants.{Unbound}
-use Rattle.run_values.specs.Scopes.{Slots, slots_of, without, seen, around}
+use Rattle.run_values.specs.Scopes.{slots_of, without, seen, around}
 use Rattle.run_values.specs.Shown.{value_of}
 
 nothing_in : (k i : ℕ) → slice_index_or (replicate k Unbound) i Unbound ≡ Unbound
