@@ -1,6 +1,19 @@
 //! Blocks, calls and loops.
 
-use crate::access::{keep, place_cells, place_own, read_array, release};
+ghost use Rattle.std.specs.Prelude.{◌≡◌, ◌++◌, ◌∷◌, [], None, OnOk, map, true, false};
+ghost use Rattle.sac_base.specs.Arrays.{scalar, vector};
+ghost use Rattle.sac_base.specs.Parts.{condition as condition_value};
+ghost use Rattle.counted_code.specs.Loops.{job_does};
+ghost use Rattle.counted_code.specs.Machine.{bind_value, bind_values, first_value, tested, turns_do};
+ghost use Rattle.counted_code.specs.Outcome.{function_does};
+ghost use Rattle.counted_code.specs.Values.{Heap as MachineHeap, Small, give, read, then_go};
+ghost use Rattle.counted_code.specs.View.{code_term, code_right_term, code_with_term, code_parted_term, code_fun_term};
+ghost use Rattle.run_eval.specs.Running.{calls_in, does_in, right_in, turn_in, test_in, cell_in, part_in, gen_head, part_head, IsAt, Told, ToldSteps, IsValue, IsFirst, Appends, SameScopes, EndsScope, SaysTruth, Deeper, array_job, fold_job, parts_job, fold_parts_job};
+ghost use Rattle.run_values.specs.Scopes.{current, outer};
+ghost use Rattle.run_values.specs.Shown.{value_of};
+ghost use Rattle.with_loops.specs.Cells.{IsArrayPlan};
+ghost use Rattle.with_loops.specs.Plans.{plan_of};
+
 use crate::bounds::all_bounds;
 use crate::plain::plain_value;
 use crate::state::{Context, State};
@@ -10,6 +23,7 @@ use core_ir::{CoreOp, PartedOp, Var};
 use counted_code::{
     CodeBlock, CodeFun, CodeGen, CodeLet, CodePart, CodeParted, CodeRight, CodeStep, CodeWith,
 };
+use run_heap::{keep, place_own, read_array, release};
 use run_values::{Few, RunValue};
 use sac_base::{
     Array, Base, FaultKind, Form, Grid, Memory, Op, Shape, Site, apply2, elements, result_base,
@@ -20,11 +34,9 @@ use with_loops::{
 
 /// Runs the steps of a block in the scope that is open.
 #[cycle(run)]
-fn run_steps(
-    steps: &[CodeStep],
-    context: &Context<'_>,
-    state: &mut State,
-) -> Result<(), Stop> {
+fn run_steps(steps: &[CodeStep], context: &Context<'_>, state: &mut State) -> Result<(), Stop>
+    ensures { (m : MachineHeap) → IsAt state.old m → ToldSteps context.now steps.now state.old state.new m result }
+{
     for step in steps {
         match step {
             CodeStep::Bind(binding) => run_let(binding, context, state)?,
@@ -37,7 +49,9 @@ fn run_steps(
 
 /// Runs a binding.
 #[cycle(run)]
-fn run_let(binding: &CodeLet, context: &Context<'_>, state: &mut State) -> Result<(), Stop> {
+fn run_let(binding: &CodeLet, context: &Context<'_>, state: &mut State) -> Result<(), Stop>
+    ensures { (m : MachineHeap) → IsAt state.old m → ToldSteps context.now (CodeStep.Bind binding.now ∷ []) state.old state.new m result }
+{
     if binding.targets.len() == 1 {
         let value = run_right(&binding.right, binding.site, context, state)?;
         state.frames.bind(binding.targets[0], value)?;
@@ -50,7 +64,9 @@ fn run_let(binding: &CodeLet, context: &Context<'_>, state: &mut State) -> Resul
 }
 
 /// Binds variables to values, and those for which there is none to the number 0.
-fn bind_all(state: &mut State, vars: &[Var], values: &[RunValue]) -> Result<(), Memory> {
+fn bind_all(state: &mut State, vars: &[Var], values: &[RunValue]) -> Result<(), Memory>
+    ensures { OnOk result ((current state.new.frames ≡ bind_values (current state.old.frames) vars.now (map value_of values.now)) × (outer state.new.frames ≡ outer state.old.frames) × (state.new.heap ≡ state.old.heap) × (state.new.phases ≡ state.old.phases)) }
+{
     for k in 0..vars.len() {
         state.frames.bind(vars[k], value_at(values, k))?;
     }
@@ -65,7 +81,9 @@ fn value_at(values: &[RunValue], k: usize) -> RunValue {
 }
 
 /// Appends the values of variables.
-fn push_values(state: &State, vars: &[Var], values: &mut Vec<RunValue>) -> Result<(), Memory> {
+fn push_values(state: &State, vars: &[Var], values: &mut Vec<RunValue>) -> Result<(), Memory>
+    ensures { OnOk result (map value_of values.new.items ≡ map value_of values.old.items ++ map (current state.now.frames) vars.now) }
+{
     for x in vars {
         values.push(state.frames.get(*x))?;
     }
@@ -79,7 +97,10 @@ fn run_block(
     context: &Context<'_>,
     state: &mut State,
     values: &mut Vec<RunValue>,
-) -> Result<(), Stop> {
+) -> Result<(), Stop>
+    ensures told { (m : MachineHeap) → IsAt state.old m → Told (λ _ ws. Appends values.old.items values.new.items ws) result state.new (does_in context.now (code_term block.now) (current state.old.frames) m) }
+    ensures scopes { OnOk result (SameScopes state.old.frames state.new.frames) }
+{
     state.frames.enter()?;
     run_steps(&block.steps, context, state)?;
     push_values(state, &block.results, values)?;
@@ -89,11 +110,10 @@ fn run_block(
 
 /// The first result of a block, whose scope is open and ends with it.
 #[cycle(run)]
-fn run_first(
-    block: &CodeBlock,
-    context: &Context<'_>,
-    state: &mut State,
-) -> Result<RunValue, Stop> {
+fn run_first(block: &CodeBlock, context: &Context<'_>, state: &mut State) -> Result<RunValue, Stop>
+    ensures told { (m : MachineHeap) → IsAt state.old m → Told IsValue result state.new (first_value (does_in context.now (code_term block.now) (current state.old.frames)) m) }
+    ensures scopes { OnOk result (EndsScope state.old.frames state.new.frames) }
+{
     run_steps(&block.steps, context, state)?;
     let value = match block.results.first() {
         Some(x) => state.frames.get(*x),
@@ -110,7 +130,10 @@ fn run_right(
     site: Site,
     context: &Context<'_>,
     state: &mut State,
-) -> Result<RunValue, Stop> {
+) -> Result<RunValue, Stop>
+    ensures told { (m : MachineHeap) → IsAt state.old m → Told IsFirst result state.new (right_in context.now (code_right_term right.now) site (current state.old.frames) m) }
+    ensures scopes { OnOk result (SameScopes state.old.frames state.new.frames) }
+{
     match right {
         CodeRight::If { cond, yes, no } => {
             let truth = condition(state.frames.get(*cond), site)?;
@@ -136,7 +159,10 @@ fn run_rights(
     context: &Context<'_>,
     state: &mut State,
     values: &mut Vec<RunValue>,
-) -> Result<(), Stop> {
+) -> Result<(), Stop>
+    ensures told { (m : MachineHeap) → IsAt state.old m → Told (λ _ ws. Appends values.old.items values.new.items ws) result state.new (right_in context.now (code_right_term right.now) site (current state.old.frames) m) }
+    ensures scopes { OnOk result (SameScopes state.old.frames state.new.frames) }
+{
     match right {
         CodeRight::If { cond, yes, no } => {
             let truth = condition(state.frames.get(*cond), site)?;
@@ -157,8 +183,11 @@ fn run_rights(
                 test_site: *test_site,
                 site,
             };
-            push_values(state, start, values)?;
-            run_loop(&turn, *first_body, context, state, values)
+            let mut own = Vec::new(context.alloc);
+            push_values(state, start, &mut own)?;
+            run_loop(&turn, *first_body, context, state, &mut own)?;
+            values.extend_from_slice(&own)?;
+            Ok(())
         }
         CodeRight::Call { group, args } => {
             let mut passed = Vec::new(context.alloc);
@@ -174,8 +203,10 @@ fn run_rights(
 }
 
 /// What a condition says: 0 is false, and any other number is true.
-fn condition(value: RunValue, site: Site) -> Result<bool, Stop> {
-    match value.as_word() {
+fn condition(value: RunValue, site: Site) -> Result<bool, Stop>
+    ensures { (m : MachineHeap) → SaysTruth result site (condition_value (read m (value_of value))) }
+{
+    match value.as_word()? {
         Some(n) => Ok(n != 0),
         None => Err(fault(FaultKind::F3, site)),
     }
@@ -199,7 +230,10 @@ fn run_loop(
     context: &Context<'_>,
     state: &mut State,
     values: &mut Vec<RunValue>,
-) -> Result<(), Stop> {
+) -> Result<(), Stop>
+    ensures told { (m : MachineHeap) → IsAt state.old m → Told (λ _ ws. map value_of values.new.items ≡ ws) result state.new (turns_do first_body context.now.turns turn.now.site turn.now.test_site (test_in context.now turn.now.params.now (code_term turn.now.test.now) (current state.old.frames)) (turn_in context.now turn.now.params.now (code_term turn.now.body.now) (current state.old.frames)) (map value_of values.old.items) m) }
+    ensures scopes { OnOk result (SameScopes state.old.frames state.new.frames) }
+{
     let mut next = Vec::new(context.alloc);
     let mut left = context.turns;
     if first_body {
@@ -225,11 +259,14 @@ fn run_test(
     context: &Context<'_>,
     state: &mut State,
     values: &[RunValue],
-) -> Result<bool, Stop> {
+) -> Result<bool, Stop>
+    ensures told { (m : MachineHeap) → IsAt state.old m → Told (λ t u. t ≡ u) result state.new (then_go (test_in context.now turn.now.params.now (code_term turn.now.test.now) (current state.old.frames) (map value_of values.now)) (λ c. tested turn.now.test_site c (give true) (give false)) m) }
+    ensures scopes { OnOk result (SameScopes state.old.frames state.new.frames) }
+{
     state.frames.enter()?;
     bind_all(state, turn.params, values)?;
     let value = run_first(turn.test, context, state)?;
-    let word = value.as_word();
+    let word = value.as_word()?;
     release(&mut state.heap, value)?;
     match word {
         Some(n) => Ok(n != 0),
@@ -245,7 +282,10 @@ fn run_turn(
     state: &mut State,
     values: &mut Vec<RunValue>,
     next: &mut Vec<RunValue>,
-) -> Result<(), Stop> {
+) -> Result<(), Stop>
+    ensures told { (m : MachineHeap) → IsAt state.old m → Told (λ _ ws. map value_of values.new.items ≡ ws) result state.new (turn_in context.now turn.now.params.now (code_term turn.now.body.now) (current state.old.frames) (map value_of values.old.items) m) }
+    ensures scopes { OnOk result (SameScopes state.old.frames state.new.frames) }
+{
     state.frames.enter()?;
     bind_all(state, turn.params, values)?;
     run_steps(&turn.body.steps, context, state)?;
@@ -266,7 +306,10 @@ fn run_call(
     context: &Context<'_>,
     state: &mut State,
     values: &mut Vec<RunValue>,
-) -> Result<(), Stop> {
+) -> Result<(), Stop>
+    ensures told { (m : MachineHeap) → IsAt state.old m → Told (λ _ ws. Appends values.old.items values.new.items ws) result state.new (calls_in context.now group (map value_of args.now) site m) }
+    ensures scopes { OnOk result (SameScopes state.old.frames state.new.frames) }
+{
     let code = context.code;
     let Some(place) = choose(context.alloc, code, group, args)? else {
         return Err(fault(FaultKind::F7, site));
@@ -279,11 +322,9 @@ fn run_call(
 }
 
 // How far a function may go on that is called here.
-fn deeper<'a>(
-    function: &CodeFun,
-    site: Site,
-    context: &Context<'a>,
-) -> Result<Context<'a>, Stop> {
+fn deeper<'a>(function: &CodeFun, site: Site, context: &Context<'a>) -> Result<Context<'a>, Stop>
+    ensures { Deeper result context.now function.now.inline site }
+{
     let mut inner = *context;
     if function.inline {
         if context.nest == 0 {
@@ -308,13 +349,14 @@ pub fn run_function(
     context: &Context<'_>,
     state: &mut State,
     values: &mut Vec<RunValue>,
-) -> Result<(), Stop> {
+) -> Result<(), Stop>
+    ensures told { (m : MachineHeap) → IsAt state.old m → Told (λ _ ws. Appends values.old.items values.new.items ws) result state.new (function_does context.now.turns (calls_in context.now) (code_fun_term function.now) (map value_of args.now) m) }
+    ensures scopes { OnOk result (SameScopes state.old.frames state.new.frames) }
+{
     let from = values.len();
     state.frames.enter_call()?;
     for k in 0..function.params.len() {
-        state
-            .frames
-            .bind(function.params[k].0, value_at(args, k))?;
+        state.frames.bind(function.params[k].0, value_at(args, k))?;
     }
     run_steps(&function.body.steps, context, state)?;
     push_values(state, &function.body.results, values)?;
@@ -333,7 +375,10 @@ fn run_with(
     site: Site,
     context: &Context<'_>,
     state: &mut State,
-) -> Result<RunValue, Stop> {
+) -> Result<RunValue, Stop>
+    ensures told { (m : MachineHeap) → IsAt state.old m → Told IsFirst result state.new (right_in context.now (code_with_term with.now) site (current state.old.frames) m) }
+    ensures scopes { OnOk result (SameScopes state.old.frames state.new.frames) }
+{
     let alloc = context.alloc;
     let bounds = all_bounds(&with.gens, context, state)?;
     match with.op {
@@ -365,7 +410,11 @@ fn run_array(
     old: bool,
     context: &Context<'_>,
     state: &mut State,
-) -> Result<RunValue, Stop> {
+) -> Result<RunValue, Stop>
+    requires { IsArrayPlan old background.now (plan_of plan.now) }
+    ensures told { (m : MachineHeap) → IsAt state.old m → Told IsValue result state.new (job_does None (array_job context.now (current state.old.frames) m gens.now (plan_of plan.now) background.now old) m) }
+    ensures scopes { OnOk result (SameScopes state.old.frames state.new.frames) }
+{
     if !is_small(&plan.shape) {
         state.phases = state.phases.wrapping_add(1);
     }
@@ -393,12 +442,7 @@ fn run_array(
             }
         }
     }
-    Ok(settle(
-        &mut state.heap,
-        target,
-        plan.form.base,
-        &plan.shape,
-    )?)
+    Ok(settle(&mut state.heap, target, plan.form.base, &plan.shape)?)
 }
 
 // The first generator whose range holds an index.
@@ -419,7 +463,10 @@ fn run_cell(
     index: &[i32],
     context: &Context<'_>,
     state: &mut State,
-) -> Result<RunValue, Stop> {
+) -> Result<RunValue, Stop>
+    ensures told { (m : MachineHeap) → IsAt state.old m → Told IsValue result state.new (cell_in context.now (gen_head g.now) (code_term g.now.body) form.now index.now (current state.old.frames) m) }
+    ensures scopes { OnOk result (SameScopes state.old.frames state.new.frames) }
+{
     let phases = state.phases;
     state.frames.enter()?;
     bind_index(state, g.index, &g.names, index)?;
@@ -433,12 +480,9 @@ fn run_cell(
     }
 }
 
-fn bind_index(
-    state: &mut State,
-    index: Var,
-    names: &[Var],
-    v: &[i32],
-) -> Result<(), Memory> {
+fn bind_index(state: &mut State, index: Var, names: &[Var], v: &[i32]) -> Result<(), Memory>
+    ensures { OnOk result ((current state.new.frames ≡ bind_values (bind_value (current state.old.frames) index (Small (vector Base.Int v.now))) names.now (map (λ z. Small (scalar Base.Int z)) v.now)) × (outer state.new.frames ≡ outer state.old.frames) × (state.new.heap ≡ state.old.heap) × (state.new.phases ≡ state.old.phases)) }
+{
     let Some(few) = Few::from_slice(v) else {
         return Err(Memory);
     };
@@ -462,7 +506,10 @@ fn run_fold(
     neutral: Array,
     context: &Context<'_>,
     state: &mut State,
-) -> Result<RunValue, Stop> {
+) -> Result<RunValue, Stop>
+    ensures told { (m : MachineHeap) → IsAt state.old m → Told IsValue result state.new (job_does None (fold_job context.now (current state.old.frames) m gens.now (plan_of plan.now) op neutral) m) }
+    ensures scopes { OnOk result (SameScopes state.old.frames state.new.frames) }
+{
     state.phases = state.phases.wrapping_add(1);
     let buffer = if is_small(&plan.shape) {
         None
@@ -505,7 +552,7 @@ impl Sum {
         state: &State,
     ) -> Result<Sum, Stop> {
         match self {
-            Sum::Word(base, n) => match cell.as_word() {
+            Sum::Word(base, n) => match cell.as_word()? {
                 Some(m) => match apply2(op, n, m) {
                     Ok(value) => Ok(Sum::Word(result_base(op), value)),
                     Err(_) => Ok(Sum::Word(base, n)),
@@ -542,7 +589,10 @@ fn run_parted(
     site: Site,
     context: &Context<'_>,
     state: &mut State,
-) -> Result<RunValue, Stop> {
+) -> Result<RunValue, Stop>
+    ensures told { (m : MachineHeap) → IsAt state.old m → Told IsFirst result state.new (right_in context.now (code_parted_term parted.now) site (current state.old.frames) m) }
+    ensures scopes { OnOk result (SameScopes state.old.frames state.new.frames) }
+{
     let form = Form {
         base: parted.base,
         shape: parted.cell.copy(),
@@ -589,7 +639,10 @@ fn run_parts(
     shape: &Shape,
     context: &Context<'_>,
     state: &mut State,
-) -> Result<RunValue, Stop> {
+) -> Result<RunValue, Stop>
+    ensures told { (m : MachineHeap) → IsAt state.old m → Told IsValue result state.new (job_does None (parts_job context.now (current state.old.frames) parts.now frame.now form.now shape.now) m) }
+    ensures scopes { OnOk result (SameScopes state.old.frames state.new.frames) }
+{
     if !is_small(shape) {
         state.phases = state.phases.wrapping_add(1);
     }
@@ -642,7 +695,10 @@ fn run_part(
     index: &[i32],
     context: &Context<'_>,
     state: &mut State,
-) -> Result<RunValue, Stop> {
+) -> Result<RunValue, Stop>
+    ensures told { (m : MachineHeap) → IsAt state.old m → Told IsValue result state.new (part_in context.now (part_head part.now) (code_term part.now.body) form.now index.now (current state.old.frames) m) }
+    ensures scopes { OnOk result (SameScopes state.old.frames state.new.frames) }
+{
     let phases = state.phases;
     state.frames.enter()?;
     bind_index(state, part.index, &[], index)?;
@@ -666,7 +722,10 @@ fn fold_parts(
     neutral: Array,
     context: &Context<'_>,
     state: &mut State,
-) -> Result<RunValue, Stop> {
+) -> Result<RunValue, Stop>
+    ensures told { (m : MachineHeap) → IsAt state.old m → Told IsValue result state.new (job_does None (fold_parts_job context.now (current state.old.frames) parts.now frame.now form.now op neutral) m) }
+    ensures scopes { OnOk result (SameScopes state.old.frames state.new.frames) }
+{
     state.phases = state.phases.wrapping_add(1);
     let buffer = if is_small(&form.shape) {
         None

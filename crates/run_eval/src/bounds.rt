@@ -1,9 +1,9 @@
 //! The operands of with-loops.
 
-use crate::access::read_array;
 use crate::state::{Context, State};
 use core_ir::Var;
 use counted_code::CodeGen;
+use run_heap::read_array;
 use sac_base::{Array, Memory};
 use with_loops::Bounds;
 
@@ -37,11 +37,7 @@ fn name_count(names: &[Var]) -> Option<usize> {
     }
 }
 
-fn operand(
-    x: Option<Var>,
-    context: &Context<'_>,
-    state: &State,
-) -> Result<Option<Array>, Memory> {
+fn operand(x: Option<Var>, context: &Context<'_>, state: &State) -> Result<Option<Array>, Memory> {
     match x {
         Some(x) => {
             let array = read_array(context.alloc, &state.heap, state.frames.get(x))?;

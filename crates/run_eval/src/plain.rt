@@ -1,12 +1,11 @@
 //! Right sides without blocks and calls.
 
-use crate::access::{place_array, place_own, read_array};
-use crate::select::select_value;
 use crate::state::{Context, State};
 use crate::types::value_has;
 use array_ops::{literal, replace, reshape};
 use core_ir::Var;
 use counted_code::CodeRight;
+use run_heap::{place_array, place_own, read_array, select_value};
 use run_values::{Few, RunValue, short_binary, short_unary};
 use sac_base::{Array, Base, FaultKind, Memory, Op, Site, apply1, apply2, result_base};
 use with_loops::{Stop, binary_at, fault, placed, unary_of};
@@ -132,11 +131,7 @@ fn literal_value(
 }
 
 /// The arrays of variables.
-pub fn read_all(
-    xs: &[Var],
-    context: &Context<'_>,
-    state: &State,
-) -> Result<Vec<Array>, Memory> {
+pub fn read_all(xs: &[Var], context: &Context<'_>, state: &State) -> Result<Vec<Array>, Memory> {
     let mut arrays = Vec::new(context.alloc);
     for x in xs {
         arrays.push(read_array(context.alloc, &state.heap, state.frames.get(*x))?)?;

@@ -1,12 +1,12 @@
 //! A whole program.
 
-use crate::access::{place_own, read_array, release};
 use crate::blocks::run_function;
 use crate::state::{Context, State};
 use crate::trace::Trace;
 use crate::types::all_fit;
 use buffer_heap::Heap;
 use counted_code::Code;
+use run_heap::{place_own, read_array, release};
 use run_values::{Frames, RunValue};
 use sac_base::{Array, Caps, FaultKind, Memory, Site};
 use std::alloc::Global;

@@ -1,7 +1,7 @@
 //! Where the cells of a with-loop go.
 
-use crate::access::buffer_cells;
 use buffer_heap::{BufferId, Heap};
+use run_heap::buffer_cells;
 use run_values::{Few, RunValue, small_value};
 use sac_base::{Base, Cell, Form, Memory, Shape, elements};
 use std::alloc::Global;
@@ -61,13 +61,18 @@ pub fn fits(form: &Form, value: &RunValue) -> bool {
 }
 
 /// Writes the cells of a value from a place on.
-pub fn write(heap: &Heap, cells: &mut [Cell], start: usize, value: &RunValue) -> Result<(), Memory> {
+pub fn write(
+    heap: &Heap,
+    cells: &mut [Cell],
+    start: usize,
+    value: &RunValue,
+) -> Result<(), Memory> {
     match value {
         RunValue::Buffer(_, id, _) => overwrite(cells, start, buffer_cells(heap, *id)?),
         RunValue::Short(_, few) => overwrite(cells, start, few.as_slice()),
         word => match cells.get_mut(start) {
             Some(cell) => {
-                *cell = word.as_word().unwrap_or(0);
+                *cell = word.as_word()?.unwrap_or(0);
                 Ok(())
             }
             None => Err(Memory),

@@ -1,12 +1,16 @@
 //! Which function a call takes, and which values a type contains.
 
-use crate::access::shape_of;
 use core_ir::Var;
 use counted_code::{Code, CodeFun};
 use run_values::RunValue;
-use sac_base::{ArrayType, Memory, part_has};
+use sac_base::{ArrayType, Memory, Shape, part_has};
 use shape_types::below;
 use std::alloc::Global;
+
+// The shape of a value.
+fn shape_of(alloc: Global, value: &RunValue) -> Result<Shape, Memory> {
+    Shape::from_extents(alloc, value.extents().as_slice()).ok_or(Memory)
+}
 
 /// Whether the type contains the value.
 pub fn value_has(alloc: Global, ty: &ArrayType, value: &RunValue) -> Result<bool, Memory> {

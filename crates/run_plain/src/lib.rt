@@ -1,0 +1,8 @@
+//! Right sides without blocks and calls: operators, literals, selections and the like, on values in a heap.
+#![tactic(auto)]
+
+mod arrays;
+mod operators;
+
+pub use arrays::{place_result, read_all, replace_value, reshape_value};
+pub use operators::{binary_value, literal_value, unary_value};
