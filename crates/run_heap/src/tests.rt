@@ -15,6 +15,9 @@ fn counting(alloc: Global, extents: &[Cell], count: i32) -> Result<Array, Fail> 
     for k in 0..count {
         cells.push(k)?;
     }
+    (cells.len() < 100)
+        .then_some(())
+        .ok_or("a short array")?;
     let vector = Array::vector(alloc, Base::Int, Vec::from_slice(alloc, shape.extents())?);
     let flat = Array::vector(alloc, Base::Int, cells);
     Ok(
