@@ -1,0 +1,6 @@
+//! Values in a heap.
+#![tactic(auto)]
+
+mod access;
+
+pub use access::{buffer_cells, keep, release};
