@@ -1,10 +1,10 @@
 -- The heaps still stand for each other after one step of both.
-use Rattle.std.proofs.Common.{◌≡◌, ◌≢◌, ℕ, zero, suc, ◌+◌, ◌<◌, ◌%◌, ◌^◌, Bool, true, false, eqb, List, [], ◌∷◌, length, Option, Some, None, refl, ap, ◌∙◌, sym, subst, slice_index_or, slice_set, arith}
+use Rattle.std.proofs.Common.{◌≡◌, ◌≢◌, ℕ, zero, suc, ◌+◌, ◌<◌, ◌%◌, ◌^◌, Bool, true, false, eqb, List, [], ◌∷◌, ◌++◌, length, ℤ, Option, Some, None, refl, ap, ◌∙◌, sym, subst, slice_index_or, slice_set, arith, inl, inr, ◌⊎◌}
 use Rattle.std.specs.Prelude.{IsSomeAnd}
 use Rattle.std.proofs.lemmas.Bool.{eqb-true, eqb-false}
-use Rattle.std.proofs.lemmas.List.{length-set, get_or-set_same, get_or-set_other}
+use Rattle.std.proofs.lemmas.List.{length-set, length_push, get_or_push, get_or_append_left, get_or-set_same, get_or-set_other}
 use Rattle.std.proofs.Math.Nat.{mod-add-mod}
-use Rattle.buffer_heap.specs.Heaps.{Held, HeapValue, at, IsLive, IsNamed, HasRoom, with_place, with_count, count_of, released, released_at}
+use Rattle.buffer_heap.specs.Heaps.{In, Held, HeapValue, at, IsLive, IsNamed, HasRoom, with_place, with_count, count_of, released, released_at}
 use Rattle.counted_code.specs.Values as machine
 use Rattle.counted_code.specs.Values.{Buffer, no_buffer, Heap, Value, Small, Ref, buffer_at, with_buffer, keep, release, release_count, take_buffer}
 use Rattle.run_heap.specs.Stands.{Stored, Stands}
@@ -129,3 +129,60 @@ released_stands h m b n live stands =
     subst (λ k. Stands (released h b) (release_count k (machine.count_of m k) m)) s.2.1
     (subst (λ c. Stands (released h b) (release_count s.0.born c m)) (sym old.0.0)
     (subst (λ c. Stands (released_at c h b) (release_count s.0.born s.0.count m)) (sym (ap count_of s.1)) (less_as s.0.count h m b s.0 s.1 refl stands)))
+
+-- a new buffer, at a place that had none
+module _ (h k : HeapValue) (m : Heap) (b n : ℕ) (cells : List ℤ) (here : at k b ≡ Some (record { born = n; count = 1; content = In cells })) (others : (c : ℕ) → c ≢ b → at k c ≡ at h c) (number : n ≡ h.births) (stands : Stands h m) where
+  new_there : Held
+  new_there = record { born = n; count = 1; content = In cells }
+
+  pub number_is : n ≡ length m.buffers
+  number_is = number ∙ stands.births
+
+  -- what is at a place: the new buffer, or what was there before
+  found : (c : ℕ) (y : Held) → at k c ≡ Some y → ((c ≡ b) × (record { born = n; count = 1; content = In cells } ≡ y)) ⊎ (at h c ≡ Some y)
+  found c y there = go (eqb c b) refl
+    where
+      go : (same : Bool) → eqb c b ≡ same → ((c ≡ b) × (record { born = n; count = 1; content = In cells } ≡ y)) ⊎ (at h c ≡ Some y)
+      go true e = inl (eqb-true c b e, some_same (record { born = n; count = 1; content = In cells }) y (sym here ∙ subst (λ d. at k d ≡ Some y) (eqb-true c b e) there))
+      go false e = inr (sym (others c (eqb-false c b e)) ∙ there)
+
+  too_old : (c : ℕ) (y z : Held) → at h c ≡ Some y → record { born = n; count = 1; content = In cells } ≡ z → y.born ≡ z.born → ⊥
+  too_old c y z before new same =
+      let low = (stands.stored c y before).1 in
+      let high = ap (λ (w : Held). w.born) new in
+      omega (arith, low, high, same, number_is)
+
+  pub taken_stands : k.births ≡ h.births + 1 → k.taken ≡ (h.taken + 1) % 2 ^ 64 → k.given ≡ h.given → k.reused ≡ h.reused → Stands k (take_buffer cells m)
+  taken_stands births taken given reused = record {
+    stored = now_stored;
+    single = one_place;
+    births = births ∙ ap (λ j. j + 1) stands.births ∙ sym (length_push m.buffers (record { count = 1; cells = cells }));
+    taken = taken ∙ ap (λ t. (t + 1) % 2 ^ 64) stands.taken ∙ mod-add-mod m.taken (2 ^ 64) 1;
+    given = given ∙ stands.given;
+    reused = reused ∙ stands.reused;
+  }
+    where
+      more : length (take_buffer cells m).buffers ≡ length m.buffers + 1
+      more = length_push m.buffers (record { count = 1; cells = cells })
+
+      now_stored : (c : ℕ) (y : Held) → at k c ≡ Some y → Stored (buffer_at (take_buffer cells m) y.born) y × (y.born < length (take_buffer cells m).buffers)
+      now_stored c y there = go (found c y there)
+        where
+          go : ((c ≡ b) × (record { born = n; count = 1; content = In cells } ≡ y)) ⊎ (at h c ≡ Some y) → Stored (buffer_at (take_buffer cells m) y.born) y × (y.born < length (take_buffer cells m).buffers)
+          go (inl new) =
+              let buffer : buffer_at (take_buffer cells m) n ≡ record { count = 1; cells = cells } = get_or_push m.buffers (record { count = 1; cells = cells }) no_buffer n (sym number_is) in
+              subst (λ (z : Held). Stored (buffer_at (take_buffer cells m) z.born) z × (z.born < length (take_buffer cells m).buffers)) new.1
+              (subst (λ (z : Buffer). Stored z (record { born = n; count = 1; content = In cells })) (sym buffer) (refl, refl), omega (arith, more, number_is))
+          go (inr before) =
+              let old = stands.stored c y before in
+              let buffer : buffer_at (take_buffer cells m) y.born ≡ buffer_at m y.born = get_or_append_left m.buffers (record { count = 1; cells = cells } ∷ []) no_buffer y.born old.1 in
+              (subst (λ (z : Buffer). Stored z y) (sym buffer) old.0, omega (arith, more, old.1))
+
+      one_place : (c d : ℕ) (y z : Held) → at k c ≡ Some y → at k d ≡ Some z → y.born ≡ z.born → c ≡ d
+      one_place c d y z p q same = go (found c y p) (found d z q)
+        where
+          go : ((c ≡ b) × (record { born = n; count = 1; content = In cells } ≡ y)) ⊎ (at h c ≡ Some y) → ((d ≡ b) × (record { born = n; count = 1; content = In cells } ≡ z)) ⊎ (at h d ≡ Some z) → c ≡ d
+          go (inl new) (inl also) = new.0 ∙ sym also.0
+          go (inl new) (inr before) = elim (too_old d z y before new.1 (sym same)) [ ]
+          go (inr before) (inl new) = elim (too_old c y z before new.1 same) [ ]
+          go (inr before) (inr also) = stands.single c d y z before also same

@@ -1,7 +1,11 @@
 -- When a heap of the code stands for a heap of the machine.
-use Rattle.std.specs.Prelude.{◌≡◌, ◌<◌, ◌%◌, ◌^◌, ℕ, List, ℤ, Some, length}
+use Rattle.std.specs.Prelude.{◌≡◌, ◌<◌, ◌%◌, ◌^◌, ℕ, List, ℤ, Some, length, Result, Ok, Err, ⊤}
 use Rattle.buffer_heap.specs.Heaps.{Content, In, Out, Held, HeapValue, at}
-use Rattle.counted_code.specs.Values.{Buffer, Heap, Value, Ended, Done, Failed, buffer_at}
+use Rattle.counted_code.specs.Values.{Buffer, Heap, Value, Ended, Done, Failed, buffer_at, place_value}
+use Rattle.sac_base.specs.Arrays.{ArrayValue}
+use Rattle.sac_base.specs.Outcomes.{Ends}
+use Rattle.with_loops.specs.declared.stop.Stop.{Stop}
+use Rattle.with_loops.specs.declared.stop.Stop.TheVariants.{Faulted, Memory}
 use Rattle.run_values.specs.declared.value.RunValue.{RunValue}
 use Rattle.run_values.specs.Shown.{value_of}
 
@@ -26,3 +30,10 @@ pub record Stands (h : HeapValue) (m : Heap) : Type 0 where
 abbrev pub Placed : RunValue → HeapValue → Ended Value → Type 0
 Placed v h (Done w k) = (value_of v ≡ w) × Stands h k
 Placed v h (Failed f phases) = ⊥
+
+-- the answer is what is meant, an array that is placed or a fault; want of memory says nothing
+abbrev pub TellsPlaced : Result RunValue Stop → HeapValue → Heap → Ends ArrayValue → Type 0
+TellsPlaced (Ok v) h m (Ok a) = Placed v h (place_value a m)
+TellsPlaced (Err (Faulted f)) h m (Err g) = f ≡ g
+TellsPlaced (Err Memory) h m meant = ⊤
+TellsPlaced _ _ _ _ = ⊥
