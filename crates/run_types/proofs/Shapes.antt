@@ -1,5 +1,5 @@
 -- The shape of extents.
-use Rattle.std.proofs.Common.{◌≡◌, ℕ, List, ℤ, pos, map, sym, ap, ◌∙◌, subst, Option, Some, None, Result, Ok, Err}
+use Rattle.std.proofs.Common.{◌≡◌, ℕ, List, ℤ, pos, map, sym, ap, ◌∙◌, subst, Option, Some, None, Result}
 use Rattle.std.specs.Prelude.{unsigned_abs, IfSome, IfOk, ok_or}
 use Rattle.sac_base.proofs.Extents.{abs_pos}
 

@@ -1,4 +1,4 @@
-use Rattle.std.proofs.Common.{sym, ap, ◌∙◌, map}
+use Rattle.std.proofs.Common.{ap, ◌∙◌, map}
 use Rattle.std.specs.Prelude.{unsigned_abs}
 use Rattle.run_values.specs.Shown.{value_of, shape_of}
 use Rattle.run_types.proofs.Shapes.{shape_told}
