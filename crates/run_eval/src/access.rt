@@ -38,11 +38,6 @@ pub fn release(heap: &mut Heap, value: RunValue) -> Result<(), Memory> {
     Ok(())
 }
 
-/// The shape of a value.
-pub fn shape_of(alloc: Global, value: &RunValue) -> Result<Shape, Memory> {
-    Shape::from_extents(alloc, value.extents().as_slice()).ok_or(Memory)
-}
-
 /// The array that a value is.
 pub fn read_array(alloc: Global, heap: &Heap, value: RunValue) -> Result<Array, Memory> {
     match value {

@@ -5,11 +5,11 @@ use crate::bounds::all_bounds;
 use crate::plain::plain_value;
 use crate::state::{Context, State};
 use crate::target::{Target, claim, fits, is_small, overwrite, settle, write};
-use crate::types::{all_have, choose};
 use core_ir::{CoreOp, PartedOp, Var};
 use counted_code::{
     CodeBlock, CodeFun, CodeGen, CodeLet, CodePart, CodeParted, CodeRight, CodeStep, CodeWith,
 };
+use run_types::{all_have, choose};
 use run_values::{Few, RunValue};
 use sac_base::{
     Array, Base, FaultKind, Form, Grid, Memory, Op, Shape, Site, apply2, elements, result_base,
@@ -268,7 +268,7 @@ fn run_call(
     values: &mut Vec<RunValue>,
 ) -> Result<(), Stop> {
     let code = context.code;
-    let Some(place) = choose(context.alloc, code, group, args)? else {
+    let Some(place) = choose(code, group, args) else {
         return Err(fault(FaultKind::F7, site));
     };
     let Some(function) = code.functions.get(place) else {
@@ -319,7 +319,7 @@ pub fn run_function(
     run_steps(&function.body.steps, context, state)?;
     push_values(state, &function.body.results, values)?;
     state.frames.leave();
-    if all_have(context.alloc, &function.results, &values[from..])? {
+    if all_have(&function.results, &values[from..]) {
         Ok(())
     } else {
         Err(fault(FaultKind::F7, function.ends))

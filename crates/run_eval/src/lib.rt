@@ -10,7 +10,6 @@ mod select;
 mod state;
 mod target;
 mod trace;
-mod types;
 
 pub use program::{Plan, run};
 pub use trace::Trace;

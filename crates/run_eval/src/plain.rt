@@ -3,10 +3,10 @@
 use crate::access::{place_array, place_own, read_array};
 use crate::select::select_value;
 use crate::state::{Context, State};
-use crate::types::value_has;
 use array_ops::{literal, replace, reshape};
 use core_ir::Var;
 use counted_code::CodeRight;
+use run_types::value_has;
 use run_values::{Few, RunValue, short_binary, short_unary};
 use sac_base::{Array, Base, FaultKind, Memory, Op, Site, apply1, apply2, result_base};
 use with_loops::{Stop, binary_at, fault, placed, unary_of};
@@ -46,7 +46,7 @@ pub fn plain_value(
         CodeRight::Always(kind) => Err(fault(*kind, site)),
         CodeRight::Check(x, ty) => {
             let value = state.frames.get(*x);
-            if value_has(context.alloc, ty, &value)? {
+            if value_has(ty, &value) {
                 Ok(value)
             } else {
                 Err(fault(FaultKind::F7, site))

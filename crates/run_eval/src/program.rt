@@ -4,9 +4,9 @@ use crate::access::{place_own, read_array, release};
 use crate::blocks::run_function;
 use crate::state::{Context, State};
 use crate::trace::Trace;
-use crate::types::all_fit;
 use buffer_heap::Heap;
 use counted_code::Code;
+use run_types::all_fit;
 use run_values::{Frames, RunValue};
 use sac_base::{Array, Caps, FaultKind, Memory, Site};
 use std::alloc::Global;
@@ -72,7 +72,7 @@ fn run_main(
         return Err(fault(FaultKind::F7, START));
     };
     let placed = place_all(args, context, state)?;
-    if !all_fit(context.alloc, &main.params, &placed)? {
+    if !all_fit(&main.params, &placed) {
         return Err(fault(FaultKind::F7, main.site));
     }
     let mut values = Vec::new(context.alloc);

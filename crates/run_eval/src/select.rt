@@ -1,7 +1,8 @@
 //! Selections.
 
-use crate::access::{buffer_cells, place_cells, shape_of};
+use crate::access::{buffer_cells, place_cells};
 use buffer_heap::Heap;
+use run_types::shape_of;
 use run_values::{Few, RunValue};
 use sac_base::{Base, Cell, FaultKind, Memory, MOST_ELEMENTS, Shape, Site, elements, offset};
 use std::alloc::Global;
