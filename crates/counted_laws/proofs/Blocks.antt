@@ -19,7 +19,7 @@ length_map e (x ∷ xs) = ap suc (length_map e xs)
 
 gives_matches : (h : Heap) (e : Values) (ρ : Env) (others : ℕ → ℕ) (n : ℕ) (outer refs xs : List Var) → Ready h e ρ others outer refs → length xs ≡ n → Reordered refs xs → Matches n others h (Done (map e xs) h) (Ok (map ρ xs))
 gives_matches h e ρ others n outer refs xs ready size order =
-    (length_map e xs ∙ size, shows_values h e ρ xs (shows_reordered h e ρ order (shows_front h e ρ refs outer ready.shows)), (λ b. ready.owns b ∙ ap (λ m. m + others b) (held_reordered b e order)), (λ b le. refl))
+    (length_map e xs ∙ size, shows_values h e ρ xs (shows_reordered h e ρ order (shows_front h e ρ refs outer ready.shows)), ((λ b. ready.owns.0 b ∙ ap (λ m. m + others b) (held_reordered b e order)), ready.owns.1), (λ b le. refl))
 
 -- a run that goes on from another heap with the cells of what others hold
 pub matches_after : (n : ℕ) (others : ℕ → ℕ) (h k : Heap) (m : Ended (List Value)) (a : Answer) → SameCells others h k → Matches n others k m a → Matches n others h m a

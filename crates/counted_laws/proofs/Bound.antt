@@ -10,7 +10,7 @@ use Rattle.counted_code.specs.Values.{Heap, Value, read, count_of, cells_of, kee
 use Rattle.counted_code.specs.Machine.{Values, missing_value, bind_value, bind_values}
 use Rattle.counted_code.specs.Counts.{Reordered, Alive}
 use Rattle.counted_laws.specs.Simulation.{held, Owns, Backed, AllBacked, Shows, SameCells}
-use Rattle.counted_laws.proofs.Held.{held_append, held_reordered, shows_reordered, shows_front, shows_back, shows_both, all_backed_more, self_backed, backed_both, backed_shows, same_cells_fewer, keep_count, keep_cells, released_owns, released_same}
+use Rattle.counted_laws.proofs.Held.{held_append, held_reordered, shows_reordered, shows_front, shows_back, shows_both, all_backed_more, self_backed, backed_both, backed_shows, same_cells_fewer, keep_count, keep_cells, kept_balance, released_owns, released_same}
 
 -- what a run may rely on at its start
 pub record Ready (h : Heap) (e : Values) (ρ : Env) (others : ℕ → ℕ) (outer refs : List Var) : Type 0 where
@@ -44,8 +44,8 @@ shown_at h e ρ x (y ∷ ys) s alive = go (λ a. shown_at h e ρ x ys s.1 a) (eq
 pub live_backed : (h : Heap) (e : Values) (others : ℕ → ℕ) (outer refs : List Var) → Owns h (map e refs) others → AllBacked others e outer → AllBacked (count_of h) e (refs ++ outer)
 live_backed h e others outer refs owns backed =
     backed_both (count_of h) e refs outer
-    (all_backed_more e refs (λ b. held b (map e refs)) (count_of h) (λ b. omega (arith, owns b)) (self_backed e refs))
-    (all_backed_more e outer others (count_of h) (λ b. omega (arith, owns b)) backed)
+    (all_backed_more e refs (λ b. held b (map e refs)) (count_of h) (λ b. omega (arith, owns.0 b)) (self_backed e refs))
+    (all_backed_more e outer others (count_of h) (λ b. omega (arith, owns.0 b)) backed)
 
 pub alive_backed : (h : Heap) (e : Values) (ρ : Env) (others : ℕ → ℕ) (outer refs : List Var) (x : Var) → Ready h e ρ others outer refs → Alive x (refs ++ outer) → Backed (count_of h) (e x)
 alive_backed h e ρ others outer refs x ready alive =
@@ -61,14 +61,14 @@ kept_ready h e ρ others outer refs x ready alive =
     let back = alive_backed h e ρ others outer refs x ready alive in
     let all = live_backed h e others outer refs ready.owns ready.backed in
     record {
-      owns = λ b. (let k = keep_count h (e x) back b in let o = ready.owns b in omega (arith, k, o));
+      owns = ((λ b. (let k = keep_count h (e x) back b in let o = ready.owns.0 b in omega (arith, k, o))), kept_balance h (e x) back ready.owns.1);
       backed = ready.backed;
       shows = shows_same h (keep (e x) h) e ρ (x ∷ (refs ++ outer)) (count_of h) (back, all) (keep_cells h (e x) back) (shown_at h e ρ x (refs ++ outer) ready.shows alive, ready.shows);
     }
 
 -- the references in another order, with x in front
 front_owns : (h : Heap) (e : Values) (others : ℕ → ℕ) (refs after : List Var) (x : Var) → Owns h (map e refs) others → Reordered refs (x ∷ after) → Owns h (e x ∷ map e after) others
-front_owns h e others refs after x owns order b = owns b ∙ ap (λ m. m + others b) (held_reordered b e order)
+front_owns h e others refs after x owns order = ((λ b. owns.0 b ∙ ap (λ m. m + others b) (held_reordered b e order)), owns.1)
 
 pub released_ready : (h : Heap) (e : Values) (ρ : Env) (others : ℕ → ℕ) (outer refs after : List Var) (x : Var) → Ready h e ρ others outer refs → Reordered refs (x ∷ after) → SameCells others h (release (e x) h) × Ready (release (e x) h) e ρ others outer after
 released_ready h e ρ others outer refs after x ready order =
@@ -184,7 +184,7 @@ pub right_ready : (h : Heap) (e : Values) (ρ : Env) (others : ℕ → ℕ) (out
 right_ready h e ρ others outer refs mine after ready order =
     let shown = shows_reordered h e ρ order (shows_front h e ρ refs outer ready.shows) in
     record {
-      owns = λ b. (let o = ready.owns b in let r = held_reordered b e order in let m = ap (held b) (map_append e mine after) in let a = held_append b (map e mine) (map e after) in omega (arith, o, r, m, a));
+      owns = ((λ b. (let o = ready.owns.0 b in let r = held_reordered b e order in let m = ap (held b) (map_append e mine after) in let a = held_append b (map e mine) (map e after) in omega (arith, o, r, m, a))), ready.owns.1);
       backed = backed_both (staying e after others) e after outer (all_backed_more e after (λ b. held b (map e after)) (staying e after others) (λ b. omega arith) (self_backed e after)) (all_backed_more e outer others (staying e after others) (λ b. omega arith) ready.backed);
       shows = shows_both h e ρ mine (after ++ outer) (shows_front h e ρ mine after shown) (shows_both h e ρ after outer (shows_back h e ρ mine after shown) (shows_back h e ρ refs outer ready.shows));
     }
@@ -197,7 +197,7 @@ rest_ready h k e ρ others outer mine after xs vs ready back size distinct none_
     let all = bound_all_shows k e ρ xs vs (after ++ outer) kept in
     let tail = shows_back k e' ρ' xs (after ++ outer) all in
     record {
-      owns = λ b. (let o = owns b in let m = ap (held b) (map_append e' xs after) in let a = held_append b (map e' xs) (map e' after) in let p = ap (held b) (bound_values e xs vs distinct size) in let q = ap (held b) (unbound_all e xs vs after none_after) in omega (arith, o, m, a, p, q));
+      owns = ((λ b. (let o = owns.0 b in let m = ap (held b) (map_append e' xs after) in let a = held_append b (map e' xs) (map e' after) in let p = ap (held b) (bound_values e xs vs distinct size) in let q = ap (held b) (unbound_all e xs vs after none_after) in omega (arith, o, m, a, p, q))), owns.1);
       backed = backed_as others e e' outer (unbound_all e xs vs outer none_outer) back;
       shows = shows_both k e' ρ' (xs ++ after) outer (shows_both k e' ρ' xs after (shows_front k e' ρ' xs (after ++ outer) all) (shows_front k e' ρ' after outer tail)) (shows_back k e' ρ' after outer tail);
     }
@@ -205,7 +205,7 @@ rest_ready h k e ρ others outer mine after xs vs ready back size distinct none_
 -- a loop's variables at a turn, and a function's parameters
 pub turn_ready : (k : Heap) (e : Values) (ρ : Env) (others : ℕ → ℕ) (outer xs : List Var) (vs : List Value) → AllBacked others e outer → Shows k e ρ outer → length vs ≡ length xs → Distinct xs → NoneIn xs outer → Owns k vs others → Ready k (bind_values e xs vs) (bind_all ρ xs (map (read k) vs)) others outer xs
 turn_ready k e ρ others outer xs vs back shows size distinct none owns = record {
-  owns = λ b. (let o = owns b in let p = ap (held b) (bound_values e xs vs distinct size) in omega (arith, o, p));
+  owns = ((λ b. (let o = owns.0 b in let p = ap (held b) (bound_values e xs vs distinct size) in omega (arith, o, p))), owns.1);
   backed = backed_as others e (bind_values e xs vs) outer (unbound_all e xs vs outer none) back;
   shows = bound_all_shows k e ρ xs vs outer shows;
 }
@@ -216,7 +216,7 @@ test_ready k e ρ others outer xs vs back shows size distinct none owns =
     let e' : Values = bind_values e xs vs in
     let more : ℕ → ℕ = (λ b. held b vs + others b) in
     record {
-      owns = λ b. (let o = owns b in omega (arith, o));
+      owns = ((λ b. (let o = owns.0 b in omega (arith, o))), owns.1);
       backed = backed_both more e' xs outer (all_backed_more e' xs (λ b. held b (map e' xs)) more (λ b. (let p = ap (held b) (bound_values e xs vs distinct size) in omega (arith, p))) (self_backed e' xs)) (all_backed_more e' outer others more (λ b. omega arith) (backed_as others e e' outer (unbound_all e xs vs outer none) back));
       shows = bound_all_shows k e ρ xs vs outer shows;
     }

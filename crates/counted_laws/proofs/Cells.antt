@@ -14,7 +14,7 @@ use Rattle.counted_code.specs.Values.{Buffer, Heap, Value, Small, Ref, Ended, Do
 use Rattle.counted_code.specs.Loops.{Source, Job, stored, cell_does, cells_do, Target, Inside, Fresh, claim, count_phase, claimed_does, job_does, write_cell}
 use Rattle.counted_code.specs.Machine.{one_value}
 use Rattle.counted_laws.specs.Simulation.{Owns, SameCells, Matches, MatchesOne, MatchesPure}
-use Rattle.counted_laws.proofs.Held.{buffer_set, same_cells_fewer, released_owns, released_others}
+use Rattle.counted_laws.proofs.Held.{buffer_set, same_cells_fewer, released_owns, released_others, recelled_balance, taken_balance}
 use Rattle.counted_laws.proofs.Plains.{vacant_end, taken_owns, taken_same}
 
 -- a cell of the form, or a fault
@@ -85,7 +85,7 @@ phase_same true n h others b le = refl
 
 inside_matches : (others : ℕ → ℕ) (h k : Heap) (result : List (Option ArrayValue) → ArrayValue) (m : Ended (List (Option ArrayValue))) (r : Ends (List (Option ArrayValue))) → SameCells others h k → MatchesPure others others k m r → Matches 1 others h (go_on (go_on m (λ found l. Done (Small (result found)) l)) (λ v. give (v ∷ []))) (one (and_then r (λ found. Ok (result found))))
 inside_matches others h k result (Done found l) (Ok cells) same p =
-    (refl, (λ i. result (p.0 i) ∷ []), (λ b. (let o = p.1 b in omega (arith, o))), (λ b le. p.2 b le ∙ same b le))
+    (refl, (λ i. result (p.0 i) ∷ []), ((λ b. (let o = p.1.0 b in omega (arith, o))), p.1.1), (λ b le. p.2 b le ∙ same b le))
 inside_matches others h k result (Failed f q) (Err g) same p = p
 inside_matches others h k result (Done found l) (Err g) same p = elim p [ ]
 inside_matches others h k result (Failed f q) (Ok cells) same p = elim p [ ]
@@ -113,12 +113,12 @@ fresh_matches : (others : ℕ → ℕ) (target : ℕ) → others target ≡ 0 �
 fresh_matches others target vacant h k result (Done found l) (Ok cells) same p = (
   refl,
   ap (λ a. a ∷ []) (shown ∙ ap result p.0),
-  (λ b. (let o = p.1 b in let c = recelled_count l target b (result found).cells live in omega (arith, o, c))),
+  ((λ b. (let o = p.1.0 b in let c = recelled_count l target b (result found).cells live in omega (arith, o, c))), recelled_balance l target (result found).cells live p.1.1),
   (λ b le. kept b le (eqb target b) refl ∙ p.2 b le ∙ same b le),
 )
   where
     live : 1 ≤ count_of l target
-    live = let o = p.1 target in let e = ap (λ t. cond t 1 0 + others target) (eq-eqb target target refl) in omega (arith, o, e)
+    live = let o = p.1.0 target in let e = ap (λ t. cond t 1 0 + others target) (eq-eqb target target refl) in omega (arith, o, e)
 
     shown : read (with_cells l target (result found).cells) (Ref target (result found).base (result found).shape) ≡ result found
     shown = λ i. record { base = (result found).base; shape = (result found).shape; cells = recelled_cells l target target (result found).cells true live (eq-eqb target target refl) i }
@@ -157,4 +157,4 @@ job_matches j core_cell h others owns linked = go (is_small j.shape) (j.folds ||
         let same : SameCells others h k = (λ b le. taken_same l zeros others owned b le ∙ phase_same phase (length j.indices) h others b le) in
         let hold : ℕ → ℕ = with_new target others in
         fresh_matches others target (vacant_end l others owned) h k j.result (cells_do j.form j.source (write_cell (Fresh target)) 0 j.indices k) (each core_cell j.indices) same
-        (cells_match hold others (λ b. omega arith) h j.form j.source core_cell (Fresh target) (λ i c m. refl) (λ v. linked v hold (λ b. omega arith)) j.indices 0 k (λ b. (let o = taken_owns l zeros others owned b in omega (arith, o))) same)
+        (cells_match hold others (λ b. omega arith) h j.form j.source core_cell (Fresh target) (λ i c m. refl) (λ v. linked v hold (λ b. omega arith)) j.indices 0 k ((λ b. (let o = taken_owns l zeros others owned b in omega (arith, o))), taken_balance l zeros owned.1) same)

@@ -1,13 +1,13 @@
 -- References that are held, and what keeping and releasing does to the counts and the cells.
-use Rattle.std.proofs.Common.{◌≡◌, ℕ, zero, suc, ◌+◌, ◌<◌, ◌≤◌, Bool, true, false, cond, eqb, List, [], ◌∷◌, ◌++◌, map, length, refl, ap, ◌∙◌, sym, subst, slice_index_or, arith, lt_irrefl, true≢false}
+use Rattle.std.proofs.Common.{◌≡◌, ℕ, zero, suc, ◌+◌, ◌<◌, ◌≤◌, Bool, true, false, cond, eqb, List, [], ◌∷◌, ◌++◌, map, length, refl, ap, ◌∙◌, sym, subst, slice_index_or, slice_set, ℤ, arith, lt_irrefl, true≢false}
 use Rattle.std.proofs.lemmas.Bool.{eqb-true, eq-eqb}
 use Rattle.std.proofs.lemmas.List.{get_or-set_same, get_or-set_other}
 use Rattle.core_ir.specs.declared.tree.Var.{Var}
 use Rattle.core_ir.specs.Meaning.{Env}
-use Rattle.counted_code.specs.Values.{Buffer, no_buffer, Heap, Value, Small, Ref, read, count_of, cells_of, buffer_at, with_buffer, keep, release, release_count}
+use Rattle.counted_code.specs.Values.{Buffer, no_buffer, Heap, Value, Small, Ref, read, count_of, cells_of, buffer_at, with_buffer, with_cells, take_buffer, keep, release, release_count}
 use Rattle.counted_code.specs.Machine.{Values}
 use Rattle.counted_code.specs.Counts.{Reordered, none, stays, swaps, through}
-use Rattle.counted_laws.specs.Simulation.{refers, held, Owns, Backed, AllBacked, Shows, SameCells}
+use Rattle.counted_laws.specs.Simulation.{refers, held, some, live, Balanced, Owns, Backed, AllBacked, Shows, SameCells}
 
 -- ---- lists of values
 
@@ -150,18 +150,71 @@ release_cells h (Ref b base shape) back c one =
     let s = suc_of (count_of h b) (one_of b (count_of h b) (back b)) in
     subst (λ n. 1 ≤ count_of (release_count b n h) c → cells_of (release_count b n h) c ≡ cells_of h c) (sym s.1) (released_cells_at s.0 h b c s.1) one
 
+-- ---- no buffer is lost
+
+live_set : (bs : List Buffer) (b : ℕ) (x : Buffer) → b < length bs → live (slice_set bs b x) + some (slice_index_or bs b no_buffer).count ≡ live bs + some x.count
+live_set [] b x lt = elim (none_below lt) [ ]
+  where
+    none_below : {n : ℕ} → n < 0 → ⊥
+    none_below p = omega (arith, p)
+live_set (y ∷ ys) zero x lt = omega arith
+live_set (y ∷ ys) (suc b) x lt = let rest = live_set ys b x (omega (arith, lt)) in omega (arith, rest)
+
+live_more : (bs : List Buffer) (x : Buffer) → live (bs ++ (x ∷ [])) ≡ live bs + some x.count
+live_more [] x = omega arith
+live_more (y ∷ ys) x = let rest = live_more ys x in omega (arith, rest)
+
+pub live_none : (bs : List Buffer) → ((b : ℕ) → (slice_index_or bs b no_buffer).count ≡ 0) → live bs ≡ 0
+live_none [] empty = refl
+live_none (x ∷ xs) empty = let rest = live_none xs (λ b. empty (suc b)) in let first = ap some (empty zero) in omega (arith, rest, first)
+
+some_one : (n : ℕ) → 1 ≤ n → some n ≡ 1
+some_one zero le = elim (lt_irrefl 0 le) [ ]
+some_one (suc n) le = refl
+
+-- a buffer with references is changed
+changed : (h : Heap) (b : ℕ) (x : Buffer) → 1 ≤ count_of h b → live (slice_set h.buffers b x) + 1 ≡ live h.buffers + some x.count
+changed h b x le = let s = live_set h.buffers b x (in_buffers h.buffers b le) in let one = some_one (count_of h b) le in omega (arith, s, one)
+
+same_balance : (h : Heap) (b : ℕ) (x : Buffer) → 1 ≤ count_of h b → 1 ≤ x.count → Balanced h → Balanced (with_buffer h b x)
+same_balance h b x le more balance = let c = changed h b x le in let one = some_one x.count more in omega (arith, c, one, balance)
+
+released_balance : (h : Heap) (v : Value) → Balanced h → Balanced (release v h)
+released_balance h (Small a) balance = balance
+released_balance h (Ref b base shape) balance = go (count_of h b) refl
+  where
+    go : (n : ℕ) → count_of h b ≡ n → Balanced (release_count b n h)
+    go zero is = balance
+    go (suc zero) is = let c = changed h b no_buffer (omega (arith, is)) in omega (arith, c, balance)
+    go (suc (suc n)) is = same_balance h b (record { count = suc n; cells = cells_of h b }) (omega (arith, is)) (omega arith) balance
+
+pub kept_balance : (h : Heap) (v : Value) → Backed (count_of h) v → Balanced h → Balanced (keep v h)
+kept_balance h (Small a) back balance = balance
+kept_balance h (Ref b base shape) back balance =
+    let le = one_of b (count_of h b) (back b) in
+    same_balance h b (record { count = count_of h b + 1; cells = cells_of h b }) le (omega arith) balance
+
+pub recelled_balance : (h : Heap) (b : ℕ) (xs : List ℤ) → 1 ≤ count_of h b → Balanced h → Balanced (with_cells h b xs)
+recelled_balance h b xs le balance = same_balance h b (record { count = count_of h b; cells = xs }) le le balance
+
+pub taken_balance : (h : Heap) (xs : List ℤ) → Balanced h → Balanced (take_buffer xs h)
+taken_balance h xs balance = let more = live_more h.buffers (record { count = 1; cells = xs }) in omega (arith, more, balance)
+
 -- the first of the values that are held is released
 pub released_owns : (h : Heap) (v : Value) (vs : List Value) (others : ℕ → ℕ) → Owns h (v ∷ vs) others → Owns (release v h) vs others
-released_owns h v vs others owns b =
-    let back : Backed (count_of h) v = (λ c. (let o = owns c in omega (arith, o))) in
-    let r = release_counts h v back b in
-    let o = owns b in
-    omega (arith, o, r)
+released_owns h v vs others owns = (
+  (λ b.
+      (let back : Backed (count_of h) v = (λ c. (let o = owns.0 c in omega (arith, o))) in
+      let r = release_counts h v back b in
+      let o = owns.0 b in
+      omega (arith, o, r))),
+  released_balance h v owns.1,
+)
 
 pub released_same : (h : Heap) (v : Value) (vs : List Value) (others : ℕ → ℕ) → Owns h (v ∷ vs) others → SameCells (λ b. held b vs + others b) h (release v h)
 released_same h v vs others owns =
-    let back : Backed (count_of h) v = (λ c. (let o = owns c in omega (arith, o))) in
-    same_cells_fewer (λ b. held b vs + others b) (count_of (release v h)) h (release v h) (λ b. (let o = released_owns h v vs others owns b in omega (arith, o))) (release_cells h v back)
+    let back : Backed (count_of h) v = (λ c. (let o = owns.0 c in omega (arith, o))) in
+    same_cells_fewer (λ b. held b vs + others b) (count_of (release v h)) h (release v h) (λ b. (let o = (released_owns h v vs others owns).0 b in omega (arith, o))) (release_cells h v back)
 
 pub released_others : (h : Heap) (v : Value) (vs : List Value) (others : ℕ → ℕ) → Owns h (v ∷ vs) others → SameCells others h (release v h)
 released_others h v vs others owns =

@@ -96,7 +96,7 @@ index_ready k e ρ holding outer g index back shows fresh owns =
     let xs : List Var = g.index ∷ g.names in
     let vs : List Value = Small (vector Int index) ∷ components index in
     record {
-      owns = λ b. (let o = owns b in let c = components_small b index in let z = small_all b e xs vs (omega (arith, c)) in omega (arith, o, z));
+      owns = ((λ b. (let o = owns.0 b in let c = components_small b index in let z = small_all b e xs vs (omega (arith, c)) in omega (arith, o, z))), owns.1);
       backed = backed_as holding e (bind_values e xs vs) outer (unbound_all e xs vs outer fresh) back;
       shows = subst (λ ws. Shows k (bind_values e xs vs) (bind_all ρ xs (vector Int index ∷ ws)) (xs ++ outer)) (components_read k index) (bound_all_shows k e ρ xs vs outer shows);
     }
@@ -218,7 +218,7 @@ module _ (results_of : ℕ → ℕ) (does_calls : DoesCalls) (calls : CallMeanin
   part_runs g b block fresh counted v holding fewer k owns same =
       first_matches holding k (does does_calls turns b (bind_value e g.index (Small (vector Int v))) k) (run calls turns (core_of b) (bind ρ g.index (vector Int v)))
       (block 1 live (g.index ∷ []) counted k (bind_value e g.index (Small (vector Int v))) (bind ρ g.index (vector Int v)) holding
-      (turn_ready k e ρ holding live (g.index ∷ []) (Small (vector Int v) ∷ []) (all_backed_more e live others holding fewer backed) (backed_shows others h k e ρ live backed same shows) refl (refl, tt) (fresh, tt) (λ c. (let o = owns c in omega (arith, o)))))
+      (turn_ready k e ρ holding live (g.index ∷ []) (Small (vector Int v) ∷ []) (all_backed_more e live others holding fewer backed) (backed_shows others h k e ρ live backed same shows) refl (refl, tt) (fresh, tt) ((λ c. (let o = owns.0 c in omega (arith, o))), owns.1)))
 
   parts_linked : (parts : CodePartsTerm) → PartsMatch results_of does_calls calls turns parts → CountedParts results_of live parts → (base : Base) (cell : List ℕ) (v : List ℤ) → AlwaysLinked others h (record { base = base; shape = cell }) (part_holder (code_cells does_calls turns parts e) v) (cell_at (cell_form base cell) (cells calls turns (core_of_parts parts) ρ) v)
   parts_linked NoCodeParts blocks counted base cell v holding fewer = refl

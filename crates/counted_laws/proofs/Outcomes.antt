@@ -1,5 +1,5 @@
 -- A whole run ends as its core does, and leaves no buffer.
-use Rattle.std.proofs.Common.{◌≡◌, ℕ, suc, ◌+◌, Bool, true, false, List, [], ◌∷◌, map, length, Option, Some, None, Ok, Err, refl, ap, ◌∙◌, sym, subst, arith}
+use Rattle.std.proofs.Common.{◌≡◌, ℕ, suc, ◌+◌, ◌%◌, ◌^◌, Bool, true, false, List, [], ◌∷◌, map, length, Option, Some, None, Ok, Err, refl, ap, ◌∙◌, sym, subst, arith}
 use Rattle.std.specs.Prelude.{if◌then◌else◌, slice_get, option_map}
 use Rattle.sac_base.specs.declared.fault.Caps.{Caps}
 use Rattle.sac_base.specs.declared.fault.FaultKind.TheVariants.{F7}
@@ -13,10 +13,10 @@ use Rattle.core_ir.specs.Outcome.{call_at, main_value, function_value, outcome}
 use Rattle.counted_code.specs.Terms.{CodeFunTerm, CodeProgram, core_of_fun, core_of_code}
 use Rattle.counted_code.specs.Values.{Heap, empty_heap, Value, Small, Ref, Ended, Done, Failed, Doing, give, go_on, then_go, read, count_of, is_small, release, release_all, place_as, place_all, take_buffer}
 use Rattle.counted_code.specs.Machine.{DoesCalls}
-use Rattle.counted_code.specs.Outcome.{code_param_types, function_does, call_does_at, copied_out, main_does, whole_run, outcome_of}
+use Rattle.counted_code.specs.Outcome.{code_param_types, function_does, call_does_at, copied_out, main_does, whole_run, outcome_of, cost_of}
 use Rattle.counted_code.specs.Counts.{IsWellCounted, IsUnmarked, group_results}
-use Rattle.counted_laws.specs.Simulation.{refers, held, Owns, SameCells, Matches, LeavesNothing}
-use Rattle.counted_laws.proofs.Held.{backed_reads, released_owns}
+use Rattle.counted_laws.specs.Simulation.{refers, Balanced, Owns, SameCells, Matches, LeavesNothing, GivesAllBack}
+use Rattle.counted_laws.proofs.Held.{backed_reads, released_owns, live_none, taken_balance}
 use Rattle.counted_laws.proofs.Plains.{taken_cells, taken_owns, taken_same}
 use Rattle.counted_laws.proofs.Instances.{have_length}
 use Rattle.counted_laws.proofs.Functions.{slice_map, map_length, counted_at, unmarked_at, function_matches, top_matched}
@@ -28,9 +28,9 @@ placed : (small : Bool) (a : ArrayValue) (ws : List ArrayValue) (h : Heap) (othe
 placed true a ws h others owns rest = go (place_all ws h) (rest h others owns)
   where
     go : (m : Ended (List Value)) → Matches (length ws) others h m (Ok ws) → Matches (suc (length ws)) others h (go_on m (λ vs. give (Small a ∷ vs))) (Ok (a ∷ ws))
-    go (Done vs k) r = (ap suc r.0, (λ i. a ∷ r.1 i), (λ b. (let o = r.2 b in omega (arith, o))), r.3)
+    go (Done vs k) r = (ap suc r.0, (λ i. a ∷ r.1 i), ((λ b. (let o = r.2.0 b in omega (arith, o))), r.2.1), r.3)
     go (Failed f p) r = elim r [ ]
-placed false a ws h others owns rest = go (place_all ws k) (rest k more (λ b. (let o = taken_owns h a.cells others owns b in omega (arith, o))))
+placed false a ws h others owns rest = go (place_all ws k) (rest k more ((λ b. (let o = taken_owns h a.cells others owns b in omega (arith, o))), taken_balance h a.cells owns.1))
   where
     k : Heap
     k = take_buffer a.cells h
@@ -45,7 +45,7 @@ placed false a ws h others owns rest = go (place_all ws k) (rest k more (λ b. (
         let own = kept ∙ (λ i. record { base = a.base; shape = a.shape; cells = taken_cells h a.cells i }) in (
           ap suc r.0,
           (λ i. own i ∷ r.1 i),
-          (λ b. (let o = r.2 b in omega (arith, o))),
+          ((λ b. (let o = r.2.0 b in omega (arith, o))), r.2.1),
           (λ b le. r.3 b (omega (arith, le)) ∙ taken_same h a.cells others owns b le),
         )
     go (Failed f p) r = elim r [ ]
@@ -57,27 +57,35 @@ all_placed (a ∷ ws) h others owns = placed (is_small a.shape) a ws h others ow
 -- ---- the results
 
 released_counts : (vs : List Value) (h : Heap) (others : ℕ → ℕ) → Owns h vs others → (b : ℕ) → count_of (release_all vs h) b ≡ others b
-released_counts [] h others owns b = let o = owns b in omega (arith, o)
+released_counts [] h others owns b = let o = owns.0 b in omega (arith, o)
 released_counts (v ∷ vs) h others owns b = released_counts vs (release v h) others (released_owns h v vs others owns) b
+
+released_all : (vs : List Value) (h : Heap) (others : ℕ → ℕ) → Owns h vs others → Balanced (release_all vs h)
+released_all [] h others owns = owns.1
+released_all (v ∷ vs) h others owns = released_all vs (release v h) others (released_owns h v vs others owns)
 
 -- nobody else holds anything
 abbrev nobody : ℕ → ℕ
 nobody b = 0
 
--- a run ends as the core does, and leaves nothing
+-- a run ends as the core does, leaves nothing, and gives back what it took
 abbrev EndsAs : Ended (List ArrayValue) → Answer → Type 0
-EndsAs m a = (outcome_of m ≡ a) × LeavesNothing m
+EndsAs m a = (outcome_of m ≡ a) × LeavesNothing m × GivesAllBack m
 
 copied : (n : ℕ) (h : Heap) (m : Ended (List Value)) (a : Answer) → Matches n nobody h m a → EndsAs (go_on m copied_out) a
-copied n h (Done vs k) (Ok ws) r = (ap Ok r.1, (λ b. released_counts vs k nobody r.2 b))
-copied n h (Failed f p) (Err g) r = (ap Err r, tt)
+copied n h (Done vs k) (Ok ws) r =
+    let none = released_counts vs k nobody r.2 in
+    let all = released_all vs k nobody r.2 in
+    let left = live_none (release_all vs k).buffers none in
+    (ap Ok r.1, none, omega (arith, all, left))
+copied n h (Failed f p) (Err g) r = (ap Err r, tt, tt)
 copied n h (Done vs k) (Err g) r = elim r [ ]
 copied n h (Failed f p) (Ok ws) r = elim r [ ]
 
 -- ---- the whole
 
-empty_owns : (b : ℕ) → count_of empty_heap b ≡ held b [] + nobody b
-empty_owns b = omega arith
+empty_owns : Owns empty_heap [] nobody
+empty_owns = ((λ b. omega arith), refl)
 
 -- two ends of one kind, where the second follows from the first
 after_placing : (n m : ℕ) (ws : List ArrayValue) (next : List Value → Doing (List Value)) (a : List ArrayValue → Answer) → Matches n nobody empty_heap (place_all ws empty_heap) (Ok ws) → ((vs : List Value) (k : Heap) → length vs ≡ n → Owns k vs nobody → SameCells nobody empty_heap k → Matches m nobody k (next vs k) (a (map (read k) vs))) → EndsAs (go_on (place_all ws empty_heap) (λ vs. then_go (next vs) copied_out)) (a ws)
@@ -99,7 +107,7 @@ ends_as_core code counted unmarked args caps =
     does_calls = call_does_at code caps.turns caps.depth
 
     called : (f : CodeFunTerm) → slice_get code.functions code.main ≡ Some f → (fits : Bool) → all_have (code_param_types f) args ≡ fits → EndsAs ((if fits then then_go (place_all args) (λ vs. then_go (function_does caps.turns (call_does_at code caps.turns caps.depth) f vs) copied_out) else (λ h. Failed (record { kind = F7; site = f.site }) h.phases)) empty_heap) (if fits then function_value caps.turns (call_at (core_of_code code) caps.turns caps.depth) (core_of_fun f) args else fault F7 f.site)
-    called f is false e = (refl, tt)
+    called f is false e = (refl, tt, tt)
     called f is true e =
         let size = have_length (code_param_types f) args e ∙ map_length (λ (p : Var × ArrayType). p.1) f.params ∙ sym (map_length (λ (p : Var × ArrayType). p.0) f.params) in
         after_placing (length args) (length f.results) args (function_does caps.turns (call_does_at code caps.turns caps.depth) f) (function_value caps.turns (call_at (core_of_code code) caps.turns caps.depth) (core_of_fun f))
@@ -107,5 +115,10 @@ ends_as_core code counted unmarked args caps =
         (λ vs k z o same. function_matches (group_results (core_of_code code)) (call_does_at code caps.turns caps.depth) (call_at (core_of_code code) caps.turns caps.depth) caps.turns (top_matched code counted unmarked caps.turns caps.depth) f (counted_at (group_results (core_of_code code)) code.functions counted.functions code.main f is) (unmarked_at code.functions unmarked code.main f is) vs k nobody (z ∙ size) o)
 
     go : (o : Option CodeFunTerm) → slice_get code.functions code.main ≡ o → EndsAs (main_does caps.turns (call_does_at code caps.turns caps.depth) o args empty_heap) (main_value caps.turns (call_at (core_of_code code) caps.turns caps.depth) (option_map core_of_fun o) args)
-    go None is = (refl, tt)
+    go None is = (refl, tt, tt)
     go (Some f) is = called f is (all_have (code_param_types f) args) refl
+
+-- what a run takes and gives back, modulo 2 ^ 64
+pub even_cost : (m : Ended (List ArrayValue)) → GivesAllBack m → (cost_of m).given ≡ (cost_of m).taken
+even_cost (Done ws h) even = ap (λ n. n % 2 ^ 64) even
+even_cost (Failed f phases) even = refl

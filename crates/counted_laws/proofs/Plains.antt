@@ -20,7 +20,7 @@ use Rattle.counted_code.specs.Values.{Buffer, no_buffer, Heap, Value, Done, give
 use Rattle.counted_code.specs.Machine.{Values, DoesCalls, one_value, reads, plain_does}
 use Rattle.counted_code.specs.Counts.{Reordered, plain_hands, PlainGives}
 use Rattle.counted_laws.specs.Simulation.{Owns, Shows, SameCells, Matches}
-use Rattle.counted_laws.proofs.Held.{held_reordered}
+use Rattle.counted_laws.proofs.Held.{taken_balance, held_reordered}
 use Rattle.counted_laws.proofs.Bound.{suc_same, shown_at}
 use Rattle.counted_laws.proofs.Blocks.{RightMatches}
 
@@ -52,7 +52,7 @@ beyond (y ∷ bs) = beyond bs
 
 -- nobody has a reference to the next buffer
 pub vacant_end : (h : Heap) (others : ℕ → ℕ) → Owns h [] others → others (length h.buffers) ≡ 0
-vacant_end h others owns = let o = owns (length h.buffers) in let z = ap (λ (x : Buffer). x.count) (beyond h.buffers) in omega (arith, o, z)
+vacant_end h others owns = let o = owns.0 (length h.buffers) in let z = ap (λ (x : Buffer). x.count) (beyond h.buffers) in omega (arith, o, z)
 
 pub taken_cells : (h : Heap) (xs : List ℤ) → cells_of (take_buffer xs h) (length h.buffers) ≡ xs
 taken_cells h xs =
@@ -67,7 +67,7 @@ taken_owns h xs others owns b = ap (λ (x : Buffer). x.count) (appended h.buffer
         let z = vacant_end h others owns in
         let q = ap others (eqb-true (length h.buffers) b p) in
         omega (arith, z, q)
-    go false p = let o = owns b in omega (arith, o)
+    go false p = let o = owns.0 b in omega (arith, o)
 
 pub taken_same : (h : Heap) (xs : List ℤ) (others : ℕ → ℕ) → Owns h [] others → SameCells others h (take_buffer xs h)
 taken_same h xs others owns b le = ap (λ (x : Buffer). x.cells) (appended h.buffers (record { count = 1; cells = xs }) b) ∙ go (eqb (length h.buffers) b) refl
@@ -85,9 +85,9 @@ taken_same h xs others owns b le = ap (λ (x : Buffer). x.cells) (appended h.buf
 -- ---- results that are placed
 
 pub placed_as : (small : Bool) (h : Heap) (a : ArrayValue) (others : ℕ → ℕ) → Owns h [] others → Matches 1 others h (one_value (place_as small a) h) (Ok (a ∷ []))
-placed_as true h a others owns = (refl, refl, (λ b. (let o = owns b in omega (arith, o))), (λ b le. refl))
+placed_as true h a others owns = (refl, refl, ((λ b. (let o = owns.0 b in omega (arith, o))), owns.1), (λ b le. refl))
 placed_as false h a others owns =
-    (refl, (λ i. record { base = a.base; shape = a.shape; cells = taken_cells h a.cells i } ∷ []), (λ b. (let o = taken_owns h a.cells others owns b in omega (arith, o))), taken_same h a.cells others owns)
+    (refl, (λ i. record { base = a.base; shape = a.shape; cells = taken_cells h a.cells i } ∷ []), ((λ b. (let o = taken_owns h a.cells others owns b in omega (arith, o))), taken_balance h a.cells owns.1), taken_same h a.cells others owns)
 
 ended_matches : (h : Heap) (s : Site) (others : ℕ → ℕ) (r : Result ArrayValue FaultKind) → Owns h [] others → Matches 1 others h (one_value (then_go (pure_end (at_site s r)) place_value) h) (one (at_site s r))
 ended_matches h s others (Ok a) owns = placed_as (is_small a.shape) h a others owns
@@ -115,10 +115,10 @@ plain_same h e ρ live (PlainTerm.Always k) s u = refl
 plain_same h e ρ live (PlainTerm.Check x t) s u = λ i. checked t (shown_at h e ρ x live s u.0 i)
 
 pub owns_none : (h : Heap) (e : Values) (others : ℕ → ℕ) (mine : List Var) → Owns h (map e mine) others → Reordered mine [] → Owns h [] others
-owns_none h e others mine owns order b = owns b ∙ ap (λ m. m + others b) (held_reordered b e order)
+owns_none h e others mine owns order = ((λ b. owns.0 b ∙ ap (λ m. m + others b) (held_reordered b e order)), owns.1)
 
 owns_one : (h : Heap) (e : Values) (others : ℕ → ℕ) (mine : List Var) (x : Var) → Owns h (map e mine) others → Reordered mine (x ∷ []) → Owns h (e x ∷ []) others
-owns_one h e others mine x owns order b = owns b ∙ ap (λ m. m + others b) (held_reordered b e order)
+owns_one h e others mine x owns order = ((λ b. owns.0 b ∙ ap (λ m. m + others b) (held_reordered b e order)), owns.1)
 
 checked_as : (h : Heap) (s : Site) (others : ℕ → ℕ) (v : Value) (fits : Bool) → Owns h (v ∷ []) others → Matches 1 others h (one_value (then_go (pure_end (at_site s (if fits then Ok (read h v) else Err F7))) (λ a. give v)) h) (one (at_site s (if fits then Ok (read h v) else Err F7)))
 checked_as h s others v true owns = (refl, refl, owns, (λ b le. refl))

@@ -36,7 +36,7 @@ after_test m others k vs site more done go_more go_done (Done [] k1) (Ok ws) r r
 after_test m others k vs site more done go_more go_done (Done (u ∷ (w ∷ us)) k1) (Ok ws) r rest = elim (zero_not_suc (sym (suc_same r.0))) [ ]
 after_test m others k vs site more done go_more go_done (Done (u ∷ []) k1) (Ok ws) r rest =
     let counts : ℕ → ℕ = (λ b. held b vs + others b) in
-    let owns1 : Owns k1 (u ∷ vs) others = (λ b. (let o = r.2 b in omega (arith, o))) in
+    let owns1 : Owns k1 (u ∷ vs) others = ((λ b. (let o = r.2.0 b in omega (arith, o))), r.2.1) in
     let k2 : Heap = release u k1 in
     let owns : Owns k2 vs others = released_owns k1 u vs others owns1 in
     let same : SameCells counts k k2 = (λ b le. released_same k1 u vs others owns1 b le ∙ r.3 b le) in
@@ -82,7 +82,7 @@ module _ (results_of : ℕ → ℕ) (does_calls : DoesCalls) (calls : CallMeanin
   pub call_matches : CallsMatch results_of does_calls calls → (g : ℕ) (xs : List Var) → RightMatches results_of does_calls calls turns (CallCode g xs)
   call_matches match g xs n outer mine after counted s h e ρ others ready =
       let values = shows_values h e ρ xs (shows_reordered h e ρ counted.1 (shows_front h e ρ mine (after ++ outer) ready.shows)) in
-      let owns : Owns h (map e xs) others = (λ b. ready.owns b ∙ ap (λ m. m + others b) (held_reordered b e counted.1)) in
+      let owns : Owns h (map e xs) others = ((λ b. ready.owns.0 b ∙ ap (λ m. m + others b) (held_reordered b e counted.1)), ready.owns.1) in
       subst (λ m. Matches m others h (does_calls g (map e xs) s h) (calls g (map ρ xs) s)) counted.0
       (subst (λ ws. Matches (results_of g) others h (does_calls g (map e xs) s h) (calls g ws s)) values (match g (map e xs) s h others owns))
 
@@ -96,7 +96,7 @@ module _ (results_of : ℕ → ℕ) (does_calls : DoesCalls) (calls : CallMeanin
   loop_matches b start params test body u tests bodies n outer mine after counted s h e ρ others ready =
       let rest = shows_back h e ρ mine (after ++ outer) ready.shows in
       let values = shows_values h e ρ start (shows_reordered h e ρ counted.4 (shows_front h e ρ mine (after ++ outer) ready.shows)) in
-      let owns : Owns h (map e start) others = (λ c. ready.owns c ∙ ap (λ m. m + others c) (held_reordered c e counted.4)) in
+      let owns : Owns h (map e start) others = ((λ c. ready.owns.0 c ∙ ap (λ m. m + others c) (held_reordered c e counted.4)), ready.owns.1) in
       subst (λ ws. Matches n others h (right_does does_calls turns (LoopCode b start params test body u) s e h) (loop_value b turns s u (λ vs. first (run calls turns (core_of test) (bind_all ρ params vs))) (λ vs. run calls turns (core_of body) (bind_all ρ params vs)) ws)) values
       (turns_match n others h s u (λ vs. does does_calls turns test (bind_values e params vs)) (λ vs. does does_calls turns body (bind_values e params vs)) (λ vs. run calls turns (core_of test) (bind_all ρ params vs)) (λ vs. run calls turns (core_of body) (bind_all ρ params vs))
       (λ k vs same size o. tests 1 (params ++ (after ++ outer)) [] counted.5 k (bind_values e params vs) (bind_all ρ params (map (read k) vs)) (λ c. held c vs + others c)

@@ -1,11 +1,11 @@
 -- When a run with a heap does what its core means.
-use Rattle.std.specs.Prelude.{◌≡◌, ℕ, ◌+◌, ◌≤◌, cond, eqb, List, [], ◌∷◌, map, length, Ok, Err}
+use Rattle.std.specs.Prelude.{◌≡◌, ℕ, zero, suc, ◌+◌, ◌≤◌, cond, eqb, List, [], ◌∷◌, map, length, Ok, Err}
 use Rattle.sac_base.specs.declared.site.Site.{Site}
 use Rattle.sac_base.specs.Arrays.{ArrayValue}
 use Rattle.sac_base.specs.Outcomes.{Ends}
 use Rattle.core_ir.specs.declared.tree.Var.{Var}
 use Rattle.core_ir.specs.Meaning.{Env, Answer, CallMeaning}
-use Rattle.counted_code.specs.Values.{Heap, Value, Small, Ref, Ended, Done, Failed, read, count_of, cells_of}
+use Rattle.counted_code.specs.Values.{Buffer, Heap, Value, Small, Ref, Ended, Done, Failed, read, count_of, cells_of}
 use Rattle.counted_code.specs.Machine.{Values, DoesCalls}
 
 -- how many references to the buffer at a place a value is, and these values are together
@@ -17,9 +17,23 @@ abbrev pub held : ℕ → List Value → ℕ
 held b [] = 0
 held b (v ∷ vs) = refers b v + held b vs
 
--- each buffer's count is the number of references among these values, and of those that others hold
+-- 1 where there is a reference at all
+abbrev pub some : ℕ → ℕ
+some zero = 0
+some (suc n) = 1
+
+-- how many buffers have references
+abbrev pub live : List Buffer → ℕ
+live [] = 0
+live (x ∷ xs) = some x.count + live xs
+
+-- each buffer that was taken was given back or has references
+abbrev pub Balanced : Heap → Type 0
+Balanced h = h.taken ≡ h.given + live h.buffers
+
+-- each buffer's count is the number of references among these values, and of those that others hold; and no buffer was lost
 abbrev pub Owns : Heap → List Value → (ℕ → ℕ) → Type 0
-Owns h vs others = (b : ℕ) → count_of h b ≡ held b vs + others b
+Owns h vs others = ((b : ℕ) → count_of h b ≡ held b vs + others b) × Balanced h
 
 -- a value's buffer has a reference among those that are counted
 abbrev pub Backed : (ℕ → ℕ) → Value → Type 0
@@ -65,3 +79,8 @@ CallsMatch results_of does_calls calls =
 abbrev pub LeavesNothing : Ended (List ArrayValue) → Type 0
 LeavesNothing (Done ws h) = (b : ℕ) → count_of h b ≡ 0
 LeavesNothing (Failed f phases) = Unit {0}
+
+-- each buffer that was taken is given back at the end
+abbrev pub GivesAllBack : Ended (List ArrayValue) → Type 0
+GivesAllBack (Done ws h) = h.given ≡ h.taken
+GivesAllBack (Failed f phases) = Unit {0}

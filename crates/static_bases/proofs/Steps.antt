@@ -1,6 +1,5 @@
 -- One step of the loops that gather bases.
 use Rattle.std.proofs.Common.{◌≡◌, ℕ, zero, suc, ◌+◌, ◌<◌, List, [], ◌∷◌, ◌++◌, length, get_or, drop, Bool, true, false, refl, sym, ap, ◌∙◌, arith, Option, Some, Vec, Global}
-use Rattle.std.specs.Prelude.{◌&&◌}
 use Rattle.std.proofs.lemmas.List.{drop_more, drop_all}
 use Rattle.sac_base.specs.declared.base.Base.{Base}
 use Rattle.sac_base.specs.declared.base.Base.TheVariants.{Int}
@@ -15,8 +14,10 @@ use Rattle.sac_ast.specs.declared.Expression.{Expression, Expression-F, out-Expr
 use Rattle.sac_ast.specs.declared.Expression.TheVariants.{Call, rolls-Call}
 use Rattle.sac_ast.specs.Tree
 use Rattle.sac_ast.specs.View.{expr, generator, bound, maybe}
-use Rattle.sac_ast.specs.Bases.{Bases, CallBases, base, bound_base, maybe_base, are_int, may_match, generator_fits, with_bases, in_expr, in_stmt}
+use Rattle.sac_ast.specs.Bases.{Bases, CallBases, base, bound_base, maybe_base, are_int, generator_fits, with_base_of, cell_base, operation_base, where_holds, with_bases, in_expr, in_stmt}
 use Rattle.sac_ast.proofs.Views.{expression_opened, expression_layer, generator_is}
+use Rattle.static_bases.specs.declared.base.Given.{Given}
+use Rattle.static_bases.specs.Generators.{one_given, all_given, first_cell, fitting}
 use Rattle.static_bases.specs.Lookup.{base_at}
 
 -- ---- the base at a place
@@ -49,13 +50,32 @@ targets_step targets bs known k d h = sym (
 
 -- ---- a generator from its parts
 
-pub fits_from : (calls : CallBases) (known : Bases) (g : Generator) (wanted l u s w b : Option Base)
+pub given_from : (calls : CallBases) (known : Bases) (g : Generator) (l u s w b : Option Base)
     → l ≡ bound_base calls known (bound g.lower) → u ≡ bound_base calls known (bound g.upper)
     → s ≡ maybe_base calls known (maybe g.step) (Some Int) → w ≡ maybe_base calls known (maybe g.width) (Some Int) → b ≡ base calls known (expr g.cell)
-    → generator_fits calls known (generator g) wanted ≡ (are_int l u s w && may_match wanted b)
-fits_from calls known g wanted l u s w b el eu es ew eb =
-    ap (λ tree. generator_fits calls known tree wanted) (generator_is g)
-    ∙ λ i. are_int (sym el i) (sym eu i) (sym es i) (sym ew i) && may_match wanted (sym eb i)
+    → record { are_int = are_int l u s w; cell = b } ≡ one_given calls known (generator g)
+given_from calls known g l u s w b el eu es ew eb = sym (
+    ap (λ tree. one_given calls known tree) (generator_is g)
+    ∙ λ i. record { are_int = are_int (sym el i) (sym eu i) (sym es i) (sym ew i); cell = sym eb i })
+
+-- ---- a with-loop from what its generators have
+
+with_given : (calls : CallBases) (known : Bases) (gs : Tree.Gens) (wanted : Option Base) → fitting wanted (all_given calls known gs) ≡ with_base_of calls known gs wanted
+with_given calls known Tree.no_gens wanted = refl
+with_given calls known (Tree.gen_and (Tree.gen lower lower_closed index upper upper_closed step width body cell site) gs) wanted =
+    ap (where_holds (generator_fits calls known (Tree.gen lower lower_closed index upper upper_closed step width body cell site) wanted)) (with_given calls known gs wanted)
+
+first_given : (calls : CallBases) (known : Bases) (gs : Tree.Gens) → first_cell (all_given calls known gs) ≡ cell_base calls known gs
+first_given calls known Tree.no_gens = refl
+first_given calls known (Tree.gen_and (Tree.gen lower lower_closed index upper upper_closed step width body cell site) gs) = refl
+
+pub with_from : (calls : CallBases) (known : Bases) (gs : Tree.Gens) (op : Tree.OperationTree) (given : List Given) (wanted : Option Base)
+    → given ≡ all_given calls known gs → wanted ≡ operation_base calls known op (first_cell given)
+    → fitting wanted given ≡ with_base_of calls known gs (operation_base calls known op (cell_base calls known gs))
+with_from calls known gs op given wanted e w =
+    ap (fitting wanted) e
+    ∙ with_given calls known gs wanted
+    ∙ ap (with_base_of calls known gs) (w ∙ ap (operation_base calls known op) (ap first_cell e ∙ first_given calls known gs))
 
 -- ---- an assignment whose right side is no call
 

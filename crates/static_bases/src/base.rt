@@ -3,6 +3,7 @@
 ghost use Rattle.std.specs.Prelude.{◌≡◌, IfOk};
 ghost use Rattle.sac_ast.specs.Bases;
 ghost use Rattle.sac_ast.specs.View;
+ghost use Rattle.static_bases.specs.Generators;
 
 use crate::call::call_instance;
 use crate::rules::{
@@ -61,9 +62,9 @@ pub fn base_of(
             Ok(builtin_base(*builtin, &bases))
         }
         Expression::With(gs, op, _) => {
-            let cell = cell_base(gs, alloc, functions, known)?;
-            let wanted = operation_base(op, cell, alloc, functions, known)?;
-            with_base(gs, wanted, alloc, functions, known)
+            let given = all_given(gs, alloc, functions, known)?;
+            let wanted = operation_base(op, first_cell(&given), alloc, functions, known)?;
+            Ok(with_base(&given, wanted))
         }
     }
 }
@@ -159,51 +160,39 @@ fn operation_base(
     }
 }
 
-// The base of the first generator's cell, and int without a generator.
-#[cycle(bases)]
-fn cell_base(
-    gs: &[Generator],
-    alloc: Global,
-    functions: &[Function],
-    known: &[Known],
-) -> Result<Option<Base>, Memory>
-    ensures { IfOk result (λ b. b ≡ Bases.cell_base (Bases.call_bases_in (View.functions functions.now)) known.now (View.generators gs.now)) }
-{
-    match gs.first() {
-        None => Ok(Some(Base::Int)),
-        Some(g) => base_of(&g.cell, alloc, functions, known),
-    }
+/// The bases of a generator: whether its bounds, step and width are int, and its cell's base.
+#[derive(Clone, Copy, Debug)]
+pub struct Given {
+    pub are_int: bool,
+    pub cell: Option<Base>,
 }
 
-// The base of a with-loop whose cells need this one.
+// The bases of generators, each of which is looked at once.
 #[cycle(bases)]
-fn with_base(
+fn all_given(
     gs: &[Generator],
-    wanted: Option<Base>,
     alloc: Global,
     functions: &[Function],
     known: &[Known],
-) -> Result<Option<Base>, Memory>
-    ensures { IfOk result (λ b. b ≡ Bases.with_base_of (Bases.call_bases_in (View.functions functions.now)) known.now (View.generators gs.now) wanted) }
+) -> Result<Vec<Given>, Memory>
+    ensures { IfOk result (λ given. given.items ≡ Generators.all_given (Bases.call_bases_in (View.functions functions.now)) known.now (View.generators gs.now)) }
 {
+    let mut given = Vec::new(alloc);
     for g in gs {
-        if !generator_fits(g, wanted, alloc, functions, known)? {
-            return Ok(None);
-        }
+        let one = one_given(g, alloc, functions, known)?;
+        given.push(one)?;
     }
-    Ok(wanted)
+    Ok(given)
 }
 
-// Whether bounds, steps and widths are int, and the cell has the operation's base.
 #[cycle(bases)]
-fn generator_fits(
+fn one_given(
     g: &Generator,
-    wanted: Option<Base>,
     alloc: Global,
     functions: &[Function],
     known: &[Known],
-) -> Result<bool, Memory>
-    ensures { IfOk result (λ b. b ≡ Bases.generator_fits (Bases.call_bases_in (View.functions functions.now)) known.now (View.generator g.now) wanted) }
+) -> Result<Given, Memory>
+    ensures { IfOk result (λ given. given ≡ Generators.one_given (Bases.call_bases_in (View.functions functions.now)) known.now (View.generator g.now)) }
 {
     let int = Some(Base::Int);
     let lower = bound_base(&g.lower, alloc, functions, known)?;
@@ -211,7 +200,32 @@ fn generator_fits(
     let step = maybe_base(&g.step, int, alloc, functions, known)?;
     let width = maybe_base(&g.width, int, alloc, functions, known)?;
     let cell = base_of(&g.cell, alloc, functions, known)?;
-    Ok(are_int(lower, upper, step, width) && may_match(wanted, cell))
+    Ok(Given {
+        are_int: are_int(lower, upper, step, width),
+        cell,
+    })
+}
+
+// The base of the first generator's cell, and int without a generator.
+fn first_cell(given: &[Given]) -> Option<Base>
+    ensures { result ≡ Generators.first_cell given.now }
+{
+    match given {
+        [] => Some(Base::Int),
+        [first, ..] => first.cell,
+    }
+}
+
+// The base of a with-loop whose cells need this one.
+fn with_base(given: &[Given], wanted: Option<Base>) -> Option<Base>
+    ensures { result ≡ Generators.fitting wanted given.now }
+{
+    for one in given {
+        if !(one.are_int && may_match(wanted, one.cell)) {
+            return None;
+        }
+    }
+    wanted
 }
 
 fn are_int(
