@@ -80,7 +80,7 @@ pub record Shows (a : Inside) (h : HeapValue) (b : ℕ) (p : Place) (M : Held �
   pub is : p ≡ slice_index_or a.places.items b p
   pub live : IsLive h b M
 
-below : (a : Inside) (h : HeapValue) (b : ℕ) (p : Place) (M : Held → Type 0) → Shows a h b p M → b < length a.places.items
+pub below : (a : Inside) (h : HeapValue) (b : ℕ) (p : Place) (M : Held → Type 0) → Shows a h b p M → b < length a.places.items
 below a h b p M s = in_range a.places.items b M (subst (λ x. IsLive x b M) (sym s.view) s.live)
 
 pub there : (a : Inside) (h : HeapValue) (b : ℕ) (p : Place) (M : Held → Type 0) → Shows a h b p M → at h b ≡ held_of p
@@ -122,7 +122,7 @@ released_last a h b p q M s one gone =
     ∙ ap (λ x. record (with_place h b None) { given = (x.given + 1) % 2 ^ 64 }) s.view
     ∙ ap (λ n. released_at n h b) (sym (count_here a h b p M s ∙ one))
 
-map_length : (ps : List Place) → length (map held_of ps) ≡ length ps
+pub map_length : (ps : List Place) → length (map held_of ps) ≡ length ps
 map_length [] = refl
 map_length (p ∷ ps) = ap suc (map_length ps)
 

@@ -44,6 +44,10 @@ IsNamed born x = IsIn x × (x.born ≡ born)
 abbrev pub HasRoom : ℕ → Held → Type 0
 HasRoom born x = IsIn x × (x.born ≡ born) × (x.count < 2 ^ 62)
 
+-- the buffer of this number is out, with so many cells
+abbrev pub IsLifted : ℕ → ℕ → Held → Type 0
+IsLifted born len x = (x.content ≡ Out len) × (x.born ≡ born)
+
 -- how many cells the buffer has
 abbrev pub len_of : Content → ℕ
 len_of (In cells) = length cells

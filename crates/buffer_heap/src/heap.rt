@@ -1,5 +1,5 @@
 ghost use Rattle.std.specs.Prelude.{◌≡◌, IsTrue, ◌≢◌, ◌+◌, ◌<◌, ◌≤◌, ◌%◌, ◌^◌, ◌==◌, ◌↔◌, ℕ, pos, [], length, replicate, count_by, is_some, Some, None, OnErr, OnOk, IfOk, ⊤};
-ghost use Rattle.buffer_heap.specs.Heaps.{In, Out, Held, HeapValue, at, IsLive, IsIn, IsInAndSole, IsNamed, HasRoom, with_place, with_count, with_content, count_of, content_of, lifted, released};
+ghost use Rattle.buffer_heap.specs.Heaps.{In, Out, Held, HeapValue, at, IsLive, IsIn, IsInAndSole, IsNamed, HasRoom, IsLifted, with_place, with_count, with_content, count_of, content_of, lifted, released};
 ghost use Rattle.buffer_heap.specs.Places.{held_of};
 ghost use Rattle.sac_base.specs.declared.outcome.Released.TheVariants.{Freed};
 
@@ -13,6 +13,22 @@ use std::mem;
 pub struct BufferId {
     place: usize,
     born: u64,
+}
+
+impl BufferId {
+    /// The place.
+    pub fn place(self) -> usize
+        ensures { result ≡ self.place }
+    {
+        self.place
+    }
+
+    /// The number of the buffer.
+    pub fn born(self) -> u64
+        ensures { result ≡ self.born }
+    {
+        self.born
+    }
 }
 
 // A live buffer, or nothing where the count is 0. Then `next` is the place to try after this one.
@@ -29,6 +45,8 @@ struct Place {
 
 /// Buffers of cells, each with the number of its references, and how many were taken, given back and reused so far,
 /// modulo 2^64. A buffer is in, or it is out while its cells are handed out.
+///
+/// Each buffer that was taken was given back, or is live.
 #[derive(Drop)]
 pub struct Heap {
     alloc: Global,
@@ -43,7 +61,7 @@ pub struct Heap {
 }
 
 impl Model for Heap {
-    ghost use Rattle.std.specs.Prelude.{map};
+    ghost use Rattle.std.specs.Prelude.{◌≡◌, ◌+◌, ◌%◌, ◌^◌, count_by, is_some, map};
     ghost use Rattle.buffer_heap.specs.Heaps.{HeapValue};
 
     ghost Value = { HeapValue };
@@ -57,6 +75,8 @@ impl Model for Heap {
       given = h.given;
       reused = h.reused;
     } };
+
+    ghost invariant = { λ h. h.taken ≡ (h.given + count_by is_some (map held_of h.places.items)) % 2 ^ 64 };
 }
 
 // Where the stack of vacant places ends: no place of a heap.
@@ -75,6 +95,40 @@ impl Heap {
             taken: 0,
             given: 0,
             reused: 0,
+        }
+    }
+
+    /// A heap with no buffer, all its counters 0, whose buffers have other numbers than those that the other heap has so
+    /// far. It allocates nothing.
+    pub fn behind(other: &Heap) -> Self
+        ensures { result ≡ record { places = []; births = other.now.births; taken = 0; given = 0; reused = 0 } }
+    {
+        let mut heap = Heap::new(other.alloc);
+        heap.births = other.births;
+        heap
+    }
+
+    /// The number of the next buffer.
+    pub fn births(&self) -> u64
+        ensures { result ≡ self.now.births }
+    {
+        self.births
+    }
+
+    /// How many places there are, with those that have no buffer.
+    pub fn places(&self) -> usize
+        ensures { result ≡ length self.now.places }
+    {
+        self.places.len()
+    }
+
+    /// How many references lead to the buffer at a place, 0 where there is none.
+    pub fn count_at(&self, place: usize) -> u64
+        ensures { result ≡ count_of (at self.now place) }
+    {
+        match self.places.get(place) {
+            Some(place) => place.count,
+            None => 0,
         }
     }
 
@@ -157,15 +211,8 @@ impl Heap {
         if self.births == u64::MAX {
             return Err(Memory);
         }
-        let id = self.store(Place {
-            born: self.births,
-            count: 1,
-            cells,
-            out_len: None,
-            next: NO_PLACE,
-        })?;
+        let id = self.store(cells)?;
         self.births += 1;
-        self.taken = self.taken.wrapping_add(1);
         Ok(id)
     }
 
@@ -192,9 +239,20 @@ impl Heap {
         }
     }
 
-    /// Gives back all buffers, however many references they have.
+    /// Whether the buffer is out, with so many cells.
+    pub fn is_lifted(&self, id: BufferId, len: usize) -> bool
+        ensures { IsTrue result ↔ IsLive self.now id.place (IsLifted id.born len) }
+    {
+        match self.places.get(id.place) {
+            Some(place) => place.born == id.born && place.count > 0 && place.out_len == Some(len),
+            None => false,
+        }
+    }
+
+    /// Gives back all buffers, however many references they have. Then as many were given back as were taken.
     pub fn clear(&mut self)
-        ensures { self.new ≡ record self.old { places = []; given = (self.old.given + count_by is_some self.old.places) % 2 ^ 64 } }
+        ensures heap { self.new ≡ record self.old { places = []; given = (self.old.given + count_by is_some self.old.places) % 2 ^ 64 } }
+        ensures balanced { self.new.given ≡ self.new.taken }
     {
         self.given = self.given.wrapping_add(self.live());
         self.places.clear();
@@ -272,28 +330,37 @@ impl Heap {
         self.reused = self.reused.wrapping_add(other.reused);
     }
 
-    // Puts a buffer at a place that has none: at the top of the stack of vacant places, or at the end.
-    fn store(&mut self, place: Place) -> Result<BufferId, Memory>
+    // Takes a buffer of these cells, at a place that has none: at the top of the stack of vacant places, or at the end.
+    fn store(&mut self, cells: Vec<Cell>) -> Result<BufferId, Memory>
         ensures vacant { IfOk result (λ id. at self.old id.place ≡ None) }
-        ensures holds { IfOk result (λ id. at self.new id.place ≡ held_of place) }
+        ensures holds { IfOk result (λ id. at self.new id.place ≡ Some (record { born = id.born; count = 1; content = In cells.items })) }
         ensures others { IfOk result (λ id. (b : ℕ) → b ≢ id.place → at self.new b ≡ at self.old b) }
-        ensures number { IfOk result (λ id. id.born ≡ place.born) }
-        ensures counters { (self.new.births ≡ self.old.births) × (self.new.taken ≡ self.old.taken) × (self.new.given ≡ self.old.given) × (self.new.reused ≡ self.old.reused) }
+        ensures number { IfOk result (λ id. (id.born ≡ self.old.births) × (self.new.births ≡ self.old.births)) }
+        ensures counters { OnOk result ((self.new.taken ≡ (self.old.taken + 1) % 2 ^ 64) × (self.new.given ≡ self.old.given) × (self.new.reused ≡ self.old.reused)) }
         ensures unchanged { OnErr result (self.new ≡ self.old) }
     {
+        let born = self.births;
+        let taken = self.taken.wrapping_add(1);
+        let buffer = Place {
+            born,
+            count: 1,
+            cells,
+            out_len: None,
+            next: NO_PLACE,
+        };
         let vacant = self.vacant;
         if vacant < self.places.len() && self.places[vacant].count == 0 {
-            let born = place.born;
             self.vacant = self.places[vacant].next;
-            self.places[vacant] = place;
+            self.places[vacant] = buffer;
+            self.taken = taken;
             return Ok(BufferId {
                 place: vacant,
                 born,
             });
         }
         let end = self.places.len();
-        let born = place.born;
-        self.places.push(place)?;
+        self.places.push(buffer)?;
+        self.taken = taken;
         Ok(BufferId { place: end, born })
     }
 }
