@@ -1,0 +1,15 @@
+//! Values in a heap: references that are kept and released, arrays that are read and placed, selections, and the results of loops while they are made.
+#![tactic(auto)]
+
+mod access;
+mod arrays;
+mod select;
+mod target;
+
+pub use access::{buffer_cells, keep, release};
+pub use arrays::{place_array, place_cells, place_own, read_array, value_form};
+pub use select::select_value;
+pub use target::{Target, claim, fits, is_small, overwrite, settle, write};
+
+#[cfg(test)]
+mod tests;
