@@ -1,8 +1,6 @@
 -- Arrays that are placed.
-use Rattle.std.proofs.Common.{◌≡◌, Bool, true, false, Result, Ok, Err, ◌∙◌, ap, sym, subst}
-use Rattle.sac_base.specs.declared.memory.Memory.{Memory as NoMemory}
+use Rattle.std.proofs.Common.{◌≡◌, true, subst}
 use Rattle.sac_base.specs.Arrays.{ArrayValue}
-use Rattle.sac_base.specs.Outcomes.{Ends}
 use Rattle.buffer_heap.specs.Heaps.{HeapValue}
 use Rattle.counted_code.specs.Values.{Heap, Small, is_small, place_as, place_value}
 use Rattle.run_heap.specs.Stands.{Stands, Placed}

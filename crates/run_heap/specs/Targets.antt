@@ -25,3 +25,8 @@ pub record IsClaimed (t : Target) (h : HeapValue) (c : Claimed) : Type 0 where
 pub record IsWritten (start : ℕ) (part old new : List ℤ) : Type 0 where
   pub within : start + length part ≤ length old
   pub cells : new ≡ written_at start part old
+
+-- there were as many cells as the whole has, and the new ones are the whole
+pub record IsCopied (whole old new : List ℤ) : Type 0 where
+  pub len : length whole ≡ length old
+  pub cells : new ≡ whole

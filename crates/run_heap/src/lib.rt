@@ -9,7 +9,7 @@ mod target;
 pub use access::{buffer_cells, keep, release};
 pub use arrays::{place_array, place_cells, place_own, read_array, value_form};
 pub use select::select_value;
-pub use target::{Target, claim, fits, is_small, overwrite, settle, write};
+pub use target::{Target, claim, copy_into, fits, is_small, overwrite, settle, write};
 
 #[cfg(test)]
 mod tests;

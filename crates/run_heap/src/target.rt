@@ -4,7 +4,7 @@ ghost use Rattle.std.specs.Prelude.{◌≡◌, ◌≤◌, [], ◌∷◌, None, m
 ghost use Rattle.counted_code.specs.Loops.{Inside, Fresh, claim as claimed, claim_new, settled};
 ghost use Rattle.counted_code.specs.Values.{Heap as MachineHeap, Small, read, is_small as is_small_shape};
 ghost use Rattle.run_heap.specs.Stands.{Stands, Placed};
-ghost use Rattle.run_heap.specs.Targets.{target_of, IsClaimed, IsWritten};
+ghost use Rattle.run_heap.specs.Targets.{target_of, IsClaimed, IsCopied, IsWritten};
 ghost use Rattle.run_values.specs.Shown.{value_of, shape_of};
 ghost use Rattle.sac_base.specs.Arrays.{size, same_shape, MOST};
 ghost use Rattle.sac_base.specs.WithLoops.{fits_form};
@@ -171,6 +171,28 @@ fn write_word(cells: &mut [Cell], start: usize, n: Cell) -> Result<(), Memory>
         return Err(Memory);
     }
     cells[start] = n;
+    Ok(())
+}
+
+/// Writes the cells of a value that has as many.
+pub fn copy_into(heap: &Heap, cells: &mut [Cell], value: &RunValue) -> Result<(), Memory>
+    ensures { (m : MachineHeap) → Stands heap.now m → OnOk result (IsCopied (read m (value_of value.now)).cells cells.old cells.new) }
+{
+    match value {
+        RunValue::Unbound => copy_all(cells, &[0]),
+        RunValue::Word(_, n) => copy_all(cells, &[*n]),
+        RunValue::Short(_, few) => copy_all(cells, few.as_slice()),
+        RunValue::Buffer(_, id, _) => copy_all(cells, buffer_cells(heap, *id)?),
+    }
+}
+
+fn copy_all(cells: &mut [Cell], part: &[Cell]) -> Result<(), Memory>
+    ensures { OnOk result (IsCopied part.now cells.old cells.new) }
+{
+    if part.len() != cells.len() {
+        return Err(Memory);
+    }
+    cells.copy_from_slice(part);
     Ok(())
 }
 

@@ -1,0 +1,154 @@
+//! Operations by whole arrays.
+
+ghost use Rattle.std.specs.Prelude.{◌≡◌, IfOk, Ok, map};
+ghost use Rattle.counted_code.specs.Values.{Heap as MachineHeap, read};
+ghost use Rattle.run_heap.specs.Stands.{Stands, TellsPlaced};
+ghost use Rattle.run_plain.specs.Reads.{arrays_of};
+ghost use Rattle.run_values.specs.Scopes.{current};
+ghost use Rattle.run_values.specs.Shown.{value_of};
+ghost use Rattle.sac_base.specs.Arrays.{ArrayValue};
+ghost use Rattle.sac_base.specs.Operators.{binary as binary_arrays, unary as unary_arrays};
+ghost use Rattle.sac_base.specs.Outcomes.{at_site, Ends};
+ghost use Rattle.sac_base.specs.Parts.{literal as literal_arrays, replace as replace_arrays, reshape as reshape_arrays};
+ghost use Rattle.with_loops.specs.Tells.{Tells};
+
+use array_ops::{literal, replace, reshape};
+use buffer_heap::Heap;
+use core_ir::Var;
+use run_heap::{place_own, read_array};
+use run_values::{Frames, RunValue};
+use sac_base::{Array, Memory, Op, Site};
+use std::alloc::Global;
+use with_loops::{Stop, binary_at, placed, unary_of};
+
+/// A value of its own for an answer.
+pub fn place_result(heap: &mut Heap, answer: Result<Array, Stop>) -> Result<RunValue, Stop>
+    ensures { (m : MachineHeap) → Stands heap.old m → (meant : Ends ArrayValue) → Tells answer meant → TellsPlaced result heap.new m meant }
+{
+    match answer {
+        Ok(array) => place_array_or_stop(heap, array),
+        Err(stop) => Err(stop),
+    }
+}
+
+fn place_array_or_stop(heap: &mut Heap, array: Array) -> Result<RunValue, Stop>
+    ensures { (m : MachineHeap) → Stands heap.old m → TellsPlaced result heap.new m (Ok array) }
+{
+    match place_own(heap, array) {
+        Ok(value) => Ok(value),
+        Err(Memory) => Err(Stop::Memory),
+    }
+}
+
+/// The arrays of variables.
+pub fn read_all(
+    alloc: Global,
+    heap: &Heap,
+    frames: &Frames,
+    xs: &[Var],
+) -> Result<Vec<Array>, Memory>
+    ensures { (m : MachineHeap) → Stands heap.now m → IfOk result (λ arrays. arrays.items ≡ arrays_of m (current frames.now) xs.now) }
+{
+    let mut arrays = Vec::new(alloc);
+    for x in xs {
+        arrays.push(read_array(alloc, heap, frames.get(*x))?)?;
+    }
+    Ok(arrays)
+}
+
+/// An operator of one operand.
+pub fn unary_array(alloc: Global, heap: &Heap, op: Op, a: RunValue) -> Result<Array, Stop>
+    ensures { (m : MachineHeap) → Stands heap.now m → Tells result (Ok (unary_arrays op (read m (value_of a)))) }
+{
+    let array = read_array(alloc, heap, a)?;
+    unary_of(alloc, op, &array)
+}
+
+/// An operator of two operands.
+pub fn binary_array(
+    alloc: Global,
+    heap: &Heap,
+    op: Op,
+    a: RunValue,
+    b: RunValue,
+    site: Site,
+) -> Result<Array, Stop>
+    ensures { (m : MachineHeap) → Stands heap.now m → Tells result (at_site site (binary_arrays op (read m (value_of a)) (read m (value_of b)))) }
+{
+    let left = read_array(alloc, heap, a)?;
+    let right = read_array(alloc, heap, b)?;
+    binary_at(alloc, op, &left, &right, site)
+}
+
+/// An array literal.
+pub fn literal_array(
+    alloc: Global,
+    heap: &Heap,
+    frames: &Frames,
+    xs: &[Var],
+    site: Site,
+) -> Result<Array, Stop>
+    ensures { (m : MachineHeap) → Stands heap.now m → Tells result (at_site site (literal_arrays (arrays_of m (current frames.now) xs.now))) }
+{
+    let arrays = read_all(alloc, heap, frames, xs)?;
+    placed(literal(alloc, &arrays), site)
+}
+
+fn reshape_array(
+    alloc: Global,
+    heap: &Heap,
+    shape: RunValue,
+    array: RunValue,
+    site: Site,
+) -> Result<Array, Stop>
+    ensures { (m : MachineHeap) → Stands heap.now m → Tells result (at_site site (reshape_arrays (read m (value_of shape)) (read m (value_of array)))) }
+{
+    let shape = read_array(alloc, heap, shape)?;
+    let array = read_array(alloc, heap, array)?;
+    placed(reshape(alloc, &shape, &array), site)
+}
+
+fn replace_array(
+    alloc: Global,
+    heap: &Heap,
+    array: RunValue,
+    index: RunValue,
+    part: RunValue,
+    site: Site,
+) -> Result<Array, Stop>
+    ensures { (m : MachineHeap) → Stands heap.now m → Tells result (at_site site (replace_arrays (read m (value_of array)) (read m (value_of index)) (read m (value_of part)))) }
+{
+    let array = read_array(alloc, heap, array)?;
+    let index = read_array(alloc, heap, index)?;
+    let part = read_array(alloc, heap, part)?;
+    placed(replace(alloc, &array, &index, &part), site)
+}
+
+/// The cells of an array under another shape.
+pub fn reshape_value(
+    alloc: Global,
+    heap: &mut Heap,
+    shape: RunValue,
+    array: RunValue,
+    site: Site,
+) -> Result<RunValue, Stop>
+    ensures { (m : MachineHeap) → Stands heap.old m → TellsPlaced result heap.new m (at_site site (reshape_arrays (read m (value_of shape)) (read m (value_of array)))) }
+{
+    let answer = reshape_array(alloc, heap, shape, array, site);
+    place_result(heap, answer)
+}
+
+/// The array with another part at an index.
+pub fn replace_value(
+    alloc: Global,
+    heap: &mut Heap,
+    array: RunValue,
+    index: RunValue,
+    part: RunValue,
+    site: Site,
+) -> Result<RunValue, Stop>
+    ensures { (m : MachineHeap) → Stands heap.old m → TellsPlaced result heap.new m (at_site site (replace_arrays (read m (value_of array)) (read m (value_of index)) (read m (value_of part)))) }
+{
+    let answer = replace_array(alloc, heap, array, index, part, site);
+    place_result(heap, answer)
+}

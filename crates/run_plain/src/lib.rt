@@ -1,0 +1,13 @@
+//! Right sides without blocks and calls: operators, literals, selections and the like, on values in a heap.
+#![tactic(auto)]
+
+mod arrays;
+mod operators;
+mod right;
+
+pub use arrays::{place_result, read_all, replace_value, reshape_value};
+pub use operators::{binary_value, literal_value, unary_value};
+pub use right::plain_value;
+
+#[cfg(test)]
+mod tests;

@@ -1,0 +1,131 @@
+//! Operators and literals, in the value itself where the operands are small.
+
+ghost use Rattle.std.specs.Prelude.{◌≡◌, Ok, IfSome, map};
+ghost use Rattle.counted_code.specs.Values.{Heap as MachineHeap, Small, read};
+ghost use Rattle.run_heap.specs.Stands.{Stands, TellsPlaced};
+ghost use Rattle.run_plain.specs.Reads.{arrays_of};
+ghost use Rattle.run_values.specs.Scopes.{current};
+ghost use Rattle.run_values.specs.Shown.{value_of};
+ghost use Rattle.buffer_heap.specs.Heaps.{HeapValue};
+ghost use Rattle.sac_base.specs.declared.base.Base.{Base as BaseOf};
+ghost use Rattle.run_values.specs.Numbers.{numbers};
+ghost use Rattle.sac_base.specs.declared.site.Site.{Site as SiteOf};
+ghost use Rattle.sac_base.specs.Arrays.{scalar, vector};
+ghost use Rattle.sac_base.specs.Operators.{binary as binary_arrays, unary as unary_arrays};
+ghost use Rattle.sac_base.specs.Outcomes.{at_site};
+ghost use Rattle.sac_base.specs.Parts.{literal as literal_arrays};
+
+use crate::arrays::{binary_array, literal_array, place_result, unary_array};
+use buffer_heap::Heap;
+use core_ir::Var;
+use run_values::{Few, Frames, RunValue, short_binary, short_unary};
+use sac_base::{
+    Base, Cell, FaultKind, Op, Site, ZeroDivisor, apply1, apply2, result_base, same_base,
+};
+use std::alloc::Global;
+use with_loops::{Stop, fault};
+
+/// An operator of one operand.
+pub fn unary_value(alloc: Global, heap: &mut Heap, op: Op, a: RunValue) -> Result<RunValue, Stop>
+    ensures { (m : MachineHeap) → Stands heap.old m → TellsPlaced result heap.new m (Ok (unary_arrays op (read m (value_of a)))) }
+{
+    match a {
+        RunValue::Word(_, n) => Ok(RunValue::Word(result_base(op), apply1(op, n))),
+        RunValue::Short(_, few) => Ok(RunValue::Short(result_base(op), short_unary(op, &few))),
+        _ => {
+            let answer = unary_array(alloc, heap, op, a);
+            place_result(heap, answer)
+        }
+    }
+}
+
+/// An operator of two operands.
+pub fn binary_value(
+    alloc: Global,
+    heap: &mut Heap,
+    op: Op,
+    a: RunValue,
+    b: RunValue,
+    site: Site,
+) -> Result<RunValue, Stop>
+    ensures { (m : MachineHeap) → Stands heap.old m → TellsPlaced result heap.new m (at_site site (binary_arrays op (read m (value_of a)) (read m (value_of b)))) }
+{
+    match (a, b) {
+        (RunValue::Word(_, x), RunValue::Word(_, y)) => word_binary(op, x, y, site),
+        (RunValue::Short(_, x), RunValue::Short(_, y)) => few_binary(op, &x, &y, site),
+        (RunValue::Short(_, x), RunValue::Word(_, y)) => few_binary(op, &x, &all(y, &x), site),
+        (RunValue::Word(_, x), RunValue::Short(_, y)) => few_binary(op, &all(x, &y), &y, site),
+        _ => {
+            let answer = binary_array(alloc, heap, op, a, b, site);
+            place_result(heap, answer)
+        }
+    }
+}
+
+fn word_binary(op: Op, x: Cell, y: Cell, site: Site) -> Result<RunValue, Stop>
+    ensures { (h : HeapValue) (m : MachineHeap) → Stands h m → (s t : BaseOf) → TellsPlaced result h m (at_site site (binary_arrays op (scalar s x) (scalar t y))) }
+{
+    match apply2(op, x, y) {
+        Ok(value) => Ok(RunValue::Word(result_base(op), value)),
+        Err(ZeroDivisor) => Err(fault(FaultKind::F2, site)),
+    }
+}
+
+fn few_binary(op: Op, x: &Few, y: &Few, site: Site) -> Result<RunValue, Stop>
+    ensures { (h : HeapValue) (m : MachineHeap) → Stands h m → (s t : BaseOf) → TellsPlaced result h m (at_site site (binary_arrays op (vector s (numbers x.now)) (vector t (numbers y.now)))) }
+{
+    match short_binary(op, x, y) {
+        Ok(few) => Ok(RunValue::Short(result_base(op), few)),
+        Err(kind) => Err(fault(kind, site)),
+    }
+}
+
+// The number in each place that another list has.
+fn all(n: Cell, other: &Few) -> Few
+    ensures { numbers result ≡ map (λ _. n) (numbers other.now) }
+{
+    let mut out = Few::empty();
+    for _other in other.as_slice() {
+        out.push(n);
+    }
+    out
+}
+
+/// An array literal.
+pub fn literal_value(
+    alloc: Global,
+    heap: &mut Heap,
+    frames: &Frames,
+    xs: &[Var],
+    site: Site,
+) -> Result<RunValue, Stop>
+    ensures { (m : MachineHeap) → Stands heap.old m → TellsPlaced result heap.new m (at_site site (literal_arrays (arrays_of m (current frames.now) xs.now))) }
+{
+    match words(frames, xs) {
+        Some(value) => Ok(value),
+        None => {
+            let answer = literal_array(alloc, heap, frames, xs, site);
+            place_result(heap, answer)
+        }
+    }
+}
+
+// The vector of words of one base, of which there are at most 8.
+fn words(frames: &Frames, xs: &[Var]) -> Option<RunValue>
+    ensures { (h : HeapValue) (m : MachineHeap) → Stands h m → (s : SiteOf) → IfSome result (λ v. TellsPlaced (Ok v) h m (at_site s (literal_arrays (arrays_of m (current frames.now) xs.now)))) }
+{
+    let Some(first) = xs.first() else {
+        return Some(RunValue::Short(Base::Int, Few::empty()));
+    };
+    let base = frames.get(*first).base();
+    let mut few = Few::empty();
+    for x in xs {
+        let RunValue::Word(of, n) = frames.get(*x) else {
+            return None;
+        };
+        if !same_base(base, of) || !few.push(n) {
+            return None;
+        }
+    }
+    Some(RunValue::Short(base, few))
+}
