@@ -9,7 +9,7 @@ returns-in_err-checked-clause-calls g c = none_fetched _ _ _ _
 
 pub returns-in-Accepted-clause-answer : goal.returns-in-Accepted-clause-answer
 returns-in-Accepted-clause-answer g c =
-    answer_accepted _ _ _ _ _ _ _ _ (subst (IsJudged c.args.source.now) c.in-Accepted.is c.in_ok-checked.ensures)
+    answer_accepted _ _ _ _ _ _ _ _ _ (subst (IsJudged c.args.source.now) c.in-Accepted.is c.in_ok-checked.ensures)
     (same_calls g.F.Files.calls _ _ _ c.answer_program.ensures.calls) c.answer_program.ensures.answer
 
 pub returns-in-Accepted-clause-calls : goal.returns-in-Accepted-clause-calls

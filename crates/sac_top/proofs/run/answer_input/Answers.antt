@@ -4,7 +4,7 @@ use Rattle.sac_top.proofs.Runs.{run_empty, run_generated}
 use Rattle.sac_top.proofs.run.answer_input.Goals as goal
 
 pub returns-in-Empty-clause-answer : goal.returns-in-Empty-clause-answer
-returns-in-Empty-clause-answer g c = run_empty _ _ _ _ _ (ap input_meant c.in-Empty.is) c.answer_text.ensures
+returns-in-Empty-clause-answer g c = run_empty _ _ _ _ _ _ (ap input_meant c.in-Empty.is) c.answer_text.ensures.answer
 
 pub returns-in-Generated-clause-answer : goal.returns-in-Generated-clause-answer
-returns-in-Generated-clause-answer g c = run_generated _ _ _ _ _ _ (ap input_meant c.in-Generated.is) c.answer_generated.ensures
+returns-in-Generated-clause-answer g c = run_generated _ _ _ _ _ _ _ (ap input_meant c.in-Generated.is) c.answer_generated.ensures.answer
