@@ -23,9 +23,10 @@ use Rattle.run_eval.specs.declared.trace.Trace.{Trace}
 use Rattle.run_eval.specs.Outcomes.{new_heap, IsCleared, HasCounters, TellsCost}
 use Rattle.sac_words.specs.declared.options.Mode.TheVariants.{Run}
 use Rattle.sac_words.specs.Meaning.{Meant, Origin, empty, file, generated, words_mean}
+use Rattle.sac_due.specs.Report.{Numbers}
 use Rattle.sac_due.specs.Input.{IsText, arguments, main_bases}
 use Rattle.sac_due.specs.Source.{IsProgramOf}
-use Rattle.sac_due.specs.Due.{Ending, ended}
+use Rattle.sac_due.specs.Due.{Ending, ended, run_on}
 use Rattle.sac_due.specs.Answer.{Finds}
 use Rattle.sac_top.specs.Traced.{numbers_of, IsRunStatus, IsCodeFor, IsRunTraced, IsGivenTraced, IsProgramTraced, IsTraced}
 use Rattle.sac_top.specs.Steps.{ending}
@@ -75,6 +76,14 @@ run_traced p args caps code (Err stop.Memory) t h folded scalarised sound tells 
 pub whatever : {T E : Type 0} (r : Result T E) (P : Type 0) → P → IfOk r (λ x. P)
 whatever (Ok x) P p = p
 whatever (Err e) P p = tt
+
+pub ends_as : (r : Result Answer NoMemory) (asked : Meant) (numbers : Numbers) (m n : Ends (List ArrayValue)) → m ≡ n
+    → IfOk r (λ a. ending a ≡ ended asked numbers m) → IfOk r (λ a. ending a ≡ ended asked numbers n)
+ends_as r asked numbers m n e h = subst (λ o. IfOk r (λ a. ending a ≡ ended asked numbers o)) e h
+
+pub runs_on : (r : Result Answer NoMemory) (asked : Meant) (p : ProgramTree) (numbers : Numbers) (args : List ArrayValue) (given : Result (List ArrayValue) Refusal) → given ≡ Ok args
+    → IfOk r (λ a. ending a ≡ ended asked numbers (outcome p args asked.caps)) → IfOk r (λ a. ending a ≡ run_on asked p numbers given)
+runs_on r asked p numbers args given e h = subst (λ g. IfOk r (λ a. ending a ≡ run_on asked p numbers g)) (sym e) h
 
 -- ---- an answer with another status
 

@@ -2,6 +2,7 @@ use Rattle.std.proofs.Common.{ap, Ok, Err, refl}
 use Rattle.sac_io.specs.Count.{Rose}
 use Rattle.sac_due.specs.Answer
 use Rattle.sac_top.proofs.Whole.{no_numbers, refused_words, source_missing, source_failed, source_longer, fetched_once, once, on_err, refused_fetched, whole_answer, whole_calls}
+use Rattle.sac_top.proofs.Tracing.{untouched, not_run, source_traced, same_mode}
 use Rattle.sac_top.proofs.prepare.prepare.Goals as goal
 
 pub returns-in-Err-Refused-clause-answer : goal.returns-in-Err-Refused-clause-answer
@@ -53,3 +54,39 @@ returns-in-Err-Failed-clause-calls g c = on_err _ _ (once _ _ no_numbers (Rose 0
 
 pub returns-clause-calls : goal.returns-clause-calls
 returns-clause-calls g c = once _ _ no_numbers (Rose 0 0) _ c.in-Ok.ensures.read _ _ _ c.in-Err-Memory-fetch.ensures.one_call
+
+pub returns-in-Err-Refused-clause-traced : goal.returns-in-Err-Refused-clause-traced
+returns-in-Err-Refused-clause-traced g c = λ asked means runs. not_run _ _ _ (λ is. is) c.answer_line.ensures
+
+pub returns-in-Err-Refused-clause-cleared : goal.returns-in-Err-Refused-clause-cleared
+returns-in-Err-Refused-clause-cleared g c = untouched _ c.requires
+
+pub returns-in-Err-Memory-clause-cleared : goal.returns-in-Err-Memory-clause-cleared
+returns-in-Err-Memory-clause-cleared g c = untouched _ c.requires
+
+pub returns-in-Ok-Whole-clause-traced : goal.returns-in-Ok-Whole-clause-traced
+returns-in-Ok-Whole-clause-traced g c =
+    λ asked means runs. source_traced _ _ _ _ _ asked _ _ _ c.in-Ok.ensures.read means
+    (rw c.deref.ensures.value (c.in-Ok-Whole.ensures.whole (ap Ok c.in-Ok-Whole.field-0-is)))
+    c.in-Ok-Whole.ensures.same_files (c.answer_source.ensures.traced (same_mode _ _ asked c.in-Ok.ensures.read means runs))
+
+pub returns-in-Ok-Longer-clause-traced : goal.returns-in-Ok-Longer-clause-traced
+returns-in-Ok-Longer-clause-traced g c = λ asked means runs. not_run _ _ _ (λ is. is) c.answer_line-in-Ok-Longer.ensures
+
+pub returns-in-Ok-Longer-clause-cleared : goal.returns-in-Ok-Longer-clause-cleared
+returns-in-Ok-Longer-clause-cleared g c = untouched _ c.requires
+
+pub returns-in-Err-Missing-clause-traced : goal.returns-in-Err-Missing-clause-traced
+returns-in-Err-Missing-clause-traced g c = λ asked means runs. not_run _ _ _ (λ is. is) c.answer_line-in-Err-Missing.ensures
+
+pub returns-in-Err-Missing-clause-cleared : goal.returns-in-Err-Missing-clause-cleared
+returns-in-Err-Missing-clause-cleared g c = untouched _ c.requires
+
+pub returns-in-Err-Failed-clause-traced : goal.returns-in-Err-Failed-clause-traced
+returns-in-Err-Failed-clause-traced g c = λ asked means runs. not_run _ _ _ (λ is. is) c.answer_line-in-Err-Failed.ensures
+
+pub returns-in-Err-Failed-clause-cleared : goal.returns-in-Err-Failed-clause-cleared
+returns-in-Err-Failed-clause-cleared g c = untouched _ c.requires
+
+pub returns-clause-cleared : goal.returns-clause-cleared
+returns-clause-cleared g c = untouched _ c.requires
