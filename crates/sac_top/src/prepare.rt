@@ -48,7 +48,9 @@ fn answer_source<R: Threads + Sync, F: Files>(
     ensures calls { OnErr result ((count : ℕ) × MayFetchMore (meant options.now) source.now count × Calls (F.calls files.old) (F.calls files.new) count) }
 {
     match judge(alloc, source)? {
-        Judged::Accepted(checked) => answer_program(rt, alloc, &checked, options, files, heap, trace),
+        Judged::Accepted(checked) => answer_program(
+            rt, alloc, &checked, options, files, heap, trace,
+        ),
         Judged::Refused(text) => Ok(Answer {
             status: Status::Source,
             text,
