@@ -8,12 +8,14 @@ use Rattle.sac_base.specs.Outcomes.{Ends}
 use Rattle.sac_base.specs.declared.fault.Caps.{Caps}
 use Rattle.sac_base.specs.declared.fault.Fault.{Fault}
 use Rattle.sac_base.specs.declared.memory.Memory.{Memory as NoMemory}
+use Rattle.sac_base.specs.declared.outcome.Outcome.{Outcome}
 use Rattle.sac_io.specs.Files.{Contents, Holds}
 use Rattle.sac_ast.specs.Tree.{ProgramTree}
 use Rattle.value_meaning.specs.Calls.{outcome}
 use Rattle.data_text.specs.Texts.{Refusal, text_value}
 use Rattle.buffer_heap.specs.Heaps.{HeapValue, at}
 use Rattle.counted_code.specs.declared.tree.Code.{Code}
+use Rattle.counted_code.specs.declared.tree.Cost.{Cost}
 use Rattle.counted_code.specs.View.{code_program}
 use Rattle.counted_code.specs.Outcome.{whole_run, outcome_of, cost_of}
 use Rattle.with_loops.specs.declared.stop.Stop.{Stop}
@@ -28,8 +30,8 @@ use Rattle.sac_due.specs.Input.{IsText, arguments, main_bases}
 use Rattle.sac_due.specs.Source.{IsProgramOf}
 use Rattle.sac_due.specs.Due.{Ending, ended, run_on}
 use Rattle.sac_due.specs.Answer.{Finds}
-use Rattle.sac_top.specs.Traced.{numbers_of, IsRunStatus, IsCodeFor, IsRunTraced, IsGivenTraced, IsProgramTraced, IsTraced}
-use Rattle.sac_top.specs.Steps.{ending}
+use Rattle.sac_top.specs.Traced.{numbers_of, IsRunStatus, HasCost, IsCodeFor, IsRunTraced, IsGivenTraced, IsProgramTraced, IsTraced}
+use Rattle.sac_top.specs.Steps.{ending, ends_of, HasEnded}
 use Rattle.sac_top.specs.declared.line.Answer.{Answer}
 use Rattle.sac_top.proofs.Runs.{finds_whole}
 
@@ -45,10 +47,17 @@ untouched h new = subst IsCleared (sym new) (nothing_at, refl)
 
 -- ---- the code and its run
 
+pub ends_with : (r : Result Outcome NoMemory) (m n : Ends (List ArrayValue)) → m ≡ n → IfOk r (λ o. m ≡ ends_of o) → IfOk r (λ o. ends_of o ≡ n)
+ends_with r m n same h = IfOk-weaker r _ _ (λ o e. sym e ∙ same) h
+
+-- what the cost tells after results
+after_results : (ended : Ends (List ArrayValue)) (t : Trace) (cost : Cost) (m : Ends (List ArrayValue)) → m ≡ ended → IfOk m (λ results. HasCost t cost) → IfOk ended (λ results. HasCost t cost)
+after_results ended t cost m is h = subst (λ o. IfOk o (λ results. HasCost t cost)) is h
+
 -- whatever ended the run but want of memory
 pub run_traced : (p : ProgramTree) (args : List ArrayValue) (caps : Caps) (code : Code) (r : Result (Vec ArrayValue Global) Stop) (t : Trace) (h : HeapValue) (folded scalarised : ℕ)
     → IsCodeFor p (code_program code) → TellsItems r (outcome_of (whole_run (code_program code) args caps)) → TellsCost r t (cost_of (whole_run (code_program code) args caps))
-    → HasCounters t h → folded ≡ 0 → scalarised ≡ 0 → (r ≡ Err stop.Memory → ⊥)
+    → HasCounters t h → folded ≡ 0 → scalarised ≡ 0 → HasEnded r
     → IsRunTraced p args caps (record t { code = Some code; folded = folded; scalarised = scalarised }) h
 run_traced p args caps code (Ok v) t h folded scalarised sound tells cost counters f s other = record {
   code = code;
@@ -56,7 +65,7 @@ run_traced p args caps code (Ok v) t h folded scalarised sound tells cost counte
   sound = sound;
   folded = f;
   scalarised = s;
-  cost = subst (λ o. IfOk o _) (sym tells ∙ sound.outcome args caps) cost;
+  cost = after_results (outcome p args caps) t (cost_of (whole_run (code_program code) args caps)) (Ok v.items) (sym tells ∙ sound.outcome args caps) cost;
   phases = cost.3;
   counters = counters;
 }
@@ -66,11 +75,11 @@ run_traced p args caps code (Err (stop.Faulted e)) t h folded scalarised sound t
   sound = sound;
   folded = f;
   scalarised = s;
-  cost = subst (λ o. IfOk o _) (sym tells ∙ sound.outcome args caps) tt;
+  cost = after_results (outcome p args caps) t (cost_of (whole_run (code_program code) args caps)) (Err e) (sym tells ∙ sound.outcome args caps) tt;
   phases = cost;
   counters = counters;
 }
-run_traced p args caps code (Err stop.Memory) t h folded scalarised sound tells cost counters f s other = absurd (other refl)
+run_traced p args caps code (Err stop.Memory) t h folded scalarised sound tells cost counters f s other = absurd other
 
 -- what holds whatever the answer
 pub whatever : {T E : Type 0} (r : Result T E) (P : Type 0) → P → IfOk r (λ x. P)

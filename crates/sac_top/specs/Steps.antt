@@ -1,5 +1,5 @@
 -- What the steps of a run come to.
-use Rattle.std.specs.Prelude.{◌≡◌, ℕ, List, Option, Some, None, Ok, Err, MatchOption}
+use Rattle.std.specs.Prelude.{◌≡◌, ⊤, ℕ, List, Option, Some, None, Result, Ok, Err, MatchOption}
 use Rattle.sac_base.specs.declared.outcome.Outcome.{Outcome}
 use Rattle.sac_base.specs.declared.outcome.Outcome.TheVariants.{Values, Faulted}
 use Rattle.sac_base.specs.Arrays.{ArrayValue}
@@ -8,6 +8,8 @@ use Rattle.sac_io.specs.Files.{Contents, Lacks}
 use Rattle.sac_ast.specs.Tree.{ProgramTree}
 use Rattle.sac_ast.specs.View as View
 use Rattle.type_check.specs.declared.program.Checked.{Checked}
+use Rattle.with_loops.specs.declared.stop.Stop.{Stop}
+use Rattle.with_loops.specs.declared.stop.Stop.TheVariants as stop
 use Rattle.sac_words.specs.declared.options.Mode.{Mode}
 use Rattle.sac_words.specs.declared.options.Mode.TheVariants.{Run}
 use Rattle.sac_words.specs.Meaning.{Meant, Origin, file}
@@ -39,6 +41,12 @@ IsJudged source (Refused line) = IsRefusedSource source line.items
 abbrev pub ends_of : Outcome → Ends (List ArrayValue)
 ends_of (Values values) = Ok values.items
 ends_of (Faulted fault) = Err fault
+
+-- a run that came to its end, and did not want memory
+abbrev pub HasEnded : {A : Type 0} → Result A Stop → Type 0
+HasEnded (Ok values) = ⊤
+HasEnded (Err (stop.Faulted fault)) = ⊤
+HasEnded (Err stop.Memory) = ⊥
 
 -- the file that is fetched for an accepted program
 abbrev pub file_of : Origin → Option (List ℕ)

@@ -1,18 +1,20 @@
 //! Running an accepted program on its input.
 ghost use Rattle.std.specs.Prelude.{◌≡◌, ◌+◌, ◌%◌, ◌^◌, ◌≤◌, List, Result, IfOk, MatchOption};
 ghost use Rattle.sac_base.specs.Arrays.{ArrayValue};
+ghost use Rattle.sac_base.specs.Outcomes.{Ends};
 ghost use Rattle.sac_io.specs.Count.{Rose};
 ghost use Rattle.value_meaning.specs.Calls.{outcome};
 ghost use Rattle.data_text.specs.Texts.{Refusal, text_value};
 ghost use Rattle.data_text.specs.Generated.{generated_all};
 ghost use Rattle.data_text.specs.Found.{Tells};
+ghost use Rattle.with_loops.specs.Tells.{TellsItems};
 ghost use Rattle.run_eval.specs.Outcomes.{new_heap, IsCleared};
 ghost use Rattle.sac_words.specs.Meaning.{meant, input_meant, IsSized, file};
 ghost use Rattle.sac_due.specs.Input.{main_types, main_bases};
 ghost use Rattle.sac_due.specs.Due.{ended, run_on};
 ghost use Rattle.sac_build.specs.Read.{IsRead};
 ghost use Rattle.sac_top.specs.Traced.{numbers_of, IsRunStatus, IsRunTraced, IsGivenTraced, IsProgramTraced};
-ghost use Rattle.sac_top.specs.Steps.{ending, ends_of, tree, file_of, file_in, IsFileAnswer, IsRunAnswer, IsProgramAnswer};
+ghost use Rattle.sac_top.specs.Steps.{ending, ends_of, tree, HasEnded, file_of, file_in, IsFileAnswer, IsRunAnswer, IsProgramAnswer};
 
 use crate::arguments::{forms_of, generate_arguments, read_arguments};
 use crate::line::{Answer, answer_line, refused_data};
@@ -32,6 +34,18 @@ use type_check::Checked;
 
 /// The longest input, in bytes.
 const INPUT_LIMIT: u64 = 67_108_864;
+
+// What a run tells, where it did not want memory.
+fn outcome_told(told: Result<Vec<Array>, Stop>) -> Result<Outcome, Memory>
+    ensures outcome { (meant : Ends (List ArrayValue)) → TellsItems told meant → IfOk result (λ o. meant ≡ ends_of o) }
+    ensures ended { IfOk result (λ o. HasEnded told) }
+{
+    match told {
+        Ok(values) => Ok(Outcome::Values(values)),
+        Err(Stop::Faulted(fault)) => Ok(Outcome::Faulted(fault)),
+        Err(Stop::Memory) => Err(Memory),
+    }
+}
 
 // What an accepted program comes to: it is compiled, and its code is run.
 fn outcome_of<R: Threads + Sync>(
@@ -60,11 +74,7 @@ fn outcome_of<R: Threads + Sync>(
     trace.code = Some(compiled.code);
     trace.folded = compiled.folded;
     trace.scalarised = compiled.scalarised;
-    match result {
-        Ok(values) => Ok(Outcome::Values(values)),
-        Err(Stop::Faulted(fault)) => Ok(Outcome::Faulted(fault)),
-        Err(Stop::Memory) => Err(Memory),
-    }
+    outcome_told(result)
 }
 
 fn answer_run<R: Threads + Sync>(
