@@ -13,7 +13,7 @@ use Rattle.sac_io.specs.Files.{Contents, Holds, HoldsLonger, Lacks}
 use Rattle.sac_print.specs.Canonical.{canonical}
 use Rattle.data_text.specs.Texts.{Refusal, text_value}
 use Rattle.sac_words.specs.declared.options.Mode.TheVariants.{Run, Check, Print}
-use Rattle.sac_words.specs.Meaning.{Meant, Origin, empty, file, generated}
+use Rattle.sac_words.specs.Meaning.{Meant, empty, file, generated}
 use Rattle.sac_due.specs.Status.{fault_status}
 use Rattle.sac_due.specs.Texts.{line}
 use Rattle.sac_due.specs.Report.{Numbers}

@@ -6,13 +6,12 @@ use Rattle.std.specs.declared.alloc.Global.{Global}
 use Rattle.sac_base.specs.Arrays.{ArrayValue}
 use Rattle.sac_base.specs.Outcomes.{Ends}
 use Rattle.sac_base.specs.declared.fault.Caps.{Caps}
-use Rattle.sac_base.specs.declared.fault.Fault.{Fault}
 use Rattle.sac_base.specs.declared.memory.Memory.{Memory as NoMemory}
 use Rattle.sac_base.specs.declared.outcome.Outcome.{Outcome}
 use Rattle.sac_io.specs.Files.{Contents, Holds}
 use Rattle.sac_ast.specs.Tree.{ProgramTree}
 use Rattle.value_meaning.specs.Calls.{outcome}
-use Rattle.data_text.specs.Texts.{Refusal, text_value}
+use Rattle.data_text.specs.Texts.{Refusal}
 use Rattle.buffer_heap.specs.Heaps.{HeapValue, at}
 use Rattle.counted_code.specs.declared.tree.Code.{Code}
 use Rattle.counted_code.specs.declared.tree.Cost.{Cost}
@@ -26,7 +25,7 @@ use Rattle.run_eval.specs.Outcomes.{new_heap, IsCleared, HasCounters, TellsCost}
 use Rattle.sac_words.specs.declared.options.Mode.TheVariants.{Run}
 use Rattle.sac_words.specs.Meaning.{Meant, Origin, empty, file, generated, words_mean}
 use Rattle.sac_due.specs.Report.{Numbers}
-use Rattle.sac_due.specs.Input.{IsText, arguments, main_bases}
+use Rattle.sac_due.specs.Input.{IsText, arguments}
 use Rattle.sac_due.specs.Source.{IsProgramOf}
 use Rattle.sac_due.specs.Due.{Ending, ended, run_on}
 use Rattle.sac_due.specs.Answer.{Finds}

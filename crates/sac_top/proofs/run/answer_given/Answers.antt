@@ -2,7 +2,7 @@ use Rattle.std.proofs.Common.{subst}
 use Rattle.data_text.specs.Found.{Tells}
 use Rattle.sac_words.specs.Meaning.{meant}
 use Rattle.sac_top.specs.Steps.{tree}
-use Rattle.sac_top.proofs.Tracing.{untouched, runs_on, given_traced}
+use Rattle.sac_top.proofs.Tracing.{runs_on, given_traced}
 use Rattle.sac_top.proofs.run.answer_given.Goals as goal
 
 pub returns-in-Ok-clause-answer : goal.returns-in-Ok-clause-answer
