@@ -1,4 +1,4 @@
-//! From an accepted program to its core, and to counted code.
+//! From an accepted program over its core to counted code.
 
 ghost use Rattle.std.specs.Prelude.{◌≡◌, List, IfOk};
 ghost use Rattle.sac_base.specs.Arrays.{ArrayValue};
@@ -43,7 +43,7 @@ pub fn compile(alloc: Global, checked: &Checked, _forms: &[Form]) -> Result<Comp
     ensures outcome { (args : List ArrayValue) (caps : Caps) → IfOk result (λ c. outcome_of (whole_run (code_program c.code) args caps) ≡ outcome (View.program checked.now.program) args caps) }
     ensures none { IfOk result (λ c. (c.folded ≡ 0) × (c.scalarised ≡ 0)) }
 {
-    let core = compile_core(alloc, checked)?;
+    let core = core_of(alloc, checked)?;
     Ok(Compiled {
         code: count_refs(alloc, core)?,
         folded: 0,
@@ -51,8 +51,8 @@ pub fn compile(alloc: Global, checked: &Checked, _forms: &[Form]) -> Result<Comp
     })
 }
 
-/// The core of an accepted program that was read from a source: it is well formed, and on all arguments and under all limits its outcome is that of the program, faults and their sites included.
-pub fn compile_core(alloc: Global, checked: &Checked) -> Result<Core, Memory>
+// The core of an accepted program that was read from a source.
+fn core_of(alloc: Global, checked: &Checked) -> Result<Core, Memory>
     requires { IsRead (View.program checked.now.program) }
     ensures well_formed { IfOk result (λ core. IsWellFormed (core_term core)) }
     ensures outcome { IfOk result (λ core. HasOutcomeOf (View.program checked.now.program) (core_term core)) }

@@ -3,8 +3,7 @@
 
 mod compiler;
 
-pub use compiler::{Compiled, compile, compile_core};
-pub use core_run::core_run;
+pub use compiler::{Compiled, compile};
 
 #[cfg(test)]
 mod tests;

@@ -11,6 +11,7 @@ use Rattle.sac_ast.specs.Refusals.{IsStuckAt, IsTooDeepAt}
 use Rattle.type_check.specs.Accepted.{IsFirstViolation}
 use Rattle.sac_words.specs.Meaning.{Meant, Origin, empty, file, generated}
 use Rattle.sac_due.specs.Texts.{refused_at, lex_code, check_code}
+use Rattle.sac_due.specs.Report.{Numbers}
 use Rattle.sac_due.specs.Source.{plain, IsTokensOf, HasTree, IsProgramOf, IsTooDeep, IsRefusedSource, too_long, no_tokens, stuck, too_deep, not_accepted}
 use Rattle.sac_due.specs.Input.{IsMissing, IsTooLong, IsText, arguments}
 use Rattle.sac_due.specs.Due
@@ -46,28 +47,28 @@ text_once (file name) f a b s t = same_some a b (sym s.0 ∙ t.0)
 text_once empty f a b s t = s ∙ sym t
 text_once (generated n) f a b s t = s ∙ sym t
 
-run_once : (asked : Meant) (p : ProgramTree) (input : Option (List ℕ)) (x y : Ending) → IsRunDue asked p input x → IsRunDue asked p input y → x ≡ y
-run_once asked p input _ _ (Due.missing a) (Due.missing b) = refl
-run_once asked p input _ _ (Due.missing a) (Due.too_long b) = absurd (missing_not_long asked.input input a b)
-run_once asked p input _ _ (Due.missing a) (Due.run bytes end b e) = absurd (missing_no_text asked.input input bytes a b)
-run_once asked p input _ _ (Due.too_long a) (Due.missing b) = absurd (missing_not_long asked.input input b a)
-run_once asked p input _ _ (Due.too_long a) (Due.too_long b) = refl
-run_once asked p input _ _ (Due.too_long a) (Due.run bytes end b e) = absurd (long_no_text asked.input input bytes a b)
-run_once asked p input _ _ (Due.run bytes end a e) (Due.missing b) = absurd (missing_no_text asked.input input bytes b a)
-run_once asked p input _ _ (Due.run bytes end a e) (Due.too_long b) = absurd (long_no_text asked.input input bytes b a)
-run_once asked p input _ _ (Due.run bytes end a e) (Due.run bytes' end' b e') =
-    e ∙ ap (λ bs. run_on asked p (arguments p asked.input bs)) (text_once asked.input input bytes bytes' a b) ∙ sym e'
+run_once : (asked : Meant) (p : ProgramTree) (input : Option (List ℕ)) (numbers : Numbers) (x y : Ending) → IsRunDue asked p input numbers x → IsRunDue asked p input numbers y → x ≡ y
+run_once asked p input numbers _ _ (Due.missing a) (Due.missing b) = refl
+run_once asked p input numbers _ _ (Due.missing a) (Due.too_long b) = absurd (missing_not_long asked.input input a b)
+run_once asked p input numbers _ _ (Due.missing a) (Due.run bytes end b e) = absurd (missing_no_text asked.input input bytes a b)
+run_once asked p input numbers _ _ (Due.too_long a) (Due.missing b) = absurd (missing_not_long asked.input input b a)
+run_once asked p input numbers _ _ (Due.too_long a) (Due.too_long b) = refl
+run_once asked p input numbers _ _ (Due.too_long a) (Due.run bytes end b e) = absurd (long_no_text asked.input input bytes a b)
+run_once asked p input numbers _ _ (Due.run bytes end a e) (Due.missing b) = absurd (missing_no_text asked.input input bytes b a)
+run_once asked p input numbers _ _ (Due.run bytes end a e) (Due.too_long b) = absurd (long_no_text asked.input input bytes b a)
+run_once asked p input numbers _ _ (Due.run bytes end a e) (Due.run bytes' end' b e') =
+    e ∙ ap (λ bs. run_on asked p numbers (arguments p asked.input bs)) (text_once asked.input input bytes bytes' a b) ∙ sym e'
 
-program_once : (asked : Meant) (p : ProgramTree) (input : Option (List ℕ)) (x y : Ending) → IsProgramDue asked p input x → IsProgramDue asked p input y → x ≡ y
-program_once asked p input _ _ (Due.printed a) (Due.printed b) = refl
-program_once asked p input _ _ (Due.printed a) (Due.checked b) = absurd (cc (a, b))
-program_once asked p input _ _ (Due.printed a) (Due.run end b r) = absurd (cc (a, b))
-program_once asked p input _ _ (Due.checked a) (Due.printed b) = absurd (cc (a, b))
-program_once asked p input _ _ (Due.checked a) (Due.checked b) = refl
-program_once asked p input _ _ (Due.checked a) (Due.run end b r) = absurd (cc (a, b))
-program_once asked p input _ _ (Due.run end a r) (Due.printed b) = absurd (cc (a, b))
-program_once asked p input _ _ (Due.run end a r) (Due.checked b) = absurd (cc (a, b))
-program_once asked p input _ _ (Due.run end a r) (Due.run end' b r') = run_once asked p input end end' r r'
+program_once : (asked : Meant) (p : ProgramTree) (input : Option (List ℕ)) (numbers : Numbers) (x y : Ending) → IsProgramDue asked p input numbers x → IsProgramDue asked p input numbers y → x ≡ y
+program_once asked p input numbers _ _ (Due.printed a) (Due.printed b) = refl
+program_once asked p input numbers _ _ (Due.printed a) (Due.checked b) = absurd (cc (a, b))
+program_once asked p input numbers _ _ (Due.printed a) (Due.run end b r) = absurd (cc (a, b))
+program_once asked p input numbers _ _ (Due.checked a) (Due.printed b) = absurd (cc (a, b))
+program_once asked p input numbers _ _ (Due.checked a) (Due.checked b) = refl
+program_once asked p input numbers _ _ (Due.checked a) (Due.run end b r) = absurd (cc (a, b))
+program_once asked p input numbers _ _ (Due.run end a r) (Due.printed b) = absurd (cc (a, b))
+program_once asked p input numbers _ _ (Due.run end a r) (Due.checked b) = absurd (cc (a, b))
+program_once asked p input numbers _ _ (Due.run end a r) (Due.run end' b r') = run_once asked p input numbers end end' r r'
 
 -- ---- the source
 
@@ -140,28 +141,28 @@ module _
   refused_or_accepted source bytes bytes' x p b b' r is =
       program_not_refused bytes' x p is (subst (λ bs. IsRefusedSource bs x) (same_some bytes bytes' (sym b ∙ b')) r)
 
-  both_accepted : (source input : Option (List ℕ)) (asked asked' : Meant) (bytes bytes' : List ℕ) (p q : ProgramTree) (x y : Ending)
+  both_accepted : (source input : Option (List ℕ)) (numbers : Numbers) (asked asked' : Meant) (bytes bytes' : List ℕ) (p q : ProgramTree) (x y : Ending)
       → asked' ≡ asked → source ≡ Some bytes → source ≡ Some bytes' → IsProgramOf bytes p → IsProgramOf bytes' q
-      → IsProgramDue asked p input x → IsProgramDue asked' q input y → x ≡ y
-  both_accepted source input asked asked' bytes bytes' p q x y e b b' is is' d d' =
+      → IsProgramDue asked p input numbers x → IsProgramDue asked' q input numbers y → x ≡ y
+  both_accepted source input numbers asked asked' bytes bytes' p q x y e b b' is is' d d' =
       let tree : q ≡ p = same_tree bytes q p (subst (λ bs. HasTree bs q) (same_some bytes' bytes (sym b' ∙ b)) is'.tree) is.tree in
-      program_once asked p input x y d (subst (λ a. IsProgramDue a p input y) e (subst (λ t. IsProgramDue asked' t input y) tree d'))
+      program_once asked p input numbers x y d (subst (λ a. IsProgramDue a p input numbers y) e (subst (λ t. IsProgramDue asked' t input numbers y) tree d'))
 
-  pub due_once : (words : List (List ℕ)) (source input : Option (List ℕ)) (x y : Ending) → IsDue words source input x → IsDue words source input y → Same source x y
-  due_once words source input _ _ (Due.usage a) (Due.usage b) = inl refl
-  due_once words source input _ _ (Due.usage a) (Due.missing k b n) = absurd (cc (a, b))
-  due_once words source input _ _ (Due.usage a) (Due.refused k bs t b s r) = absurd (cc (a, b))
-  due_once words source input _ _ (Due.usage a) (Due.accepted k bs p y b s r d) = absurd (cc (a, b))
-  due_once words source input _ _ (Due.missing k a n) (Due.usage b) = absurd (cc (a, b))
-  due_once words source input _ _ (Due.missing k a n) (Due.missing k' b n') = inl refl
-  due_once words source input _ _ (Due.missing k a n) (Due.refused k' bs t b s r) = absurd (cc (n, s))
-  due_once words source input _ _ (Due.missing k a n) (Due.accepted k' bs p y b s r d) = absurd (cc (n, s))
-  due_once words source input _ _ (Due.refused k bs t a s r) (Due.usage b) = absurd (cc (a, b))
-  due_once words source input _ _ (Due.refused k bs t a s r) (Due.missing k' b n) = absurd (cc (n, s))
-  due_once words source input _ _ (Due.refused k bs t a s r) (Due.refused k' bs' t' b s' r') = both_refused source bs bs' t t' s s' r r'
-  due_once words source input _ _ (Due.refused k bs t a s r) (Due.accepted k' bs' p y b s' r' d) = absurd (refused_or_accepted source bs bs' t p s s' r r')
-  due_once words source input _ _ (Due.accepted k bs p x a s r d) (Due.usage b) = absurd (cc (a, b))
-  due_once words source input _ _ (Due.accepted k bs p x a s r d) (Due.missing k' b n) = absurd (cc (n, s))
-  due_once words source input _ _ (Due.accepted k bs p x a s r d) (Due.refused k' bs' t b s' r') = absurd (refused_or_accepted source bs' bs t p s' s r' r)
-  due_once words source input _ _ (Due.accepted k bs p x a s r d) (Due.accepted k' bs' q y b s' r' d') =
-      inl (both_accepted source input k k' bs bs' p q x y (same_some k' k (sym b ∙ a)) s s' r r' d d')
+  pub due_once : (words : List (List ℕ)) (source input : Option (List ℕ)) (numbers : Numbers) (x y : Ending) → IsDue words source input numbers x → IsDue words source input numbers y → Same source x y
+  due_once words source input numbers _ _ (Due.usage a) (Due.usage b) = inl refl
+  due_once words source input numbers _ _ (Due.usage a) (Due.missing k b n) = absurd (cc (a, b))
+  due_once words source input numbers _ _ (Due.usage a) (Due.refused k bs t b s r) = absurd (cc (a, b))
+  due_once words source input numbers _ _ (Due.usage a) (Due.accepted k bs p y b s r d) = absurd (cc (a, b))
+  due_once words source input numbers _ _ (Due.missing k a n) (Due.usage b) = absurd (cc (a, b))
+  due_once words source input numbers _ _ (Due.missing k a n) (Due.missing k' b n') = inl refl
+  due_once words source input numbers _ _ (Due.missing k a n) (Due.refused k' bs t b s r) = absurd (cc (n, s))
+  due_once words source input numbers _ _ (Due.missing k a n) (Due.accepted k' bs p y b s r d) = absurd (cc (n, s))
+  due_once words source input numbers _ _ (Due.refused k bs t a s r) (Due.usage b) = absurd (cc (a, b))
+  due_once words source input numbers _ _ (Due.refused k bs t a s r) (Due.missing k' b n) = absurd (cc (n, s))
+  due_once words source input numbers _ _ (Due.refused k bs t a s r) (Due.refused k' bs' t' b s' r') = both_refused source bs bs' t t' s s' r r'
+  due_once words source input numbers _ _ (Due.refused k bs t a s r) (Due.accepted k' bs' p y b s' r' d) = absurd (refused_or_accepted source bs bs' t p s s' r r')
+  due_once words source input numbers _ _ (Due.accepted k bs p x a s r d) (Due.usage b) = absurd (cc (a, b))
+  due_once words source input numbers _ _ (Due.accepted k bs p x a s r d) (Due.missing k' b n) = absurd (cc (n, s))
+  due_once words source input numbers _ _ (Due.accepted k bs p x a s r d) (Due.refused k' bs' t b s' r') = absurd (refused_or_accepted source bs' bs t p s' s r' r)
+  due_once words source input numbers _ _ (Due.accepted k bs p x a s r d) (Due.accepted k' bs' q y b s' r' d') =
+      inl (both_accepted source input numbers k k' bs bs' p q x y (same_some k' k (sym b ∙ a)) s s' r r' d d')

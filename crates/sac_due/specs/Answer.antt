@@ -6,6 +6,7 @@ use Rattle.sac_ast.specs.Tree.{ProgramTree}
 use Rattle.sac_words.specs.declared.options.Mode.TheVariants.{Run}
 use Rattle.sac_words.specs.Meaning.{Meant, file, words_mean}
 use Rattle.sac_due.specs.Texts.{line, usage_text}
+use Rattle.sac_due.specs.Report.{Numbers}
 use Rattle.sac_due.specs.Source.{IsProgramOf}
 use Rattle.sac_due.specs.Due.{Ending, IsDue}
 use Rattle.sac_due.specs.declared.status.Status.{Status}
@@ -15,13 +16,13 @@ use Rattle.sac_due.specs.declared.status.Status.TheVariants.{ReadFault, Usage, M
 abbrev pub Finds : Option Contents → List ℕ → Option (List ℕ) → Type 0
 Finds files name found = MatchOption files (IsSome found) (λ contents. contents name ≡ found)
 
--- due for these words and files
-pub record IsDueFor (words : List (List ℕ)) (files : Option Contents) (end : Ending) : Type 0 where
+-- due for these words and files, where these are the numbers of the report
+pub record IsDueFor (words : List (List ℕ)) (files : Option Contents) (numbers : Numbers) (end : Ending) : Type 0 where
   pub source : Option (List ℕ)
   pub input : Option (List ℕ)
   pub finds_source : (asked : Meant) → words_mean words ≡ Some asked → Finds files asked.source source
   pub finds_input : (asked : Meant) (name : List ℕ) → words_mean words ≡ Some asked → asked.input ≡ file name → Finds files name input
-  pub due : IsDue words source input end
+  pub due : IsDue words source input numbers end
 
 -- The input is fetched: a file was named, the mode runs the program and, where the files are told, the source is an accepted program.
 pub record FetchesInput (words : List (List ℕ)) (files : Option Contents) : Type 0 where
@@ -49,12 +50,12 @@ abbrev pub input_fault : Ending
 input_fault = record { status = ReadFault; text = line (codes "read fault input") }
 
 -- What a run comes to before it writes, after so many fetches: what is due, or a fault of the files. A read fault names what was fetched last.
-pub data IsAnswer (words : List (List ℕ)) (files : Option Contents) (failed : Type 0) : ℕ → Ending → Type 0 where
-  refused : words_mean words ≡ None → IsAnswer words files failed 0 (record { status = Usage; text = line usage_text })
-  by_source : (end : Ending) → IsSome (words_mean words) → IsDueFor words files end → (end.status ≡ ReadFault → LacksSource words files × (end ≡ source_fault)) → IsAnswer words files failed 1 end
-  by_input : (end : Ending) → FetchesInput words files → IsDueFor words files end → (end.status ≡ ReadFault → LacksInput words files × (end ≡ input_fault)) → IsAnswer words files failed 2 end
-  source_failed : IsSome (words_mean words) → failed → IsAnswer words files failed 1 source_fault
-  input_failed : FetchesInput words files → failed → IsAnswer words files failed 2 input_fault
+pub data IsAnswer (words : List (List ℕ)) (files : Option Contents) (numbers : Numbers) (failed : Type 0) : ℕ → Ending → Type 0 where
+  refused : words_mean words ≡ None → IsAnswer words files numbers failed 0 (record { status = Usage; text = line usage_text })
+  by_source : (end : Ending) → IsSome (words_mean words) → IsDueFor words files numbers end → (end.status ≡ ReadFault → LacksSource words files × (end ≡ source_fault)) → IsAnswer words files numbers failed 1 end
+  by_input : (end : Ending) → FetchesInput words files → IsDueFor words files numbers end → (end.status ≡ ReadFault → LacksInput words files × (end ≡ input_fault)) → IsAnswer words files numbers failed 2 end
+  source_failed : IsSome (words_mean words) → failed → IsAnswer words files numbers failed 1 source_fault
+  input_failed : FetchesInput words files → failed → IsAnswer words files numbers failed 2 input_fault
 
 -- so many fetches may be made
 pub data MayFetch (words : List (List ℕ)) (files : Option Contents) (status : Status) : ℕ → Type 0 where
@@ -72,9 +73,9 @@ abbrev pub Fetches : List (List ℕ) → Option Contents → Status → ℕ → 
 Fetches words files status before after = (count : ℕ) × MayFetch words files status count × Calls before after count
 
 -- the status is due, and the text that is due with it was written
-pub record EndsAsDue (words : List (List ℕ)) (files : Option Contents) (old new : Option (List ℕ)) (status : Status) : Type 0 where
+pub record EndsAsDue (words : List (List ℕ)) (files : Option Contents) (numbers : Numbers) (old new : Option (List ℕ)) (status : Status) : Type 0 where
   pub text : List ℕ
-  pub due : IsDueFor words files (record { status = status; text = text })
+  pub due : IsDueFor words files numbers (record { status = status; text = text })
   pub written : new ≡ with_more old text
 
 -- the line of a read fault was written, which names what was fetched last
@@ -83,8 +84,8 @@ pub data SaysReadFault (words : List (List ℕ)) (files : Option Contents) (befo
   input : Calls before after 2 → FetchesInput words files → new ≡ with_more old (line (codes "read fault input")) → SaysReadFault words files before after old new
 
 -- a front of the text that the run came to was written
-pub record EndsCutShort (words : List (List ℕ)) (files : Option Contents) (failed : Type 0) (old new : Option (List ℕ)) : Type 0 where
+pub record EndsCutShort (words : List (List ℕ)) (files : Option Contents) (numbers : Numbers) (failed : Type 0) (old new : Option (List ℕ)) : Type 0 where
   pub count : ℕ
   pub end : Ending
-  pub answer : IsAnswer words files failed count end
+  pub answer : IsAnswer words files numbers failed count end
   pub front : AppendsFront old new end.text

@@ -1,5 +1,6 @@
 pub mod Status
 pub mod Texts
+pub mod Report
 pub mod Source
 pub mod Input
 pub mod Due

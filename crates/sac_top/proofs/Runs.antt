@@ -13,9 +13,10 @@ use Rattle.sac_io.specs.Files.{Contents, Holds, HoldsLonger, Lacks}
 use Rattle.sac_print.specs.Canonical.{canonical}
 use Rattle.data_text.specs.Texts.{Refusal, text_value}
 use Rattle.sac_words.specs.declared.options.Mode.TheVariants.{Run, Check, Print}
-use Rattle.sac_words.specs.Meaning.{Meant, Origin, empty, file, generated}
+use Rattle.sac_words.specs.Meaning.{Meant, empty, file, generated}
 use Rattle.sac_due.specs.Status.{fault_status}
 use Rattle.sac_due.specs.Texts.{line}
+use Rattle.sac_due.specs.Report.{Numbers}
 use Rattle.sac_due.specs.Input.{IsMissing, IsTooLong, IsText, arguments, main_bases}
 use Rattle.sac_due.specs.Due
 use Rattle.sac_due.specs.Due.{Ending, IsRunDue, IsProgramDue, ended, run_on}
@@ -61,81 +62,81 @@ no_read_fault F8 e = cc (e)
 no_read_fault F9 e = cc (e)
 no_read_fault F10 e = cc (e)
 
-ended_not_read : (o : Origin) (m : Ends (List ArrayValue)) → (ended o m).status ≡ ReadFault → ⊥
-ended_not_read o (Ok values) e = cc (e)
-ended_not_read o (Err fault) e = no_read_fault fault.kind e
+ended_not_read : (asked : Meant) (numbers : Numbers) (m : Ends (List ArrayValue)) → (ended asked numbers m).status ≡ ReadFault → ⊥
+ended_not_read asked numbers (Ok values) e = cc (e)
+ended_not_read asked numbers (Err fault) e = no_read_fault fault.kind e
 
-run_not_read : (asked : Meant) (p : ProgramTree) (r : Result (List ArrayValue) Refusal) → (run_on asked p r).status ≡ ReadFault → ⊥
-run_not_read asked p (Err refusal) e = cc (e)
-run_not_read asked p (Ok args) e = ended_not_read asked.input _ e
+run_not_read : (asked : Meant) (p : ProgramTree) (numbers : Numbers) (r : Result (List ArrayValue) Refusal) → (run_on asked p numbers r).status ≡ ReadFault → ⊥
+run_not_read asked p numbers (Err refusal) e = cc (e)
+run_not_read asked p numbers (Ok args) e = ended_not_read asked numbers _ e
 
-not_read : (asked : Meant) (p : ProgramTree) (r : Result (List ArrayValue) Refusal) (end : Ending) → end ≡ run_on asked p r → end.status ≡ ReadFault → ⊥
-not_read asked p r end is e = run_not_read asked p r (sym (ap (λ (x : Ending). x.status) is) ∙ e)
+not_read : (asked : Meant) (p : ProgramTree) (numbers : Numbers) (r : Result (List ArrayValue) Refusal) (end : Ending) → end ≡ run_on asked p numbers r → end.status ≡ ReadFault → ⊥
+not_read asked p numbers r end is e = run_not_read asked p numbers r (sym (ap (λ (x : Ending). x.status) is) ∙ e)
 
 -- ---- a file is fetched
 
-module _ (asked : Meant) (p : ProgramTree) (files : Option Contents) (failed : Type 0) (name : List ℕ) (named : asked.input ≡ file name) where
+module _ (asked : Meant) (p : ProgramTree) (files : Option Contents) (numbers : Numbers) (failed : Type 0) (name : List ℕ) (named : asked.input ≡ file name) where
   pub whole : (r : Result Answer NoMemory) (bytes : List ℕ) → Holds files name bytes → length bytes ≤ 67108864
-      → IfOk r (λ a. ending a ≡ run_on asked p (text_value bytes (main_bases p))) → IfOk r (λ a. IsFileAnswer asked p files failed name (ending a))
+      → IfOk r (λ a. ending a ≡ run_on asked p numbers (text_value bytes (main_bases p))) → IfOk r (λ a. IsFileAnswer asked p files numbers failed name (ending a))
   whole r bytes holds fits h = IfOk-weaker r _ _ (λ a e.
       due (Some bytes) (ending a) (finds_whole files name bytes holds)
-      (Due.run bytes (ending a) (subst (λ o. IsText o (Some bytes) bytes) (sym named) (refl, fits)) (e ∙ ap (λ o. run_on asked p (arguments p o bytes)) (sym named)))
-      (λ read. absurd (not_read asked p _ (ending a) e read))) h
+      (Due.run bytes (ending a) (subst (λ o. IsText o (Some bytes) bytes) (sym named) (refl, fits)) (e ∙ ap (λ o. run_on asked p numbers (arguments p o bytes)) (sym named)))
+      (λ read. absurd (not_read asked p numbers _ (ending a) e read))) h
 
   pub longer : (r : Result Answer NoMemory) → HoldsLonger files name 67108864
-      → IfOk r (λ a. ending a ≡ record { status = Input; text = line (codes "refused input size") }) → IfOk r (λ a. IsFileAnswer asked p files failed name (ending a))
+      → IfOk r (λ a. ending a ≡ record { status = Input; text = line (codes "refused input size") }) → IfOk r (λ a. IsFileAnswer asked p files numbers failed name (ending a))
   longer r holds h =
       let more = finds_longer files name 67108864 holds in
-      IfOk-weaker r _ _ (λ a e. subst (IsFileAnswer asked p files failed name) (sym e)
+      IfOk-weaker r _ _ (λ a e. subst (IsFileAnswer asked p files numbers failed name) (sym e)
       (due (Some more.0) _ more.2 (Due.too_long (subst (λ o. IsTooLong o (Some more.0)) (sym named) (more.0, refl, more.1))) (λ read. absurd (cc (read))))) h
 
   pub missing : (r : Result Answer NoMemory) → Lacks files name
-      → IfOk r (λ a. ending a ≡ input_fault) → IfOk r (λ a. IsFileAnswer asked p files failed name (ending a))
+      → IfOk r (λ a. ending a ≡ input_fault) → IfOk r (λ a. IsFileAnswer asked p files numbers failed name (ending a))
   missing r lacks h =
-      IfOk-weaker r _ _ (λ a e. subst (IsFileAnswer asked p files failed name) (sym e)
+      IfOk-weaker r _ _ (λ a e. subst (IsFileAnswer asked p files numbers failed name) (sym e)
       (due None _ (finds_none files name lacks) (Due.missing (subst (λ o. IsMissing o None) (sym named) refl)) (λ read. (lacks, refl)))) h
 
   pub file_failed : (r : Result Answer NoMemory) → failed
-      → IfOk r (λ a. ending a ≡ input_fault) → IfOk r (λ a. IsFileAnswer asked p files failed name (ending a))
-  file_failed r f h = IfOk-weaker r _ _ (λ a e. subst (IsFileAnswer asked p files failed name) (sym e) (fails f)) h
+      → IfOk r (λ a. ending a ≡ input_fault) → IfOk r (λ a. IsFileAnswer asked p files numbers failed name (ending a))
+  file_failed r f h = IfOk-weaker r _ _ (λ a e. subst (IsFileAnswer asked p files numbers failed name) (sym e) (fails f)) h
 
 -- ---- no file is fetched
 
-module _ (asked : Meant) (p : ProgramTree) (files : Option Contents) (failed : Type 0) where
-  plain_run : (end : Ending) → ((input : Option (List ℕ)) → IsText asked.input input []) → end ≡ run_on asked p (arguments p asked.input []) → IsPlainRun asked p end
-  plain_run end text e = record { due = λ input. Due.run [] end (text input) e; other = not_read asked p _ end e }
+module _ (asked : Meant) (p : ProgramTree) (files : Option Contents) (numbers : Numbers) (failed : Type 0) where
+  plain_run : (end : Ending) → ((input : Option (List ℕ)) → IsText asked.input input []) → end ≡ run_on asked p numbers (arguments p asked.input []) → IsPlainRun asked p numbers end
+  plain_run end text e = record { due = λ input. Due.run [] end (text input) e; other = not_read asked p numbers _ end e }
 
   pub run_empty : (r : Result Answer NoMemory) → asked.input ≡ empty
-      → IfOk r (λ a. ending a ≡ run_on asked p (text_value [] (main_bases p))) → IfOk r (λ a. IsRunAnswer asked p files failed (ending a))
+      → IfOk r (λ a. ending a ≡ run_on asked p numbers (text_value [] (main_bases p))) → IfOk r (λ a. IsRunAnswer asked p files numbers failed (ending a))
   run_empty r is h = IfOk-weaker r _ _ (λ a e.
-      subst (λ o. MatchOption (file_of o) (IsPlainRun asked p (ending a)) (λ name. IsFileAnswer asked p files failed name (ending a))) (sym is)
-      (plain_run (ending a) (λ input. subst (λ o. IsText o input []) (sym is) refl) (e ∙ ap (λ o. run_on asked p (arguments p o [])) (sym is)))) h
+      subst (λ o. MatchOption (file_of o) (IsPlainRun asked p numbers (ending a)) (λ name. IsFileAnswer asked p files numbers failed name (ending a))) (sym is)
+      (plain_run (ending a) (λ input. subst (λ o. IsText o input []) (sym is) refl) (e ∙ ap (λ o. run_on asked p numbers (arguments p o [])) (sym is)))) h
 
   pub run_generated : (r : Result Answer NoMemory) (n : ℕ) → asked.input ≡ generated n
-      → IfOk r (λ a. ending a ≡ run_on asked p (arguments p (generated n) [])) → IfOk r (λ a. IsRunAnswer asked p files failed (ending a))
+      → IfOk r (λ a. ending a ≡ run_on asked p numbers (arguments p (generated n) [])) → IfOk r (λ a. IsRunAnswer asked p files numbers failed (ending a))
   run_generated r n is h = IfOk-weaker r _ _ (λ a e.
-      subst (λ o. MatchOption (file_of o) (IsPlainRun asked p (ending a)) (λ name. IsFileAnswer asked p files failed name (ending a))) (sym is)
-      (plain_run (ending a) (λ input. subst (λ o. IsText o input []) (sym is) refl) (e ∙ ap (λ o. run_on asked p (arguments p o [])) (sym is)))) h
+      subst (λ o. MatchOption (file_of o) (IsPlainRun asked p numbers (ending a)) (λ name. IsFileAnswer asked p files numbers failed name (ending a))) (sym is)
+      (plain_run (ending a) (λ input. subst (λ o. IsText o input []) (sym is) refl) (e ∙ ap (λ o. run_on asked p numbers (arguments p o [])) (sym is)))) h
 
   from_file : (o : Option (List ℕ)) (end : Ending) → asked.mode ≡ Run
-      → MatchOption o (IsPlainRun asked p end) (λ name. IsFileAnswer asked p files failed name end)
-      → MatchOption o (IsPlainAnswer asked p end) (λ name. IsFileAnswer asked p files failed name end)
+      → MatchOption o (IsPlainRun asked p numbers end) (λ name. IsFileAnswer asked p files numbers failed name end)
+      → MatchOption o (IsPlainAnswer asked p numbers end) (λ name. IsFileAnswer asked p files numbers failed name end)
   from_file None end runs h = record { due = λ input. Due.run end runs (h.due input); other = h.other }
   from_file (Some name) end runs h = h
 
   pub runs : (r : Result Answer NoMemory) → asked.mode ≡ Run
-      → IfOk r (λ a. IsRunAnswer asked p files failed (ending a)) → IfOk r (λ a. IsProgramAnswer asked p files failed (ending a))
+      → IfOk r (λ a. IsRunAnswer asked p files numbers failed (ending a)) → IfOk r (λ a. IsProgramAnswer asked p files numbers failed (ending a))
   runs r is h = IfOk-weaker r _ _ (λ a e.
-      subst (λ m. MatchOption (file_in m asked.input) (IsPlainAnswer asked p (ending a)) (λ name. IsFileAnswer asked p files failed name (ending a))) (sym is)
+      subst (λ m. MatchOption (file_in m asked.input) (IsPlainAnswer asked p numbers (ending a)) (λ name. IsFileAnswer asked p files numbers failed name (ending a))) (sym is)
       (from_file (file_of asked.input) (ending a) is e)) h
 
   pub checks : (r : Result Answer NoMemory) → asked.mode ≡ Check
-      → IfOk r (λ a. ending a ≡ record { status = Done; text = line (codes "accepted") }) → IfOk r (λ a. IsProgramAnswer asked p files failed (ending a))
+      → IfOk r (λ a. ending a ≡ record { status = Done; text = line (codes "accepted") }) → IfOk r (λ a. IsProgramAnswer asked p files numbers failed (ending a))
   checks r is h = IfOk-weaker r _ _ (λ a e.
-      subst (λ m. MatchOption (file_in m asked.input) (IsPlainAnswer asked p (ending a)) (λ name. IsFileAnswer asked p files failed name (ending a))) (sym is)
-      (subst (IsPlainAnswer asked p) (sym e) (record { due = λ input. Due.checked is; other = λ read. cc (read) }))) h
+      subst (λ m. MatchOption (file_in m asked.input) (IsPlainAnswer asked p numbers (ending a)) (λ name. IsFileAnswer asked p files numbers failed name (ending a))) (sym is)
+      (subst (IsPlainAnswer asked p numbers) (sym e) (record { due = λ input. Due.checked is; other = λ read. cc (read) }))) h
 
-  pub prints : (end : Ending) → asked.mode ≡ Print → end ≡ record { status = Done; text = canonical p } → IsProgramAnswer asked p files failed end
+  pub prints : (end : Ending) → asked.mode ≡ Print → end ≡ record { status = Done; text = canonical p } → IsProgramAnswer asked p files numbers failed end
   prints end is e =
-      subst (λ m. MatchOption (file_in m asked.input) (IsPlainAnswer asked p end) (λ name. IsFileAnswer asked p files failed name end)) (sym is)
-      (subst (IsPlainAnswer asked p) (sym e) (record { due = λ input. Due.printed is; other = λ read. cc (read) }))
+      subst (λ m. MatchOption (file_in m asked.input) (IsPlainAnswer asked p numbers end) (λ name. IsFileAnswer asked p files numbers failed name end)) (sym is)
+      (subst (IsPlainAnswer asked p numbers) (sym e) (record { due = λ input. Due.printed is; other = λ read. cc (read) }))

@@ -1,6 +1,7 @@
 //! The arguments of `main`.
 ghost use Rattle.std.specs.Prelude.{◌≡◌, ◌≤◌, map, IfOk};
 ghost use Rattle.sac_base.specs.declared.types.ArrayType.{ArrayType as Ty};
+ghost use Rattle.sac_base.specs.Arrays.{form_of};
 ghost use Rattle.sac_ast.specs.declared.Param.{Param as ParamOf};
 ghost use Rattle.sac_ast.specs.View.{program as tree};
 ghost use Rattle.data_text.specs.Texts.{text_value};
@@ -10,7 +11,7 @@ ghost use Rattle.sac_due.specs.Input.{main_types, main_bases};
 
 use data_text::{DataError, generate, read_arrays};
 use sac_ast::{Param, Program};
-use sac_base::{Array, ArrayType, Base, Memory, copy_type};
+use sac_base::{Array, ArrayType, Base, Form, Memory, copy_type};
 use std::alloc::Global;
 
 fn types_of(alloc: Global, params: &[Param]) -> Result<Vec<ArrayType>, Memory>
@@ -43,6 +44,17 @@ fn bases_of(alloc: Global, types: &[ArrayType]) -> Result<Vec<Base>, Memory>
         bases.push(ty.base)?;
     }
     Ok(bases)
+}
+
+/// The forms of arguments.
+pub fn forms_of(alloc: Global, args: &[Array]) -> Result<Vec<Form>, Memory>
+    ensures { IfOk result (λ forms. forms.items ≡ map form_of args.now) }
+{
+    let mut forms = Vec::new(alloc);
+    for array in args {
+        forms.push(array.form())?;
+    }
+    Ok(forms)
 }
 
 /// The arguments that a text gives.

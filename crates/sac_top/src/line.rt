@@ -17,7 +17,8 @@ pub struct Answer {
     pub text: Vec<u8>,
 }
 
-fn push(text: &mut Vec<u8>, piece: &str) -> Result<(), Memory>
+/// Appends a piece.
+pub fn push(text: &mut Vec<u8>, piece: &str) -> Result<(), Memory>
     ensures { OnOk result (text.new.items ≡ text.old.items ++ piece.now) }
 {
     text.extend_from_slice(piece.as_bytes())?;

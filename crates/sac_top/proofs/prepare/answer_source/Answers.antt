@@ -2,6 +2,7 @@ use Rattle.std.proofs.Common.{refl, subst}
 use Rattle.sac_top.specs.Steps
 use Rattle.sac_top.specs.Steps.{IsJudged}
 use Rattle.sac_top.proofs.Whole.{answer_accepted, accepted_fetched, none_fetched, same_calls}
+use Rattle.sac_top.proofs.Tracing.{untouched, accepted_traced}
 use Rattle.sac_top.proofs.prepare.answer_source.Goals as goal
 
 pub returns-in_err-checked-clause-calls : goal.returns-in_err-checked-clause-calls
@@ -9,7 +10,7 @@ returns-in_err-checked-clause-calls g c = none_fetched _ _ _ _
 
 pub returns-in-Accepted-clause-answer : goal.returns-in-Accepted-clause-answer
 returns-in-Accepted-clause-answer g c =
-    answer_accepted _ _ _ _ _ _ _ _ (subst (IsJudged c.args.source.now) c.in-Accepted.is c.in_ok-checked.ensures)
+    answer_accepted _ _ _ _ _ _ _ _ _ (subst (IsJudged c.args.source.now) c.in-Accepted.is c.in_ok-checked.ensures)
     (same_calls g.F.Files.calls _ _ _ c.answer_program.ensures.calls) c.answer_program.ensures.answer
 
 pub returns-in-Accepted-clause-calls : goal.returns-in-Accepted-clause-calls
@@ -20,3 +21,13 @@ returns-in-Accepted-clause-calls g c =
 pub returns-in-Refused-clause-answer : goal.returns-in-Refused-clause-answer
 returns-in-Refused-clause-answer g c =
     (0, Steps.refused _ (subst (IsJudged c.args.source.now) c.in-Refused.is c.in_ok-checked.ensures), refl)
+
+pub returns-in_err-checked-clause-cleared : goal.returns-in_err-checked-clause-cleared
+returns-in_err-checked-clause-cleared g c = untouched _ c.requires.new
+
+pub returns-in-Accepted-clause-traced : goal.returns-in-Accepted-clause-traced
+returns-in-Accepted-clause-traced g c =
+    λ runs. accepted_traced _ _ _ _ _ _ _ (subst (IsJudged c.args.source.now) c.in-Accepted.is c.in_ok-checked.ensures) (c.answer_program.ensures.traced runs)
+
+pub returns-in-Refused-clause-cleared : goal.returns-in-Refused-clause-cleared
+returns-in-Refused-clause-cleared g c = untouched _ c.requires.new

@@ -1,0 +1,172 @@
+-- What a run leaves in the trace and in the heap, over plain values.
+use Rattle.std.proofs.Common.{◌≡◌, ◌≤◌, ℕ, zero, suc, List, [], Option, Some, None, Result, Ok, Err, IfOk, length, refl, sym, ap, subst, ◌∙◌}
+use Rattle.std.proofs.lemmas.Result.{IfOk-weaker}
+use Rattle.std.specs.Prelude.{Vec}
+use Rattle.std.specs.declared.alloc.Global.{Global}
+use Rattle.sac_base.specs.Arrays.{ArrayValue}
+use Rattle.sac_base.specs.Outcomes.{Ends}
+use Rattle.sac_base.specs.declared.fault.Caps.{Caps}
+use Rattle.sac_base.specs.declared.memory.Memory.{Memory as NoMemory}
+use Rattle.sac_base.specs.declared.outcome.Outcome.{Outcome}
+use Rattle.sac_io.specs.Files.{Contents, Holds}
+use Rattle.sac_ast.specs.Tree.{ProgramTree}
+use Rattle.value_meaning.specs.Calls.{outcome}
+use Rattle.data_text.specs.Texts.{Refusal}
+use Rattle.buffer_heap.specs.Heaps.{HeapValue, at}
+use Rattle.counted_code.specs.declared.tree.Code.{Code}
+use Rattle.counted_code.specs.declared.tree.Cost.{Cost}
+use Rattle.counted_code.specs.View.{code_program}
+use Rattle.counted_code.specs.Outcome.{whole_run, outcome_of, cost_of}
+use Rattle.with_loops.specs.declared.stop.Stop.{Stop}
+use Rattle.with_loops.specs.declared.stop.Stop.TheVariants as stop
+use Rattle.with_loops.specs.Tells.{TellsItems}
+use Rattle.run_eval.specs.declared.trace.Trace.{Trace}
+use Rattle.run_eval.specs.Outcomes.{new_heap, IsCleared, HasCounters, TellsCost}
+use Rattle.sac_words.specs.declared.options.Mode.TheVariants.{Run}
+use Rattle.sac_words.specs.Meaning.{Meant, Origin, empty, file, generated, words_mean}
+use Rattle.sac_due.specs.Report.{Numbers}
+use Rattle.sac_due.specs.Input.{IsText, arguments}
+use Rattle.sac_due.specs.Source.{IsProgramOf}
+use Rattle.sac_due.specs.Due.{Ending, ended, run_on}
+use Rattle.sac_due.specs.Answer.{Finds}
+use Rattle.sac_top.specs.Traced.{numbers_of, IsRunStatus, HasCost, IsCodeFor, IsRunTraced, IsGivenTraced, IsProgramTraced, IsTraced}
+use Rattle.sac_top.specs.Steps.{ending, ends_of, HasEnded}
+use Rattle.sac_top.specs.declared.line.Answer.{Answer}
+use Rattle.sac_top.proofs.Runs.{finds_whole}
+
+-- ---- the heap
+
+nothing_at : (b : ℕ) → at new_heap b ≡ None
+nothing_at zero = refl
+nothing_at (suc b) = refl
+
+-- a heap that was not touched
+pub untouched : (h : HeapValue) → h ≡ new_heap → IsCleared h
+untouched h new = subst IsCleared (sym new) (nothing_at, refl)
+
+-- ---- the code and its run
+
+pub ends_with : (r : Result Outcome NoMemory) (m n : Ends (List ArrayValue)) → m ≡ n → IfOk r (λ o. m ≡ ends_of o) → IfOk r (λ o. ends_of o ≡ n)
+ends_with r m n same h = IfOk-weaker r _ _ (λ o e. sym e ∙ same) h
+
+-- what the cost tells after results
+after_results : (ended : Ends (List ArrayValue)) (t : Trace) (cost : Cost) (m : Ends (List ArrayValue)) → m ≡ ended → IfOk m (λ results. HasCost t cost) → IfOk ended (λ results. HasCost t cost)
+after_results ended t cost m is h = subst (λ o. IfOk o (λ results. HasCost t cost)) is h
+
+-- whatever ended the run but want of memory
+pub run_traced : (p : ProgramTree) (args : List ArrayValue) (caps : Caps) (code : Code) (r : Result (Vec ArrayValue Global) Stop) (t : Trace) (h : HeapValue) (folded scalarised : ℕ)
+    → IsCodeFor p (code_program code) → TellsItems r (outcome_of (whole_run (code_program code) args caps)) → TellsCost r t (cost_of (whole_run (code_program code) args caps))
+    → HasCounters t h → folded ≡ 0 → scalarised ≡ 0 → HasEnded r
+    → IsRunTraced p args caps (record t { code = Some code; folded = folded; scalarised = scalarised }) h
+run_traced p args caps code (Ok v) t h folded scalarised sound tells cost counters f s other = record {
+  code = code;
+  kept = refl;
+  sound = sound;
+  folded = f;
+  scalarised = s;
+  cost = after_results (outcome p args caps) t (cost_of (whole_run (code_program code) args caps)) (Ok v.items) (sym tells ∙ sound.outcome args caps) cost;
+  phases = cost.3;
+  counters = counters;
+}
+run_traced p args caps code (Err (stop.Faulted e)) t h folded scalarised sound tells cost counters f s other = record {
+  code = code;
+  kept = refl;
+  sound = sound;
+  folded = f;
+  scalarised = s;
+  cost = after_results (outcome p args caps) t (cost_of (whole_run (code_program code) args caps)) (Err e) (sym tells ∙ sound.outcome args caps) tt;
+  phases = cost;
+  counters = counters;
+}
+run_traced p args caps code (Err stop.Memory) t h folded scalarised sound tells cost counters f s other = absurd other
+
+-- what holds whatever the answer
+pub whatever : {T E : Type 0} (r : Result T E) (P : Type 0) → P → IfOk r (λ x. P)
+whatever (Ok x) P p = p
+whatever (Err e) P p = tt
+
+pub ends_as : (r : Result Answer NoMemory) (asked : Meant) (numbers : Numbers) (m n : Ends (List ArrayValue)) → m ≡ n
+    → IfOk r (λ a. ending a ≡ ended asked numbers m) → IfOk r (λ a. ending a ≡ ended asked numbers n)
+ends_as r asked numbers m n e h = subst (λ o. IfOk r (λ a. ending a ≡ ended asked numbers o)) e h
+
+pub runs_on : (r : Result Answer NoMemory) (asked : Meant) (p : ProgramTree) (numbers : Numbers) (args : List ArrayValue) (given : Result (List ArrayValue) Refusal) → given ≡ Ok args
+    → IfOk r (λ a. ending a ≡ ended asked numbers (outcome p args asked.caps)) → IfOk r (λ a. ending a ≡ run_on asked p numbers given)
+runs_on r asked p numbers args given e h = subst (λ g. IfOk r (λ a. ending a ≡ run_on asked p numbers g)) (sym e) h
+
+-- ---- an answer with another status
+
+pub not_run : (r : Result Answer NoMemory) (end : Ending) (X : Answer → Type 0) → (IsRunStatus end.status → ⊥)
+    → IfOk r (λ a. ending a ≡ end) → IfOk r (λ a. IsRunStatus a.status → X a)
+not_run r end X other h =
+    IfOk-weaker r _ _ (λ a e is. absurd (other (subst IsRunStatus (ap (λ (x : Ending). x.status) e) is))) h
+
+-- ---- the arguments, the input and the source
+
+pub given_traced : (r : Result Answer NoMemory) (asked : Meant) (p : ProgramTree) (given : Result (List ArrayValue) Refusal) (args : List ArrayValue) (t : Trace) (h : HeapValue) → given ≡ Ok args
+    → IfOk r (λ a. ending a ≡ ended asked (numbers_of t) (outcome p args asked.caps)) → IfOk r (λ a. IsRunTraced p args asked.caps t h)
+    → IfOk r (λ a. IsRunStatus a.status → IsGivenTraced asked p given (ending a) t h)
+given_traced (Err e) asked p given args t h are ends run = tt
+given_traced (Ok a) asked p given args t h are ends run = λ is. record { args = args; are = are; ends = ends; run = run }
+
+same_name : (a b : List ℕ) → file a ≡ file b → a ≡ b
+same_name a b e = cc (e)
+
+module _ (asked : Meant) (p : ProgramTree) (files : Option Contents) (t : Trace) (h : HeapValue) (r : Result Answer NoMemory) where
+  abbrev pub GivenBy : Origin → List ℕ → Type 0
+  GivenBy origin bytes = IfOk r (λ a. IsRunStatus a.status → IsGivenTraced asked p (arguments p origin bytes) (ending a) t h)
+
+  abbrev pub ForProgram : Type 0
+  ForProgram = IfOk r (λ a. IsRunStatus a.status → IsProgramTraced asked p files (ending a) t h)
+
+  pub whole_traced : (name bytes : List ℕ) → asked.input ≡ file name → Holds files name bytes → length bytes ≤ 67108864 → GivenBy (file name) bytes → ForProgram
+  whole_traced name bytes named holds fits x = IfOk-weaker r _ _ (λ a given is. record {
+    input = Some bytes;
+    text = bytes;
+    found = λ other e. subst (λ n. Finds files n (Some bytes)) (same_name name other (sym named ∙ e)) (finds_whole files name bytes holds);
+    read = subst (λ o. IsText o (Some bytes) bytes) (sym named) (refl, fits);
+    given = subst (λ o. IsGivenTraced asked p (arguments p o bytes) (ending a) t h) (sym named) (given is);
+  }) x
+
+  pub empty_traced : asked.input ≡ empty → GivenBy empty [] → ForProgram
+  empty_traced named x = IfOk-weaker r _ _ (λ a given is. record {
+    input = None;
+    text = [];
+    found = λ other e. absurd (cc (named, e));
+    read = subst (λ o. IsText o None []) (sym named) refl;
+    given = subst (λ o. IsGivenTraced asked p (arguments p o []) (ending a) t h) (sym named) (given is);
+  }) x
+
+  pub generated_traced : (n : ℕ) → asked.input ≡ generated n → GivenBy (generated n) [] → ForProgram
+  generated_traced n named x = IfOk-weaker r _ _ (λ a given is. record {
+    input = None;
+    text = [];
+    found = λ other e. absurd (cc (named, e));
+    read = subst (λ o. IsText o None []) (sym named) refl;
+    given = subst (λ o. IsGivenTraced asked p (arguments p o []) (ending a) t h) (sym named) (given is);
+  }) x
+
+pub accepted_traced : (r : Result Answer NoMemory) (asked : Meant) (source : List ℕ) (p : ProgramTree) (files : Option Contents) (t : Trace) (h : HeapValue) → IsProgramOf source p
+    → IfOk r (λ a. IsRunStatus a.status → IsProgramTraced asked p files (ending a) t h)
+    → IfOk r (λ a. IsRunStatus a.status → (q : ProgramTree) × IsProgramOf source q × IsProgramTraced asked q files (ending a) t h)
+accepted_traced r asked source p files t h of x = IfOk-weaker r _ _ (λ a run is. (p, of, run is)) x
+
+same_some : {A : Type 0} (a b : A) → Some a ≡ Some b → a ≡ b
+same_some a b e = cc (e)
+
+-- the words mean one thing, and the files stay as they were
+pub source_traced : (r : Result Answer NoMemory) (words : List (List ℕ)) (files between : Option Contents) (asked other : Meant) (source : List ℕ) (t : Trace) (h : HeapValue)
+    → words_mean words ≡ Some asked → words_mean words ≡ Some other → Holds files asked.source source → between ≡ files
+    → IfOk r (λ a. IsRunStatus a.status → (q : ProgramTree) × IsProgramOf source q × IsProgramTraced asked q between (ending a) t h)
+    → IfOk r (λ a. IsRunStatus a.status → IsTraced other files (ending a) t h)
+source_traced r words files between asked other source t h means too holds same x =
+    subst (λ (k : Meant). IfOk r (λ a. IsRunStatus a.status → IsTraced k files (ending a) t h)) (same_some asked other (sym means ∙ too))
+    (IfOk-weaker r _ _ (λ a run is. let of = run is in record {
+      source = source;
+      program = of.0;
+      found = finds_whole files asked.source source holds;
+      read = of.1;
+      run = subst (λ fs. IsProgramTraced asked of.0 fs (ending a) t h) same of.2;
+    }) x)
+
+pub same_mode : (words : List (List ℕ)) (asked other : Meant) → words_mean words ≡ Some asked → words_mean words ≡ Some other → other.mode ≡ Run → asked.mode ≡ Run
+same_mode words asked other means too run = ap (λ (k : Meant). k.mode) (same_some asked other (sym means ∙ too)) ∙ run

@@ -1,0 +1,92 @@
+-- What a run leaves in the trace and in the heap.
+use Rattle.std.specs.Prelude.{◌≡◌, ℕ, ⊤, List, Option, Some, None, Result, Ok, IfOk}
+use Rattle.sac_base.specs.Arrays.{ArrayValue}
+use Rattle.sac_base.specs.declared.fault.Caps.{Caps}
+use Rattle.sac_io.specs.Files.{Contents}
+use Rattle.sac_io.specs.Sink.{with_more}
+use Rattle.sac_ast.specs.Tree.{ProgramTree}
+use Rattle.value_meaning.specs.Calls.{outcome}
+use Rattle.data_text.specs.Texts.{Refusal}
+use Rattle.buffer_heap.specs.Heaps.{HeapValue}
+use Rattle.counted_code.specs.declared.tree.Code.{Code}
+use Rattle.counted_code.specs.declared.tree.Cost.{Cost}
+use Rattle.counted_code.specs.Terms.{CodeProgram}
+use Rattle.counted_code.specs.View.{code_program}
+use Rattle.counted_code.specs.Counts.{IsWellCounted, IsUnmarked}
+use Rattle.counted_code.specs.Prompt.{IsPrompt}
+use Rattle.counted_code.specs.Outcome.{whole_run, outcome_of, cost_of}
+use Rattle.run_eval.specs.declared.trace.Trace.{Trace}
+use Rattle.run_eval.specs.Outcomes.{HasCounters}
+use Rattle.sac_words.specs.Meaning.{Meant, file}
+use Rattle.sac_due.specs.Report.{Numbers}
+use Rattle.sac_due.specs.Source.{IsProgramOf}
+use Rattle.sac_due.specs.Input.{IsText, arguments}
+use Rattle.sac_due.specs.Due.{Ending, ended}
+use Rattle.sac_due.specs.Answer.{Finds}
+use Rattle.sac_due.specs.declared.status.Status.{Status}
+use Rattle.sac_due.specs.declared.status.Status.TheVariants.{Done, Faulted, Limit}
+
+abbrev pub new_trace : Trace
+new_trace = record { code = None; folded = 0; scalarised = 0; taken = 0; given = 0; reused = 0; phases = 0 }
+
+-- the numbers that the report tells
+abbrev pub numbers_of : Trace → Numbers
+numbers_of t = record { folded = t.folded; scalarised = t.scalarised; taken = t.taken; given = t.given; reused = t.reused; phases = t.phases }
+
+-- the statuses with which the run of a program ends: its results, its fault or its limit
+abbrev pub IsRunStatus : Status → Type 0
+IsRunStatus Done = ⊤
+IsRunStatus Faulted = ⊤
+IsRunStatus Limit = ⊤
+IsRunStatus _ = ⊥
+
+-- Code for a program: it is well counted and prompt, no loop in it is marked, and on all arguments and under all limits its outcome on the machine is that of the program.
+pub record IsCodeFor (p : ProgramTree) (code : CodeProgram) : Type 0 where
+  pub counted : IsWellCounted code
+  pub prompt : IsPrompt code
+  pub unmarked : IsUnmarked code
+  pub outcome : (args : List ArrayValue) (caps : Caps) → outcome_of (whole_run code args caps) ≡ outcome p args caps
+
+-- the trace's four numbers of a run are the cost
+abbrev pub HasCost : Trace → Cost → Type 0
+HasCost t cost = (t.taken ≡ cost.taken) × (t.given ≡ cost.given) × (t.reused ≡ cost.reused) × (t.phases ≡ cost.phases)
+
+-- The trace has code for the program, and what the run of that code on these arguments costs on the machine: after results all of it, after a fault the phases. The heap's counters are the trace's.
+pub record IsRunTraced (p : ProgramTree) (args : List ArrayValue) (caps : Caps) (trace : Trace) (heap : HeapValue) : Type 0 where
+  pub code : Code
+  pub kept : trace.code ≡ Some code
+  pub sound : IsCodeFor p (code_program code)
+  pub folded : trace.folded ≡ 0
+  pub scalarised : trace.scalarised ≡ 0
+  pub cost : IfOk (outcome p args caps) (λ results. HasCost trace (cost_of (whole_run (code_program code) args caps)))
+  pub phases : trace.phases ≡ (cost_of (whole_run (code_program code) args caps)).phases
+  pub counters : HasCounters trace heap
+
+-- the input gave arguments, what is written is the outcome on them, with the numbers of the trace, and the trace tells that run
+pub record IsGivenTraced (asked : Meant) (p : ProgramTree) (given : Result (List ArrayValue) Refusal) (end : Ending) (trace : Trace) (heap : HeapValue) : Type 0 where
+  pub args : List ArrayValue
+  pub are : given ≡ Ok args
+  pub ends : end ≡ ended asked (numbers_of trace) (outcome p args asked.caps)
+  pub run : IsRunTraced p args asked.caps trace heap
+
+-- the same for what stands under the input's name
+pub record IsProgramTraced (asked : Meant) (p : ProgramTree) (files : Option Contents) (end : Ending) (trace : Trace) (heap : HeapValue) : Type 0 where
+  pub input : Option (List ℕ)
+  pub text : List ℕ
+  pub found : (name : List ℕ) → asked.input ≡ file name → Finds files name input
+  pub read : IsText asked.input input text
+  pub given : IsGivenTraced asked p (arguments p asked.input text) end trace heap
+
+-- the same for what stands under the source's name too
+pub record IsTraced (asked : Meant) (files : Option Contents) (end : Ending) (trace : Trace) (heap : HeapValue) : Type 0 where
+  pub source : List ℕ
+  pub program : ProgramTree
+  pub found : Finds files asked.source (Some source)
+  pub read : IsProgramOf source program
+  pub run : IsProgramTraced asked program files end trace heap
+
+-- the text of the run that the trace tells was written
+pub record EndsTraced (asked : Meant) (files : Option Contents) (old new : Option (List ℕ)) (status : Status) (trace : Trace) (heap : HeapValue) : Type 0 where
+  pub text : List ℕ
+  pub written : new ≡ with_more old text
+  pub traced : IsTraced asked files (record { status = status; text = text }) trace heap
