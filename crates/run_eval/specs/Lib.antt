@@ -1,0 +1,3 @@
+pub mod Loops
+pub mod Outcomes
+pub mod Running

@@ -1,0 +1,91 @@
+-- Loops over cells as the evaluator runs them: nothing is written into the heap before the last cell.
+use Rattle.std.specs.Prelude.{◌≡◌, ◌≤ℤ◌, pos, negsuc, ℕ, List, [], ◌∷◌, ℤ, Option, Some, None, if◌then◌else◌, option_map}
+use Rattle.sac_base.specs.declared.base.Base.TheVariants.{Int}
+use Rattle.sac_base.specs.declared.form.Form.{Form}
+use Rattle.sac_base.specs.declared.grid.Grid1.{Grid1}
+use Rattle.sac_base.specs.Arrays.{ArrayValue, scalar, vector}
+use Rattle.sac_base.specs.Grids.{has_vector}
+use Rattle.sac_base.specs.WithLoops.{Range, holds}
+use Rattle.counted_code.specs.declared.tree.CodeGen.{CodeGen}
+use Rattle.counted_code.specs.declared.tree.CodePart.{CodePart}
+use Rattle.counted_code.specs.Loops as machine
+use Rattle.counted_code.specs.Loops.{Source, Claimed, Inside, cell_does}
+use Rattle.counted_code.specs.Machine.{Values, bind_value, with_index_value, first_value}
+use Rattle.counted_code.specs.Values.{Value, Small, Doing, give, then_go, apart}
+use Rattle.counted_code.specs.View.{code_term}
+use Rattle.run_heap.specs.Targets.{target_of}
+use Rattle.run_heap.specs.declared.target.Target.{Target}
+use Rattle.run_values.specs.declared.value.RunValue.{RunValue}
+use Rattle.run_values.specs.Shown.{value_of}
+use Rattle.run_eval.specs.declared.folds.Sum.{Sum}
+use Rattle.run_eval.specs.declared.folds.Sum.TheVariants.{Word, Whole}
+use Rattle.run_eval.specs.declared.state.Context.{Context}
+use Rattle.run_eval.specs.declared.state.State.{State}
+use Rattle.run_eval.specs.Running.{does_in, formed, gen_head, IsAt}
+
+-- ---- where a cell comes from
+
+-- the first generator whose range holds an index
+abbrev pub held : List CodeGen → List Range → List ℤ → Option CodeGen
+held (g ∷ gs) (r ∷ rs) v = if holds r v then Some g else held gs rs v
+held _ _ v = None
+
+-- the first part whose grid contains an index
+abbrev pub part_held : List CodePart → List ℤ → Option CodePart
+part_held [] v = None
+part_held (p ∷ ps) v = if has_vector p.grid v then Some p else part_held ps v
+
+-- the cell of a generator, and of a part, at an index
+abbrev pub gen_source : Context → Values → List ℤ → CodeGen → Source
+gen_source context e index g =
+    record { cell = first_value (does_in context (code_term g.body) (with_index_value e (gen_head g) index)); site = g.site }
+
+abbrev pub part_source : Context → Values → List ℤ → CodePart → Source
+part_source context e index p =
+    record { cell = first_value (does_in context (code_term p.body) (bind_value e p.index (Small (vector Int index)))); site = p.site }
+
+abbrev pub source_in : Context → Values → List CodeGen → List Range → List ℤ → Option Source
+source_in context e gens ranges index = option_map (gen_source context e index) (held gens ranges index)
+
+abbrev pub part_source_in : Context → Values → List CodePart → List ℤ → Option Source
+part_source_in context e parts index = option_map (part_source context e index) (part_held parts index)
+
+-- ---- cells
+
+-- a cell that has its form and is not released yet
+abbrev pub unreleased : Form → Option Source → Doing (Option Value)
+unreleased form None = give None
+unreleased form (Some s) = then_go (then_go (apart s.cell) (formed form s.site)) (λ v. give (Some v))
+
+abbrev pub IsPresent : Option RunValue → Option Value → Type 0
+IsPresent o w = option_map value_of o ≡ w
+
+-- the cells of these indices one after another
+abbrev pub cells_run : Form → (List ℤ → Option Source) → List (List ℤ) → Doing (List (Option ArrayValue))
+cells_run form source [] = give []
+cells_run form source (v ∷ vs) = then_go (cell_does form (source v)) (λ c. then_go (cells_run form source vs) (λ cs. give (c ∷ cs)))
+
+-- ---- results that are not finished
+
+-- the result's place is the machine's, in whose heap the state stands, and nothing is left to release after the loop
+pub record IsBegun (place : machine.Target) (s : State) (c : Claimed) : Type 0 where
+  pub target : place ≡ c.target
+  pub rest : c.rest ≡ None
+  pub stands : IsAt s c.heap
+
+abbrev pub fold_target : Option Target → machine.Target
+fold_target None = Inside
+fold_target (Some t) = target_of t
+
+-- the array that the cells of a fold have come to
+abbrev pub array_of : Sum → ArrayValue
+array_of (Word base n) = scalar base n
+array_of (Whole a) = a
+
+-- ---- frames
+
+-- no gaps, and numbers of 32 bits
+pub record IsWordAxis (a : Grid1) : Type 0 where
+  pub dense : a.step ≡ pos 1
+  pub least : negsuc 2147483647 ≤ℤ a.lo
+  pub most : a.hi ≤ℤ pos 2147483648

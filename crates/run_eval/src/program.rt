@@ -1,0 +1,145 @@
+//! A whole program.
+
+ghost use Rattle.std.specs.Prelude.{◌≡◌, IfOk, OnOk, map};
+ghost use Rattle.counted_code.specs.Counts.{IsWellCounted, IsUnmarked};
+ghost use Rattle.counted_code.specs.Outcome.{copied_out, cost_of, outcome_of, whole_run};
+ghost use Rattle.counted_code.specs.Values.{Heap as MachineHeap, place_all as all_placed, read, release_all as all_released};
+ghost use Rattle.counted_code.specs.View.{code_program};
+ghost use Rattle.run_eval.specs.Outcomes.{new_heap, main_in, AreArrays, ArePlaced, IsCleared, HasCounters, KeepsChanges, TellsCost};
+ghost use Rattle.run_eval.specs.Running.{IsAt, Told};
+ghost use Rattle.run_heap.specs.Stands.{Stands};
+ghost use Rattle.run_values.specs.Shown.{value_of};
+ghost use Rattle.with_loops.specs.Tells.{TellsItems};
+
+use crate::blocks::run_function;
+use crate::state::{Context, State};
+use crate::trace::Trace;
+use buffer_heap::Heap;
+use counted_code::Code;
+use run_heap::{place_own, read_array, release};
+use run_types::all_fit;
+use run_values::{Frames, RunValue};
+use sac_base::{Array, Caps, FaultKind, Memory, Site};
+use std::alloc::Global;
+use std::mem;
+use std::thread::Threads;
+use with_loops::{Stop, fault};
+
+/// How many workers there are, 1 to 64, how many positions a chunk has, or an equal share for each worker where that is not given, and the limits on turns and nested calls.
+#[derive(Clone, Copy, Debug, PartialEq, Eq)]
+pub struct Plan {
+    pub workers: u32,
+    pub chunk: Option<u64>,
+    pub caps: Caps,
+}
+
+/// Runs counted code on arguments, in one thread. The results are those of its main function, or there is the first fault.
+///
+/// After every answer, want of memory included, no buffer of the heap is live, and as many were given back as were taken.
+pub fn run<R: Threads + Sync>(
+    _rt: &R,
+    alloc: Global,
+    code: &Code,
+    args: Vec<Array>,
+    heap: &mut Heap,
+    plan: Plan,
+    trace: &mut Trace,
+) -> Result<Vec<Array>, Stop>
+    requires counted { IsWellCounted (code_program code.now) }
+    requires unmarked { IsUnmarked (code_program code.now) }
+    requires new { heap.old ≡ new_heap }
+    ensures outcome { TellsItems result (outcome_of (whole_run (code_program code.now) args.items plan.caps)) }
+    ensures cleared { IsCleared heap.new }
+    ensures cost { TellsCost result trace.new (cost_of (whole_run (code_program code.now) args.items plan.caps)) }
+    ensures counters { HasCounters trace.new heap.new }
+    ensures kept { KeepsChanges trace.old trace.new }
+{
+    let mut state = State {
+        frames: Frames::new(alloc),
+        heap: mem::replace(heap, Heap::new(alloc)),
+        phases: 0,
+    };
+    let context = Context {
+        alloc,
+        code,
+        turns: plan.caps.turns,
+        left: plan.caps.depth,
+        nest: code.functions.len() as u64,
+    };
+    let answer = run_main(args, &context, &mut state);
+    let State {
+        frames: _,
+        heap: used,
+        phases,
+    } = state;
+    *heap = used;
+    heap.clear();
+    trace.taken = heap.taken();
+    trace.given = heap.given();
+    trace.reused = heap.reused();
+    trace.phases = phases;
+    answer
+}
+
+// The first place of a source, which stands for the site of a main function that is not there.
+const START: Site = Site { line: 1, col: 1 };
+
+// Runs the main function on arguments.
+fn run_main(args: Vec<Array>, context: &Context<'_>, state: &mut State) -> Result<Vec<Array>, Stop>
+    ensures { (m : MachineHeap) → IsAt state.old m → Told AreArrays result state.new (main_in context.now args.items m) }
+{
+    let code = context.code;
+    let Some(main) = code.functions.get(code.main as usize) else {
+        return Err(fault(FaultKind::F7, START));
+    };
+    let placed = place_all(context.alloc, &mut state.heap, args)?;
+    if !all_fit(&main.params, &placed) {
+        return Err(fault(FaultKind::F7, main.site));
+    }
+    let mut values = Vec::new(context.alloc);
+    run_function(main, &placed, context, state, &mut values)?;
+    copy_out(&values, context, state)
+}
+
+// Places arrays.
+fn place_all(alloc: Global, heap: &mut Heap, arrays: Vec<Array>) -> Result<Vec<RunValue>, Memory>
+    ensures { (m : MachineHeap) → Stands heap.old m → IfOk result (λ v. ArePlaced v.items heap.new (all_placed arrays.items m)) }
+{
+    let mut values = Vec::new(alloc);
+    for array in arrays {
+        values.push(place_own(heap, array)?)?;
+    }
+    Ok(values)
+}
+
+// Copies values out and releases them.
+fn copy_out(
+    values: &[RunValue],
+    context: &Context<'_>,
+    state: &mut State,
+) -> Result<Vec<Array>, Stop>
+    ensures { (m : MachineHeap) → IsAt state.old m → Told AreArrays result state.new (copied_out (map value_of values.now) m) }
+{
+    let arrays = read_all(context.alloc, &state.heap, values)?;
+    release_all(&mut state.heap, values)?;
+    Ok(arrays)
+}
+
+fn read_all(alloc: Global, heap: &Heap, values: &[RunValue]) -> Result<Vec<Array>, Memory>
+    ensures { (m : MachineHeap) → Stands heap.now m → IfOk result (λ v. v.items ≡ map (read m) (map value_of values.now)) }
+{
+    let mut arrays = Vec::new(alloc);
+    for value in values {
+        arrays.push(read_array(alloc, heap, *value)?)?;
+    }
+    Ok(arrays)
+}
+
+fn release_all(heap: &mut Heap, values: &[RunValue]) -> Result<(), Memory>
+    ensures { (m : MachineHeap) → Stands heap.old m → OnOk result (Stands heap.new (all_released (map value_of values.now) m)) }
+{
+    for value in values {
+        release(heap, *value)?;
+    }
+    Ok(())
+}

@@ -1,0 +1,27 @@
+//! The state of a run, and the code that runs.
+
+use buffer_heap::Heap;
+use counted_code::Code;
+use run_values::Frames;
+use std::alloc::Global;
+
+/// The code that runs, and how far it may go on.
+#[derive(Clone, Copy)]
+pub struct Context<'a> {
+    pub alloc: Global,
+    pub code: &'a Code,
+    /// The most turns of each execution of a loop.
+    pub turns: u64,
+    /// How many levels deeper a function may be called.
+    pub left: u64,
+    /// How many calls of inline functions may be nested.
+    pub nest: u64,
+}
+
+/// The variables, the buffers and the number of phases so far, modulo 2^64.
+#[derive(Drop)]
+pub struct State {
+    pub frames: Frames,
+    pub heap: Heap,
+    pub phases: u64,
+}
