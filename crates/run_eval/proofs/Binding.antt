@@ -1,19 +1,18 @@
 -- Bindings of variables.
-use Rattle.std.proofs.Common.{◌≡◌, ℕ, zero, suc, ◌+◌, ◌<◌, ◌≤◌, List, [], ◌∷◌, length, get_or, drop, map, refl, sym, ap, ◌∙◌, subst, arith, Ok, Err}
+use Rattle.std.proofs.Common.{◌≡◌, ℕ, zero, suc, ◌+◌, ◌<◌, ◌≤◌, List, [], ◌∷◌, length, get_or, drop, map, refl, sym, ap, ◌∙◌, arith, Err}
 use Rattle.std.specs.Prelude.{◌%◌, ◌^◌}
 use Rattle.std.proofs.lemmas.List.{drop_more, drop_all, drop-drop, length-map}
-use Rattle.sac_base.specs.declared.fault.Fault.{Fault}
 use Rattle.core_ir.specs.declared.tree.Var.{Var}
 use Rattle.counted_code.specs.declared.tree.CodeLet.{CodeLet}
 use Rattle.counted_code.specs.declared.tree.CodeStep.TheVariants as step
 use Rattle.counted_code.specs.Terms.{CodeTerm}
-use Rattle.counted_code.specs.Values.{Heap, Value, Ended, Done, Failed, go_on, keep, release, release_count, Small, Ref, count_of}
+use Rattle.counted_code.specs.Values.{Heap, Value, Done, go_on, keep, release, release_count, Small, Ref, count_of}
 use Rattle.counted_code.specs.Machine.{Values, bind_value, bind_values, first_of}
 use Rattle.counted_code.specs.View.{code_right_term}
 use Rattle.with_loops.specs.declared.stop.Stop.{Stop}
 use Rattle.run_heap.specs.Stands.{Stands}
 use Rattle.run_values.specs.declared.value.RunValue.{RunValue}
-use Rattle.run_values.specs.Scopes.{current, outer}
+use Rattle.run_values.specs.Scopes.{current}
 use Rattle.run_values.specs.Shown.{value_of}
 use Rattle.run_eval.specs.declared.state.Context.{Context}
 use Rattle.run_eval.specs.declared.state.State.{State}

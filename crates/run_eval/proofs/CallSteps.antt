@@ -1,6 +1,6 @@
 -- One step of a call.
-use Rattle.std.proofs.Common.{◌≡◌, ℕ, zero, suc, ◌+◌, ◌<◌, List, [], ◌∷◌, ◌++◌, length, get_or, drop, map, refl, sym, ap, ◌∙◌, subst, arith, Bool, true, false, Option, Some, None, Ok, Err, add-one}
-use Rattle.std.specs.Prelude.{slice_get, if◌then◌else◌, ◌%◌, ◌^◌}
+use Rattle.std.proofs.Common.{◌≡◌, ℕ, zero, suc, ◌+◌, ◌<◌, List, [], ◌∷◌, ◌++◌, length, get_or, map, refl, sym, ap, ◌∙◌, subst, arith, Bool, true, false, Option, Some, None, Ok, Err, add-one}
+use Rattle.std.specs.Prelude.{slice_get, if◌then◌else◌}
 use Rattle.std.proofs.lemmas.List.{length-map}
 use Rattle.std.proofs.lemmas.Option.{slice_get-get_or}
 use Rattle.sac_base.specs.declared.site.Site.{Site}
@@ -11,7 +11,7 @@ use Rattle.sac_base.specs.Types.{all_have}
 use Rattle.core_ir.specs.Outcome.{chosen}
 use Rattle.counted_code.specs.declared.tree.CodeFun.{CodeFun}
 use Rattle.counted_code.specs.Terms.{CodeFunTerm, CodeProgram, core_of_code}
-use Rattle.counted_code.specs.Values.{Heap, Value, Ended, Done, Failed, Doing, go_on, read}
+use Rattle.counted_code.specs.Values.{Heap, Value, Ended, Done, Failed, go_on, read}
 use Rattle.counted_code.specs.Machine.{DoesCalls}
 use Rattle.counted_code.specs.Outcome.{DoesRun, function_does, body_does, run_does, chosen_does, call_does, inline_does, deeper_does, results_do}
 use Rattle.counted_code.specs.View.{code_program, code_fun_term}

@@ -6,19 +6,19 @@ use Rattle.sac_base.specs.declared.fault.Fault.{Fault}
 use Rattle.core_ir.specs.declared.tree.Var.{Var}
 use Rattle.counted_code.specs.declared.tree.CodeStep.{CodeStep}
 use Rattle.counted_code.specs.Terms.{CodeTerm, Giving}
-use Rattle.counted_code.specs.Values.{Heap, Value, Ended, Done, Failed, Doing, give, go_on, then_go}
-use Rattle.counted_code.specs.Machine.{Values, first_of}
+use Rattle.counted_code.specs.Values.{Heap, Value, Ended, Done, Failed, Doing, give, go_on}
+use Rattle.counted_code.specs.Machine.{first_of}
 use Rattle.counted_code.specs.View.{steps_before}
 use Rattle.with_loops.specs.declared.stop.Stop.{Stop}
 use Rattle.with_loops.specs.declared.stop.Stop.TheVariants.{Faulted, Memory}
 use Rattle.run_heap.specs.Stands.{Stands}
 use Rattle.run_values.specs.declared.frames.Frames.{Frames}
 use Rattle.run_values.specs.declared.value.RunValue.{RunValue}
-use Rattle.run_values.specs.Scopes.{current, outer}
+use Rattle.run_values.specs.Scopes.{current}
 use Rattle.run_values.specs.Shown.{value_of}
 use Rattle.run_eval.specs.declared.state.Context.{Context}
 use Rattle.run_eval.specs.declared.state.State.{State}
-use Rattle.run_eval.specs.Running.{does_in, IsAt, Told, ToldStop, IsValue, IsFirst, IsOnly, Reaches, FailsIn, ToldSteps, SameScopes}
+use Rattle.run_eval.specs.Running.{does_in, IsAt, Told, ToldStop, IsValue, IsFirst, IsOnly, Reaches, ToldSteps, SameScopes}
 
 -- ---- states
 

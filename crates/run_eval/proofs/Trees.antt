@@ -1,5 +1,5 @@
 -- The terms of trees of the code, part by part.
-use Rattle.std.proofs.Common.{◌≡◌, Bool, List, [], ◌∷◌, refl, ap, ◌∙◌, Vec, Global}
+use Rattle.std.proofs.Common.{◌≡◌, Bool, List, refl, ap, ◌∙◌, Vec, Global}
 use Rattle.sac_base.specs.declared.site.Site.{Site}
 use Rattle.core_ir.specs.declared.tree.Var.{Var}
 use Rattle.counted_code.specs.declared.tree.CodeBlock.{CodeBlock, Row_of-CodeStep, end_of-CodeStep, more_of-CodeStep, items-the_row-CodeStep, items_hidden-the_row-CodeStep-0}
@@ -7,7 +7,7 @@ use Rattle.counted_code.specs.declared.tree.CodeLet.{CodeLet}
 use Rattle.counted_code.specs.declared.tree.CodeStep.TheVariants as step
 use Rattle.counted_code.specs.declared.tree.CodeRight.TheVariants as right
 use Rattle.counted_code.specs.declared.tree.CodeRight.TheBlock.{hidden-the_row-CodeStep-0}
-use Rattle.counted_code.specs.Terms.{CodeTerm, CodeRightTerm, Giving, Binding, IfCode, LoopCode}
+use Rattle.counted_code.specs.Terms.{CodeTerm, Giving, Binding, IfCode, LoopCode}
 use Rattle.counted_code.specs.View.{code_term, code_right_term, steps_before, steps_term, step_term}
 
 steps_items : {n : _} → (k : Row_of-CodeStep n) (rs : List Var) → steps_term k rs ≡ steps_before (items-the_row-CodeStep n k) (Giving rs)

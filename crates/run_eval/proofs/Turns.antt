@@ -1,12 +1,12 @@
 -- Turns of a loop.
-use Rattle.std.proofs.Common.{◌≡◌, ℕ, zero, suc, ◌-◌, ◌<◌, List, Bool, true, false, refl, sym, ap, ◌∙◌, subst, arith, Option, Some, None, Result, Ok, Err}
+use Rattle.std.proofs.Common.{◌≡◌, ℕ, zero, suc, ◌-◌, ◌<◌, List, Bool, true, false, refl, sym, ap, ◌∙◌, subst, arith, Option, Some, None, Ok, Err}
 use Rattle.std.specs.Prelude.{if◌then◌else◌, ◌%◌, ◌^◌, length}
 use Rattle.sac_base.specs.declared.site.Site.{Site}
 use Rattle.sac_base.specs.declared.fault.Fault.{Fault}
 use Rattle.sac_base.specs.declared.fault.FaultKind.TheVariants.{F3, F9}
 use Rattle.sac_base.specs.Parts.{condition}
 use Rattle.counted_code.specs.Values.{Heap, Value, Ended, Done, Failed, Doing, give, go_on, then_go, fails, choose_does, read, release}
-use Rattle.counted_code.specs.Machine.{tested, repeat_does, turns_do}
+use Rattle.counted_code.specs.Machine.{tested, repeat_does}
 use Rattle.with_loops.specs.declared.stop.Stop.{Stop}
 use Rattle.with_loops.specs.declared.stop.Stop.TheVariants.{Faulted, Memory}
 use Rattle.run_eval.specs.declared.state.State.{State}

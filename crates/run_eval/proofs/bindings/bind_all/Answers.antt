@@ -1,5 +1,4 @@
-use Rattle.std.proofs.Common.{◌≡◌, ◌+◌, get_or, drop, map, arith, refl, sym, ap, ◌∙◌}
-use Rattle.counted_code.specs.Machine.{Values, bind_value, bind_values, first_of}
+use Rattle.std.proofs.Common.{map, refl, ◌∙◌}
 use Rattle.run_values.specs.Scopes.{current}
 use Rattle.run_values.specs.Shown.{value_of}
 use Rattle.run_eval.proofs.Binding.{bind_more}

@@ -1,32 +1,51 @@
-use Rattle.std.proofs.Common.{rules, ◌≡◌, ◌+◌, ◌-◌, ◌<◌, ◌≤◌, length, true, false, [], ◌∷◌, ◌++◌, Ok, Err, Some, None, get_or, ap, sym, ◌∙◌, subst, arith, map, drop, List, append_assoc, append-nil, refl}
-use Rattle.std.specs.Prelude.{OnOk, if◌then◌else◌, ◌%◌, ◌^◌, Result}
-use Rattle.std.proofs.lemmas.List.{drop_all, drop_more, drop_at, drop-map, length-map}
+use Rattle.std.proofs.Common.{rules, ◌≡◌, ◌+◌, ◌-◌, true, false, [], ◌∷◌, ◌++◌, Ok, Err, Some, ap, sym, ◌∙◌, subst, arith, map, drop, List, refl, ◌<◌, ◌≤◌, length, None, get_or}
+use Rattle.std.specs.Prelude.{if◌then◌else◌, ℤ, fold, flat_map, option_map, OnOk}
+use Rattle.std.proofs.lemmas.List.{drop_all, drop_more}
 use Rattle.sac_base.specs.Parts.{condition}
 use Rattle.sac_base.specs.Types.{all_have}
 use Rattle.counted_code.specs.declared.tree.CodeFun.{CodeFun}
 use Rattle.counted_code.specs.declared.tree.CodeStep.{CodeStep, size-CodeStep}
 use Rattle.counted_code.specs.declared.tree.CodeStep.TheVariants as step
-use Rattle.counted_code.specs.Machine.{Values, bind_value, bind_values, first_of, first_value, repeat_does, turns_do, right_does, no_values}
+use Rattle.counted_code.specs.Machine.{bind_value, bind_values, first_of, first_value, repeat_does, turns_do, no_values, Values, with_index_value}
 use Rattle.counted_code.specs.Outcome.{function_does, results_do}
-use Rattle.counted_code.specs.Terms.{CodeTerm, CodeRightTerm}
-use Rattle.counted_code.specs.Values.{Heap, Value, Ended, Done, Failed, give, go_on, then_go, read, release}
-use Rattle.counted_code.specs.View.{code_term, code_right_term, code_fun_term, steps_before}
+use Rattle.counted_code.specs.Values.{Value, Ended, give, go_on, read, release, Heap, Small, apart, then_go}
+use Rattle.counted_code.specs.View.{code_term, code_right_term, code_fun_term, code_with_term, code_parted_term}
 use Rattle.with_loops.specs.declared.stop.Stop.{Stop}
-use Rattle.run_values.specs.declared.value.RunValue.{RunValue}
 use Rattle.run_values.specs.Scopes.{current, outer}
 use Rattle.run_values.specs.Shown.{value_of}
 use Rattle.run_eval.specs.declared.state.State.{State}
-use Rattle.run_eval.specs.Running.{calls_in, does_in, right_in, turn_in, test_in, truth_of, IsAt, Told, ToldStop, ToldSteps, IsValue, IsFirst, IsOnly, Appends, SameScopes, SameOuter, EndsScope, Reaches, SaysTruth, vars_of}
-use Rattle.run_eval.proofs.Binding.{let_goes, let_stops, one_target, keep_goes, release_goes, release_phases}
+use Rattle.run_eval.specs.Running.{calls_in, does_in, right_in, turn_in, test_in, truth_of, Told, ToldStop, ToldSteps, IsValue, IsFirst, IsOnly, Appends, SameScopes, SameOuter, EndsScope, Reaches, SaysTruth, vars_of, IsAt, array_job, fold_job, fold_parts_job, formed, gen_head, part_head, parts_job}
+use Rattle.run_eval.proofs.Binding.{let_goes, let_stops, one_target, keep_goes, release_goes}
 use Rattle.run_eval.proofs.CallSteps.{none_chosen, call_runs, call_stops, function_at, results_fit, results_unfit, alone, no_place}
-use Rattle.run_eval.proofs.Measures.{falls, body_below, body_size, steps_size}
+use Rattle.run_eval.proofs.Measures.{falls, body_below, body_size, steps_size, gens_size, parts_size}
 use Rattle.run_plain.proofs.Rest.{plain_rest}
 use Rattle.run_plain.proofs.Rights.{right_told}
-use Rattle.run_eval.proofs.Sizes.{if_first, if_second, loop_blocks, with_below, parted_below, steps_below, step_below, let_below, right_below}
-use Rattle.run_eval.proofs.Steps.{moved, given, tell, same_stop, stop_then, raised, first_told, only_first, begin, next_step, last_step, results_given, block_stops, steps_stop, on_ok, appended, handed, no_scopes, plain_scopes, plain_given, plain_failed}
+use Rattle.run_eval.proofs.Sizes.{if_first, if_second, loop_blocks, with_below, parted_below, steps_below, step_below, let_below, right_below, gen_body, gens_below, part_body, parts_below}
+use Rattle.run_eval.proofs.Steps.{moved, given, tell, stop_then, raised, first_told, only_first, next_step, last_step, results_given, block_stops, on_ok, appended, handed, no_scopes, plain_scopes, plain_given, plain_failed}
 use Rattle.run_eval.proofs.Trees.{if_term, loop_term}
-use Rattle.run_eval.proofs.Turns.{says, says_fault, condition_goes, condition_stops, truth_told, turn_fails, turn_ends, turn_over, turn_goes, Turned, test_ends, test_stops, turned_stops, turned_ends, turned_over, turned_goes, tested_stops, tested_turned}
+use Rattle.run_eval.proofs.Turns.{says, condition_goes, condition_stops, test_ends, test_stops, turned_stops, turned_ends, turned_over, turned_goes, tested_stops, tested_turned}
 use Rattle.run_eval.proofs.blocks.+run.Goals as goal
+use Rattle.core_ir.specs.Meaning.{cell_form, elements_of, operation}
+use Rattle.sac_base.specs.declared.base.Base.TheVariants.{Int}
+use Rattle.sac_base.specs.Arrays.{ArrayValue, scalar, size, vector}
+use Rattle.sac_base.specs.Grids.{members}
+use Rattle.sac_base.specs.WithLoops.{combined, fits_form}
+use Rattle.counted_code.specs.declared.tree.CodeGen.{CodeGen, size-CodeGen}
+use Rattle.counted_code.specs.declared.tree.CodePart.{CodePart, size-CodePart}
+use Rattle.counted_code.specs.declared.tree.CodeParted.{out-CodeParted}
+use Rattle.counted_code.specs.declared.tree.CodeWith.{out-CodeWith}
+use Rattle.run_eval.specs.Loops.{IsPresent, array_of, cells_run, fold_target, held, part_held, gen_source, part_source, part_source_in, source_in, unreleased}
+use Rattle.counted_code.specs.Loops.{job_does, settled}
+use Rattle.with_loops.specs.Cells.{cell_from, cells_from}
+use Rattle.with_loops.specs.Plans.{plan_of}
+use Rattle.run_heap.specs.Targets.{target_of}
+use Rattle.run_eval.proofs.CellJobs.{fold_nothing, target_nothing}
+use Rattle.run_eval.proofs.CellLoops.{array_stops, array_tells, filled_all, fold_stops, fold_tells, joined_all, loop_end, loop_step, loop_stop, part_fold_stops, part_fold_tells, parts_stop, parts_tell}
+use Rattle.run_eval.proofs.CellMakings.{filled_more, filling, folded_more, folding, joined_more, joining}
+use Rattle.run_eval.proofs.CellRuns.{carried_start}
+use Rattle.run_eval.proofs.CellScopes.{cell_scopes, cell_tells, scopes_after, scopes_join}
+use Rattle.run_eval.proofs.CellTold.{present_told}
+use Rattle.run_eval.proofs.WithHolders.{held_below, part_held_below}
 
 pub run_steps-run_step-requires : goal.run_steps-run_step-requires
 run_steps-run_step-requires t c = omega (arith, c.decreases, step_below c.args.steps.now c.loop-step.step-index c.step-item.result c.loop-step-test.true, ap size-CodeStep c.step-item.is)
@@ -1042,3 +1061,594 @@ run_function-returns t c =
           tell (λ (_ : Unit {0}) ws. Appends old new ws) tt st end g.value g.heap g.is (appended old own new g.value (c.in_ok-extend_from_slice.ensures.items ∙ ap (λ xs. old ++ xs) c.deref-4.ensures.value) g.agrees) g.stands;
       scopes = c.in_ok-run_open.ensures.scopes (current s.frames) (outer s.frames) (bound.outside ∙ c.in_ok-enter_call.ensures.outer);
     }
+
+pub run_first-run_with-requires : goal.run_first-run_with-requires
+run_first-run_with-requires t c =
+    ?
+
+pub run_first-run_parted-requires : goal.run_first-run_parted-requires
+run_first-run_parted-requires t c =
+    ?
+
+pub run_with-run_array-requires : goal.run_with-run_array-requires
+run_with-run_array-requires t c =
+    omega (arith, c.decreases, gens_below c.args.with.now, ap gens_size c.deref-2.ensures.value)
+
+pub run_with-run_array-requires-in-Modarray : goal.run_with-run_array-requires-in-Modarray
+run_with-run_array-requires-in-Modarray t c =
+    omega (arith, c.decreases, gens_below c.args.with.now, ap gens_size c.deref-2.ensures.value)
+
+pub run_with-run_fold-requires : goal.run_with-run_fold-requires
+run_with-run_fold-requires t c =
+    omega (arith, c.decreases, gens_below c.args.with.now, ap gens_size c.deref-2.ensures.value)
+
+pub run_array-fill-requires : goal.run_array-fill-requires
+run_array-fill-requires t c =
+    omega (arith, c.decreases)
+
+pub fill-gen_cell-requires : goal.fill-gen_cell-requires
+fill-gen_cell-requires t c =
+    omega (arith, c.decreases)
+
+pub run_fold-fold_cells-requires : goal.run_fold-fold_cells-requires
+run_fold-fold_cells-requires t c =
+    omega (arith, c.decreases)
+
+pub fold_cells-gen_cell-requires : goal.fold_cells-gen_cell-requires
+fold_cells-gen_cell-requires t c =
+    omega (arith, c.decreases)
+
+pub gen_cell-run_cell-requires : goal.gen_cell-run_cell-requires
+gen_cell-run_cell-requires t c =
+    let found : Some c.in-Some.g.now ≡ held c.args.gens.now c.args.plan.now.ranges.items c.args.index.now = ap (option_map (λ g. g.now)) (sym c.in-Some.is) ∙ c.holder.ensures ∙ ap (λ rs. held c.args.gens.now rs c.args.index.now) c.deref.ensures.value in
+    omega (arith, c.decreases, held_below c.args.gens.now c.args.plan.now.ranges.items c.args.index.now c.in-Some.g.now found)
+
+pub run_cell-run_first-requires : goal.run_cell-run_first-requires
+run_cell-run_first-requires t c =
+    omega (arith, c.decreases, gen_body c.args.g.now)
+
+pub run_parts-join_parts-requires : goal.run_parts-join_parts-requires
+run_parts-join_parts-requires t c =
+    omega (arith, c.decreases)
+
+pub join_parts-part_cell-requires : goal.join_parts-part_cell-requires
+join_parts-part_cell-requires t c =
+    omega (arith, c.decreases)
+
+pub fold_parts-combine_parts-requires : goal.fold_parts-combine_parts-requires
+fold_parts-combine_parts-requires t c =
+    omega (arith, c.decreases)
+
+pub combine_parts-part_cell-requires : goal.combine_parts-part_cell-requires
+combine_parts-part_cell-requires t c =
+    omega (arith, c.decreases)
+
+pub part_cell-run_part-requires : goal.part_cell-run_part-requires
+part_cell-run_part-requires t c =
+    let found : Some c.in-Some.part.now ≡ part_held c.args.parts.now c.args.index.now = ap (option_map (λ p. p.now)) (sym c.in-Some.is) ∙ c.part_holder.ensures in
+    omega (arith, c.decreases, part_held_below c.args.parts.now c.args.index.now c.in-Some.part.now found)
+
+pub run_part-run_first-requires : goal.run_part-run_first-requires
+run_part-run_first-requires t c =
+    omega (arith, c.decreases, part_body c.args.part.now)
+
+pub run_parted-run_parts-requires : goal.run_parted-run_parts-requires
+run_parted-run_parts-requires t c =
+    omega (arith, c.decreases, parts_below c.args.parted.now, ap parts_size c.deref-in_default.ensures.value)
+
+pub run_parted-fold_parts-requires : goal.run_parted-fold_parts-requires
+run_parted-fold_parts-requires t c =
+    omega (arith, c.decreases, parts_below c.args.parted.now, ap parts_size c.deref.ensures.value)
+
+pub fill-loop-place-init : goal.fill-loop-place-init
+fill-loop-place-init t c =
+    record { carried = λ m at. carried_start (filling c.args.background.now.old c.args.background.now.array.now c.args.background.now.size) c.args.plan.now.form ((λ (e : Values). source_in c.args.context.now e c.args.gens.now c.args.plan.now.ranges.items) (current c.args.state.now.frames)) c.args.plan.now.frame c.args.cells.now.items m c.args.state.now at; scopes = (refl, refl) }
+
+pub fill-returns-in_err-value : goal.fill-returns-in_err-value
+fill-returns-in_err-value t c =
+    let a = c.args in
+    let ctx = a.context.now in
+    let s = a.state.now in
+    let k = c.loop-place.place in
+    let inside : k < length c.args.plan.now.frame = omega (arith, c.loop-place-test.true, c.count-place-end.ensures) in
+    let is : c.components.result.now ≡ get_or c.args.plan.now.frame k [] = c.components.ensures.value ∙ c.in_ok-index.ensures [] in
+    let st = c.gen_cell.new.state in
+    let stop = c.in_err-value.field-0.0 in
+    let is' : c.from_residual-in_err-value.result ≡ Err stop = search rules in
+    record {
+      told = λ m at.
+          handed (λ (_ : Unit {0}) found. c.loop-place.cells.items ≡ c.args.cells.now.items ++ cells_from c.args.background.now.old c.args.background.now.array.now c.args.background.now.size 0 found) c.from_residual-in_err-value.result stop st (cells_run c.args.plan.now.form ((λ (e : Values). source_in c.args.context.now e c.args.gens.now c.args.plan.now.ranges.items) (current s.frames)) c.args.plan.now.frame m) is'
+          (loop_stop (filling c.args.background.now.old c.args.background.now.array.now c.args.background.now.size) c.args.plan.now.form (λ (e : Values). source_in c.args.context.now e c.args.gens.now c.args.plan.now.ranges.items) c.args.plan.now.frame c.args.cells.now.items s c.loop-place.state c.loop-place.cells.items k c.loop-place.invariant.carried c.loop-place.invariant.scopes c.components.result.now stop st inside is c.in_err-value.ensures.told m at);
+      scopes = no_scopes (SameScopes s.frames st.frames) c.from_residual-in_err-value.result stop is';
+    }
+
+pub fill-loop-place-preserved : goal.fill-loop-place-preserved
+fill-loop-place-preserved t c =
+    let a = c.args in
+    let ctx = a.context.now in
+    let s = a.state.now in
+    let k = c.loop-place.place in
+    let inside : k < length c.args.plan.now.frame = omega (arith, c.loop-place-test.true, c.count-place-end.ensures) in
+    let is : c.components.result.now ≡ get_or c.args.plan.now.frame k [] = c.components.ensures.value ∙ c.in_ok-index.ensures [] in
+    let st = c.gen_cell.new.state in
+    let o = c.in_ok-value.value in
+    record {
+      carried = loop_step (filling c.args.background.now.old c.args.background.now.array.now c.args.background.now.size) c.args.plan.now.form (λ (e : Values). source_in c.args.context.now e c.args.gens.now c.args.plan.now.ranges.items) c.args.plan.now.frame c.args.cells.now.items s c.loop-place.state c.loop-place.cells.items k c.loop-place.invariant.carried c.loop-place.invariant.scopes c.components.result.now o st (record st { heap = c.put_cell.new.heap }) c.put_cell.new.cells.items inside is c.in_ok-value.ensures.told
+          (λ h stands. let q = c.in_ok-put_cell.ensures h stands in (filled_more c.args.background.now.old c.args.background.now.array.now c.args.background.now.size k c.loop-place.cells.items c.put_cell.new.cells.items (option_map (read h) (option_map value_of o)) q.0, q.1)) refl;
+      scopes = scopes_after s.frames c.loop-place.state.frames st.frames c.loop-place.invariant.scopes c.in_ok-value.ensures.scopes;
+    }
+
+pub fill-returns : goal.fill-returns
+fill-returns t c =
+    let a = c.args in
+    let ctx = a.context.now in
+    let s = a.state.now in
+    let k = c.loop-place.place in
+    record {
+      told = loop_end (filling c.args.background.now.old c.args.background.now.array.now c.args.background.now.size) c.args.plan.now.form (λ (e : Values). source_in c.args.context.now e c.args.gens.now c.args.plan.now.ranges.items) c.args.plan.now.frame c.args.cells.now.items s c.loop-place.state c.loop-place.cells.items k c.loop-place.invariant.carried c.loop-place.invariant.scopes tt (λ (_ : Unit {0}) found. c.loop-place.cells.items ≡ c.args.cells.now.items ++ cells_from c.args.background.now.old c.args.background.now.array.now c.args.background.now.size 0 found) (λ found is. filled_all c.args.background.now.old c.args.background.now.array.now c.args.background.now.size k c.loop-place.cells.items c.args.cells.now.items found is) (omega (arith, c.loop-place-test.false, c.count-place-end.ensures));
+      scopes = c.loop-place.invariant.scopes;
+    }
+
+pub fold_cells-loop-place-init : goal.fold_cells-loop-place-init
+fold_cells-loop-place-init t c =
+    record { carried = λ m at. carried_start (folding c.args.op) c.args.plan.now.form ((λ (e : Values). source_in c.args.context.now e c.args.gens.now c.args.plan.now.ranges.items) (current c.args.state.now.frames)) c.args.plan.now.frame (array_of c.args.start) m c.args.state.now at; scopes = (refl, refl) }
+
+pub fold_cells-returns-in_err-value : goal.fold_cells-returns-in_err-value
+fold_cells-returns-in_err-value t c =
+    let a = c.args in
+    let ctx = a.context.now in
+    let s = a.state.now in
+    let k = c.loop-place.place in
+    let inside : k < length c.args.plan.now.frame = omega (arith, c.loop-place-test.true, c.count-place-end.ensures) in
+    let is : c.components.result.now ≡ get_or c.args.plan.now.frame k [] = c.components.ensures.value ∙ c.in_ok-index.ensures [] in
+    let st = c.gen_cell.new.state in
+    let stop = c.in_err-value.field-0.0 in
+    let is' : c.from_residual-in_err-value.result ≡ Err stop = search rules in
+    record {
+      told = λ m at.
+          handed (λ s found. array_of s ≡ fold (combined c.args.op) (array_of c.args.start) found) c.from_residual-in_err-value.result stop st (cells_run c.args.plan.now.form ((λ (e : Values). source_in c.args.context.now e c.args.gens.now c.args.plan.now.ranges.items) (current s.frames)) c.args.plan.now.frame m) is'
+          (loop_stop (folding c.args.op) c.args.plan.now.form (λ (e : Values). source_in c.args.context.now e c.args.gens.now c.args.plan.now.ranges.items) c.args.plan.now.frame (array_of c.args.start) s c.loop-place.state (array_of c.loop-place.sum) k c.loop-place.invariant.carried c.loop-place.invariant.scopes c.components.result.now stop st inside is c.in_err-value.ensures.told m at);
+      scopes = no_scopes (SameScopes s.frames st.frames) c.from_residual-in_err-value.result stop is';
+    }
+
+pub fold_cells-loop-place-preserved : goal.fold_cells-loop-place-preserved
+fold_cells-loop-place-preserved t c =
+    let a = c.args in
+    let ctx = a.context.now in
+    let s = a.state.now in
+    let k = c.loop-place.place in
+    let inside : k < length c.args.plan.now.frame = omega (arith, c.loop-place-test.true, c.count-place-end.ensures) in
+    let is : c.components.result.now ≡ get_or c.args.plan.now.frame k [] = c.components.ensures.value ∙ c.in_ok-index.ensures [] in
+    let st = c.gen_cell.new.state in
+    let o = c.in_ok-value.value in
+    record {
+      carried = loop_step (folding c.args.op) c.args.plan.now.form (λ (e : Values). source_in c.args.context.now e c.args.gens.now c.args.plan.now.ranges.items) c.args.plan.now.frame (array_of c.args.start) s c.loop-place.state (array_of c.loop-place.sum) k c.loop-place.invariant.carried c.loop-place.invariant.scopes c.components.result.now o st (record st { heap = c.add_cell.new.heap }) (array_of c.in_ok-sum.sum) inside is c.in_ok-value.ensures.told
+          (λ h stands. let q = c.in_ok-sum.ensures h stands in (folded_more c.args.op k (array_of c.loop-place.sum) (array_of c.in_ok-sum.sum) (option_map (read h) (option_map value_of o)) q.0, q.1)) refl;
+      scopes = scopes_after s.frames c.loop-place.state.frames st.frames c.loop-place.invariant.scopes c.in_ok-value.ensures.scopes;
+    }
+
+pub fold_cells-returns : goal.fold_cells-returns
+fold_cells-returns t c =
+    let a = c.args in
+    let ctx = a.context.now in
+    let s = a.state.now in
+    let k = c.loop-place.place in
+    record {
+      told = loop_end (folding c.args.op) c.args.plan.now.form (λ (e : Values). source_in c.args.context.now e c.args.gens.now c.args.plan.now.ranges.items) c.args.plan.now.frame (array_of c.args.start) s c.loop-place.state (array_of c.loop-place.sum) k c.loop-place.invariant.carried c.loop-place.invariant.scopes c.loop-place.sum (λ s found. array_of s ≡ fold (combined c.args.op) (array_of c.args.start) found) (λ found is. is) (omega (arith, c.loop-place-test.false, c.count-place-end.ensures));
+      scopes = c.loop-place.invariant.scopes;
+    }
+
+pub join_parts-loop-place-init : goal.join_parts-loop-place-init
+join_parts-loop-place-init t c =
+    record { carried = λ m at. carried_start joining c.args.form.now ((λ (e : Values). part_source_in c.args.context.now e c.args.parts.now) (current c.args.state.now.frames)) c.args.frame.now c.args.cells.now.items m c.args.state.now at; scopes = (refl, refl) }
+
+pub join_parts-returns-in_err-value : goal.join_parts-returns-in_err-value
+join_parts-returns-in_err-value t c =
+    let a = c.args in
+    let ctx = a.context.now in
+    let s = a.state.now in
+    let k = c.loop-place.place in
+    let inside : k < length c.args.frame.now = omega (arith, c.loop-place-test.true, c.count-place-end.ensures) in
+    let is : c.components.result.now ≡ get_or c.args.frame.now k [] = c.components.ensures.value ∙ c.in_ok-index.ensures [] in
+    let st = c.part_cell.new.state in
+    let stop = c.in_err-value.field-0.0 in
+    let is' : c.from_residual-in_err-value.result ≡ Err stop = search rules in
+    record {
+      told = λ m at.
+          handed (λ (_ : Unit {0}) found. c.loop-place.cells.items ≡ c.args.cells.now.items ++ flat_map elements_of found) c.from_residual-in_err-value.result stop st (cells_run c.args.form.now ((λ (e : Values). part_source_in c.args.context.now e c.args.parts.now) (current s.frames)) c.args.frame.now m) is'
+          (loop_stop joining c.args.form.now (λ (e : Values). part_source_in c.args.context.now e c.args.parts.now) c.args.frame.now c.args.cells.now.items s c.loop-place.state c.loop-place.cells.items k c.loop-place.invariant.carried c.loop-place.invariant.scopes c.components.result.now stop st inside is c.in_err-value.ensures.told m at);
+      scopes = no_scopes (SameScopes s.frames st.frames) c.from_residual-in_err-value.result stop is';
+    }
+
+pub join_parts-loop-place-preserved : goal.join_parts-loop-place-preserved
+join_parts-loop-place-preserved t c =
+    let a = c.args in
+    let ctx = a.context.now in
+    let s = a.state.now in
+    let k = c.loop-place.place in
+    let inside : k < length c.args.frame.now = omega (arith, c.loop-place-test.true, c.count-place-end.ensures) in
+    let is : c.components.result.now ≡ get_or c.args.frame.now k [] = c.components.ensures.value ∙ c.in_ok-index.ensures [] in
+    let st = c.part_cell.new.state in
+    let o = c.in_ok-value.value in
+    record {
+      carried = loop_step joining c.args.form.now (λ (e : Values). part_source_in c.args.context.now e c.args.parts.now) c.args.frame.now c.args.cells.now.items s c.loop-place.state c.loop-place.cells.items k c.loop-place.invariant.carried c.loop-place.invariant.scopes c.components.result.now o st (record st { heap = c.join_cell.new.heap }) c.join_cell.new.cells.items inside is c.in_ok-value.ensures.told
+          (λ h stands. let q = c.in_ok-join_cell.ensures h stands in (joined_more k c.loop-place.cells.items c.join_cell.new.cells.items (option_map (read h) (option_map value_of o)) q.0, q.1)) refl;
+      scopes = scopes_after s.frames c.loop-place.state.frames st.frames c.loop-place.invariant.scopes c.in_ok-value.ensures.scopes;
+    }
+
+pub join_parts-returns : goal.join_parts-returns
+join_parts-returns t c =
+    let a = c.args in
+    let ctx = a.context.now in
+    let s = a.state.now in
+    let k = c.loop-place.place in
+    record {
+      told = loop_end joining c.args.form.now (λ (e : Values). part_source_in c.args.context.now e c.args.parts.now) c.args.frame.now c.args.cells.now.items s c.loop-place.state c.loop-place.cells.items k c.loop-place.invariant.carried c.loop-place.invariant.scopes tt (λ (_ : Unit {0}) found. c.loop-place.cells.items ≡ c.args.cells.now.items ++ flat_map elements_of found) (λ found is. joined_all k c.loop-place.cells.items c.args.cells.now.items found is) (omega (arith, c.loop-place-test.false, c.count-place-end.ensures));
+      scopes = c.loop-place.invariant.scopes;
+    }
+
+pub combine_parts-loop-place-init : goal.combine_parts-loop-place-init
+combine_parts-loop-place-init t c =
+    record { carried = λ m at. carried_start (folding c.args.op) c.args.form.now ((λ (e : Values). part_source_in c.args.context.now e c.args.parts.now) (current c.args.state.now.frames)) c.args.frame.now (array_of c.args.start) m c.args.state.now at; scopes = (refl, refl) }
+
+pub combine_parts-returns-in_err-value : goal.combine_parts-returns-in_err-value
+combine_parts-returns-in_err-value t c =
+    let a = c.args in
+    let ctx = a.context.now in
+    let s = a.state.now in
+    let k = c.loop-place.place in
+    let inside : k < length c.args.frame.now = omega (arith, c.loop-place-test.true, c.count-place-end.ensures) in
+    let is : c.components.result.now ≡ get_or c.args.frame.now k [] = c.components.ensures.value ∙ c.in_ok-index.ensures [] in
+    let st = c.part_cell.new.state in
+    let stop = c.in_err-value.field-0.0 in
+    let is' : c.from_residual-in_err-value.result ≡ Err stop = search rules in
+    record {
+      told = λ m at.
+          handed (λ s found. array_of s ≡ fold (combined c.args.op) (array_of c.args.start) found) c.from_residual-in_err-value.result stop st (cells_run c.args.form.now ((λ (e : Values). part_source_in c.args.context.now e c.args.parts.now) (current s.frames)) c.args.frame.now m) is'
+          (loop_stop (folding c.args.op) c.args.form.now (λ (e : Values). part_source_in c.args.context.now e c.args.parts.now) c.args.frame.now (array_of c.args.start) s c.loop-place.state (array_of c.loop-place.sum) k c.loop-place.invariant.carried c.loop-place.invariant.scopes c.components.result.now stop st inside is c.in_err-value.ensures.told m at);
+      scopes = no_scopes (SameScopes s.frames st.frames) c.from_residual-in_err-value.result stop is';
+    }
+
+pub combine_parts-loop-place-preserved : goal.combine_parts-loop-place-preserved
+combine_parts-loop-place-preserved t c =
+    let a = c.args in
+    let ctx = a.context.now in
+    let s = a.state.now in
+    let k = c.loop-place.place in
+    let inside : k < length c.args.frame.now = omega (arith, c.loop-place-test.true, c.count-place-end.ensures) in
+    let is : c.components.result.now ≡ get_or c.args.frame.now k [] = c.components.ensures.value ∙ c.in_ok-index.ensures [] in
+    let st = c.part_cell.new.state in
+    let o = c.in_ok-value.value in
+    record {
+      carried = loop_step (folding c.args.op) c.args.form.now (λ (e : Values). part_source_in c.args.context.now e c.args.parts.now) c.args.frame.now (array_of c.args.start) s c.loop-place.state (array_of c.loop-place.sum) k c.loop-place.invariant.carried c.loop-place.invariant.scopes c.components.result.now o st (record st { heap = c.add_cell.new.heap }) (array_of c.in_ok-sum.sum) inside is c.in_ok-value.ensures.told
+          (λ h stands. let q = c.in_ok-sum.ensures h stands in (folded_more c.args.op k (array_of c.loop-place.sum) (array_of c.in_ok-sum.sum) (option_map (read h) (option_map value_of o)) q.0, q.1)) refl;
+      scopes = scopes_after s.frames c.loop-place.state.frames st.frames c.loop-place.invariant.scopes c.in_ok-value.ensures.scopes;
+    }
+
+pub combine_parts-returns : goal.combine_parts-returns
+combine_parts-returns t c =
+    let a = c.args in
+    let ctx = a.context.now in
+    let s = a.state.now in
+    let k = c.loop-place.place in
+    record {
+      told = loop_end (folding c.args.op) c.args.form.now (λ (e : Values). part_source_in c.args.context.now e c.args.parts.now) c.args.frame.now (array_of c.args.start) s c.loop-place.state (array_of c.loop-place.sum) k c.loop-place.invariant.carried c.loop-place.invariant.scopes c.loop-place.sum (λ s found. array_of s ≡ fold (combined c.args.op) (array_of c.args.start) found) (λ found is. is) (omega (arith, c.loop-place-test.false, c.count-place-end.ensures));
+      scopes = c.loop-place.invariant.scopes;
+    }
+
+pub gen_cell-returns-in_err-value-in-Some : goal.gen_cell-returns-in_err-value-in-Some
+gen_cell-returns-in_err-value-in-Some t c =
+    let a = c.args in
+    let ctx = a.context.now in
+    let s = a.state.now in
+    let v = a.index.now in
+    let form = a.plan.now.form in
+    let found : Some c.in-Some.g.now ≡ held a.gens.now a.plan.now.ranges.items v = ap (option_map (λ x. x.now)) (sym c.in-Some.is) ∙ c.holder.ensures ∙ ap (λ rs. held a.gens.now rs v) c.deref.ensures.value in
+    let st = c.run_cell.new.state in
+    let stop = c.in_err-value-in-Some.field-0.0 in
+    let is : c.from_residual.result ≡ Err stop = search rules in
+    record {
+      told = λ m at.
+          handed IsPresent c.from_residual.result stop st (unreleased form (source_in ctx (current s.frames) a.gens.now a.plan.now.ranges.items v) m) is
+          (subst (λ h. ToldStop stop st (unreleased form (option_map (gen_source ctx (current s.frames) v) h) m)) found
+          (stop_then stop st (then_go (apart (gen_source ctx (current s.frames) v c.in-Some.g.now).cell) (formed form (gen_source ctx (current s.frames) v c.in-Some.g.now).site) m) (λ w. give (Some w)) (c.in_err-value-in-Some.ensures.told m at)));
+      scopes = no_scopes (SameScopes s.frames st.frames) c.from_residual.result stop is;
+    }
+
+pub gen_cell-returns-in_ok-value-in-Some : goal.gen_cell-returns-in_ok-value-in-Some
+gen_cell-returns-in_ok-value-in-Some t c =
+    let a = c.args in
+    let ctx = a.context.now in
+    let s = a.state.now in
+    let v = a.index.now in
+    let form = a.plan.now.form in
+    let found : Some c.in-Some.g.now ≡ held a.gens.now a.plan.now.ranges.items v = ap (option_map (λ x. x.now)) (sym c.in-Some.is) ∙ c.holder.ensures ∙ ap (λ rs. held a.gens.now rs v) c.deref.ensures.value in
+    let st = c.run_cell.new.state in
+    let w = c.in_ok-value-in-Some.value in
+    record {
+      told = λ m at.
+          subst (λ h. Told IsPresent (Ok (Some w)) st (unreleased form (option_map (gen_source ctx (current s.frames) v) h) m)) found
+          (present_told w st form (gen_source ctx (current s.frames) v c.in-Some.g.now) m (c.in_ok-value-in-Some.ensures.told m at));
+      scopes = c.in_ok-value-in-Some.ensures.scopes;
+    }
+
+pub gen_cell-returns-in-None : goal.gen_cell-returns-in-None
+gen_cell-returns-in-None t c =
+    let a = c.args in
+    let ctx = a.context.now in
+    let s = a.state.now in
+    let v = a.index.now in
+    let form = a.plan.now.form in
+    let none : None ≡ held a.gens.now a.plan.now.ranges.items v = ap (option_map (λ x. x.now)) (sym c.in-None.is) ∙ c.holder.ensures ∙ ap (λ rs. held a.gens.now rs v) c.deref.ensures.value in
+    record {
+      told = λ m at. subst (λ h. Told IsPresent (Ok None) s (unreleased form (option_map (gen_source ctx (current s.frames) v) h) m)) none (refl, at);
+      scopes = (refl, refl);
+    }
+
+pub run_cell-returns : goal.run_cell-returns
+run_cell-returns t c =
+    let a = c.args in
+    let ctx = a.context.now in
+    let s = a.state.now in
+    let g = a.g.now in
+    let v = a.index.now in
+    let bound = c.in_ok-bind_index.ensures in
+    let mid = c.bind_index.new.state in
+    let answer = c.run_first-answer.result in
+    let st = c.run_first-answer.new.state in
+    let new = record st { phases = s.phases } in
+    let inside = bound.inside ∙ (λ i. bind_values (bind_value (c.in_ok-enter.ensures.current i) g.index (Small (vector Int v))) (c.deref.ensures.value i) (map (λ z. Small (scalar Int z)) v)) in
+    record {
+      told = λ m at.
+          cell_tells answer c.formed.result st new m (first_value (does_in ctx (code_term g.body) (with_index_value (current s.frames) (gen_head g) v))) a.form.now g.site refl at.phases c.formed.ensures.told
+          (subst (λ e. Told IsValue answer st (first_value (does_in ctx (code_term g.body) e) m)) inside (c.run_first-answer.ensures.told m (moved s mid m bound.heap bound.phases at)));
+      scopes = cell_scopes answer c.formed.result s.frames mid.frames st.frames c.formed.ensures.same c.run_first-answer.ensures.scopes (bound.outside ∙ c.in_ok-enter.ensures.outer);
+    }
+
+pub part_cell-returns-in_err-value-in-Some : goal.part_cell-returns-in_err-value-in-Some
+part_cell-returns-in_err-value-in-Some t c =
+    let a = c.args in
+    let ctx = a.context.now in
+    let s = a.state.now in
+    let v = a.index.now in
+    let form = a.form.now in
+    let found : Some c.in-Some.part.now ≡ part_held a.parts.now v = ap (option_map (λ x. x.now)) (sym c.in-Some.is) ∙ c.part_holder.ensures in
+    let st = c.run_part.new.state in
+    let stop = c.in_err-value-in-Some.field-0.0 in
+    let is : c.from_residual.result ≡ Err stop = search rules in
+    record {
+      told = λ m at.
+          handed IsPresent c.from_residual.result stop st (unreleased form (part_source_in ctx (current s.frames) a.parts.now v) m) is
+          (subst (λ h. ToldStop stop st (unreleased form (option_map (part_source ctx (current s.frames) v) h) m)) found
+          (stop_then stop st (then_go (apart (part_source ctx (current s.frames) v c.in-Some.part.now).cell) (formed form (part_source ctx (current s.frames) v c.in-Some.part.now).site) m) (λ w. give (Some w)) (c.in_err-value-in-Some.ensures.told m at)));
+      scopes = no_scopes (SameScopes s.frames st.frames) c.from_residual.result stop is;
+    }
+
+pub part_cell-returns-in_ok-value-in-Some : goal.part_cell-returns-in_ok-value-in-Some
+part_cell-returns-in_ok-value-in-Some t c =
+    let a = c.args in
+    let ctx = a.context.now in
+    let s = a.state.now in
+    let v = a.index.now in
+    let form = a.form.now in
+    let found : Some c.in-Some.part.now ≡ part_held a.parts.now v = ap (option_map (λ x. x.now)) (sym c.in-Some.is) ∙ c.part_holder.ensures in
+    let st = c.run_part.new.state in
+    let w = c.in_ok-value-in-Some.value in
+    record {
+      told = λ m at.
+          subst (λ h. Told IsPresent (Ok (Some w)) st (unreleased form (option_map (part_source ctx (current s.frames) v) h) m)) found
+          (present_told w st form (part_source ctx (current s.frames) v c.in-Some.part.now) m (c.in_ok-value-in-Some.ensures.told m at));
+      scopes = c.in_ok-value-in-Some.ensures.scopes;
+    }
+
+pub part_cell-returns-in-None : goal.part_cell-returns-in-None
+part_cell-returns-in-None t c =
+    let a = c.args in
+    let ctx = a.context.now in
+    let s = a.state.now in
+    let v = a.index.now in
+    let form = a.form.now in
+    let none : None ≡ part_held a.parts.now v = ap (option_map (λ x. x.now)) (sym c.in-None.is) ∙ c.part_holder.ensures in
+    record {
+      told = λ m at. subst (λ h. Told IsPresent (Ok None) s (unreleased form (option_map (part_source ctx (current s.frames) v) h) m)) none (refl, at);
+      scopes = (refl, refl);
+    }
+
+pub run_part-returns : goal.run_part-returns
+run_part-returns t c =
+    let a = c.args in
+    let ctx = a.context.now in
+    let s = a.state.now in
+    let g = a.part.now in
+    let v = a.index.now in
+    let bound = c.in_ok-bind_index.ensures in
+    let mid = c.bind_index.new.state in
+    let answer = c.run_first-answer.result in
+    let st = c.run_first-answer.new.state in
+    let new = record st { phases = s.phases } in
+    let inside = bound.inside ∙ (λ i. bind_value (c.in_ok-enter.ensures.current i) g.index (Small (vector Int v))) in
+    record {
+      told = λ m at.
+          cell_tells answer c.formed.result st new m (first_value (does_in ctx (code_term g.body) (bind_value (current s.frames) g.index (Small (vector Int v))))) a.form.now g.site refl at.phases c.formed.ensures.told
+          (subst (λ e. Told IsValue answer st (first_value (does_in ctx (code_term g.body) e) m)) inside (c.run_first-answer.ensures.told m (moved s mid m bound.heap bound.phases at)));
+      scopes = cell_scopes answer c.formed.result s.frames mid.frames st.frames c.formed.ensures.same c.run_first-answer.ensures.scopes (bound.outside ∙ c.in_ok-enter.ensures.outer);
+    }
+
+pub run_array-returns-in_err-fill : goal.run_array-returns-in_err-fill
+run_array-returns-in_err-fill t c =
+    let a = c.args in
+    let ctx = a.context.now in
+    let s = a.state.now in
+    let p = a.plan.now in
+    let target = c.in_ok-target.target in
+    let s0 = c.begin.new.state in
+    let s1 = c.fill.new.state in
+    let stop = c.in_err-fill.field-0.0 in
+    let is : c.from_residual-in_err-fill.result ≡ Err stop = search rules in
+    record {
+      told = λ m at.
+          handed IsValue c.from_residual-in_err-fill.result stop s1 (job_does None (array_job ctx (current s.frames) m a.gens.now (plan_of p) a.array.now a.old) m) is
+          (array_stops ctx a.gens.now (plan_of p) s s0 (target_of target) m c.in_ok-target.ensures.frames (target_nothing target) a.array.now a.old c.in_ok-size.size c.in_ok-size.ensures (c.in_ok-target.ensures.begun m (length p.frame) at) stop s1 c.in_err-fill.ensures.told);
+      scopes = no_scopes (SameScopes s.frames s1.frames) c.from_residual-in_err-fill.result stop is;
+    }
+
+pub run_array-returns : goal.run_array-returns
+run_array-returns t c =
+    let a = c.args in
+    let ctx = a.context.now in
+    let s = a.state.now in
+    let p = a.plan.now in
+    let target = c.in_ok-target.target in
+    let s0 = c.begin.new.state in
+    let s1 = c.fill.new.state in
+    let s2 = c.finish.new.state in
+    let items = c.fill.new.cells.items in
+    let r = c.finish.result in
+    record {
+      told = λ m at.
+          array_tells ctx a.gens.now (plan_of p) s s0 (target_of target) m c.in_ok-target.ensures.frames (target_nothing target) a.array.now a.old c.in_ok-size.size c.in_ok-size.ensures (c.in_ok-target.ensures.begun m (length p.frame) at)
+          target.cells.items items r s1 s2 c.in_ok-target.ensures.cells c.in_ok-fill.ensures.told
+          (λ h there. subst (λ b. Told IsValue r s2 (settled (target_of target) (record { base = b; shape = p.shape; cells = items }) h)) c.base.ensures (c.finish.ensures.told h there));
+      scopes = on_ok r (λ q. scopes_join s.frames s0.frames s1.frames s2.frames c.in_ok-target.ensures.frames c.in_ok-fill.ensures.scopes q) c.finish.ensures.frames;
+    }
+
+pub run_fold-returns-in_err-sum : goal.run_fold-returns-in_err-sum
+run_fold-returns-in_err-sum t c =
+    let a = c.args in
+    let ctx = a.context.now in
+    let s = a.state.now in
+    let p = a.plan.now in
+    let target = c.in_ok-target.target in
+    let s0 = c.begin_fold.new.state in
+    let s1 = c.fold_cells.new.state in
+    let stop = c.in_err-sum.field-0.0 in
+    let is : c.from_residual-in_err-sum.result ≡ Err stop = search rules in
+    record {
+      told = λ m at.
+          handed IsValue c.from_residual-in_err-sum.result stop s1 (job_does None (fold_job ctx (current s.frames) m a.gens.now (plan_of p) a.op a.neutral) m) is
+          (fold_stops ctx a.gens.now (plan_of p) s s0 (fold_target target) m c.in_ok-target.ensures.frames (fold_nothing target) a.op a.neutral (c.in_ok-target.ensures.begun m (length p.frame) at) stop s1 c.in_err-sum.ensures.told);
+      scopes = no_scopes (SameScopes s.frames s1.frames) c.from_residual-in_err-sum.result stop is;
+    }
+
+pub run_fold-returns : goal.run_fold-returns
+run_fold-returns t c =
+    let a = c.args in
+    let ctx = a.context.now in
+    let s = a.state.now in
+    let p = a.plan.now in
+    let target = c.in_ok-target.target in
+    let s0 = c.begin_fold.new.state in
+    let s1 = c.fold_cells.new.state in
+    let s2 = c.finish_fold.new.state in
+    let r = c.finish_fold.result in
+    record {
+      told = λ m at.
+          fold_tells ctx a.gens.now (plan_of p) s s0 (fold_target target) m c.in_ok-target.ensures.frames (fold_nothing target) a.op a.neutral (c.in_ok-target.ensures.begun m (length p.frame) at)
+          array_of c.start.result c.in_ok-sum.sum r s1 s2 c.start.ensures c.in_ok-sum.ensures.told c.finish_fold.ensures.told;
+      scopes = on_ok r (λ q. scopes_join s.frames s0.frames s1.frames s2.frames c.in_ok-target.ensures.frames c.in_ok-sum.ensures.scopes q) c.finish_fold.ensures.frames;
+    }
+
+pub run_parts-returns-in_err-join_parts : goal.run_parts-returns-in_err-join_parts
+run_parts-returns-in_err-join_parts t c =
+    let a = c.args in
+    let ctx = a.context.now in
+    let s = a.state.now in
+    let target = c.in_ok-target.target in
+    let s0 = c.begin.new.state in
+    let s1 = c.join_parts.new.state in
+    let stop = c.in_err-join_parts.field-0.0 in
+    let is : c.from_residual-in_err-join_parts.result ≡ Err stop = search rules in
+    record {
+      told = λ m at.
+          handed IsValue c.from_residual-in_err-join_parts.result stop s1 (job_does None (parts_job ctx (current s.frames) a.parts.now a.frame.now a.form.now a.shape.now) m) is
+          (parts_stop ctx a.parts.now a.frame.now a.form.now s s0 (target_of target) m c.in_ok-target.ensures.frames (target_nothing target) a.shape.now (c.in_ok-target.ensures.begun m (length a.frame.now) at) stop s1 c.in_err-join_parts.ensures.told);
+      scopes = no_scopes (SameScopes s.frames s1.frames) c.from_residual-in_err-join_parts.result stop is;
+    }
+
+pub run_parts-returns : goal.run_parts-returns
+run_parts-returns t c =
+    let a = c.args in
+    let ctx = a.context.now in
+    let s = a.state.now in
+    let target = c.in_ok-target.target in
+    let s0 = c.begin.new.state in
+    let s1 = c.join_parts.new.state in
+    let s2 = c.finish.new.state in
+    let items = c.join_parts.new.cells.items in
+    let r = c.finish.result in
+    record {
+      told = λ m at.
+          parts_tell ctx a.parts.now a.frame.now a.form.now s s0 (target_of target) m c.in_ok-target.ensures.frames (target_nothing target) a.shape.now (c.in_ok-target.ensures.begun m (length a.frame.now) at)
+          target.cells.items items r s1 s2 c.in_ok-target.ensures.cells c.in_ok-join_parts.ensures.told c.finish.ensures.told;
+      scopes = on_ok r (λ q. scopes_join s.frames s0.frames s1.frames s2.frames c.in_ok-target.ensures.frames c.in_ok-join_parts.ensures.scopes q) c.finish.ensures.frames;
+    }
+
+pub fold_parts-returns-in_err-sum : goal.fold_parts-returns-in_err-sum
+fold_parts-returns-in_err-sum t c =
+    let a = c.args in
+    let ctx = a.context.now in
+    let s = a.state.now in
+    let target = c.in_ok-target.target in
+    let s0 = c.begin_fold.new.state in
+    let s1 = c.combine_parts.new.state in
+    let stop = c.in_err-sum.field-0.0 in
+    let is : c.from_residual-in_err-sum.result ≡ Err stop = search rules in
+    record {
+      told = λ m at.
+          handed IsValue c.from_residual-in_err-sum.result stop s1 (job_does None (fold_parts_job ctx (current s.frames) a.parts.now a.frame.now a.form.now a.op a.neutral) m) is
+          (part_fold_stops ctx a.parts.now a.frame.now a.form.now s s0 (fold_target target) m c.in_ok-target.ensures.frames (fold_nothing target) a.op a.neutral (c.in_ok-target.ensures.begun m (length a.frame.now) at) stop s1 c.in_err-sum.ensures.told);
+      scopes = no_scopes (SameScopes s.frames s1.frames) c.from_residual-in_err-sum.result stop is;
+    }
+
+pub fold_parts-returns : goal.fold_parts-returns
+fold_parts-returns t c =
+    let a = c.args in
+    let ctx = a.context.now in
+    let s = a.state.now in
+    let target = c.in_ok-target.target in
+    let s0 = c.begin_fold.new.state in
+    let s1 = c.combine_parts.new.state in
+    let s2 = c.finish_fold.new.state in
+    let r = c.finish_fold.result in
+    record {
+      told = λ m at.
+          part_fold_tells ctx a.parts.now a.frame.now a.form.now s s0 (fold_target target) m c.in_ok-target.ensures.frames (fold_nothing target) a.op a.neutral (c.in_ok-target.ensures.begun m (length a.frame.now) at)
+          array_of c.start.result c.in_ok-sum.sum r s1 s2 c.start.ensures c.in_ok-sum.ensures.told c.finish_fold.ensures.told;
+      scopes = on_ok r (λ q. scopes_join s.frames s0.frames s1.frames s2.frames c.in_ok-target.ensures.frames c.in_ok-sum.ensures.scopes q) c.finish_fold.ensures.frames;
+    }
+
+pub run_with-returns-in_err-plan-in-Genarray : goal.run_with-returns-in_err-plan-in-Genarray
+run_with-returns-in_err-plan-in-Genarray t c =
+    ?
+
+pub run_with-returns-in_ok-plan-in-Genarray : goal.run_with-returns-in_ok-plan-in-Genarray
+run_with-returns-in_ok-plan-in-Genarray t c =
+    ?
+
+pub run_with-returns-in_err-plan-in-Modarray : goal.run_with-returns-in_err-plan-in-Modarray
+run_with-returns-in_err-plan-in-Modarray t c =
+    ?
+
+pub run_with-returns-in_ok-plan-in-Modarray : goal.run_with-returns-in_ok-plan-in-Modarray
+run_with-returns-in_ok-plan-in-Modarray t c =
+    ?
+
+pub run_with-returns-in_err-plan-in-Fold : goal.run_with-returns-in_err-plan-in-Fold
+run_with-returns-in_err-plan-in-Fold t c =
+    ?
+
+pub run_with-returns-in_ok-plan-in-Fold : goal.run_with-returns-in_ok-plan-in-Fold
+run_with-returns-in_ok-plan-in-Fold t c =
+    ?
+
+pub run_parted-returns-then-not-fits : goal.run_parted-returns-then-not-fits
+run_parted-returns-then-not-fits t c =
+    ?
+
+pub run_parted-returns-in_ok-neutral-in-Fold : goal.run_parted-returns-in_ok-neutral-in-Fold
+run_parted-returns-in_ok-neutral-in-Fold t c =
+    ?
+
+pub run_parted-returns-in_ok-shape : goal.run_parted-returns-in_ok-shape
+run_parted-returns-in_ok-shape t c =
+    ?
