@@ -51,6 +51,7 @@ module _ {X Y : Type 0} (make : Making X Y) (form : Form) (source : List ℤ →
         grown (Err (Faulted f)) t y cell (Done rest h) eq told = absurd told
         grown (Err (Faulted f)) t y cell (Failed g phases) eq told = told
         grown (Err Memory) t y cell end eq told = tt
+
         go : (end : Ended (Option Value)) → unreleased form (source v) c.heap ≡ end → Told IsPresent (Ok o) s1 end → Carries make form source indices x0 m s2 x' (k + 1)
         go (Failed f phases) is told = absurd told
         go (Done w h) is told =
@@ -59,8 +60,8 @@ module _ {X Y : Type 0} (make : Making X Y) (form : Form) (source : List ℤ →
             let eq : (rest : Cells) → make x k (cell ∷ rest) ≡ make x' (k + 1) rest = subst (λ w. (rest : Cells) → make x k (option_map (read h) w ∷ rest) ≡ make x' (k + 1) rest) told.0 p.0 in
             let split : drop k indices ≡ v ∷ drop (k + 1) indices = drop_more indices k d inside ∙ ap (λ v. v ∷ drop (k + 1) indices) (sym at) in
             let here : cells_run form source (drop k indices) c.heap ≡ go_on (cells_run form source (drop (k + 1) indices) (release_rest w h)) (λ cs. give (cell ∷ cs)) =
-                ap (λ vs. cells_run form source vs c.heap) split
-                ∙ ap (λ e. go_on e (λ c. then_go (cells_run form source (drop (k + 1) indices)) (λ cs. give (c ∷ cs)))) (cell_is form (source v) c.heap ∙ ap (λ e. go_on e (λ w h. Done (option_map (read h) w) (release_rest w h))) is) in
+            ap (λ vs. cells_run form source vs c.heap) split
+            ∙ ap (λ e. go_on e (λ c. then_go (cells_run form source (drop (k + 1) indices)) (λ cs. give (c ∷ cs)))) (cell_is form (source v) c.heap ∙ ap (λ e. go_on e (λ w h. Done (option_map (read h) w) (release_rest w h))) is) in
             record {
               heap = release_rest w h;
               stands = record { heap = subst (λ w. Stands s2.heap (release_rest w h)) told.0 p.1; phases = same ∙ told.1.phases ∙ ap (λ ps. length ps % 2 ^ 64) (sym (rest_phases w h)) };
@@ -76,6 +77,7 @@ module _ {X Y : Type 0} (make : Making X Y) (form : Form) (source : List ℤ →
         here =
             ap (λ vs. cells_run form source vs c.heap) (drop_more indices k d inside ∙ ap (λ v. v ∷ drop (k + 1) indices) (sym at))
             ∙ ap (λ e. go_on e (λ c. then_go (cells_run form source (drop (k + 1) indices)) (λ cs. give (c ∷ cs)))) (cell_is form (source v) c.heap)
+
         stops : (stop : Stop) (end : Ended (Option Value)) → ToldStop stop s1 end → ToldStop stop s1 (go_on (go_on end (λ w h. Done (option_map (read h) w) (release_rest w h))) (λ c. then_go (cells_run form source (drop (k + 1) indices)) (λ cs. give (c ∷ cs))))
         stops (Faulted f) (Done w h) told = absurd told
         stops (Faulted f) (Failed g phases) told = told
@@ -97,6 +99,7 @@ as_many form source (v ∷ vs) m h found is = first (cell_does form (source v) m
     rest c (Done cs g) many is =
         let same : found ≡ c ∷ cs = cc in
         ap length same ∙ ap suc (many g cs refl)
+
     first : (end : Ended (Option ArrayValue)) → ((k g : Heap) (cs : Cells) → cells_run form source vs k ≡ Done cs g → length cs ≡ length vs) → go_on end (λ c. then_go (cells_run form source vs) (λ cs. give (c ∷ cs))) ≡ Done found h → length found ≡ suc (length vs)
     first (Failed f phases) many is = cc
     first (Done c k) many is = rest c (cells_run form source vs k) (many k) is

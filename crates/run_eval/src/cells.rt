@@ -74,11 +74,7 @@ pub fn finish(
 }
 
 /// A cell that must have the form.
-pub fn formed(
-    answer: Result<RunValue, Stop>,
-    form: &Form,
-    site: Site,
-) -> Result<RunValue, Stop>
+pub fn formed(answer: Result<RunValue, Stop>, form: &Form, site: Site) -> Result<RunValue, Stop>
     ensures told { (s : RunState) (e : Ended Value) → Told IsValue answer s e → Told IsValue result s (go_on e (formed_cell form.now site)) }
     ensures same { IfOk result (λ v. answer ≡ Ok v) }
 {

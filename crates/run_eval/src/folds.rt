@@ -74,13 +74,7 @@ pub fn add_cell(
     }
 }
 
-fn sum_with(
-    alloc: Global,
-    heap: &Heap,
-    op: Op,
-    sum: Sum,
-    value: RunValue,
-) -> Result<Sum, Memory>
+fn sum_with(alloc: Global, heap: &Heap, op: Op, sum: Sum, value: RunValue) -> Result<Sum, Memory>
     ensures { (m : MachineHeap) → Stands heap.now m → IfOk result (λ s. array_of s ≡ combined op (array_of sum) (Some (read m (value_of value)))) }
 {
     match sum {
@@ -109,11 +103,7 @@ fn word_with(op: Op, base: Base, n: i32, m: i32) -> Sum
 }
 
 /// The finished result.
-pub fn finish_fold(
-    sum: Sum,
-    target: Option<Target>,
-    state: &mut State,
-) -> Result<RunValue, Stop>
+pub fn finish_fold(sum: Sum, target: Option<Target>, state: &mut State) -> Result<RunValue, Stop>
     ensures told { (m : MachineHeap) → IsAt state.old m → Told IsValue result state.new (settled (fold_target target) (array_of sum) m) }
     ensures frames { OnOk result (state.new.frames ≡ state.old.frames) }
 {

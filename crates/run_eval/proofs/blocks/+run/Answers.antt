@@ -1062,14 +1062,6 @@ run_function-returns t c =
       scopes = c.in_ok-run_open.ensures.scopes (current s.frames) (outer s.frames) (bound.outside ∙ c.in_ok-enter_call.ensures.outer);
     }
 
-pub run_first-run_with-requires : goal.run_first-run_with-requires
-run_first-run_with-requires t c =
-    ?
-
-pub run_first-run_parted-requires : goal.run_first-run_parted-requires
-run_first-run_parted-requires t c =
-    ?
-
 pub run_with-run_array-requires : goal.run_with-run_array-requires
 run_with-run_array-requires t c =
     omega (arith, c.decreases, gens_below c.args.with.now, ap gens_size c.deref-2.ensures.value)

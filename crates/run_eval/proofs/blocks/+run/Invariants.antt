@@ -83,9 +83,6 @@ invariant-repeat-loop-left l = record {
 abbrev pub decreases-repeat-loop-left : goal.decreases-repeat-loop-left
 decreases-repeat-loop-left l = l.left
 
-abbrev pub decreases-run_first : goal.decreases-run_first
-decreases-run_first l = rank_of l.context.now + 8 * size-CodeBlock l.block.now + 3
-
 abbrev pub decreases-run_with : goal.decreases-run_with
 decreases-run_with l = rank_of l.context.now + 8 * size-CodeWith l.with.now + 1
 
