@@ -1064,15 +1064,15 @@ run_function-returns t c =
 
 pub run_with-run_array-requires : goal.run_with-run_array-requires
 run_with-run_array-requires t c =
-    omega (arith, c.decreases, gens_below c.args.with.now, ap gens_size c.deref-2.ensures.value)
+    omega (arith, c.decreases, gens_below c.args.with.now, ap gens_size c.deref-in-Genarray-2.ensures.value)
 
 pub run_with-run_array-requires-in-Modarray : goal.run_with-run_array-requires-in-Modarray
 run_with-run_array-requires-in-Modarray t c =
-    omega (arith, c.decreases, gens_below c.args.with.now, ap gens_size c.deref-2.ensures.value)
+    omega (arith, c.decreases, gens_below c.args.with.now, ap gens_size c.deref-in-Modarray-2.ensures.value)
 
 pub run_with-run_fold-requires : goal.run_with-run_fold-requires
 run_with-run_fold-requires t c =
-    omega (arith, c.decreases, gens_below c.args.with.now, ap gens_size c.deref-2.ensures.value)
+    omega (arith, c.decreases, gens_below c.args.with.now, ap gens_size c.deref-in-Fold-2.ensures.value)
 
 pub run_array-fill-requires : goal.run_array-fill-requires
 run_array-fill-requires t c =
@@ -1095,10 +1095,6 @@ gen_cell-run_cell-requires t c =
     let found : Some c.in-Some.g.now ≡ held c.args.gens.now c.args.plan.now.ranges.items c.args.index.now = ap (option_map (λ g. g.now)) (sym c.in-Some.is) ∙ c.holder.ensures ∙ ap (λ rs. held c.args.gens.now rs c.args.index.now) c.deref.ensures.value in
     omega (arith, c.decreases, held_below c.args.gens.now c.args.plan.now.ranges.items c.args.index.now c.in-Some.g.now found)
 
-pub run_cell-run_first-requires : goal.run_cell-run_first-requires
-run_cell-run_first-requires t c =
-    omega (arith, c.decreases, gen_body c.args.g.now)
-
 pub run_parts-join_parts-requires : goal.run_parts-join_parts-requires
 run_parts-join_parts-requires t c =
     omega (arith, c.decreases)
@@ -1119,10 +1115,6 @@ pub part_cell-run_part-requires : goal.part_cell-run_part-requires
 part_cell-run_part-requires t c =
     let found : Some c.in-Some.part.now ≡ part_held c.args.parts.now c.args.index.now = ap (option_map (λ p. p.now)) (sym c.in-Some.is) ∙ c.part_holder.ensures in
     omega (arith, c.decreases, part_held_below c.args.parts.now c.args.index.now c.in-Some.part.now found)
-
-pub run_part-run_first-requires : goal.run_part-run_first-requires
-run_part-run_first-requires t c =
-    omega (arith, c.decreases, part_body c.args.part.now)
 
 pub run_parted-run_parts-requires : goal.run_parted-run_parts-requires
 run_parted-run_parts-requires t c =
@@ -1608,39 +1600,3 @@ fold_parts-returns t c =
           array_of c.start.result c.in_ok-sum.sum r s1 s2 c.start.ensures c.in_ok-sum.ensures.told c.finish_fold.ensures.told;
       scopes = on_ok r (λ q. scopes_join s.frames s0.frames s1.frames s2.frames c.in_ok-target.ensures.frames c.in_ok-sum.ensures.scopes q) c.finish_fold.ensures.frames;
     }
-
-pub run_with-returns-in_err-plan-in-Genarray : goal.run_with-returns-in_err-plan-in-Genarray
-run_with-returns-in_err-plan-in-Genarray t c =
-    ?
-
-pub run_with-returns-in_ok-plan-in-Genarray : goal.run_with-returns-in_ok-plan-in-Genarray
-run_with-returns-in_ok-plan-in-Genarray t c =
-    ?
-
-pub run_with-returns-in_err-plan-in-Modarray : goal.run_with-returns-in_err-plan-in-Modarray
-run_with-returns-in_err-plan-in-Modarray t c =
-    ?
-
-pub run_with-returns-in_ok-plan-in-Modarray : goal.run_with-returns-in_ok-plan-in-Modarray
-run_with-returns-in_ok-plan-in-Modarray t c =
-    ?
-
-pub run_with-returns-in_err-plan-in-Fold : goal.run_with-returns-in_err-plan-in-Fold
-run_with-returns-in_err-plan-in-Fold t c =
-    ?
-
-pub run_with-returns-in_ok-plan-in-Fold : goal.run_with-returns-in_ok-plan-in-Fold
-run_with-returns-in_ok-plan-in-Fold t c =
-    ?
-
-pub run_parted-returns-then-not-fits : goal.run_parted-returns-then-not-fits
-run_parted-returns-then-not-fits t c =
-    ?
-
-pub run_parted-returns-in_ok-neutral-in-Fold : goal.run_parted-returns-in_ok-neutral-in-Fold
-run_parted-returns-in_ok-neutral-in-Fold t c =
-    ?
-
-pub run_parted-returns-in_ok-shape : goal.run_parted-returns-in_ok-shape
-run_parted-returns-in_ok-shape t c =
-    ?
