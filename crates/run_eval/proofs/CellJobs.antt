@@ -1,10 +1,10 @@
 -- A loop whose checks have passed, from its claim, its cells and its finished result.
-use Rattle.std.proofs.Common.{◌≡◌, ℕ, List, refl, sym, ap, ◌∙◌, subst, Result, Ok, Err, Option, Some, None, true, false, Bool}
+use Rattle.std.proofs.Common.{◌≡◌, ℕ, refl, sym, ap, ◌∙◌, subst, Result, Ok, Option, Some, None}
 use Rattle.std.specs.Prelude.{length, not, ◌||◌}
 use Rattle.sac_base.specs.Arrays.{ArrayValue, size}
 use Rattle.counted_code.specs.Loops as machine
 use Rattle.counted_code.specs.Loops.{Job, Claimed, claim, claimed_does, count_phase, job_does, release_rest, settled, write_cell, Inside, Fresh, cells_do}
-use Rattle.counted_code.specs.Values.{Heap, Value, Ended, Done, Failed, Doing, go_on, is_small}
+use Rattle.counted_code.specs.Values.{Heap, Ended, Done, Failed, go_on, is_small}
 use Rattle.with_loops.specs.declared.stop.Stop.{Stop}
 use Rattle.run_values.specs.declared.value.RunValue.{RunValue}
 use Rattle.run_heap.specs.Targets.{target_of, target_at}

@@ -1,5 +1,5 @@
 -- The loops over cells, and the jobs that they do.
-use Rattle.std.proofs.Common.{◌≡◌, ℕ, ◌+◌, ◌<◌, ◌≤◌, List, [], ◌∷◌, ◌++◌, length, get_or, map, Bool, true, false, refl, sym, ap, ◌∙◌, subst, Result, Ok, Err, Option, Some, None, append-nil}
+use Rattle.std.proofs.Common.{◌≡◌, ℕ, ◌+◌, ◌<◌, ◌≤◌, List, [], ◌∷◌, ◌++◌, length, get_or, map, Bool, true, sym, ap, ◌∙◌, subst, Result, Ok, Option, None, append-nil}
 use Rattle.std.specs.Prelude.{ℤ, fold, flat_map, not, option_map}
 use Rattle.sac_base.specs.declared.form.Form.{Form}
 use Rattle.sac_base.specs.declared.op.Op.{Op}
@@ -11,8 +11,8 @@ use Rattle.counted_code.specs.declared.tree.CodePart.{CodePart}
 use Rattle.counted_code.specs.Loops as machine
 use Rattle.counted_code.specs.Loops.{Source, claim, count_phase, job_does, release_rest, settled}
 use Rattle.counted_code.specs.Machine.{Values}
-use Rattle.counted_code.specs.Values.{Heap, Value, Ended, Doing, give, go_on, is_small, read}
-use Rattle.with_loops.specs.Cells.{array_from, cell_from, cells_from}
+use Rattle.counted_code.specs.Values.{Heap, is_small, read}
+use Rattle.with_loops.specs.Cells.{cells_from}
 use Rattle.with_loops.specs.declared.stop.Stop.{Stop}
 use Rattle.run_heap.specs.Stands.{Stands}
 use Rattle.run_values.specs.declared.value.RunValue.{RunValue}
@@ -26,7 +26,7 @@ use Rattle.run_eval.specs.Loops.{IsBegun, IsPresent, cells_run, part_source_in, 
 use Rattle.run_eval.proofs.CellJobs.{WritesNothing, job_ends, job_stops}
 use Rattle.run_eval.proofs.CellRuns.{Carries, Cells, Makes, Making, carried_end, carried_step, carried_stop}
 use Rattle.run_eval.proofs.CellTold.{agreed}
-use Rattle.run_eval.proofs.CellMakings.{filling, folding, joining}
+use Rattle.run_eval.proofs.CellMakings.{filling, joining}
 use Rattle.run_eval.proofs.WithHolders.{part_source_is, source_is}
 
 -- ---- loops, whose cells depend on the values in the scope

@@ -1,5 +1,5 @@
 -- What loops make of their cells.
-use Rattle.std.proofs.Common.{◌≡◌, ℕ, ◌+◌, List, [], ◌∷◌, ◌++◌, Bool, refl, sym, ap, ◌∙◌, Option, append_assoc, append-nil}
+use Rattle.std.proofs.Common.{◌≡◌, ℕ, ◌+◌, List, ◌∷◌, ◌++◌, Bool, sym, ap, ◌∙◌, Option, append_assoc}
 use Rattle.std.specs.Prelude.{ℤ, fold, flat_map}
 use Rattle.sac_base.specs.declared.op.Op.{Op}
 use Rattle.sac_base.specs.Arrays.{ArrayValue}

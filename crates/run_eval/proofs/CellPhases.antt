@@ -1,5 +1,5 @@
 -- Phases that are counted.
-use Rattle.std.proofs.Common.{◌≡◌, ℕ, ◌+◌, ◌%◌, ◌^◌, List, [], ◌∷◌, ◌++◌, length, Bool, true, sym, ap, ◌∙◌, subst, arith}
+use Rattle.std.proofs.Common.{◌≡◌, ℕ, ◌+◌, ◌%◌, ◌^◌, List, [], ◌∷◌, ◌++◌, length, Bool, true, sym, ap, ◌∙◌, subst}
 use Rattle.std.proofs.Math.Nat.{mod-add-mod}
 use Rattle.std.proofs.lemmas.List.{length-append}
 use Rattle.counted_code.specs.Loops.{count_phase}

@@ -1,9 +1,8 @@
 -- A cell in a scope of its own.
-use Rattle.std.proofs.Common.{◌≡◌, ℕ, ◌%◌, ◌^◌, List, [], ◌∷◌, length, refl, sym, ap, ◌∙◌, subst, Result, Ok, Err}
+use Rattle.std.proofs.Common.{◌≡◌, ◌%◌, ◌^◌, ◌∷◌, length, sym, ap, ◌∙◌, subst, Result, Ok, Err}
 use Rattle.std.specs.Prelude.{IfOk, OnOk}
 use Rattle.sac_base.specs.declared.form.Form.{Form}
 use Rattle.sac_base.specs.declared.site.Site.{Site}
-use Rattle.counted_code.specs.Machine.{Values}
 use Rattle.counted_code.specs.Values.{Heap, Value, Ended, Doing, apart, go_on, then_go}
 use Rattle.with_loops.specs.declared.stop.Stop.{Stop}
 use Rattle.run_heap.specs.Stands.{Stands}
@@ -11,7 +10,7 @@ use Rattle.run_values.specs.declared.frames.Frames.{Frames}
 use Rattle.run_values.specs.declared.value.RunValue.{RunValue}
 use Rattle.run_values.specs.Scopes.{current, outer}
 use Rattle.run_eval.specs.declared.state.State.{State}
-use Rattle.run_eval.specs.Running.{EndsScope, IsAt, IsValue, SameScopes, Told, formed}
+use Rattle.run_eval.specs.Running.{EndsScope, IsValue, SameScopes, Told, formed}
 use Rattle.run_eval.proofs.CellTold.{apart_told}
 use Rattle.run_heap.proofs.Targets.{phases_stand}
 

@@ -1,5 +1,5 @@
 -- How far a run may still go: by the levels that are left, then by the height of the tree.
-use Rattle.std.proofs.Common.{ℕ, ◌+◌, ◌-◌, ◌*◌, ◌<◌, ◌≤◌, Bool, true, false, List, length, arith, get_or, sym, subst, Ok}
+use Rattle.std.proofs.Common.{ℕ, ◌+◌, ◌*◌, ◌<◌, ◌≤◌, Bool, true, false, List, length, arith, get_or, sym, subst, Ok}
 use Rattle.std.proofs.Math.Nat.{mul-le-mul_right, add-mul}
 use denote.Param.Weighed.{most, at_most}
 use Rattle.sac_base.specs.declared.site.Site.{Site}

@@ -1,6 +1,6 @@
 -- Parted loops by what their check has planned.
-use Rattle.std.proofs.Common.{◌≡◌, ℕ, List, [], ◌∷◌, ◌++◌, map, Bool, true, false, refl, sym, ap, ◌∙◌, subst, Result, Ok, Err, Option, None}
-use Rattle.std.specs.Prelude.{if◌then◌else◌, option_map}
+use Rattle.std.proofs.Common.{◌≡◌, ℕ, List, [], ◌∷◌, ◌++◌, map, Bool, true, false, refl, sym, ap, ◌∙◌, subst, Result, Ok, None}
+use Rattle.std.specs.Prelude.{if◌then◌else◌}
 use Rattle.sac_base.specs.declared.base.Base.{Base}
 use Rattle.sac_base.specs.declared.fault.FaultKind.TheVariants.{F6}
 use Rattle.sac_base.specs.declared.form.Form.{Form}
@@ -9,19 +9,18 @@ use Rattle.sac_base.specs.declared.op.Op.{Op}
 use Rattle.sac_base.specs.declared.site.Site.{Site}
 use Rattle.sac_base.specs.Arrays.{ArrayValue, same_form}
 use Rattle.sac_base.specs.Grids.{members}
-use Rattle.sac_base.specs.Outcomes.{Ends, fault}
-use Rattle.sac_base.specs.WithLoops.{fits_form}
+use Rattle.sac_base.specs.Outcomes.{fault}
 use Rattle.std.specs.Prelude.{ℤ}
 use Rattle.core_ir.specs.declared.tree.PartedOp.{PartedOp}
 use Rattle.core_ir.specs.declared.tree.PartedOp.TheVariants as parted
 use Rattle.core_ir.specs.declared.tree.Var.{Var}
 use Rattle.core_ir.specs.Meaning.{cell_form, extents}
 use Rattle.counted_code.specs.declared.tree.CodePart.{CodePart}
-use Rattle.counted_code.specs.Loops.{CodeCells, Job, job_does, loop_does, parted_job}
+use Rattle.counted_code.specs.Loops.{Job, job_does, loop_does, parted_job}
 use Rattle.counted_code.specs.Machine.{Values, one_value, reads}
-use Rattle.counted_code.specs.Values.{Heap, Value, Ended, Failed, go_on, give, pure_end, read}
+use Rattle.counted_code.specs.Values.{Heap, Value, Ended, go_on, give, pure_end, read}
 use Rattle.with_loops.specs.declared.stop.Stop.{Stop}
-use Rattle.with_loops.specs.declared.stop.Stop.TheVariants.{Faulted, Memory}
+use Rattle.with_loops.specs.declared.stop.Stop.TheVariants.{Faulted}
 use Rattle.run_values.specs.declared.value.RunValue.{RunValue}
 use Rattle.run_eval.specs.declared.state.Context.{Context}
 use Rattle.run_eval.specs.declared.state.State.{State}

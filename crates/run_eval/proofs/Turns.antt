@@ -6,7 +6,7 @@ use Rattle.sac_base.specs.declared.fault.Fault.{Fault}
 use Rattle.sac_base.specs.declared.fault.FaultKind.TheVariants.{F3, F9}
 use Rattle.sac_base.specs.Parts.{condition}
 use Rattle.counted_code.specs.Values.{Heap, Value, Ended, Done, Failed, Doing, give, go_on, then_go, fails, choose_does, read, release}
-use Rattle.counted_code.specs.Machine.{tested, repeat_does}
+use Rattle.counted_code.specs.Machine.{repeat_does}
 use Rattle.with_loops.specs.declared.stop.Stop.{Stop}
 use Rattle.with_loops.specs.declared.stop.Stop.TheVariants.{Faulted, Memory}
 use Rattle.run_eval.specs.declared.state.State.{State}

@@ -1,12 +1,12 @@
 -- Which generator or part has an index.
-use Rattle.std.proofs.Common.{◌≡◌, ℕ, zero, suc, subst, ◌+◌, ◌<◌, ◌≤◌, min, List, [], ◌∷◌, length, get_or, drop, map, Bool, true, false, refl, sym, ap, ◌∙◌, arith, Option, Some, None, max}
+use Rattle.std.proofs.Common.{◌≡◌, ℕ, zero, suc, subst, ◌+◌, ◌<◌, ◌≤◌, min, List, [], ◌∷◌, length, get_or, drop, map, Bool, true, false, refl, sym, ap, ◌∙◌, arith, Some, None}
 use Rattle.std.specs.Prelude.{ℤ, option_map, if◌then◌else◌}
 use Rattle.std.proofs.lemmas.List.{drop_more, drop_all}
 use Rattle.sac_base.specs.Grids.{has_vector}
 use Rattle.sac_base.specs.WithLoops.{Range, holds}
 use Rattle.counted_code.specs.declared.tree.CodeGen.{CodeGen, size-CodeGen}
 use Rattle.counted_code.specs.declared.tree.CodePart.{CodePart, size-CodePart}
-use Rattle.counted_code.specs.Loops.{Source, holder, part_holder}
+use Rattle.counted_code.specs.Loops.{holder, part_holder}
 use Rattle.counted_code.specs.Machine.{Values}
 use Rattle.counted_code.specs.Values.{Heap}
 use Rattle.run_eval.specs.declared.state.Context.{Context}

@@ -1,18 +1,17 @@
 -- With-loops by what their checks have planned.
-use Rattle.std.proofs.Common.{◌≡◌, ℕ, List, [], ◌∷◌, map, length, Bool, true, false, refl, sym, ap, ◌∙◌, subst, Result, Ok, Err, Option, None}
-use Rattle.std.specs.Prelude.{fold, not, ◌||◌}
-use Rattle.sac_base.specs.declared.fault.Fault.{Fault}
+use Rattle.std.proofs.Common.{◌≡◌, ℕ, List, [], ◌∷◌, map, length, Bool, true, false, refl, sym, ap, ◌∙◌, subst, Result, Ok, Err, None}
+use Rattle.std.specs.Prelude.{not, ◌||◌}
 use Rattle.sac_base.specs.declared.op.Op.{Op}
 use Rattle.sac_base.specs.declared.site.Site.{Site}
 use Rattle.sac_base.specs.Arrays.{ArrayValue, size}
 use Rattle.sac_base.specs.Outcomes.{Ends, and_then}
-use Rattle.sac_base.specs.WithLoops.{Bounds, Plan, Operation, genarray, modarray, fold_by, plan, finish, combined, index_length, modarray_plan}
+use Rattle.sac_base.specs.WithLoops.{Bounds, Plan, Operation, genarray, modarray, fold_by, plan, finish, index_length}
 use Rattle.core_ir.specs.declared.tree.CoreOp.{CoreOp}
 use Rattle.core_ir.specs.Meaning.{operation}
 use Rattle.counted_code.specs.declared.tree.CodeGen.{CodeGen}
-use Rattle.counted_code.specs.Loops.{CodeGenerator, Job, Claimed, claim, count_phase, claimed_does, holder, is_fold, job_does, loop_does, with_job}
+use Rattle.counted_code.specs.Loops.{CodeGenerator, Job, claim, count_phase, holder, is_fold, job_does, loop_does, with_job}
 use Rattle.counted_code.specs.Machine.{Values, bounds_of, one_value, reads}
-use Rattle.counted_code.specs.Values.{Heap, Value, Ended, Done, Failed, go_on, give, is_small, pure_end}
+use Rattle.counted_code.specs.Values.{Heap, go_on, give, is_small, pure_end}
 use Rattle.with_loops.specs.Cells.{array_from}
 use Rattle.with_loops.specs.Tells.{TellsStop}
 use Rattle.with_loops.specs.declared.stop.Stop.{Stop}
@@ -23,7 +22,6 @@ use Rattle.run_eval.specs.declared.state.Context.{Context}
 use Rattle.run_eval.specs.declared.state.State.{State}
 use Rattle.run_eval.specs.Running.{IsAt, IsOnly, IsValue, Told, ToldStop, array_job, fold_job, gen_head, generator_in}
 use Rattle.run_eval.proofs.CellJobs.{WritesNothing, same_result}
-use Rattle.run_eval.proofs.CellRuns.{Cells}
 use Rattle.run_eval.proofs.CellTold.{only_told}
 use Rattle.run_eval.proofs.Steps.{raised}
 

@@ -1,24 +1,22 @@
 -- With-loops and parted loops from the lists that their trees hold.
-use Rattle.std.proofs.Common.{◌≡◌, List, [], ◌∷◌, map, refl, sym, ap, ◌∙◌, Option, Some, None, false, true}
-use Rattle.std.specs.Prelude.{ℤ, option_map, length, fold}
+use Rattle.std.proofs.Common.{◌≡◌, List, ◌∷◌, map, refl, sym, ap, ◌∙◌, None}
+use Rattle.std.specs.Prelude.{option_map}
 use Rattle.sac_base.specs.declared.base.Base.TheVariants.{Int}
 use Rattle.sac_base.specs.declared.site.Site.{Site}
 use Rattle.sac_base.specs.Arrays.{vector}
 use Rattle.core_ir.specs.declared.tree.Var.{Var}
 use Rattle.core_ir.specs.Meaning.{operation}
 use Rattle.core_ir.specs.Terms.{GenHead}
-use Rattle.counted_code.specs.declared.tree.CodeBlock.{CodeBlock, Row_of-CodeStep, end_of-CodeStep, more_of-CodeStep, items-the_row-CodeStep, items_shown-the_row-CodeStep-0}
-use Rattle.counted_code.specs.declared.tree.CodeGen.{CodeGen}
-use Rattle.counted_code.specs.declared.tree.CodePart.{CodePart}
+use Rattle.counted_code.specs.declared.tree.CodeBlock.{Row_of-CodeStep, end_of-CodeStep, more_of-CodeStep, items-the_row-CodeStep, items_shown-the_row-CodeStep-0}
 use Rattle.counted_code.specs.declared.tree.CodeWith.{CodeWith, CodeWith', out-CodeWith, outs-CodeWith', Row_of-CodeGen, end_of-CodeGen, more_of-CodeGen, items-the_row-CodeGen, items_shown-the_row-CodeGen-2}
 use Rattle.counted_code.specs.declared.tree.CodeParted.{CodeParted, CodeParted', out-CodeParted, outs-CodeParted', Row_of-CodePart, end_of-CodePart, more_of-CodePart, items-the_row-CodePart, items_shown-the_row-CodePart-1}
 use Rattle.counted_code.specs.Loops.{with_job, parted_job, loop_does}
 use Rattle.counted_code.specs.Machine.{Values, reads, bounds_of, bind_value, with_index_value, first_value, one_value, code_generators, code_cells}
 use Rattle.counted_code.specs.Terms.{Giving}
-use Rattle.counted_code.specs.Values.{Heap, Value, Small}
+use Rattle.counted_code.specs.Values.{Heap, Small}
 use Rattle.counted_code.specs.View.{steps_before, steps_term, step_term, code_with_term, code_gens_term, code_parted_term, code_parts_term}
 use Rattle.run_eval.specs.declared.state.Context.{Context}
-use Rattle.run_eval.specs.Running.{calls_in, does_in, right_in, gen_head, generator_in, cells_in}
+use Rattle.run_eval.specs.Running.{calls_in, does_in, right_in, generator_in, cells_in}
 
 steps_items : {n : _} → (k : Row_of-CodeStep n) (rs : List Var) → steps_term k rs ≡ steps_before (items-the_row-CodeStep n k) (Giving rs)
 steps_items end_of-CodeStep rs = refl

@@ -1,5 +1,5 @@
 -- Loops over cells as the evaluator runs them: nothing is written into the heap before the last cell.
-use Rattle.std.specs.Prelude.{◌≡◌, ◌≤ℤ◌, pos, negsuc, ℕ, List, [], ◌∷◌, ℤ, Option, Some, None, if◌then◌else◌, option_map}
+use Rattle.std.specs.Prelude.{◌≡◌, ◌≤ℤ◌, pos, negsuc, List, [], ◌∷◌, ℤ, Option, Some, None, if◌then◌else◌, option_map}
 use Rattle.sac_base.specs.declared.base.Base.TheVariants.{Int}
 use Rattle.sac_base.specs.declared.form.Form.{Form}
 use Rattle.sac_base.specs.declared.grid.Grid1.{Grid1}

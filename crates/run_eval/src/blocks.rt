@@ -14,20 +14,23 @@ ghost use Rattle.sac_base.specs.WithLoops.{combined};
 ghost use Rattle.std.specs.Prelude.{◌≡◌, ◌++◌, ◌∷◌, [], None, OnOk, map, true, false, flat_map, fold};
 ghost use Rattle.with_loops.specs.Cells.{cells_from};
 ghost use Rattle.with_loops.specs.Plans.{plan_of};
+
 use crate::bindings::{bind_all, bind_index, bind_params, first_of, push_values, value_at};
-use crate::bounds::{all_bounds, joined_shape, frame_of};
+use crate::bounds::{all_bounds, frame_of, joined_shape};
 use crate::cells::{Background, begin, count_elements, finish, formed, join_cell, put_cell};
-use crate::folds::{Sum, finish_fold, add_cell, begin_fold, start};
+use crate::folds::{Sum, add_cell, begin_fold, finish_fold, start};
 use crate::holders::{holder, part_holder};
 use crate::levels::{condition, deeper};
 use crate::state::{Context, State};
 use core_ir::{CoreOp, PartedOp, Var};
-use counted_code::{CodeBlock, CodeFun, CodeGen, CodeLet, CodePart, CodeParted, CodeRight, CodeStep, CodeWith};
-use run_heap::{keep, read_array, release, fits};
+use counted_code::{
+    CodeBlock, CodeFun, CodeGen, CodeLet, CodePart, CodeParted, CodeRight, CodeStep, CodeWith,
+};
+use run_heap::{fits, keep, read_array, release};
 use run_plain::plain_value;
 use run_types::{all_have, choose};
 use run_values::RunValue;
-use sac_base::{Array, FaultKind, Form, Memory, Op, Shape, Site, Cell};
+use sac_base::{Array, Cell, FaultKind, Form, Memory, Op, Shape, Site};
 use with_loops::{Frame, IndexVector, Plan, Stop, fault, fold_plan, genarray_plan, modarray_plan};
 
 /// Runs the steps of a block in the scope that is open.

@@ -3,45 +3,42 @@ use Rattle.sac_base.specs.declared.fault.FaultKind.TheVariants.{F6}
 use Rattle.run_eval.proofs.PartJobs.{fold_misfits, fold_tells as part_fold_is, parts_tell as part_cells_are}
 use Rattle.run_eval.proofs.WithJobs.{with_stops, genarray_tells, modarray_tells, fold_tells as with_fold_tells}
 use Rattle.run_eval.proofs.WithTerms.{with_means, parted_means}
-use Rattle.std.proofs.Common.{rules, ◌≡◌, ◌+◌, ◌-◌, true, false, [], ◌∷◌, ◌++◌, Ok, Err, Some, ap, sym, ◌∙◌, subst, arith, map, drop, List, refl, ◌<◌, ◌≤◌, length, None, get_or, true≢false, Option}
-use Rattle.std.specs.Prelude.{if◌then◌else◌, ℤ, fold, flat_map, option_map, OnOk, is_some}
+use Rattle.std.proofs.Common.{rules, ◌≡◌, ◌+◌, ◌-◌, true, false, [], ◌∷◌, ◌++◌, Ok, Err, Some, ap, sym, ◌∙◌, subst, arith, map, drop, List, refl, ◌<◌, length, None, get_or, true≢false, Option}
+use Rattle.std.specs.Prelude.{fold, flat_map, option_map, is_some}
 use Rattle.std.proofs.lemmas.List.{drop_all, drop_more}
 use Rattle.sac_base.specs.Parts.{condition}
 use Rattle.sac_base.specs.Types.{all_have}
 use Rattle.counted_code.specs.declared.tree.CodeFun.{CodeFun}
-use Rattle.counted_code.specs.declared.tree.CodeStep.{CodeStep, size-CodeStep}
+use Rattle.counted_code.specs.declared.tree.CodeStep.{size-CodeStep}
 use Rattle.counted_code.specs.declared.tree.CodeStep.TheVariants as step
 use Rattle.counted_code.specs.Machine.{bind_value, bind_values, first_of, first_value, repeat_does, turns_do, no_values, Values, with_index_value, reads, bounds_of, one_value}
 use Rattle.counted_code.specs.Outcome.{function_does, results_do}
-use Rattle.counted_code.specs.Values.{Value, Ended, give, go_on, read, release, Heap, Small, apart, then_go}
+use Rattle.counted_code.specs.Values.{Value, Ended, give, go_on, read, Small, apart, then_go}
 use Rattle.counted_code.specs.View.{code_term, code_right_term, code_fun_term, code_with_term, code_parted_term}
-use Rattle.with_loops.specs.declared.stop.Stop.{Stop}
 use Rattle.run_values.specs.Scopes.{current, outer}
 use Rattle.run_values.specs.Shown.{value_of}
 use Rattle.run_eval.specs.declared.state.State.{State}
-use Rattle.run_eval.specs.Running.{calls_in, does_in, right_in, turn_in, test_in, truth_of, Told, ToldStop, ToldSteps, IsValue, IsFirst, IsOnly, Appends, SameScopes, SameOuter, EndsScope, Reaches, SaysTruth, vars_of, IsAt, array_job, fold_job, fold_parts_job, formed, gen_head, part_head, parts_job, cells_in}
+use Rattle.run_eval.specs.Running.{calls_in, does_in, right_in, turn_in, test_in, truth_of, Told, ToldStop, ToldSteps, IsValue, IsFirst, IsOnly, Appends, SameScopes, SameOuter, EndsScope, Reaches, SaysTruth, vars_of, array_job, fold_job, fold_parts_job, formed, gen_head, parts_job, cells_in}
 use Rattle.run_eval.proofs.Binding.{let_goes, let_stops, one_target, keep_goes, release_goes}
 use Rattle.run_eval.proofs.CallSteps.{none_chosen, call_runs, call_stops, function_at, results_fit, results_unfit, alone, no_place}
 use Rattle.run_eval.proofs.Measures.{falls, body_below, body_size, steps_size, gens_size, parts_size}
 use Rattle.run_plain.proofs.Rest.{plain_rest}
 use Rattle.run_plain.proofs.Rights.{right_told}
-use Rattle.run_eval.proofs.Sizes.{if_first, if_second, loop_blocks, with_below, parted_below, steps_below, step_below, let_below, right_below, gen_body, gens_below, part_body, parts_below}
+use Rattle.run_eval.proofs.Sizes.{if_first, if_second, loop_blocks, with_below, parted_below, steps_below, step_below, let_below, right_below, gens_below, parts_below}
 use Rattle.run_eval.proofs.Steps.{moved, given, tell, stop_then, raised, first_told, only_first, next_step, last_step, results_given, block_stops, on_ok, appended, handed, no_scopes, plain_scopes, plain_given, plain_failed}
 use Rattle.run_eval.proofs.Trees.{if_term, loop_term}
-use Rattle.run_eval.proofs.Turns.{says, condition_goes, condition_stops, test_ends, test_stops, turned_stops, turned_ends, turned_over, turned_goes, tested_stops, tested_turned}
+use Rattle.run_eval.proofs.Turns.{condition_goes, condition_stops, test_ends, test_stops, turned_stops, turned_ends, turned_over, turned_goes, tested_stops, tested_turned}
 use Rattle.run_eval.proofs.blocks.+run.Goals as goal
-use Rattle.core_ir.specs.Meaning.{cell_form, elements_of, operation}
+use Rattle.core_ir.specs.Meaning.{elements_of, operation}
 use Rattle.sac_base.specs.declared.base.Base.TheVariants.{Int}
-use Rattle.sac_base.specs.Arrays.{ArrayValue, scalar, size, vector}
-use Rattle.sac_base.specs.Grids.{members}
+use Rattle.sac_base.specs.Arrays.{scalar, vector}
 use Rattle.sac_base.specs.WithLoops.{combined, fits_form, genarray, modarray, fold_by}
-use Rattle.counted_code.specs.declared.tree.CodeGen.{CodeGen, size-CodeGen}
-use Rattle.counted_code.specs.declared.tree.CodePart.{CodePart, size-CodePart}
+use Rattle.counted_code.specs.declared.tree.CodeGen.{CodeGen}
 use Rattle.counted_code.specs.declared.tree.CodeParted.{out-CodeParted}
 use Rattle.counted_code.specs.declared.tree.CodeWith.{out-CodeWith}
 use Rattle.run_eval.specs.Loops.{IsPresent, array_of, cells_run, fold_target, held, part_held, gen_source, part_source, part_source_in, source_in, unreleased}
 use Rattle.counted_code.specs.Loops.{job_does, settled, loop_does, parted_job}
-use Rattle.with_loops.specs.Cells.{cell_from, cells_from}
+use Rattle.with_loops.specs.Cells.{cells_from}
 use Rattle.with_loops.specs.Plans.{plan_of}
 use Rattle.run_heap.specs.Targets.{target_of}
 use Rattle.run_eval.proofs.CellJobs.{fold_nothing, target_nothing}
@@ -1619,9 +1616,9 @@ run_with-returns-in_err-plan-in-Genarray-clause-told t c =
     let stop = c.in_err-plan-in-Genarray.field-0.0 in
     let is : c.from_residual-in_err-plan-in-Genarray.result ≡ Err stop = search rules in
     λ m at.
-          handed IsOnly c.from_residual-in_err-plan-in-Genarray.result stop s (right_in ctx (code_with_term w) a.site e m) is
-          (subst (ToldStop stop s) (sym (with_means ctx e w a.site m))
-          (with_stops ctx e m gs a.site bs (c.deref-in-Genarray.ensures.value ∙ c.in_ok-bounds.ensures m at.heap ∙ ap (map (λ (g : CodeGen). bounds_of (gen_head g) (reads m e))) c.deref.ensures.value) (out-CodeWith w).op (genarray c.in_ok-shape-in-Genarray.shape c.in_ok-default-in-Genarray.default a.site) (ap (λ o. operation o a.site (reads m e)) i.is ∙ (λ j. genarray ((ap (read m) (sym c.get.ensures) ∙ sym (c.in_ok-shape-in-Genarray.ensures m at.heap)) j) ((ap (read m) (sym c.get-in-Genarray.ensures) ∙ sym (c.in_ok-default-in-Genarray.ensures m at.heap)) j) a.site)) stop s at c.in_err-plan-in-Genarray.ensures.told))
+    handed IsOnly c.from_residual-in_err-plan-in-Genarray.result stop s (right_in ctx (code_with_term w) a.site e m) is
+    (subst (ToldStop stop s) (sym (with_means ctx e w a.site m))
+    (with_stops ctx e m gs a.site bs (c.deref-in-Genarray.ensures.value ∙ c.in_ok-bounds.ensures m at.heap ∙ ap (map (λ (g : CodeGen). bounds_of (gen_head g) (reads m e))) c.deref.ensures.value) (out-CodeWith w).op (genarray c.in_ok-shape-in-Genarray.shape c.in_ok-default-in-Genarray.default a.site) (ap (λ o. operation o a.site (reads m e)) i.is ∙ (λ j. genarray ((ap (read m) (sym c.get.ensures) ∙ sym (c.in_ok-shape-in-Genarray.ensures m at.heap)) j) ((ap (read m) (sym c.get-in-Genarray.ensures) ∙ sym (c.in_ok-default-in-Genarray.ensures m at.heap)) j) a.site)) stop s at c.in_err-plan-in-Genarray.ensures.told))
 
 pub run_with-returns-in-Genarray-clause-told : goal.run_with-returns-in-Genarray-clause-told
 run_with-returns-in-Genarray-clause-told t c =
@@ -1636,8 +1633,8 @@ run_with-returns-in-Genarray-clause-told t c =
     let st = c.run_array.new.state in
     let r = c.run_array.result in
     λ m at.
-          subst (Told IsOnly r st) (sym (with_means ctx e w a.site m))
-          (genarray_tells ctx e m gs a.site bs (c.deref-in-Genarray.ensures.value ∙ c.in_ok-bounds.ensures m at.heap ∙ ap (map (λ (g : CodeGen). bounds_of (gen_head g) (reads m e))) c.deref.ensures.value) (out-CodeWith w).op c.in_ok-shape-in-Genarray.shape c.in_ok-default-in-Genarray.default (plan_of c.in_ok-plan-in-Genarray.plan) r st (ap (λ o. operation o a.site (reads m e)) i.is ∙ (λ j. genarray ((ap (read m) (sym c.get.ensures) ∙ sym (c.in_ok-shape-in-Genarray.ensures m at.heap)) j) ((ap (read m) (sym c.get-in-Genarray.ensures) ∙ sym (c.in_ok-default-in-Genarray.ensures m at.heap)) j) a.site)) c.in_ok-plan-in-Genarray.ensures.told (subst (λ (gens : List CodeGen). Told IsValue r st (job_does None (array_job ctx e m gens (plan_of c.in_ok-plan-in-Genarray.plan) c.in_ok-default-in-Genarray.default false) m)) c.deref-in-Genarray-2.ensures.value (c.run_array.ensures.told m at)))
+    subst (Told IsOnly r st) (sym (with_means ctx e w a.site m))
+    (genarray_tells ctx e m gs a.site bs (c.deref-in-Genarray.ensures.value ∙ c.in_ok-bounds.ensures m at.heap ∙ ap (map (λ (g : CodeGen). bounds_of (gen_head g) (reads m e))) c.deref.ensures.value) (out-CodeWith w).op c.in_ok-shape-in-Genarray.shape c.in_ok-default-in-Genarray.default (plan_of c.in_ok-plan-in-Genarray.plan) r st (ap (λ o. operation o a.site (reads m e)) i.is ∙ (λ j. genarray ((ap (read m) (sym c.get.ensures) ∙ sym (c.in_ok-shape-in-Genarray.ensures m at.heap)) j) ((ap (read m) (sym c.get-in-Genarray.ensures) ∙ sym (c.in_ok-default-in-Genarray.ensures m at.heap)) j) a.site)) c.in_ok-plan-in-Genarray.ensures.told (subst (λ (gens : List CodeGen). Told IsValue r st (job_does None (array_job ctx e m gens (plan_of c.in_ok-plan-in-Genarray.plan) c.in_ok-default-in-Genarray.default false) m)) c.deref-in-Genarray-2.ensures.value (c.run_array.ensures.told m at)))
 
 pub run_with-returns-in_err-plan-in-Modarray-clause-told : goal.run_with-returns-in_err-plan-in-Modarray-clause-told
 run_with-returns-in_err-plan-in-Modarray-clause-told t c =
@@ -1652,9 +1649,9 @@ run_with-returns-in_err-plan-in-Modarray-clause-told t c =
     let stop = c.in_err-plan-in-Modarray.field-0.0 in
     let is : c.from_residual-in_err-plan-in-Modarray.result ≡ Err stop = search rules in
     λ m at.
-          handed IsOnly c.from_residual-in_err-plan-in-Modarray.result stop s (right_in ctx (code_with_term w) a.site e m) is
-          (subst (ToldStop stop s) (sym (with_means ctx e w a.site m))
-          (with_stops ctx e m gs a.site bs (c.deref-in-Modarray.ensures.value ∙ c.in_ok-bounds.ensures m at.heap ∙ ap (map (λ (g : CodeGen). bounds_of (gen_head g) (reads m e))) c.deref.ensures.value) (out-CodeWith w).op (modarray c.in_ok-old-in-Modarray.old a.site) (ap (λ o. operation o a.site (reads m e)) i.is ∙ (λ j. modarray ((ap (read m) (sym c.get-in-Modarray.ensures) ∙ sym (c.in_ok-old-in-Modarray.ensures m at.heap)) j) a.site)) stop s at c.in_err-plan-in-Modarray.ensures.told))
+    handed IsOnly c.from_residual-in_err-plan-in-Modarray.result stop s (right_in ctx (code_with_term w) a.site e m) is
+    (subst (ToldStop stop s) (sym (with_means ctx e w a.site m))
+    (with_stops ctx e m gs a.site bs (c.deref-in-Modarray.ensures.value ∙ c.in_ok-bounds.ensures m at.heap ∙ ap (map (λ (g : CodeGen). bounds_of (gen_head g) (reads m e))) c.deref.ensures.value) (out-CodeWith w).op (modarray c.in_ok-old-in-Modarray.old a.site) (ap (λ o. operation o a.site (reads m e)) i.is ∙ (λ j. modarray ((ap (read m) (sym c.get-in-Modarray.ensures) ∙ sym (c.in_ok-old-in-Modarray.ensures m at.heap)) j) a.site)) stop s at c.in_err-plan-in-Modarray.ensures.told))
 
 pub run_with-returns-in-Modarray-clause-told : goal.run_with-returns-in-Modarray-clause-told
 run_with-returns-in-Modarray-clause-told t c =
@@ -1669,8 +1666,8 @@ run_with-returns-in-Modarray-clause-told t c =
     let st = c.run_array-in-Modarray.new.state in
     let r = c.run_array-in-Modarray.result in
     λ m at.
-          subst (Told IsOnly r st) (sym (with_means ctx e w a.site m))
-          (modarray_tells ctx e m gs a.site bs (c.deref-in-Modarray.ensures.value ∙ c.in_ok-bounds.ensures m at.heap ∙ ap (map (λ (g : CodeGen). bounds_of (gen_head g) (reads m e))) c.deref.ensures.value) (out-CodeWith w).op c.in_ok-old-in-Modarray.old (plan_of c.in_ok-plan-in-Modarray.plan) r st (ap (λ o. operation o a.site (reads m e)) i.is ∙ (λ j. modarray ((ap (read m) (sym c.get-in-Modarray.ensures) ∙ sym (c.in_ok-old-in-Modarray.ensures m at.heap)) j) a.site)) c.in_ok-plan-in-Modarray.ensures.told (subst (λ (gens : List CodeGen). Told IsValue r st (job_does None (array_job ctx e m gens (plan_of c.in_ok-plan-in-Modarray.plan) c.in_ok-old-in-Modarray.old true) m)) c.deref-in-Modarray-2.ensures.value (c.run_array-in-Modarray.ensures.told m at)))
+    subst (Told IsOnly r st) (sym (with_means ctx e w a.site m))
+    (modarray_tells ctx e m gs a.site bs (c.deref-in-Modarray.ensures.value ∙ c.in_ok-bounds.ensures m at.heap ∙ ap (map (λ (g : CodeGen). bounds_of (gen_head g) (reads m e))) c.deref.ensures.value) (out-CodeWith w).op c.in_ok-old-in-Modarray.old (plan_of c.in_ok-plan-in-Modarray.plan) r st (ap (λ o. operation o a.site (reads m e)) i.is ∙ (λ j. modarray ((ap (read m) (sym c.get-in-Modarray.ensures) ∙ sym (c.in_ok-old-in-Modarray.ensures m at.heap)) j) a.site)) c.in_ok-plan-in-Modarray.ensures.told (subst (λ (gens : List CodeGen). Told IsValue r st (job_does None (array_job ctx e m gens (plan_of c.in_ok-plan-in-Modarray.plan) c.in_ok-old-in-Modarray.old true) m)) c.deref-in-Modarray-2.ensures.value (c.run_array-in-Modarray.ensures.told m at)))
 
 pub run_with-returns-in_err-plan-in-Fold-clause-told : goal.run_with-returns-in_err-plan-in-Fold-clause-told
 run_with-returns-in_err-plan-in-Fold-clause-told t c =
@@ -1685,9 +1682,9 @@ run_with-returns-in_err-plan-in-Fold-clause-told t c =
     let stop = c.in_err-plan-in-Fold.field-0.0 in
     let is : c.from_residual-in_err-plan-in-Fold.result ≡ Err stop = search rules in
     λ m at.
-          handed IsOnly c.from_residual-in_err-plan-in-Fold.result stop s (right_in ctx (code_with_term w) a.site e m) is
-          (subst (ToldStop stop s) (sym (with_means ctx e w a.site m))
-          (with_stops ctx e m gs a.site bs (c.deref-in-Fold.ensures.value ∙ c.in_ok-bounds.ensures m at.heap ∙ ap (map (λ (g : CodeGen). bounds_of (gen_head g) (reads m e))) c.deref.ensures.value) (out-CodeWith w).op (fold_by i.op c.in_ok-neutral-in-Fold.neutral a.site) (ap (λ o. operation o a.site (reads m e)) i.is ∙ (λ j. fold_by i.op ((ap (read m) (sym c.get-in-Fold.ensures) ∙ sym (c.in_ok-neutral-in-Fold.ensures m at.heap)) j) a.site)) stop s at c.in_err-plan-in-Fold.ensures))
+    handed IsOnly c.from_residual-in_err-plan-in-Fold.result stop s (right_in ctx (code_with_term w) a.site e m) is
+    (subst (ToldStop stop s) (sym (with_means ctx e w a.site m))
+    (with_stops ctx e m gs a.site bs (c.deref-in-Fold.ensures.value ∙ c.in_ok-bounds.ensures m at.heap ∙ ap (map (λ (g : CodeGen). bounds_of (gen_head g) (reads m e))) c.deref.ensures.value) (out-CodeWith w).op (fold_by i.op c.in_ok-neutral-in-Fold.neutral a.site) (ap (λ o. operation o a.site (reads m e)) i.is ∙ (λ j. fold_by i.op ((ap (read m) (sym c.get-in-Fold.ensures) ∙ sym (c.in_ok-neutral-in-Fold.ensures m at.heap)) j) a.site)) stop s at c.in_err-plan-in-Fold.ensures))
 
 pub run_with-returns-clause-told : goal.run_with-returns-clause-told
 run_with-returns-clause-told t c =
@@ -1702,8 +1699,8 @@ run_with-returns-clause-told t c =
     let st = c.run_fold.new.state in
     let r = c.run_fold.result in
     λ m at.
-          subst (Told IsOnly r st) (sym (with_means ctx e w a.site m))
-          (with_fold_tells ctx e m gs a.site bs (c.deref-in-Fold.ensures.value ∙ c.in_ok-bounds.ensures m at.heap ∙ ap (map (λ (g : CodeGen). bounds_of (gen_head g) (reads m e))) c.deref.ensures.value) (out-CodeWith w).op i.op c.in_ok-neutral-in-Fold.neutral (plan_of c.in_ok-plan-in-Fold.plan) r st (ap (λ o. operation o a.site (reads m e)) i.is ∙ (λ j. fold_by i.op ((ap (read m) (sym c.get-in-Fold.ensures) ∙ sym (c.in_ok-neutral-in-Fold.ensures m at.heap)) j) a.site)) c.in_ok-plan-in-Fold.ensures (subst (λ (gens : List CodeGen). Told IsValue r st (job_does None (fold_job ctx e m gens (plan_of c.in_ok-plan-in-Fold.plan) i.op c.in_ok-neutral-in-Fold.neutral) m)) c.deref-in-Fold-2.ensures.value (c.run_fold.ensures.told m at)))
+    subst (Told IsOnly r st) (sym (with_means ctx e w a.site m))
+    (with_fold_tells ctx e m gs a.site bs (c.deref-in-Fold.ensures.value ∙ c.in_ok-bounds.ensures m at.heap ∙ ap (map (λ (g : CodeGen). bounds_of (gen_head g) (reads m e))) c.deref.ensures.value) (out-CodeWith w).op i.op c.in_ok-neutral-in-Fold.neutral (plan_of c.in_ok-plan-in-Fold.plan) r st (ap (λ o. operation o a.site (reads m e)) i.is ∙ (λ j. fold_by i.op ((ap (read m) (sym c.get-in-Fold.ensures) ∙ sym (c.in_ok-neutral-in-Fold.ensures m at.heap)) j) a.site)) c.in_ok-plan-in-Fold.ensures (subst (λ (gens : List CodeGen). Told IsValue r st (job_does None (fold_job ctx e m gens (plan_of c.in_ok-plan-in-Fold.plan) i.op c.in_ok-neutral-in-Fold.neutral) m)) c.deref-in-Fold-2.ensures.value (c.run_fold.ensures.told m at)))
 
 -- an option that has nothing
 no_mark : {A : Type 0} (o : Option A) → is_some o ≡ false → o ≡ None
@@ -1720,11 +1717,11 @@ run_parted-returns-then-not-fits-clause-told t c =
     let i = c.in-Fold in
     let unmarked = sym c.is_some.ensures ∙ c.if-is_some.false in
     λ m at.
-        let meant = parted_means ctx e a.parted.now a.site m ∙ (λ j. one_value (loop_does (λ k. parted_job p.frame p.base p.cell p.op (map (cells_in ctx e) p.parts.items) a.site (reads k e)) (option_map e (no_mark p.reuse unmarked j))) m) in
-        let misfits = sym (c.fits.ensures m ∙ (λ j. fits_form (record { base = p.base; shape = c.copy.ensures j }) (read m (c.get-neutral.ensures j)))) ∙ c.if-not-fits.true in
-        subst (λ stop. ToldStop stop s (right_in ctx (code_parted_term a.parted.now) a.site e m)) (sym c.fault.ensures)
-        (subst (ToldStop (Faulted (record { kind = F6; site = a.site })) s) (sym meant)
-        (fold_misfits ctx e m p.frame p.base p.cell p.parts.items a.site p.op i.op i.neutral i.is s at misfits))
+    let meant = parted_means ctx e a.parted.now a.site m ∙ (λ j. one_value (loop_does (λ k. parted_job p.frame p.base p.cell p.op (map (cells_in ctx e) p.parts.items) a.site (reads k e)) (option_map e (no_mark p.reuse unmarked j))) m) in
+    let misfits = sym (c.fits.ensures m ∙ (λ j. fits_form (record { base = p.base; shape = c.copy.ensures j }) (read m (c.get-neutral.ensures j)))) ∙ c.if-not-fits.true in
+    subst (λ stop. ToldStop stop s (right_in ctx (code_parted_term a.parted.now) a.site e m)) (sym c.fault.ensures)
+    (subst (ToldStop (Faulted (record { kind = F6; site = a.site })) s) (sym meant)
+    (fold_misfits ctx e m p.frame p.base p.cell p.parts.items a.site p.op i.op i.neutral i.is s at misfits))
 
 pub run_parted-returns-in-Fold-clause-told : goal.run_parted-returns-in-Fold-clause-told
 run_parted-returns-in-Fold-clause-told t c =
@@ -1738,11 +1735,11 @@ run_parted-returns-in-Fold-clause-told t c =
     let r = c.fold_parts.result in
     let unmarked = sym c.is_some.ensures ∙ c.if-is_some.false in
     λ m at.
-        let meant = parted_means ctx e a.parted.now a.site m ∙ (λ j. one_value (loop_does (λ k. parted_job p.frame p.base p.cell p.op (map (cells_in ctx e) p.parts.items) a.site (reads k e)) (option_map e (no_mark p.reuse unmarked j))) m) in
-        let fits = sym (c.fits.ensures m ∙ (λ j. fits_form (record { base = p.base; shape = c.copy.ensures j }) (read m (c.get-neutral.ensures j)))) ∙ c.if-not-fits.false in
-        subst (Told IsOnly r st) (sym meant)
-        (part_fold_is ctx e m p.frame p.base p.cell p.parts.items a.site p.op i.op i.neutral i.is c.in_ok-frame.frame (record { base = p.base; shape = c.copy.result }) c.in_ok-neutral-in-Fold.neutral c.deref.result.now r st
-        c.in_ok-frame.ensures (λ j. record { base = p.base; shape = c.copy.ensures j }) (c.in_ok-neutral-in-Fold.ensures m at.heap ∙ ap (read m) c.get-neutral.ensures) c.deref.ensures.value fits (c.fold_parts.ensures.told m at))
+    let meant = parted_means ctx e a.parted.now a.site m ∙ (λ j. one_value (loop_does (λ k. parted_job p.frame p.base p.cell p.op (map (cells_in ctx e) p.parts.items) a.site (reads k e)) (option_map e (no_mark p.reuse unmarked j))) m) in
+    let fits = sym (c.fits.ensures m ∙ (λ j. fits_form (record { base = p.base; shape = c.copy.ensures j }) (read m (c.get-neutral.ensures j)))) ∙ c.if-not-fits.false in
+    subst (Told IsOnly r st) (sym meant)
+    (part_fold_is ctx e m p.frame p.base p.cell p.parts.items a.site p.op i.op i.neutral i.is c.in_ok-frame.frame (record { base = p.base; shape = c.copy.result }) c.in_ok-neutral-in-Fold.neutral c.deref.result.now r st
+    c.in_ok-frame.ensures (λ j. record { base = p.base; shape = c.copy.ensures j }) (c.in_ok-neutral-in-Fold.ensures m at.heap ∙ ap (read m) c.get-neutral.ensures) c.deref.ensures.value fits (c.fold_parts.ensures.told m at))
 
 pub run_parted-returns : goal.run_parted-returns
 run_parted-returns t c =

@@ -1,9 +1,8 @@
-use Rattle.std.proofs.Common.{◌≡◌, ◌+◌, ◌*◌, max, map, drop, ◌++◌, true}
+use Rattle.std.proofs.Common.{◌+◌, ◌*◌, max, map, drop}
 use Rattle.counted_code.specs.declared.tree.CodeBlock.{size-CodeBlock}
 use Rattle.counted_code.specs.declared.tree.CodeLet.{size-CodeLet}
 use Rattle.counted_code.specs.declared.tree.CodeRight.{size-CodeRight}
 use Rattle.counted_code.specs.declared.tree.CodeStep.{size-CodeStep}
-use Rattle.counted_code.specs.Machine.{repeat_does}
 use Rattle.counted_code.specs.Values.{Heap}
 use Rattle.counted_code.specs.View.{code_term}
 use Rattle.run_values.specs.Scopes.{current}

@@ -1,4 +1,4 @@
-use Rattle.std.proofs.Common.{All, refl, subst, sym, ◌∙◌, take_all, arith}
+use Rattle.std.proofs.Common.{All, refl, subst, ◌∙◌, take_all, arith}
 use Rattle.std.proofs.lemmas.List.Elements.{All-more}
 use Rattle.run_eval.specs.Loops.{IsWordAxis}
 use Rattle.run_eval.proofs.bounds.are_words.Goals as goal

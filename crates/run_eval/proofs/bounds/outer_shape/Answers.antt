@@ -1,4 +1,4 @@
-use Rattle.std.proofs.Common.{subst, sym, ap, ◌∙◌, ◌++◌, ◌∷◌, [], map, pos, take_all, arith, rules, FitsSigned, w32, to_z, of_z}
+use Rattle.std.proofs.Common.{ap, ◌∙◌, ◌++◌, ◌∷◌, [], map, pos, take_all, arith, rules, FitsSigned, w32}
 use Rattle.std.proofs.lemmas.Int.{to_z-of_z}
 use Rattle.core_ir.specs.Meaning.{extents}
 use Rattle.run_values.specs.Numbers.{numbers}

@@ -1,13 +1,6 @@
-use Rattle.std.proofs.Common.{◌≡◌, ◌<◌, ◌≤◌, length, min, get_or, false, sym, ap, ◌∙◌, arith}
+use Rattle.std.proofs.Common.{◌≡◌, ◌<◌, length, get_or, false, sym, ap, ◌∙◌, arith}
 use Rattle.sac_base.specs.WithLoops.{holds}
 use Rattle.run_eval.proofs.WithHolders.{held_on, held_past}
-use Rattle.run_eval.proofs.CellLoops.{fold_tells}
-use Rattle.run_eval.proofs.CellPhases.{count_stands}
-use Rattle.run_eval.proofs.CellScopes.{cell_tells}
-use Rattle.run_eval.proofs.PartFrames.{words_of}
-use Rattle.run_eval.proofs.PartJobs.{fold_misfits}
-use Rattle.run_eval.proofs.WithJobs.{genarray_tells}
-use Rattle.run_eval.proofs.WithTerms.{with_means}
 use Rattle.run_eval.proofs.holders.holder.Goals as goal
 
 pub loop-k-preserved : goal.loop-k-preserved
