@@ -1,6 +1,7 @@
 -- Cells of a loop that leave the heap as it was, and what the loop spends.
 use Rattle.std.proofs.Common.{◌≡◌, ℕ, zero, suc, ◌+◌, ◌≤◌, Bool, true, false, cond, List, [], ◌∷◌, ◌++◌, map, length, ℤ, pos, Option, Some, None, Ok, Err, refl, ap, ◌∙◌, sym, subst, slice_index_or, arith}
 use Rattle.std.specs.Prelude.{if◌then◌else◌, ◌||◌, not, replicate}
+use Rattle.std.proofs.lemmas.List.{append-nil}
 use Rattle.sac_base.specs.declared.fault.FaultKind.TheVariants.{F6}
 use Rattle.sac_base.specs.declared.form.Form.{Form}
 use Rattle.sac_base.specs.declared.site.Site.{Site}
@@ -19,7 +20,7 @@ use Rattle.counted_laws.proofs.Plains.{taken_owns, taken_same}
 use Rattle.counted_laws.proofs.Cells.{formed, with_new}
 use Rattle.phase_laws.specs.Alone.{Spent, Unchanged, Leaves, IsNew}
 use Rattle.phase_laws.specs.Spending.{Spending, total, cells_spend}
-use Rattle.phase_laws.proofs.Spent.{append_nil, release_spends}
+use Rattle.phase_laws.proofs.Spent.{release_spends}
 
 sums : (x y z m n : ℕ) → y ≡ x + m → z ≡ y + n → z ≡ x + (m + n)
 sums x y z m n s t = omega (arith, s, t)
@@ -151,28 +152,28 @@ module _ (holding : ℕ → ℕ) (h : Heap) (form : Form) (source : List ℤ →
 -- ---- loops
 
 -- what was spent before the first cell
-abbrev Begun : ℕ → List ℕ → Heap → Heap → Type 0
+abbrev pub Begun : ℕ → List ℕ → Heap → Heap → Type 0
 Begun n phases h k = (k.taken ≡ h.taken + n) × (k.reused ≡ h.reused) × (k.phases ≡ h.phases ++ phases)
 
-begins : (phase : Bool) (n : ℕ) (h : Heap) → Begun 0 (cond phase (n ∷ []) []) h (count_phase phase n h)
+pub begins : (phase : Bool) (n : ℕ) (h : Heap) → Begun 0 (cond phase (n ∷ []) []) h (count_phase phase n h)
 begins true n h = (omega arith, refl, refl)
-begins false n h = (omega arith, refl, sym (append_nil h.phases))
+begins false n h = (omega arith, refl, sym (append-nil h.phases))
 
-phase_owns : (phase : Bool) (n : ℕ) (h : Heap) (others : ℕ → ℕ) → Owns h [] others → Owns (count_phase phase n h) [] others
+pub phase_owns : (phase : Bool) (n : ℕ) (h : Heap) (others : ℕ → ℕ) → Owns h [] others → Owns (count_phase phase n h) [] others
 phase_owns false n h others owns = owns
 phase_owns true n h others owns = owns
 
-phase_same : (phase : Bool) (n : ℕ) (h : Heap) (others : ℕ → ℕ) → SameCells others h (count_phase phase n h)
+pub phase_same : (phase : Bool) (n : ℕ) (h : Heap) (others : ℕ → ℕ) → SameCells others h (count_phase phase n h)
 phase_same false n h others b le = refl
 phase_same true n h others b le = refl
 
-inside_spends : (holding : ℕ → ℕ) (m n : ℕ) (phases : List ℕ) (h k : Heap) (result : List (Option ArrayValue) → ArrayValue) (e : Ended (List (Option ArrayValue))) (r : Ends (List (Option ArrayValue))) → Begun m phases h k → Leaves holding n k e r → Spent (record { taken = m + n; phases = phases }) h (go_on (go_on e (λ found l. Done (Small (result found)) l)) (λ v. give (v ∷ [])))
+pub inside_spends : (holding : ℕ → ℕ) (m n : ℕ) (phases : List ℕ) (h k : Heap) (result : List (Option ArrayValue) → ArrayValue) (e : Ended (List (Option ArrayValue))) (r : Ends (List (Option ArrayValue))) → Begun m phases h k → Leaves holding n k e r → Spent (record { taken = m + n; phases = phases }) h (go_on (go_on e (λ found l. Done (Small (result found)) l)) (λ v. give (v ∷ [])))
 inside_spends holding m n phases h k result (Done found l) (Ok cells) b p = (sums h.taken k.taken l.taken m n b.0 p.1.taken, p.1.reused ∙ b.1, p.1.phases ∙ b.2)
 inside_spends holding m n phases h k result (Failed f q) (Err g) b p = p.1 ∙ b.2
 inside_spends holding m n phases h k result (Done found l) (Err g) b p = elim p [ ]
 inside_spends holding m n phases h k result (Failed f q) (Ok cells) b p = elim p [ ]
 
-fresh_spends : (holding : ℕ → ℕ) (m n target : ℕ) (phases : List ℕ) (h k : Heap) (result : List (Option ArrayValue) → ArrayValue) (e : Ended (List (Option ArrayValue))) (r : Ends (List (Option ArrayValue))) → Begun m phases h k → Leaves holding n k e r → Spent (record { taken = m + n; phases = phases }) h (go_on (go_on e (λ found l. Done (Ref target (result found).base (result found).shape) (with_cells l target (result found).cells))) (λ v. give (v ∷ [])))
+pub fresh_spends : (holding : ℕ → ℕ) (m n target : ℕ) (phases : List ℕ) (h k : Heap) (result : List (Option ArrayValue) → ArrayValue) (e : Ended (List (Option ArrayValue))) (r : Ends (List (Option ArrayValue))) → Begun m phases h k → Leaves holding n k e r → Spent (record { taken = m + n; phases = phases }) h (go_on (go_on e (λ found l. Done (Ref target (result found).base (result found).shape) (with_cells l target (result found).cells))) (λ v. give (v ∷ [])))
 fresh_spends holding m n target phases h k result (Done found l) (Ok cells) b p = (sums h.taken k.taken l.taken m n b.0 p.1.taken, p.1.reused ∙ b.1, p.1.phases ∙ b.2)
 fresh_spends holding m n target phases h k result (Failed f q) (Err g) b p = p.1 ∙ b.2
 fresh_spends holding m n target phases h k result (Done found l) (Err g) b p = elim p [ ]

@@ -1,6 +1,7 @@
 -- Worked examples, computed: what two small programs spend, and what they cost on the machine.
 use Rattle.std.proofs.Common.{◌≡◌, ℕ, true, false, List, [], ◌∷◌, refl, ℤ, pos, rules}
 use Rattle.std.specs.Prelude.{◌≤ℤ◌, Some, None}
+use Rattle.std.specs.Int.{int_wrap}
 use Rattle.sac_base.specs.declared.base.Base.TheVariants.{Int}
 use Rattle.sac_base.specs.declared.fault.Caps.{Caps}
 use Rattle.sac_base.specs.declared.grid.Grid1.{Grid1}
@@ -16,6 +17,8 @@ use Rattle.core_ir.specs.declared.tree.Var.{Var}
 use Rattle.core_ir.specs.Terms.{PlainTerm, GenHead}
 use Rattle.counted_code.specs.Outcome.{whole_run, cost_of}
 use Rattle.counted_code.specs.Terms.{CodeTerm, CodeProgram, Giving, Binding, Releasing, PlainCode, WithCode, PartedCode, NoCodeGens, GenCode, NoCodeParts, PartCode}
+use Rattle.counted_code.specs.Values.{empty_heap, Done}
+use Rattle.phase_laws.specs.Phased.{phased_run}
 use Rattle.phase_laws.specs.Spending.{whole_spends}
 
 abbrev here : Site
@@ -67,6 +70,10 @@ nine_copied name = refl
 nine_copied_cost : (name : Name) → cost_of (whole_run (copied (pos 9) name) [] caps) ≡ record { taken = 4; given = 4; reused = 0; phases = 1 }
 nine_copied_cost name = refl
 
+-- in chunks of four positions, of which the last has one
+nine_in_chunks : (name : Name) → cost_of (phased_run (Some (λ n. 4 ∷ 4 ∷ [])) (copied (pos 9) name) [] caps) ≡ record { taken = 4; given = 4; reused = 0; phases = 1 }
+nine_in_chunks name = refl
+
 -- one of four elements is small, and is no phase
 four_copied : (name : Name) → whole_spends (copied (pos 4) name) [] caps ≡ record { taken = 3; phases = [] }
 four_copied name = refl
@@ -92,3 +99,7 @@ summed_spends name = refl
 summed_cost : (name : Name) → cost_of (whole_run (summed name) [] caps) ≡ record { taken = 3; given = 3; reused = 0; phases = 1 }
 unfolding has_index within
 summed_cost name = refl
+
+summed_in_chunks : (name : Name) → phased_run (Some (λ n. 2 ∷ [])) (summed name) [] caps ≡ Done (scalar Int (pos 6) ∷ []) (record empty_heap { taken = 3; given = 3; phases = 3 ∷ [] })
+unfolding has_index within int_wrap
+summed_in_chunks name = refl

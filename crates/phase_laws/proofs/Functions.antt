@@ -1,6 +1,7 @@
 -- Functions spend on a heap what they spend on arrays, at every depth.
 use Rattle.std.proofs.Common.{◌≡◌, ℕ, zero, suc, Bool, true, false, List, [], ◌∷◌, map, length, Option, Some, None, refl, ap, ◌∙◌, sym, subst}
 use Rattle.std.specs.Prelude.{if◌then◌else◌, slice_get, option_map}
+use Rattle.std.proofs.lemmas.List.{append-nil}
 use Rattle.sac_base.specs.declared.fault.FaultKind.TheVariants.{F7}
 use Rattle.sac_base.specs.declared.site.Site.{Site}
 use Rattle.sac_base.specs.declared.types.ArrayType.{ArrayType}
@@ -21,7 +22,6 @@ use Rattle.counted_laws.proofs.Functions.{RunsMatch, slice_map, map_length, some
 use Rattle.counted_laws.proofs.Instances.{is_chosen, IsChosen}
 use Rattle.phase_laws.specs.Alone.{Spent, CallsSpend, Context}
 use Rattle.phase_laws.specs.Spending.{Spending, RunSpending, body_spends, run_spends, chosen_spends, calls_spend, inline_spends, deeper_spends, calls_spend_at}
-use Rattle.phase_laws.proofs.Spent.{append_nil}
 use Rattle.phase_laws.proofs.Whole.{block_spends}
 
 none_nil : (xs : List Var) → NoneIn xs []
@@ -64,14 +64,14 @@ module _ (code : CodeProgram) (counted : IsWellCounted code) (unmarked : IsUnmar
       decided place f is size false = outers place f is vs s h others size owns
 
       taken : (place : ℕ) → IsChosen core g (map (read h) vs) place → (o : Option CodeFunTerm) → slice_get code.functions place ≡ o → Spent (run_spends outer_spends inner_spends place o (map (read h) vs)) h (run_does outer inner place o vs s h)
-      taken place i None is = sym (append_nil h.phases)
+      taken place i None is = sym (append-nil h.phases)
       taken place i (Some f) is =
           let same : core_of_fun f ≡ i.function = some_same (sym (ap (option_map core_of_fun) is) ∙ sym (slice_map code.functions place) ∙ i.there) in
           let size = sym (map_length (read h) vs) ∙ i.params ∙ ap (λ (t : FunTerm). length (param_types t)) (sym same) ∙ map_length (λ (p : Var × ArrayType). p.1) f.params ∙ sym (map_length (λ (p : Var × ArrayType). p.0) f.params) in
           decided place f is size f.is_inline
 
       go : (o : Option ℕ) → chosen core g (map (read h) vs) ≡ o → Spent (chosen_spends code outer_spends inner_spends o (map (read h) vs)) h (chosen_does code outer inner o vs s h)
-      go None is = sym (append_nil h.phases)
+      go None is = sym (append-nil h.phases)
       go (Some place) is = taken place (is_chosen core counted.core g (map (read h) vs) place is) (slice_get code.functions place) refl
 
   -- a function by its place
@@ -82,7 +82,7 @@ module _ (code : CodeProgram) (counted : IsWellCounted code) (unmarked : IsUnmar
 
   module _ (outer : DoesRun) (outer_value : RunMeaning) (outer_spends : RunSpending) (outers_match : RunsMatch code counted unmarked turns outer outer_value) (outers_spend : RunsSpend outer outer_spends) where
     -- the body of an inline function, where calls of those may nest so deep
-    abbrev inside : (nest : ℕ) → RunsSpend (inline_does code turns outer nest) (inline_spends code turns outer_value outer_spends nest) → Context
+    abbrev pub inside : (nest : ℕ) → RunsSpend (inline_does code turns outer nest) (inline_spends code turns outer_value outer_spends nest) → Context
     inside nest inners = record {
       results_of = group_results core;
       does_calls = call_does code outer (inline_does code turns outer nest);
@@ -94,7 +94,7 @@ module _ (code : CodeProgram) (counted : IsWellCounted code) (unmarked : IsUnmar
     }
 
     pub inline_spent : (nest : ℕ) → RunsSpend (inline_does code turns outer nest) (inline_spends code turns outer_value outer_spends nest)
-    inline_spent zero place f is vs s h others size owns = sym (append_nil h.phases)
+    inline_spent zero place f is vs s h others size owns = sym (append-nil h.phases)
     inline_spent (suc nest) place f is vs s h others size owns = at_spent (inside nest (inline_spent nest)) refl place f is vs s h others size owns
 
     pub level_spent : (nest : ℕ) → CallsSpend (call_does code outer (inline_does code turns outer nest)) (calls_spend code outer_spends (inline_spends code turns outer_value outer_spends nest))
@@ -113,7 +113,7 @@ module _ (code : CodeProgram) (counted : IsWellCounted code) (unmarked : IsUnmar
   }
 
   pub deeper_spent : (left : ℕ) → RunsSpend (deeper_does code turns left) (deeper_spends code turns left)
-  deeper_spent zero place f is vs s h others size owns = sym (append_nil h.phases)
+  deeper_spent zero place f is vs s h others size owns = sym (append-nil h.phases)
   deeper_spent (suc left) place f is vs s h others size owns = at_spent (below left (deeper_spent left)) refl place f is vs s h others size owns
 
   -- what main runs in

@@ -2,6 +2,7 @@
 use Rattle.std.proofs.Common.{◌≡◌, ℕ, suc, ◌≤◌, Bool, true, false, cond, eqb, List, [], ◌∷◌, ◌++◌, map, length, ℤ, Option, Some, None, Ok, Err, refl, ap, ◌∙◌, sym, subst, arith}
 use Rattle.std.specs.Prelude.{if◌then◌else◌, option_map, option_to_list, fold}
 use Rattle.std.proofs.lemmas.Bool.{eq-eqb}
+use Rattle.std.proofs.lemmas.List.{append-nil}
 use Rattle.sac_base.specs.declared.base.Base.{Base}
 use Rattle.sac_base.specs.declared.base.Base.TheVariants.{Int}
 use Rattle.sac_base.specs.declared.fault.FaultKind.TheVariants.{F6}
@@ -36,7 +37,7 @@ use Rattle.counted_laws.proofs.Plains.{owns_none}
 use Rattle.phase_laws.specs.Alone.{Context, Readable, Spent, Leaves}
 use Rattle.phase_laws.specs.Spending.{nothing, after, cells_spend, gens_take, parts_take}
 use Rattle.phase_laws.proofs.Cells.{unchanged_self, first_matches, cell_leaves, job_spends}
-use Rattle.phase_laws.proofs.Spent.{append_nil, first_spends}
+use Rattle.phase_laws.proofs.Spent.{first_spends}
 use Rattle.phase_laws.proofs.Steps.{Means, BlockSpends, RightSpends, spends_in, right_spends_in}
 
 -- ---- the values of an index
@@ -94,7 +95,7 @@ part_ready k e ρ holding live x index readable fresh =
     ((λ b. (let o = readable.owns.0 b in omega (arith, o))), readable.owns.1)
 
 -- what can be read in a heap can be read in one that keeps the cells, whatever is held besides
-readable_on : (h k : Heap) (e : Values) (ρ : Env) (others holding : ℕ → ℕ) (live : List Var) → AllBacked others e live → Shows h e ρ live → ((b : ℕ) → others b ≤ holding b) → Owns k [] holding → SameCells others h k → Readable k e ρ holding live
+pub readable_on : (h k : Heap) (e : Values) (ρ : Env) (others holding : ℕ → ℕ) (live : List Var) → AllBacked others e live → Shows h e ρ live → ((b : ℕ) → others b ≤ holding b) → Owns k [] holding → SameCells others h k → Readable k e ρ holding live
 readable_on h k e ρ others holding live backed shows fewer owns same = record {
   owns = owns;
   backed = all_backed_more e live others holding fewer backed;
@@ -114,22 +115,22 @@ all_back : (xs ys zs : List Var) → AllIn (xs ++ ys) zs → AllIn ys zs
 all_back [] ys zs u = u
 all_back (x ∷ xs) ys zs u = all_back xs ys zs u.1
 
-same_length : {xs ys : List Var} → Reordered xs ys → length xs ≡ length ys
+pub same_length : {xs ys : List Var} → Reordered xs ys → length xs ≡ length ys
 same_length none = refl
 same_length (stays p) = ap suc (same_length p)
 same_length swaps = refl
 same_length (through p q) = same_length p ∙ same_length q
 
-no_elements : (xs : List Var) → length xs ≡ 0 → xs ≡ []
+pub no_elements : (xs : List Var) → length xs ≡ 0 → xs ≡ []
 no_elements [] p = refl
 no_elements (x ∷ xs) p = elim (zero_not_suc (sym p)) [ ]
 
 -- ---- jobs
 
-abbrev job_of : List CodeGenerator → Operation → Plan → Job
+abbrev pub job_of : List CodeGenerator → Operation → Plan → Job
 job_of cgs o p = record { form = p.form; shape = p.shape; folds = is_fold o; indices = p.indices; source = holder cgs p.ranges; result = finish o p }
 
-abbrev parted_of : List Grid1 → Base → List ℕ → PartedOp → List CodeCells → Env → Job
+abbrev pub parted_of : List Grid1 → Base → List ℕ → PartedOp → List CodeCells → Env → Job
 parted_of f b c op ps e = record { form = record { base = b; shape = c }; shape = parted_shape f c op; folds = parted_folds op; indices = members f; source = part_holder ps; result = made_of f b c op e }
 
 -- that of a fold, by its neutral value
@@ -149,22 +150,22 @@ module _ (c : Context) where
   PartsSpend NoCodeParts = Unit {0}
   PartsSpend (PartCode g b rest) = Means c b × BlockSpends c b × PartsSpend rest
 
-  abbrev takes_gens : CodeGensTerm → Env → List Range → List ℤ → ℕ
+  abbrev pub takes_gens : CodeGensTerm → Env → List Range → List ℤ → ℕ
   takes_gens gens ρ rs v = gens_take c.calls c.turns c.call_spends gens ρ rs v
 
-  abbrev takes_parts : CodePartsTerm → Env → List ℤ → ℕ
+  abbrev pub takes_parts : CodePartsTerm → Env → List ℤ → ℕ
   takes_parts parts ρ v = parts_take c.calls c.turns c.call_spends parts ρ v
 
-  abbrev code_gens : CodeGensTerm → Values → Heap → List CodeGenerator
+  abbrev pub code_gens : CodeGensTerm → Values → Heap → List CodeGenerator
   code_gens gens e h = code_generators c.does_calls c.turns gens e h
 
-  abbrev core_gens : CodeGensTerm → Env → List Generator
+  abbrev pub core_gens : CodeGensTerm → Env → List Generator
   core_gens gens ρ = generators c.calls c.turns (core_of_gens gens) ρ
 
-  abbrev code_parts : CodePartsTerm → Values → List CodeCells
+  abbrev pub code_parts : CodePartsTerm → Values → List CodeCells
   code_parts parts e = code_cells c.does_calls c.turns parts e
 
-  abbrev core_parts : CodePartsTerm → Env → List core.Cells
+  abbrev pub core_parts : CodePartsTerm → Env → List core.Cells
   core_parts parts ρ = cells c.calls c.turns (core_of_parts parts) ρ
 
   -- ---- cells
@@ -212,7 +213,7 @@ module _ (c : Context) where
         let w = all_back (option_to_list g.step) (option_to_list g.width) live q in
         λ i. record { lower = option_same g.lower a i; lower_closed = g.lower_closed; names = name_count g.names; upper = option_same g.upper b i; upper_closed = g.upper_closed; step = option_same g.step s i; width = option_same g.width w i; site = g.site }
 
-    all_bounds_same : (gens : CodeGensTerm) → CountedGens c.results_of live gens → map (λ (g : CodeGenerator). g.bounds) (code_gens gens e h) ≡ map (λ (g : Generator). g.bounds) (core_gens gens ρ)
+    pub all_bounds_same : (gens : CodeGensTerm) → CountedGens c.results_of live gens → map (λ (g : CodeGenerator). g.bounds) (code_gens gens e h) ≡ map (λ (g : Generator). g.bounds) (core_gens gens ρ)
     all_bounds_same NoCodeGens counted = refl
     all_bounds_same (GenCode g b rest) counted = λ i. bounds_same g counted.0 i ∷ all_bounds_same rest counted.3 i
 
@@ -225,12 +226,12 @@ module _ (c : Context) where
         (go (plan (map (λ (g : Generator). g.bounds) (core_gens gens ρ)) O)))
       where
         go : (P : Ends Plan) → Spent (after P (λ p. cells_spend (is_fold (operation op s ρ)) p.shape p.indices (takes_gens gens ρ p.ranges))) h (go_on (go_on (pure_end (and_then P (λ p. Ok (job_of (code_gens gens e h) (operation op s ρ) p))) h) (job_does None)) (λ v. give (v ∷ [])))
-        go (Err f) = sym (append_nil h.phases)
+        go (Err f) = sym (append-nil h.phases)
         go (Ok p) =
             job_spends (job_of (code_gens gens e h) (operation op s ρ) p) (loops.cell_at p.form (core_gens gens ρ) p.ranges) (takes_gens gens ρ p.ranges) h others owns
             (λ holding fewer v k o same. gens_leave gens blocks live counted h k e ρ holding (readable_on h k e ρ others holding live backed shows fewer o same) p.form p.ranges v)
 
-    job_same : (f : List Grid1) (b : Base) (shape : List ℕ) (op : PartedOp) (ps : List CodeCells) (s : Site) → AllIn (parted_uses op) live → parted_job f b shape op ps s (reads h e) ≡ parted_job f b shape op ps s ρ
+    pub job_same : (f : List Grid1) (b : Base) (shape : List ℕ) (op : PartedOp) (ps : List CodeCells) (s : Site) → AllIn (parted_uses op) live → parted_job f b shape op ps s (reads h e) ≡ parted_job f b shape op ps s ρ
     job_same f b shape parted.Genarray ps s u = refl
     job_same f b shape (parted.Modarray x) ps s u = refl
     job_same f b shape (parted.Fold op x) ps s u =
@@ -245,7 +246,7 @@ module _ (c : Context) where
         go true =
             job_spends (parted_of f b shape op (code_parts parts e) ρ) (cell_at (cell_form b shape) (core_parts parts ρ)) (takes_parts parts ρ) h others owns
             (λ holding fewer v k o same. parts_leave parts blocks live counted k e ρ holding (readable_on h k e ρ others holding live backed shows fewer o same) b shape v)
-        go false = sym (append_nil h.phases)
+        go false = sym (append-nil h.phases)
 
   -- ---- as right sides
 

@@ -1,6 +1,7 @@
 -- A whole run spends on the machine what it spends on arrays.
 use Rattle.std.proofs.Common.{◌≡◌, ℕ, suc, ◌+◌, Bool, true, false, cond, List, [], ◌∷◌, map, length, Option, Some, None, Ok, refl, ap, ◌∙◌, sym, subst, arith}
 use Rattle.std.specs.Prelude.{if◌then◌else◌, slice_get}
+use Rattle.std.proofs.lemmas.List.{append-nil}
 use Rattle.sac_base.specs.declared.fault.Caps.{Caps}
 use Rattle.sac_base.specs.declared.fault.FaultKind.TheVariants.{F7}
 use Rattle.sac_base.specs.declared.types.ArrayType.{ArrayType}
@@ -20,15 +21,15 @@ use Rattle.counted_laws.proofs.Plains.{taken_cells, taken_owns, taken_same}
 use Rattle.phase_laws.specs.Alone.{Spent, Context, SpentInAll}
 use Rattle.phase_laws.specs.Spending.{Spending, nothing, both, total, buffers_of, body_spends, main_spends, whole_spends}
 use Rattle.phase_laws.proofs.Functions.{function_spends, top}
-use Rattle.phase_laws.proofs.Spent.{append_nil, SameNumbers, release_spends, spent_both}
+use Rattle.phase_laws.proofs.Spent.{SameNumbers, release_spends, spent_both}
 
 -- ---- the arguments
 
-abbrev placing_all : List ArrayValue → Spending
+abbrev pub placing_all : List ArrayValue → Spending
 placing_all ws = record { taken = total (λ (a : ArrayValue). buffers_of a.shape) ws; phases = [] }
 
 -- placed arrays are read as they were, their references are held, and each that is not small has taken a buffer
-abbrev Placed : ℕ → (ℕ → ℕ) → Heap → Spending → Ended (List Value) → List ArrayValue → Type 0
+abbrev pub Placed : ℕ → (ℕ → ℕ) → Heap → Spending → Ended (List Value) → List ArrayValue → Type 0
 Placed n others h s m ws = Matches n others h m (Ok ws) × Spent s h m
 
 placed : (small : Bool) (a : ArrayValue) (ws : List ArrayValue) (h : Heap) (others : ℕ → ℕ) → Owns h [] others → ((k : Heap) (more : ℕ → ℕ) → Owns k [] more → Placed (length ws) more k (placing_all ws) (place_all ws k) ws) → Placed (suc (length ws)) others h (record { taken = cond small 0 1 + (placing_all ws).taken; phases = [] }) (go_on (place_as small a h) (λ v. then_go (place_all ws) (λ vs. give (v ∷ vs)))) (a ∷ ws)
@@ -67,8 +68,8 @@ placed false a ws h others owns rest = go (place_all ws k) (rest k more ((λ b. 
         )
     go (Failed f q) p = elim p.0 [ ]
 
-all_placed : (ws : List ArrayValue) (h : Heap) (others : ℕ → ℕ) → Owns h [] others → Placed (length ws) others h (placing_all ws) (place_all ws h) ws
-all_placed [] h others owns = ((refl, refl, owns, (λ b le. refl)), (omega arith, refl, sym (append_nil h.phases)))
+pub all_placed : (ws : List ArrayValue) (h : Heap) (others : ℕ → ℕ) → Owns h [] others → Placed (length ws) others h (placing_all ws) (place_all ws h) ws
+all_placed [] h others owns = ((refl, refl, owns, (λ b le. refl)), (omega arith, refl, sym (append-nil h.phases)))
 all_placed (a ∷ ws) h others owns = placed (is_small a.shape) a ws h others owns (λ k more o. all_placed ws k more o)
 
 -- ---- the results
@@ -80,7 +81,7 @@ released_all (v ∷ vs) h =
     let rest = released_all vs (release v h) in
     (rest.0 ∙ first.0, rest.1 ∙ first.1, rest.2 ∙ first.2)
 
-copied_spends : (s : Spending) (h : Heap) (m : Ended (List Value)) → Spent s h m → Spent s h (go_on m copied_out)
+pub copied_spends : (s : Spending) (h : Heap) (m : Ended (List Value)) → Spent s h m → Spent s h (go_on m copied_out)
 copied_spends s h (Done vs k) p =
     let same = released_all vs k in
     (same.0 ∙ p.0, same.1 ∙ p.1, same.2 ∙ p.2)
@@ -89,7 +90,7 @@ copied_spends s h (Failed f q) p = p
 -- ---- the whole
 
 -- nobody else holds anything
-abbrev nobody : ℕ → ℕ
+abbrev pub nobody : ℕ → ℕ
 nobody b = 0
 
 placed_then : (n : ℕ) (ws : List ArrayValue) (rest : Spending) (next : List Value → Doing (List Value)) (m : Ended (List Value)) → Placed n nobody empty_heap (placing_all ws) m ws → ((vs : List Value) (k : Heap) → length vs ≡ n → Owns k vs nobody → map (read k) vs ≡ ws → Spent rest k (next vs k)) → Spent (both (placing_all ws) rest) empty_heap (go_on m (λ vs. then_go (next vs) copied_out))
@@ -97,6 +98,10 @@ placed_then n ws rest next (Done vs k) p go =
     let r = p.0 in
     spent_both (placing_all ws) rest empty_heap k vs (go_on (next vs k) copied_out) p.1 (copied_spends rest k (next vs k) (go vs k r.0 r.2 r.1))
 placed_then n ws rest next (Failed f q) p go = elim p.0 [ ]
+
+pub in_all : (s : Spending) (m : Ended (List ArrayValue)) → Spent s empty_heap m → GivesAllBack m → SpentInAll s m
+in_all s (Done ws h) p even = let t = p.0 in (omega (arith, t), omega (arith, t, even), p.1, p.2)
+in_all s (Failed f q) p even = p
 
 module _ (code : CodeProgram) (counted : IsWellCounted code) (unmarked : IsUnmarked code) (args : List ArrayValue) (caps : Caps) where
   abbrev context : Context
@@ -113,10 +118,6 @@ module _ (code : CodeProgram) (counted : IsWellCounted code) (unmarked : IsUnmar
   found : (o : Option CodeFunTerm) → slice_get code.functions code.main ≡ o → Spent (main_spends code caps.turns caps.depth o args) empty_heap (main_does caps.turns context.does_calls o args empty_heap)
   found None is = refl
   found (Some f) is = called f is (all_have (code_param_types f) args) refl
-
-  in_all : (s : Spending) (m : Ended (List ArrayValue)) → Spent s empty_heap m → GivesAllBack m → SpentInAll s m
-  in_all s (Done ws h) p even = let t = p.0 in (omega (arith, t), omega (arith, t, even), p.1, p.2)
-  in_all s (Failed f q) p even = p
 
   pub run_spends : SpentInAll (whole_spends code args caps) (whole_run code args caps)
   run_spends =

@@ -1,5 +1,6 @@
 -- What runs spend one after another.
-use Rattle.std.proofs.Common.{◌≡◌, ℕ, zero, suc, ◌+◌, Bool, true, false, List, [], ◌∷◌, ◌++◌, map, length, Option, Some, None, Ok, Err, refl, ap, ◌∙◌, sym, subst, arith}
+use Rattle.std.proofs.Common.{◌≡◌, ℕ, zero, suc, ◌+◌, Bool, true, false, List, ◌++◌, map, length, Option, Some, None, Ok, Err, refl, ap, ◌∙◌, sym, subst, arith}
+use Rattle.std.proofs.lemmas.List.{append_assoc, append-nil}
 use Rattle.sac_base.specs.declared.site.Site.{Site}
 use Rattle.sac_base.specs.Arrays.{ArrayValue}
 use Rattle.core_ir.specs.Meaning.{Answer}
@@ -9,21 +10,13 @@ use Rattle.counted_laws.specs.Simulation.{Owns, SameCells, Matches}
 use Rattle.phase_laws.specs.Alone.{Spent}
 use Rattle.phase_laws.specs.Spending.{Spending, nothing, both, after, choice}
 
-pub append_nil : (xs : List ℕ) → xs ++ [] ≡ xs
-append_nil [] = refl
-append_nil (x ∷ xs) = ap (λ ys. x ∷ ys) (append_nil xs)
-
-append_assoc : (xs ys zs : List ℕ) → (xs ++ ys) ++ zs ≡ xs ++ (ys ++ zs)
-append_assoc [] ys zs = refl
-append_assoc (x ∷ xs) ys zs = ap (λ us. x ∷ us) (append_assoc xs ys zs)
-
 -- ---- nothing is spent
 
 pub spent_nothing : {A : Type 0} (h : Heap) (v : A) → Spent nothing h (Done v h)
-spent_nothing h v = (omega arith, refl, sym (append_nil h.phases))
+spent_nothing h v = (omega arith, refl, sym (append-nil h.phases))
 
 pub both_nothing : (s : Spending) → both s nothing ≡ s
-both_nothing s = λ i. record { taken = no_more i; phases = append_nil s.phases i }
+both_nothing s = λ i. record { taken = no_more i; phases = append-nil s.phases i }
   where
     no_more : s.taken + 0 ≡ s.taken
     no_more = omega arith
@@ -52,7 +45,7 @@ first_spends s h (Failed f q) p = p
 
 -- by a condition, one of two
 pub chosen_spends : (h : Heap) (s : Site) (d : Option Bool) (a b : Doing (List Value)) (x y : Spending) → Spent x h (a h) → Spent y h (b h) → Spent (choice d x y) h (choose_does s d a b h)
-chosen_spends h s None a b x y p q = sym (append_nil h.phases)
+chosen_spends h s None a b x y p q = sym (append-nil h.phases)
 chosen_spends h s (Some true) a b x y p q = p
 chosen_spends h s (Some false) a b x y p q = q
 

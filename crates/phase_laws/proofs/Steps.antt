@@ -1,6 +1,7 @@
 -- Steps of well-counted code spend on a heap what they spend on arrays.
 use Rattle.std.proofs.Common.{◌≡◌, ℕ, zero, suc, ◌+◌, ◌-◌, Bool, true, false, cond, List, [], ◌∷◌, ◌++◌, map, length, Option, Some, None, Result, Ok, Err, refl, ap, ◌∙◌, sym, subst, arith}
 use Rattle.std.specs.Prelude.{if◌then◌else◌}
+use Rattle.std.proofs.lemmas.List.{append-nil}
 use Rattle.sac_base.specs.declared.fault.FaultKind.{FaultKind}
 use Rattle.sac_base.specs.declared.fault.FaultKind.TheVariants.{F7, F9}
 use Rattle.sac_base.specs.declared.site.Site.{Site}
@@ -23,13 +24,13 @@ use Rattle.counted_laws.proofs.Blocks.{length_map, RightMatches, BlockMatches}
 use Rattle.counted_laws.proofs.Plains.{plain_matches}
 use Rattle.phase_laws.specs.Alone.{Context, Spent}
 use Rattle.phase_laws.specs.Spending.{Spending, Step, nothing, both, after, choice, placing, buffers_of, plain_spends, repeat_spends, turns_spend, spends, right_spends}
-use Rattle.phase_laws.proofs.Spent.{append_nil, spent_nothing, both_nothing, spent_both, then_spends, chosen_spends, keep_spends, release_spends, spent_from}
+use Rattle.phase_laws.proofs.Spent.{spent_nothing, both_nothing, spent_both, then_spends, chosen_spends, keep_spends, release_spends, spent_from}
 
 -- ---- results that are placed
 
 place_spends : (h : Heap) (a : ArrayValue) (small : Bool) → Spent (record { taken = cond small 0 1; phases = [] }) h (one_value (place_as small a) h)
-place_spends h a true = (omega arith, refl, sym (append_nil h.phases))
-place_spends h a false = (refl, refl, sym (append_nil h.phases))
+place_spends h a true = (omega arith, refl, sym (append-nil h.phases))
+place_spends h a false = (refl, refl, sym (append-nil h.phases))
 
 -- the placed array has the shape that it is to have
 placed_shape : (n : ℕ) (others : ℕ → ℕ) (h : Heap) (a b : ArrayValue) (small : Bool) → Matches n others h (one_value (place_as small a) h) (Ok (b ∷ [])) → a.shape ≡ b.shape
@@ -44,13 +45,13 @@ ended_spends : (n : ℕ) (others : ℕ → ℕ) (h : Heap) (s : Site) (x y : Res
 ended_spends n others h s (Ok a) (Ok b) r =
     subst (λ shape. Spent (record { taken = buffers_of shape; phases = [] }) h (one_value (place_as (is_small a.shape) a) h)) (placed_shape n others h a b (is_small a.shape) r)
     (place_spends h a (is_small a.shape))
-ended_spends n others h s (Err k) (Err l) r = sym (append_nil h.phases)
+ended_spends n others h s (Err k) (Err l) r = sym (append-nil h.phases)
 ended_spends n others h s (Ok a) (Err l) r = elim (placed_done n others h a (is_small a.shape) s l r) [ ]
 ended_spends n others h s (Err k) (Ok b) r = elim r [ ]
 
 checked_spends : (h : Heap) (s : Site) (v : Value) (fits : Bool) → Spent nothing h (one_value (then_go (pure_end (at_site s (if fits then Ok (read h v) else Err F7))) (λ a. give v)) h)
 checked_spends h s v true = spent_nothing h (v ∷ [])
-checked_spends h s v false = sym (append_nil h.phases)
+checked_spends h s v false = sym (append-nil h.phases)
 
 -- ---- loops
 
@@ -113,7 +114,7 @@ module _ (m : ℕ) (others : ℕ → ℕ) (h : Heap) (site test_site : Site) (te
       let t = tests k vs same size owns in
       subst (λ s. Spent s k (repeat_does zero site test_site first_test body vs k)) (none_follows (test_spends (map (read k) vs)) (core_test (map (read k) vs)))
       (after_test others k vs test_site (fails F9 site) (give vs) (test_spends (map (read k) vs)) (λ ws. nothing) (test vs k) (core_test (map (read k) vs)) t.0 t.1
-      (λ k2 o s. (sym (append_nil k2.phases), spent_nothing k2 vs)))
+      (λ k2 o s. (sym (append-nil k2.phases), spent_nothing k2 vs)))
   repeat_spent tests bodies (suc n) k vs same size owns =
       let t = tests k vs same size owns in
       after_test others k vs test_site (then_go (body vs) (repeat_does n site test_site first_test body)) (give vs) (test_spends (map (read k) vs)) (λ ws. both (body_spends ws) (after (core_body ws) (repeat_spends n tries turns_on))) (test vs k) (core_test (map (read k) vs)) t.0 t.1
@@ -201,7 +202,7 @@ module _ (c : Context) where
         (subst (λ m. Matches n others h (go_on m (λ v. give (v ∷ []))) (one (at_site s (plain_value p ρ)))) (reading s e h) (plain_matches c.results_of c.does_calls c.calls c.turns p n outer mine later counted s h e ρ others ready))))
 
   always_spends : (k : FaultKind) → RightSpends (PlainCode (PlainTerm.Always k))
-  always_spends k n outer mine later counted s h e ρ others ready = sym (append_nil h.phases)
+  always_spends k n outer mine later counted s h e ρ others ready = sym (append-nil h.phases)
 
   copy_spends : (x : Var) → RightSpends (PlainCode (PlainTerm.Copy x))
   copy_spends x n outer mine later counted s h e ρ others ready = spent_nothing h (e x ∷ [])

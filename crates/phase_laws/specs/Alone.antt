@@ -1,14 +1,15 @@
 -- Runs and cells that depend on no more of a heap than the arrays of their variables.
-use Rattle.std.specs.Prelude.{◌≡◌, ℕ, ◌+◌, ◌≤◌, List, [], ◌++◌, map, Ok, Err}
+use Rattle.std.specs.Prelude.{◌≡◌, ℕ, ◌+◌, ◌≤◌, List, [], ◌++◌, map, ℤ, Option, Ok, Err}
+use Rattle.sac_base.specs.declared.form.Form.{Form}
 use Rattle.sac_base.specs.declared.site.Site.{Site}
 use Rattle.sac_base.specs.Arrays.{ArrayValue}
 use Rattle.sac_base.specs.Outcomes.{Ends}
 use Rattle.core_ir.specs.declared.tree.Var.{Var}
 use Rattle.core_ir.specs.Meaning.{Env, CallMeaning}
-use Rattle.counted_code.specs.Loops.{Target, Inside, Fresh, Old}
+use Rattle.counted_code.specs.Loops.{Source, Target, Inside, Fresh, Old, cell_does}
 use Rattle.counted_code.specs.Machine.{Values, DoesCalls}
 use Rattle.counted_code.specs.Values.{Heap, Value, Ended, Done, Failed, read, buffer_at}
-use Rattle.counted_laws.specs.Simulation.{Owns, AllBacked, Shows, CallsMatch}
+use Rattle.counted_laws.specs.Simulation.{Owns, AllBacked, Shows, SameCells, CallsMatch}
 use Rattle.phase_laws.specs.Spending.{Spending, CallSpending}
 
 -- a run from this heap has spent so much, and has reused no buffer; after a fault only the phases are left
@@ -51,6 +52,22 @@ abbrev pub Leaves : {A : Type 0} → (ℕ → ℕ) → ℕ → Heap → Ended A 
 Leaves holding n h (Done a k) (Ok b) = (a ≡ b) × Unchanged holding n h k
 Leaves holding n h (Failed f phases) (Err g) = (f ≡ g) × (phases ≡ h.phases)
 Leaves _ _ _ _ _ = ⊥
+
+-- From a heap on, the cell at each index is the given one and takes so many buffers, whatever else there is in the heap: only the buffers that are held here have a say.
+abbrev pub StandAlone : (ℕ → ℕ) → Heap → Form → (List ℤ → Option Source) → (List ℤ → Ends (Option ArrayValue)) → (List ℤ → ℕ) → Type 0
+StandAlone holding h form source cell takes =
+    (v : List ℤ) (k : Heap) → Owns k [] holding → SameCells holding h k → Leaves holding (takes v) k (cell_does form (source v) k) (cell v)
+
+-- an end without its heap
+abbrev pub told : {A : Type 0} → Ended A → Ends A
+told (Done a k) = Ok a
+told (Failed f phases) = Err f
+
+-- runs from two heaps have the same value, and spend and leave the same; or they have the same fault
+abbrev pub Alike : {A : Type 0} → (ℕ → ℕ) → (h k : Heap) → Ended A → Ended A → Type 0
+Alike holding h k (Done a h') (Done b k') = (a ≡ b) × (n : ℕ) × Unchanged holding n h h' × Unchanged holding n k k'
+Alike holding h k (Failed f phases) (Failed g others) = f ≡ g
+Alike _ _ _ _ _ = ⊥
 
 -- nothing is written before the last cell
 abbrev pub IsNew : Target → Type 0
