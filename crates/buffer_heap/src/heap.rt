@@ -259,6 +259,39 @@ impl Heap {
         self.vacant = NO_PLACE;
     }
 
+    /// Raises the number of the next buffer by as much as that of a heap has risen above another one's.
+    ///
+    /// # Errors
+    ///
+    /// `Memory`: nothing has changed.
+    pub fn follow(&mut self, to: &Heap, from: &Heap) -> Result<(), Memory>
+        ensures followed { OnOk result (self.new ≡ record self.old { births = self.old.births + (to.now.births - from.now.births) }) }
+        ensures unchanged { OnErr result (self.new ≡ self.old) }
+    {
+        let more = to.births.saturating_sub(from.births);
+        match self.births.checked_add(more) {
+            Some(births) => {
+                self.births = births;
+                Ok(())
+            }
+            None => Err(Memory),
+        }
+    }
+
+    /// Goes on where the other heap ended: with its number of the next buffer, and with its counters added.
+    pub fn take_over(&mut self, other: Heap)
+        requires { (b : ℕ) → at other b ≡ None }
+        ensures { self.new ≡ record self.old {
+            births = other.births;
+            taken = (self.old.taken + other.taken) % 2 ^ 64;
+            given = (self.old.given + other.given) % 2 ^ 64;
+            reused = (self.old.reused + other.reused) % 2 ^ 64;
+          } }
+    {
+        self.births = other.births;
+        self.absorb(other);
+    }
+
     /// One reference more to a buffer that is in.
     pub fn keep(&mut self, id: BufferId)
         requires { IsLive self.old id.place (λ x. IsIn x × (x.count < 2 ^ 62)) }

@@ -46,11 +46,17 @@ same_add : (m a b c d : ℕ) → a % m ≡ b % m → c % m ≡ d % m → (a + c)
 same_add m a b c d e f =
     sym (mod-add-mod a m c) ∙ sym (add-mod-mod (a % m) c m) ∙ (λ j. (e j + f j) % m) ∙ add-mod-mod (b % m) d m ∙ mod-add-mod b m d
 
-pub same_sum : (a b c d : ℕ) → Same a b → Same c d → Same (a + c) (b + d)
-same_sum a b c d e f = same_add (2 ^ 64) a b c d e f
+pub same_sum : (kind a b c d : ℕ) → Same kind a b → Same kind c d → Same kind (a + c) (b + d)
+same_sum zero a b c d e f = λ j. e j + f j
+same_sum (suc kind) a b c d e f = same_add (2 ^ 64) a b c d e f
 
-pub same_of : (a b : ℕ) → a ≡ b → Same a b
-same_of a b e = λ j. e j % 2 ^ 64
+pub same_of : (kind a b : ℕ) → a ≡ b → Same kind a b
+same_of zero a b e = e
+same_of (suc kind) a b e = λ j. e j % 2 ^ 64
+
+pub same_then : (kind a b c : ℕ) → Same kind a b → Same kind b c → Same kind a c
+same_then zero a b c e f = e ∙ f
+same_then (suc kind) a b c e f = e ∙ f
 
 -- ---- values and faults in order
 

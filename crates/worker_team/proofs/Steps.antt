@@ -13,7 +13,7 @@ use Rattle.worker_team.specs.declared.plan.Stop.{Stop}
 use Rattle.worker_team.specs.declared.plan.Stop.TheVariants.{Faulted, Memory}
 use Rattle.worker_team.specs.declared.cells.CellEnd.TheVariants.{Stopped}
 use Rattle.worker_team.specs.Segments.{Tells, cells_from, cost_from, Costs, Gathered, Ran, Same}
-use Rattle.worker_team.proofs.Sequences.{cells-append, cells_more, cost_more, each-both, each-front, each-back, joined-both, combined_more, same_sum, same_of}
+use Rattle.worker_team.proofs.Sequences.{cells-append, cells_more, cost_more, each-both, each-front, each-back, joined-both, combined_more, same_sum, same_of, same_then}
 
 module _ (cell : ℕ → CellValue) (start k : ℕ) (values : List (Option (List ℤ))) (before : each (cells_from cell start k) ≡ Ok values) where
   -- the values so far, and the next
@@ -55,15 +55,17 @@ module _ (cell : ℕ → CellValue) (start k : ℕ) (values : List (Option (List
   stops_gather op n into row Memory lt e = tt
 
 -- the cost so far, and that of the next cell
-pub costs_more : (cost : ℕ → ℕ → ℕ) (start k : ℕ) (a b c : ℕ → ℕ) → Costs cost start k a b → ((kind : ℕ) → Same (c kind) (b kind + cost kind (start + k))) → Costs cost start (k + 1) a c
+pub costs_more : (cost : ℕ → ℕ → ℕ) (start k : ℕ) (a b c : ℕ → ℕ) → Costs cost start k a b → ((kind : ℕ) → Same kind (c kind) (b kind + cost kind (start + k))) → Costs cost start (k + 1) a c
 costs_more cost start k a b c so_far next kind =
-    let s : Same (b kind + cost kind (start + k)) ((a kind + cost_from (cost kind) start k) + cost kind (start + k)) = same_sum (b kind) (a kind + cost_from (cost kind) start k) (cost kind (start + k)) (cost kind (start + k)) (so_far kind) refl in
+    let s : Same kind (b kind + cost kind (start + k)) ((a kind + cost_from (cost kind) start k) + cost kind (start + k)) = same_sum kind (b kind) (a kind + cost_from (cost kind) start k) (cost kind (start + k)) (cost kind (start + k)) (so_far kind) (same_of kind (cost kind (start + k)) (cost kind (start + k)) refl) in
     let more = cost_more (cost kind) start k in
     let e : (a kind + cost_from (cost kind) start k) + cost kind (start + k) ≡ a kind + cost_from (cost kind) start (k + 1) = omega arith in
-    next kind ∙ s ∙ same_of _ _ e
+    same_then kind (c kind) (b kind + cost kind (start + k)) (a kind + cost_from (cost kind) start (k + 1)) (next kind)
+    (same_then kind (b kind + cost kind (start + k)) ((a kind + cost_from (cost kind) start k) + cost kind (start + k)) (a kind + cost_from (cost kind) start (k + 1)) s
+    (same_of kind ((a kind + cost_from (cost kind) start k) + cost kind (start + k)) (a kind + cost_from (cost kind) start (k + 1)) e))
 
 pub costs_none : (cost : ℕ → ℕ → ℕ) (start : ℕ) (a b : ℕ → ℕ) → ((kind : ℕ) → b kind ≡ a kind) → Costs cost start 0 a b
-costs_none cost start a b e kind = let z : a kind + 0 ≡ a kind = omega arith in same_of (b kind) (a kind + 0) (e kind ∙ sym z)
+costs_none cost start a b e kind = let z : a kind + 0 ≡ a kind = omega arith in same_of kind (b kind) (a kind + 0) (e kind ∙ sym z)
 
 -- the elements before a part that was written, and that part
 pub put_front : (a k w : ℕ) (xs ys : List ℤ) → a ≤ length xs → length ys ≡ w → take (a + w) (put_mid a k xs ys) ≡ take a xs ++ ys

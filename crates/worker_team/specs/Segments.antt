@@ -34,17 +34,18 @@ abbrev pub cost_from : (ℕ → ℕ) → ℕ → ℕ → ℕ
 cost_from cost start zero = 0
 cost_from cost start (suc n) = cost start + cost_from cost (suc start) n
 
--- two counts are the same modulo 2^64
-abbrev pub Same : ℕ → ℕ → Type 0
-Same a b = a % 2 ^ 64 ≡ b % 2 ^ 64
+-- two counts of a kind are the same, those of kind 0 exactly and all others modulo 2^64
+abbrev pub Same : ℕ → ℕ → ℕ → Type 0
+Same zero a b = a ≡ b
+Same (suc kind) a b = a % 2 ^ 64 ≡ b % 2 ^ 64
 
 -- each count has risen by the cost of n positions
 abbrev pub Costs : (ℕ → ℕ → ℕ) → ℕ → ℕ → (ℕ → ℕ) → (ℕ → ℕ) → Type 0
-Costs cost start n before after = (kind : ℕ) → Same (after kind) (before kind + cost_from (cost kind) start n)
+Costs cost start n before after = (kind : ℕ) → Same kind (after kind) (before kind + cost_from (cost kind) start n)
 
 -- what two have counted rose together by the cost of n positions
 abbrev pub CostBoth : (ℕ → ℕ → ℕ) → ℕ → ℕ → (ℕ → ℕ) → (ℕ → ℕ) → (ℕ → ℕ) → (ℕ → ℕ) → Type 0
-CostBoth cost start n a b a' b' = (kind : ℕ) → Same (a' kind + b' kind) ((a kind + b kind) + cost_from (cost kind) start n)
+CostBoth cost start n a b a' b' = (kind : ℕ) → Same kind (a' kind + b' kind) ((a kind + b kind) + cost_from (cost kind) start n)
 
 -- a value that may be missing
 abbrev pub value_if : Bool → List ℤ → Option (List ℤ)

@@ -48,7 +48,7 @@ pub(crate) fn combine_held(
 fn fill<H, C: PhaseCells<H>>(
     cells: &C,
     table: &Phase<()>,
-    seat: &mut WorkerSeat<()>,
+    seat: &mut Option<WorkerSeat<()>>,
     worker: &mut C::Worker,
     share: Share,
     start: usize,
@@ -81,7 +81,7 @@ fn fill<H, C: PhaseCells<H>>(
 fn gather<H, C: PhaseCells<H>>(
     cells: &C,
     table: &Phase<()>,
-    seat: &mut WorkerSeat<()>,
+    seat: &mut Option<WorkerSeat<()>>,
     worker: &mut C::Worker,
     share: Share,
     op: Op,
@@ -114,7 +114,7 @@ fn gather<H, C: PhaseCells<H>>(
 fn gather_rows<H, C: PhaseCells<H>>(
     cells: &C,
     table: &Phase<()>,
-    seat: &mut WorkerSeat<()>,
+    seat: &mut Option<WorkerSeat<()>>,
     worker: &mut C::Worker,
     share: Share,
     op: Op,
@@ -142,7 +142,7 @@ pub(crate) fn work<H, C: PhaseCells<H>, G: Gate>(
     cells: &C,
     gate: &G,
     table: &Phase<()>,
-    seat: &mut WorkerSeat<()>,
+    seat: &mut Option<WorkerSeat<()>>,
     worker: &mut C::Worker,
     share: Share,
     from: Stretch,
