@@ -1,4 +1,4 @@
-ghost use Rattle.std.specs.Prelude.{◌≡◌, IsTrue, ◌≢◌, ◌+◌, ◌<◌, ◌≤◌, ◌%◌, ◌^◌, ◌==◌, ◌↔◌, ℕ, pos, [], length, replicate, count_by, is_some, Some, None, OnErr, OnOk, IfOk, ⊤};
+ghost use Rattle.std.specs.Prelude.{◌≡◌, IsTrue, ◌≢◌, ◌+◌, ◌-◌, ◌<◌, ◌≤◌, ◌%◌, ◌^◌, ◌==◌, ◌↔◌, ℕ, pos, [], length, replicate, count_by, is_some, Some, None, OnErr, OnOk, IfOk, ⊤};
 ghost use Rattle.buffer_heap.specs.Heaps.{In, Out, Held, HeapValue, at, IsLive, IsIn, IsInAndSole, IsNamed, HasRoom, IsLifted, with_place, with_count, with_content, count_of, content_of, lifted, released};
 ghost use Rattle.buffer_heap.specs.Places.{held_of};
 ghost use Rattle.sac_base.specs.declared.outcome.Released.TheVariants.{Freed};
@@ -282,11 +282,11 @@ impl Heap {
     pub fn take_over(&mut self, other: Heap)
         requires { (b : ℕ) → at other b ≡ None }
         ensures { self.new ≡ record self.old {
-            births = other.births;
-            taken = (self.old.taken + other.taken) % 2 ^ 64;
-            given = (self.old.given + other.given) % 2 ^ 64;
-            reused = (self.old.reused + other.reused) % 2 ^ 64;
-          } }
+          births = other.births;
+          taken = (self.old.taken + other.taken) % 2 ^ 64;
+          given = (self.old.given + other.given) % 2 ^ 64;
+          reused = (self.old.reused + other.reused) % 2 ^ 64;
+        } }
     {
         self.births = other.births;
         self.absorb(other);
