@@ -1,6 +1,6 @@
 //! The variables of all calls, in one stack.
 
-ghost use Rattle.std.specs.Prelude.{◌≡◌, ◌<◌, ◌∷◌, [], List, length, IsTrue, OnOk};
+ghost use Rattle.std.specs.Prelude.{◌≡◌, ◌<◌, ◌∷◌, [], List, length, IsTrue, OnOk, IfOk};
 ghost use Rattle.counted_code.specs.Machine.{Values, no_values, bind_value};
 ghost use Rattle.run_values.specs.Scopes.{slots_of, without, current, outer};
 ghost use Rattle.run_values.specs.Shown.{value_of};
@@ -41,6 +41,22 @@ impl Frames {
             base: 0,
             trail: Vec::new(alloc),
         }
+    }
+
+    /// The variables of the call that runs, and of no other one.
+    pub fn copy(&self, alloc: Global) -> Result<Frames, Memory>
+        ensures { IfOk result (λ frames. current frames ≡ current self.now) }
+    {
+        if self.base >= self.slots.len() {
+            return Ok(Frames::new(alloc));
+        }
+        let mut slots = Vec::new(alloc);
+        slots.extend_from_slice(&self.slots[self.base..])?;
+        Ok(Frames {
+            slots,
+            base: 0,
+            trail: Vec::new(alloc),
+        })
     }
 
     /// The value of a variable.

@@ -1,0 +1,5 @@
+mod Afters
+mod Answered
+mod Levels
+mod Sources
+mod Works
