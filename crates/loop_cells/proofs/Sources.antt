@@ -50,7 +50,7 @@ module _ (context : Context) (e : Values) where
 
 -- ---- cells
 
-readable_quiet : (CountedIn : _) (code : _) (lends : HeapValue) (e : Values) (k : Heap) (open : IsOpen CountedIn code lends e k) → Readable (quiet k) e (lent_env lends e) (holding lends) open.live
+readable_quiet : (CountedIn : _) (code : _) (lends : HeapValue) (e : Values) (k : Heap) (is : IsOpen CountedIn code lends e k) → Readable (quiet k) e (lent_env lends e) (holding lends) is.live
 readable_quiet CountedIn code lends e k is = readable_in k (quiet k) e (lent_env lends e) (holding lends) is.live is.readable is.readable.owns (λ b le. refl)
 
 module _ (context : Context) (lends : HeapValue) (e : Values) (gens : List CodeGen) (k : Heap) (is : OpenGens context lends e gens k) where

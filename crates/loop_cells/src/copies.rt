@@ -44,11 +44,7 @@ pub fn put(
     }
 }
 
-fn fill(
-    background: Option<Background<'_>>,
-    place: usize,
-    into: &mut [Cell],
-) -> Result<bool, Memory>
+fn fill(background: Option<Background<'_>>, place: usize, into: &mut [Cell]) -> Result<bool, Memory>
     ensures { IfOk result (λ written. fill_at background place ≡ value_if written into.new) }
 {
     match background {
@@ -60,11 +56,7 @@ fn fill(
     }
 }
 
-fn fill_from(
-    background: &Background<'_>,
-    place: usize,
-    into: &mut [Cell],
-) -> Result<(), Memory>
+fn fill_from(background: &Background<'_>, place: usize, into: &mut [Cell]) -> Result<(), Memory>
     ensures { OnOk result (into.new ≡ cell_from background.now.old background.now.array.now background.now.size place None) }
 {
     let stands = background.array.cells();

@@ -40,7 +40,12 @@ impl<'a> State<'a> {
         ensures frames { result.0 ≡ self.entry.frames }
         ensures heap { result.1 ≡ self.entry.heap }
     {
-        (self.frames, self.heap)
+        let State {
+            frames,
+            heap,
+            phases: _,
+        } = self;
+        (frames, heap)
     }
 }
 
@@ -56,7 +61,7 @@ pub fn gen_cell(
     ensures scopes { OnOk result (SameScopes state.old.frames state.new.frames) }
     ensures lender { lender_of state.new.heap ≡ lender_of state.old.heap }
 {
-    let _ = (gens, plan, index, context, state);
+    let _ = (gens, plan, index, context, state.phases);
     Err(Stop::Memory)
 }
 
@@ -72,6 +77,6 @@ pub fn part_cell(
     ensures scopes { OnOk result (SameScopes state.old.frames state.new.frames) }
     ensures lender { lender_of state.new.heap ≡ lender_of state.old.heap }
 {
-    let _ = (parts, form, index, context, state);
+    let _ = (parts, form, index, context, state.phases);
     Err(Stop::Memory)
 }
