@@ -1,5 +1,6 @@
 -- What is told and left of a cell that was computed from a heap of the machine.
 use Rattle.std.proofs.Common.{◌≡◌, ℕ, ◌+◌, Bool, true, false, List, [], ℤ, Option, Some, None, Result, Ok, Err, length, refl, sym, ap, ◌∙◌, arith}
+use Rattle.std.specs.Prelude.{OnOk}
 use Rattle.buffer_heap.specs.Heaps.{Held, HeapValue, at}
 use Rattle.cell_workers.specs.Idle.{IsAsLent, IsLeft}
 use Rattle.core_ir.specs.declared.tree.Var.{Var}
@@ -36,6 +37,12 @@ cell_told fill into hold n k (Err (Faulted f)) s (Done d l) c leaves told = elim
 cell_told fill into hold n k (Err (Faulted f)) s (Failed g phases) (Ok c) leaves told = elim leaves [ ]
 cell_told fill into hold n k (Err (Faulted f)) s (Failed g phases) (Err g') leaves told = ap Err (sym leaves.0 ∙ sym told)
 cell_told fill into hold n k (Err Memory) s m c leaves told = tt
+
+-- a claim of an answer that is no stop
+pub computed_claim : (X : Type 0) (r : Result Bool Stop) → OnOk r X → IsComputed (end_of r) → X
+computed_claim X (Ok b) claim computed = claim
+computed_claim X (Err (Faulted f)) claim computed = elim computed [ ]
+computed_claim X (Err Memory) claim computed = elim computed [ ]
 
 -- ---- what is left
 

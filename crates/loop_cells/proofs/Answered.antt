@@ -1,6 +1,6 @@
 -- What is told of a cell once its value was written and released.
 use Rattle.std.proofs.Common.{◌≡◌, ℕ, zero, suc, ◌%◌, ◌^◌, Bool, true, false, List, [], ℤ, Option, Some, None, Result, Ok, Err, length, refl, sym, ap, ◌∙◌, subst}
-use Rattle.std.specs.Prelude.{if◌then◌else◌, option_map}
+use Rattle.std.specs.Prelude.{if◌then◌else◌, option_map, OnOk}
 use Rattle.counted_code.specs.Loops.{Source, stored, cell_does, release_rest}
 use Rattle.counted_code.specs.Values.{Heap, Value, Small, Ref, Ended, Done, Failed, give, go_on, fails, apart, count_of, read, release, release_count}
 use Rattle.run_store.specs.Stands.{Stands}
@@ -50,10 +50,17 @@ put_told fill into written o s t form source m told put same = subst (λ end. To
           record { heap = subst (λ w. Stands t.heap (release_rest w h)) told.0 p.stands; phases = same ∙ told.1.phases ∙ ap (λ ps. length ps % 2 ^ 64) (sym (rest_phases w h)) },
         )
 
-pub stop_told : (fill : Option (List ℤ)) (into : List ℤ) (stop : Stop) (s : State) (form : Form) (source : Option Source) (m : Heap) → Told {A = Option RunValue} IsPresent (Err stop) s (unreleased form source m) → ToldCell fill into (Err stop) s (cell_does form source m)
+stop_told : (fill : Option (List ℤ)) (into : List ℤ) (stop : Stop) (s : State) (form : Form) (source : Option Source) (m : Heap) → Told {A = Option RunValue} IsPresent (Err stop) s (unreleased form source m) → ToldCell fill into (Err stop) s (cell_does form source m)
 stop_told fill into stop s form source m told = subst (λ end. ToldCell fill into (Err stop) s end) (sym (cell_is form source m)) (go stop (unreleased form source m) told)
   where
     go : (stop : Stop) (end : Ended (Option Value)) → Told {A = Option RunValue} IsPresent (Err stop) s end → ToldCell fill into (Err stop) s (go_on end (λ w h. Done (option_map (read h) w) (release_rest w h)))
     go (Faulted f) (Done w h) told = absurd told
     go (Faulted f) (Failed g phases) told = told.0
     go Memory end told = tt
+
+-- the same of the evaluator's answer as it is handed on
+pub stop_handed : (fill : Option (List ℤ)) (into : List ℤ) (r : Result Bool Stop) (stop : Stop) (s : State) (form : Form) (source : Option Source) (m : Heap) → r ≡ Err stop → Told {A = Option RunValue} IsPresent (Err stop) s (unreleased form source m) → ToldCell fill into r s (cell_does form source m)
+stop_handed fill into r stop s form source m is told = subst (λ r. ToldCell fill into r s (cell_does form source m)) (sym is) (stop_told fill into stop s form source m told)
+
+pub no_claim : {A E : Type 0} (X : Type 0) (r : Result A E) (e : E) → r ≡ Err e → OnOk r X
+no_claim X r e is = subst (λ r. OnOk r X) (sym is) tt

@@ -66,9 +66,11 @@ impl<'a> CellRuns for WithCells<'a> {
         into: &mut [Cell],
     ) -> CellEnd {
         let alloc = self.context.alloc;
+        let variables = mem::replace(scratch, Frames::new(alloc));
+        let buffers = mem::replace(store, Store::of(Heap::new(alloc)));
         let mut state = State {
-            frames: mem::replace(scratch, Frames::new(alloc)),
-            heap: mem::replace(store, Store::of(Heap::new(alloc))),
+            frames: variables,
+            heap: buffers,
             phases: 0,
         };
         let answer = gens_at(self, position, &mut state, into);
