@@ -2,12 +2,13 @@
 use Rattle.std.proofs.Common.{◌≡◌, ℕ, Bool, true, false, List, [], ◌∷◌, ℤ, Option, Some, None, refl, sym, subst}
 use Rattle.std.specs.Prelude.{if◌then◌else◌, option_map}
 use Rattle.buffer_heap.specs.Heaps.{HeapValue}
+use Rattle.core_ir.specs.declared.tree.Var.{Var}
 use Rattle.core_ir.specs.Meaning.{generators, cells, cell_form, cell_at as part_cell_at}
 use Rattle.counted_code.specs.declared.tree.CodeGen.{CodeGen}
 use Rattle.counted_code.specs.declared.tree.CodePart.{CodePart}
 use Rattle.counted_code.specs.Loops.{Source, cell_does, holder, part_holder}
 use Rattle.counted_code.specs.Machine.{Values, code_generators, code_cells}
-use Rattle.counted_code.specs.Terms.{core_of_gens, core_of_parts}
+use Rattle.counted_code.specs.Terms.{CodeProgram, core_of_gens, core_of_parts}
 use Rattle.counted_code.specs.Values.{Heap}
 use Rattle.counted_code.specs.View.{code_program}
 use Rattle.phase_laws.specs.Alone.{Readable, Leaves}
@@ -50,7 +51,7 @@ module _ (context : Context) (e : Values) where
 
 -- ---- cells
 
-readable_quiet : (CountedIn : _) (code : _) (lends : HeapValue) (e : Values) (k : Heap) (is : IsOpen CountedIn code lends e k) → Readable (quiet k) e (lent_env lends e) (holding lends) is.live
+readable_quiet : (CountedIn : List Var → Type 0) (code : CodeProgram) (lends : HeapValue) (e : Values) (k : Heap) (is : IsOpen CountedIn code lends e k) → Readable (quiet k) e (lent_env lends e) (holding lends) is.live
 readable_quiet CountedIn code lends e k is = readable_in k (quiet k) e (lent_env lends e) (holding lends) is.live is.readable is.readable.owns (λ b le. refl)
 
 module _ (context : Context) (lends : HeapValue) (e : Values) (gens : List CodeGen) (k : Heap) (is : OpenGens context lends e gens k) where
