@@ -35,19 +35,19 @@ module _ (context : Context) (e : Values) where
   pub gens_same : (gens : List CodeGen) (k : Heap) (ranges : List Range) (v : List ℤ) → holder (code_generators (calls_in context) context.turns (gens_term gens) e k) ranges v ≡ source_in context e gens ranges v
   gens_same [] k ranges v = refl
   gens_same (g ∷ gs) k [] v = refl
-  gens_same (g ∷ gs) k (r ∷ rs) v = go (holds r v)
+  gens_same (g ∷ gs) k (r ∷ rs) v = go (holds r v) (gens_same gs k rs v)
     where
-      go : (here : Bool) → (if here then Some (gen_source context e v g) else holder (code_generators (calls_in context) context.turns (gens_term gs) e k) rs v) ≡ option_map (gen_source context e v) (if here then Some g else held gs rs v)
-      go true = refl
-      go false = gens_same gs k rs v
+      go : (here : Bool) → holder (code_generators (calls_in context) context.turns (gens_term gs) e k) rs v ≡ source_in context e gs rs v → (if here then Some (gen_source context e v g) else holder (code_generators (calls_in context) context.turns (gens_term gs) e k) rs v) ≡ option_map (gen_source context e v) (if here then Some g else held gs rs v)
+      go true rest = refl
+      go false rest = rest
 
   pub parts_same : (parts : List CodePart) (v : List ℤ) → part_holder (code_cells (calls_in context) context.turns (parts_term parts) e) v ≡ part_source_in context e parts v
   parts_same [] v = refl
-  parts_same (p ∷ ps) v = go (has_vector p.grid v)
+  parts_same (p ∷ ps) v = go (has_vector p.grid v) (parts_same ps v)
     where
-      go : (here : Bool) → (if here then Some (part_source context e v p) else part_holder (code_cells (calls_in context) context.turns (parts_term ps) e) v) ≡ option_map (part_source context e v) (if here then Some p else part_held ps v)
-      go true = refl
-      go false = parts_same ps v
+      go : (here : Bool) → part_holder (code_cells (calls_in context) context.turns (parts_term ps) e) v ≡ part_source_in context e ps v → (if here then Some (part_source context e v p) else part_holder (code_cells (calls_in context) context.turns (parts_term ps) e) v) ≡ option_map (part_source context e v) (if here then Some p else part_held ps v)
+      go true rest = refl
+      go false rest = rest
 
 -- ---- cells
 

@@ -31,7 +31,7 @@ pub fn put(
     place: usize,
     into: &mut [Cell],
 ) -> Result<bool, Memory>
-    ensures told { (m : MachineHeap) → Stands store.old m → IfOk result (λ written. IsPut (fill_at background place) into.new written store.new (option_map value_of value) m) }
+    ensures told { (m : MachineHeap) → Stands store.old m → IfOk result (λ written. IsPut (fill_at background.entry place) into.new written store.new (option_map value_of value) m) }
     ensures lender { lender_of store.new ≡ lender_of store.old }
 {
     match value {
@@ -45,7 +45,7 @@ pub fn put(
 }
 
 fn fill(background: Option<Background<'_>>, place: usize, into: &mut [Cell]) -> Result<bool, Memory>
-    ensures { IfOk result (λ written. fill_at background place ≡ value_if written into.new) }
+    ensures { IfOk result (λ written. fill_at background.entry place ≡ value_if written into.new) }
 {
     match background {
         Some(background) => {

@@ -61,7 +61,6 @@ pub fn gen_cell(
     ensures scopes { OnOk result (SameScopes state.old.frames state.new.frames) }
     ensures lender { lender_of state.new.heap ≡ lender_of state.old.heap }
 {
-    let _ = (gens, plan, index, context, state.phases);
     Err(Stop::Memory)
 }
 
@@ -77,6 +76,5 @@ pub fn part_cell(
     ensures scopes { OnOk result (SameScopes state.old.frames state.new.frames) }
     ensures lender { lender_of state.new.heap ≡ lender_of state.old.heap }
 {
-    let _ = (parts, form, index, context, state.phases);
     Err(Stop::Memory)
 }
