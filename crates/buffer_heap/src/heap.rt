@@ -1,4 +1,4 @@
-ghost use Rattle.std.specs.Prelude.{◌≡◌, IsTrue, ◌≢◌, ◌+◌, ◌<◌, ◌≤◌, ◌%◌, ◌^◌, ◌==◌, ◌↔◌, ℕ, pos, [], length, replicate, count_by, is_some, Some, None, OnErr, OnOk, IfOk, ⊤};
+ghost use Rattle.std.specs.Prelude.{◌≡◌, IsTrue, ◌≢◌, ◌+◌, ◌-◌, ◌<◌, ◌≤◌, ◌%◌, ◌^◌, ◌==◌, ◌↔◌, ℕ, pos, [], length, replicate, count_by, is_some, Some, None, OnErr, OnOk, IfOk, ⊤};
 ghost use Rattle.buffer_heap.specs.Heaps.{In, Out, Held, HeapValue, at, IsLive, IsIn, IsInAndSole, IsNamed, HasRoom, IsLifted, with_place, with_count, with_content, count_of, content_of, lifted, released};
 ghost use Rattle.buffer_heap.specs.Places.{held_of};
 ghost use Rattle.sac_base.specs.declared.outcome.Released.TheVariants.{Freed};
