@@ -7,7 +7,8 @@ use Rattle.counted_code.specs.declared.tree.Cost.{Cost}
 use Rattle.counted_code.specs.Outcome.{main_does}
 use Rattle.counted_code.specs.Values.{Value, Ended, Done, Failed, Doing}
 use Rattle.counted_code.specs.View.{code_program}
-use Rattle.run_heap.specs.Stands.{Stands}
+use Rattle.run_store.specs.Stands.{Stands}
+use Rattle.run_store.specs.declared.store.Store.{Store}
 use Rattle.run_values.specs.declared.value.RunValue.{RunValue}
 use Rattle.run_values.specs.Shown.{value_of}
 use Rattle.with_loops.specs.declared.stop.Stop.{Stop}
@@ -50,7 +51,7 @@ main_in context args =
 abbrev pub AreArrays : Vec ArrayValue Global → List ArrayValue → Type 0
 AreArrays v ws = v.items ≡ ws
 
--- the machine has these values, and the heap stands for its heap
-abbrev pub ArePlaced : List RunValue → HeapValue → Ended (List Value) → Type 0
+-- the machine has these values, and the store stands for its heap
+abbrev pub ArePlaced : List RunValue → Store → Ended (List Value) → Type 0
 ArePlaced vs h (Done ws k) = (map value_of vs ≡ ws) × Stands h k
 ArePlaced vs h (Failed f phases) = ⊥

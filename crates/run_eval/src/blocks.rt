@@ -8,6 +8,7 @@ ghost use Rattle.counted_code.specs.Values.{Heap as MachineHeap, then_go};
 ghost use Rattle.counted_code.specs.View.{code_term, code_right_term, code_with_term, code_parted_term, code_fun_term};
 ghost use Rattle.run_eval.specs.Loops.{IsPresent, array_of, cells_run, part_source_in, source_in, unreleased};
 ghost use Rattle.run_eval.specs.Running.{calls_in, does_in, right_in, turn_in, test_in, cell_in, part_in, gen_head, part_head, IsAt, Told, ToldSteps, IsValue, IsFirst, IsOnly, Appends, SameScopes, SameOuter, EndsScope, truth_of, array_job, fold_job, parts_job, fold_parts_job};
+ghost use Rattle.run_store.specs.Stands.{lender_of};
 ghost use Rattle.run_values.specs.Scopes.{current};
 ghost use Rattle.run_values.specs.Shown.{value_of};
 ghost use Rattle.sac_base.specs.WithLoops.{combined};
@@ -26,8 +27,8 @@ use core_ir::{CoreOp, PartedOp, Var};
 use counted_code::{
     CodeBlock, CodeFun, CodeGen, CodeLet, CodePart, CodeParted, CodeRight, CodeStep, CodeWith,
 };
-use run_heap::{fits, keep, read_array, release};
 use run_plain::plain_value;
+use run_store::{fits, keep, read_array, release};
 use run_types::{all_have, choose};
 use run_values::RunValue;
 use sac_base::{Array, Cell, FaultKind, Form, Memory, Op, Shape, Site};
@@ -35,9 +36,10 @@ use with_loops::{Frame, IndexVector, Plan, Stop, fault, fold_plan, genarray_plan
 
 /// Runs the steps of a block in the scope that is open.
 #[cycle(run)]
-fn run_steps(steps: &[CodeStep], context: &Context<'_>, state: &mut State) -> Result<(), Stop>
+fn run_steps(steps: &[CodeStep], context: &Context<'_>, state: &mut State<'_>) -> Result<(), Stop>
     ensures told { (m : MachineHeap) → IsAt state.old m → ToldSteps context.now steps.now state.old state.new m result }
     ensures scopes { OnOk result (SameOuter state.old.frames state.new.frames) }
+    ensures lender { lender_of state.new.heap ≡ lender_of state.old.heap }
 {
     for step in steps {
         run_step(step, context, state)?;
@@ -47,9 +49,10 @@ fn run_steps(steps: &[CodeStep], context: &Context<'_>, state: &mut State) -> Re
 
 /// Runs a step.
 #[cycle(run)]
-fn run_step(step: &CodeStep, context: &Context<'_>, state: &mut State) -> Result<(), Stop>
+fn run_step(step: &CodeStep, context: &Context<'_>, state: &mut State<'_>) -> Result<(), Stop>
     ensures told { (m : MachineHeap) → IsAt state.old m → ToldSteps context.now (step.now ∷ []) state.old state.new m result }
     ensures scopes { OnOk result (SameOuter state.old.frames state.new.frames) }
+    ensures lender { lender_of state.new.heap ≡ lender_of state.old.heap }
 {
     match step {
         CodeStep::Bind(binding) => run_let(binding, context, state),
@@ -66,9 +69,10 @@ fn run_step(step: &CodeStep, context: &Context<'_>, state: &mut State) -> Result
 
 /// Runs a binding.
 #[cycle(run)]
-fn run_let(binding: &CodeLet, context: &Context<'_>, state: &mut State) -> Result<(), Stop>
+fn run_let(binding: &CodeLet, context: &Context<'_>, state: &mut State<'_>) -> Result<(), Stop>
     ensures told { (m : MachineHeap) → IsAt state.old m → ToldSteps context.now (CodeStep.Bind binding.now ∷ []) state.old state.new m result }
     ensures scopes { OnOk result (SameOuter state.old.frames state.new.frames) }
+    ensures lender { lender_of state.new.heap ≡ lender_of state.old.heap }
 {
     if binding.targets.len() == 1 {
         let value = run_right(&binding.right, binding.site, context, state)?;
@@ -86,11 +90,12 @@ fn run_let(binding: &CodeLet, context: &Context<'_>, state: &mut State) -> Resul
 fn run_open(
     block: &CodeBlock,
     context: &Context<'_>,
-    state: &mut State,
+    state: &mut State<'_>,
     values: &mut Vec<RunValue>,
 ) -> Result<(), Stop>
     ensures told { (m : MachineHeap) → IsAt state.old m → Told (λ _ ws. Appends values.old.items values.new.items ws) result state.new (does_in context.now (code_term block.now) (current state.old.frames) m) }
     ensures scopes { OnOk result (EndsScope state.old.frames state.new.frames) }
+    ensures lender { lender_of state.new.heap ≡ lender_of state.old.heap }
 {
     run_steps(&block.steps, context, state)?;
     push_values(state, &block.results, values)?;
@@ -103,11 +108,12 @@ fn run_open(
 fn run_block(
     block: &CodeBlock,
     context: &Context<'_>,
-    state: &mut State,
+    state: &mut State<'_>,
     values: &mut Vec<RunValue>,
 ) -> Result<(), Stop>
     ensures told { (m : MachineHeap) → IsAt state.old m → Told (λ _ ws. Appends values.old.items values.new.items ws) result state.new (does_in context.now (code_term block.now) (current state.old.frames) m) }
     ensures scopes { OnOk result (SameScopes state.old.frames state.new.frames) }
+    ensures lender { lender_of state.new.heap ≡ lender_of state.old.heap }
 {
     state.frames.enter()?;
     run_open(block, context, state, values)
@@ -115,9 +121,14 @@ fn run_block(
 
 /// The first result of a block, whose scope is open and ends with it.
 #[cycle(run)]
-fn run_first(block: &CodeBlock, context: &Context<'_>, state: &mut State) -> Result<RunValue, Stop>
+fn run_first(
+    block: &CodeBlock,
+    context: &Context<'_>,
+    state: &mut State<'_>,
+) -> Result<RunValue, Stop>
     ensures told { (m : MachineHeap) → IsAt state.old m → Told IsValue result state.new (first_value (does_in context.now (code_term block.now) (current state.old.frames)) m) }
     ensures scopes { OnOk result (EndsScope state.old.frames state.new.frames) }
+    ensures lender { lender_of state.new.heap ≡ lender_of state.old.heap }
 {
     run_steps(&block.steps, context, state)?;
     let value = first_of(state, &block.results);
@@ -127,9 +138,14 @@ fn run_first(block: &CodeBlock, context: &Context<'_>, state: &mut State) -> Res
 
 /// The first result of a block, which runs in a scope of its own.
 #[cycle(run)]
-fn run_inner(block: &CodeBlock, context: &Context<'_>, state: &mut State) -> Result<RunValue, Stop>
+fn run_inner(
+    block: &CodeBlock,
+    context: &Context<'_>,
+    state: &mut State<'_>,
+) -> Result<RunValue, Stop>
     ensures told { (m : MachineHeap) → IsAt state.old m → Told IsValue result state.new (first_value (does_in context.now (code_term block.now) (current state.old.frames)) m) }
     ensures scopes { OnOk result (SameScopes state.old.frames state.new.frames) }
+    ensures lender { lender_of state.new.heap ≡ lender_of state.old.heap }
 {
     state.frames.enter()?;
     run_first(block, context, state)
@@ -141,10 +157,11 @@ fn run_right(
     right: &CodeRight,
     site: Site,
     context: &Context<'_>,
-    state: &mut State,
+    state: &mut State<'_>,
 ) -> Result<RunValue, Stop>
     ensures told { (m : MachineHeap) → IsAt state.old m → Told IsFirst result state.new (right_in context.now (code_right_term right.now) site (current state.old.frames) m) }
     ensures scopes { OnOk result (SameScopes state.old.frames state.new.frames) }
+    ensures lender { lender_of state.new.heap ≡ lender_of state.old.heap }
 {
     match right {
         CodeRight::If { cond, yes, no } => {
@@ -169,11 +186,12 @@ fn run_rights(
     right: &CodeRight,
     site: Site,
     context: &Context<'_>,
-    state: &mut State,
+    state: &mut State<'_>,
     values: &mut Vec<RunValue>,
 ) -> Result<(), Stop>
     ensures told { (m : MachineHeap) → IsAt state.old m → Told (λ _ ws. Appends values.old.items values.new.items ws) result state.new (right_in context.now (code_right_term right.now) site (current state.old.frames) m) }
     ensures scopes { OnOk result (SameScopes state.old.frames state.new.frames) }
+    ensures lender { lender_of state.new.heap ≡ lender_of state.old.heap }
 {
     match right {
         CodeRight::If { cond, yes, no } => {
@@ -223,10 +241,11 @@ fn run_one(
     right: &CodeRight,
     site: Site,
     context: &Context<'_>,
-    state: &mut State,
+    state: &mut State<'_>,
 ) -> Result<RunValue, Stop>
     ensures told { (m : MachineHeap) → IsAt state.old m → Told IsOnly result state.new (right_in context.now (code_right_term right.now) site (current state.old.frames) m) }
     ensures scopes { OnOk result (SameScopes state.old.frames state.new.frames) }
+    ensures lender { lender_of state.new.heap ≡ lender_of state.old.heap }
 {
     match right {
         CodeRight::With(with) => run_with(with, site, context, state),
@@ -252,11 +271,12 @@ fn run_loop(
     turn: &Turn<'_>,
     first_body: bool,
     context: &Context<'_>,
-    state: &mut State,
+    state: &mut State<'_>,
     values: &mut Vec<RunValue>,
 ) -> Result<(), Stop>
     ensures told { (m : MachineHeap) → IsAt state.old m → Told (λ _ ws. map value_of values.new.items ≡ ws) result state.new (turns_do first_body context.now.turns turn.now.site turn.now.test_site (test_in context.now turn.now.params.now (code_term turn.now.test.now) (current state.old.frames)) (turn_in context.now turn.now.params.now (code_term turn.now.body.now) (current state.old.frames)) (map value_of values.old.items) m) }
     ensures scopes { OnOk result (SameScopes state.old.frames state.new.frames) }
+    ensures lender { lender_of state.new.heap ≡ lender_of state.old.heap }
 {
     let mut next = Vec::new(context.alloc);
     if first_body {
@@ -274,12 +294,13 @@ fn repeat(
     turn: &Turn<'_>,
     most: u64,
     context: &Context<'_>,
-    state: &mut State,
+    state: &mut State<'_>,
     values: &mut Vec<RunValue>,
     next: &mut Vec<RunValue>,
 ) -> Result<(), Stop>
     ensures told { (m : MachineHeap) → IsAt state.old m → Told (λ _ ws. map value_of values.new.items ≡ ws) result state.new (repeat_does most turn.now.site turn.now.test_site (test_in context.now turn.now.params.now (code_term turn.now.test.now) (current state.old.frames)) (turn_in context.now turn.now.params.now (code_term turn.now.body.now) (current state.old.frames)) (map value_of values.old.items) m) }
     ensures scopes { OnOk result (SameScopes state.old.frames state.new.frames) }
+    ensures lender { lender_of state.new.heap ≡ lender_of state.old.heap }
 {
     let mut left = most;
     loop {
@@ -299,11 +320,12 @@ fn repeat(
 fn run_test(
     turn: &Turn<'_>,
     context: &Context<'_>,
-    state: &mut State,
+    state: &mut State<'_>,
     values: &[RunValue],
 ) -> Result<bool, Stop>
     ensures told { (m : MachineHeap) → IsAt state.old m → Told (λ t u. t ≡ u) result state.new (then_go (test_in context.now turn.now.params.now (code_term turn.now.test.now) (current state.old.frames) (map value_of values.now)) (truth_of turn.now.test_site) m) }
     ensures scopes { OnOk result (SameScopes state.old.frames state.new.frames) }
+    ensures lender { lender_of state.new.heap ≡ lender_of state.old.heap }
 {
     state.frames.enter()?;
     bind_all(state, turn.params, values)?;
@@ -318,12 +340,13 @@ fn run_test(
 fn run_turn(
     turn: &Turn<'_>,
     context: &Context<'_>,
-    state: &mut State,
+    state: &mut State<'_>,
     values: &mut Vec<RunValue>,
     next: &mut Vec<RunValue>,
 ) -> Result<(), Stop>
     ensures told { (m : MachineHeap) → IsAt state.old m → Told (λ _ ws. map value_of values.new.items ≡ ws) result state.new (turn_in context.now turn.now.params.now (code_term turn.now.body.now) (current state.old.frames) (map value_of values.old.items) m) }
     ensures scopes { OnOk result (SameScopes state.old.frames state.new.frames) }
+    ensures lender { lender_of state.new.heap ≡ lender_of state.old.heap }
 {
     state.frames.enter()?;
     bind_all(state, turn.params, values)?;
@@ -341,11 +364,12 @@ fn run_call(
     args: &[RunValue],
     site: Site,
     context: &Context<'_>,
-    state: &mut State,
+    state: &mut State<'_>,
     values: &mut Vec<RunValue>,
 ) -> Result<(), Stop>
     ensures told { (m : MachineHeap) → IsAt state.old m → Told (λ _ ws. Appends values.old.items values.new.items ws) result state.new (calls_in context.now group (map value_of args.now) site m) }
     ensures scopes { OnOk result (SameScopes state.old.frames state.new.frames) }
+    ensures lender { lender_of state.new.heap ≡ lender_of state.old.heap }
 {
     let code = context.code;
     let Some(place) = choose(code, group, args) else {
@@ -362,11 +386,12 @@ pub fn run_function(
     function: &CodeFun,
     args: &[RunValue],
     context: &Context<'_>,
-    state: &mut State,
+    state: &mut State<'_>,
     values: &mut Vec<RunValue>,
 ) -> Result<(), Stop>
     ensures told { (m : MachineHeap) → IsAt state.old m → Told (λ _ ws. Appends values.old.items values.new.items ws) result state.new (function_does context.now.turns (calls_in context.now) (code_fun_term function.now) (map value_of args.now) m) }
     ensures scopes { OnOk result (SameScopes state.old.frames state.new.frames) }
+    ensures lender { lender_of state.new.heap ≡ lender_of state.old.heap }
 {
     state.frames.enter_call()?;
     bind_params(state, &function.params, args)?;
@@ -385,10 +410,11 @@ fn run_with(
     with: &CodeWith,
     site: Site,
     context: &Context<'_>,
-    state: &mut State,
+    state: &mut State<'_>,
 ) -> Result<RunValue, Stop>
     ensures told { (m : MachineHeap) → IsAt state.old m → Told IsOnly result state.new (right_in context.now (code_with_term with.now) site (current state.old.frames) m) }
     ensures scopes { OnOk result (SameScopes state.old.frames state.new.frames) }
+    ensures lender { lender_of state.new.heap ≡ lender_of state.old.heap }
 {
     let alloc = context.alloc;
     let bounds = all_bounds(&with.gens, context, state)?;
@@ -420,10 +446,11 @@ fn run_array(
     array: &Array,
     old: bool,
     context: &Context<'_>,
-    state: &mut State,
+    state: &mut State<'_>,
 ) -> Result<RunValue, Stop>
     ensures told { (m : MachineHeap) → IsAt state.old m → Told IsValue result state.new (job_does None (array_job context.now (current state.old.frames) m gens.now (plan_of plan.now) array.now old) m) }
     ensures scopes { OnOk result (SameScopes state.old.frames state.new.frames) }
+    ensures lender { lender_of state.new.heap ≡ lender_of state.old.heap }
 {
     let size = count_elements(&plan.form.shape)?;
     let background = Background { array, old, size };
@@ -439,11 +466,12 @@ fn fill(
     plan: &Plan,
     background: &Background<'_>,
     context: &Context<'_>,
-    state: &mut State,
+    state: &mut State<'_>,
     cells: &mut Vec<Cell>,
 ) -> Result<(), Stop>
     ensures told { (m : MachineHeap) → IsAt state.old m → Told (λ _ found. cells.new.items ≡ cells.old.items ++ cells_from background.now.old background.now.array.now background.now.size 0 found) result state.new (cells_run plan.now.form (source_in context.now (current state.old.frames) gens.now plan.now.ranges.items) plan.now.frame m) }
     ensures scopes { OnOk result (SameScopes state.old.frames state.new.frames) }
+    ensures lender { lender_of state.new.heap ≡ lender_of state.old.heap }
 {
     let mut index = IndexVector::new(context.alloc);
     for place in 0..plan.frame.count() {
@@ -462,10 +490,11 @@ fn run_fold(
     op: Op,
     neutral: Array,
     context: &Context<'_>,
-    state: &mut State,
+    state: &mut State<'_>,
 ) -> Result<RunValue, Stop>
     ensures told { (m : MachineHeap) → IsAt state.old m → Told IsValue result state.new (job_does None (fold_job context.now (current state.old.frames) m gens.now (plan_of plan.now) op neutral) m) }
     ensures scopes { OnOk result (SameScopes state.old.frames state.new.frames) }
+    ensures lender { lender_of state.new.heap ≡ lender_of state.old.heap }
 {
     let target = begin_fold(&plan.shape, context, state)?;
     let sum = fold_cells(gens, plan, op, start(neutral), context, state)?;
@@ -480,10 +509,11 @@ fn fold_cells(
     op: Op,
     start: Sum,
     context: &Context<'_>,
-    state: &mut State,
+    state: &mut State<'_>,
 ) -> Result<Sum, Stop>
     ensures told { (m : MachineHeap) → IsAt state.old m → Told (λ s found. array_of s ≡ fold (combined op) (array_of start) found) result state.new (cells_run plan.now.form (source_in context.now (current state.old.frames) gens.now plan.now.ranges.items) plan.now.frame m) }
     ensures scopes { OnOk result (SameScopes state.old.frames state.new.frames) }
+    ensures lender { lender_of state.new.heap ≡ lender_of state.old.heap }
 {
     let mut sum = start;
     let mut index = IndexVector::new(context.alloc);
@@ -502,10 +532,11 @@ fn gen_cell(
     plan: &Plan,
     index: &[i32],
     context: &Context<'_>,
-    state: &mut State,
+    state: &mut State<'_>,
 ) -> Result<Option<RunValue>, Stop>
     ensures told { (m : MachineHeap) → IsAt state.old m → Told IsPresent result state.new (unreleased plan.now.form (source_in context.now (current state.old.frames) gens.now plan.now.ranges.items index.now) m) }
     ensures scopes { OnOk result (SameScopes state.old.frames state.new.frames) }
+    ensures lender { lender_of state.new.heap ≡ lender_of state.old.heap }
 {
     match holder(gens, &plan.ranges, index) {
         Some(g) => {
@@ -523,10 +554,11 @@ fn run_cell(
     form: &Form,
     index: &[i32],
     context: &Context<'_>,
-    state: &mut State,
+    state: &mut State<'_>,
 ) -> Result<RunValue, Stop>
     ensures told { (m : MachineHeap) → IsAt state.old m → Told IsValue result state.new (cell_in context.now (gen_head g.now) (code_term g.now.body) form.now index.now (current state.old.frames) m) }
     ensures scopes { OnOk result (SameScopes state.old.frames state.new.frames) }
+    ensures lender { lender_of state.new.heap ≡ lender_of state.old.heap }
 {
     let phases = state.phases;
     state.frames.enter()?;
@@ -542,10 +574,11 @@ fn run_parted(
     parted: &CodeParted,
     site: Site,
     context: &Context<'_>,
-    state: &mut State,
+    state: &mut State<'_>,
 ) -> Result<RunValue, Stop>
     ensures told { (m : MachineHeap) → IsAt state.old m → Told IsOnly result state.new (right_in context.now (code_parted_term parted.now) site (current state.old.frames) m) }
     ensures scopes { OnOk result (SameScopes state.old.frames state.new.frames) }
+    ensures lender { lender_of state.new.heap ≡ lender_of state.old.heap }
 {
     if parted.reuse.is_some() {
         return Err(Stop::Memory);
@@ -579,10 +612,11 @@ fn run_parts(
     form: &Form,
     shape: &Shape,
     context: &Context<'_>,
-    state: &mut State,
+    state: &mut State<'_>,
 ) -> Result<RunValue, Stop>
     ensures told { (m : MachineHeap) → IsAt state.old m → Told IsValue result state.new (job_does None (parts_job context.now (current state.old.frames) parts.now frame.now form.now shape.now) m) }
     ensures scopes { OnOk result (SameScopes state.old.frames state.new.frames) }
+    ensures lender { lender_of state.new.heap ≡ lender_of state.old.heap }
 {
     let mut target = begin(shape, context, state)?;
     join_parts(parts, frame, form, context, state, &mut target.cells)?;
@@ -596,11 +630,12 @@ fn join_parts(
     frame: &Frame,
     form: &Form,
     context: &Context<'_>,
-    state: &mut State,
+    state: &mut State<'_>,
     cells: &mut Vec<Cell>,
 ) -> Result<(), Stop>
     ensures told { (m : MachineHeap) → IsAt state.old m → Told (λ _ found. cells.new.items ≡ cells.old.items ++ flat_map elements_of found) result state.new (cells_run form.now (part_source_in context.now (current state.old.frames) parts.now) frame.now m) }
     ensures scopes { OnOk result (SameScopes state.old.frames state.new.frames) }
+    ensures lender { lender_of state.new.heap ≡ lender_of state.old.heap }
 {
     let mut index = IndexVector::new(context.alloc);
     for place in 0..frame.count() {
@@ -620,10 +655,11 @@ fn fold_parts(
     op: Op,
     neutral: Array,
     context: &Context<'_>,
-    state: &mut State,
+    state: &mut State<'_>,
 ) -> Result<RunValue, Stop>
     ensures told { (m : MachineHeap) → IsAt state.old m → Told IsValue result state.new (job_does None (fold_parts_job context.now (current state.old.frames) parts.now frame.now form.now op neutral) m) }
     ensures scopes { OnOk result (SameScopes state.old.frames state.new.frames) }
+    ensures lender { lender_of state.new.heap ≡ lender_of state.old.heap }
 {
     let target = begin_fold(&form.shape, context, state)?;
     let sum = combine_parts(parts, frame, form, op, start(neutral), context, state)?;
@@ -639,10 +675,11 @@ fn combine_parts(
     op: Op,
     start: Sum,
     context: &Context<'_>,
-    state: &mut State,
+    state: &mut State<'_>,
 ) -> Result<Sum, Stop>
     ensures told { (m : MachineHeap) → IsAt state.old m → Told (λ s found. array_of s ≡ fold (combined op) (array_of start) found) result state.new (cells_run form.now (part_source_in context.now (current state.old.frames) parts.now) frame.now m) }
     ensures scopes { OnOk result (SameScopes state.old.frames state.new.frames) }
+    ensures lender { lender_of state.new.heap ≡ lender_of state.old.heap }
 {
     let mut sum = start;
     let mut index = IndexVector::new(context.alloc);
@@ -661,10 +698,11 @@ fn part_cell(
     form: &Form,
     index: &[i32],
     context: &Context<'_>,
-    state: &mut State,
+    state: &mut State<'_>,
 ) -> Result<Option<RunValue>, Stop>
     ensures told { (m : MachineHeap) → IsAt state.old m → Told IsPresent result state.new (unreleased form.now (part_source_in context.now (current state.old.frames) parts.now index.now) m) }
     ensures scopes { OnOk result (SameScopes state.old.frames state.new.frames) }
+    ensures lender { lender_of state.new.heap ≡ lender_of state.old.heap }
 {
     match part_holder(parts, index) {
         Some(part) => {
@@ -682,10 +720,11 @@ fn run_part(
     form: &Form,
     index: &[i32],
     context: &Context<'_>,
-    state: &mut State,
+    state: &mut State<'_>,
 ) -> Result<RunValue, Stop>
     ensures told { (m : MachineHeap) → IsAt state.old m → Told IsValue result state.new (part_in context.now (part_head part.now) (code_term part.now.body) form.now index.now (current state.old.frames) m) }
     ensures scopes { OnOk result (SameScopes state.old.frames state.new.frames) }
+    ensures lender { lender_of state.new.heap ≡ lender_of state.old.heap }
 {
     let phases = state.phases;
     state.frames.enter()?;

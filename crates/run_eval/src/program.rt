@@ -7,7 +7,7 @@ ghost use Rattle.counted_code.specs.Values.{Heap as MachineHeap, place_all as al
 ghost use Rattle.counted_code.specs.View.{code_program};
 ghost use Rattle.run_eval.specs.Outcomes.{new_heap, main_in, AreArrays, ArePlaced, IsCleared, HasCounters, KeepsChanges, TellsCost};
 ghost use Rattle.run_eval.specs.Running.{IsAt, Told};
-ghost use Rattle.run_heap.specs.Stands.{Stands};
+ghost use Rattle.run_store.specs.Stands.{Stands, lender_of};
 ghost use Rattle.run_values.specs.Shown.{value_of};
 ghost use Rattle.with_loops.specs.Tells.{TellsItems};
 
@@ -16,7 +16,7 @@ use crate::state::{Context, State};
 use crate::trace::Trace;
 use buffer_heap::Heap;
 use counted_code::Code;
-use run_heap::{place_own, read_array, release};
+use run_store::{Store, place_own, read_array, release};
 use run_types::all_fit;
 use run_values::{Frames, RunValue};
 use sac_base::{Array, Caps, FaultKind, Memory, Site};
@@ -56,7 +56,7 @@ pub fn run<R: Threads + Sync>(
 {
     let mut state = State {
         frames: Frames::new(alloc),
-        heap: mem::replace(heap, Heap::new(alloc)),
+        heap: Store::of(mem::replace(heap, Heap::new(alloc))),
         phases: 0,
     };
     let context = Context {
@@ -72,7 +72,7 @@ pub fn run<R: Threads + Sync>(
         heap: used,
         phases,
     } = state;
-    *heap = used;
+    *heap = used.own;
     heap.clear();
     trace.taken = heap.taken();
     trace.given = heap.given();
@@ -85,8 +85,13 @@ pub fn run<R: Threads + Sync>(
 const START: Site = Site { line: 1, col: 1 };
 
 // Runs the main function on arguments.
-fn run_main(args: Vec<Array>, context: &Context<'_>, state: &mut State) -> Result<Vec<Array>, Stop>
-    ensures { (m : MachineHeap) → IsAt state.old m → Told AreArrays result state.new (main_in context.now args.items m) }
+fn run_main(
+    args: Vec<Array>,
+    context: &Context<'_>,
+    state: &mut State<'_>,
+) -> Result<Vec<Array>, Stop>
+    ensures told { (m : MachineHeap) → IsAt state.old m → Told AreArrays result state.new (main_in context.now args.items m) }
+    ensures lender { lender_of state.new.heap ≡ lender_of state.old.heap }
 {
     let code = context.code;
     let Some(main) = code.functions.get(code.main as usize) else {
@@ -102,8 +107,13 @@ fn run_main(args: Vec<Array>, context: &Context<'_>, state: &mut State) -> Resul
 }
 
 // Places arrays.
-fn place_all(alloc: Global, heap: &mut Heap, arrays: Vec<Array>) -> Result<Vec<RunValue>, Memory>
-    ensures { (m : MachineHeap) → Stands heap.old m → IfOk result (λ v. ArePlaced v.items heap.new (all_placed arrays.items m)) }
+fn place_all(
+    alloc: Global,
+    heap: &mut Store<'_>,
+    arrays: Vec<Array>,
+) -> Result<Vec<RunValue>, Memory>
+    ensures placed { (m : MachineHeap) → Stands heap.old m → IfOk result (λ v. ArePlaced v.items heap.new (all_placed arrays.items m)) }
+    ensures lender { lender_of heap.new ≡ lender_of heap.old }
 {
     let mut values = Vec::new(alloc);
     for array in arrays {
@@ -116,16 +126,17 @@ fn place_all(alloc: Global, heap: &mut Heap, arrays: Vec<Array>) -> Result<Vec<R
 fn copy_out(
     values: &[RunValue],
     context: &Context<'_>,
-    state: &mut State,
+    state: &mut State<'_>,
 ) -> Result<Vec<Array>, Stop>
-    ensures { (m : MachineHeap) → IsAt state.old m → Told AreArrays result state.new (copied_out (map value_of values.now) m) }
+    ensures told { (m : MachineHeap) → IsAt state.old m → Told AreArrays result state.new (copied_out (map value_of values.now) m) }
+    ensures lender { lender_of state.new.heap ≡ lender_of state.old.heap }
 {
     let arrays = read_all(context.alloc, &state.heap, values)?;
     release_all(&mut state.heap, values)?;
     Ok(arrays)
 }
 
-fn read_all(alloc: Global, heap: &Heap, values: &[RunValue]) -> Result<Vec<Array>, Memory>
+fn read_all(alloc: Global, heap: &Store<'_>, values: &[RunValue]) -> Result<Vec<Array>, Memory>
     ensures { (m : MachineHeap) → Stands heap.now m → IfOk result (λ v. v.items ≡ map (read m) (map value_of values.now)) }
 {
     let mut arrays = Vec::new(alloc);
@@ -135,8 +146,9 @@ fn read_all(alloc: Global, heap: &Heap, values: &[RunValue]) -> Result<Vec<Array
     Ok(arrays)
 }
 
-fn release_all(heap: &mut Heap, values: &[RunValue]) -> Result<(), Memory>
-    ensures { (m : MachineHeap) → Stands heap.old m → OnOk result (Stands heap.new (all_released (map value_of values.now) m)) }
+fn release_all(heap: &mut Store<'_>, values: &[RunValue]) -> Result<(), Memory>
+    ensures released { (m : MachineHeap) → Stands heap.old m → OnOk result (Stands heap.new (all_released (map value_of values.now) m)) }
+    ensures lender { lender_of heap.new ≡ lender_of heap.old }
 {
     for value in values {
         release(heap, *value)?;

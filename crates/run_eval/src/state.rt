@@ -1,7 +1,7 @@
 //! The state of a run, and the code that runs.
 
-use buffer_heap::Heap;
 use counted_code::Code;
+use run_store::Store;
 use run_values::Frames;
 use std::alloc::Global;
 
@@ -20,8 +20,8 @@ pub struct Context<'a> {
 
 /// The variables, the buffers and the number of phases so far, modulo 2^64.
 #[derive(Drop)]
-pub struct State {
+pub struct State<'a> {
     pub frames: Frames,
-    pub heap: Heap,
+    pub heap: Store<'a>,
     pub phases: u64,
 }

@@ -5,3 +5,4 @@ pub mod Parts
 pub mod Placing
 pub mod Targets
 pub mod Wholes
+pub mod Ends

@@ -40,7 +40,7 @@ use Rattle.run_eval.specs.Loops.{IsPresent, array_of, cells_run, fold_target, he
 use Rattle.counted_code.specs.Loops.{job_does, settled, loop_does, parted_job}
 use Rattle.with_loops.specs.Cells.{cells_from}
 use Rattle.with_loops.specs.Plans.{plan_of}
-use Rattle.run_heap.specs.Targets.{target_of}
+use Rattle.run_store.specs.Targets.{target_of}
 use Rattle.run_eval.proofs.CellJobs.{fold_nothing, target_nothing}
 use Rattle.run_eval.proofs.CellLoops.{array_stops, array_tells, filled_all, fold_stops, fold_tells, joined_all, loop_end, loop_step, loop_stop, part_fold_stops, part_fold_tells, parts_stop, parts_tell}
 use Rattle.run_eval.proofs.CellMakings.{filled_more, filling, folded_more, folding, joined_more, joining}
@@ -66,6 +66,7 @@ run_steps-loop-step-preserved t c =
           let here = subst (λ left. Reaches ctx steps s m left st) split (c.loop-step.invariant.told m at) in
           next_step ctx steps s m item (drop (k + 1) steps) st c.run_step.new.state here (c.in_ok-run_step.ensures.told here.heap here.stands);
       scopes = c.in_ok-run_step.ensures.scopes ∙ c.loop-step.invariant.scopes;
+      lender = c.in_ok-run_step.ensures.lender ∙ c.loop-step.invariant.lender;
     }
 
 pub run_steps-returns-in_err-run_step : goal.run_steps-returns-in_err-run_step
@@ -84,6 +85,7 @@ run_steps-returns-in_err-run_step t c =
           let here = subst (λ left. Reaches ctx steps s m left st) split (c.loop-step.invariant.told m at) in
           subst (λ r. ToldSteps ctx steps s c.run_step.new.state m r) (sym is) (last_step ctx steps s m item (drop (k + 1) steps) st c.run_step.new.state here stop (c.in_err-run_step.ensures.told here.heap here.stands));
       scopes = no_scopes (SameOuter s.frames c.run_step.new.state.frames) c.from_residual.result stop is;
+      lender = c.in_err-run_step.ensures.lender ∙ c.loop-step.invariant.lender;
     }
 
 pub run_steps-returns : goal.run_steps-returns
@@ -94,6 +96,7 @@ run_steps-returns t c =
     record {
       told = λ m at. subst (λ left. Reaches ctx steps s m left c.loop-step.state) (drop_all c.loop-step.step-index steps (omega (arith, c.loop-step-test.false))) (c.loop-step.invariant.told m at);
       scopes = c.loop-step.invariant.scopes;
+      lender = c.loop-step.invariant.lender;
     }
 
 pub run_step-run_let-requires : goal.run_step-run_let-requires
@@ -106,6 +109,7 @@ run_step-returns-in-Bind t c =
     record {
       told = λ m at. subst (λ x. ToldSteps ctx (x ∷ []) s c.run_let.new.state m c.run_let.result) (sym c.in-Bind.is) (c.run_let.ensures.told m at);
       scopes = c.run_let.ensures.scopes;
+      lender = c.run_let.ensures.lender;
     }
 
 pub run_step-returns-in_ok-keep-in-Keep : goal.run_step-returns-in_ok-keep-in-Keep
@@ -115,8 +119,9 @@ run_step-returns-in_ok-keep-in-Keep t c =
     let i = c.in-Keep in
     let new = record s { heap = c.keep.new.heap } in
     record {
-      told = λ m at. subst (λ x. Reaches ctx (x ∷ []) s m [] new) (sym i.is) (keep_goes ctx i.x c.get.result s new m c.get.ensures refl refl at (c.in_ok-keep-in-Keep.ensures m at.heap));
+      told = λ m at. subst (λ x. Reaches ctx (x ∷ []) s m [] new) (sym i.is) (keep_goes ctx i.x c.get.result s new m c.get.ensures refl refl at (c.in_ok-keep-in-Keep.ensures.kept m at.heap));
       scopes = refl;
+      lender = c.in_ok-keep-in-Keep.ensures.lender;
     }
 
 pub run_step-returns-in_ok-release-in-Release : goal.run_step-returns-in_ok-release-in-Release
@@ -126,8 +131,9 @@ run_step-returns-in_ok-release-in-Release t c =
     let i = c.in-Release in
     let new = record s { heap = c.release.new.heap } in
     record {
-      told = λ m at. subst (λ x. Reaches ctx (x ∷ []) s m [] new) (sym i.is) (release_goes ctx i.x c.get-in-Release.result s new m c.get-in-Release.ensures refl refl at (c.in_ok-release-in-Release.ensures m at.heap));
+      told = λ m at. subst (λ x. Reaches ctx (x ∷ []) s m [] new) (sym i.is) (release_goes ctx i.x c.get-in-Release.result s new m c.get-in-Release.ensures refl refl at (c.in_ok-release-in-Release.ensures.released m at.heap));
       scopes = refl;
+      lender = c.in_ok-release-in-Release.ensures.lender;
     }
 
 pub run_let-run_right-requires : goal.run_let-run_right-requires
@@ -147,6 +153,7 @@ run_let-returns-in_err-value t c =
     record {
       told = λ m at. subst (λ r. ToldSteps ctx (step.Bind b ∷ []) s st m r) (sym is) (let_stops ctx b s m stop st (c.in_err-value.ensures.told m at));
       scopes = no_scopes (SameOuter s.frames st.frames) c.from_residual.result stop is;
+      lender = c.in_err-value.ensures.lender;
     }
 
 pub run_let-returns-then-len-eq1 : goal.run_let-returns-then-len-eq1
@@ -166,6 +173,7 @@ run_let-returns-then-len-eq1 t c =
           (c.in_ok-bind.ensures.current ∙ ap (λ e. bind_value e x v) scopes'.0 ∙ one_target (current s.frames) b.targets.items x g.value v (omega (arith, c.if-len-eq1.true, c.len.ensures)) c.index.ensures g.agrees)
           (moved mid new g.heap refl refl g.stands);
       scopes = c.in_ok-bind.ensures.outer ∙ scopes'.1;
+      lender = c.in_ok-value.ensures.lender;
     }
 
 pub run_let-returns-in_err-run_rights : goal.run_let-returns-in_err-run_rights
@@ -179,6 +187,7 @@ run_let-returns-in_err-run_rights t c =
     record {
       told = λ m at. subst (λ r. ToldSteps ctx (step.Bind b ∷ []) s st m r) (sym is) (let_stops ctx b s m stop st (c.in_err-run_rights.ensures.told m at));
       scopes = no_scopes (SameOuter s.frames st.frames) c.from_residual-in_err-run_rights.result stop is;
+      lender = c.in_err-run_rights.ensures.lender;
     }
 
 pub run_let-returns : goal.run_let-returns
@@ -188,7 +197,7 @@ run_let-returns t c =
     let b = c.args.binding.now in
     let mid = c.run_rights.new.state in
     let vs = c.run_rights.new.values in
-    let bound = c.in_ok-bind_all.ensures in
+    let bound = c.in_ok-bind_all.ensures.bound in
     let scopes' = c.in_ok-run_rights.ensures.scopes in
     record {
       told = λ m at.
@@ -198,6 +207,7 @@ run_let-returns t c =
           (bound.inside ∙ (λ i. bind_values (scopes'.0 i) (c.deref.ensures.value i) ((ap (map value_of) c.deref-2.ensures.value ∙ own) i)))
           (moved mid c.bind_all.new.state g.heap bound.heap bound.phases g.stands);
       scopes = bound.outside ∙ scopes'.1;
+      lender = c.in_ok-bind_all.ensures.lender ∙ c.in_ok-run_rights.ensures.lender;
     }
 
 pub run_open-run_steps-requires : goal.run_open-run_steps-requires
@@ -216,6 +226,7 @@ run_open-returns-in_err-run_steps t c =
           handed (λ (_ : Unit {0}) ws. Appends c.args.values.now.items c.args.values.now.items ws) c.from_residual.result stop st (does_in ctx (code_term b) (current s.frames) m) is
           (block_stops ctx b.steps.items s m stop b.results.items st (subst (λ ss. ToldSteps ctx ss s st m (Err stop)) c.deref.ensures.value (c.in_err-run_steps.ensures.told m at)));
       scopes = no_scopes (EndsScope s.frames st.frames) c.from_residual.result stop is;
+      lender = c.in_err-run_steps.ensures.lender;
     }
 
 pub run_open-returns : goal.run_open-returns
@@ -235,6 +246,7 @@ run_open-returns t c =
           (c.in_ok-push_values.ensures ∙ ap (λ xs. map value_of old ++ map (current mid.frames) xs) c.deref-2.ensures.value)
           (moved mid new here.heap refl refl here.stands);
       scopes = λ e es h. c.leave.ensures e es (c.in_ok-run_steps.ensures.scopes ∙ h);
+      lender = c.in_ok-run_steps.ensures.lender;
     }
 
 pub run_block-run_open-requires : goal.run_block-run_open-requires
@@ -251,6 +263,7 @@ run_block-returns t c =
     record {
       told = λ m at. subst (λ e. Told (λ (_ : Unit {0}) ws. Appends old vs ws) c.run_open.result c.run_open.new.state (does_in ctx (code_term b) e m)) c.in_ok-enter.ensures.current (c.run_open.ensures.told m (moved s mid m refl refl at));
       scopes = on_ok c.run_open.result (λ (ends : EndsScope mid.frames c.run_open.new.state.frames). ends (current s.frames) (outer s.frames) c.in_ok-enter.ensures.outer) c.run_open.ensures.scopes;
+      lender = c.run_open.ensures.lender;
     }
 
 pub run_first-run_steps-requires : goal.run_first-run_steps-requires
@@ -269,6 +282,7 @@ run_first-returns-in_err-run_steps t c =
           handed IsValue c.from_residual.result stop st (first_value (does_in ctx (code_term b) (current s.frames)) m) is
           (stop_then stop st (does_in ctx (code_term b) (current s.frames) m) (λ vs. give (first_of vs)) (block_stops ctx b.steps.items s m stop b.results.items st (subst (λ ss. ToldSteps ctx ss s st m (Err stop)) c.deref.ensures.value (c.in_err-run_steps.ensures.told m at))));
       scopes = no_scopes (EndsScope s.frames st.frames) c.from_residual.result stop is;
+      lender = c.in_err-run_steps.ensures.lender;
     }
 
 pub run_first-returns : goal.run_first-returns
@@ -286,6 +300,7 @@ run_first-returns t c =
           (c.first_of-value.ensures ∙ ap (λ xs. first_of (map (current mid.frames) xs)) c.deref-2.ensures.value)
           (moved mid new here.heap refl refl here.stands);
       scopes = λ e es h. c.leave.ensures e es (c.in_ok-run_steps.ensures.scopes ∙ h);
+      lender = c.in_ok-run_steps.ensures.lender;
     }
 
 pub run_inner-run_first-requires : goal.run_inner-run_first-requires
@@ -300,6 +315,7 @@ run_inner-returns t c =
     record {
       told = λ m at. subst (λ e. Told IsValue c.run_first.result c.run_first.new.state (first_value (does_in ctx (code_term b) e) m)) c.in_ok-enter.ensures.current (c.run_first.ensures.told m (moved s mid m refl refl at));
       scopes = on_ok c.run_first.result (λ (ends : EndsScope mid.frames c.run_first.new.state.frames). ends (current s.frames) (outer s.frames) c.in_ok-enter.ensures.outer) c.run_first.ensures.scopes;
+      lender = c.run_first.ensures.lender;
     }
 
 -- ---- right sides
@@ -332,6 +348,7 @@ run_right-returns-in_err-condition-in-If t c =
           (subst (λ (end : Ended (List Value)). ToldStop stop s end) (sym whole')
           (condition_stops (List Value) site (does_in ctx (code_term i.yes) e) (does_in ctx (code_term i.no) e) stop s (e i.cond) m (subst (λ v. SaysTruth (Err stop) site (condition (read m v))) c.get.ensures (c.in_err-condition-in-If.ensures m)) at));
       scopes = no_scopes (SameScopes s.frames s.frames) c.from_residual.result stop is;
+      lender = refl;
     }
 
 pub run_right-returns-then-branch : goal.run_right-returns-then-branch
@@ -348,6 +365,7 @@ run_right-returns-then-branch t c =
           subst (λ (end : Ended (List Value)). Told IsFirst c.run_inner.result c.run_inner.new.state end) (sym (whole' ∙ says))
           (first_told c.run_inner.result c.run_inner.new.state (does_in ctx (code_term i.yes) e m) (c.run_inner.ensures.told m at));
       scopes = c.run_inner.ensures.scopes;
+      lender = c.run_inner.ensures.lender;
     }
 
 pub run_right-returns-else-branch : goal.run_right-returns-else-branch
@@ -364,6 +382,7 @@ run_right-returns-else-branch t c =
           subst (λ (end : Ended (List Value)). Told IsFirst c.run_inner-else-branch.result c.run_inner-else-branch.new.state end) (sym (whole' ∙ says))
           (first_told c.run_inner-else-branch.result c.run_inner-else-branch.new.state (does_in ctx (code_term i.no) e m) (c.run_inner-else-branch.ensures.told m at));
       scopes = c.run_inner-else-branch.ensures.scopes;
+      lender = c.run_inner-else-branch.ensures.lender;
     }
 
 pub run_rights-run_block-requires : goal.run_rights-run_block-requires
@@ -422,6 +441,7 @@ run_right-returns-in_err-run_rights-in-Loop t c =
     record {
       told = λ m at. handed IsFirst c.from_residual-in_err-run_rights-in-Loop.result stop st (right_in ctx (code_right_term c.args.right.now) c.args.site (current s.frames) m) is (c.in_err-run_rights-in-Loop.ensures.told m at);
       scopes = no_scopes (SameScopes s.frames st.frames) c.from_residual-in_err-run_rights-in-Loop.result stop is;
+      lender = c.in_err-run_rights-in-Loop.ensures.lender;
     }
 
 pub run_right-returns-in_ok-run_rights-in-Loop : goal.run_right-returns-in_ok-run_rights-in-Loop
@@ -437,6 +457,7 @@ run_right-returns-in_ok-run_rights-in-Loop t c =
           let own : map value_of vs.items ≡ g.value = g.agrees ∙ ap (λ xs. map value_of xs ++ g.value) c.new-values.ensures.items in
           tell IsFirst c.value_at.result st end g.value g.heap g.is (c.value_at.ensures ∙ ap (λ xs. first_of (map value_of xs)) c.deref.ensures.value ∙ ap first_of own) g.stands;
       scopes = c.in_ok-run_rights-in-Loop.ensures.scopes;
+      lender = c.in_ok-run_rights-in-Loop.ensures.lender;
     }
 
 pub run_right-returns-in_default : goal.run_right-returns-in_default
@@ -446,6 +467,7 @@ run_right-returns-in_default t c =
     record {
       told = λ m at. only_first c.run_one.result c.run_one.new.state (right_in ctx (code_right_term c.args.right.now) c.args.site (current s.frames) m) (c.run_one.ensures.told m at);
       scopes = c.run_one.ensures.scopes;
+      lender = c.run_one.ensures.lender;
     }
 
 pub run_test-returns-in_err-value : goal.run_test-returns-in_err-value
@@ -455,7 +477,7 @@ run_test-returns-in_err-value t c =
     let turn = c.args.turn.now in
     let vs = map value_of c.args.values.now in
     let T = code_term turn.test.now in
-    let bound = c.in_ok-bind_all.ensures in
+    let bound = c.in_ok-bind_all.ensures.bound in
     let mid = c.bind_all.new.state in
     let st = c.run_first.new.state in
     let inside = bound.inside ∙ ap (λ e. bind_values e turn.params.now vs) c.in_ok-enter.ensures.current in
@@ -467,6 +489,7 @@ run_test-returns-in_err-value t c =
           handed (λ b c. b ≡ c) c.from_residual-in_err-value.result stop st (go_on first (truth_of turn.test_site)) is
           (stop_then stop st first (truth_of turn.test_site) (subst (λ e. ToldStop stop st (first_value (does_in ctx T e) m)) inside (c.in_err-value.ensures.told m (moved s mid m bound.heap bound.phases at))));
       scopes = no_scopes (SameScopes s.frames st.frames) c.from_residual-in_err-value.result stop is;
+      lender = c.in_err-value.ensures.lender ∙ c.in_ok-bind_all.ensures.lender;
     }
 
 pub run_test-returns-in_err-truth : goal.run_test-returns-in_err-truth
@@ -476,7 +499,7 @@ run_test-returns-in_err-truth t c =
     let turn = c.args.turn.now in
     let vs = map value_of c.args.values.now in
     let T = code_term turn.test.now in
-    let bound = c.in_ok-bind_all.ensures in
+    let bound = c.in_ok-bind_all.ensures.bound in
     let mid = c.bind_all.new.state in
     let st = c.run_first.new.state in
     let v = c.in_ok-value.value in
@@ -489,6 +512,7 @@ run_test-returns-in_err-truth t c =
           handed (λ b c. b ≡ c) c.from_residual-in_err-truth.result stop st (go_on first (truth_of turn.test_site)) is
           (test_stops stop turn.test_site v st first (subst (λ e. Told IsValue (Ok v) st (first_value (does_in ctx T e) m)) inside (c.in_ok-value.ensures.told m (moved s mid m bound.heap bound.phases at))) c.in_err-truth.ensures);
       scopes = no_scopes (SameScopes s.frames st.frames) c.from_residual-in_err-truth.result stop is;
+      lender = c.in_ok-value.ensures.lender ∙ c.in_ok-bind_all.ensures.lender;
     }
 
 pub run_test-returns : goal.run_test-returns
@@ -498,7 +522,7 @@ run_test-returns t c =
     let turn = c.args.turn.now in
     let vs = map value_of c.args.values.now in
     let T = code_term turn.test.now in
-    let bound = c.in_ok-bind_all.ensures in
+    let bound = c.in_ok-bind_all.ensures.bound in
     let mid = c.bind_all.new.state in
     let st = c.run_first.new.state in
     let new = record st { heap = c.release.new.heap } in
@@ -507,8 +531,9 @@ run_test-returns t c =
     record {
       told = λ m at.
           let first = first_value (does_in ctx T (bind_values (current s.frames) turn.params.now vs)) m in
-          test_ends c.in_ok-truth.truth turn.test_site v st new first (subst (λ e. Told IsValue (Ok v) st (first_value (does_in ctx T e) m)) inside (c.in_ok-value.ensures.told m (moved s mid m bound.heap bound.phases at))) c.in_ok-truth.ensures c.in_ok-release.ensures refl;
+          test_ends c.in_ok-truth.truth turn.test_site v st new first (subst (λ e. Told IsValue (Ok v) st (first_value (does_in ctx T e) m)) inside (c.in_ok-value.ensures.told m (moved s mid m bound.heap bound.phases at))) c.in_ok-truth.ensures c.in_ok-release.ensures.released refl;
       scopes = c.in_ok-value.ensures.scopes (current s.frames) (outer s.frames) (bound.outside ∙ c.in_ok-enter.ensures.outer);
+      lender = c.in_ok-release.ensures.lender ∙ c.in_ok-value.ensures.lender ∙ c.in_ok-bind_all.ensures.lender;
     }
 
 pub run_turn-returns-in_err-run_open : goal.run_turn-returns-in_err-run_open
@@ -517,7 +542,7 @@ run_turn-returns-in_err-run_open t c =
     let s = c.args.state.now in
     let turn = c.args.turn.now in
     let B = code_term turn.body.now in
-    let bound = c.in_ok-bind_all.ensures in
+    let bound = c.in_ok-bind_all.ensures.bound in
     let mid = c.bind_all.new.state in
     let st = c.run_open.new.state in
     let inside = bound.inside ∙ ap (λ e. bind_values e turn.params.now (map value_of c.deref.result.now)) c.in_ok-enter.ensures.current ∙ ap (λ us. bind_values (current s.frames) turn.params.now (map value_of us)) c.deref.ensures.value in
@@ -529,6 +554,7 @@ run_turn-returns-in_err-run_open t c =
           handed (λ (_ : Unit {0}) ws. vs ≡ ws) c.from_residual-in_err-run_open.result stop st (does_in ctx B (bind_values (current s.frames) turn.params.now vs) m) is
           (subst (λ e. ToldStop stop st (does_in ctx B e m)) inside (c.in_err-run_open.ensures.told m (moved s mid m bound.heap bound.phases at)));
       scopes = no_scopes (SameScopes s.frames st.frames) c.from_residual-in_err-run_open.result stop is;
+      lender = c.in_err-run_open.ensures.lender ∙ c.in_ok-bind_all.ensures.lender;
     }
 
 pub run_turn-returns : goal.run_turn-returns
@@ -537,7 +563,7 @@ run_turn-returns t c =
     let s = c.args.state.now in
     let turn = c.args.turn.now in
     let B = code_term turn.body.now in
-    let bound = c.in_ok-bind_all.ensures in
+    let bound = c.in_ok-bind_all.ensures.bound in
     let mid = c.bind_all.new.state in
     let st = c.run_open.new.state in
     let inside = bound.inside ∙ ap (λ e. bind_values e turn.params.now (map value_of c.deref.result.now)) c.in_ok-enter.ensures.current ∙ ap (λ us. bind_values (current s.frames) turn.params.now (map value_of us)) c.deref.ensures.value in
@@ -551,6 +577,7 @@ run_turn-returns t c =
           tell (λ (_ : Unit {0}) ws. map value_of c.extend_from_slice.new.self.items ≡ ws) tt st end g.value g.heap g.is
           (ap (map value_of) (c.in_ok-extend_from_slice.ensures.items ∙ (λ i. c.clear-2.ensures.items i ++ c.deref-2.ensures.value i)) ∙ own) g.stands;
       scopes = c.in_ok-run_open.ensures.scopes (current s.frames) (outer s.frames) (bound.outside ∙ c.in_ok-enter.ensures.outer);
+      lender = c.in_ok-run_open.ensures.lender ∙ c.in_ok-bind_all.ensures.lender;
     }
 
 -- ---- the turns of a loop
@@ -559,6 +586,7 @@ pub repeat-loop-left-init : goal.repeat-loop-left-init
 repeat-loop-left-init t c = record {
   told = λ m at. record { heap = m; stands = at; same = refl };
   scopes = (refl, refl);
+  lender = refl;
 }
 
 pub repeat-returns-in_err-run_test : goal.repeat-returns-in_err-run_test
@@ -584,6 +612,7 @@ repeat-returns-in_err-run_test t c =
           (subst (λ us. ToldStop stop st (go_on (test_in ctx turn.params.now (code_term turn.test.now) (current c.loop-left.state.frames) (map value_of us) here.heap) (truth_of turn.test_site))) c.deref.ensures.value
           (c.in_err-run_test.ensures.told here.heap here.stands))));
       scopes = no_scopes (SameScopes s.frames st.frames) c.from_residual.result stop is;
+      lender = c.in_err-run_test.ensures.lender ∙ c.loop-left.invariant.lender;
     }
 
 pub repeat-returns-then-not-branch : goal.repeat-returns-then-not-branch
@@ -608,6 +637,7 @@ repeat-returns-then-not-branch t c =
           (subst (λ us. Told (λ b c. b ≡ c) (Ok c.in_ok-run_test.field-0) st (go_on (test_in ctx turn.params.now (code_term turn.test.now) (current c.loop-left.state.frames) (map value_of us) here.heap) (truth_of turn.test_site))) c.deref.ensures.value
           (c.in_ok-run_test.ensures.told here.heap here.stands))));
       scopes = (c.in_ok-run_test.ensures.scopes.0 ∙ sc.0, c.in_ok-run_test.ensures.scopes.1 ∙ sc.1);
+      lender = c.in_ok-run_test.ensures.lender ∙ c.loop-left.invariant.lender;
     }
 
 pub repeat-returns-then-left-eq0 : goal.repeat-returns-then-left-eq0
@@ -632,6 +662,7 @@ repeat-returns-then-left-eq0 t c =
           (subst (λ us. Told (λ b c. b ≡ c) (Ok c.in_ok-run_test.field-0) st (go_on (test_in ctx turn.params.now (code_term turn.test.now) (current c.loop-left.state.frames) (map value_of us) here.heap) (truth_of turn.test_site))) c.deref.ensures.value
           (c.in_ok-run_test.ensures.told here.heap here.stands))));
       scopes = tt;
+      lender = c.in_ok-run_test.ensures.lender ∙ c.loop-left.invariant.lender;
     }
 
 pub repeat-loop-left-preserved : goal.repeat-loop-left-preserved
@@ -663,6 +694,7 @@ repeat-loop-left-preserved t c =
           tested_turned turn.site turn.test_site test' body' most start m (left - 1) vs ws st c.run_turn.new.state tested
           (subst (λ f. Told (λ (_ : Unit {0}) us. ws ≡ us) (Ok tt) c.run_turn.new.state (turn_in ctx turn.params.now B f vs tested.heap)) (mid.0 ∙ sc.0) (c.in_ok-run_turn.ensures.told tested.heap tested.stands));
       scopes = (c.in_ok-run_turn.ensures.scopes.0 ∙ mid.0 ∙ sc.0, c.in_ok-run_turn.ensures.scopes.1 ∙ mid.1 ∙ sc.1);
+      lender = c.in_ok-run_turn.ensures.lender ∙ c.in_ok-run_test.ensures.lender ∙ c.loop-left.invariant.lender;
     }
 
 pub repeat-returns-in_err-run_turn : goal.repeat-returns-in_err-run_turn
@@ -698,6 +730,7 @@ repeat-returns-in_err-run_turn t c =
           (tested_stops body' (repeat_does (left - 1) turn.site turn.test_site test' body') vs (repeat_does most turn.site turn.test_site test' body' start m) st tested stop end'
           (subst (λ f. ToldStop stop end' (turn_in ctx turn.params.now B f vs tested.heap)) (mid.0 ∙ sc.0) (c.in_err-run_turn.ensures.told tested.heap tested.stands)));
       scopes = no_scopes (SameScopes s.frames end'.frames) c.from_residual-in_err-run_turn.result stop is;
+      lender = c.in_err-run_turn.ensures.lender ∙ c.in_ok-run_test.ensures.lender ∙ c.loop-left.invariant.lender;
     }
 
 -- ---- calls
@@ -719,6 +752,7 @@ run_call-returns-in_default t c =
           raised c.fault.result _ s m (calls_in ctx c.args.group vs c.args.site m) c.fault.ensures
           (none_chosen ctx c.args.group vs c.args.site m (sym (no_place c.choose.result c.in_default.not-Some) ∙ c.choose.ensures.told m)) at;
       scopes = tt;
+      lender = refl;
     }
 
 pub run_one-returns-in_default : goal.run_one-returns-in_default
@@ -735,8 +769,9 @@ run_one-returns-in_default t c =
           (λ v k stands same. plain_given v s new m k refl at stands same)
           (λ f. plain_failed f s new m refl at) (λ end. tt)
           (calls_in ctx) ctx.turns (code_right_term r) c.args.site (current s.frames) c.plain_value.result
-          (plain_rest r d.not-If d.not-Loop d.not-Call d.not-With d.not-Parted) (c.plain_value.ensures m at.heap);
+          (plain_rest r d.not-If d.not-Loop d.not-Call d.not-With d.not-Parted) (c.plain_value.ensures.told m at.heap);
       scopes = plain_scopes c.plain_value.result s.frames;
+      lender = c.plain_value.ensures.lender;
     }
 
 pub run_rights-returns-in_err-condition-in-If : goal.run_rights-returns-in_err-condition-in-If
@@ -755,6 +790,7 @@ run_rights-returns-in_err-condition-in-If t c =
           (subst (λ (end : Ended (List Value)). ToldStop stop s end) (sym whole')
           (condition_stops (List Value) site (does_in ctx (code_term i.yes) e) (does_in ctx (code_term i.no) e) stop s (e i.cond) m (subst (λ v. SaysTruth (Err stop) site (condition (read m v))) c.get.ensures (c.in_err-condition-in-If.ensures m)) at));
       scopes = no_scopes (SameScopes s.frames s.frames) c.from_residual.result stop is;
+      lender = refl;
     }
 
 pub run_rights-returns-then-branch : goal.run_rights-returns-then-branch
@@ -770,6 +806,7 @@ run_rights-returns-then-branch t c =
           let says = condition_goes (List Value) site (does_in ctx (code_term i.yes) e) (does_in ctx (code_term i.no) e) (e i.cond) m true (subst (λ b. SaysTruth (Ok b) site (condition (read m (e i.cond)))) c.if-branch.true (subst (λ v. SaysTruth (Ok c.in_ok-condition-in-If.field-0) site (condition (read m v))) c.get.ensures (c.in_ok-condition-in-If.ensures m))) in
           subst (λ (end : Ended (List Value)). Told (λ (_ : Unit {0}) ws. Appends c.args.values.now.items c.run_block.new.values.items ws) c.run_block.result c.run_block.new.state end) (sym (whole' ∙ says)) (c.run_block.ensures.told m at);
       scopes = c.run_block.ensures.scopes;
+      lender = c.run_block.ensures.lender;
     }
 
 pub run_rights-returns-else-branch : goal.run_rights-returns-else-branch
@@ -785,6 +822,7 @@ run_rights-returns-else-branch t c =
           let says = condition_goes (List Value) site (does_in ctx (code_term i.yes) e) (does_in ctx (code_term i.no) e) (e i.cond) m false (subst (λ b. SaysTruth (Ok b) site (condition (read m (e i.cond)))) c.if-branch.false (subst (λ v. SaysTruth (Ok c.in_ok-condition-in-If.field-0) site (condition (read m v))) c.get.ensures (c.in_ok-condition-in-If.ensures m))) in
           subst (λ (end : Ended (List Value)). Told (λ (_ : Unit {0}) ws. Appends c.args.values.now.items c.run_block-else-branch.new.values.items ws) c.run_block-else-branch.result c.run_block-else-branch.new.state end) (sym (whole' ∙ says)) (c.run_block-else-branch.ensures.told m at);
       scopes = c.run_block-else-branch.ensures.scopes;
+      lender = c.run_block-else-branch.ensures.lender;
     }
 
 pub run_rights-returns-in_err-run_loop-in-Loop : goal.run_rights-returns-in_err-run_loop-in-Loop
@@ -806,6 +844,7 @@ run_rights-returns-in_err-run_loop-in-Loop t c =
           ((λ j. turns_do i.first_body ctx.turns site i.test_site (test_in ctx (c.deref.ensures.value j) (code_term i.test) e) (turn_in ctx (c.deref.ensures.value j) (code_term i.body) e) (started j) m) ∙ sym whole')
           (c.in_err-run_loop-in-Loop.ensures.told m at));
       scopes = no_scopes (SameScopes s.frames st.frames) c.from_residual-in_err-run_loop-in-Loop.result stop is;
+      lender = c.in_err-run_loop-in-Loop.ensures.lender;
     }
 
 pub run_rights-returns-in_ok-extend_from_slice-in-Loop : goal.run_rights-returns-in_ok-extend_from_slice-in-Loop
@@ -829,6 +868,7 @@ run_rights-returns-in_ok-extend_from_slice-in-Loop t c =
           tell (λ (_ : Unit {0}) ws. Appends c.args.values.now.items new ws) tt st end g.value g.heap g.is
           (appended c.args.values.now.items own new g.value (c.in_ok-extend_from_slice-in-Loop.ensures.items ∙ ap (λ xs. c.args.values.now.items ++ xs) c.deref-in-Loop-2.ensures.value) g.agrees) g.stands;
       scopes = c.in_ok-run_loop-in-Loop.ensures.scopes;
+      lender = c.in_ok-run_loop-in-Loop.ensures.lender;
     }
 
 pub run_rights-returns-in_ok-push_values-in-Call : goal.run_rights-returns-in_ok-push_values-in-Call
@@ -844,6 +884,7 @@ run_rights-returns-in_ok-push_values-in-Call t c =
           subst (λ (end : Ended (List Value)). Told (λ (_ : Unit {0}) ws. Appends c.args.values.now.items c.run_call.new.values.items ws) c.run_call.result c.run_call.new.state end)
           (ap (λ us. calls_in ctx i.group us site m) passed ∙ sym (ap (λ r. right_in ctx (code_right_term r) site e m) i.is)) (c.run_call.ensures.told m at);
       scopes = c.run_call.ensures.scopes;
+      lender = c.run_call.ensures.lender;
     }
 
 pub run_rights-returns-in_err-value-in_default : goal.run_rights-returns-in_err-value-in_default
@@ -856,6 +897,7 @@ run_rights-returns-in_err-value-in_default t c =
     record {
       told = λ m at. handed (λ (_ : Unit {0}) ws. Appends c.args.values.now.items c.args.values.now.items ws) (c.from_residual-in_err-value-in_default).result stop st (right_in ctx (code_right_term c.args.right.now) c.args.site (current s.frames) m) is ((c.in_err-value-in_default).ensures.told m at);
       scopes = no_scopes (SameScopes s.frames st.frames) (c.from_residual-in_err-value-in_default).result stop is;
+      lender = (c.in_err-value-in_default).ensures.lender;
     }
 
 pub run_rights-returns-in_ok-push-in_default : goal.run_rights-returns-in_ok-push-in_default
@@ -872,6 +914,7 @@ run_rights-returns-in_ok-push-in_default t c =
           tell (λ (_ : Unit {0}) ws. Appends c.args.values.now.items new ws) tt st end g.value g.heap g.is
           (appended c.args.values.now.items (v ∷ []) new g.value (c.in_ok-push-in_default).ensures.items (sym g.agrees)) g.stands;
       scopes = (c.in_ok-value-in_default).ensures.scopes;
+      lender = (c.in_ok-value-in_default).ensures.lender;
     }
 
 pub run_one-returns-in-With : goal.run_one-returns-in-With
@@ -881,6 +924,7 @@ run_one-returns-in-With t c =
     record {
       told = λ m at. subst (λ r. Told IsOnly c.run_with.result c.run_with.new.state (right_in ctx (code_right_term r) c.args.site e m)) (sym c.in-With.is) (c.run_with.ensures.told m at);
       scopes = c.run_with.ensures.scopes;
+      lender = c.run_with.ensures.lender;
     }
 
 pub run_one-returns-in-Parted : goal.run_one-returns-in-Parted
@@ -890,6 +934,7 @@ run_one-returns-in-Parted t c =
     record {
       told = λ m at. subst (λ r. Told IsOnly c.run_parted.result c.run_parted.new.state (right_in ctx (code_right_term r) c.args.site e m)) (sym c.in-Parted.is) (c.run_parted.ensures.told m at);
       scopes = c.run_parted.ensures.scopes;
+      lender = c.run_parted.ensures.lender;
     }
 
 pub run_loop-returns-in_err-run_turn : goal.run_loop-returns-in_err-run_turn
@@ -910,6 +955,7 @@ run_loop-returns-in_err-run_turn t c =
           (subst (λ b. ToldStop stop st (turns_do b ctx.turns turn.site turn.test_site test' body' vs m)) (sym c.if-first_body.true)
           (stop_then stop st (body' vs m) (repeat_does (ctx.turns - 1) turn.site turn.test_site test' body') (c.in_err-run_turn.ensures.told m at)));
       scopes = no_scopes (SameScopes s.frames st.frames) c.from_residual.result stop is;
+      lender = c.in_err-run_turn.ensures.lender;
     }
 
 pub run_loop-returns-then-first_body : goal.run_loop-returns-then-first_body
@@ -938,6 +984,7 @@ run_loop-returns-then-first_body t c =
           ∙ ap (λ b. turns_do b ctx.turns turn.site turn.test_site test' body' vs m) (sym c.if-first_body.true))
           (c.repeat.ensures.told g.heap g.stands);
       scopes = on_ok c.repeat.result (λ (same : SameScopes mid.frames st.frames). (same.0 ∙ sc.0, same.1 ∙ sc.1)) c.repeat.ensures.scopes;
+      lender = c.repeat.ensures.lender ∙ c.in_ok-run_turn.ensures.lender;
     }
 
 pub run_loop-returns : goal.run_loop-returns
@@ -955,6 +1002,7 @@ run_loop-returns t c =
           subst (λ b. Told (λ (_ : Unit {0}) ws. map value_of c.repeat-else-first_body.new.values.items ≡ ws) c.repeat-else-first_body.result c.repeat-else-first_body.new.state (turns_do b ctx.turns turn.site turn.test_site test' body' vs m)) (sym c.if-first_body.false)
           (c.repeat-else-first_body.ensures.told m at);
       scopes = c.repeat-else-first_body.ensures.scopes;
+      lender = c.repeat-else-first_body.ensures.lender;
     }
 
 pub run_call-returns-in_err-inner : goal.run_call-returns-in_err-inner
@@ -973,6 +1021,7 @@ run_call-returns-in_err-inner t c =
           handed (λ (_ : Unit {0}) ws. Appends c.args.values.now.items c.args.values.now.items ws) c.from_residual.result stop s (calls_in ctx c.args.group vs c.args.site m) is
           (call_stops ctx c.args.group vs c.args.site m place (code_fun_term f) (sym c.in-Some.is ∙ c.choose.ensures.told m) here stop s c.in_err-inner.ensures at);
       scopes = no_scopes (SameScopes s.frames s.frames) c.from_residual.result stop is;
+      lender = refl;
     }
 
 pub run_call-returns : goal.run_call-returns
@@ -990,6 +1039,7 @@ run_call-returns t c =
           subst (λ (end : Ended (List Value)). Told (λ (_ : Unit {0}) ws. Appends c.args.values.now.items c.run_function.new.values.items ws) c.run_function.result c.run_function.new.state end)
           (sym (call_runs ctx c.args.group vs c.args.site m place (code_fun_term f) (sym c.in-Some.is ∙ c.choose.ensures.told m) here inner c.in_ok-inner.ensures)) (c.run_function.ensures.told m at);
       scopes = c.run_function.ensures.scopes;
+      lender = c.run_function.ensures.lender;
     }
 
 pub run_function-run_open-requires : goal.run_function-run_open-requires
@@ -1001,7 +1051,7 @@ run_function-returns-in_err-run_open t c =
     let s = c.args.state.now in
     let f = c.args.function.now in
     let B = code_term f.body in
-    let bound = c.in_ok-bind_params.ensures in
+    let bound = c.in_ok-bind_params.ensures.bound in
     let mid = c.bind_params.new.state in
     let st = c.run_open.new.state in
     let vs = map value_of c.args.args.now in
@@ -1014,6 +1064,7 @@ run_function-returns-in_err-run_open t c =
           handed (λ (_ : Unit {0}) ws. Appends c.args.values.now.items c.args.values.now.items ws) c.from_residual-in_err-run_open.result stop st (go_on first (results_do f.results.items f.ends)) is
           (stop_then stop st first (results_do f.results.items f.ends) (subst (λ e. ToldStop stop st (does_in ctx B e m)) inside (c.in_err-run_open.ensures.told m (moved s mid m bound.heap bound.phases at))));
       scopes = no_scopes (SameScopes s.frames st.frames) c.from_residual-in_err-run_open.result stop is;
+      lender = c.in_err-run_open.ensures.lender ∙ c.in_ok-bind_params.ensures.lender;
     }
 
 pub run_function-returns-then-not-all_have : goal.run_function-returns-then-not-all_have
@@ -1022,7 +1073,7 @@ run_function-returns-then-not-all_have t c =
     let s = c.args.state.now in
     let f = c.args.function.now in
     let B = code_term f.body in
-    let bound = c.in_ok-bind_params.ensures in
+    let bound = c.in_ok-bind_params.ensures.bound in
     let mid = c.bind_params.new.state in
     let st = c.run_open.new.state in
     let vs = map value_of c.args.args.now in
@@ -1036,6 +1087,7 @@ run_function-returns-then-not-all_have t c =
           results_unfit f.results.items f.ends own st first c.fault.result c.fault.ensures block
           (λ h. sym c.if-not-all_have.true ∙ c.all_have.ensures h ∙ (λ j. all_have (c.deref-2.ensures.value j) (map (read h) (map value_of (c.deref-3.ensures.value j)))));
       scopes = tt;
+      lender = c.in_ok-run_open.ensures.lender ∙ c.in_ok-bind_params.ensures.lender;
     }
 
 pub run_function-returns : goal.run_function-returns
@@ -1044,7 +1096,7 @@ run_function-returns t c =
     let s = c.args.state.now in
     let f = c.args.function.now in
     let B = code_term f.body in
-    let bound = c.in_ok-bind_params.ensures in
+    let bound = c.in_ok-bind_params.ensures.bound in
     let mid = c.bind_params.new.state in
     let st = c.run_open.new.state in
     let vs = map value_of c.args.args.now in
@@ -1062,6 +1114,7 @@ run_function-returns t c =
           let g = given (λ (_ : Unit {0}) ws. map value_of own ≡ ws) tt st end fits in
           tell (λ (_ : Unit {0}) ws. Appends old new ws) tt st end g.value g.heap g.is (appended old own new g.value (c.in_ok-extend_from_slice.ensures.items ∙ ap (λ xs. old ++ xs) c.deref-4.ensures.value) g.agrees) g.stands;
       scopes = c.in_ok-run_open.ensures.scopes (current s.frames) (outer s.frames) (bound.outside ∙ c.in_ok-enter_call.ensures.outer);
+      lender = c.in_ok-run_open.ensures.lender ∙ c.in_ok-bind_params.ensures.lender;
     }
 
 pub run_with-run_array-requires : goal.run_with-run_array-requires
@@ -1128,7 +1181,7 @@ run_parted-fold_parts-requires t c =
 
 pub fill-loop-place-init : goal.fill-loop-place-init
 fill-loop-place-init t c =
-    record { carried = λ m at. carried_start (filling c.args.background.now.old c.args.background.now.array.now c.args.background.now.size) c.args.plan.now.form ((λ (e : Values). source_in c.args.context.now e c.args.gens.now c.args.plan.now.ranges.items) (current c.args.state.now.frames)) c.args.plan.now.frame c.args.cells.now.items m c.args.state.now at; scopes = (refl, refl) }
+    record { carried = λ m at. carried_start (filling c.args.background.now.old c.args.background.now.array.now c.args.background.now.size) c.args.plan.now.form ((λ (e : Values). source_in c.args.context.now e c.args.gens.now c.args.plan.now.ranges.items) (current c.args.state.now.frames)) c.args.plan.now.frame c.args.cells.now.items m c.args.state.now at; scopes = (refl, refl); lender = refl }
 
 pub fill-returns-in_err-value : goal.fill-returns-in_err-value
 fill-returns-in_err-value t c =
@@ -1146,6 +1199,7 @@ fill-returns-in_err-value t c =
           handed (λ (_ : Unit {0}) found. c.loop-place.cells.items ≡ c.args.cells.now.items ++ cells_from c.args.background.now.old c.args.background.now.array.now c.args.background.now.size 0 found) c.from_residual-in_err-value.result stop st (cells_run c.args.plan.now.form ((λ (e : Values). source_in c.args.context.now e c.args.gens.now c.args.plan.now.ranges.items) (current s.frames)) c.args.plan.now.frame m) is'
           (loop_stop (filling c.args.background.now.old c.args.background.now.array.now c.args.background.now.size) c.args.plan.now.form (λ (e : Values). source_in c.args.context.now e c.args.gens.now c.args.plan.now.ranges.items) c.args.plan.now.frame c.args.cells.now.items s c.loop-place.state c.loop-place.cells.items k c.loop-place.invariant.carried c.loop-place.invariant.scopes c.components.result.now stop st inside is c.in_err-value.ensures.told m at);
       scopes = no_scopes (SameScopes s.frames st.frames) c.from_residual-in_err-value.result stop is';
+      lender = c.in_err-value.ensures.lender ∙ c.loop-place.invariant.lender;
     }
 
 pub fill-loop-place-preserved : goal.fill-loop-place-preserved
@@ -1160,8 +1214,9 @@ fill-loop-place-preserved t c =
     let o = c.in_ok-value.value in
     record {
       carried = loop_step (filling c.args.background.now.old c.args.background.now.array.now c.args.background.now.size) c.args.plan.now.form (λ (e : Values). source_in c.args.context.now e c.args.gens.now c.args.plan.now.ranges.items) c.args.plan.now.frame c.args.cells.now.items s c.loop-place.state c.loop-place.cells.items k c.loop-place.invariant.carried c.loop-place.invariant.scopes c.components.result.now o st (record st { heap = c.put_cell.new.heap }) c.put_cell.new.cells.items inside is c.in_ok-value.ensures.told
-          (λ h stands. let q = c.in_ok-put_cell.ensures h stands in (filled_more c.args.background.now.old c.args.background.now.array.now c.args.background.now.size k c.loop-place.cells.items c.put_cell.new.cells.items (option_map (read h) (option_map value_of o)) q.0, q.1)) refl;
+          (λ h stands. let q = c.in_ok-put_cell.ensures.put h stands in (filled_more c.args.background.now.old c.args.background.now.array.now c.args.background.now.size k c.loop-place.cells.items c.put_cell.new.cells.items (option_map (read h) (option_map value_of o)) q.0, q.1)) refl;
       scopes = scopes_after s.frames c.loop-place.state.frames st.frames c.loop-place.invariant.scopes c.in_ok-value.ensures.scopes;
+      lender = c.in_ok-put_cell.ensures.lender ∙ c.in_ok-value.ensures.lender ∙ c.loop-place.invariant.lender;
     }
 
 pub fill-returns : goal.fill-returns
@@ -1173,11 +1228,12 @@ fill-returns t c =
     record {
       told = loop_end (filling c.args.background.now.old c.args.background.now.array.now c.args.background.now.size) c.args.plan.now.form (λ (e : Values). source_in c.args.context.now e c.args.gens.now c.args.plan.now.ranges.items) c.args.plan.now.frame c.args.cells.now.items s c.loop-place.state c.loop-place.cells.items k c.loop-place.invariant.carried c.loop-place.invariant.scopes tt (λ (_ : Unit {0}) found. c.loop-place.cells.items ≡ c.args.cells.now.items ++ cells_from c.args.background.now.old c.args.background.now.array.now c.args.background.now.size 0 found) (λ found is. filled_all c.args.background.now.old c.args.background.now.array.now c.args.background.now.size k c.loop-place.cells.items c.args.cells.now.items found is) (omega (arith, c.loop-place-test.false, c.count-place-end.ensures));
       scopes = c.loop-place.invariant.scopes;
+      lender = c.loop-place.invariant.lender;
     }
 
 pub fold_cells-loop-place-init : goal.fold_cells-loop-place-init
 fold_cells-loop-place-init t c =
-    record { carried = λ m at. carried_start (folding c.args.op) c.args.plan.now.form ((λ (e : Values). source_in c.args.context.now e c.args.gens.now c.args.plan.now.ranges.items) (current c.args.state.now.frames)) c.args.plan.now.frame (array_of c.args.start) m c.args.state.now at; scopes = (refl, refl) }
+    record { carried = λ m at. carried_start (folding c.args.op) c.args.plan.now.form ((λ (e : Values). source_in c.args.context.now e c.args.gens.now c.args.plan.now.ranges.items) (current c.args.state.now.frames)) c.args.plan.now.frame (array_of c.args.start) m c.args.state.now at; scopes = (refl, refl); lender = refl }
 
 pub fold_cells-returns-in_err-value : goal.fold_cells-returns-in_err-value
 fold_cells-returns-in_err-value t c =
@@ -1195,6 +1251,7 @@ fold_cells-returns-in_err-value t c =
           handed (λ s found. array_of s ≡ fold (combined c.args.op) (array_of c.args.start) found) c.from_residual-in_err-value.result stop st (cells_run c.args.plan.now.form ((λ (e : Values). source_in c.args.context.now e c.args.gens.now c.args.plan.now.ranges.items) (current s.frames)) c.args.plan.now.frame m) is'
           (loop_stop (folding c.args.op) c.args.plan.now.form (λ (e : Values). source_in c.args.context.now e c.args.gens.now c.args.plan.now.ranges.items) c.args.plan.now.frame (array_of c.args.start) s c.loop-place.state (array_of c.loop-place.sum) k c.loop-place.invariant.carried c.loop-place.invariant.scopes c.components.result.now stop st inside is c.in_err-value.ensures.told m at);
       scopes = no_scopes (SameScopes s.frames st.frames) c.from_residual-in_err-value.result stop is';
+      lender = c.in_err-value.ensures.lender ∙ c.loop-place.invariant.lender;
     }
 
 pub fold_cells-loop-place-preserved : goal.fold_cells-loop-place-preserved
@@ -1209,8 +1266,9 @@ fold_cells-loop-place-preserved t c =
     let o = c.in_ok-value.value in
     record {
       carried = loop_step (folding c.args.op) c.args.plan.now.form (λ (e : Values). source_in c.args.context.now e c.args.gens.now c.args.plan.now.ranges.items) c.args.plan.now.frame (array_of c.args.start) s c.loop-place.state (array_of c.loop-place.sum) k c.loop-place.invariant.carried c.loop-place.invariant.scopes c.components.result.now o st (record st { heap = c.add_cell.new.heap }) (array_of c.in_ok-sum.sum) inside is c.in_ok-value.ensures.told
-          (λ h stands. let q = c.in_ok-sum.ensures h stands in (folded_more c.args.op k (array_of c.loop-place.sum) (array_of c.in_ok-sum.sum) (option_map (read h) (option_map value_of o)) q.0, q.1)) refl;
+          (λ h stands. let q = c.in_ok-sum.ensures.added h stands in (folded_more c.args.op k (array_of c.loop-place.sum) (array_of c.in_ok-sum.sum) (option_map (read h) (option_map value_of o)) q.0, q.1)) refl;
       scopes = scopes_after s.frames c.loop-place.state.frames st.frames c.loop-place.invariant.scopes c.in_ok-value.ensures.scopes;
+      lender = c.in_ok-sum.ensures.lender ∙ c.in_ok-value.ensures.lender ∙ c.loop-place.invariant.lender;
     }
 
 pub fold_cells-returns : goal.fold_cells-returns
@@ -1222,11 +1280,12 @@ fold_cells-returns t c =
     record {
       told = loop_end (folding c.args.op) c.args.plan.now.form (λ (e : Values). source_in c.args.context.now e c.args.gens.now c.args.plan.now.ranges.items) c.args.plan.now.frame (array_of c.args.start) s c.loop-place.state (array_of c.loop-place.sum) k c.loop-place.invariant.carried c.loop-place.invariant.scopes c.loop-place.sum (λ s found. array_of s ≡ fold (combined c.args.op) (array_of c.args.start) found) (λ found is. is) (omega (arith, c.loop-place-test.false, c.count-place-end.ensures));
       scopes = c.loop-place.invariant.scopes;
+      lender = c.loop-place.invariant.lender;
     }
 
 pub join_parts-loop-place-init : goal.join_parts-loop-place-init
 join_parts-loop-place-init t c =
-    record { carried = λ m at. carried_start joining c.args.form.now ((λ (e : Values). part_source_in c.args.context.now e c.args.parts.now) (current c.args.state.now.frames)) c.args.frame.now c.args.cells.now.items m c.args.state.now at; scopes = (refl, refl) }
+    record { carried = λ m at. carried_start joining c.args.form.now ((λ (e : Values). part_source_in c.args.context.now e c.args.parts.now) (current c.args.state.now.frames)) c.args.frame.now c.args.cells.now.items m c.args.state.now at; scopes = (refl, refl); lender = refl }
 
 pub join_parts-returns-in_err-value : goal.join_parts-returns-in_err-value
 join_parts-returns-in_err-value t c =
@@ -1244,6 +1303,7 @@ join_parts-returns-in_err-value t c =
           handed (λ (_ : Unit {0}) found. c.loop-place.cells.items ≡ c.args.cells.now.items ++ flat_map elements_of found) c.from_residual-in_err-value.result stop st (cells_run c.args.form.now ((λ (e : Values). part_source_in c.args.context.now e c.args.parts.now) (current s.frames)) c.args.frame.now m) is'
           (loop_stop joining c.args.form.now (λ (e : Values). part_source_in c.args.context.now e c.args.parts.now) c.args.frame.now c.args.cells.now.items s c.loop-place.state c.loop-place.cells.items k c.loop-place.invariant.carried c.loop-place.invariant.scopes c.components.result.now stop st inside is c.in_err-value.ensures.told m at);
       scopes = no_scopes (SameScopes s.frames st.frames) c.from_residual-in_err-value.result stop is';
+      lender = c.in_err-value.ensures.lender ∙ c.loop-place.invariant.lender;
     }
 
 pub join_parts-loop-place-preserved : goal.join_parts-loop-place-preserved
@@ -1258,8 +1318,9 @@ join_parts-loop-place-preserved t c =
     let o = c.in_ok-value.value in
     record {
       carried = loop_step joining c.args.form.now (λ (e : Values). part_source_in c.args.context.now e c.args.parts.now) c.args.frame.now c.args.cells.now.items s c.loop-place.state c.loop-place.cells.items k c.loop-place.invariant.carried c.loop-place.invariant.scopes c.components.result.now o st (record st { heap = c.join_cell.new.heap }) c.join_cell.new.cells.items inside is c.in_ok-value.ensures.told
-          (λ h stands. let q = c.in_ok-join_cell.ensures h stands in (joined_more k c.loop-place.cells.items c.join_cell.new.cells.items (option_map (read h) (option_map value_of o)) q.0, q.1)) refl;
+          (λ h stands. let q = c.in_ok-join_cell.ensures.joined h stands in (joined_more k c.loop-place.cells.items c.join_cell.new.cells.items (option_map (read h) (option_map value_of o)) q.0, q.1)) refl;
       scopes = scopes_after s.frames c.loop-place.state.frames st.frames c.loop-place.invariant.scopes c.in_ok-value.ensures.scopes;
+      lender = c.in_ok-join_cell.ensures.lender ∙ c.in_ok-value.ensures.lender ∙ c.loop-place.invariant.lender;
     }
 
 pub join_parts-returns : goal.join_parts-returns
@@ -1271,11 +1332,12 @@ join_parts-returns t c =
     record {
       told = loop_end joining c.args.form.now (λ (e : Values). part_source_in c.args.context.now e c.args.parts.now) c.args.frame.now c.args.cells.now.items s c.loop-place.state c.loop-place.cells.items k c.loop-place.invariant.carried c.loop-place.invariant.scopes tt (λ (_ : Unit {0}) found. c.loop-place.cells.items ≡ c.args.cells.now.items ++ flat_map elements_of found) (λ found is. joined_all k c.loop-place.cells.items c.args.cells.now.items found is) (omega (arith, c.loop-place-test.false, c.count-place-end.ensures));
       scopes = c.loop-place.invariant.scopes;
+      lender = c.loop-place.invariant.lender;
     }
 
 pub combine_parts-loop-place-init : goal.combine_parts-loop-place-init
 combine_parts-loop-place-init t c =
-    record { carried = λ m at. carried_start (folding c.args.op) c.args.form.now ((λ (e : Values). part_source_in c.args.context.now e c.args.parts.now) (current c.args.state.now.frames)) c.args.frame.now (array_of c.args.start) m c.args.state.now at; scopes = (refl, refl) }
+    record { carried = λ m at. carried_start (folding c.args.op) c.args.form.now ((λ (e : Values). part_source_in c.args.context.now e c.args.parts.now) (current c.args.state.now.frames)) c.args.frame.now (array_of c.args.start) m c.args.state.now at; scopes = (refl, refl); lender = refl }
 
 pub combine_parts-returns-in_err-value : goal.combine_parts-returns-in_err-value
 combine_parts-returns-in_err-value t c =
@@ -1293,6 +1355,7 @@ combine_parts-returns-in_err-value t c =
           handed (λ s found. array_of s ≡ fold (combined c.args.op) (array_of c.args.start) found) c.from_residual-in_err-value.result stop st (cells_run c.args.form.now ((λ (e : Values). part_source_in c.args.context.now e c.args.parts.now) (current s.frames)) c.args.frame.now m) is'
           (loop_stop (folding c.args.op) c.args.form.now (λ (e : Values). part_source_in c.args.context.now e c.args.parts.now) c.args.frame.now (array_of c.args.start) s c.loop-place.state (array_of c.loop-place.sum) k c.loop-place.invariant.carried c.loop-place.invariant.scopes c.components.result.now stop st inside is c.in_err-value.ensures.told m at);
       scopes = no_scopes (SameScopes s.frames st.frames) c.from_residual-in_err-value.result stop is';
+      lender = c.in_err-value.ensures.lender ∙ c.loop-place.invariant.lender;
     }
 
 pub combine_parts-loop-place-preserved : goal.combine_parts-loop-place-preserved
@@ -1307,8 +1370,9 @@ combine_parts-loop-place-preserved t c =
     let o = c.in_ok-value.value in
     record {
       carried = loop_step (folding c.args.op) c.args.form.now (λ (e : Values). part_source_in c.args.context.now e c.args.parts.now) c.args.frame.now (array_of c.args.start) s c.loop-place.state (array_of c.loop-place.sum) k c.loop-place.invariant.carried c.loop-place.invariant.scopes c.components.result.now o st (record st { heap = c.add_cell.new.heap }) (array_of c.in_ok-sum.sum) inside is c.in_ok-value.ensures.told
-          (λ h stands. let q = c.in_ok-sum.ensures h stands in (folded_more c.args.op k (array_of c.loop-place.sum) (array_of c.in_ok-sum.sum) (option_map (read h) (option_map value_of o)) q.0, q.1)) refl;
+          (λ h stands. let q = c.in_ok-sum.ensures.added h stands in (folded_more c.args.op k (array_of c.loop-place.sum) (array_of c.in_ok-sum.sum) (option_map (read h) (option_map value_of o)) q.0, q.1)) refl;
       scopes = scopes_after s.frames c.loop-place.state.frames st.frames c.loop-place.invariant.scopes c.in_ok-value.ensures.scopes;
+      lender = c.in_ok-sum.ensures.lender ∙ c.in_ok-value.ensures.lender ∙ c.loop-place.invariant.lender;
     }
 
 pub combine_parts-returns : goal.combine_parts-returns
@@ -1320,6 +1384,7 @@ combine_parts-returns t c =
     record {
       told = loop_end (folding c.args.op) c.args.form.now (λ (e : Values). part_source_in c.args.context.now e c.args.parts.now) c.args.frame.now (array_of c.args.start) s c.loop-place.state (array_of c.loop-place.sum) k c.loop-place.invariant.carried c.loop-place.invariant.scopes c.loop-place.sum (λ s found. array_of s ≡ fold (combined c.args.op) (array_of c.args.start) found) (λ found is. is) (omega (arith, c.loop-place-test.false, c.count-place-end.ensures));
       scopes = c.loop-place.invariant.scopes;
+      lender = c.loop-place.invariant.lender;
     }
 
 pub gen_cell-returns-in_err-value-in-Some : goal.gen_cell-returns-in_err-value-in-Some
@@ -1339,6 +1404,7 @@ gen_cell-returns-in_err-value-in-Some t c =
           (subst (λ h. ToldStop stop st (unreleased form (option_map (gen_source ctx (current s.frames) v) h) m)) found
           (stop_then stop st (then_go (apart (gen_source ctx (current s.frames) v c.in-Some.g.now).cell) (formed form (gen_source ctx (current s.frames) v c.in-Some.g.now).site) m) (λ w. give (Some w)) (c.in_err-value-in-Some.ensures.told m at)));
       scopes = no_scopes (SameScopes s.frames st.frames) c.from_residual.result stop is;
+      lender = c.in_err-value-in-Some.ensures.lender;
     }
 
 pub gen_cell-returns-in_ok-value-in-Some : goal.gen_cell-returns-in_ok-value-in-Some
@@ -1356,6 +1422,7 @@ gen_cell-returns-in_ok-value-in-Some t c =
           subst (λ h. Told IsPresent (Ok (Some w)) st (unreleased form (option_map (gen_source ctx (current s.frames) v) h) m)) found
           (present_told w st form (gen_source ctx (current s.frames) v c.in-Some.g.now) m (c.in_ok-value-in-Some.ensures.told m at));
       scopes = c.in_ok-value-in-Some.ensures.scopes;
+      lender = c.in_ok-value-in-Some.ensures.lender;
     }
 
 pub gen_cell-returns-in-None : goal.gen_cell-returns-in-None
@@ -1369,6 +1436,7 @@ gen_cell-returns-in-None t c =
     record {
       told = λ m at. subst (λ h. Told IsPresent (Ok None) s (unreleased form (option_map (gen_source ctx (current s.frames) v) h) m)) none (refl, at);
       scopes = (refl, refl);
+      lender = refl;
     }
 
 pub run_cell-returns : goal.run_cell-returns
@@ -1378,7 +1446,7 @@ run_cell-returns t c =
     let s = a.state.now in
     let g = a.g.now in
     let v = a.index.now in
-    let bound = c.in_ok-bind_index.ensures in
+    let bound = c.in_ok-bind_index.ensures.bound in
     let mid = c.bind_index.new.state in
     let answer = c.run_first-answer.result in
     let st = c.run_first-answer.new.state in
@@ -1389,6 +1457,7 @@ run_cell-returns t c =
           cell_tells answer c.formed.result st new m (first_value (does_in ctx (code_term g.body) (with_index_value (current s.frames) (gen_head g) v))) a.form.now g.site refl at.phases c.formed.ensures.told
           (subst (λ e. Told IsValue answer st (first_value (does_in ctx (code_term g.body) e) m)) inside (c.run_first-answer.ensures.told m (moved s mid m bound.heap bound.phases at)));
       scopes = cell_scopes answer c.formed.result s.frames mid.frames st.frames c.formed.ensures.same c.run_first-answer.ensures.scopes (bound.outside ∙ c.in_ok-enter.ensures.outer);
+      lender = c.run_first-answer.ensures.lender ∙ c.in_ok-bind_index.ensures.lender;
     }
 
 pub part_cell-returns-in_err-value-in-Some : goal.part_cell-returns-in_err-value-in-Some
@@ -1408,6 +1477,7 @@ part_cell-returns-in_err-value-in-Some t c =
           (subst (λ h. ToldStop stop st (unreleased form (option_map (part_source ctx (current s.frames) v) h) m)) found
           (stop_then stop st (then_go (apart (part_source ctx (current s.frames) v c.in-Some.part.now).cell) (formed form (part_source ctx (current s.frames) v c.in-Some.part.now).site) m) (λ w. give (Some w)) (c.in_err-value-in-Some.ensures.told m at)));
       scopes = no_scopes (SameScopes s.frames st.frames) c.from_residual.result stop is;
+      lender = c.in_err-value-in-Some.ensures.lender;
     }
 
 pub part_cell-returns-in_ok-value-in-Some : goal.part_cell-returns-in_ok-value-in-Some
@@ -1425,6 +1495,7 @@ part_cell-returns-in_ok-value-in-Some t c =
           subst (λ h. Told IsPresent (Ok (Some w)) st (unreleased form (option_map (part_source ctx (current s.frames) v) h) m)) found
           (present_told w st form (part_source ctx (current s.frames) v c.in-Some.part.now) m (c.in_ok-value-in-Some.ensures.told m at));
       scopes = c.in_ok-value-in-Some.ensures.scopes;
+      lender = c.in_ok-value-in-Some.ensures.lender;
     }
 
 pub part_cell-returns-in-None : goal.part_cell-returns-in-None
@@ -1438,6 +1509,7 @@ part_cell-returns-in-None t c =
     record {
       told = λ m at. subst (λ h. Told IsPresent (Ok None) s (unreleased form (option_map (part_source ctx (current s.frames) v) h) m)) none (refl, at);
       scopes = (refl, refl);
+      lender = refl;
     }
 
 pub run_part-returns : goal.run_part-returns
@@ -1447,7 +1519,7 @@ run_part-returns t c =
     let s = a.state.now in
     let g = a.part.now in
     let v = a.index.now in
-    let bound = c.in_ok-bind_index.ensures in
+    let bound = c.in_ok-bind_index.ensures.bound in
     let mid = c.bind_index.new.state in
     let answer = c.run_first-answer.result in
     let st = c.run_first-answer.new.state in
@@ -1458,6 +1530,7 @@ run_part-returns t c =
           cell_tells answer c.formed.result st new m (first_value (does_in ctx (code_term g.body) (bind_value (current s.frames) g.index (Small (vector Int v))))) a.form.now g.site refl at.phases c.formed.ensures.told
           (subst (λ e. Told IsValue answer st (first_value (does_in ctx (code_term g.body) e) m)) inside (c.run_first-answer.ensures.told m (moved s mid m bound.heap bound.phases at)));
       scopes = cell_scopes answer c.formed.result s.frames mid.frames st.frames c.formed.ensures.same c.run_first-answer.ensures.scopes (bound.outside ∙ c.in_ok-enter.ensures.outer);
+      lender = c.run_first-answer.ensures.lender ∙ c.in_ok-bind_index.ensures.lender;
     }
 
 pub run_array-returns-in_err-fill : goal.run_array-returns-in_err-fill
@@ -1476,6 +1549,7 @@ run_array-returns-in_err-fill t c =
           handed IsValue c.from_residual-in_err-fill.result stop s1 (job_does None (array_job ctx (current s.frames) m a.gens.now (plan_of p) a.array.now a.old) m) is
           (array_stops ctx a.gens.now (plan_of p) s s0 (target_of target) m c.in_ok-target.ensures.frames (target_nothing target) a.array.now a.old c.in_ok-size.size c.in_ok-size.ensures (c.in_ok-target.ensures.begun m (length p.frame) at) stop s1 c.in_err-fill.ensures.told);
       scopes = no_scopes (SameScopes s.frames s1.frames) c.from_residual-in_err-fill.result stop is;
+      lender = c.in_err-fill.ensures.lender ∙ c.in_ok-target.ensures.lender;
     }
 
 pub run_array-returns : goal.run_array-returns
@@ -1496,6 +1570,7 @@ run_array-returns t c =
           target.cells.items items r s1 s2 c.in_ok-target.ensures.cells c.in_ok-fill.ensures.told
           (λ h there. subst (λ b. Told IsValue r s2 (settled (target_of target) (record { base = b; shape = p.shape; cells = items }) h)) c.base.ensures (c.finish.ensures.told h there));
       scopes = on_ok r (λ q. scopes_join s.frames s0.frames s1.frames s2.frames c.in_ok-target.ensures.frames c.in_ok-fill.ensures.scopes q) c.finish.ensures.frames;
+      lender = c.finish.ensures.lender ∙ c.in_ok-fill.ensures.lender ∙ c.in_ok-target.ensures.lender;
     }
 
 pub run_fold-returns-in_err-sum : goal.run_fold-returns-in_err-sum
@@ -1514,6 +1589,7 @@ run_fold-returns-in_err-sum t c =
           handed IsValue c.from_residual-in_err-sum.result stop s1 (job_does None (fold_job ctx (current s.frames) m a.gens.now (plan_of p) a.op a.neutral) m) is
           (fold_stops ctx a.gens.now (plan_of p) s s0 (fold_target target) m c.in_ok-target.ensures.frames (fold_nothing target) a.op a.neutral (c.in_ok-target.ensures.begun m (length p.frame) at) stop s1 c.in_err-sum.ensures.told);
       scopes = no_scopes (SameScopes s.frames s1.frames) c.from_residual-in_err-sum.result stop is;
+      lender = c.in_err-sum.ensures.lender ∙ c.in_ok-target.ensures.lender;
     }
 
 pub run_fold-returns : goal.run_fold-returns
@@ -1532,6 +1608,7 @@ run_fold-returns t c =
           fold_tells ctx a.gens.now (plan_of p) s s0 (fold_target target) m c.in_ok-target.ensures.frames (fold_nothing target) a.op a.neutral (c.in_ok-target.ensures.begun m (length p.frame) at)
           array_of c.start.result c.in_ok-sum.sum r s1 s2 c.start.ensures c.in_ok-sum.ensures.told c.finish_fold.ensures.told;
       scopes = on_ok r (λ q. scopes_join s.frames s0.frames s1.frames s2.frames c.in_ok-target.ensures.frames c.in_ok-sum.ensures.scopes q) c.finish_fold.ensures.frames;
+      lender = c.finish_fold.ensures.lender ∙ c.in_ok-sum.ensures.lender ∙ c.in_ok-target.ensures.lender;
     }
 
 pub run_parts-returns-in_err-join_parts : goal.run_parts-returns-in_err-join_parts
@@ -1549,6 +1626,7 @@ run_parts-returns-in_err-join_parts t c =
           handed IsValue c.from_residual-in_err-join_parts.result stop s1 (job_does None (parts_job ctx (current s.frames) a.parts.now a.frame.now a.form.now a.shape.now) m) is
           (parts_stop ctx a.parts.now a.frame.now a.form.now s s0 (target_of target) m c.in_ok-target.ensures.frames (target_nothing target) a.shape.now (c.in_ok-target.ensures.begun m (length a.frame.now) at) stop s1 c.in_err-join_parts.ensures.told);
       scopes = no_scopes (SameScopes s.frames s1.frames) c.from_residual-in_err-join_parts.result stop is;
+      lender = c.in_err-join_parts.ensures.lender ∙ c.in_ok-target.ensures.lender;
     }
 
 pub run_parts-returns : goal.run_parts-returns
@@ -1567,6 +1645,7 @@ run_parts-returns t c =
           parts_tell ctx a.parts.now a.frame.now a.form.now s s0 (target_of target) m c.in_ok-target.ensures.frames (target_nothing target) a.shape.now (c.in_ok-target.ensures.begun m (length a.frame.now) at)
           target.cells.items items r s1 s2 c.in_ok-target.ensures.cells c.in_ok-join_parts.ensures.told c.finish.ensures.told;
       scopes = on_ok r (λ q. scopes_join s.frames s0.frames s1.frames s2.frames c.in_ok-target.ensures.frames c.in_ok-join_parts.ensures.scopes q) c.finish.ensures.frames;
+      lender = c.finish.ensures.lender ∙ c.in_ok-join_parts.ensures.lender ∙ c.in_ok-target.ensures.lender;
     }
 
 pub fold_parts-returns-in_err-sum : goal.fold_parts-returns-in_err-sum
@@ -1584,6 +1663,7 @@ fold_parts-returns-in_err-sum t c =
           handed IsValue c.from_residual-in_err-sum.result stop s1 (job_does None (fold_parts_job ctx (current s.frames) a.parts.now a.frame.now a.form.now a.op a.neutral) m) is
           (part_fold_stops ctx a.parts.now a.frame.now a.form.now s s0 (fold_target target) m c.in_ok-target.ensures.frames (fold_nothing target) a.op a.neutral (c.in_ok-target.ensures.begun m (length a.frame.now) at) stop s1 c.in_err-sum.ensures.told);
       scopes = no_scopes (SameScopes s.frames s1.frames) c.from_residual-in_err-sum.result stop is;
+      lender = c.in_err-sum.ensures.lender ∙ c.in_ok-target.ensures.lender;
     }
 
 pub fold_parts-returns : goal.fold_parts-returns
@@ -1601,6 +1681,7 @@ fold_parts-returns t c =
           part_fold_tells ctx a.parts.now a.frame.now a.form.now s s0 (fold_target target) m c.in_ok-target.ensures.frames (fold_nothing target) a.op a.neutral (c.in_ok-target.ensures.begun m (length a.frame.now) at)
           array_of c.start.result c.in_ok-sum.sum r s1 s2 c.start.ensures c.in_ok-sum.ensures.told c.finish_fold.ensures.told;
       scopes = on_ok r (λ q. scopes_join s.frames s0.frames s1.frames s2.frames c.in_ok-target.ensures.frames c.in_ok-sum.ensures.scopes q) c.finish_fold.ensures.frames;
+      lender = c.finish_fold.ensures.lender ∙ c.in_ok-sum.ensures.lender ∙ c.in_ok-target.ensures.lender;
     }
 
 pub run_with-returns-in_err-plan-in-Genarray-clause-told : goal.run_with-returns-in_err-plan-in-Genarray-clause-told
@@ -1758,4 +1839,5 @@ run_parted-returns t c =
           (part_cells_are ctx e m p.frame p.base p.cell p.parts.items a.site p.op c.in_ok-frame.frame (record { base = p.base; shape = c.copy.result }) c.in_ok-shape-in_default.shape c.deref-in_default.result.now r st
           (λ o x is. c.in_default.not-Fold o x is) c.in_ok-frame.ensures (λ j. record { base = p.base; shape = c.copy.ensures j }) c.in_ok-shape-in_default.ensures c.deref-in_default.ensures.value (c.run_parts.ensures.told m at));
       scopes = c.run_parts.ensures.scopes;
+      lender = c.run_parts.ensures.lender;
     }

@@ -1,10 +1,11 @@
-use Rattle.std.proofs.Common.{◌+◌, ◌*◌, max, map, drop}
+use Rattle.std.proofs.Common.{◌≡◌, ◌+◌, ◌*◌, max, map, drop}
 use Rattle.counted_code.specs.declared.tree.CodeBlock.{size-CodeBlock}
 use Rattle.counted_code.specs.declared.tree.CodeLet.{size-CodeLet}
 use Rattle.counted_code.specs.declared.tree.CodeRight.{size-CodeRight}
 use Rattle.counted_code.specs.declared.tree.CodeStep.{size-CodeStep}
 use Rattle.counted_code.specs.Values.{Heap}
 use Rattle.counted_code.specs.View.{code_term}
+use Rattle.run_store.specs.Stands.{lender_of}
 use Rattle.run_values.specs.Scopes.{current}
 use Rattle.run_values.specs.Shown.{value_of}
 use Rattle.run_eval.specs.Running.{turn_in, test_in, IsAt, SameScopes, SameOuter, Reaches}
@@ -71,12 +72,14 @@ abbrev pub invariant-run_steps-loop-step : goal.invariant-run_steps-loop-step
 invariant-run_steps-loop-step l = record {
   told : (m : Heap) → IsAt l.initial.state m → Reaches l.context l.steps l.initial.state m (drop l.step-index l.steps) l.state;
   scopes : SameOuter l.initial.state.frames l.state.frames;
+  lender : lender_of l.state.heap ≡ lender_of l.initial.state.heap;
 }
 
 abbrev pub invariant-repeat-loop-left : goal.invariant-repeat-loop-left
 invariant-repeat-loop-left l = record {
   told : (m : Heap) → IsAt l.initial.state m → Turned l.turn.site l.turn.test_site (test_in l.context l.turn.params.now (code_term l.turn.test.now) (current l.initial.state.frames)) (turn_in l.context l.turn.params.now (code_term l.turn.body.now) (current l.initial.state.frames)) l.initial.left (map value_of l.initial.values.items) m l.left (map value_of l.values.items) l.state;
   scopes : SameScopes l.initial.state.frames l.state.frames;
+  lender : lender_of l.state.heap ≡ lender_of l.initial.state.heap;
 }
 
 abbrev pub decreases-repeat-loop-left : goal.decreases-repeat-loop-left
@@ -128,22 +131,26 @@ abbrev pub invariant-fill-loop-place : goal.invariant-fill-loop-place
 invariant-fill-loop-place l = record {
   carried : (m : Heap) → IsAt l.initial.state m → Carries (filling l.background.old l.background.array.now l.background.size) l.plan.form (source_in l.context (current l.initial.state.frames) l.gens l.plan.ranges.items) l.plan.frame l.initial.cells.items m l.state l.cells.items l.place;
   scopes : SameScopes l.initial.state.frames l.state.frames;
+  lender : lender_of l.state.heap ≡ lender_of l.initial.state.heap;
 }
 
 abbrev pub invariant-fold_cells-loop-place : goal.invariant-fold_cells-loop-place
 invariant-fold_cells-loop-place l = record {
   carried : (m : Heap) → IsAt l.initial.state m → Carries (folding l.op) l.plan.form (source_in l.context (current l.initial.state.frames) l.gens l.plan.ranges.items) l.plan.frame (array_of l.initial.sum) m l.state (array_of l.sum) l.place;
   scopes : SameScopes l.initial.state.frames l.state.frames;
+  lender : lender_of l.state.heap ≡ lender_of l.initial.state.heap;
 }
 
 abbrev pub invariant-join_parts-loop-place : goal.invariant-join_parts-loop-place
 invariant-join_parts-loop-place l = record {
   carried : (m : Heap) → IsAt l.initial.state m → Carries joining l.form (part_source_in l.context (current l.initial.state.frames) l.parts) l.frame l.initial.cells.items m l.state l.cells.items l.place;
   scopes : SameScopes l.initial.state.frames l.state.frames;
+  lender : lender_of l.state.heap ≡ lender_of l.initial.state.heap;
 }
 
 abbrev pub invariant-combine_parts-loop-place : goal.invariant-combine_parts-loop-place
 invariant-combine_parts-loop-place l = record {
   carried : (m : Heap) → IsAt l.initial.state m → Carries (folding l.op) l.form (part_source_in l.context (current l.initial.state.frames) l.parts) l.frame (array_of l.initial.sum) m l.state (array_of l.sum) l.place;
   scopes : SameScopes l.initial.state.frames l.state.frames;
+  lender : lender_of l.state.heap ≡ lender_of l.initial.state.heap;
 }
