@@ -22,7 +22,8 @@ use crate::cells::{Background, begin, count_elements, finish, formed, join_cell,
 use crate::folds::{Sum, add_cell, begin_fold, finish_fold, start};
 use crate::holders::{holder, part_holder};
 use crate::levels::{condition, deeper};
-use crate::state::{Context, State};
+use crate::phases::Phases;
+use crate::state::{Context, State, Turn};
 use core_ir::{CoreOp, PartedOp, Var};
 use counted_code::{
     CodeBlock, CodeFun, CodeGen, CodeLet, CodePart, CodeParted, CodeRight, CodeStep, CodeWith,
@@ -36,26 +37,36 @@ use with_loops::{Frame, IndexVector, Plan, Stop, fault, fold_plan, genarray_plan
 
 /// Runs the steps of a block in the scope that is open.
 #[cycle(run)]
-fn run_steps(steps: &[CodeStep], context: &Context<'_>, state: &mut State<'_>) -> Result<(), Stop>
+fn run_steps<P: Phases>(
+    steps: &[CodeStep],
+    context: &Context<'_>,
+    outside: Option<&P>,
+    state: &mut State<'_>,
+) -> Result<(), Stop>
     ensures told { (m : MachineHeap) → IsAt state.old m → ToldSteps context.now steps.now state.old state.new m result }
     ensures scopes { OnOk result (SameOuter state.old.frames state.new.frames) }
     ensures lender { lender_of state.new.heap ≡ lender_of state.old.heap }
 {
     for step in steps {
-        run_step(step, context, state)?;
+        run_step(step, context, outside, state)?;
     }
     Ok(())
 }
 
 /// Runs a step.
 #[cycle(run)]
-fn run_step(step: &CodeStep, context: &Context<'_>, state: &mut State<'_>) -> Result<(), Stop>
+fn run_step<P: Phases>(
+    step: &CodeStep,
+    context: &Context<'_>,
+    outside: Option<&P>,
+    state: &mut State<'_>,
+) -> Result<(), Stop>
     ensures told { (m : MachineHeap) → IsAt state.old m → ToldSteps context.now (step.now ∷ []) state.old state.new m result }
     ensures scopes { OnOk result (SameOuter state.old.frames state.new.frames) }
     ensures lender { lender_of state.new.heap ≡ lender_of state.old.heap }
 {
     match step {
-        CodeStep::Bind(binding) => run_let(binding, context, state),
+        CodeStep::Bind(binding) => run_let(binding, context, outside, state),
         CodeStep::Keep(x) => {
             keep(&mut state.heap, state.frames.get(*x))?;
             Ok(())
@@ -69,27 +80,40 @@ fn run_step(step: &CodeStep, context: &Context<'_>, state: &mut State<'_>) -> Re
 
 /// Runs a binding.
 #[cycle(run)]
-fn run_let(binding: &CodeLet, context: &Context<'_>, state: &mut State<'_>) -> Result<(), Stop>
+fn run_let<P: Phases>(
+    binding: &CodeLet,
+    context: &Context<'_>,
+    outside: Option<&P>,
+    state: &mut State<'_>,
+) -> Result<(), Stop>
     ensures told { (m : MachineHeap) → IsAt state.old m → ToldSteps context.now (CodeStep.Bind binding.now ∷ []) state.old state.new m result }
     ensures scopes { OnOk result (SameOuter state.old.frames state.new.frames) }
     ensures lender { lender_of state.new.heap ≡ lender_of state.old.heap }
 {
     if binding.targets.len() == 1 {
-        let value = run_right(&binding.right, binding.site, context, state)?;
+        let value = run_right(&binding.right, binding.site, context, outside, state)?;
         state.frames.bind(binding.targets[0], value)?;
         return Ok(());
     }
     let mut values = Vec::new(context.alloc);
-    run_rights(&binding.right, binding.site, context, state, &mut values)?;
+    run_rights(
+        &binding.right,
+        binding.site,
+        context,
+        outside,
+        state,
+        &mut values,
+    )?;
     bind_all(state, &binding.targets, &values)?;
     Ok(())
 }
 
 /// Appends the results of a block, whose scope is open and ends with it.
 #[cycle(run)]
-fn run_open(
+fn run_open<P: Phases>(
     block: &CodeBlock,
     context: &Context<'_>,
+    outside: Option<&P>,
     state: &mut State<'_>,
     values: &mut Vec<RunValue>,
 ) -> Result<(), Stop>
@@ -97,7 +121,7 @@ fn run_open(
     ensures scopes { OnOk result (EndsScope state.old.frames state.new.frames) }
     ensures lender { lender_of state.new.heap ≡ lender_of state.old.heap }
 {
-    run_steps(&block.steps, context, state)?;
+    run_steps(&block.steps, context, outside, state)?;
     push_values(state, &block.results, values)?;
     state.frames.leave();
     Ok(())
@@ -105,9 +129,10 @@ fn run_open(
 
 /// Appends the results of a block, which runs in a scope of its own.
 #[cycle(run)]
-fn run_block(
+fn run_block<P: Phases>(
     block: &CodeBlock,
     context: &Context<'_>,
+    outside: Option<&P>,
     state: &mut State<'_>,
     values: &mut Vec<RunValue>,
 ) -> Result<(), Stop>
@@ -116,21 +141,22 @@ fn run_block(
     ensures lender { lender_of state.new.heap ≡ lender_of state.old.heap }
 {
     state.frames.enter()?;
-    run_open(block, context, state, values)
+    run_open(block, context, outside, state, values)
 }
 
 /// The first result of a block, whose scope is open and ends with it.
 #[cycle(run)]
-fn run_first(
+fn run_first<P: Phases>(
     block: &CodeBlock,
     context: &Context<'_>,
+    outside: Option<&P>,
     state: &mut State<'_>,
 ) -> Result<RunValue, Stop>
     ensures told { (m : MachineHeap) → IsAt state.old m → Told IsValue result state.new (first_value (does_in context.now (code_term block.now) (current state.old.frames)) m) }
     ensures scopes { OnOk result (EndsScope state.old.frames state.new.frames) }
     ensures lender { lender_of state.new.heap ≡ lender_of state.old.heap }
 {
-    run_steps(&block.steps, context, state)?;
+    run_steps(&block.steps, context, outside, state)?;
     let value = first_of(state, &block.results);
     state.frames.leave();
     Ok(value)
@@ -138,9 +164,10 @@ fn run_first(
 
 /// The first result of a block, which runs in a scope of its own.
 #[cycle(run)]
-fn run_inner(
+fn run_inner<P: Phases>(
     block: &CodeBlock,
     context: &Context<'_>,
+    outside: Option<&P>,
     state: &mut State<'_>,
 ) -> Result<RunValue, Stop>
     ensures told { (m : MachineHeap) → IsAt state.old m → Told IsValue result state.new (first_value (does_in context.now (code_term block.now) (current state.old.frames)) m) }
@@ -148,15 +175,16 @@ fn run_inner(
     ensures lender { lender_of state.new.heap ≡ lender_of state.old.heap }
 {
     state.frames.enter()?;
-    run_first(block, context, state)
+    run_first(block, context, outside, state)
 }
 
 /// The first value of a right side.
 #[cycle(run)]
-fn run_right(
+fn run_right<P: Phases>(
     right: &CodeRight,
     site: Site,
     context: &Context<'_>,
+    outside: Option<&P>,
     state: &mut State<'_>,
 ) -> Result<RunValue, Stop>
     ensures told { (m : MachineHeap) → IsAt state.old m → Told IsFirst result state.new (right_in context.now (code_right_term right.now) site (current state.old.frames) m) }
@@ -166,26 +194,27 @@ fn run_right(
     match right {
         CodeRight::If { cond, yes, no } => {
             if condition(state.frames.get(*cond), site)? {
-                run_inner(yes, context, state)
+                run_inner(yes, context, outside, state)
             } else {
-                run_inner(no, context, state)
+                run_inner(no, context, outside, state)
             }
         }
         CodeRight::Loop { .. } | CodeRight::Call { .. } => {
             let mut values = Vec::new(context.alloc);
-            run_rights(right, site, context, state, &mut values)?;
+            run_rights(right, site, context, outside, state, &mut values)?;
             Ok(value_at(&values, 0))
         }
-        _ => run_one(right, site, context, state),
+        _ => run_one(right, site, context, outside, state),
     }
 }
 
 /// Appends the values of a right side.
 #[cycle(run)]
-fn run_rights(
+fn run_rights<P: Phases>(
     right: &CodeRight,
     site: Site,
     context: &Context<'_>,
+    outside: Option<&P>,
     state: &mut State<'_>,
     values: &mut Vec<RunValue>,
 ) -> Result<(), Stop>
@@ -196,9 +225,9 @@ fn run_rights(
     match right {
         CodeRight::If { cond, yes, no } => {
             if condition(state.frames.get(*cond), site)? {
-                run_block(yes, context, state, values)
+                run_block(yes, context, outside, state, values)
             } else {
-                run_block(no, context, state, values)
+                run_block(no, context, outside, state, values)
             }
         }
         CodeRight::Loop {
@@ -218,17 +247,17 @@ fn run_rights(
             };
             let mut own = Vec::new(context.alloc);
             push_values(state, start, &mut own)?;
-            run_loop(&turn, *first_body, context, state, &mut own)?;
+            run_loop(&turn, *first_body, context, outside, state, &mut own)?;
             values.extend_from_slice(&own)?;
             Ok(())
         }
         CodeRight::Call { group, args } => {
             let mut passed = Vec::new(context.alloc);
             push_values(state, args, &mut passed)?;
-            run_call(*group, &passed, site, context, state, values)
+            run_call(*group, &passed, site, context, outside, state, values)
         }
         _ => {
-            let value = run_one(right, site, context, state)?;
+            let value = run_one(right, site, context, outside, state)?;
             values.push(value)?;
             Ok(())
         }
@@ -237,10 +266,11 @@ fn run_rights(
 
 /// The value of a right side that has always one. Another counts as want of memory.
 #[cycle(run)]
-fn run_one(
+fn run_one<P: Phases>(
     right: &CodeRight,
     site: Site,
     context: &Context<'_>,
+    outside: Option<&P>,
     state: &mut State<'_>,
 ) -> Result<RunValue, Stop>
     ensures told { (m : MachineHeap) → IsAt state.old m → Told IsOnly result state.new (right_in context.now (code_right_term right.now) site (current state.old.frames) m) }
@@ -248,29 +278,20 @@ fn run_one(
     ensures lender { lender_of state.new.heap ≡ lender_of state.old.heap }
 {
     match right {
-        CodeRight::With(with) => run_with(with, site, context, state),
-        CodeRight::Parted(parted) => run_parted(parted, site, context, state),
+        CodeRight::With(with) => run_with(with, site, context, outside, state),
+        CodeRight::Parted(parted) => run_parted(parted, site, context, outside, state),
         CodeRight::If { .. } | CodeRight::Loop { .. } | CodeRight::Call { .. } => Err(Stop::Memory),
         _ => plain_value(right, site, context.alloc, &mut state.heap, &state.frames),
     }
 }
 
-/// A loop whose turns are run.
-#[derive(Clone, Copy)]
-struct Turn<'a> {
-    params: &'a [Var],
-    test: &'a CodeBlock,
-    body: &'a CodeBlock,
-    test_site: Site,
-    site: Site,
-}
-
 /// Runs the turns of a loop over these values.
 #[cycle(run)]
-fn run_loop(
+fn run_loop<P: Phases>(
     turn: &Turn<'_>,
     first_body: bool,
     context: &Context<'_>,
+    outside: Option<&P>,
     state: &mut State<'_>,
     values: &mut Vec<RunValue>,
 ) -> Result<(), Stop>
@@ -280,20 +301,29 @@ fn run_loop(
 {
     let mut next = Vec::new(context.alloc);
     if first_body {
-        run_turn(turn, context, state, values, &mut next)?;
+        run_turn(turn, context, outside, state, values, &mut next)?;
         let left = context.turns.saturating_sub(1);
-        repeat(turn, left, context, state, values, &mut next)
+        repeat(turn, left, context, outside, state, values, &mut next)
     } else {
-        repeat(turn, context.turns, context, state, values, &mut next)
+        repeat(
+            turn,
+            context.turns,
+            context,
+            outside,
+            state,
+            values,
+            &mut next,
+        )
     }
 }
 
 /// Makes turns while the test holds, so many at most.
 #[cycle(run)]
-fn repeat(
+fn repeat<P: Phases>(
     turn: &Turn<'_>,
     most: u64,
     context: &Context<'_>,
+    outside: Option<&P>,
     state: &mut State<'_>,
     values: &mut Vec<RunValue>,
     next: &mut Vec<RunValue>,
@@ -304,22 +334,23 @@ fn repeat(
 {
     let mut left = most;
     loop {
-        if !run_test(turn, context, state, values)? {
+        if !run_test(turn, context, outside, state, values)? {
             return Ok(());
         }
         if left == 0 {
             return Err(fault(FaultKind::F9, turn.site));
         }
         left -= 1;
-        run_turn(turn, context, state, values, next)?;
+        run_turn(turn, context, outside, state, values, next)?;
     }
 }
 
 /// Whether a further turn is made.
 #[cycle(run)]
-fn run_test(
+fn run_test<P: Phases>(
     turn: &Turn<'_>,
     context: &Context<'_>,
+    outside: Option<&P>,
     state: &mut State<'_>,
     values: &[RunValue],
 ) -> Result<bool, Stop>
@@ -329,7 +360,7 @@ fn run_test(
 {
     state.frames.enter()?;
     bind_all(state, turn.params, values)?;
-    let value = run_first(turn.test, context, state)?;
+    let value = run_first(turn.test, context, outside, state)?;
     let truth = condition(value, turn.test_site)?;
     release(&mut state.heap, value)?;
     Ok(truth)
@@ -337,9 +368,10 @@ fn run_test(
 
 /// Gives the parameters the values of the next turn.
 #[cycle(run)]
-fn run_turn(
+fn run_turn<P: Phases>(
     turn: &Turn<'_>,
     context: &Context<'_>,
+    outside: Option<&P>,
     state: &mut State<'_>,
     values: &mut Vec<RunValue>,
     next: &mut Vec<RunValue>,
@@ -351,7 +383,7 @@ fn run_turn(
     state.frames.enter()?;
     bind_all(state, turn.params, values)?;
     next.clear();
-    run_open(turn.body, context, state, next)?;
+    run_open(turn.body, context, outside, state, next)?;
     values.clear();
     values.extend_from_slice(next)?;
     Ok(())
@@ -359,11 +391,12 @@ fn run_turn(
 
 /// Appends the results of a call.
 #[cycle(run)]
-fn run_call(
+fn run_call<P: Phases>(
     group: u32,
     args: &[RunValue],
     site: Site,
     context: &Context<'_>,
+    outside: Option<&P>,
     state: &mut State<'_>,
     values: &mut Vec<RunValue>,
 ) -> Result<(), Stop>
@@ -377,15 +410,16 @@ fn run_call(
     };
     let function = &code.functions[place];
     let inner = deeper(function, site, context)?;
-    run_function(function, args, &inner, state, values)
+    run_function(function, args, &inner, outside, state, values)
 }
 
 /// Appends the results of a function.
 #[cycle(run)]
-pub fn run_function(
+pub fn run_function<P: Phases>(
     function: &CodeFun,
     args: &[RunValue],
     context: &Context<'_>,
+    outside: Option<&P>,
     state: &mut State<'_>,
     values: &mut Vec<RunValue>,
 ) -> Result<(), Stop>
@@ -396,7 +430,7 @@ pub fn run_function(
     state.frames.enter_call()?;
     bind_params(state, &function.params, args)?;
     let mut own = Vec::new(context.alloc);
-    run_open(&function.body, context, state, &mut own)?;
+    run_open(&function.body, context, outside, state, &mut own)?;
     if !all_have(&function.results, &own) {
         return Err(fault(FaultKind::F7, function.ends));
     }
@@ -406,10 +440,11 @@ pub fn run_function(
 
 /// The result of a with-loop.
 #[cycle(run)]
-fn run_with(
+fn run_with<P: Phases>(
     with: &CodeWith,
     site: Site,
     context: &Context<'_>,
+    outside: Option<&P>,
     state: &mut State<'_>,
 ) -> Result<RunValue, Stop>
     ensures told { (m : MachineHeap) → IsAt state.old m → Told IsOnly result state.new (right_in context.now (code_with_term with.now) site (current state.old.frames) m) }
@@ -423,45 +458,49 @@ fn run_with(
             let shape = read_array(alloc, &state.heap, state.frames.get(shape))?;
             let default = read_array(alloc, &state.heap, state.frames.get(default))?;
             let plan = genarray_plan(alloc, &bounds, &shape, &default, site)?;
-            run_array(&with.gens, &plan, &default, false, context, state)
+            run_array(&with.gens, &plan, &default, false, context, outside, state)
         }
         CoreOp::Modarray { array } => {
             let old = read_array(alloc, &state.heap, state.frames.get(array))?;
             let plan = modarray_plan(alloc, &bounds, &old, site)?;
-            run_array(&with.gens, &plan, &old, true, context, state)
+            run_array(&with.gens, &plan, &old, true, context, outside, state)
         }
         CoreOp::Fold { op, neutral } => {
             let neutral = read_array(alloc, &state.heap, state.frames.get(neutral))?;
             let plan = fold_plan(alloc, &bounds, &neutral, site)?;
-            run_fold(&with.gens, &plan, op, neutral, context, state)
+            run_fold(&with.gens, &plan, op, neutral, context, outside, state)
         }
     }
 }
 
 /// The result of a genarray or modarray whose checks have passed.
 #[cycle(run)]
-fn run_array(
+fn run_array<P: Phases>(
     gens: &[CodeGen],
     plan: &Plan,
     array: &Array,
     old: bool,
     context: &Context<'_>,
+    outside: Option<&P>,
     state: &mut State<'_>,
 ) -> Result<RunValue, Stop>
     ensures told { (m : MachineHeap) → IsAt state.old m → Told IsValue result state.new (job_does None (array_job context.now (current state.old.frames) m gens.now (plan_of plan.now) array.now old) m) }
     ensures scopes { OnOk result (SameScopes state.old.frames state.new.frames) }
     ensures lender { lender_of state.new.heap ≡ lender_of state.old.heap }
 {
+    if let Some(phases) = outside {
+        return phases.array(gens, plan, array, old, context, state);
+    }
     let size = count_elements(&plan.form.shape)?;
     let background = Background { array, old, size };
     let mut target = begin(&plan.shape, context, state)?;
-    fill(gens, plan, &background, context, state, &mut target.cells)?;
+    fill::<P>(gens, plan, &background, context, state, &mut target.cells)?;
     finish(target, array.base(), &plan.shape, state)
 }
 
 /// Appends the cells of all indices.
 #[cycle(run)]
-fn fill(
+fn fill<P: Phases>(
     gens: &[CodeGen],
     plan: &Plan,
     background: &Background<'_>,
@@ -476,7 +515,7 @@ fn fill(
     let mut index = IndexVector::new(context.alloc);
     for place in 0..plan.frame.count() {
         plan.frame.index(place, &mut index)?;
-        let value = gen_cell(gens, plan, index.components(), context, state)?;
+        let value = gen_cell::<P>(gens, plan, index.components(), context, state)?;
         put_cell(&mut state.heap, value, background, place, cells)?;
     }
     Ok(())
@@ -484,26 +523,30 @@ fn fill(
 
 /// The result of a fold whose checks have passed.
 #[cycle(run)]
-fn run_fold(
+fn run_fold<P: Phases>(
     gens: &[CodeGen],
     plan: &Plan,
     op: Op,
     neutral: Array,
     context: &Context<'_>,
+    outside: Option<&P>,
     state: &mut State<'_>,
 ) -> Result<RunValue, Stop>
     ensures told { (m : MachineHeap) → IsAt state.old m → Told IsValue result state.new (job_does None (fold_job context.now (current state.old.frames) m gens.now (plan_of plan.now) op neutral) m) }
     ensures scopes { OnOk result (SameScopes state.old.frames state.new.frames) }
     ensures lender { lender_of state.new.heap ≡ lender_of state.old.heap }
 {
+    if let Some(phases) = outside {
+        return phases.fold(gens, plan, op, neutral, context, state);
+    }
     let target = begin_fold(&plan.shape, context, state)?;
-    let sum = fold_cells(gens, plan, op, start(neutral), context, state)?;
+    let sum = fold_cells::<P>(gens, plan, op, start(neutral), context, state)?;
     finish_fold(sum, target, state)
 }
 
 /// The cells of all indices, combined.
 #[cycle(run)]
-fn fold_cells(
+fn fold_cells<P: Phases>(
     gens: &[CodeGen],
     plan: &Plan,
     op: Op,
@@ -519,7 +562,7 @@ fn fold_cells(
     let mut index = IndexVector::new(context.alloc);
     for place in 0..plan.frame.count() {
         plan.frame.index(place, &mut index)?;
-        let value = gen_cell(gens, plan, index.components(), context, state)?;
+        let value = gen_cell::<P>(gens, plan, index.components(), context, state)?;
         sum = add_cell(context.alloc, &mut state.heap, op, sum, value)?;
     }
     Ok(sum)
@@ -527,7 +570,7 @@ fn fold_cells(
 
 /// The cell of the first generator whose range holds the index, if there is one.
 #[cycle(run)]
-fn gen_cell(
+fn gen_cell<P: Phases>(
     gens: &[CodeGen],
     plan: &Plan,
     index: &[i32],
@@ -540,7 +583,7 @@ fn gen_cell(
 {
     match holder(gens, &plan.ranges, index) {
         Some(g) => {
-            let value = run_cell(g, &plan.form, index, context, state)?;
+            let value = run_cell::<P>(g, &plan.form, index, context, state)?;
             Ok(Some(value))
         }
         None => Ok(None),
@@ -549,7 +592,7 @@ fn gen_cell(
 
 /// The cell of a generator at an index, which must have the form. With-loops within it are no phases.
 #[cycle(run)]
-fn run_cell(
+pub fn run_cell<P: Phases>(
     g: &CodeGen,
     form: &Form,
     index: &[i32],
@@ -563,17 +606,18 @@ fn run_cell(
     let phases = state.phases;
     state.frames.enter()?;
     bind_index(state, g.index, &g.names, index)?;
-    let answer = run_first(&g.body, context, state);
+    let answer = run_first::<P>(&g.body, context, None, state);
     state.phases = phases;
     formed(answer, form, g.site)
 }
 
 /// The result of a parted loop. A marked one counts as want of memory.
 #[cycle(run)]
-fn run_parted(
+fn run_parted<P: Phases>(
     parted: &CodeParted,
     site: Site,
     context: &Context<'_>,
+    outside: Option<&P>,
     state: &mut State<'_>,
 ) -> Result<RunValue, Stop>
     ensures told { (m : MachineHeap) → IsAt state.old m → Told IsOnly result state.new (right_in context.now (code_parted_term parted.now) site (current state.old.frames) m) }
@@ -595,37 +639,58 @@ fn run_parted(
                 return Err(fault(FaultKind::F6, site));
             }
             let neutral = read_array(context.alloc, &state.heap, neutral)?;
-            fold_parts(&parted.parts, &frame, &form, op, neutral, context, state)
+            fold_parts(
+                &parted.parts,
+                &frame,
+                &form,
+                op,
+                neutral,
+                context,
+                outside,
+                state,
+            )
         }
         _ => {
             let shape = joined_shape(context.alloc, &parted.frame, &parted.cell)?;
-            run_parts(&parted.parts, &frame, &form, &shape, context, state)
+            run_parts(
+                &parted.parts,
+                &frame,
+                &form,
+                &shape,
+                context,
+                outside,
+                state,
+            )
         }
     }
 }
 
 /// The result of a parted loop that is no fold.
 #[cycle(run)]
-fn run_parts(
+fn run_parts<P: Phases>(
     parts: &[CodePart],
     frame: &Frame,
     form: &Form,
     shape: &Shape,
     context: &Context<'_>,
+    outside: Option<&P>,
     state: &mut State<'_>,
 ) -> Result<RunValue, Stop>
     ensures told { (m : MachineHeap) → IsAt state.old m → Told IsValue result state.new (job_does None (parts_job context.now (current state.old.frames) parts.now frame.now form.now shape.now) m) }
     ensures scopes { OnOk result (SameScopes state.old.frames state.new.frames) }
     ensures lender { lender_of state.new.heap ≡ lender_of state.old.heap }
 {
+    if let Some(phases) = outside {
+        return phases.parts(parts, frame, form, shape, context, state);
+    }
     let mut target = begin(shape, context, state)?;
-    join_parts(parts, frame, form, context, state, &mut target.cells)?;
+    join_parts::<P>(parts, frame, form, context, state, &mut target.cells)?;
     finish(target, form.base, shape, state)
 }
 
 /// Appends the cells of all indices.
 #[cycle(run)]
-fn join_parts(
+fn join_parts<P: Phases>(
     parts: &[CodePart],
     frame: &Frame,
     form: &Form,
@@ -640,7 +705,7 @@ fn join_parts(
     let mut index = IndexVector::new(context.alloc);
     for place in 0..frame.count() {
         frame.index(place, &mut index)?;
-        let value = part_cell(parts, form, index.components(), context, state)?;
+        let value = part_cell::<P>(parts, form, index.components(), context, state)?;
         join_cell(&mut state.heap, value, cells)?;
     }
     Ok(())
@@ -648,27 +713,31 @@ fn join_parts(
 
 /// The result of a parted fold.
 #[cycle(run)]
-fn fold_parts(
+fn fold_parts<P: Phases>(
     parts: &[CodePart],
     frame: &Frame,
     form: &Form,
     op: Op,
     neutral: Array,
     context: &Context<'_>,
+    outside: Option<&P>,
     state: &mut State<'_>,
 ) -> Result<RunValue, Stop>
     ensures told { (m : MachineHeap) → IsAt state.old m → Told IsValue result state.new (job_does None (fold_parts_job context.now (current state.old.frames) parts.now frame.now form.now op neutral) m) }
     ensures scopes { OnOk result (SameScopes state.old.frames state.new.frames) }
     ensures lender { lender_of state.new.heap ≡ lender_of state.old.heap }
 {
+    if let Some(phases) = outside {
+        return phases.fold_parts(parts, frame, form, op, neutral, context, state);
+    }
     let target = begin_fold(&form.shape, context, state)?;
-    let sum = combine_parts(parts, frame, form, op, start(neutral), context, state)?;
+    let sum = combine_parts::<P>(parts, frame, form, op, start(neutral), context, state)?;
     finish_fold(sum, target, state)
 }
 
 /// The cells of all indices, combined.
 #[cycle(run)]
-fn combine_parts(
+fn combine_parts<P: Phases>(
     parts: &[CodePart],
     frame: &Frame,
     form: &Form,
@@ -685,7 +754,7 @@ fn combine_parts(
     let mut index = IndexVector::new(context.alloc);
     for place in 0..frame.count() {
         frame.index(place, &mut index)?;
-        let value = part_cell(parts, form, index.components(), context, state)?;
+        let value = part_cell::<P>(parts, form, index.components(), context, state)?;
         sum = add_cell(context.alloc, &mut state.heap, op, sum, value)?;
     }
     Ok(sum)
@@ -693,7 +762,7 @@ fn combine_parts(
 
 /// The cell of the first part whose grid contains the index, if there is one.
 #[cycle(run)]
-fn part_cell(
+fn part_cell<P: Phases>(
     parts: &[CodePart],
     form: &Form,
     index: &[i32],
@@ -706,7 +775,7 @@ fn part_cell(
 {
     match part_holder(parts, index) {
         Some(part) => {
-            let value = run_part(part, form, index, context, state)?;
+            let value = run_part::<P>(part, form, index, context, state)?;
             Ok(Some(value))
         }
         None => Ok(None),
@@ -715,7 +784,7 @@ fn part_cell(
 
 /// The cell of a part at an index, which must have the form. With-loops within it are no phases.
 #[cycle(run)]
-fn run_part(
+pub fn run_part<P: Phases>(
     part: &CodePart,
     form: &Form,
     index: &[i32],
@@ -729,7 +798,7 @@ fn run_part(
     let phases = state.phases;
     state.frames.enter()?;
     bind_index(state, part.index, &[], index)?;
-    let answer = run_first(&part.body, context, state);
+    let answer = run_first::<P>(&part.body, context, None, state);
     state.phases = phases;
     formed(answer, form, part.site)
 }

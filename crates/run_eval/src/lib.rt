@@ -8,10 +8,14 @@ mod cells;
 mod folds;
 mod holders;
 mod levels;
+mod phases;
 mod program;
 mod state;
 mod trace;
 
-pub use program::{Plan, run};
+pub use blocks::{run_cell, run_part};
+pub use phases::{Never, Phases};
+pub use program::{Plan, run, run_with_phases};
+pub use state::{Context, State};
 pub use trace::Trace;
 pub use with_loops::Stop;

@@ -12,6 +12,7 @@ ghost use Rattle.run_values.specs.Shown.{value_of};
 ghost use Rattle.with_loops.specs.Tells.{TellsItems};
 
 use crate::blocks::run_function;
+use crate::phases::{Never, Phases};
 use crate::state::{Context, State};
 use crate::trace::Trace;
 use buffer_heap::Heap;
@@ -54,6 +55,52 @@ pub fn run<R: Threads + Sync>(
     ensures counters { HasCounters trace.new heap.new }
     ensures kept { KeepsChanges trace.old trace.new }
 {
+    run_code::<Never>(alloc, code, args, heap, plan, None, trace)
+}
+
+/// Runs counted code on arguments, and its with-loops outside of cells as they say.
+///
+/// Of the answers the same is told as of those of one thread.
+pub fn run_with_phases<P: Phases>(
+    alloc: Global,
+    code: &Code,
+    args: Vec<Array>,
+    heap: &mut Heap,
+    plan: Plan,
+    phases: &P,
+    trace: &mut Trace,
+) -> Result<Vec<Array>, Stop>
+    requires counted { IsWellCounted (code_program code.now) }
+    requires unmarked { IsUnmarked (code_program code.now) }
+    requires new { heap.old ≡ new_heap }
+    ensures outcome { TellsItems result (outcome_of (whole_run (code_program code.now) args.items plan.caps)) }
+    ensures cleared { IsCleared heap.new }
+    ensures cost { TellsCost result trace.new (cost_of (whole_run (code_program code.now) args.items plan.caps)) }
+    ensures counters { HasCounters trace.new heap.new }
+    ensures kept { KeepsChanges trace.old trace.new }
+{
+    run_code(alloc, code, args, heap, plan, Some(phases), trace)
+}
+
+// Runs counted code on arguments.
+fn run_code<P: Phases>(
+    alloc: Global,
+    code: &Code,
+    args: Vec<Array>,
+    heap: &mut Heap,
+    plan: Plan,
+    outside: Option<&P>,
+    trace: &mut Trace,
+) -> Result<Vec<Array>, Stop>
+    requires counted { IsWellCounted (code_program code.now) }
+    requires unmarked { IsUnmarked (code_program code.now) }
+    requires new { heap.old ≡ new_heap }
+    ensures outcome { TellsItems result (outcome_of (whole_run (code_program code.now) args.items plan.caps)) }
+    ensures cleared { IsCleared heap.new }
+    ensures cost { TellsCost result trace.new (cost_of (whole_run (code_program code.now) args.items plan.caps)) }
+    ensures counters { HasCounters trace.new heap.new }
+    ensures kept { KeepsChanges trace.old trace.new }
+{
     let mut state = State {
         frames: Frames::new(alloc),
         heap: Store::of(mem::replace(heap, Heap::new(alloc))),
@@ -66,7 +113,7 @@ pub fn run<R: Threads + Sync>(
         left: plan.caps.depth,
         nest: code.functions.len() as u64,
     };
-    let answer = run_main(args, &context, &mut state);
+    let answer = run_main(args, &context, outside, &mut state);
     let State {
         frames: _,
         heap: used,
@@ -85,9 +132,10 @@ pub fn run<R: Threads + Sync>(
 const START: Site = Site { line: 1, col: 1 };
 
 // Runs the main function on arguments.
-fn run_main(
+fn run_main<P: Phases>(
     args: Vec<Array>,
     context: &Context<'_>,
+    outside: Option<&P>,
     state: &mut State<'_>,
 ) -> Result<Vec<Array>, Stop>
     ensures told { (m : MachineHeap) → IsAt state.old m → Told AreArrays result state.new (main_in context.now args.items m) }
@@ -102,7 +150,7 @@ fn run_main(
         return Err(fault(FaultKind::F7, main.site));
     }
     let mut values = Vec::new(context.alloc);
-    run_function(main, &placed, context, state, &mut values)?;
+    run_function(main, &placed, context, outside, state, &mut values)?;
     copy_out(&values, context, state)
 }
 

@@ -1,8 +1,10 @@
 //! The state of a run, and the code that runs.
 
-use counted_code::Code;
+use core_ir::Var;
+use counted_code::{Code, CodeBlock};
 use run_store::Store;
 use run_values::Frames;
+use sac_base::Site;
 use std::alloc::Global;
 
 /// The code that runs, and how far it may go on.
@@ -24,4 +26,14 @@ pub struct State<'a> {
     pub frames: Frames,
     pub heap: Store<'a>,
     pub phases: u64,
+}
+
+/// A loop whose turns are run.
+#[derive(Clone, Copy)]
+pub struct Turn<'a> {
+    pub params: &'a [Var],
+    pub test: &'a CodeBlock,
+    pub body: &'a CodeBlock,
+    pub test_site: Site,
+    pub site: Site,
 }

@@ -50,10 +50,10 @@ use Rattle.run_eval.proofs.CellTold.{present_told}
 use Rattle.run_eval.proofs.WithHolders.{held_below, part_held_below}
 
 pub run_steps-run_step-requires : goal.run_steps-run_step-requires
-run_steps-run_step-requires t c = omega (arith, c.decreases, step_below c.args.steps.now c.loop-step.step-index c.step-item.result c.loop-step-test.true, ap size-CodeStep c.step-item.is)
+run_steps-run_step-requires g t c = omega (arith, c.decreases, step_below c.args.steps.now c.loop-step.step-index c.step-item.result c.loop-step-test.true, ap size-CodeStep c.step-item.is)
 
 pub run_steps-loop-step-preserved : goal.run_steps-loop-step-preserved
-run_steps-loop-step-preserved t c =
+run_steps-loop-step-preserved g t c =
     let ctx = c.args.context.now in
     let steps = c.args.steps.now in
     let s = c.args.state.now in
@@ -70,7 +70,7 @@ run_steps-loop-step-preserved t c =
     }
 
 pub run_steps-returns-in_err-run_step : goal.run_steps-returns-in_err-run_step
-run_steps-returns-in_err-run_step t c =
+run_steps-returns-in_err-run_step g t c =
     let ctx = c.args.context.now in
     let steps = c.args.steps.now in
     let s = c.args.state.now in
@@ -89,7 +89,7 @@ run_steps-returns-in_err-run_step t c =
     }
 
 pub run_steps-returns : goal.run_steps-returns
-run_steps-returns t c =
+run_steps-returns g t c =
     let ctx = c.args.context.now in
     let steps = c.args.steps.now in
     let s = c.args.state.now in
@@ -100,10 +100,10 @@ run_steps-returns t c =
     }
 
 pub run_step-run_let-requires : goal.run_step-run_let-requires
-run_step-run_let-requires t c = omega (arith, c.decreases, let_below c.args.step.now c.in-Bind.binding c.in-Bind.is)
+run_step-run_let-requires g t c = omega (arith, c.decreases, let_below c.args.step.now c.in-Bind.binding c.in-Bind.is)
 
 pub run_step-returns-in-Bind : goal.run_step-returns-in-Bind
-run_step-returns-in-Bind t c =
+run_step-returns-in-Bind g t c =
     let ctx = c.args.context.now in
     let s = c.args.state.now in
     record {
@@ -113,7 +113,7 @@ run_step-returns-in-Bind t c =
     }
 
 pub run_step-returns-in_ok-keep-in-Keep : goal.run_step-returns-in_ok-keep-in-Keep
-run_step-returns-in_ok-keep-in-Keep t c =
+run_step-returns-in_ok-keep-in-Keep g t c =
     let ctx = c.args.context.now in
     let s = c.args.state.now in
     let i = c.in-Keep in
@@ -125,7 +125,7 @@ run_step-returns-in_ok-keep-in-Keep t c =
     }
 
 pub run_step-returns-in_ok-release-in-Release : goal.run_step-returns-in_ok-release-in-Release
-run_step-returns-in_ok-release-in-Release t c =
+run_step-returns-in_ok-release-in-Release g t c =
     let ctx = c.args.context.now in
     let s = c.args.state.now in
     let i = c.in-Release in
@@ -137,13 +137,13 @@ run_step-returns-in_ok-release-in-Release t c =
     }
 
 pub run_let-run_right-requires : goal.run_let-run_right-requires
-run_let-run_right-requires t c = omega (arith, c.decreases, right_below c.args.binding.now)
+run_let-run_right-requires g t c = omega (arith, c.decreases, right_below c.args.binding.now)
 
 pub run_let-run_rights-requires : goal.run_let-run_rights-requires
-run_let-run_rights-requires t c = omega (arith, c.decreases, right_below c.args.binding.now)
+run_let-run_rights-requires g t c = omega (arith, c.decreases, right_below c.args.binding.now)
 
 pub run_let-returns-in_err-value : goal.run_let-returns-in_err-value
-run_let-returns-in_err-value t c =
+run_let-returns-in_err-value g t c =
     let ctx = c.args.context.now in
     let s = c.args.state.now in
     let b = c.args.binding.now in
@@ -157,7 +157,7 @@ run_let-returns-in_err-value t c =
     }
 
 pub run_let-returns-then-len-eq1 : goal.run_let-returns-then-len-eq1
-run_let-returns-then-len-eq1 t c =
+run_let-returns-then-len-eq1 g t c =
     let ctx = c.args.context.now in
     let s = c.args.state.now in
     let b = c.args.binding.now in
@@ -177,7 +177,7 @@ run_let-returns-then-len-eq1 t c =
     }
 
 pub run_let-returns-in_err-run_rights : goal.run_let-returns-in_err-run_rights
-run_let-returns-in_err-run_rights t c =
+run_let-returns-in_err-run_rights g t c =
     let ctx = c.args.context.now in
     let s = c.args.state.now in
     let b = c.args.binding.now in
@@ -191,7 +191,7 @@ run_let-returns-in_err-run_rights t c =
     }
 
 pub run_let-returns : goal.run_let-returns
-run_let-returns t c =
+run_let-returns g t c =
     let ctx = c.args.context.now in
     let s = c.args.state.now in
     let b = c.args.binding.now in
@@ -211,10 +211,10 @@ run_let-returns t c =
     }
 
 pub run_open-run_steps-requires : goal.run_open-run_steps-requires
-run_open-run_steps-requires t c = omega (arith, c.decreases, steps_below c.args.block.now, ap steps_size c.deref.ensures.value)
+run_open-run_steps-requires g t c = omega (arith, c.decreases, steps_below c.args.block.now, ap steps_size c.deref.ensures.value)
 
 pub run_open-returns-in_err-run_steps : goal.run_open-returns-in_err-run_steps
-run_open-returns-in_err-run_steps t c =
+run_open-returns-in_err-run_steps g t c =
     let ctx = c.args.context.now in
     let s = c.args.state.now in
     let b = c.args.block.now in
@@ -230,7 +230,7 @@ run_open-returns-in_err-run_steps t c =
     }
 
 pub run_open-returns : goal.run_open-returns
-run_open-returns t c =
+run_open-returns g t c =
     let ctx = c.args.context.now in
     let s = c.args.state.now in
     let b = c.args.block.now in
@@ -250,10 +250,10 @@ run_open-returns t c =
     }
 
 pub run_block-run_open-requires : goal.run_block-run_open-requires
-run_block-run_open-requires t c = omega (arith, c.decreases)
+run_block-run_open-requires g t c = omega (arith, c.decreases)
 
 pub run_block-returns : goal.run_block-returns
-run_block-returns t c =
+run_block-returns g t c =
     let ctx = c.args.context.now in
     let s = c.args.state.now in
     let b = c.args.block.now in
@@ -267,10 +267,10 @@ run_block-returns t c =
     }
 
 pub run_first-run_steps-requires : goal.run_first-run_steps-requires
-run_first-run_steps-requires t c = omega (arith, c.decreases, steps_below c.args.block.now, ap steps_size c.deref.ensures.value)
+run_first-run_steps-requires g t c = omega (arith, c.decreases, steps_below c.args.block.now, ap steps_size c.deref.ensures.value)
 
 pub run_first-returns-in_err-run_steps : goal.run_first-returns-in_err-run_steps
-run_first-returns-in_err-run_steps t c =
+run_first-returns-in_err-run_steps g t c =
     let ctx = c.args.context.now in
     let s = c.args.state.now in
     let b = c.args.block.now in
@@ -286,7 +286,7 @@ run_first-returns-in_err-run_steps t c =
     }
 
 pub run_first-returns : goal.run_first-returns
-run_first-returns t c =
+run_first-returns g t c =
     let ctx = c.args.context.now in
     let s = c.args.state.now in
     let b = c.args.block.now in
@@ -304,10 +304,10 @@ run_first-returns t c =
     }
 
 pub run_inner-run_first-requires : goal.run_inner-run_first-requires
-run_inner-run_first-requires t c = omega (arith, c.decreases)
+run_inner-run_first-requires g t c = omega (arith, c.decreases)
 
 pub run_inner-returns : goal.run_inner-returns
-run_inner-returns t c =
+run_inner-returns g t c =
     let ctx = c.args.context.now in
     let s = c.args.state.now in
     let b = c.args.block.now in
@@ -321,19 +321,19 @@ run_inner-returns t c =
 -- ---- right sides
 
 pub run_right-run_inner-requires : goal.run_right-run_inner-requires
-run_right-run_inner-requires t c = let i = c.in-If in omega (arith, c.decreases, if_first c.args.right.now i.cond i.yes i.no i.is)
+run_right-run_inner-requires g t c = let i = c.in-If in omega (arith, c.decreases, if_first c.args.right.now i.cond i.yes i.no i.is)
 
 pub run_right-run_inner-requires-else-branch : goal.run_right-run_inner-requires-else-branch
-run_right-run_inner-requires-else-branch t c = let i = c.in-If in omega (arith, c.decreases, if_second c.args.right.now i.cond i.yes i.no i.is)
+run_right-run_inner-requires-else-branch g t c = let i = c.in-If in omega (arith, c.decreases, if_second c.args.right.now i.cond i.yes i.no i.is)
 
 pub run_right-run_rights-requires : goal.run_right-run_rights-requires
-run_right-run_rights-requires t c = omega (arith, c.decreases)
+run_right-run_rights-requires g t c = omega (arith, c.decreases)
 
 pub run_right-run_one-requires : goal.run_right-run_one-requires
-run_right-run_one-requires t c = omega (arith, c.decreases)
+run_right-run_one-requires g t c = omega (arith, c.decreases)
 
 pub run_right-returns-in_err-condition-in-If : goal.run_right-returns-in_err-condition-in-If
-run_right-returns-in_err-condition-in-If t c =
+run_right-returns-in_err-condition-in-If g t c =
     let i = c.in-If in
     let ctx = c.args.context.now in
     let s = c.args.state.now in
@@ -352,7 +352,7 @@ run_right-returns-in_err-condition-in-If t c =
     }
 
 pub run_right-returns-then-branch : goal.run_right-returns-then-branch
-run_right-returns-then-branch t c =
+run_right-returns-then-branch g t c =
     let i = c.in-If in
     let ctx = c.args.context.now in
     let s = c.args.state.now in
@@ -369,7 +369,7 @@ run_right-returns-then-branch t c =
     }
 
 pub run_right-returns-else-branch : goal.run_right-returns-else-branch
-run_right-returns-else-branch t c =
+run_right-returns-else-branch g t c =
     let i = c.in-If in
     let ctx = c.args.context.now in
     let s = c.args.state.now in
@@ -386,53 +386,53 @@ run_right-returns-else-branch t c =
     }
 
 pub run_rights-run_block-requires : goal.run_rights-run_block-requires
-run_rights-run_block-requires t c = let i = c.in-If in omega (arith, c.decreases, if_first c.args.right.now i.cond i.yes i.no i.is)
+run_rights-run_block-requires g t c = let i = c.in-If in omega (arith, c.decreases, if_first c.args.right.now i.cond i.yes i.no i.is)
 
 pub run_rights-run_block-requires-else-branch : goal.run_rights-run_block-requires-else-branch
-run_rights-run_block-requires-else-branch t c = let i = c.in-If in omega (arith, c.decreases, if_second c.args.right.now i.cond i.yes i.no i.is)
+run_rights-run_block-requires-else-branch g t c = let i = c.in-If in omega (arith, c.decreases, if_second c.args.right.now i.cond i.yes i.no i.is)
 
 pub run_rights-run_loop-requires : goal.run_rights-run_loop-requires
-run_rights-run_loop-requires t c =
+run_rights-run_loop-requires g t c =
     let i = c.in-Loop in
     omega (arith, c.decreases, loop_blocks c.args.right.now i.first_body i.start i.params i.test i.body i.test_site i.is)
 
 pub run_rights-run_call-requires : goal.run_rights-run_call-requires
-run_rights-run_call-requires t c = omega (arith, c.decreases)
+run_rights-run_call-requires g t c = omega (arith, c.decreases)
 
 pub run_rights-run_one-requires : goal.run_rights-run_one-requires
-run_rights-run_one-requires t c = omega (arith, c.decreases)
+run_rights-run_one-requires g t c = omega (arith, c.decreases)
 
 pub run_one-run_with-requires : goal.run_one-run_with-requires
-run_one-run_with-requires t c = omega (arith, c.decreases, with_below c.args.right.now c.in-With.with c.in-With.is)
+run_one-run_with-requires g t c = omega (arith, c.decreases, with_below c.args.right.now c.in-With.with c.in-With.is)
 
 pub run_one-run_parted-requires : goal.run_one-run_parted-requires
-run_one-run_parted-requires t c = omega (arith, c.decreases, parted_below c.args.right.now c.in-Parted.parted c.in-Parted.is)
+run_one-run_parted-requires g t c = omega (arith, c.decreases, parted_below c.args.right.now c.in-Parted.parted c.in-Parted.is)
 
 -- ---- turns
 
 pub run_loop-run_turn-requires : goal.run_loop-run_turn-requires
-run_loop-run_turn-requires t c = omega (arith, c.decreases)
+run_loop-run_turn-requires g t c = omega (arith, c.decreases)
 
 pub run_loop-repeat-requires : goal.run_loop-repeat-requires
-run_loop-repeat-requires t c = omega (arith, c.decreases)
+run_loop-repeat-requires g t c = omega (arith, c.decreases)
 
 pub run_loop-repeat-requires-else-first_body : goal.run_loop-repeat-requires-else-first_body
-run_loop-repeat-requires-else-first_body t c = omega (arith, c.decreases)
+run_loop-repeat-requires-else-first_body g t c = omega (arith, c.decreases)
 
 pub repeat-run_test-requires : goal.repeat-run_test-requires
-repeat-run_test-requires t c = omega (arith, c.decreases)
+repeat-run_test-requires g t c = omega (arith, c.decreases)
 
 pub repeat-run_turn-requires : goal.repeat-run_turn-requires
-repeat-run_turn-requires t c = omega (arith, c.decreases)
+repeat-run_turn-requires g t c = omega (arith, c.decreases)
 
 pub run_test-run_first-requires : goal.run_test-run_first-requires
-run_test-run_first-requires t c = omega (arith, c.decreases)
+run_test-run_first-requires g t c = omega (arith, c.decreases)
 
 pub run_turn-run_open-requires : goal.run_turn-run_open-requires
-run_turn-run_open-requires t c = omega (arith, c.decreases)
+run_turn-run_open-requires g t c = omega (arith, c.decreases)
 
 pub run_right-returns-in_err-run_rights-in-Loop : goal.run_right-returns-in_err-run_rights-in-Loop
-run_right-returns-in_err-run_rights-in-Loop t c =
+run_right-returns-in_err-run_rights-in-Loop g t c =
     let ctx = c.args.context.now in
     let s = c.args.state.now in
     let st = c.run_rights.new.state in
@@ -445,7 +445,7 @@ run_right-returns-in_err-run_rights-in-Loop t c =
     }
 
 pub run_right-returns-in_ok-run_rights-in-Loop : goal.run_right-returns-in_ok-run_rights-in-Loop
-run_right-returns-in_ok-run_rights-in-Loop t c =
+run_right-returns-in_ok-run_rights-in-Loop g t c =
     let ctx = c.args.context.now in
     let s = c.args.state.now in
     let st = c.run_rights.new.state in
@@ -461,7 +461,7 @@ run_right-returns-in_ok-run_rights-in-Loop t c =
     }
 
 pub run_right-returns-in_default : goal.run_right-returns-in_default
-run_right-returns-in_default t c =
+run_right-returns-in_default g t c =
     let ctx = c.args.context.now in
     let s = c.args.state.now in
     record {
@@ -471,7 +471,7 @@ run_right-returns-in_default t c =
     }
 
 pub run_test-returns-in_err-value : goal.run_test-returns-in_err-value
-run_test-returns-in_err-value t c =
+run_test-returns-in_err-value g t c =
     let ctx = c.args.context.now in
     let s = c.args.state.now in
     let turn = c.args.turn.now in
@@ -493,7 +493,7 @@ run_test-returns-in_err-value t c =
     }
 
 pub run_test-returns-in_err-truth : goal.run_test-returns-in_err-truth
-run_test-returns-in_err-truth t c =
+run_test-returns-in_err-truth g t c =
     let ctx = c.args.context.now in
     let s = c.args.state.now in
     let turn = c.args.turn.now in
@@ -516,7 +516,7 @@ run_test-returns-in_err-truth t c =
     }
 
 pub run_test-returns : goal.run_test-returns
-run_test-returns t c =
+run_test-returns g t c =
     let ctx = c.args.context.now in
     let s = c.args.state.now in
     let turn = c.args.turn.now in
@@ -537,7 +537,7 @@ run_test-returns t c =
     }
 
 pub run_turn-returns-in_err-run_open : goal.run_turn-returns-in_err-run_open
-run_turn-returns-in_err-run_open t c =
+run_turn-returns-in_err-run_open g t c =
     let ctx = c.args.context.now in
     let s = c.args.state.now in
     let turn = c.args.turn.now in
@@ -558,7 +558,7 @@ run_turn-returns-in_err-run_open t c =
     }
 
 pub run_turn-returns : goal.run_turn-returns
-run_turn-returns t c =
+run_turn-returns g t c =
     let ctx = c.args.context.now in
     let s = c.args.state.now in
     let turn = c.args.turn.now in
@@ -583,14 +583,14 @@ run_turn-returns t c =
 -- ---- the turns of a loop
 
 pub repeat-loop-left-init : goal.repeat-loop-left-init
-repeat-loop-left-init t c = record {
+repeat-loop-left-init g t c = record {
   told = λ m at. record { heap = m; stands = at; same = refl };
   scopes = (refl, refl);
   lender = refl;
 }
 
 pub repeat-returns-in_err-run_test : goal.repeat-returns-in_err-run_test
-repeat-returns-in_err-run_test t c =
+repeat-returns-in_err-run_test g t c =
     let ctx = c.args.context.now in
     let s = c.args.state.now in
     let turn = c.args.turn.now in
@@ -616,7 +616,7 @@ repeat-returns-in_err-run_test t c =
     }
 
 pub repeat-returns-then-not-branch : goal.repeat-returns-then-not-branch
-repeat-returns-then-not-branch t c =
+repeat-returns-then-not-branch g t c =
     let ctx = c.args.context.now in
     let s = c.args.state.now in
     let turn = c.args.turn.now in
@@ -641,7 +641,7 @@ repeat-returns-then-not-branch t c =
     }
 
 pub repeat-returns-then-left-eq0 : goal.repeat-returns-then-left-eq0
-repeat-returns-then-left-eq0 t c =
+repeat-returns-then-left-eq0 g t c =
     let ctx = c.args.context.now in
     let s = c.args.state.now in
     let turn = c.args.turn.now in
@@ -666,7 +666,7 @@ repeat-returns-then-left-eq0 t c =
     }
 
 pub repeat-loop-left-preserved : goal.repeat-loop-left-preserved
-repeat-loop-left-preserved t c =
+repeat-loop-left-preserved g t c =
     let ctx = c.args.context.now in
     let s = c.args.state.now in
     let turn = c.args.turn.now in
@@ -698,7 +698,7 @@ repeat-loop-left-preserved t c =
     }
 
 pub repeat-returns-in_err-run_turn : goal.repeat-returns-in_err-run_turn
-repeat-returns-in_err-run_turn t c =
+repeat-returns-in_err-run_turn g t c =
     let ctx = c.args.context.now in
     let s = c.args.state.now in
     let turn = c.args.turn.now in
@@ -736,14 +736,14 @@ repeat-returns-in_err-run_turn t c =
 -- ---- calls
 
 pub run_call-run_function-requires : goal.run_call-run_function-requires
-run_call-run_function-requires t c =
+run_call-run_function-requires g t c =
     let ctx = c.args.context.now in
     let fs = ctx.code.now.functions.items in
     let f = c.index-function.result.now in
     omega (arith, c.decreases, falls c.in_ok-inner.inner ctx f.inline c.args.site c.in_ok-inner.ensures, body_below fs c.in-Some.place f c.in-Some.ensures.within, ap body_size c.index-function.ensures)
 
 pub run_call-returns-in_default : goal.run_call-returns-in_default
-run_call-returns-in_default t c =
+run_call-returns-in_default g t c =
     let ctx = c.args.context.now in
     let s = c.args.state.now in
     let vs = map value_of c.args.args.now in
@@ -756,7 +756,7 @@ run_call-returns-in_default t c =
     }
 
 pub run_one-returns-in_default : goal.run_one-returns-in_default
-run_one-returns-in_default t c =
+run_one-returns-in_default g t c =
     let ctx = c.args.context.now in
     let s = c.args.state.now in
     let r = c.args.right.now in
@@ -775,7 +775,7 @@ run_one-returns-in_default t c =
     }
 
 pub run_rights-returns-in_err-condition-in-If : goal.run_rights-returns-in_err-condition-in-If
-run_rights-returns-in_err-condition-in-If t c =
+run_rights-returns-in_err-condition-in-If g t c =
     let i = c.in-If in
     let ctx = c.args.context.now in
     let s = c.args.state.now in
@@ -794,7 +794,7 @@ run_rights-returns-in_err-condition-in-If t c =
     }
 
 pub run_rights-returns-then-branch : goal.run_rights-returns-then-branch
-run_rights-returns-then-branch t c =
+run_rights-returns-then-branch g t c =
     let i = c.in-If in
     let ctx = c.args.context.now in
     let s = c.args.state.now in
@@ -810,7 +810,7 @@ run_rights-returns-then-branch t c =
     }
 
 pub run_rights-returns-else-branch : goal.run_rights-returns-else-branch
-run_rights-returns-else-branch t c =
+run_rights-returns-else-branch g t c =
     let i = c.in-If in
     let ctx = c.args.context.now in
     let s = c.args.state.now in
@@ -826,7 +826,7 @@ run_rights-returns-else-branch t c =
     }
 
 pub run_rights-returns-in_err-run_loop-in-Loop : goal.run_rights-returns-in_err-run_loop-in-Loop
-run_rights-returns-in_err-run_loop-in-Loop t c =
+run_rights-returns-in_err-run_loop-in-Loop g t c =
     let i = c.in-Loop in
     let ctx = c.args.context.now in
     let s = c.args.state.now in
@@ -848,7 +848,7 @@ run_rights-returns-in_err-run_loop-in-Loop t c =
     }
 
 pub run_rights-returns-in_ok-extend_from_slice-in-Loop : goal.run_rights-returns-in_ok-extend_from_slice-in-Loop
-run_rights-returns-in_ok-extend_from_slice-in-Loop t c =
+run_rights-returns-in_ok-extend_from_slice-in-Loop g t c =
     let i = c.in-Loop in
     let ctx = c.args.context.now in
     let s = c.args.state.now in
@@ -872,7 +872,7 @@ run_rights-returns-in_ok-extend_from_slice-in-Loop t c =
     }
 
 pub run_rights-returns-in_ok-push_values-in-Call : goal.run_rights-returns-in_ok-push_values-in-Call
-run_rights-returns-in_ok-push_values-in-Call t c =
+run_rights-returns-in_ok-push_values-in-Call g t c =
     let i = c.in-Call in
     let ctx = c.args.context.now in
     let s = c.args.state.now in
@@ -888,7 +888,7 @@ run_rights-returns-in_ok-push_values-in-Call t c =
     }
 
 pub run_rights-returns-in_err-value-in_default : goal.run_rights-returns-in_err-value-in_default
-run_rights-returns-in_err-value-in_default t c =
+run_rights-returns-in_err-value-in_default g t c =
     let ctx = c.args.context.now in
     let s = c.args.state.now in
     let st = c.run_one.new.state in
@@ -901,7 +901,7 @@ run_rights-returns-in_err-value-in_default t c =
     }
 
 pub run_rights-returns-in_ok-push-in_default : goal.run_rights-returns-in_ok-push-in_default
-run_rights-returns-in_ok-push-in_default t c =
+run_rights-returns-in_ok-push-in_default g t c =
     let ctx = c.args.context.now in
     let s = c.args.state.now in
     let st = c.run_one.new.state in
@@ -918,7 +918,7 @@ run_rights-returns-in_ok-push-in_default t c =
     }
 
 pub run_one-returns-in-With : goal.run_one-returns-in-With
-run_one-returns-in-With t c =
+run_one-returns-in-With g t c =
     let ctx = c.args.context.now in
     let e = current c.args.state.now.frames in
     record {
@@ -928,7 +928,7 @@ run_one-returns-in-With t c =
     }
 
 pub run_one-returns-in-Parted : goal.run_one-returns-in-Parted
-run_one-returns-in-Parted t c =
+run_one-returns-in-Parted g t c =
     let ctx = c.args.context.now in
     let e = current c.args.state.now.frames in
     record {
@@ -938,7 +938,7 @@ run_one-returns-in-Parted t c =
     }
 
 pub run_loop-returns-in_err-run_turn : goal.run_loop-returns-in_err-run_turn
-run_loop-returns-in_err-run_turn t c =
+run_loop-returns-in_err-run_turn g t c =
     let ctx = c.args.context.now in
     let s = c.args.state.now in
     let turn = c.args.turn.now in
@@ -959,7 +959,7 @@ run_loop-returns-in_err-run_turn t c =
     }
 
 pub run_loop-returns-then-first_body : goal.run_loop-returns-then-first_body
-run_loop-returns-then-first_body t c =
+run_loop-returns-then-first_body g t c =
     let ctx = c.args.context.now in
     let s = c.args.state.now in
     let turn = c.args.turn.now in
@@ -988,7 +988,7 @@ run_loop-returns-then-first_body t c =
     }
 
 pub run_loop-returns : goal.run_loop-returns
-run_loop-returns t c =
+run_loop-returns g t c =
     let ctx = c.args.context.now in
     let s = c.args.state.now in
     let turn = c.args.turn.now in
@@ -1006,7 +1006,7 @@ run_loop-returns t c =
     }
 
 pub run_call-returns-in_err-inner : goal.run_call-returns-in_err-inner
-run_call-returns-in_err-inner t c =
+run_call-returns-in_err-inner g t c =
     let ctx = c.args.context.now in
     let s = c.args.state.now in
     let fs = ctx.code.now.functions.items in
@@ -1025,7 +1025,7 @@ run_call-returns-in_err-inner t c =
     }
 
 pub run_call-returns : goal.run_call-returns
-run_call-returns t c =
+run_call-returns g t c =
     let ctx = c.args.context.now in
     let s = c.args.state.now in
     let fs = ctx.code.now.functions.items in
@@ -1043,10 +1043,10 @@ run_call-returns t c =
     }
 
 pub run_function-run_open-requires : goal.run_function-run_open-requires
-run_function-run_open-requires t c = omega (arith, c.decreases)
+run_function-run_open-requires g t c = omega (arith, c.decreases)
 
 pub run_function-returns-in_err-run_open : goal.run_function-returns-in_err-run_open
-run_function-returns-in_err-run_open t c =
+run_function-returns-in_err-run_open g t c =
     let ctx = c.args.context.now in
     let s = c.args.state.now in
     let f = c.args.function.now in
@@ -1068,7 +1068,7 @@ run_function-returns-in_err-run_open t c =
     }
 
 pub run_function-returns-then-not-all_have : goal.run_function-returns-then-not-all_have
-run_function-returns-then-not-all_have t c =
+run_function-returns-then-not-all_have g t c =
     let ctx = c.args.context.now in
     let s = c.args.state.now in
     let f = c.args.function.now in
@@ -1091,7 +1091,7 @@ run_function-returns-then-not-all_have t c =
     }
 
 pub run_function-returns : goal.run_function-returns
-run_function-returns t c =
+run_function-returns g t c =
     let ctx = c.args.context.now in
     let s = c.args.state.now in
     let f = c.args.function.now in
@@ -1118,73 +1118,73 @@ run_function-returns t c =
     }
 
 pub run_with-run_array-requires : goal.run_with-run_array-requires
-run_with-run_array-requires t c =
+run_with-run_array-requires g t c =
     omega (arith, c.decreases, gens_below c.args.with.now, ap gens_size c.deref-in-Genarray-2.ensures.value)
 
 pub run_with-run_array-requires-in-Modarray : goal.run_with-run_array-requires-in-Modarray
-run_with-run_array-requires-in-Modarray t c =
+run_with-run_array-requires-in-Modarray g t c =
     omega (arith, c.decreases, gens_below c.args.with.now, ap gens_size c.deref-in-Modarray-2.ensures.value)
 
 pub run_with-run_fold-requires : goal.run_with-run_fold-requires
-run_with-run_fold-requires t c =
+run_with-run_fold-requires g t c =
     omega (arith, c.decreases, gens_below c.args.with.now, ap gens_size c.deref-in-Fold-2.ensures.value)
 
 pub run_array-fill-requires : goal.run_array-fill-requires
-run_array-fill-requires t c =
+run_array-fill-requires g t c =
     omega (arith, c.decreases)
 
 pub fill-gen_cell-requires : goal.fill-gen_cell-requires
-fill-gen_cell-requires t c =
+fill-gen_cell-requires g t c =
     omega (arith, c.decreases)
 
 pub run_fold-fold_cells-requires : goal.run_fold-fold_cells-requires
-run_fold-fold_cells-requires t c =
+run_fold-fold_cells-requires g t c =
     omega (arith, c.decreases)
 
 pub fold_cells-gen_cell-requires : goal.fold_cells-gen_cell-requires
-fold_cells-gen_cell-requires t c =
+fold_cells-gen_cell-requires g t c =
     omega (arith, c.decreases)
 
 pub gen_cell-run_cell-requires : goal.gen_cell-run_cell-requires
-gen_cell-run_cell-requires t c =
+gen_cell-run_cell-requires g t c =
     let found : Some c.in-Some.g.now ≡ held c.args.gens.now c.args.plan.now.ranges.items c.args.index.now = ap (option_map (λ g. g.now)) (sym c.in-Some.is) ∙ c.holder.ensures ∙ ap (λ rs. held c.args.gens.now rs c.args.index.now) c.deref.ensures.value in
     omega (arith, c.decreases, held_below c.args.gens.now c.args.plan.now.ranges.items c.args.index.now c.in-Some.g.now found)
 
 pub run_parts-join_parts-requires : goal.run_parts-join_parts-requires
-run_parts-join_parts-requires t c =
+run_parts-join_parts-requires g t c =
     omega (arith, c.decreases)
 
 pub join_parts-part_cell-requires : goal.join_parts-part_cell-requires
-join_parts-part_cell-requires t c =
+join_parts-part_cell-requires g t c =
     omega (arith, c.decreases)
 
 pub fold_parts-combine_parts-requires : goal.fold_parts-combine_parts-requires
-fold_parts-combine_parts-requires t c =
+fold_parts-combine_parts-requires g t c =
     omega (arith, c.decreases)
 
 pub combine_parts-part_cell-requires : goal.combine_parts-part_cell-requires
-combine_parts-part_cell-requires t c =
+combine_parts-part_cell-requires g t c =
     omega (arith, c.decreases)
 
 pub part_cell-run_part-requires : goal.part_cell-run_part-requires
-part_cell-run_part-requires t c =
+part_cell-run_part-requires g t c =
     let found : Some c.in-Some.part.now ≡ part_held c.args.parts.now c.args.index.now = ap (option_map (λ p. p.now)) (sym c.in-Some.is) ∙ c.part_holder.ensures in
     omega (arith, c.decreases, part_held_below c.args.parts.now c.args.index.now c.in-Some.part.now found)
 
 pub run_parted-run_parts-requires : goal.run_parted-run_parts-requires
-run_parted-run_parts-requires t c =
+run_parted-run_parts-requires g t c =
     omega (arith, c.decreases, parts_below c.args.parted.now, ap parts_size c.deref-in_default.ensures.value)
 
 pub run_parted-fold_parts-requires : goal.run_parted-fold_parts-requires
-run_parted-fold_parts-requires t c =
+run_parted-fold_parts-requires g t c =
     omega (arith, c.decreases, parts_below c.args.parted.now, ap parts_size c.deref.ensures.value)
 
 pub fill-loop-place-init : goal.fill-loop-place-init
-fill-loop-place-init t c =
+fill-loop-place-init g t c =
     record { carried = λ m at. carried_start (filling c.args.background.now.old c.args.background.now.array.now c.args.background.now.size) c.args.plan.now.form ((λ (e : Values). source_in c.args.context.now e c.args.gens.now c.args.plan.now.ranges.items) (current c.args.state.now.frames)) c.args.plan.now.frame c.args.cells.now.items m c.args.state.now at; scopes = (refl, refl); lender = refl }
 
 pub fill-returns-in_err-value : goal.fill-returns-in_err-value
-fill-returns-in_err-value t c =
+fill-returns-in_err-value g t c =
     let a = c.args in
     let ctx = a.context.now in
     let s = a.state.now in
@@ -1203,7 +1203,7 @@ fill-returns-in_err-value t c =
     }
 
 pub fill-loop-place-preserved : goal.fill-loop-place-preserved
-fill-loop-place-preserved t c =
+fill-loop-place-preserved g t c =
     let a = c.args in
     let ctx = a.context.now in
     let s = a.state.now in
@@ -1220,7 +1220,7 @@ fill-loop-place-preserved t c =
     }
 
 pub fill-returns : goal.fill-returns
-fill-returns t c =
+fill-returns g t c =
     let a = c.args in
     let ctx = a.context.now in
     let s = a.state.now in
@@ -1232,11 +1232,11 @@ fill-returns t c =
     }
 
 pub fold_cells-loop-place-init : goal.fold_cells-loop-place-init
-fold_cells-loop-place-init t c =
+fold_cells-loop-place-init g t c =
     record { carried = λ m at. carried_start (folding c.args.op) c.args.plan.now.form ((λ (e : Values). source_in c.args.context.now e c.args.gens.now c.args.plan.now.ranges.items) (current c.args.state.now.frames)) c.args.plan.now.frame (array_of c.args.start) m c.args.state.now at; scopes = (refl, refl); lender = refl }
 
 pub fold_cells-returns-in_err-value : goal.fold_cells-returns-in_err-value
-fold_cells-returns-in_err-value t c =
+fold_cells-returns-in_err-value g t c =
     let a = c.args in
     let ctx = a.context.now in
     let s = a.state.now in
@@ -1255,7 +1255,7 @@ fold_cells-returns-in_err-value t c =
     }
 
 pub fold_cells-loop-place-preserved : goal.fold_cells-loop-place-preserved
-fold_cells-loop-place-preserved t c =
+fold_cells-loop-place-preserved g t c =
     let a = c.args in
     let ctx = a.context.now in
     let s = a.state.now in
@@ -1272,7 +1272,7 @@ fold_cells-loop-place-preserved t c =
     }
 
 pub fold_cells-returns : goal.fold_cells-returns
-fold_cells-returns t c =
+fold_cells-returns g t c =
     let a = c.args in
     let ctx = a.context.now in
     let s = a.state.now in
@@ -1284,11 +1284,11 @@ fold_cells-returns t c =
     }
 
 pub join_parts-loop-place-init : goal.join_parts-loop-place-init
-join_parts-loop-place-init t c =
+join_parts-loop-place-init g t c =
     record { carried = λ m at. carried_start joining c.args.form.now ((λ (e : Values). part_source_in c.args.context.now e c.args.parts.now) (current c.args.state.now.frames)) c.args.frame.now c.args.cells.now.items m c.args.state.now at; scopes = (refl, refl); lender = refl }
 
 pub join_parts-returns-in_err-value : goal.join_parts-returns-in_err-value
-join_parts-returns-in_err-value t c =
+join_parts-returns-in_err-value g t c =
     let a = c.args in
     let ctx = a.context.now in
     let s = a.state.now in
@@ -1307,7 +1307,7 @@ join_parts-returns-in_err-value t c =
     }
 
 pub join_parts-loop-place-preserved : goal.join_parts-loop-place-preserved
-join_parts-loop-place-preserved t c =
+join_parts-loop-place-preserved g t c =
     let a = c.args in
     let ctx = a.context.now in
     let s = a.state.now in
@@ -1324,7 +1324,7 @@ join_parts-loop-place-preserved t c =
     }
 
 pub join_parts-returns : goal.join_parts-returns
-join_parts-returns t c =
+join_parts-returns g t c =
     let a = c.args in
     let ctx = a.context.now in
     let s = a.state.now in
@@ -1336,11 +1336,11 @@ join_parts-returns t c =
     }
 
 pub combine_parts-loop-place-init : goal.combine_parts-loop-place-init
-combine_parts-loop-place-init t c =
+combine_parts-loop-place-init g t c =
     record { carried = λ m at. carried_start (folding c.args.op) c.args.form.now ((λ (e : Values). part_source_in c.args.context.now e c.args.parts.now) (current c.args.state.now.frames)) c.args.frame.now (array_of c.args.start) m c.args.state.now at; scopes = (refl, refl); lender = refl }
 
 pub combine_parts-returns-in_err-value : goal.combine_parts-returns-in_err-value
-combine_parts-returns-in_err-value t c =
+combine_parts-returns-in_err-value g t c =
     let a = c.args in
     let ctx = a.context.now in
     let s = a.state.now in
@@ -1359,7 +1359,7 @@ combine_parts-returns-in_err-value t c =
     }
 
 pub combine_parts-loop-place-preserved : goal.combine_parts-loop-place-preserved
-combine_parts-loop-place-preserved t c =
+combine_parts-loop-place-preserved g t c =
     let a = c.args in
     let ctx = a.context.now in
     let s = a.state.now in
@@ -1376,7 +1376,7 @@ combine_parts-loop-place-preserved t c =
     }
 
 pub combine_parts-returns : goal.combine_parts-returns
-combine_parts-returns t c =
+combine_parts-returns g t c =
     let a = c.args in
     let ctx = a.context.now in
     let s = a.state.now in
@@ -1388,7 +1388,7 @@ combine_parts-returns t c =
     }
 
 pub gen_cell-returns-in_err-value-in-Some : goal.gen_cell-returns-in_err-value-in-Some
-gen_cell-returns-in_err-value-in-Some t c =
+gen_cell-returns-in_err-value-in-Some g t c =
     let a = c.args in
     let ctx = a.context.now in
     let s = a.state.now in
@@ -1408,7 +1408,7 @@ gen_cell-returns-in_err-value-in-Some t c =
     }
 
 pub gen_cell-returns-in_ok-value-in-Some : goal.gen_cell-returns-in_ok-value-in-Some
-gen_cell-returns-in_ok-value-in-Some t c =
+gen_cell-returns-in_ok-value-in-Some g t c =
     let a = c.args in
     let ctx = a.context.now in
     let s = a.state.now in
@@ -1426,7 +1426,7 @@ gen_cell-returns-in_ok-value-in-Some t c =
     }
 
 pub gen_cell-returns-in-None : goal.gen_cell-returns-in-None
-gen_cell-returns-in-None t c =
+gen_cell-returns-in-None g t c =
     let a = c.args in
     let ctx = a.context.now in
     let s = a.state.now in
@@ -1440,7 +1440,7 @@ gen_cell-returns-in-None t c =
     }
 
 pub run_cell-returns : goal.run_cell-returns
-run_cell-returns t c =
+run_cell-returns g t c =
     let a = c.args in
     let ctx = a.context.now in
     let s = a.state.now in
@@ -1461,7 +1461,7 @@ run_cell-returns t c =
     }
 
 pub part_cell-returns-in_err-value-in-Some : goal.part_cell-returns-in_err-value-in-Some
-part_cell-returns-in_err-value-in-Some t c =
+part_cell-returns-in_err-value-in-Some g t c =
     let a = c.args in
     let ctx = a.context.now in
     let s = a.state.now in
@@ -1481,7 +1481,7 @@ part_cell-returns-in_err-value-in-Some t c =
     }
 
 pub part_cell-returns-in_ok-value-in-Some : goal.part_cell-returns-in_ok-value-in-Some
-part_cell-returns-in_ok-value-in-Some t c =
+part_cell-returns-in_ok-value-in-Some g t c =
     let a = c.args in
     let ctx = a.context.now in
     let s = a.state.now in
@@ -1499,7 +1499,7 @@ part_cell-returns-in_ok-value-in-Some t c =
     }
 
 pub part_cell-returns-in-None : goal.part_cell-returns-in-None
-part_cell-returns-in-None t c =
+part_cell-returns-in-None g t c =
     let a = c.args in
     let ctx = a.context.now in
     let s = a.state.now in
@@ -1513,7 +1513,7 @@ part_cell-returns-in-None t c =
     }
 
 pub run_part-returns : goal.run_part-returns
-run_part-returns t c =
+run_part-returns g t c =
     let a = c.args in
     let ctx = a.context.now in
     let s = a.state.now in
@@ -1534,7 +1534,7 @@ run_part-returns t c =
     }
 
 pub run_array-returns-in_err-fill : goal.run_array-returns-in_err-fill
-run_array-returns-in_err-fill t c =
+run_array-returns-in_err-fill g t c =
     let a = c.args in
     let ctx = a.context.now in
     let s = a.state.now in
@@ -1553,7 +1553,7 @@ run_array-returns-in_err-fill t c =
     }
 
 pub run_array-returns : goal.run_array-returns
-run_array-returns t c =
+run_array-returns g t c =
     let a = c.args in
     let ctx = a.context.now in
     let s = a.state.now in
@@ -1574,7 +1574,7 @@ run_array-returns t c =
     }
 
 pub run_fold-returns-in_err-sum : goal.run_fold-returns-in_err-sum
-run_fold-returns-in_err-sum t c =
+run_fold-returns-in_err-sum g t c =
     let a = c.args in
     let ctx = a.context.now in
     let s = a.state.now in
@@ -1593,7 +1593,7 @@ run_fold-returns-in_err-sum t c =
     }
 
 pub run_fold-returns : goal.run_fold-returns
-run_fold-returns t c =
+run_fold-returns g t c =
     let a = c.args in
     let ctx = a.context.now in
     let s = a.state.now in
@@ -1612,7 +1612,7 @@ run_fold-returns t c =
     }
 
 pub run_parts-returns-in_err-join_parts : goal.run_parts-returns-in_err-join_parts
-run_parts-returns-in_err-join_parts t c =
+run_parts-returns-in_err-join_parts g t c =
     let a = c.args in
     let ctx = a.context.now in
     let s = a.state.now in
@@ -1630,7 +1630,7 @@ run_parts-returns-in_err-join_parts t c =
     }
 
 pub run_parts-returns : goal.run_parts-returns
-run_parts-returns t c =
+run_parts-returns g t c =
     let a = c.args in
     let ctx = a.context.now in
     let s = a.state.now in
@@ -1649,7 +1649,7 @@ run_parts-returns t c =
     }
 
 pub fold_parts-returns-in_err-sum : goal.fold_parts-returns-in_err-sum
-fold_parts-returns-in_err-sum t c =
+fold_parts-returns-in_err-sum g t c =
     let a = c.args in
     let ctx = a.context.now in
     let s = a.state.now in
@@ -1667,7 +1667,7 @@ fold_parts-returns-in_err-sum t c =
     }
 
 pub fold_parts-returns : goal.fold_parts-returns
-fold_parts-returns t c =
+fold_parts-returns g t c =
     let a = c.args in
     let ctx = a.context.now in
     let s = a.state.now in
@@ -1685,7 +1685,7 @@ fold_parts-returns t c =
     }
 
 pub run_with-returns-in_err-plan-in-Genarray-clause-told : goal.run_with-returns-in_err-plan-in-Genarray-clause-told
-run_with-returns-in_err-plan-in-Genarray-clause-told t c =
+run_with-returns-in_err-plan-in-Genarray-clause-told g t c =
     let a = c.args in
     let ctx = a.context.now in
     let s = a.state.now in
@@ -1702,7 +1702,7 @@ run_with-returns-in_err-plan-in-Genarray-clause-told t c =
     (with_stops ctx e m gs a.site bs (c.deref-in-Genarray.ensures.value ∙ c.in_ok-bounds.ensures m at.heap ∙ ap (map (λ (g : CodeGen). bounds_of (gen_head g) (reads m e))) c.deref.ensures.value) (out-CodeWith w).op (genarray c.in_ok-shape-in-Genarray.shape c.in_ok-default-in-Genarray.default a.site) (ap (λ o. operation o a.site (reads m e)) i.is ∙ (λ j. genarray ((ap (read m) (sym c.get.ensures) ∙ sym (c.in_ok-shape-in-Genarray.ensures m at.heap)) j) ((ap (read m) (sym c.get-in-Genarray.ensures) ∙ sym (c.in_ok-default-in-Genarray.ensures m at.heap)) j) a.site)) stop s at c.in_err-plan-in-Genarray.ensures.told))
 
 pub run_with-returns-in-Genarray-clause-told : goal.run_with-returns-in-Genarray-clause-told
-run_with-returns-in-Genarray-clause-told t c =
+run_with-returns-in-Genarray-clause-told g t c =
     let a = c.args in
     let ctx = a.context.now in
     let s = a.state.now in
@@ -1718,7 +1718,7 @@ run_with-returns-in-Genarray-clause-told t c =
     (genarray_tells ctx e m gs a.site bs (c.deref-in-Genarray.ensures.value ∙ c.in_ok-bounds.ensures m at.heap ∙ ap (map (λ (g : CodeGen). bounds_of (gen_head g) (reads m e))) c.deref.ensures.value) (out-CodeWith w).op c.in_ok-shape-in-Genarray.shape c.in_ok-default-in-Genarray.default (plan_of c.in_ok-plan-in-Genarray.plan) r st (ap (λ o. operation o a.site (reads m e)) i.is ∙ (λ j. genarray ((ap (read m) (sym c.get.ensures) ∙ sym (c.in_ok-shape-in-Genarray.ensures m at.heap)) j) ((ap (read m) (sym c.get-in-Genarray.ensures) ∙ sym (c.in_ok-default-in-Genarray.ensures m at.heap)) j) a.site)) c.in_ok-plan-in-Genarray.ensures.told (subst (λ (gens : List CodeGen). Told IsValue r st (job_does None (array_job ctx e m gens (plan_of c.in_ok-plan-in-Genarray.plan) c.in_ok-default-in-Genarray.default false) m)) c.deref-in-Genarray-2.ensures.value (c.run_array.ensures.told m at)))
 
 pub run_with-returns-in_err-plan-in-Modarray-clause-told : goal.run_with-returns-in_err-plan-in-Modarray-clause-told
-run_with-returns-in_err-plan-in-Modarray-clause-told t c =
+run_with-returns-in_err-plan-in-Modarray-clause-told g t c =
     let a = c.args in
     let ctx = a.context.now in
     let s = a.state.now in
@@ -1735,7 +1735,7 @@ run_with-returns-in_err-plan-in-Modarray-clause-told t c =
     (with_stops ctx e m gs a.site bs (c.deref-in-Modarray.ensures.value ∙ c.in_ok-bounds.ensures m at.heap ∙ ap (map (λ (g : CodeGen). bounds_of (gen_head g) (reads m e))) c.deref.ensures.value) (out-CodeWith w).op (modarray c.in_ok-old-in-Modarray.old a.site) (ap (λ o. operation o a.site (reads m e)) i.is ∙ (λ j. modarray ((ap (read m) (sym c.get-in-Modarray.ensures) ∙ sym (c.in_ok-old-in-Modarray.ensures m at.heap)) j) a.site)) stop s at c.in_err-plan-in-Modarray.ensures.told))
 
 pub run_with-returns-in-Modarray-clause-told : goal.run_with-returns-in-Modarray-clause-told
-run_with-returns-in-Modarray-clause-told t c =
+run_with-returns-in-Modarray-clause-told g t c =
     let a = c.args in
     let ctx = a.context.now in
     let s = a.state.now in
@@ -1751,7 +1751,7 @@ run_with-returns-in-Modarray-clause-told t c =
     (modarray_tells ctx e m gs a.site bs (c.deref-in-Modarray.ensures.value ∙ c.in_ok-bounds.ensures m at.heap ∙ ap (map (λ (g : CodeGen). bounds_of (gen_head g) (reads m e))) c.deref.ensures.value) (out-CodeWith w).op c.in_ok-old-in-Modarray.old (plan_of c.in_ok-plan-in-Modarray.plan) r st (ap (λ o. operation o a.site (reads m e)) i.is ∙ (λ j. modarray ((ap (read m) (sym c.get-in-Modarray.ensures) ∙ sym (c.in_ok-old-in-Modarray.ensures m at.heap)) j) a.site)) c.in_ok-plan-in-Modarray.ensures.told (subst (λ (gens : List CodeGen). Told IsValue r st (job_does None (array_job ctx e m gens (plan_of c.in_ok-plan-in-Modarray.plan) c.in_ok-old-in-Modarray.old true) m)) c.deref-in-Modarray-2.ensures.value (c.run_array-in-Modarray.ensures.told m at)))
 
 pub run_with-returns-in_err-plan-in-Fold-clause-told : goal.run_with-returns-in_err-plan-in-Fold-clause-told
-run_with-returns-in_err-plan-in-Fold-clause-told t c =
+run_with-returns-in_err-plan-in-Fold-clause-told g t c =
     let a = c.args in
     let ctx = a.context.now in
     let s = a.state.now in
@@ -1768,7 +1768,7 @@ run_with-returns-in_err-plan-in-Fold-clause-told t c =
     (with_stops ctx e m gs a.site bs (c.deref-in-Fold.ensures.value ∙ c.in_ok-bounds.ensures m at.heap ∙ ap (map (λ (g : CodeGen). bounds_of (gen_head g) (reads m e))) c.deref.ensures.value) (out-CodeWith w).op (fold_by i.op c.in_ok-neutral-in-Fold.neutral a.site) (ap (λ o. operation o a.site (reads m e)) i.is ∙ (λ j. fold_by i.op ((ap (read m) (sym c.get-in-Fold.ensures) ∙ sym (c.in_ok-neutral-in-Fold.ensures m at.heap)) j) a.site)) stop s at c.in_err-plan-in-Fold.ensures))
 
 pub run_with-returns-clause-told : goal.run_with-returns-clause-told
-run_with-returns-clause-told t c =
+run_with-returns-clause-told g t c =
     let a = c.args in
     let ctx = a.context.now in
     let s = a.state.now in
@@ -1789,7 +1789,7 @@ no_mark None h = refl
 no_mark (Some x) h = absurd (true≢false h)
 
 pub run_parted-returns-then-not-fits-clause-told : goal.run_parted-returns-then-not-fits-clause-told
-run_parted-returns-then-not-fits-clause-told t c =
+run_parted-returns-then-not-fits-clause-told g t c =
     let a = c.args in
     let ctx = a.context.now in
     let s = a.state.now in
@@ -1805,7 +1805,7 @@ run_parted-returns-then-not-fits-clause-told t c =
     (fold_misfits ctx e m p.frame p.base p.cell p.parts.items a.site p.op i.op i.neutral i.is s at misfits))
 
 pub run_parted-returns-in-Fold-clause-told : goal.run_parted-returns-in-Fold-clause-told
-run_parted-returns-in-Fold-clause-told t c =
+run_parted-returns-in-Fold-clause-told g t c =
     let a = c.args in
     let ctx = a.context.now in
     let s = a.state.now in
@@ -1823,7 +1823,7 @@ run_parted-returns-in-Fold-clause-told t c =
     c.in_ok-frame.ensures (λ j. record { base = p.base; shape = c.copy.ensures j }) (c.in_ok-neutral-in-Fold.ensures m at.heap ∙ ap (read m) c.get-neutral.ensures) c.deref.ensures.value fits (c.fold_parts.ensures.told m at))
 
 pub run_parted-returns : goal.run_parted-returns
-run_parted-returns t c =
+run_parted-returns g t c =
     let a = c.args in
     let ctx = a.context.now in
     let s = a.state.now in

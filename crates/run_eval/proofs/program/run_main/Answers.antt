@@ -10,7 +10,7 @@ use Rattle.run_eval.proofs.WholeRuns.{placing, function_at, fits_as, misfit, fit
 use Rattle.run_eval.proofs.program.run_main.Goals as goal
 
 pub returns-then-not-all_fit-clause-told : goal.returns-then-not-all_fit-clause-told
-returns-then-not-all_fit-clause-told c m at =
+returns-then-not-all_fit-clause-told g c m at =
     let context = c.args.context.now in
     let fs = context.code.now.functions.items in
     let n = context.code.now.main in
@@ -26,7 +26,7 @@ returns-then-not-all_fit-clause-told c m at =
     (misfit context c.args.args.items m (code_fun_term main) here s fits at.phases)
 
 pub returns-in_err-run_function-clause-told : goal.returns-in_err-run_function-clause-told
-returns-in_err-run_function-clause-told c m at =
+returns-in_err-run_function-clause-told g c m at =
     let context = c.args.context.now in
     let fs = context.code.now.functions.items in
     let n = context.code.now.main in
@@ -49,7 +49,7 @@ returns-in_err-run_function-clause-told c m at =
     (then_stops stop t (function_does context.turns (calls_in context) (code_fun_term main) (map value_of vs) p.after) told))
 
 pub returns-clause-told : goal.returns-clause-told
-returns-clause-told c m at =
+returns-clause-told g c m at =
     let context = c.args.context.now in
     let fs = context.code.now.functions.items in
     let n = context.code.now.main in

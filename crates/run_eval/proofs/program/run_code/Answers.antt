@@ -10,7 +10,7 @@ use Rattle.run_eval.specs.declared.trace.Trace.{Trace}
 use Rattle.run_eval.specs.Outcomes.{AreArrays}
 use Rattle.run_eval.specs.Running.{IsAt, Told}
 use Rattle.run_eval.proofs.WholeRuns.{starts, whole_is, outcome_told, cost_told}
-use Rattle.run_eval.proofs.program.run.Goals as goal
+use Rattle.run_eval.proofs.program.run_code.Goals as goal
 
 pub returns-clause-outcome : goal.returns-clause-outcome
 returns-clause-outcome g c =
