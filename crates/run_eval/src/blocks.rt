@@ -24,7 +24,7 @@ use crate::holders::{holder, part_holder};
 use crate::levels::{condition, deeper};
 use crate::phases::Phases;
 use crate::state::{Context, State, Turn};
-use core_ir::{CoreOp, PartedOp, Var};
+use core_ir::{CoreOp, PartedOp};
 use counted_code::{
     CodeBlock, CodeFun, CodeGen, CodeLet, CodePart, CodeParted, CodeRight, CodeStep, CodeWith,
 };
@@ -67,14 +67,8 @@ fn run_step<P: Phases>(
 {
     match step {
         CodeStep::Bind(binding) => run_let(binding, context, outside, state),
-        CodeStep::Keep(x) => {
-            keep(&mut state.heap, state.frames.get(*x))?;
-            Ok(())
-        }
-        CodeStep::Release(x) => {
-            release(&mut state.heap, state.frames.get(*x))?;
-            Ok(())
-        }
+        CodeStep::Keep(x) => Ok(keep(&mut state.heap, state.frames.get(*x))?),
+        CodeStep::Release(x) => Ok(release(&mut state.heap, state.frames.get(*x))?),
     }
 }
 
