@@ -488,7 +488,15 @@ fn run_array<P: Phases>(
     let size = count_elements(&plan.form.shape)?;
     let background = Background { array, old, size };
     let mut target = begin(&plan.shape, context, state)?;
-    fill::<P>(gens, plan, &background, context, state, &mut target.cells)?;
+    fill(
+        gens,
+        plan,
+        &background,
+        context,
+        outside,
+        state,
+        &mut target.cells,
+    )?;
     finish(target, array.base(), &plan.shape, state)
 }
 
@@ -499,6 +507,7 @@ fn fill<P: Phases>(
     plan: &Plan,
     background: &Background<'_>,
     context: &Context<'_>,
+    outside: Option<&P>,
     state: &mut State<'_>,
     cells: &mut Vec<Cell>,
 ) -> Result<(), Stop>
@@ -509,7 +518,7 @@ fn fill<P: Phases>(
     let mut index = IndexVector::new(context.alloc);
     for place in 0..plan.frame.count() {
         plan.frame.index(place, &mut index)?;
-        let value = gen_cell::<P>(gens, plan, index.components(), context, state)?;
+        let value = gen_cell(gens, plan, index.components(), context, outside, state)?;
         put_cell(&mut state.heap, value, background, place, cells)?;
     }
     Ok(())
@@ -534,7 +543,7 @@ fn run_fold<P: Phases>(
         return phases.fold(gens, plan, op, neutral, context, state);
     }
     let target = begin_fold(&plan.shape, context, state)?;
-    let sum = fold_cells::<P>(gens, plan, op, start(neutral), context, state)?;
+    let sum = fold_cells(gens, plan, op, start(neutral), context, outside, state)?;
     finish_fold(sum, target, state)
 }
 
@@ -546,6 +555,7 @@ fn fold_cells<P: Phases>(
     op: Op,
     start: Sum,
     context: &Context<'_>,
+    outside: Option<&P>,
     state: &mut State<'_>,
 ) -> Result<Sum, Stop>
     ensures told { (m : MachineHeap) → IsAt state.old m → Told (λ s found. array_of s ≡ fold (combined op) (array_of start) found) result state.new (cells_run plan.now.form (source_in context.now (current state.old.frames) gens.now plan.now.ranges.items) plan.now.frame m) }
@@ -556,7 +566,7 @@ fn fold_cells<P: Phases>(
     let mut index = IndexVector::new(context.alloc);
     for place in 0..plan.frame.count() {
         plan.frame.index(place, &mut index)?;
-        let value = gen_cell::<P>(gens, plan, index.components(), context, state)?;
+        let value = gen_cell(gens, plan, index.components(), context, outside, state)?;
         sum = add_cell(context.alloc, &mut state.heap, op, sum, value)?;
     }
     Ok(sum)
@@ -569,6 +579,7 @@ fn gen_cell<P: Phases>(
     plan: &Plan,
     index: &[i32],
     context: &Context<'_>,
+    outside: Option<&P>,
     state: &mut State<'_>,
 ) -> Result<Option<RunValue>, Stop>
     ensures told { (m : MachineHeap) → IsAt state.old m → Told IsPresent result state.new (unreleased plan.now.form (source_in context.now (current state.old.frames) gens.now plan.now.ranges.items index.now) m) }
@@ -577,7 +588,7 @@ fn gen_cell<P: Phases>(
 {
     match holder(gens, &plan.ranges, index) {
         Some(g) => {
-            let value = run_cell::<P>(g, &plan.form, index, context, state)?;
+            let value = run_cell(g, &plan.form, index, context, outside, state)?;
             Ok(Some(value))
         }
         None => Ok(None),
@@ -591,6 +602,7 @@ pub fn run_cell<P: Phases>(
     form: &Form,
     index: &[i32],
     context: &Context<'_>,
+    outside: Option<&P>,
     state: &mut State<'_>,
 ) -> Result<RunValue, Stop>
     ensures told { (m : MachineHeap) → IsAt state.old m → Told IsValue result state.new (cell_in context.now (gen_head g.now) (code_term g.now.body) form.now index.now (current state.old.frames) m) }
@@ -600,7 +612,7 @@ pub fn run_cell<P: Phases>(
     let phases = state.phases;
     state.frames.enter()?;
     bind_index(state, g.index, &g.names, index)?;
-    let answer = run_first::<P>(&g.body, context, None, state);
+    let answer = run_first(&g.body, context, outside, state);
     state.phases = phases;
     formed(answer, form, g.site)
 }
@@ -678,7 +690,15 @@ fn run_parts<P: Phases>(
         return phases.parts(parts, frame, form, shape, context, state);
     }
     let mut target = begin(shape, context, state)?;
-    join_parts::<P>(parts, frame, form, context, state, &mut target.cells)?;
+    join_parts(
+        parts,
+        frame,
+        form,
+        context,
+        outside,
+        state,
+        &mut target.cells,
+    )?;
     finish(target, form.base, shape, state)
 }
 
@@ -689,6 +709,7 @@ fn join_parts<P: Phases>(
     frame: &Frame,
     form: &Form,
     context: &Context<'_>,
+    outside: Option<&P>,
     state: &mut State<'_>,
     cells: &mut Vec<Cell>,
 ) -> Result<(), Stop>
@@ -699,7 +720,7 @@ fn join_parts<P: Phases>(
     let mut index = IndexVector::new(context.alloc);
     for place in 0..frame.count() {
         frame.index(place, &mut index)?;
-        let value = part_cell::<P>(parts, form, index.components(), context, state)?;
+        let value = part_cell(parts, form, index.components(), context, outside, state)?;
         join_cell(&mut state.heap, value, cells)?;
     }
     Ok(())
@@ -725,7 +746,16 @@ fn fold_parts<P: Phases>(
         return phases.fold_parts(parts, frame, form, op, neutral, context, state);
     }
     let target = begin_fold(&form.shape, context, state)?;
-    let sum = combine_parts::<P>(parts, frame, form, op, start(neutral), context, state)?;
+    let sum = combine_parts(
+        parts,
+        frame,
+        form,
+        op,
+        start(neutral),
+        context,
+        outside,
+        state,
+    )?;
     finish_fold(sum, target, state)
 }
 
@@ -738,6 +768,7 @@ fn combine_parts<P: Phases>(
     op: Op,
     start: Sum,
     context: &Context<'_>,
+    outside: Option<&P>,
     state: &mut State<'_>,
 ) -> Result<Sum, Stop>
     ensures told { (m : MachineHeap) → IsAt state.old m → Told (λ s found. array_of s ≡ fold (combined op) (array_of start) found) result state.new (cells_run form.now (part_source_in context.now (current state.old.frames) parts.now) frame.now m) }
@@ -748,7 +779,7 @@ fn combine_parts<P: Phases>(
     let mut index = IndexVector::new(context.alloc);
     for place in 0..frame.count() {
         frame.index(place, &mut index)?;
-        let value = part_cell::<P>(parts, form, index.components(), context, state)?;
+        let value = part_cell(parts, form, index.components(), context, outside, state)?;
         sum = add_cell(context.alloc, &mut state.heap, op, sum, value)?;
     }
     Ok(sum)
@@ -761,6 +792,7 @@ fn part_cell<P: Phases>(
     form: &Form,
     index: &[i32],
     context: &Context<'_>,
+    outside: Option<&P>,
     state: &mut State<'_>,
 ) -> Result<Option<RunValue>, Stop>
     ensures told { (m : MachineHeap) → IsAt state.old m → Told IsPresent result state.new (unreleased form.now (part_source_in context.now (current state.old.frames) parts.now index.now) m) }
@@ -769,7 +801,7 @@ fn part_cell<P: Phases>(
 {
     match part_holder(parts, index) {
         Some(part) => {
-            let value = run_part::<P>(part, form, index, context, state)?;
+            let value = run_part(part, form, index, context, outside, state)?;
             Ok(Some(value))
         }
         None => Ok(None),
@@ -783,6 +815,7 @@ pub fn run_part<P: Phases>(
     form: &Form,
     index: &[i32],
     context: &Context<'_>,
+    outside: Option<&P>,
     state: &mut State<'_>,
 ) -> Result<RunValue, Stop>
     ensures told { (m : MachineHeap) → IsAt state.old m → Told IsValue result state.new (part_in context.now (part_head part.now) (code_term part.now.body) form.now index.now (current state.old.frames) m) }
@@ -792,7 +825,7 @@ pub fn run_part<P: Phases>(
     let phases = state.phases;
     state.frames.enter()?;
     bind_index(state, part.index, &[], index)?;
-    let answer = run_first::<P>(&part.body, context, None, state);
+    let answer = run_first(&part.body, context, outside, state);
     state.phases = phases;
     formed(answer, form, part.site)
 }
