@@ -1,2 +1,3 @@
+mod Numbers
 mod Places
 pub mod Lives

@@ -1,5 +1,5 @@
 -- How many buffers are live, and that each one that was taken was given back or is live.
-use Rattle.std.proofs.Common.{◌≡◌, ℕ, zero, suc, ◌+◌, ◌<◌, ◌%◌, ◌^◌, List, [], ◌∷◌, map, length, refl, ap, ◌∙◌, sym, subst, cond, Option, Some, None, slice_index_or, slice_set, arith}
+use Rattle.std.proofs.Common.{◌≡◌, ℕ, zero, suc, ◌+◌, ◌<◌, ◌%◌, ◌^◌, List, [], ◌∷◌, ◌++◌, map, length, refl, ap, ◌∙◌, sym, subst, cond, Option, Some, None, slice_index_or, slice_set, arith}
 use Rattle.std.specs.Prelude.{count_by, is_some}
 use Rattle.std.proofs.lemmas.List.{map-set, get_or-map}
 use Rattle.std.proofs.lemmas.List.Sums.{sum_by-cons}
@@ -132,6 +132,21 @@ even_stored a b p q in_range is none some even =
     ∙ changed_live a.places.items b p q in_range (get_or-map held_of a.places.items b p None in_range ∙ ap held_of (sym is))
     ∙ (λ i. count_in a.places.items + one_of q some i))
     even
+
+-- a buffer behind all places
+pub even_pushed : (a : Inside) (q : Place) → 0 < q.count → IsEven a → (a.taken + 1) % 2 ^ 64 ≡ (a.given + count_in (a.places.items ++ q ∷ [])) % 2 ^ 64
+even_pushed a q some even =
+    one_more a.taken a.given (count_in (a.places.items ++ q ∷ [])) (count_in a.places.items) (none_more (more a.places.items)) even
+  where
+    none_more : {n m : ℕ} → n ≡ m → n + 0 ≡ m
+    none_more {n} e = (let z : n + 0 ≡ n = omega arith in z) ∙ e
+
+    lives_more : (ps : List Place) → lives (map held_of (ps ++ q ∷ [])) ≡ lives (map held_of ps) + 1
+    lives_more [] = ap (λ n. n + 0) (one_of q some)
+    lives_more (p ∷ ps) = ap (λ n. one (held_of p) + n) (lives_more ps) ∙ (let e : one (held_of p) + (lives (map held_of ps) + 1) ≡ (one (held_of p) + lives (map held_of ps)) + 1 = omega arith in e)
+
+    more : (ps : List Place) → count_in (ps ++ q ∷ []) ≡ count_in ps + 1
+    more ps = lives_is (map held_of (ps ++ q ∷ [])) ∙ lives_more ps ∙ ap (λ n. n + 1) (sym (lives_is (map held_of ps)))
 
 -- two heaps, where the second has no live buffer
 pub even_together : (a c : Inside) (h : HeapValue) → record { places = map held_of c.places.items; births = c.births; taken = c.taken; given = c.given; reused = c.reused } ≡ h → ((b : ℕ) → at h b ≡ None) → IsEven a → IsEven c → (a.taken + c.taken) % 2 ^ 64 ≡ ((a.given + c.given) % 2 ^ 64 + count_in a.places.items) % 2 ^ 64

@@ -1,5 +1,5 @@
 -- What stands at a place of the code's heap.
-use Rattle.std.specs.Prelude.{ℕ, zero, suc, List, ℤ, Option, Some, None}
+use Rattle.std.specs.Prelude.{◌≡◌, ◌<◌, ℕ, zero, suc, List, ℤ, Option, Some, None, slice_index_or}
 use Rattle.buffer_heap.specs.declared.heap.Place.{Place}
 use Rattle.buffer_heap.specs.Heaps.{Content, In, Out, Held}
 
@@ -15,3 +15,8 @@ held_as born (suc n) content = Some (record { born = born; count = suc n; conten
 
 abbrev pub held_of : Place → Option Held
 held_of p = held_as p.born p.count (content_unless p.out_len p.cells.items)
+
+-- each live buffer has a number below this one, and no two have the same
+pub record AreNumbered (births : ℕ) (places : List (Option Held)) : Type 0 where
+  pub below : (b : ℕ) (x : Held) → slice_index_or places b None ≡ Some x → x.born < births
+  pub single : (b c : ℕ) (x y : Held) → slice_index_or places b None ≡ Some x → slice_index_or places c None ≡ Some y → x.born ≡ y.born → b ≡ c

@@ -1,4 +1,4 @@
-ghost use Rattle.std.specs.Prelude.{◌≡◌, IsTrue, ◌≢◌, ◌+◌, ◌<◌, ◌≤◌, ◌%◌, ◌^◌, ◌==◌, ◌↔◌, ℕ, pos, [], length, replicate, count_by, is_some, Some, None, OnErr, OnOk, IfOk, ⊤};
+ghost use Rattle.std.specs.Prelude.{◌≡◌, IsTrue, ◌≢◌, ◌+◌, ◌-◌, ◌<◌, ◌≤◌, ◌%◌, ◌^◌, ◌==◌, ◌↔◌, ℕ, pos, [], length, replicate, count_by, is_some, Some, None, OnErr, OnOk, IfOk, ⊤};
 ghost use Rattle.buffer_heap.specs.Heaps.{In, Out, Held, HeapValue, at, IsLive, IsIn, IsInAndSole, IsNamed, HasRoom, IsLifted, with_place, with_count, with_content, count_of, content_of, lifted, released};
 ghost use Rattle.buffer_heap.specs.Places.{held_of};
 ghost use Rattle.sac_base.specs.declared.outcome.Released.TheVariants.{Freed};
@@ -46,7 +46,7 @@ struct Place {
 /// Buffers of cells, each with the number of its references, and how many were taken, given back and reused so far,
 /// modulo 2^64. A buffer is in, or it is out while its cells are handed out.
 ///
-/// Each buffer that was taken was given back, or is live.
+/// Each buffer that was taken was given back, or is live. Each live one has a number of its own, below that of the next.
 #[derive(Drop)]
 pub struct Heap {
     alloc: Global,
@@ -66,7 +66,7 @@ impl Model for Heap {
 
     ghost Value = { HeapValue };
 
-    ghost use Rattle.buffer_heap.specs.Places.{held_of};
+    ghost use Rattle.buffer_heap.specs.Places.{AreNumbered, held_of};
 
     ghost view = { λ h. record {
       places = map held_of h.places.items;
@@ -76,7 +76,7 @@ impl Model for Heap {
       reused = h.reused;
     } };
 
-    ghost invariant = { λ h. h.taken ≡ (h.given + count_by is_some (map held_of h.places.items)) % 2 ^ 64 };
+    ghost invariant = { λ h. (h.taken ≡ (h.given + count_by is_some (map held_of h.places.items)) % 2 ^ 64) × AreNumbered h.births (map held_of h.places.items) };
 }
 
 // Where the stack of vacant places ends: no place of a heap.
@@ -211,9 +211,7 @@ impl Heap {
         if self.births == u64::MAX {
             return Err(Memory);
         }
-        let id = self.store(cells)?;
-        self.births += 1;
-        Ok(id)
+        self.store(cells)
     }
 
     /// Whether the buffer is live and in.
@@ -224,6 +222,20 @@ impl Heap {
             Some(place) => place.born == id.born && place.count > 0 && place.out_len.is_none(),
             None => false,
         }
+    }
+
+    /// A law. Each live buffer has a reference, and a number of its own, which is below that of the next one; and the
+    /// counters are of 64 bits.
+    pub fn buffers_are_numbered(&self)
+        ensures referred { (b : ℕ) (x : Held) → at self.now b ≡ Some x → 1 ≤ x.count }
+        ensures below { (b : ℕ) (x : Held) → at self.now b ≡ Some x → x.born < self.now.births }
+        ensures single { (b c : ℕ) (x y : Held) → at self.now b ≡ Some x → at self.now c ≡ Some y → x.born ≡ y.born → b ≡ c }
+        ensures counters { (self.now.taken < 2 ^ 64) × (self.now.given < 2 ^ 64) × (self.now.reused < 2 ^ 64) }
+    {
+        let _places = self.places.len();
+        let _taken = self.taken();
+        let _given = self.given();
+        let _reused = self.reused();
     }
 
     /// Whether the buffer is live and in, and may have one reference more.
@@ -257,6 +269,40 @@ impl Heap {
         self.given = self.given.wrapping_add(self.live());
         self.places.clear();
         self.vacant = NO_PLACE;
+    }
+
+    /// Raises the number of the next buffer by as much as that of a heap has risen above another one's.
+    ///
+    /// # Errors
+    ///
+    /// `Memory`: nothing has changed.
+    pub fn follow(&mut self, to: &Heap, from: &Heap) -> Result<(), Memory>
+        ensures followed { OnOk result (self.new ≡ record self.old { births = self.old.births + (to.now.births - from.now.births) }) }
+        ensures unchanged { OnErr result (self.new ≡ self.old) }
+    {
+        let more = to.births.saturating_sub(from.births);
+        match self.births.checked_add(more) {
+            Some(births) => {
+                self.births = births;
+                Ok(())
+            }
+            None => Err(Memory),
+        }
+    }
+
+    /// Goes on where the other heap ended: with its number of the next buffer, and with its counters added.
+    pub fn take_over(&mut self, other: Heap)
+        requires empty { (b : ℕ) → at other b ≡ None }
+        requires later { self.old.births ≤ other.births }
+        ensures { self.new ≡ record self.old {
+          births = other.births;
+          taken = (self.old.taken + other.taken) % 2 ^ 64;
+          given = (self.old.given + other.given) % 2 ^ 64;
+          reused = (self.old.reused + other.reused) % 2 ^ 64;
+        } }
+    {
+        self.births = other.births;
+        self.absorb(other);
     }
 
     /// One reference more to a buffer that is in.
@@ -332,10 +378,11 @@ impl Heap {
 
     // Takes a buffer of these cells, at a place that has none: at the top of the stack of vacant places, or at the end.
     fn store(&mut self, cells: Vec<Cell>) -> Result<BufferId, Memory>
+        requires { self.old.births + 1 < 2 ^ 64 }
         ensures vacant { IfOk result (λ id. at self.old id.place ≡ None) }
         ensures holds { IfOk result (λ id. at self.new id.place ≡ Some (record { born = id.born; count = 1; content = In cells.items })) }
         ensures others { IfOk result (λ id. (b : ℕ) → b ≢ id.place → at self.new b ≡ at self.old b) }
-        ensures number { IfOk result (λ id. (id.born ≡ self.old.births) × (self.new.births ≡ self.old.births)) }
+        ensures number { IfOk result (λ id. (id.born ≡ self.old.births) × (self.new.births ≡ self.old.births + 1)) }
         ensures counters { OnOk result ((self.new.taken ≡ (self.old.taken + 1) % 2 ^ 64) × (self.new.given ≡ self.old.given) × (self.new.reused ≡ self.old.reused)) }
         ensures unchanged { OnErr result (self.new ≡ self.old) }
     {
@@ -352,6 +399,7 @@ impl Heap {
         if vacant < self.places.len() && self.places[vacant].count == 0 {
             self.vacant = self.places[vacant].next;
             self.places[vacant] = buffer;
+            self.births = born + 1;
             self.taken = taken;
             return Ok(BufferId {
                 place: vacant,
@@ -360,6 +408,7 @@ impl Heap {
         }
         let end = self.places.len();
         self.places.push(buffer)?;
+        self.births = born + 1;
         self.taken = taken;
         Ok(BufferId { place: end, born })
     }

@@ -245,7 +245,7 @@ impl<T: Send + Drop> Phase<T> {
         } = self;
         let FrameSeat { seat } = frame;
         let closed = table.close_with(seat);
-        tally.add(closed.word(0).min(chunks));
+        tally.raise(1, closed.word(0).min(chunks));
         for (b, count) in into.iter_mut().enumerate() {
             *count = closed.word(b + 1);
         }

@@ -4,6 +4,7 @@ pub mod Chunks
 mod Examples
 pub mod Folds
 pub mod Functions
+pub mod Growing
 pub mod Loops
 pub mod Parts
 pub mod PhaseCells

@@ -25,6 +25,7 @@ ghost use Rattle.counted_laws.specs.Simulation.{LeavesNothing, Balanced, Owns, A
 ghost use Rattle.phase_laws.specs.Alone.{Context, Readable, Leaves, StandAlone, Alike, told, IsNew, Spent, SpentInAll, CallsSpend};
 ghost use Rattle.phase_laws.specs.Chunks.{pieces, beside, chunks_run, chunks_do, RanAs, GivesAsMany};
 ghost use Rattle.phase_laws.specs.Folds.{IsOf, AllOf, partial, merged};
+ghost use Rattle.phase_laws.specs.Growing.{Grows, CallsGrow, SourceGrows};
 ghost use Rattle.phase_laws.specs.Numbers.{IsBlind, CallsAreBlind, SourceIsBlind};
 ghost use Rattle.phase_laws.specs.Phased.{Cut, phased, right_phased, inline_phased, deeper_phased, phased_run};
 ghost use Rattle.phase_laws.specs.Spending.{spends, gens_take, parts_take, total, whole_spends, calls_spend, deeper_spends, inline_spends};
@@ -74,6 +75,16 @@ pub fn numbers_have_no_say()
     ensures parts { (calls : DoesCalls) (turns : ℕ) → CallsAreBlind calls → (parts : CodePartsTerm) (e : Values) (v : List ℤ) → SourceIsBlind (part_holder (code_cells calls turns parts e) v) }
     ensures cells { (form : Form) (source : List ℤ → Option Source) → ((v : List ℤ) → SourceIsBlind (source v)) → (t : Target) (place : ℕ) (vs : List (List ℤ)) → IsBlind (cells_do form source (write_cell t) place vs) }
     ensures calls { (code : CodeProgram) (turns left nest : ℕ) → CallsAreBlind (call_does code (deeper_does code turns left) (inline_does code turns (deeper_does code turns left) nest)) }
+{}
+
+/// Law: a heap has one buffer more for each one that was taken, whatever blocks, cells and calls do; those that were given back stay as empty places.
+pub fn a_buffer_more_for_each_one_taken()
+    ensures blocks { (calls : DoesCalls) (turns : ℕ) → CallsGrow calls → (t : CodeTerm) (e : Values) → Grows (does calls turns t e) }
+    ensures generators { (calls : DoesCalls) (turns : ℕ) → CallsGrow calls → (gens : CodeGensTerm) (e : Values) (h : Heap) (ranges : List Range) (v : List ℤ) → SourceGrows (holder (code_generators calls turns gens e h) ranges v) }
+    ensures parts { (calls : DoesCalls) (turns : ℕ) → CallsGrow calls → (parts : CodePartsTerm) (e : Values) (v : List ℤ) → SourceGrows (part_holder (code_cells calls turns parts e) v) }
+    ensures cell { (form : Form) (source : Option Source) → SourceGrows source → Grows (cell_does form source) }
+    ensures cells { (form : Form) (source : List ℤ → Option Source) → ((v : List ℤ) → SourceGrows (source v)) → (t : Target) (place : ℕ) (vs : List (List ℤ)) → Grows (cells_do form source (write_cell t) place vs) }
+    ensures calls { (code : CodeProgram) (turns left nest : ℕ) → CallsGrow (call_does code (deeper_does code turns left) (inline_does code turns (deeper_does code turns left) nest)) }
 {}
 
 /// Law: cells that stand alone may be run in chunks, each from the same heap with numbers of its own. The chunks in two halves come to what all come to, and pieces are the whole list together.

@@ -1,10 +1,10 @@
 -- The slots of variables after one has changed.
-use Rattle.std.proofs.Common.{◌≡◌, ℕ, zero, suc, ◌+◌, ◌<◌, ◌≤◌, Bool, true, false, cond, eqb, List, [], ◌∷◌, ◌++◌, length, take, replicate, reverse, refl, ap, ◌∙◌, sym, subst, slice_set, arith}
-use Rattle.std.specs.Prelude.{slice_index_or}
+use Rattle.std.proofs.Common.{◌≡◌, ℕ, zero, suc, ◌+◌, ◌-◌, ◌<◌, ◌≤◌, Bool, true, false, cond, eqb, List, [], ◌∷◌, ◌++◌, length, take, replicate, reverse, refl, ap, ◌∙◌, sym, subst, slice_set, arith}
+use Rattle.std.specs.Prelude.{slice_index_or, drop}
 use Rattle.std.proofs.lemmas.Bool.{eqb-true, eq-eqb, true≢false}
-use Rattle.std.proofs.lemmas.List.{get_or-set_same, get_or-set_other, reverse-append}
+use Rattle.std.proofs.lemmas.List.{get_or-set_same, get_or-set_other, get_or-drop, length-drop, reverse-append}
 use Rattle.core_ir.specs.declared.tree.Var.{Var}
-use Rattle.counted_code.specs.Machine.{bind_value}
+use Rattle.counted_code.specs.Machine.{no_values, bind_value}
 use Rattle.run_values.specs.declared.frames.Undo.{Undo}
 use Rattle.run_values.specs.declared.frames.Undo.TheVariants.{Bound}
 use Rattle.run_values.specs.declared.value.RunValue.{RunValue}
@@ -76,3 +76,29 @@ pub bound_around : (xs ys : List RunValue) (us ts : List Undo) (k base : ℕ) (v
 bound_around xs ys us ts k base v there free same is =
     ap (λ ws. around ws (slots_of (slice_set xs k v)) base) (ap reverse is ∙ reverse-append ts (Bound k ∷ []))
     ∙ ap (λ s. around (reverse ts) s base) ((λ j i. freed xs k i v there free j) ∙ same)
+
+-- the slots from one on, as slots of their own
+pub copied : (xs ys : List RunValue) (base : ℕ) → ys ≡ drop base xs → seen (slots_of ys) 0 ≡ seen (slots_of xs) base
+copied xs ys base is = λ j x. value_of (at x j)
+  where
+    first : (n : ℕ) → 0 + n ≡ n
+    first n = omega arith
+
+    at : (x : Var) → slots_of ys (0 + x.0) ≡ slots_of xs (base + x.0)
+    at x = ap (slots_of ys) (first x.0) ∙ ap (λ zs. slots_of zs x.0) is ∙ get_or-drop base xs x.0 Unbound
+
+-- what is left behind a place, taken whole
+pub rest_taken : (xs : List RunValue) (base : ℕ) → take (length xs - base) (drop base xs) ≡ drop base xs
+rest_taken xs base = take_whole (drop base xs) (length xs - base) (let n = length-drop base xs in omega (arith, n))
+
+-- beyond the last slot nothing is bound
+pub none_copied : (xs : List RunValue) (base : ℕ) → length xs ≤ base → no_values ≡ seen (slots_of xs) base
+none_copied xs base le = λ j x. value_of (at x j)
+  where
+    past : (ys : List RunValue) (n : ℕ) → length ys ≤ n → Unbound ≡ slots_of ys n
+    past [] n p = refl
+    past (y ∷ ys) zero p = elim (none_below p) [ ]
+    past (y ∷ ys) (suc n) p = past ys n (omega (arith, p))
+
+    at : (x : Var) → Unbound ≡ slots_of xs (base + x.0)
+    at x = past xs (base + x.0) (omega (arith, le))

@@ -1,7 +1,8 @@
 //! The variables of all calls, in one stack.
 
-ghost use Rattle.std.specs.Prelude.{◌≡◌, ◌<◌, ◌∷◌, [], List, length, IsTrue, OnOk};
-ghost use Rattle.counted_code.specs.Machine.{Values, no_values, bind_value};
+ghost use Rattle.std.specs.Prelude.{◌≡◌, ◌<◌, ◌≤◌, ◌∷◌, [], List, length, IsTrue, OnOk, IfOk};
+ghost use Rattle.core_ir.specs.declared.tree.Var.{Var};
+ghost use Rattle.counted_code.specs.Machine.{Values, no_values, bind_value, missing_value};
 ghost use Rattle.run_values.specs.Scopes.{slots_of, without, current, outer};
 ghost use Rattle.run_values.specs.Shown.{value_of};
 
@@ -43,6 +44,22 @@ impl Frames {
         }
     }
 
+    /// The variables of the call that runs, and of no other one.
+    pub fn copy(&self, alloc: Global) -> Result<Frames, Memory>
+        ensures { IfOk result (λ frames. current frames ≡ current self.now) }
+    {
+        if self.base >= self.slots.len() {
+            return Ok(Frames::new(alloc));
+        }
+        let mut slots = Vec::new(alloc);
+        slots.extend_from_slice(&self.slots[self.base..])?;
+        Ok(Frames {
+            slots,
+            base: 0,
+            trail: Vec::new(alloc),
+        })
+    }
+
     /// The value of a variable.
     pub fn get(&self, x: Var) -> RunValue
         ensures { value_of result ≡ current self.now x }
@@ -54,6 +71,13 @@ impl Frames {
             },
             None => RunValue::Unbound,
         }
+    }
+
+    /// How many variables the call that runs may have bound: none is from this number on.
+    pub fn slots(&self) -> usize
+        ensures { (x : Var) → result ≤ x.0 → current self.now x ≡ missing_value }
+    {
+        self.slots.len().saturating_sub(self.base)
     }
 
     /// Binds a variable that is not bound. One that is bound counts as want of memory.

@@ -1,6 +1,7 @@
 -- Cells that follow one another, cut in two.
-use Rattle.std.proofs.Common.{◌≡◌, ℕ, zero, suc, ◌+◌, ◌%◌, ◌^◌, List, [], ◌∷◌, ◌++◌, ℤ, Option, None, Some, Ok, Err, refl, sym, ap, ◌∙◌, arith}
-use Rattle.std.specs.Prelude.{fold}
+use Rattle.std.proofs.Common.{◌≡◌, ℕ, zero, suc, ◌+◌, ◌%◌, ◌^◌, List, [], ◌∷◌, ◌++◌, ℤ, length, Option, None, Some, Ok, Err, refl, sym, ap, subst, ◌∙◌, arith}
+use Rattle.std.specs.Prelude.{fold, All}
+use Rattle.std.proofs.lemmas.List.Elements.{All-append, All-cons, All-nil}
 use Rattle.std.proofs.lemmas.List.Sums.{fold-append, fold_push}
 use Rattle.std.proofs.Math.Nat.{add-mod-mod, mod-add-mod}
 use Rattle.sac_base.specs.declared.fault.Fault.{Fault}
@@ -11,7 +12,7 @@ use Rattle.wl_core.specs.Machine.{both}
 use Rattle.wl_core.specs.Combining.{IsFoldable}
 use Rattle.wl_core.proofs.Functions.{joined-append}
 use Rattle.wl_core.proofs.Combining.{present-append}
-use Rattle.worker_team.specs.Segments.{cells_from, cost_from, Same}
+use Rattle.worker_team.specs.Segments.{cells_from, cost_from, HaveWidth, Same}
 
 -- ---- positions
 
@@ -46,11 +47,17 @@ same_add : (m a b c d : ℕ) → a % m ≡ b % m → c % m ≡ d % m → (a + c)
 same_add m a b c d e f =
     sym (mod-add-mod a m c) ∙ sym (add-mod-mod (a % m) c m) ∙ (λ j. (e j + f j) % m) ∙ add-mod-mod (b % m) d m ∙ mod-add-mod b m d
 
-pub same_sum : (a b c d : ℕ) → Same a b → Same c d → Same (a + c) (b + d)
-same_sum a b c d e f = same_add (2 ^ 64) a b c d e f
+pub same_sum : (kind a b c d : ℕ) → Same kind a b → Same kind c d → Same kind (a + c) (b + d)
+same_sum zero a b c d e f = λ j. e j + f j
+same_sum (suc kind) a b c d e f = same_add (2 ^ 64) a b c d e f
 
-pub same_of : (a b : ℕ) → a ≡ b → Same a b
-same_of a b e = λ j. e j % 2 ^ 64
+pub same_of : (kind a b : ℕ) → a ≡ b → Same kind a b
+same_of zero a b e = e
+same_of (suc kind) a b e = λ j. e j % 2 ^ 64
+
+pub same_then : (kind a b c : ℕ) → Same kind a b → Same kind b c → Same kind a c
+same_then zero a b c e f = e ∙ f
+same_then (suc kind) a b c e f = e ∙ f
 
 -- ---- values and faults in order
 
@@ -81,6 +88,23 @@ module _ {A : Type 0} where
 -- the elements of values, in two parts
 pub joined-both : {A : Type 0} (vs ws : List (Option (List A))) → joined (present (vs ++ ws)) ≡ joined (present vs) ++ joined (present ws)
 joined-both vs ws = ap (λ l. joined l) (present-append vs ws) ∙ joined-append (present vs) (present ws)
+
+-- ---- widths
+
+abbrev OfWidth : ℕ → List ℤ → Type 0
+OfWidth width x = length x ≡ width
+
+pub widths_none : (width : ℕ) → HaveWidth width []
+widths_none width = All-nil (OfWidth width)
+
+pub widths_both : (width : ℕ) (vs ws : List (Option (List ℤ))) → HaveWidth width vs → HaveWidth width ws → HaveWidth width (vs ++ ws)
+widths_both width vs ws front back = subst (λ (l : List (List ℤ)). All (OfWidth width) l) (sym (present-append vs ws)) (All-append (OfWidth width) (present vs) (present ws) front back)
+
+pub widths_more : (width : ℕ) (vs : List (Option (List ℤ))) (x : List ℤ) → HaveWidth width vs → length x ≡ width → HaveWidth width (vs ++ Some x ∷ [])
+widths_more width vs x all is = widths_both width vs (Some x ∷ []) all (All-cons (OfWidth width) x [] is (All-nil (OfWidth width)))
+
+pub widths_same : (width : ℕ) (vs : List (Option (List ℤ))) → HaveWidth width vs → HaveWidth width (vs ++ None ∷ [])
+widths_same width vs all = widths_both width vs (None ∷ []) all (All-nil (OfWidth width))
 
 -- ---- combinations
 

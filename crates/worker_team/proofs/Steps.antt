@@ -1,5 +1,5 @@
 -- One cell more.
-use Rattle.std.proofs.Common.{◌≡◌, ℕ, suc, ◌+◌, ◌-◌, ◌*◌, ◌<◌, ◌≤◌, List, [], ◌∷◌, ◌++◌, ℤ, length, take, Option, Some, Ok, Err, refl, sym, ap, ◌∙◌, arith}
+use Rattle.std.proofs.Common.{◌≡◌, ℕ, suc, ◌+◌, ◌-◌, ◌*◌, ◌<◌, ◌≤◌, List, [], ◌∷◌, ◌++◌, ℤ, length, take, Option, Some, None, Ok, Err, refl, sym, ap, ◌∙◌, arith}
 use Rattle.std.proofs.lemmas.List.{length-take-le}
 use Rattle.std.proofs.Math.Seq.{take-append_seam, take-append-add}
 use Rattle.std.proofs.Math.Nat.{suc-mul}
@@ -12,8 +12,8 @@ use Rattle.wl_core.specs.Machine.{CellValue, combine, both}
 use Rattle.worker_team.specs.declared.plan.Stop.{Stop}
 use Rattle.worker_team.specs.declared.plan.Stop.TheVariants.{Faulted, Memory}
 use Rattle.worker_team.specs.declared.cells.CellEnd.TheVariants.{Stopped}
-use Rattle.worker_team.specs.Segments.{Tells, cells_from, cost_from, Costs, Gathered, Ran, Same}
-use Rattle.worker_team.proofs.Sequences.{cells-append, cells_more, cost_more, each-both, each-front, each-back, joined-both, combined_more, same_sum, same_of}
+use Rattle.worker_team.specs.Segments.{Tells, cells_from, cost_from, Costs, Gathered, HaveWidth, Ran, Same}
+use Rattle.worker_team.proofs.Sequences.{cells-append, cells_more, cost_more, each-both, each-front, each-back, joined-both, combined_more, both-none, same_sum, same_of, same_then, widths_more, widths_same}
 
 module _ (cell : ℕ → CellValue) (start k : ℕ) (values : List (Option (List ℤ))) (before : each (cells_from cell start k) ≡ Ok values) where
   -- the values so far, and the next
@@ -23,20 +23,24 @@ module _ (cell : ℕ → CellValue) (start k : ℕ) (values : List (Option (List
       ap (λ l. each l) (cells_more cell start k) ∙ each-both (cells_from cell start k) (cell (start + k) ∷ []) values (v ∷ []) before one
 
   -- their elements, and those of the next
-  pub stored_more : (x front rows : List ℤ) → cell (start + k) ≡ Ok (Some x) → front ≡ joined (present values) → rows ≡ front ++ x
-      → (vs : List (Option (List ℤ))) × (each (cells_from cell start (k + 1)) ≡ Ok vs) × (rows ≡ joined (present vs))
-  stored_more x front rows e f r =
+  pub stored_more : (width : ℕ) (x front rows : List ℤ) → cell (start + k) ≡ Ok (Some x) → length x ≡ width → front ≡ joined (present values) → HaveWidth width values → rows ≡ front ++ x
+      → (vs : List (Option (List ℤ))) × (each (cells_from cell start (k + 1)) ≡ Ok vs) × (rows ≡ joined (present vs)) × HaveWidth width vs
+  stored_more width x front rows e len f all r =
       let one : joined (present (Some x ∷ [])) ≡ x = no_more x in
-      (values ++ Some x ∷ [], each_more (Some x) e, r ∙ (λ j. f j ++ x) ∙ (λ j. joined (present values) ++ sym one j) ∙ sym (joined-both values (Some x ∷ [])))
+      (values ++ Some x ∷ [], each_more (Some x) e, r ∙ (λ j. f j ++ x) ∙ (λ j. joined (present values) ++ sym one j) ∙ sym (joined-both values (Some x ∷ [])), widths_more width values x all len)
     where
       no_more : (l : List ℤ) → l ++ [] ≡ l
       no_more [] = refl
       no_more (y ∷ l) = λ j. y ∷ no_more l j
 
-  -- their combination, and the next
-  pub combined_next : (op : Op) (v all : Option (List ℤ)) → cell (start + k) ≡ Ok v → combined (combine op) (present values) ≡ all
-      → (vs : List (Option (List ℤ))) × (each (cells_from cell start (k + 1)) ≡ Ok vs) × (combined (combine op) (present vs) ≡ both (combine op) all v)
-  combined_next op v all e f = (values ++ v ∷ [], each_more v e, combined_more (combine op) values v ∙ (λ j. both (combine op) (f j) v))
+  -- their combination, and the next, which may be missing
+  pub combined_next : (op : Op) (width : ℕ) (x : List ℤ) (all : Option (List ℤ)) → cell (start + k) ≡ Ok (Some x) → length x ≡ width → combined (combine op) (present values) ≡ all → HaveWidth width values
+      → (vs : List (Option (List ℤ))) × (each (cells_from cell start (k + 1)) ≡ Ok vs) × (combined (combine op) (present vs) ≡ both (combine op) all (Some x)) × HaveWidth width vs
+  combined_next op width x all e len f wide = (values ++ Some x ∷ [], each_more (Some x) e, combined_more (combine op) values (Some x) ∙ (λ j. both (combine op) (f j) (Some x)), widths_more width values x wide len)
+
+  pub combined_same : (op : Op) (width : ℕ) (all : Option (List ℤ)) → cell (start + k) ≡ Ok None → combined (combine op) (present values) ≡ all → HaveWidth width values
+      → (vs : List (Option (List ℤ))) × (each (cells_from cell start (k + 1)) ≡ Ok vs) × (combined (combine op) (present vs) ≡ all) × HaveWidth width vs
+  combined_same op width all e f wide = (values ++ None ∷ [], each_more None e, combined_more (combine op) values None ∙ both-none (combine op) (combined (combine op) (present values)) ∙ f, widths_same width values wide)
 
   -- the first fault
   pub fault_here : (n : ℕ) (fault : Fault) → k < n → cell (start + k) ≡ Err fault → each (cells_from cell start n) ≡ Err fault
@@ -50,20 +54,22 @@ module _ (cell : ℕ → CellValue) (start k : ℕ) (values : List (Option (List
   stops_here job width n into rows (Faulted fault) lt e = fault_here n fault lt e
   stops_here job width n into rows Memory lt e = tt
 
-  pub stops_gather : (op : Op) (n : ℕ) (into row : List ℤ) (stop : Stop) → k < n → Tells (cell (start + k)) into (Stopped stop) → Gathered op (cells_from cell start n) row (Err stop)
-  stops_gather op n into row (Faulted fault) lt e = fault_here n fault lt e
-  stops_gather op n into row Memory lt e = tt
+  pub stops_gather : (op : Op) (width n : ℕ) (into row : List ℤ) (stop : Stop) → k < n → Tells (cell (start + k)) into (Stopped stop) → Gathered op width (cells_from cell start n) row (Err stop)
+  stops_gather op width n into row (Faulted fault) lt e = fault_here n fault lt e
+  stops_gather op width n into row Memory lt e = tt
 
 -- the cost so far, and that of the next cell
-pub costs_more : (cost : ℕ → ℕ → ℕ) (start k : ℕ) (a b c : ℕ → ℕ) → Costs cost start k a b → ((kind : ℕ) → Same (c kind) (b kind + cost kind (start + k))) → Costs cost start (k + 1) a c
+pub costs_more : (cost : ℕ → ℕ → ℕ) (start k : ℕ) (a b c : ℕ → ℕ) → Costs cost start k a b → ((kind : ℕ) → Same kind (c kind) (b kind + cost kind (start + k))) → Costs cost start (k + 1) a c
 costs_more cost start k a b c so_far next kind =
-    let s : Same (b kind + cost kind (start + k)) ((a kind + cost_from (cost kind) start k) + cost kind (start + k)) = same_sum (b kind) (a kind + cost_from (cost kind) start k) (cost kind (start + k)) (cost kind (start + k)) (so_far kind) refl in
+    let s : Same kind (b kind + cost kind (start + k)) ((a kind + cost_from (cost kind) start k) + cost kind (start + k)) = same_sum kind (b kind) (a kind + cost_from (cost kind) start k) (cost kind (start + k)) (cost kind (start + k)) (so_far kind) (same_of kind (cost kind (start + k)) (cost kind (start + k)) refl) in
     let more = cost_more (cost kind) start k in
     let e : (a kind + cost_from (cost kind) start k) + cost kind (start + k) ≡ a kind + cost_from (cost kind) start (k + 1) = omega arith in
-    next kind ∙ s ∙ same_of _ _ e
+    same_then kind (c kind) (b kind + cost kind (start + k)) (a kind + cost_from (cost kind) start (k + 1)) (next kind)
+    (same_then kind (b kind + cost kind (start + k)) ((a kind + cost_from (cost kind) start k) + cost kind (start + k)) (a kind + cost_from (cost kind) start (k + 1)) s
+    (same_of kind ((a kind + cost_from (cost kind) start k) + cost kind (start + k)) (a kind + cost_from (cost kind) start (k + 1)) e))
 
 pub costs_none : (cost : ℕ → ℕ → ℕ) (start : ℕ) (a b : ℕ → ℕ) → ((kind : ℕ) → b kind ≡ a kind) → Costs cost start 0 a b
-costs_none cost start a b e kind = let z : a kind + 0 ≡ a kind = omega arith in same_of (b kind) (a kind + 0) (e kind ∙ sym z)
+costs_none cost start a b e kind = let z : a kind + 0 ≡ a kind = omega arith in same_of kind (b kind) (a kind + 0) (e kind ∙ sym z)
 
 -- the elements before a part that was written, and that part
 pub put_front : (a k w : ℕ) (xs ys : List ℤ) → a ≤ length xs → length ys ≡ w → take (a + w) (put_mid a k xs ys) ≡ take a xs ++ ys

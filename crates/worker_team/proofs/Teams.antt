@@ -11,7 +11,7 @@ use Rattle.count_table.specs.Seats.{WorkerState, FrameState}
 use Rattle.worker_team.specs.declared.plan.Stop.{Stop}
 use Rattle.worker_team.specs.Crews.{IsBack}
 use Rattle.worker_team.specs.Segments.{cells_from, cost_from, ChunkRoom, CostBoth, Costs, HasRoom, HasRows, Ran, Same}
-use Rattle.worker_team.proofs.Sequences.{cells-append, cost-append, same_sum, same_of}
+use Rattle.worker_team.proofs.Sequences.{cells-append, cost-append, same_sum, same_of, same_then, widths_none}
 
 -- ---- how many chunks
 
@@ -92,8 +92,8 @@ ran_none job width size cell start left rows none room =
     empty (x ∷ xs) e = absurd (omega arith)
 
     at_none : (job : Job) → HasRoom job width size 0 (length rows) → Ran job width [] rows (Ok false)
-    at_none Store room = ([], refl, empty rows (let z : 0 * width ≡ 0 = omega arith in omega arith))
-    at_none (Fold base op) room = ([], refl, refl)
+    at_none Store room = ([], refl, empty rows (let z : 0 * width ≡ 0 = omega arith in omega arith), widths_none width)
+    at_none (Fold base op) room = ([], refl, refl, widths_none width)
 
 pub cells_split : (cell : ℕ → CellValue) (start size left : ℕ) → size ≤ left → cells_from cell start left ≡ cells_from cell start size ++ cells_from cell (start + size) (left - size)
 cells_split cell start size left le = let e : left ≡ size + (left - size) = omega arith in ap (cells_from cell start) e ∙ cells-append cell start size (left - size)
@@ -102,25 +102,27 @@ cells_split cell start size left le = let e : left ≡ size + (left - size) = om
 
 pub cost_alone : (cost : ℕ → ℕ → ℕ) (start n : ℕ) (h h' w w' : ℕ → ℕ) → ((kind : ℕ) → h' kind ≡ h kind) → Costs cost start n w w' → CostBoth cost start n h w h' w'
 cost_alone cost start n h h' w w' same costs kind =
-    let s : Same (h' kind + w' kind) (h kind + (w kind + cost_from (cost kind) start n)) = same_sum (h' kind) (h kind) (w' kind) (w kind + cost_from (cost kind) start n) (same_of _ _ (same kind)) (costs kind) in
+    let s : Same kind (h' kind + w' kind) (h kind + (w kind + cost_from (cost kind) start n)) = same_sum kind (h' kind) (h kind) (w' kind) (w kind + cost_from (cost kind) start n) (same_of kind (h' kind) (h kind) (same kind)) (costs kind) in
     let e : h kind + (w kind + cost_from (cost kind) start n) ≡ (h kind + w kind) + cost_from (cost kind) start n = omega arith in
-    s ∙ same_of _ _ e
+    same_then kind (h' kind + w' kind) (h kind + (w kind + cost_from (cost kind) start n)) ((h kind + w kind) + cost_from (cost kind) start n) s (same_of kind (h kind + (w kind + cost_from (cost kind) start n)) ((h kind + w kind) + cost_from (cost kind) start n) e)
 
 pub cost_split : (cost : ℕ → ℕ → ℕ) (start size left : ℕ) (h h' w w' : ℕ → ℕ) → size ≤ left → Costs cost start size w w' → Costs cost (start + size) (left - size) h h' → CostBoth cost start left h w h' w'
 cost_split cost start size left h h' w w' le mine rest kind =
     let a : ℕ = cost_from (cost kind) start size in
     let b : ℕ = cost_from (cost kind) (start + size) (left - size) in
-    let s : Same (h' kind + w' kind) ((h kind + b) + (w kind + a)) = same_sum (h' kind) (h kind + b) (w' kind) (w kind + a) (rest kind) (mine kind) in
+    let s : Same kind (h' kind + w' kind) ((h kind + b) + (w kind + a)) = same_sum kind (h' kind) (h kind + b) (w' kind) (w kind + a) (rest kind) (mine kind) in
     let all : cost_from (cost kind) start left ≡ a + b = (let e : left ≡ size + (left - size) = omega arith in ap (cost_from (cost kind) start) e ∙ cost-append (cost kind) start size (left - size)) in
     let e : (h kind + b) + (w kind + a) ≡ (h kind + w kind) + cost_from (cost kind) start left = omega arith in
-    s ∙ same_of _ _ e
+    same_then kind (h' kind + w' kind) ((h kind + b) + (w kind + a)) ((h kind + w kind) + cost_from (cost kind) start left) s (same_of kind ((h kind + b) + (w kind + a)) ((h kind + w kind) + cost_from (cost kind) start left) e)
 
 -- a context that began with nothing was handed back
-pub cost_home : (cost : ℕ → ℕ → ℕ) (start n : ℕ) (h h' k w w' : ℕ → ℕ) → CostBoth cost start n h w h' w' → ((kind : ℕ) → w kind ≡ 0) → ((kind : ℕ) → Same (k kind) (h' kind + w' kind)) → Costs cost start n h k
+pub cost_home : (cost : ℕ → ℕ → ℕ) (start n : ℕ) (h h' k w w' : ℕ → ℕ) → CostBoth cost start n h w h' w' → ((kind : ℕ) → w kind ≡ 0) → ((kind : ℕ) → Same kind (k kind) (h' kind + w' kind)) → Costs cost start n h k
 cost_home cost start n h h' k w w' costs none back kind =
     let z = none kind in
     let e : (h kind + w kind) + cost_from (cost kind) start n ≡ h kind + cost_from (cost kind) start n = omega arith in
-    back kind ∙ costs kind ∙ same_of _ _ e
+    same_then kind (k kind) (h' kind + w' kind) (h kind + cost_from (cost kind) start n) (back kind)
+    (same_then kind (h' kind + w' kind) ((h kind + w kind) + cost_from (cost kind) start n) (h kind + cost_from (cost kind) start n) (costs kind)
+    (same_of kind ((h kind + w kind) + cost_from (cost kind) start n) (h kind + cost_from (cost kind) start n) e))
 
 -- ---- answers
 

@@ -14,14 +14,14 @@ use Rattle.worker_team.proofs.Sequences.{from_first}
 use Rattle.worker_team.proofs.Teams.{rows_of_both}
 
 -- the held cells' combination is combined with the neutral value
-pub with_neutral : (base : Base) (op : Op) → TakesBase (Fold base op) → (width : ℕ) (cells : List CellValue) (rows neutral value : List ℤ) (held : Bool) → Ran (Fold base op) width cells rows (Ok true)
-    → value_if held value ≡ both (combine op) (Some neutral) (Some (take width rows)) → IsCombined op cells neutral value (Ok tt)
-with_neutral base op takes width cells rows neutral value held r e =
+pub with_neutral : (base : Base) (op : Op) → TakesBase (Fold base op) → (cells : List CellValue) (rows neutral value : List ℤ) (held : Bool) → Ran (Fold base op) (length neutral) cells rows (Ok true)
+    → value_if held value ≡ both (combine op) (Some neutral) (Some (take (length neutral) rows)) → IsCombined op cells neutral value (Ok tt)
+with_neutral base op takes cells rows neutral value held r e =
     let laws = elementwise-foldable (fold_op op) (foldable base op takes) in
-    let whole : Some (fold (combine op) neutral (present r.0)) ≡ both (combine op) (Some neutral) (Some (take width rows)) = from_first (combine op) laws neutral (present r.0) ∙ (λ j. both (combine op) (Some neutral) (r.2 j)) in
-    (r.0, r.1, there held value (fold (combine op) neutral (present r.0)) e whole)
+    let whole : Some (fold (combine op) neutral (present r.0)) ≡ both (combine op) (Some neutral) (Some (take (length neutral) rows)) = from_first (combine op) laws neutral (present r.0) ∙ (λ j. both (combine op) (Some neutral) (r.2 j)) in
+    (r.0, r.1, there held value (fold (combine op) neutral (present r.0)) e whole, r.3)
   where
-    there : (held : Bool) (x y : List ℤ) → value_if held x ≡ both (combine op) (Some neutral) (Some (take width rows)) → Some y ≡ both (combine op) (Some neutral) (Some (take width rows)) → x ≡ y
+    there : (held : Bool) (x y : List ℤ) → value_if held x ≡ both (combine op) (Some neutral) (Some (take (length neutral) rows)) → Some y ≡ both (combine op) (Some neutral) (Some (take (length neutral) rows)) → x ≡ y
     there true x y e f = cc
     there false x y e f = absurd (cc)
 

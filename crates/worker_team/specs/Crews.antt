@@ -1,5 +1,5 @@
 -- What the workers of a phase begin with, and what they leave.
-use Rattle.std.specs.Prelude.{◌≡◌, ℕ, ◌+◌, ◌<◌, ◌≤◌, false, [], None, Ok}
+use Rattle.std.specs.Prelude.{◌≡◌, ℕ, ◌+◌, ◌<◌, ◌≤◌, false, [], Option, None, Some, Ok}
 use Rattle.std.specs.Int.{div_ceil}
 use Rattle.count_table.specs.Seats.{PhaseId, WorkerState, FrameState}
 use Rattle.wl_core.specs.Machine.{CellValue, IsFold, TakesBase}
@@ -30,11 +30,16 @@ pub record SeatsBehind (table : PhaseId (Unit {0})) (share : Share) (from : Stre
   pub some : 1 ≤ from.left
 
 -- a seat that holds nothing and has drawn nothing
-pub record IsFresh (table : PhaseId (Unit {0})) (seat : WorkerState (Unit {0})) : Type 0 where
+pub record IsFreshSeat (table : PhaseId (Unit {0})) (seat : WorkerState (Unit {0})) : Type 0 where
   pub phase : seat.phase ≡ table
   pub holds : seat.holds ≡ []
   pub drawn : seat.drawn ≡ []
   pub going : seat.ended ≡ false
+
+-- such a seat is there
+abbrev pub IsFresh : PhaseId (Unit {0}) → Option (WorkerState (Unit {0})) → Type 0
+IsFresh table None = ⊥
+IsFresh table (Some seat) = IsFreshSeat table seat
 
 -- every seat has come back, and none has drawn a chunk
 pub record IsBack (before after : FrameState (Unit {0})) : Type 0 where

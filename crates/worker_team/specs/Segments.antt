@@ -1,5 +1,5 @@
 -- What workers make of the cells of positions that follow one another.
-use Rattle.std.specs.Prelude.{◌≡◌, ℕ, zero, suc, ◌+◌, ◌*◌, ◌%◌, ◌^◌, ◌≤◌, ℤ, List, [], ◌∷◌, length, take, Bool, cond, Option, Some, None, Result, Ok, Err}
+use Rattle.std.specs.Prelude.{◌≡◌, ℕ, zero, suc, ◌+◌, ◌*◌, ◌%◌, ◌^◌, ◌≤◌, ℤ, List, [], ◌∷◌, length, take, All, Bool, cond, Option, Some, None, Result, Ok, Err}
 use Rattle.std.specs.Int.{div_ceil}
 use Rattle.sac_base.specs.Verdict.{each, present, joined, combined}
 use Rattle.sac_base.specs.declared.op.Op.{Op}
@@ -34,17 +34,18 @@ abbrev pub cost_from : (ℕ → ℕ) → ℕ → ℕ → ℕ
 cost_from cost start zero = 0
 cost_from cost start (suc n) = cost start + cost_from cost (suc start) n
 
--- two counts are the same modulo 2^64
-abbrev pub Same : ℕ → ℕ → Type 0
-Same a b = a % 2 ^ 64 ≡ b % 2 ^ 64
+-- two counts of a kind are the same, those of kind 0 exactly and all others modulo 2^64
+abbrev pub Same : ℕ → ℕ → ℕ → Type 0
+Same zero a b = a ≡ b
+Same (suc kind) a b = a % 2 ^ 64 ≡ b % 2 ^ 64
 
 -- each count has risen by the cost of n positions
 abbrev pub Costs : (ℕ → ℕ → ℕ) → ℕ → ℕ → (ℕ → ℕ) → (ℕ → ℕ) → Type 0
-Costs cost start n before after = (kind : ℕ) → Same (after kind) (before kind + cost_from (cost kind) start n)
+Costs cost start n before after = (kind : ℕ) → Same kind (after kind) (before kind + cost_from (cost kind) start n)
 
 -- what two have counted rose together by the cost of n positions
 abbrev pub CostBoth : (ℕ → ℕ → ℕ) → ℕ → ℕ → (ℕ → ℕ) → (ℕ → ℕ) → (ℕ → ℕ) → (ℕ → ℕ) → Type 0
-CostBoth cost start n a b a' b' = (kind : ℕ) → Same (a' kind + b' kind) ((a kind + b kind) + cost_from (cost kind) start n)
+CostBoth cost start n a b a' b' = (kind : ℕ) → Same kind (a' kind + b' kind) ((a kind + b kind) + cost_from (cost kind) start n)
 
 -- a value that may be missing
 abbrev pub value_if : Bool → List ℤ → Option (List ℤ)
@@ -55,17 +56,21 @@ abbrev pub Holds : Job → ℕ → List (Option (List ℤ)) → Bool → List �
 Holds Store width values held rows = rows ≡ joined (present values)
 Holds (Fold base op) width values held rows = combined (combine op) (present values) ≡ value_if held (take width rows)
 
--- the cells were taken in order: none faults, and this was made of their values, or the first that did not come to a value stopped them
+-- each value that is there has so many elements
+abbrev pub HaveWidth : ℕ → List (Option (List ℤ)) → Type 0
+HaveWidth width values = All (λ (x : List ℤ). length x ≡ width) (present values)
+
+-- the cells were taken in order: none faults, each that is held has a row's elements, and this was made of their values, or the first that did not come to a value stopped them
 abbrev pub Ran : Job → ℕ → List CellValue → List ℤ → Result Bool Stop → Type 0
-Ran job width cells rows (Ok held) = (values : List (Option (List ℤ))) × (each cells ≡ Ok values) × Holds job width values held rows
+Ran job width cells rows (Ok held) = (values : List (Option (List ℤ))) × (each cells ≡ Ok values) × Holds job width values held rows × HaveWidth width values
 Ran job width cells rows (Err (Faulted fault)) = each cells ≡ Err fault
 Ran job width cells rows (Err Memory) = Unit {0}
 
--- the cells that are held were combined in order
-abbrev pub Gathered : Op → List CellValue → List ℤ → Result Bool Stop → Type 0
-Gathered op cells value (Ok held) = (values : List (Option (List ℤ))) × (each cells ≡ Ok values) × (combined (combine op) (present values) ≡ value_if held value)
-Gathered op cells value (Err (Faulted fault)) = each cells ≡ Err fault
-Gathered op cells value (Err Memory) = Unit {0}
+-- the cells that are held, which have so many elements, were combined in order
+abbrev pub Gathered : Op → ℕ → List CellValue → List ℤ → Result Bool Stop → Type 0
+Gathered op width cells value (Ok held) = (values : List (Option (List ℤ))) × (each cells ≡ Ok values) × (combined (combine op) (present values) ≡ value_if held value) × HaveWidth width values
+Gathered op width cells value (Err (Faulted fault)) = each cells ≡ Err fault
+Gathered op width cells value (Err Memory) = Unit {0}
 
 -- so many elements have room for what one worker makes of n positions: their elements, or a row for the value and a spare one
 abbrev pub ChunkRoom : Job → ℕ → ℕ → ℕ → Type 0

@@ -1,6 +1,7 @@
 // What the cells of a phase are, and how a worker computes them.
-ghost use Rattle.std.specs.Prelude.{◌≡◌, ℕ, ◌+◌, ◌<◌, [], length, IfOk};
+ghost use Rattle.std.specs.Prelude.{◌≡◌, ℕ, ◌+◌, ◌<◌, length, IfOk, OnOk};
 ghost use Rattle.wl_core.specs.Machine.{CellValue};
+ghost use Rattle.worker_team.specs.Crews.{IsFresh};
 ghost use Rattle.worker_team.specs.Segments.{IsComputed, Same, Tells};
 
 use crate::plan::Stop;
@@ -20,7 +21,8 @@ pub enum CellEnd {
 /// The cells of one phase. Each worker computes them with a context of its own, and each context is handed back to the
 /// caller's `H` once its worker is done.
 ///
-/// A context counts things of several kinds, as the buffers that it took. Each count is modulo 2^64.
+/// A context counts things of several kinds, as the buffers that it took. The count of kind 0 is exact, and each other one is
+/// modulo 2^64.
 pub trait PhaseCells<H>: Sync {
     /// What one worker computes cells with.
     type Worker: Send;
@@ -47,35 +49,40 @@ pub trait PhaseCells<H>: Sync {
 
     ghost cost: { Self → ℕ → ℕ → ℕ };
 
-    /// A new context, which has counted nothing.
-    fn begin(&self) -> Result<Self::Worker, Memory>
+    /// A new context, which has counted nothing, and which is to be handed back to this home.
+    fn begin(&self, home: &H) -> Result<Self::Worker, Memory>
+        requires home { open_home self.now home.now }
         ensures idle { IfOk result (λ w. idle self.now w) }
         ensures spent { IfOk result (λ w. (kind : ℕ) → spent self.now w kind ≡ 0) };
 
     /// Computes the cell of a position into the elements that are given. The seat keeps and releases shared buffers by the
-    /// table, and ends as it began.
+    /// table. It may be taken out of its place meanwhile, and ends there as it began.
     fn cell(
         &self,
         worker: &mut Self::Worker,
         table: &Phase<()>,
-        seat: &mut WorkerSeat<()>,
+        seat: &mut Option<WorkerSeat<()>>,
         position: usize,
         into: &mut [Cell],
     ) -> CellEnd
         requires idle { idle self.now worker.old }
         requires shared { table.now.buffers ≡ shared self.now }
-        requires seat { (seat.old.phase ≡ table.now) × (seat.old.holds ≡ []) }
+        requires seat { IsFresh table.now seat.old }
         requires position { position < positions self.now }
         requires width { length into.old ≡ width self.now }
         ensures tells { Tells (cell self.now position) into.new result }
         ensures idle { idle self.now worker.new }
         ensures seat { seat.new ≡ seat.old }
-        ensures spent { IsComputed result → (kind : ℕ) → Same (spent self.now worker.new kind) (spent self.now worker.old kind + cost self.now kind position) };
+        ensures spent { IsComputed result → (kind : ℕ) → Same kind (spent self.now worker.new kind) (spent self.now worker.old kind + cost self.now kind position) };
 
     /// Hands a context back.
-    fn finish(&self, worker: Self::Worker, home: &mut H)
+    ///
+    /// # Errors
+    ///
+    /// `Memory`: nothing is known of the counts.
+    fn finish(&self, worker: Self::Worker, home: &mut H) -> Result<(), Memory>
         requires idle { idle self.now worker }
         requires home { open_home self.now home.old }
         ensures home { open_home self.now home.new }
-        ensures kept { (kind : ℕ) → Same (kept self.now home.new kind) (kept self.now home.old kind + spent self.now worker kind) };
+        ensures kept { OnOk result ((kind : ℕ) → Same kind (kept self.now home.new kind) (kept self.now home.old kind + spent self.now worker kind)) };
 }

@@ -10,7 +10,7 @@ use crate::plan::{Gate, Stop};
 use crate::share::{Share, Stretch};
 use crate::worker::{combine_held, work};
 use count_table::{FrameSeat, Phase, WorkerSeat};
-use sac_base::Cell;
+use sac_base::{Cell, Memory};
 use std::thread::{Threads, join_mut};
 use wl_core::Job;
 
@@ -49,10 +49,10 @@ pub(crate) fn run_chunks<H: Send, C: PhaseCells<H>, G: Gate, R: Threads + Sync>(
     if from.left == 0 {
         return Ok(false);
     }
-    let Ok(mut worker) = cells.begin() else {
+    let Ok(mut worker) = cells.begin(home) else {
         return Err(Stop::Memory);
     };
-    let mut seat = table.seat(frame);
+    let mut seat = Some(table.seat(frame));
     let end = run_first(
         rt,
         cells,
@@ -66,9 +66,14 @@ pub(crate) fn run_chunks<H: Send, C: PhaseCells<H>, G: Gate, R: Threads + Sync>(
         from,
         rows,
     );
-    table.leave(seat, frame);
-    cells.finish(worker, home);
-    end
+    match seat {
+        Some(seat) => table.leave(seat, frame),
+        None => unreachable!(),
+    }
+    match cells.finish(worker, home) {
+        Ok(()) => end,
+        Err(Memory) => Err(Stop::Memory),
+    }
 }
 
 // The first chunk by this worker, and the others by other ones.
@@ -78,7 +83,7 @@ fn run_first<H: Send, C: PhaseCells<H>, G: Gate, R: Threads + Sync>(
     cells: &C,
     gate: &G,
     table: &Phase<()>,
-    seat: &mut WorkerSeat<()>,
+    seat: &mut Option<WorkerSeat<()>>,
     worker: &mut C::Worker,
     frame: &mut FrameSeat<()>,
     home: &mut H,
@@ -123,7 +128,7 @@ fn side_by_side<H: Send, C: PhaseCells<H>, G: Gate, R: Threads + Sync>(
     cells: &C,
     gate: &G,
     table: &Phase<()>,
-    seat: &mut WorkerSeat<()>,
+    seat: &mut Option<WorkerSeat<()>>,
     worker: &mut C::Worker,
     frame: &mut FrameSeat<()>,
     home: &mut H,

@@ -68,8 +68,9 @@ pub fn array_phase<H: Send, C: PhaseCells<H>, G: Gate, R: Threads + Sync>(
 /// Combines the cells of a phase that are held with a neutral value, by as many workers as the plan has. Each worker
 /// combines its own cells, and their values are combined with the neutral one, which is taken once.
 ///
-/// `Ok` comes where no cell faults, and the value is that of the neutral one and the held cells combined in order.
-/// `Faulted` is the fault of the least position that faults. After any error nothing is known of the value.
+/// `Ok` comes where no cell faults, and the value is that of the neutral one and the held cells combined in order, each of
+/// which has as many elements as the neutral one. `Faulted` is the fault of the least position that faults. After any error
+/// nothing is known of the value.
 pub fn fold_phase<H: Send, C: PhaseCells<H>, G: Gate, R: Threads + Sync>(
     rt: &R,
     alloc: Global,

@@ -1,5 +1,5 @@
 ghost use Rattle.std.specs.Prelude.{◌≡◌, ℕ, ◌+◌, ◌*◌, ◌≤◌, length};
-ghost use Rattle.worker_team.specs.Samples.{ramp_cell};
+ghost use Rattle.worker_team.specs.Samples.{ramp_cell, all_but_first};
 
 use crate::{CellEnd, Gate, NoGate, PhaseCells, Plan, Stop, array_phase, fold_phase};
 use count_table::{Phase, Tally, WorkerSeat};
@@ -43,13 +43,13 @@ impl PhaseCells<u64> for Ramp {
 
     ghost open_home = { λ s h. Unit {0} };
 
-    ghost spent = { λ s w kind. w };
+    ghost spent = { λ s w kind. all_but_first kind w };
 
-    ghost kept = { λ s h kind. h };
+    ghost kept = { λ s h kind. all_but_first kind h };
 
-    ghost cost = { λ s kind p. 1 };
+    ghost cost = { λ s kind p. all_but_first kind 1 };
 
-    fn begin(&self) -> Result<u64, Memory> {
+    fn begin(&self, _home: &u64) -> Result<u64, Memory> {
         Ok(0)
     }
 
@@ -57,12 +57,14 @@ impl PhaseCells<u64> for Ramp {
         &self,
         worker: &mut u64,
         table: &Phase<()>,
-        seat: &mut WorkerSeat<()>,
+        seat: &mut Option<WorkerSeat<()>>,
         position: usize,
         into: &mut [Cell],
     ) -> CellEnd {
-        table.keep(seat, 0);
-        table.release(seat, 0);
+        if let Some(seat) = seat {
+            table.keep(seat, 0);
+            table.release(seat, 0);
+        }
         if position == self.first {
             return CellEnd::Stopped(Stop::Faulted(zero_divisor(3)));
         }
@@ -80,8 +82,9 @@ impl PhaseCells<u64> for Ramp {
         CellEnd::Value
     }
 
-    fn finish(&self, worker: u64, home: &mut u64) {
+    fn finish(&self, worker: u64, home: &mut u64) -> Result<(), Memory> {
         *home = home.wrapping_add(worker);
+        Ok(())
     }
 }
 

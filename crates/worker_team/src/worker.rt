@@ -48,7 +48,7 @@ pub(crate) fn combine_held(
 fn fill<H, C: PhaseCells<H>>(
     cells: &C,
     table: &Phase<()>,
-    seat: &mut WorkerSeat<()>,
+    seat: &mut Option<WorkerSeat<()>>,
     worker: &mut C::Worker,
     share: Share,
     start: usize,
@@ -81,7 +81,7 @@ fn fill<H, C: PhaseCells<H>>(
 fn gather<H, C: PhaseCells<H>>(
     cells: &C,
     table: &Phase<()>,
-    seat: &mut WorkerSeat<()>,
+    seat: &mut Option<WorkerSeat<()>>,
     worker: &mut C::Worker,
     share: Share,
     op: Op,
@@ -94,7 +94,7 @@ fn gather<H, C: PhaseCells<H>>(
     requires seat { IsFresh table.now seat.old }
     requires worker { C.idle cells.now worker.old }
     requires rows { (length row.old ≡ share.width) × (length spare.old ≡ share.width) }
-    ensures ran { Gathered op (cells_from (C.cell cells.now) start count) row.new result }
+    ensures ran { Gathered op share.width (cells_from (C.cell cells.now) start count) row.new result }
     ensures worker { C.idle cells.now worker.new }
     ensures spent { IfOk result (λ _. Costs (C.cost cells.now) start count (C.spent cells.now worker.old) (C.spent cells.now worker.new)) }
     ensures seat { seat.new ≡ seat.old }
@@ -114,7 +114,7 @@ fn gather<H, C: PhaseCells<H>>(
 fn gather_rows<H, C: PhaseCells<H>>(
     cells: &C,
     table: &Phase<()>,
-    seat: &mut WorkerSeat<()>,
+    seat: &mut Option<WorkerSeat<()>>,
     worker: &mut C::Worker,
     share: Share,
     op: Op,
@@ -126,7 +126,7 @@ fn gather_rows<H, C: PhaseCells<H>>(
     requires seat { IsFresh table.now seat.old }
     requires worker { C.idle cells.now worker.old }
     requires rows { length rows.old ≡ share.width + share.width }
-    ensures ran { Gathered op (cells_from (C.cell cells.now) start count) (take share.width rows.new) result }
+    ensures ran { Gathered op share.width (cells_from (C.cell cells.now) start count) (take share.width rows.new) result }
     ensures worker { C.idle cells.now worker.new }
     ensures spent { IfOk result (λ _. Costs (C.cost cells.now) start count (C.spent cells.now worker.old) (C.spent cells.now worker.new)) }
     ensures seat { seat.new ≡ seat.old }
@@ -142,7 +142,7 @@ pub(crate) fn work<H, C: PhaseCells<H>, G: Gate>(
     cells: &C,
     gate: &G,
     table: &Phase<()>,
-    seat: &mut WorkerSeat<()>,
+    seat: &mut Option<WorkerSeat<()>>,
     worker: &mut C::Worker,
     share: Share,
     from: Stretch,

@@ -119,3 +119,26 @@ fn all_buffers_are_given_back_together(rt: HostRuntime) -> Result<(), Fail> {
     );
     Ok(())
 }
+
+// A heap begins behind another one, a third goes on with as many numbers as the second has, and the first takes over from it.
+#[test]
+fn numbers_go_on_from_heap_to_heap(rt: HostRuntime) -> Result<(), Fail> {
+    let mut heap = Heap::new(rt.alloc());
+    let first = heap.take(1)?;
+    let mut worker = Heap::behind(&heap);
+    let mut home = Heap::behind(&heap);
+    let own = worker.take(2)?;
+    assert_eq!(rt; (first.born(), own.born(), worker.births()), (0, 1, 2));
+    worker.release(own);
+    home.follow(&worker, &heap)?;
+    home.follow(&worker, &heap)?;
+    home.absorb(worker);
+    assert_eq!(rt; (home.births(), home.taken(), home.places()), (3, 1, 0));
+    heap.take_over(home);
+    assert_eq!(rt; (heap.births(), heap.taken(), heap.given()), (3, 2, 1));
+    assert_eq!(rt;
+        (heap.places(), heap.count_at(0), heap.count_at(1)),
+        (1, 1, 0)
+    );
+    Ok(())
+}

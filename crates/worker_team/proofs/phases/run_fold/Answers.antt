@@ -25,6 +25,6 @@ returns-then-held-clause-combined g c =
     let w : ℕ = length c.args.value.now in
     let cells = cells_from (g.C.PhaseCells.cell c.args.cells.now) 0 c.args.cuts.positions in
     let rows : List ℤ = c.run_phase-end.new.rows in
-    with_neutral c.args.base c.args.op c.requires.suits.takes w cells rows c.args.value.now c.combine_held.new.into c.combine_held.result
+    with_neutral c.args.base c.args.op c.requires.suits.takes cells rows c.args.value.now c.combine_held.new.into c.combine_held.result
     (ran_held c.args.base c.args.op w cells rows c.run_phase-end.result c.in-Ok.held c.run_phase-end.ensures.ran c.in-Ok.is c.if-held.true)
     c.combine_held.ensures

@@ -6,12 +6,13 @@ use Rattle.wl_core.specs.declared.setup.Job.TheVariants.{Write as Store}
 use Rattle.worker_team.specs.declared.cells.CellEnd.{CellEnd}
 use Rattle.worker_team.specs.Segments.{cells_from, Costs, Tells}
 use Rattle.worker_team.proofs.Steps.{stored_more, stops_here, costs_more, costs_none, row_written}
+use Rattle.worker_team.proofs.Sequences.{widths_none}
 use Rattle.wl_core.proofs.Buffers.{later_row}
 use Rattle.worker_team.proofs.worker.fill.Goals as goal
 
 pub loop-i-init : goal.loop-i-init
 loop-i-init g c = record {
-  stored = ([], refl, (let z : 0 * c.args.share.width ≡ 0 = omega arith in ap (λ (n : ℕ). take n c.args.rows.now) z));
+  stored = ([], refl, (let z : 0 * c.args.share.width ≡ 0 = omega arith in ap (λ (n : ℕ). take n c.args.rows.now) z), widths_none c.args.share.width);
   worker = c.requires.worker;
   spent = costs_none (g.C.PhaseCells.cost c.args.cells.now) c.args.start (g.C.PhaseCells.spent c.args.cells.now c.args.worker.now) (g.C.PhaseCells.spent c.args.cells.now c.args.worker.now) (λ kind. refl);
   seat = refl;
@@ -36,7 +37,7 @@ loop-i-preserved g c =
     let long : length c.loop-i.rows ≡ c.args.count * w = search rules in
     let len : length c.cell.new.into ≡ w = search rules in
     record {
-      stored = stored_more cell c.args.start i stored.0 stored.1 c.cell.new.into (take (i * w) c.loop-i.rows) _ c.in-Value.ensures.tells stored.2 (row_written i _ w c.loop-i.rows c.cell.new.into (omega arith) len);
+      stored = stored_more cell c.args.start i stored.0 stored.1 w c.cell.new.into (take (i * w) c.loop-i.rows) _ c.in-Value.ensures.tells len stored.2 stored.3 (row_written i _ w c.loop-i.rows c.cell.new.into (omega arith) len);
       worker = c.cell.ensures.idle;
       spent = costs_more cost c.args.start i (spent c.args.worker.now) (spent c.loop-i.worker) (spent c.cell.new.worker) c.loop-i.invariant.spent (c.in-Value.ensures.spent tt);
       seat = c.cell.ensures.seat ∙ c.loop-i.invariant.seat;
@@ -49,7 +50,7 @@ returns-clause-ran g c =
     let end : c.loop-i.i ≡ c.args.count = omega arith in
     let long : length c.loop-i.rows ≡ c.args.count * c.args.share.width = search rules in
     let all : c.args.count * c.args.share.width ≡ c.loop-i.i * c.args.share.width = ap (λ (n : ℕ). n * c.args.share.width) (sym end) in
-    (stored.0, ap (λ (n : ℕ). each (cells_from cell c.args.start n)) (sym end) ∙ stored.1, sym (take_all (c.loop-i.i * c.args.share.width) c.loop-i.rows (omega arith)) ∙ stored.2)
+    (stored.0, ap (λ (n : ℕ). each (cells_from cell c.args.start n)) (sym end) ∙ stored.1, sym (take_all (c.loop-i.i * c.args.share.width) c.loop-i.rows (omega arith)) ∙ stored.2, stored.3)
 
 pub returns-clause-spent : goal.returns-clause-spent
 returns-clause-spent g c =

@@ -1,6 +1,7 @@
-use Rattle.std.proofs.Common.{rules, Some}
+use Rattle.std.proofs.Common.{refl, rules, Some}
 use Rattle.buffer_heap.specs.Heaps.{Out, IsInAndSole, len_of, content_of, with_content}
 use Rattle.buffer_heap.proofs.Lives.{even_kept}
+use Rattle.buffer_heap.proofs.Numbers.{place_numbered}
 use Rattle.buffer_heap.proofs.Places.{Shows, changed, live_there, lifted_there, positive_there}
 use Rattle.buffer_heap.proofs.heap.Heap.lift.Goals as goal
 
@@ -15,5 +16,7 @@ pub invariant_of-self : goal.invariant_of-self
 invariant_of-self c =
     let p = c.index_mut-place.result.now in
     let s : Shows c.self.inside c.args.self.now c.args.id.place p IsInAndSole = record { view = c.self.view_is; is = c.index_mut-place.ensures.value; live = c.requires } in
-    let some = positive_there p IsInAndSole (live_there c.self.inside c.args.self.now c.args.id.place p IsInAndSole s) in
-    even_kept c.self.inside c.args.self.now c.args.id.place p (record p { cells = c.replace.new.dest; out_len = Some c.len.result }) IsInAndSole s some c.self.invariant some
+    let some = positive_there p IsInAndSole (live_there c.self.inside c.args.self.now c.args.id.place p IsInAndSole s) in (
+      even_kept c.self.inside c.args.self.now c.args.id.place p (record p { cells = c.replace.new.dest; out_len = Some c.len.result }) IsInAndSole s some c.self.invariant.0 some,
+      place_numbered c.self.inside c.args.self.now c.args.id.place p (record p { cells = c.replace.new.dest; out_len = Some c.len.result }) IsInAndSole s refl c.self.invariant.1,
+    )

@@ -34,7 +34,7 @@ returns-clause-tally g c =
     ap (λ (x : FrameState g.row.T.Denot). length x.phase.parts) c.frame.view_is ∙ ap (λ (x : PhaseId g.row.T.Denot). length x.parts) c.requires.phase ∙ sym (ap (λ (x : PhaseId g.row.T.Denot). length x.parts) c.self.view_is) ∙ sym c.self.invariant.1 in
     let word = get_at (slots_items c.close_with-closed.result.words) 0 c.word.result c.word.ensures in
     let same = draws_counted _ _ c.word.result c.self.inside.chunks c.min.result e word chunks c.min.ensures ∙ drawn in
-    ◌∙◌ {b = totals_of ((c.args.tally.now.phases + 1) % 2 ^ 64) ((c.args.tally.now.draws + c.min.result) % 2 ^ 64)} c.add.ensures
+    ◌∙◌ {b = totals_of ((c.args.tally.now.phases + 1) % 2 ^ 64) ((c.args.tally.now.draws + c.min.result) % 2 ^ 64)} c.raise.ensures.raised
     (ap (λ (n : ℕ). totals_of ((c.args.tally.now.phases + 1) % 2 ^ 64) ((c.args.tally.now.draws + n) % 2 ^ 64)) same)
 
 pub returns-clause-each_once : goal.returns-clause-each_once
