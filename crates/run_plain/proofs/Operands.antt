@@ -7,10 +7,10 @@ use Rattle.sac_base.specs.declared.site.Site.{Site}
 use Rattle.sac_base.specs.Arrays.{ArrayValue, scalar, vector}
 use Rattle.sac_base.specs.Operators.{binary}
 use Rattle.sac_base.specs.Outcomes.{at_site}
-use Rattle.buffer_heap.specs.Heaps.{HeapValue}
+use Rattle.run_store.specs.declared.store.Store.{Store}
 use Rattle.counted_code.specs.Values.{Heap, read}
 use Rattle.with_loops.specs.declared.stop.Stop.{Stop}
-use Rattle.run_heap.specs.Stands.{TellsPlaced}
+use Rattle.run_store.specs.Stands.{TellsPlaced}
 use Rattle.run_values.specs.declared.few.Few.{Few}
 use Rattle.run_values.specs.declared.value.RunValue.{RunValue}
 use Rattle.run_values.specs.declared.value.RunValue.TheVariants.{Word, Short}
@@ -18,7 +18,7 @@ use Rattle.run_values.specs.Numbers.{numbers}
 use Rattle.run_values.specs.Shown.{value_of}
 use Rattle.run_plain.proofs.Words.{left_word, right_word}
 
-module _ (result : Result RunValue Stop) (h : HeapValue) (m : Heap) (site : Site) (op : Op) (a b : RunValue) where
+module _ (result : Result RunValue Stop) (h : Store) (m : Heap) (site : Site) (op : Op) (a b : RunValue) where
   by_operands : (c d : RunValue) → a ≡ c → b ≡ d → TellsPlaced result h m (at_site site (binary op (read m (value_of c)) (read m (value_of d)))) → TellsPlaced result h m (at_site site (binary op (read m (value_of a)) (read m (value_of b))))
   by_operands c d first second told =
       subst (λ (v : RunValue). TellsPlaced result h m (at_site site (binary op (read m (value_of v)) (read m (value_of b))))) (sym first)

@@ -12,31 +12,31 @@ use Rattle.sac_base.specs.Parts.{dim, literal, reshape, select, shape_vector, re
 use Rattle.core_ir.specs.declared.tree.Var.{Var}
 use Rattle.core_ir.specs.Meaning.{checked}
 use Rattle.core_ir.specs.Terms.{PlainTerm}
-use Rattle.buffer_heap.specs.Heaps.{HeapValue}
+use Rattle.run_store.specs.declared.store.Store.{Store}
 use Rattle.counted_code.specs.Machine.{Values, DoesCalls, right_does, plain_does}
 use Rattle.counted_code.specs.Terms.{CodeRightTerm, PlainCode, IfCode, LoopCode, CallCode, WithCode, PartedCode}
 use Rattle.counted_code.specs.Values.{Heap, Value, Ended, Done, Failed, Small, give, go_on, then_go, pure_end, read, is_small, place_as, place_value}
 use Rattle.with_loops.specs.declared.stop.Stop.{Stop}
 use Rattle.with_loops.specs.declared.stop.Stop.TheVariants.{Faulted, Memory}
-use Rattle.run_heap.specs.Stands.{Stands, Placed, TellsPlaced}
+use Rattle.run_store.specs.Stands.{Stands, Placed, TellsPlaced}
 use Rattle.run_values.specs.declared.value.RunValue.{RunValue}
 use Rattle.run_values.specs.Shown.{value_of}
 use Rattle.run_plain.specs.Reads.{arrays_of, TellsEnd, TellsPlain, TellsChecked, IsPlain}
 
 -- ---- what is placed leaves the phases as they were
 
-as_end : (v : RunValue) (h : HeapValue) (small : Bool) (a : ArrayValue) (m : Heap) → Placed v h (place_as small a m) → TellsEnd (Ok v) h m.phases (place_as small a m)
+as_end : (v : RunValue) (h : Store) (small : Bool) (a : ArrayValue) (m : Heap) → Placed v h (place_as small a m) → TellsEnd (Ok v) h m.phases (place_as small a m)
 as_end v h true a m p = (p.0, p.1, refl)
 as_end v h false a m p = (p.0, p.1, refl)
 
-pub placed_end : (result : Result RunValue Stop) (h : HeapValue) (m : Heap) (meant : Ends ArrayValue) → TellsPlaced result h m meant → TellsEnd result h m.phases (then_go (pure_end meant) place_value m)
+pub placed_end : (result : Result RunValue Stop) (h : Store) (m : Heap) (meant : Ends ArrayValue) → TellsPlaced result h m meant → TellsEnd result h m.phases (then_go (pure_end meant) place_value m)
 placed_end (Ok v) h m (Ok a) p = as_end v h (is_small a.shape) a m p
 placed_end (Ok v) h m (Err g) p = absurd p
 placed_end (Err (Faulted f)) h m (Ok a) p = absurd p
 placed_end (Err (Faulted f)) h m (Err g) p = (p, refl)
 placed_end (Err Memory) h m meant p = tt
 
-checked_end : (result : Result RunValue Stop) (v : RunValue) (h : HeapValue) (m : Heap) (w : Value) (meant : Ends ArrayValue) → value_of v ≡ w → Stands h m → TellsChecked result v meant → TellsEnd result h m.phases (then_go (pure_end meant) (λ a. give w) m)
+checked_end : (result : Result RunValue Stop) (v : RunValue) (h : Store) (m : Heap) (w : Value) (meant : Ends ArrayValue) → value_of v ≡ w → Stands h m → TellsChecked result v meant → TellsEnd result h m.phases (then_go (pure_end meant) (λ a. give w) m)
 checked_end (Ok u) v h m w (Ok a) is stands p = (subst (λ (z : RunValue). value_of z ≡ w) (sym p) is, stands, refl)
 checked_end (Ok u) v h m w (Err g) is stands p = absurd p
 checked_end (Err (Faulted f)) v h m w (Ok a) is stands p = absurd p
@@ -45,7 +45,7 @@ checked_end (Err Memory) v h m w meant is stands p = absurd p
 
 -- ---- right sides by what their operands are
 
-module _ (result : Result RunValue Stop) (h : HeapValue) (m : Heap) (s : Site) (e : Values) where
+module _ (result : Result RunValue Stop) (h : Store) (m : Heap) (s : Site) (e : Values) where
   pub const_plain : (a : ArrayValue) → TellsPlaced result h m (Ok a) → TellsPlain (PlainCode (PlainTerm.Const a)) s e result h m
   const_plain a p = placed_end result h m (Ok a) p
 
@@ -78,13 +78,13 @@ module _ (result : Result RunValue Stop) (h : HeapValue) (m : Heap) (s : Site) (
   pub check_plain : (x : Var) (t : ArrayType) (v : RunValue) → value_of v ≡ e x → Stands h m → TellsChecked result v (at_site s (checked t (read m (value_of v)))) → TellsPlain (PlainCode (PlainTerm.Check x t)) s e result h m
   check_plain x t v is stands p = checked_end result v h m (e x) (at_site s (checked t (read m (e x)))) is stands (subst (λ (w : Value). TellsChecked result v (at_site s (checked t (read m w)))) is p)
 
-pub dim_plain : (h : HeapValue) (m : Heap) (s : Site) (e : Values) (x : Var) (v : Value) (d : RunValue) → v ≡ e x → Stands h m → value_of d ≡ Small (dim (read m v)) → TellsPlain (PlainCode (PlainTerm.Dim x)) s e (Ok d) h m
+pub dim_plain : (h : Store) (m : Heap) (s : Site) (e : Values) (x : Var) (v : Value) (d : RunValue) → v ≡ e x → Stands h m → value_of d ≡ Small (dim (read m v)) → TellsPlain (PlainCode (PlainTerm.Dim x)) s e (Ok d) h m
 dim_plain h m s e x v d is stands p = (subst (λ (w : Value). value_of d ≡ Small (dim (read m w))) is p, stands, refl)
 
 -- ---- for callers
 
 -- what holds of a value with the phases as they were, of a fault with them, and of want of memory, holds of a right side that has no block and no call
-module _ (P : Result RunValue Stop → Ended (List Value) → Type 0) (h : HeapValue) (m : Heap)
+module _ (P : Result RunValue Stop → Ended (List Value) → Type 0) (h : Store) (m : Heap)
     (there : (v : RunValue) (k : Heap) → Stands h k → k.phases ≡ m.phases → P (Ok v) (Done (value_of v ∷ []) k))
     (faulted : (f : Fault) → P (Err (Faulted f)) (Failed f m.phases))
     (wanting : (end : Ended (List Value)) → P (Err Memory) end) where

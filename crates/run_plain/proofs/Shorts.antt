@@ -11,13 +11,13 @@ use Rattle.sac_base.specs.Arrays.{ArrayValue, scalar, vector}
 use Rattle.sac_base.specs.Operators.{apply_one, result_base, unary}
 use Rattle.sac_base.specs.Outcomes.{Ends, at_site}
 use Rattle.sac_base.specs.Parts.{shape_vector}
-use Rattle.buffer_heap.specs.Heaps.{HeapValue}
+use Rattle.run_store.specs.declared.store.Store.{Store}
 use Rattle.counted_code.specs.Values.{Heap, Value, Small, Ref, place_value, read}
 use Rattle.with_loops.specs.declared.stop.Stop.{Stop}
 use Rattle.with_loops.specs.declared.stop.Stop.TheVariants.{Faulted, Memory}
 use Rattle.with_loops.specs.Tells.{TellsStop}
-use Rattle.run_heap.specs.Stands.{Stands, Placed, TellsPlaced}
-use Rattle.run_heap.proofs.Placing.{small_placed}
+use Rattle.run_store.specs.Stands.{Stands, Placed, TellsPlaced}
+use Rattle.run_store.proofs.Placing.{small_placed}
 use Rattle.run_values.specs.declared.few.Few.{Few}
 use Rattle.run_values.specs.declared.value.RunValue.{RunValue}
 use Rattle.run_values.specs.declared.value.RunValue.TheVariants.{Unbound, Word, Short, Buffer}
@@ -28,7 +28,7 @@ pub numbers_few : (few : Few) → length (numbers few) ≤ 8
 numbers_few few = let size = length-take few.len few.items in omega (arith, size, few.few)
 
 -- a short vector is placed in the value
-pub short_placed : (h : HeapValue) (m : Heap) (base : Base) (few : Few) (a : ArrayValue) → vector base (numbers few) ≡ a → Stands h m → Placed (Short base few) h (place_value a m)
+pub short_placed : (h : Store) (m : Heap) (base : Base) (few : Few) (a : ArrayValue) → vector base (numbers few) ≡ a → Stands h m → Placed (Short base few) h (place_value a m)
 short_placed h m base few a is stands =
     subst (λ (b : ArrayValue). Placed (Short base few) h (place_value b m)) is
     (small_placed h m (vector base (numbers few)) (Short base few) (sym (le-leb (length (numbers few)) 8 (numbers_few few))) refl stands)
@@ -39,21 +39,21 @@ unary_is op base ns few is = λ i. record { base = result_base op; shape = (ap l
 
 -- ---- answers by what is meant
 
-pub short_tells : (h : HeapValue) (m : Heap) (site : Site) (base : Base) (few : Few) (meant : Result ArrayValue FaultKind) → meant ≡ Ok (vector base (numbers few)) → Stands h m → TellsPlaced (Ok (Short base few)) h m (at_site site meant)
+pub short_tells : (h : Store) (m : Heap) (site : Site) (base : Base) (few : Few) (meant : Result ArrayValue FaultKind) → meant ≡ Ok (vector base (numbers few)) → Stands h m → TellsPlaced (Ok (Short base few)) h m (at_site site meant)
 short_tells h m site base few meant is stands =
     subst (λ (r : Result ArrayValue FaultKind). TellsPlaced (Ok (Short base few)) h m (at_site site r)) (sym is) (short_placed h m base few (vector base (numbers few)) refl stands)
 
-pub word_tells : (h : HeapValue) (m : Heap) (site : Site) (base : Base) (n : ℤ) (meant : Result ArrayValue FaultKind) → meant ≡ Ok (scalar base n) → Stands h m → TellsPlaced (Ok (Word base n)) h m (at_site site meant)
+pub word_tells : (h : Store) (m : Heap) (site : Site) (base : Base) (n : ℤ) (meant : Result ArrayValue FaultKind) → meant ≡ Ok (scalar base n) → Stands h m → TellsPlaced (Ok (Word base n)) h m (at_site site meant)
 word_tells h m site base n meant is stands =
     subst (λ (r : Result ArrayValue FaultKind). TellsPlaced (Ok (Word base n)) h m (at_site site r)) (sym is) (refl, stands)
 
-pub fault_tells : (h : HeapValue) (m : Heap) (site : Site) (kind : FaultKind) (stop : Stop) (meant : Result ArrayValue FaultKind) → meant ≡ Err kind → stop ≡ Faulted (record { kind = kind; site = site }) → TellsPlaced (Err stop) h m (at_site site meant)
+pub fault_tells : (h : Store) (m : Heap) (site : Site) (kind : FaultKind) (stop : Stop) (meant : Result ArrayValue FaultKind) → meant ≡ Err kind → stop ≡ Faulted (record { kind = kind; site = site }) → TellsPlaced (Err stop) h m (at_site site meant)
 fault_tells h m site kind stop meant is stopped =
     subst (λ (r : Result ArrayValue FaultKind). TellsPlaced (Err stop) h m (at_site site r)) (sym is)
     (subst (λ (s : Stop). TellsPlaced (Err s) h m (at_site site (Err kind))) (sym stopped) refl)
 
 -- an answer of whole arrays
-pub stop_tells : (h : HeapValue) (m : Heap) (stop : Stop) (meant : Ends ArrayValue) → TellsStop stop meant → TellsPlaced (Err stop) h m meant
+pub stop_tells : (h : Store) (m : Heap) (stop : Stop) (meant : Ends ArrayValue) → TellsStop stop meant → TellsPlaced (Err stop) h m meant
 stop_tells h m (Faulted f) meant is = subst (λ (r : Ends ArrayValue). TellsPlaced (Err (Faulted f)) h m r) (sym is) refl
 stop_tells h m Memory meant is = tt
 

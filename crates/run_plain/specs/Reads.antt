@@ -4,13 +4,13 @@ use Rattle.core_ir.specs.declared.tree.Var.{Var}
 use Rattle.sac_base.specs.declared.site.Site.{Site}
 use Rattle.sac_base.specs.Arrays.{ArrayValue}
 use Rattle.sac_base.specs.Outcomes.{Ends}
-use Rattle.buffer_heap.specs.Heaps.{HeapValue}
+use Rattle.run_store.specs.declared.store.Store.{Store}
 use Rattle.counted_code.specs.Terms.{CodeRightTerm, PlainCode}
 use Rattle.counted_code.specs.Values.{Heap, Value, Ended, Done, Failed, read}
 use Rattle.counted_code.specs.Machine.{Values, plain_does}
 use Rattle.with_loops.specs.declared.stop.Stop.{Stop}
 use Rattle.with_loops.specs.declared.stop.Stop.TheVariants.{Faulted, Memory}
-use Rattle.run_heap.specs.Stands.{Stands}
+use Rattle.run_store.specs.Stands.{Stands}
 use Rattle.run_values.specs.declared.value.RunValue.{RunValue}
 use Rattle.run_values.specs.Shown.{value_of}
 
@@ -19,14 +19,14 @@ abbrev pub arrays_of : Heap → Values → List Var → List ArrayValue
 arrays_of m e xs = map (λ x. read m (e x)) xs
 
 -- the answer is the machine's end: its value, in whose heap the heap stands, or its fault, with the phases as they were; want of memory says nothing
-abbrev pub TellsEnd : Result RunValue Stop → HeapValue → List ℕ → Ended Value → Type 0
+abbrev pub TellsEnd : Result RunValue Stop → Store → List ℕ → Ended Value → Type 0
 TellsEnd (Ok v) h phases (Done w k) = (value_of v ≡ w) × Stands h k × (k.phases ≡ phases)
 TellsEnd (Err (Faulted f)) h phases (Failed g after) = (f ≡ g) × (after ≡ phases)
 TellsEnd (Err Memory) h phases m = ⊤
 TellsEnd _ _ _ _ = ⊥
 
 -- this of a right side that has no block and no call; of any other nothing is said
-abbrev pub TellsPlain : CodeRightTerm → Site → Values → Result RunValue Stop → HeapValue → Heap → Type 0
+abbrev pub TellsPlain : CodeRightTerm → Site → Values → Result RunValue Stop → Store → Heap → Type 0
 TellsPlain (PlainCode p) s e result h m = TellsEnd result h m.phases (plain_does p s e m)
 TellsPlain _ s e result h m = ⊤
 

@@ -2,7 +2,7 @@
 
 ghost use Rattle.std.specs.Prelude.{◌≡◌, IfOk, Ok, map};
 ghost use Rattle.counted_code.specs.Values.{Heap as MachineHeap, read};
-ghost use Rattle.run_heap.specs.Stands.{Stands, TellsPlaced};
+ghost use Rattle.run_store.specs.Stands.{Stands, TellsPlaced, lender_of};
 ghost use Rattle.run_plain.specs.Reads.{arrays_of};
 ghost use Rattle.run_values.specs.Scopes.{current};
 ghost use Rattle.run_values.specs.Shown.{value_of};
@@ -13,37 +13,17 @@ ghost use Rattle.sac_base.specs.Parts.{literal as literal_arrays, replace as rep
 ghost use Rattle.with_loops.specs.Tells.{Tells};
 
 use array_ops::{literal, replace, reshape};
-use buffer_heap::Heap;
 use core_ir::Var;
-use run_heap::{place_own, read_array};
+use run_store::{Store, place_result, read_array};
 use run_values::{Frames, RunValue};
 use sac_base::{Array, Memory, Op, Site};
 use std::alloc::Global;
 use with_loops::{Stop, binary_at, placed, unary_of};
 
-/// A value of its own for an answer.
-pub fn place_result(heap: &mut Heap, answer: Result<Array, Stop>) -> Result<RunValue, Stop>
-    ensures { (m : MachineHeap) → Stands heap.old m → (meant : Ends ArrayValue) → Tells answer meant → TellsPlaced result heap.new m meant }
-{
-    match answer {
-        Ok(array) => place_array_or_stop(heap, array),
-        Err(stop) => Err(stop),
-    }
-}
-
-fn place_array_or_stop(heap: &mut Heap, array: Array) -> Result<RunValue, Stop>
-    ensures { (m : MachineHeap) → Stands heap.old m → TellsPlaced result heap.new m (Ok array) }
-{
-    match place_own(heap, array) {
-        Ok(value) => Ok(value),
-        Err(Memory) => Err(Stop::Memory),
-    }
-}
-
 /// The arrays of variables.
 pub fn read_all(
     alloc: Global,
-    heap: &Heap,
+    heap: &Store<'_>,
     frames: &Frames,
     xs: &[Var],
 ) -> Result<Vec<Array>, Memory>
@@ -57,7 +37,7 @@ pub fn read_all(
 }
 
 /// An operator of one operand.
-pub fn unary_array(alloc: Global, heap: &Heap, op: Op, a: RunValue) -> Result<Array, Stop>
+pub fn unary_array(alloc: Global, heap: &Store<'_>, op: Op, a: RunValue) -> Result<Array, Stop>
     ensures { (m : MachineHeap) → Stands heap.now m → Tells result (Ok (unary_arrays op (read m (value_of a)))) }
 {
     let array = read_array(alloc, heap, a)?;
@@ -67,7 +47,7 @@ pub fn unary_array(alloc: Global, heap: &Heap, op: Op, a: RunValue) -> Result<Ar
 /// An operator of two operands.
 pub fn binary_array(
     alloc: Global,
-    heap: &Heap,
+    heap: &Store<'_>,
     op: Op,
     a: RunValue,
     b: RunValue,
@@ -83,7 +63,7 @@ pub fn binary_array(
 /// An array literal.
 pub fn literal_array(
     alloc: Global,
-    heap: &Heap,
+    heap: &Store<'_>,
     frames: &Frames,
     xs: &[Var],
     site: Site,
@@ -96,7 +76,7 @@ pub fn literal_array(
 
 fn reshape_array(
     alloc: Global,
-    heap: &Heap,
+    heap: &Store<'_>,
     shape: RunValue,
     array: RunValue,
     site: Site,
@@ -110,7 +90,7 @@ fn reshape_array(
 
 fn replace_array(
     alloc: Global,
-    heap: &Heap,
+    heap: &Store<'_>,
     array: RunValue,
     index: RunValue,
     part: RunValue,
@@ -127,12 +107,13 @@ fn replace_array(
 /// The cells of an array under another shape.
 pub fn reshape_value(
     alloc: Global,
-    heap: &mut Heap,
+    heap: &mut Store<'_>,
     shape: RunValue,
     array: RunValue,
     site: Site,
 ) -> Result<RunValue, Stop>
-    ensures { (m : MachineHeap) → Stands heap.old m → TellsPlaced result heap.new m (at_site site (reshape_arrays (read m (value_of shape)) (read m (value_of array)))) }
+    ensures told { (m : MachineHeap) → Stands heap.old m → TellsPlaced result heap.new m (at_site site (reshape_arrays (read m (value_of shape)) (read m (value_of array)))) }
+    ensures lender { lender_of heap.new ≡ lender_of heap.old }
 {
     let answer = reshape_array(alloc, heap, shape, array, site);
     place_result(heap, answer)
@@ -141,13 +122,14 @@ pub fn reshape_value(
 /// The array with another part at an index.
 pub fn replace_value(
     alloc: Global,
-    heap: &mut Heap,
+    heap: &mut Store<'_>,
     array: RunValue,
     index: RunValue,
     part: RunValue,
     site: Site,
 ) -> Result<RunValue, Stop>
-    ensures { (m : MachineHeap) → Stands heap.old m → TellsPlaced result heap.new m (at_site site (replace_arrays (read m (value_of array)) (read m (value_of index)) (read m (value_of part)))) }
+    ensures told { (m : MachineHeap) → Stands heap.old m → TellsPlaced result heap.new m (at_site site (replace_arrays (read m (value_of array)) (read m (value_of index)) (read m (value_of part)))) }
+    ensures lender { lender_of heap.new ≡ lender_of heap.old }
 {
     let answer = replace_array(alloc, heap, array, index, part, site);
     place_result(heap, answer)

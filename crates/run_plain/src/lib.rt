@@ -5,7 +5,7 @@ mod arrays;
 mod operators;
 mod right;
 
-pub use arrays::{place_result, read_all, replace_value, reshape_value};
+pub use arrays::{read_all, replace_value, reshape_value};
 pub use operators::{binary_value, literal_value, unary_value};
 pub use right::plain_value;
 

@@ -2,11 +2,11 @@
 
 ghost use Rattle.std.specs.Prelude.{◌≡◌, Ok, IfSome, map};
 ghost use Rattle.counted_code.specs.Values.{Heap as MachineHeap, Small, read};
-ghost use Rattle.run_heap.specs.Stands.{Stands, TellsPlaced};
+ghost use Rattle.run_store.specs.Stands.{Stands, TellsPlaced, lender_of};
 ghost use Rattle.run_plain.specs.Reads.{arrays_of};
 ghost use Rattle.run_values.specs.Scopes.{current};
 ghost use Rattle.run_values.specs.Shown.{value_of};
-ghost use Rattle.buffer_heap.specs.Heaps.{HeapValue};
+ghost use Rattle.run_store.specs.declared.store.Store.{Store as StoreOf};
 ghost use Rattle.sac_base.specs.declared.base.Base.{Base as BaseOf};
 ghost use Rattle.run_values.specs.Numbers.{numbers};
 ghost use Rattle.sac_base.specs.declared.site.Site.{Site as SiteOf};
@@ -15,9 +15,9 @@ ghost use Rattle.sac_base.specs.Operators.{binary as binary_arrays, unary as una
 ghost use Rattle.sac_base.specs.Outcomes.{at_site};
 ghost use Rattle.sac_base.specs.Parts.{literal as literal_arrays};
 
-use crate::arrays::{binary_array, literal_array, place_result, unary_array};
-use buffer_heap::Heap;
+use crate::arrays::{binary_array, literal_array, unary_array};
 use core_ir::Var;
+use run_store::{Store, place_result};
 use run_values::{Few, Frames, RunValue, short_binary, short_unary};
 use sac_base::{
     Base, Cell, FaultKind, Op, Site, ZeroDivisor, apply1, apply2, result_base, same_base,
@@ -26,8 +26,14 @@ use std::alloc::Global;
 use with_loops::{Stop, fault};
 
 /// An operator of one operand.
-pub fn unary_value(alloc: Global, heap: &mut Heap, op: Op, a: RunValue) -> Result<RunValue, Stop>
-    ensures { (m : MachineHeap) → Stands heap.old m → TellsPlaced result heap.new m (Ok (unary_arrays op (read m (value_of a)))) }
+pub fn unary_value(
+    alloc: Global,
+    heap: &mut Store<'_>,
+    op: Op,
+    a: RunValue,
+) -> Result<RunValue, Stop>
+    ensures told { (m : MachineHeap) → Stands heap.old m → TellsPlaced result heap.new m (Ok (unary_arrays op (read m (value_of a)))) }
+    ensures lender { lender_of heap.new ≡ lender_of heap.old }
 {
     match a {
         RunValue::Word(_, n) => Ok(RunValue::Word(result_base(op), apply1(op, n))),
@@ -42,13 +48,14 @@ pub fn unary_value(alloc: Global, heap: &mut Heap, op: Op, a: RunValue) -> Resul
 /// An operator of two operands.
 pub fn binary_value(
     alloc: Global,
-    heap: &mut Heap,
+    heap: &mut Store<'_>,
     op: Op,
     a: RunValue,
     b: RunValue,
     site: Site,
 ) -> Result<RunValue, Stop>
-    ensures { (m : MachineHeap) → Stands heap.old m → TellsPlaced result heap.new m (at_site site (binary_arrays op (read m (value_of a)) (read m (value_of b)))) }
+    ensures told { (m : MachineHeap) → Stands heap.old m → TellsPlaced result heap.new m (at_site site (binary_arrays op (read m (value_of a)) (read m (value_of b)))) }
+    ensures lender { lender_of heap.new ≡ lender_of heap.old }
 {
     match (a, b) {
         (RunValue::Word(_, x), RunValue::Word(_, y)) => word_binary(op, x, y, site),
@@ -63,7 +70,7 @@ pub fn binary_value(
 }
 
 fn word_binary(op: Op, x: Cell, y: Cell, site: Site) -> Result<RunValue, Stop>
-    ensures { (h : HeapValue) (m : MachineHeap) → Stands h m → (s t : BaseOf) → TellsPlaced result h m (at_site site (binary_arrays op (scalar s x) (scalar t y))) }
+    ensures { (h : StoreOf) (m : MachineHeap) → Stands h m → (s t : BaseOf) → TellsPlaced result h m (at_site site (binary_arrays op (scalar s x) (scalar t y))) }
 {
     match apply2(op, x, y) {
         Ok(value) => Ok(RunValue::Word(result_base(op), value)),
@@ -72,7 +79,7 @@ fn word_binary(op: Op, x: Cell, y: Cell, site: Site) -> Result<RunValue, Stop>
 }
 
 fn few_binary(op: Op, x: &Few, y: &Few, site: Site) -> Result<RunValue, Stop>
-    ensures { (h : HeapValue) (m : MachineHeap) → Stands h m → (s t : BaseOf) → TellsPlaced result h m (at_site site (binary_arrays op (vector s (numbers x.now)) (vector t (numbers y.now)))) }
+    ensures { (h : StoreOf) (m : MachineHeap) → Stands h m → (s t : BaseOf) → TellsPlaced result h m (at_site site (binary_arrays op (vector s (numbers x.now)) (vector t (numbers y.now)))) }
 {
     match short_binary(op, x, y) {
         Ok(few) => Ok(RunValue::Short(result_base(op), few)),
@@ -94,12 +101,13 @@ fn all(n: Cell, other: &Few) -> Few
 /// An array literal.
 pub fn literal_value(
     alloc: Global,
-    heap: &mut Heap,
+    heap: &mut Store<'_>,
     frames: &Frames,
     xs: &[Var],
     site: Site,
 ) -> Result<RunValue, Stop>
-    ensures { (m : MachineHeap) → Stands heap.old m → TellsPlaced result heap.new m (at_site site (literal_arrays (arrays_of m (current frames.now) xs.now))) }
+    ensures told { (m : MachineHeap) → Stands heap.old m → TellsPlaced result heap.new m (at_site site (literal_arrays (arrays_of m (current frames.now) xs.now))) }
+    ensures lender { lender_of heap.new ≡ lender_of heap.old }
 {
     match words(frames, xs) {
         Some(value) => Ok(value),
@@ -112,7 +120,7 @@ pub fn literal_value(
 
 // The vector of words of one base, of which there are at most 8.
 fn words(frames: &Frames, xs: &[Var]) -> Option<RunValue>
-    ensures { (h : HeapValue) (m : MachineHeap) → Stands h m → (s : SiteOf) → IfSome result (λ v. TellsPlaced (Ok v) h m (at_site s (literal_arrays (arrays_of m (current frames.now) xs.now)))) }
+    ensures { (h : StoreOf) (m : MachineHeap) → Stands h m → (s : SiteOf) → IfSome result (λ v. TellsPlaced (Ok v) h m (at_site s (literal_arrays (arrays_of m (current frames.now) xs.now)))) }
 {
     let Some(first) = xs.first() else {
         return Some(RunValue::Short(Base::Int, Few::empty()));

@@ -5,19 +5,18 @@ ghost use Rattle.counted_code.specs.Machine.{plain_does};
 ghost use Rattle.counted_code.specs.Values.{Heap as MachineHeap, Small, read};
 ghost use Rattle.counted_code.specs.View.{code_right_term};
 ghost use Rattle.core_ir.specs.Meaning.{checked};
-ghost use Rattle.run_heap.specs.Stands.{Stands, TellsPlaced};
+ghost use Rattle.run_store.specs.Stands.{Stands, TellsPlaced, lender_of};
 ghost use Rattle.run_plain.specs.Reads.{TellsChecked, TellsPlain};
 ghost use Rattle.run_values.specs.Scopes.{current};
 ghost use Rattle.run_values.specs.Shown.{value_of};
-ghost use Rattle.buffer_heap.specs.Heaps.{HeapValue};
+ghost use Rattle.run_store.specs.declared.store.Store.{Store as StoreOf};
 ghost use Rattle.sac_base.specs.Outcomes.{at_site};
 ghost use Rattle.sac_base.specs.Parts.{dim, shape_vector};
 
 use crate::arrays::{replace_value, reshape_value};
 use crate::operators::{binary_value, literal_value, unary_value};
-use buffer_heap::Heap;
 use counted_code::CodeRight;
-use run_heap::{place_array, select_value};
+use run_store::{Store, place_array, select_value};
 use run_types::value_has;
 use run_values::{Few, Frames, RunValue};
 use sac_base::{Array, ArrayType, Base, Cell, FaultKind, Memory, Site};
@@ -29,10 +28,11 @@ pub fn plain_value(
     right: &CodeRight,
     site: Site,
     alloc: Global,
-    heap: &mut Heap,
+    heap: &mut Store<'_>,
     frames: &Frames,
 ) -> Result<RunValue, Stop>
-    ensures { (m : MachineHeap) → Stands heap.old m → TellsPlain (code_right_term right.now) site (current frames.now) result heap.new m }
+    ensures told { (m : MachineHeap) → Stands heap.old m → TellsPlain (code_right_term right.now) site (current frames.now) result heap.new m }
+    ensures lender { lender_of heap.new ≡ lender_of heap.old }
 {
     match right {
         CodeRight::Const(array) => const_value(alloc, heap, array),
@@ -58,8 +58,9 @@ pub fn plain_value(
     }
 }
 
-fn const_value(alloc: Global, heap: &mut Heap, array: &Array) -> Result<RunValue, Stop>
-    ensures { (m : MachineHeap) → Stands heap.old m → TellsPlaced result heap.new m (Ok array.now) }
+fn const_value(alloc: Global, heap: &mut Store<'_>, array: &Array) -> Result<RunValue, Stop>
+    ensures told { (m : MachineHeap) → Stands heap.old m → TellsPlaced result heap.new m (Ok array.now) }
+    ensures lender { lender_of heap.new ≡ lender_of heap.old }
 {
     match place_array(alloc, heap, array) {
         Ok(value) => Ok(value),
@@ -76,7 +77,7 @@ fn dim_value(value: &RunValue) -> RunValue
 
 // The extents as a vector. Extents that no array has, which do not occur in code, count as want of memory.
 fn shape_value(value: &RunValue) -> Result<RunValue, Stop>
-    ensures { (h : HeapValue) (m : MachineHeap) → Stands h m → TellsPlaced result h m (Ok (shape_vector (read m (value_of value.now)))) }
+    ensures { (h : StoreOf) (m : MachineHeap) → Stands h m → TellsPlaced result h m (Ok (shape_vector (read m (value_of value.now)))) }
 {
     let extents = value.extents();
     if !are_naturals(extents.as_slice()) {

@@ -2,7 +2,7 @@ use super::*;
 use buffer_heap::Heap;
 use core_ir::Var;
 use counted_code::CodeRight;
-use run_heap::read_array;
+use run_store::{Store, read_array};
 use run_values::{Few, Frames, RunValue};
 use sac_base::{Base, Cell, Op, Site};
 use std::test::Fail;
@@ -12,7 +12,7 @@ const HERE: Site = Site { line: 1, col: 1 };
 #[test]
 fn right_sides_give_their_values(rt: HostRuntime) -> Result<(), Fail> {
     let alloc = rt.alloc();
-    let mut heap = Heap::new(alloc);
+    let mut heap = Store::of(Heap::new(alloc));
     let mut frames = Frames::new(alloc);
     let pair = Few::from_slice(&[4, 5]).ok_or("a short list")?;
     frames.bind(Var(1), RunValue::Word(Base::Int, 7))?;
@@ -34,6 +34,6 @@ fn right_sides_give_their_values(rt: HostRuntime) -> Result<(), Fail> {
     }
     let zero = CodeRight::Binary(Op::Div, Var(1), Var(0));
     assert!(rt; plain_value(&zero, HERE, alloc, &mut heap, &frames).is_err());
-    assert_eq!(rt; heap.taken(), 1);
+    assert_eq!(rt; heap.own.taken(), 1);
     Ok(())
 }

@@ -1,6 +1,6 @@
 use Rattle.std.proofs.Common.{◌≡◌, take}
 use Rattle.counted_code.specs.Values.{Heap}
-use Rattle.run_heap.specs.Stands.{Stands}
+use Rattle.run_store.specs.Stands.{Stands}
 use Rattle.run_values.specs.Scopes.{current}
 use Rattle.run_plain.specs.Reads.{arrays_of}
 use Rattle.run_plain.proofs.arrays.read_all.Given as goal

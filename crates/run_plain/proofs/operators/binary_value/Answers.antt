@@ -4,23 +4,23 @@ use Rattle.run_values.specs.Numbers.{numbers}
 use Rattle.run_plain.proofs.Operands.{two_words, word_and_short, short_and_word}
 use Rattle.run_plain.proofs.operators.binary_value.Goals as goal
 
-pub returns-in-Word-Word : goal.returns-in-Word-Word
-returns-in-Word-Word c m stands =
+pub returns-in-Word-Word-clause-told : goal.returns-in-Word-Word-clause-told
+returns-in-Word-Word-clause-told c m stands =
     let w = c.in-Word-Word in
     let fits_x : FitsSigned w32 c.in-Word-Word.x = search rules in
     let fits_y : FitsSigned w32 c.in-Word-Word.y = search rules in
     two_words c.word_binary.result c.args.heap.now m c.args.site c.args.op c.args.a c.args.b w.field-0-0 w.field-0-1 w.x w.y (to_z w32 (of_z w32 w.x)) (to_z w32 (of_z w32 w.y)) w.is-0 w.is-1
     (to_z-of_z w32 w.x fits_x) (to_z-of_z w32 w.y fits_y) (c.word_binary.ensures c.args.heap.now m stands w.field-0-0 w.field-0-1)
 
-pub returns-in-Word-Short : goal.returns-in-Word-Short
-returns-in-Word-Short c m stands =
+pub returns-in-Word-Short-clause-told : goal.returns-in-Word-Short-clause-told
+returns-in-Word-Short-clause-told c m stands =
     let w = c.in-Word-Short in
     let fits : FitsSigned w32 c.in-Word-Short.x = search rules in
     word_and_short c.few_binary.result c.args.heap.now m c.args.site c.args.op c.args.a c.args.b w.field-0-0 w.field-0-1 w.x w.y c.all.result w.is-0 w.is-1
     (c.all.ensures ∙ ap (λ (z : ℤ). map (λ (_ : ℤ). z) (numbers w.y)) (to_z-of_z w32 w.x fits)) (c.few_binary.ensures c.args.heap.now m stands w.field-0-0 w.field-0-1)
 
-pub returns-in-Short-Word : goal.returns-in-Short-Word
-returns-in-Short-Word c m stands =
+pub returns-in-Short-Word-clause-told : goal.returns-in-Short-Word-clause-told
+returns-in-Short-Word-clause-told c m stands =
     let w = c.in-Short-Word in
     let fits : FitsSigned w32 c.in-Short-Word.y = search rules in
     short_and_word c.few_binary-in-Short-Word.result c.args.heap.now m c.args.site c.args.op c.args.a c.args.b w.field-0-0 w.field-0-1 w.x c.all-in-Short-Word.result w.y w.is-0 w.is-1

@@ -1,0 +1,8 @@
+pub mod Changes
+pub mod Holds
+pub mod Opening
+pub mod Parts
+pub mod Placing
+pub mod Targets
+pub mod Wholes
+pub mod Ends

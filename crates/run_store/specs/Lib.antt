@@ -1,0 +1,3 @@
+pub mod Lents
+pub mod Stands
+pub mod Targets

@@ -1,0 +1,144 @@
+//! Selections.
+
+ghost use Rattle.std.specs.Prelude.{◌≡◌, [], ◌∷◌, take, drop, map, unsigned_abs, IfOk, IfSome, Some, Ok};
+ghost use Rattle.counted_code.specs.Values.{Heap as MachineHeap, read, cells_of};
+ghost use Rattle.sac_base.specs.Arrays.{scalar, vector};
+ghost use Rattle.sac_base.specs.declared.base.Base.{Base as BaseOf};
+ghost use Rattle.with_loops.specs.Tells.{Tells};
+ghost use Rattle.sac_base.specs.Outcomes.{at_site};
+ghost use Rattle.sac_base.specs.Parts.{part_at, selected, select as select_arrays};
+ghost use Rattle.run_store.specs.Stands.{Stands, TellsPlaced, lender_of};
+ghost use Rattle.run_values.specs.Numbers.{numbers};
+ghost use Rattle.run_values.specs.Shown.{value_of};
+
+use crate::access::buffer_cells;
+use crate::arrays::{place_result, read_array};
+use crate::store::Store;
+use buffer_heap::BufferId;
+use run_values::{Few, RunValue};
+use sac_base::{Array, Cell, MOST_ELEMENTS, Memory, Site};
+use std::alloc::Global;
+use with_loops::{Stop, select_at};
+
+/// The part of an array at an index.
+pub fn select_value(
+    alloc: Global,
+    heap: &mut Store<'_>,
+    array: RunValue,
+    index: RunValue,
+    site: Site,
+) -> Result<RunValue, Stop>
+    ensures told { (m : MachineHeap) → Stands heap.old m → TellsPlaced result heap.new m (at_site site (select_arrays (read m (value_of array)) (read m (value_of index)))) }
+    ensures lender { lender_of heap.new ≡ lender_of heap.old }
+{
+    match find_cell(heap, &array, &index)? {
+        Some(n) => Ok(RunValue::Word(array.base(), n)),
+        None => select_part(alloc, heap, array, index, site),
+    }
+}
+
+// The part at any index.
+fn select_part(
+    alloc: Global,
+    heap: &mut Store<'_>,
+    array: RunValue,
+    index: RunValue,
+    site: Site,
+) -> Result<RunValue, Stop>
+    ensures told { (m : MachineHeap) → Stands heap.old m → TellsPlaced result heap.new m (at_site site (select_arrays (read m (value_of array)) (read m (value_of index)))) }
+    ensures lender { lender_of heap.new ≡ lender_of heap.old }
+{
+    let part = copy_part(alloc, heap, array, index, site);
+    place_result(heap, part)
+}
+
+fn copy_part(
+    alloc: Global,
+    heap: &Store<'_>,
+    array: RunValue,
+    index: RunValue,
+    site: Site,
+) -> Result<Array, Stop>
+    ensures { (m : MachineHeap) → Stands heap.now m → Tells result (at_site site (select_arrays (read m (value_of array)) (read m (value_of index)))) }
+{
+    let array = read_array(alloc, heap, array)?;
+    let index = read_array(alloc, heap, index)?;
+    select_at(alloc, &array, &index, site)
+}
+
+// The element at an index of full length that lies in the array. Where there is none, nothing is said.
+fn find_cell(heap: &Store<'_>, array: &RunValue, index: &RunValue) -> Result<Option<Cell>, Memory>
+    ensures { (m : MachineHeap) → Stands heap.now m → IfOk result (λ o. IfSome o (λ n. select_arrays (read m (value_of array.now)) (read m (value_of index.now)) ≡ Ok (scalar (read m (value_of array.now)).base n))) }
+{
+    match index {
+        RunValue::Short(_, few) => select_cell(heap, array, few),
+        RunValue::Word(_, n) => select_cell(heap, array, &Few::one(*n)),
+        _ => Ok(None),
+    }
+}
+
+fn select_cell(heap: &Store<'_>, array: &RunValue, index: &Few) -> Result<Option<Cell>, Memory>
+    ensures { (m : MachineHeap) → Stands heap.now m → IfOk result (λ o. IfSome o (λ n. selected (read m (value_of array.now)) (part_at (read m (value_of array.now)).shape (numbers index.now)) ≡ Ok (scalar (read m (value_of array.now)).base n))) }
+{
+    match array {
+        RunValue::Buffer(_, id, extents) => buffer_cell(heap, *id, extents, index),
+        RunValue::Short(_, few) => Ok(short_cell(few, index)),
+        _ => Ok(None),
+    }
+}
+
+fn buffer_cell(
+    heap: &Store<'_>,
+    id: BufferId,
+    extents: &Few,
+    index: &Few,
+) -> Result<Option<Cell>, Memory>
+    ensures { (m : MachineHeap) → Stands heap.now m → (base : BaseOf) → IfOk result (λ o. IfSome o (λ n. selected (record { base = base; shape = map unsigned_abs (numbers extents.now); cells = cells_of m id.born }) (part_at (map unsigned_abs (numbers extents.now)) (numbers index.now)) ≡ Ok (scalar base n))) }
+{
+    let Some(place) = cell_place(extents.as_slice(), index.as_slice()) else {
+        return Ok(None);
+    };
+    let cells = buffer_cells(heap, id)?;
+    Ok(cell_at(cells, place))
+}
+
+fn short_cell(few: &Few, index: &Few) -> Option<Cell>
+    ensures { (base : BaseOf) → IfSome result (λ n. selected (vector base (numbers few.now)) (part_at (vector base (numbers few.now)).shape (numbers index.now)) ≡ Ok (scalar base n)) }
+{
+    let extents = Few::one(few.len() as Cell);
+    let Some(place) = cell_place(extents.as_slice(), index.as_slice()) else {
+        return None;
+    };
+    cell_at(few.as_slice(), place)
+}
+
+fn cell_at(cells: &[Cell], place: usize) -> Option<Cell>
+    ensures { IfSome result (λ n. take 1 (drop place cells.now) ≡ n ∷ []) }
+{
+    match cells.get(place) {
+        Some(n) => Some(*n),
+        None => None,
+    }
+}
+
+// The row-major place of an index of full length, where it lies in the extents and is no greater than that of any array.
+fn cell_place(extents: &[Cell], index: &[Cell]) -> Option<usize>
+    ensures { IfSome result (λ k. part_at (map unsigned_abs extents.now) index.now ≡ Some (record { start = k; shape = [] })) }
+{
+    if extents.len() != index.len() {
+        return None;
+    }
+    let mut place = 0;
+    for k in 0..extents.len() {
+        let n = extents[k];
+        let i = index[k];
+        if i < 0 || i >= n {
+            return None;
+        }
+        place = place * u64::from(n.unsigned_abs()) + u64::from(i.unsigned_abs());
+        if place > MOST_ELEMENTS {
+            return None;
+        }
+    }
+    Some(place as usize)
+}
