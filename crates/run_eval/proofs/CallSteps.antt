@@ -8,6 +8,7 @@ use Rattle.sac_base.specs.declared.fault.FaultKind.TheVariants.{F7, F10}
 use Rattle.sac_base.specs.declared.types.ArrayType.{ArrayType}
 use Rattle.sac_base.specs.Types.{all_have}
 use Rattle.core_ir.specs.Outcome.{chosen}
+use Rattle.counted_code.specs.declared.tree.Code.{Code}
 use Rattle.counted_code.specs.declared.tree.CodeFun.{CodeFun}
 use Rattle.counted_code.specs.Terms.{CodeFunTerm, CodeProgram, core_of_code}
 use Rattle.counted_code.specs.Values.{Heap, Value, Ended, Done, Failed, go_on, read}
@@ -116,6 +117,17 @@ get_or-map f (x ∷ xs) (suc i) d = get_or-map f xs i d
 pub function_at : (fs : List CodeFun) (i : ℕ) (d : CodeFun) → i < length fs → slice_get (map code_fun_term fs) i ≡ Some (code_fun_term (get_or fs i d))
 function_at fs i d h =
     slice_get-get_or (map code_fun_term fs) i (code_fun_term d) (omega (arith, length-map fs code_fun_term)) ∙ ap Some (get_or-map code_fun_term fs i d)
+
+-- what is said of the code is said of the same code
+module _ (code same : Code) where
+  pub within_same : (place : ℕ) → code ≡ same → place < length code.functions.items → place < length same.functions.items
+  within_same place is below = subst (λ (k : Code). place < length k.functions.items) is below
+
+  pub place_same : (place : ℕ) (f : CodeFun) → code ≡ same → f ≡ get_or code.functions.items place f → f ≡ get_or same.functions.items place f
+  place_same place f is found = found ∙ ap (λ (k : Code). get_or k.functions.items place f) is
+
+  pub chosen_same : (group : ℕ) (vs : List Value) (m : Heap) → code ≡ same → chosen (core_of_code (code_program code)) group (map (read m) vs) ≡ chosen (core_of_code (code_program same)) group (map (read m) vs)
+  chosen_same group vs m is = ap (λ (k : Code). chosen (core_of_code (code_program k)) group (map (read m) vs)) is
 
 -- ---- results of a function
 

@@ -7,8 +7,8 @@ use Rattle.counted_code.specs.Loops.{Job, Claimed, claim, claimed_does, count_ph
 use Rattle.counted_code.specs.Values.{Heap, Ended, Done, Failed, go_on, is_small}
 use Rattle.with_loops.specs.declared.stop.Stop.{Stop}
 use Rattle.run_values.specs.declared.value.RunValue.{RunValue}
-use Rattle.run_heap.specs.Targets.{target_of, target_at}
-use Rattle.run_heap.specs.declared.target.Target.{Target}
+use Rattle.run_store.specs.Targets.{target_of, target_at}
+use Rattle.run_store.specs.declared.target.Target.{Target}
 use Rattle.buffer_heap.specs.declared.heap.BufferId.{BufferId}
 use Rattle.run_eval.specs.declared.state.State.{State}
 use Rattle.run_eval.specs.Running.{IsAt, Told, ToldStop, IsValue}

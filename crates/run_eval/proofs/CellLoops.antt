@@ -14,7 +14,7 @@ use Rattle.counted_code.specs.Machine.{Values}
 use Rattle.counted_code.specs.Values.{Heap, is_small, read}
 use Rattle.with_loops.specs.Cells.{cells_from}
 use Rattle.with_loops.specs.declared.stop.Stop.{Stop}
-use Rattle.run_heap.specs.Stands.{Stands}
+use Rattle.run_store.specs.Stands.{Stands}
 use Rattle.run_values.specs.declared.value.RunValue.{RunValue}
 use Rattle.run_values.specs.declared.frames.Frames.{Frames}
 use Rattle.run_values.specs.Scopes.{current}

@@ -4,10 +4,10 @@ use Rattle.std.proofs.Math.Nat.{mod-add-mod}
 use Rattle.std.proofs.lemmas.List.{length-append}
 use Rattle.counted_code.specs.Loops.{count_phase}
 use Rattle.counted_code.specs.Values.{Heap}
-use Rattle.run_heap.specs.Stands.{Stands}
+use Rattle.run_store.specs.Stands.{Stands}
 use Rattle.run_eval.specs.declared.state.State.{State}
 use Rattle.run_eval.specs.Running.{IsAt}
-use Rattle.run_heap.proofs.Targets.{phases_stand}
+use Rattle.run_store.proofs.Targets.{phases_stand}
 
 count_next : (p n : ℕ) (ps : List ℕ) → p ≡ length ps % 2 ^ 64 → (p + 1) % 2 ^ 64 ≡ length (ps ++ n ∷ []) % 2 ^ 64
 count_next p n ps is = ap (λ q. (q + 1) % 2 ^ 64) is ∙ mod-add-mod (length ps) (2 ^ 64) 1 ∙ ap (λ l. l % 2 ^ 64) (sym (length-append ps (n ∷ [])))

@@ -8,7 +8,7 @@ use Rattle.counted_code.specs.Loops.{Source, Writing, cell_does, cells_do, relea
 use Rattle.counted_code.specs.Values.{Heap, Value, Ended, Done, Failed, give, go_on, then_go, read}
 use Rattle.with_loops.specs.declared.stop.Stop.{Stop}
 use Rattle.with_loops.specs.declared.stop.Stop.TheVariants.{Faulted, Memory}
-use Rattle.run_heap.specs.Stands.{Stands}
+use Rattle.run_store.specs.Stands.{Stands}
 use Rattle.run_values.specs.declared.value.RunValue.{RunValue}
 use Rattle.run_values.specs.Shown.{value_of}
 use Rattle.run_eval.specs.declared.state.State.{State}

@@ -5,14 +5,14 @@ use Rattle.sac_base.specs.declared.form.Form.{Form}
 use Rattle.sac_base.specs.declared.site.Site.{Site}
 use Rattle.counted_code.specs.Values.{Heap, Value, Ended, Doing, apart, go_on, then_go}
 use Rattle.with_loops.specs.declared.stop.Stop.{Stop}
-use Rattle.run_heap.specs.Stands.{Stands}
+use Rattle.run_store.specs.Stands.{Stands}
 use Rattle.run_values.specs.declared.frames.Frames.{Frames}
 use Rattle.run_values.specs.declared.value.RunValue.{RunValue}
 use Rattle.run_values.specs.Scopes.{current, outer}
 use Rattle.run_eval.specs.declared.state.State.{State}
 use Rattle.run_eval.specs.Running.{EndsScope, IsValue, SameScopes, Told, formed}
 use Rattle.run_eval.proofs.CellTold.{apart_told}
-use Rattle.run_heap.proofs.Targets.{phases_stand}
+use Rattle.run_store.proofs.Targets.{phases_stand}
 
 pub scopes_after : (f g h : Frames) → SameScopes f g → SameScopes g h → SameScopes f h
 scopes_after f g h s t = (t.0 ∙ s.0, t.1 ∙ s.1)

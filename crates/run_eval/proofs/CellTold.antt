@@ -8,7 +8,7 @@ use Rattle.counted_code.specs.Loops.{Source, stored, cell_does, release_rest}
 use Rattle.counted_code.specs.Values.{Heap, Value, Small, Ref, Ended, Done, Failed, Doing, give, go_on, then_go, fails, apart, phases_as, read, release, release_count, count_of}
 use Rattle.with_loops.specs.declared.stop.Stop.{Stop}
 use Rattle.with_loops.specs.declared.stop.Stop.TheVariants.{Faulted, Memory}
-use Rattle.run_heap.specs.Stands.{Stands}
+use Rattle.run_store.specs.Stands.{Stands}
 use Rattle.run_values.specs.declared.value.RunValue.{RunValue}
 use Rattle.run_eval.specs.declared.state.State.{State}
 use Rattle.run_eval.specs.Running.{IsAt, Told, IsValue, IsOnly, formed}

@@ -11,7 +11,7 @@ use Rattle.with_loops.specs.declared.stop.Stop.{Stop}
 use Rattle.with_loops.specs.declared.stop.Stop.TheVariants.{Faulted, Memory}
 use Rattle.run_eval.specs.declared.state.State.{State}
 use Rattle.run_eval.specs.Running.{IsAt, IsValue, Told, ToldStop, truth_of, SaysTruth}
-use Rattle.run_heap.specs.Stands.{Stands}
+use Rattle.run_store.specs.Stands.{Stands}
 use Rattle.run_values.specs.declared.value.RunValue.{RunValue}
 use Rattle.run_values.specs.Shown.{value_of}
 use Rattle.run_eval.proofs.Binding.{release_phases}

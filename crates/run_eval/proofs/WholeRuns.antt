@@ -12,7 +12,8 @@ use Rattle.sac_base.specs.Arrays.{ArrayValue}
 use Rattle.sac_base.specs.Types.{all_have}
 use Rattle.core_ir.specs.declared.tree.Var.{Var}
 use Rattle.core_ir.specs.Outcome.{start_of_source}
-use Rattle.buffer_heap.specs.Heaps.{HeapValue}
+use Rattle.std.proofs.Math.Nat.{mod-eq_of_lt}
+use Rattle.count_table.specs.Tallied.{PhaseTotals}
 use Rattle.counted_code.specs.declared.tree.Code.{Code}
 use Rattle.counted_code.specs.declared.tree.CodeFun.{CodeFun}
 use Rattle.counted_code.specs.Outcome.{call_does, deeper_does, inline_does, code_param_types, function_does, main_does, copied_out, whole_run, outcome_of, cost_of}
@@ -22,8 +23,9 @@ use Rattle.counted_code.specs.View.{code_program, code_fun_term}
 use Rattle.with_loops.specs.declared.stop.Stop.{Stop}
 use Rattle.with_loops.specs.declared.stop.Stop.TheVariants.{Faulted, Memory}
 use Rattle.with_loops.specs.Tells.{TellsItems}
-use Rattle.run_heap.specs.Stands.{Placed, Stands}
-use Rattle.run_heap.proofs.Ends.{new_stands, taken_stands, reused_stands}
+use Rattle.run_store.specs.Stands.{Placed, Stands, lender_of}
+use Rattle.run_store.specs.declared.store.Store.{Store}
+use Rattle.run_store.proofs.Ends.{new_stands, taken_stands, reused_stands}
 use Rattle.run_types.specs.Choosing.{types_of}
 use Rattle.run_types.specs.Reading.{arrays_in}
 use Rattle.run_values.specs.declared.value.RunValue.{RunValue}
@@ -31,7 +33,7 @@ use Rattle.run_values.specs.Shown.{value_of}
 use Rattle.run_eval.specs.declared.state.Context.{Context}
 use Rattle.run_eval.specs.declared.state.State.{State}
 use Rattle.run_eval.specs.declared.trace.Trace.{Trace}
-use Rattle.run_eval.specs.Outcomes.{new_heap, main_in, AreArrays, ArePlaced, TellsCost}
+use Rattle.run_eval.specs.Outcomes.{new_heap, main_in, AreArrays, ArePlaced, TellsCost, TellsTally}
 use Rattle.run_eval.specs.Running.{calls_in, IsAt, Told, ToldStop, Appends}
 
 -- ---- arguments are placed
@@ -74,14 +76,14 @@ all_read [] h = (refl, (omega arith, (λ b below. refl), refl))
 all_read (a ∷ ws) h = placed_one (is_small a.shape) a ws h (λ k. all_read ws k)
 
 -- arrays that are placed, and are read as they were
-pub record Placing (args : List ArrayValue) (vs : List RunValue) (h : HeapValue) (m : Heap) : Type 0 where
+pub record Placing (args : List ArrayValue) (vs : List RunValue) (h : Store) (m : Heap) : Type 0 where
   pub after : Heap
   pub whole : place_all args m ≡ Done (map value_of vs) after
   pub stands : Stands h after
   pub reads : arrays_in after vs ≡ args
   pub phases : after.phases ≡ m.phases
 
-pub placing : (args : List ArrayValue) (vs : List RunValue) (h : HeapValue) (m : Heap) → ArePlaced vs h (place_all args m) → Placing args vs h m
+pub placing : (args : List ArrayValue) (vs : List RunValue) (h : Store) (m : Heap) → ArePlaced vs h (place_all args m) → Placing args vs h m
 placing args vs h m = go (place_all args m) refl (all_read args m)
   where
     go : (e : Ended (List Value)) → place_all args m ≡ e → ReadsAs args m e → ArePlaced vs h e → Placing args vs h m
@@ -111,7 +113,7 @@ place_start ws m = go (place_all ws m)
     go (Done vs k) = refl
     go (Failed f p) = refl
 
-pub place_turn : (done after : List RunValue) (v : RunValue) (a : ArrayValue) (before rest : List ArrayValue) (h : HeapValue) (k : Heap) (whole : Ended (List Value)) → before ≡ a ∷ rest → after ≡ done ++ v ∷ [] → Placed v h (place_value a k) → places_on (map value_of done) before k ≡ whole → (n : Heap) × Stands h n × (places_on (map value_of after) rest n ≡ whole)
+pub place_turn : (done after : List RunValue) (v : RunValue) (a : ArrayValue) (before rest : List ArrayValue) (h : Store) (k : Heap) (whole : Ended (List Value)) → before ≡ a ∷ rest → after ≡ done ++ v ∷ [] → Placed v h (place_value a k) → places_on (map value_of done) before k ≡ whole → (n : Heap) × Stands h n × (places_on (map value_of after) rest n ≡ whole)
 place_turn done after v a before rest h k whole b d placed p = go (place_value a k) refl placed
   where
     go : (e : Ended Value) → place_value a k ≡ e → Placed v h e → (n : Heap) × Stands h n × (places_on (map value_of after) rest n ≡ whole)
@@ -128,7 +130,7 @@ place_turn done after v a before rest h k whole b d placed p = go (place_value a
     )
     go (Failed f q) is e = elim e [ ]
 
-pub place_end : (done : List RunValue) (rest ws : List ArrayValue) (h : HeapValue) (k m : Heap) → rest ≡ [] → Stands h k → places_on (map value_of done) rest k ≡ place_all ws m → ArePlaced done h (place_all ws m)
+pub place_end : (done : List RunValue) (rest ws : List ArrayValue) (h : Store) (k m : Heap) → rest ≡ [] → Stands h k → places_on (map value_of done) rest k ≡ place_all ws m → ArePlaced done h (place_all ws m)
 place_end done rest ws h k m none stands p =
     subst (λ e. ArePlaced done h e)
     (ap (λ us. Done us k) (sym (append-nil (map value_of done))) ∙ (λ i. places_on (map value_of done) (sym none i) k) ∙ p)
@@ -142,7 +144,7 @@ read_turn vs i v m done after a below is d r e =
     ∙ ap (map (read m)) (map-append value_of (take i vs) (get_or vs i v ∷ []))
     ∙ map-append (read m) (map value_of (take i vs)) (value_of (get_or vs i v) ∷ []))
 
-pub release_turn : (vs : List RunValue) (i : ℕ) (v : RunValue) (h : HeapValue) (k whole : Heap) → i < length vs → v ≡ get_or vs i v → Stands h (release (value_of v) k) → release_all (map value_of (drop i vs)) k ≡ whole → (n : Heap) × Stands h n × (release_all (map value_of (drop (i + 1) vs)) n ≡ whole)
+pub release_turn : (vs : List RunValue) (i : ℕ) (v : RunValue) (h : Store) (k whole : Heap) → i < length vs → v ≡ get_or vs i v → Stands h (release (value_of v) k) → release_all (map value_of (drop i vs)) k ≡ whole → (n : Heap) × Stands h n × (release_all (map value_of (drop (i + 1) vs)) n ≡ whole)
 release_turn vs i v h k whole below is stands p = (
   release (value_of v) k,
   stands,
@@ -151,7 +153,7 @@ release_turn vs i v h k whole below is stands p = (
       ∙ p,
 )
 
-pub release_end : (vs : List RunValue) (i : ℕ) (h : HeapValue) (k whole : Heap) → length vs ≤ i → Stands h k → release_all (map value_of (drop i vs)) k ≡ whole → Stands h whole
+pub release_end : (vs : List RunValue) (i : ℕ) (h : Store) (k whole : Heap) → length vs ≤ i → Stands h k → release_all (map value_of (drop i vs)) k ≡ whole → Stands h whole
 release_end vs i h k whole past stands p =
     subst (λ n. Stands h n) (ap (λ xs. release_all (map value_of xs) k) (sym (drop_of_length-le vs past)) ∙ p) stands
 
@@ -190,7 +192,7 @@ module _ (context : Context) (args : List ArrayValue) (m : Heap) where
         (refl, phases)
 
     -- it takes them
-    pub fitting : (vs : List RunValue) (h : HeapValue) (r : Result (Vec ArrayValue Global) Stop) (s : State) → all_have (code_param_types f) args ≡ true → (p : Placing args vs h m) → Told AreArrays r s (go_on (function_does context.turns (calls_in context) f (map value_of vs) p.after) copied_out) → Told AreArrays r s (main_in context args m)
+    pub fitting : (vs : List RunValue) (h : Store) (r : Result (Vec ArrayValue Global) Stop) (s : State) → all_have (code_param_types f) args ≡ true → (p : Placing args vs h m) → Told AreArrays r s (go_on (function_does context.turns (calls_in context) f (map value_of vs) p.after) copied_out) → Told AreArrays r s (main_in context args m)
     fitting vs h r s fits p told =
         subst (λ e. Told AreArrays r s e)
         (sym (ap (λ o. main_does context.turns (calls_in context) o args m) here ∙ ap goes_on fits
@@ -215,6 +217,13 @@ function_at fs i f below is =
     slice_get-get_or (map code_fun_term fs) i (code_fun_term f) (omega (arith, length-map fs code_fun_term, below))
     ∙ ap Some (get_or-map code_fun_term fs i f (code_fun_term f) below ∙ ap code_fun_term (sym is))
 
+-- the main function of the same code
+pub main_within : (code same : Code) → code ≡ same → code.main < length code.functions.items → same.main < length same.functions.items
+main_within code same is below = subst (λ (k : Code). k.main < length k.functions.items) is below
+
+pub main_same : (code same : Code) (f : CodeFun) → code ≡ same → f ≡ get_or code.functions.items code.main f → f ≡ get_or same.functions.items same.main f
+main_same code same f is found = found ∙ ap (λ (k : Code). get_or k.functions.items k.main f) is
+
 -- what is said of values is said of the arguments
 pub fits_as : (main : CodeFun) (params : List (Var × ArrayType)) (vs us : List RunValue) (args : List ArrayValue) (k : Heap) (b c : Bool) → params ≡ main.params.items → us ≡ vs → arrays_in k vs ≡ args → b ≡ all_have (types_of params) (arrays_in k us) → b ≡ c → all_have (code_param_types (code_fun_term main)) args ≡ c
 fits_as main params vs us args k b c p u reads told is =
@@ -224,13 +233,19 @@ fits_as main params vs us args k b c p u reads told is =
 
 -- ---- the whole
 
-pub starts : (s : State) → s.heap ≡ new_heap → s.phases ≡ 0 → IsAt s empty_heap
-starts s fresh none = record { heap = subst (λ h. Stands h empty_heap) (sym fresh) new_stands; phases = none }
+pub starts : (s : State) → s.heap.own ≡ new_heap → s.heap.lent ≡ None → s.phases ≡ 0 → IsAt s empty_heap
+starts s fresh alone none = record { heap = subst (λ (h : Store). Stands h empty_heap) (λ i. record { own = sym fresh i; lent = sym alone i }) new_stands; phases = none }
 
-pub whole_is : (code : Code) (args : List ArrayValue) (caps : Caps) (nest : ℕ) → nest ≡ length code.functions.items → main_does caps.turns (call_does (code_program code) (deeper_does (code_program code) caps.turns caps.depth) (inline_does (code_program code) caps.turns (deeper_does (code_program code) caps.turns caps.depth) nest)) (slice_get (code_program code).functions code.main) args empty_heap ≡ whole_run (code_program code) args caps
-whole_is code args caps nest all =
-    ap (λ n. main_does caps.turns (call_does (code_program code) (deeper_does (code_program code) caps.turns caps.depth) (inline_does (code_program code) caps.turns (deeper_does (code_program code) caps.turns caps.depth) n)) (slice_get (code_program code).functions code.main) args empty_heap)
-    (all ∙ sym (length-map code.functions.items code_fun_term))
+abbrev main_of : Code → List ArrayValue → Caps → ℕ → Ended (List ArrayValue)
+main_of code args caps nest =
+    let p = code_program code in
+    let outer = deeper_does p caps.turns caps.depth in
+    main_does caps.turns (call_does p outer (inline_does p caps.turns outer nest)) (slice_get p.functions code.main) args empty_heap
+
+pub whole_is : (counted code : Code) (args : List ArrayValue) (caps : Caps) (nest : ℕ) → counted ≡ code → nest ≡ length code.functions.items → main_of counted args caps nest ≡ whole_run (code_program code) args caps
+whole_is counted code args caps nest same all =
+    ap (λ c. main_of c args caps nest) same
+    ∙ ap (main_of code args caps) (all ∙ sym (length-map code.functions.items code_fun_term))
 
 pub outcome_told : (r : Result (Vec ArrayValue Global) Stop) (s : State) (w : Ended (List ArrayValue)) → Told AreArrays r s w → TellsItems r (outcome_of w)
 outcome_told (Ok v) s (Done ws k) told = ap Ok (sym told.0)
@@ -239,11 +254,28 @@ outcome_told (Err (Faulted f)) s (Done ws k) told = elim told [ ]
 outcome_told (Err (Faulted f)) s (Failed g p) told = ap Err (sym told.0)
 outcome_told (Err Memory) s w told = tt
 
-pub cost_told : (r : Result (Vec ArrayValue Global) Stop) (s : State) (t : Trace) (w : Ended (List ArrayValue)) → Told AreArrays r s w → (cost_of w).given ≡ (cost_of w).taken → t.taken ≡ s.heap.taken → t.given ≡ t.taken → t.reused ≡ s.heap.reused → t.phases ≡ s.phases → TellsCost r t (cost_of w)
-cost_told (Ok v) s t (Done ws k) told even taken given reused phases =
-    let same = taken ∙ taken_stands s.heap k told.1.heap in
-    (same, given ∙ same ∙ sym even, reused ∙ reused_stands s.heap k told.1.heap, phases ∙ told.1.phases)
-cost_told (Ok v) s t (Failed f p) told even taken given reused phases = elim told [ ]
-cost_told (Err (Faulted f)) s t (Done ws k) told even taken given reused phases = elim told [ ]
-cost_told (Err (Faulted f)) s t (Failed g p) told even taken given reused phases = phases ∙ told.1
-cost_told (Err Memory) s t w told even taken given reused phases = tt
+pub cost_told : (r : Result (Vec ArrayValue Global) Stop) (s : State) (t : Trace) (w : Ended (List ArrayValue)) → Told AreArrays r s w → lender_of s.heap ≡ None → (cost_of w).given ≡ (cost_of w).taken → t.taken ≡ s.heap.own.taken → t.given ≡ t.taken → t.reused ≡ s.heap.own.reused → t.phases ≡ s.phases → TellsCost r t (cost_of w)
+cost_told (Ok v) s t (Done ws k) told alone even taken given reused phases =
+    let same = taken ∙ taken_stands s.heap k alone told.1.heap in
+    (same, given ∙ same ∙ sym even, reused ∙ reused_stands s.heap k alone told.1.heap, phases ∙ told.1.phases)
+cost_told (Ok v) s t (Failed f p) told alone even taken given reused phases = elim told [ ]
+cost_told (Err (Faulted f)) s t (Done ws k) told alone even taken given reused phases = elim told [ ]
+cost_told (Err (Faulted f)) s t (Failed g p) told alone even taken given reused phases = phases ∙ told.1
+cost_told (Err Memory) s t w told alone even taken given reused phases = tt
+
+-- so many phases are added to a tally
+abbrev Tallied : PhaseTotals → ℕ → PhaseTotals → Type 0
+Tallied old n new = new ≡ record { phases = (old.phases + n) % 2 ^ 64; draws = (old.draws + 0) % 2 ^ 64 }
+
+tally_rises : (old new : PhaseTotals) (n p : ℕ) → old.draws < 2 ^ 64 → Tallied old n new → n ≡ p → (new.phases ≡ (old.phases + p) % 2 ^ 64) × (new.draws ≡ old.draws)
+tally_rises old new n p low is same = (
+  ap (λ (t : PhaseTotals). t.phases) is ∙ ap (λ k. (old.phases + k) % 2 ^ 64) same,
+  ap (λ (t : PhaseTotals). t.draws) is ∙ ap (λ k. k % 2 ^ 64) (omega arith) ∙ mod-eq_of_lt low,
+)
+
+pub tally_told : (r : Result (Vec ArrayValue Global) Stop) (s : State) (old new : PhaseTotals) (w : Ended (List ArrayValue)) → Told AreArrays r s w → old.draws < 2 ^ 64 → Tallied old s.phases new → TellsTally r old new (cost_of w)
+tally_told (Ok v) s old new (Done ws k) told low is = tally_rises old new s.phases (length k.phases % 2 ^ 64) low is told.1.phases
+tally_told (Ok v) s old new (Failed f p) told low is = elim told [ ]
+tally_told (Err (Faulted f)) s old new (Done ws k) told low is = elim told [ ]
+tally_told (Err (Faulted f)) s old new (Failed g p) told low is = tally_rises old new s.phases (length p % 2 ^ 64) low is told.1
+tally_told (Err Memory) s old new w told low is = tt

@@ -13,8 +13,8 @@ use Rattle.counted_code.specs.Loops.{Source, Claimed, Inside, cell_does}
 use Rattle.counted_code.specs.Machine.{Values, bind_value, with_index_value, first_value}
 use Rattle.counted_code.specs.Values.{Value, Small, Doing, give, then_go, apart}
 use Rattle.counted_code.specs.View.{code_term}
-use Rattle.run_heap.specs.Targets.{target_of}
-use Rattle.run_heap.specs.declared.target.Target.{Target}
+use Rattle.run_store.specs.Targets.{target_of}
+use Rattle.run_store.specs.declared.target.Target.{Target}
 use Rattle.run_values.specs.declared.value.RunValue.{RunValue}
 use Rattle.run_values.specs.Shown.{value_of}
 use Rattle.run_eval.specs.declared.folds.Sum.{Sum}

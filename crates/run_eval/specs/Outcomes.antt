@@ -1,13 +1,15 @@
 -- What a run of a whole program tells.
-use Rattle.std.specs.Prelude.{◌≡◌, ℕ, List, [], None, Result, Ok, Err, Vec, map, slice_get, ⊤}
+use Rattle.std.specs.Prelude.{◌≡◌, ℕ, ◌+◌, ◌%◌, ◌^◌, List, [], None, Result, Ok, Err, Vec, map, slice_get, ⊤}
 use Rattle.std.specs.declared.alloc.Global.{Global}
 use Rattle.sac_base.specs.Arrays.{ArrayValue}
 use Rattle.buffer_heap.specs.Heaps.{HeapValue, at}
+use Rattle.count_table.specs.Tallied.{PhaseTotals}
 use Rattle.counted_code.specs.declared.tree.Cost.{Cost}
 use Rattle.counted_code.specs.Outcome.{main_does}
 use Rattle.counted_code.specs.Values.{Value, Ended, Done, Failed, Doing}
 use Rattle.counted_code.specs.View.{code_program}
-use Rattle.run_heap.specs.Stands.{Stands}
+use Rattle.run_store.specs.Stands.{Stands}
+use Rattle.run_store.specs.declared.store.Store.{Store}
 use Rattle.run_values.specs.declared.value.RunValue.{RunValue}
 use Rattle.run_values.specs.Shown.{value_of}
 use Rattle.with_loops.specs.declared.stop.Stop.{Stop}
@@ -38,6 +40,12 @@ TellsCost (Ok _) t cost = (t.taken ≡ cost.taken) × (t.given ≡ cost.given) �
 TellsCost (Err (Faulted f)) t cost = t.phases ≡ cost.phases
 TellsCost (Err Memory) t cost = ⊤
 
+-- with results and with a fault so many phases more were counted, modulo 2^64, and no draw; want of memory says nothing
+abbrev pub TellsTally : {A : Type 0} → Result A Stop → PhaseTotals → PhaseTotals → Cost → Type 0
+TellsTally (Ok _) old new cost = (new.phases ≡ (old.phases + cost.phases) % 2 ^ 64) × (new.draws ≡ old.draws)
+TellsTally (Err (Faulted f)) old new cost = (new.phases ≡ (old.phases + cost.phases) % 2 ^ 64) × (new.draws ≡ old.draws)
+TellsTally (Err Memory) old new cost = ⊤
+
 -- ---- the parts of a run
 
 -- what the main function does with arguments
@@ -50,7 +58,7 @@ main_in context args =
 abbrev pub AreArrays : Vec ArrayValue Global → List ArrayValue → Type 0
 AreArrays v ws = v.items ≡ ws
 
--- the machine has these values, and the heap stands for its heap
-abbrev pub ArePlaced : List RunValue → HeapValue → Ended (List Value) → Type 0
+-- the machine has these values, and the store stands for its heap
+abbrev pub ArePlaced : List RunValue → Store → Ended (List Value) → Type 0
 ArePlaced vs h (Done ws k) = (map value_of vs ≡ ws) × Stands h k
 ArePlaced vs h (Failed f phases) = ⊥

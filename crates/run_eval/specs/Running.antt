@@ -25,7 +25,7 @@ use Rattle.counted_code.specs.View.{code_program, code_term, steps_before}
 use Rattle.with_loops.specs.Cells.{array_from}
 use Rattle.with_loops.specs.declared.stop.Stop.{Stop}
 use Rattle.with_loops.specs.declared.stop.Stop.TheVariants.{Faulted, Memory}
-use Rattle.run_heap.specs.Stands.{Stands}
+use Rattle.run_store.specs.Stands.{Stands}
 use Rattle.run_values.specs.declared.frames.Frames.{Frames}
 use Rattle.run_values.specs.declared.value.RunValue.{RunValue}
 use Rattle.run_values.specs.Scopes.{current, outer}

@@ -5,6 +5,7 @@ ghost use Rattle.sac_base.specs.Arrays.{scalar, vector};
 ghost use Rattle.counted_code.specs.Machine.{Values, bind_value, bind_values, first_of as first_value_of};
 ghost use Rattle.counted_code.specs.Values.{Small};
 ghost use Rattle.run_eval.specs.Running.{Binds, vars_of};
+ghost use Rattle.run_store.specs.Stands.{lender_of};
 ghost use Rattle.run_values.specs.Scopes.{current};
 ghost use Rattle.run_values.specs.Shown.{value_of};
 
@@ -14,8 +15,9 @@ use run_values::{Few, RunValue};
 use sac_base::{ArrayType, Base, Memory};
 
 /// Binds variables to values, and those for which there is none to the number 0.
-pub fn bind_all(state: &mut State, vars: &[Var], values: &[RunValue]) -> Result<(), Memory>
-    ensures { OnOk result (Binds state.old state.new (bind_values (current state.old.frames) vars.now (map value_of values.now))) }
+pub fn bind_all(state: &mut State<'_>, vars: &[Var], values: &[RunValue]) -> Result<(), Memory>
+    ensures bound { OnOk result (Binds state.old state.new (bind_values (current state.old.frames) vars.now (map value_of values.now))) }
+    ensures lender { lender_of state.new.heap ≡ lender_of state.old.heap }
 {
     for k in 0..vars.len() {
         state.frames.bind(vars[k], value_at(values, k))?;
@@ -25,11 +27,12 @@ pub fn bind_all(state: &mut State, vars: &[Var], values: &[RunValue]) -> Result<
 
 /// Binds parameters to arguments, and those for which there is none to the number 0.
 pub fn bind_params(
-    state: &mut State,
+    state: &mut State<'_>,
     params: &[(Var, ArrayType)],
     args: &[RunValue],
 ) -> Result<(), Memory>
-    ensures { OnOk result (Binds state.old state.new (bind_values (current state.old.frames) (vars_of params.now) (map value_of args.now))) }
+    ensures bound { OnOk result (Binds state.old state.new (bind_values (current state.old.frames) (vars_of params.now) (map value_of args.now))) }
+    ensures lender { lender_of state.new.heap ≡ lender_of state.old.heap }
 {
     for k in 0..params.len() {
         state.frames.bind(params[k].0, value_at(args, k))?;
@@ -48,7 +51,7 @@ pub fn value_at(values: &[RunValue], k: usize) -> RunValue
 }
 
 /// The value of the first variable.
-pub fn first_of(state: &State, vars: &[Var]) -> RunValue
+pub fn first_of(state: &State<'_>, vars: &[Var]) -> RunValue
     ensures { value_of result ≡ first_value_of (map (current state.now.frames) vars.now) }
 {
     match vars.first() {
@@ -58,7 +61,11 @@ pub fn first_of(state: &State, vars: &[Var]) -> RunValue
 }
 
 /// Appends the values of variables.
-pub fn push_values(state: &State, vars: &[Var], values: &mut Vec<RunValue>) -> Result<(), Memory>
+pub fn push_values(
+    state: &State<'_>,
+    vars: &[Var],
+    values: &mut Vec<RunValue>,
+) -> Result<(), Memory>
     ensures { OnOk result (map value_of values.new.items ≡ map value_of values.old.items ++ map (current state.now.frames) vars.now) }
 {
     for x in vars {
@@ -68,8 +75,9 @@ pub fn push_values(state: &State, vars: &[Var], values: &mut Vec<RunValue>) -> R
 }
 
 /// Binds the index of a cell, and its components to the names.
-pub fn bind_index(state: &mut State, index: Var, names: &[Var], v: &[i32]) -> Result<(), Memory>
-    ensures { OnOk result (Binds state.old state.new (bind_values (bind_value (current state.old.frames) index (Small (vector Base.Int v.now))) names.now (map (λ z. Small (scalar Base.Int z)) v.now))) }
+pub fn bind_index(state: &mut State<'_>, index: Var, names: &[Var], v: &[i32]) -> Result<(), Memory>
+    ensures bound { OnOk result (Binds state.old state.new (bind_values (bind_value (current state.old.frames) index (Small (vector Base.Int v.now))) names.now (map (λ z. Small (scalar Base.Int z)) v.now))) }
+    ensures lender { lender_of state.new.heap ≡ lender_of state.old.heap }
 {
     let Some(few) = Few::from_slice(v) else {
         return Err(Memory);

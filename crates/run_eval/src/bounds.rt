@@ -6,7 +6,7 @@ ghost use Rattle.counted_code.specs.Machine.{bounds_of, reads};
 ghost use Rattle.counted_code.specs.Values.{Heap as MachineHeap};
 ghost use Rattle.run_eval.specs.Loops.{IsWordAxis};
 ghost use Rattle.run_eval.specs.Running.{gen_head};
-ghost use Rattle.run_heap.specs.Stands.{Stands};
+ghost use Rattle.run_store.specs.Stands.{Stands};
 ghost use Rattle.run_values.specs.Scopes.{current};
 ghost use Rattle.sac_base.specs.Grids.{members};
 ghost use Rattle.sac_base.specs.WithLoops.{distance};
@@ -14,7 +14,7 @@ ghost use Rattle.sac_base.specs.WithLoops.{distance};
 use crate::state::{Context, State};
 use core_ir::Var;
 use counted_code::CodeGen;
-use run_heap::read_array;
+use run_store::read_array;
 use run_values::Few;
 use sac_base::{Array, Grid, Grid1, Memory, Shape, elements};
 use std::alloc::Global;
@@ -24,7 +24,7 @@ use with_loops::{Bounds, Frame};
 pub fn all_bounds(
     gens: &[CodeGen],
     context: &Context<'_>,
-    state: &State,
+    state: &State<'_>,
 ) -> Result<Vec<Bounds>, Memory>
     ensures { (m : MachineHeap) → Stands state.now.heap m → IfOk result (λ v. v.items ≡ map (λ g. bounds_of (gen_head g) (reads m (current state.now.frames))) gens.now) }
 {
@@ -35,7 +35,7 @@ pub fn all_bounds(
     Ok(bounds)
 }
 
-fn bounds_in(g: &CodeGen, context: &Context<'_>, state: &State) -> Result<Bounds, Memory>
+fn bounds_in(g: &CodeGen, context: &Context<'_>, state: &State<'_>) -> Result<Bounds, Memory>
     ensures { (m : MachineHeap) → Stands state.now.heap m → IfOk result (λ b. b ≡ bounds_of (gen_head g.now) (reads m (current state.now.frames))) }
 {
     Ok(Bounds {
@@ -62,7 +62,11 @@ fn count_names(names: &[Var]) -> Option<usize>
 }
 
 // The array of an operand that may be left out.
-fn operand(x: Option<Var>, context: &Context<'_>, state: &State) -> Result<Option<Array>, Memory>
+fn operand(
+    x: Option<Var>,
+    context: &Context<'_>,
+    state: &State<'_>,
+) -> Result<Option<Array>, Memory>
     ensures { (m : MachineHeap) → Stands state.now.heap m → IfOk result (λ o. o ≡ option_map (reads m (current state.now.frames)) x) }
 {
     match x {

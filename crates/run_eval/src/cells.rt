@@ -7,15 +7,14 @@ ghost use Rattle.counted_code.specs.Values.{Heap as MachineHeap, Ended, Value, g
 ghost use Rattle.run_eval.specs.Loops.{IsBegun};
 ghost use Rattle.run_eval.specs.Running.{IsAt, IsValue, Told, formed as formed_cell};
 ghost use Rattle.run_eval.specs.declared.state.State.{State as RunState};
-ghost use Rattle.run_heap.specs.Stands.{Stands};
-ghost use Rattle.run_heap.specs.Targets.{target_of};
+ghost use Rattle.run_store.specs.Stands.{Stands, lender_of};
+ghost use Rattle.run_store.specs.Targets.{target_of};
 ghost use Rattle.run_values.specs.Shown.{value_of};
 ghost use Rattle.sac_base.specs.Arrays.{size};
 ghost use Rattle.with_loops.specs.Cells.{cell_from};
 
 use crate::state::{Context, State};
-use buffer_heap::Heap;
-use run_heap::{Target, buffer_cells, claim, fits, is_small, release, settle};
+use run_store::{Store, Target, buffer_cells, claim, fits, is_small, release, settle};
 use run_values::RunValue;
 use sac_base::{Array, Base, Cell, FaultKind, Form, Memory, Shape, Site, elements};
 use with_loops::{Stop, fault};
@@ -39,9 +38,10 @@ pub fn count_elements(shape: &Shape) -> Result<usize, Memory>
 }
 
 /// Counts a phase, if it is one.
-pub fn count(state: &mut State, counts: bool)
+pub fn count(state: &mut State<'_>, counts: bool)
     ensures stands { (m : MachineHeap) (n : ℕ) → IsAt state.old m → IsAt state.new (count_phase counts n m) }
     ensures frames { state.new.frames ≡ state.old.frames }
+    ensures lender { lender_of state.new.heap ≡ lender_of state.old.heap }
 {
     if counts {
         state.phases = state.phases.wrapping_add(1);
@@ -49,10 +49,11 @@ pub fn count(state: &mut State, counts: bool)
 }
 
 /// A result of this shape that has no cell yet. It is a phase, if it is not small.
-pub fn begin(shape: &Shape, context: &Context<'_>, state: &mut State) -> Result<Target, Memory>
+pub fn begin(shape: &Shape, context: &Context<'_>, state: &mut State<'_>) -> Result<Target, Memory>
     ensures cells { IfOk result (λ t. t.cells.items ≡ []) }
     ensures begun { (m : MachineHeap) (n : ℕ) → IsAt state.old m → IfOk result (λ t. IsBegun (target_of t) state.new (claimed (is_small_shape shape.now) None (size shape.now) (count_phase (not (is_small_shape shape.now)) n m))) }
     ensures frames { OnOk result (state.new.frames ≡ state.old.frames) }
+    ensures lender { lender_of state.new.heap ≡ lender_of state.old.heap }
 {
     count(state, !is_small(shape));
     let mut target = claim(context.alloc, &mut state.heap, shape)?;
@@ -65,10 +66,11 @@ pub fn finish(
     target: Target,
     base: Base,
     shape: &Shape,
-    state: &mut State,
+    state: &mut State<'_>,
 ) -> Result<RunValue, Stop>
     ensures told { (m : MachineHeap) → IsAt state.old m → Told IsValue result state.new (settled (target_of target) (record { base = base; shape = shape.now; cells = target.cells.items }) m) }
     ensures frames { OnOk result (state.new.frames ≡ state.old.frames) }
+    ensures lender { lender_of state.new.heap ≡ lender_of state.old.heap }
 {
     Ok(settle(&mut state.heap, target, base, shape)?)
 }
@@ -87,7 +89,7 @@ pub fn formed(answer: Result<RunValue, Stop>, form: &Form, site: Site) -> Result
 }
 
 /// Appends the cells of a value.
-pub fn append(heap: &Heap, value: &RunValue, cells: &mut Vec<Cell>) -> Result<(), Memory>
+pub fn append(heap: &Store<'_>, value: &RunValue, cells: &mut Vec<Cell>) -> Result<(), Memory>
     ensures { (m : MachineHeap) → Stands heap.now m → OnOk result (cells.new.items ≡ cells.old.items ++ (read m (value_of value.now)).cells) }
 {
     match value {
@@ -125,13 +127,14 @@ fn append_background(
 
 /// Appends the cell at a place and releases it, or what stands there.
 pub fn put_cell(
-    heap: &mut Heap,
+    heap: &mut Store<'_>,
     value: Option<RunValue>,
     background: &Background<'_>,
     place: usize,
     cells: &mut Vec<Cell>,
 ) -> Result<(), Memory>
-    ensures { (m : MachineHeap) → Stands heap.old m → OnOk result ((cells.new.items ≡ cells.old.items ++ cell_from background.now.old background.now.array.now background.now.size place (option_map (read m) (option_map value_of value))) × Stands heap.new (release_rest (option_map value_of value) m)) }
+    ensures put { (m : MachineHeap) → Stands heap.old m → OnOk result ((cells.new.items ≡ cells.old.items ++ cell_from background.now.old background.now.array.now background.now.size place (option_map (read m) (option_map value_of value))) × Stands heap.new (release_rest (option_map value_of value) m)) }
+    ensures lender { lender_of heap.new ≡ lender_of heap.old }
 {
     match value {
         Some(value) => {
@@ -144,11 +147,12 @@ pub fn put_cell(
 
 /// Appends a cell and releases it, if there is one.
 pub fn join_cell(
-    heap: &mut Heap,
+    heap: &mut Store<'_>,
     value: Option<RunValue>,
     cells: &mut Vec<Cell>,
 ) -> Result<(), Memory>
-    ensures { (m : MachineHeap) → Stands heap.old m → OnOk result ((cells.new.items ≡ cells.old.items ++ elements_of (option_map (read m) (option_map value_of value))) × Stands heap.new (release_rest (option_map value_of value) m)) }
+    ensures joined { (m : MachineHeap) → Stands heap.old m → OnOk result ((cells.new.items ≡ cells.old.items ++ elements_of (option_map (read m) (option_map value_of value))) × Stands heap.new (release_rest (option_map value_of value) m)) }
+    ensures lender { lender_of heap.new ≡ lender_of heap.old }
 {
     match value {
         Some(value) => {

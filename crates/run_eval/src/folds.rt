@@ -5,16 +5,15 @@ ghost use Rattle.counted_code.specs.Loops.{claim as claimed, count_phase, settle
 ghost use Rattle.counted_code.specs.Values.{Heap as MachineHeap, Small, is_small as is_small_shape, read};
 ghost use Rattle.run_eval.specs.Loops.{IsBegun, array_of, fold_target};
 ghost use Rattle.run_eval.specs.Running.{IsAt, IsValue, Told};
-ghost use Rattle.run_heap.specs.Stands.{Stands};
-ghost use Rattle.run_heap.specs.Targets.{target_of};
+ghost use Rattle.run_store.specs.Stands.{Stands, lender_of};
+ghost use Rattle.run_store.specs.Targets.{target_of};
 ghost use Rattle.run_values.specs.Shown.{value_of};
 ghost use Rattle.sac_base.specs.Arrays.{scalar, size};
 ghost use Rattle.sac_base.specs.WithLoops.{combined};
 
 use crate::cells::{count, finish};
 use crate::state::{Context, State};
-use buffer_heap::Heap;
-use run_heap::{Target, claim, is_small, read_array, release};
+use run_store::{Store, Target, claim, is_small, read_array, release};
 use run_values::{RunValue, small_value};
 use sac_base::{Array, Base, Memory, Op, Shape, apply2, result_base};
 use std::alloc::Global;
@@ -41,10 +40,11 @@ pub fn start(neutral: Array) -> Sum
 pub fn begin_fold(
     shape: &Shape,
     context: &Context<'_>,
-    state: &mut State,
+    state: &mut State<'_>,
 ) -> Result<Option<Target>, Memory>
     ensures begun { (m : MachineHeap) (n : ℕ) → IsAt state.old m → IfOk result (λ t. IsBegun (fold_target t) state.new (claimed (is_small_shape shape.now) None (size shape.now) (count_phase true n m))) }
     ensures frames { OnOk result (state.new.frames ≡ state.old.frames) }
+    ensures lender { lender_of state.new.heap ≡ lender_of state.old.heap }
 {
     count(state, true);
     if is_small(shape) {
@@ -57,12 +57,13 @@ pub fn begin_fold(
 /// A cell more, which is released.
 pub fn add_cell(
     alloc: Global,
-    heap: &mut Heap,
+    heap: &mut Store<'_>,
     op: Op,
     sum: Sum,
     value: Option<RunValue>,
 ) -> Result<Sum, Memory>
-    ensures { (m : MachineHeap) → Stands heap.old m → IfOk result (λ s. (array_of s ≡ combined op (array_of sum) (option_map (read m) (option_map value_of value))) × Stands heap.new (release_rest (option_map value_of value) m)) }
+    ensures added { (m : MachineHeap) → Stands heap.old m → IfOk result (λ s. (array_of s ≡ combined op (array_of sum) (option_map (read m) (option_map value_of value))) × Stands heap.new (release_rest (option_map value_of value) m)) }
+    ensures lender { lender_of heap.new ≡ lender_of heap.old }
 {
     match value {
         Some(value) => {
@@ -74,7 +75,13 @@ pub fn add_cell(
     }
 }
 
-fn sum_with(alloc: Global, heap: &Heap, op: Op, sum: Sum, value: RunValue) -> Result<Sum, Memory>
+fn sum_with(
+    alloc: Global,
+    heap: &Store<'_>,
+    op: Op,
+    sum: Sum,
+    value: RunValue,
+) -> Result<Sum, Memory>
     ensures { (m : MachineHeap) → Stands heap.now m → IfOk result (λ s. array_of s ≡ combined op (array_of sum) (Some (read m (value_of value)))) }
 {
     match sum {
@@ -103,9 +110,14 @@ fn word_with(op: Op, base: Base, n: i32, m: i32) -> Sum
 }
 
 /// The finished result.
-pub fn finish_fold(sum: Sum, target: Option<Target>, state: &mut State) -> Result<RunValue, Stop>
+pub fn finish_fold(
+    sum: Sum,
+    target: Option<Target>,
+    state: &mut State<'_>,
+) -> Result<RunValue, Stop>
     ensures told { (m : MachineHeap) → IsAt state.old m → Told IsValue result state.new (settled (fold_target target) (array_of sum) m) }
     ensures frames { OnOk result (state.new.frames ≡ state.old.frames) }
+    ensures lender { lender_of state.new.heap ≡ lender_of state.old.heap }
 {
     match target {
         None => match small_result(sum) {
@@ -126,9 +138,10 @@ fn small_result(sum: Sum) -> Option<RunValue>
     }
 }
 
-fn finish_whole(sum: Sum, target: Target, state: &mut State) -> Result<RunValue, Stop>
+fn finish_whole(sum: Sum, target: Target, state: &mut State<'_>) -> Result<RunValue, Stop>
     ensures told { (m : MachineHeap) → IsAt state.old m → Told IsValue result state.new (settled (target_of target) (array_of sum) m) }
     ensures frames { OnOk result (state.new.frames ≡ state.old.frames) }
+    ensures lender { lender_of state.new.heap ≡ lender_of state.old.heap }
 {
     match sum {
         Sum::Word(_, _) => Err(Stop::Memory),

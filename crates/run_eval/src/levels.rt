@@ -40,7 +40,7 @@ pub fn deeper<'a>(
             return Err(fault(FaultKind::F10, site));
         }
         inner.left = context.left - 1;
-        inner.nest = context.code.functions.len() as u64;
+        inner.nest = context.code.get().functions.len() as u64;
     }
     Ok(inner)
 }

@@ -1,17 +1,25 @@
 //! The evaluator of counted code: it runs a program on a heap of buffers with counted references.
 #![tactic(auto)]
 
+mod array_loops;
 mod bindings;
 mod blocks;
 mod bounds;
 mod cells;
 mod folds;
 mod holders;
+mod in_order;
 mod levels;
+mod phases;
 mod program;
 mod state;
 mod trace;
 
-pub use program::{Plan, run};
+pub use in_order::{
+    array_in_order, cell_of_gens, cell_of_parts, fold_in_order, fold_parts_in_order, parts_in_order,
+};
+pub use phases::{Never, Outside, Phases};
+pub use program::{Plan, run, run_with_phases};
+pub use state::{Context, CountedCode, State};
 pub use trace::Trace;
 pub use with_loops::Stop;

@@ -5,18 +5,19 @@ ghost use Rattle.counted_code.specs.Counts.{IsWellCounted, IsUnmarked};
 ghost use Rattle.counted_code.specs.Outcome.{copied_out, cost_of, outcome_of, whole_run};
 ghost use Rattle.counted_code.specs.Values.{Heap as MachineHeap, place_all as all_placed, read, release_all as all_released};
 ghost use Rattle.counted_code.specs.View.{code_program};
-ghost use Rattle.run_eval.specs.Outcomes.{new_heap, main_in, AreArrays, ArePlaced, IsCleared, HasCounters, KeepsChanges, TellsCost};
+ghost use Rattle.run_eval.specs.Outcomes.{new_heap, main_in, AreArrays, ArePlaced, IsCleared, HasCounters, KeepsChanges, TellsCost, TellsTally};
 ghost use Rattle.run_eval.specs.Running.{IsAt, Told};
-ghost use Rattle.run_heap.specs.Stands.{Stands};
+ghost use Rattle.run_store.specs.Stands.{Stands, lender_of};
 ghost use Rattle.run_values.specs.Shown.{value_of};
 ghost use Rattle.with_loops.specs.Tells.{TellsItems};
 
 use crate::blocks::run_function;
-use crate::state::{Context, State};
+use crate::phases::{Never, Outside, Phases};
+use crate::state::{Context, CountedCode, State};
 use crate::trace::Trace;
 use buffer_heap::Heap;
 use counted_code::Code;
-use run_heap::{place_own, read_array, release};
+use run_store::{Store, place_own, read_array, release};
 use run_types::all_fit;
 use run_values::{Frames, RunValue};
 use sac_base::{Array, Caps, FaultKind, Memory, Site};
@@ -51,33 +52,86 @@ pub fn run<R: Threads + Sync>(
     ensures outcome { TellsItems result (outcome_of (whole_run (code_program code.now) args.items plan.caps)) }
     ensures cleared { IsCleared heap.new }
     ensures cost { TellsCost result trace.new (cost_of (whole_run (code_program code.now) args.items plan.caps)) }
+    ensures tally { TellsTally result trace.old.tally trace.new.tally (cost_of (whole_run (code_program code.now) args.items plan.caps)) }
+    ensures counters { HasCounters trace.new heap.new }
+    ensures kept { KeepsChanges trace.old trace.new }
+{
+    run_code::<Never>(alloc, code, args, heap, plan, None, trace)
+}
+
+/// Runs counted code on arguments, and its with-loops outside of cells as they say.
+///
+/// Of the answers the same is told as of those of one thread.
+pub fn run_with_phases<P: Phases + Drop>(
+    alloc: Global,
+    code: &Code,
+    args: Vec<Array>,
+    heap: &mut Heap,
+    plan: Plan,
+    phases: P,
+    trace: &mut Trace,
+) -> Result<Vec<Array>, Stop>
+    requires runs { P.runs phases }
+    requires counted { IsWellCounted (code_program code.now) }
+    requires unmarked { IsUnmarked (code_program code.now) }
+    requires new { heap.old ≡ new_heap }
+    ensures outcome { TellsItems result (outcome_of (whole_run (code_program code.now) args.items plan.caps)) }
+    ensures cleared { IsCleared heap.new }
+    ensures cost { TellsCost result trace.new (cost_of (whole_run (code_program code.now) args.items plan.caps)) }
+    ensures tally { TellsTally result trace.old.tally trace.new.tally (cost_of (whole_run (code_program code.now) args.items plan.caps)) }
+    ensures counters { HasCounters trace.new heap.new }
+    ensures kept { KeepsChanges trace.old trace.new }
+{
+    let outside = Outside::of(phases);
+    run_code(alloc, code, args, heap, plan, Some(&outside), trace)
+}
+
+// Runs counted code on arguments.
+fn run_code<P: Phases>(
+    alloc: Global,
+    code: &Code,
+    args: Vec<Array>,
+    heap: &mut Heap,
+    plan: Plan,
+    outside: Option<&Outside<P>>,
+    trace: &mut Trace,
+) -> Result<Vec<Array>, Stop>
+    requires counted { IsWellCounted (code_program code.now) }
+    requires unmarked { IsUnmarked (code_program code.now) }
+    requires new { heap.old ≡ new_heap }
+    ensures outcome { TellsItems result (outcome_of (whole_run (code_program code.now) args.items plan.caps)) }
+    ensures cleared { IsCleared heap.new }
+    ensures cost { TellsCost result trace.new (cost_of (whole_run (code_program code.now) args.items plan.caps)) }
+    ensures tally { TellsTally result trace.old.tally trace.new.tally (cost_of (whole_run (code_program code.now) args.items plan.caps)) }
     ensures counters { HasCounters trace.new heap.new }
     ensures kept { KeepsChanges trace.old trace.new }
 {
     let mut state = State {
         frames: Frames::new(alloc),
-        heap: mem::replace(heap, Heap::new(alloc)),
+        heap: Store::of(mem::replace(heap, Heap::new(alloc))),
         phases: 0,
     };
+    let counted = CountedCode::of(code);
     let context = Context {
         alloc,
-        code,
+        code: &counted,
         turns: plan.caps.turns,
         left: plan.caps.depth,
         nest: code.functions.len() as u64,
     };
-    let answer = run_main(args, &context, &mut state);
+    let answer = run_main(args, &context, outside, &mut state);
     let State {
         frames: _,
         heap: used,
         phases,
     } = state;
-    *heap = used;
+    *heap = used.own;
     heap.clear();
     trace.taken = heap.taken();
     trace.given = heap.given();
     trace.reused = heap.reused();
     trace.phases = phases;
+    trace.tally.raise(phases, 0);
     answer
 }
 
@@ -85,10 +139,16 @@ pub fn run<R: Threads + Sync>(
 const START: Site = Site { line: 1, col: 1 };
 
 // Runs the main function on arguments.
-fn run_main(args: Vec<Array>, context: &Context<'_>, state: &mut State) -> Result<Vec<Array>, Stop>
-    ensures { (m : MachineHeap) → IsAt state.old m → Told AreArrays result state.new (main_in context.now args.items m) }
+fn run_main<P: Phases>(
+    args: Vec<Array>,
+    context: &Context<'_>,
+    outside: Option<&Outside<P>>,
+    state: &mut State<'_>,
+) -> Result<Vec<Array>, Stop>
+    ensures told { (m : MachineHeap) → IsAt state.old m → Told AreArrays result state.new (main_in context.now args.items m) }
+    ensures lender { lender_of state.new.heap ≡ lender_of state.old.heap }
 {
-    let code = context.code;
+    let code = context.code.get();
     let Some(main) = code.functions.get(code.main as usize) else {
         return Err(fault(FaultKind::F7, START));
     };
@@ -97,13 +157,18 @@ fn run_main(args: Vec<Array>, context: &Context<'_>, state: &mut State) -> Resul
         return Err(fault(FaultKind::F7, main.site));
     }
     let mut values = Vec::new(context.alloc);
-    run_function(main, &placed, context, state, &mut values)?;
+    run_function(main, &placed, context, outside, state, &mut values)?;
     copy_out(&values, context, state)
 }
 
 // Places arrays.
-fn place_all(alloc: Global, heap: &mut Heap, arrays: Vec<Array>) -> Result<Vec<RunValue>, Memory>
-    ensures { (m : MachineHeap) → Stands heap.old m → IfOk result (λ v. ArePlaced v.items heap.new (all_placed arrays.items m)) }
+fn place_all(
+    alloc: Global,
+    heap: &mut Store<'_>,
+    arrays: Vec<Array>,
+) -> Result<Vec<RunValue>, Memory>
+    ensures placed { (m : MachineHeap) → Stands heap.old m → IfOk result (λ v. ArePlaced v.items heap.new (all_placed arrays.items m)) }
+    ensures lender { lender_of heap.new ≡ lender_of heap.old }
 {
     let mut values = Vec::new(alloc);
     for array in arrays {
@@ -116,16 +181,17 @@ fn place_all(alloc: Global, heap: &mut Heap, arrays: Vec<Array>) -> Result<Vec<R
 fn copy_out(
     values: &[RunValue],
     context: &Context<'_>,
-    state: &mut State,
+    state: &mut State<'_>,
 ) -> Result<Vec<Array>, Stop>
-    ensures { (m : MachineHeap) → IsAt state.old m → Told AreArrays result state.new (copied_out (map value_of values.now) m) }
+    ensures told { (m : MachineHeap) → IsAt state.old m → Told AreArrays result state.new (copied_out (map value_of values.now) m) }
+    ensures lender { lender_of state.new.heap ≡ lender_of state.old.heap }
 {
     let arrays = read_all(context.alloc, &state.heap, values)?;
     release_all(&mut state.heap, values)?;
     Ok(arrays)
 }
 
-fn read_all(alloc: Global, heap: &Heap, values: &[RunValue]) -> Result<Vec<Array>, Memory>
+fn read_all(alloc: Global, heap: &Store<'_>, values: &[RunValue]) -> Result<Vec<Array>, Memory>
     ensures { (m : MachineHeap) → Stands heap.now m → IfOk result (λ v. v.items ≡ map (read m) (map value_of values.now)) }
 {
     let mut arrays = Vec::new(alloc);
@@ -135,8 +201,9 @@ fn read_all(alloc: Global, heap: &Heap, values: &[RunValue]) -> Result<Vec<Array
     Ok(arrays)
 }
 
-fn release_all(heap: &mut Heap, values: &[RunValue]) -> Result<(), Memory>
-    ensures { (m : MachineHeap) → Stands heap.old m → OnOk result (Stands heap.new (all_released (map value_of values.now) m)) }
+fn release_all(heap: &mut Store<'_>, values: &[RunValue]) -> Result<(), Memory>
+    ensures released { (m : MachineHeap) → Stands heap.old m → OnOk result (Stands heap.new (all_released (map value_of values.now) m)) }
+    ensures lender { lender_of heap.new ≡ lender_of heap.old }
 {
     for value in values {
         release(heap, *value)?;

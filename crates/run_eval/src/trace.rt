@@ -2,6 +2,7 @@
 
 ghost use Rattle.std.specs.Prelude.{◌≡◌, None};
 
+use count_table::Tally;
 use counted_code::Code;
 
 /// The code that ran and what its passes changed, and what the run cost, each number modulo 2^64.
@@ -20,12 +21,14 @@ pub struct Trace {
     pub reused: u64,
     /// The with-loops outside every cell that passed their checks and are folds or have a buffer as result.
     pub phases: u64,
+    /// The phases of all runs, added up.
+    pub tally: Tally,
 }
 
 impl Trace {
     /// No code, and all numbers 0.
     pub fn new() -> Trace
-        ensures { result ≡ record { code = None; folded = 0; scalarised = 0; taken = 0; given = 0; reused = 0; phases = 0 } }
+        ensures { result ≡ record { code = None; folded = 0; scalarised = 0; taken = 0; given = 0; reused = 0; phases = 0; tally = record { phases = 0; draws = 0 } } }
     {
         Trace {
             code: None,
@@ -35,6 +38,7 @@ impl Trace {
             given: 0,
             reused: 0,
             phases: 0,
+            tally: Tally::new(),
         }
     }
 }

@@ -2,7 +2,7 @@ use Rattle.std.proofs.Common.{◌≡◌, map, take}
 use Rattle.counted_code.specs.declared.tree.CodeGen.{CodeGen}
 use Rattle.counted_code.specs.Machine.{bounds_of, reads}
 use Rattle.counted_code.specs.Values.{Heap}
-use Rattle.run_heap.specs.Stands.{Stands}
+use Rattle.run_store.specs.Stands.{Stands}
 use Rattle.run_values.specs.Scopes.{current}
 use Rattle.run_eval.specs.Running.{gen_head}
 use Rattle.run_eval.proofs.bounds.all_bounds.Given as goal

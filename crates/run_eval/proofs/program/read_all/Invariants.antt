@@ -1,6 +1,6 @@
 use Rattle.std.proofs.Common.{◌≡◌, map, take}
 use Rattle.counted_code.specs.Values.{Heap, read}
-use Rattle.run_heap.specs.Stands.{Stands}
+use Rattle.run_store.specs.Stands.{Stands}
 use Rattle.run_values.specs.Shown.{value_of}
 use Rattle.run_eval.proofs.program.read_all.Given as goal
 

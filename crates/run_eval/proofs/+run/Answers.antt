@@ -20,7 +20,7 @@ use Rattle.run_values.specs.Shown.{value_of}
 use Rattle.run_eval.specs.declared.state.State.{State}
 use Rattle.run_eval.specs.Running.{calls_in, does_in, right_in, turn_in, test_in, truth_of, Told, ToldStop, ToldSteps, IsValue, IsFirst, IsOnly, Appends, SameScopes, SameOuter, EndsScope, Reaches, SaysTruth, vars_of, array_job, fold_job, fold_parts_job, formed, gen_head, parts_job, cells_in}
 use Rattle.run_eval.proofs.Binding.{let_goes, let_stops, one_target, keep_goes, release_goes}
-use Rattle.run_eval.proofs.CallSteps.{none_chosen, call_runs, call_stops, function_at, results_fit, results_unfit, alone, no_place}
+use Rattle.run_eval.proofs.CallSteps.{none_chosen, call_runs, call_stops, chosen_same, function_at, place_same, within_same, results_fit, results_unfit, alone, no_place}
 use Rattle.run_eval.proofs.Measures.{falls, body_below, body_size, steps_size, gens_size, parts_size}
 use Rattle.run_plain.proofs.Rest.{plain_rest}
 use Rattle.run_plain.proofs.Rights.{right_told}
@@ -28,7 +28,7 @@ use Rattle.run_eval.proofs.Sizes.{if_first, if_second, loop_blocks, with_below, 
 use Rattle.run_eval.proofs.Steps.{moved, given, tell, stop_then, raised, first_told, only_first, next_step, last_step, results_given, block_stops, on_ok, appended, handed, no_scopes, plain_scopes, plain_given, plain_failed}
 use Rattle.run_eval.proofs.Trees.{if_term, loop_term}
 use Rattle.run_eval.proofs.Turns.{condition_goes, condition_stops, test_ends, test_stops, turned_stops, turned_ends, turned_over, turned_goes, tested_stops, tested_turned}
-use Rattle.run_eval.proofs.blocks.+run.Goals as goal
+use Rattle.run_eval.proofs.+run.Goals as goal
 use Rattle.core_ir.specs.Meaning.{elements_of, operation}
 use Rattle.sac_base.specs.declared.base.Base.TheVariants.{Int}
 use Rattle.sac_base.specs.Arrays.{scalar, vector}
@@ -40,7 +40,7 @@ use Rattle.run_eval.specs.Loops.{IsPresent, array_of, cells_run, fold_target, he
 use Rattle.counted_code.specs.Loops.{job_does, settled, loop_does, parted_job}
 use Rattle.with_loops.specs.Cells.{cells_from}
 use Rattle.with_loops.specs.Plans.{plan_of}
-use Rattle.run_heap.specs.Targets.{target_of}
+use Rattle.run_store.specs.Targets.{target_of}
 use Rattle.run_eval.proofs.CellJobs.{fold_nothing, target_nothing}
 use Rattle.run_eval.proofs.CellLoops.{array_stops, array_tells, filled_all, fold_stops, fold_tells, joined_all, loop_end, loop_step, loop_stop, part_fold_stops, part_fold_tells, parts_stop, parts_tell}
 use Rattle.run_eval.proofs.CellMakings.{filled_more, filling, folded_more, folding, joined_more, joining}
@@ -49,11 +49,11 @@ use Rattle.run_eval.proofs.CellScopes.{cell_scopes, cell_tells, scopes_after, sc
 use Rattle.run_eval.proofs.CellTold.{present_told}
 use Rattle.run_eval.proofs.WithHolders.{held_below, part_held_below}
 
-pub run_steps-run_step-requires : goal.run_steps-run_step-requires
-run_steps-run_step-requires t c = omega (arith, c.decreases, step_below c.args.steps.now c.loop-step.step-index c.step-item.result c.loop-step-test.true, ap size-CodeStep c.step-item.is)
+pub blocks::run_steps-run_step-requires : goal.blocks::run_steps-run_step-requires
+blocks::run_steps-run_step-requires g t c κs p = (omega (arith, c.decreases, step_below c.args.steps.now c.loop-step.step-index c.step-item.result c.loop-step-test.true, ap size-CodeStep c.step-item.is), p)
 
-pub run_steps-loop-step-preserved : goal.run_steps-loop-step-preserved
-run_steps-loop-step-preserved t c =
+pub blocks::run_steps-loop-step-preserved : goal.blocks::run_steps-loop-step-preserved
+blocks::run_steps-loop-step-preserved g t c =
     let ctx = c.args.context.now in
     let steps = c.args.steps.now in
     let s = c.args.state.now in
@@ -66,10 +66,11 @@ run_steps-loop-step-preserved t c =
           let here = subst (λ left. Reaches ctx steps s m left st) split (c.loop-step.invariant.told m at) in
           next_step ctx steps s m item (drop (k + 1) steps) st c.run_step.new.state here (c.in_ok-run_step.ensures.told here.heap here.stands);
       scopes = c.in_ok-run_step.ensures.scopes ∙ c.loop-step.invariant.scopes;
+      lender = c.in_ok-run_step.ensures.lender ∙ c.loop-step.invariant.lender;
     }
 
-pub run_steps-returns-in_err-run_step : goal.run_steps-returns-in_err-run_step
-run_steps-returns-in_err-run_step t c =
+pub blocks::run_steps-returns-in_err-run_step : goal.blocks::run_steps-returns-in_err-run_step
+blocks::run_steps-returns-in_err-run_step g t c =
     let ctx = c.args.context.now in
     let steps = c.args.steps.now in
     let s = c.args.state.now in
@@ -84,60 +85,65 @@ run_steps-returns-in_err-run_step t c =
           let here = subst (λ left. Reaches ctx steps s m left st) split (c.loop-step.invariant.told m at) in
           subst (λ r. ToldSteps ctx steps s c.run_step.new.state m r) (sym is) (last_step ctx steps s m item (drop (k + 1) steps) st c.run_step.new.state here stop (c.in_err-run_step.ensures.told here.heap here.stands));
       scopes = no_scopes (SameOuter s.frames c.run_step.new.state.frames) c.from_residual.result stop is;
+      lender = c.in_err-run_step.ensures.lender ∙ c.loop-step.invariant.lender;
     }
 
-pub run_steps-returns : goal.run_steps-returns
-run_steps-returns t c =
+pub blocks::run_steps-returns : goal.blocks::run_steps-returns
+blocks::run_steps-returns g t c =
     let ctx = c.args.context.now in
     let steps = c.args.steps.now in
     let s = c.args.state.now in
     record {
       told = λ m at. subst (λ left. Reaches ctx steps s m left c.loop-step.state) (drop_all c.loop-step.step-index steps (omega (arith, c.loop-step-test.false))) (c.loop-step.invariant.told m at);
       scopes = c.loop-step.invariant.scopes;
+      lender = c.loop-step.invariant.lender;
     }
 
-pub run_step-run_let-requires : goal.run_step-run_let-requires
-run_step-run_let-requires t c = omega (arith, c.decreases, let_below c.args.step.now c.in-Bind.binding c.in-Bind.is)
+pub blocks::run_step-run_let-requires : goal.blocks::run_step-run_let-requires
+blocks::run_step-run_let-requires g t c κs p = (omega (arith, c.decreases, let_below c.args.step.now c.in-Bind.binding c.in-Bind.is), p)
 
-pub run_step-returns-in-Bind : goal.run_step-returns-in-Bind
-run_step-returns-in-Bind t c =
+pub blocks::run_step-returns-in-Bind : goal.blocks::run_step-returns-in-Bind
+blocks::run_step-returns-in-Bind g t c =
     let ctx = c.args.context.now in
     let s = c.args.state.now in
     record {
       told = λ m at. subst (λ x. ToldSteps ctx (x ∷ []) s c.run_let.new.state m c.run_let.result) (sym c.in-Bind.is) (c.run_let.ensures.told m at);
       scopes = c.run_let.ensures.scopes;
+      lender = c.run_let.ensures.lender;
     }
 
-pub run_step-returns-in_ok-keep-in-Keep : goal.run_step-returns-in_ok-keep-in-Keep
-run_step-returns-in_ok-keep-in-Keep t c =
+pub blocks::run_step-returns-in_ok-keep-in-Keep : goal.blocks::run_step-returns-in_ok-keep-in-Keep
+blocks::run_step-returns-in_ok-keep-in-Keep g t c =
     let ctx = c.args.context.now in
     let s = c.args.state.now in
     let i = c.in-Keep in
     let new = record s { heap = c.keep.new.heap } in
     record {
-      told = λ m at. subst (λ x. Reaches ctx (x ∷ []) s m [] new) (sym i.is) (keep_goes ctx i.x c.get.result s new m c.get.ensures refl refl at (c.in_ok-keep-in-Keep.ensures m at.heap));
+      told = λ m at. subst (λ x. Reaches ctx (x ∷ []) s m [] new) (sym i.is) (keep_goes ctx i.x c.get.result s new m c.get.ensures refl refl at (c.in_ok-keep-in-Keep.ensures.kept m at.heap));
       scopes = refl;
+      lender = c.in_ok-keep-in-Keep.ensures.lender;
     }
 
-pub run_step-returns-in_ok-release-in-Release : goal.run_step-returns-in_ok-release-in-Release
-run_step-returns-in_ok-release-in-Release t c =
+pub blocks::run_step-returns-in_ok-release-in-Release : goal.blocks::run_step-returns-in_ok-release-in-Release
+blocks::run_step-returns-in_ok-release-in-Release g t c =
     let ctx = c.args.context.now in
     let s = c.args.state.now in
     let i = c.in-Release in
     let new = record s { heap = c.release.new.heap } in
     record {
-      told = λ m at. subst (λ x. Reaches ctx (x ∷ []) s m [] new) (sym i.is) (release_goes ctx i.x c.get-in-Release.result s new m c.get-in-Release.ensures refl refl at (c.in_ok-release-in-Release.ensures m at.heap));
+      told = λ m at. subst (λ x. Reaches ctx (x ∷ []) s m [] new) (sym i.is) (release_goes ctx i.x c.get-in-Release.result s new m c.get-in-Release.ensures refl refl at (c.in_ok-release-in-Release.ensures.released m at.heap));
       scopes = refl;
+      lender = c.in_ok-release-in-Release.ensures.lender;
     }
 
-pub run_let-run_right-requires : goal.run_let-run_right-requires
-run_let-run_right-requires t c = omega (arith, c.decreases, right_below c.args.binding.now)
+pub blocks::run_let-run_right-requires : goal.blocks::run_let-run_right-requires
+blocks::run_let-run_right-requires g t c κs p = (omega (arith, c.decreases, right_below c.args.binding.now), p)
 
-pub run_let-run_rights-requires : goal.run_let-run_rights-requires
-run_let-run_rights-requires t c = omega (arith, c.decreases, right_below c.args.binding.now)
+pub blocks::run_let-run_rights-requires : goal.blocks::run_let-run_rights-requires
+blocks::run_let-run_rights-requires g t c κs p = (omega (arith, c.decreases, right_below c.args.binding.now), p)
 
-pub run_let-returns-in_err-value : goal.run_let-returns-in_err-value
-run_let-returns-in_err-value t c =
+pub blocks::run_let-returns-in_err-value : goal.blocks::run_let-returns-in_err-value
+blocks::run_let-returns-in_err-value g t c =
     let ctx = c.args.context.now in
     let s = c.args.state.now in
     let b = c.args.binding.now in
@@ -147,10 +153,11 @@ run_let-returns-in_err-value t c =
     record {
       told = λ m at. subst (λ r. ToldSteps ctx (step.Bind b ∷ []) s st m r) (sym is) (let_stops ctx b s m stop st (c.in_err-value.ensures.told m at));
       scopes = no_scopes (SameOuter s.frames st.frames) c.from_residual.result stop is;
+      lender = c.in_err-value.ensures.lender;
     }
 
-pub run_let-returns-then-len-eq1 : goal.run_let-returns-then-len-eq1
-run_let-returns-then-len-eq1 t c =
+pub blocks::run_let-returns-then-len-eq1 : goal.blocks::run_let-returns-then-len-eq1
+blocks::run_let-returns-then-len-eq1 g t c =
     let ctx = c.args.context.now in
     let s = c.args.state.now in
     let b = c.args.binding.now in
@@ -166,10 +173,11 @@ run_let-returns-then-len-eq1 t c =
           (c.in_ok-bind.ensures.current ∙ ap (λ e. bind_value e x v) scopes'.0 ∙ one_target (current s.frames) b.targets.items x g.value v (omega (arith, c.if-len-eq1.true, c.len.ensures)) c.index.ensures g.agrees)
           (moved mid new g.heap refl refl g.stands);
       scopes = c.in_ok-bind.ensures.outer ∙ scopes'.1;
+      lender = c.in_ok-value.ensures.lender;
     }
 
-pub run_let-returns-in_err-run_rights : goal.run_let-returns-in_err-run_rights
-run_let-returns-in_err-run_rights t c =
+pub blocks::run_let-returns-in_err-run_rights : goal.blocks::run_let-returns-in_err-run_rights
+blocks::run_let-returns-in_err-run_rights g t c =
     let ctx = c.args.context.now in
     let s = c.args.state.now in
     let b = c.args.binding.now in
@@ -179,16 +187,17 @@ run_let-returns-in_err-run_rights t c =
     record {
       told = λ m at. subst (λ r. ToldSteps ctx (step.Bind b ∷ []) s st m r) (sym is) (let_stops ctx b s m stop st (c.in_err-run_rights.ensures.told m at));
       scopes = no_scopes (SameOuter s.frames st.frames) c.from_residual-in_err-run_rights.result stop is;
+      lender = c.in_err-run_rights.ensures.lender;
     }
 
-pub run_let-returns : goal.run_let-returns
-run_let-returns t c =
+pub blocks::run_let-returns : goal.blocks::run_let-returns
+blocks::run_let-returns g t c =
     let ctx = c.args.context.now in
     let s = c.args.state.now in
     let b = c.args.binding.now in
     let mid = c.run_rights.new.state in
     let vs = c.run_rights.new.values in
-    let bound = c.in_ok-bind_all.ensures in
+    let bound = c.in_ok-bind_all.ensures.bound in
     let scopes' = c.in_ok-run_rights.ensures.scopes in
     record {
       told = λ m at.
@@ -198,13 +207,14 @@ run_let-returns t c =
           (bound.inside ∙ (λ i. bind_values (scopes'.0 i) (c.deref.ensures.value i) ((ap (map value_of) c.deref-2.ensures.value ∙ own) i)))
           (moved mid c.bind_all.new.state g.heap bound.heap bound.phases g.stands);
       scopes = bound.outside ∙ scopes'.1;
+      lender = c.in_ok-bind_all.ensures.lender ∙ c.in_ok-run_rights.ensures.lender;
     }
 
-pub run_open-run_steps-requires : goal.run_open-run_steps-requires
-run_open-run_steps-requires t c = omega (arith, c.decreases, steps_below c.args.block.now, ap steps_size c.deref.ensures.value)
+pub blocks::run_open-run_steps-requires : goal.blocks::run_open-run_steps-requires
+blocks::run_open-run_steps-requires g t c κs p = (omega (arith, c.decreases, steps_below c.args.block.now, ap steps_size c.deref.ensures.value), p)
 
-pub run_open-returns-in_err-run_steps : goal.run_open-returns-in_err-run_steps
-run_open-returns-in_err-run_steps t c =
+pub blocks::run_open-returns-in_err-run_steps : goal.blocks::run_open-returns-in_err-run_steps
+blocks::run_open-returns-in_err-run_steps g t c =
     let ctx = c.args.context.now in
     let s = c.args.state.now in
     let b = c.args.block.now in
@@ -216,10 +226,11 @@ run_open-returns-in_err-run_steps t c =
           handed (λ (_ : Unit {0}) ws. Appends c.args.values.now.items c.args.values.now.items ws) c.from_residual.result stop st (does_in ctx (code_term b) (current s.frames) m) is
           (block_stops ctx b.steps.items s m stop b.results.items st (subst (λ ss. ToldSteps ctx ss s st m (Err stop)) c.deref.ensures.value (c.in_err-run_steps.ensures.told m at)));
       scopes = no_scopes (EndsScope s.frames st.frames) c.from_residual.result stop is;
+      lender = c.in_err-run_steps.ensures.lender;
     }
 
-pub run_open-returns : goal.run_open-returns
-run_open-returns t c =
+pub blocks::run_open-returns : goal.blocks::run_open-returns
+blocks::run_open-returns g t c =
     let ctx = c.args.context.now in
     let s = c.args.state.now in
     let b = c.args.block.now in
@@ -235,13 +246,14 @@ run_open-returns t c =
           (c.in_ok-push_values.ensures ∙ ap (λ xs. map value_of old ++ map (current mid.frames) xs) c.deref-2.ensures.value)
           (moved mid new here.heap refl refl here.stands);
       scopes = λ e es h. c.leave.ensures e es (c.in_ok-run_steps.ensures.scopes ∙ h);
+      lender = c.in_ok-run_steps.ensures.lender;
     }
 
-pub run_block-run_open-requires : goal.run_block-run_open-requires
-run_block-run_open-requires t c = omega (arith, c.decreases)
+pub blocks::run_block-run_open-requires : goal.blocks::run_block-run_open-requires
+blocks::run_block-run_open-requires g t c κs p = (omega (arith, c.decreases), p)
 
-pub run_block-returns : goal.run_block-returns
-run_block-returns t c =
+pub blocks::run_block-returns : goal.blocks::run_block-returns
+blocks::run_block-returns g t c =
     let ctx = c.args.context.now in
     let s = c.args.state.now in
     let b = c.args.block.now in
@@ -251,13 +263,14 @@ run_block-returns t c =
     record {
       told = λ m at. subst (λ e. Told (λ (_ : Unit {0}) ws. Appends old vs ws) c.run_open.result c.run_open.new.state (does_in ctx (code_term b) e m)) c.in_ok-enter.ensures.current (c.run_open.ensures.told m (moved s mid m refl refl at));
       scopes = on_ok c.run_open.result (λ (ends : EndsScope mid.frames c.run_open.new.state.frames). ends (current s.frames) (outer s.frames) c.in_ok-enter.ensures.outer) c.run_open.ensures.scopes;
+      lender = c.run_open.ensures.lender;
     }
 
-pub run_first-run_steps-requires : goal.run_first-run_steps-requires
-run_first-run_steps-requires t c = omega (arith, c.decreases, steps_below c.args.block.now, ap steps_size c.deref.ensures.value)
+pub blocks::run_first-run_steps-requires : goal.blocks::run_first-run_steps-requires
+blocks::run_first-run_steps-requires g t c κs p = (omega (arith, c.decreases, steps_below c.args.block.now, ap steps_size c.deref.ensures.value), p)
 
-pub run_first-returns-in_err-run_steps : goal.run_first-returns-in_err-run_steps
-run_first-returns-in_err-run_steps t c =
+pub blocks::run_first-returns-in_err-run_steps : goal.blocks::run_first-returns-in_err-run_steps
+blocks::run_first-returns-in_err-run_steps g t c =
     let ctx = c.args.context.now in
     let s = c.args.state.now in
     let b = c.args.block.now in
@@ -269,10 +282,11 @@ run_first-returns-in_err-run_steps t c =
           handed IsValue c.from_residual.result stop st (first_value (does_in ctx (code_term b) (current s.frames)) m) is
           (stop_then stop st (does_in ctx (code_term b) (current s.frames) m) (λ vs. give (first_of vs)) (block_stops ctx b.steps.items s m stop b.results.items st (subst (λ ss. ToldSteps ctx ss s st m (Err stop)) c.deref.ensures.value (c.in_err-run_steps.ensures.told m at))));
       scopes = no_scopes (EndsScope s.frames st.frames) c.from_residual.result stop is;
+      lender = c.in_err-run_steps.ensures.lender;
     }
 
-pub run_first-returns : goal.run_first-returns
-run_first-returns t c =
+pub blocks::run_first-returns : goal.blocks::run_first-returns
+blocks::run_first-returns g t c =
     let ctx = c.args.context.now in
     let s = c.args.state.now in
     let b = c.args.block.now in
@@ -286,13 +300,14 @@ run_first-returns t c =
           (c.first_of-value.ensures ∙ ap (λ xs. first_of (map (current mid.frames) xs)) c.deref-2.ensures.value)
           (moved mid new here.heap refl refl here.stands);
       scopes = λ e es h. c.leave.ensures e es (c.in_ok-run_steps.ensures.scopes ∙ h);
+      lender = c.in_ok-run_steps.ensures.lender;
     }
 
-pub run_inner-run_first-requires : goal.run_inner-run_first-requires
-run_inner-run_first-requires t c = omega (arith, c.decreases)
+pub blocks::run_inner-run_first-requires : goal.blocks::run_inner-run_first-requires
+blocks::run_inner-run_first-requires g t c κs p = (omega (arith, c.decreases), p)
 
-pub run_inner-returns : goal.run_inner-returns
-run_inner-returns t c =
+pub blocks::run_inner-returns : goal.blocks::run_inner-returns
+blocks::run_inner-returns g t c =
     let ctx = c.args.context.now in
     let s = c.args.state.now in
     let b = c.args.block.now in
@@ -300,24 +315,25 @@ run_inner-returns t c =
     record {
       told = λ m at. subst (λ e. Told IsValue c.run_first.result c.run_first.new.state (first_value (does_in ctx (code_term b) e) m)) c.in_ok-enter.ensures.current (c.run_first.ensures.told m (moved s mid m refl refl at));
       scopes = on_ok c.run_first.result (λ (ends : EndsScope mid.frames c.run_first.new.state.frames). ends (current s.frames) (outer s.frames) c.in_ok-enter.ensures.outer) c.run_first.ensures.scopes;
+      lender = c.run_first.ensures.lender;
     }
 
 -- ---- right sides
 
-pub run_right-run_inner-requires : goal.run_right-run_inner-requires
-run_right-run_inner-requires t c = let i = c.in-If in omega (arith, c.decreases, if_first c.args.right.now i.cond i.yes i.no i.is)
+pub blocks::run_right-run_inner-requires : goal.blocks::run_right-run_inner-requires
+blocks::run_right-run_inner-requires g t c κs p = let i = c.in-If in (omega (arith, c.decreases, if_first c.args.right.now i.cond i.yes i.no i.is), p)
 
-pub run_right-run_inner-requires-else-branch : goal.run_right-run_inner-requires-else-branch
-run_right-run_inner-requires-else-branch t c = let i = c.in-If in omega (arith, c.decreases, if_second c.args.right.now i.cond i.yes i.no i.is)
+pub blocks::run_right-run_inner-requires-else-branch : goal.blocks::run_right-run_inner-requires-else-branch
+blocks::run_right-run_inner-requires-else-branch g t c κs p = let i = c.in-If in (omega (arith, c.decreases, if_second c.args.right.now i.cond i.yes i.no i.is), p)
 
-pub run_right-run_rights-requires : goal.run_right-run_rights-requires
-run_right-run_rights-requires t c = omega (arith, c.decreases)
+pub blocks::run_right-run_rights-requires : goal.blocks::run_right-run_rights-requires
+blocks::run_right-run_rights-requires g t c κs p = (omega (arith, c.decreases), p)
 
-pub run_right-run_one-requires : goal.run_right-run_one-requires
-run_right-run_one-requires t c = omega (arith, c.decreases)
+pub blocks::run_right-run_one-requires : goal.blocks::run_right-run_one-requires
+blocks::run_right-run_one-requires g t c κs p = (omega (arith, c.decreases), p)
 
-pub run_right-returns-in_err-condition-in-If : goal.run_right-returns-in_err-condition-in-If
-run_right-returns-in_err-condition-in-If t c =
+pub blocks::run_right-returns-in_err-condition-in-If : goal.blocks::run_right-returns-in_err-condition-in-If
+blocks::run_right-returns-in_err-condition-in-If g t c =
     let i = c.in-If in
     let ctx = c.args.context.now in
     let s = c.args.state.now in
@@ -332,10 +348,11 @@ run_right-returns-in_err-condition-in-If t c =
           (subst (λ (end : Ended (List Value)). ToldStop stop s end) (sym whole')
           (condition_stops (List Value) site (does_in ctx (code_term i.yes) e) (does_in ctx (code_term i.no) e) stop s (e i.cond) m (subst (λ v. SaysTruth (Err stop) site (condition (read m v))) c.get.ensures (c.in_err-condition-in-If.ensures m)) at));
       scopes = no_scopes (SameScopes s.frames s.frames) c.from_residual.result stop is;
+      lender = refl;
     }
 
-pub run_right-returns-then-branch : goal.run_right-returns-then-branch
-run_right-returns-then-branch t c =
+pub blocks::run_right-returns-then-branch : goal.blocks::run_right-returns-then-branch
+blocks::run_right-returns-then-branch g t c =
     let i = c.in-If in
     let ctx = c.args.context.now in
     let s = c.args.state.now in
@@ -348,10 +365,11 @@ run_right-returns-then-branch t c =
           subst (λ (end : Ended (List Value)). Told IsFirst c.run_inner.result c.run_inner.new.state end) (sym (whole' ∙ says))
           (first_told c.run_inner.result c.run_inner.new.state (does_in ctx (code_term i.yes) e m) (c.run_inner.ensures.told m at));
       scopes = c.run_inner.ensures.scopes;
+      lender = c.run_inner.ensures.lender;
     }
 
-pub run_right-returns-else-branch : goal.run_right-returns-else-branch
-run_right-returns-else-branch t c =
+pub blocks::run_right-returns-else-branch : goal.blocks::run_right-returns-else-branch
+blocks::run_right-returns-else-branch g t c =
     let i = c.in-If in
     let ctx = c.args.context.now in
     let s = c.args.state.now in
@@ -364,56 +382,57 @@ run_right-returns-else-branch t c =
           subst (λ (end : Ended (List Value)). Told IsFirst c.run_inner-else-branch.result c.run_inner-else-branch.new.state end) (sym (whole' ∙ says))
           (first_told c.run_inner-else-branch.result c.run_inner-else-branch.new.state (does_in ctx (code_term i.no) e m) (c.run_inner-else-branch.ensures.told m at));
       scopes = c.run_inner-else-branch.ensures.scopes;
+      lender = c.run_inner-else-branch.ensures.lender;
     }
 
-pub run_rights-run_block-requires : goal.run_rights-run_block-requires
-run_rights-run_block-requires t c = let i = c.in-If in omega (arith, c.decreases, if_first c.args.right.now i.cond i.yes i.no i.is)
+pub blocks::run_rights-run_block-requires : goal.blocks::run_rights-run_block-requires
+blocks::run_rights-run_block-requires g t c κs p = let i = c.in-If in (omega (arith, c.decreases, if_first c.args.right.now i.cond i.yes i.no i.is), p)
 
-pub run_rights-run_block-requires-else-branch : goal.run_rights-run_block-requires-else-branch
-run_rights-run_block-requires-else-branch t c = let i = c.in-If in omega (arith, c.decreases, if_second c.args.right.now i.cond i.yes i.no i.is)
+pub blocks::run_rights-run_block-requires-else-branch : goal.blocks::run_rights-run_block-requires-else-branch
+blocks::run_rights-run_block-requires-else-branch g t c κs p = let i = c.in-If in (omega (arith, c.decreases, if_second c.args.right.now i.cond i.yes i.no i.is), p)
 
-pub run_rights-run_loop-requires : goal.run_rights-run_loop-requires
-run_rights-run_loop-requires t c =
+pub blocks::run_rights-run_loop-requires : goal.blocks::run_rights-run_loop-requires
+blocks::run_rights-run_loop-requires g t c κs p =
     let i = c.in-Loop in
-    omega (arith, c.decreases, loop_blocks c.args.right.now i.first_body i.start i.params i.test i.body i.test_site i.is)
+    (omega (arith, c.decreases, loop_blocks c.args.right.now i.first_body i.start i.params i.test i.body i.test_site i.is), p)
 
-pub run_rights-run_call-requires : goal.run_rights-run_call-requires
-run_rights-run_call-requires t c = omega (arith, c.decreases)
+pub blocks::run_rights-run_call-requires : goal.blocks::run_rights-run_call-requires
+blocks::run_rights-run_call-requires g t c κs p = (omega (arith, c.decreases), p)
 
-pub run_rights-run_one-requires : goal.run_rights-run_one-requires
-run_rights-run_one-requires t c = omega (arith, c.decreases)
+pub blocks::run_rights-run_one-requires : goal.blocks::run_rights-run_one-requires
+blocks::run_rights-run_one-requires g t c κs p = (omega (arith, c.decreases), p)
 
-pub run_one-run_with-requires : goal.run_one-run_with-requires
-run_one-run_with-requires t c = omega (arith, c.decreases, with_below c.args.right.now c.in-With.with c.in-With.is)
+pub blocks::run_one-run_with-requires : goal.blocks::run_one-run_with-requires
+blocks::run_one-run_with-requires g t c κs p = (omega (arith, c.decreases, with_below c.args.right.now c.in-With.with c.in-With.is), p)
 
-pub run_one-run_parted-requires : goal.run_one-run_parted-requires
-run_one-run_parted-requires t c = omega (arith, c.decreases, parted_below c.args.right.now c.in-Parted.parted c.in-Parted.is)
+pub blocks::run_one-run_parted-requires : goal.blocks::run_one-run_parted-requires
+blocks::run_one-run_parted-requires g t c κs p = (omega (arith, c.decreases, parted_below c.args.right.now c.in-Parted.parted c.in-Parted.is), p)
 
 -- ---- turns
 
-pub run_loop-run_turn-requires : goal.run_loop-run_turn-requires
-run_loop-run_turn-requires t c = omega (arith, c.decreases)
+pub blocks::run_loop-run_turn-requires : goal.blocks::run_loop-run_turn-requires
+blocks::run_loop-run_turn-requires g t c κs p = (omega (arith, c.decreases), p)
 
-pub run_loop-repeat-requires : goal.run_loop-repeat-requires
-run_loop-repeat-requires t c = omega (arith, c.decreases)
+pub blocks::run_loop-repeat-requires : goal.blocks::run_loop-repeat-requires
+blocks::run_loop-repeat-requires g t c κs p = (omega (arith, c.decreases), p)
 
-pub run_loop-repeat-requires-else-first_body : goal.run_loop-repeat-requires-else-first_body
-run_loop-repeat-requires-else-first_body t c = omega (arith, c.decreases)
+pub blocks::run_loop-repeat-requires-else-first_body : goal.blocks::run_loop-repeat-requires-else-first_body
+blocks::run_loop-repeat-requires-else-first_body g t c κs p = (omega (arith, c.decreases), p)
 
-pub repeat-run_test-requires : goal.repeat-run_test-requires
-repeat-run_test-requires t c = omega (arith, c.decreases)
+pub blocks::repeat-run_test-requires : goal.blocks::repeat-run_test-requires
+blocks::repeat-run_test-requires g t c κs p = (omega (arith, c.decreases), p)
 
-pub repeat-run_turn-requires : goal.repeat-run_turn-requires
-repeat-run_turn-requires t c = omega (arith, c.decreases)
+pub blocks::repeat-run_turn-requires : goal.blocks::repeat-run_turn-requires
+blocks::repeat-run_turn-requires g t c κs p = (omega (arith, c.decreases), p)
 
-pub run_test-run_first-requires : goal.run_test-run_first-requires
-run_test-run_first-requires t c = omega (arith, c.decreases)
+pub blocks::run_test-run_first-requires : goal.blocks::run_test-run_first-requires
+blocks::run_test-run_first-requires g t c κs p = (omega (arith, c.decreases), p)
 
-pub run_turn-run_open-requires : goal.run_turn-run_open-requires
-run_turn-run_open-requires t c = omega (arith, c.decreases)
+pub blocks::run_turn-run_open-requires : goal.blocks::run_turn-run_open-requires
+blocks::run_turn-run_open-requires g t c κs p = (omega (arith, c.decreases), p)
 
-pub run_right-returns-in_err-run_rights-in-Loop : goal.run_right-returns-in_err-run_rights-in-Loop
-run_right-returns-in_err-run_rights-in-Loop t c =
+pub blocks::run_right-returns-in_err-run_rights-in-Loop : goal.blocks::run_right-returns-in_err-run_rights-in-Loop
+blocks::run_right-returns-in_err-run_rights-in-Loop g t c =
     let ctx = c.args.context.now in
     let s = c.args.state.now in
     let st = c.run_rights.new.state in
@@ -422,10 +441,11 @@ run_right-returns-in_err-run_rights-in-Loop t c =
     record {
       told = λ m at. handed IsFirst c.from_residual-in_err-run_rights-in-Loop.result stop st (right_in ctx (code_right_term c.args.right.now) c.args.site (current s.frames) m) is (c.in_err-run_rights-in-Loop.ensures.told m at);
       scopes = no_scopes (SameScopes s.frames st.frames) c.from_residual-in_err-run_rights-in-Loop.result stop is;
+      lender = c.in_err-run_rights-in-Loop.ensures.lender;
     }
 
-pub run_right-returns-in_ok-run_rights-in-Loop : goal.run_right-returns-in_ok-run_rights-in-Loop
-run_right-returns-in_ok-run_rights-in-Loop t c =
+pub blocks::run_right-returns-in_ok-run_rights-in-Loop : goal.blocks::run_right-returns-in_ok-run_rights-in-Loop
+blocks::run_right-returns-in_ok-run_rights-in-Loop g t c =
     let ctx = c.args.context.now in
     let s = c.args.state.now in
     let st = c.run_rights.new.state in
@@ -437,25 +457,27 @@ run_right-returns-in_ok-run_rights-in-Loop t c =
           let own : map value_of vs.items ≡ g.value = g.agrees ∙ ap (λ xs. map value_of xs ++ g.value) c.new-values.ensures.items in
           tell IsFirst c.value_at.result st end g.value g.heap g.is (c.value_at.ensures ∙ ap (λ xs. first_of (map value_of xs)) c.deref.ensures.value ∙ ap first_of own) g.stands;
       scopes = c.in_ok-run_rights-in-Loop.ensures.scopes;
+      lender = c.in_ok-run_rights-in-Loop.ensures.lender;
     }
 
-pub run_right-returns-in_default : goal.run_right-returns-in_default
-run_right-returns-in_default t c =
+pub blocks::run_right-returns-in_default : goal.blocks::run_right-returns-in_default
+blocks::run_right-returns-in_default g t c =
     let ctx = c.args.context.now in
     let s = c.args.state.now in
     record {
       told = λ m at. only_first c.run_one.result c.run_one.new.state (right_in ctx (code_right_term c.args.right.now) c.args.site (current s.frames) m) (c.run_one.ensures.told m at);
       scopes = c.run_one.ensures.scopes;
+      lender = c.run_one.ensures.lender;
     }
 
-pub run_test-returns-in_err-value : goal.run_test-returns-in_err-value
-run_test-returns-in_err-value t c =
+pub blocks::run_test-returns-in_err-value : goal.blocks::run_test-returns-in_err-value
+blocks::run_test-returns-in_err-value g t c =
     let ctx = c.args.context.now in
     let s = c.args.state.now in
     let turn = c.args.turn.now in
     let vs = map value_of c.args.values.now in
     let T = code_term turn.test.now in
-    let bound = c.in_ok-bind_all.ensures in
+    let bound = c.in_ok-bind_all.ensures.bound in
     let mid = c.bind_all.new.state in
     let st = c.run_first.new.state in
     let inside = bound.inside ∙ ap (λ e. bind_values e turn.params.now vs) c.in_ok-enter.ensures.current in
@@ -467,16 +489,17 @@ run_test-returns-in_err-value t c =
           handed (λ b c. b ≡ c) c.from_residual-in_err-value.result stop st (go_on first (truth_of turn.test_site)) is
           (stop_then stop st first (truth_of turn.test_site) (subst (λ e. ToldStop stop st (first_value (does_in ctx T e) m)) inside (c.in_err-value.ensures.told m (moved s mid m bound.heap bound.phases at))));
       scopes = no_scopes (SameScopes s.frames st.frames) c.from_residual-in_err-value.result stop is;
+      lender = c.in_err-value.ensures.lender ∙ c.in_ok-bind_all.ensures.lender;
     }
 
-pub run_test-returns-in_err-truth : goal.run_test-returns-in_err-truth
-run_test-returns-in_err-truth t c =
+pub blocks::run_test-returns-in_err-truth : goal.blocks::run_test-returns-in_err-truth
+blocks::run_test-returns-in_err-truth g t c =
     let ctx = c.args.context.now in
     let s = c.args.state.now in
     let turn = c.args.turn.now in
     let vs = map value_of c.args.values.now in
     let T = code_term turn.test.now in
-    let bound = c.in_ok-bind_all.ensures in
+    let bound = c.in_ok-bind_all.ensures.bound in
     let mid = c.bind_all.new.state in
     let st = c.run_first.new.state in
     let v = c.in_ok-value.value in
@@ -489,16 +512,17 @@ run_test-returns-in_err-truth t c =
           handed (λ b c. b ≡ c) c.from_residual-in_err-truth.result stop st (go_on first (truth_of turn.test_site)) is
           (test_stops stop turn.test_site v st first (subst (λ e. Told IsValue (Ok v) st (first_value (does_in ctx T e) m)) inside (c.in_ok-value.ensures.told m (moved s mid m bound.heap bound.phases at))) c.in_err-truth.ensures);
       scopes = no_scopes (SameScopes s.frames st.frames) c.from_residual-in_err-truth.result stop is;
+      lender = c.in_ok-value.ensures.lender ∙ c.in_ok-bind_all.ensures.lender;
     }
 
-pub run_test-returns : goal.run_test-returns
-run_test-returns t c =
+pub blocks::run_test-returns : goal.blocks::run_test-returns
+blocks::run_test-returns g t c =
     let ctx = c.args.context.now in
     let s = c.args.state.now in
     let turn = c.args.turn.now in
     let vs = map value_of c.args.values.now in
     let T = code_term turn.test.now in
-    let bound = c.in_ok-bind_all.ensures in
+    let bound = c.in_ok-bind_all.ensures.bound in
     let mid = c.bind_all.new.state in
     let st = c.run_first.new.state in
     let new = record st { heap = c.release.new.heap } in
@@ -507,17 +531,18 @@ run_test-returns t c =
     record {
       told = λ m at.
           let first = first_value (does_in ctx T (bind_values (current s.frames) turn.params.now vs)) m in
-          test_ends c.in_ok-truth.truth turn.test_site v st new first (subst (λ e. Told IsValue (Ok v) st (first_value (does_in ctx T e) m)) inside (c.in_ok-value.ensures.told m (moved s mid m bound.heap bound.phases at))) c.in_ok-truth.ensures c.in_ok-release.ensures refl;
+          test_ends c.in_ok-truth.truth turn.test_site v st new first (subst (λ e. Told IsValue (Ok v) st (first_value (does_in ctx T e) m)) inside (c.in_ok-value.ensures.told m (moved s mid m bound.heap bound.phases at))) c.in_ok-truth.ensures c.in_ok-release.ensures.released refl;
       scopes = c.in_ok-value.ensures.scopes (current s.frames) (outer s.frames) (bound.outside ∙ c.in_ok-enter.ensures.outer);
+      lender = c.in_ok-release.ensures.lender ∙ c.in_ok-value.ensures.lender ∙ c.in_ok-bind_all.ensures.lender;
     }
 
-pub run_turn-returns-in_err-run_open : goal.run_turn-returns-in_err-run_open
-run_turn-returns-in_err-run_open t c =
+pub blocks::run_turn-returns-in_err-run_open : goal.blocks::run_turn-returns-in_err-run_open
+blocks::run_turn-returns-in_err-run_open g t c =
     let ctx = c.args.context.now in
     let s = c.args.state.now in
     let turn = c.args.turn.now in
     let B = code_term turn.body.now in
-    let bound = c.in_ok-bind_all.ensures in
+    let bound = c.in_ok-bind_all.ensures.bound in
     let mid = c.bind_all.new.state in
     let st = c.run_open.new.state in
     let inside = bound.inside ∙ ap (λ e. bind_values e turn.params.now (map value_of c.deref.result.now)) c.in_ok-enter.ensures.current ∙ ap (λ us. bind_values (current s.frames) turn.params.now (map value_of us)) c.deref.ensures.value in
@@ -529,15 +554,16 @@ run_turn-returns-in_err-run_open t c =
           handed (λ (_ : Unit {0}) ws. vs ≡ ws) c.from_residual-in_err-run_open.result stop st (does_in ctx B (bind_values (current s.frames) turn.params.now vs) m) is
           (subst (λ e. ToldStop stop st (does_in ctx B e m)) inside (c.in_err-run_open.ensures.told m (moved s mid m bound.heap bound.phases at)));
       scopes = no_scopes (SameScopes s.frames st.frames) c.from_residual-in_err-run_open.result stop is;
+      lender = c.in_err-run_open.ensures.lender ∙ c.in_ok-bind_all.ensures.lender;
     }
 
-pub run_turn-returns : goal.run_turn-returns
-run_turn-returns t c =
+pub blocks::run_turn-returns : goal.blocks::run_turn-returns
+blocks::run_turn-returns g t c =
     let ctx = c.args.context.now in
     let s = c.args.state.now in
     let turn = c.args.turn.now in
     let B = code_term turn.body.now in
-    let bound = c.in_ok-bind_all.ensures in
+    let bound = c.in_ok-bind_all.ensures.bound in
     let mid = c.bind_all.new.state in
     let st = c.run_open.new.state in
     let inside = bound.inside ∙ ap (λ e. bind_values e turn.params.now (map value_of c.deref.result.now)) c.in_ok-enter.ensures.current ∙ ap (λ us. bind_values (current s.frames) turn.params.now (map value_of us)) c.deref.ensures.value in
@@ -551,18 +577,20 @@ run_turn-returns t c =
           tell (λ (_ : Unit {0}) ws. map value_of c.extend_from_slice.new.self.items ≡ ws) tt st end g.value g.heap g.is
           (ap (map value_of) (c.in_ok-extend_from_slice.ensures.items ∙ (λ i. c.clear-2.ensures.items i ++ c.deref-2.ensures.value i)) ∙ own) g.stands;
       scopes = c.in_ok-run_open.ensures.scopes (current s.frames) (outer s.frames) (bound.outside ∙ c.in_ok-enter.ensures.outer);
+      lender = c.in_ok-run_open.ensures.lender ∙ c.in_ok-bind_all.ensures.lender;
     }
 
 -- ---- the turns of a loop
 
-pub repeat-loop-left-init : goal.repeat-loop-left-init
-repeat-loop-left-init t c = record {
+pub blocks::repeat-loop-left-init : goal.blocks::repeat-loop-left-init
+blocks::repeat-loop-left-init g t c = record {
   told = λ m at. record { heap = m; stands = at; same = refl };
   scopes = (refl, refl);
+  lender = refl;
 }
 
-pub repeat-returns-in_err-run_test : goal.repeat-returns-in_err-run_test
-repeat-returns-in_err-run_test t c =
+pub blocks::repeat-returns-in_err-run_test : goal.blocks::repeat-returns-in_err-run_test
+blocks::repeat-returns-in_err-run_test g t c =
     let ctx = c.args.context.now in
     let s = c.args.state.now in
     let turn = c.args.turn.now in
@@ -584,10 +612,11 @@ repeat-returns-in_err-run_test t c =
           (subst (λ us. ToldStop stop st (go_on (test_in ctx turn.params.now (code_term turn.test.now) (current c.loop-left.state.frames) (map value_of us) here.heap) (truth_of turn.test_site))) c.deref.ensures.value
           (c.in_err-run_test.ensures.told here.heap here.stands))));
       scopes = no_scopes (SameScopes s.frames st.frames) c.from_residual.result stop is;
+      lender = c.in_err-run_test.ensures.lender ∙ c.loop-left.invariant.lender;
     }
 
-pub repeat-returns-then-not-branch : goal.repeat-returns-then-not-branch
-repeat-returns-then-not-branch t c =
+pub blocks::repeat-returns-then-not-branch : goal.blocks::repeat-returns-then-not-branch
+blocks::repeat-returns-then-not-branch g t c =
     let ctx = c.args.context.now in
     let s = c.args.state.now in
     let turn = c.args.turn.now in
@@ -608,10 +637,11 @@ repeat-returns-then-not-branch t c =
           (subst (λ us. Told (λ b c. b ≡ c) (Ok c.in_ok-run_test.field-0) st (go_on (test_in ctx turn.params.now (code_term turn.test.now) (current c.loop-left.state.frames) (map value_of us) here.heap) (truth_of turn.test_site))) c.deref.ensures.value
           (c.in_ok-run_test.ensures.told here.heap here.stands))));
       scopes = (c.in_ok-run_test.ensures.scopes.0 ∙ sc.0, c.in_ok-run_test.ensures.scopes.1 ∙ sc.1);
+      lender = c.in_ok-run_test.ensures.lender ∙ c.loop-left.invariant.lender;
     }
 
-pub repeat-returns-then-left-eq0 : goal.repeat-returns-then-left-eq0
-repeat-returns-then-left-eq0 t c =
+pub blocks::repeat-returns-then-left-eq0 : goal.blocks::repeat-returns-then-left-eq0
+blocks::repeat-returns-then-left-eq0 g t c =
     let ctx = c.args.context.now in
     let s = c.args.state.now in
     let turn = c.args.turn.now in
@@ -632,10 +662,11 @@ repeat-returns-then-left-eq0 t c =
           (subst (λ us. Told (λ b c. b ≡ c) (Ok c.in_ok-run_test.field-0) st (go_on (test_in ctx turn.params.now (code_term turn.test.now) (current c.loop-left.state.frames) (map value_of us) here.heap) (truth_of turn.test_site))) c.deref.ensures.value
           (c.in_ok-run_test.ensures.told here.heap here.stands))));
       scopes = tt;
+      lender = c.in_ok-run_test.ensures.lender ∙ c.loop-left.invariant.lender;
     }
 
-pub repeat-loop-left-preserved : goal.repeat-loop-left-preserved
-repeat-loop-left-preserved t c =
+pub blocks::repeat-loop-left-preserved : goal.blocks::repeat-loop-left-preserved
+blocks::repeat-loop-left-preserved g t c =
     let ctx = c.args.context.now in
     let s = c.args.state.now in
     let turn = c.args.turn.now in
@@ -663,10 +694,11 @@ repeat-loop-left-preserved t c =
           tested_turned turn.site turn.test_site test' body' most start m (left - 1) vs ws st c.run_turn.new.state tested
           (subst (λ f. Told (λ (_ : Unit {0}) us. ws ≡ us) (Ok tt) c.run_turn.new.state (turn_in ctx turn.params.now B f vs tested.heap)) (mid.0 ∙ sc.0) (c.in_ok-run_turn.ensures.told tested.heap tested.stands));
       scopes = (c.in_ok-run_turn.ensures.scopes.0 ∙ mid.0 ∙ sc.0, c.in_ok-run_turn.ensures.scopes.1 ∙ mid.1 ∙ sc.1);
+      lender = c.in_ok-run_turn.ensures.lender ∙ c.in_ok-run_test.ensures.lender ∙ c.loop-left.invariant.lender;
     }
 
-pub repeat-returns-in_err-run_turn : goal.repeat-returns-in_err-run_turn
-repeat-returns-in_err-run_turn t c =
+pub blocks::repeat-returns-in_err-run_turn : goal.blocks::repeat-returns-in_err-run_turn
+blocks::repeat-returns-in_err-run_turn g t c =
     let ctx = c.args.context.now in
     let s = c.args.state.now in
     let turn = c.args.turn.now in
@@ -698,31 +730,36 @@ repeat-returns-in_err-run_turn t c =
           (tested_stops body' (repeat_does (left - 1) turn.site turn.test_site test' body') vs (repeat_does most turn.site turn.test_site test' body' start m) st tested stop end'
           (subst (λ f. ToldStop stop end' (turn_in ctx turn.params.now B f vs tested.heap)) (mid.0 ∙ sc.0) (c.in_err-run_turn.ensures.told tested.heap tested.stands)));
       scopes = no_scopes (SameScopes s.frames end'.frames) c.from_residual-in_err-run_turn.result stop is;
+      lender = c.in_err-run_turn.ensures.lender ∙ c.in_ok-run_test.ensures.lender ∙ c.loop-left.invariant.lender;
     }
 
 -- ---- calls
 
-pub run_call-run_function-requires : goal.run_call-run_function-requires
-run_call-run_function-requires t c =
+pub blocks::run_call-run_function-requires : goal.blocks::run_call-run_function-requires
+blocks::run_call-run_function-requires g t c κs p =
     let ctx = c.args.context.now in
     let fs = ctx.code.now.functions.items in
     let f = c.index-function.result.now in
-    omega (arith, c.decreases, falls c.in_ok-inner.inner ctx f.inline c.args.site c.in_ok-inner.ensures, body_below fs c.in-Some.place f c.in-Some.ensures.within, ap body_size c.index-function.ensures)
+    let place = c.in-Some.place in
+    let inside = within_same c.get-code.result.now ctx.code.now place c.get-code.ensures.same c.in-Some.ensures.within in
+    let is = place_same c.get-code.result.now ctx.code.now place f c.get-code.ensures.same c.index-function.ensures in
+    (omega (arith, c.decreases, falls c.in_ok-inner.inner ctx f.inline c.args.site c.in_ok-inner.ensures, body_below fs place f inside, ap body_size is), p)
 
-pub run_call-returns-in_default : goal.run_call-returns-in_default
-run_call-returns-in_default t c =
+pub blocks::run_call-returns-in_default : goal.blocks::run_call-returns-in_default
+blocks::run_call-returns-in_default g t c =
     let ctx = c.args.context.now in
     let s = c.args.state.now in
     let vs = map value_of c.args.args.now in
     record {
       told = λ m at.
           raised c.fault.result _ s m (calls_in ctx c.args.group vs c.args.site m) c.fault.ensures
-          (none_chosen ctx c.args.group vs c.args.site m (sym (no_place c.choose.result c.in_default.not-Some) ∙ c.choose.ensures.told m)) at;
+          (none_chosen ctx c.args.group vs c.args.site m (sym (no_place c.choose.result c.in_default.not-Some) ∙ c.choose.ensures.told m ∙ chosen_same c.get-code.result.now ctx.code.now c.args.group vs m c.get-code.ensures.same)) at;
       scopes = tt;
+      lender = refl;
     }
 
-pub run_one-returns-in_default : goal.run_one-returns-in_default
-run_one-returns-in_default t c =
+pub blocks::run_one-returns-in_default : goal.blocks::run_one-returns-in_default
+blocks::run_one-returns-in_default g t c =
     let ctx = c.args.context.now in
     let s = c.args.state.now in
     let r = c.args.right.now in
@@ -735,12 +772,13 @@ run_one-returns-in_default t c =
           (λ v k stands same. plain_given v s new m k refl at stands same)
           (λ f. plain_failed f s new m refl at) (λ end. tt)
           (calls_in ctx) ctx.turns (code_right_term r) c.args.site (current s.frames) c.plain_value.result
-          (plain_rest r d.not-If d.not-Loop d.not-Call d.not-With d.not-Parted) (c.plain_value.ensures m at.heap);
+          (plain_rest r d.not-If d.not-Loop d.not-Call d.not-With d.not-Parted) (c.plain_value.ensures.told m at.heap);
       scopes = plain_scopes c.plain_value.result s.frames;
+      lender = c.plain_value.ensures.lender;
     }
 
-pub run_rights-returns-in_err-condition-in-If : goal.run_rights-returns-in_err-condition-in-If
-run_rights-returns-in_err-condition-in-If t c =
+pub blocks::run_rights-returns-in_err-condition-in-If : goal.blocks::run_rights-returns-in_err-condition-in-If
+blocks::run_rights-returns-in_err-condition-in-If g t c =
     let i = c.in-If in
     let ctx = c.args.context.now in
     let s = c.args.state.now in
@@ -755,10 +793,11 @@ run_rights-returns-in_err-condition-in-If t c =
           (subst (λ (end : Ended (List Value)). ToldStop stop s end) (sym whole')
           (condition_stops (List Value) site (does_in ctx (code_term i.yes) e) (does_in ctx (code_term i.no) e) stop s (e i.cond) m (subst (λ v. SaysTruth (Err stop) site (condition (read m v))) c.get.ensures (c.in_err-condition-in-If.ensures m)) at));
       scopes = no_scopes (SameScopes s.frames s.frames) c.from_residual.result stop is;
+      lender = refl;
     }
 
-pub run_rights-returns-then-branch : goal.run_rights-returns-then-branch
-run_rights-returns-then-branch t c =
+pub blocks::run_rights-returns-then-branch : goal.blocks::run_rights-returns-then-branch
+blocks::run_rights-returns-then-branch g t c =
     let i = c.in-If in
     let ctx = c.args.context.now in
     let s = c.args.state.now in
@@ -770,10 +809,11 @@ run_rights-returns-then-branch t c =
           let says = condition_goes (List Value) site (does_in ctx (code_term i.yes) e) (does_in ctx (code_term i.no) e) (e i.cond) m true (subst (λ b. SaysTruth (Ok b) site (condition (read m (e i.cond)))) c.if-branch.true (subst (λ v. SaysTruth (Ok c.in_ok-condition-in-If.field-0) site (condition (read m v))) c.get.ensures (c.in_ok-condition-in-If.ensures m))) in
           subst (λ (end : Ended (List Value)). Told (λ (_ : Unit {0}) ws. Appends c.args.values.now.items c.run_block.new.values.items ws) c.run_block.result c.run_block.new.state end) (sym (whole' ∙ says)) (c.run_block.ensures.told m at);
       scopes = c.run_block.ensures.scopes;
+      lender = c.run_block.ensures.lender;
     }
 
-pub run_rights-returns-else-branch : goal.run_rights-returns-else-branch
-run_rights-returns-else-branch t c =
+pub blocks::run_rights-returns-else-branch : goal.blocks::run_rights-returns-else-branch
+blocks::run_rights-returns-else-branch g t c =
     let i = c.in-If in
     let ctx = c.args.context.now in
     let s = c.args.state.now in
@@ -785,10 +825,11 @@ run_rights-returns-else-branch t c =
           let says = condition_goes (List Value) site (does_in ctx (code_term i.yes) e) (does_in ctx (code_term i.no) e) (e i.cond) m false (subst (λ b. SaysTruth (Ok b) site (condition (read m (e i.cond)))) c.if-branch.false (subst (λ v. SaysTruth (Ok c.in_ok-condition-in-If.field-0) site (condition (read m v))) c.get.ensures (c.in_ok-condition-in-If.ensures m))) in
           subst (λ (end : Ended (List Value)). Told (λ (_ : Unit {0}) ws. Appends c.args.values.now.items c.run_block-else-branch.new.values.items ws) c.run_block-else-branch.result c.run_block-else-branch.new.state end) (sym (whole' ∙ says)) (c.run_block-else-branch.ensures.told m at);
       scopes = c.run_block-else-branch.ensures.scopes;
+      lender = c.run_block-else-branch.ensures.lender;
     }
 
-pub run_rights-returns-in_err-run_loop-in-Loop : goal.run_rights-returns-in_err-run_loop-in-Loop
-run_rights-returns-in_err-run_loop-in-Loop t c =
+pub blocks::run_rights-returns-in_err-run_loop-in-Loop : goal.blocks::run_rights-returns-in_err-run_loop-in-Loop
+blocks::run_rights-returns-in_err-run_loop-in-Loop g t c =
     let i = c.in-Loop in
     let ctx = c.args.context.now in
     let s = c.args.state.now in
@@ -806,10 +847,11 @@ run_rights-returns-in_err-run_loop-in-Loop t c =
           ((λ j. turns_do i.first_body ctx.turns site i.test_site (test_in ctx (c.deref.ensures.value j) (code_term i.test) e) (turn_in ctx (c.deref.ensures.value j) (code_term i.body) e) (started j) m) ∙ sym whole')
           (c.in_err-run_loop-in-Loop.ensures.told m at));
       scopes = no_scopes (SameScopes s.frames st.frames) c.from_residual-in_err-run_loop-in-Loop.result stop is;
+      lender = c.in_err-run_loop-in-Loop.ensures.lender;
     }
 
-pub run_rights-returns-in_ok-extend_from_slice-in-Loop : goal.run_rights-returns-in_ok-extend_from_slice-in-Loop
-run_rights-returns-in_ok-extend_from_slice-in-Loop t c =
+pub blocks::run_rights-returns-in_ok-extend_from_slice-in-Loop : goal.blocks::run_rights-returns-in_ok-extend_from_slice-in-Loop
+blocks::run_rights-returns-in_ok-extend_from_slice-in-Loop g t c =
     let i = c.in-Loop in
     let ctx = c.args.context.now in
     let s = c.args.state.now in
@@ -829,10 +871,11 @@ run_rights-returns-in_ok-extend_from_slice-in-Loop t c =
           tell (λ (_ : Unit {0}) ws. Appends c.args.values.now.items new ws) tt st end g.value g.heap g.is
           (appended c.args.values.now.items own new g.value (c.in_ok-extend_from_slice-in-Loop.ensures.items ∙ ap (λ xs. c.args.values.now.items ++ xs) c.deref-in-Loop-2.ensures.value) g.agrees) g.stands;
       scopes = c.in_ok-run_loop-in-Loop.ensures.scopes;
+      lender = c.in_ok-run_loop-in-Loop.ensures.lender;
     }
 
-pub run_rights-returns-in_ok-push_values-in-Call : goal.run_rights-returns-in_ok-push_values-in-Call
-run_rights-returns-in_ok-push_values-in-Call t c =
+pub blocks::run_rights-returns-in_ok-push_values-in-Call : goal.blocks::run_rights-returns-in_ok-push_values-in-Call
+blocks::run_rights-returns-in_ok-push_values-in-Call g t c =
     let i = c.in-Call in
     let ctx = c.args.context.now in
     let s = c.args.state.now in
@@ -844,10 +887,11 @@ run_rights-returns-in_ok-push_values-in-Call t c =
           subst (λ (end : Ended (List Value)). Told (λ (_ : Unit {0}) ws. Appends c.args.values.now.items c.run_call.new.values.items ws) c.run_call.result c.run_call.new.state end)
           (ap (λ us. calls_in ctx i.group us site m) passed ∙ sym (ap (λ r. right_in ctx (code_right_term r) site e m) i.is)) (c.run_call.ensures.told m at);
       scopes = c.run_call.ensures.scopes;
+      lender = c.run_call.ensures.lender;
     }
 
-pub run_rights-returns-in_err-value-in_default : goal.run_rights-returns-in_err-value-in_default
-run_rights-returns-in_err-value-in_default t c =
+pub blocks::run_rights-returns-in_err-value-in_default : goal.blocks::run_rights-returns-in_err-value-in_default
+blocks::run_rights-returns-in_err-value-in_default g t c =
     let ctx = c.args.context.now in
     let s = c.args.state.now in
     let st = c.run_one.new.state in
@@ -856,10 +900,11 @@ run_rights-returns-in_err-value-in_default t c =
     record {
       told = λ m at. handed (λ (_ : Unit {0}) ws. Appends c.args.values.now.items c.args.values.now.items ws) (c.from_residual-in_err-value-in_default).result stop st (right_in ctx (code_right_term c.args.right.now) c.args.site (current s.frames) m) is ((c.in_err-value-in_default).ensures.told m at);
       scopes = no_scopes (SameScopes s.frames st.frames) (c.from_residual-in_err-value-in_default).result stop is;
+      lender = (c.in_err-value-in_default).ensures.lender;
     }
 
-pub run_rights-returns-in_ok-push-in_default : goal.run_rights-returns-in_ok-push-in_default
-run_rights-returns-in_ok-push-in_default t c =
+pub blocks::run_rights-returns-in_ok-push-in_default : goal.blocks::run_rights-returns-in_ok-push-in_default
+blocks::run_rights-returns-in_ok-push-in_default g t c =
     let ctx = c.args.context.now in
     let s = c.args.state.now in
     let st = c.run_one.new.state in
@@ -872,28 +917,31 @@ run_rights-returns-in_ok-push-in_default t c =
           tell (λ (_ : Unit {0}) ws. Appends c.args.values.now.items new ws) tt st end g.value g.heap g.is
           (appended c.args.values.now.items (v ∷ []) new g.value (c.in_ok-push-in_default).ensures.items (sym g.agrees)) g.stands;
       scopes = (c.in_ok-value-in_default).ensures.scopes;
+      lender = (c.in_ok-value-in_default).ensures.lender;
     }
 
-pub run_one-returns-in-With : goal.run_one-returns-in-With
-run_one-returns-in-With t c =
+pub blocks::run_one-returns-in-With : goal.blocks::run_one-returns-in-With
+blocks::run_one-returns-in-With g t c =
     let ctx = c.args.context.now in
     let e = current c.args.state.now.frames in
     record {
       told = λ m at. subst (λ r. Told IsOnly c.run_with.result c.run_with.new.state (right_in ctx (code_right_term r) c.args.site e m)) (sym c.in-With.is) (c.run_with.ensures.told m at);
       scopes = c.run_with.ensures.scopes;
+      lender = c.run_with.ensures.lender;
     }
 
-pub run_one-returns-in-Parted : goal.run_one-returns-in-Parted
-run_one-returns-in-Parted t c =
+pub blocks::run_one-returns-in-Parted : goal.blocks::run_one-returns-in-Parted
+blocks::run_one-returns-in-Parted g t c =
     let ctx = c.args.context.now in
     let e = current c.args.state.now.frames in
     record {
       told = λ m at. subst (λ r. Told IsOnly c.run_parted.result c.run_parted.new.state (right_in ctx (code_right_term r) c.args.site e m)) (sym c.in-Parted.is) (c.run_parted.ensures.told m at);
       scopes = c.run_parted.ensures.scopes;
+      lender = c.run_parted.ensures.lender;
     }
 
-pub run_loop-returns-in_err-run_turn : goal.run_loop-returns-in_err-run_turn
-run_loop-returns-in_err-run_turn t c =
+pub blocks::run_loop-returns-in_err-run_turn : goal.blocks::run_loop-returns-in_err-run_turn
+blocks::run_loop-returns-in_err-run_turn g t c =
     let ctx = c.args.context.now in
     let s = c.args.state.now in
     let turn = c.args.turn.now in
@@ -910,10 +958,11 @@ run_loop-returns-in_err-run_turn t c =
           (subst (λ b. ToldStop stop st (turns_do b ctx.turns turn.site turn.test_site test' body' vs m)) (sym c.if-first_body.true)
           (stop_then stop st (body' vs m) (repeat_does (ctx.turns - 1) turn.site turn.test_site test' body') (c.in_err-run_turn.ensures.told m at)));
       scopes = no_scopes (SameScopes s.frames st.frames) c.from_residual.result stop is;
+      lender = c.in_err-run_turn.ensures.lender;
     }
 
-pub run_loop-returns-then-first_body : goal.run_loop-returns-then-first_body
-run_loop-returns-then-first_body t c =
+pub blocks::run_loop-returns-then-first_body : goal.blocks::run_loop-returns-then-first_body
+blocks::run_loop-returns-then-first_body g t c =
     let ctx = c.args.context.now in
     let s = c.args.state.now in
     let turn = c.args.turn.now in
@@ -938,10 +987,11 @@ run_loop-returns-then-first_body t c =
           ∙ ap (λ b. turns_do b ctx.turns turn.site turn.test_site test' body' vs m) (sym c.if-first_body.true))
           (c.repeat.ensures.told g.heap g.stands);
       scopes = on_ok c.repeat.result (λ (same : SameScopes mid.frames st.frames). (same.0 ∙ sc.0, same.1 ∙ sc.1)) c.repeat.ensures.scopes;
+      lender = c.repeat.ensures.lender ∙ c.in_ok-run_turn.ensures.lender;
     }
 
-pub run_loop-returns : goal.run_loop-returns
-run_loop-returns t c =
+pub blocks::run_loop-returns : goal.blocks::run_loop-returns
+blocks::run_loop-returns g t c =
     let ctx = c.args.context.now in
     let s = c.args.state.now in
     let turn = c.args.turn.now in
@@ -955,28 +1005,32 @@ run_loop-returns t c =
           subst (λ b. Told (λ (_ : Unit {0}) ws. map value_of c.repeat-else-first_body.new.values.items ≡ ws) c.repeat-else-first_body.result c.repeat-else-first_body.new.state (turns_do b ctx.turns turn.site turn.test_site test' body' vs m)) (sym c.if-first_body.false)
           (c.repeat-else-first_body.ensures.told m at);
       scopes = c.repeat-else-first_body.ensures.scopes;
+      lender = c.repeat-else-first_body.ensures.lender;
     }
 
-pub run_call-returns-in_err-inner : goal.run_call-returns-in_err-inner
-run_call-returns-in_err-inner t c =
+pub blocks::run_call-returns-in_err-inner : goal.blocks::run_call-returns-in_err-inner
+blocks::run_call-returns-in_err-inner g t c =
     let ctx = c.args.context.now in
     let s = c.args.state.now in
     let fs = ctx.code.now.functions.items in
     let f = c.index-function.result.now in
     let place = c.in-Some.place in
     let vs = map value_of c.args.args.now in
-    let here = function_at fs place f c.in-Some.ensures.within ∙ ap (λ (f : CodeFun). Some (code_fun_term f)) (sym c.index-function.ensures) in
+    let same = c.get-code.ensures.same in
+    let inside = within_same c.get-code.result.now ctx.code.now place same c.in-Some.ensures.within in
+    let here = function_at fs place f inside ∙ ap (λ (f : CodeFun). Some (code_fun_term f)) (sym (place_same c.get-code.result.now ctx.code.now place f same c.index-function.ensures)) in
     let stop = c.in_err-inner.field-0.0 in
     let is : c.from_residual.result ≡ Err stop = search rules in
     record {
       told = λ m at.
           handed (λ (_ : Unit {0}) ws. Appends c.args.values.now.items c.args.values.now.items ws) c.from_residual.result stop s (calls_in ctx c.args.group vs c.args.site m) is
-          (call_stops ctx c.args.group vs c.args.site m place (code_fun_term f) (sym c.in-Some.is ∙ c.choose.ensures.told m) here stop s c.in_err-inner.ensures at);
+          (call_stops ctx c.args.group vs c.args.site m place (code_fun_term f) (sym c.in-Some.is ∙ c.choose.ensures.told m ∙ chosen_same c.get-code.result.now ctx.code.now c.args.group vs m same) here stop s c.in_err-inner.ensures at);
       scopes = no_scopes (SameScopes s.frames s.frames) c.from_residual.result stop is;
+      lender = refl;
     }
 
-pub run_call-returns : goal.run_call-returns
-run_call-returns t c =
+pub blocks::run_call-returns : goal.blocks::run_call-returns
+blocks::run_call-returns g t c =
     let ctx = c.args.context.now in
     let s = c.args.state.now in
     let fs = ctx.code.now.functions.items in
@@ -984,24 +1038,27 @@ run_call-returns t c =
     let place = c.in-Some.place in
     let inner = c.in_ok-inner.inner in
     let vs = map value_of c.args.args.now in
-    let here = function_at fs place f c.in-Some.ensures.within ∙ ap (λ (f : CodeFun). Some (code_fun_term f)) (sym c.index-function.ensures) in
+    let same = c.get-code.ensures.same in
+    let inside = within_same c.get-code.result.now ctx.code.now place same c.in-Some.ensures.within in
+    let here = function_at fs place f inside ∙ ap (λ (f : CodeFun). Some (code_fun_term f)) (sym (place_same c.get-code.result.now ctx.code.now place f same c.index-function.ensures)) in
     record {
       told = λ m at.
           subst (λ (end : Ended (List Value)). Told (λ (_ : Unit {0}) ws. Appends c.args.values.now.items c.run_function.new.values.items ws) c.run_function.result c.run_function.new.state end)
-          (sym (call_runs ctx c.args.group vs c.args.site m place (code_fun_term f) (sym c.in-Some.is ∙ c.choose.ensures.told m) here inner c.in_ok-inner.ensures)) (c.run_function.ensures.told m at);
+          (sym (call_runs ctx c.args.group vs c.args.site m place (code_fun_term f) (sym c.in-Some.is ∙ c.choose.ensures.told m ∙ chosen_same c.get-code.result.now ctx.code.now c.args.group vs m same) here inner c.in_ok-inner.ensures)) (c.run_function.ensures.told m at);
       scopes = c.run_function.ensures.scopes;
+      lender = c.run_function.ensures.lender;
     }
 
-pub run_function-run_open-requires : goal.run_function-run_open-requires
-run_function-run_open-requires t c = omega (arith, c.decreases)
+pub blocks::run_function-run_open-requires : goal.blocks::run_function-run_open-requires
+blocks::run_function-run_open-requires g t c κs p = (omega (arith, c.decreases), p)
 
-pub run_function-returns-in_err-run_open : goal.run_function-returns-in_err-run_open
-run_function-returns-in_err-run_open t c =
+pub blocks::run_function-returns-in_err-run_open : goal.blocks::run_function-returns-in_err-run_open
+blocks::run_function-returns-in_err-run_open g t c =
     let ctx = c.args.context.now in
     let s = c.args.state.now in
     let f = c.args.function.now in
     let B = code_term f.body in
-    let bound = c.in_ok-bind_params.ensures in
+    let bound = c.in_ok-bind_params.ensures.bound in
     let mid = c.bind_params.new.state in
     let st = c.run_open.new.state in
     let vs = map value_of c.args.args.now in
@@ -1014,15 +1071,16 @@ run_function-returns-in_err-run_open t c =
           handed (λ (_ : Unit {0}) ws. Appends c.args.values.now.items c.args.values.now.items ws) c.from_residual-in_err-run_open.result stop st (go_on first (results_do f.results.items f.ends)) is
           (stop_then stop st first (results_do f.results.items f.ends) (subst (λ e. ToldStop stop st (does_in ctx B e m)) inside (c.in_err-run_open.ensures.told m (moved s mid m bound.heap bound.phases at))));
       scopes = no_scopes (SameScopes s.frames st.frames) c.from_residual-in_err-run_open.result stop is;
+      lender = c.in_err-run_open.ensures.lender ∙ c.in_ok-bind_params.ensures.lender;
     }
 
-pub run_function-returns-then-not-all_have : goal.run_function-returns-then-not-all_have
-run_function-returns-then-not-all_have t c =
+pub blocks::run_function-returns-then-not-all_have : goal.blocks::run_function-returns-then-not-all_have
+blocks::run_function-returns-then-not-all_have g t c =
     let ctx = c.args.context.now in
     let s = c.args.state.now in
     let f = c.args.function.now in
     let B = code_term f.body in
-    let bound = c.in_ok-bind_params.ensures in
+    let bound = c.in_ok-bind_params.ensures.bound in
     let mid = c.bind_params.new.state in
     let st = c.run_open.new.state in
     let vs = map value_of c.args.args.now in
@@ -1036,15 +1094,16 @@ run_function-returns-then-not-all_have t c =
           results_unfit f.results.items f.ends own st first c.fault.result c.fault.ensures block
           (λ h. sym c.if-not-all_have.true ∙ c.all_have.ensures h ∙ (λ j. all_have (c.deref-2.ensures.value j) (map (read h) (map value_of (c.deref-3.ensures.value j)))));
       scopes = tt;
+      lender = c.in_ok-run_open.ensures.lender ∙ c.in_ok-bind_params.ensures.lender;
     }
 
-pub run_function-returns : goal.run_function-returns
-run_function-returns t c =
+pub blocks::run_function-returns : goal.blocks::run_function-returns
+blocks::run_function-returns g t c =
     let ctx = c.args.context.now in
     let s = c.args.state.now in
     let f = c.args.function.now in
     let B = code_term f.body in
-    let bound = c.in_ok-bind_params.ensures in
+    let bound = c.in_ok-bind_params.ensures.bound in
     let mid = c.bind_params.new.state in
     let st = c.run_open.new.state in
     let vs = map value_of c.args.args.now in
@@ -1062,76 +1121,77 @@ run_function-returns t c =
           let g = given (λ (_ : Unit {0}) ws. map value_of own ≡ ws) tt st end fits in
           tell (λ (_ : Unit {0}) ws. Appends old new ws) tt st end g.value g.heap g.is (appended old own new g.value (c.in_ok-extend_from_slice.ensures.items ∙ ap (λ xs. old ++ xs) c.deref-4.ensures.value) g.agrees) g.stands;
       scopes = c.in_ok-run_open.ensures.scopes (current s.frames) (outer s.frames) (bound.outside ∙ c.in_ok-enter_call.ensures.outer);
+      lender = c.in_ok-run_open.ensures.lender ∙ c.in_ok-bind_params.ensures.lender;
     }
 
-pub run_with-run_array-requires : goal.run_with-run_array-requires
-run_with-run_array-requires t c =
-    omega (arith, c.decreases, gens_below c.args.with.now, ap gens_size c.deref-in-Genarray-2.ensures.value)
+pub array_loops::run_with-run_array-requires : goal.array_loops::run_with-run_array-requires
+array_loops::run_with-run_array-requires g t c κs p =
+    (omega (arith, c.decreases, gens_below c.args.with.now, ap gens_size c.deref-in-Genarray-2.ensures.value), p)
 
-pub run_with-run_array-requires-in-Modarray : goal.run_with-run_array-requires-in-Modarray
-run_with-run_array-requires-in-Modarray t c =
-    omega (arith, c.decreases, gens_below c.args.with.now, ap gens_size c.deref-in-Modarray-2.ensures.value)
+pub array_loops::run_with-run_array-requires-in-Modarray : goal.array_loops::run_with-run_array-requires-in-Modarray
+array_loops::run_with-run_array-requires-in-Modarray g t c κs p =
+    (omega (arith, c.decreases, gens_below c.args.with.now, ap gens_size c.deref-in-Modarray-2.ensures.value), p)
 
-pub run_with-run_fold-requires : goal.run_with-run_fold-requires
-run_with-run_fold-requires t c =
-    omega (arith, c.decreases, gens_below c.args.with.now, ap gens_size c.deref-in-Fold-2.ensures.value)
+pub array_loops::run_with-run_fold-requires : goal.array_loops::run_with-run_fold-requires
+array_loops::run_with-run_fold-requires g t c κs p =
+    (omega (arith, c.decreases, gens_below c.args.with.now, ap gens_size c.deref-in-Fold-2.ensures.value), p)
 
-pub run_array-fill-requires : goal.run_array-fill-requires
-run_array-fill-requires t c =
-    omega (arith, c.decreases)
+pub array_loops::run_array-fill-requires : goal.array_loops::run_array-fill-requires
+array_loops::run_array-fill-requires g t c κs p =
+    (omega (arith, c.decreases), p)
 
-pub fill-gen_cell-requires : goal.fill-gen_cell-requires
-fill-gen_cell-requires t c =
-    omega (arith, c.decreases)
+pub array_loops::fill-gen_cell-requires : goal.array_loops::fill-gen_cell-requires
+array_loops::fill-gen_cell-requires g t c κs p =
+    (omega (arith, c.decreases), p)
 
-pub run_fold-fold_cells-requires : goal.run_fold-fold_cells-requires
-run_fold-fold_cells-requires t c =
-    omega (arith, c.decreases)
+pub array_loops::run_fold-fold_cells-requires : goal.array_loops::run_fold-fold_cells-requires
+array_loops::run_fold-fold_cells-requires g t c κs p =
+    (omega (arith, c.decreases), p)
 
-pub fold_cells-gen_cell-requires : goal.fold_cells-gen_cell-requires
-fold_cells-gen_cell-requires t c =
-    omega (arith, c.decreases)
+pub array_loops::fold_cells-gen_cell-requires : goal.array_loops::fold_cells-gen_cell-requires
+array_loops::fold_cells-gen_cell-requires g t c κs p =
+    (omega (arith, c.decreases), p)
 
-pub gen_cell-run_cell-requires : goal.gen_cell-run_cell-requires
-gen_cell-run_cell-requires t c =
+pub array_loops::gen_cell-run_cell-requires : goal.array_loops::gen_cell-run_cell-requires
+array_loops::gen_cell-run_cell-requires g t c κs p =
     let found : Some c.in-Some.g.now ≡ held c.args.gens.now c.args.plan.now.ranges.items c.args.index.now = ap (option_map (λ g. g.now)) (sym c.in-Some.is) ∙ c.holder.ensures ∙ ap (λ rs. held c.args.gens.now rs c.args.index.now) c.deref.ensures.value in
-    omega (arith, c.decreases, held_below c.args.gens.now c.args.plan.now.ranges.items c.args.index.now c.in-Some.g.now found)
+    (omega (arith, c.decreases, held_below c.args.gens.now c.args.plan.now.ranges.items c.args.index.now c.in-Some.g.now found), p)
 
-pub run_parts-join_parts-requires : goal.run_parts-join_parts-requires
-run_parts-join_parts-requires t c =
-    omega (arith, c.decreases)
+pub array_loops::run_parts-join_parts-requires : goal.array_loops::run_parts-join_parts-requires
+array_loops::run_parts-join_parts-requires g t c κs p =
+    (omega (arith, c.decreases), p)
 
-pub join_parts-part_cell-requires : goal.join_parts-part_cell-requires
-join_parts-part_cell-requires t c =
-    omega (arith, c.decreases)
+pub array_loops::join_parts-part_cell-requires : goal.array_loops::join_parts-part_cell-requires
+array_loops::join_parts-part_cell-requires g t c κs p =
+    (omega (arith, c.decreases), p)
 
-pub fold_parts-combine_parts-requires : goal.fold_parts-combine_parts-requires
-fold_parts-combine_parts-requires t c =
-    omega (arith, c.decreases)
+pub array_loops::fold_parts-combine_parts-requires : goal.array_loops::fold_parts-combine_parts-requires
+array_loops::fold_parts-combine_parts-requires g t c κs p =
+    (omega (arith, c.decreases), p)
 
-pub combine_parts-part_cell-requires : goal.combine_parts-part_cell-requires
-combine_parts-part_cell-requires t c =
-    omega (arith, c.decreases)
+pub array_loops::combine_parts-part_cell-requires : goal.array_loops::combine_parts-part_cell-requires
+array_loops::combine_parts-part_cell-requires g t c κs p =
+    (omega (arith, c.decreases), p)
 
-pub part_cell-run_part-requires : goal.part_cell-run_part-requires
-part_cell-run_part-requires t c =
+pub array_loops::part_cell-run_part-requires : goal.array_loops::part_cell-run_part-requires
+array_loops::part_cell-run_part-requires g t c κs p =
     let found : Some c.in-Some.part.now ≡ part_held c.args.parts.now c.args.index.now = ap (option_map (λ p. p.now)) (sym c.in-Some.is) ∙ c.part_holder.ensures in
-    omega (arith, c.decreases, part_held_below c.args.parts.now c.args.index.now c.in-Some.part.now found)
+    (omega (arith, c.decreases, part_held_below c.args.parts.now c.args.index.now c.in-Some.part.now found), p)
 
-pub run_parted-run_parts-requires : goal.run_parted-run_parts-requires
-run_parted-run_parts-requires t c =
-    omega (arith, c.decreases, parts_below c.args.parted.now, ap parts_size c.deref-in_default.ensures.value)
+pub array_loops::run_parted-run_parts-requires : goal.array_loops::run_parted-run_parts-requires
+array_loops::run_parted-run_parts-requires g t c κs p =
+    (omega (arith, c.decreases, parts_below c.args.parted.now, ap parts_size c.deref-in_default.ensures.value), p)
 
-pub run_parted-fold_parts-requires : goal.run_parted-fold_parts-requires
-run_parted-fold_parts-requires t c =
-    omega (arith, c.decreases, parts_below c.args.parted.now, ap parts_size c.deref.ensures.value)
+pub array_loops::run_parted-fold_parts-requires : goal.array_loops::run_parted-fold_parts-requires
+array_loops::run_parted-fold_parts-requires g t c κs p =
+    (omega (arith, c.decreases, parts_below c.args.parted.now, ap parts_size c.deref.ensures.value), p)
 
-pub fill-loop-place-init : goal.fill-loop-place-init
-fill-loop-place-init t c =
-    record { carried = λ m at. carried_start (filling c.args.background.now.old c.args.background.now.array.now c.args.background.now.size) c.args.plan.now.form ((λ (e : Values). source_in c.args.context.now e c.args.gens.now c.args.plan.now.ranges.items) (current c.args.state.now.frames)) c.args.plan.now.frame c.args.cells.now.items m c.args.state.now at; scopes = (refl, refl) }
+pub array_loops::fill-loop-place-init : goal.array_loops::fill-loop-place-init
+array_loops::fill-loop-place-init g t c =
+    record { carried = λ m at. carried_start (filling c.args.background.now.old c.args.background.now.array.now c.args.background.now.size) c.args.plan.now.form ((λ (e : Values). source_in c.args.context.now e c.args.gens.now c.args.plan.now.ranges.items) (current c.args.state.now.frames)) c.args.plan.now.frame c.args.cells.now.items m c.args.state.now at; scopes = (refl, refl); lender = refl }
 
-pub fill-returns-in_err-value : goal.fill-returns-in_err-value
-fill-returns-in_err-value t c =
+pub array_loops::fill-returns-in_err-value : goal.array_loops::fill-returns-in_err-value
+array_loops::fill-returns-in_err-value g t c =
     let a = c.args in
     let ctx = a.context.now in
     let s = a.state.now in
@@ -1146,10 +1206,11 @@ fill-returns-in_err-value t c =
           handed (λ (_ : Unit {0}) found. c.loop-place.cells.items ≡ c.args.cells.now.items ++ cells_from c.args.background.now.old c.args.background.now.array.now c.args.background.now.size 0 found) c.from_residual-in_err-value.result stop st (cells_run c.args.plan.now.form ((λ (e : Values). source_in c.args.context.now e c.args.gens.now c.args.plan.now.ranges.items) (current s.frames)) c.args.plan.now.frame m) is'
           (loop_stop (filling c.args.background.now.old c.args.background.now.array.now c.args.background.now.size) c.args.plan.now.form (λ (e : Values). source_in c.args.context.now e c.args.gens.now c.args.plan.now.ranges.items) c.args.plan.now.frame c.args.cells.now.items s c.loop-place.state c.loop-place.cells.items k c.loop-place.invariant.carried c.loop-place.invariant.scopes c.components.result.now stop st inside is c.in_err-value.ensures.told m at);
       scopes = no_scopes (SameScopes s.frames st.frames) c.from_residual-in_err-value.result stop is';
+      lender = c.in_err-value.ensures.lender ∙ c.loop-place.invariant.lender;
     }
 
-pub fill-loop-place-preserved : goal.fill-loop-place-preserved
-fill-loop-place-preserved t c =
+pub array_loops::fill-loop-place-preserved : goal.array_loops::fill-loop-place-preserved
+array_loops::fill-loop-place-preserved g t c =
     let a = c.args in
     let ctx = a.context.now in
     let s = a.state.now in
@@ -1160,12 +1221,13 @@ fill-loop-place-preserved t c =
     let o = c.in_ok-value.value in
     record {
       carried = loop_step (filling c.args.background.now.old c.args.background.now.array.now c.args.background.now.size) c.args.plan.now.form (λ (e : Values). source_in c.args.context.now e c.args.gens.now c.args.plan.now.ranges.items) c.args.plan.now.frame c.args.cells.now.items s c.loop-place.state c.loop-place.cells.items k c.loop-place.invariant.carried c.loop-place.invariant.scopes c.components.result.now o st (record st { heap = c.put_cell.new.heap }) c.put_cell.new.cells.items inside is c.in_ok-value.ensures.told
-          (λ h stands. let q = c.in_ok-put_cell.ensures h stands in (filled_more c.args.background.now.old c.args.background.now.array.now c.args.background.now.size k c.loop-place.cells.items c.put_cell.new.cells.items (option_map (read h) (option_map value_of o)) q.0, q.1)) refl;
+          (λ h stands. let q = c.in_ok-put_cell.ensures.put h stands in (filled_more c.args.background.now.old c.args.background.now.array.now c.args.background.now.size k c.loop-place.cells.items c.put_cell.new.cells.items (option_map (read h) (option_map value_of o)) q.0, q.1)) refl;
       scopes = scopes_after s.frames c.loop-place.state.frames st.frames c.loop-place.invariant.scopes c.in_ok-value.ensures.scopes;
+      lender = c.in_ok-put_cell.ensures.lender ∙ c.in_ok-value.ensures.lender ∙ c.loop-place.invariant.lender;
     }
 
-pub fill-returns : goal.fill-returns
-fill-returns t c =
+pub array_loops::fill-returns : goal.array_loops::fill-returns
+array_loops::fill-returns g t c =
     let a = c.args in
     let ctx = a.context.now in
     let s = a.state.now in
@@ -1173,14 +1235,15 @@ fill-returns t c =
     record {
       told = loop_end (filling c.args.background.now.old c.args.background.now.array.now c.args.background.now.size) c.args.plan.now.form (λ (e : Values). source_in c.args.context.now e c.args.gens.now c.args.plan.now.ranges.items) c.args.plan.now.frame c.args.cells.now.items s c.loop-place.state c.loop-place.cells.items k c.loop-place.invariant.carried c.loop-place.invariant.scopes tt (λ (_ : Unit {0}) found. c.loop-place.cells.items ≡ c.args.cells.now.items ++ cells_from c.args.background.now.old c.args.background.now.array.now c.args.background.now.size 0 found) (λ found is. filled_all c.args.background.now.old c.args.background.now.array.now c.args.background.now.size k c.loop-place.cells.items c.args.cells.now.items found is) (omega (arith, c.loop-place-test.false, c.count-place-end.ensures));
       scopes = c.loop-place.invariant.scopes;
+      lender = c.loop-place.invariant.lender;
     }
 
-pub fold_cells-loop-place-init : goal.fold_cells-loop-place-init
-fold_cells-loop-place-init t c =
-    record { carried = λ m at. carried_start (folding c.args.op) c.args.plan.now.form ((λ (e : Values). source_in c.args.context.now e c.args.gens.now c.args.plan.now.ranges.items) (current c.args.state.now.frames)) c.args.plan.now.frame (array_of c.args.start) m c.args.state.now at; scopes = (refl, refl) }
+pub array_loops::fold_cells-loop-place-init : goal.array_loops::fold_cells-loop-place-init
+array_loops::fold_cells-loop-place-init g t c =
+    record { carried = λ m at. carried_start (folding c.args.op) c.args.plan.now.form ((λ (e : Values). source_in c.args.context.now e c.args.gens.now c.args.plan.now.ranges.items) (current c.args.state.now.frames)) c.args.plan.now.frame (array_of c.args.start) m c.args.state.now at; scopes = (refl, refl); lender = refl }
 
-pub fold_cells-returns-in_err-value : goal.fold_cells-returns-in_err-value
-fold_cells-returns-in_err-value t c =
+pub array_loops::fold_cells-returns-in_err-value : goal.array_loops::fold_cells-returns-in_err-value
+array_loops::fold_cells-returns-in_err-value g t c =
     let a = c.args in
     let ctx = a.context.now in
     let s = a.state.now in
@@ -1195,10 +1258,11 @@ fold_cells-returns-in_err-value t c =
           handed (λ s found. array_of s ≡ fold (combined c.args.op) (array_of c.args.start) found) c.from_residual-in_err-value.result stop st (cells_run c.args.plan.now.form ((λ (e : Values). source_in c.args.context.now e c.args.gens.now c.args.plan.now.ranges.items) (current s.frames)) c.args.plan.now.frame m) is'
           (loop_stop (folding c.args.op) c.args.plan.now.form (λ (e : Values). source_in c.args.context.now e c.args.gens.now c.args.plan.now.ranges.items) c.args.plan.now.frame (array_of c.args.start) s c.loop-place.state (array_of c.loop-place.sum) k c.loop-place.invariant.carried c.loop-place.invariant.scopes c.components.result.now stop st inside is c.in_err-value.ensures.told m at);
       scopes = no_scopes (SameScopes s.frames st.frames) c.from_residual-in_err-value.result stop is';
+      lender = c.in_err-value.ensures.lender ∙ c.loop-place.invariant.lender;
     }
 
-pub fold_cells-loop-place-preserved : goal.fold_cells-loop-place-preserved
-fold_cells-loop-place-preserved t c =
+pub array_loops::fold_cells-loop-place-preserved : goal.array_loops::fold_cells-loop-place-preserved
+array_loops::fold_cells-loop-place-preserved g t c =
     let a = c.args in
     let ctx = a.context.now in
     let s = a.state.now in
@@ -1209,12 +1273,13 @@ fold_cells-loop-place-preserved t c =
     let o = c.in_ok-value.value in
     record {
       carried = loop_step (folding c.args.op) c.args.plan.now.form (λ (e : Values). source_in c.args.context.now e c.args.gens.now c.args.plan.now.ranges.items) c.args.plan.now.frame (array_of c.args.start) s c.loop-place.state (array_of c.loop-place.sum) k c.loop-place.invariant.carried c.loop-place.invariant.scopes c.components.result.now o st (record st { heap = c.add_cell.new.heap }) (array_of c.in_ok-sum.sum) inside is c.in_ok-value.ensures.told
-          (λ h stands. let q = c.in_ok-sum.ensures h stands in (folded_more c.args.op k (array_of c.loop-place.sum) (array_of c.in_ok-sum.sum) (option_map (read h) (option_map value_of o)) q.0, q.1)) refl;
+          (λ h stands. let q = c.in_ok-sum.ensures.added h stands in (folded_more c.args.op k (array_of c.loop-place.sum) (array_of c.in_ok-sum.sum) (option_map (read h) (option_map value_of o)) q.0, q.1)) refl;
       scopes = scopes_after s.frames c.loop-place.state.frames st.frames c.loop-place.invariant.scopes c.in_ok-value.ensures.scopes;
+      lender = c.in_ok-sum.ensures.lender ∙ c.in_ok-value.ensures.lender ∙ c.loop-place.invariant.lender;
     }
 
-pub fold_cells-returns : goal.fold_cells-returns
-fold_cells-returns t c =
+pub array_loops::fold_cells-returns : goal.array_loops::fold_cells-returns
+array_loops::fold_cells-returns g t c =
     let a = c.args in
     let ctx = a.context.now in
     let s = a.state.now in
@@ -1222,14 +1287,15 @@ fold_cells-returns t c =
     record {
       told = loop_end (folding c.args.op) c.args.plan.now.form (λ (e : Values). source_in c.args.context.now e c.args.gens.now c.args.plan.now.ranges.items) c.args.plan.now.frame (array_of c.args.start) s c.loop-place.state (array_of c.loop-place.sum) k c.loop-place.invariant.carried c.loop-place.invariant.scopes c.loop-place.sum (λ s found. array_of s ≡ fold (combined c.args.op) (array_of c.args.start) found) (λ found is. is) (omega (arith, c.loop-place-test.false, c.count-place-end.ensures));
       scopes = c.loop-place.invariant.scopes;
+      lender = c.loop-place.invariant.lender;
     }
 
-pub join_parts-loop-place-init : goal.join_parts-loop-place-init
-join_parts-loop-place-init t c =
-    record { carried = λ m at. carried_start joining c.args.form.now ((λ (e : Values). part_source_in c.args.context.now e c.args.parts.now) (current c.args.state.now.frames)) c.args.frame.now c.args.cells.now.items m c.args.state.now at; scopes = (refl, refl) }
+pub array_loops::join_parts-loop-place-init : goal.array_loops::join_parts-loop-place-init
+array_loops::join_parts-loop-place-init g t c =
+    record { carried = λ m at. carried_start joining c.args.form.now ((λ (e : Values). part_source_in c.args.context.now e c.args.parts.now) (current c.args.state.now.frames)) c.args.frame.now c.args.cells.now.items m c.args.state.now at; scopes = (refl, refl); lender = refl }
 
-pub join_parts-returns-in_err-value : goal.join_parts-returns-in_err-value
-join_parts-returns-in_err-value t c =
+pub array_loops::join_parts-returns-in_err-value : goal.array_loops::join_parts-returns-in_err-value
+array_loops::join_parts-returns-in_err-value g t c =
     let a = c.args in
     let ctx = a.context.now in
     let s = a.state.now in
@@ -1244,10 +1310,11 @@ join_parts-returns-in_err-value t c =
           handed (λ (_ : Unit {0}) found. c.loop-place.cells.items ≡ c.args.cells.now.items ++ flat_map elements_of found) c.from_residual-in_err-value.result stop st (cells_run c.args.form.now ((λ (e : Values). part_source_in c.args.context.now e c.args.parts.now) (current s.frames)) c.args.frame.now m) is'
           (loop_stop joining c.args.form.now (λ (e : Values). part_source_in c.args.context.now e c.args.parts.now) c.args.frame.now c.args.cells.now.items s c.loop-place.state c.loop-place.cells.items k c.loop-place.invariant.carried c.loop-place.invariant.scopes c.components.result.now stop st inside is c.in_err-value.ensures.told m at);
       scopes = no_scopes (SameScopes s.frames st.frames) c.from_residual-in_err-value.result stop is';
+      lender = c.in_err-value.ensures.lender ∙ c.loop-place.invariant.lender;
     }
 
-pub join_parts-loop-place-preserved : goal.join_parts-loop-place-preserved
-join_parts-loop-place-preserved t c =
+pub array_loops::join_parts-loop-place-preserved : goal.array_loops::join_parts-loop-place-preserved
+array_loops::join_parts-loop-place-preserved g t c =
     let a = c.args in
     let ctx = a.context.now in
     let s = a.state.now in
@@ -1258,12 +1325,13 @@ join_parts-loop-place-preserved t c =
     let o = c.in_ok-value.value in
     record {
       carried = loop_step joining c.args.form.now (λ (e : Values). part_source_in c.args.context.now e c.args.parts.now) c.args.frame.now c.args.cells.now.items s c.loop-place.state c.loop-place.cells.items k c.loop-place.invariant.carried c.loop-place.invariant.scopes c.components.result.now o st (record st { heap = c.join_cell.new.heap }) c.join_cell.new.cells.items inside is c.in_ok-value.ensures.told
-          (λ h stands. let q = c.in_ok-join_cell.ensures h stands in (joined_more k c.loop-place.cells.items c.join_cell.new.cells.items (option_map (read h) (option_map value_of o)) q.0, q.1)) refl;
+          (λ h stands. let q = c.in_ok-join_cell.ensures.joined h stands in (joined_more k c.loop-place.cells.items c.join_cell.new.cells.items (option_map (read h) (option_map value_of o)) q.0, q.1)) refl;
       scopes = scopes_after s.frames c.loop-place.state.frames st.frames c.loop-place.invariant.scopes c.in_ok-value.ensures.scopes;
+      lender = c.in_ok-join_cell.ensures.lender ∙ c.in_ok-value.ensures.lender ∙ c.loop-place.invariant.lender;
     }
 
-pub join_parts-returns : goal.join_parts-returns
-join_parts-returns t c =
+pub array_loops::join_parts-returns : goal.array_loops::join_parts-returns
+array_loops::join_parts-returns g t c =
     let a = c.args in
     let ctx = a.context.now in
     let s = a.state.now in
@@ -1271,14 +1339,15 @@ join_parts-returns t c =
     record {
       told = loop_end joining c.args.form.now (λ (e : Values). part_source_in c.args.context.now e c.args.parts.now) c.args.frame.now c.args.cells.now.items s c.loop-place.state c.loop-place.cells.items k c.loop-place.invariant.carried c.loop-place.invariant.scopes tt (λ (_ : Unit {0}) found. c.loop-place.cells.items ≡ c.args.cells.now.items ++ flat_map elements_of found) (λ found is. joined_all k c.loop-place.cells.items c.args.cells.now.items found is) (omega (arith, c.loop-place-test.false, c.count-place-end.ensures));
       scopes = c.loop-place.invariant.scopes;
+      lender = c.loop-place.invariant.lender;
     }
 
-pub combine_parts-loop-place-init : goal.combine_parts-loop-place-init
-combine_parts-loop-place-init t c =
-    record { carried = λ m at. carried_start (folding c.args.op) c.args.form.now ((λ (e : Values). part_source_in c.args.context.now e c.args.parts.now) (current c.args.state.now.frames)) c.args.frame.now (array_of c.args.start) m c.args.state.now at; scopes = (refl, refl) }
+pub array_loops::combine_parts-loop-place-init : goal.array_loops::combine_parts-loop-place-init
+array_loops::combine_parts-loop-place-init g t c =
+    record { carried = λ m at. carried_start (folding c.args.op) c.args.form.now ((λ (e : Values). part_source_in c.args.context.now e c.args.parts.now) (current c.args.state.now.frames)) c.args.frame.now (array_of c.args.start) m c.args.state.now at; scopes = (refl, refl); lender = refl }
 
-pub combine_parts-returns-in_err-value : goal.combine_parts-returns-in_err-value
-combine_parts-returns-in_err-value t c =
+pub array_loops::combine_parts-returns-in_err-value : goal.array_loops::combine_parts-returns-in_err-value
+array_loops::combine_parts-returns-in_err-value g t c =
     let a = c.args in
     let ctx = a.context.now in
     let s = a.state.now in
@@ -1293,10 +1362,11 @@ combine_parts-returns-in_err-value t c =
           handed (λ s found. array_of s ≡ fold (combined c.args.op) (array_of c.args.start) found) c.from_residual-in_err-value.result stop st (cells_run c.args.form.now ((λ (e : Values). part_source_in c.args.context.now e c.args.parts.now) (current s.frames)) c.args.frame.now m) is'
           (loop_stop (folding c.args.op) c.args.form.now (λ (e : Values). part_source_in c.args.context.now e c.args.parts.now) c.args.frame.now (array_of c.args.start) s c.loop-place.state (array_of c.loop-place.sum) k c.loop-place.invariant.carried c.loop-place.invariant.scopes c.components.result.now stop st inside is c.in_err-value.ensures.told m at);
       scopes = no_scopes (SameScopes s.frames st.frames) c.from_residual-in_err-value.result stop is';
+      lender = c.in_err-value.ensures.lender ∙ c.loop-place.invariant.lender;
     }
 
-pub combine_parts-loop-place-preserved : goal.combine_parts-loop-place-preserved
-combine_parts-loop-place-preserved t c =
+pub array_loops::combine_parts-loop-place-preserved : goal.array_loops::combine_parts-loop-place-preserved
+array_loops::combine_parts-loop-place-preserved g t c =
     let a = c.args in
     let ctx = a.context.now in
     let s = a.state.now in
@@ -1307,12 +1377,13 @@ combine_parts-loop-place-preserved t c =
     let o = c.in_ok-value.value in
     record {
       carried = loop_step (folding c.args.op) c.args.form.now (λ (e : Values). part_source_in c.args.context.now e c.args.parts.now) c.args.frame.now (array_of c.args.start) s c.loop-place.state (array_of c.loop-place.sum) k c.loop-place.invariant.carried c.loop-place.invariant.scopes c.components.result.now o st (record st { heap = c.add_cell.new.heap }) (array_of c.in_ok-sum.sum) inside is c.in_ok-value.ensures.told
-          (λ h stands. let q = c.in_ok-sum.ensures h stands in (folded_more c.args.op k (array_of c.loop-place.sum) (array_of c.in_ok-sum.sum) (option_map (read h) (option_map value_of o)) q.0, q.1)) refl;
+          (λ h stands. let q = c.in_ok-sum.ensures.added h stands in (folded_more c.args.op k (array_of c.loop-place.sum) (array_of c.in_ok-sum.sum) (option_map (read h) (option_map value_of o)) q.0, q.1)) refl;
       scopes = scopes_after s.frames c.loop-place.state.frames st.frames c.loop-place.invariant.scopes c.in_ok-value.ensures.scopes;
+      lender = c.in_ok-sum.ensures.lender ∙ c.in_ok-value.ensures.lender ∙ c.loop-place.invariant.lender;
     }
 
-pub combine_parts-returns : goal.combine_parts-returns
-combine_parts-returns t c =
+pub array_loops::combine_parts-returns : goal.array_loops::combine_parts-returns
+array_loops::combine_parts-returns g t c =
     let a = c.args in
     let ctx = a.context.now in
     let s = a.state.now in
@@ -1320,10 +1391,11 @@ combine_parts-returns t c =
     record {
       told = loop_end (folding c.args.op) c.args.form.now (λ (e : Values). part_source_in c.args.context.now e c.args.parts.now) c.args.frame.now (array_of c.args.start) s c.loop-place.state (array_of c.loop-place.sum) k c.loop-place.invariant.carried c.loop-place.invariant.scopes c.loop-place.sum (λ s found. array_of s ≡ fold (combined c.args.op) (array_of c.args.start) found) (λ found is. is) (omega (arith, c.loop-place-test.false, c.count-place-end.ensures));
       scopes = c.loop-place.invariant.scopes;
+      lender = c.loop-place.invariant.lender;
     }
 
-pub gen_cell-returns-in_err-value-in-Some : goal.gen_cell-returns-in_err-value-in-Some
-gen_cell-returns-in_err-value-in-Some t c =
+pub array_loops::gen_cell-returns-in_err-value-in-Some : goal.array_loops::gen_cell-returns-in_err-value-in-Some
+array_loops::gen_cell-returns-in_err-value-in-Some g t c =
     let a = c.args in
     let ctx = a.context.now in
     let s = a.state.now in
@@ -1339,10 +1411,11 @@ gen_cell-returns-in_err-value-in-Some t c =
           (subst (λ h. ToldStop stop st (unreleased form (option_map (gen_source ctx (current s.frames) v) h) m)) found
           (stop_then stop st (then_go (apart (gen_source ctx (current s.frames) v c.in-Some.g.now).cell) (formed form (gen_source ctx (current s.frames) v c.in-Some.g.now).site) m) (λ w. give (Some w)) (c.in_err-value-in-Some.ensures.told m at)));
       scopes = no_scopes (SameScopes s.frames st.frames) c.from_residual.result stop is;
+      lender = c.in_err-value-in-Some.ensures.lender;
     }
 
-pub gen_cell-returns-in_ok-value-in-Some : goal.gen_cell-returns-in_ok-value-in-Some
-gen_cell-returns-in_ok-value-in-Some t c =
+pub array_loops::gen_cell-returns-in_ok-value-in-Some : goal.array_loops::gen_cell-returns-in_ok-value-in-Some
+array_loops::gen_cell-returns-in_ok-value-in-Some g t c =
     let a = c.args in
     let ctx = a.context.now in
     let s = a.state.now in
@@ -1356,10 +1429,11 @@ gen_cell-returns-in_ok-value-in-Some t c =
           subst (λ h. Told IsPresent (Ok (Some w)) st (unreleased form (option_map (gen_source ctx (current s.frames) v) h) m)) found
           (present_told w st form (gen_source ctx (current s.frames) v c.in-Some.g.now) m (c.in_ok-value-in-Some.ensures.told m at));
       scopes = c.in_ok-value-in-Some.ensures.scopes;
+      lender = c.in_ok-value-in-Some.ensures.lender;
     }
 
-pub gen_cell-returns-in-None : goal.gen_cell-returns-in-None
-gen_cell-returns-in-None t c =
+pub array_loops::gen_cell-returns-in-None : goal.array_loops::gen_cell-returns-in-None
+array_loops::gen_cell-returns-in-None g t c =
     let a = c.args in
     let ctx = a.context.now in
     let s = a.state.now in
@@ -1369,16 +1443,17 @@ gen_cell-returns-in-None t c =
     record {
       told = λ m at. subst (λ h. Told IsPresent (Ok None) s (unreleased form (option_map (gen_source ctx (current s.frames) v) h) m)) none (refl, at);
       scopes = (refl, refl);
+      lender = refl;
     }
 
-pub run_cell-returns : goal.run_cell-returns
-run_cell-returns t c =
+pub array_loops::run_cell-returns : goal.array_loops::run_cell-returns
+array_loops::run_cell-returns g t c =
     let a = c.args in
     let ctx = a.context.now in
     let s = a.state.now in
     let g = a.g.now in
     let v = a.index.now in
-    let bound = c.in_ok-bind_index.ensures in
+    let bound = c.in_ok-bind_index.ensures.bound in
     let mid = c.bind_index.new.state in
     let answer = c.run_first-answer.result in
     let st = c.run_first-answer.new.state in
@@ -1389,10 +1464,11 @@ run_cell-returns t c =
           cell_tells answer c.formed.result st new m (first_value (does_in ctx (code_term g.body) (with_index_value (current s.frames) (gen_head g) v))) a.form.now g.site refl at.phases c.formed.ensures.told
           (subst (λ e. Told IsValue answer st (first_value (does_in ctx (code_term g.body) e) m)) inside (c.run_first-answer.ensures.told m (moved s mid m bound.heap bound.phases at)));
       scopes = cell_scopes answer c.formed.result s.frames mid.frames st.frames c.formed.ensures.same c.run_first-answer.ensures.scopes (bound.outside ∙ c.in_ok-enter.ensures.outer);
+      lender = c.run_first-answer.ensures.lender ∙ c.in_ok-bind_index.ensures.lender;
     }
 
-pub part_cell-returns-in_err-value-in-Some : goal.part_cell-returns-in_err-value-in-Some
-part_cell-returns-in_err-value-in-Some t c =
+pub array_loops::part_cell-returns-in_err-value-in-Some : goal.array_loops::part_cell-returns-in_err-value-in-Some
+array_loops::part_cell-returns-in_err-value-in-Some g t c =
     let a = c.args in
     let ctx = a.context.now in
     let s = a.state.now in
@@ -1408,10 +1484,11 @@ part_cell-returns-in_err-value-in-Some t c =
           (subst (λ h. ToldStop stop st (unreleased form (option_map (part_source ctx (current s.frames) v) h) m)) found
           (stop_then stop st (then_go (apart (part_source ctx (current s.frames) v c.in-Some.part.now).cell) (formed form (part_source ctx (current s.frames) v c.in-Some.part.now).site) m) (λ w. give (Some w)) (c.in_err-value-in-Some.ensures.told m at)));
       scopes = no_scopes (SameScopes s.frames st.frames) c.from_residual.result stop is;
+      lender = c.in_err-value-in-Some.ensures.lender;
     }
 
-pub part_cell-returns-in_ok-value-in-Some : goal.part_cell-returns-in_ok-value-in-Some
-part_cell-returns-in_ok-value-in-Some t c =
+pub array_loops::part_cell-returns-in_ok-value-in-Some : goal.array_loops::part_cell-returns-in_ok-value-in-Some
+array_loops::part_cell-returns-in_ok-value-in-Some g t c =
     let a = c.args in
     let ctx = a.context.now in
     let s = a.state.now in
@@ -1425,10 +1502,11 @@ part_cell-returns-in_ok-value-in-Some t c =
           subst (λ h. Told IsPresent (Ok (Some w)) st (unreleased form (option_map (part_source ctx (current s.frames) v) h) m)) found
           (present_told w st form (part_source ctx (current s.frames) v c.in-Some.part.now) m (c.in_ok-value-in-Some.ensures.told m at));
       scopes = c.in_ok-value-in-Some.ensures.scopes;
+      lender = c.in_ok-value-in-Some.ensures.lender;
     }
 
-pub part_cell-returns-in-None : goal.part_cell-returns-in-None
-part_cell-returns-in-None t c =
+pub array_loops::part_cell-returns-in-None : goal.array_loops::part_cell-returns-in-None
+array_loops::part_cell-returns-in-None g t c =
     let a = c.args in
     let ctx = a.context.now in
     let s = a.state.now in
@@ -1438,16 +1516,17 @@ part_cell-returns-in-None t c =
     record {
       told = λ m at. subst (λ h. Told IsPresent (Ok None) s (unreleased form (option_map (part_source ctx (current s.frames) v) h) m)) none (refl, at);
       scopes = (refl, refl);
+      lender = refl;
     }
 
-pub run_part-returns : goal.run_part-returns
-run_part-returns t c =
+pub array_loops::run_part-returns : goal.array_loops::run_part-returns
+array_loops::run_part-returns g t c =
     let a = c.args in
     let ctx = a.context.now in
     let s = a.state.now in
     let g = a.part.now in
     let v = a.index.now in
-    let bound = c.in_ok-bind_index.ensures in
+    let bound = c.in_ok-bind_index.ensures.bound in
     let mid = c.bind_index.new.state in
     let answer = c.run_first-answer.result in
     let st = c.run_first-answer.new.state in
@@ -1458,10 +1537,11 @@ run_part-returns t c =
           cell_tells answer c.formed.result st new m (first_value (does_in ctx (code_term g.body) (bind_value (current s.frames) g.index (Small (vector Int v))))) a.form.now g.site refl at.phases c.formed.ensures.told
           (subst (λ e. Told IsValue answer st (first_value (does_in ctx (code_term g.body) e) m)) inside (c.run_first-answer.ensures.told m (moved s mid m bound.heap bound.phases at)));
       scopes = cell_scopes answer c.formed.result s.frames mid.frames st.frames c.formed.ensures.same c.run_first-answer.ensures.scopes (bound.outside ∙ c.in_ok-enter.ensures.outer);
+      lender = c.run_first-answer.ensures.lender ∙ c.in_ok-bind_index.ensures.lender;
     }
 
-pub run_array-returns-in_err-fill : goal.run_array-returns-in_err-fill
-run_array-returns-in_err-fill t c =
+pub array_loops::run_array-returns-in_err-fill : goal.array_loops::run_array-returns-in_err-fill
+array_loops::run_array-returns-in_err-fill g t c =
     let a = c.args in
     let ctx = a.context.now in
     let s = a.state.now in
@@ -1476,10 +1556,11 @@ run_array-returns-in_err-fill t c =
           handed IsValue c.from_residual-in_err-fill.result stop s1 (job_does None (array_job ctx (current s.frames) m a.gens.now (plan_of p) a.array.now a.old) m) is
           (array_stops ctx a.gens.now (plan_of p) s s0 (target_of target) m c.in_ok-target.ensures.frames (target_nothing target) a.array.now a.old c.in_ok-size.size c.in_ok-size.ensures (c.in_ok-target.ensures.begun m (length p.frame) at) stop s1 c.in_err-fill.ensures.told);
       scopes = no_scopes (SameScopes s.frames s1.frames) c.from_residual-in_err-fill.result stop is;
+      lender = c.in_err-fill.ensures.lender ∙ c.in_ok-target.ensures.lender;
     }
 
-pub run_array-returns : goal.run_array-returns
-run_array-returns t c =
+pub array_loops::run_array-returns : goal.array_loops::run_array-returns
+array_loops::run_array-returns g t c =
     let a = c.args in
     let ctx = a.context.now in
     let s = a.state.now in
@@ -1496,10 +1577,11 @@ run_array-returns t c =
           target.cells.items items r s1 s2 c.in_ok-target.ensures.cells c.in_ok-fill.ensures.told
           (λ h there. subst (λ b. Told IsValue r s2 (settled (target_of target) (record { base = b; shape = p.shape; cells = items }) h)) c.base.ensures (c.finish.ensures.told h there));
       scopes = on_ok r (λ q. scopes_join s.frames s0.frames s1.frames s2.frames c.in_ok-target.ensures.frames c.in_ok-fill.ensures.scopes q) c.finish.ensures.frames;
+      lender = c.finish.ensures.lender ∙ c.in_ok-fill.ensures.lender ∙ c.in_ok-target.ensures.lender;
     }
 
-pub run_fold-returns-in_err-sum : goal.run_fold-returns-in_err-sum
-run_fold-returns-in_err-sum t c =
+pub array_loops::run_fold-returns-in_err-sum : goal.array_loops::run_fold-returns-in_err-sum
+array_loops::run_fold-returns-in_err-sum g t c =
     let a = c.args in
     let ctx = a.context.now in
     let s = a.state.now in
@@ -1514,10 +1596,11 @@ run_fold-returns-in_err-sum t c =
           handed IsValue c.from_residual-in_err-sum.result stop s1 (job_does None (fold_job ctx (current s.frames) m a.gens.now (plan_of p) a.op a.neutral) m) is
           (fold_stops ctx a.gens.now (plan_of p) s s0 (fold_target target) m c.in_ok-target.ensures.frames (fold_nothing target) a.op a.neutral (c.in_ok-target.ensures.begun m (length p.frame) at) stop s1 c.in_err-sum.ensures.told);
       scopes = no_scopes (SameScopes s.frames s1.frames) c.from_residual-in_err-sum.result stop is;
+      lender = c.in_err-sum.ensures.lender ∙ c.in_ok-target.ensures.lender;
     }
 
-pub run_fold-returns : goal.run_fold-returns
-run_fold-returns t c =
+pub array_loops::run_fold-returns : goal.array_loops::run_fold-returns
+array_loops::run_fold-returns g t c =
     let a = c.args in
     let ctx = a.context.now in
     let s = a.state.now in
@@ -1532,10 +1615,11 @@ run_fold-returns t c =
           fold_tells ctx a.gens.now (plan_of p) s s0 (fold_target target) m c.in_ok-target.ensures.frames (fold_nothing target) a.op a.neutral (c.in_ok-target.ensures.begun m (length p.frame) at)
           array_of c.start.result c.in_ok-sum.sum r s1 s2 c.start.ensures c.in_ok-sum.ensures.told c.finish_fold.ensures.told;
       scopes = on_ok r (λ q. scopes_join s.frames s0.frames s1.frames s2.frames c.in_ok-target.ensures.frames c.in_ok-sum.ensures.scopes q) c.finish_fold.ensures.frames;
+      lender = c.finish_fold.ensures.lender ∙ c.in_ok-sum.ensures.lender ∙ c.in_ok-target.ensures.lender;
     }
 
-pub run_parts-returns-in_err-join_parts : goal.run_parts-returns-in_err-join_parts
-run_parts-returns-in_err-join_parts t c =
+pub array_loops::run_parts-returns-in_err-join_parts : goal.array_loops::run_parts-returns-in_err-join_parts
+array_loops::run_parts-returns-in_err-join_parts g t c =
     let a = c.args in
     let ctx = a.context.now in
     let s = a.state.now in
@@ -1549,10 +1633,11 @@ run_parts-returns-in_err-join_parts t c =
           handed IsValue c.from_residual-in_err-join_parts.result stop s1 (job_does None (parts_job ctx (current s.frames) a.parts.now a.frame.now a.form.now a.shape.now) m) is
           (parts_stop ctx a.parts.now a.frame.now a.form.now s s0 (target_of target) m c.in_ok-target.ensures.frames (target_nothing target) a.shape.now (c.in_ok-target.ensures.begun m (length a.frame.now) at) stop s1 c.in_err-join_parts.ensures.told);
       scopes = no_scopes (SameScopes s.frames s1.frames) c.from_residual-in_err-join_parts.result stop is;
+      lender = c.in_err-join_parts.ensures.lender ∙ c.in_ok-target.ensures.lender;
     }
 
-pub run_parts-returns : goal.run_parts-returns
-run_parts-returns t c =
+pub array_loops::run_parts-returns : goal.array_loops::run_parts-returns
+array_loops::run_parts-returns g t c =
     let a = c.args in
     let ctx = a.context.now in
     let s = a.state.now in
@@ -1567,10 +1652,11 @@ run_parts-returns t c =
           parts_tell ctx a.parts.now a.frame.now a.form.now s s0 (target_of target) m c.in_ok-target.ensures.frames (target_nothing target) a.shape.now (c.in_ok-target.ensures.begun m (length a.frame.now) at)
           target.cells.items items r s1 s2 c.in_ok-target.ensures.cells c.in_ok-join_parts.ensures.told c.finish.ensures.told;
       scopes = on_ok r (λ q. scopes_join s.frames s0.frames s1.frames s2.frames c.in_ok-target.ensures.frames c.in_ok-join_parts.ensures.scopes q) c.finish.ensures.frames;
+      lender = c.finish.ensures.lender ∙ c.in_ok-join_parts.ensures.lender ∙ c.in_ok-target.ensures.lender;
     }
 
-pub fold_parts-returns-in_err-sum : goal.fold_parts-returns-in_err-sum
-fold_parts-returns-in_err-sum t c =
+pub array_loops::fold_parts-returns-in_err-sum : goal.array_loops::fold_parts-returns-in_err-sum
+array_loops::fold_parts-returns-in_err-sum g t c =
     let a = c.args in
     let ctx = a.context.now in
     let s = a.state.now in
@@ -1584,10 +1670,11 @@ fold_parts-returns-in_err-sum t c =
           handed IsValue c.from_residual-in_err-sum.result stop s1 (job_does None (fold_parts_job ctx (current s.frames) a.parts.now a.frame.now a.form.now a.op a.neutral) m) is
           (part_fold_stops ctx a.parts.now a.frame.now a.form.now s s0 (fold_target target) m c.in_ok-target.ensures.frames (fold_nothing target) a.op a.neutral (c.in_ok-target.ensures.begun m (length a.frame.now) at) stop s1 c.in_err-sum.ensures.told);
       scopes = no_scopes (SameScopes s.frames s1.frames) c.from_residual-in_err-sum.result stop is;
+      lender = c.in_err-sum.ensures.lender ∙ c.in_ok-target.ensures.lender;
     }
 
-pub fold_parts-returns : goal.fold_parts-returns
-fold_parts-returns t c =
+pub array_loops::fold_parts-returns : goal.array_loops::fold_parts-returns
+array_loops::fold_parts-returns g t c =
     let a = c.args in
     let ctx = a.context.now in
     let s = a.state.now in
@@ -1601,10 +1688,11 @@ fold_parts-returns t c =
           part_fold_tells ctx a.parts.now a.frame.now a.form.now s s0 (fold_target target) m c.in_ok-target.ensures.frames (fold_nothing target) a.op a.neutral (c.in_ok-target.ensures.begun m (length a.frame.now) at)
           array_of c.start.result c.in_ok-sum.sum r s1 s2 c.start.ensures c.in_ok-sum.ensures.told c.finish_fold.ensures.told;
       scopes = on_ok r (λ q. scopes_join s.frames s0.frames s1.frames s2.frames c.in_ok-target.ensures.frames c.in_ok-sum.ensures.scopes q) c.finish_fold.ensures.frames;
+      lender = c.finish_fold.ensures.lender ∙ c.in_ok-sum.ensures.lender ∙ c.in_ok-target.ensures.lender;
     }
 
-pub run_with-returns-in_err-plan-in-Genarray-clause-told : goal.run_with-returns-in_err-plan-in-Genarray-clause-told
-run_with-returns-in_err-plan-in-Genarray-clause-told t c =
+pub array_loops::run_with-returns-in_err-plan-in-Genarray-clause-told : goal.array_loops::run_with-returns-in_err-plan-in-Genarray-clause-told
+array_loops::run_with-returns-in_err-plan-in-Genarray-clause-told g t c =
     let a = c.args in
     let ctx = a.context.now in
     let s = a.state.now in
@@ -1620,8 +1708,8 @@ run_with-returns-in_err-plan-in-Genarray-clause-told t c =
     (subst (ToldStop stop s) (sym (with_means ctx e w a.site m))
     (with_stops ctx e m gs a.site bs (c.deref-in-Genarray.ensures.value ∙ c.in_ok-bounds.ensures m at.heap ∙ ap (map (λ (g : CodeGen). bounds_of (gen_head g) (reads m e))) c.deref.ensures.value) (out-CodeWith w).op (genarray c.in_ok-shape-in-Genarray.shape c.in_ok-default-in-Genarray.default a.site) (ap (λ o. operation o a.site (reads m e)) i.is ∙ (λ j. genarray ((ap (read m) (sym c.get.ensures) ∙ sym (c.in_ok-shape-in-Genarray.ensures m at.heap)) j) ((ap (read m) (sym c.get-in-Genarray.ensures) ∙ sym (c.in_ok-default-in-Genarray.ensures m at.heap)) j) a.site)) stop s at c.in_err-plan-in-Genarray.ensures.told))
 
-pub run_with-returns-in-Genarray-clause-told : goal.run_with-returns-in-Genarray-clause-told
-run_with-returns-in-Genarray-clause-told t c =
+pub array_loops::run_with-returns-in-Genarray-clause-told : goal.array_loops::run_with-returns-in-Genarray-clause-told
+array_loops::run_with-returns-in-Genarray-clause-told g t c =
     let a = c.args in
     let ctx = a.context.now in
     let s = a.state.now in
@@ -1636,8 +1724,8 @@ run_with-returns-in-Genarray-clause-told t c =
     subst (Told IsOnly r st) (sym (with_means ctx e w a.site m))
     (genarray_tells ctx e m gs a.site bs (c.deref-in-Genarray.ensures.value ∙ c.in_ok-bounds.ensures m at.heap ∙ ap (map (λ (g : CodeGen). bounds_of (gen_head g) (reads m e))) c.deref.ensures.value) (out-CodeWith w).op c.in_ok-shape-in-Genarray.shape c.in_ok-default-in-Genarray.default (plan_of c.in_ok-plan-in-Genarray.plan) r st (ap (λ o. operation o a.site (reads m e)) i.is ∙ (λ j. genarray ((ap (read m) (sym c.get.ensures) ∙ sym (c.in_ok-shape-in-Genarray.ensures m at.heap)) j) ((ap (read m) (sym c.get-in-Genarray.ensures) ∙ sym (c.in_ok-default-in-Genarray.ensures m at.heap)) j) a.site)) c.in_ok-plan-in-Genarray.ensures.told (subst (λ (gens : List CodeGen). Told IsValue r st (job_does None (array_job ctx e m gens (plan_of c.in_ok-plan-in-Genarray.plan) c.in_ok-default-in-Genarray.default false) m)) c.deref-in-Genarray-2.ensures.value (c.run_array.ensures.told m at)))
 
-pub run_with-returns-in_err-plan-in-Modarray-clause-told : goal.run_with-returns-in_err-plan-in-Modarray-clause-told
-run_with-returns-in_err-plan-in-Modarray-clause-told t c =
+pub array_loops::run_with-returns-in_err-plan-in-Modarray-clause-told : goal.array_loops::run_with-returns-in_err-plan-in-Modarray-clause-told
+array_loops::run_with-returns-in_err-plan-in-Modarray-clause-told g t c =
     let a = c.args in
     let ctx = a.context.now in
     let s = a.state.now in
@@ -1653,8 +1741,8 @@ run_with-returns-in_err-plan-in-Modarray-clause-told t c =
     (subst (ToldStop stop s) (sym (with_means ctx e w a.site m))
     (with_stops ctx e m gs a.site bs (c.deref-in-Modarray.ensures.value ∙ c.in_ok-bounds.ensures m at.heap ∙ ap (map (λ (g : CodeGen). bounds_of (gen_head g) (reads m e))) c.deref.ensures.value) (out-CodeWith w).op (modarray c.in_ok-old-in-Modarray.old a.site) (ap (λ o. operation o a.site (reads m e)) i.is ∙ (λ j. modarray ((ap (read m) (sym c.get-in-Modarray.ensures) ∙ sym (c.in_ok-old-in-Modarray.ensures m at.heap)) j) a.site)) stop s at c.in_err-plan-in-Modarray.ensures.told))
 
-pub run_with-returns-in-Modarray-clause-told : goal.run_with-returns-in-Modarray-clause-told
-run_with-returns-in-Modarray-clause-told t c =
+pub array_loops::run_with-returns-in-Modarray-clause-told : goal.array_loops::run_with-returns-in-Modarray-clause-told
+array_loops::run_with-returns-in-Modarray-clause-told g t c =
     let a = c.args in
     let ctx = a.context.now in
     let s = a.state.now in
@@ -1669,8 +1757,8 @@ run_with-returns-in-Modarray-clause-told t c =
     subst (Told IsOnly r st) (sym (with_means ctx e w a.site m))
     (modarray_tells ctx e m gs a.site bs (c.deref-in-Modarray.ensures.value ∙ c.in_ok-bounds.ensures m at.heap ∙ ap (map (λ (g : CodeGen). bounds_of (gen_head g) (reads m e))) c.deref.ensures.value) (out-CodeWith w).op c.in_ok-old-in-Modarray.old (plan_of c.in_ok-plan-in-Modarray.plan) r st (ap (λ o. operation o a.site (reads m e)) i.is ∙ (λ j. modarray ((ap (read m) (sym c.get-in-Modarray.ensures) ∙ sym (c.in_ok-old-in-Modarray.ensures m at.heap)) j) a.site)) c.in_ok-plan-in-Modarray.ensures.told (subst (λ (gens : List CodeGen). Told IsValue r st (job_does None (array_job ctx e m gens (plan_of c.in_ok-plan-in-Modarray.plan) c.in_ok-old-in-Modarray.old true) m)) c.deref-in-Modarray-2.ensures.value (c.run_array-in-Modarray.ensures.told m at)))
 
-pub run_with-returns-in_err-plan-in-Fold-clause-told : goal.run_with-returns-in_err-plan-in-Fold-clause-told
-run_with-returns-in_err-plan-in-Fold-clause-told t c =
+pub array_loops::run_with-returns-in_err-plan-in-Fold-clause-told : goal.array_loops::run_with-returns-in_err-plan-in-Fold-clause-told
+array_loops::run_with-returns-in_err-plan-in-Fold-clause-told g t c =
     let a = c.args in
     let ctx = a.context.now in
     let s = a.state.now in
@@ -1686,8 +1774,8 @@ run_with-returns-in_err-plan-in-Fold-clause-told t c =
     (subst (ToldStop stop s) (sym (with_means ctx e w a.site m))
     (with_stops ctx e m gs a.site bs (c.deref-in-Fold.ensures.value ∙ c.in_ok-bounds.ensures m at.heap ∙ ap (map (λ (g : CodeGen). bounds_of (gen_head g) (reads m e))) c.deref.ensures.value) (out-CodeWith w).op (fold_by i.op c.in_ok-neutral-in-Fold.neutral a.site) (ap (λ o. operation o a.site (reads m e)) i.is ∙ (λ j. fold_by i.op ((ap (read m) (sym c.get-in-Fold.ensures) ∙ sym (c.in_ok-neutral-in-Fold.ensures m at.heap)) j) a.site)) stop s at c.in_err-plan-in-Fold.ensures))
 
-pub run_with-returns-clause-told : goal.run_with-returns-clause-told
-run_with-returns-clause-told t c =
+pub array_loops::run_with-returns-clause-told : goal.array_loops::run_with-returns-clause-told
+array_loops::run_with-returns-clause-told g t c =
     let a = c.args in
     let ctx = a.context.now in
     let s = a.state.now in
@@ -1707,8 +1795,8 @@ no_mark : {A : Type 0} (o : Option A) → is_some o ≡ false → o ≡ None
 no_mark None h = refl
 no_mark (Some x) h = absurd (true≢false h)
 
-pub run_parted-returns-then-not-fits-clause-told : goal.run_parted-returns-then-not-fits-clause-told
-run_parted-returns-then-not-fits-clause-told t c =
+pub array_loops::run_parted-returns-then-not-fits-clause-told : goal.array_loops::run_parted-returns-then-not-fits-clause-told
+array_loops::run_parted-returns-then-not-fits-clause-told g t c =
     let a = c.args in
     let ctx = a.context.now in
     let s = a.state.now in
@@ -1723,8 +1811,8 @@ run_parted-returns-then-not-fits-clause-told t c =
     (subst (ToldStop (Faulted (record { kind = F6; site = a.site })) s) (sym meant)
     (fold_misfits ctx e m p.frame p.base p.cell p.parts.items a.site p.op i.op i.neutral i.is s at misfits))
 
-pub run_parted-returns-in-Fold-clause-told : goal.run_parted-returns-in-Fold-clause-told
-run_parted-returns-in-Fold-clause-told t c =
+pub array_loops::run_parted-returns-in-Fold-clause-told : goal.array_loops::run_parted-returns-in-Fold-clause-told
+array_loops::run_parted-returns-in-Fold-clause-told g t c =
     let a = c.args in
     let ctx = a.context.now in
     let s = a.state.now in
@@ -1741,8 +1829,8 @@ run_parted-returns-in-Fold-clause-told t c =
     (part_fold_is ctx e m p.frame p.base p.cell p.parts.items a.site p.op i.op i.neutral i.is c.in_ok-frame.frame (record { base = p.base; shape = c.copy.result }) c.in_ok-neutral-in-Fold.neutral c.deref.result.now r st
     c.in_ok-frame.ensures (λ j. record { base = p.base; shape = c.copy.ensures j }) (c.in_ok-neutral-in-Fold.ensures m at.heap ∙ ap (read m) c.get-neutral.ensures) c.deref.ensures.value fits (c.fold_parts.ensures.told m at))
 
-pub run_parted-returns : goal.run_parted-returns
-run_parted-returns t c =
+pub array_loops::run_parted-returns : goal.array_loops::run_parted-returns
+array_loops::run_parted-returns g t c =
     let a = c.args in
     let ctx = a.context.now in
     let s = a.state.now in
@@ -1758,4 +1846,5 @@ run_parted-returns t c =
           (part_cells_are ctx e m p.frame p.base p.cell p.parts.items a.site p.op c.in_ok-frame.frame (record { base = p.base; shape = c.copy.result }) c.in_ok-shape-in_default.shape c.deref-in_default.result.now r st
           (λ o x is. c.in_default.not-Fold o x is) c.in_ok-frame.ensures (λ j. record { base = p.base; shape = c.copy.ensures j }) c.in_ok-shape-in_default.ensures c.deref-in_default.ensures.value (c.run_parts.ensures.told m at));
       scopes = c.run_parts.ensures.scopes;
+      lender = c.run_parts.ensures.lender;
     }
