@@ -1,0 +1,11 @@
+-- How high the trees of lists are.
+use Rattle.std.proofs.Common.{ℕ, List}
+use denote.Param.Weighed.{most}
+use Rattle.counted_code.specs.declared.tree.CodeGen.{CodeGen, size-CodeGen}
+use Rattle.counted_code.specs.declared.tree.CodePart.{CodePart, size-CodePart}
+
+abbrev pub gens_size : List CodeGen → ℕ
+gens_size gs = most (λ g. size-CodeGen g) gs
+
+abbrev pub parts_size : List CodePart → ℕ
+parts_size ps = most (λ p. size-CodePart p) ps
