@@ -1,0 +1,11 @@
+mod Counters
+mod Covering
+mod Ending
+mod FoldEnding
+mod Handing
+mod Machines
+mod Openings
+mod PartFolds
+mod PartedEnding
+mod PartsShared
+mod Shared

@@ -1,0 +1,4 @@
+pub mod Alive
+pub mod Calls
+pub mod Covered
+pub mod Homes
