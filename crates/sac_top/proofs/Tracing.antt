@@ -13,6 +13,7 @@ use Rattle.sac_ast.specs.Tree.{ProgramTree}
 use Rattle.value_meaning.specs.Calls.{outcome}
 use Rattle.data_text.specs.Texts.{Refusal}
 use Rattle.buffer_heap.specs.Heaps.{HeapValue, at}
+use Rattle.count_table.specs.Tallied.{PhaseTotals}
 use Rattle.counted_code.specs.declared.tree.Code.{Code}
 use Rattle.counted_code.specs.declared.tree.Cost.{Cost}
 use Rattle.counted_code.specs.View.{code_program}
@@ -21,7 +22,7 @@ use Rattle.with_loops.specs.declared.stop.Stop.{Stop}
 use Rattle.with_loops.specs.declared.stop.Stop.TheVariants as stop
 use Rattle.with_loops.specs.Tells.{TellsItems}
 use Rattle.run_eval.specs.declared.trace.Trace.{Trace}
-use Rattle.run_eval.specs.Outcomes.{new_heap, IsCleared, HasCounters, TellsCost}
+use Rattle.run_eval.specs.Outcomes.{new_heap, IsCleared, HasCounters, TellsCost, TellsTally}
 use Rattle.sac_words.specs.declared.options.Mode.TheVariants.{Run}
 use Rattle.sac_words.specs.Meaning.{Meant, Origin, empty, file, generated, words_mean}
 use Rattle.sac_due.specs.Report.{Numbers}
@@ -54,11 +55,11 @@ after_results : (ended : Ends (List ArrayValue)) (t : Trace) (cost : Cost) (m : 
 after_results ended t cost m is h = subst (λ o. IfOk o (λ results. HasCost t cost)) is h
 
 -- whatever ended the run but want of memory
-pub run_traced : (p : ProgramTree) (args : List ArrayValue) (caps : Caps) (code : Code) (r : Result (Vec ArrayValue Global) Stop) (t : Trace) (h : HeapValue) (folded scalarised : ℕ)
+pub run_traced : (p : ProgramTree) (args : List ArrayValue) (caps : Caps) (code : Code) (r : Result (Vec ArrayValue Global) Stop) (before : PhaseTotals) (t : Trace) (h : HeapValue) (folded scalarised : ℕ)
     → IsCodeFor p (code_program code) → TellsItems r (outcome_of (whole_run (code_program code) args caps)) → TellsCost r t (cost_of (whole_run (code_program code) args caps))
-    → HasCounters t h → folded ≡ 0 → scalarised ≡ 0 → HasEnded r
-    → IsRunTraced p args caps (record t { code = Some code; folded = folded; scalarised = scalarised }) h
-run_traced p args caps code (Ok v) t h folded scalarised sound tells cost counters f s other = record {
+    → TellsTally r before t.tally (cost_of (whole_run (code_program code) args caps)) → HasCounters t h → folded ≡ 0 → scalarised ≡ 0 → HasEnded r
+    → IsRunTraced p args caps before (record t { code = Some code; folded = folded; scalarised = scalarised }) h
+run_traced p args caps code (Ok v) before t h folded scalarised sound tells cost tally counters f s other = record {
   code = code;
   kept = refl;
   sound = sound;
@@ -66,9 +67,10 @@ run_traced p args caps code (Ok v) t h folded scalarised sound tells cost counte
   scalarised = s;
   cost = after_results (outcome p args caps) t (cost_of (whole_run (code_program code) args caps)) (Ok v.items) (sym tells ∙ sound.outcome args caps) cost;
   phases = cost.3;
+  tally = tally;
   counters = counters;
 }
-run_traced p args caps code (Err (stop.Faulted e)) t h folded scalarised sound tells cost counters f s other = record {
+run_traced p args caps code (Err (stop.Faulted e)) before t h folded scalarised sound tells cost tally counters f s other = record {
   code = code;
   kept = refl;
   sound = sound;
@@ -76,9 +78,10 @@ run_traced p args caps code (Err (stop.Faulted e)) t h folded scalarised sound t
   scalarised = s;
   cost = after_results (outcome p args caps) t (cost_of (whole_run (code_program code) args caps)) (Err e) (sym tells ∙ sound.outcome args caps) tt;
   phases = cost;
+  tally = tally;
   counters = counters;
 }
-run_traced p args caps code (Err stop.Memory) t h folded scalarised sound tells cost counters f s other = absurd other
+run_traced p args caps code (Err stop.Memory) before t h folded scalarised sound tells cost tally counters f s other = absurd other
 
 -- what holds whatever the answer
 pub whatever : {T E : Type 0} (r : Result T E) (P : Type 0) → P → IfOk r (λ x. P)
@@ -102,21 +105,21 @@ not_run r end X other h =
 
 -- ---- the arguments, the input and the source
 
-pub given_traced : (r : Result Answer NoMemory) (asked : Meant) (p : ProgramTree) (given : Result (List ArrayValue) Refusal) (args : List ArrayValue) (t : Trace) (h : HeapValue) → given ≡ Ok args
-    → IfOk r (λ a. ending a ≡ ended asked (numbers_of t) (outcome p args asked.caps)) → IfOk r (λ a. IsRunTraced p args asked.caps t h)
-    → IfOk r (λ a. IsRunStatus a.status → IsGivenTraced asked p given (ending a) t h)
-given_traced (Err e) asked p given args t h are ends run = tt
-given_traced (Ok a) asked p given args t h are ends run = λ is. record { args = args; are = are; ends = ends; run = run }
+pub given_traced : (r : Result Answer NoMemory) (asked : Meant) (p : ProgramTree) (given : Result (List ArrayValue) Refusal) (args : List ArrayValue) (before : PhaseTotals) (t : Trace) (h : HeapValue) → given ≡ Ok args
+    → IfOk r (λ a. ending a ≡ ended asked (numbers_of t) (outcome p args asked.caps)) → IfOk r (λ a. IsRunTraced p args asked.caps before t h)
+    → IfOk r (λ a. IsRunStatus a.status → IsGivenTraced asked p given (ending a) before t h)
+given_traced (Err e) asked p given args before t h are ends run = tt
+given_traced (Ok a) asked p given args before t h are ends run = λ is. record { args = args; are = are; ends = ends; run = run }
 
 same_name : (a b : List ℕ) → file a ≡ file b → a ≡ b
 same_name a b e = cc (e)
 
-module _ (asked : Meant) (p : ProgramTree) (files : Option Contents) (t : Trace) (h : HeapValue) (r : Result Answer NoMemory) where
+module _ (asked : Meant) (p : ProgramTree) (files : Option Contents) (before : PhaseTotals) (t : Trace) (h : HeapValue) (r : Result Answer NoMemory) where
   abbrev pub GivenBy : Origin → List ℕ → Type 0
-  GivenBy origin bytes = IfOk r (λ a. IsRunStatus a.status → IsGivenTraced asked p (arguments p origin bytes) (ending a) t h)
+  GivenBy origin bytes = IfOk r (λ a. IsRunStatus a.status → IsGivenTraced asked p (arguments p origin bytes) (ending a) before t h)
 
   abbrev pub ForProgram : Type 0
-  ForProgram = IfOk r (λ a. IsRunStatus a.status → IsProgramTraced asked p files (ending a) t h)
+  ForProgram = IfOk r (λ a. IsRunStatus a.status → IsProgramTraced asked p files (ending a) before t h)
 
   pub whole_traced : (name bytes : List ℕ) → asked.input ≡ file name → Holds files name bytes → length bytes ≤ 67108864 → GivenBy (file name) bytes → ForProgram
   whole_traced name bytes named holds fits x = IfOk-weaker r _ _ (λ a given is. record {
@@ -124,7 +127,7 @@ module _ (asked : Meant) (p : ProgramTree) (files : Option Contents) (t : Trace)
     text = bytes;
     found = λ other e. subst (λ n. Finds files n (Some bytes)) (same_name name other (sym named ∙ e)) (finds_whole files name bytes holds);
     read = subst (λ o. IsText o (Some bytes) bytes) (sym named) (refl, fits);
-    given = subst (λ o. IsGivenTraced asked p (arguments p o bytes) (ending a) t h) (sym named) (given is);
+    given = subst (λ o. IsGivenTraced asked p (arguments p o bytes) (ending a) before t h) (sym named) (given is);
   }) x
 
   pub empty_traced : asked.input ≡ empty → GivenBy empty [] → ForProgram
@@ -133,7 +136,7 @@ module _ (asked : Meant) (p : ProgramTree) (files : Option Contents) (t : Trace)
     text = [];
     found = λ other e. absurd (cc (named, e));
     read = subst (λ o. IsText o None []) (sym named) refl;
-    given = subst (λ o. IsGivenTraced asked p (arguments p o []) (ending a) t h) (sym named) (given is);
+    given = subst (λ o. IsGivenTraced asked p (arguments p o []) (ending a) before t h) (sym named) (given is);
   }) x
 
   pub generated_traced : (n : ℕ) → asked.input ≡ generated n → GivenBy (generated n) [] → ForProgram
@@ -142,30 +145,30 @@ module _ (asked : Meant) (p : ProgramTree) (files : Option Contents) (t : Trace)
     text = [];
     found = λ other e. absurd (cc (named, e));
     read = subst (λ o. IsText o None []) (sym named) refl;
-    given = subst (λ o. IsGivenTraced asked p (arguments p o []) (ending a) t h) (sym named) (given is);
+    given = subst (λ o. IsGivenTraced asked p (arguments p o []) (ending a) before t h) (sym named) (given is);
   }) x
 
-pub accepted_traced : (r : Result Answer NoMemory) (asked : Meant) (source : List ℕ) (p : ProgramTree) (files : Option Contents) (t : Trace) (h : HeapValue) → IsProgramOf source p
-    → IfOk r (λ a. IsRunStatus a.status → IsProgramTraced asked p files (ending a) t h)
-    → IfOk r (λ a. IsRunStatus a.status → (q : ProgramTree) × IsProgramOf source q × IsProgramTraced asked q files (ending a) t h)
-accepted_traced r asked source p files t h of x = IfOk-weaker r _ _ (λ a run is. (p, of, run is)) x
+pub accepted_traced : (r : Result Answer NoMemory) (asked : Meant) (source : List ℕ) (p : ProgramTree) (files : Option Contents) (before : PhaseTotals) (t : Trace) (h : HeapValue) → IsProgramOf source p
+    → IfOk r (λ a. IsRunStatus a.status → IsProgramTraced asked p files (ending a) before t h)
+    → IfOk r (λ a. IsRunStatus a.status → (q : ProgramTree) × IsProgramOf source q × IsProgramTraced asked q files (ending a) before t h)
+accepted_traced r asked source p files before t h of x = IfOk-weaker r _ _ (λ a run is. (p, of, run is)) x
 
 same_some : {A : Type 0} (a b : A) → Some a ≡ Some b → a ≡ b
 same_some a b e = cc (e)
 
 -- the words mean one thing, and the files stay as they were
-pub source_traced : (r : Result Answer NoMemory) (words : List (List ℕ)) (files between : Option Contents) (asked other : Meant) (source : List ℕ) (t : Trace) (h : HeapValue)
+pub source_traced : (r : Result Answer NoMemory) (words : List (List ℕ)) (files between : Option Contents) (asked other : Meant) (source : List ℕ) (before : PhaseTotals) (t : Trace) (h : HeapValue)
     → words_mean words ≡ Some asked → words_mean words ≡ Some other → Holds files asked.source source → between ≡ files
-    → IfOk r (λ a. IsRunStatus a.status → (q : ProgramTree) × IsProgramOf source q × IsProgramTraced asked q between (ending a) t h)
-    → IfOk r (λ a. IsRunStatus a.status → IsTraced other files (ending a) t h)
-source_traced r words files between asked other source t h means too holds same x =
-    subst (λ (k : Meant). IfOk r (λ a. IsRunStatus a.status → IsTraced k files (ending a) t h)) (same_some asked other (sym means ∙ too))
+    → IfOk r (λ a. IsRunStatus a.status → (q : ProgramTree) × IsProgramOf source q × IsProgramTraced asked q between (ending a) before t h)
+    → IfOk r (λ a. IsRunStatus a.status → IsTraced other files (ending a) before t h)
+source_traced r words files between asked other source before t h means too holds same x =
+    subst (λ (k : Meant). IfOk r (λ a. IsRunStatus a.status → IsTraced k files (ending a) before t h)) (same_some asked other (sym means ∙ too))
     (IfOk-weaker r _ _ (λ a run is. let of = run is in record {
       source = source;
       program = of.0;
       found = finds_whole files asked.source source holds;
       read = of.1;
-      run = subst (λ fs. IsProgramTraced asked of.0 fs (ending a) t h) same of.2;
+      run = subst (λ fs. IsProgramTraced asked of.0 fs (ending a) before t h) same of.2;
     }) x)
 
 pub same_mode : (words : List (List ℕ)) (asked other : Meant) → words_mean words ≡ Some asked → words_mean words ≡ Some other → other.mode ≡ Run → asked.mode ≡ Run

@@ -1,5 +1,5 @@
 -- What the steps of a run come to.
-use Rattle.std.specs.Prelude.{◌≡◌, ⊤, ℕ, List, Option, Some, None, Result, Ok, Err, MatchOption}
+use Rattle.std.specs.Prelude.{◌≡◌, ◌≤◌, ⊤, ℕ, List, Option, Some, None, Result, Ok, Err, MatchOption}
 use Rattle.sac_base.specs.declared.outcome.Outcome.{Outcome}
 use Rattle.sac_base.specs.declared.outcome.Outcome.TheVariants.{Values, Faulted}
 use Rattle.sac_base.specs.Arrays.{ArrayValue}
@@ -47,6 +47,10 @@ abbrev pub HasEnded : {A : Type 0} → Result A Stop → Type 0
 HasEnded (Ok values) = ⊤
 HasEnded (Err (stop.Faulted fault)) = ⊤
 HasEnded (Err stop.Memory) = ⊥
+
+-- there are 1 to 64 workers
+abbrev pub HasWorkers : ℕ → Type 0
+HasWorkers workers = (1 ≤ workers) × (workers ≤ 64)
 
 -- the file that is fetched for an accepted program
 abbrev pub file_of : Origin → Option (List ℕ)

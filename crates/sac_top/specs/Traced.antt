@@ -1,5 +1,5 @@
 -- What a run leaves in the trace and in the heap.
-use Rattle.std.specs.Prelude.{◌≡◌, ℕ, ⊤, List, Option, Some, None, Result, Ok, IfOk}
+use Rattle.std.specs.Prelude.{◌≡◌, ◌+◌, ◌%◌, ◌^◌, ℕ, ⊤, List, Option, Some, None, Result, Ok, IfOk}
 use Rattle.sac_base.specs.Arrays.{ArrayValue}
 use Rattle.sac_base.specs.declared.fault.Caps.{Caps}
 use Rattle.sac_io.specs.Files.{Contents}
@@ -8,6 +8,7 @@ use Rattle.sac_ast.specs.Tree.{ProgramTree}
 use Rattle.value_meaning.specs.Calls.{outcome}
 use Rattle.data_text.specs.Texts.{Refusal}
 use Rattle.buffer_heap.specs.Heaps.{HeapValue}
+use Rattle.count_table.specs.Tallied.{PhaseTotals}
 use Rattle.counted_code.specs.declared.tree.Code.{Code}
 use Rattle.counted_code.specs.declared.tree.Cost.{Cost}
 use Rattle.counted_code.specs.Terms.{CodeProgram}
@@ -27,7 +28,7 @@ use Rattle.sac_due.specs.declared.status.Status.{Status}
 use Rattle.sac_due.specs.declared.status.Status.TheVariants.{Done, Faulted, Limit}
 
 abbrev pub new_trace : Trace
-new_trace = record { code = None; folded = 0; scalarised = 0; taken = 0; given = 0; reused = 0; phases = 0 }
+new_trace = record { code = None; folded = 0; scalarised = 0; taken = 0; given = 0; reused = 0; phases = 0; tally = record { phases = 0; draws = 0 } }
 
 -- the numbers that the report tells
 abbrev pub numbers_of : Trace → Numbers
@@ -51,8 +52,12 @@ pub record IsCodeFor (p : ProgramTree) (code : CodeProgram) : Type 0 where
 abbrev pub HasCost : Trace → Cost → Type 0
 HasCost t cost = (t.taken ≡ cost.taken) × (t.given ≡ cost.given) × (t.reused ≡ cost.reused) × (t.phases ≡ cost.phases)
 
--- The trace has code for the program, and what the run of that code on these arguments costs on the machine: after results all of it, after a fault the phases. The heap's counters are the trace's.
-pub record IsRunTraced (p : ProgramTree) (args : List ArrayValue) (caps : Caps) (trace : Trace) (heap : HeapValue) : Type 0 where
+-- a tally has risen by so many phases, modulo 2 ^ 64, and by no draw
+abbrev pub HasRisen : PhaseTotals → PhaseTotals → ℕ → Type 0
+HasRisen before after phases = (after.phases ≡ (before.phases + phases) % 2 ^ 64) × (after.draws ≡ before.draws)
+
+-- The trace has code for the program, and what the run of that code on these arguments costs on the machine: after results all of it, after a fault the phases. By as many phases its tally has risen from what it was before. The heap's counters are the trace's.
+pub record IsRunTraced (p : ProgramTree) (args : List ArrayValue) (caps : Caps) (before : PhaseTotals) (trace : Trace) (heap : HeapValue) : Type 0 where
   pub code : Code
   pub kept : trace.code ≡ Some code
   pub sound : IsCodeFor p (code_program code)
@@ -60,33 +65,34 @@ pub record IsRunTraced (p : ProgramTree) (args : List ArrayValue) (caps : Caps) 
   pub scalarised : trace.scalarised ≡ 0
   pub cost : IfOk (outcome p args caps) (λ results. HasCost trace (cost_of (whole_run (code_program code) args caps)))
   pub phases : trace.phases ≡ (cost_of (whole_run (code_program code) args caps)).phases
+  pub tally : HasRisen before trace.tally (cost_of (whole_run (code_program code) args caps)).phases
   pub counters : HasCounters trace heap
 
 -- the input gave arguments, what is written is the outcome on them, with the numbers of the trace, and the trace tells that run
-pub record IsGivenTraced (asked : Meant) (p : ProgramTree) (given : Result (List ArrayValue) Refusal) (end : Ending) (trace : Trace) (heap : HeapValue) : Type 0 where
+pub record IsGivenTraced (asked : Meant) (p : ProgramTree) (given : Result (List ArrayValue) Refusal) (end : Ending) (before : PhaseTotals) (trace : Trace) (heap : HeapValue) : Type 0 where
   pub args : List ArrayValue
   pub are : given ≡ Ok args
   pub ends : end ≡ ended asked (numbers_of trace) (outcome p args asked.caps)
-  pub run : IsRunTraced p args asked.caps trace heap
+  pub run : IsRunTraced p args asked.caps before trace heap
 
 -- the same for what stands under the input's name
-pub record IsProgramTraced (asked : Meant) (p : ProgramTree) (files : Option Contents) (end : Ending) (trace : Trace) (heap : HeapValue) : Type 0 where
+pub record IsProgramTraced (asked : Meant) (p : ProgramTree) (files : Option Contents) (end : Ending) (before : PhaseTotals) (trace : Trace) (heap : HeapValue) : Type 0 where
   pub input : Option (List ℕ)
   pub text : List ℕ
   pub found : (name : List ℕ) → asked.input ≡ file name → Finds files name input
   pub read : IsText asked.input input text
-  pub given : IsGivenTraced asked p (arguments p asked.input text) end trace heap
+  pub given : IsGivenTraced asked p (arguments p asked.input text) end before trace heap
 
 -- the same for what stands under the source's name too
-pub record IsTraced (asked : Meant) (files : Option Contents) (end : Ending) (trace : Trace) (heap : HeapValue) : Type 0 where
+pub record IsTraced (asked : Meant) (files : Option Contents) (end : Ending) (before : PhaseTotals) (trace : Trace) (heap : HeapValue) : Type 0 where
   pub source : List ℕ
   pub program : ProgramTree
   pub found : Finds files asked.source (Some source)
   pub read : IsProgramOf source program
-  pub run : IsProgramTraced asked program files end trace heap
+  pub run : IsProgramTraced asked program files end before trace heap
 
 -- the text of the run that the trace tells was written
-pub record EndsTraced (asked : Meant) (files : Option Contents) (old new : Option (List ℕ)) (status : Status) (trace : Trace) (heap : HeapValue) : Type 0 where
+pub record EndsTraced (asked : Meant) (files : Option Contents) (old new : Option (List ℕ)) (status : Status) (before : PhaseTotals) (trace : Trace) (heap : HeapValue) : Type 0 where
   pub text : List ℕ
   pub written : new ≡ with_more old text
-  pub traced : IsTraced asked files (record { status = status; text = text }) trace heap
+  pub traced : IsTraced asked files (record { status = status; text = text }) before trace heap

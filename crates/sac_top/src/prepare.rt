@@ -7,12 +7,13 @@ ghost use Rattle.sac_words.specs.Meaning.{Meant, texts, meant, words_mean, IsSiz
 ghost use Rattle.sac_due.specs.Source.{IsProgramOf};
 ghost use Rattle.sac_due.specs.Answer.{Calls, Fetches, IsAnswer};
 ghost use Rattle.sac_top.specs.Traced.{numbers_of, IsRunStatus, IsProgramTraced, IsTraced};
-ghost use Rattle.sac_top.specs.Steps.{ending, IsSourceAnswer, MayFetchMore};
+ghost use Rattle.sac_top.specs.Steps.{ending, HasWorkers, IsSourceAnswer, MayFetchMore};
 
 use crate::line::{Answer, answer_line};
 use crate::run::answer_program;
 use crate::source::{Judged, judge};
 use buffer_heap::Heap;
+use loop_workers::Gate;
 use run_eval::Trace;
 use sac_base::Memory;
 use sac_due::Status;
@@ -27,29 +28,31 @@ const SOURCE_LIMIT: u64 = 1_048_576;
 const USAGE: &str =
     "usage: sac FILE [--input FILE] [--workers N] [--chunk K] [--turns T] [--depth C] [--mode run|check|print] [--report] [--gen N]";
 
-fn answer_source<R: Threads + Sync, F: Files>(
+fn answer_source<G: Gate, R: Threads + Sync, F: Files>(
     rt: &R,
     alloc: Global,
     options: &Options,
     source: &[u8],
     files: &mut F,
     heap: &mut Heap,
+    gate: &G,
     trace: &mut Trace,
 ) -> Result<Answer, Memory>
+    requires workers { HasWorkers options.now.workers }
     requires sized { IsSized options.now.input }
     requires fits { length source.now ≤ 1048576 }
     requires new { heap.old ≡ new_heap }
     ensures answer { IfOk result (λ answer. (count : ℕ) × IsSourceAnswer (meant options.now) source.now (F.files files.old) (numbers_of trace.new)
         (Rose (F.faults files.old) (F.faults files.new)) count (ending answer) × Calls (F.calls files.old) (F.calls files.new) count) }
     ensures traced { options.now.mode ≡ Mode.Run → IfOk result (λ answer. IsRunStatus answer.status
-        → (p : ProgramTree) × IsProgramOf source.now p × IsProgramTraced (meant options.now) p (F.files files.old) (ending answer) trace.new heap.new) }
+        → (p : ProgramTree) × IsProgramOf source.now p × IsProgramTraced (meant options.now) p (F.files files.old) (ending answer) trace.old.tally trace.new heap.new) }
     ensures cleared { IsCleared heap.new }
     ensures never_falls { F.faults files.old ≤ F.faults files.new }
     ensures calls { OnErr result ((count : ℕ) × MayFetchMore (meant options.now) source.now count × Calls (F.calls files.old) (F.calls files.new) count) }
 {
     match judge(alloc, source)? {
         Judged::Accepted(checked) => answer_program(
-            rt, alloc, &checked, options, files, heap, trace,
+            rt, alloc, &checked, options, files, heap, gate, trace,
         ),
         Judged::Refused(text) => Ok(Answer {
             status: Status::Source,
@@ -59,19 +62,20 @@ fn answer_source<R: Threads + Sync, F: Files>(
 }
 
 /// What the words and the files come to.
-pub fn prepare<R: Threads + Sync, F: Files>(
+pub fn prepare<G: Gate, R: Threads + Sync, F: Files>(
     rt: &R,
     alloc: Global,
     words: &[&str],
     files: &mut F,
     heap: &mut Heap,
+    gate: &G,
     trace: &mut Trace,
 ) -> Result<Answer, Memory>
     requires { heap.old ≡ new_heap }
     ensures answer { IfOk result (λ answer. (count : ℕ) × IsAnswer (texts words.now) (F.files files.old) (numbers_of trace.new)
         (Rose (F.faults files.old) (F.faults files.new)) count (ending answer) × Calls (F.calls files.old) (F.calls files.new) count) }
     ensures traced { (asked : Meant) → words_mean (texts words.now) ≡ Some asked → asked.mode ≡ Mode.Run
-        → IfOk result (λ answer. IsRunStatus answer.status → IsTraced asked (F.files files.old) (ending answer) trace.new heap.new) }
+        → IfOk result (λ answer. IsRunStatus answer.status → IsTraced asked (F.files files.old) (ending answer) trace.old.tally trace.new heap.new) }
     ensures cleared { IsCleared heap.new }
     ensures never_falls { F.faults files.old ≤ F.faults files.new }
     ensures calls { OnErr result (Fetches (texts words.now) (F.files files.old) Status.Memory (F.calls files.old) (F.calls files.new)) }
@@ -84,7 +88,7 @@ pub fn prepare<R: Threads + Sync, F: Files>(
     };
     let mut source = Vec::new(alloc);
     match files.fetch(options.source, SOURCE_LIMIT, &mut source) {
-        Ok(Fetched::Whole) => answer_source(rt, alloc, &options, &source, files, heap, trace),
+        Ok(Fetched::Whole) => answer_source(rt, alloc, &options, &source, files, heap, gate, trace),
         Ok(Fetched::Longer) => answer_line(alloc, Status::Source, "refused source size"),
         Err(FetchError::Missing) => answer_line(alloc, Status::ReadFault, "read fault source"),
         Err(FetchError::Failed) => answer_line(alloc, Status::ReadFault, "read fault source"),

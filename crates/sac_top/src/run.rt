@@ -14,14 +14,15 @@ ghost use Rattle.sac_due.specs.Input.{main_types, main_bases};
 ghost use Rattle.sac_due.specs.Due.{ended, run_on};
 ghost use Rattle.sac_build.specs.Read.{IsRead};
 ghost use Rattle.sac_top.specs.Traced.{numbers_of, IsRunStatus, IsRunTraced, IsGivenTraced, IsProgramTraced};
-ghost use Rattle.sac_top.specs.Steps.{ending, ends_of, tree, HasEnded, file_of, file_in, IsFileAnswer, IsRunAnswer, IsProgramAnswer};
+ghost use Rattle.sac_top.specs.Steps.{ending, ends_of, tree, HasEnded, HasWorkers, file_of, file_in, IsFileAnswer, IsRunAnswer, IsProgramAnswer};
 
 use crate::arguments::{forms_of, generate_arguments, read_arguments};
 use crate::line::{Answer, answer_line, refused_data};
 use crate::results::answer_outcome;
 use buffer_heap::Heap;
 use data_text::DataError;
-use run_eval::{Plan, Stop, Trace, run};
+use loop_workers::{Gate, Plan, run};
+use run_eval::{Stop, Trace};
 use sac_base::{Array, Memory, Outcome};
 use sac_build::compile;
 use sac_due::Status;
@@ -47,20 +48,22 @@ fn outcome_told(told: Result<Vec<Array>, Stop>) -> Result<Outcome, Memory>
     }
 }
 
-// What an accepted program comes to: it is compiled, and its code is run.
-fn outcome_of<R: Threads + Sync>(
+// What an accepted program comes to: it is compiled, and workers run its code.
+fn outcome_of<G: Gate, R: Threads + Sync>(
     rt: &R,
     alloc: Global,
     checked: &Checked,
     options: &Options,
     args: Vec<Array>,
     heap: &mut Heap,
+    gate: &G,
     trace: &mut Trace,
 ) -> Result<Outcome, Memory>
+    requires workers { HasWorkers options.now.workers }
     requires read { IsRead (tree checked.now) }
     requires new { heap.old ≡ new_heap }
     ensures outcome { IfOk result (λ o. ends_of o ≡ outcome (tree checked.now) args.items options.now.caps) }
-    ensures traced { IfOk result (λ o. IsRunTraced (tree checked.now) args.items options.now.caps trace.new heap.new) }
+    ensures traced { IfOk result (λ o. IsRunTraced (tree checked.now) args.items options.now.caps trace.old.tally trace.new heap.new) }
     ensures cleared { IsCleared heap.new }
 {
     let forms = forms_of(alloc, &args)?;
@@ -70,52 +73,56 @@ fn outcome_of<R: Threads + Sync>(
         chunk: options.chunk,
         caps: options.caps,
     };
-    let result = run(rt, alloc, &compiled.code, args, heap, plan, trace);
+    let result = run(rt, alloc, &compiled.code, args, heap, plan, gate, trace);
     trace.code = Some(compiled.code);
     trace.folded = compiled.folded;
     trace.scalarised = compiled.scalarised;
     outcome_told(result)
 }
 
-fn answer_run<R: Threads + Sync>(
+fn answer_run<G: Gate, R: Threads + Sync>(
     rt: &R,
     alloc: Global,
     checked: &Checked,
     options: &Options,
     args: Vec<Array>,
     heap: &mut Heap,
+    gate: &G,
     trace: &mut Trace,
 ) -> Result<Answer, Memory>
+    requires workers { HasWorkers options.now.workers }
     requires read { IsRead (tree checked.now) }
     requires new { heap.old ≡ new_heap }
     ensures answer { IfOk result (λ answer. ending answer ≡ ended (meant options.now) (numbers_of trace.new) (outcome (tree checked.now) args.items options.now.caps)) }
-    ensures traced { IfOk result (λ answer. IsRunTraced (tree checked.now) args.items options.now.caps trace.new heap.new) }
+    ensures traced { IfOk result (λ answer. IsRunTraced (tree checked.now) args.items options.now.caps trace.old.tally trace.new heap.new) }
     ensures cleared { IsCleared heap.new }
 {
-    let outcome = outcome_of(rt, alloc, checked, options, args, heap, trace)?;
+    let outcome = outcome_of(rt, alloc, checked, options, args, heap, gate, trace)?;
     answer_outcome(alloc, &outcome, options, trace)
 }
 
 // What the program comes to on these arguments, or on their refusal.
-fn answer_given<R: Threads + Sync>(
+fn answer_given<G: Gate, R: Threads + Sync>(
     rt: &R,
     alloc: Global,
     checked: &Checked,
     options: &Options,
     given: Result<Vec<Array>, DataError>,
     heap: &mut Heap,
+    gate: &G,
     trace: &mut Trace,
 ) -> Result<Answer, Memory>
+    requires workers { HasWorkers options.now.workers }
     requires read { IsRead (tree checked.now) }
     requires new { heap.old ≡ new_heap }
     ensures answer { (r : Result (List ArrayValue) Refusal) → Tells given r
         → IfOk result (λ answer. ending answer ≡ run_on (meant options.now) (tree checked.now) (numbers_of trace.new) r) }
     ensures traced { (r : Result (List ArrayValue) Refusal) → Tells given r
-        → IfOk result (λ answer. IsRunStatus answer.status → IsGivenTraced (meant options.now) (tree checked.now) r (ending answer) trace.new heap.new) }
+        → IfOk result (λ answer. IsRunStatus answer.status → IsGivenTraced (meant options.now) (tree checked.now) r (ending answer) trace.old.tally trace.new heap.new) }
     ensures cleared { IsCleared heap.new }
 {
     match given {
-        Ok(args) => answer_run(rt, alloc, checked, options, args, heap, trace),
+        Ok(args) => answer_run(rt, alloc, checked, options, args, heap, gate, trace),
         Err(DataError::Refused(code, number)) => Ok(Answer {
             status: Status::Input,
             text: refused_data(alloc, code, number)?,
@@ -124,48 +131,52 @@ fn answer_given<R: Threads + Sync>(
     }
 }
 
-fn answer_text<R: Threads + Sync>(
+fn answer_text<G: Gate, R: Threads + Sync>(
     rt: &R,
     alloc: Global,
     checked: &Checked,
     options: &Options,
     text: &[u8],
     heap: &mut Heap,
+    gate: &G,
     trace: &mut Trace,
 ) -> Result<Answer, Memory>
+    requires workers { HasWorkers options.now.workers }
     requires read { IsRead (tree checked.now) }
     requires new { heap.old ≡ new_heap }
     ensures answer { IfOk result (λ answer. ending answer ≡ run_on (meant options.now) (tree checked.now) (numbers_of trace.new) (text_value text.now (main_bases (tree checked.now)))) }
     ensures traced { IfOk result (λ answer. IsRunStatus answer.status
-        → IsGivenTraced (meant options.now) (tree checked.now) (text_value text.now (main_bases (tree checked.now))) (ending answer) trace.new heap.new) }
+        → IsGivenTraced (meant options.now) (tree checked.now) (text_value text.now (main_bases (tree checked.now))) (ending answer) trace.old.tally trace.new heap.new) }
     ensures cleared { IsCleared heap.new }
 {
     let given = read_arguments(alloc, checked.program(), text);
-    answer_given(rt, alloc, checked, options, given, heap, trace)
+    answer_given(rt, alloc, checked, options, given, heap, gate, trace)
 }
 
-fn answer_generated<R: Threads + Sync>(
+fn answer_generated<G: Gate, R: Threads + Sync>(
     rt: &R,
     alloc: Global,
     checked: &Checked,
     options: &Options,
     n: u32,
     heap: &mut Heap,
+    gate: &G,
     trace: &mut Trace,
 ) -> Result<Answer, Memory>
+    requires workers { HasWorkers options.now.workers }
     requires sized { (1 ≤ n) × (n ≤ 4096) }
     requires read { IsRead (tree checked.now) }
     requires new { heap.old ≡ new_heap }
     ensures answer { IfOk result (λ answer. ending answer ≡ run_on (meant options.now) (tree checked.now) (numbers_of trace.new) (generated_all (main_types (tree checked.now)) 0 n)) }
     ensures traced { IfOk result (λ answer. IsRunStatus answer.status
-        → IsGivenTraced (meant options.now) (tree checked.now) (generated_all (main_types (tree checked.now)) 0 n) (ending answer) trace.new heap.new) }
+        → IsGivenTraced (meant options.now) (tree checked.now) (generated_all (main_types (tree checked.now)) 0 n) (ending answer) trace.old.tally trace.new heap.new) }
     ensures cleared { IsCleared heap.new }
 {
     let given = generate_arguments(alloc, checked.program(), n);
-    answer_given(rt, alloc, checked, options, given, heap, trace)
+    answer_given(rt, alloc, checked, options, given, heap, gate, trace)
 }
 
-fn answer_file<R: Threads + Sync, F: Files>(
+fn answer_file<G: Gate, R: Threads + Sync, F: Files>(
     rt: &R,
     alloc: Global,
     checked: &Checked,
@@ -173,22 +184,24 @@ fn answer_file<R: Threads + Sync, F: Files>(
     name: &str,
     files: &mut F,
     heap: &mut Heap,
+    gate: &G,
     trace: &mut Trace,
 ) -> Result<Answer, Memory>
+    requires workers { HasWorkers options.now.workers }
     requires named { input_meant options.now.input ≡ file name.now }
     requires read { IsRead (tree checked.now) }
     requires new { heap.old ≡ new_heap }
     ensures answer { IfOk result (λ answer. IsFileAnswer (meant options.now) (tree checked.now) (F.files files.old) (numbers_of trace.new)
         (Rose (F.faults files.old) (F.faults files.new)) name.now (ending answer)) }
     ensures traced { IfOk result (λ answer. IsRunStatus answer.status
-        → IsProgramTraced (meant options.now) (tree checked.now) (F.files files.old) (ending answer) trace.new heap.new) }
+        → IsProgramTraced (meant options.now) (tree checked.now) (F.files files.old) (ending answer) trace.old.tally trace.new heap.new) }
     ensures cleared { IsCleared heap.new }
     ensures never_falls { F.faults files.old ≤ F.faults files.new }
     ensures calls { F.calls files.new ≡ (F.calls files.old + 1) % 2 ^ 64 }
 {
     let mut text = Vec::new(alloc);
     match files.fetch(name, INPUT_LIMIT, &mut text) {
-        Ok(Fetched::Whole) => answer_text(rt, alloc, checked, options, &text, heap, trace),
+        Ok(Fetched::Whole) => answer_text(rt, alloc, checked, options, &text, heap, gate, trace),
         Ok(Fetched::Longer) => answer_line(alloc, Status::Input, "refused input size"),
         Err(FetchError::Missing) => answer_line(alloc, Status::ReadFault, "read fault input"),
         Err(FetchError::Failed) => answer_line(alloc, Status::ReadFault, "read fault input"),
@@ -196,58 +209,64 @@ fn answer_file<R: Threads + Sync, F: Files>(
     }
 }
 
-fn answer_input<R: Threads + Sync, F: Files>(
+fn answer_input<G: Gate, R: Threads + Sync, F: Files>(
     rt: &R,
     alloc: Global,
     checked: &Checked,
     options: &Options,
     files: &mut F,
     heap: &mut Heap,
+    gate: &G,
     trace: &mut Trace,
 ) -> Result<Answer, Memory>
+    requires workers { HasWorkers options.now.workers }
     requires sized { IsSized options.now.input }
     requires read { IsRead (tree checked.now) }
     requires new { heap.old ≡ new_heap }
     ensures answer { IfOk result (λ answer. IsRunAnswer (meant options.now) (tree checked.now) (F.files files.old) (numbers_of trace.new)
         (Rose (F.faults files.old) (F.faults files.new)) (ending answer)) }
     ensures traced { IfOk result (λ answer. IsRunStatus answer.status
-        → IsProgramTraced (meant options.now) (tree checked.now) (F.files files.old) (ending answer) trace.new heap.new) }
+        → IsProgramTraced (meant options.now) (tree checked.now) (F.files files.old) (ending answer) trace.old.tally trace.new heap.new) }
     ensures cleared { IsCleared heap.new }
     ensures never_falls { F.faults files.old ≤ F.faults files.new }
     ensures calls { MatchOption (file_of (input_meant options.now.input)) (files.new ≡ files.old)
         (λ _. F.calls files.new ≡ (F.calls files.old + 1) % 2 ^ 64) }
 {
     match options.input {
-        Input::Empty => answer_text(rt, alloc, checked, options, &[], heap, trace),
-        Input::File(name) => answer_file(rt, alloc, checked, options, name, files, heap, trace),
-        Input::Generated(n) => answer_generated(rt, alloc, checked, options, n, heap, trace),
+        Input::Empty => answer_text(rt, alloc, checked, options, &[], heap, gate, trace),
+        Input::File(name) => answer_file(
+            rt, alloc, checked, options, name, files, heap, gate, trace,
+        ),
+        Input::Generated(n) => answer_generated(rt, alloc, checked, options, n, heap, gate, trace),
     }
 }
 
 /// What an accepted program comes to.
-pub fn answer_program<R: Threads + Sync, F: Files>(
+pub fn answer_program<G: Gate, R: Threads + Sync, F: Files>(
     rt: &R,
     alloc: Global,
     checked: &Checked,
     options: &Options,
     files: &mut F,
     heap: &mut Heap,
+    gate: &G,
     trace: &mut Trace,
 ) -> Result<Answer, Memory>
+    requires workers { HasWorkers options.now.workers }
     requires sized { IsSized options.now.input }
     requires read { IsRead (tree checked.now) }
     requires new { heap.old ≡ new_heap }
     ensures answer { IfOk result (λ answer. IsProgramAnswer (meant options.now) (tree checked.now) (F.files files.old) (numbers_of trace.new)
         (Rose (F.faults files.old) (F.faults files.new)) (ending answer)) }
     ensures traced { options.now.mode ≡ Mode.Run → IfOk result (λ answer. IsRunStatus answer.status
-        → IsProgramTraced (meant options.now) (tree checked.now) (F.files files.old) (ending answer) trace.new heap.new) }
+        → IsProgramTraced (meant options.now) (tree checked.now) (F.files files.old) (ending answer) trace.old.tally trace.new heap.new) }
     ensures cleared { IsCleared heap.new }
     ensures never_falls { F.faults files.old ≤ F.faults files.new }
     ensures calls { MatchOption (file_in options.now.mode (input_meant options.now.input)) (files.new ≡ files.old)
         (λ _. F.calls files.new ≡ (F.calls files.old + 1) % 2 ^ 64) }
 {
     match options.mode {
-        Mode::Run => answer_input(rt, alloc, checked, options, files, heap, trace),
+        Mode::Run => answer_input(rt, alloc, checked, options, files, heap, gate, trace),
         Mode::Check => answer_line(alloc, Status::Done, "accepted"),
         Mode::Print => Ok(Answer {
             status: Status::Done,

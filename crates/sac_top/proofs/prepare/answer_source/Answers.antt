@@ -27,7 +27,7 @@ returns-in_err-checked-clause-cleared g c = untouched _ c.requires.new
 
 pub returns-in-Accepted-clause-traced : goal.returns-in-Accepted-clause-traced
 returns-in-Accepted-clause-traced g c =
-    λ runs. accepted_traced _ _ _ _ _ _ _ (subst (IsJudged c.args.source.now) c.in-Accepted.is c.in_ok-checked.ensures) (c.answer_program.ensures.traced runs)
+    λ runs. accepted_traced _ _ _ _ _ _ _ _ (subst (IsJudged c.args.source.now) c.in-Accepted.is c.in_ok-checked.ensures) (c.answer_program.ensures.traced runs)
 
 pub returns-in-Refused-clause-cleared : goal.returns-in-Refused-clause-cleared
 returns-in-Refused-clause-cleared g c = untouched _ c.requires.new

@@ -3,7 +3,11 @@ use Rattle.sac_io.specs.Count.{Rose}
 use Rattle.sac_due.specs.Answer
 use Rattle.sac_top.proofs.Whole.{no_numbers, refused_words, source_missing, source_failed, source_longer, fetched_once, once, on_err, refused_fetched, whole_answer, whole_calls}
 use Rattle.sac_top.proofs.Tracing.{untouched, not_run, source_traced, same_mode}
+use Rattle.sac_top.proofs.Workers.{asked_workers}
 use Rattle.sac_top.proofs.prepare.prepare.Goals as goal
+
+pub answer_source-requires-clause-workers : goal.answer_source-requires-clause-workers
+answer_source-requires-clause-workers g c κs within = asked_workers _ _ c.in-Ok.ensures.read
 
 pub returns-in-Err-Refused-clause-answer : goal.returns-in-Err-Refused-clause-answer
 returns-in-Err-Refused-clause-answer g c =
@@ -66,7 +70,7 @@ returns-in-Err-Memory-clause-cleared g c = untouched _ c.requires
 
 pub returns-in-Ok-Whole-clause-traced : goal.returns-in-Ok-Whole-clause-traced
 returns-in-Ok-Whole-clause-traced g c =
-    λ asked means runs. source_traced _ _ _ _ _ asked _ _ _ c.in-Ok.ensures.read means
+    λ asked means runs. source_traced _ _ _ _ _ asked _ _ _ _ c.in-Ok.ensures.read means
     (rw c.deref.ensures.value (c.in-Ok-Whole.ensures.whole (ap Ok c.in-Ok-Whole.field-0-is)))
     c.in-Ok-Whole.ensures.same_files (c.answer_source.ensures.traced (same_mode _ _ asked c.in-Ok.ensures.read means runs))
 

@@ -21,7 +21,7 @@ returns-in-Err-Failed-clause-answer g c = file_failed _ _ _ _ _ _ c.requires.nam
 
 pub returns-in-Ok-Whole-clause-traced : goal.returns-in-Ok-Whole-clause-traced
 returns-in-Ok-Whole-clause-traced g c =
-    whole_traced _ _ _ _ _ _ _ c.deref.result.now c.requires.named
+    whole_traced _ _ _ _ _ _ _ _ c.deref.result.now c.requires.named
     (rw c.deref.ensures.value (c.in-Ok-Whole.ensures.whole (ap Ok c.in-Ok-Whole.field-0-is)))
     (rw c.deref.ensures.value (c.in-Ok-Whole.ensures.within (ap Ok c.in-Ok-Whole.field-0-is)))
     c.answer_text.ensures.traced

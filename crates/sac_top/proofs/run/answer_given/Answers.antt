@@ -11,4 +11,4 @@ returns-in-Ok-clause-answer g c =
 
 pub returns-in-Ok-clause-traced : goal.returns-in-Ok-clause-traced
 returns-in-Ok-clause-traced g c =
-    λ r tells. given_traced _ _ _ r _ _ _ (subst (λ m. Tells m r) c.in-Ok.is tells) c.answer_run.ensures.answer c.answer_run.ensures.traced
+    λ r tells. given_traced _ _ _ r _ _ _ _ (subst (λ m. Tells m r) c.in-Ok.is tells) c.answer_run.ensures.answer c.answer_run.ensures.traced

@@ -11,7 +11,7 @@ pub returns-in-Generated-clause-answer : goal.returns-in-Generated-clause-answer
 returns-in-Generated-clause-answer g c = run_generated _ _ _ _ _ _ _ (ap input_meant c.in-Generated.is) c.answer_generated.ensures.answer
 
 pub returns-in-Empty-clause-traced : goal.returns-in-Empty-clause-traced
-returns-in-Empty-clause-traced g c = empty_traced _ _ _ _ _ _ (ap input_meant c.in-Empty.is) c.answer_text.ensures.traced
+returns-in-Empty-clause-traced g c = empty_traced _ _ _ _ _ _ _ (ap input_meant c.in-Empty.is) c.answer_text.ensures.traced
 
 pub returns-in-Generated-clause-traced : goal.returns-in-Generated-clause-traced
-returns-in-Generated-clause-traced g c = generated_traced _ _ _ _ _ _ _ (ap input_meant c.in-Generated.is) c.answer_generated.ensures.traced
+returns-in-Generated-clause-traced g c = generated_traced _ _ _ _ _ _ _ _ (ap input_meant c.in-Generated.is) c.answer_generated.ensures.traced

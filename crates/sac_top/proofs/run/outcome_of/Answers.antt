@@ -14,12 +14,12 @@ returns-clause-outcome g c =
 
 pub returns-clause-traced : goal.returns-clause-traced
 returns-clause-traced g c =
-    IfOk-weaker c.outcome_told.result _ _ (λ o ended. run_traced _ _ _ _ c.run-result.result _ _ _ _
+    IfOk-weaker c.outcome_told.result _ _ (λ o ended. run_traced _ _ _ _ c.run-result.result _ _ _ _ _
     (record {
       counted = c.in_ok-compiled.ensures.counted;
       prompt = c.in_ok-compiled.ensures.prompt;
       unmarked = c.in_ok-compiled.ensures.unmarked;
       outcome = c.in_ok-compiled.ensures.outcome;
     })
-    c.run-result.ensures.outcome c.run-result.ensures.cost c.run-result.ensures.counters c.in_ok-compiled.ensures.none.0 c.in_ok-compiled.ensures.none.1 ended)
+    c.run-result.ensures.outcome c.run-result.ensures.cost c.run-result.ensures.tally c.run-result.ensures.counters c.in_ok-compiled.ensures.none.0 c.in_ok-compiled.ensures.none.1 ended)
     c.outcome_told.ensures.ended
