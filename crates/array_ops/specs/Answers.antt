@@ -1,7 +1,7 @@
 -- What the answer of an operation tells of its meaning.
 use Rattle.std.specs.Prelude.{◌≡◌, Result, Ok, Err, ⊤}
 use Rattle.sac_base.specs.Arrays.{ArrayValue}
-use Rattle.sac_base.specs.declared.fault.FaultKind.{FaultKind}
+use Rattle.sac_base.specs.declared.faults.FaultKind.{FaultKind}
 use Rattle.array_ops.specs.declared.error.ArrayError.{ArrayError}
 use Rattle.array_ops.specs.declared.error.ArrayError.TheVariants.{Faulted, Memory}
 

@@ -1,7 +1,7 @@
 -- The operands of an operator.
 use Rattle.std.specs.Prelude.{◌≡◌, ◌<◌, ℕ, ℤ, pos, List, length, replicate, slice_index_or, Result, Ok, Err, Vec, ⊤}
 use Rattle.std.specs.Global.{Global}
-use Rattle.sac_base.specs.declared.fault.FaultKind.TheVariants.{F2}
+use Rattle.sac_base.specs.declared.faults.FaultKind.TheVariants.{F2}
 use Rattle.sac_base.specs.declared.op.ZeroDivisor.{ZeroDivisor}
 use Rattle.array_ops.specs.declared.error.ArrayError.{ArrayError}
 use Rattle.array_ops.specs.declared.error.ArrayError.TheVariants.{Faulted, Memory}

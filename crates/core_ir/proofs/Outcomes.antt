@@ -1,8 +1,8 @@
 -- Cores whose functions mean the same have the same outcome.
 use Rattle.std.proofs.Common.{◌≡◌, ℕ, zero, suc, List, [], ◌∷◌, ◌++◌, map, length, Option, Some, None, Ok, refl, sym, ap, ◌∙◌}
 use Rattle.std.specs.Prelude.{slice_get, unwrap_or, if◌then◌else◌}
-use Rattle.sac_base.specs.declared.fault.Caps.{Caps}
-use Rattle.sac_base.specs.declared.fault.FaultKind.TheVariants.{F7, F10}
+use Rattle.sac_base.specs.declared.faults.Caps.{Caps}
+use Rattle.sac_base.specs.declared.faults.FaultKind.TheVariants.{F7, F10}
 use Rattle.sac_base.specs.declared.site.Site.{Site}
 use Rattle.sac_base.specs.Arrays.{ArrayValue}
 use Rattle.sac_base.specs.Outcomes.{fault}

@@ -1,8 +1,8 @@
 -- What calls mean, and the outcome of a core.
 use Rattle.std.specs.Prelude.{◌≡◌, ℕ, zero, suc, Bool, ◌&&◌, ◌||◌, not, if◌then◌else◌, List, [], ◌∷◌, map, flat_map, length, Option, Some, None, Ok, slice_get, unwrap_or}
 use Rattle.std.specs.List.{list_all}
-use Rattle.sac_base.specs.declared.fault.Caps.{Caps}
-use Rattle.sac_base.specs.declared.fault.FaultKind.TheVariants.{F7, F10}
+use Rattle.sac_base.specs.declared.faults.Caps.{Caps}
+use Rattle.sac_base.specs.declared.faults.FaultKind.TheVariants.{F7, F10}
 use Rattle.sac_base.specs.declared.site.Site.{Site}
 use Rattle.sac_base.specs.declared.types.ArrayType.{ArrayType}
 use Rattle.sac_base.specs.Arrays.{ArrayValue}

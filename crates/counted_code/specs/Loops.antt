@@ -1,7 +1,7 @@
 -- Loops over cells: what is done once their checks have passed.
 use Rattle.std.specs.Prelude.{ℕ, suc, ◌+◌, ◌*◌, ◌==◌, Bool, true, false, ◌||◌, not, List, [], ◌∷◌, ◌++◌, map, length, take, drop, replicate, ℤ, pos, Option, Some, None, Ok, if◌then◌else◌}
 use Rattle.sac_base.specs.declared.base.Base.{Base}
-use Rattle.sac_base.specs.declared.fault.FaultKind.TheVariants.{F6}
+use Rattle.sac_base.specs.declared.faults.FaultKind.TheVariants.{F6}
 use Rattle.sac_base.specs.declared.form.Form.{Form}
 use Rattle.sac_base.specs.declared.grid.Grid1.{Grid1}
 use Rattle.sac_base.specs.declared.site.Site.{Site}

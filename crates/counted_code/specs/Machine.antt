@@ -1,7 +1,7 @@
 -- What counted code does: the meaning of its core, in the same words, with values in a heap and steps that keep and release.
 use Rattle.std.specs.Prelude.{ℕ, zero, suc, ◌-◌, Bool, true, false, cond, eqb, List, [], ◌∷◌, map, ℤ, None, option_map, Ok}
 use Rattle.sac_base.specs.declared.base.Base.TheVariants.{Int}
-use Rattle.sac_base.specs.declared.fault.FaultKind.TheVariants.{F9}
+use Rattle.sac_base.specs.declared.faults.FaultKind.TheVariants.{F9}
 use Rattle.sac_base.specs.declared.site.Site.{Site}
 use Rattle.sac_base.specs.Arrays.{scalar, vector}
 use Rattle.sac_base.specs.Outcomes.{at_site}

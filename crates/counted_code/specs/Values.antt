@@ -1,9 +1,9 @@
 -- Values, the heap of buffers, and steps that change it.
 use Rattle.std.specs.Prelude.{ℕ, zero, suc, ◌+◌, Bool, true, false, nat_le, List, [], ◌∷◌, ◌++◌, length, ℤ, Option, Some, None, Ok, Err, slice_index_or, slice_set}
 use Rattle.sac_base.specs.declared.base.Base.{Base}
-use Rattle.sac_base.specs.declared.fault.Fault.{Fault}
-use Rattle.sac_base.specs.declared.fault.FaultKind.{FaultKind}
-use Rattle.sac_base.specs.declared.fault.FaultKind.TheVariants.{F3}
+use Rattle.sac_base.specs.declared.faults.Fault.{Fault}
+use Rattle.sac_base.specs.declared.faults.FaultKind.{FaultKind}
+use Rattle.sac_base.specs.declared.faults.FaultKind.TheVariants.{F3}
 use Rattle.sac_base.specs.declared.site.Site.{Site}
 use Rattle.sac_base.specs.Arrays.{ArrayValue}
 use Rattle.sac_base.specs.Outcomes.{Ends}

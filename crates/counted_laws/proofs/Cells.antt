@@ -2,7 +2,7 @@
 use Rattle.std.proofs.Common.{◌≡◌, ℕ, suc, ◌+◌, ◌≤◌, Bool, true, false, cond, eqb, List, [], ◌∷◌, map, length, ℤ, pos, Option, Some, None, Ok, Err, refl, ap, ◌∙◌, sym, subst, arith}
 use Rattle.std.specs.Prelude.{if◌then◌else◌, ◌||◌, not, replicate}
 use Rattle.std.proofs.lemmas.Bool.{eqb-true, eq-eqb}
-use Rattle.sac_base.specs.declared.fault.FaultKind.TheVariants.{F6}
+use Rattle.sac_base.specs.declared.faults.FaultKind.TheVariants.{F6}
 use Rattle.sac_base.specs.declared.form.Form.{Form}
 use Rattle.sac_base.specs.declared.site.Site.{Site}
 use Rattle.sac_base.specs.Arrays.{ArrayValue, size}

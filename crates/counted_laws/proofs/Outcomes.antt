@@ -1,8 +1,8 @@
 -- A whole run ends as its core does, and leaves no buffer.
 use Rattle.std.proofs.Common.{◌≡◌, ℕ, suc, ◌+◌, ◌%◌, ◌^◌, Bool, true, false, List, [], ◌∷◌, map, length, Option, Some, None, Ok, Err, refl, ap, ◌∙◌, sym, subst, arith}
 use Rattle.std.specs.Prelude.{if◌then◌else◌, slice_get, option_map}
-use Rattle.sac_base.specs.declared.fault.Caps.{Caps}
-use Rattle.sac_base.specs.declared.fault.FaultKind.TheVariants.{F7}
+use Rattle.sac_base.specs.declared.faults.Caps.{Caps}
+use Rattle.sac_base.specs.declared.faults.FaultKind.TheVariants.{F7}
 use Rattle.sac_base.specs.declared.types.ArrayType.{ArrayType}
 use Rattle.sac_base.specs.Arrays.{ArrayValue}
 use Rattle.sac_base.specs.Outcomes.{fault}

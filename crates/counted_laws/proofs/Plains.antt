@@ -2,8 +2,8 @@
 use Rattle.std.proofs.Common.{◌≡◌, ℕ, zero, suc, ◌+◌, ◌≤◌, Bool, true, false, cond, eqb, List, [], ◌∷◌, ◌++◌, map, length, Result, Ok, Err, refl, ap, ◌∙◌, sym, subst, slice_index_or, arith, true≢false}
 use Rattle.std.specs.Prelude.{if◌then◌else◌, ℤ}
 use Rattle.std.proofs.lemmas.Bool.{eqb-true, eq-eqb}
-use Rattle.sac_base.specs.declared.fault.FaultKind.{FaultKind}
-use Rattle.sac_base.specs.declared.fault.FaultKind.TheVariants.{F7}
+use Rattle.sac_base.specs.declared.faults.FaultKind.{FaultKind}
+use Rattle.sac_base.specs.declared.faults.FaultKind.TheVariants.{F7}
 use Rattle.sac_base.specs.declared.site.Site.{Site}
 use Rattle.sac_base.specs.declared.types.ArrayType.{ArrayType}
 use Rattle.sac_base.specs.Arrays.{ArrayValue}

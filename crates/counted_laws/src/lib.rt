@@ -3,7 +3,7 @@
 
 ghost use Rattle.std.specs.Prelude.{◌≡◌, List};
 ghost use Rattle.sac_base.specs.Arrays.{ArrayValue};
-ghost use Rattle.sac_base.specs.declared.fault.Caps.{Caps};
+ghost use Rattle.sac_base.specs.declared.faults.Caps.{Caps};
 ghost use Rattle.core_ir.specs.Outcome.{outcome};
 ghost use Rattle.counted_code.specs.Counts.{IsWellCounted, IsUnmarked};
 ghost use Rattle.counted_code.specs.Outcome.{whole_run, outcome_of, cost_of};

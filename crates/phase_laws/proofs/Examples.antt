@@ -3,7 +3,7 @@ use Rattle.std.proofs.Common.{◌≡◌, ℕ, true, false, List, [], ◌∷◌, 
 use Rattle.std.specs.Prelude.{◌≤ℤ◌, Some, None}
 use Rattle.std.specs.Int.{int_wrap}
 use Rattle.sac_base.specs.declared.base.Base.TheVariants.{Int}
-use Rattle.sac_base.specs.declared.fault.Caps.{Caps}
+use Rattle.sac_base.specs.declared.faults.Caps.{Caps}
 use Rattle.sac_base.specs.declared.grid.Grid1.{Grid1}
 use Rattle.sac_base.specs.declared.name.Name.{Name}
 use Rattle.sac_base.specs.declared.op.Op.TheVariants.{Add}

@@ -2,7 +2,7 @@
 use Rattle.std.proofs.Common.{◌≡◌, ℕ, zero, suc, Bool, true, false, List, [], ◌∷◌, map, length, Option, Some, None, refl, ap, ◌∙◌, sym, subst}
 use Rattle.std.specs.Prelude.{if◌then◌else◌, slice_get, option_map}
 use Rattle.std.proofs.lemmas.List.{append-nil}
-use Rattle.sac_base.specs.declared.fault.FaultKind.TheVariants.{F7}
+use Rattle.sac_base.specs.declared.faults.FaultKind.TheVariants.{F7}
 use Rattle.sac_base.specs.declared.site.Site.{Site}
 use Rattle.sac_base.specs.declared.types.ArrayType.{ArrayType}
 use Rattle.sac_base.specs.Types.{all_have}

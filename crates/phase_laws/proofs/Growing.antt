@@ -4,7 +4,7 @@ use Rattle.std.specs.Prelude.{if◌then◌else◌, ◌||◌, ◌==◌, ◌*◌, 
 use Rattle.std.proofs.lemmas.List.{length-append, length-set}
 use Rattle.sac_base.specs.declared.base.Base.{Base}
 use Rattle.sac_base.specs.declared.base.Base.TheVariants.{Int}
-use Rattle.sac_base.specs.declared.fault.FaultKind.TheVariants.{F6, F7, F9}
+use Rattle.sac_base.specs.declared.faults.FaultKind.TheVariants.{F6, F7, F9}
 use Rattle.sac_base.specs.declared.form.Form.{Form}
 use Rattle.sac_base.specs.declared.grid.Grid1.{Grid1}
 use Rattle.sac_base.specs.declared.site.Site.{Site}

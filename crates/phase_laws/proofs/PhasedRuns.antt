@@ -2,9 +2,9 @@
 use Rattle.std.proofs.Common.{◌≡◌, ℕ, zero, suc, ◌%◌, ◌^◌, Bool, true, false, List, [], ◌∷◌, map, length, Option, Some, None, Ok, Err, refl, ap, ◌∙◌, sym, subst, arith, true≢false}
 use Rattle.std.specs.Prelude.{if◌then◌else◌, slice_get, option_map}
 use Rattle.std.proofs.lemmas.List.{append-nil}
-use Rattle.sac_base.specs.declared.fault.Caps.{Caps}
-use Rattle.sac_base.specs.declared.fault.Fault.{Fault}
-use Rattle.sac_base.specs.declared.fault.FaultKind.TheVariants.{F7}
+use Rattle.sac_base.specs.declared.faults.Caps.{Caps}
+use Rattle.sac_base.specs.declared.faults.Fault.{Fault}
+use Rattle.sac_base.specs.declared.faults.FaultKind.TheVariants.{F7}
 use Rattle.sac_base.specs.declared.site.Site.{Site}
 use Rattle.sac_base.specs.declared.types.ArrayType.{ArrayType}
 use Rattle.sac_base.specs.Arrays.{ArrayValue}

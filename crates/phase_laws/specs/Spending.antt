@@ -1,6 +1,6 @@
 -- What a run spends: how many buffers it takes, and its phases. These are functions on arrays: no heap is spoken of.
 use Rattle.std.specs.Prelude.{ℕ, zero, suc, ◌+◌, ◌-◌, Bool, true, false, cond, ◌||◌, not, List, [], ◌∷◌, ◌++◌, map, length, ℤ, Option, Some, None, Result, Ok, Err, if◌then◌else◌, slice_get}
-use Rattle.sac_base.specs.declared.fault.Caps.{Caps}
+use Rattle.sac_base.specs.declared.faults.Caps.{Caps}
 use Rattle.sac_base.specs.declared.base.Base.TheVariants.{Int}
 use Rattle.sac_base.specs.declared.site.Site.{Site}
 use Rattle.sac_base.specs.Arrays.{ArrayValue, vector}

@@ -9,7 +9,7 @@ ghost use Rattle.sac_base.specs.Verdict.{folds};
 ghost use Rattle.sac_base.specs.declared.op.Op.{Op};
 ghost use Rattle.sac_base.specs.Outcomes.{Ends};
 ghost use Rattle.sac_base.specs.declared.base.Base.{Base};
-ghost use Rattle.sac_base.specs.declared.fault.Caps.{Caps};
+ghost use Rattle.sac_base.specs.declared.faults.Caps.{Caps};
 ghost use Rattle.sac_base.specs.declared.form.Form.{Form};
 ghost use Rattle.sac_base.specs.declared.site.Site.{Site};
 ghost use Rattle.core_ir.specs.Meaning.{Env, generators, cells, cell_form, cell_at};

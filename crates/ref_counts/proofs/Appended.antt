@@ -6,7 +6,7 @@ use Rattle.counted_code.specs.declared.tree.CodeStep.{CodeStep}
 use Rattle.counted_code.specs.declared.tree.CodeStep.TheVariants as step
 use Rattle.counted_code.specs.Terms.{CodeTerm}
 use Rattle.counted_code.specs.View.{steps_before, step_term}
-use Rattle.ref_placing.specs.Placing.{keeps, releases}
+use Rattle.counted_placing.specs.Placing.{keeps, releases}
 use Rattle.ref_counts.proofs.CodeTrees.{steps_append}
 
 pub one_more : (s next : List CodeStep) (a : CodeStep) → next ≡ s ++ (a ∷ []) → (t : CodeTerm) → steps_before next t ≡ steps_before s (step_term a t)

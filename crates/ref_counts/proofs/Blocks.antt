@@ -11,8 +11,8 @@ use Rattle.counted_code.specs.declared.tree.CodeStep.{CodeStep}
 use Rattle.counted_code.specs.Prompt.{uses, uses_right}
 use Rattle.counted_code.specs.Terms.{Giving}
 use Rattle.counted_code.specs.View.{steps_before}
-use Rattle.ref_placing.specs.Placing.{placing}
-use Rattle.ref_placing.proofs.Lists.{append_assoc}
+use Rattle.counted_placing.specs.Placing.{placing}
+use Rattle.counted_placing.proofs.Lists.{append_assoc}
 use Rattle.ref_counts.proofs.Collected.{let_uses, lets_used, block_used}
 use Rattle.ref_counts.proofs.Taken.{drop_here}
 

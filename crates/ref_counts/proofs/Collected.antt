@@ -13,7 +13,7 @@ use Rattle.core_ir.specs.Terms.{Gives, chain, gens_of, parts_of}
 use Rattle.core_ir.specs.View.{block_term, right_term, with_term, parted_term, let_term, gen_term, part_term}
 use Rattle.core_ir.proofs.Trees.{block_out, with_out, parted_out}
 use Rattle.counted_code.specs.Prompt.{uses, uses_right, uses_gens, uses_parts}
-use Rattle.ref_placing.proofs.Lists.{append_assoc}
+use Rattle.counted_placing.proofs.Lists.{append_assoc}
 
 abbrev pub let_uses : List Let → List Var
 let_uses [] = []

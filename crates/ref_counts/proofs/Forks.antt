@@ -6,7 +6,7 @@ use Rattle.std.proofs.lemmas.Bool.{le-leb}
 use Rattle.std.proofs.lemmas.List.Elements.{filter-append}
 use Rattle.core_ir.specs.declared.tree.Var.{Var}
 use Rattle.core_ir.specs.Binders.{is_in}
-use Rattle.ref_placing.proofs.Lists.{same_var, self, or_left, or_right, or_either, append_assoc}
+use Rattle.counted_placing.proofs.Lists.{same_var, self, or_left, or_right, or_either, append_assoc}
 use Rattle.ref_counts.specs.declared.held.Owned.{Owned, Gone, One}
 use Rattle.ref_counts.specs.Latest.{reaches, is_used}
 use Rattle.ref_counts.specs.Owning.{owned_vars, IsBound, IsSound, ends, EndsOf}

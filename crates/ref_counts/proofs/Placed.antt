@@ -16,8 +16,8 @@ use Rattle.counted_code.specs.View.{steps_before}
 use Rattle.ref_counts.specs.declared.held.Owned.{Owned}
 use Rattle.ref_counts.specs.Latest.{is_used, AreLast, read_place}
 use Rattle.ref_counts.specs.Owning.{owned_vars, IsSound, ends, EndsOf}
-use Rattle.ref_placing.specs.Placing.{keeps, releases, used, unused, surplus, read_after, is_conditional, left, placing, placing_right}
-use Rattle.ref_placing.proofs.Lists.{append_assoc}
+use Rattle.counted_placing.specs.Placing.{keeps, releases, used, unused, surplus, read_after, is_conditional, left, placing, placing_right}
+use Rattle.counted_placing.proofs.Lists.{append_assoc}
 
 -- ---- places in a list of uses
 

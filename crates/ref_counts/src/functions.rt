@@ -4,7 +4,7 @@ ghost use Rattle.std.specs.Prelude.{◌≡◌, IfOk, List, map};
 ghost use Rattle.core_ir.specs.declared.tree.Var.{Var};
 ghost use Rattle.sac_base.specs.declared.types.ArrayType.{ArrayType};
 ghost use Rattle.sac_base.specs.Arrays.{ArrayValue};
-ghost use Rattle.sac_base.specs.declared.fault.Caps.{Caps};
+ghost use Rattle.sac_base.specs.declared.faults.Caps.{Caps};
 ghost use Rattle.core_ir.specs.Outcome.{outcome};
 ghost use Rattle.core_ir.specs.View.{fun_term, core_term};
 ghost use Rattle.core_ir.specs.WellFormed.{IsWellFormed};
@@ -14,7 +14,7 @@ ghost use Rattle.counted_code.specs.Prompt.{IsPrompt};
 ghost use Rattle.counted_code.specs.Terms.{core_of_code};
 ghost use Rattle.counted_code.specs.View.{code_fun_term, code_program};
 ghost use Rattle.counted_laws.specs.Simulation.{LeavesNothing};
-ghost use Rattle.ref_placing.specs.Placing.{placing_fun, placing_core};
+ghost use Rattle.counted_placing.specs.Placing.{placing_fun, placing_core};
 
 use crate::place::place_block;
 use core_ir::{Core, CoreFun, Var};

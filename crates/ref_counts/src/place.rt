@@ -10,7 +10,7 @@ ghost use Rattle.counted_code.specs.View.{code_term, code_right_term, steps_befo
 ghost use Rattle.ref_counts.specs.Latest.{AreLast};
 ghost use Rattle.ref_counts.specs.Owning.{owned_vars, IsSound};
 ghost use Rattle.ref_counts.specs.Pieces.{code_gen_term, code_part_term, placing_gen, placing_part};
-ghost use Rattle.ref_placing.specs.Placing.{placing, placing_right};
+ghost use Rattle.counted_placing.specs.Placing.{placing, placing_right};
 
 use crate::held::{Owned, add_vars, take_ending, with_all};
 use crate::last::{LastUses, last_uses};

@@ -2,7 +2,7 @@
 
 ghost use Rattle.std.specs.Prelude.{◌≡◌, IfOk};
 ghost use Rattle.core_ir.specs.Binders.{is_in};
-ghost use Rattle.ref_placing.specs.Placing.{without, surplus};
+ghost use Rattle.counted_placing.specs.Placing.{without, surplus};
 
 use core_ir::Var;
 use sac_base::Memory;

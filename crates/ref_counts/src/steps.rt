@@ -7,7 +7,7 @@ ghost use Rattle.counted_code.specs.Prompt.{uses_right, hands};
 ghost use Rattle.counted_code.specs.Terms.{CodeTerm, Binding};
 ghost use Rattle.counted_code.specs.View.{code_right_term, steps_before};
 ghost use Rattle.ref_counts.specs.Latest.{read_place};
-ghost use Rattle.ref_placing.specs.Placing.{keeps, releases, is_conditional};
+ghost use Rattle.counted_placing.specs.Placing.{keeps, releases, is_conditional};
 
 use crate::uses::add_right;
 use core_ir::{Right, Var};

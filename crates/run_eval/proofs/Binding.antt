@@ -9,7 +9,7 @@ use Rattle.counted_code.specs.Terms.{CodeTerm}
 use Rattle.counted_code.specs.Values.{Heap, Value, Done, go_on, keep, release, release_count, Small, Ref, count_of}
 use Rattle.counted_code.specs.Machine.{Values, bind_value, bind_values, first_of}
 use Rattle.counted_code.specs.View.{code_right_term}
-use Rattle.with_loops.specs.declared.stop.Stop.{Stop}
+use Rattle.sac_base.specs.declared.stop.Stop.{Stop}
 use Rattle.run_store.specs.Stands.{Stands}
 use Rattle.run_values.specs.declared.value.RunValue.{RunValue}
 use Rattle.run_values.specs.Scopes.{current}

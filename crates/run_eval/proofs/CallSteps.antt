@@ -4,7 +4,7 @@ use Rattle.std.specs.Prelude.{slice_get, if◌then◌else◌}
 use Rattle.std.proofs.lemmas.List.{length-map}
 use Rattle.std.proofs.lemmas.Option.{slice_get-get_or}
 use Rattle.sac_base.specs.declared.site.Site.{Site}
-use Rattle.sac_base.specs.declared.fault.FaultKind.TheVariants.{F7, F10}
+use Rattle.sac_base.specs.declared.faults.FaultKind.TheVariants.{F7, F10}
 use Rattle.sac_base.specs.declared.types.ArrayType.{ArrayType}
 use Rattle.sac_base.specs.Types.{all_have}
 use Rattle.core_ir.specs.Outcome.{chosen}
@@ -15,8 +15,8 @@ use Rattle.counted_code.specs.Values.{Heap, Value, Ended, Done, Failed, go_on, r
 use Rattle.counted_code.specs.Machine.{DoesCalls}
 use Rattle.counted_code.specs.Outcome.{DoesRun, function_does, body_does, run_does, chosen_does, call_does, inline_does, deeper_does, results_do}
 use Rattle.counted_code.specs.View.{code_program, code_fun_term}
-use Rattle.with_loops.specs.declared.stop.Stop.{Stop}
-use Rattle.with_loops.specs.declared.stop.Stop.TheVariants.{Faulted, Memory}
+use Rattle.sac_base.specs.declared.stop.Stop.{Stop}
+use Rattle.sac_base.specs.declared.stop.Stop.TheVariants.{Faulted, Memory}
 use Rattle.run_eval.specs.declared.state.Context.{Context}
 use Rattle.run_eval.specs.declared.state.State.{State}
 use Rattle.run_values.specs.declared.value.RunValue.{RunValue}

@@ -5,7 +5,7 @@ use Rattle.sac_base.specs.Arrays.{ArrayValue, size}
 use Rattle.counted_code.specs.Loops as machine
 use Rattle.counted_code.specs.Loops.{Job, Claimed, claim, claimed_does, count_phase, job_does, release_rest, settled, write_cell, Inside, Fresh, cells_do}
 use Rattle.counted_code.specs.Values.{Heap, Ended, Done, Failed, go_on, is_small}
-use Rattle.with_loops.specs.declared.stop.Stop.{Stop}
+use Rattle.sac_base.specs.declared.stop.Stop.{Stop}
 use Rattle.run_values.specs.declared.value.RunValue.{RunValue}
 use Rattle.run_store.specs.Targets.{target_of, target_at}
 use Rattle.run_store.specs.declared.target.Target.{Target}

@@ -12,8 +12,8 @@ use Rattle.counted_code.specs.Loops as machine
 use Rattle.counted_code.specs.Loops.{Source, claim, count_phase, job_does, release_rest, settled}
 use Rattle.counted_code.specs.Machine.{Values}
 use Rattle.counted_code.specs.Values.{Heap, is_small, read}
-use Rattle.with_loops.specs.Cells.{cells_from}
-use Rattle.with_loops.specs.declared.stop.Stop.{Stop}
+use Rattle.array_with_loops.specs.Cells.{cells_from}
+use Rattle.sac_base.specs.declared.stop.Stop.{Stop}
 use Rattle.run_store.specs.Stands.{Stands}
 use Rattle.run_values.specs.declared.value.RunValue.{RunValue}
 use Rattle.run_values.specs.declared.frames.Frames.{Frames}

@@ -5,7 +5,7 @@ use Rattle.sac_base.specs.declared.op.Op.{Op}
 use Rattle.sac_base.specs.Arrays.{ArrayValue}
 use Rattle.sac_base.specs.WithLoops.{combined}
 use Rattle.core_ir.specs.Meaning.{elements_of}
-use Rattle.with_loops.specs.Cells.{cell_from, cells_from}
+use Rattle.array_with_loops.specs.Cells.{cell_from, cells_from}
 use Rattle.run_eval.proofs.CellRuns.{Making, Cells}
 
 -- their elements one after another, over a background

@@ -1,13 +1,13 @@
 -- What is told of a cell, and of what follows a loop.
 use Rattle.std.proofs.Common.{◌≡◌, ℕ, zero, suc, ◌%◌, ◌^◌, [], ◌∷◌, length, Bool, true, false, refl, sym, ap, Result, Ok, Err, Option, Some, None}
 use Rattle.std.specs.Prelude.{option_map, if◌then◌else◌}
-use Rattle.sac_base.specs.declared.fault.FaultKind.TheVariants.{F6}
+use Rattle.sac_base.specs.declared.faults.FaultKind.TheVariants.{F6}
 use Rattle.sac_base.specs.declared.form.Form.{Form}
 use Rattle.sac_base.specs.WithLoops.{fits_form}
 use Rattle.counted_code.specs.Loops.{Source, stored, cell_does, release_rest}
 use Rattle.counted_code.specs.Values.{Heap, Value, Small, Ref, Ended, Done, Failed, Doing, give, go_on, then_go, fails, apart, phases_as, read, release, release_count, count_of}
-use Rattle.with_loops.specs.declared.stop.Stop.{Stop}
-use Rattle.with_loops.specs.declared.stop.Stop.TheVariants.{Faulted, Memory}
+use Rattle.sac_base.specs.declared.stop.Stop.{Stop}
+use Rattle.sac_base.specs.declared.stop.Stop.TheVariants.{Faulted, Memory}
 use Rattle.run_store.specs.Stands.{Stands}
 use Rattle.run_values.specs.declared.value.RunValue.{RunValue}
 use Rattle.run_eval.specs.declared.state.State.{State}

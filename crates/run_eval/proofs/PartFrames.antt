@@ -11,16 +11,6 @@ use Rattle.sac_base.proofs.GridFacts.{has_facts}
 use Rattle.core_ir.specs.Meaning.{extents}
 use Rattle.run_eval.specs.Loops.{IsWordAxis}
 
-pub no_member : (g : List Grid1) (v : List ℤ) → (length g ≡ length v → ⊥) → has_vector g v ≡ false
-no_member [] [] h = absurd (h refl)
-no_member [] (x ∷ v) h = refl
-no_member (a ∷ g) [] h = refl
-no_member (a ∷ g) (x ∷ v) h = by (has_index a x) (no_member g v (λ e. h (ap suc e)))
-  where
-    by : (b : Bool) → has_vector g v ≡ false → (b && has_vector g v) ≡ false
-    by true e = e
-    by false e = refl
-
 -- ---- words
 
 word_of : (a : Grid1) (x : ℤ) → IsWordAxis a → has_index a x ≡ true → FitsSigned w32 x

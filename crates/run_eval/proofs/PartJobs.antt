@@ -2,7 +2,7 @@
 use Rattle.std.proofs.Common.{◌≡◌, ℕ, List, [], ◌∷◌, ◌++◌, map, Bool, true, false, refl, sym, ap, ◌∙◌, subst, Result, Ok, None}
 use Rattle.std.specs.Prelude.{if◌then◌else◌}
 use Rattle.sac_base.specs.declared.base.Base.{Base}
-use Rattle.sac_base.specs.declared.fault.FaultKind.TheVariants.{F6}
+use Rattle.sac_base.specs.declared.faults.FaultKind.TheVariants.{F6}
 use Rattle.sac_base.specs.declared.form.Form.{Form}
 use Rattle.sac_base.specs.declared.grid.Grid1.{Grid1}
 use Rattle.sac_base.specs.declared.op.Op.{Op}
@@ -19,8 +19,8 @@ use Rattle.counted_code.specs.declared.tree.CodePart.{CodePart}
 use Rattle.counted_code.specs.Loops.{Job, job_does, loop_does, parted_job}
 use Rattle.counted_code.specs.Machine.{Values, one_value, reads}
 use Rattle.counted_code.specs.Values.{Heap, Value, Ended, go_on, give, pure_end, read}
-use Rattle.with_loops.specs.declared.stop.Stop.{Stop}
-use Rattle.with_loops.specs.declared.stop.Stop.TheVariants.{Faulted}
+use Rattle.sac_base.specs.declared.stop.Stop.{Stop}
+use Rattle.sac_base.specs.declared.stop.Stop.TheVariants.{Faulted}
 use Rattle.run_values.specs.declared.value.RunValue.{RunValue}
 use Rattle.run_eval.specs.declared.state.Context.{Context}
 use Rattle.run_eval.specs.declared.state.State.{State}

@@ -2,15 +2,15 @@
 use Rattle.std.proofs.Common.{◌≡◌, ℕ, List, [], ◌∷◌, ◌++◌, length, map, refl, sym, ap, ◌∙◌, subst, Result, Ok, Err}
 use Rattle.std.specs.Prelude.{OnOk, ◌%◌, ◌^◌}
 use Rattle.std.proofs.lemmas.List.{map-append}
-use Rattle.sac_base.specs.declared.fault.Fault.{Fault}
+use Rattle.sac_base.specs.declared.faults.Fault.{Fault}
 use Rattle.core_ir.specs.declared.tree.Var.{Var}
 use Rattle.counted_code.specs.declared.tree.CodeStep.{CodeStep}
 use Rattle.counted_code.specs.Terms.{CodeTerm, Giving}
 use Rattle.counted_code.specs.Values.{Heap, Value, Ended, Done, Failed, Doing, give, go_on}
 use Rattle.counted_code.specs.Machine.{first_of}
 use Rattle.counted_code.specs.View.{steps_before}
-use Rattle.with_loops.specs.declared.stop.Stop.{Stop}
-use Rattle.with_loops.specs.declared.stop.Stop.TheVariants.{Faulted, Memory}
+use Rattle.sac_base.specs.declared.stop.Stop.{Stop}
+use Rattle.sac_base.specs.declared.stop.Stop.TheVariants.{Faulted, Memory}
 use Rattle.run_store.specs.Stands.{Stands}
 use Rattle.run_values.specs.declared.frames.Frames.{Frames}
 use Rattle.run_values.specs.declared.value.RunValue.{RunValue}

@@ -2,13 +2,13 @@
 use Rattle.std.proofs.Common.{◌≡◌, ℕ, zero, suc, ◌-◌, ◌<◌, List, Bool, true, false, refl, sym, ap, ◌∙◌, subst, arith, Option, Some, None, Ok, Err}
 use Rattle.std.specs.Prelude.{if◌then◌else◌, ◌%◌, ◌^◌, length}
 use Rattle.sac_base.specs.declared.site.Site.{Site}
-use Rattle.sac_base.specs.declared.fault.Fault.{Fault}
-use Rattle.sac_base.specs.declared.fault.FaultKind.TheVariants.{F3, F9}
+use Rattle.sac_base.specs.declared.faults.Fault.{Fault}
+use Rattle.sac_base.specs.declared.faults.FaultKind.TheVariants.{F3, F9}
 use Rattle.sac_base.specs.Parts.{condition}
 use Rattle.counted_code.specs.Values.{Heap, Value, Ended, Done, Failed, Doing, give, go_on, then_go, fails, choose_does, read, release}
 use Rattle.counted_code.specs.Machine.{repeat_does}
-use Rattle.with_loops.specs.declared.stop.Stop.{Stop}
-use Rattle.with_loops.specs.declared.stop.Stop.TheVariants.{Faulted, Memory}
+use Rattle.sac_base.specs.declared.stop.Stop.{Stop}
+use Rattle.sac_base.specs.declared.stop.Stop.TheVariants.{Faulted, Memory}
 use Rattle.run_eval.specs.declared.state.State.{State}
 use Rattle.run_eval.specs.Running.{IsAt, IsValue, Told, ToldStop, truth_of, SaysTruth}
 use Rattle.run_store.specs.Stands.{Stands}

@@ -5,8 +5,8 @@ use Rattle.std.specs.declared.alloc.Global.{Global}
 use Rattle.std.proofs.lemmas.List.{append_assoc, append-nil, drop_more, get_or-map, get_or_append_left, get_or_push, length-map, length_push, map-append, take_more}
 use Rattle.std.proofs.lemmas.Option.{slice_get-get_or}
 use Rattle.std.proofs.Math.ListN.{drop_of_length-le}
-use Rattle.sac_base.specs.declared.fault.Caps.{Caps}
-use Rattle.sac_base.specs.declared.fault.FaultKind.TheVariants.{F7}
+use Rattle.sac_base.specs.declared.faults.Caps.{Caps}
+use Rattle.sac_base.specs.declared.faults.FaultKind.TheVariants.{F7}
 use Rattle.sac_base.specs.declared.types.ArrayType.{ArrayType}
 use Rattle.sac_base.specs.Arrays.{ArrayValue}
 use Rattle.sac_base.specs.Types.{all_have}
@@ -20,9 +20,9 @@ use Rattle.counted_code.specs.Outcome.{call_does, deeper_does, inline_does, code
 use Rattle.counted_code.specs.Terms.{CodeFunTerm}
 use Rattle.counted_code.specs.Values.{Buffer, Heap, Value, Small, Ref, Ended, Done, Failed, give, go_on, then_go, fails, read, buffer_at, cells_of, no_buffer, is_small, place_as, place_value, place_all, take_buffer, release, release_count, release_all, empty_heap}
 use Rattle.counted_code.specs.View.{code_program, code_fun_term}
-use Rattle.with_loops.specs.declared.stop.Stop.{Stop}
-use Rattle.with_loops.specs.declared.stop.Stop.TheVariants.{Faulted, Memory}
-use Rattle.with_loops.specs.Tells.{TellsItems}
+use Rattle.sac_base.specs.declared.stop.Stop.{Stop}
+use Rattle.sac_base.specs.declared.stop.Stop.TheVariants.{Faulted, Memory}
+use Rattle.array_with_loops.specs.Tells.{TellsItems}
 use Rattle.run_store.specs.Stands.{Placed, Stands, lender_of}
 use Rattle.run_store.specs.declared.store.Store.{Store}
 use Rattle.run_store.proofs.Ends.{new_stands, taken_stands, reused_stands}

@@ -12,11 +12,11 @@ use Rattle.counted_code.specs.declared.tree.CodeGen.{CodeGen}
 use Rattle.counted_code.specs.Loops.{CodeGenerator, Job, claim, count_phase, holder, is_fold, job_does, loop_does, with_job}
 use Rattle.counted_code.specs.Machine.{Values, bounds_of, one_value, reads}
 use Rattle.counted_code.specs.Values.{Heap, go_on, give, is_small, pure_end}
-use Rattle.with_loops.specs.Cells.{array_from}
-use Rattle.with_loops.specs.Tells.{TellsStop}
-use Rattle.with_loops.specs.declared.stop.Stop.{Stop}
-use Rattle.with_loops.specs.declared.stop.Stop.TheVariants.{Faulted, Memory}
-use Rattle.with_loops.proofs.CellSteps.{genarray_finish, modarray_finish}
+use Rattle.array_with_loops.specs.Cells.{array_from}
+use Rattle.array_with_loops.specs.Tells.{TellsStop}
+use Rattle.sac_base.specs.declared.stop.Stop.{Stop}
+use Rattle.sac_base.specs.declared.stop.Stop.TheVariants.{Faulted, Memory}
+use Rattle.array_with_loops.proofs.CellSteps.{genarray_finish, modarray_finish}
 use Rattle.run_values.specs.declared.value.RunValue.{RunValue}
 use Rattle.run_eval.specs.declared.state.Context.{Context}
 use Rattle.run_eval.specs.declared.state.State.{State}

@@ -1,8 +1,8 @@
 -- What the evaluator's functions tell of the machine.
 use Rattle.std.specs.Prelude.{◌≡◌, ℕ, ◌+◌, ◌%◌, ◌^◌, ◌++◌, Bool, true, false, List, [], ◌∷◌, ℤ, length, map, fold, Option, Some, None, Result, Ok, Err, if◌then◌else◌, ⊤}
 use Rattle.sac_base.specs.declared.base.Base.TheVariants.{Int}
-use Rattle.sac_base.specs.declared.fault.FaultKind.TheVariants.{F3, F6, F10}
-use Rattle.sac_base.specs.declared.fault.Fault.{Fault}
+use Rattle.sac_base.specs.declared.faults.FaultKind.TheVariants.{F3, F6, F10}
+use Rattle.sac_base.specs.declared.faults.Fault.{Fault}
 use Rattle.sac_base.specs.declared.form.Form.{Form}
 use Rattle.sac_base.specs.declared.site.Site.{Site}
 use Rattle.sac_base.specs.declared.op.Op.{Op}
@@ -22,9 +22,9 @@ use Rattle.counted_code.specs.Values.{Heap, Value, Small, Ended, Done, Failed, D
 use Rattle.counted_code.specs.Machine.{Values, DoesCalls, reads, bounds_of, bind_value, bind_values, with_index_value, first_value, first_of, does, right_does}
 use Rattle.counted_code.specs.Outcome.{call_does, deeper_does, inline_does}
 use Rattle.counted_code.specs.View.{code_program, code_term, steps_before}
-use Rattle.with_loops.specs.Cells.{array_from}
-use Rattle.with_loops.specs.declared.stop.Stop.{Stop}
-use Rattle.with_loops.specs.declared.stop.Stop.TheVariants.{Faulted, Memory}
+use Rattle.array_with_loops.specs.Cells.{array_from}
+use Rattle.sac_base.specs.declared.stop.Stop.{Stop}
+use Rattle.sac_base.specs.declared.stop.Stop.TheVariants.{Faulted, Memory}
 use Rattle.run_store.specs.Stands.{Stands}
 use Rattle.run_values.specs.declared.frames.Frames.{Frames}
 use Rattle.run_values.specs.declared.value.RunValue.{RunValue}

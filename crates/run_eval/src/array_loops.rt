@@ -10,8 +10,8 @@ ghost use Rattle.run_store.specs.Stands.{lender_of};
 ghost use Rattle.run_values.specs.Scopes.{current};
 ghost use Rattle.sac_base.specs.WithLoops.{combined};
 ghost use Rattle.std.specs.Prelude.{◌≡◌, ◌++◌, [], None, OnOk, flat_map, fold};
-ghost use Rattle.with_loops.specs.Cells.{cells_from};
-ghost use Rattle.with_loops.specs.Plans.{plan_of};
+ghost use Rattle.array_with_loops.specs.Cells.{cells_from};
+ghost use Rattle.array_with_loops.specs.Plans.{plan_of};
 
 use crate::bindings::bind_index;
 use crate::blocks::run_first;
@@ -25,8 +25,8 @@ use core_ir::{CoreOp, PartedOp};
 use counted_code::{CodeGen, CodePart, CodeParted, CodeWith};
 use run_store::{fits, read_array};
 use run_values::RunValue;
-use sac_base::{Array, Cell, FaultKind, Form, Memory, Op, Shape, Site};
-use with_loops::{Frame, IndexVector, Plan, Stop, fault, fold_plan, genarray_plan, modarray_plan};
+use sac_base::{Array, Cell, FaultKind, Form, Memory, Op, Shape, Site, Stop, fault};
+use array_with_loops::{Frame, IndexVector, Plan, fold_plan, genarray_plan, modarray_plan};
 
 /// The result of a with-loop.
 #[cycle(run)]

@@ -20,8 +20,7 @@ use run_plain::plain_value;
 use run_store::{keep, release};
 use run_types::{all_have, choose};
 use run_values::RunValue;
-use sac_base::{FaultKind, Memory, Site};
-use with_loops::{Stop, fault};
+use sac_base::{FaultKind, Memory, Site, Stop, fault};
 
 /// Runs the steps of a block in the scope that is open.
 #[cycle(run)]

@@ -18,7 +18,7 @@ use run_store::read_array;
 use run_values::Few;
 use sac_base::{Array, Grid, Grid1, Memory, Shape, elements};
 use std::alloc::Global;
-use with_loops::{Bounds, Frame};
+use array_with_loops::{Bounds, Frame};
 
 /// The operands of the generators.
 pub fn all_bounds(

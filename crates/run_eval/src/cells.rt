@@ -11,13 +11,12 @@ ghost use Rattle.run_store.specs.Stands.{Stands, lender_of};
 ghost use Rattle.run_store.specs.Targets.{target_of};
 ghost use Rattle.run_values.specs.Shown.{value_of};
 ghost use Rattle.sac_base.specs.Arrays.{size};
-ghost use Rattle.with_loops.specs.Cells.{cell_from};
+ghost use Rattle.array_with_loops.specs.Cells.{cell_from};
 
 use crate::state::{Context, State};
 use run_store::{Store, Target, buffer_cells, claim, fits, is_small, release, settle};
 use run_values::RunValue;
-use sac_base::{Array, Base, Cell, FaultKind, Form, Memory, Shape, Site, elements};
-use with_loops::{Stop, fault};
+use sac_base::{Array, Base, Cell, FaultKind, Form, Memory, Shape, Site, Stop, elements, fault};
 
 /// What stands where an index has no cell: the cells of an old array, or those of a default. A cell has so many elements.
 #[derive(Clone, Copy)]

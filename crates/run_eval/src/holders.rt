@@ -2,11 +2,9 @@
 
 ghost use Rattle.std.specs.Prelude.{◌≡◌, option_map};
 ghost use Rattle.run_eval.specs.Loops.{held, part_held};
-ghost use Rattle.sac_base.specs.Grids.{has_vector};
 
 use counted_code::{CodeGen, CodePart};
-use sac_base::Grid;
-use with_loops::Range;
+use array_with_loops::Range;
 
 /// The first generator whose range holds an index.
 pub fn holder<'a>(gens: &'a [CodeGen], ranges: &[Range], index: &[i32]) -> Option<&'a CodeGen>
@@ -25,25 +23,9 @@ pub fn part_holder<'a>(parts: &'a [CodePart], index: &[i32]) -> Option<&'a CodeP
     ensures { option_map (λ p. p.now) result ≡ part_held parts.now index.now }
 {
     for part in parts {
-        if contains(&part.grid, index) {
+        if part.grid.contains(index) {
             return Some(part);
         }
     }
     None
-}
-
-/// Whether an index is a member of a grid.
-pub fn contains(grid: &Grid, index: &[i32]) -> bool
-    ensures { result ≡ has_vector grid.now index.now }
-{
-    let axes = grid.axes();
-    if axes.len() != index.len() {
-        return false;
-    }
-    for k in 0..axes.len() {
-        if !axes[k].has(i64::from(index[k])) {
-            return false;
-        }
-    }
-    true
 }

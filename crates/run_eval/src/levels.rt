@@ -8,8 +8,7 @@ ghost use Rattle.run_values.specs.Shown.{value_of};
 use crate::state::Context;
 use counted_code::CodeFun;
 use run_values::RunValue;
-use sac_base::{FaultKind, Site};
-use with_loops::{Stop, fault};
+use sac_base::{FaultKind, Site, Stop, fault};
 
 /// What a condition says: 0 is false, and any other number is true.
 pub fn condition(value: RunValue, site: Site) -> Result<bool, Stop>

@@ -22,4 +22,4 @@ pub use phases::{Never, Outside, Phases};
 pub use program::{Plan, run, run_with_phases};
 pub use state::{Context, CountedCode, State};
 pub use trace::Trace;
-pub use with_loops::Stop;
+pub use sac_base::Stop;

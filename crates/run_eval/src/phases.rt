@@ -6,14 +6,14 @@ ghost use Rattle.run_eval.specs.Running.{IsAt, IsValue, SameScopes, Told, array_
 ghost use Rattle.run_store.specs.Stands.{lender_of};
 ghost use Rattle.run_values.specs.Scopes.{current};
 ghost use Rattle.std.specs.Prelude.{◌≡◌, None, OnOk, ⊤};
-ghost use Rattle.with_loops.specs.Plans.{plan_of};
+ghost use Rattle.array_with_loops.specs.Plans.{plan_of};
 
 use crate::state::{Context, State};
 use counted_code::{CodeGen, CodePart};
 use run_values::RunValue;
-use sac_base::{Array, Form, Op, Shape};
+use sac_base::{Array, Form, Op, Shape, Stop};
 use std::marker::Model;
-use with_loops::{Frame, Plan, Stop};
+use array_with_loops::{Frame, Plan};
 
 /// Runs the with-loops that stand outside of cells.
 pub trait Phases {

@@ -9,7 +9,7 @@ ghost use Rattle.run_eval.specs.Outcomes.{new_heap, main_in, AreArrays, ArePlace
 ghost use Rattle.run_eval.specs.Running.{IsAt, Told};
 ghost use Rattle.run_store.specs.Stands.{Stands, lender_of};
 ghost use Rattle.run_values.specs.Shown.{value_of};
-ghost use Rattle.with_loops.specs.Tells.{TellsItems};
+ghost use Rattle.array_with_loops.specs.Tells.{TellsItems};
 
 use crate::blocks::run_function;
 use crate::phases::{Never, Outside, Phases};
@@ -20,11 +20,10 @@ use counted_code::Code;
 use run_store::{Store, place_own, read_array, release};
 use run_types::all_fit;
 use run_values::{Frames, RunValue};
-use sac_base::{Array, Caps, FaultKind, Memory, Site};
+use sac_base::{Array, Caps, FaultKind, Memory, Site, Stop, fault};
 use std::alloc::Global;
 use std::mem;
 use std::thread::Threads;
-use with_loops::{Stop, fault};
 
 /// How many workers there are, 1 to 64, how many positions a chunk has, or an equal share for each worker where that is not given, and the limits on turns and nested calls.
 #[derive(Clone, Copy, Debug, PartialEq, Eq)]

@@ -1,7 +1,7 @@
 -- Operators by what their operands are.
 use Rattle.std.proofs.Common.{◌≡◌, ℤ, map, Result, sym, ap, ◌∙◌, subst}
 use Rattle.sac_base.specs.declared.base.Base.{Base}
-use Rattle.sac_base.specs.declared.fault.FaultKind.{FaultKind}
+use Rattle.sac_base.specs.declared.faults.FaultKind.{FaultKind}
 use Rattle.sac_base.specs.declared.op.Op.{Op}
 use Rattle.sac_base.specs.declared.site.Site.{Site}
 use Rattle.sac_base.specs.Arrays.{ArrayValue, scalar, vector}
@@ -9,7 +9,7 @@ use Rattle.sac_base.specs.Operators.{binary}
 use Rattle.sac_base.specs.Outcomes.{at_site}
 use Rattle.run_store.specs.declared.store.Store.{Store}
 use Rattle.counted_code.specs.Values.{Heap, read}
-use Rattle.with_loops.specs.declared.stop.Stop.{Stop}
+use Rattle.sac_base.specs.declared.stop.Stop.{Stop}
 use Rattle.run_store.specs.Stands.{TellsPlaced}
 use Rattle.run_values.specs.declared.few.Few.{Few}
 use Rattle.run_values.specs.declared.value.RunValue.{RunValue}

@@ -1,7 +1,7 @@
 -- Right sides as the machine does them.
 use Rattle.std.proofs.Common.{◌≡◌, ℕ, Bool, true, false, List, [], ◌∷◌, Result, Ok, Err, refl, sym, subst}
-use Rattle.sac_base.specs.declared.fault.Fault.{Fault}
-use Rattle.sac_base.specs.declared.fault.FaultKind.{FaultKind}
+use Rattle.sac_base.specs.declared.faults.Fault.{Fault}
+use Rattle.sac_base.specs.declared.faults.FaultKind.{FaultKind}
 use Rattle.sac_base.specs.declared.op.Op.{Op}
 use Rattle.sac_base.specs.declared.site.Site.{Site}
 use Rattle.sac_base.specs.declared.types.ArrayType.{ArrayType}
@@ -16,8 +16,8 @@ use Rattle.run_store.specs.declared.store.Store.{Store}
 use Rattle.counted_code.specs.Machine.{Values, DoesCalls, right_does, plain_does}
 use Rattle.counted_code.specs.Terms.{CodeRightTerm, PlainCode, IfCode, LoopCode, CallCode, WithCode, PartedCode}
 use Rattle.counted_code.specs.Values.{Heap, Value, Ended, Done, Failed, Small, give, go_on, then_go, pure_end, read, is_small, place_as, place_value}
-use Rattle.with_loops.specs.declared.stop.Stop.{Stop}
-use Rattle.with_loops.specs.declared.stop.Stop.TheVariants.{Faulted, Memory}
+use Rattle.sac_base.specs.declared.stop.Stop.{Stop}
+use Rattle.sac_base.specs.declared.stop.Stop.TheVariants.{Faulted, Memory}
 use Rattle.run_store.specs.Stands.{Stands, Placed, TellsPlaced}
 use Rattle.run_values.specs.declared.value.RunValue.{RunValue}
 use Rattle.run_values.specs.Shown.{value_of}

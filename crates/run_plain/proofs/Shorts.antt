@@ -4,7 +4,7 @@ use Rattle.std.specs.Prelude.{unsigned_abs}
 use Rattle.std.proofs.lemmas.List.{length-take, length-map}
 use Rattle.sac_base.specs.declared.base.Base.{Base}
 use Rattle.sac_base.specs.declared.base.Base.TheVariants.{Int}
-use Rattle.sac_base.specs.declared.fault.FaultKind.{FaultKind}
+use Rattle.sac_base.specs.declared.faults.FaultKind.{FaultKind}
 use Rattle.sac_base.specs.declared.op.Op.{Op}
 use Rattle.sac_base.specs.declared.site.Site.{Site}
 use Rattle.sac_base.specs.Arrays.{ArrayValue, scalar, vector}
@@ -13,9 +13,9 @@ use Rattle.sac_base.specs.Outcomes.{Ends, at_site}
 use Rattle.sac_base.specs.Parts.{shape_vector}
 use Rattle.run_store.specs.declared.store.Store.{Store}
 use Rattle.counted_code.specs.Values.{Heap, Value, Small, Ref, place_value, read}
-use Rattle.with_loops.specs.declared.stop.Stop.{Stop}
-use Rattle.with_loops.specs.declared.stop.Stop.TheVariants.{Faulted, Memory}
-use Rattle.with_loops.specs.Tells.{TellsStop}
+use Rattle.sac_base.specs.declared.stop.Stop.{Stop}
+use Rattle.sac_base.specs.declared.stop.Stop.TheVariants.{Faulted, Memory}
+use Rattle.array_with_loops.specs.Tells.{TellsStop}
 use Rattle.run_store.specs.Stands.{Stands, Placed, TellsPlaced}
 use Rattle.run_store.proofs.Placing.{small_placed}
 use Rattle.run_values.specs.declared.few.Few.{Few}

@@ -5,7 +5,7 @@ use Rattle.std.proofs.lemmas.Bool.{eq-eqb, lt-ltb, true≢false}
 use Rattle.std.proofs.lemmas.List.{length-map, length-take-le, map_more, map-append}
 use Rattle.sac_base.specs.declared.base.Base.{Base}
 use Rattle.sac_base.specs.declared.base.Base.TheVariants as base
-use Rattle.sac_base.specs.declared.fault.FaultKind.TheVariants.{F2}
+use Rattle.sac_base.specs.declared.faults.FaultKind.TheVariants.{F2}
 use Rattle.sac_base.specs.declared.op.Op.{Op}
 use Rattle.sac_base.specs.declared.op.ZeroDivisor.{ZeroDivisor}
 use Rattle.sac_base.specs.Arrays.{scalar, vector, same_base, same_shape}

@@ -8,8 +8,8 @@ use Rattle.run_store.specs.declared.store.Store.{Store}
 use Rattle.counted_code.specs.Terms.{CodeRightTerm, PlainCode}
 use Rattle.counted_code.specs.Values.{Heap, Value, Ended, Done, Failed, read}
 use Rattle.counted_code.specs.Machine.{Values, plain_does}
-use Rattle.with_loops.specs.declared.stop.Stop.{Stop}
-use Rattle.with_loops.specs.declared.stop.Stop.TheVariants.{Faulted, Memory}
+use Rattle.sac_base.specs.declared.stop.Stop.{Stop}
+use Rattle.sac_base.specs.declared.stop.Stop.TheVariants.{Faulted, Memory}
 use Rattle.run_store.specs.Stands.{Stands}
 use Rattle.run_values.specs.declared.value.RunValue.{RunValue}
 use Rattle.run_values.specs.Shown.{value_of}

@@ -19,11 +19,8 @@ use crate::arrays::{binary_array, literal_array, unary_array};
 use core_ir::Var;
 use run_store::{Store, place_result};
 use run_values::{Few, Frames, RunValue, short_binary, short_unary};
-use sac_base::{
-    Base, Cell, FaultKind, Op, Site, ZeroDivisor, apply1, apply2, result_base, same_base,
-};
+use sac_base::{Base, Cell, FaultKind, Op, Site, Stop, ZeroDivisor, apply1, apply2, fault, result_base, same_base};
 use std::alloc::Global;
-use with_loops::{Stop, fault};
 
 /// An operator of one operand.
 pub fn unary_value(

@@ -19,9 +19,8 @@ use counted_code::CodeRight;
 use run_store::{Store, place_array, select_value};
 use run_types::value_has;
 use run_values::{Few, Frames, RunValue};
-use sac_base::{Array, ArrayType, Base, Cell, FaultKind, Memory, Site};
+use sac_base::{Array, ArrayType, Base, Cell, FaultKind, Memory, Site, Stop, fault};
 use std::alloc::Global;
-use with_loops::{Stop, fault};
 
 /// The value of a right side that has no block and no call, with nothing kept or released. Of any other right side nothing is said.
 pub fn plain_value(

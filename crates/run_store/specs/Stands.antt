@@ -4,8 +4,8 @@ use Rattle.buffer_heap.specs.Heaps.{Content, In, Out, Held, HeapValue, at}
 use Rattle.counted_code.specs.Values.{Buffer, Heap, Value, Ended, Done, Failed, buffer_at, place_value}
 use Rattle.sac_base.specs.Arrays.{ArrayValue}
 use Rattle.sac_base.specs.Outcomes.{Ends}
-use Rattle.with_loops.specs.declared.stop.Stop.{Stop}
-use Rattle.with_loops.specs.declared.stop.Stop.TheVariants.{Faulted, Memory}
+use Rattle.sac_base.specs.declared.stop.Stop.{Stop}
+use Rattle.sac_base.specs.declared.stop.Stop.TheVariants.{Faulted, Memory}
 use Rattle.run_store.specs.Lents.{LentValue, Lender, lender_as}
 use Rattle.run_store.specs.declared.store.Store.{Store}
 use Rattle.run_values.specs.declared.value.RunValue.{RunValue}

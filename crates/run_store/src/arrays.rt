@@ -7,16 +7,15 @@ ghost use Rattle.sac_base.specs.Arrays.{form_of, size, MOST};
 ghost use Rattle.run_store.specs.Stands.{Stands, Placed, TellsPlaced, lender_of};
 ghost use Rattle.sac_base.specs.Arrays.{ArrayValue};
 ghost use Rattle.sac_base.specs.Outcomes.{Ends};
-ghost use Rattle.with_loops.specs.Tells.{Tells};
+ghost use Rattle.array_with_loops.specs.Tells.{Tells};
 ghost use Rattle.run_values.specs.Numbers.{numbers};
 ghost use Rattle.run_values.specs.Shown.{value_of};
 
 use crate::access::buffer_cells;
 use crate::store::Store;
 use run_values::{Few, RunValue, small_value};
-use sac_base::{Array, Base, Cell, Form, Memory, Shape, elements};
+use sac_base::{Array, Base, Cell, Form, Memory, Shape, Stop, elements};
 use std::alloc::Global;
-use with_loops::Stop;
 
 /// The array that a value is.
 pub fn read_array(alloc: Global, heap: &Store<'_>, value: RunValue) -> Result<Array, Memory>

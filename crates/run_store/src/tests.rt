@@ -2,10 +2,9 @@ use super::*;
 use buffer_heap::Heap;
 use count_table::{Phase, Tally};
 use run_values::{Few, RunValue};
-use sac_base::{Array, Base, Cell, FaultKind, Shape, Site};
+use sac_base::{Array, Base, Cell, FaultKind, Shape, Site, Stop};
 use std::alloc::Global;
 use std::test::Fail;
-use with_loops::Stop;
 
 const HERE: Site = Site { line: 1, col: 1 };
 

@@ -1,7 +1,7 @@
 -- What the evaluator's values stand for in the machine, and what is seen of one without its cells.
 use Rattle.std.specs.Prelude.{◌≡◌, ◌≤◌, ℕ, List, ℤ, Option, Some, None, Result, Ok, Err, length, map, unsigned_abs}
 use Rattle.sac_base.specs.declared.base.Base.{Base}
-use Rattle.sac_base.specs.declared.fault.FaultKind.{FaultKind}
+use Rattle.sac_base.specs.declared.faults.FaultKind.{FaultKind}
 use Rattle.sac_base.specs.Arrays.{ArrayValue, scalar, vector}
 use Rattle.counted_code.specs.Values.{Value, Small, Ref}
 use Rattle.counted_code.specs.Machine.{missing_value}

@@ -1,10 +1,10 @@
 use Rattle.std.proofs.Common.{◌≡◌, ℕ, zero, suc, ◌+◌, ◌-◌, ◌*◌, ◌/◌, ◌%◌, ◌<◌, ◌≤◌, ◌⊎◌, inl, inr, arith, refl, sym, ap, subst, ◌∙◌, nat_lt}
-use Rattle.std.specs.Prelude.{ℤ, pos, negsuc, ◌+ℤ◌, ◌-ℤ◌, ◌≤ℤ◌, ◌<ℤ◌, unsigned_abs, int_lt, int_le, Bool, true, false, ◌&&◌}
+use Rattle.std.specs.Prelude.{ℤ, pos, negsuc, List, [], ◌∷◌, length, ◌+ℤ◌, ◌-ℤ◌, ◌≤ℤ◌, ◌<ℤ◌, unsigned_abs, int_lt, int_le, Bool, true, false, ◌&&◌}
 use Rattle.std.specs.Int.{int_rem_euclid}
 use Rattle.std.proofs.lemmas.Int.{ints}
 use Rattle.std.proofs.lemmas.Bool.Decides.{nat_tests}
 use borrow.Author.Differences.{up, down}
-use Rattle.sac_base.specs.Grids.{has_index, within}
+use Rattle.sac_base.specs.Grids.{has_index, has_vector, within}
 use Rattle.sac_base.specs.declared.grid.Grid1.{Grid1}
 
 -- the distance of two numbers, for omega
@@ -35,3 +35,14 @@ has_facts g x w = elim (within_is g.lo g.hi x) [
 
 pub same_test : {a b c d e f : ℕ} → a ≡ d → b ≡ e → c ≡ f → nat_lt (a % b) c ≡ nat_lt (d % e) f
 same_test p q r = cc
+
+-- A vector of another length is no member.
+pub no_member : (g : List Grid1) (v : List ℤ) → (length g ≡ length v → ⊥) → has_vector g v ≡ false
+no_member [] [] h = absurd (h refl)
+no_member [] (x ∷ v) h = refl
+no_member (a ∷ g) [] h = refl
+no_member (a ∷ g) (x ∷ v) h = by (has_index a x) (no_member g v (λ e. h (ap suc e)))
+  where
+    by : (b : Bool) → has_vector g v ≡ false → (b && has_vector g v) ≡ false
+    by true e = e
+    by false e = refl

@@ -5,8 +5,8 @@ use Rattle.std.specs.Int.{int_min, int_max, int_rem_euclid}
 use Rattle.sac_base.specs.declared.op.Op.{Op}
 use Rattle.sac_base.specs.declared.site.Site.{Site}
 use Rattle.sac_base.specs.declared.form.Form.{Form}
-use Rattle.sac_base.specs.declared.fault.FaultKind.{FaultKind}
-use Rattle.sac_base.specs.declared.fault.FaultKind.TheVariants.{F4, F5, F6, F8}
+use Rattle.sac_base.specs.declared.faults.FaultKind.{FaultKind}
+use Rattle.sac_base.specs.declared.faults.FaultKind.TheVariants.{F4, F5, F6, F8}
 use Rattle.sac_base.specs.Arrays.{ArrayValue, size, MOST, form_of, same_base, same_shape}
 use Rattle.sac_base.specs.Operators.{binary, all_of}
 use Rattle.sac_base.specs.Parts.{vector_of, shape_of_numbers, part_at, cells_at, Part}

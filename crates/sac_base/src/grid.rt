@@ -48,6 +48,25 @@ impl Model for Grid {
 }
 
 impl Grid {
+    ghost use Rattle.std.specs.Prelude.{◌≡◌, ◌≤◌, length, vec_len, IfOk};
+    ghost use Rattle.sac_base.specs.Grids.{has_vector};
+
+    /// Whether an index is a member: as long as there are axes, each component a member of its axis.
+    pub fn contains(&self, index: &[i32]) -> bool
+        ensures { result ≡ has_vector self.now index.now }
+    {
+        let axes = self.axes();
+        if axes.len() != index.len() {
+            return false;
+        }
+        for k in 0..axes.len() {
+            if !axes[k].has(i64::from(index[k])) {
+                return false;
+            }
+        }
+        true
+    }
+
     /// The grid of the axes, the outermost first.
     pub fn new(axes: Vec<Grid1>) -> Grid
         requires { vec_len axes ≤ 8 }

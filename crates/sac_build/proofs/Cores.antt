@@ -5,8 +5,8 @@ use Rattle.sac_ast.specs.Tree.{ProgramTree}
 use Rattle.core_ir.specs.declared.tree.Core.{Core}
 use Rattle.core_ir.specs.View.{core_term}
 use Rattle.core_ir.specs.WellFormed.{IsWellFormed}
-use Rattle.lowering_laws.specs.Programs.{HasOutcomeOf, lowered_program}
-use Rattle.source_laws.proofs.Cores.{core_well_formed, core_outcome}
+use Rattle.core_lowering.specs.Programs.{HasOutcomeOf, lowered_program}
+use Rattle.core_source_laws.proofs.Cores.{core_well_formed, core_outcome}
 use Rattle.sac_build.specs.Read.{IsRead}
 
 pub formed : (p : ProgramTree) (r : Result Core Memory) → IsRead p → IfOk r (λ core. core_term core ≡ lowered_program p)

@@ -2,12 +2,12 @@
 
 ghost use Rattle.std.specs.Prelude.{◌≡◌, List, IfOk};
 ghost use Rattle.sac_base.specs.Arrays.{ArrayValue};
-ghost use Rattle.sac_base.specs.declared.fault.Caps.{Caps};
+ghost use Rattle.sac_base.specs.declared.faults.Caps.{Caps};
 ghost use Rattle.sac_ast.specs.View;
 ghost use Rattle.core_ir.specs.View.{core_term};
 ghost use Rattle.core_ir.specs.WellFormed.{IsWellFormed};
 ghost use Rattle.value_meaning.specs.Calls.{outcome};
-ghost use Rattle.lowering_laws.specs.Programs.{HasOutcomeOf};
+ghost use Rattle.core_lowering.specs.Programs.{HasOutcomeOf};
 ghost use Rattle.counted_code.specs.View.{code_program};
 ghost use Rattle.counted_code.specs.Counts.{IsWellCounted, IsUnmarked};
 ghost use Rattle.counted_code.specs.Prompt.{IsPrompt};

@@ -1,6 +1,6 @@
 use Rattle.std.specs.Prelude.{ℕ}
-use Rattle.sac_base.specs.declared.fault.FaultKind.{FaultKind}
-use Rattle.sac_base.specs.declared.fault.FaultKind.TheVariants.{F9, F10}
+use Rattle.sac_base.specs.declared.faults.FaultKind.{FaultKind}
+use Rattle.sac_base.specs.declared.faults.FaultKind.TheVariants.{F9, F10}
 use Rattle.sac_due.specs.declared.status.Status.{Status}
 use Rattle.sac_due.specs.declared.status.Status.TheVariants.{Done, Faulted, Source, Input, Limit, ReadFault, WriteFault, Usage, Memory}
 

@@ -2,9 +2,8 @@
 use Rattle.std.specs.Prelude.{ℕ, List, ◌++◌, codes}
 use Rattle.std.specs.Fmt.{decimal}
 use Rattle.sac_base.specs.declared.site.Site.{Site}
-use Rattle.sac_base.specs.declared.fault.Fault.{Fault}
-use Rattle.sac_base.specs.declared.fault.FaultKind.{FaultKind}
-use Rattle.sac_base.specs.declared.fault.FaultKind.TheVariants.{F1, F2, F3, F4, F5, F6, F7, F8, F9, F10}
+use Rattle.sac_base.specs.declared.faults.Fault.{Fault}
+use Rattle.sac_base.specs.Faults.{fault_code}
 use Rattle.sac_lex.specs.declared.token.LexCode.{LexCode}
 use Rattle.sac_lex.specs.declared.token.LexCode.TheVariants.{L1, L2, L3, L4, L5}
 use Rattle.sac_ast.specs.declared.CheckCode.{CheckCode}
@@ -46,18 +45,6 @@ data_code I3 = codes "I3"
 data_code I4 = codes "I4"
 data_code I5 = codes "I5"
 data_code I6 = codes "I6"
-
-abbrev pub fault_code : FaultKind → List ℕ
-fault_code F1 = codes "F1"
-fault_code F2 = codes "F2"
-fault_code F3 = codes "F3"
-fault_code F4 = codes "F4"
-fault_code F5 = codes "F5"
-fault_code F6 = codes "F6"
-fault_code F7 = codes "F7"
-fault_code F8 = codes "F8"
-fault_code F9 = codes "F9"
-fault_code F10 = codes "F10"
 
 -- a code and its place in the source, behind a word
 abbrev pub placed : List ℕ → List ℕ → Site → List ℕ

@@ -5,7 +5,7 @@ use Rattle.std.specs.Prelude.{Vec}
 use Rattle.std.specs.declared.alloc.Global.{Global}
 use Rattle.sac_base.specs.Arrays.{ArrayValue}
 use Rattle.sac_base.specs.Outcomes.{Ends}
-use Rattle.sac_base.specs.declared.fault.Caps.{Caps}
+use Rattle.sac_base.specs.declared.faults.Caps.{Caps}
 use Rattle.sac_base.specs.declared.memory.Memory.{Memory as NoMemory}
 use Rattle.sac_base.specs.declared.outcome.Outcome.{Outcome}
 use Rattle.sac_io.specs.Files.{Contents, Holds}
@@ -18,9 +18,9 @@ use Rattle.counted_code.specs.declared.tree.Code.{Code}
 use Rattle.counted_code.specs.declared.tree.Cost.{Cost}
 use Rattle.counted_code.specs.View.{code_program}
 use Rattle.counted_code.specs.Outcome.{whole_run, outcome_of, cost_of}
-use Rattle.with_loops.specs.declared.stop.Stop.{Stop}
-use Rattle.with_loops.specs.declared.stop.Stop.TheVariants as stop
-use Rattle.with_loops.specs.Tells.{TellsItems}
+use Rattle.sac_base.specs.declared.stop.Stop.{Stop}
+use Rattle.sac_base.specs.declared.stop.Stop.TheVariants as stop
+use Rattle.array_with_loops.specs.Tells.{TellsItems}
 use Rattle.run_eval.specs.declared.trace.Trace.{Trace}
 use Rattle.run_eval.specs.Outcomes.{new_heap, IsCleared, HasCounters, TellsCost, TellsTally}
 use Rattle.sac_words.specs.declared.options.Mode.TheVariants.{Run}

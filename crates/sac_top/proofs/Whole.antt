@@ -12,8 +12,8 @@ use Rattle.sac_words.specs.declared.options.Mode.TheVariants.{Run, Check, Print}
 use Rattle.sac_words.specs.Meaning.{Meant, Origin, empty, file, generated, words_mean}
 use Rattle.sac_base.specs.Arrays.{ArrayValue}
 use Rattle.sac_base.specs.Outcomes.{Ends}
-use Rattle.sac_base.specs.declared.fault.FaultKind.{FaultKind}
-use Rattle.sac_base.specs.declared.fault.FaultKind.TheVariants.{F1, F2, F3, F4, F5, F6, F7, F8, F9, F10}
+use Rattle.sac_base.specs.declared.faults.FaultKind.{FaultKind}
+use Rattle.sac_base.specs.declared.faults.FaultKind.TheVariants.{F1, F2, F3, F4, F5, F6, F7, F8, F9, F10}
 use Rattle.sac_io.specs.Sink.{with_more}
 use Rattle.data_text.specs.Texts.{Refusal}
 use Rattle.sac_due.specs.Status.{fault_status}

@@ -8,8 +8,8 @@ use Rattle.sac_io.specs.Files.{Contents, Lacks}
 use Rattle.sac_ast.specs.Tree.{ProgramTree}
 use Rattle.sac_ast.specs.View as View
 use Rattle.type_check.specs.declared.program.Checked.{Checked}
-use Rattle.with_loops.specs.declared.stop.Stop.{Stop}
-use Rattle.with_loops.specs.declared.stop.Stop.TheVariants as stop
+use Rattle.sac_base.specs.declared.stop.Stop.{Stop}
+use Rattle.sac_base.specs.declared.stop.Stop.TheVariants as stop
 use Rattle.sac_words.specs.declared.options.Mode.{Mode}
 use Rattle.sac_words.specs.declared.options.Mode.TheVariants.{Run}
 use Rattle.sac_words.specs.Meaning.{Meant, Origin, file}

@@ -1,7 +1,7 @@
 -- What a run leaves in the trace and in the heap.
 use Rattle.std.specs.Prelude.{◌≡◌, ◌+◌, ◌%◌, ◌^◌, ℕ, ⊤, List, Option, Some, None, Result, Ok, IfOk}
 use Rattle.sac_base.specs.Arrays.{ArrayValue}
-use Rattle.sac_base.specs.declared.fault.Caps.{Caps}
+use Rattle.sac_base.specs.declared.faults.Caps.{Caps}
 use Rattle.sac_io.specs.Files.{Contents}
 use Rattle.sac_io.specs.Sink.{with_more}
 use Rattle.sac_ast.specs.Tree.{ProgramTree}

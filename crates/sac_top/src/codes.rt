@@ -1,11 +1,10 @@
 //! Codes as they are written.
 ghost use Rattle.std.specs.Prelude.{◌≡◌};
-ghost use Rattle.sac_due.specs.Texts.{lex_code, check_code, data_code, fault_code};
+ghost use Rattle.sac_due.specs.Texts.{lex_code, check_code, data_code};
 ghost use Rattle.sac_top.specs.Codes.{parse_code};
 
 use data_text::DataCode;
 use sac_ast::CheckCode;
-use sac_base::FaultKind;
 use sac_lex::LexCode;
 use sac_parse::ParseCode;
 
@@ -57,22 +56,5 @@ pub fn data_code(code: DataCode) -> &'static str
         DataCode::I4 => "I4",
         DataCode::I5 => "I5",
         DataCode::I6 => "I6",
-    }
-}
-
-pub fn fault_code(kind: FaultKind) -> &'static str
-    ensures { result.now ≡ fault_code kind }
-{
-    match kind {
-        FaultKind::F1 => "F1",
-        FaultKind::F2 => "F2",
-        FaultKind::F3 => "F3",
-        FaultKind::F4 => "F4",
-        FaultKind::F5 => "F5",
-        FaultKind::F6 => "F6",
-        FaultKind::F7 => "F7",
-        FaultKind::F8 => "F8",
-        FaultKind::F9 => "F9",
-        FaultKind::F10 => "F10",
     }
 }

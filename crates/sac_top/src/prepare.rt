@@ -13,7 +13,7 @@ use crate::line::{Answer, answer_line};
 use crate::run::answer_program;
 use crate::source::{Judged, judge};
 use buffer_heap::Heap;
-use loop_workers::Gate;
+use phase_workers::Gate;
 use run_eval::Trace;
 use sac_base::Memory;
 use sac_due::Status;

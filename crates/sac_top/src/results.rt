@@ -8,7 +8,6 @@ ghost use Rattle.sac_due.specs.Due.{result_line, ended};
 ghost use Rattle.sac_top.specs.Traced.{numbers_of};
 ghost use Rattle.sac_top.specs.Steps.{ending, ends_of};
 
-use crate::codes::fault_code;
 use crate::line::{Answer, placed, push};
 use data_text::{print_array, print_summary};
 use itoa::Buffer;
@@ -107,7 +106,7 @@ pub fn answer_outcome(
         }),
         Outcome::Faulted(fault) => Ok(Answer {
             status: fault_status(fault.kind),
-            text: placed(alloc, "fault ", fault_code(fault.kind), fault.site)?,
+            text: placed(alloc, "fault ", fault.kind.code(), fault.site)?,
         }),
     }
 }

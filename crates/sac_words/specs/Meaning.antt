@@ -4,7 +4,7 @@ use Rattle.std.specs.Borrow.{Bor}
 use Rattle.std.specs.Str.{all_ascii_digits}
 use Rattle.std.specs.Str.Parse.{digits_value}
 use Rattle.clap.specs.Words.{Kinds, Row, Text, fault_of, first_of, matches_of}
-use Rattle.sac_base.specs.declared.fault.Caps.{Caps}
+use Rattle.sac_base.specs.declared.faults.Caps.{Caps}
 use Rattle.sac_words.specs.Command.{sac_command}
 use Rattle.sac_words.specs.declared.options.Mode.{Mode}
 use Rattle.sac_words.specs.declared.options.Mode.TheVariants.{Run, Check, Print}

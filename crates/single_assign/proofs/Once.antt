@@ -11,8 +11,8 @@ use Rattle.std.proofs.lemmas.Slice.Eq.{bytes_eq-Decides}
 use Rattle.indexmap.specs.IndexSet.{insert_key}
 use Rattle.sac_base.specs.declared.name.Name.{Name}
 use Rattle.sac_ast.specs.Tree.{FunctionTree}
-use Rattle.lowering_laws.specs.Lowering.{has_name, once}
-use Rattle.lowering_laws.specs.Programs.{place_in}
+use Rattle.core_lowering.specs.Lowering.{has_name, once}
+use Rattle.core_lowering.specs.Programs.{place_in}
 use Rattle.single_assign.specs.Looks.{texts}
 
 -- ---- names, each once

@@ -8,7 +8,7 @@ ghost use Rattle.single_assign.specs.Views.{base_of_in, group_in, name_base_in, 
 use indexmap::IndexSet;
 use sac_ast::{Function, Generator, Known};
 use sac_base::{Base, Memory, Name};
-use static_bases::base_of;
+use sac_bases::base_of;
 use std::alloc::Global;
 
 #[derive(Clone, Copy)]

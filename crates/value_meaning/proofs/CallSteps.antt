@@ -4,7 +4,7 @@ use Rattle.std.specs.Prelude.{slice_get, if◌then◌else◌}
 use Rattle.std.proofs.lemmas.Option.{slice_get-get_or}
 use Rattle.sac_base.specs.declared.site.Site.{Site}
 use Rattle.sac_base.specs.declared.base.Base.{Base}
-use Rattle.sac_base.specs.declared.fault.FaultKind.TheVariants.{F7, F10}
+use Rattle.sac_base.specs.declared.faults.FaultKind.TheVariants.{F7, F10}
 use Rattle.sac_base.specs.Arrays.{ArrayValue}
 use Rattle.sac_ast.specs.declared.Function.{Function}
 use Rattle.sac_ast.specs.Tree.{Expr, FunctionTree}
@@ -17,12 +17,12 @@ use Rattle.value_meaning.specs.Environments.{env_of, env_step, env_of_bindings, 
 use Rattle.value_meaning.specs.Evaluation.{block_in, meanings_in, function_in, names_of_params, types_of_params, meaning_in, cell_in, main_at}
 use Rattle.sac_base.specs.Types.{all_have}
 use Rattle.sac_base.specs.Outcomes.{Ends, Env, fault, and_then, no_variables, with_variables}
-use Rattle.with_loops.proofs.Steps.{value_then}
+use Rattle.array_with_loops.proofs.Steps.{value_then}
 use Rattle.value_meaning.specs.Calls.{RunMeaning, body_of, call_by, run_chosen, run_inline, run_deeper, results_in, call_at, outcome_of}
 use Rattle.sac_ast.specs.Bases.{base_in}
 use Rattle.sac_ast.specs.View.{expr, index_view}
 use Rattle.sac_ast.specs.declared.Generator.{Generator}
-use Rattle.sac_base.specs.declared.fault.Caps.{Caps}
+use Rattle.sac_base.specs.declared.faults.Caps.{Caps}
 use Rattle.std.specs.Prelude.{ℤ}
 use Rattle.std.specs.Borrow.{Bor}
 use Rattle.value_meaning.specs.Meaning.{with_index}

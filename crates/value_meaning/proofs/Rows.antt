@@ -5,8 +5,8 @@ use Rattle.std.specs.Int.{int_wrap}
 use Rattle.sac_base.specs.declared.site.Site.{Site}
 use Rattle.sac_base.specs.declared.base.Base.TheVariants.{Int}
 use Rattle.sac_base.specs.declared.op.Op.TheVariants.{Add, Mul, Sub, Div, Rem, Lt, Eq, Neg, And}
-use Rattle.sac_base.specs.declared.fault.FaultKind.TheVariants.{F1, F2, F3, F4, F5, F6, F7, F8, F9, F10}
-use Rattle.sac_base.specs.declared.fault.Caps.{Caps}
+use Rattle.sac_base.specs.declared.faults.FaultKind.TheVariants.{F1, F2, F3, F4, F5, F6, F7, F8, F9, F10}
+use Rattle.sac_base.specs.declared.faults.Caps.{Caps}
 use Rattle.sac_base.specs.declared.types.ArrayType.{ArrayType}
 use Rattle.sac_base.specs.declared.types.Part.{Part}
 use Rattle.sac_base.specs.declared.types.Part.TheVariants.{Known, Rank, Star}

@@ -1,8 +1,8 @@
 -- The meaning of a with-loop from what the evaluator has computed.
 use Rattle.std.proofs.Common.{◌≡◌, suc, List, [], ◌∷◌, ◌++◌, length, map, Bool, true, false, refl, sym, ap, ◌∙◌, arith, ℤ, Ok, Err, Some}
 use Rattle.std.specs.Prelude.{if◌then◌else◌}
-use Rattle.sac_base.specs.declared.fault.Fault.{Fault}
-use Rattle.sac_base.specs.declared.fault.FaultKind.TheVariants.{F6}
+use Rattle.sac_base.specs.declared.faults.Fault.{Fault}
+use Rattle.sac_base.specs.declared.faults.FaultKind.TheVariants.{F6}
 use Rattle.sac_base.specs.declared.form.Form.{Form}
 use Rattle.sac_base.specs.declared.site.Site.{Site}
 use Rattle.sac_base.specs.Operators.{all_of, with_first}
@@ -19,7 +19,7 @@ use Rattle.value_meaning.specs.declared.evaluate.Context.{Context}
 use Rattle.value_meaning.specs.Evaluation.{meaning_in, cell_in}
 use Rattle.value_meaning.specs.Meaning.{name_count}
 use Rattle.value_meaning.specs.WithSource.{generator_in, bound_in, maybe_in, bounds_in, generators_in, operation_in, generator_of, cells_in}
-use Rattle.with_loops.proofs.EachSteps.{each_length}
+use Rattle.array_with_loops.proofs.EachSteps.{each_length}
 
 -- ---- the generators, from their bounds
 

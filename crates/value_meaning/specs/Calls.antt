@@ -2,8 +2,8 @@
 use Rattle.std.specs.Prelude.{ℕ, zero, suc, List, Bool, ◌&&◌, ◌||◌, not, if◌then◌else◌, Option, Some, None, Ok, map, length, position, bytes_eq, slice_get, codes}
 use Rattle.std.specs.List.{list_all}
 use Rattle.sac_base.specs.declared.site.Site.{Site}
-use Rattle.sac_base.specs.declared.fault.Caps.{Caps}
-use Rattle.sac_base.specs.declared.fault.FaultKind.TheVariants.{F7, F10}
+use Rattle.sac_base.specs.declared.faults.Caps.{Caps}
+use Rattle.sac_base.specs.declared.faults.FaultKind.TheVariants.{F7, F10}
 use Rattle.sac_base.specs.declared.name.Name.{Name}
 use Rattle.sac_base.specs.declared.types.ArrayType.{ArrayType}
 use Rattle.sac_base.specs.Arrays.{ArrayValue}

@@ -3,8 +3,8 @@ use Rattle.std.specs.Prelude.{ℕ, zero, suc, ◌-◌, List, [], ◌∷◌, ℤ,
 use Rattle.sac_base.specs.declared.base.Base.{Base}
 use Rattle.sac_base.specs.declared.base.Base.TheVariants.{Int, Bool as Truth}
 use Rattle.sac_base.specs.declared.site.Site.{Site}
-use Rattle.sac_base.specs.declared.fault.FaultKind.{FaultKind}
-use Rattle.sac_base.specs.declared.fault.FaultKind.TheVariants.{F4, F9}
+use Rattle.sac_base.specs.declared.faults.FaultKind.{FaultKind}
+use Rattle.sac_base.specs.declared.faults.FaultKind.TheVariants.{F4, F9}
 use Rattle.sac_base.specs.declared.name.Name.{Name}
 use Rattle.sac_base.specs.Arrays.{ArrayValue, scalar, vector}
 use Rattle.sac_base.specs.Operators.{unary, binary, of_truth}

@@ -7,7 +7,7 @@ ghost use Rattle.value_meaning.specs.Meaning.{default_base as default_base_value
 
 use sac_ast::{Function, Generator};
 use sac_base::{Array, Base, Memory};
-use static_bases::base_in;
+use sac_bases::base_in;
 use std::alloc::Global;
 
 /// The base of the first generator's cell, in a function of a program; int without a generator, and where it has none.

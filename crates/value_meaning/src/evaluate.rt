@@ -9,9 +9,9 @@ ghost use Rattle.value_meaning.specs.Environments.{env_of};
 ghost use Rattle.value_meaning.specs.Evaluation.{meaning_in, meanings_in, statement_in, block_in, repeat_in, calls_in, run_chosen_in, function_in, cell_in, test_in};
 ghost use Rattle.value_meaning.specs.Meaning.{call_with};
 ghost use Rattle.sac_base.specs.Outcomes.{and_then};
-ghost use Rattle.with_loops.specs.Cells.{IsArrayPlan, array_from};
-ghost use Rattle.with_loops.specs.Plans.{operation_of, plan_of};
-ghost use Rattle.with_loops.specs.Tells.{Tells, TellsItems, TellsEnv, TellsAs};
+ghost use Rattle.array_with_loops.specs.Cells.{IsArrayPlan, array_from};
+ghost use Rattle.array_with_loops.specs.Plans.{operation_of, plan_of};
+ghost use Rattle.array_with_loops.specs.Tells.{Tells, TellsItems, TellsEnv, TellsAs};
 ghost use Rattle.sac_base.specs.WithLoops.{each, combined};
 ghost use Rattle.value_meaning.specs.Meaning.{name_count as name_count_value};
 ghost use Rattle.value_meaning.specs.WithSource.{bounds_in, bound_in, maybe_in, operation_in, held_in, checked_in, cells_in};
@@ -23,13 +23,9 @@ use crate::calls::{
 use crate::defaults::default_or_zero;
 use crate::environment::{Environment, assign, lookup};
 use sac_ast::{Bound, Expression, Function, Generator, Index, Operation, Statement, Target};
-use sac_base::{Array, Base, FaultKind, Form, Memory, Name, Op, Site};
+use sac_base::{Array, Base, FaultKind, Form, Memory, Name, Op, Site, Stop, fault};
 use std::alloc::Global;
-use with_loops::{
-    Bounds, Evaluated, IndexVector, Plan, Range, Stop, add_cell, binary_at, cell_size, combine,
-    condition_at, fault, fits_form, fold_plan, genarray_plan, literal_at, modarray_plan,
-    results_of, select_at, unary_of,
-};
+use array_with_loops::{Bounds, Evaluated, IndexVector, Plan, Range, add_cell, binary_at, cell_size, combine, condition_at, fits_form, fold_plan, genarray_plan, literal_at, modarray_plan, results_of, select_at, unary_of};
 
 /// The function that runs, and how far it may go on.
 #[derive(Clone, Copy)]

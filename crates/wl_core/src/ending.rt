@@ -1,5 +1,5 @@
 ghost use Rattle.std.specs.Prelude.{◌≡◌, ℕ, ◌<◌, ◌↔◌, IsTrue, IfOk, IsSomeAnd, MatchOption, Some, Err, length, slice_get};
-ghost use Rattle.sac_base.specs.declared.fault.Fault.{Fault};
+ghost use Rattle.sac_base.specs.declared.faults.Fault.{Fault};
 ghost use Rattle.wl_core.specs.Facts.{NoneStopped, StopsFirst};
 ghost use Rattle.wl_core.specs.Machine.{ChunksDone, Finished, HoldsNothing, sequential};
 ghost use Rattle.wl_core.specs.Reading.{setup_of, state_of, verdict_of, IsReached};

@@ -1,5 +1,5 @@
-use Rattle.with_loops.specs.declared.stop.Stop.TheVariants.{Faulted}
-use Rattle.sac_base.specs.declared.fault.FaultKind.TheVariants.{F6}
+use Rattle.sac_base.specs.declared.stop.Stop.TheVariants.{Faulted}
+use Rattle.sac_base.specs.declared.faults.FaultKind.TheVariants.{F6}
 use Rattle.run_eval.proofs.PartJobs.{fold_misfits, fold_tells as part_fold_is, parts_tell as part_cells_are}
 use Rattle.run_eval.proofs.WithJobs.{with_stops, genarray_tells, modarray_tells, fold_tells as with_fold_tells}
 use Rattle.run_eval.proofs.WithTerms.{with_means, parted_means}
@@ -38,8 +38,8 @@ use Rattle.counted_code.specs.declared.tree.CodeParted.{out-CodeParted}
 use Rattle.counted_code.specs.declared.tree.CodeWith.{out-CodeWith}
 use Rattle.run_eval.specs.Loops.{IsPresent, array_of, cells_run, fold_target, held, part_held, gen_source, part_source, part_source_in, source_in, unreleased}
 use Rattle.counted_code.specs.Loops.{job_does, settled, loop_does, parted_job}
-use Rattle.with_loops.specs.Cells.{cells_from}
-use Rattle.with_loops.specs.Plans.{plan_of}
+use Rattle.array_with_loops.specs.Cells.{cells_from}
+use Rattle.array_with_loops.specs.Plans.{plan_of}
 use Rattle.run_store.specs.Targets.{target_of}
 use Rattle.run_eval.proofs.CellJobs.{fold_nothing, target_nothing}
 use Rattle.run_eval.proofs.CellLoops.{array_stops, array_tells, filled_all, fold_stops, fold_tells, joined_all, loop_end, loop_step, loop_stop, part_fold_stops, part_fold_tells, parts_stop, parts_tell}

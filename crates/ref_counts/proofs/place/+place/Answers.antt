@@ -6,7 +6,7 @@ use Rattle.core_ir.specs.View.{block_term, let_term, right_term}
 use Rattle.counted_code.specs.Prompt.{uses_right}
 use Rattle.ref_counts.specs.Latest.{AreLast}
 use Rattle.ref_counts.specs.Owning.{owned_vars}
-use Rattle.ref_placing.specs.Placing.{placing_right}
+use Rattle.counted_placing.specs.Placing.{placing_right}
 use Rattle.ref_counts.proofs.Blocks.{fits, at_binding, at_let, all_uses, at_last, block_done, first_placed, item_here, next_placed}
 use Rattle.ref_counts.proofs.CodeTrees.{with_done, parted_done, gen_done, part_done, owns, if_done, loop_done}
 use Rattle.ref_counts.proofs.Collected.{let_uses}

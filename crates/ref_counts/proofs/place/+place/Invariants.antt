@@ -3,7 +3,7 @@ use Rattle.core_ir.specs.Terms.{Gives, chain}
 use Rattle.core_ir.specs.View.{let_term, gen_term, part_term}
 use Rattle.core_ir.specs.declared.tree.Block.{out-Block}
 use Rattle.counted_code.specs.View.{steps_before}
-use Rattle.ref_placing.specs.Placing.{placing}
+use Rattle.counted_placing.specs.Placing.{placing}
 use Rattle.ref_counts.specs.Owning.{owned_vars, IsSound}
 use Rattle.ref_counts.specs.Pieces.{code_gen_term, code_part_term, placing_gen, placing_part}
 use Rattle.ref_counts.proofs.Collected.{let_uses}

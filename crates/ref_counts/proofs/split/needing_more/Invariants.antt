@@ -1,5 +1,5 @@
 use Rattle.std.proofs.Common.{◌≡◌, ◌++◌, drop}
-use Rattle.ref_placing.specs.Placing.{surplus}
+use Rattle.counted_placing.specs.Placing.{surplus}
 use Rattle.ref_counts.proofs.split.needing_more.Given as goal
 
 abbrev pub invariant-loop-x : goal.invariant-loop-x

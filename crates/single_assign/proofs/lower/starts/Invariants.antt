@@ -1,5 +1,5 @@
 use Rattle.std.proofs.Common.{◌≡◌, drop}
-use Rattle.lowering_steps.specs.Parts.{after_list}
+use Rattle.core_lowering_steps.specs.Parts.{after_list}
 use Rattle.single_assign.specs.Looks.{look, texts}
 use Rattle.single_assign.specs.Views.{built, make_starts_in}
 use Rattle.single_assign.proofs.lower.starts.Given as goal

@@ -1,6 +1,6 @@
 use Rattle.std.proofs.Common.{◌≡◌, ◌++◌, drop}
 use Rattle.sac_ast.specs.View.{block}
-use Rattle.lowering_laws.specs.Lowering.{names_bound}
+use Rattle.core_lowering.specs.Lowering.{names_bound}
 use Rattle.single_assign.specs.Looks.{texts}
 use Rattle.single_assign.proofs.names.+names.Given as goal
 

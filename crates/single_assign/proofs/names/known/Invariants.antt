@@ -1,5 +1,5 @@
 use Rattle.std.proofs.Common.{◌≡◌, ◌++◌, drop}
-use Rattle.lowering_steps.specs.Building.{bound_in}
+use Rattle.core_lowering_steps.specs.Building.{bound_in}
 use Rattle.single_assign.specs.Looks.{look, texts}
 use Rattle.single_assign.proofs.names.known.Given as goal
 

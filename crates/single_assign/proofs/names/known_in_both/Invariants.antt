@@ -1,5 +1,5 @@
 use Rattle.std.proofs.Common.{◌≡◌, ◌++◌, drop}
-use Rattle.lowering_steps.specs.Building.{bound_in_both}
+use Rattle.core_lowering_steps.specs.Building.{bound_in_both}
 use Rattle.single_assign.specs.Looks.{look, texts}
 use Rattle.single_assign.proofs.names.known_in_both.Given as goal
 

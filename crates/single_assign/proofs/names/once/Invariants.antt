@@ -1,5 +1,5 @@
 use Rattle.std.proofs.Common.{◌≡◌, ◌++◌, [], drop}
-use Rattle.lowering_laws.specs.Lowering.{once}
+use Rattle.core_lowering.specs.Lowering.{once}
 use Rattle.single_assign.specs.Looks.{texts}
 use Rattle.single_assign.proofs.Once.{among, once_but}
 use Rattle.single_assign.proofs.names.once.Given as goal

@@ -1,6 +1,6 @@
 use Rattle.std.proofs.Common.{◌≡◌, ◌++◌, drop, map}
 use Rattle.sac_ast.specs.View.{functions}
-use Rattle.lowering_laws.specs.Programs.{places_of}
+use Rattle.core_lowering.specs.Programs.{places_of}
 use Rattle.single_assign.specs.Looks.{texts}
 use Rattle.single_assign.proofs.program.groups.Given as goal
 

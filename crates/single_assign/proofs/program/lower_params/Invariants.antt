@@ -1,7 +1,7 @@
 use Rattle.std.proofs.Common.{◌≡◌, drop}
 use Rattle.single_assign.specs.Looks.{look}
-use Rattle.lowering_steps.specs.Functions.{params_declared}
-use Rattle.lowering_steps.specs.Parts.{after_params}
+use Rattle.core_lowering_steps.specs.Functions.{params_declared}
+use Rattle.core_lowering_steps.specs.Parts.{after_params}
 use Rattle.single_assign.specs.Views.{built}
 use Rattle.single_assign.proofs.program.lower_params.Given as goal
 

@@ -2,7 +2,7 @@ use Rattle.std.proofs.Common.{ap, ◌∙◌, map}
 use Rattle.std.specs.Prelude.{position, unwrap_or}
 use Rattle.sac_ast.specs.View.{functions, program}
 use Rattle.value_meaning.specs.Calls.{is_main}
-use Rattle.lowering_laws.specs.Programs.{function_names, places_of}
+use Rattle.core_lowering.specs.Programs.{function_names, places_of}
 use Rattle.core_ir.specs.View.{fun_term}
 use Rattle.single_assign.specs.Functions.{functions_by}
 use Rattle.single_assign.specs.Looks.{texts}

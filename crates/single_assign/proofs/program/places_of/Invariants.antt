@@ -1,6 +1,6 @@
 use Rattle.std.proofs.Common.{◌≡◌, ◌++◌, drop}
 use Rattle.sac_ast.specs.View.{functions}
-use Rattle.lowering_laws.specs.Programs.{places_of}
+use Rattle.core_lowering.specs.Programs.{places_of}
 use Rattle.single_assign.proofs.program.places_of.Given as goal
 
 abbrev pub invariant-loop-k : goal.invariant-loop-k

@@ -11,8 +11,8 @@ use Rattle.value_meaning.specs.Evaluation.{meanings_in, block_in, repeat_in}
 use Rattle.std.proofs.Common.{length}
 use Rattle.std.specs.Prelude.{fold}
 use Rattle.sac_base.specs.Arrays.{size}
-use Rattle.with_loops.specs.Cells.{cells_from, array_from}
-use Rattle.with_loops.specs.Plans.{plan_of}
+use Rattle.array_with_loops.specs.Cells.{cells_from, array_from}
+use Rattle.array_with_loops.specs.Plans.{plan_of}
 use Rattle.value_meaning.specs.WithSource.{generator_of, bounds_in, cells_in}
 use Rattle.sac_base.specs.WithLoops.{holder, each, combined}
 use Rattle.sac_ast.proofs.Lists.{exprs_size, block_size, cells_size, maybe_size}

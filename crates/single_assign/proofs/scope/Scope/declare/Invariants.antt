@@ -1,6 +1,6 @@
 use Rattle.std.proofs.Common.{◌≡◌, drop}
-use Rattle.lowering_steps.specs.Building.{declared}
-use Rattle.lowering_steps.specs.Parts.{after_names}
+use Rattle.core_lowering_steps.specs.Building.{declared}
+use Rattle.core_lowering_steps.specs.Parts.{after_names}
 use Rattle.single_assign.specs.Looks.{look, texts}
 use Rattle.single_assign.specs.Views.{built}
 use Rattle.single_assign.proofs.scope.Scope.declare.Given as goal

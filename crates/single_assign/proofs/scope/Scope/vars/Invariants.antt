@@ -1,5 +1,5 @@
 use Rattle.std.proofs.Common.{◌≡◌, ◌++◌, drop}
-use Rattle.lowering_steps.specs.Looks.{vars_of}
+use Rattle.core_lowering_steps.specs.Looks.{vars_of}
 use Rattle.single_assign.specs.Looks.{look, texts}
 use Rattle.single_assign.proofs.scope.Scope.vars.Given as goal
 

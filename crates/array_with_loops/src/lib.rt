@@ -1,0 +1,18 @@
+//! With-loops whose bounds are evaluated: which indices each generator holds, the frame, and what is made of the cells. The evaluators of sources and of cores run the cells.
+#![tactic(auto)]
+
+mod bounds;
+mod finish;
+mod frames;
+mod operations;
+mod plans;
+mod ranges;
+
+pub use bounds::Bounds;
+pub use finish::{add_cell, cell_size, combine, fits_form};
+pub use frames::{Frame, IndexVector};
+pub use operations::{
+    binary_at, condition_at, copy_all, literal_at, placed, results_of, select_at, unary_of,
+};
+pub use plans::{Evaluated, Plan, fold_plan, genarray_plan, modarray_plan};
+pub use ranges::{Axis, Range};

@@ -1,5 +1,0 @@
-use Rattle.cell_workers.proofs.Samples.{lends_nothing}
-use Rattle.cell_workers.proofs.tests.numbered.Goals as goal
-
-pub array_phase-requires-clause-home : goal.array_phase-requires-clause-home
-array_phase-requires-clause-home g c κs within = lends_nothing c.args.lends.now c.requires.lends

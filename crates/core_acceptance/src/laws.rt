@@ -1,0 +1,30 @@
+//! Laws of accepted programs.
+
+ghost use Rattle.std.specs.Prelude.{◌<◌, ◌^◌, length};
+ghost use Rattle.sac_ast.specs.Tree.{ProgramTree};
+ghost use Rattle.type_check.specs.Accepted.{IsAccepted};
+ghost use Rattle.core_lowering.specs.Programs.{IsDefiniteProgram, lowered_program};
+ghost use Rattle.core_lowering.specs.Standing.{IsStanding};
+ghost use Rattle.core_lowering.specs.Typed.{AreTypedFunctions};
+ghost use Rattle.core_acceptance.specs.Formed.{ProgramFormed};
+ghost use Rattle.core_acceptance.specs.Stands.{MainStands};
+
+/// Law: in an accepted program of the form that the grammar gives, each use is of a variable that is bound on every path to it, each call has as many targets as results, and there is a `main`.
+pub fn accepted_definite()
+    ensures { (p : ProgramTree) → ProgramFormed p → IsAccepted p → IsDefiniteProgram p }
+{}
+
+/// Law: the phrases of an accepted program of the form that the grammar gives have the bases that the core asks for: the bases that acceptance finds are those of the list of all bindings.
+pub fn accepted_typed()
+    ensures { (p : ProgramTree) → ProgramFormed p → IsAccepted p → AreTypedFunctions p.functions p.functions }
+{}
+
+/// Law: the core of an accepted program has a `main`, which is not inline.
+pub fn accepted_main()
+    ensures { (p : ProgramTree) → IsAccepted p → MainStands (lowered_program p) }
+{}
+
+/// Law: the functions of an accepted program stand together as the core asks, where there are fewer than 2^32: called names have instances, inline functions call inline functions that stand before them, and instances of a name may share it.
+pub fn accepted_standing()
+    ensures { (p : ProgramTree) → length p.functions < 2 ^ 32 → IsAccepted p → IsStanding p }
+{}

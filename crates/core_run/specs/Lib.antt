@@ -1,4 +1,0 @@
-pub mod Answers
-pub mod Environments
-pub mod Evaluation
-pub mod Fits

@@ -1,5 +1,0 @@
-use Rattle.loop_laws.proofs.Places.{costs_in_all}
-use Rattle.loop_laws.proofs.costs_of_places.Goals as goal
-
-pub returns : goal.returns
-returns c takes indices = costs_in_all takes indices

@@ -1,6 +1,0 @@
-use Rattle.loop_laws.proofs.FoldResults.{fold_made}
-use Rattle.loop_laws.proofs.folds_of_workers.Goals as goal
-
-pub returns : goal.returns
-returns c base op allowed shape neutral is_neutral cell forms indices es end is =
-    fold_made base op allowed shape neutral is_neutral cell forms indices es end is

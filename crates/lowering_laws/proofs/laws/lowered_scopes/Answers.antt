@@ -1,8 +1,0 @@
-use Rattle.lowering_laws.proofs.WholeScope.{function_scoped, function_once}
-use Rattle.lowering_laws.proofs.laws.lowered_scopes.Goals as goal
-
-pub returns-clause-scoped : goal.returns-clause-scoped
-returns-clause-scoped c = function_scoped
-
-pub returns-clause-once : goal.returns-clause-once
-returns-clause-once c = function_once

@@ -1,0 +1,61 @@
+// What the cells of a loop are, and how one is computed on a store.
+ghost use Rattle.std.specs.Prelude.{◌≡◌, ℕ, ◌<◌, length, IfOk};
+ghost use Rattle.buffer_heap.specs.Heaps.{HeapValue};
+ghost use Rattle.phase_cells.specs.Idle.{IsLeft};
+ghost use Rattle.counted_code.specs.Values.{Heap as MachineHeap};
+ghost use Rattle.run_store.specs.Stands.{Stands, lender_of};
+ghost use Rattle.wl_core.specs.Machine.{CellValue};
+ghost use Rattle.phase_team.specs.Segments.{IsComputed, Tells};
+
+use buffer_heap::Heap;
+use run_store::Store;
+use sac_base::{Cell, Memory};
+use phase_team::CellEnd;
+
+/// The cells of a loop, each of which is computed on a store that has the buffers of a heap that lends them.
+pub trait CellRuns: Sync {
+    /// What one worker has besides its store, as variables.
+    type Scratch: Send + Drop;
+
+    /// What the cell of each position comes to, and how many buffers it takes and gives back.
+    ghost cell: { Self → ℕ → CellValue };
+
+    ghost takes: { Self → ℕ → ℕ };
+
+    /// How many positions there are, and how many elements a cell has.
+    ghost positions: { Self → ℕ };
+
+    ghost width: { Self → ℕ };
+
+    /// The heap that lends.
+    ghost lends: { Self → HeapValue };
+
+    /// From which heaps of the machine a cell may be computed, and what a worker may have between two cells.
+    ghost opens: { Self → MachineHeap → Type 0 };
+
+    ghost ready: { Self → Self.Scratch → Type 0 };
+
+    /// The heap that lends.
+    fn heap(&self) -> &Heap
+        ensures { result.now ≡ lends self.now };
+
+    /// What a worker begins with.
+    fn begin(&self) -> Result<Self::Scratch, Memory>
+        ensures { IfOk result (λ scratch. ready self.now scratch) };
+
+    /// Computes the cell of a position into the elements that are given.
+    fn run(
+        &self,
+        scratch: &mut Self::Scratch,
+        store: &mut Store<'_>,
+        position: usize,
+        into: &mut [Cell],
+    ) -> CellEnd
+        requires ready { ready self.now scratch.old }
+        requires position { position < positions self.now }
+        requires width { length into.old ≡ width self.now }
+        ensures tells { (k : MachineHeap) → Stands store.old k → opens self.now k → Tells (cell self.now position) into.new result }
+        ensures left { (k : MachineHeap) → Stands store.old k → opens self.now k → IsComputed result → IsLeft (opens self.now) (lends self.now) (takes self.now position) k store.new }
+        ensures ready { IsComputed result → ready self.now scratch.new }
+        ensures lender { lender_of store.new ≡ lender_of store.old };
+}

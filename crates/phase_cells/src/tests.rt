@@ -1,0 +1,111 @@
+ghost use Rattle.std.specs.Prelude.{◌≡◌, ℕ, ◌%◌, ◌≤◌, pos, [], ◌∷◌, length, Some, Ok};
+ghost use Rattle.phase_cells.specs.Idle.{IsAsLent};
+
+use crate::{CellRuns, LentCells};
+use buffer_heap::Heap;
+use count_table::Tally;
+use run_store::Store;
+use sac_base::{Caps, Cell, Memory};
+use std::alloc::Global;
+use std::test::Fail;
+use std::thread::Threads;
+use phase_team::{CellEnd, NoGate, Plan, Stop, array_phase};
+
+// One element for each of ten positions, which is its number.
+#[derive(Drop)]
+struct Numbers<'a> {
+    lends: &'a Heap,
+}
+
+impl<'a> CellRuns for Numbers<'a> {
+    type Scratch = u64;
+
+    ghost cell = { λ s p. Ok (Some (pos (p % 1000) ∷ [])) };
+
+    ghost takes = { λ s p. 0 };
+
+    ghost positions = { λ s. 10 };
+
+    ghost width = { λ s. 1 };
+
+    ghost lends = { λ s. s.lends.now };
+
+    ghost opens = { λ s k. IsAsLent s.lends.now k };
+
+    ghost ready = { λ s scratch. Unit {0} };
+
+    fn heap(&self) -> &Heap {
+        self.lends
+    }
+
+    fn begin(&self) -> Result<u64, Memory> {
+        Ok(0)
+    }
+
+    fn run(
+        &self,
+        scratch: &mut u64,
+        _store: &mut Store<'_>,
+        position: usize,
+        into: &mut [Cell],
+    ) -> CellEnd {
+        *scratch = scratch.wrapping_add(1);
+        into[0] = (position % 1000) as i32;
+        CellEnd::Value
+    }
+}
+
+// The phase of the ten positions, on a heap that lends no buffer.
+fn numbered<R: Threads + Sync>(
+    rt: &R,
+    alloc: Global,
+    lends: &Heap,
+    workers: u32,
+    home: &mut Heap,
+    buffer: &mut [Cell],
+) -> Result<(), Stop>
+    requires workers { (1 ≤ workers) × (workers ≤ 64) }
+    requires lends { lends.now ≡ record { places = []; births = 0; taken = 0; given = 0; reused = 0 } }
+    requires room { length buffer.old ≡ 10 }
+{
+    let numbers = Numbers { lends };
+    let cells = LentCells {
+        alloc,
+        cells: &numbers,
+    };
+    let plan = Plan {
+        workers,
+        chunk: None,
+        caps: Caps {
+            turns: 1000,
+            depth: 100,
+        },
+    };
+    array_phase(
+        rt,
+        alloc,
+        &cells,
+        &NoGate,
+        plan,
+        home,
+        &mut [],
+        10,
+        1,
+        buffer,
+        &mut Tally::new(),
+    )
+}
+
+#[test]
+fn cells_are_computed_on_lent_buffers(rt: HostRuntime) -> Result<(), Fail> {
+    let lends = Heap::new(rt.alloc());
+    for workers in [1, 2, 64] {
+        let mut home = Heap::behind(&lends);
+        let mut buffer = [7; 10];
+        let end = numbered(&rt, rt.alloc(), &lends, workers, &mut home, &mut buffer);
+        assert!(rt; end.is_ok());
+        assert_eq!(rt; buffer, [0, 1, 2, 3, 4, 5, 6, 7, 8, 9]);
+        assert_eq!(rt; (home.live(), home.births(), home.taken()), (0, 0, 0));
+    }
+    Ok(())
+}

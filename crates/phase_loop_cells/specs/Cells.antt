@@ -1,0 +1,91 @@
+-- What the cells of a loop come to for a worker.
+use Rattle.std.specs.Prelude.{◌≡◌, ℕ, Bool, true, false, List, [], ℤ, Option, Some, None, option_map, Result, Ok, Err, slice_index_or, ⊤}
+use Rattle.sac_base.specs.declared.form.Form.{Form}
+use Rattle.sac_base.specs.Arrays.{ArrayValue}
+use Rattle.sac_base.specs.Outcomes.{Ends}
+use Rattle.sac_base.specs.WithLoops.{cell_at as with_cell_at}
+use Rattle.buffer_heap.specs.Heaps.{HeapValue}
+use Rattle.core_ir.specs.Meaning.{generators, cells, cell_form, cell_at as part_cell_at}
+use Rattle.counted_code.specs.declared.tree.CodeGen.{CodeGen}
+use Rattle.counted_code.specs.declared.tree.CodePart.{CodePart}
+use Rattle.counted_code.specs.Loops.{release_rest}
+use Rattle.counted_code.specs.Machine.{Values}
+use Rattle.counted_code.specs.Terms.{core_of_gens, core_of_parts}
+use Rattle.counted_code.specs.Values.{Heap, Value, Ended, Done, Failed, read}
+use Rattle.phase_laws.specs.Spending.{gens_take, parts_take}
+use Rattle.run_store.specs.Stands.{Stands}
+use Rattle.run_store.specs.declared.store.Store.{Store}
+use Rattle.array_with_loops.specs.Cells.{cell_from}
+use Rattle.array_with_loops.specs.declared.plans.Plan.{Plan}
+use Rattle.sac_base.specs.declared.stop.Stop.{Stop}
+use Rattle.sac_base.specs.declared.stop.Stop.TheVariants.{Faulted, Memory}
+use Rattle.wl_core.specs.Machine.{CellValue}
+use Rattle.phase_team.specs.Segments.{value_if}
+use Rattle.phase_team.specs.declared.cells.CellEnd.{CellEnd}
+use Rattle.phase_team.specs.declared.cells.CellEnd.TheVariants as end
+use Rattle.phase_team.specs.declared.plan.Stop.TheVariants as team
+use Rattle.phase_loop_cells.specs.declared.copies.Background.{Background}
+use Rattle.run_eval.specs.declared.state.Context.{Context}
+use Rattle.run_eval.specs.declared.state.State.{State}
+use Rattle.phase_checks.specs.Terms.{gens_term, parts_term}
+use Rattle.phase_loop_cells.specs.Opened.{meaning_in, spending_in, lent_env}
+use Rattle.run_eval.specs.Running.{IsAt}
+
+-- what stands at a place where an index has no cell
+abbrev pub fill_at : Option Background → ℕ → Option (List ℤ)
+fill_at None place = None
+fill_at (Some b) place = Some (cell_from b.old b.array.now b.size place None)
+
+abbrev pub elements_or : Option (List ℤ) → Option ArrayValue → Option (List ℤ)
+elements_or fill None = fill
+elements_or fill (Some a) = Some a.cells
+
+-- the elements of a cell
+abbrev pub as_cell : Option (List ℤ) → Ends (Option ArrayValue) → CellValue
+as_cell fill (Ok c) = Ok (elements_or fill c)
+as_cell fill (Err f) = Err f
+
+abbrev pub index_at : List (List ℤ) → ℕ → List ℤ
+index_at indices place = slice_index_or indices place []
+
+-- ---- with-loops
+
+-- what the cell of a position comes to, and how many buffers it takes
+abbrev pub gens_cell : Context → HeapValue → Values → List CodeGen → Plan → Option Background → ℕ → CellValue
+gens_cell context lends e gens plan background place =
+    as_cell (fill_at background place) (with_cell_at plan.form (generators (meaning_in context) context.turns (core_of_gens (gens_term gens)) (lent_env lends e)) plan.ranges.items (index_at plan.frame place))
+
+abbrev pub gens_taken : Context → HeapValue → Values → List CodeGen → Plan → ℕ → ℕ
+gens_taken context lends e gens plan place =
+    gens_take (meaning_in context) context.turns (spending_in context) (gens_term gens) (lent_env lends e) plan.ranges.items (index_at plan.frame place)
+
+-- ---- parted loops
+
+abbrev pub parts_cell : Context → HeapValue → Values → List CodePart → Form → List (List ℤ) → ℕ → CellValue
+parts_cell context lends e parts form indices place =
+    as_cell None (part_cell_at (cell_form form.base form.shape) (cells (meaning_in context) context.turns (core_of_parts (parts_term parts)) (lent_env lends e)) (index_at indices place))
+
+abbrev pub parts_taken : Context → HeapValue → Values → List CodePart → List (List ℤ) → ℕ → ℕ
+parts_taken context lends e parts indices place =
+    parts_take (meaning_in context) context.turns (spending_in context) (parts_term parts) (lent_env lends e) (index_at indices place)
+
+-- ---- answers
+
+-- the elements of a value were written and it was released, or what stands where there is none; if there was anything to write
+pub record IsPut (fill : Option (List ℤ)) (into : List ℤ) (written : Bool) (s : Store) (w : Option Value) (m : Heap) : Type 0 where
+  pub elements : elements_or fill (option_map (read m) w) ≡ value_if written into
+  pub stands : Stands s (release_rest w m)
+
+-- the elements of the machine's cell were written, if there are any, and the state stands for its heap; or both have the same fault
+abbrev pub ToldCell : Option (List ℤ) → List ℤ → Result Bool Stop → State → Ended (Option ArrayValue) → Type 0
+ToldCell fill into (Ok written) s (Done c k) = (elements_or fill c ≡ value_if written into) × IsAt s k
+ToldCell fill into (Err (Faulted f)) s (Failed g phases) = f ≡ g
+ToldCell fill into (Err Memory) s m = ⊤
+ToldCell fill into _ s m = ⊥
+
+-- the answer in the words of a phase
+abbrev pub end_of : Result Bool Stop → CellEnd
+end_of (Ok true) = end.Value
+end_of (Ok false) = end.NotHeld
+end_of (Err (Faulted f)) = end.Stopped (team.Faulted f)
+end_of (Err Memory) = end.Stopped team.Memory

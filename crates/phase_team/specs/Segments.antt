@@ -1,0 +1,94 @@
+-- What workers make of the cells of positions that follow one another.
+use Rattle.std.specs.Prelude.{◌≡◌, ℕ, zero, suc, ◌+◌, ◌*◌, ◌%◌, ◌^◌, ◌≤◌, ℤ, List, [], ◌∷◌, length, take, All, Bool, cond, Option, Some, None, Result, Ok, Err}
+use Rattle.std.specs.Int.{div_ceil}
+use Rattle.sac_base.specs.Verdict.{each, present, joined, combined}
+use Rattle.sac_base.specs.declared.op.Op.{Op}
+use Rattle.wl_core.specs.declared.setup.Job.{Job}
+use Rattle.wl_core.specs.declared.setup.Job.TheVariants.{Write as Store, Fold}
+use Rattle.wl_core.specs.Machine.{CellValue, combine, both}
+use Rattle.phase_team.specs.declared.plan.Stop.{Stop}
+use Rattle.phase_team.specs.declared.plan.Stop.TheVariants.{Faulted, Memory}
+use Rattle.phase_team.specs.declared.cells.CellEnd.{CellEnd}
+use Rattle.phase_team.specs.declared.cells.CellEnd.TheVariants.{Value, NotHeld, Stopped}
+
+-- what a computed cell says of its meaning. Want of memory says nothing
+abbrev pub Tells : CellValue → List ℤ → CellEnd → Type 0
+Tells meaning elements Value = meaning ≡ Ok (Some elements)
+Tells meaning elements NotHeld = meaning ≡ Ok None
+Tells meaning elements (Stopped (Faulted fault)) = meaning ≡ Err fault
+Tells meaning elements (Stopped Memory) = Unit {0}
+
+-- the cell did not stop
+abbrev pub IsComputed : CellEnd → Type 0
+IsComputed Value = Unit {0}
+IsComputed NotHeld = Unit {0}
+IsComputed (Stopped stop) = ⊥
+
+-- the cells of n positions from the first on
+abbrev pub cells_from : (ℕ → CellValue) → ℕ → ℕ → List CellValue
+cells_from cell start zero = []
+cells_from cell start (suc n) = cell start ∷ cells_from cell (suc start) n
+
+-- what the cells of n positions from the first on cost together
+abbrev pub cost_from : (ℕ → ℕ) → ℕ → ℕ → ℕ
+cost_from cost start zero = 0
+cost_from cost start (suc n) = cost start + cost_from cost (suc start) n
+
+-- two counts of a kind are the same, those of kind 0 exactly and all others modulo 2^64
+abbrev pub Same : ℕ → ℕ → ℕ → Type 0
+Same zero a b = a ≡ b
+Same (suc kind) a b = a % 2 ^ 64 ≡ b % 2 ^ 64
+
+-- each count has risen by the cost of n positions
+abbrev pub Costs : (ℕ → ℕ → ℕ) → ℕ → ℕ → (ℕ → ℕ) → (ℕ → ℕ) → Type 0
+Costs cost start n before after = (kind : ℕ) → Same kind (after kind) (before kind + cost_from (cost kind) start n)
+
+-- what two have counted rose together by the cost of n positions
+abbrev pub CostBoth : (ℕ → ℕ → ℕ) → ℕ → ℕ → (ℕ → ℕ) → (ℕ → ℕ) → (ℕ → ℕ) → (ℕ → ℕ) → Type 0
+CostBoth cost start n a b a' b' = (kind : ℕ) → Same kind (a' kind + b' kind) ((a kind + b kind) + cost_from (cost kind) start n)
+
+-- a value that may be missing
+abbrev pub value_if : Bool → List ℤ → Option (List ℤ)
+value_if held value = cond held (Some value) None
+
+-- what stands in a worker's rows: the elements of its cells one after another, or in the first row the combination of those that are held
+abbrev pub Holds : Job → ℕ → List (Option (List ℤ)) → Bool → List ℤ → Type 0
+Holds Store width values held rows = rows ≡ joined (present values)
+Holds (Fold base op) width values held rows = combined (combine op) (present values) ≡ value_if held (take width rows)
+
+-- each value that is there has so many elements
+abbrev pub HaveWidth : ℕ → List (Option (List ℤ)) → Type 0
+HaveWidth width values = All (λ (x : List ℤ). length x ≡ width) (present values)
+
+-- the cells were taken in order: none faults, each that is held has a row's elements, and this was made of their values, or the first that did not come to a value stopped them
+abbrev pub Ran : Job → ℕ → List CellValue → List ℤ → Result Bool Stop → Type 0
+Ran job width cells rows (Ok held) = (values : List (Option (List ℤ))) × (each cells ≡ Ok values) × Holds job width values held rows × HaveWidth width values
+Ran job width cells rows (Err (Faulted fault)) = each cells ≡ Err fault
+Ran job width cells rows (Err Memory) = Unit {0}
+
+-- the cells that are held, which have so many elements, were combined in order
+abbrev pub Gathered : Op → ℕ → List CellValue → List ℤ → Result Bool Stop → Type 0
+Gathered op width cells value (Ok held) = (values : List (Option (List ℤ))) × (each cells ≡ Ok values) × (combined (combine op) (present values) ≡ value_if held value) × HaveWidth width values
+Gathered op width cells value (Err (Faulted fault)) = each cells ≡ Err fault
+Gathered op width cells value (Err Memory) = Unit {0}
+
+-- so many elements have room for what one worker makes of n positions: their elements, or a row for the value and a spare one
+abbrev pub ChunkRoom : Job → ℕ → ℕ → ℕ → Type 0
+ChunkRoom Store width n len = len ≡ n * width
+ChunkRoom (Fold base op) width n len = len ≡ width + width
+
+-- so many elements have room for what is made of so many positions. A fold has two rows for each chunk
+abbrev pub HasRoom : Job → ℕ → ℕ → ℕ → ℕ → Type 0
+HasRoom Store width size left len = len ≡ left * width
+HasRoom (Fold base op) width size left len = len ≡ div_ceil left size * (width + width)
+
+-- where values are combined, there is a row on both sides
+abbrev pub HasRows : Job → ℕ → ℕ → ℕ → Type 0
+HasRows Store width mine rest = Unit {0}
+HasRows (Fold base op) width mine rest = (width ≤ mine) × (width ≤ rest)
+
+-- the combination of two sides goes into the first row of one, whose number of elements stays. Stored cells stay as they are
+abbrev pub MergesRows : Job → ℕ → List ℤ → List ℤ → Bool → Bool → List ℤ → Bool → Type 0
+MergesRows Store width mine rest held more after result = after ≡ mine
+MergesRows (Fold base op) width mine rest held more after result =
+    (length after ≡ length mine) × (value_if result (take width after) ≡ both (combine op) (value_if held (take width mine)) (value_if more (take width rest)))

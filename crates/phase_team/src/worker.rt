@@ -1,0 +1,168 @@
+// One worker, which computes the cells of one chunk.
+ghost use Rattle.std.specs.Prelude.{◌≡◌, ℕ, ◌+◌, ◌*◌, ◌<◌, ◌≤◌, length, take, IfOk};
+ghost use Rattle.wl_core.specs.declared.setup.Job.TheVariants.{Write as Store};
+ghost use Rattle.wl_core.specs.Machine.{combine, both};
+ghost use Rattle.phase_team.specs.Segments.{cells_from, value_if, ChunkRoom, Costs, Gathered, Ran};
+ghost use Rattle.phase_team.specs.Crews.{Suits, IsFresh};
+
+use crate::cells::{CellEnd, PhaseCells};
+use crate::plan::{Gate, Stop};
+use crate::share::{Share, Stretch};
+use count_table::{Phase, WorkerSeat};
+use sac_base::{Cell, Op, apply2};
+use wl_core::Job;
+
+// Combines each element with the one of the value.
+fn combine_into(op: Op, into: &mut [Cell], value: &[Cell])
+    requires { length value.now ≡ length into.old }
+    ensures { into.new ≡ combine op into.old value.now }
+{
+    for i in 0..into.len() {
+        into[i] = apply2(op, into[i], value[i]).unwrap_or(0);
+    }
+}
+
+/// Combines a value that may be missing with another, which may be missing too, and answers whether there is one then.
+pub(crate) fn combine_held(
+    op: Op,
+    into: &mut [Cell],
+    held: bool,
+    value: &[Cell],
+    more: bool,
+) -> bool
+    requires { length value.now ≡ length into.old }
+    ensures { value_if result into.new ≡ both (combine op) (value_if held into.old) (value_if more value.now) }
+{
+    if !more {
+        return held;
+    }
+    if held {
+        combine_into(op, into, value);
+    } else {
+        into.copy_from_slice(value);
+    }
+    true
+}
+
+// Writes cells one after another, up to the first that stops.
+fn fill<H, C: PhaseCells<H>>(
+    cells: &C,
+    table: &Phase<()>,
+    seat: &mut Option<WorkerSeat<()>>,
+    worker: &mut C::Worker,
+    share: Share,
+    start: usize,
+    count: usize,
+    rows: &mut [Cell],
+) -> Result<bool, Stop>
+    requires suits { Suits (C.cell cells.now) (C.positions cells.now) (C.width cells.now) (C.shared cells.now) table.now.buffers share start count }
+    requires job { share.job ≡ Store }
+    requires seat { IsFresh table.now seat.old }
+    requires worker { C.idle cells.now worker.old }
+    requires room { length rows.old ≡ count * share.width }
+    ensures ran { Ran Store share.width (cells_from (C.cell cells.now) start count) rows.new result }
+    ensures worker { C.idle cells.now worker.new }
+    ensures spent { IfOk result (λ _. Costs (C.cost cells.now) start count (C.spent cells.now worker.old) (C.spent cells.now worker.new)) }
+    ensures seat { seat.new ≡ seat.old }
+{
+    for i in 0..count {
+        let at = i * share.width;
+        let into = &mut rows[at..at + share.width];
+        match cells.cell(worker, table, seat, start + i, into) {
+            CellEnd::Value => {}
+            CellEnd::NotHeld => unreachable!(),
+            CellEnd::Stopped(stop) => return Err(stop),
+        }
+    }
+    Ok(true)
+}
+
+// Combines cells one after another into the first row, up to the first that stops.
+fn gather<H, C: PhaseCells<H>>(
+    cells: &C,
+    table: &Phase<()>,
+    seat: &mut Option<WorkerSeat<()>>,
+    worker: &mut C::Worker,
+    share: Share,
+    op: Op,
+    start: usize,
+    count: usize,
+    row: &mut [Cell],
+    spare: &mut [Cell],
+) -> Result<bool, Stop>
+    requires suits { Suits (C.cell cells.now) (C.positions cells.now) (C.width cells.now) (C.shared cells.now) table.now.buffers share start count }
+    requires seat { IsFresh table.now seat.old }
+    requires worker { C.idle cells.now worker.old }
+    requires rows { (length row.old ≡ share.width) × (length spare.old ≡ share.width) }
+    ensures ran { Gathered op share.width (cells_from (C.cell cells.now) start count) row.new result }
+    ensures worker { C.idle cells.now worker.new }
+    ensures spent { IfOk result (λ _. Costs (C.cost cells.now) start count (C.spent cells.now worker.old) (C.spent cells.now worker.new)) }
+    ensures seat { seat.new ≡ seat.old }
+{
+    let mut held = false;
+    for i in 0..count {
+        match cells.cell(worker, table, seat, start + i, spare) {
+            CellEnd::Value => held = combine_held(op, row, held, spare, true),
+            CellEnd::NotHeld => {}
+            CellEnd::Stopped(stop) => return Err(stop),
+        }
+    }
+    Ok(held)
+}
+
+// The same in rows of which the first is the value's and the second is spare.
+fn gather_rows<H, C: PhaseCells<H>>(
+    cells: &C,
+    table: &Phase<()>,
+    seat: &mut Option<WorkerSeat<()>>,
+    worker: &mut C::Worker,
+    share: Share,
+    op: Op,
+    start: usize,
+    count: usize,
+    rows: &mut [Cell],
+) -> Result<bool, Stop>
+    requires suits { Suits (C.cell cells.now) (C.positions cells.now) (C.width cells.now) (C.shared cells.now) table.now.buffers share start count }
+    requires seat { IsFresh table.now seat.old }
+    requires worker { C.idle cells.now worker.old }
+    requires rows { length rows.old ≡ share.width + share.width }
+    ensures ran { Gathered op share.width (cells_from (C.cell cells.now) start count) (take share.width rows.new) result }
+    ensures worker { C.idle cells.now worker.new }
+    ensures spent { IfOk result (λ _. Costs (C.cost cells.now) start count (C.spent cells.now worker.old) (C.spent cells.now worker.new)) }
+    ensures seat { seat.new ≡ seat.old }
+{
+    let (row, spare) = rows.split_at_mut(share.width);
+    gather(
+        cells, table, seat, worker, share, op, start, count, row, spare,
+    )
+}
+
+/// Computes the cells of one chunk, up to the first that stops.
+pub(crate) fn work<H, C: PhaseCells<H>, G: Gate>(
+    cells: &C,
+    gate: &G,
+    table: &Phase<()>,
+    seat: &mut Option<WorkerSeat<()>>,
+    worker: &mut C::Worker,
+    share: Share,
+    from: Stretch,
+    count: usize,
+    rows: &mut [Cell],
+) -> Result<bool, Stop>
+    requires suits { Suits (C.cell cells.now) (C.positions cells.now) (C.width cells.now) (C.shared cells.now) table.now.buffers share from.start count }
+    requires seat { IsFresh table.now seat.old }
+    requires worker { C.idle cells.now worker.old }
+    requires room { ChunkRoom share.job share.width count (length rows.old) }
+    ensures ran { Ran share.job share.width (cells_from (C.cell cells.now) from.start count) rows.new result }
+    ensures worker { C.idle cells.now worker.new }
+    ensures spent { IfOk result (λ _. Costs (C.cost cells.now) from.start count (C.spent cells.now worker.old) (C.spent cells.now worker.new)) }
+    ensures seat { seat.new ≡ seat.old }
+{
+    gate.chunk_begins(from.chunk, from.chunk as u64);
+    match share.job {
+        Job::Write => fill(cells, table, seat, worker, share, from.start, count, rows),
+        Job::Fold(_, op) => gather_rows(
+            cells, table, seat, worker, share, op, from.start, count, rows,
+        ),
+    }
+}

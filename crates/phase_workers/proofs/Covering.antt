@@ -1,0 +1,116 @@
+-- Parted loops in which each position has a cell.
+use Rattle.std.proofs.Common.{◌≡◌, ℕ, zero, suc, ◌+◌, ◌<◌, Bool, true, false, List, [], ◌∷◌, length, ℤ, Option, Some, None, Result, Ok, Err, refl, ap, ◌∙◌, subst, arith}
+use Rattle.std.specs.Prelude.{is_some, if◌then◌else◌, ◌&&◌}
+use Rattle.buffer_heap.specs.Heaps.{HeapValue}
+use Rattle.core_ir.specs.Meaning.{CallMeaning, Env, bind, first, run, cells, cell_form, cell_at, held}
+use Rattle.counted_code.specs.declared.tree.CodePart.{CodePart}
+use Rattle.counted_code.specs.Machine.{Values}
+use Rattle.counted_code.specs.Terms.{core_of, core_of_parts}
+use Rattle.counted_code.specs.View.{code_term}
+use Rattle.sac_base.specs.declared.base.Base.TheVariants.{Int}
+use Rattle.sac_base.specs.declared.form.Form.{Form}
+use Rattle.sac_base.specs.declared.site.Site.{Site}
+use Rattle.sac_base.specs.declared.faults.FaultKind.TheVariants.{F6}
+use Rattle.sac_base.specs.Arrays.{ArrayValue, same_form, vector}
+use Rattle.sac_base.specs.declared.grid.Grid1.{Grid1}
+use Rattle.sac_base.specs.Grids.{has_index, has_vector}
+use Rattle.sac_base.specs.Operators.{all_of, with_first}
+use Rattle.sac_base.specs.Outcomes.{Ends, and_then, fault}
+use Rattle.wl_core.specs.Machine.{CellValue}
+use Rattle.phase_team.specs.declared.plan.Stop.{Stop}
+use Rattle.phase_team.specs.declared.plan.Stop.TheVariants.{Faulted, Memory}
+use Rattle.phase_team.specs.Segments.{cells_from}
+use Rattle.phase_checks.specs.Terms.{parts_term}
+use Rattle.run_eval.specs.declared.state.Context.{Context}
+use Rattle.run_eval.specs.Loops.{part_held}
+use Rattle.phase_loop_cells.specs.Cells.{as_cell, index_at, parts_cell}
+use Rattle.phase_loop_cells.specs.Opened.{lent_env, meaning_in}
+use Rattle.phase_workers.specs.Covered.{AreCovered, EndsIf, must_be_there, no_cell}
+use Rattle.phase_workers.specs.Homes.{ComputesAll}
+
+-- ---- cells that are there
+
+some_not_none : {A E : Type 0} (a : A) → ◌≡◌ {A = Result (Option A) E} (Ok (Some a)) (Ok None) → ⊥
+some_not_none a e = cc
+
+err_not_ok : {A E : Type 0} (f : E) (a : A) → ◌≡◌ {A = Result A E} (Err f) (Ok a) → ⊥
+err_not_ok f a e = cc
+
+held_there : (form : ArrayValue) (site : Site) (r : Ends ArrayValue) → and_then r (held form site) ≡ Ok None → ⊥
+held_there form site (Err f) e = err_not_ok f None e
+held_there form site (Ok a) e = go (same_form a form) e
+  where
+    go : (fits : Bool) → (if fits then Ok (Some a) else fault F6 site) ≡ Ok None → ⊥
+    go true e = some_not_none a e
+    go false e = err_not_ok (record { kind = F6; site = site }) None e
+
+-- a part that holds the index has a cell there
+module _ (calls : CallMeaning) (turns : ℕ) (ρ : Env) (form : ArrayValue) (v : List ℤ) where
+  abbrev rest_at : List CodePart → Ends (Option ArrayValue)
+  rest_at ps = cell_at form (cells calls turns (core_of_parts (parts_term ps)) ρ) v
+
+  one_there : (inside : Bool) (r : Ends ArrayValue) (p : CodePart) (ps : List CodePart) → (is_some (part_held ps v) ≡ true → rest_at ps ≡ Ok None → ⊥) → is_some (if inside then Some p else part_held ps v) ≡ true → (if inside then and_then r (held form p.site) else rest_at ps) ≡ Ok None → ⊥
+  one_there true r p ps later some e = held_there form p.site r e
+  one_there false r p ps later some e = later some e
+
+  pub part_there : (parts : List CodePart) → is_some (part_held parts v) ≡ true → rest_at parts ≡ Ok None → ⊥
+  part_there [] some e = absurd (cc)
+  part_there (p ∷ ps) some e =
+      one_there (has_vector p.grid v) (first (run calls turns (core_of (code_term p.body)) (bind ρ p.index (vector Int v)))) p ps (part_there ps) some e
+
+-- ---- cells that must be there
+
+pub never_none : (r : CellValue) → must_be_there r ≡ Ok None → ⊥
+never_none (Ok None) e = err_not_ok no_cell None e
+never_none (Ok (Some es)) e = some_not_none es e
+never_none (Err f) e = err_not_ok f None e
+
+there_same : (r : CellValue) → (r ≡ Ok None → ⊥) → must_be_there r ≡ r
+there_same (Ok None) there = elim (there refl) [ ]
+there_same (Ok (Some es)) there = refl
+there_same (Err f) there = refl
+
+as_there : (r : Ends (Option ArrayValue)) → (r ≡ Ok None → ⊥) → as_cell None r ≡ Ok None → ⊥
+as_there (Ok None) there e = there refl
+as_there (Ok (Some a)) there e = some_not_none a.cells e
+as_there (Err f) there e = err_not_ok f None e
+
+module _ (cell : ℕ → CellValue) where
+  abbrev musts : ℕ → CellValue
+  musts p = must_be_there (cell p)
+
+  one_more : (r : CellValue) (xs ys : List CellValue) → ((vs : List (Option (List ℤ))) → all_of xs ≡ Ok vs → all_of ys ≡ Ok vs) → (vs : List (Option (List ℤ))) → all_of (must_be_there r ∷ xs) ≡ Ok vs → all_of (r ∷ ys) ≡ Ok vs
+  one_more (Err f) xs ys later vs e = elim (err_not_ok f vs e) [ ]
+  one_more (Ok None) xs ys later vs e = elim (err_not_ok no_cell vs e) [ ]
+  one_more (Ok (Some x)) xs ys later vs e = go (all_of xs) refl e
+    where
+      go : (r : Ends (List (Option (List ℤ)))) → all_of xs ≡ r → with_first (Some x) r ≡ Ok vs → with_first (Some x) (all_of ys) ≡ Ok vs
+      go (Ok ws) is e = ap (with_first (Some x)) (later ws is) ∙ e
+      go (Err f) is e = elim (err_not_ok f vs e) [ ]
+
+  -- where all that must be there is, there is all
+  values_there : (start n : ℕ) (vs : List (Option (List ℤ))) → all_of (cells_from musts start n) ≡ Ok vs → all_of (cells_from cell start n) ≡ Ok vs
+  values_there start zero vs e = e
+  values_there start (suc n) vs e = one_more (cell start) (cells_from musts (suc start) n) (cells_from cell (suc start) n) (values_there (suc start) n) vs e
+
+  same_from : (start n : ℕ) → ((p : ℕ) → p < start + n → musts p ≡ cell p) → cells_from musts start n ≡ cells_from cell start n
+  same_from start zero same = refl
+  same_from start (suc n) same =
+      λ i. same start (omega arith) i ∷ same_from (suc start) n (λ p low. same p (omega (arith, low))) i
+
+  -- what is believed of such cells
+  pub all_believed : (lends : HeapValue) (n k : ℕ) (Known : Type 0) → (Known → (p : ℕ) → p < n → cell p ≡ Ok None → ⊥) → (es : List ℤ) (end r : Result HeapValue Stop) → ComputesAll (cells_from musts 0 n) lends k es end → EndsIf Known end r → ComputesAll (cells_from cell 0 n) lends k es r
+  all_believed lends n k Known there es end (Ok home) computes is =
+      let c = subst (ComputesAll (cells_from musts 0 n) lends k es) is computes in
+      ((c.0.0, values_there 0 n c.0.0 c.0.1, c.0.2), c.1)
+  all_believed lends n k Known there es end (Err Memory) computes is = tt
+  all_believed lends n k Known there es end (Err (Faulted f)) computes is =
+      let c = subst (ComputesAll (cells_from musts 0 n) lends k es) is.0 computes in
+      subst (λ cs. all_of cs ≡ Err f) (same_from 0 n (λ p low. there_same (cell p) (there is.1 p (omega (arith, low))))) c
+
+-- ---- the cells of parts
+
+pub parts_there : (context : Context) (h : HeapValue) (e : Values) (parts : List CodePart) (form : Form) (indices : List (List ℤ)) → AreCovered parts indices → (p : ℕ) → p < length indices → parts_cell context h e parts form indices p ≡ Ok None → ⊥
+parts_there context h e parts form indices covered p low =
+    as_there (cell_at (cell_form form.base form.shape) (cells (meaning_in context) context.turns (core_of_parts (parts_term parts)) (lent_env h e)) (index_at indices p))
+    (part_there (meaning_in context) context.turns (lent_env h e) (cell_form form.base form.shape) (index_at indices p) parts (covered p low))

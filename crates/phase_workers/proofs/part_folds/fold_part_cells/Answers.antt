@@ -1,0 +1,10 @@
+use Rattle.run_values.specs.Scopes.{current}
+use Rattle.phase_workers.proofs.PartedEnding.{lending_parts}
+use Rattle.phase_workers.proofs.part_folds.fold_part_cells.Goals as goal
+
+pub each_part_fold-end-requires-clause-lending : goal.each_part_fold-end-requires-clause-lending
+each_part_fold-end-requires-clause-lending g c κs within =
+    let a = c.args in
+    let code = c.get-code.ensures in
+    let heap = c.buffers_are_numbered.ensures in
+    lending_parts a.context.now a.heap.now (current a.frames.now) a.parts.now a.live.now code.counted code.unmarked c.requires.counted c.requires.alive heap.referred heap.below heap.single heap.counters

@@ -1,0 +1,31 @@
+use Rattle.std.proofs.Common.{length, subst}
+use Rattle.run_values.specs.Scopes.{current}
+use Rattle.phase_loop_cells.specs.Cells.{parts_cell, parts_taken}
+use Rattle.phase_workers.specs.Covered.{AreCovered, must_be_there}
+use Rattle.phase_workers.specs.Homes.{ComputesAll}
+use Rattle.phase_team.specs.Segments.{cells_from, cost_from}
+use Rattle.phase_workers.proofs.Covering.{all_believed, parts_there}
+use Rattle.phase_workers.proofs.PartedEnding.{lending_parts}
+use Rattle.phase_workers.proofs.parted.part_cells.Goals as goal
+
+pub each_cell-end-requires-clause-lending : goal.each_cell-end-requires-clause-lending
+each_cell-end-requires-clause-lending g c κs within =
+    let a = c.args in
+    let code = c.get-code.ensures in
+    let heap = c.buffers_are_numbered.ensures in
+    lending_parts a.context.now a.heap.now (current a.frames.now) a.parts.now a.live.now code.counted code.unmarked c.requires.counted c.requires.alive heap.referred heap.below heap.single heap.counters
+
+pub returns : goal.returns
+returns g c =
+    let a = c.args in
+    let h = a.heap.now in
+    let e = current a.frames.now in
+    let cell = parts_cell a.context.now h e a.parts.now a.form.now a.frame.now in
+    let takes = parts_taken a.context.now h e a.parts.now a.frame.now in
+    let es = c.each_cell-end.new.into in
+    let n = length a.frame.now in
+    all_believed cell h n (cost_from takes 0 n) (AreCovered a.parts.now a.frame.now)
+    (λ covered. parts_there a.context.now h e a.parts.now a.form.now a.frame.now covered)
+    es c.each_cell-end.result c.believed.result
+    (subst (λ k. ComputesAll (cells_from (λ p. must_be_there (cell p)) 0 k) h (cost_from takes 0 k) es c.each_cell-end.result) c.count-count.ensures c.each_cell-end.ensures)
+    c.believed.ensures

@@ -1,0 +1,15 @@
+use Rattle.std.proofs.Common.{◌+◌, ◌%◌, ◌^◌, true, refl}
+use Rattle.counted_code.specs.Loops.{count_phase}
+use Rattle.counted_code.specs.Values.{is_small}
+use Rattle.run_eval.proofs.CellPhases.{count_stands}
+use Rattle.run_eval.specs.declared.state.State.{State}
+use Rattle.sac_base.specs.Arrays.{size}
+use Rattle.phase_workers.proofs.Ending.{begun_claim}
+use Rattle.phase_workers.proofs.results.begin_phase.Goals as goal
+
+pub returns-clause-begun : goal.returns-clause-begun
+returns-clause-begun c m n at =
+    let s = c.args.state.now in
+    let t : State = record { frames = s.frames; heap = s.heap; phases = (s.phases + 1) % 2 ^ 64 } in
+    let counted = count_stands s t true m n refl refl refl at in
+    begun_claim c.claim.result t c.claim.new.heap (is_small c.args.shape.now) (size c.args.shape.now) (count_phase true n m) counted.phases (c.claim.ensures.claimed (count_phase true n m) counted.heap)

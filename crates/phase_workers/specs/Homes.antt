@@ -1,0 +1,32 @@
+-- What the workers of a phase leave.
+use Rattle.std.specs.Prelude.{◌≡◌, ℕ, ◌+◌, ◌%◌, ◌^◌, List, ℤ, None, Result, Ok, Err}
+use Rattle.buffer_heap.specs.Heaps.{HeapValue, at}
+use Rattle.sac_base.specs.declared.op.Op.{Op}
+use Rattle.wl_core.specs.Machine.{CellValue}
+use Rattle.phase_team.specs.declared.plan.Stop.{Stop}
+use Rattle.phase_team.specs.declared.plan.Stop.TheVariants.{Faulted, Memory}
+use Rattle.phase_team.specs.Endings.{IsArray, IsCombined}
+
+-- The heap that goes on behind the one that lends has no buffer. So many buffers were taken and given back behind it: their numbers are counted exactly, all else modulo 2^64.
+pub record IsBehind (lends : HeapValue) (n : ℕ) (home : HeapValue) : Type 0 where
+  pub empty : (b : ℕ) → at home b ≡ None
+  pub births : home.births ≡ lends.births + n
+  pub taken : home.taken % 2 ^ 64 ≡ n % 2 ^ 64
+  pub given : home.given % 2 ^ 64 ≡ n % 2 ^ 64
+  pub reused : home.reused % 2 ^ 64 ≡ 0
+
+-- there are the elements of all cells in order, and such a heap; or the fault is that of the least position that faults
+abbrev pub ComputesAll : List CellValue → HeapValue → ℕ → List ℤ → Result HeapValue Stop → Type 0
+ComputesAll cells lends n elements (Ok home) = IsArray cells elements (Ok tt) × IsBehind lends n home
+ComputesAll cells lends n elements (Err stop) = IsArray cells elements (Err stop)
+
+-- the same of the neutral value, which is taken once, combined with the cells that are held
+abbrev pub CombinesAll : Op → List CellValue → HeapValue → ℕ → List ℤ → List ℤ → Result HeapValue Stop → Type 0
+CombinesAll op cells lends n neutral value (Ok home) = IsCombined op cells neutral value (Ok tt) × IsBehind lends n home
+CombinesAll op cells lends n neutral value (Err stop) = IsCombined op cells neutral value (Err stop)
+
+-- there is no fault
+abbrev pub OrNoMemory : {A : Type 0} → Result A Stop → Type 0
+OrNoMemory (Ok a) = Unit {0}
+OrNoMemory (Err Memory) = Unit {0}
+OrNoMemory (Err (Faulted fault)) = ⊥

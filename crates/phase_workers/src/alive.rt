@@ -1,0 +1,70 @@
+//! Variables whose values can be read.
+
+ghost use Rattle.std.specs.Prelude.{IfOk, IsTrue};
+ghost use Rattle.phase_workers.specs.Alive.{AreAlive, IsAlive};
+ghost use Rattle.run_values.specs.Scopes.{current};
+ghost use Rattle.run_values.specs.Shown.{value_of};
+
+use crate::mentions::{mention_gens, mention_parts};
+use buffer_heap::Heap;
+use core_ir::Var;
+use counted_code::{CodeGen, CodePart};
+use run_values::{Frames, RunValue};
+use sac_base::Memory;
+use std::alloc::Global;
+
+/// The variables that generators and their cells mention whose values can be read. One whose reference has gone may be among
+/// them, where others keep its buffer.
+pub fn alive_in_gens(
+    alloc: Global,
+    gens: &[CodeGen],
+    frames: &Frames,
+    heap: &Heap,
+) -> Result<Vec<Var>, Memory>
+    ensures { IfOk result (λ xs. AreAlive heap.now (current frames.now) xs.items) }
+{
+    let mut mentioned = Vec::new(alloc);
+    mention_gens(gens, &mut mentioned)?;
+    alive_among(alloc, &mentioned, frames, heap)
+}
+
+/// The same of the parts of a parted loop.
+pub fn alive_in_parts(
+    alloc: Global,
+    parts: &[CodePart],
+    frames: &Frames,
+    heap: &Heap,
+) -> Result<Vec<Var>, Memory>
+    ensures { IfOk result (λ xs. AreAlive heap.now (current frames.now) xs.items) }
+{
+    let mut mentioned = Vec::new(alloc);
+    mention_parts(parts, &mut mentioned)?;
+    alive_among(alloc, &mentioned, frames, heap)
+}
+
+fn alive_among(
+    alloc: Global,
+    variables: &[Var],
+    frames: &Frames,
+    heap: &Heap,
+) -> Result<Vec<Var>, Memory>
+    ensures { IfOk result (λ xs. AreAlive heap.now (current frames.now) xs.items) }
+{
+    let mut alive = Vec::new(alloc);
+    for x in variables {
+        if is_alive(heap, frames.get(*x)) {
+            alive.push(*x)?;
+        }
+    }
+    Ok(alive)
+}
+
+fn is_alive(heap: &Heap, value: RunValue) -> bool
+    ensures { IsTrue result → IsAlive heap.now (value_of value) }
+{
+    match value {
+        RunValue::Unbound => false,
+        RunValue::Word(_, _) | RunValue::Short(_, _) => true,
+        RunValue::Buffer(_, id, _) => heap.is_held(id),
+    }
+}

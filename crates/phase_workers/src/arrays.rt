@@ -1,0 +1,161 @@
+//! Genarrays and modarrays of cells that workers compute.
+
+ghost use denote.Param.Send.{IsSync};
+ghost use Rattle.std.specs.Prelude.{◌≡◌, ◌≢◌, ℕ, ◌*◌, ◌<◌, ◌≤◌, None, Some, Ok, false, length, OnOk};
+ghost use Rattle.phase_cells.specs.Idle.{IsLending};
+ghost use Rattle.counted_code.specs.Loops.{job_does};
+ghost use Rattle.counted_code.specs.Values.{Heap as MachineHeap, is_small};
+ghost use Rattle.counted_code.specs.View.{code_program};
+ghost use Rattle.phase_loop_cells.specs.Cells.{gens_cell, gens_taken};
+ghost use Rattle.phase_loop_cells.specs.Opened.{GensIn, OpenGens};
+ghost use Rattle.phase_checks.specs.Terms.{gens_term};
+ghost use Rattle.phase_workers.specs.Alive.{AreAlive};
+ghost use Rattle.phase_workers.specs.Homes.{ComputesAll};
+ghost use Rattle.run_eval.specs.Running.{IsAt, IsValue, Told, SameScopes, array_job};
+ghost use Rattle.run_store.specs.Stands.{lender_of};
+ghost use Rattle.run_values.specs.Scopes.{current};
+ghost use Rattle.sac_base.specs.Arrays.{size};
+ghost use Rattle.array_with_loops.specs.Plans.{plan_of};
+ghost use Rattle.phase_team.specs.Segments.{cells_from, cost_from};
+
+use crate::results::{begin_phase, finish_phase};
+use crate::team::{Workers, compute_array};
+use buffer_heap::Heap;
+use core_ir::Var;
+use counted_code::{Code, CodeGen};
+use phase_loop_cells::{Background, WithCells};
+use run_eval::{Context, State};
+use run_store::Target;
+use run_values::{Frames, RunValue};
+use sac_base::{Array, Cell, Stop, elements};
+use std::thread::Threads;
+use array_with_loops::Plan;
+use phase_team::{Gate, Stop as TeamStop};
+
+/// The result of a genarray or modarray that is a phase, whose cells stand alone.
+pub fn array_by_workers<G: Gate, R: Threads + Sync>(
+    workers: &Workers<'_, G, R>,
+    gens: &[CodeGen],
+    plan: &Plan,
+    array: &Array,
+    old: bool,
+    context: &Context<'_>,
+    live: &[Var],
+    state: &mut State<'_>,
+) -> Result<RunValue, Stop>
+    requires counted { GensIn (code_program context.now.code.now) (gens_term gens.now) live.now }
+    requires alive { AreAlive state.old.heap.own (current state.old.frames) live.now }
+    requires alone { state.old.heap.lent ≡ None }
+    requires large { is_small plan.now.shape ≡ false }
+    ensures told { (m : MachineHeap) → IsAt state.old m → Told IsValue result state.new (job_does None (array_job context.now (current state.old.frames) m gens.now (plan_of plan.now) array.now old) m) }
+    ensures scopes { OnOk result (SameScopes state.old.frames state.new.frames) }
+    ensures lender { lender_of state.new.heap ≡ lender_of state.old.heap }
+{
+    let Some(size) = elements(&plan.form.shape) else {
+        return Err(Stop::Memory);
+    };
+    let _code = context.code.get();
+    let target = begin_phase(context.alloc, &plan.shape, state)?;
+    state.heap.own.buffers_are_numbered();
+    let Target { mut cells, buffer } = target;
+    let background = Background {
+        array,
+        old,
+        size: size as usize,
+    };
+    let end = array_cells(
+        workers,
+        gens,
+        plan,
+        background,
+        context,
+        live,
+        &state.frames,
+        &state.heap.own,
+        &mut cells,
+    );
+    match end {
+        Ok(home) => {
+            state.heap.own.take_over(home);
+            finish_phase(Target { cells, buffer }, array.base(), &plan.shape, state)
+        }
+        Err(TeamStop::Faulted(fault)) => Err(Stop::Faulted(fault)),
+        Err(TeamStop::Memory) => Err(Stop::Memory),
+    }
+}
+
+// Computes the cells of all indices, each at its place.
+fn array_cells<G: Gate, R: Threads + Sync>(
+    workers: &Workers<'_, G, R>,
+    gens: &[CodeGen],
+    plan: &Plan,
+    background: Background<'_>,
+    context: &Context<'_>,
+    live: &[Var],
+    frames: &Frames,
+    heap: &Heap,
+    cells: &mut [Cell],
+) -> Result<Heap, TeamStop>
+    requires counted { GensIn (code_program context.now.code.now) (gens_term gens.now) live.now }
+    requires alive { AreAlive heap.now (current frames.now) live.now }
+    requires size { background.size ≡ size plan.now.form.shape }
+    ensures { ComputesAll (cells_from (gens_cell context.now heap.now (current frames.now) gens.now plan.now (Some background.entry)) 0 (length plan.now.frame)) heap.now (cost_from (gens_taken context.now heap.now (current frames.now) gens.now plan.now) 0 (length plan.now.frame)) cells.new result }
+{
+    let _code = context.code.get();
+    heap.buffers_are_numbered();
+    let count = plan.frame.count();
+    if count > MOST || count.checked_mul(background.size) != Some(cells.len()) {
+        return Err(TeamStop::Memory);
+    }
+    let with_cells = WithCells {
+        context: *context,
+        heap,
+        frames,
+        gens,
+        plan,
+        background: Some(background),
+    };
+    let end = each_cell(workers, &with_cells, count, background.size, cells);
+    let WithCells {
+        context: _,
+        heap: _,
+        frames: _,
+        gens: _,
+        plan: _,
+        background: _,
+    } = with_cells;
+    end
+}
+
+fn each_cell<G: Gate, R: Threads + Sync>(
+    workers: &Workers<'_, G, R>,
+    with_cells: &WithCells<'_>,
+    count: usize,
+    width: usize,
+    cells: &mut [Cell],
+) -> Result<Heap, TeamStop>
+    requires positions { (count ≤ 16777216) × (count ≡ length with_cells.now.plan.now.frame) × (width ≡ size with_cells.now.plan.now.form.shape) }
+    requires held { (p : ℕ) → p < count → gens_cell with_cells.now.context with_cells.now.heap.now (current with_cells.now.frames.now) with_cells.now.gens.now with_cells.now.plan.now with_cells.now.background p ≢ Ok None }
+    requires lending { IsLending (OpenGens with_cells.now.context with_cells.now.heap.now (current with_cells.now.frames.now) with_cells.now.gens.now) with_cells.now.heap.now }
+    requires room { length cells.old ≡ count * width }
+    ensures { ComputesAll (cells_from (gens_cell with_cells.now.context with_cells.now.heap.now (current with_cells.now.frames.now) with_cells.now.gens.now with_cells.now.plan.now with_cells.now.background) 0 count) with_cells.now.heap.now (cost_from (gens_taken with_cells.now.context with_cells.now.heap.now (current with_cells.now.frames.now) with_cells.now.gens.now with_cells.now.plan.now) 0 count) cells.new result }
+{
+    shares::<CodeGen>();
+    shares::<Code>();
+    compute_array(
+        workers,
+        with_cells.context.alloc,
+        with_cells,
+        count,
+        width,
+        cells,
+    )
+}
+
+// A law. Values of the type may be shared among threads.
+fn shares<X: Sync>()
+    ensures { IsSync X.row }
+{}
+
+// The most positions of a phase.
+const MOST: usize = 16_777_216;

@@ -1,0 +1,117 @@
+//! Parted loops in which each position has a cell.
+
+ghost use Rattle.std.specs.Prelude.{◌≡◌, ℕ, ℤ, List, IfOk, IsTrue, is_some, length, true};
+ghost use Rattle.phase_loop_cells.specs.Cells.{parts_cell, parts_taken};
+ghost use Rattle.phase_loop_cells.specs.Opened.{OpenParts};
+ghost use Rattle.phase_workers.specs.Covered.{AreCovered, EndsIf, must_be_there};
+ghost use Rattle.run_eval.specs.Loops.{part_held};
+ghost use Rattle.run_values.specs.Scopes.{current};
+ghost use Rattle.sac_base.specs.Arrays.{size};
+ghost use Rattle.wl_core.specs.Machine.{CellValue};
+ghost use Rattle.phase_team.specs.Segments.{IsComputed, Tells};
+
+use buffer_heap::Heap;
+use phase_cells::CellRuns;
+use counted_code::CodePart;
+use phase_loop_cells::{CellScratch, PartCells};
+use run_store::Store;
+use sac_base::{Cell, Memory};
+use std::alloc::Global;
+use array_with_loops::{Frame, IndexVector};
+use phase_team::{CellEnd, Stop};
+
+/// The cells of a parted loop, where a position without one counts as want of memory.
+pub struct CoveredCells<'a> {
+    pub cells: PartCells<'a>,
+}
+
+impl<'a> CellRuns for CoveredCells<'a> {
+    type Scratch = CellScratch;
+
+    ghost cell = { λ s p. must_be_there (parts_cell s.cells.context s.cells.heap.now (current s.cells.frames.now) s.cells.parts.now s.cells.form.now s.cells.frame.now p) };
+
+    ghost takes = { λ s p. parts_taken s.cells.context s.cells.heap.now (current s.cells.frames.now) s.cells.parts.now s.cells.frame.now p };
+
+    ghost positions = { λ s. length s.cells.frame.now };
+
+    ghost width = { λ s. size s.cells.form.now.shape };
+
+    ghost lends = { λ s. s.cells.heap.now };
+
+    ghost opens = { λ s k. OpenParts s.cells.context s.cells.heap.now (current s.cells.frames.now) s.cells.parts.now k };
+
+    ghost ready = { λ s scratch. current scratch.frames ≡ current s.cells.frames.now };
+
+    fn heap(&self) -> &Heap {
+        self.cells.heap()
+    }
+
+    fn begin(&self) -> Result<CellScratch, Memory> {
+        self.cells.begin()
+    }
+
+    fn run(
+        &self,
+        scratch: &mut CellScratch,
+        store: &mut Store<'_>,
+        position: usize,
+        into: &mut [Cell],
+    ) -> CellEnd {
+        covered(self.cells.run(scratch, store, position, into))
+    }
+}
+
+fn covered(end: CellEnd) -> CellEnd
+    ensures tells { (cell : CellValue) (elements : List ℤ) → Tells cell elements end → Tells (must_be_there cell) elements result }
+    ensures computed { IsComputed result → IsComputed end }
+{
+    match end {
+        CellEnd::NotHeld => CellEnd::Stopped(Stop::Memory),
+        _ => end,
+    }
+}
+
+/// The end of a phase of such cells, in which a fault is believed only where each position has a cell: to look at all of
+/// them takes long, and a fault is the last thing that a program does.
+pub fn believed(
+    end: Result<Heap, Stop>,
+    alloc: Global,
+    parts: &[CodePart],
+    frame: &Frame,
+) -> Result<Heap, Stop>
+    ensures { EndsIf (AreCovered parts.now frame.now) end result }
+{
+    match end {
+        Err(Stop::Faulted(fault)) => match are_covered(alloc, parts, frame) {
+            Ok(true) => Err(Stop::Faulted(fault)),
+            _ => Err(Stop::Memory),
+        },
+        _ => end,
+    }
+}
+
+// Whether each index of a frame is in the grid of some part.
+fn are_covered(alloc: Global, parts: &[CodePart], frame: &Frame) -> Result<bool, Memory>
+    ensures { IfOk result (λ b. IsTrue b → AreCovered parts.now frame.now) }
+{
+    let mut index = IndexVector::new(alloc);
+    for place in 0..frame.count() {
+        frame.index(place, &mut index)?;
+        if !is_held(parts, index.components()) {
+            return Ok(false);
+        }
+    }
+    Ok(true)
+}
+
+// Whether an index is in the grid of some part.
+fn is_held(parts: &[CodePart], index: &[i32]) -> bool
+    ensures { result ≡ is_some (part_held parts.now index.now) }
+{
+    for part in parts {
+        if part.grid.contains(index) {
+            return true;
+        }
+    }
+    false
+}

@@ -1,0 +1,207 @@
+//! Folds of cells that workers compute.
+
+ghost use Rattle.std.specs.Thread.{IsSync};
+ghost use Rattle.std.specs.Prelude.{◌≡◌, ◌≤◌, IsTrue, None, length, OnOk};
+ghost use Rattle.phase_cells.specs.Idle.{IsLending};
+ghost use Rattle.counted_code.specs.Loops.{job_does};
+ghost use Rattle.counted_code.specs.Values.{Heap as MachineHeap};
+ghost use Rattle.counted_code.specs.View.{code_program};
+ghost use Rattle.phase_loop_cells.specs.Cells.{gens_cell, gens_taken};
+ghost use Rattle.phase_loop_cells.specs.Opened.{GensIn, OpenGens};
+ghost use Rattle.phase_checks.specs.Terms.{gens_term};
+ghost use Rattle.phase_workers.specs.Alive.{AreAlive};
+ghost use Rattle.phase_workers.specs.Homes.{CombinesAll};
+ghost use Rattle.run_eval.specs.Running.{IsAt, IsValue, Told, SameScopes, fold_job};
+ghost use Rattle.run_store.specs.Stands.{lender_of};
+ghost use Rattle.run_values.specs.Scopes.{current};
+ghost use Rattle.sac_base.specs.Arrays.{size};
+ghost use Rattle.sac_base.specs.Verdict.{folds as folds_value};
+ghost use Rattle.sac_base.specs.WithLoops.{fits_form as fits_form_value};
+ghost use Rattle.array_with_loops.specs.Plans.{plan_of};
+ghost use Rattle.phase_team.specs.Segments.{cells_from, cost_from};
+
+use crate::alive::alive_in_gens;
+use crate::results::{begin_phase, finish_phase};
+use crate::team::{Workers, compute_fold};
+use buffer_heap::Heap;
+use core_ir::Var;
+use counted_code::CodeGen;
+use phase_loop_cells::WithCells;
+use phase_checks::gens_are_counted;
+use run_eval::{Context, State, fold_in_order};
+use run_store::Target;
+use run_values::{Frames, RunValue};
+use sac_base::{Array, Base, Cell, Op, Stop};
+use std::thread::Threads;
+use array_with_loops::{Plan, fits_form};
+use phase_team::{Gate, Stop as TeamStop};
+
+// The most positions of a phase.
+const MOST: usize = 16_777_216;
+
+/// The result of a fold whose checks have passed. It is run by the workers where its cells are known to stand alone and none
+/// nests too deep, and else in order.
+pub fn fold_outside<G: Gate, R: Threads + Sync>(
+    workers: &Workers<'_, G, R>,
+    gens: &[CodeGen],
+    plan: &Plan,
+    op: Op,
+    neutral: Array,
+    context: &Context<'_>,
+    state: &mut State<'_>,
+) -> Result<RunValue, Stop>
+    ensures told { (m : MachineHeap) → IsAt state.old m → Told IsValue result state.new (job_does None (fold_job context.now (current state.old.frames) m gens.now (plan_of plan.now) op neutral) m) }
+    ensures scopes { OnOk result (SameScopes state.old.frames state.new.frames) }
+    ensures lender { lender_of state.new.heap ≡ lender_of state.old.heap }
+{
+    if workers.deep || state.heap.lent.is_some() || !is_fold(plan, op, &neutral) {
+        return fold_in_order(gens, plan, op, neutral, context, state);
+    }
+    let live = alive_in_gens(context.alloc, gens, &state.frames, &state.heap.own)?;
+    if !gens_are_counted(context.alloc, context.code.get(), &live, gens)? {
+        return fold_in_order(gens, plan, op, neutral, context, state);
+    }
+    fold_by_workers(workers, gens, plan, op, neutral, context, &live, state)
+}
+
+// Whether the operator folds cells of the plan's form, which the neutral value has as well.
+fn is_fold(plan: &Plan, op: Op, neutral: &Array) -> bool
+    ensures op { IsTrue result → IsTrue (folds_value plan.now.form.base op) }
+    ensures form { IsTrue result → IsTrue (fits_form_value plan.now.form neutral.now) }
+{
+    folds(plan.form.base, op) && fits_form(&plan.form, neutral)
+}
+
+pub fn folds(base: Base, op: Op) -> bool
+    ensures { result ≡ folds_value base op }
+{
+    match base {
+        Base::Int => matches!(op, Op::Add | Op::Mul | Op::Min | Op::Max),
+        Base::Bool => matches!(op, Op::And | Op::Or),
+    }
+}
+
+/// The result of a fold whose cells stand alone. The neutral value has their form.
+pub fn fold_by_workers<G: Gate, R: Threads + Sync>(
+    workers: &Workers<'_, G, R>,
+    gens: &[CodeGen],
+    plan: &Plan,
+    op: Op,
+    neutral: Array,
+    context: &Context<'_>,
+    live: &[Var],
+    state: &mut State<'_>,
+) -> Result<RunValue, Stop>
+    requires counted { GensIn (code_program context.now.code.now) (gens_term gens.now) live.now }
+    requires alive { AreAlive state.old.heap.own (current state.old.frames) live.now }
+    requires alone { state.old.heap.lent ≡ None }
+    requires op { IsTrue (folds_value plan.now.form.base op) }
+    requires form { IsTrue (fits_form_value plan.now.form neutral) }
+    ensures told { (m : MachineHeap) → IsAt state.old m → Told IsValue result state.new (job_does None (fold_job context.now (current state.old.frames) m gens.now (plan_of plan.now) op neutral) m) }
+    ensures scopes { OnOk result (SameScopes state.old.frames state.new.frames) }
+    ensures lender { lender_of state.new.heap ≡ lender_of state.old.heap }
+{
+    let _code = context.code.get();
+    let _cells = neutral.cells();
+    let mut value = neutral.into_cells();
+    let target = begin_phase(context.alloc, &plan.shape, state)?;
+    let Target { cells: _, buffer } = target;
+    state.heap.own.buffers_are_numbered();
+    let end = fold_cells(
+        workers,
+        gens,
+        plan,
+        op,
+        *context,
+        live,
+        &state.frames,
+        &state.heap.own,
+        &mut value,
+    );
+    match end {
+        Ok(home) => {
+            state.heap.own.take_over(home);
+            let target = Target {
+                cells: value,
+                buffer,
+            };
+            finish_phase(target, plan.form.base, &plan.form.shape, state)
+        }
+        Err(TeamStop::Faulted(fault)) => Err(Stop::Faulted(fault)),
+        Err(TeamStop::Memory) => Err(Stop::Memory),
+    }
+}
+
+// Combines a value with the cells of all indices.
+fn fold_cells<'a, G: Gate, R: Threads + Sync>(
+    workers: &Workers<'_, G, R>,
+    gens: &'a [CodeGen],
+    plan: &'a Plan,
+    op: Op,
+    context: Context<'a>,
+    live: &[Var],
+    frames: &'a Frames,
+    heap: &'a Heap,
+    value: &mut [Cell],
+) -> Result<Heap, TeamStop>
+    requires counted { GensIn (code_program context.code.now) (gens_term gens.now) live.now }
+    requires alive { AreAlive heap.now (current frames.now) live.now }
+    requires op { IsTrue (folds_value plan.now.form.base op) }
+    requires width { length value.old ≡ size plan.now.form.shape }
+    ensures { CombinesAll op (cells_from (gens_cell context.entry heap.now (current frames.now) gens.now plan.now None) 0 (length plan.now.frame)) heap.now (cost_from (gens_taken context.entry heap.now (current frames.now) gens.now plan.now) 0 (length plan.now.frame)) value.old value.new result }
+{
+    let _code = context.code.get();
+    heap.buffers_are_numbered();
+    let count = plan.frame.count();
+    if count > MOST {
+        return Err(TeamStop::Memory);
+    }
+    let cells = WithCells {
+        context,
+        heap,
+        frames,
+        gens,
+        plan,
+        background: None,
+    };
+    let end = each_fold(workers, &cells, count, op, value);
+    let WithCells {
+        context: _,
+        heap: _,
+        frames: _,
+        gens: _,
+        plan: _,
+        background: _,
+    } = cells;
+    end
+}
+
+fn each_fold<G: Gate, R: Threads + Sync>(
+    workers: &Workers<'_, G, R>,
+    cells: &WithCells<'_>,
+    count: usize,
+    op: Op,
+    value: &mut [Cell],
+) -> Result<Heap, TeamStop>
+    requires positions { (count ≤ 16777216) × (count ≡ length cells.now.plan.now.frame) }
+    requires op { IsTrue (folds_value cells.now.plan.now.form.base op) }
+    requires lending { IsLending (OpenGens cells.now.context cells.now.heap.now (current cells.now.frames.now) cells.now.gens.now) cells.now.heap.now }
+    requires width { length value.old ≡ size cells.now.plan.now.form.shape }
+    ensures { CombinesAll op (cells_from (gens_cell cells.now.context cells.now.heap.now (current cells.now.frames.now) cells.now.gens.now cells.now.plan.now cells.now.background) 0 count) cells.now.heap.now (cost_from (gens_taken cells.now.context cells.now.heap.now (current cells.now.frames.now) cells.now.gens.now cells.now.plan.now) 0 count) value.old value.new result }
+{
+    shown(cells.context.code.get());
+    all_shown(cells.gens);
+    let alloc = cells.context.alloc;
+    let base = cells.plan.form.base;
+    compute_fold(workers, alloc, cells, count, base, op, value)
+}
+
+// A law. A value that may be shared among threads may be.
+fn shown<X: Sync>(_value: &X)
+    ensures { IsSync X.row }
+{}
+
+// The same of the elements of a slice.
+fn all_shown<X: Sync>(_values: &[X])
+    ensures { IsSync X.row }
+{}

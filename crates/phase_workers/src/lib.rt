@@ -1,0 +1,26 @@
+//! With-loops outside of cells, run by workers.
+#![tactic(auto)]
+
+mod alive;
+mod arrays;
+mod calls;
+mod covered;
+mod folds;
+mod mentions;
+mod nesting;
+mod outside;
+mod part_folds;
+mod parted;
+mod program;
+mod results;
+mod team;
+
+pub use folds::fold_outside;
+pub use nesting::nests_within;
+pub use outside::array_outside;
+pub use part_folds::fold_parts_outside;
+pub use parted::parts_outside;
+pub use program::run;
+pub use run_eval::Plan;
+pub use team::{Workers, compute_array, compute_fold};
+pub use phase_team::{Gate, NoGate};

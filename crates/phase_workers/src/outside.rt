@@ -1,0 +1,47 @@
+//! With-loops that stand outside of cells.
+
+ghost use Rattle.std.specs.Prelude.{◌≡◌, None, OnOk};
+ghost use Rattle.counted_code.specs.Loops.{job_does};
+ghost use Rattle.counted_code.specs.Values.{Heap as MachineHeap};
+ghost use Rattle.run_eval.specs.Running.{IsAt, IsValue, SameScopes, Told, array_job};
+ghost use Rattle.run_store.specs.Stands.{lender_of};
+ghost use Rattle.run_values.specs.Scopes.{current};
+ghost use Rattle.array_with_loops.specs.Plans.{plan_of};
+
+use crate::alive::alive_in_gens;
+use crate::arrays::array_by_workers;
+use crate::team::Workers;
+use counted_code::CodeGen;
+use phase_checks::gens_are_counted;
+use run_eval::{Context, State, array_in_order};
+use run_store::is_small;
+use run_values::RunValue;
+use sac_base::{Array, Stop};
+use std::thread::Threads;
+use array_with_loops::Plan;
+use phase_team::Gate;
+
+/// The result of a genarray or modarray whose checks have passed. It is run by the workers where it is a phase, its
+/// cells are known to stand alone and none nests too deep, and else in order.
+pub fn array_outside<G: Gate, R: Threads + Sync>(
+    workers: &Workers<'_, G, R>,
+    gens: &[CodeGen],
+    plan: &Plan,
+    array: &Array,
+    old: bool,
+    context: &Context<'_>,
+    state: &mut State<'_>,
+) -> Result<RunValue, Stop>
+    ensures told { (m : MachineHeap) → IsAt state.old m → Told IsValue result state.new (job_does None (array_job context.now (current state.old.frames) m gens.now (plan_of plan.now) array.now old) m) }
+    ensures scopes { OnOk result (SameScopes state.old.frames state.new.frames) }
+    ensures lender { lender_of state.new.heap ≡ lender_of state.old.heap }
+{
+    if workers.deep || is_small(&plan.shape) || state.heap.lent.is_some() {
+        return array_in_order(gens, plan, array, old, context, state);
+    }
+    let live = alive_in_gens(context.alloc, gens, &state.frames, &state.heap.own)?;
+    if !gens_are_counted(context.alloc, context.code.get(), &live, gens)? {
+        return array_in_order(gens, plan, array, old, context, state);
+    }
+    array_by_workers(workers, gens, plan, array, old, context, &live, state)
+}

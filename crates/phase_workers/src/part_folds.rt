@@ -1,0 +1,193 @@
+//! Parted folds, of cells that workers compute.
+
+ghost use Rattle.std.specs.Prelude.{◌≡◌, ◌≤◌, IsTrue, None, length, OnOk};
+ghost use Rattle.phase_cells.specs.Idle.{IsLending};
+ghost use Rattle.counted_code.specs.Loops.{job_does};
+ghost use Rattle.counted_code.specs.Values.{Heap as MachineHeap};
+ghost use Rattle.counted_code.specs.View.{code_program};
+ghost use Rattle.phase_loop_cells.specs.Cells.{parts_cell, parts_taken};
+ghost use Rattle.phase_loop_cells.specs.Opened.{OpenParts, PartsIn};
+ghost use Rattle.phase_checks.specs.Terms.{parts_term};
+ghost use Rattle.phase_workers.specs.Alive.{AreAlive};
+ghost use Rattle.phase_workers.specs.Homes.{CombinesAll};
+ghost use Rattle.run_eval.specs.Running.{IsAt, IsValue, Told, SameScopes, fold_parts_job};
+ghost use Rattle.run_store.specs.Stands.{lender_of};
+ghost use Rattle.run_values.specs.Scopes.{current};
+ghost use Rattle.sac_base.specs.Arrays.{size};
+ghost use Rattle.sac_base.specs.Verdict.{folds as folds_value};
+ghost use Rattle.sac_base.specs.WithLoops.{fits_form as fits_form_value};
+ghost use Rattle.phase_team.specs.Segments.{cells_from, cost_from};
+
+use crate::alive::alive_in_parts;
+use crate::folds::folds;
+use crate::parted::shares;
+use crate::results::{begin_phase, finish_phase};
+use crate::team::{Workers, compute_fold};
+use buffer_heap::Heap;
+use core_ir::Var;
+use counted_code::{Code, CodePart};
+use phase_loop_cells::PartCells;
+use phase_checks::parts_are_counted;
+use run_eval::{Context, State, fold_parts_in_order};
+use run_store::Target;
+use run_values::{Frames, RunValue};
+use sac_base::{Array, Cell, Form, Op, Stop};
+use std::thread::Threads;
+use array_with_loops::{Frame, fits_form};
+use phase_team::{Gate, Stop as TeamStop};
+
+/// The result of a parted fold. It is run by the workers where its cells are known to stand alone, and else in order.
+pub fn fold_parts_outside<G: Gate, R: Threads + Sync>(
+    workers: &Workers<'_, G, R>,
+    parts: &[CodePart],
+    frame: &Frame,
+    form: &Form,
+    op: Op,
+    neutral: Array,
+    context: &Context<'_>,
+    state: &mut State<'_>,
+) -> Result<RunValue, Stop>
+    ensures told { (m : MachineHeap) → IsAt state.old m → Told IsValue result state.new (job_does None (fold_parts_job context.now (current state.old.frames) parts.now frame.now form.now op neutral) m) }
+    ensures scopes { OnOk result (SameScopes state.old.frames state.new.frames) }
+    ensures lender { lender_of state.new.heap ≡ lender_of state.old.heap }
+{
+    if workers.deep || state.heap.lent.is_some() || !is_fold(form, op, &neutral) {
+        return fold_parts_in_order(parts, frame, form, op, neutral, context, state);
+    }
+    let live = alive_in_parts(context.alloc, parts, &state.frames, &state.heap.own)?;
+    if !parts_are_counted(context.alloc, context.code.get(), &live, parts)? {
+        return fold_parts_in_order(parts, frame, form, op, neutral, context, state);
+    }
+    fold_parts_by_workers(
+        workers, parts, frame, form, op, neutral, context, &live, state,
+    )
+}
+
+// Whether the operator folds cells of a form, which the neutral value has as well.
+fn is_fold(form: &Form, op: Op, neutral: &Array) -> bool
+    ensures op { IsTrue result → IsTrue (folds_value form.now.base op) }
+    ensures form { IsTrue result → IsTrue (fits_form_value form.now neutral.now) }
+{
+    folds(form.base, op) && fits_form(form, neutral)
+}
+
+// The result of a parted fold whose cells stand alone. The neutral value has their form.
+fn fold_parts_by_workers<G: Gate, R: Threads + Sync>(
+    workers: &Workers<'_, G, R>,
+    parts: &[CodePart],
+    frame: &Frame,
+    form: &Form,
+    op: Op,
+    neutral: Array,
+    context: &Context<'_>,
+    live: &[Var],
+    state: &mut State<'_>,
+) -> Result<RunValue, Stop>
+    requires counted { PartsIn (code_program context.now.code.now) (parts_term parts.now) live.now }
+    requires alive { AreAlive state.old.heap.own (current state.old.frames) live.now }
+    requires alone { state.old.heap.lent ≡ None }
+    requires op { IsTrue (folds_value form.now.base op) }
+    requires form { IsTrue (fits_form_value form.now neutral) }
+    ensures told { (m : MachineHeap) → IsAt state.old m → Told IsValue result state.new (job_does None (fold_parts_job context.now (current state.old.frames) parts.now frame.now form.now op neutral) m) }
+    ensures scopes { OnOk result (SameScopes state.old.frames state.new.frames) }
+    ensures lender { lender_of state.new.heap ≡ lender_of state.old.heap }
+{
+    let _code = context.code.get();
+    let _cells = neutral.cells();
+    let mut value = neutral.into_cells();
+    let target = begin_phase(context.alloc, &form.shape, state)?;
+    let Target { cells: _, buffer } = target;
+    state.heap.own.buffers_are_numbered();
+    let end = fold_part_cells(
+        workers,
+        parts,
+        frame,
+        form,
+        op,
+        context,
+        live,
+        &state.frames,
+        &state.heap.own,
+        &mut value,
+    );
+    match end {
+        Ok(home) => {
+            state.heap.own.take_over(home);
+            let target = Target {
+                cells: value,
+                buffer,
+            };
+            finish_phase(target, form.base, &form.shape, state)
+        }
+        Err(TeamStop::Faulted(fault)) => Err(Stop::Faulted(fault)),
+        Err(TeamStop::Memory) => Err(Stop::Memory),
+    }
+}
+
+// Combines a value with the cells of all indices that some part holds.
+fn fold_part_cells<G: Gate, R: Threads + Sync>(
+    workers: &Workers<'_, G, R>,
+    parts: &[CodePart],
+    frame: &Frame,
+    form: &Form,
+    op: Op,
+    context: &Context<'_>,
+    live: &[Var],
+    frames: &Frames,
+    heap: &Heap,
+    value: &mut [Cell],
+) -> Result<Heap, TeamStop>
+    requires counted { PartsIn (code_program context.now.code.now) (parts_term parts.now) live.now }
+    requires alive { AreAlive heap.now (current frames.now) live.now }
+    requires op { IsTrue (folds_value form.now.base op) }
+    requires width { length value.old ≡ size form.now.shape }
+    ensures { CombinesAll op (cells_from (parts_cell context.now heap.now (current frames.now) parts.now form.now frame.now) 0 (length frame.now)) heap.now (cost_from (parts_taken context.now heap.now (current frames.now) parts.now frame.now) 0 (length frame.now)) value.old value.new result }
+{
+    let _code = context.code.get();
+    heap.buffers_are_numbered();
+    let count = frame.count();
+    if count > MOST {
+        return Err(TeamStop::Memory);
+    }
+    let cells = PartCells {
+        context: *context,
+        heap,
+        frames,
+        parts,
+        form,
+        frame,
+    };
+    let end = each_part_fold(workers, &cells, count, op, value);
+    let PartCells {
+        context: _,
+        heap: _,
+        frames: _,
+        parts: _,
+        form: _,
+        frame: _,
+    } = cells;
+    end
+}
+
+fn each_part_fold<G: Gate, R: Threads + Sync>(
+    workers: &Workers<'_, G, R>,
+    cells: &PartCells<'_>,
+    count: usize,
+    op: Op,
+    value: &mut [Cell],
+) -> Result<Heap, TeamStop>
+    requires positions { (count ≤ 16777216) × (count ≡ length cells.now.frame.now) }
+    requires op { IsTrue (folds_value cells.now.form.now.base op) }
+    requires lending { IsLending (OpenParts cells.now.context cells.now.heap.now (current cells.now.frames.now) cells.now.parts.now) cells.now.heap.now }
+    requires width { length value.old ≡ size cells.now.form.now.shape }
+    ensures { CombinesAll op (cells_from (parts_cell cells.now.context cells.now.heap.now (current cells.now.frames.now) cells.now.parts.now cells.now.form.now cells.now.frame.now) 0 count) cells.now.heap.now (cost_from (parts_taken cells.now.context cells.now.heap.now (current cells.now.frames.now) cells.now.parts.now cells.now.frame.now) 0 count) value.old value.new result }
+{
+    shares::<CodePart>();
+    shares::<Code>();
+    let alloc = cells.context.alloc;
+    let base = cells.form.base;
+    compute_fold(workers, alloc, cells, count, base, op, value)
+}
+
+// The most positions of a phase.
+const MOST: usize = 16_777_216;

@@ -1,0 +1,187 @@
+//! Parted loops that are no folds, of cells that workers compute.
+
+ghost use Rattle.std.specs.Prelude.{◌≡◌, ◌≤◌, ◌*◌, None, false, length, OnOk};
+ghost use Rattle.phase_cells.specs.Idle.{IsLending};
+ghost use Rattle.counted_code.specs.Loops.{job_does};
+ghost use Rattle.counted_code.specs.Values.{Heap as MachineHeap, is_small as is_small_shape};
+ghost use Rattle.counted_code.specs.View.{code_program};
+ghost use Rattle.phase_loop_cells.specs.Cells.{parts_cell, parts_taken};
+ghost use Rattle.phase_loop_cells.specs.Opened.{OpenParts, PartsIn};
+ghost use Rattle.phase_checks.specs.Terms.{parts_term};
+ghost use Rattle.phase_workers.specs.Alive.{AreAlive};
+ghost use Rattle.phase_workers.specs.Covered.{must_be_there};
+ghost use Rattle.phase_workers.specs.Homes.{ComputesAll};
+ghost use Rattle.run_eval.specs.Running.{IsAt, IsValue, Told, SameScopes, parts_job};
+ghost use Rattle.run_store.specs.Stands.{lender_of};
+ghost use Rattle.run_values.specs.Scopes.{current};
+ghost use Rattle.sac_base.specs.Arrays.{size};
+ghost use Rattle.std.specs.Thread.{IsSync};
+ghost use Rattle.phase_team.specs.Segments.{cells_from, cost_from};
+
+use crate::alive::alive_in_parts;
+use crate::covered::{CoveredCells, believed};
+use crate::results::{begin_phase, finish_phase};
+use crate::team::{Workers, compute_array};
+use buffer_heap::Heap;
+use core_ir::Var;
+use counted_code::{Code, CodePart};
+use phase_loop_cells::PartCells;
+use phase_checks::parts_are_counted;
+use run_eval::{Context, State, parts_in_order};
+use run_store::{Target, is_small};
+use run_values::{Frames, RunValue};
+use sac_base::{Cell, Form, Shape, Stop, elements};
+use std::thread::Threads;
+use array_with_loops::Frame;
+use phase_team::{Gate, Stop as TeamStop};
+
+/// The result of a parted loop that is no fold. It is run by the workers where it is a phase, its cells are known to stand
+/// alone and none nests too deep, and else in order.
+pub fn parts_outside<G: Gate, R: Threads + Sync>(
+    workers: &Workers<'_, G, R>,
+    parts: &[CodePart],
+    frame: &Frame,
+    form: &Form,
+    shape: &Shape,
+    context: &Context<'_>,
+    state: &mut State<'_>,
+) -> Result<RunValue, Stop>
+    ensures told { (m : MachineHeap) → IsAt state.old m → Told IsValue result state.new (job_does None (parts_job context.now (current state.old.frames) parts.now frame.now form.now shape.now) m) }
+    ensures scopes { OnOk result (SameScopes state.old.frames state.new.frames) }
+    ensures lender { lender_of state.new.heap ≡ lender_of state.old.heap }
+{
+    if workers.deep || is_small(shape) || state.heap.lent.is_some() {
+        return parts_in_order(parts, frame, form, shape, context, state);
+    }
+    let live = alive_in_parts(context.alloc, parts, &state.frames, &state.heap.own)?;
+    if !parts_are_counted(context.alloc, context.code.get(), &live, parts)? {
+        return parts_in_order(parts, frame, form, shape, context, state);
+    }
+    parts_by_workers(workers, parts, frame, form, shape, context, &live, state)
+}
+
+// The same of a loop that is a phase, whose cells stand alone.
+fn parts_by_workers<G: Gate, R: Threads + Sync>(
+    workers: &Workers<'_, G, R>,
+    parts: &[CodePart],
+    frame: &Frame,
+    form: &Form,
+    shape: &Shape,
+    context: &Context<'_>,
+    live: &[Var],
+    state: &mut State<'_>,
+) -> Result<RunValue, Stop>
+    requires counted { PartsIn (code_program context.now.code.now) (parts_term parts.now) live.now }
+    requires alive { AreAlive state.old.heap.own (current state.old.frames) live.now }
+    requires alone { state.old.heap.lent ≡ None }
+    requires large { is_small_shape shape.now ≡ false }
+    ensures told { (m : MachineHeap) → IsAt state.old m → Told IsValue result state.new (job_does None (parts_job context.now (current state.old.frames) parts.now frame.now form.now shape.now) m) }
+    ensures scopes { OnOk result (SameScopes state.old.frames state.new.frames) }
+    ensures lender { lender_of state.new.heap ≡ lender_of state.old.heap }
+{
+    let _code = context.code.get();
+    let target = begin_phase(context.alloc, shape, state)?;
+    state.heap.own.buffers_are_numbered();
+    let Target { mut cells, buffer } = target;
+    let end = part_cells(
+        workers,
+        parts,
+        frame,
+        form,
+        context,
+        live,
+        &state.frames,
+        &state.heap.own,
+        &mut cells,
+    );
+    match end {
+        Ok(home) => {
+            state.heap.own.take_over(home);
+            finish_phase(Target { cells, buffer }, form.base, shape, state)
+        }
+        Err(TeamStop::Faulted(fault)) => Err(Stop::Faulted(fault)),
+        Err(TeamStop::Memory) => Err(Stop::Memory),
+    }
+}
+
+// Computes the cells of all indices, each at its place.
+fn part_cells<G: Gate, R: Threads + Sync>(
+    workers: &Workers<'_, G, R>,
+    parts: &[CodePart],
+    frame: &Frame,
+    form: &Form,
+    context: &Context<'_>,
+    live: &[Var],
+    frames: &Frames,
+    heap: &Heap,
+    cells: &mut [Cell],
+) -> Result<Heap, TeamStop>
+    requires counted { PartsIn (code_program context.now.code.now) (parts_term parts.now) live.now }
+    requires alive { AreAlive heap.now (current frames.now) live.now }
+    ensures { ComputesAll (cells_from (parts_cell context.now heap.now (current frames.now) parts.now form.now frame.now) 0 (length frame.now)) heap.now (cost_from (parts_taken context.now heap.now (current frames.now) parts.now frame.now) 0 (length frame.now)) cells.new result }
+{
+    let _code = context.code.get();
+    heap.buffers_are_numbered();
+    let Some(size) = elements(&form.shape) else {
+        return Err(TeamStop::Memory);
+    };
+    let width = size as usize;
+    let count = frame.count();
+    if count > MOST || count.checked_mul(width) != Some(cells.len()) {
+        return Err(TeamStop::Memory);
+    }
+    let covered = CoveredCells {
+        cells: PartCells {
+            context: *context,
+            heap,
+            frames,
+            parts,
+            form,
+            frame,
+        },
+    };
+    let end = each_cell(workers, &covered, count, width, cells);
+    let CoveredCells {
+        cells: PartCells {
+            context: _,
+            heap: _,
+            frames: _,
+            parts: _,
+            form: _,
+            frame: _,
+        },
+    } = covered;
+    believed(end, context.alloc, parts, frame)
+}
+
+fn each_cell<G: Gate, R: Threads + Sync>(
+    workers: &Workers<'_, G, R>,
+    covered: &CoveredCells<'_>,
+    count: usize,
+    width: usize,
+    into: &mut [Cell],
+) -> Result<Heap, TeamStop>
+    requires positions { (count ≤ 16777216) × (count ≡ length covered.now.cells.frame.now) × (width ≡ size covered.now.cells.form.now.shape) }
+    requires lending { IsLending (OpenParts covered.now.cells.context covered.now.cells.heap.now (current covered.now.cells.frames.now) covered.now.cells.parts.now) covered.now.cells.heap.now }
+    requires room { length into.old ≡ count * width }
+    ensures { ComputesAll (cells_from (λ p. must_be_there (parts_cell covered.now.cells.context covered.now.cells.heap.now (current covered.now.cells.frames.now) covered.now.cells.parts.now covered.now.cells.form.now covered.now.cells.frame.now p)) 0 count) covered.now.cells.heap.now (cost_from (parts_taken covered.now.cells.context covered.now.cells.heap.now (current covered.now.cells.frames.now) covered.now.cells.parts.now covered.now.cells.frame.now) 0 count) into.new result }
+{
+    shares::<CodePart>();
+    shares::<Code>();
+    compute_array(
+        workers,
+        covered.cells.context.alloc,
+        covered,
+        count,
+        width,
+        into,
+    )
+}
+
+// A law. Values of the type may be shared among threads.
+pub fn shares<X: Sync>()
+    ensures { IsSync X.row }
+{}
+
+// The most positions of a phase.
+const MOST: usize = 16_777_216;

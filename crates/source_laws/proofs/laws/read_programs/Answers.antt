@@ -1,5 +1,0 @@
-use Rattle.source_laws.proofs.Read.{formed, few}
-use Rattle.source_laws.proofs.laws.read_programs.Goals as goal
-
-pub returns : goal.returns
-returns c = record { formed = formed; few = few }

@@ -1,6 +1,0 @@
-use Rattle.std.proofs.Common.{◌≡◌, ◌++◌, drop}
-use Rattle.sac_ast.specs.Bases.{bound_params}
-use Rattle.static_bases.proofs.bindings.bind_params.Given as goal
-
-abbrev pub invariant-loop-param : goal.invariant-loop-param
-invariant-loop-param l = l.known.items ++ bound_params (drop l.param-index l.params) ≡ l.initial.known.items ++ bound_params l.params

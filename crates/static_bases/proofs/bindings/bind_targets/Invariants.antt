@@ -1,6 +1,0 @@
-use Rattle.std.proofs.Common.{◌≡◌, drop}
-use Rattle.sac_ast.specs.Bases.{with_bases}
-use Rattle.static_bases.proofs.bindings.bind_targets.Given as goal
-
-abbrev pub invariant-loop-k : goal.invariant-loop-k
-invariant-loop-k l = with_bases (drop l.k l.targets) (drop l.k l.bases) l.known.items ≡ with_bases l.targets l.bases l.initial.known.items
