@@ -8,7 +8,7 @@ use Rattle.sac_ast.specs.Shape.{Terminal, text, name, number, Shape, nothing, te
 use Rattle.sac_ast.specs.Tree as tree
 use Rattle.sac_ast.specs.Tree.{Expr, Exprs, Stmt, Gen}
 use Rattle.sac_ast.specs.View.{exprs_of, block_of, gens_of}
-use Rattle.sac_ast.specs.Grammar.{Nonterminal, program, function, param, type', statement, if_statement, else_branch, block, assign, expression, disjunction, conjunction, equality, comparison, sum, product, prefix, postfix, primary, generator, bound, index, operation, Rule, V, Tree, rule, action, one_of, chosen, chain, selects, index_of, items, concat, sign, opt, listed, parens, assign_ops, maybe_items, maybe, body_or_none, name_or_call}
+use Rattle.sac_ast.specs.Grammar.{Nonterminal, program, function, param, type', statement, if_statement, else_branch, block, assign, expression, disjunction, conjunction, equality, comparison, sum, product, prefix, postfix, primary, generator, bound, index, operation, Rule, V, Tree, rule, action, one_of, chosen, chain, selects, index_of, items, concat, sign, opt, listed, parens, update_signs, maybe_items, maybe, body_or_none, name_or_call}
 use Rattle.sac_grammar.specs.Tables.{first_of, ext_of, rank_of}
 use Rattle.sac_grammar.proofs.Machine.{false_true, and_left, and_right}
 use Rattle.sac_grammar.specs.High.{AnyOf, HasHigh}
@@ -227,7 +227,7 @@ module _ (d : ℕ) where
   grows_assign (n, inr (inl (l, (v, (r, (t, e)))))) (inr (inr (inr (inl h)))) = absurd h
   grows_assign (n, inr (inl (l, (v, (r, (t, e)))))) (inr (inr (inr (inr (inl h))))) = absurd h
   grows_assign (n, inr (inl (l, (v, (r, (t, e)))))) (inr (inr (inr (inr (inr h))))) = omega arith
-  grows_assign (n, inr (inr (inl (o, e)))) (inr (inl h)) = no_op (High d) (codes "+=", Add) assign_ops o h
+  grows_assign (n, inr (inr (inl (o, e)))) (inr (inl h)) = no_op (High d) update_signs.0 update_signs.1 o h
   grows_assign (n, inr (inr (inl (o, e)))) (inr (inr h)) = omega arith
   grows_assign (n, inr (inr (inr o))) (inr h) = no_op (High d) (codes "++", Add) ((codes "--", Sub) ∷ []) o h
 
