@@ -20,16 +20,16 @@ use Rattle.sac_grammar.specs.Run.{starts}
 use Rattle.sac_grammar.specs.Limits.{depth_in}
 use Rattle.sac_grammar.specs.Parsing.{Found, TooTall, Reading, Halts, nth}
 use Rattle.sac_grammar.proofs.Parsing.{read_ref, read_then, read_first, read_second, found, stops, stop_ref, stop_right, stop_first, tall_after, stop_agree}
-use Rattle.sac_descent.specs.declared.halt.Halt.{Halt}
-use Rattle.sac_descent.specs.declared.halt.Halt.TheVariants.{Stuck, High as TooHigh, Memory}
-use Rattle.sac_descent.specs.declared.place.Place.{Place}
-use Rattle.sac_descent.specs.declared.place.Measured.{Measured}
-use Rattle.sac_descent.specs.Heights.{IsAbove}
-use Rattle.sac_descent.specs.Contract.{StopOf, lexemes_of, IsLowAt, IsLow, IsKept, IsPhraseAt, IsPartAt, operator_of}
-use Rattle.sac_descent.specs.Parts.{IsListOf, IsInParens, AreStatements, IsStatement, IsStatementOf, IsBlockOf, IsElse, IsBlockAt, itself, AssignRest, IsAssigned, IsAssignedOf, AreTargets}
-use Rattle.sac_descent.proofs.Steps.{operator_found, token_read, starts_there, kept_phrase, high_halted}
+use Rattle.sac_phrases.specs.declared.halt.Halt.{Halt}
+use Rattle.sac_phrases.specs.declared.halt.Halt.TheVariants.{Stuck, High as TooHigh, Memory}
+use Rattle.sac_phrases.specs.declared.place.Place.{Place}
+use Rattle.sac_phrases.specs.declared.place.Measured.{Measured}
+use Rattle.sac_phrases.specs.Heights.{IsAbove}
+use Rattle.sac_phrases.specs.Contract.{StopOf, lexemes_of, IsLowAt, IsLow, IsKept, IsPhraseAt, IsPartAt, operator_of}
+use Rattle.sac_phrases.specs.Parts.{IsListOf, IsInParens, AreStatements, IsStatement, IsStatementOf, IsBlockOf, IsElse, IsBlockAt, itself, AssignRest, IsAssigned, IsAssignedOf, AreTargets}
+use Rattle.sac_phrases.proofs.Steps.{At, operator_found, token_read, starts_there, kept_phrase, high_halted}
 use Rattle.sac_descent.proofs.ListSteps.{stmts_append, index_tall, length_map}
-use Rattle.sac_descent.proofs.PhraseSteps.{At, IsInside}
+use Rattle.sac_descent.proofs.PhraseSteps.{IsInside}
 
 -- ---- blocks
 

@@ -80,7 +80,8 @@ is_apart n s = true
 -- these parts were read, and the rest is left
 abbrev pub ReadEach : (a : Rule) → List Lexeme → List (V a) → List Lexeme → Type 0
 ReadEach a ts [] rest = rest ≡ ts
-ReadEach a ts (v ∷ vs) rest = (starts (first first_of a) ts ≡ true) × ((mid : List Lexeme) × Runs Tree first_of Found a ts v mid × ReadEach a mid vs rest)
+ReadEach a ts (v ∷ vs) rest =
+    (starts (first first_of a) ts ≡ true) × ((mid : List Lexeme) × Runs Tree first_of Found a ts v mid × ReadEach a mid vs rest)
 
 pub record Parts (a : Rule) (ts : List Lexeme) (vs : List (V a)) (rest : List Lexeme) : Type 0 where
   pub each : ReadEach a ts vs rest
