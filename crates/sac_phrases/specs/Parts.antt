@@ -1,9 +1,7 @@
 -- What the trees of parts of phrases are.
-use Rattle.std.specs.Prelude.{ℕ, ◌≡◌, ◌+◌, ◌≤◌, max, Bool, List, [], ◌∷◌, ◌++◌, ◌⊎◌, Result, Ok, Err, map, Option, codes}
-use Rattle.std.specs.Borrow.{Bor}
+use Rattle.std.specs.Prelude.{ℕ, ◌≡◌, ◌+◌, ◌≤◌, max, Bool, List, [], ◌∷◌, ◌++◌, ◌⊎◌, Ok, Err, map, Option, codes}
 use Rattle.std.specs.Global.{Vec}
 use mathlib.Core.Logic.{inl, inr}
-use Rattle.sac_lex.specs.declared.token.Token.{Token}
 use Rattle.sac_base.specs.declared.op.Op.{Op}
 use Rattle.sac_base.specs.declared.site.Site.{Site}
 use Rattle.sac_ast.specs.declared.Builtin.{Builtin}
@@ -25,7 +23,6 @@ use Rattle.sac_ast.specs.Tree.{Expr, Stmt}
 use Rattle.sac_ast.specs.View as View
 use Rattle.sac_ast.specs.View.{exprs_of, block_of, gens_of}
 use Rattle.sac_grammar.specs.Parsing.{Found, Halted, nth, inject}
-use Rattle.sac_phrases.specs.declared.halt.Halt.{Halt}
 use Rattle.sac_phrases.specs.declared.place.Place.{Place}
 use Rattle.sac_phrases.specs.declared.place.Measured.{Measured}
 use Rattle.sac_phrases.specs.Contract.{ReadOf, IsLowAt, IsLow, IsNear, IsTall, StopOf, lexemes_of}
