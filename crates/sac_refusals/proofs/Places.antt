@@ -1,12 +1,11 @@
 -- The first token with which no program within the limits starts stands at one place, within the bounds that the parser keeps.
-use Rattle.std.proofs.Common.{ℕ, suc, ◌≡◌, ◌<◌, ◌≤◌, ◌+◌, List, [], ◌∷◌, ◌++◌, refl, sym, ap, ◌∙◌, subst, append_assoc, append-nil, arith, length, length-append, ⊎_elim}
+use Rattle.std.proofs.Common.{ℕ, ◌≡◌, ◌<◌, ◌≤◌, ◌+◌, List, [], ◌∷◌, ◌++◌, sym, ap, ◌∙◌, subst, append_assoc, append-nil, arith, length, length-append, ⊎_elim}
 use Rattle.std.proofs.str.Laws.{order}
 use Rattle.sac_base.specs.declared.site.Site.{Site}
 use Rattle.sac_ast.specs.Texts.{Lexeme}
-use Rattle.sac_ast.specs.Shape.{MatchesEach}
-use Rattle.sac_ast.specs.Tree.{FunctionTree, ProgramTree}
-use Rattle.sac_ast.specs.Grammar.{program, function, IsPhrase, IsProgram}
-use Rattle.sac_ast.specs.Heights.{function_height, open_behind, IsTreeOf}
+use Rattle.sac_ast.specs.Tree.{ProgramTree}
+use Rattle.sac_ast.specs.Grammar.{program}
+use Rattle.sac_ast.specs.Heights.{IsTreeOf}
 use Rattle.sac_ast.specs.Refusals.{Starts, StartsWithin, IsInReach, IsStuckAt, IsTooDeepAt}
 use Rattle.sac_grammar.specs.Parsing.{Found}
 use Rattle.sac_grammar.proofs.Stops.{program_read}
