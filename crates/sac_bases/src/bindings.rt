@@ -4,13 +4,12 @@ ghost use Rattle.std.specs.Prelude.{◌≡◌, ◌++◌, [], ◌∷◌, Some, On
 ghost use Rattle.sac_base.specs.declared.types.ArrayType.{ArrayType as ArrayTypeValue};
 ghost use Rattle.sac_ast.specs.declared.Target.{Target as TargetValue};
 ghost use Rattle.sac_ast.specs.Tree;
-ghost use Rattle.sac_bases.specs.Lookup.{in_bounds_of};
+ghost use Rattle.sac_bases.specs.Lookup.{base_at as base_at_value, in_bounds_of};
 ghost use Rattle.sac_ast.specs.Bases;
 ghost use Rattle.sac_ast.specs.View;
 
 use crate::base::{base_of, bases_of};
 use crate::call::call_instance;
-use crate::rules::base_at;
 use sac_ast::{
     Bound, Expression, Function, Generator, Index, Known, Operation, Param, Statement, Target,
 };
@@ -23,6 +22,16 @@ fn bind(known: &mut Vec<Known>, name: &Name, base: Option<Base>) -> Result<(), M
     let name = copy_name(name)?;
     known.push(Known { name, base })?;
     Ok(())
+}
+
+// The base at a place, where it is there.
+fn base_at(bases: &[Option<Base>], place: usize) -> Option<Base>
+    ensures { result ≡ base_at_value bases.now place }
+{
+    match bases.get(place) {
+        Some(base) => *base,
+        None => None,
+    }
 }
 
 // Binds targets to values of these bases; those beyond them have none.

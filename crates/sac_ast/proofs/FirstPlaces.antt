@@ -1,4 +1,4 @@
--- The choice of an instance.
+-- The first place of a list at which a test passes.
 use Rattle.std.proofs.Common.{◌≡◌, ℕ, zero, suc, ◌+◌, ◌<◌, List, [], ◌∷◌, length, get_or, map, Bool, true, false, refl, ap, ◌∙◌, arith, Some, None, cond}
 use Rattle.std.specs.Prelude.{position, nat_lt, not}
 use Rattle.std.specs.List.{position_or_len}
