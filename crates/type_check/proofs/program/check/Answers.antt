@@ -1,7 +1,7 @@
 use Rattle.std.proofs.Common.{◌≡◌, Option, Some, None, refl, sym, ◌∙◌}
 use Rattle.sac_ast.specs.View.{program}
-use Rattle.type_check.specs.Accepted.{violations}
-use Rattle.type_check.proofs.Earliest.{first_is, no_first}
+use Rattle.check_rules.specs.Accepted.{violations}
+use Rattle.check_rules.proofs.Earliest.{first_is, no_first}
 use Rattle.type_check.proofs.Whole.{program_is}
 use Rattle.type_check.proofs.program.check.Goals as goal
 
