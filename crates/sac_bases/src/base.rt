@@ -174,7 +174,8 @@ fn all_given(
     functions: &[Function],
     known: &[Known],
 ) -> Result<Vec<Given>, Memory>
-    ensures { IfOk result (λ given. given.items ≡ Generators.all_given (Bases.call_bases_in (View.functions functions.now)) known.now (View.generators gs.now)) }
+    ensures { IfOk result (λ given. given.items
+        ≡ Generators.all_given (Bases.call_bases_in (View.functions functions.now)) known.now (View.generators gs.now)) }
 {
     let mut given = Vec::new(alloc);
     for g in gs {

@@ -57,7 +57,8 @@ fn bind_results(
     name: &Name,
     bases: &[Option<Base>],
 ) -> Result<(), Memory>
-    ensures { OnOk result (known.new.items ≡ Bases.with_bases targets.now (Bases.known_bases (Bases.call_bases_in (View.functions functions.now) name.now bases.now)) known.old.items) }
+    ensures { OnOk result (known.new.items
+        ≡ Bases.with_bases targets.now (Bases.known_bases (Bases.call_bases_in (View.functions functions.now) name.now bases.now)) known.old.items) }
 {
     let results = result_bases(alloc, call_instance(functions, name, bases))?;
     bind_targets(known, targets, &results)
@@ -208,7 +209,9 @@ fn in_cell(
     functions: &[Function],
     known: &mut Vec<Known>,
 ) -> Result<(), Memory>
-    ensures { OnOk result (known.new.items ≡ Bases.in_expr (Bases.call_bases_in (View.functions functions.now)) (View.expr g.now.cell) (Bases.in_block (Bases.call_bases_in (View.functions functions.now)) (View.block g.now.body.items) known.old.items)) }
+    ensures { OnOk result (known.new.items
+        ≡ Bases.in_expr (Bases.call_bases_in (View.functions functions.now)) (View.expr g.now.cell)
+        (Bases.in_block (Bases.call_bases_in (View.functions functions.now)) (View.block g.now.body.items) known.old.items)) }
 {
     in_block(&g.body, alloc, functions, known)?;
     in_expr(&g.cell, alloc, functions, known)
@@ -312,7 +315,8 @@ fn in_assign(
     functions: &[Function],
     known: &mut Vec<Known>,
 ) -> Result<(), Memory>
-    ensures { OnOk result (known.new.items ≡ Bases.in_stmt (Bases.call_bases_in (View.functions functions.now)) (Tree.assign targets.now (View.expr value.now)) known.old.items) }
+    ensures { OnOk result (known.new.items
+        ≡ Bases.in_stmt (Bases.call_bases_in (View.functions functions.now)) (Tree.assign targets.now (View.expr value.now)) known.old.items) }
 {
     match value {
         Expression::Call(name, es, _) => {
