@@ -110,7 +110,8 @@ count_phase true n h = record h { phases = h.phases ++ n ∷ [] }
 -- its buffer is claimed, its cells are run in row-major order, and its result is handed on
 abbrev pub claimed_does : Job → Claimed → Ended Value
 claimed_does j c =
-    then_go (cells_do j.form j.source (write_cell c.target) 0 j.indices) (λ found h. then_go (settled c.target (j.result found)) (λ v k. Done v (release_rest c.rest k)) h) c.heap
+    then_go (cells_do j.form j.source (write_cell c.target) 0 j.indices)
+      (λ found h. then_go (settled c.target (j.result found)) (λ v k. Done v (release_rest c.rest k)) h) c.heap
 
 abbrev pub job_does : Option Value → Job → Doing Value
 job_does mark j h =
@@ -167,5 +168,8 @@ parted_shape frame cell _ = extents frame ++ cell
 abbrev pub parted_job : List Grid1 → Base → List ℕ → PartedOp → List CodeCells → Site → Env → Ends Job
 parted_job frame base cell op parts site e =
     if neutral_fits (cell_form base cell) op e
-    then Ok (record { form = record { base = base; shape = cell }; shape = parted_shape frame cell op; folds = parted_folds op; indices = members frame; source = part_holder parts; result = made_of frame base cell op e })
+    then Ok (record {
+      form = record { base = base; shape = cell }; shape = parted_shape frame cell op; folds = parted_folds op;
+      indices = members frame; source = part_holder parts; result = made_of frame base cell op e;
+    })
     else fault F6 site

@@ -107,7 +107,8 @@ module _ (calls : DoesCalls) (turns : ℕ) where
     right_does (PlainCode p) s e h = one_value (plain_does p s e) h
     right_does (IfCode x a b) s e h = choose_does s (condition (read h (e x))) (does a e) (does b e) h
     right_does (LoopCode first_body start params test body test_site) s e h =
-        turns_do first_body turns s test_site (λ vs. first_value (does test (bind_values e params vs))) (λ vs. does body (bind_values e params vs)) (map e start) h
+        turns_do first_body turns s test_site (λ vs. first_value (does test (bind_values e params vs)))
+          (λ vs. does body (bind_values e params vs)) (map e start) h
     right_does (CallCode group xs) s e h = calls group (map e xs) s h
     right_does (WithCode op gens) s e h =
         one_value (loop_does (λ k. with_job (code_generators gens e k) (operation op s (reads k e))) None) h
