@@ -50,8 +50,15 @@ abbrev mutual
   code_gens_term end_of-CodeGen = NoCodeGens
   code_gens_term (more_of-CodeGen lower lower_closed upper upper_closed step width index names shape body results site rest) =
       GenCode (record {
-        lower = lower; lower_closed = lower_closed; upper = upper; upper_closed = upper_closed; step = step; width = width;
-        index = index; names = names.items; site = site;
+        lower = lower;
+        lower_closed = lower_closed;
+        upper = upper;
+        upper_closed = upper_closed;
+        step = step;
+        width = width;
+        index = index;
+        names = names.items;
+        site = site;
       }) (steps_term body results.items) (code_gens_term rest)
 
   pub code_parted_term : CodeParted → CodeRightTerm
@@ -71,8 +78,13 @@ code_term b = steps_before b.steps.items (Giving b.results.items)
 
 abbrev pub code_fun_term : CodeFun → CodeFunTerm
 code_fun_term f = record {
-  name = f.name; site = f.site; params = f.params.items; results = f.results.items; is_inline = f.inline;
-  body = code_term f.body; ends = f.ends;
+  name = f.name;
+  site = f.site;
+  params = f.params.items;
+  results = f.results.items;
+  is_inline = f.inline;
+  body = code_term f.body;
+  ends = f.ends;
 }
 
 abbrev pub code_program : Code → CodeProgram
