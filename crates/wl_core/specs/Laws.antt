@@ -1,8 +1,6 @@
 -- What holds for every list of events, as statements.
-use Rattle.std.specs.Prelude.{◌≡◌, ℕ, ◌<◌, ◌≤◌, ℤ, List, IsTrue, length, IsPermutation}
-use Rattle.sac_base.specs.declared.base.Base.{Base}
-use Rattle.sac_base.specs.declared.op.Op.{Op}
-use Rattle.sac_base.specs.Verdict.{joined, combined, folds}
+use Rattle.std.specs.Prelude.{◌≡◌, ℕ, ◌<◌, ◌≤◌, ℤ, List, length, IsPermutation}
+use Rattle.sac_base.specs.Verdict.{joined, combined}
 use Rattle.wl_core.specs.declared.events.Event.{Event}
 use Rattle.wl_core.specs.declared.events.Refused.{Refused}
 use Rattle.wl_core.specs.Machine.{SetupValue, StateValue, IsSetup, Steps, Refuses, Reached, Finished, listed}
