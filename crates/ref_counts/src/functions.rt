@@ -13,7 +13,7 @@ ghost use Rattle.counted_code.specs.Outcome.{whole_run, outcome_of};
 ghost use Rattle.counted_code.specs.Prompt.{IsPrompt};
 ghost use Rattle.counted_code.specs.Terms.{core_of_code};
 ghost use Rattle.counted_code.specs.View.{code_fun_term, code_program};
-ghost use Rattle.counted_laws.specs.Simulation.{LeavesNothing};
+ghost use Rattle.ref_counts.specs.Placements.{RunsAsTheCore, RunsLeaveNothing};
 ghost use Rattle.counted_placing.specs.Placing.{placing_fun, placing_core};
 
 use crate::place::place_block;
@@ -29,8 +29,8 @@ pub fn count_refs(alloc: Global, core: Core) -> Result<Code, Memory>
     ensures prompt { IsWellFormed (core_term core) → IfOk result (λ code. IsPrompt (code_program code)) }
     ensures unmarked { IfOk result (λ code. IsUnmarked (code_program code)) }
     ensures same { IfOk result (λ code. core_of_code (code_program code) ≡ core_term core) }
-    ensures outcome { IsWellFormed (core_term core) → (args : List ArrayValue) (caps : Caps) → IfOk result (λ code. outcome_of (whole_run (code_program code) args caps) ≡ outcome (core_term core) args caps) }
-    ensures nothing_left { IsWellFormed (core_term core) → (args : List ArrayValue) (caps : Caps) → IfOk result (λ code. LeavesNothing (whole_run (code_program code) args caps)) }
+    ensures outcome { IsWellFormed (core_term core) → RunsAsTheCore (core_term core) result }
+    ensures nothing_left { IsWellFormed (core_term core) → RunsLeaveNothing result }
 {
     place_core(alloc, core)
 }
