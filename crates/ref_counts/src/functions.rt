@@ -1,15 +1,11 @@
 //! Functions and programs.
 
-ghost use Rattle.std.specs.Prelude.{◌≡◌, IfOk, List, map};
+ghost use Rattle.std.specs.Prelude.{◌≡◌, IfOk, map};
 ghost use Rattle.core_ir.specs.declared.tree.Var.{Var};
 ghost use Rattle.sac_base.specs.declared.types.ArrayType.{ArrayType};
-ghost use Rattle.sac_base.specs.Arrays.{ArrayValue};
-ghost use Rattle.sac_base.specs.declared.faults.Caps.{Caps};
-ghost use Rattle.core_ir.specs.Outcome.{outcome};
 ghost use Rattle.core_ir.specs.View.{fun_term, core_term};
 ghost use Rattle.core_ir.specs.WellFormed.{IsWellFormed};
 ghost use Rattle.counted_code.specs.Counts.{IsWellCounted, IsUnmarked};
-ghost use Rattle.counted_code.specs.Outcome.{whole_run, outcome_of};
 ghost use Rattle.counted_code.specs.Prompt.{IsPrompt};
 ghost use Rattle.counted_code.specs.Terms.{core_of_code};
 ghost use Rattle.counted_code.specs.View.{code_fun_term, code_program};
