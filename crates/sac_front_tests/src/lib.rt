@@ -1,5 +1,7 @@
-//! Tests of the front half of the compiler, above the crates that they test: so a test that changes proves none of them again.
+//! Tests of the crates that read, accept and plainly run a source, from its text on.
 #![tactic(auto)]
 
+#[cfg(test)]
+mod check;
 #[cfg(test)]
 mod parse;

@@ -8,15 +8,15 @@ ghost use Rattle.value_meaning.specs.Calls.{chosen, fits as fits_value, is_least
 ghost use Rattle.value_meaning.specs.Environments.{env_of};
 ghost use Rattle.value_meaning.specs.Evaluation.{names_of_params, types_of_params};
 ghost use Rattle.value_meaning.specs.Meaning.{names, with_index};
-ghost use Rattle.array_with_loops.specs.Tells.{Tells, TellsEnv};
+ghost use Rattle.array_ops.specs.Tells.{Tells, TellsEnv};
 ghost use Rattle.sac_base.specs.Outcomes.{first_result, with_variables};
 
 use crate::environment::{Environment, assign};
+use array_with_loops::IndexVector;
 use sac_ast::{Function, Index, Param, Target};
 use sac_base::{Array, Base, Name, Stop, contains, copy_array, same_name};
 use shape_types::below;
 use std::alloc::Global;
-use array_with_loops::IndexVector;
 
 /// The place of the least instance that fits the arguments.
 pub fn choose_instance(functions: &[Function], name: &Name, args: &[Array]) -> Option<usize>
