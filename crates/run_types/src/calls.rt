@@ -1,12 +1,11 @@
 //! Which function a call takes.
 
-ghost use Rattle.std.specs.Prelude.{◌≡◌, ◌<◌, ◌&&◌, IfSome, IsTrue, length, slice_get};
-ghost use Rattle.std.specs.List.{list_all};
-ghost use Rattle.core_ir.specs.Outcome.{Instance, chosen, instances};
+ghost use Rattle.std.specs.Prelude.{◌≡◌, ◌<◌, IfSome, IsTrue, length, slice_get};
+ghost use Rattle.core_ir.specs.Outcome.{chosen, instances};
 ghost use Rattle.counted_code.specs.Terms.{core_of_code};
 ghost use Rattle.counted_code.specs.Values.{Heap};
 ghost use Rattle.counted_code.specs.View.{code_program};
-ghost use Rattle.run_types.specs.Choosing.{functions_of, types_of, least_in, least_at, beside_at, is_beside};
+ghost use Rattle.run_types.specs.Choosing.{functions_of, types_of, least_in, least_at, beside_at, are_least};
 ghost use Rattle.run_types.specs.Reading.{arrays_in};
 ghost use Rattle.sac_base.specs.Types.{all_have, all_below as are_all_below};
 
