@@ -1,6 +1,6 @@
 //! Arrays as values, and values as arrays.
 
-ghost use Rattle.std.specs.Prelude.{◌≡◌, length, map, unsigned_abs, IfOk, Ok};
+ghost use Rattle.std.specs.Prelude.{◌≡◌, length, map, pos, unsigned_abs, IfOk, Ok};
 ghost use Rattle.counted_code.specs.Values.{Heap as MachineHeap, read, is_small, place_value, place_as};
 ghost use Rattle.std.specs.Prelude.{false};
 ghost use Rattle.sac_base.specs.Arrays.{size, MOST};
@@ -66,6 +66,16 @@ pub fn place_cells(
     }
 }
 
+// The extents of a shape, of which there are at most 8.
+pub(crate) fn extents_of(shape: &Shape) -> Few
+    ensures { numbers result ≡ map pos shape.now }
+{
+    match Few::from_slice(shape.extents()) {
+        Some(extents) => extents,
+        None => unreachable!(),
+    }
+}
+
 // A value in a new buffer.
 fn put_cells(
     heap: &mut Store<'_>,
@@ -77,9 +87,7 @@ fn put_cells(
         → IfOk result (λ v. Placed v heap.new (place_as false (record { base = base; shape = shape.now; cells = cells.items }) m)) }
     ensures lender { lender_of heap.new ≡ lender_of heap.old }
 {
-    let Some(extents) = Few::from_slice(shape.extents()) else {
-        return Err(Memory);
-    };
+    let extents = extents_of(shape);
     let id = heap.own.put(cells)?;
     Ok(RunValue::Buffer(base, id, extents))
 }

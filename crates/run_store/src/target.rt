@@ -11,9 +11,10 @@ ghost use Rattle.sac_base.specs.Arrays.{size, same_shape, MOST};
 ghost use Rattle.sac_base.specs.WithLoops.{fits_form};
 
 use crate::access::buffer_cells;
+use crate::arrays::extents_of;
 use crate::store::Store;
 use buffer_heap::BufferId;
-use run_values::{Few, RunValue, small_value};
+use run_values::{RunValue, small_value};
 use sac_base::{Base, Cell, Form, Memory, Shape, elements, same_base};
 use std::alloc::Global;
 
@@ -120,9 +121,7 @@ fn settle_buffer(
         → IfOk result (λ v. Placed v heap.new (settled (Fresh id.born) (record { base = base; shape = shape.now; cells = cells.items }) m)) }
     ensures lender { lender_of heap.new ≡ lender_of heap.old }
 {
-    let Some(extents) = Few::from_slice(shape.extents()) else {
-        return Err(Memory);
-    };
+    let extents = extents_of(shape);
     if !heap.own.is_lifted(id, cells.len()) {
         return Err(Memory);
     }
