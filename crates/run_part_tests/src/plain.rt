@@ -1,7 +1,7 @@
-use super::*;
 use buffer_heap::Heap;
 use core_ir::Var;
 use counted_code::CodeRight;
+use run_plain::plain_value;
 use run_store::{Store, read_array};
 use run_values::{Few, Frames, RunValue};
 use sac_base::{Base, Cell, Op, Site};
