@@ -133,8 +133,8 @@ module _ (a b : CoreTerm) (same : SameOutside a b) where
   same_call_on : (M N M' N' : RunMeaning) (g n : ℕ) → InlineBelow b n g → SameOuter M M' → SameInner n N N' → (args : List ArrayValue) (site : Site) → AllFull args → call_by a M N g args site ≡ call_by b M' N' g args site
   same_call_on M N M' N' g n below p q args site d =
       at (chosen a g args)
-          (λ place f m e. chosen_fits (instances a.functions (group_at a g)) args a.functions (group_at a g) place f m e)
-          (λ place m. chosen_in (instances b.functions (group_at b g)) args b.functions (group_at b g) place (sym (same_chosen a b same g args) ∙ m))
+      (λ place f m e. chosen_fits (instances a.functions (group_at a g)) args a.functions (group_at a g) place f m e)
+      (λ place m. chosen_in (instances b.functions (group_at b g)) args b.functions (group_at b g) place (sym (same_chosen a b same g args) ∙ m))
       ∙ ap (λ o. call_chosen b M' N' o args site) (same_chosen a b same g args)
     where
       at : (o : Option ℕ) → ((place : ℕ) (f : FunTerm) → o ≡ Some place → slice_get a.functions place ≡ Some f → all_have (param_types f) args ≡ true) → ((place : ℕ) → o ≡ Some place → StandsIn (group_at b g) place) → call_chosen a M N o args site ≡ call_chosen b M' N' o args site
@@ -162,7 +162,7 @@ module _ (a b : CoreTerm) (same : SameOutside a b) where
         let kept = call_keeps a M (run_inline a turns M n) keep (inline_keeps a turns M n arrays keep) in
         bodies turns M n place f args site ef (weaker (InlineBelow a place) (InlineBelow a n) low f.body (backward place f ef (heads.inlines ∙ t))) kept d fits
         ∙ body_same_on M M' (run_inline a turns M n) (run_inline b turns M' n) n place g eg (weaker (InlineBelow b place) (InlineBelow b n) lower g.body (other_backward place g eg t)) kept p
-            (λ j f g args site lt ef eg t d fits. same_inline_on M M' n keep p j f g args site lt ef eg t d fits) args site d
+        (λ j f g args site lt ef eg t d fits. same_inline_on M M' n keep p j f g args site lt ef eg t d fits) args site d
 
     all_below : (core : CoreTerm) (n : ℕ) → n ≡ length core.functions → (g : ℕ) → InlineBelow core n g
     all_below core n e g place f s h t = omega (arith, below_length core.functions place f h, e)

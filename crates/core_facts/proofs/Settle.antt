@@ -77,11 +77,11 @@ module _ (calls : CallMeaning) (turns : ℕ) (called : ℕ → List (Option (Lis
         let n = note_all k params [] in
         let sound : (vs : List ArrayValue) → DescribeAll [] vs → AreSound n (bind_all e params vs) = λ vs d. noted k e params [] vs h d in
         sym (loop_same (DescribeAll []) fb turns s u (λ vs. first (run calls turns test (bind_all e params vs))) (λ vs. first (run calls turns (settled called test n) (bind_all e params vs)))
-            (λ vs. run calls turns body (bind_all e params vs)) (λ vs. run calls turns (settled called body n) (bind_all e params vs))
-            (λ vs d. ap first (sym (same test n (bind_all e params vs) w.0 (sound vs d))))
-            (λ vs d. sym (same body n (bind_all e params vs) w.1 (sound vs d)))
-            (λ vs ws d q. all_full (block_facts called body n) ws (block_sound calls turns called fit body n (bind_all e params vs) ws w.1 (sound vs d) q))
-            (map e start) (all_full (map k start) (map e start) (described k e start h)))
+        (λ vs. run calls turns body (bind_all e params vs)) (λ vs. run calls turns (settled called body n) (bind_all e params vs))
+        (λ vs d. ap first (sym (same test n (bind_all e params vs) w.0 (sound vs d))))
+        (λ vs d. sym (same body n (bind_all e params vs) w.1 (sound vs d)))
+        (λ vs ws d q. all_full (block_facts called body n) ws (block_sound calls turns called fit body n (bind_all e params vs) ws w.1 (sound vs d) q))
+        (map e start) (all_full (map k start) (map e start) (described k e start h)))
     same_right (RightTerm.Call g xs) s k e keep w h = refl
     same_right (RightTerm.With op gens) s k e keep w h = λ i. one (with_value (same_gens gens k e w h i) (operation op s e))
     same_right (RightTerm.Parted f t shape op parts) s k e keep w h =
@@ -94,9 +94,13 @@ module _ (calls : CallMeaning) (turns : ℕ) (called : ℕ → List (Option (Lis
 
     pub same_parts : (g : PartsTerm) (k : Facts) (e : Env) → FullInsideParts calls turns g → AreSound k e → SameCells (cells calls turns (settled_parts called g k) e) (cells calls turns g e)
     same_parts NoParts k e w h = tt
-    same_parts (Part g b rest) k e w h =
-        (refl, refl, (λ index q. ap first (same b (in_part k g) (bind e g.index (vector Int index)) w.0
-            (noted_one k e g.index (shape_fact (Some (length g.grid ∷ []))) (vector Int index) h (record { shape = λ i. has_length g.grid index q i ∷ []; literal = tt; full = vector_full index })))), same_parts rest k e w.1 h)
+    same_parts (Part g b rest) k e w h = (
+      refl,
+      refl,
+      (λ index q. ap first (same b (in_part k g) (bind e g.index (vector Int index)) w.0
+          (noted_one k e g.index (shape_fact (Some (length g.grid ∷ []))) (vector Int index) h (record { shape = λ i. has_length g.grid index q i ∷ []; literal = tt; full = vector_full index })))),
+      same_parts rest k e w.1 h,
+    )
 
     -- what is known of the new right side is so of the old one
     pub settled_sound : (r : RightTerm) (s : Site) (k : Facts) (e : Env) (vs : List ArrayValue) → KeepsFull calls turns r → FullInsideRight calls turns r → AreSound k e → right_value calls turns r s e ≡ Ok vs → DescribeAll (right_facts called (settled_right called r k) k) vs

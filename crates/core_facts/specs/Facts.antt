@@ -243,4 +243,5 @@ module _ (called : ℕ → List (Option (List ℕ))) where
 
   -- results of calls of arrays have these shapes
   abbrev pub CallsFit : CallMeaning → Type 0
-  CallsFit calls = (g : ℕ) (args vs : List ArrayValue) (s : Rattle.sac_base.specs.declared.site.Site.Site) → DescribeAll [] args → calls g args s ≡ Ok vs → DescribeAll (map shape_fact (called g)) vs
+  CallsFit calls = (g : ℕ) (args vs : List ArrayValue)
+      (s : Rattle.sac_base.specs.declared.site.Site.Site) → DescribeAll [] args → calls g args s ≡ Ok vs → DescribeAll (map shape_fact (called g)) vs

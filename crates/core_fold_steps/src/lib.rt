@@ -1,36 +1,20 @@
 //! Laws: a fold step keeps the meaning.
 #![tactic(auto)]
 
-ghost use Rattle.std.specs.Prelude.{◌≡◌, ℕ, List, Option, ℤ, true, All, FitsSigned};
-ghost use mir.Syntax.{w32};
-ghost use Rattle.sac_base.specs.declared.base.Base.{Base};
-ghost use Rattle.sac_base.specs.declared.grid.Grid1.{Grid1};
-ghost use Rattle.sac_base.specs.Grids.{has_vector};
-ghost use Rattle.core_ir.specs.Binders.{bound_in_parts};
-ghost use Rattle.core_ir.specs.Terms.{CoreTerm, FunTerm, PartsTerm, BlockTerm};
-ghost use Rattle.core_ir.specs.Meaning.{Env, CallMeaning, cells};
-ghost use Rattle.core_ir.specs.WellFormed.{Bases, PartsBases, Distinct, Covered, part_grids, IsWellFormed};
-ghost use Rattle.core_ir.specs.Edits.{Edited};
-ghost use Rattle.core_loops.specs.Steps.{fact_ways};
-ghost use Rattle.core_facts.specs.Facts.{Facts, AreSound, CallsFit};
-ghost use Rattle.core_facts.specs.Full.{FullInsideParts};
-ghost use Rattle.core_bases.specs.Typed.{Typed, CallsTyped};
-ghost use Rattle.core_fold.specs.Cells.{HasCells};
-ghost use Rattle.core_loops.specs.Pairs.{TotalParts};
-ghost use Rattle.core_calls.specs.Arrays.{SameOutcomeOnArrays};
-ghost use Rattle.core_fold_steps.specs.Step.{FoldStep, SameAt};
+ghost use Rattle.core_fold_steps.specs.Laws.{ProducersHaveCells, PlacesMayChange, FoldStepsKeepOutcomes};
 
 /// Law: a parted loop of scalar cells whose parts are total, and whose frame is covered, has a cell at each index of its frame.
 pub fn producers_have_cells()
-    ensures { (core : CoreTerm) (calls : CallMeaning) (turns : ℕ) (called : ℕ → List (Option (List ℕ))) (frame : List Grid1) (parts : PartsTerm) (k : Facts) (g : Bases) (t : Base) (e : Env) → CallsTyped core calls → CallsFit called calls → TotalParts called k parts → PartsBases core g parts t → Distinct (bound_in_parts parts) → FullInsideParts calls turns parts → Typed g e → AreSound k e → ((v : List ℤ) → has_vector frame v ≡ true → All (FitsSigned w32) v) → Covered frame (part_grids parts) → (at : List ℤ → ℤ) × HasCells frame t (cells calls turns parts e) at }
+    ensures { ProducersHaveCells }
 {}
 
-/// Law: where one place inside a block is changed, and the old and the new mean the same in each environment that has the known shapes, literal values and bases at that place, the whole means the same.
+/// Law: where one place inside a block is changed, and the old and the new mean the same in each environment that has the known shapes, literal
+/// values and bases at that place, the whole means the same.
 pub fn places_may_change()
-    ensures { (core : CoreTerm) (calls : CallMeaning) (turns : ℕ) (called : ℕ → List (Option (List ℕ))) (k : Facts) (b d : BlockTerm) → CallsTyped core calls → CallsFit called calls → Edited Facts (fact_ways called) (SameAt core calls turns) k b d → SameAt core calls turns k b d }
+    ensures { PlacesMayChange }
 {}
 
 /// Law: a fold step between well-formed cores keeps the outcome on arrays.
 pub fn fold_steps_keep_the_outcome()
-    ensures { (above : FunTerm → ℕ) (a b : CoreTerm) → FoldStep above a b → IsWellFormed a → IsWellFormed b → SameOutcomeOnArrays a b }
+    ensures { FoldStepsKeepOutcomes }
 {}

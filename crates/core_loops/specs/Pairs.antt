@@ -76,7 +76,8 @@ one_scalar _ = false
 abbrev pub TotalParts : (ℕ → List (Option (List ℕ))) → Facts → PartsTerm → Type 0
 TotalParts called k NoParts = Unit {0}
 TotalParts called k (Part h b rest) =
-    (total_block called h.grid b (in_part k h) (own_index (length h.grid) h.index) ≡ true) × (one_scalar (block_facts called b (in_part k h)) ≡ true) × TotalParts called k rest
+    (total_block called h.grid b (in_part k h) (own_index (length h.grid) h.index) ≡ true) × (one_scalar (block_facts called b (in_part k h)) ≡ true) ×
+        TotalParts called k rest
 
 abbrev pub most_bindings : PartsTerm → ℕ
 most_bindings NoParts = 0
@@ -104,14 +105,16 @@ AreMovedBack c _ _ = ⊥
 -- the moved grids of each offset, one list after another
 abbrev pub MovedGrids : List (List ℤ) → List (List Grid1) → List (List Grid1) → Type 0
 MovedGrids [] gs hs = hs ≡ []
-MovedGrids (c ∷ cs) gs hs = (first : List (List Grid1)) × ((rest : List (List Grid1)) × ((hs ≡ first ++ rest) × AreMovedBack c gs first × MovedGrids cs gs rest))
+MovedGrids (c ∷ cs) gs hs = (first : List (List Grid1)) ×
+    ((rest : List (List Grid1)) × ((hs ≡ first ++ rest) × AreMovedBack c gs first × MovedGrids cs gs rest))
 
 -- what a part of the consumer must be
 pub record PartFolds (called : ℕ → List (Option (List ℕ))) (k : Facts) (p : Producer) (h : PartHead) (b : BlockTerm) (selected count : ℕ) : Type 0 where
   pub only : Selects p.var b
   -- each selection is at the index plus some c, and stays inside the producer's frame
   pub at : List (List ℤ)
-  pub offsets : map (λ (c : List ℤ). Some c) at ≡ Rattle.core_loops.specs.Pairs.offsets called p.var (length h.grid) b (in_part k h) (own_index (length h.grid) h.index)
+  pub offsets : map (λ (c : List ℤ). Some c) at ≡ Rattle.core_loops.specs.Pairs.offsets called p.var (length h.grid) b (in_part k h)
+      (own_index (length h.grid) h.index)
   pub inside : All (λ (c : List ℤ). list_all (λ v. has_vector p.frame (moved v c)) (members h.grid) ≡ true) at
   pub number : length at ≡ selected
   -- a part that selects contains no with-loop and no parted loop
@@ -141,8 +144,10 @@ abbrev pub Makes : PartedOp → Type 0
 Makes (parted.Fold o x) = ⊥
 Makes _ = Unit {0}
 
--- The producer p, the bindings between, and the consumer's operation and parts, then the rest of the block. `k` are the facts before p, `later` those before the consumer.
-pub record IsFoldable (called : ℕ → List (Option (List ℕ))) (above : ℕ) (k later : Facts) (p : Producer) (between : List LetTerm) (op : PartedOp) (parts : PartsTerm) (rest : BlockTerm) : Type 0 where
+-- The producer p, the bindings between, and the consumer's operation and parts, then the rest of the block. `k` are the facts before p, `later` those
+-- before the consumer.
+pub record IsFoldable (called : ℕ → List (Option (List ℕ))) (above : ℕ) (k later : Facts) (p : Producer) (between : List LetTerm) (op : PartedOp)
+    (parts : PartsTerm) (rest : BlockTerm) : Type 0 where
   pub makes : Makes p.op
   pub total : TotalParts called k p.parts
   pub selected : ℕ
@@ -163,18 +168,22 @@ module _ (called : ℕ → List (Option (List ℕ))) (grid : List Grid1) where
   abbrev pub total_around : List LetTerm → BlockTerm → Facts → IndexFacts → Bool
   total_around [] (Gives xs) k m = false
   total_around [] (Bind xs s r b) k m = total_block called grid b (note_all k xs (right_facts called r k)) (learn_index (length grid) m xs r k)
-  total_around (l ∷ ls) b k m = total_right called grid l.right k m && total_around ls b (note_all k l.targets (right_facts called l.right k)) (learn_index (length grid) m l.targets l.right k)
+  total_around (l ∷ ls) b k m = total_right called grid l.right k m && total_around ls b (note_all k l.targets (right_facts called l.right k))
+      (learn_index (length grid) m l.targets l.right k)
 
 -- the body is total bindings and one parted genarray, of scalar cells and this frame, which is its result: so many parts does the inner loop have
-pub record IsNest (called : ℕ → List (Option (List ℕ))) (k : Facts) (grid : List Grid1) (m : IndexFacts) (frame : List Grid1) (base : Base) (b : BlockTerm) (inner : PartsTerm) : Type 0 where
+pub record IsNest (called : ℕ → List (Option (List ℕ))) (k : Facts) (grid : List Grid1) (m : IndexFacts) (frame : List Grid1) (base : Base) (b : BlockTerm)
+    (inner : PartsTerm) : Type 0 where
   pub before : List LetTerm
   pub after : List LetTerm
   pub z : Var
   pub site : Site
-  pub whole : b ≡ Rattle.core_ir.specs.Terms.chain before (Bind (z ∷ []) site (Parted frame base [] parted.Genarray inner) (Rattle.core_ir.specs.Terms.chain after (Gives (z ∷ []))))
+  pub whole : b ≡ Rattle.core_ir.specs.Terms.chain before (Bind (z ∷ []) site (Parted frame base [] parted.Genarray inner)
+      (Rattle.core_ir.specs.Terms.chain after (Gives (z ∷ []))))
   -- no other binding uses it, and each of them is total
   pub unused : AvoidsLets z (before ++ after)
-  pub total : total_around called grid before (Bind (z ∷ []) site (Parted frame base [] parted.Genarray inner) (Rattle.core_ir.specs.Terms.chain after (Gives (z ∷ [])))) k m ≡ true
+  pub total : total_around called grid before (Bind (z ∷ []) site (Parted frame base [] parted.Genarray inner)
+      (Rattle.core_ir.specs.Terms.chain after (Gives (z ∷ [])))) k m ≡ true
 
 abbrev pub count_parts : PartsTerm → ℕ
 count_parts NoParts = 0
@@ -183,7 +192,9 @@ count_parts (Part h b rest) = suc (count_parts rest)
 abbrev pub Nests : (ℕ → List (Option (List ℕ))) → Facts → List Grid1 → Base → PartsTerm → ℕ → Type 0
 Nests called k frame base NoParts count = count ≡ 0
 Nests called k frame base (Part h b rest) count =
-    (inner : PartsTerm) × ((others : ℕ) × (IsNest called (in_part k h) h.grid (own_index (length h.grid) h.index) frame base b inner × Nests called k frame base rest others × (count ≡ count_parts inner + others) × (binders b ≤ FEW)))
+    (inner : PartsTerm) × ((others : ℕ) ×
+        (IsNest called (in_part k h) h.grid (own_index (length h.grid) h.index) frame base b inner × Nests called k frame base rest others ×
+        (count ≡ count_parts inner + others) × (binders b ≤ FEW)))
 
 pub record IsScalarisable (called : ℕ → List (Option (List ℕ))) (above : ℕ) (k : Facts) (base : Base) (cell : List ℕ) (parts : PartsTerm) : Type 0 where
   pub some : 0 < count_parts parts

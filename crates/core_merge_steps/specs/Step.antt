@@ -22,7 +22,9 @@ use Rattle.core_fold_steps.specs.Step.{replaced_at}
 abbrev pub Picks : Var → ℕ → List Var → List LetTerm → Type 0
 Picks u j [] ls = ls ≡ []
 Picks u j (x ∷ xs) ls =
-    (c : Var) × ((s : Site) × ((t : Site) × ((more : List LetTerm) × ((ls ≡ record { targets = c ∷ []; site = s; right = Plain (PlainTerm.Const (scalar Int (pos j))) } ∷ record { targets = x ∷ []; site = t; right = Plain (PlainTerm.Select u c) } ∷ more)
+    (c : Var) × ((s : Site) × ((t : Site) ×
+        ((more : List LetTerm) × ((ls ≡ record { targets = c ∷ []; site = s; right = Plain (PlainTerm.Const (scalar Int (pos j))) } ∷
+        record { targets = x ∷ []; site = t; right = Plain (PlainTerm.Select u c) } ∷ more)
         × (eqb c.0 u.0 ≡ false) × (eqb x.0 u.0 ≡ false) × (is_in x (targets_of more) ≡ false) × Picks u (suc j) xs more))))
 
 -- the first n components of u as the vector i, and the m others as the vector l
@@ -37,7 +39,8 @@ pub record IndicesMade (u i l : Var) (n m : ℕ) (makes : List LetTerm) : Type 0
   pub picked : Picks u 0 (front ++ back) picks
   pub alone : is_in i back ≡ false
   pub apart : eqb l.0 i.0 ≡ false
-  pub made : makes ≡ picks ++ (record { targets = i ∷ []; site = first; right = Plain (PlainTerm.Literal front) } ∷ record { targets = l ∷ []; site = second; right = Plain (PlainTerm.Literal back) } ∷ [])
+  pub made : makes ≡ picks ++ (record { targets = i ∷ []; site = first; right = Plain (PlainTerm.Literal front) } ∷
+      record { targets = l ∷ []; site = second; right = Plain (PlainTerm.Literal back) } ∷ [])
 
 -- the outer bindings, then the inner part's, with other variables, behind bindings that make the two old indices
 pub record MergedBody (h : PartHead) (before after : List LetTerm) (g : PartHead) (c : BlockTerm) (j : PartHead) (d : BlockTerm) : Type 0 where
@@ -54,13 +57,16 @@ pub record MergedBody (h : PartHead) (before after : List LetTerm) (g : PartHead
 abbrev pub InnerMerged : PartHead → List LetTerm → List LetTerm → PartsTerm → PartsTerm → Type 0
 InnerMerged h before after NoParts pieces = pieces ≡ NoParts
 InnerMerged h before after (Part g c rest) NoParts = ⊥
-InnerMerged h before after (Part g c rest) (Part j d pieces) = (j.grid ≡ h.grid ++ g.grid) × (j.site ≡ g.site) × MergedBody h before after g c j d × InnerMerged h before after rest pieces
+InnerMerged h before after (Part g c rest)
+    (Part j d pieces) = (j.grid ≡ h.grid ++ g.grid) × (j.site ≡ g.site) × MergedBody h before after g c j d × InnerMerged h before after rest pieces
 
 module _ (called : ℕ → List (Option (List ℕ))) (k : Facts) (frame : List Grid1) (base : Base) where
   abbrev pub MergedParts : (old : PartsTerm) (count : ℕ) → Nests called k frame base old count → PartsTerm → Type 0
   MergedParts NoParts count w new = new ≡ NoParts
   MergedParts (Part h b rest) count w new =
-      (pieces : PartsTerm) × ((others : PartsTerm) × ((new ≡ append_parts pieces others) × AvoidsParts w.1.1.0.z w.0 × InnerMerged h w.1.1.0.before w.1.1.0.after w.0 pieces × MergedParts rest w.1.0 w.1.1.1 others))
+      (pieces : PartsTerm) × ((others : PartsTerm) ×
+          ((new ≡ append_parts pieces others) × AvoidsParts w.1.1.0.z w.0 × InnerMerged h w.1.1.0.before w.1.1.0.after w.0 pieces ×
+          MergedParts rest w.1.0 w.1.1.1 others))
 
 -- one parted genarray becomes one over the product of the frames
 pub record MergesHere (called : ℕ → List (Option (List ℕ))) (above : ℕ) (k : Facts) (b c : BlockTerm) : Type 0 where

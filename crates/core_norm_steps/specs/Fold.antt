@@ -20,7 +20,9 @@ use Rattle.core_norm_steps.specs.Genarray.{GenAt, count_gens, NamedBody}
 abbrev pub FoldPartOf : ℕ → GensTerm → Option ℕ → PartHead → BlockTerm → Type 0
 FoldPartOf n gens None h b = ⊥
 FoldPartOf n gens (Some m) h b =
-    (head : GenHead) × ((body : BlockTerm) × (GenAt gens m head body × (h.site ≡ head.site) × ((head.names ≡ []) ⊎ (length head.names ≡ n)) × NamedBody (under itself head.index h.index) h.index 0 head.names body b))
+    (head : GenHead) × ((body : BlockTerm) ×
+        (GenAt gens m head body × (h.site ≡ head.site) × ((head.names ≡ []) ⊎ (length head.names ≡ n)) ×
+        NamedBody (under itself head.index h.index) h.index 0 head.names body b))
 
 abbrev pub FoldLabelled : ℕ → GensTerm → List (List Grid1 × Option ℕ) → PartsTerm → Type 0
 FoldLabelled n gens [] NoParts = Unit {0}
@@ -35,7 +37,8 @@ pub record FoldParted (k : Facts) (above : ℕ) (s : Site) (o : Op) (neutral : V
   pub count : length partable.planned.ranges ≡ count_gens gens
   -- the pieces of a partition of the frame that some generator has
   pub labels : List (List Grid1 × Option ℕ)
-  pub cover : (v : List ℤ) → has_vector partable.frame v ≡ true → (times_vector (map (λ (p : List Grid1 × Option ℕ). p.0) labels) v ≡ 1) ⊎ ((list_any (λ g. has_vector g v) partable.grids ≡ false) × (list_any (λ (p : List Grid1 × Option ℕ). has_vector p.0 v) labels ≡ false))
+  pub cover : (v : List ℤ) → has_vector partable.frame v ≡ true → (times_vector (map (λ (p : List Grid1 × Option ℕ). p.0) labels) v ≡ 1) ⊎
+      ((list_any (λ g. has_vector g v) partable.grids ≡ false) × (list_any (λ (p : List Grid1 × Option ℕ). has_vector p.0 v) labels ≡ false))
   pub first : NameFirst partable.grids labels
   pub parts : PartsTerm
   pub labelled : FoldLabelled (length partable.frame) gens labels parts

@@ -40,7 +40,8 @@ module _ (core : CoreTerm) (m : BaseTable) where
     pub FollowsRight : (r : RightTerm) (g : Bases) (ts : List Base) → RightBases core g r ts → Type 0
     FollowsRight (Plain p) g ts d = Unit {0}
     FollowsRight (RightTerm.If x a b) g ts d = Follows a g ts d.1 × Follows b g ts d.2
-    FollowsRight (RightTerm.Loop first start params test body s) g ts d = (ts ≡ map m params) × Follows test (zip params ts ++ g) (Truth ∷ []) d.2 × Follows body (zip params ts ++ g) ts d.3
+    FollowsRight (RightTerm.Loop first start params test body s) g ts d = (ts ≡ map m params) × Follows test (zip params ts ++ g)
+        (Truth ∷ []) d.2 × Follows body (zip params ts ++ g) ts d.3
     FollowsRight (RightTerm.Call group xs) g ts d = Unit {0}
     FollowsRight (RightTerm.With o gens) g ts d = FollowsGens gens g d.0 d.1.1
     FollowsRight (RightTerm.Parted frame t cell o parts) g ts d = FollowsParts parts g t d.1
@@ -72,7 +73,8 @@ pub record NormHere (above : ℕ) (m : BaseTable) (k : Facts) (b c : BlockTerm) 
   pub before : b ≡ Bind targets site (With op gens) rest
   pub after : c ≡ Bind targets site right rest
 
--- one with-loop of one function, anywhere in its body, becomes a parted loop; `above` is one more than the greatest number of a variable of a function
+-- one with-loop of one function, anywhere in its body, becomes a parted loop; `above` is one more than the greatest number of a variable of a
+-- function
 pub record NormStep (above : FunTerm → ℕ) (a b : CoreTerm) : Type 0 where
   pub place : ℕ
   pub function : FunTerm

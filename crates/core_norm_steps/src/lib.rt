@@ -1,49 +1,35 @@
 //! Laws: a parted loop in the place of a with-loop.
 #![tactic(auto)]
 
-ghost use Rattle.std.specs.Prelude.{◌≡◌, ℕ, [], ◌∷◌, eqb, false};
-ghost use Rattle.sac_base.specs.declared.site.Site.{Site};
-ghost use Rattle.core_ir.specs.declared.tree.Var.{Var};
-ghost use Rattle.core_ir.specs.declared.tree.CoreOp.TheVariants.{Genarray, Modarray, Fold};
-ghost use Rattle.core_ir.specs.Terms.{BlockTerm, RightTerm, GensTerm, With, Bind, Plain, Select, Literal};
-ghost use Rattle.core_ir.specs.Meaning.{Env, CallMeaning, run, right_value};
-ghost use Rattle.core_facts.specs.Facts.{Facts, AreSound};
-ghost use Rattle.core_ir.specs.Uses.{Avoids};
-ghost use Rattle.core_ir.specs.Terms.{CoreTerm, FunTerm};
-ghost use Rattle.core_ir.specs.WellFormed.{IsWellFormed, IsFunction, bases, param_bases};
-ghost use Rattle.core_calls.specs.Arrays.{SameOutcomeOnArrays};
-ghost use Rattle.core_norm_steps.specs.Step.{NormStep, BaseTable, Within, Follows};
-ghost use Rattle.core_norm_steps.specs.Genarray.{GenarrayParted};
-ghost use Rattle.core_norm_steps.specs.Modarray.{ModarrayParted};
-ghost use Rattle.core_norm_steps.specs.Fold.{FoldParted};
-ghost use Rattle.sac_base.specs.declared.op.Op.{Op};
+ghost use Rattle.core_norm_steps.specs.Laws.{GenarraysAreParted, ModarraysAreParted, ScalarsSelectAsVectors, FoldsAreParted, NormStepsKeepOutcomes, FunctionsHaveTables};
 
-/// Law: where the bounds are literal and the shapes known, the parted loop in the place of a genarray with-loop means the same, faults and their sites included.
+/// Law: where the bounds are literal and the shapes known, the parted loop in the place of a genarray with-loop means the same, faults and their
+/// sites included.
 pub fn genarrays_are_parted()
-    ensures { (calls : CallMeaning) (turns : ℕ) (k : Facts) (above : ℕ) (s : Site) (x y : Var) (gens : GensTerm) (right : RightTerm) (e : Env) → (h : GenarrayParted k above s x y gens right) → AreSound k e → (e y).base ≡ h.partable.base → right_value calls turns right s e ≡ right_value calls turns (With (Genarray x y) gens) s e }
+    ensures { GenarraysAreParted }
 {}
 
 /// Law: the same of a modarray with-loop.
 pub fn modarrays_are_parted()
-    ensures { (calls : CallMeaning) (turns : ℕ) (k : Facts) (above : ℕ) (s : Site) (x : Var) (gens : GensTerm) (right : RightTerm) (e : Env) → (h : ModarrayParted k above s x gens right) → AreSound k e → (e x).base ≡ h.partable.base → right_value calls turns right s e ≡ right_value calls turns (With (Modarray x) gens) s e }
+    ensures { ModarraysAreParted }
 {}
 
 /// Law: a selection by a scalar is one by the vector of that scalar, faults and their sites included.
 pub fn scalars_select_as_vectors()
-    ensures { (calls : CallMeaning) (turns : ℕ) (a i t j : Var) (s u : Site) (rest : BlockTerm) (e : Env) → (e i).shape ≡ [] → eqb j.0 a.0 ≡ false → Avoids j rest → run calls turns (Bind (t ∷ []) s (Plain (Select a i)) rest) e ≡ run calls turns (Bind (j ∷ []) u (Plain (Literal (i ∷ []))) (Bind (t ∷ []) s (Plain (Select a j)) rest)) e }
+    ensures { ScalarsSelectAsVectors }
 {}
 
 /// Law: the same of a fold with-loop, whose parts are those of generators alone.
 pub fn folds_are_parted()
-    ensures { (calls : CallMeaning) (turns : ℕ) (k : Facts) (above : ℕ) (s : Site) (o : Op) (x : Var) (gens : GensTerm) (right : RightTerm) (e : Env) → (h : FoldParted k above s o x gens right) → AreSound k e → (e x).base ≡ h.partable.base → right_value calls turns right s e ≡ right_value calls turns (With (Fold o x) gens) s e }
+    ensures { FoldsAreParted }
 {}
 
 /// Law: a normalising step between well-formed cores keeps the outcome on arrays.
 pub fn norm_steps_keep_the_outcome()
-    ensures { (above : FunTerm → ℕ) (a b : CoreTerm) → NormStep above a b → IsWellFormed a → IsWellFormed b → SameOutcomeOnArrays a b }
+    ensures { NormStepsKeepOutcomes }
 {}
 
 /// Law: each function of a well-formed core has a table of bases that its variables follow.
 pub fn functions_have_tables()
-    ensures { (core : CoreTerm) (f : FunTerm) → (is : IsFunction core f) → (m : BaseTable) × Within m (param_bases f) × Follows core m f.body (param_bases f) (bases f.results) is.agreeing }
+    ensures { FunctionsHaveTables }
 {}
