@@ -80,7 +80,7 @@ module _ (a b : CoreTerm) (same : SameOutside a b) where
   same_run M N M' N' place None (Some g) args site h p q = absurd h
   same_run M N M' N' place (Some f) None args site h p q = absurd h
 
-  same_call : (M N M' N' : RunMeaning) (g n : ℕ) → InlineBelow b n g → M ≡ M' → ((place : ℕ) (f : FunTerm) → place < n → slice_get b.functions place ≡ Some f → f.is_inline ≡ true → (args : List ArrayValue) (site : Site) → N place args site ≡ N' place args site)
+  pub same_call : (M N M' N' : RunMeaning) (g n : ℕ) → InlineBelow b n g → M ≡ M' → ((place : ℕ) (f : FunTerm) → place < n → slice_get b.functions place ≡ Some f → f.is_inline ≡ true → (args : List ArrayValue) (site : Site) → N place args site ≡ N' place args site)
       → call_by a M N g ≡ call_by b M' N' g
   same_call M N M' N' g n below p q = λ i args site. whole args site i
     where

@@ -1,13 +1,14 @@
 -- The statements of the laws.
-use Rattle.std.specs.Prelude.{◌≡◌, ℕ, List}
+use Rattle.std.specs.Prelude.{◌≡◌, ℕ, ◌<◌, true, List, Some, slice_get}
+use Rattle.sac_base.specs.Arrays.{ArrayValue}
 use Rattle.sac_base.specs.declared.site.Site.{Site}
 use Rattle.sac_base.specs.Outcomes.{and_then}
 use Rattle.core_ir.specs.declared.tree.Var.{Var}
 use Rattle.core_ir.specs.Uses.{AvoidsEach, targets_of}
 use Rattle.core_calls.specs.Copies.{copies, CanCopy}
 use Rattle.core_ir.specs.Meaning.{Env, CallMeaning, bind_all, run}
-use Rattle.core_ir.specs.Outcome.{SameOutcome, SameOutside}
-use Rattle.core_ir.specs.Terms.{BlockTerm, LetTerm, CoreTerm, Gives, chain}
+use Rattle.core_ir.specs.Outcome.{RunMeaning, SameOutcome, SameOutside, run_inline}
+use Rattle.core_ir.specs.Terms.{BlockTerm, LetTerm, FunTerm, CoreTerm, Gives, chain}
 use Rattle.core_calls.specs.Arrays.{KeepsArrays, SameBodiesOnArrays, SameOutcomeOnArrays}
 use Rattle.core_calls.specs.Nests.{CallsAll, CallsBelow, SameBodiesNested}
 
@@ -36,3 +37,10 @@ BlocksMayBeSpliced =
     AvoidsEach (targets_of ls) rest →
     run calls turns (chain ls (chain (copies s ts zs) rest)) e ≡ and_then (run calls turns (chain ls (Gives zs)) e)
     (λ ws. run calls turns rest (bind_all e ts ws))
+
+-- an inline function means the same however deep inline calls may nest, if that is deeper than its own place
+abbrev pub EnoughIsEnough : Type 0
+EnoughIsEnough =
+    (core : CoreTerm) (turns : ℕ) (outer : RunMeaning) → CallsBelow core → (m n place : ℕ) (f : FunTerm) → place < m → place < n →
+    slice_get core.functions place ≡ Some f → f.is_inline ≡ true → (args : List ArrayValue) (site : Site) →
+    run_inline core turns outer m place args site ≡ run_inline core turns outer n place args site

@@ -1,3 +1,3 @@
-mod Steps
-mod Renaming
-mod Within
+pub mod Steps
+pub mod Renaming
+pub mod Within
