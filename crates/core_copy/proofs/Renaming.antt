@@ -53,7 +53,7 @@ module _ (f : Var → Var) where
 
 -- variables are kept apart
 module _ (f : Var → Var) (apart : (x y : Var) → eqb (f x).0 (f y).0 ≡ eqb x.0 y.0) where
-  abbrev link : Link
+  abbrev pub link : Link
   link x y = eqb (f x).0 y.0
 
   linked_here : (x : Var) → link x (f x) ≡ true
@@ -152,5 +152,5 @@ module _ (f : Var → Var) (apart : (x y : Var) → eqb (f x).0 (f y).0 ≡ eqb 
     renamed_parts NoParts = tt
     renamed_parts (Part h b rest) = (refl, refl, subst (λ (S : Link). Renamed S b (mapped f b)) (sym (below_here h.index)) (renamed b), renamed_parts rest)
 
-  agree : (e : Env) → Agree link (λ x. e (f x)) e
+  pub agree : (e : Env) → Agree link (λ x. e (f x)) e
   agree e x y h = ap e (same_number (f x) y h)

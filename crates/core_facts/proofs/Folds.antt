@@ -1,13 +1,12 @@
 -- The shape of what a parted fold gives.
-use Rattle.std.proofs.Common.{◌≡◌, ℕ, suc, Bool, true, false, ◌&&◌, List, [], ◌∷◌, map, Option, Some, None, Result, Ok, Err, refl, sym, ap, subst, ◌∙◌, ℤ}
+use Rattle.std.proofs.Common.{◌≡◌, ℕ, Bool, true, false, ◌&&◌, List, [], ◌∷◌, map, Option, Some, None, Result, Ok, Err, refl, sym, subst, ◌∙◌, ℤ}
 use Rattle.std.specs.Prelude.{if◌then◌else◌, fold}
 use Rattle.std.proofs.lemmas.Slice.Eq.{bytes_eq-Decides}
-use Rattle.sac_base.specs.declared.faults.Fault.{Fault}
 use Rattle.sac_base.specs.declared.faults.FaultKind.{FaultKind}
 use Rattle.sac_base.specs.declared.faults.FaultKind.TheVariants.{F6}
 use Rattle.sac_base.specs.declared.op.Op.{Op}
 use Rattle.sac_base.specs.declared.site.Site.{Site}
-use Rattle.sac_base.specs.Arrays.{ArrayValue, same_form, same_shape, same_base}
+use Rattle.sac_base.specs.Arrays.{ArrayValue, same_form, same_base}
 use Rattle.sac_base.specs.Grids.{has_vector}
 use Rattle.sac_base.specs.Operators.{binary, common_shape, all_of, with_first}
 use Rattle.sac_base.specs.Outcomes.{Ends, and_then, fault}

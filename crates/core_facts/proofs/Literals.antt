@@ -1,5 +1,5 @@
 -- A literal variable has its value in each run, and its right side does not fault.
-use Rattle.std.proofs.Common.{◌≡◌, ℕ, Bool, true, false, ◌&&◌, ◌||◌, List, [], ◌∷◌, map, length, Option, Some, None, Result, Ok, Err, refl, sym, ap, subst, ◌∙◌, ℤ, pos}
+use Rattle.std.proofs.Common.{◌≡◌, ℕ, Bool, true, false, ◌&&◌, List, [], ◌∷◌, map, Option, Some, None, Result, Ok, Err, refl, sym, ap, ◌∙◌, pos}
 use Rattle.std.specs.Prelude.{if◌then◌else◌, unwrap_or}
 use Rattle.sac_base.specs.declared.base.Base.TheVariants.{Int}
 use Rattle.sac_base.specs.declared.faults.FaultKind.{FaultKind}
@@ -8,7 +8,7 @@ use Rattle.sac_base.specs.Parts.{literal, shape_vector}
 use Rattle.core_ir.specs.declared.tree.Var.{Var}
 use Rattle.core_ir.specs.Terms.{PlainTerm}
 use Rattle.core_ir.specs.Meaning.{Env, missing, plain_value}
-use Rattle.core_facts.specs.Facts.{Facts, ShapeIs, ValueIs, AreSound, values, is_some, are_literal, are_scalars, is_small_shape, small, found, is_sum, is_negation, when, shape_value, plain_literal}
+use Rattle.core_facts.specs.Facts.{Facts, ShapeIs, ValueIs, AreSound, values, is_some, are_literal, are_scalars, is_small_shape, small, found, when, shape_value, plain_literal}
 use Rattle.core_facts.proofs.Shapes.{ok_same}
 
 abbrev value_or : ArrayValue → Option ArrayValue → ArrayValue

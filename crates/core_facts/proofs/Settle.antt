@@ -1,5 +1,5 @@
 -- The block in which literal variables are bound by constants means the same.
-use Rattle.std.proofs.Common.{◌≡◌, ℕ, zero, suc, ◌*◌, ◌-◌, Bool, true, false, ◌&&◌, List, [], ◌∷◌, ◌++◌, map, length, Option, Some, None, Result, Ok, Err, refl, sym, ap, subst, ◌∙◌, arith, ℤ, pos}
+use Rattle.std.proofs.Common.{◌≡◌, ℕ, zero, suc, ◌-◌, Bool, true, false, ◌&&◌, List, [], ◌∷◌, map, length, Option, Some, None, Ok, refl, sym, ap, subst, ◌∙◌, arith, ℤ}
 use Rattle.std.specs.Prelude.{if◌then◌else◌}
 use Rattle.sac_base.specs.declared.base.Base.TheVariants.{Int}
 use Rattle.sac_base.specs.declared.faults.FaultKind.TheVariants.{F6, F9}
@@ -10,16 +10,15 @@ use Rattle.sac_base.specs.Grids.{has_index, has_vector, members}
 use Rattle.sac_base.specs.Outcomes.{Ends, and_then, fault, at_site, choose}
 use Rattle.sac_base.specs.Parts.{condition}
 use Rattle.sac_base.specs.WithLoops.{with_value, each}
-use Rattle.core_ir.specs.declared.tree.Var.{Var}
 use Rattle.core_ir.specs.Terms.{PlainTerm, BlockTerm, RightTerm, GensTerm, PartsTerm, Gives, Bind, Plain, NoGens, Gen, NoParts, Part}
-use Rattle.core_ir.specs.Meaning.{Env, Answer, CallMeaning, Cells, bind, bind_all, first, one, repeat, loop_value, plain_value, made_of, neutral_fits, cell_form, cell_at, generator, operation, with_index, run, right_value, generators, cells}
+use Rattle.core_ir.specs.Meaning.{Env, Answer, CallMeaning, bind, bind_all, first, one, repeat, loop_value, plain_value, made_of, neutral_fits, cell_form, generator, operation, with_index, run, right_value, generators, cells}
 use Rattle.core_ir.proofs.Edited.{then_same, SameCells, same_cell_at}
-use Rattle.core_facts.specs.Facts.{Fact, Facts, unknown, shape_fact, note, note_all, Describes, DescribeAll, AreSound, plain_fact, plain_literal, is_constant, common_facts, parted_shape, block_facts, right_facts, in_part, CallsFit}
-use Rattle.core_facts.specs.Full.{AreFull, KeepsFull, FullInside, FullInsideRight, FullInsideGens, FullInsideParts}
+use Rattle.core_facts.specs.Facts.{Facts, shape_fact, note_all, DescribeAll, AreSound, plain_fact, plain_literal, is_constant, common_facts, parted_shape, block_facts, right_facts, in_part, CallsFit}
+use Rattle.core_facts.specs.Full.{KeepsFull, FullInside, FullInsideRight, FullInsideGens, FullInsideParts}
 use Rattle.core_facts.specs.Settled.{constant_or, settled, settled_right, settled_gens, settled_parts, IsSettled, IsSettledRight, IsSettledGens, IsSettledParts}
-use Rattle.core_facts.proofs.Shapes.{ok_same, no_ok, shape_sound}
+use Rattle.core_facts.proofs.Shapes.{ok_same, shape_sound}
 use Rattle.core_facts.proofs.Literals.{literal_sound, value_sound, no_value}
-use Rattle.core_facts.proofs.Sound.{noted_one, noted, just_full, full_env, all_full, described, common_left, common_right, then_ok, chosen_ok, plain_ok, parted_ok, parted_has, block_sound}
+use Rattle.core_facts.proofs.Sound.{noted_one, noted, full_env, all_full, described, common_left, common_right, then_ok, chosen_ok, plain_ok, parted_ok, parted_has, block_sound}
 
 -- ---- loops whose parts mean the same where what is carried has a property
 

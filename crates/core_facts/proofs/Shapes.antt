@@ -1,10 +1,8 @@
 -- Shapes of the values of right sides without blocks and calls.
-use Rattle.std.proofs.Common.{◌≡◌, ℕ, zero, suc, ◌*◌, Bool, true, false, ◌&&◌, ◌||◌, List, [], ◌∷◌, ◌++◌, map, length, drop, take, Option, Some, None, Result, Ok, Err, refl, sym, ap, subst, ◌∙◌, arith, ltb, ℤ, pos, negsuc}
-use Rattle.std.specs.Prelude.{if◌then◌else◌, nat_le, ◌==◌}
-use Rattle.std.specs.List.{list_all}
+use Rattle.std.proofs.Common.{◌≡◌, ℕ, suc, Bool, true, false, ◌&&◌, List, [], ◌∷◌, map, length, drop, Option, Some, None, Result, Ok, Err, refl, sym, ap, subst, ◌∙◌, arith, ltb, ℤ, pos, negsuc}
+use Rattle.std.specs.Prelude.{if◌then◌else◌, nat_le}
 use Rattle.std.proofs.lemmas.List.{length-map}
 use Rattle.std.proofs.lemmas.Slice.Eq.{bytes_eq-Decides}
-use Rattle.sac_base.specs.declared.base.Base.TheVariants.{Int}
 use Rattle.sac_base.specs.declared.faults.FaultKind.{FaultKind}
 use Rattle.sac_base.specs.declared.faults.FaultKind.TheVariants.{F1, F2, F3, F4, F6, F7, F8}
 use Rattle.sac_base.specs.declared.op.Op.{Op}
@@ -12,10 +10,10 @@ use Rattle.sac_base.specs.declared.op.ZeroDivisor.{ZeroDivisor}
 use Rattle.sac_base.specs.declared.types.ArrayType.{ArrayType}
 use Rattle.sac_base.specs.declared.types.Part.{Part as TypePart}
 use Rattle.sac_base.specs.declared.types.Part.TheVariants as part
-use Rattle.sac_base.specs.Arrays.{ArrayValue, IsFull, size, MOST, scalar, vector, same_shape, same_base, same_form, form_of}
+use Rattle.sac_base.specs.Arrays.{ArrayValue, IsFull, size, same_shape, same_base}
 use Rattle.sac_base.specs.Operators.{binary, unary, in_shape, with_cells, common_shape}
-use Rattle.sac_base.specs.Parts.{check, literal, cells_of_all, numbers_of, Part, further, part_at, part_at_index, selected, select, replaced, replace, reshaped, reshape, vector_of, shape_of_numbers, dim, shape_vector, cells_at}
-use Rattle.sac_base.specs.Types.{has, has_shape, has_form}
+use Rattle.sac_base.specs.Parts.{check, literal, numbers_of, Part, further, part_at, part_at_index, selected, select, replaced, reshaped, reshape, vector_of, shape_of_numbers, dim, shape_vector}
+use Rattle.sac_base.specs.Types.{has, has_shape}
 use Rattle.core_ir.specs.declared.tree.Var.{Var}
 use Rattle.core_ir.specs.Terms.{PlainTerm}
 use Rattle.core_ir.specs.Meaning.{Env, plain_value, checked}

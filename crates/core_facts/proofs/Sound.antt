@@ -1,24 +1,20 @@
 -- What is known of right sides and blocks is so.
-use Rattle.std.proofs.Common.{◌≡◌, ℕ, suc, ◌*◌, Bool, true, false, ◌&&◌, cond, eqb, List, [], ◌∷◌, ◌++◌, map, length, Option, Some, None, Result, Ok, Err, refl, sym, ap, subst, ◌∙◌, arith, ℤ, pos}
+use Rattle.std.proofs.Common.{◌≡◌, ℕ, Bool, true, false, cond, eqb, List, [], ◌∷◌, map, Option, Some, None, Result, Ok, Err, refl, sym, subst, ◌∙◌}
 use Rattle.std.specs.Prelude.{if◌then◌else◌}
-use Rattle.std.specs.List.{flat_map}
-use Rattle.std.proofs.lemmas.List.{length-map}
 use Rattle.sac_base.specs.declared.base.Base.{Base}
-use Rattle.sac_base.specs.declared.base.Base.TheVariants.{Int}
 use Rattle.sac_base.specs.declared.grid.Grid1.{Grid1}
-use Rattle.sac_base.specs.declared.faults.Fault.{Fault}
 use Rattle.sac_base.specs.declared.faults.FaultKind.{FaultKind}
 use Rattle.sac_base.specs.declared.faults.FaultKind.TheVariants.{F3, F6}
 use Rattle.sac_base.specs.declared.site.Site.{Site}
-use Rattle.sac_base.specs.Arrays.{ArrayValue, IsFull, size, scalar, vector, same_form, same_shape, same_base}
+use Rattle.sac_base.specs.Arrays.{ArrayValue, IsFull}
 use Rattle.sac_base.specs.Outcomes.{Ends, and_then, fault, at_site, choose}
 use Rattle.sac_base.specs.Parts.{condition}
 use Rattle.core_ir.specs.declared.tree.Var.{Var}
 use Rattle.core_ir.specs.declared.tree.PartedOp.{PartedOp}
 use Rattle.core_ir.specs.declared.tree.PartedOp.TheVariants as parted
-use Rattle.core_ir.specs.Terms.{PlainTerm, BlockTerm, RightTerm, PartsTerm, Gives, Bind, Plain}
+use Rattle.core_ir.specs.Terms.{PlainTerm, BlockTerm, RightTerm, Gives, Bind, Plain}
 use Rattle.core_ir.specs.Meaning.{Env, Answer, CallMeaning, missing, bind, bind_all, one, plain_value, extents, joined, made_of, cell_form, neutral_fits, parted_value, run, right_value, cells}
-use Rattle.core_facts.specs.Facts.{Fact, Facts, unknown, shape_fact, note, note_all, ShapeIs, ValueIs, Describes, DescribeAll, AreSound, one_shape, plain_fact, plain_shape, plain_literal, common_facts, parted_shape, block_facts, right_facts, CallsFit}
+use Rattle.core_facts.specs.Facts.{Fact, Facts, unknown, shape_fact, note, note_all, ShapeIs, Describes, DescribeAll, AreSound, one_shape, plain_fact, common_facts, parted_shape, block_facts, right_facts, CallsFit}
 use Rattle.core_facts.specs.Full.{AreFull, KeepsFull, FullInside, FullInsideRight}
 use Rattle.core_facts.proofs.Shapes.{ok_same, no_ok, one_left, one_right, shape_sound}
 use Rattle.core_facts.proofs.Literals.{value_sound}

@@ -1,23 +1,22 @@
 -- What is known of variables before a run: the shape of each, and the value of a literal one.
-use Rattle.std.specs.Prelude.{◌≡◌, ℕ, zero, suc, ◌&&◌, ◌||◌, Bool, true, false, cond, eqb, if◌then◌else◌, List, [], ◌∷◌, ◌++◌, map, length, drop, nat_le, ℤ, pos, Option, Some, None, Result, Ok, Err, unwrap_or}
+use Rattle.std.specs.Prelude.{◌≡◌, ℕ, ◌&&◌, ◌||◌, Bool, true, false, cond, eqb, if◌then◌else◌, List, [], ◌∷◌, ◌++◌, map, length, drop, nat_le, pos, Option, Some, None, Result, Ok, Err, unwrap_or}
 use Rattle.std.specs.List.{list_all}
 use Rattle.sac_base.specs.declared.base.Base.TheVariants.{Int}
 use Rattle.sac_base.specs.declared.faults.FaultKind.{FaultKind}
 use Rattle.sac_base.specs.declared.grid.Grid1.{Grid1}
 use Rattle.sac_base.specs.declared.op.Op.{Op}
 use Rattle.sac_base.specs.declared.op.Op.TheVariants as op
-use Rattle.sac_base.specs.declared.types.ArrayType.{ArrayType}
 use Rattle.sac_base.specs.declared.types.Part.{Part as TypePart}
 use Rattle.sac_base.specs.declared.types.Part.TheVariants as part
-use Rattle.sac_base.specs.Arrays.{ArrayValue, IsFull, scalar, vector, same_shape}
+use Rattle.sac_base.specs.Arrays.{ArrayValue, IsFull, vector, same_shape}
 use Rattle.sac_base.specs.Operators.{common_shape}
 use Rattle.sac_base.specs.Parts.{vector_of, shape_of_numbers}
-use Rattle.sac_base.specs.Types.{has, has_shape}
+use Rattle.sac_base.specs.Types.{has_shape}
 use Rattle.core_ir.specs.declared.tree.Var.{Var}
 use Rattle.core_ir.specs.declared.tree.PartedOp.{PartedOp}
 use Rattle.core_ir.specs.declared.tree.PartedOp.TheVariants as parted
 use Rattle.core_ir.specs.Terms.{PlainTerm, BlockTerm, RightTerm, PartHead, Gives, Bind, Plain}
-use Rattle.core_ir.specs.Meaning.{Env, Answer, CallMeaning, missing, bind, bind_all, plain_value, extents}
+use Rattle.core_ir.specs.Meaning.{Env, CallMeaning, missing, plain_value, extents}
 
 -- ---- facts
 
