@@ -1,6 +1,6 @@
 -- Bases of the values of right sides without blocks and calls, and of loops.
-use Rattle.std.proofs.Common.{◌≡◌, ℕ, zero, suc, Bool, true, false, ◌&&◌, List, [], ◌∷◌, map, Option, Some, None, Result, Ok, Err, refl, sym, ap, subst, ◌∙◌, ℤ}
-use Rattle.std.specs.Prelude.{if◌then◌else◌, fold}
+use Rattle.std.proofs.Common.{◌≡◌, ℕ, true, List, [], ◌∷◌, map, Option, Some, None, Result, Ok, Err, refl, sym, ap, subst, ◌∙◌, ℤ}
+use Rattle.std.specs.Prelude.{fold}
 use Rattle.sac_base.specs.declared.base.Base.{Base}
 use Rattle.sac_base.specs.declared.base.Base.TheVariants.{Int, Bool as Truth}
 use Rattle.sac_base.specs.declared.faults.FaultKind.{FaultKind}
@@ -8,14 +8,11 @@ use Rattle.sac_base.specs.declared.faults.FaultKind.TheVariants.{F1, F2, F3, F4,
 use Rattle.sac_base.specs.declared.op.Op.{Op}
 use Rattle.sac_base.specs.declared.op.Op.TheVariants as op
 use Rattle.sac_base.specs.declared.op.ZeroDivisor.{ZeroDivisor}
-use Rattle.sac_base.specs.declared.types.ArrayType.{ArrayType}
-use Rattle.sac_base.specs.Arrays.{ArrayValue, same_base, vector}
+use Rattle.sac_base.specs.Arrays.{ArrayValue, vector}
 use Rattle.sac_base.specs.Operators.{binary, unary, result_base, in_shape, with_cells, common_shape}
-use Rattle.sac_base.specs.Parts.{literal, Part, part_at_index, selected, numbers_of, replaced, reshaped, shape_of_numbers, vector_of, dim, shape_vector}
-use Rattle.sac_base.specs.Types.{has, has_shape}
+use Rattle.sac_base.specs.Parts.{literal, Part, selected, replaced, reshaped, dim, shape_vector}
 use Rattle.sac_base.specs.Verdict.{folds}
 use Rattle.sac_base.specs.WithLoops.{combined, or_first}
-use Rattle.core_ir.specs.declared.tree.Var.{Var}
 use Rattle.core_ir.specs.Terms.{PlainTerm}
 use Rattle.core_ir.specs.Meaning.{Env, plain_value}
 use Rattle.core_ir.specs.WellFormed.{Bases, PlainBases, UnaryBase, BinaryBase}

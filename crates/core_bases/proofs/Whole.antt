@@ -1,24 +1,22 @@
 -- In a well-formed function right sides give values of the bases that well-formedness says.
-use Rattle.std.proofs.Common.{◌≡◌, ℕ, zero, suc, ◌-◌, Bool, true, false, List, [], ◌∷◌, ◌++◌, map, length, Option, Some, None, Result, Ok, Err, refl, sym, ap, subst, ◌∙◌, ℤ}
+use Rattle.std.proofs.Common.{◌≡◌, ℕ, zero, suc, ◌-◌, Bool, true, false, List, [], ◌∷◌, ◌++◌, map, Option, Ok, refl, sym, ap, subst, ◌∙◌}
 use Rattle.std.specs.Prelude.{zip, if◌then◌else◌}
 use Rattle.sac_base.specs.declared.base.Base.{Base}
-use Rattle.sac_base.specs.declared.base.Base.TheVariants.{Int, Bool as Truth}
 use Rattle.sac_base.specs.declared.faults.FaultKind.TheVariants.{F6, F9}
 use Rattle.sac_base.specs.declared.grid.Grid1.{Grid1}
 use Rattle.sac_base.specs.declared.site.Site.{Site}
-use Rattle.sac_base.specs.Arrays.{ArrayValue, scalar, vector}
+use Rattle.sac_base.specs.Arrays.{ArrayValue}
 use Rattle.sac_base.specs.Grids.{members}
-use Rattle.sac_base.specs.Outcomes.{Ends, and_then, fault, choose, first_result}
+use Rattle.sac_base.specs.Outcomes.{Ends, and_then, fault, choose}
 use Rattle.sac_base.specs.Parts.{condition}
-use Rattle.sac_base.specs.WithLoops.{Generator, Operation, Plan, plan, cells_of, finish, with_value, each}
-use Rattle.core_ir.specs.declared.tree.Var.{Var}
+use Rattle.sac_base.specs.WithLoops.{Generator, Plan, plan, cells_of, finish, with_value, each}
 use Rattle.core_ir.specs.declared.tree.CoreOp.{CoreOp}
 use Rattle.core_ir.specs.declared.tree.CoreOp.TheVariants as making
 use Rattle.core_ir.specs.declared.tree.PartedOp.{PartedOp}
 use Rattle.core_ir.specs.declared.tree.PartedOp.TheVariants as parted
-use Rattle.core_ir.specs.Binders.{bound_in, bound_in_right, bound_in_gens, bound_in_parts}
-use Rattle.core_ir.specs.Terms.{PlainTerm, BlockTerm, RightTerm, GensTerm, PartsTerm, FunTerm, CoreTerm, Gives, Bind, Plain, NoGens, Gen, NoParts, Part}
-use Rattle.core_ir.specs.Meaning.{Env, Answer, Cells, CallMeaning, bind, bind_all, first, one, repeat, loop_value, cell_form, cell_at, neutral_fits, made_of, parted_value, generator, operation, with_index, run, right_value, generators, cells}
+use Rattle.core_ir.specs.Binders.{bound_in, bound_in_right}
+use Rattle.core_ir.specs.Terms.{BlockTerm, RightTerm, CoreTerm, Gives, Bind, Plain}
+use Rattle.core_ir.specs.Meaning.{Env, Answer, Cells, CallMeaning, bind_all, first, one, repeat, loop_value, cell_form, cell_at, neutral_fits, made_of, parted_value, operation, run, right_value, generators, cells}
 use Rattle.core_ir.specs.WellFormed.{Bases, OperationBase, PartedBase, BlockBases, RightBases, Distinct}
 use Rattle.core_facts.proofs.Shapes.{ok_same, no_ok}
 use Rattle.core_facts.proofs.Sound.{then_ok, chosen_ok, plain_ok}

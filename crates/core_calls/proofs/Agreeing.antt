@@ -1,15 +1,11 @@
 -- A block means the same where the calls in it mean the same.
-use Rattle.std.proofs.Common.{◌≡◌, ℕ, List, [], ◌∷◌, map, refl, sym, ap, ◌∙◌}
-use Rattle.std.specs.Prelude.{ℤ, if◌then◌else◌}
-use Rattle.sac_base.specs.declared.faults.FaultKind.TheVariants.{F6}
-use Rattle.sac_base.specs.declared.site.Site.{Site}
+use Rattle.std.proofs.Common.{◌≡◌, ℕ, ◌∷◌, map, refl}
 use Rattle.sac_base.specs.Arrays.{ArrayValue}
-use Rattle.sac_base.specs.Grids.{members}
-use Rattle.sac_base.specs.Outcomes.{and_then, fault, choose}
+use Rattle.sac_base.specs.Outcomes.{and_then, choose}
 use Rattle.sac_base.specs.Parts.{condition}
-use Rattle.sac_base.specs.WithLoops.{Generator, with_value, each}
+use Rattle.sac_base.specs.WithLoops.{with_value}
 use Rattle.core_ir.specs.Terms.{BlockTerm, RightTerm, GensTerm, PartsTerm, Gives, Bind, Plain, NoGens, Gen, NoParts, Part}
-use Rattle.core_ir.specs.Meaning.{Env, Cells, CallMeaning, bind, bind_all, first, one, loop_value, parted_value, generator, operation, with_index, run, right_value, generators, cells}
+use Rattle.core_ir.specs.Meaning.{CallMeaning, bind, bind_all, first, one, loop_value, parted_value, generator, operation, with_index, run, right_value, generators, cells}
 use Rattle.core_calls.specs.Nests.{CallsAll, CallsAllRight, CallsAllGens, CallsAllParts}
 
 module _ (calls other : CallMeaning) (turns : ℕ) where

@@ -5,7 +5,7 @@ use Rattle.sac_base.specs.declared.site.Site.{Site}
 use Rattle.sac_base.specs.Arrays.{ArrayValue}
 use Rattle.sac_base.specs.Outcomes.{and_then}
 use Rattle.core_ir.specs.Terms.{FunTerm, CoreTerm}
-use Rattle.core_ir.specs.Meaning.{bind_all, no_variables, run}
+use Rattle.core_ir.specs.Meaning.{bind_all, no_variables}
 use Rattle.core_ir.specs.Outcome.{RunMeaning, param_vars, body_of, results_in, call_by, run_inline, SameHeads, SameOutside}
 use Rattle.core_calls.specs.Nests.{InlineBelow, CallsBelow}
 use Rattle.core_calls.proofs.Agreeing.{agreeing, weaker}

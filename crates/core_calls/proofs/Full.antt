@@ -1,25 +1,22 @@
 -- Blocks of arrays give arrays, and mean the same where calls of arrays do.
-use Rattle.std.proofs.Common.{◌≡◌, ℕ, zero, suc, ◌-◌, Bool, true, false, List, [], ◌∷◌, map, refl, sym, ap, subst, ◌∙◌, Ok, ℤ}
-use Rattle.std.specs.Prelude.{if◌then◌else◌}
+use Rattle.std.proofs.Common.{◌≡◌, ℕ, List, [], ◌∷◌, map, refl, ap, subst, ◌∙◌, Ok}
 use Rattle.sac_base.specs.declared.base.Base.TheVariants.{Int}
-use Rattle.sac_base.specs.declared.faults.FaultKind.TheVariants.{F6}
 use Rattle.sac_base.specs.declared.site.Site.{Site}
-use Rattle.sac_base.specs.Arrays.{ArrayValue, IsFull, scalar, vector}
-use Rattle.sac_base.specs.Grids.{members}
-use Rattle.sac_base.specs.Outcomes.{and_then, fault, choose}
+use Rattle.sac_base.specs.Arrays.{ArrayValue, scalar, vector}
+use Rattle.sac_base.specs.Outcomes.{and_then, choose}
 use Rattle.sac_base.specs.Parts.{condition}
-use Rattle.sac_base.specs.WithLoops.{with_value, each}
+use Rattle.sac_base.specs.WithLoops.{with_value}
 use Rattle.core_ir.specs.declared.tree.Var.{Var}
 use Rattle.core_ir.specs.Terms.{BlockTerm, RightTerm, GensTerm, PartsTerm, Gives, Bind, Plain, NoGens, Gen, NoParts, Part}
-use Rattle.core_ir.specs.Meaning.{Env, CallMeaning, bind, bind_all, first, one, made_of, neutral_fits, cell_form, cell_at, parted_value, generator, operation, with_index, run, right_value, generators, cells}
-use Rattle.core_ir.proofs.Edited.{then_same, SameCells, same_cell_at}
-use Rattle.core_facts.specs.Facts.{Facts, no_facts, DescribeAll, AreSound}
-use Rattle.core_facts.specs.Full.{AreFull, FullInside, FullInsideRight, FullInsideGens, FullInsideParts, KeepsFull}
+use Rattle.core_ir.specs.Meaning.{Env, CallMeaning, bind, bind_all, first, one, parted_value, generator, operation, with_index, run, right_value, generators, cells}
+use Rattle.core_ir.proofs.Edited.{then_same}
+use Rattle.core_facts.specs.Facts.{no_facts, DescribeAll, AreSound}
+use Rattle.core_facts.specs.Full.{AreFull, FullInside, FullInsideRight, FullInsideGens, FullInsideParts}
 use Rattle.core_facts.proofs.Shapes.{ok_same}
 use Rattle.core_facts.proofs.Sound.{noted, just_full, then_ok}
 use Rattle.core_facts.proofs.Settle.{loop_same, vector_full, scalars_full}
 use Rattle.core_calls.specs.Nests.{CallsAll, CallsAllRight, CallsAllGens, CallsAllParts}
-use Rattle.core_calls.specs.Arrays.{AllFull, CallsKeepFull}
+use Rattle.core_calls.specs.Arrays.{AllFull}
 
 sound_of : (e : Env) → AreFull e → AreSound no_facts e
 sound_of e h = λ x. just_full (e x) (h x)

@@ -1,19 +1,16 @@
 -- Cores whose functions mean the same on arrays of their parameters' types have the same outcome on arrays.
-use Rattle.std.proofs.Common.{◌≡◌, ℕ, zero, suc, ◌+◌, ◌<◌, ◌≤◌, Bool, true, false, ◌&&◌, List, [], ◌∷◌, ◌++◌, map, length, Option, Some, None, Ok, Err, refl, sym, ap, subst, ◌∙◌, arith, ◌⊎◌, inl, inr}
+use Rattle.std.proofs.Common.{◌≡◌, ℕ, zero, suc, ◌<◌, Bool, true, false, ◌&&◌, List, [], ◌∷◌, ◌++◌, length, Option, Some, None, Ok, refl, sym, ap, subst, ◌∙◌, arith}
 use Rattle.std.specs.Prelude.{slice_get, unwrap_or, if◌then◌else◌}
-use Rattle.sac_base.specs.declared.faults.Caps.{Caps}
-use Rattle.sac_base.specs.declared.faults.Fault.{Fault}
 use Rattle.sac_base.specs.declared.faults.FaultKind.TheVariants.{F7, F10}
 use Rattle.sac_base.specs.declared.site.Site.{Site}
 use Rattle.sac_base.specs.declared.types.ArrayType.{ArrayType}
 use Rattle.sac_base.specs.Arrays.{ArrayValue}
-use Rattle.sac_base.specs.Outcomes.{Ends, and_then, fault}
+use Rattle.sac_base.specs.Outcomes.{and_then, fault}
 use Rattle.sac_base.specs.Types.{all_have}
 use Rattle.core_ir.specs.Terms.{FunTerm, CoreTerm}
 use Rattle.core_ir.specs.Meaning.{CallMeaning, no_variables, bind_all, run}
-use Rattle.core_ir.specs.Outcome.{Instance, RunMeaning, param_types, param_vars, results_in, function_value, body_of, instance_of, instances, is_least, least_among, group_at, chosen, run_chosen, call_chosen, call_by, run_inline, run_deeper, call_at, start_of_source, main_value, outcome, SameHead, SameHeads, SameOutside}
+use Rattle.core_ir.specs.Outcome.{Instance, RunMeaning, param_types, param_vars, results_in, function_value, body_of, instance_of, instances, is_least, least_among, group_at, chosen, run_chosen, call_chosen, call_by, run_inline, run_deeper, call_at, start_of_source, main_value, SameOutside}
 use Rattle.core_ir.proofs.Outcomes.{SameHeadAt}
-use Rattle.core_facts.specs.Full.{FullInside}
 use Rattle.core_facts.proofs.Shapes.{ok_same, no_ok}
 use Rattle.core_facts.proofs.Sound.{then_ok}
 use Rattle.core_calls.specs.Nests.{CallsAll, StandsIn, InlineBelow, CallsBelow}

@@ -24,7 +24,7 @@ right a b n h = omega arith
 
 -- functions that agree on the variables of a term give the same term
 module _ (f g : Var → Var) (n : ℕ) (same : (x : Var) → suc x.0 ≤ n → f x ≡ g x) where
-  all_same : (xs : List Var) → above_all xs ≤ n → map f xs ≡ map g xs
+  pub all_same : (xs : List Var) → above_all xs ≤ n → map f xs ≡ map g xs
   all_same [] h = refl
   all_same (x ∷ xs) h = λ i. same x (left (suc x.0) (above_all xs) n h) i ∷ all_same xs (right (suc x.0) (above_all xs) n h) i
 
@@ -122,7 +122,7 @@ raised_apart by x y = go (eqb x.0 y.0) refl
         turn true h = absurd (let p = eqb-true (x.0 + by) (y.0 + by) h in let q : x.0 ≡ y.0 = omega arith in let r = sym (eq-eqb x.0 y.0 q) ∙ e in cc)
         turn false h = h ∙ sym e
 
-fits : (by : ℕ) (x : Var) → x.0 + by < 2 ^ 32 → raised_within by x ≡ raised by x
+pub fits : (by : ℕ) (x : Var) → x.0 + by < 2 ^ 32 → raised_within by x ≡ raised by x
 fits by x h = go (nat_lt (x.0 + by) (2 ^ 32)) refl
   where
     go : (t : Bool) → nat_lt (x.0 + by) (2 ^ 32) ≡ t → unwrap_or (if nat_lt (x.0 + by) (2 ^ 32) then Some (variable (x.0 + by)) else None) x ≡ variable (x.0 + by)

@@ -3,4 +3,4 @@
 
 mod raising;
 
-pub use raising::copy_raised;
+pub use raising::{copy_raised, raise};

@@ -213,8 +213,8 @@ fn raise_all(alloc: Global, vars: &[Var], by: u32) -> Result<Vec<Var>, Memory>
     Ok(raised)
 }
 
-/// The variable whose number is greater by `by`, or the same one where there is none.
-fn raise(var: Var, by: u32) -> Var
+/// The variable whose number is greater by `by`, or the same one where that number has more than 32 bits.
+pub fn raise(var: Var, by: u32) -> Var
     ensures { result ≡ raised_within by var }
 {
     match u32::try_from(u64::from(var.0) + u64::from(by)) {

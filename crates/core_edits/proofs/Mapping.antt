@@ -124,19 +124,19 @@ module _ (f : Var → Var) (apart : KeepsApart f) where
   distinct_mapped [] h = tt
   distinct_mapped (x ∷ xs) h = (in_mapped x xs ∙ h.0, distinct_mapped xs h.1)
 
+  below : (xs scope : List Var) (c : BlockTerm) → Scoped (map f (xs ++ scope)) c → Scoped (map f xs ++ map f scope) c
+  below xs scope c h = subst (λ (zs : List Var). Scoped zs c) (map-append f xs scope) h
+
   mutual
     pub block_scoped : (b : BlockTerm) (scope : List Var) → Scoped scope b → Scoped (map f scope) (mapped f b)
     block_scoped (Gives xs) scope h = all_mapped xs scope h
-    block_scoped (Bind xs s r b) scope h = (right_scoped r scope h.0, none_mapped xs scope h.1, below_scoped xs b scope h.2)
-
-    below_scoped : (xs : List Var) (b : BlockTerm) (scope : List Var) → Scoped (xs ++ scope) b → Scoped (map f xs ++ map f scope) (mapped f b)
-    below_scoped xs b scope h = subst (λ (zs : List Var). Scoped zs (mapped f b)) (map-append f xs scope) (block_scoped b (xs ++ scope) h)
+    block_scoped (Bind xs s r b) scope h = (right_scoped r scope h.0, none_mapped xs scope h.1, below xs scope (mapped f b) (block_scoped b (xs ++ scope) h.2))
 
     right_scoped : (r : RightTerm) (scope : List Var) → ScopedRight scope r → ScopedRight (map f scope) (mapped_right f r)
     right_scoped (Plain p) scope h = uses_mapped _ (plain_uses p) scope (plain_uses_mapped f p) h
     right_scoped (RightTerm.If x a b) scope h = (in_mapped x scope ∙ h.0, block_scoped a scope h.1, block_scoped b scope h.2)
     right_scoped (RightTerm.Loop first start params test body s) scope h =
-        (all_mapped start scope h.0, none_mapped params scope h.1, below_scoped params test scope h.2, below_scoped params body scope h.3)
+        (all_mapped start scope h.0, none_mapped params scope h.1, below params scope (mapped f test) (block_scoped test (params ++ scope) h.2), below params scope (mapped f body) (block_scoped body (params ++ scope) h.3))
     right_scoped (RightTerm.Call g xs) scope h = all_mapped xs scope h
     right_scoped (RightTerm.With op gens) scope h = (uses_mapped _ (op_uses op) scope (op_uses_mapped f op) h.0, gens_scoped gens scope h.1)
     right_scoped (RightTerm.Parted frame base cell op parts) scope h = (uses_mapped _ (parted_uses op) scope (parted_uses_mapped f op) h.0, parts_scoped parts scope h.1)
@@ -144,11 +144,11 @@ module _ (f : Var → Var) (apart : KeepsApart f) where
     gens_scoped : (g : GensTerm) (scope : List Var) → ScopedGens scope g → ScopedGens (map f scope) (mapped_gens f g)
     gens_scoped NoGens scope h = tt
     gens_scoped (Gen k b rest) scope h =
-        (uses_mapped _ (head_uses k) scope (head_uses_mapped f k) h.0, none_mapped (k.index ∷ k.names) scope h.1, below_scoped (k.index ∷ k.names) b scope h.2, gens_scoped rest scope h.3)
+        (uses_mapped _ (head_uses k) scope (head_uses_mapped f k) h.0, none_mapped (k.index ∷ k.names) scope h.1, below (k.index ∷ k.names) scope (mapped f b) (block_scoped b ((k.index ∷ k.names) ++ scope) h.2), gens_scoped rest scope h.3)
 
     parts_scoped : (p : PartsTerm) (scope : List Var) → ScopedParts scope p → ScopedParts (map f scope) (mapped_parts f p)
     parts_scoped NoParts scope h = tt
-    parts_scoped (Part k b rest) scope h = (in_mapped k.index scope ∙ h.0, below_scoped (k.index ∷ []) b scope h.1, parts_scoped rest scope h.2)
+    parts_scoped (Part k b rest) scope h = (in_mapped k.index scope ∙ h.0, below (k.index ∷ []) scope (mapped f b) (block_scoped b ((k.index ∷ []) ++ scope) h.1), parts_scoped rest scope h.2)
 
   -- ---- bases
 
@@ -203,19 +203,19 @@ module _ (f : Var → Var) (apart : KeepsApart f) where
     parted_has (parted.Fold o x) t h = (has x t h.0, h.1)
 
   module _ (core : CoreTerm) where
+    under : (xs : List Var) (us : List Base) (g : Bases) (c : BlockTerm) (ts : List Base) → BlockBases core (bases_mapped f (zip xs us ++ g)) c ts → BlockBases core (zip (map f xs) us ++ bases_mapped f g) c ts
+    under xs us g c ts h = subst (λ (k : Bases). BlockBases core k c ts) (sym (zip_mapped f xs us g)) h
+
     mutual
       pub block_has : (b : BlockTerm) (g : Bases) (ts : List Base) → BlockBases core g b ts → BlockBases core (bases_mapped f g) (mapped f b) ts
       block_has (Gives xs) g ts h = has_all g xs ts h
-      block_has (Bind xs s r b) g ts h = (h.0, (right_has r g h.0 h.1.0, lengths_mapped f xs h.0 h.1.1, below_has xs h.0 b g ts h.1.2))
-
-      below_has : (xs : List Var) (us : List Base) (b : BlockTerm) (g : Bases) (ts : List Base) → BlockBases core (zip xs us ++ g) b ts → BlockBases core (zip (map f xs) us ++ bases_mapped f g) (mapped f b) ts
-      below_has xs us b g ts h = subst (λ (k : Bases). BlockBases core k (mapped f b) ts) (sym (zip_mapped f xs us g)) (block_has b (zip xs us ++ g) ts h)
+      block_has (Bind xs s r b) g ts h = (h.0, (right_has r g h.0 h.1.0, lengths_mapped f xs h.0 h.1.1, under xs h.0 g (mapped f b) ts (block_has b (zip xs h.0 ++ g) ts h.1.2)))
 
       right_has : (r : RightTerm) (g : Bases) (ts : List Base) → RightBases core g r ts → RightBases core (bases_mapped f g) (mapped_right f r) ts
       right_has (Plain p) g ts h = plain_has g p ts h
       right_has (RightTerm.If x a b) g ts h = (has g x Truth h.0, block_has a g ts h.1, block_has b g ts h.2)
       right_has (RightTerm.Loop first start params test body s) g ts h =
-          (has_all g start ts h.0, lengths_mapped f params ts h.1, below_has params ts test g (Truth ∷ []) h.2, below_has params ts body g ts h.3)
+          (has_all g start ts h.0, lengths_mapped f params ts h.1, under params ts g (mapped f test) (Truth ∷ []) (block_has test (zip params ts ++ g) (Truth ∷ []) h.2), under params ts g (mapped f body) ts (block_has body (zip params ts ++ g) ts h.3))
       right_has (RightTerm.Call group xs) g ts h = (h.0, (has_all g xs h.0 h.1.0, h.1.1))
       right_has (RightTerm.With o gens) g ts h = (h.0, (operation_has g o h.0 h.1.0, gens_have gens g h.0 h.1.1, h.1.2))
       right_has (RightTerm.Parted frame t cell o parts) g ts h =

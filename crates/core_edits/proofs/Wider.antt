@@ -78,6 +78,11 @@ mutual
   bound_new_parts (Part k b rest) scope h =
       (h.0, none_joined (bound_in b) (bound_in_parts rest) scope (none_behind (bound_in b) (k.index ∷ []) scope (bound_new b (k.index ∷ scope) h.1)) (bound_new_parts rest scope h.2))
 
+-- below binders
+inner : (xs : List Var) (b : BlockTerm) (scope wider : List Var) → AreWithin scope wider → NoneIn (bound_in b) wider → Scoped (xs ++ scope) b → ((s w : List Var) → AreWithin s w → NoneIn (bound_in b) w → Scoped s b → Scoped w b) → Scoped (xs ++ wider) b
+inner xs b scope wider k n h rec =
+    rec (xs ++ scope) (xs ++ wider) (within_below xs scope wider k) (none_both (bound_in b) xs wider (none_front (bound_in b) xs scope (bound_new b (xs ++ scope) h)) n) h
+
 mutual
   pub block_wider : (b : BlockTerm) (scope wider : List Var) → AreWithin scope wider → NoneIn (bound_in b) wider → Scoped scope b → Scoped wider b
   block_wider (Gives xs) scope wider k n h = all_within xs scope wider k h
@@ -85,12 +90,7 @@ mutual
       let m = none_right xs (bound_in_right r ++ bound_in b) wider n in
       (right_wider r scope wider k (none_left (bound_in_right r) (bound_in b) wider m) h.0,
       none_left xs _ wider n,
-      inner xs b scope wider k (none_right (bound_in_right r) (bound_in b) wider m) h.2)
-
-  -- below binders
-  inner : (xs : List Var) (b : BlockTerm) (scope wider : List Var) → AreWithin scope wider → NoneIn (bound_in b) wider → Scoped (xs ++ scope) b → Scoped (xs ++ wider) b
-  inner xs b scope wider k n h =
-      block_wider b (xs ++ scope) (xs ++ wider) (within_below xs scope wider k) (none_both (bound_in b) xs wider (none_front (bound_in b) xs scope (bound_new b (xs ++ scope) h)) n) h
+      inner xs b scope wider k (none_right (bound_in_right r) (bound_in b) wider m) h.2 (λ u w. block_wider b u w))
 
   right_wider : (r : RightTerm) (scope wider : List Var) → AreWithin scope wider → NoneIn (bound_in_right r) wider → ScopedRight scope r → ScopedRight wider r
   right_wider (Plain p) scope wider k n h = all_within (plain_uses p) scope wider k h
@@ -99,7 +99,7 @@ mutual
   right_wider (RightTerm.Loop first start params test body s) scope wider k n h =
       let m = none_right params (bound_in test ++ bound_in body) wider n in
       (all_within start scope wider k h.0, none_left params _ wider n,
-      inner params test scope wider k (none_left (bound_in test) (bound_in body) wider m) h.2, inner params body scope wider k (none_right (bound_in test) (bound_in body) wider m) h.3)
+      inner params test scope wider k (none_left (bound_in test) (bound_in body) wider m) h.2 (λ u w. block_wider test u w), inner params body scope wider k (none_right (bound_in test) (bound_in body) wider m) h.3 (λ u w. block_wider body u w))
   right_wider (RightTerm.Call g xs) scope wider k n h = all_within xs scope wider k h
   right_wider (RightTerm.With op gens) scope wider k n h = (all_within (op_uses op) scope wider k h.0, gens_wider gens scope wider k n h.1)
   right_wider (RightTerm.Parted f b c op parts) scope wider k n h = (all_within (parted_uses op) scope wider k h.0, parts_wider parts scope wider k n h.1)
@@ -109,23 +109,23 @@ mutual
   gens_wider (Gen g b rest) scope wider k n h =
       let m = none_right (g.index ∷ g.names) (bound_in b ++ bound_in_gens rest) wider n in
       (all_within (head_uses g) scope wider k h.0, none_left (g.index ∷ g.names) (bound_in b ++ bound_in_gens rest) wider n,
-      inner (g.index ∷ g.names) b scope wider k (none_left (bound_in b) (bound_in_gens rest) wider m) h.2, gens_wider rest scope wider k (none_right (bound_in b) (bound_in_gens rest) wider m) h.3)
+      inner (g.index ∷ g.names) b scope wider k (none_left (bound_in b) (bound_in_gens rest) wider m) h.2 (λ u w. block_wider b u w), gens_wider rest scope wider k (none_right (bound_in b) (bound_in_gens rest) wider m) h.3)
 
   parts_wider : (p : PartsTerm) (scope wider : List Var) → AreWithin scope wider → NoneIn (bound_in_parts p) wider → ScopedParts scope p → ScopedParts wider p
   parts_wider NoParts scope wider k n h = tt
   parts_wider (Part g b rest) scope wider k n h =
       let m = none_right (g.index ∷ []) (bound_in b ++ bound_in_parts rest) wider n in
-      (n.0, inner (g.index ∷ []) b scope wider k (none_left (bound_in b) (bound_in_parts rest) wider m) h.1, parts_wider rest scope wider k (none_right (bound_in b) (bound_in_parts rest) wider m) h.2)
+      (n.0, inner (g.index ∷ []) b scope wider k (none_left (bound_in b) (bound_in_parts rest) wider m) h.1 (λ u w. block_wider b u w), parts_wider rest scope wider k (none_right (bound_in b) (bound_in_parts rest) wider m) h.2)
 
 -- ---- bases
 
+base_more : (b : Bool) (t : Base) (s p q : Option Base) → (p ≡ Some t → q ≡ Some t) → cond b s p ≡ Some t → cond b s q ≡ Some t
+base_more true t s p q k h = h
+base_more false t s p q k h = k h
+
 bases_below : (zs g wider : Bases) → BasesWithin g wider → BasesWithin (zs ++ g) (zs ++ wider)
 bases_below [] g wider k = k
-bases_below (z ∷ zs) g wider k x t h = go (eqb z.0.0 x.0) h
-  where
-    go : (b : Bool) → cond b (Some z.1) (base_of (zs ++ g) x) ≡ Some t → cond b (Some z.1) (base_of (zs ++ wider) x) ≡ Some t
-    go true p = p
-    go false p = bases_below zs g wider k x t p
+bases_below (z ∷ zs) g wider k x t h = base_more (eqb z.0.0 x.0) t (Some z.1) (base_of (zs ++ g) x) (base_of (zs ++ wider) x) (bases_below zs g wider k x t) h
 
 module _ (g wider : Bases) (k : BasesWithin g wider) where
   has_wider : (xs : List Var) (ts : List Base) → HasBases g xs ts → HasBases wider xs ts

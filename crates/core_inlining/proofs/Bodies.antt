@@ -108,8 +108,11 @@ module _ (by : ℕ) where
       go false k f = f (sym (λ i. k i || is_in y ps) ∙ h)
 
 module _ (calls : CallMeaning) (turns by : ℕ) (f : FunTerm) where
-  ps : List Var
+  abbrev ps : List Var
   ps = map (raised by) (param_vars f)
+
+  abbrev body : BlockTerm
+  body = mapped (raised by) f.body
 
   -- the raised body gives what the body gives in the function
   body_means : (e : Env) (args : List ArrayValue) → Rattle.core_ir.specs.Scopes.Scoped (param_vars f) f.body → run calls turns (mapped (raised by) f.body) (bind_all e ps args) ≡ run calls turns f.body (bind_all no_variables (param_vars f) args)
@@ -122,17 +125,11 @@ module _ (calls : CallMeaning) (turns by : ℕ) (f : FunTerm) where
       checks_run calls turns s ps (param_types f) xs (chain (bindings body) (chain (checks f.ends ts f.results (results body)) rest)) e count counted (raised_none by (param_vars f) xs c.sources)
       ∙ go (all_have (param_types f) (map e xs))
     where
-      body : BlockTerm
-      body = mapped (raised by) f.body
-
-      args : List ArrayValue
-      args = map e xs
-
       count : length ps ≡ length (param_types f)
-      count = same_length (raised by) (param_vars f) ∙ same_length _ f.params ∙ sym (same_length _ f.params)
+      count = same_length (raised by) (param_vars f) ∙ same_length (λ (p : Var × ArrayType). p.0) f.params ∙ sym (same_length (λ (p : Var × ArrayType). p.1) f.params)
 
       counted : length xs ≡ length (param_types f)
-      counted = c.takes ∙ sym (same_length _ f.params)
+      counted = c.takes ∙ sym (same_length (λ (p : Var × ArrayType). p.1) f.params)
 
       given : length (results body) ≡ length f.results
       given = ap length (results_mapped (raised by) f.body) ∙ same_length (raised by) (results f.body) ∙ c.ends
@@ -143,10 +140,10 @@ module _ (calls : CallMeaning) (turns by : ℕ) (f : FunTerm) where
       inner : AvoidsEach (targets_of (bindings body)) rest
       inner = subst (λ (zs : List Var). AvoidsEach zs rest) (sym (targets_mapped (raised by) f.body)) (raised_avoided by (targets_of (bindings f.body)) rest c.behind)
 
-      go : (b : Bool) → (if b then run calls turns (chain (bindings body) (chain (checks f.ends ts f.results (results body)) rest)) (bind_all e ps args) else fault F7 s) ≡ and_then (if b then function_value turns calls f args else fault F7 s) (λ vs. run calls turns rest (bind_all e ts vs))
+      go : (b : Bool) → (if b then run calls turns (chain (bindings body) (chain (checks f.ends ts f.results (results body)) rest)) (bind_all e ps (map e xs)) else fault F7 s) ≡ and_then (if b then function_value turns calls f (map e xs) else fault F7 s) (λ vs. run calls turns rest (bind_all e ts vs))
       go false = refl
       go true =
-          spliced calls turns (bindings body) ts f.results (results body) f.ends rest (bind_all e ps args) c.gives given none inner
-          ∙ (λ i. and_then (run calls turns (whole body i) (bind_all e ps args)) (λ ws. and_then (results_in f.results f.ends ws) (λ vs. unused_all calls turns ps ts args vs rest e (raised_avoided by (param_vars f) rest c.behind) i)))
-          ∙ (λ i. and_then (body_means e args c.scoped i) (λ ws. and_then (results_in f.results f.ends ws) (λ vs. run calls turns rest (bind_all e ts vs))))
-          ∙ sym (and_then_assoc (run calls turns f.body (bind_all no_variables (param_vars f) args)) (results_in f.results f.ends) (λ vs. run calls turns rest (bind_all e ts vs)))
+          spliced calls turns (bindings body) ts f.results (results body) f.ends rest (bind_all e ps (map e xs)) c.gives given none inner
+          ∙ (λ i. and_then (run calls turns (whole body i) (bind_all e ps (map e xs))) (λ ws. and_then (results_in f.results f.ends ws) (λ vs. unused_all calls turns ps ts (map e xs) vs rest e (raised_avoided by (param_vars f) rest c.behind) i)))
+          ∙ (λ i. and_then (body_means e (map e xs) c.scoped i) (λ ws. and_then (results_in f.results f.ends ws) (λ vs. run calls turns rest (bind_all e ts vs))))
+          ∙ sym (and_then_assoc (run calls turns f.body (bind_all no_variables (param_vars f) (map e xs))) (results_in f.results f.ends) (λ vs. run calls turns rest (bind_all e ts vs)))

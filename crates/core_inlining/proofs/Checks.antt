@@ -50,18 +50,13 @@ less : (m n : ℕ) → suc m ≡ suc n → m ≡ n
 less m n p = omega arith
 
 module _ (calls : CallMeaning) (turns : ℕ) where
-  abbrev Checked : Site → List Var → List ArrayType → List Var → BlockTerm → Env → Answer
-  Checked s ts tys zs rest e = if all_have tys (map e zs) then run calls turns rest (bind_all e ts (map e zs)) else fault F7 s
-
-  pub checks_run : (s : Site) (ts : List Var) (tys : List ArrayType) (zs : List Var) (rest : BlockTerm) (e : Env) → length ts ≡ length tys → length zs ≡ length tys → NoneIn ts zs
-      → run calls turns (chain (checks s ts tys zs) rest) e ≡ (if all_have tys (map e zs) then run calls turns rest (bind_all e ts (map e zs)) else fault F7 s)
-  checks_run s [] [] [] rest e p q n = refl
-  checks_run s (t ∷ ts) (ty ∷ tys) (z ∷ zs) rest e p q n = go (has ty (e z)) refl
+  check_first : (s : Site) (t : Var) (ts : List Var) (ty : ArrayType) (tys : List ArrayType) (z : Var) (zs : List Var) (rest : BlockTerm) (e : Env) → is_in t zs ≡ false
+      → run calls turns (chain (checks s ts tys zs) rest) (bind e t (e z)) ≡ (if all_have tys (map (bind e t (e z)) zs) then run calls turns rest (bind_all (bind e t (e z)) ts (map (bind e t (e z)) zs)) else fault F7 s)
+      → run calls turns (chain (checks s (t ∷ ts) (ty ∷ tys) (z ∷ zs)) rest) e ≡ (if all_have (ty ∷ tys) (map e (z ∷ zs)) then run calls turns rest (bind_all e (t ∷ ts) (map e (z ∷ zs))) else fault F7 s)
+  check_first s t ts ty tys z zs rest e n known = go (has ty (e z)) refl
     where
       inner : run calls turns (chain (checks s ts tys zs) rest) (bind e t (e z)) ≡ (if all_have tys (map e zs) then run calls turns rest (bind_all (bind e t (e z)) ts (map e zs)) else fault F7 s)
-      inner =
-          checks_run s ts tys zs rest (bind e t (e z)) (less (length ts) (length tys) p) (less (length zs) (length tys) q) (none_tail ts zs z n.1)
-          ∙ (λ i. let m = not_in t zs e (e z) (or_false (eqb z.0 t.0) (is_in t zs) n.0).1 i in if all_have tys m then run calls turns rest (bind_all (bind e t (e z)) ts m) else fault F7 s)
+      inner = known ∙ (λ i. let m = not_in t zs e (e z) n i in if all_have tys m then run calls turns rest (bind_all (bind e t (e z)) ts m) else fault F7 s)
 
       go : (b : Bool) → has ty (e z) ≡ b → and_then (one (at_site s (if has ty (e z) then Ok (e z) else Err F7))) (λ vs. run calls turns (chain (checks s ts tys zs) rest) (bind_all e (t ∷ []) vs)) ≡ (if has ty (e z) && all_have tys (map e zs) then run calls turns rest (bind_all (bind e t (e z)) ts (map e zs)) else fault F7 s)
       go true h =
@@ -71,6 +66,13 @@ module _ (calls : CallMeaning) (turns : ℕ) where
       go false h =
           (λ i. and_then (one (at_site s (if h i then Ok (e z) else Err F7))) (λ vs. run calls turns (chain (checks s ts tys zs) rest) (bind_all e (t ∷ []) vs)))
           ∙ sym (λ i. if h i && all_have tys (map e zs) then run calls turns rest (bind_all (bind e t (e z)) ts (map e zs)) else fault F7 s)
+
+  pub checks_run : (s : Site) (ts : List Var) (tys : List ArrayType) (zs : List Var) (rest : BlockTerm) (e : Env) → length ts ≡ length tys → length zs ≡ length tys → NoneIn ts zs
+      → run calls turns (chain (checks s ts tys zs) rest) e ≡ (if all_have tys (map e zs) then run calls turns rest (bind_all e ts (map e zs)) else fault F7 s)
+  checks_run s [] [] [] rest e p q n = refl
+  checks_run s (t ∷ ts) (ty ∷ tys) (z ∷ zs) rest e p q n =
+      check_first s t ts ty tys z zs rest e (or_false (eqb z.0 t.0) (is_in t zs) n.0).1
+      (checks_run s ts tys zs rest (bind e t (e z)) (less (length ts) (length tys) p) (less (length zs) (length tys) q) (none_tail ts zs z n.1))
   checks_run s [] (ty ∷ tys) zs rest e p q n = absurd (omega arith)
   checks_run s (t ∷ ts) [] zs rest e p q n = absurd (omega arith)
   checks_run s [] [] (z ∷ zs) rest e p q n = absurd (omega arith)

@@ -1,10 +1,8 @@
 -- The cells of a parted loop that stands for a with-loop.
-use Rattle.std.proofs.Common.{◌≡◌, ℕ, suc, Bool, true, false, cond, List, [], ◌∷◌, ◌++◌, map, length, Option, Some, None, Result, Ok, Err, refl, sym, ap, subst, ◌∙◌, ℤ}
+use Rattle.std.proofs.Common.{◌≡◌, ℕ, suc, Bool, true, false, cond, List, [], ◌∷◌, map, length, Option, Some, None, Ok, Err, refl, sym, ap, ◌∙◌, ℤ}
 use Rattle.std.specs.Prelude.{if◌then◌else◌, filter}
 use Rattle.sac_base.specs.declared.base.Base.{Base}
-use Rattle.sac_base.specs.declared.faults.Fault.{Fault}
 use Rattle.sac_base.specs.declared.faults.FaultKind.TheVariants.{F6}
-use Rattle.sac_base.specs.declared.form.Form.{Form}
 use Rattle.sac_base.specs.declared.grid.Grid1.{Grid1}
 use Rattle.sac_base.specs.declared.site.Site.{Site}
 use Rattle.sac_base.specs.Arrays.{ArrayValue, same_form}
@@ -14,9 +12,8 @@ use Rattle.sac_base.specs.Outcomes.{Ends, and_then, fault}
 use Rattle.sac_base.specs.WithLoops.{Bounds, Generator, Operation, Plan, Range, holder, held_cell, fits_form, each, cells_of, finish, plan, with_value}
 use Rattle.sac_base.specs.WithLoops
 use Rattle.core_ir.specs.declared.tree.PartedOp.{PartedOp}
-use Rattle.core_ir.specs.Meaning.{Env, Cells, cell_at, cell_form, held, made_of, neutral_fits, parted_value}
+use Rattle.core_ir.specs.Meaning.{Env, Cells, cell_at, cell_form, held, made_of, parted_value}
 use Rattle.core_facts.proofs.Shapes.{ok_same, no_ok}
-use Rattle.core_facts.proofs.Sound.{then_ok}
 use Rattle.core_ir.proofs.Edited.{then_same}
 use Rattle.core_norm.specs.Norm.{filled, or_else, held_by, PartFits, IsParted}
 
