@@ -144,9 +144,11 @@ module _ (f : Var → Var) (apart : (x y : Var) → eqb (f x).0 (f y).0 ≡ eqb 
 
     renamed_gens : (g : GensTerm) → RenamedGens link g (mapped_gens f g)
     renamed_gens NoGens = tt
-    renamed_gens (Gen h b rest) =
-        ((refl, refl, refl, same_count h.names, linked_option h.lower, linked_option h.upper, linked_option h.step, linked_option h.width),
-        subst (λ (S : Link). Renamed S b (mapped f b)) (sym (below_all (h.index ∷ h.names))) (renamed b), renamed_gens rest)
+    renamed_gens (Gen h b rest) = (
+      (refl, refl, refl, same_count h.names, linked_option h.lower, linked_option h.upper, linked_option h.step, linked_option h.width),
+      subst (λ (S : Link). Renamed S b (mapped f b)) (sym (below_all (h.index ∷ h.names))) (renamed b),
+      renamed_gens rest,
+    )
 
     renamed_parts : (p : PartsTerm) → RenamedParts link p (mapped_parts f p)
     renamed_parts NoParts = tt

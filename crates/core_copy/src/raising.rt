@@ -62,11 +62,7 @@ fn copy_right(alloc: Global, right: &Right, by: u32) -> Result<Right, Memory>
         Right::ShapeOf(x) => Ok(Right::ShapeOf(raise(*x, by))),
         Right::Reshape(x, y) => Ok(Right::Reshape(raise(*x, by), raise(*y, by))),
         Right::Select(x, y) => Ok(Right::Select(raise(*x, by), raise(*y, by))),
-        Right::Replace(x, y, z) => Ok(Right::Replace(
-            raise(*x, by),
-            raise(*y, by),
-            raise(*z, by),
-        )),
+        Right::Replace(x, y, z) => Ok(Right::Replace(raise(*x, by), raise(*y, by), raise(*z, by))),
         Right::If { cond, yes, no } => Ok(Right::If {
             cond: raise(*cond, by),
             yes: copy_block(alloc, yes, by)?,

@@ -223,10 +223,14 @@ module _ (f : Var → Var) (apart : KeepsApart f) where
 
       gens_have : (gs : GensTerm) (g : Bases) (t : Base) → GensBases core g gs t → GensBases core (bases_mapped f g) (mapped_gens f gs) t
       gens_have NoGens g t h = tt
-      gens_have (Gen k b rest) g t h =
-          (option_has g k.lower Int h.0, option_has g k.upper Int h.1, option_has g k.step Int h.2, option_has g k.width Int h.3,
-          subst (λ (z : Bases). BlockBases core z (mapped f b) (t ∷ [])) (sym (ints_mapped f (k.index ∷ k.names) g)) (block_has b (ints (k.index ∷ k.names) ++ g) (t ∷ []) h.4),
-          gens_have rest g t h.5)
+      gens_have (Gen k b rest) g t h = (
+        option_has g k.lower Int h.0,
+        option_has g k.upper Int h.1,
+        option_has g k.step Int h.2,
+        option_has g k.width Int h.3,
+        subst (λ (z : Bases). BlockBases core z (mapped f b) (t ∷ [])) (sym (ints_mapped f (k.index ∷ k.names) g)) (block_has b (ints (k.index ∷ k.names) ++ g) (t ∷ []) h.4),
+        gens_have rest g t h.5,
+      )
 
       parts_have : (ps : PartsTerm) (g : Bases) (t : Base) → PartsBases core g ps t → PartsBases core (bases_mapped f g) (mapped_parts f ps) t
       parts_have NoParts g t h = tt

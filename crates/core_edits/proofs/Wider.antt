@@ -87,19 +87,23 @@ mutual
   pub block_wider : (b : BlockTerm) (scope wider : List Var) → AreWithin scope wider → NoneIn (bound_in b) wider → Scoped scope b → Scoped wider b
   block_wider (Gives xs) scope wider k n h = all_within xs scope wider k h
   block_wider (Bind xs s r b) scope wider k n h =
-      let m = none_right xs (bound_in_right r ++ bound_in b) wider n in
-      (right_wider r scope wider k (none_left (bound_in_right r) (bound_in b) wider m) h.0,
-      none_left xs _ wider n,
-      inner xs b scope wider k (none_right (bound_in_right r) (bound_in b) wider m) h.2 (λ u w. block_wider b u w))
+      let m = none_right xs (bound_in_right r ++ bound_in b) wider n in (
+        right_wider r scope wider k (none_left (bound_in_right r) (bound_in b) wider m) h.0,
+        none_left xs _ wider n,
+        inner xs b scope wider k (none_right (bound_in_right r) (bound_in b) wider m) h.2 (λ u w. block_wider b u w),
+      )
 
   right_wider : (r : RightTerm) (scope wider : List Var) → AreWithin scope wider → NoneIn (bound_in_right r) wider → ScopedRight scope r → ScopedRight wider r
   right_wider (Plain p) scope wider k n h = all_within (plain_uses p) scope wider k h
   right_wider (RightTerm.If x a b) scope wider k n h =
       (k x h.0, block_wider a scope wider k (none_left (bound_in a) (bound_in b) wider n) h.1, block_wider b scope wider k (none_right (bound_in a) (bound_in b) wider n) h.2)
   right_wider (RightTerm.Loop first start params test body s) scope wider k n h =
-      let m = none_right params (bound_in test ++ bound_in body) wider n in
-      (all_within start scope wider k h.0, none_left params _ wider n,
-      inner params test scope wider k (none_left (bound_in test) (bound_in body) wider m) h.2 (λ u w. block_wider test u w), inner params body scope wider k (none_right (bound_in test) (bound_in body) wider m) h.3 (λ u w. block_wider body u w))
+      let m = none_right params (bound_in test ++ bound_in body) wider n in (
+        all_within start scope wider k h.0,
+        none_left params _ wider n,
+        inner params test scope wider k (none_left (bound_in test) (bound_in body) wider m) h.2 (λ u w. block_wider test u w),
+        inner params body scope wider k (none_right (bound_in test) (bound_in body) wider m) h.3 (λ u w. block_wider body u w),
+      )
   right_wider (RightTerm.Call g xs) scope wider k n h = all_within xs scope wider k h
   right_wider (RightTerm.With op gens) scope wider k n h = (all_within (op_uses op) scope wider k h.0, gens_wider gens scope wider k n h.1)
   right_wider (RightTerm.Parted f b c op parts) scope wider k n h = (all_within (parted_uses op) scope wider k h.0, parts_wider parts scope wider k n h.1)
@@ -107,9 +111,12 @@ mutual
   gens_wider : (g : GensTerm) (scope wider : List Var) → AreWithin scope wider → NoneIn (bound_in_gens g) wider → ScopedGens scope g → ScopedGens wider g
   gens_wider NoGens scope wider k n h = tt
   gens_wider (Gen g b rest) scope wider k n h =
-      let m = none_right (g.index ∷ g.names) (bound_in b ++ bound_in_gens rest) wider n in
-      (all_within (head_uses g) scope wider k h.0, none_left (g.index ∷ g.names) (bound_in b ++ bound_in_gens rest) wider n,
-      inner (g.index ∷ g.names) b scope wider k (none_left (bound_in b) (bound_in_gens rest) wider m) h.2 (λ u w. block_wider b u w), gens_wider rest scope wider k (none_right (bound_in b) (bound_in_gens rest) wider m) h.3)
+      let m = none_right (g.index ∷ g.names) (bound_in b ++ bound_in_gens rest) wider n in (
+        all_within (head_uses g) scope wider k h.0,
+        none_left (g.index ∷ g.names) (bound_in b ++ bound_in_gens rest) wider n,
+        inner (g.index ∷ g.names) b scope wider k (none_left (bound_in b) (bound_in_gens rest) wider m) h.2 (λ u w. block_wider b u w),
+        gens_wider rest scope wider k (none_right (bound_in b) (bound_in_gens rest) wider m) h.3,
+      )
 
   parts_wider : (p : PartsTerm) (scope wider : List Var) → AreWithin scope wider → NoneIn (bound_in_parts p) wider → ScopedParts scope p → ScopedParts wider p
   parts_wider NoParts scope wider k n h = tt
@@ -124,7 +131,7 @@ base_more true t s p q k h = h
 base_more false t s p q k h = k h
 
 bases_below : (zs g wider : Bases) → BasesWithin g wider → BasesWithin (zs ++ g) (zs ++ wider)
-bases_below [] g wider k = k
+bases_below [] g wider k x t h = k x t h
 bases_below (z ∷ zs) g wider k x t h = base_more (eqb z.0.0 x.0) t (Some z.1) (base_of (zs ++ g) x) (base_of (zs ++ wider) x) (bases_below zs g wider k x t) h
 
 module _ (g wider : Bases) (k : BasesWithin g wider) where
@@ -180,20 +187,26 @@ module _ (core : CoreTerm) where
     right_bases_wider : (r : RightTerm) (g wider : Bases) (ts : List Base) → BasesWithin g wider → RightBases core g r ts → RightBases core wider r ts
     right_bases_wider (Plain p) g wider ts k h = plain_wider g wider k p ts h
     right_bases_wider (RightTerm.If x a b) g wider ts k h = (k x Truth h.0, block_bases_wider a g wider ts k h.1, block_bases_wider b g wider ts k h.2)
-    right_bases_wider (RightTerm.Loop first start params test body s) g wider ts k h =
-        (has_wider g wider k start ts h.0, h.1,
-        block_bases_wider test (zip params ts ++ g) (zip params ts ++ wider) (Truth ∷ []) (bases_below (zip params ts) g wider k) h.2,
-        block_bases_wider body (zip params ts ++ g) (zip params ts ++ wider) ts (bases_below (zip params ts) g wider k) h.3)
+    right_bases_wider (RightTerm.Loop first start params test body s) g wider ts k h = (
+      has_wider g wider k start ts h.0,
+      h.1,
+      block_bases_wider test (zip params ts ++ g) (zip params ts ++ wider) (Truth ∷ []) (bases_below (zip params ts) g wider k) h.2,
+      block_bases_wider body (zip params ts ++ g) (zip params ts ++ wider) ts (bases_below (zip params ts) g wider k) h.3,
+    )
     right_bases_wider (RightTerm.Call group xs) g wider ts k h = (h.0, (has_wider g wider k xs h.0 h.1.0, h.1.1))
     right_bases_wider (RightTerm.With o gens) g wider ts k h = (h.0, (operation_wider g wider k o h.0 h.1.0, gens_bases_wider gens g wider h.0 k h.1.1, h.1.2))
     right_bases_wider (RightTerm.Parted frame t cell o parts) g wider ts k h = (parted_wider g wider k o t h.0, parts_bases_wider parts g wider t k h.1, h.2, h.3)
 
     gens_bases_wider : (gs : GensTerm) (g wider : Bases) (t : Base) → BasesWithin g wider → GensBases core g gs t → GensBases core wider gs t
     gens_bases_wider NoGens g wider t k h = tt
-    gens_bases_wider (Gen x b rest) g wider t k h =
-        (option_wider g wider k x.lower Int h.0, option_wider g wider k x.upper Int h.1, option_wider g wider k x.step Int h.2, option_wider g wider k x.width Int h.3,
-        block_bases_wider b (ints (x.index ∷ x.names) ++ g) (ints (x.index ∷ x.names) ++ wider) (t ∷ []) (bases_below (ints (x.index ∷ x.names)) g wider k) h.4,
-        gens_bases_wider rest g wider t k h.5)
+    gens_bases_wider (Gen x b rest) g wider t k h = (
+      option_wider g wider k x.lower Int h.0,
+      option_wider g wider k x.upper Int h.1,
+      option_wider g wider k x.step Int h.2,
+      option_wider g wider k x.width Int h.3,
+      block_bases_wider b (ints (x.index ∷ x.names) ++ g) (ints (x.index ∷ x.names) ++ wider) (t ∷ []) (bases_below (ints (x.index ∷ x.names)) g wider k) h.4,
+      gens_bases_wider rest g wider t k h.5,
+    )
 
     parts_bases_wider : (ps : PartsTerm) (g wider : Bases) (t : Base) → BasesWithin g wider → PartsBases core g ps t → PartsBases core wider ps t
     parts_bases_wider NoParts g wider t k h = tt

@@ -1,6 +1,6 @@
 -- The place of an index in its frame.
-use Rattle.std.proofs.Common.{◌≡◌, ℕ, zero, suc, ◌+◌, ◌*◌, ◌/◌, ◌%◌, ◌<◌, ◌≤◌, List, [], ◌∷◌, ◌++◌, length, get_or, take, drop, map, Bool, true, false, refl, sym, ap, ◌∙◌, subst, arith, ℤ, pos, negsuc, ◌+ℤ◌, ◌-ℤ◌, ◌≤ℤ◌, ◌<ℤ◌, All, inl, inr, cond}
-use Rattle.std.specs.Prelude.{◌&&◌, filter, flat_map}
+use Rattle.std.proofs.Common.{◌≡◌, ℕ, suc, ◌+◌, ◌*◌, ◌/◌, ◌%◌, ◌<◌, List, [], ◌∷◌, get_or, map, Bool, true, false, refl, sym, ap, ◌∙◌, arith, ℤ, pos, negsuc, ◌+ℤ◌, ◌-ℤ◌, ◌≤ℤ◌, ◌<ℤ◌, All, inl, inr}
+use Rattle.std.specs.Prelude.{◌&&◌}
 use Rattle.std.proofs.lemmas.Int.{ints}
 use Rattle.std.proofs.lemmas.Nat.{div-mul-add, mod-mul-add}
 use Rattle.std.proofs.lemmas.List.Elements.{All-head, All-tail}
@@ -9,7 +9,7 @@ use Rattle.sac_base.specs.declared.grid.Grid1.{Grid1}
 use Rattle.sac_base.specs.Arrays.{size}
 use Rattle.sac_base.specs.Grids.{has_index, has_vector, members}
 use Rattle.sac_base.specs.Places.{vector_at}
-use Rattle.sac_base.specs.WithLoops.{Span, span_of, box, box_size, shape_spans, distance}
+use Rattle.sac_base.specs.WithLoops.{span_of, box, shape_spans, distance}
 use Rattle.sac_base.proofs.GridFacts.{has_facts}
 use Rattle.core_ir.specs.Meaning.{extents}
 use Rattle.array_with_loops.specs.GridFrames.{box_range}

@@ -1,9 +1,8 @@
 -- A selection from a parted loop whose cells never fault is its cell.
-use Rattle.std.proofs.Common.{◌≡◌, ℕ, zero, suc, ◌+◌, ◌*◌, ◌<◌, List, [], ◌∷◌, ◌++◌, length, get_or, take, drop, map, Bool, true, false, refl, sym, ap, ◌∙◌, subst, arith, ℤ, pos, All, cond, Option, Some, None, Result, Ok, Err}
-use Rattle.std.specs.Prelude.{◌&&◌, filter, flat_map, if◌then◌else◌}
+use Rattle.std.proofs.Common.{◌≡◌, ℕ, zero, suc, ◌*◌, ◌<◌, List, [], ◌∷◌, ◌++◌, length, get_or, take, drop, map, Bool, true, false, refl, sym, ap, ◌∙◌, arith, ℤ, cond, Option, Some, Ok}
+use Rattle.std.specs.Prelude.{filter, flat_map, if◌then◌else◌}
 use Rattle.sac_base.specs.declared.base.Base.{Base}
 use Rattle.sac_base.specs.declared.base.Base.TheVariants.{Int}
-use Rattle.sac_base.specs.declared.faults.Fault.{Fault}
 use Rattle.sac_base.specs.declared.faults.FaultKind.TheVariants.{F6}
 use Rattle.sac_base.specs.declared.grid.Grid1.{Grid1}
 use Rattle.sac_base.specs.declared.site.Site.{Site}
@@ -11,12 +10,11 @@ use Rattle.sac_base.specs.Arrays.{ArrayValue, size, scalar, vector}
 use Rattle.sac_base.specs.Grids.{has_vector, members, box_indices}
 use Rattle.sac_base.specs.Operators.{all_of, with_first}
 use Rattle.sac_base.specs.Outcomes.{Ends, and_then, fault}
-use Rattle.sac_base.specs.Parts.{Part, part_at, select, selected}
-use Rattle.sac_base.specs.Places.{vector_at}
+use Rattle.sac_base.specs.Parts.{part_at, select, selected}
 use Rattle.sac_base.specs.WithLoops.{box, shape_spans, each}
 use Rattle.core_ir.specs.declared.tree.PartedOp.{PartedOp}
 use Rattle.core_ir.specs.declared.tree.PartedOp.TheVariants as parted
-use Rattle.core_ir.specs.Meaning.{Env, Cells, cell_at, cell_form, elements_of, extents, joined, made_of, neutral_fits, parted_value}
+use Rattle.core_ir.specs.Meaning.{Env, Cells, cell_at, cell_form, elements_of, extents, made_of, neutral_fits, parted_value}
 use Rattle.array_with_loops.proofs.CellSteps.{length_indices, part_at_front}
 use Rattle.core_fold.specs.Cells.{IsBox, HasCells, MakesArray}
 use Rattle.core_fold.proofs.Places.{members_are, index_of_place, place_found}

@@ -24,21 +24,21 @@ CellsAreSelected =
     (frame : List Grid1) (base : Base) (op : PartedOp) (parts : List Cells) (s : Site) (e : Env) (at : List ℤ → ℤ) → IsBox frame → MakesArray op →
     HasCells frame base parts at →
     (a : ArrayValue) × ((parted_value frame base [] op parts s e ≡ Ok a) ×
-        ((v : List ℤ) → has_vector frame v ≡ true → select a (vector Int v) ≡ Ok (scalar base (at v))))
+    ((v : List ℤ) → has_vector frame v ≡ true → select a (vector Int v) ≡ Ok (scalar base (at v))))
 
 -- where the binding of a producer was passed on the way, a selection from it at an index in its frame, inside a consumer, is the bindings of the part
 -- that holds the index, with other variables
 abbrev pub SelectionsAreCells : Type 0
 SelectionsAreCells =
     (call : CallMeaning) (turns : ℕ) (k : Known) (f : Env) (frame : List Grid1) (base : Base) (op : PartedOp) (parts : PartsTerm) (at : List ℤ → ℤ)
-        (h : PartHead) (body : BlockTerm) (link : Link) (p i t j z : Var) (s0 s s1 s2 : Site) (ls : List LetTerm) (rest : BlockTerm) (v : List ℤ) →
+    (h : PartHead) (body : BlockTerm) (link : Link) (p i t j z : Var) (s0 s s1 s2 : Site) (ls : List LetTerm) (rest : BlockTerm) (v : List ℤ) →
     Holds call turns k f → PassedIn k.passed (record { targets = p ∷ []; site = s0; right = Parted frame base [] op parts }) → IsBox frame →
     MakesArray op → HasCells frame base (cells call turns parts f) at → f i ≡ vector Int v → has_vector frame v ≡ true →
     HeldBy (cells call turns parts f) v (record { grid = h.grid; site = h.site; cell = λ u. first (run call turns body (bind f h.index (vector Int u))) }) →
     Renamed link body (chain ls (Gives (z ∷ []))) → Agree link (bind f h.index (vector Int v)) (bind f j (vector Int v)) →
     AvoidsEach (targets_of ls) rest → Avoids j rest →
     run call turns (Bind (t ∷ []) s (Plain (Select p i)) rest) f ≡
-        run call turns (Bind (j ∷ []) s1 (Plain (Copy i)) (chain ls (Bind (t ∷ []) s2 (Plain (Copy z)) rest))) f
+    run call turns (Bind (j ∷ []) s1 (Plain (Copy i)) (chain ls (Bind (t ∷ []) s2 (Plain (Copy z)) rest))) f
 
 -- a part may be cut into pieces with its site and its cells that together have its indices
 abbrev pub PartsMayBeCut : Type 0

@@ -29,7 +29,9 @@ use Rattle.core_bases.proofs.Bound.{vars, BoundBases, bound, distinct_left, dist
 use Rattle.core_bases.proofs.Backward.{below}
 use Rattle.core_bases.proofs.Called.{calls_typed}
 use Rattle.core_loops.specs.Steps.{FoldsHere}
-use Rattle.core_fold_steps.specs.Step.{replaced_at, FoldStep}
+use Rattle.core_calls.specs.Replaced.{replaced_at}
+use Rattle.core_calls.proofs.Replaced.{heads_kept, at_place}
+use Rattle.core_fold_steps.specs.Step.{FoldStep}
 use Rattle.core_fold_steps.proofs.Places.{changed}
 use Rattle.core_fold_steps.proofs.Step.{fold_here}
 
@@ -78,24 +80,6 @@ function_at : (core : CoreTerm) (fs : List FunTerm) (place : ℕ) (f : FunTerm) 
 function_at core [] place f h e = absurd (let q : ◌≡◌ {A = Option FunTerm} None (Some f) = e in cc)
 function_at core (x ∷ fs) zero f h e = subst (IsFunction core) (ap (λ o. unwrap_or o x) e) (All-head (IsFunction core) x fs h)
 function_at core (x ∷ fs) (suc place) f h e = function_at core fs place f (All-tail (IsFunction core) x fs h) e
-
-same_heads : (fs : List FunTerm) → SameHeads fs fs
-same_heads [] = tt
-same_heads (f ∷ fs) = (record { site = refl; types = refl; inlines = refl }, same_heads fs)
-
-heads_kept : (fs : List FunTerm) (n : ℕ) (f : FunTerm) (b : BlockTerm) → slice_get fs n ≡ Some f → SameHeads fs (replaced_at fs n (record f { body = b }))
-heads_kept [] n f b e = tt
-heads_kept (x ∷ fs) zero f b e =
-    let q : x ≡ f = ap (λ o. unwrap_or o x) e in
-    (record { site = λ i. (q i).site; types = λ i. param_types (q i); inlines = λ i. (q i).is_inline }, same_heads fs)
-heads_kept (x ∷ fs) (suc n) f b e = (record { site = refl; types = refl; inlines = refl }, heads_kept fs n f b e)
-
-at_place : (fs : List FunTerm) (n place : ℕ) (f g : FunTerm) → slice_get fs n ≡ Some f → (slice_get fs place ≡ slice_get (replaced_at fs n g) place) ⊎ ((slice_get fs place ≡ Some f) × (slice_get (replaced_at fs n g) place ≡ Some g))
-at_place [] n place f g e = inl refl
-at_place (x ∷ fs) zero zero f g e = inr (e, refl)
-at_place (x ∷ fs) zero (suc place) f g e = inl refl
-at_place (x ∷ fs) (suc n) zero f g e = inl refl
-at_place (x ∷ fs) (suc n) (suc place) f g e = at_place fs n place f g e
 
 -- ---- one body changed
 

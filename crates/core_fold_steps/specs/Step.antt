@@ -13,6 +13,7 @@ use Rattle.core_facts.specs.Full.{FullInside}
 use Rattle.core_bases.specs.Typed.{Typed}
 use Rattle.core_settled.specs.Called.{called, params_facts}
 use Rattle.core_loops.specs.Steps.{fact_ways, FoldsHere}
+use Rattle.core_calls.specs.Replaced.{replaced_at}
 
 -- blocks that mean the same in each environment with these facts, and with bases and a scope in which the first is well formed
 abbrev pub SameAt : CoreTerm → CallMeaning → ℕ → Facts → BlockTerm → BlockTerm → Type 0
@@ -20,12 +21,6 @@ SameAt core calls turns k b c =
     (scope : List Var) (g : Bases) (ts : List Base)
         (e : Env) → BlockBases core g b ts → Distinct (bound_in b) → Scoped scope b → FullInside calls turns b → Typed g e → AreSound k e →
         run calls turns b e ≡ run calls turns c e
-
--- the functions with another one at a place
-abbrev pub replaced_at : List FunTerm → ℕ → FunTerm → List FunTerm
-replaced_at [] n g = []
-replaced_at (f ∷ fs) zero g = g ∷ fs
-replaced_at (f ∷ fs) (suc n) g = f ∷ replaced_at fs n g
 
 -- one function is changed at one place, where a producer is folded into a consumer; `above` is one more than the greatest number of a variable of a
 -- function

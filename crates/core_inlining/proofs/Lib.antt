@@ -1,3 +1,5 @@
 mod Checks
 mod Bodies
 mod Calls
+mod Edits
+mod Step

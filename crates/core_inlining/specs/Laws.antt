@@ -4,10 +4,11 @@ use Rattle.sac_base.specs.declared.site.Site.{Site}
 use Rattle.sac_base.specs.Outcomes.{and_then}
 use Rattle.core_ir.specs.declared.tree.Var.{Var}
 use Rattle.core_ir.specs.Meaning.{Env, CallMeaning, bind_all, run}
-use Rattle.core_ir.specs.Outcome.{RunMeaning, group_at, call_by, run_inline}
+use Rattle.core_ir.specs.Outcome.{RunMeaning, SameOutcome, group_at, call_by, run_inline}
 use Rattle.core_ir.specs.Terms.{BlockTerm, FunTerm, CoreTerm, Bind, Call}
 use Rattle.core_calls.specs.Nests.{CallsBelow}
 use Rattle.core_inlining.specs.Inlined.{CanInline, inlined, instance_value}
+use Rattle.core_inlining.specs.Step.{InlineStep}
 
 -- the function's body in the place of a call, and what follows, mean what the function gives for the arguments and what follows it
 abbrev pub BodiesMeanTheirFunctions : Type 0
@@ -22,3 +23,7 @@ CallsMayBeInlined =
     group_at core group ≡ place ∷ [] → slice_get core.functions place ≡ Some f → f.is_inline ≡ true → place < nest → CanInline by f ts xs rest →
     run (call_by core outer (run_inline core turns outer nest)) turns (inlined by f ts s xs rest) e ≡
     run (call_by core outer (run_inline core turns outer nest)) turns (Bind ts s (Call group xs) rest) e
+
+-- an inlining step keeps the outcome
+abbrev pub InlineStepsKeepOutcomes : Type 0
+InlineStepsKeepOutcomes = (a b : CoreTerm) → InlineStep a b → CallsBelow a → CallsBelow b → SameOutcome a b

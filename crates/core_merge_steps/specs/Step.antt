@@ -16,7 +16,7 @@ use Rattle.core_facts.specs.Facts.{Facts}
 use Rattle.core_settled.specs.Called.{called, params_facts}
 use Rattle.core_loops.specs.Pairs.{Nests, IsScalarisable}
 use Rattle.core_loops.specs.Steps.{fact_ways, itself, append_parts}
-use Rattle.core_fold_steps.specs.Step.{replaced_at}
+use Rattle.core_calls.specs.Replaced.{replaced_at}
 
 -- bindings of the components of u from the j-th on, each by a constant and a selection
 abbrev pub Picks : Var → ℕ → List Var → List LetTerm → Type 0

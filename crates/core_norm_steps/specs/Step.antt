@@ -12,7 +12,7 @@ use Rattle.core_ir.specs.WellFormed.{Bases, base_of, BlockBases, RightBases, Gen
 use Rattle.core_facts.specs.Facts.{Facts}
 use Rattle.core_settled.specs.Called.{called, params_facts}
 use Rattle.core_loops.specs.Steps.{fact_ways}
-use Rattle.core_fold_steps.specs.Step.{replaced_at}
+use Rattle.core_calls.specs.Replaced.{replaced_at}
 use Rattle.core_norm_steps.specs.Genarray.{GenarrayParted}
 use Rattle.core_norm_steps.specs.Modarray.{ModarrayParted}
 use Rattle.core_norm_steps.specs.Fold.{FoldParted}

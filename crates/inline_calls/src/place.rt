@@ -34,7 +34,14 @@ pub fn inlined_bindings(
     let mut lets = Vec::new(alloc);
     push_checks(alloc, &mut lets, site, &params, &types, args)?;
     let results = push_body(&mut lets, body)?;
-    push_checks(alloc, &mut lets, function.ends, targets, &function.results, &results)?;
+    push_checks(
+        alloc,
+        &mut lets,
+        function.ends,
+        targets,
+        &function.results,
+        &results,
+    )?;
     Ok(lets)
 }
 
@@ -70,13 +77,7 @@ fn push_checks(
     Ok(())
 }
 
-fn check(
-    alloc: Global,
-    target: Var,
-    site: Site,
-    source: Var,
-    ty: &ArrayType,
-) -> Result<Let, Memory>
+fn check(alloc: Global, target: Var, site: Site, source: Var, ty: &ArrayType) -> Result<Let, Memory>
     ensures { IfOk result (λ l. let_term l ≡ record { targets = target ∷ []; site = site; right = Plain (Check source ty.now) }) }
 {
     let mut targets = Vec::new(alloc);
