@@ -3,3 +3,4 @@ mod Bodies
 mod Calls
 mod Edits
 mod Step
+mod Backward

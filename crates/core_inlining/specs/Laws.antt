@@ -8,7 +8,7 @@ use Rattle.core_ir.specs.Outcome.{RunMeaning, SameOutcome, group_at, call_by, ru
 use Rattle.core_ir.specs.Terms.{BlockTerm, FunTerm, CoreTerm, Bind, Call}
 use Rattle.core_calls.specs.Nests.{CallsBelow}
 use Rattle.core_inlining.specs.Inlined.{CanInline, inlined, instance_value}
-use Rattle.core_inlining.specs.Step.{InlineStep}
+use Rattle.core_inlining.specs.Step.{InlineSteps}
 
 -- the function's body in the place of a call, and what follows, mean what the function gives for the arguments and what follows it
 abbrev pub BodiesMeanTheirFunctions : Type 0
@@ -24,6 +24,6 @@ CallsMayBeInlined =
     run (call_by core outer (run_inline core turns outer nest)) turns (inlined by f ts s xs rest) e ≡
     run (call_by core outer (run_inline core turns outer nest)) turns (Bind ts s (Call group xs) rest) e
 
--- an inlining step keeps the outcome
+-- inlining steps keep the outcome, and inline functions call below their places after them
 abbrev pub InlineStepsKeepOutcomes : Type 0
-InlineStepsKeepOutcomes = (a b : CoreTerm) → InlineStep a b → CallsBelow a → CallsBelow b → SameOutcome a b
+InlineStepsKeepOutcomes = (a b : CoreTerm) → InlineSteps a b → CallsBelow a → SameOutcome a b × CallsBelow b

@@ -40,3 +40,8 @@ pub record InlineStep (a b : CoreTerm) : Type 0 where
   pub found : slice_get a.functions place ≡ Some function
   pub edited : Edited Nothing no_ways (InlinedHere a) tt function.body body
   pub changed : b ≡ record a { functions = replaced_at a.functions place (record function { body = body }) }
+
+-- such steps one after another
+pub data InlineSteps : CoreTerm → CoreTerm → Type 0 where
+  none : {a : CoreTerm} → InlineSteps a a
+  step : {a b c : CoreTerm} → InlineStep a b → InlineSteps b c → InlineSteps a c

@@ -14,7 +14,8 @@ pub fn calls_may_be_inlined()
     ensures { CallsMayBeInlined }
 {}
 
-/// Law: a core in which one call, anywhere in one function, is replaced by the body of the group's only instance, which is inline, has the same outcome.
+/// Law: a core in which calls, each anywhere in one function, are replaced by the bodies of their groups' only instances, which are inline, one after
+/// another, has the same outcome, and its inline functions call below their places too.
 pub fn inline_steps_keep_the_outcome()
     ensures { InlineStepsKeepOutcomes }
 {}

@@ -1,5 +1,5 @@
 -- A loop over a product of frames is a loop of loops.
-use Rattle.std.proofs.Common.{◌≡◌, ℕ, zero, suc, Bool, true, false, cond, List, [], ◌∷◌, ◌++◌, map, Option, Some, None, Result, Ok, Err, refl, sym, ap, subst, ◌∙◌, ℤ, pos, All}
+use Rattle.std.proofs.Common.{◌≡◌, ℕ, Bool, true, false, cond, List, [], ◌∷◌, ◌++◌, map, Option, Some, Ok, Err, refl, sym, ap, ◌∙◌, ℤ, pos, All}
 use Rattle.std.specs.Prelude.{flat_map, filter}
 use Rattle.std.proofs.lemmas.List.Elements.{All-append}
 use Rattle.sac_base.specs.declared.base.Base.{Base}
@@ -154,8 +154,8 @@ merged f g t cell new old s e df dg h outer =
     let G = cell_at (cell_form t cell) old in
     let at : (v : List ℤ) → has_vector f v ≡ true → elements (each C (beside (members g) v)) ≡ cell_elements (G v) =
     λ v q. let o = outer v q in
-        ap elements (each_beside C (cell_at (cell_form t []) o.0) v (has_vector g) (box_indices (map (λ (a : Grid1). a.lo) g) (map (λ (a : Grid1). a.hi) g)) o.2)
-        ∙ sym (ap cell_elements o.1 ∙ inner_elements t (extents g ++ []) (each (cell_at (cell_form t []) o.0) (members g))) in
+    ap elements (each_beside C (cell_at (cell_form t []) o.0) v (has_vector g) (box_indices (map (λ (a : Grid1). a.lo) g) (map (λ (a : Grid1). a.hi) g)) o.2)
+    ∙ sym (ap cell_elements o.1 ∙ inner_elements t (extents g ++ []) (each (cell_at (cell_form t []) o.0) (members g))) in
     by_elements t (extents (f ++ g) ++ []) (each C (members (f ++ g)))
     ∙ (λ i. whole t (shape_of_both f g cell h i) (elements (each C (product f g df dg i))))
     ∙ ap (whole t (extents f ++ cell)) (nested C G (members g) (has_vector f) (box_indices (map (λ (a : Grid1). a.lo) f) (map (λ (a : Grid1). a.hi) f)) at)

@@ -1,34 +1,24 @@
 -- With-loops and parted loops give arrays that have as many cells as their shapes say.
-use Rattle.std.proofs.Common.{◌≡◌, ℕ, zero, suc, ◌+◌, ◌*◌, ◌-◌, ◌<◌, ◌≤◌, ◌⊎◌, inl, inr, Bool, true, false, ◌&&◌, cond, List, [], ◌∷◌, ◌++◌, map, length, drop, take, Option, Some, None, Result, Ok, Err, refl, sym, ap, subst, ◌∙◌, arith, ltb, lt-ltb, ℤ, pos, negsuc, ◌+ℤ◌, All, take-append-drop}
-use Rattle.std.specs.Prelude.{if◌then◌else◌, ◌||◌, flat_map, filter, fold, nat_le}
-use Rattle.std.specs.List.{zip, list_all, list_any}
+use Rattle.std.proofs.Common.{◌≡◌, ℕ, zero, suc, ◌+◌, ◌*◌, ◌<◌, ◌≤◌, Bool, true, false, ◌&&◌, List, [], ◌∷◌, ◌++◌, map, length, drop, take, Option, Some, None, Result, Ok, Err, refl, sym, ap, subst, ◌∙◌, arith, lt-ltb, ℤ, pos, take-append-drop}
+use Rattle.std.specs.Prelude.{if◌then◌else◌, flat_map, fold, nat_le}
+use Rattle.std.specs.List.{zip}
 use Rattle.std.proofs.lemmas.List.{length-append}
 use Rattle.std.proofs.lemmas.Slice.Eq.{bytes_eq-Decides}
-use Rattle.sac_base.specs.declared.base.Base.{Base}
-use Rattle.sac_base.specs.declared.faults.Fault.{Fault}
 use Rattle.sac_base.specs.declared.faults.FaultKind.{FaultKind}
-use Rattle.sac_base.specs.declared.faults.FaultKind.TheVariants.{F4, F5, F6, F8}
+use Rattle.sac_base.specs.declared.faults.FaultKind.TheVariants.{F4, F6, F8}
 use Rattle.sac_base.specs.declared.form.Form.{Form}
-use Rattle.sac_base.specs.declared.grid.Grid1.{Grid1}
 use Rattle.sac_base.specs.declared.op.Op.{Op}
 use Rattle.sac_base.specs.declared.site.Site.{Site}
-use Rattle.sac_base.specs.Arrays.{ArrayValue, IsFull, size, MOST, form_of, same_form, same_shape, same_base}
-use Rattle.sac_base.specs.Grids.{has_vector}
-use Rattle.sac_base.specs.Grids
+use Rattle.sac_base.specs.Arrays.{ArrayValue, IsFull, size, MOST, form_of, same_shape, same_base}
 use Rattle.sac_base.specs.Operators.{binary, all_of, with_first}
 use Rattle.sac_base.specs.Outcomes.{Ends, and_then, fault}
-use Rattle.sac_base.specs.Parts.{Part, further, part_at, cells_at, shape_of_numbers, vector_of}
+use Rattle.sac_base.specs.Parts.{further, part_at, shape_of_numbers, vector_of}
 use Rattle.sac_base.specs.WithLoops.{Bounds, Generator, Operation, genarray, modarray, fold_by, Range, Plan, Span, box, shape_spans, numbers_from, range_of, genarray_plan, modarray_plan, fold_plan, plan, index_length, holder, holds, held_cell, fits_form, each, cells_of, cell_or, cell_or_old, cells_of_part, or_first, combined, finish, with_value}
 use Rattle.sac_base.specs.WithLoops
 use Rattle.sac_base.proofs.RowMajor.{size-append}
 use Rattle.array_with_loops.proofs.CellSteps.{length_indices}
-use Rattle.core_ir.specs.declared.tree.PartedOp.{PartedOp}
-use Rattle.core_ir.specs.declared.tree.PartedOp.TheVariants as parted
-use Rattle.core_ir.specs.Meaning.{Env, Cells, cell_at, cell_form, held, elements_of, extents, joined, made_of, neutral_fits, parted_value}
 use Rattle.core_facts.proofs.Shapes.{ok_same, no_ok}
 use Rattle.core_facts.proofs.Sound.{then_ok}
-use Rattle.core_fold.specs.Cells.{IsBox, MakesArray}
-use Rattle.core_fold.proofs.Places.{members_are}
 use Rattle.core_values.proofs.Plain.{binary_full, cells_full}
 
 -- ---- cells of indices, one after another

@@ -1,17 +1,16 @@
 -- Parted loops give arrays that have as many cells as their shapes say.
-use Rattle.std.proofs.Common.{◌≡◌, ℕ, zero, suc, ◌+◌, ◌*◌, Bool, true, false, ◌&&◌, cond, List, [], ◌∷◌, ◌++◌, map, length, Option, Some, None, Result, Ok, Err, refl, sym, ap, subst, ◌∙◌, arith, ℤ, pos, All}
-use Rattle.std.specs.Prelude.{if◌then◌else◌, flat_map, filter, fold, Contains}
+use Rattle.std.proofs.Common.{◌≡◌, ℕ, ◌*◌, Bool, true, false, cond, List, [], ◌∷◌, ◌++◌, map, length, Option, Some, None, Ok, Err, refl, sym, ap, subst, ◌∙◌, ℤ, All}
+use Rattle.std.specs.Prelude.{if◌then◌else◌, flat_map, filter, Contains}
 use Rattle.std.proofs.lemmas.List.Elements.{All-nil, All-cons, All-contains}
 use Rattle.std.proofs.lemmas.Slice.Eq.{bytes_eq-Decides}
 use Rattle.sac_base.specs.declared.base.Base.{Base}
 use Rattle.sac_base.specs.declared.faults.FaultKind.TheVariants.{F6}
 use Rattle.sac_base.specs.declared.grid.Grid1.{Grid1}
-use Rattle.sac_base.specs.declared.op.Op.{Op}
 use Rattle.sac_base.specs.declared.site.Site.{Site}
 use Rattle.sac_base.specs.Arrays.{ArrayValue, IsFull, size, same_form, same_shape, same_base}
 use Rattle.sac_base.specs.Grids.{has_vector, members, box_indices}
 use Rattle.sac_base.specs.Outcomes.{Ends, and_then, fault}
-use Rattle.sac_base.specs.WithLoops.{each, combined, box, shape_spans}
+use Rattle.sac_base.specs.WithLoops.{each}
 use Rattle.sac_base.proofs.RowMajor.{size-append}
 use Rattle.array_with_loops.proofs.CellSteps.{length_indices}
 use Rattle.core_ir.specs.declared.tree.PartedOp.{PartedOp}
@@ -21,7 +20,7 @@ use Rattle.core_facts.proofs.Shapes.{ok_same, no_ok}
 use Rattle.core_facts.proofs.Sound.{then_ok}
 use Rattle.core_fold.specs.Cells.{IsBox}
 use Rattle.core_fold.proofs.Places.{members_are}
-use Rattle.core_values.proofs.Loops.{CellsFull, EachIn, AllAt, each_all, plain_length, Fits, FullCell, just_cell, folded_full, and_right}
+use Rattle.core_values.proofs.Loops.{CellsFull, EachIn, each_all, plain_length, Fits, FullCell, just_cell, folded_full, and_right}
 
 abbrev pub PartsFull : List Cells → Type 0
 PartsFull [] = Unit {0}

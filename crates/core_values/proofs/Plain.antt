@@ -1,5 +1,5 @@
 -- Right sides without blocks and calls give arrays that have as many cells as their shapes say.
-use Rattle.std.proofs.Common.{◌≡◌, ℕ, zero, suc, ◌+◌, ◌*◌, ◌-◌, ◌<◌, ◌≤◌, ◌⊎◌, inl, inr, min, Bool, true, false, ◌&&◌, List, [], ◌∷◌, ◌++◌, map, length, drop, take, replicate, Option, Some, None, Result, Ok, Err, refl, sym, ap, subst, ◌∙◌, arith, ltb, ℤ, pos, negsuc, All}
+use Rattle.std.proofs.Common.{◌≡◌, ℕ, suc, ◌+◌, ◌*◌, ◌<◌, ◌≤◌, ◌⊎◌, inl, inr, Bool, true, false, ◌&&◌, List, [], ◌∷◌, ◌++◌, map, length, drop, take, Option, Some, None, Result, Ok, Err, refl, sym, ap, subst, ◌∙◌, arith, ltb, ℤ, pos, negsuc, All}
 use Rattle.std.specs.Prelude.{if◌then◌else◌, ◌==◌}
 use Rattle.std.specs.List.{zip, list_all}
 use Rattle.std.proofs.lemmas.Bool.Decides.{Decides-eqb, Decides-ltb}
@@ -9,17 +9,16 @@ use Rattle.std.proofs.lemmas.Slice.Eq.{bytes_eq-Decides}
 use Rattle.std.proofs.lemmas.Slice.Zip.{length-zip}
 use Rattle.std.proofs.Math.Nat.{mul-le-mul_right}
 use Rattle.sac_base.specs.declared.base.Base.TheVariants.{Int}
-use Rattle.sac_base.specs.declared.faults.FaultKind.{FaultKind}
-use Rattle.sac_base.specs.declared.faults.FaultKind.TheVariants.{F1, F2, F3, F4, F6, F7, F8}
+use Rattle.sac_base.specs.declared.faults.FaultKind.TheVariants.{F1, F2, F3, F4, F6, F8}
 use Rattle.sac_base.specs.declared.op.Op.{Op}
 use Rattle.sac_base.specs.declared.op.ZeroDivisor.{ZeroDivisor}
-use Rattle.sac_base.specs.Arrays.{ArrayValue, IsFull, size, MOST, scalar, vector, first_cell, same_shape, same_base, same_form}
+use Rattle.sac_base.specs.Arrays.{ArrayValue, IsFull, size, vector, first_cell, same_shape, same_base, same_form}
 use Rattle.sac_base.specs.Operators.{apply_two, binary, unary, in_shape, with_cells, common_shape, combined, all_of, with_first, stretched}
-use Rattle.sac_base.specs.Parts.{check, literal, cells_of_all, numbers_of, Part, further, part_at, part_at_index, selected, select, replaced, replace, reshaped, reshape, vector_of, shape_of_numbers, dim, shape_vector, cells_at}
+use Rattle.sac_base.specs.Parts.{literal, numbers_of, Part, further, part_at, part_at_index, selected, replaced, reshaped, vector_of, shape_of_numbers, dim, shape_vector, cells_at}
 use Rattle.array_ops.proofs.Joining.{length-cells_of_all}
 use Rattle.core_ir.specs.declared.tree.Var.{Var}
 use Rattle.core_ir.specs.Terms.{PlainTerm}
-use Rattle.core_ir.specs.Meaning.{Env, plain_value, checked}
+use Rattle.core_ir.specs.Meaning.{Env, plain_value}
 use Rattle.core_facts.specs.Full.{AreFull}
 use Rattle.core_facts.proofs.Shapes.{ok_same, no_ok, check_ok, checked_ok}
 

@@ -1,5 +1,5 @@
 -- In a well-formed function right sides of arrays give arrays.
-use Rattle.std.proofs.Common.{◌≡◌, ℕ, zero, suc, ◌-◌, Bool, true, false, List, [], ◌∷◌, ◌++◌, map, length, Option, Some, None, Result, Ok, Err, refl, sym, ap, subst, ◌∙◌, ℤ, All}
+use Rattle.std.proofs.Common.{◌≡◌, ℕ, zero, suc, ◌-◌, Bool, true, false, List, [], ◌∷◌, ◌++◌, map, Option, Some, None, Ok, refl, sym, ap, subst, All}
 use Rattle.std.specs.Prelude.{Contains, slice_get, zip}
 use Rattle.std.proofs.lemmas.List.Elements.{All-head, All-tail}
 use Rattle.sac_base.specs.declared.base.Base.{Base}
@@ -8,24 +8,21 @@ use Rattle.sac_base.specs.declared.faults.FaultKind.TheVariants.{F9}
 use Rattle.sac_base.specs.declared.grid.Grid1.{Grid1}
 use Rattle.sac_base.specs.declared.site.Site.{Site}
 use Rattle.sac_base.specs.Arrays.{ArrayValue, IsFull, scalar, vector}
-use Rattle.sac_base.specs.Grids.{has_vector}
 use Rattle.sac_base.specs.Outcomes.{Ends, and_then, fault, choose, first_result}
 use Rattle.sac_base.specs.Parts.{condition}
-use Rattle.sac_base.specs.WithLoops.{Generator, Operation, with_value}
-use Rattle.core_ir.specs.declared.tree.Var.{Var}
+use Rattle.sac_base.specs.WithLoops.{with_value}
 use Rattle.core_ir.specs.declared.tree.CoreOp.{CoreOp}
 use Rattle.core_ir.specs.declared.tree.CoreOp.TheVariants as making
 use Rattle.core_ir.specs.declared.tree.PartedOp.{PartedOp}
 use Rattle.core_ir.specs.declared.tree.PartedOp.TheVariants as parted
 use Rattle.core_ir.specs.Terms.{PlainTerm, BlockTerm, RightTerm, GensTerm, PartsTerm, FunTerm, CoreTerm, Gives, Bind, Plain, NoGens, Gen, NoParts, Part}
-use Rattle.core_ir.specs.Meaning.{Env, Answer, Cells, CallMeaning, bind, bind_all, first, one, repeat, loop_value, parted_value, generator, operation, with_index, run, right_value, generators, cells}
+use Rattle.core_ir.specs.Meaning.{Env, Answer, CallMeaning, bind, bind_all, first, one, repeat, loop_value, parted_value, operation, with_index, run, generators, cells}
 use Rattle.core_ir.specs.WellFormed.{Bases, PlainBases, BlockBases, RightBases, GensBases, PartsBases, PartedFits, Covered, IsFrame, IsResultFrame, part_grids, ints, IsFunction, IsWellFormed}
 use Rattle.core_facts.specs.Facts.{DescribeAll}
 use Rattle.core_facts.specs.Full.{AreFull, KeepsFull, FullInside, FullInsideRight, FullInsideGens, FullInsideParts}
 use Rattle.core_facts.proofs.Shapes.{ok_same, no_ok}
 use Rattle.core_facts.proofs.Sound.{then_ok, chosen_ok, plain_ok}
 use Rattle.core_facts.proofs.Settle.{vector_full, scalars_full}
-use Rattle.core_fold.specs.Cells.{IsBox}
 use Rattle.core_calls.specs.Arrays.{AllFull, CallsKeepFull, KeepsArrays}
 use Rattle.core_calls.proofs.Full.{full_bound, full_values, block_full}
 use Rattle.core_values.proofs.Plain.{ConstFull, plain_full}
