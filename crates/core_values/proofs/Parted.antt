@@ -104,7 +104,7 @@ made_full frame base cell (parted.Modarray x) ps e found h r p = array_length fr
 made_full frame base cell (parted.Fold o x) ps e found h r p =
     folded_full o (e x) (members frame) found r
     (each_all (cell_at (cell_form base cell) ps) (λ v. has_vector frame v ≡ true) (λ v o. FullCell o) (members frame) found (λ v o q m. just_cell cell o (cell_fits base cell ps v o h m))
-        (each_member (has_vector frame) (box_indices (map (λ (axis : Grid1). axis.lo) frame) (map (λ (axis : Grid1). axis.hi) frame))) p)
+    (each_member (has_vector frame) (box_indices (map (λ (axis : Grid1). axis.lo) frame) (map (λ (axis : Grid1). axis.hi) frame))) p)
 
 pub parted_loop_full : (frame : List Grid1) (base : Base) (cell : List ℕ) (op : PartedOp) (ps : List Cells) (s : Site) (e : Env) (v : ArrayValue) → PartsFull ps → ResultFull frame op ps e → parted_value frame base cell op ps s e ≡ Ok v → IsFull v
 parted_loop_full frame base cell op ps s e v h r p = go (neutral_fits (cell_form base cell) op e) p
