@@ -1,5 +1,5 @@
 -- Pairs of parted loops that can be folded, and loops that can be merged with the ones in their cells.
-use Rattle.std.specs.Prelude.{◌≡◌, ◌⊎◌, ℕ, zero, suc, ◌+◌, ◌*◌, ◌&&◌, ◌^◌, ◌<◌, ◌≤◌, max, min, true, false, Bool, cond, eqb, if◌then◌else◌, List, [], ◌∷◌, ◌++◌, map, flat_map, length, All, ℤ, pos, neg_ℤ, Option, Some, None}
+use Rattle.std.specs.Prelude.{◌≡◌, ◌⊎◌, ℕ, suc, ◌+◌, ◌*◌, ◌&&◌, ◌^◌, ◌<◌, ◌≤◌, max, true, false, Bool, cond, eqb, List, [], ◌∷◌, ◌++◌, map, length, All, ℤ, pos, Option, Some}
 use Rattle.std.specs.List.{list_all}
 use Rattle.sac_base.specs.declared.base.Base.{Base}
 use Rattle.sac_base.specs.declared.grid.Grid1.{Grid1}
@@ -9,7 +9,6 @@ use Rattle.core_ir.specs.declared.tree.Var.{Var}
 use Rattle.core_ir.specs.declared.tree.PartedOp.{PartedOp}
 use Rattle.core_ir.specs.declared.tree.PartedOp.TheVariants as parted
 use Rattle.core_ir.specs.Terms.{PlainTerm, BlockTerm, RightTerm, GensTerm, PartsTerm, LetTerm, PartHead, Gives, Bind, Plain, NoGens, Gen, NoParts, Part, Parted}
-use Rattle.core_ir.specs.Binders.{is_in}
 use Rattle.core_ir.specs.Scopes.{plain_uses, parted_uses}
 use Rattle.core_ir.specs.Uses.{AvoidsAll, Avoids, AvoidsRight}
 use Rattle.core_ir.specs.Counts.{bindings}
@@ -17,7 +16,7 @@ use Rattle.core_ir.specs.Meaning.{extents}
 use Rattle.core_facts.specs.Facts.{Facts, Fact, note_all, right_facts, block_facts, in_part}
 use Rattle.generator_sets.specs.Pieces.{moved, in_box}
 use Rattle.generator_sets.specs.Counts.{IsCanonicalCount}
-use Rattle.core_loops.specs.Indices.{IndexFact, IndexFacts, own_index, note_others, learn_index, offset_of, is_scalar_shape, total_block, total_right}
+use Rattle.core_loops.specs.Indices.{IndexFacts, own_index, note_others, learn_index, offset_of, is_scalar_shape, total_block, total_right}
 use Rattle.core_loops.specs.Loops.{binders, FEW, weight, parted_in}
 
 -- ---- selections from a producer
@@ -77,7 +76,7 @@ abbrev pub TotalParts : (ℕ → List (Option (List ℕ))) → Facts → PartsTe
 TotalParts called k NoParts = Unit {0}
 TotalParts called k (Part h b rest) =
     (total_block called h.grid b (in_part k h) (own_index (length h.grid) h.index) ≡ true) × (one_scalar (block_facts called b (in_part k h)) ≡ true) ×
-        TotalParts called k rest
+    TotalParts called k rest
 
 abbrev pub most_bindings : PartsTerm → ℕ
 most_bindings NoParts = 0
@@ -193,8 +192,8 @@ abbrev pub Nests : (ℕ → List (Option (List ℕ))) → Facts → List Grid1 �
 Nests called k frame base NoParts count = count ≡ 0
 Nests called k frame base (Part h b rest) count =
     (inner : PartsTerm) × ((others : ℕ) ×
-        (IsNest called (in_part k h) h.grid (own_index (length h.grid) h.index) frame base b inner × Nests called k frame base rest others ×
-        (count ≡ count_parts inner + others) × (binders b ≤ FEW)))
+    (IsNest called (in_part k h) h.grid (own_index (length h.grid) h.index) frame base b inner × Nests called k frame base rest others ×
+    (count ≡ count_parts inner + others) × (binders b ≤ FEW)))
 
 pub record IsScalarisable (called : ℕ → List (Option (List ℕ))) (above : ℕ) (k : Facts) (base : Base) (cell : List ℕ) (parts : PartsTerm) : Type 0 where
   pub some : 0 < count_parts parts

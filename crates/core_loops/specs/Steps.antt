@@ -65,15 +65,15 @@ module _ (called : ℕ → List (Option (List ℕ))) (p : Producer) (n : ℕ) (g
     Folded (Gives xs) k m c = c ≡ Gives xs
     Folded (Bind xs s r b) k m c =
         ((q : RightTerm) × ((d : BlockTerm) ×
-            ((c ≡ Bind xs s q d) × FoldedRight r k m q × Folded b (note_all k xs (right_facts called r k)) (learn_index n m xs r k) d)))
+        ((c ≡ Bind xs s q d) × FoldedRight r k m q × Folded b (note_all k xs (right_facts called r k)) (learn_index n m xs r k) d)))
         ⊎ ((d : BlockTerm) × (TakenAt p grid m xs r d c × Folded b (note_all k xs (right_facts called r k)) (learn_index n m xs r k) d))
 
     pub FoldedRight : RightTerm → Facts → IndexFacts → RightTerm → Type 0
     FoldedRight (RightTerm.If x a b) k m q = (c : BlockTerm) × ((d : BlockTerm) × ((q ≡ RightTerm.If x c d) × Folded a k m c × Folded b k m d))
     FoldedRight (RightTerm.Loop first start params test body s) k m q =
         (c : BlockTerm) × ((d : BlockTerm) ×
-            ((q ≡ RightTerm.Loop first start params c d s) × Folded test (note_all k params []) (note_others m params) c × Folded body (note_all k params [])
-            (note_others m params) d))
+        ((q ≡ RightTerm.Loop first start params c d s) × Folded test (note_all k params []) (note_others m params) c × Folded body (note_all k params [])
+        (note_others m params) d))
     FoldedRight r k m q = q ≡ r
 
 abbrev pub append_parts : PartsTerm → PartsTerm → PartsTerm
@@ -91,15 +91,15 @@ module _ (called : ℕ → List (Option (List ℕ))) (later : Facts) (p : Produc
   PiecesFold h b NoParts = Unit {0}
   PiecesFold h b (Part g d rest) =
       (g.site ≡ h.site) × ((c : BlockTerm) ×
-          (Folded called p (length h.grid) g.grid b (in_part later h) (own_index (length h.grid) h.index) c × Renamed (under itself h.index g.index) c d)) ×
-          PiecesFold h b rest
+      (Folded called p (length h.grid) g.grid b (in_part later h) (own_index (length h.grid) h.index) c × Renamed (under itself h.index g.index) c d)) ×
+      PiecesFold h b rest
 
   -- the pieces of each part have together its indices
   abbrev pub NewParts : PartsTerm → PartsTerm → Type 0
   NewParts NoParts new = new ≡ NoParts
   NewParts (Part h b rest) new =
       (pieces : PartsTerm) × ((others : PartsTerm) ×
-          ((new ≡ append_parts pieces others) × PiecesFold h b pieces × ((v : List ℤ) → any_has pieces v ≡ has_vector h.grid v) × NewParts rest others))
+      ((new ≡ append_parts pieces others) × PiecesFold h b pieces × ((v : List ℤ) → any_has pieces v ≡ has_vector h.grid v) × NewParts rest others))
 
 -- the producer's binding goes, and the consumer gets new parts
 pub record FoldsHere (called : ℕ → List (Option (List ℕ))) (above : ℕ) (k : Facts) (b c : BlockTerm) : Type 0 where
