@@ -1,18 +1,17 @@
 -- Total blocks have a value.
-use Rattle.std.proofs.Common.{◌≡◌, ℕ, Bool, true, false, ◌&&◌, List, [], ◌∷◌, ◌++◌, map, length, Option, Some, None, Result, Ok, Err, refl, sym, ap, subst, ◌∙◌, ℤ}
+use Rattle.std.proofs.Common.{◌≡◌, ℕ, Bool, true, false, ◌&&◌, List, [], ◌∷◌, ◌++◌, map, length, Option, Some, None, Ok, refl, ap, ◌∙◌, ℤ}
 use Rattle.std.specs.Prelude.{zip}
 use Rattle.std.proofs.lemmas.Slice.Eq.{bytes_eq-Decides}
 use Rattle.sac_base.specs.declared.base.Base.{Base}
 use Rattle.sac_base.specs.declared.grid.Grid1.{Grid1}
 use Rattle.sac_base.specs.declared.site.Site.{Site}
-use Rattle.sac_base.specs.Arrays.{ArrayValue, first_cell, is_true, same_shape}
+use Rattle.sac_base.specs.Arrays.{ArrayValue, first_cell, is_true}
 use Rattle.sac_base.specs.Grids.{has_vector}
-use Rattle.sac_base.specs.Outcomes.{Ends, and_then, at_site, choose}
+use Rattle.sac_base.specs.Outcomes.{and_then, at_site, choose}
 use Rattle.sac_base.specs.Parts.{condition, truth_in}
-use Rattle.core_ir.specs.declared.tree.Var.{Var}
 use Rattle.core_ir.specs.Binders.{bound_in, bound_in_right}
 use Rattle.core_ir.specs.Terms.{BlockTerm, RightTerm, CoreTerm, Gives, Bind, Plain}
-use Rattle.core_ir.specs.Meaning.{Env, Answer, CallMeaning, bind_all, one, plain_value, run, right_value}
+use Rattle.core_ir.specs.Meaning.{Env, Answer, CallMeaning, bind_all, one, run, right_value}
 use Rattle.core_ir.specs.WellFormed.{Bases, BlockBases, RightBases, Distinct}
 use Rattle.core_facts.specs.Facts.{Facts, note_all, ShapeIs, AreSound, right_facts, CallsFit}
 use Rattle.core_facts.specs.Full.{FullInside, FullInsideRight}
@@ -20,7 +19,7 @@ use Rattle.core_facts.proofs.Sound.{noted, right_sound}
 use Rattle.core_bases.specs.Typed.{Typed, CallsTyped}
 use Rattle.core_bases.proofs.Bound.{distinct_left, distinct_right, bound_zip}
 use Rattle.core_bases.proofs.Whole.{right_typed}
-use Rattle.core_loops.specs.Indices.{IndexFacts, learn_index, is_scalar_shape, total_block, total_right, total_plain}
+use Rattle.core_loops.specs.Indices.{IndexFacts, learn_index, is_scalar_shape, total_block, total_right}
 use Rattle.core_index_facts.specs.Says.{SaysAll}
 use Rattle.core_index_facts.proofs.Members.{and_both}
 use Rattle.core_index_facts.proofs.Indices.{says_learned}

@@ -1,28 +1,26 @@
 -- What is known of variables beside the index is so.
-use Rattle.std.proofs.Common.{◌≡◌, ℕ, zero, suc, ◌+◌, ◌*◌, ◌<◌, Bool, true, false, ◌&&◌, cond, eqb, List, [], ◌∷◌, ◌++◌, map, length, drop, take, replicate, get_or, Option, Some, None, Result, Ok, Err, refl, sym, ap, subst, ◌∙◌, arith, ℤ, pos, negsuc, ◌+ℤ◌, All, FitsSigned, w32, ltb, lt-ltb, ltb-true, eqb-true}
+use Rattle.std.proofs.Common.{◌≡◌, ℕ, zero, suc, ◌+◌, ◌*◌, ◌<◌, Bool, true, false, cond, eqb, List, [], ◌∷◌, ◌++◌, map, length, drop, take, replicate, get_or, Option, Some, None, Ok, refl, sym, ap, subst, ◌∙◌, arith, ℤ, pos, negsuc, ◌+ℤ◌, All, FitsSigned, w32, lt-ltb, ltb-true, eqb-true}
 use Rattle.std.specs.Prelude.{if◌then◌else◌, nat_lt, ◌==◌}
 use Rattle.std.proofs.lemmas.Int.{int_wrap_fits}
-use Rattle.std.proofs.lemmas.List.{length-map, length-replicate, append-nil}
+use Rattle.std.proofs.lemmas.List.{length-map, length-replicate}
 use Rattle.std.proofs.lemmas.List.Elements.{All-head, All-tail}
 use lib.IntN.{+ℤ_idr}
 use Rattle.sac_base.specs.declared.base.Base.TheVariants.{Int}
-use Rattle.sac_base.specs.declared.faults.FaultKind.TheVariants.{F1, F3, F4, F8}
-use Rattle.sac_base.specs.declared.op.Op.{Op}
+use Rattle.sac_base.specs.declared.faults.FaultKind.TheVariants.{F3, F4, F8}
 use Rattle.sac_base.specs.declared.op.Op.TheVariants as op
 use Rattle.sac_base.specs.declared.site.Site.{Site}
-use Rattle.sac_base.specs.Arrays.{ArrayValue, IsFull, scalar, vector, size}
+use Rattle.sac_base.specs.Arrays.{ArrayValue, scalar, vector}
 use Rattle.sac_base.specs.Operators.{wrap}
-use Rattle.sac_base.specs.Parts.{literal, cells_of_all, numbers_of, natural, Part, further, part_at, part_at_index, selected, select}
+use Rattle.sac_base.specs.Parts.{literal, cells_of_all, numbers_of, further, part_at, part_at_index, selected, select}
 use Rattle.core_ir.specs.declared.tree.Var.{Var}
 use Rattle.core_ir.specs.Terms.{PlainTerm, RightTerm, Plain}
 use Rattle.core_ir.specs.Meaning.{Env, CallMeaning, missing, bind, bind_all, plain_value, right_value}
 use Rattle.core_facts.specs.Facts.{Facts, ValueIs, AreSound}
-use Rattle.core_facts.proofs.Shapes.{ok_same, no_ok, check_ok}
+use Rattle.core_facts.proofs.Shapes.{ok_same, check_ok}
 use Rattle.core_facts.proofs.Sound.{plain_ok}
-use Rattle.core_loops.specs.Indices.{IndexFact, IndexFacts, Plus, Component, Other, Says, wrapped, note_index, note_others, own_index, either, plus_literal, component_at, component_of, only_number, components_from, prefixed, row_fact, index_fact, right_index, learn_index}
+use Rattle.core_loops.specs.Indices.{IndexFact, IndexFacts, Plus, Component, Other, Says, wrapped, note_index, note_others, own_index, either, plus_literal, component_at, component_of, only_number, components_from, prefixed, row_fact, index_fact, learn_index}
 use Rattle.core_index_facts.specs.Says.{SaysAll}
 use Rattle.core_index_facts.proofs.Sums.{length_wrapped, plus_sound, add_swap}
-use Rattle.core_index_facts.proofs.Members.{and_both}
 
 -- ---- sums
 

@@ -1,5 +1,5 @@
 -- Sums of the index and literal numbers.
-use Rattle.std.proofs.Common.{◌≡◌, ℕ, zero, suc, ◌*◌, Bool, true, false, cond, List, [], ◌∷◌, ◌++◌, map, length, replicate, Option, Some, None, Result, Ok, Err, refl, sym, ap, subst, ◌∙◌, arith, ℤ, pos, ◌+ℤ◌, neg_ℤ, w32}
+use Rattle.std.proofs.Common.{◌≡◌, ℕ, suc, ◌*◌, Bool, true, false, List, [], ◌∷◌, map, length, replicate, Option, Some, None, Result, Ok, refl, sym, ap, subst, ◌∙◌, arith, ℤ, pos, ◌+ℤ◌, neg_ℤ, w32}
 use Rattle.std.specs.Prelude.{if◌then◌else◌}
 use Rattle.std.specs.List.{zip}
 use Rattle.std.proofs.lemmas.Int.{int_wrap-add_left, int_wrap-add_right}
@@ -7,15 +7,14 @@ use Rattle.std.proofs.lemmas.List.{length-map, length-replicate}
 use Rattle.std.proofs.lemmas.Slice.Eq.{bytes_eq-Decides}
 use lib.IntN.{+ℤ_assoc, +ℤ_comm}
 use Rattle.sac_base.specs.declared.base.Base.TheVariants.{Int}
-use Rattle.sac_base.specs.declared.faults.FaultKind.{FaultKind}
 use Rattle.sac_base.specs.declared.op.Op.{Op}
 use Rattle.sac_base.specs.declared.op.Op.TheVariants as op
 use Rattle.sac_base.specs.declared.op.ZeroDivisor.{ZeroDivisor}
 use Rattle.sac_base.specs.Arrays.{ArrayValue, IsFull, scalar, vector, first_cell, same_shape, size}
 use Rattle.sac_base.specs.Operators.{wrap, apply_two, all_of, with_first, with_cells, combined, binary, in_shape, common_shape, stretched, result_base}
 use Rattle.core_facts.specs.Facts.{ValueIs}
-use Rattle.core_facts.proofs.Shapes.{ok_same, no_ok}
-use Rattle.core_loops.specs.Indices.{IndexFact, Plus, Component, Other, Says, wrapped, with_signs, literal_list, plus_list, signed, plus_literal}
+use Rattle.core_facts.proofs.Shapes.{ok_same}
+use Rattle.core_loops.specs.Indices.{IndexFact, Plus, Component, Other, Says, wrapped, with_signs, plus_list, signed, plus_literal}
 use Rattle.std.proofs.Common.{get_or, ◌<◌}
 
 pub length_wrapped : (v c : List ℤ) → length c ≡ length v → length (wrapped v c) ≡ length v

@@ -1,5 +1,5 @@
 -- Right sides without blocks that are total have a value.
-use Rattle.std.proofs.Common.{◌≡◌, ℕ, zero, suc, ◌*◌, ◌<◌, ◌⊎◌, inl, inr, Bool, true, false, not, ◌&&◌, ◌||◌, List, [], ◌∷◌, map, length, replicate, Option, Some, None, Result, Ok, Err, refl, sym, ap, subst, ◌∙◌, arith, ℤ, pos, negsuc, ◌+ℤ◌, FitsSigned, w32, ltb-true}
+use Rattle.std.proofs.Common.{◌≡◌, ℕ, zero, suc, ◌<◌, Bool, true, false, not, ◌&&◌, ◌||◌, List, [], ◌∷◌, map, length, replicate, Option, Some, None, Result, Ok, Err, refl, sym, ap, ◌∙◌, arith, ℤ, pos, negsuc, ◌+ℤ◌, w32, ltb-true}
 use Rattle.std.specs.Prelude.{if◌then◌else◌, nat_lt, nat_le}
 use Rattle.std.specs.List.{zip, list_all}
 use Rattle.std.specs.Ordering.{int_eq}
@@ -13,15 +13,14 @@ use Rattle.sac_base.specs.declared.faults.FaultKind.TheVariants.{F3, F4, F8}
 use Rattle.sac_base.specs.declared.grid.Grid1.{Grid1}
 use Rattle.sac_base.specs.declared.op.Op.{Op}
 use Rattle.sac_base.specs.declared.op.Op.TheVariants as op
-use Rattle.sac_base.specs.declared.op.ZeroDivisor.{ZeroDivisor}
-use Rattle.sac_base.specs.Arrays.{ArrayValue, IsFull, MOST, size, vector, first_cell, same_form, same_shape, same_base}
+use Rattle.sac_base.specs.Arrays.{ArrayValue, IsFull, MOST, size, vector, same_form, same_shape, same_base}
 use Rattle.sac_base.specs.Grids.{has_vector, members}
-use Rattle.sac_base.specs.Operators.{wrap, apply_two, all_of, with_first, with_cells, combined, binary, unary, in_shape, common_shape, stretched, result_base}
+use Rattle.sac_base.specs.Operators.{wrap, apply_two, all_of, with_first, with_cells, combined, binary, unary, in_shape, common_shape, stretched}
 use Rattle.sac_base.specs.Parts.{check, literal, cells_of_all, numbers_of, Part, further, part_at, part_at_index, selected, select, dim, shape_vector}
 use Rattle.core_ir.specs.declared.tree.Var.{Var}
 use Rattle.core_ir.specs.Terms.{PlainTerm}
 use Rattle.core_ir.specs.Meaning.{Env, plain_value}
-use Rattle.core_ir.specs.WellFormed.{Bases, HasBase, AllHave, PlainBases}
+use Rattle.core_ir.specs.WellFormed.{Bases, AllHave, PlainBases}
 use Rattle.core_facts.specs.Facts.{Facts, ShapeIs, ValueIs, AreSound, is_some, one_shape, both_shapes, shared_shape, row_of, row_shape}
 use Rattle.core_bases.specs.Typed.{Typed}
 use Rattle.generator_sets.specs.Pieces.{moved}

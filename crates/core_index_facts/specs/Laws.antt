@@ -25,7 +25,7 @@ IndexFactsAreSound =
 abbrev pub TotalBlocksHaveValues : Type 0
 TotalBlocksHaveValues =
     (core : CoreTerm) (calls : CallMeaning) (turns : ℕ) (called : ℕ → List (Option (List ℕ))) (grid : List Grid1) (own : List ℤ) (b : BlockTerm) (g : Bases)
-        (ts : List Base) (k : Facts) (m : IndexFacts) (e : Env) →
+    (ts : List Base) (k : Facts) (m : IndexFacts) (e : Env) →
     CallsTyped core calls → CallsFit called calls → has_vector grid own ≡ true → length own ≡ length grid → total_block called grid b k m ≡ true →
     BlockBases core g b ts → Distinct (bound_in b) → FullInside calls turns b → Typed g e → AreSound k e → SaysAll own m e →
     (vs : List ArrayValue) × (run calls turns b e ≡ Ok vs)
