@@ -1,5 +1,5 @@
 -- A body in which selections from a producer are replaced by the producer's bodies means the same at the members of its grid.
-use Rattle.std.proofs.Common.{◌≡◌, ℕ, Bool, true, false, cond, ◌||◌, eqb, List, [], ◌∷◌, ◌++◌, map, length, Option, Ok, refl, sym, ap, subst, ◌∙◌, arith, ℤ, ◌+ℤ◌, All, FitsSigned, w32, inl, inr}
+use Rattle.std.proofs.Common.{◌≡◌, ℕ, zero, suc, Bool, true, false, cond, ◌||◌, eqb, List, [], ◌∷◌, ◌++◌, map, length, Option, Some, None, Ok, Err, refl, sym, ap, subst, ◌∙◌, arith, ℤ, ◌+ℤ◌, All, FitsSigned, w32, ◌⊎◌, inl, inr}
 use Rattle.std.proofs.lemmas.Bool.{eq-eqb}
 use Rattle.std.proofs.lemmas.Int.{int_wrap_fits}
 use Rattle.std.proofs.lemmas.List.Elements.{All-head, All-tail}
@@ -11,10 +11,10 @@ use Rattle.sac_base.specs.Grids.{has_vector}
 use Rattle.sac_base.specs.Outcomes.{and_then, choose}
 use Rattle.sac_base.specs.Parts.{condition, select}
 use Rattle.core_ir.specs.declared.tree.Var.{Var}
-use Rattle.core_ir.specs.Binders.{is_in}
+use Rattle.core_ir.specs.Binders.{is_in, NoneIn}
 use Rattle.core_ir.specs.Scopes.{Scoped, ScopedRight, ScopedParts, AgreeOn}
 use Rattle.core_ir.specs.Renaming.{Agree, under}
-use Rattle.core_ir.specs.Terms.{BlockTerm, RightTerm, PartsTerm, PartHead, Gives, Bind, Plain, NoParts, Part}
+use Rattle.core_ir.specs.Terms.{PlainTerm, BlockTerm, RightTerm, PartsTerm, PartHead, Gives, Bind, Plain, NoParts, Part}
 use Rattle.core_ir.specs.Meaning.{Env, CallMeaning, Cells, bind, bind_all, first, cell_form, run, right_value, cells}
 use Rattle.core_ir.proofs.Coincide.{same_on}
 use Rattle.core_ir.proofs.Edited.{then_same}

@@ -1,18 +1,18 @@
 -- The new parts of a consumer have the cells of the old ones.
-use Rattle.std.proofs.Common.{◌≡◌, ℕ, Bool, true, false, ◌||◌, List, [], ◌∷◌, length, Option, refl, sym, ◌∙◌, ℤ, All, FitsSigned, w32}
+use Rattle.std.proofs.Common.{◌≡◌, ℕ, Bool, true, false, ◌||◌, List, [], ◌∷◌, ◌++◌, map, length, Option, Some, None, Ok, Err, refl, sym, ap, subst, ◌∙◌, ℤ, All, FitsSigned, w32}
 use Rattle.std.specs.Prelude.{if◌then◌else◌}
 use Rattle.std.proofs.lemmas.List.Elements.{All-head, All-tail}
 use Rattle.sac_base.specs.declared.base.Base.TheVariants.{Int}
 use Rattle.sac_base.specs.declared.grid.Grid1.{Grid1}
 use Rattle.sac_base.specs.Arrays.{ArrayValue, vector}
 use Rattle.sac_base.specs.Grids.{has_vector}
-use Rattle.sac_base.specs.Outcomes.{and_then}
+use Rattle.sac_base.specs.Outcomes.{Ends, and_then}
 use Rattle.core_ir.specs.declared.tree.Var.{Var}
 use Rattle.core_ir.specs.Binders.{is_in}
 use Rattle.core_ir.specs.Scopes.{Scoped, ScopedParts, AgreeOn}
-use Rattle.core_ir.specs.Renaming.{under, Renamed}
+use Rattle.core_ir.specs.Renaming.{Agree, under, Renamed}
 use Rattle.core_ir.specs.Terms.{BlockTerm, PartsTerm, PartHead, NoParts, Part}
-use Rattle.core_ir.specs.Meaning.{Env, CallMeaning, bind, first, held, cell_at, run, cells}
+use Rattle.core_ir.specs.Meaning.{Env, CallMeaning, Answer, bind, first, held, cell_at, run, cells}
 use Rattle.core_ir.specs.WellFormed.{part_grids}
 use Rattle.core_ir.proofs.Facts.{agree_after}
 use Rattle.core_ir.proofs.Renamed.{agree_bind, renamed}
@@ -25,7 +25,7 @@ use Rattle.core_loops.specs.Indices.{own_index}
 use Rattle.core_loops.specs.Pairs.{Producer}
 use Rattle.core_loops.specs.Steps.{itself, HeldIn, Folded, append_parts, any_has, PiecesFold, NewParts}
 use Rattle.core_index_facts.proofs.Indices.{says_own}
-use Rattle.core_fold_steps.proofs.Folded.{agree_itself, behind, folded}
+use Rattle.core_fold_steps.proofs.Folded.{agree_itself, behind, Behind, folded}
 use Rattle.core_fold_steps.proofs.Producer.{entered}
 
 -- the indices that have to lie in the frame

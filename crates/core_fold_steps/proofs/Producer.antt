@@ -1,20 +1,23 @@
 -- A producer with total parts has its cells.
-use Rattle.std.proofs.Common.{◌≡◌, ℕ, zero, suc, ◌<◌, Bool, true, false, List, [], ◌∷◌, length, get_or, Option, Some, None, Ok, refl, sym, ap, ◌∙◌, arith, ℤ, pos, All, FitsSigned, w32}
+use Rattle.std.proofs.Common.{◌≡◌, ℕ, zero, suc, ◌*◌, ◌<◌, Bool, true, false, ◌&&◌, cond, eqb, List, [], ◌∷◌, map, length, get_or, Option, Some, None, Result, Ok, Err, refl, sym, ap, subst, ◌∙◌, arith, ℤ, pos, All, FitsSigned, w32}
 use Rattle.std.specs.Prelude.{if◌then◌else◌, Contains}
 use Rattle.std.proofs.lemmas.Slice.Eq.{bytes_eq-Decides}
 use Rattle.sac_base.specs.declared.base.Base.{Base}
 use Rattle.sac_base.specs.declared.base.Base.TheVariants.{Int, Bool as Truth}
+use Rattle.sac_base.specs.declared.faults.FaultKind.TheVariants.{F6}
 use Rattle.sac_base.specs.declared.grid.Grid1.{Grid1}
 use Rattle.sac_base.specs.declared.site.Site.{Site}
-use Rattle.sac_base.specs.Arrays.{ArrayValue, IsFull, scalar, vector, first_cell, size}
+use Rattle.sac_base.specs.Arrays.{ArrayValue, IsFull, scalar, vector, first_cell, same_form, same_base, size}
 use Rattle.sac_base.specs.Grids.{has_vector}
-use Rattle.sac_base.specs.Outcomes.{Ends, and_then, first_result}
+use Rattle.sac_base.specs.Outcomes.{Ends, and_then, fault, first_result}
+use Rattle.core_ir.specs.declared.tree.Var.{Var}
 use Rattle.core_ir.specs.Binders.{bound_in, bound_in_parts}
 use Rattle.core_ir.specs.Terms.{BlockTerm, PartsTerm, PartHead, CoreTerm, NoParts, Part}
 use Rattle.core_ir.specs.Meaning.{Env, CallMeaning, bind, first, held, cell_at, cell_form, run, cells}
 use Rattle.core_ir.specs.WellFormed.{Bases, PartsBases, BlockBases, Distinct, Covered, part_grids}
 use Rattle.core_facts.specs.Facts.{Fact, Facts, ShapeIs, DescribeAll, AreSound, block_facts, in_part, shape_fact, CallsFit}
 use Rattle.core_facts.specs.Full.{FullInside, FullInsideParts}
+use Rattle.core_facts.proofs.Shapes.{ok_same}
 use Rattle.core_facts.proofs.Sound.{noted_one, block_sound}
 use Rattle.core_facts.proofs.Settle.{has_length, vector_full}
 use Rattle.core_bases.specs.Typed.{HaveBases, Typed, CallsTyped}

@@ -1,9 +1,10 @@
 -- A fold step of a whole core keeps its outcome on arrays.
-use Rattle.std.proofs.Common.{◌≡◌, ℕ, zero, suc, Bool, true, false, ◌&&◌, List, [], ◌∷◌, ◌++◌, map, Option, Some, None, refl, sym, ap, subst, ◌∙◌, inl, inr, All}
+use Rattle.std.proofs.Common.{◌≡◌, ℕ, zero, suc, Bool, true, false, ◌&&◌, List, [], ◌∷◌, ◌++◌, map, length, Option, Some, None, Ok, refl, sym, ap, subst, ◌∙◌, ◌⊎◌, inl, inr, All}
 use Rattle.std.specs.Prelude.{slice_get, unwrap_or}
 use Rattle.std.proofs.lemmas.List.Elements.{All-head, All-tail}
 use Rattle.sac_base.specs.declared.base.Base.{Base}
 use Rattle.sac_base.specs.declared.base.Base.TheVariants.{Int, Bool as Truth}
+use Rattle.sac_base.specs.declared.site.Site.{Site}
 use Rattle.sac_base.specs.declared.types.ArrayType.{ArrayType}
 use Rattle.sac_base.specs.Arrays.{ArrayValue, same_base}
 use Rattle.sac_base.specs.Outcomes.{and_then}
@@ -12,12 +13,12 @@ use Rattle.core_ir.specs.declared.tree.Var.{Var}
 use Rattle.core_ir.specs.Binders.{bound_in}
 use Rattle.core_ir.specs.Scopes.{Scoped}
 use Rattle.core_ir.specs.Terms.{BlockTerm, FunTerm, CoreTerm}
-use Rattle.core_ir.specs.Meaning.{CallMeaning, no_variables, bind_all, run}
-use Rattle.core_ir.specs.Outcome.{param_types, param_vars, results_in, body_of, call_by, run_inline}
+use Rattle.core_ir.specs.Meaning.{Env, CallMeaning, no_variables, bind_all, run}
+use Rattle.core_ir.specs.Outcome.{RunMeaning, param_types, param_vars, results_in, body_of, call_by, run_inline, SameHeads, SameOutside}
 use Rattle.core_ir.specs.WellFormed.{Bases, base_of, Distinct, param_bases, bases, BlockBases, IsFunction, IsWellFormed}
 use Rattle.core_facts.specs.Facts.{AreSound, CallsFit}
 use Rattle.core_facts.specs.Full.{FullInside}
-use Rattle.core_calls.specs.Arrays.{KeepsArrays, SameBodiesOnArrays, SameOutcomeOnArrays}
+use Rattle.core_calls.specs.Arrays.{AllFull, KeepsArrays, SameBodiesOnArrays, SameOutcomeOnArrays}
 use Rattle.core_calls.specs.Nests.{CallsBelow}
 use Rattle.core_calls.proofs.OnArrays.{outcomes_on_arrays}
 use Rattle.core_settled.specs.Called.{called, params_facts}
