@@ -100,7 +100,7 @@ module _ (calls : CallMeaning) (turns : ℕ) where
           let cell : first (run calls turns t.body (bind f t.head.index (vector Int u))) ≡ Ok (scalar p.base (at u)) = ap first (same_on calls turns (t.head.index ∷ scope) t.body (bind f t.head.index (vector Int u)) (bind e t.head.index (vector Int u)) (scoped_held scope p.parts u t.head t.body held scoped) (agrees f t.head.index (vector Int u) h)) ∙ there in
           (λ i. run calls turns (Bind (t.targets i) s (t.selects i) d) f)
           ∙ replaced_selection calls turns (under itself t.head.index t.own) t.body p.var t.index t.target t.own t.result t.head.index s t.first t.last t.lets d f u (scalar p.base (at u)) index value cell t.renamed
-              (agree_bind itself f f t.head.index t.own (vector Int u) (agree_itself f)) t.avoids t.alone
+          (agree_bind itself f f t.head.index t.own (vector Int u) (agree_itself f)) t.avoids t.alone
           ∙ (λ i. run calls turns (sym t.made i) f)
 
       mutual
@@ -110,9 +110,9 @@ module _ (calls : CallMeaning) (turns : ℕ) where
             let more : (d : BlockTerm) → Folded called p n grid b (note_all k xs (right_facts called r k)) (learn_index n m xs r k) d → run calls turns (Bind xs s r b) f ≡ run calls turns (Bind xs s r d) f =
             λ d hd. then_same (right_value calls turns r s f) (λ vs. run calls turns b (bind_all f xs vs)) (λ vs. run calls turns d (bind_all f xs vs))
             (λ vs q. folded b (note_all k xs (right_facts called r k)) (learn_index n m xs r k) (xs ++ σ) d (bind_all f xs vs) hd sc.2 (λ y i. in_front y xs σ (sub y i)) w.2
-                (λ y i. agree_after xs σ vs f sc.1 y (sub y i) ∙ near y i)
-                (noted k f xs (right_facts called r k) vs sound (right_sound calls turns called fit r s k f vs w.0 w.1 sound q))
-                (says_learned calls turns v n m k f xs r s vs long sound says q)) in
+            (λ y i. agree_after xs σ vs f sc.1 y (sub y i) ∙ near y i)
+            (noted k f xs (right_facts called r k) vs sound (right_sound calls turns called fit r s k f vs w.0 w.1 sound q))
+            (says_learned calls turns v n m k f xs r s vs long sound says q)) in
             elim h [
               | inl y ↦ more y.1.0 y.1.1.2 ∙ (λ i. and_then (folded_right r k m σ y.0 f s y.1.1.1 sc.0 sub w.1 near sound says i) (λ vs. run calls turns y.1.0 (bind_all f xs vs))) ∙ (λ i. run calls turns (sym y.1.1.0 i) f)
               | inr y ↦ more y.0 y.1.1 ∙ taken m xs s r y.0 c f y.1.0 near says

@@ -107,18 +107,18 @@ module _ (core : CoreTerm) (calls : CallMeaning) (turns : ℕ) (typed : CallsTyp
           loop_same (λ vs. DescribeAll [] vs × HaveBases ts vs) fb turns s u (λ vs. first (run calls turns t (bind_all e params vs))) (λ vs. first (run calls turns c (bind_all e params vs)))
           (λ vs. run calls turns b (bind_all e params vs)) (λ vs. run calls turns b (bind_all e params vs))
           (λ vs d. ap first (changed h (params ++ scope) (zip params ts ++ g) (Truth ∷ []) (bind_all e params vs) (record {
-                    bases = a.bases.2;
-                    once = distinct_left (bound_in t) (bound_in b) rest;
-                    scoped = a.scoped.2;
-                    full = a.full.0;
-                    typed = bound_zip g e params ts vs a.typed p a.bases.1 d.1;
-                    sound = noted k e params [] vs a.sound d.0;
-                  })))
+            bases = a.bases.2;
+            once = distinct_left (bound_in t) (bound_in b) rest;
+            scoped = a.scoped.2;
+            full = a.full.0;
+            typed = bound_zip g e params ts vs a.typed p a.bases.1 d.1;
+            sound = noted k e params [] vs a.sound d.0;
+          })))
           (λ vs d. refl)
           (λ vs ws d q. (
-                all_full (block_facts called b n) ws (block_sound calls turns called fit b n (bind_all e params vs) ws a.full.1 (noted k e params [] vs a.sound d.0) q),
-                block_typed core calls turns typed b (zip params ts ++ g) ts (bind_all e params vs) ws a.bases.3 (distinct_right (bound_in t) (bound_in b) rest) (bound_zip g e params ts vs a.typed p a.bases.1 d.1) q,
-              ))
+            all_full (block_facts called b n) ws (block_sound calls turns called fit b n (bind_all e params vs) ws a.full.1 (noted k e params [] vs a.sound d.0) q),
+            block_typed core calls turns typed b (zip params ts ++ g) ts (bind_all e params vs) ws a.bases.3 (distinct_right (bound_in t) (bound_in b) rest) (bound_zip g e params ts vs a.typed p a.bases.1 d.1) q,
+          ))
           (map e start) (all_full (map k start) (map e start) (described k e start a.sound), values_typed g e start ts a.typed a.bases.0)
       changed_right (in_body {known = k} {first = fb} {start = start} {params = params} {a = t} {b = b} {c = c} {s = u} h) s scope g ts e a =
           let rest = distinct_right params (bound_in t ++ bound_in b) a.once in
@@ -128,17 +128,17 @@ module _ (core : CoreTerm) (calls : CallMeaning) (turns : ℕ) (typed : CallsTyp
           (λ vs. run calls turns b (bind_all e params vs)) (λ vs. run calls turns c (bind_all e params vs))
           (λ vs d. refl)
           (λ vs d. changed h (params ++ scope) (zip params ts ++ g) ts (bind_all e params vs) (record {
-                  bases = a.bases.3;
-                  once = distinct_right (bound_in t) (bound_in b) rest;
-                  scoped = a.scoped.3;
-                  full = a.full.1;
-                  typed = bound_zip g e params ts vs a.typed p a.bases.1 d.1;
-                  sound = noted k e params [] vs a.sound d.0;
-                }))
+            bases = a.bases.3;
+            once = distinct_right (bound_in t) (bound_in b) rest;
+            scoped = a.scoped.3;
+            full = a.full.1;
+            typed = bound_zip g e params ts vs a.typed p a.bases.1 d.1;
+            sound = noted k e params [] vs a.sound d.0;
+          }))
           (λ vs ws d q. (
-                all_full (block_facts called b n) ws (block_sound calls turns called fit b n (bind_all e params vs) ws a.full.1 (noted k e params [] vs a.sound d.0) q),
-                block_typed core calls turns typed b (zip params ts ++ g) ts (bind_all e params vs) ws a.bases.3 (distinct_right (bound_in t) (bound_in b) rest) (bound_zip g e params ts vs a.typed p a.bases.1 d.1) q,
-              ))
+            all_full (block_facts called b n) ws (block_sound calls turns called fit b n (bind_all e params vs) ws a.full.1 (noted k e params [] vs a.sound d.0) q),
+            block_typed core calls turns typed b (zip params ts ++ g) ts (bind_all e params vs) ws a.bases.3 (distinct_right (bound_in t) (bound_in b) rest) (bound_zip g e params ts vs a.typed p a.bases.1 d.1) q,
+          ))
           (map e start) (all_full (map k start) (map e start) (described k e start a.sound), values_typed g e start ts a.typed a.bases.0)
       changed_right (in_gens {op = op} h) s scope g ts e a =
           λ i. one (with_value (changed_gens h scope g a.bases.0 e (record { bases = a.bases.1.1; once = a.once; scoped = a.scoped.1; full = a.full; typed = a.typed; sound = a.sound }) i) (operation op s e))
@@ -148,25 +148,29 @@ module _ (core : CoreTerm) (calls : CallMeaning) (turns : ℕ) (typed : CallsTyp
       pub changed_gens : {k : Facts} {r q : GensTerm} → EditedGens Facts (fact_ways called) Rule k r q → (scope : List Var) (g : Bases) (t : Base) (e : Env) → GensAt core calls turns scope g t k r e → generators calls turns r e ≡ generators calls turns q e
       changed_gens (this_gen {known = k} {h = j} {b = b} {rest = rest} h) scope g t e a =
           λ i. generator j (λ index. first (changed h ((j.index ∷ j.names) ++ scope) (ints (j.index ∷ j.names) ++ g) (t ∷ []) (with_index e j index) (record {
-                  bases = a.bases.4;
-                  once = distinct_left (bound_in b) (bound_in_gens rest) (distinct_right (j.index ∷ j.names) (bound_in b ++ bound_in_gens rest) a.once);
-                  scoped = a.scoped.2;
-                  full = a.full.0;
-                  typed = bound_index g e j.index j.names index a.typed (distinct_left (j.index ∷ j.names) (bound_in b ++ bound_in_gens rest) a.once);
-                  sound = noted k e (j.index ∷ j.names) [] (vector Int index ∷ map (scalar Int) index) a.sound (vector_full index, scalars_full index);
-                }) i)) e ∷ generators calls turns rest e
+            bases = a.bases.4;
+            once = distinct_left (bound_in b) (bound_in_gens rest) (distinct_right (j.index ∷ j.names) (bound_in b ++ bound_in_gens rest) a.once);
+            scoped = a.scoped.2;
+            full = a.full.0;
+            typed = bound_index g e j.index j.names index a.typed (distinct_left (j.index ∷ j.names) (bound_in b ++ bound_in_gens rest) a.once);
+            sound = noted k e (j.index ∷ j.names) [] (vector Int index ∷ map (scalar Int) index) a.sound (vector_full index, scalars_full index);
+          }) i)) e ∷ generators calls turns rest e
       changed_gens (later_gen {h = j} {b = b} {g = r} h) scope g t e a =
           λ i. generator j (λ index. first (run calls turns b (with_index e j index))) e ∷ changed_gens h scope g t e (record { bases = a.bases.5; once = distinct_right (bound_in b) (bound_in_gens r) (distinct_right (j.index ∷ j.names) (bound_in b ++ bound_in_gens r) a.once); scoped = a.scoped.3; full = a.full.1; typed = a.typed; sound = a.sound }) i
 
       pub changed_parts : {k : Facts} {r q : PartsTerm} → EditedParts Facts (fact_ways called) Rule k r q → (scope : List Var) (g : Bases) (t : Base) (e : Env) → PartsAt core calls turns scope g t k r e → SameCells (cells calls turns r e) (cells calls turns q e)
-      changed_parts (this_part {known = k} {h = j} {b = b} {rest = rest} h) scope g t e a =
-          (refl, refl, (λ index q. ap first (changed h (j.index ∷ scope) ((j.index, Int) ∷ g) (t ∷ []) (bind e j.index (vector Int index)) (record {
-                      bases = a.bases.0;
-                      once = distinct_left (bound_in b) (bound_in_parts rest) a.once.1;
-                      scoped = a.scoped.1;
-                      full = a.full.0;
-                      typed = typed_one g e j.index Int (vector Int index) a.typed refl;
-                      sound = entered k e j index a.sound q;
-                    }))), same_cells-refl (cells calls turns rest e))
+      changed_parts (this_part {known = k} {h = j} {b = b} {rest = rest} h) scope g t e a = (
+        refl,
+        refl,
+        (λ index q. ap first (changed h (j.index ∷ scope) ((j.index, Int) ∷ g) (t ∷ []) (bind e j.index (vector Int index)) (record {
+          bases = a.bases.0;
+          once = distinct_left (bound_in b) (bound_in_parts rest) a.once.1;
+          scoped = a.scoped.1;
+          full = a.full.0;
+          typed = typed_one g e j.index Int (vector Int index) a.typed refl;
+          sound = entered k e j index a.sound q;
+        }))),
+        same_cells-refl (cells calls turns rest e),
+      )
       changed_parts (later_part {h = j} {b = b} {p = r} h) scope g t e a =
           (refl, refl, (λ index q. refl), changed_parts h scope g t e (record { bases = a.bases.1; once = distinct_right (bound_in b) (bound_in_parts r) a.once.1; scoped = a.scoped.2; full = a.full.1; typed = a.typed; sound = a.sound }))

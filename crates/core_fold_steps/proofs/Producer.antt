@@ -103,8 +103,10 @@ module _ (core : CoreTerm) (calls : CallMeaning) (turns : ℕ) (typed : CallsTyp
   -- the cell of each index of a covered frame
   pub producer_cells : (frame : List Grid1) (parts : PartsTerm) (k : Facts) (g : Bases) (t : Base) (e : Env) → TotalParts called k parts → PartsBases core g parts t → Distinct (bound_in_parts parts) → FullInsideParts calls turns parts → Typed g e → AreSound k e → ((v : List ℤ) → has_vector frame v ≡ true → All (FitsSigned w32) v) → Covered frame (part_grids parts)
       → (at : List ℤ → ℤ) × HasCells frame t (cells calls turns parts e) at
-  producer_cells frame parts k g t e total bases once full ty s words covered =
-      ((λ v. cell_number (cell_at (cell_form t []) (cells calls turns parts e) v)), λ v q.
-          let c = covered v q in
-          let w = parts_cell parts k g t e v c.0 total bases once full ty s (words v q) c.1.0 c.1.1 in
-          w.1 ∙ (λ i. Ok (Some (scalar t (sym (ap cell_number w.1) i)))))
+  producer_cells frame parts k g t e total bases once full ty s words covered = (
+    (λ v. cell_number (cell_at (cell_form t []) (cells calls turns parts e) v)),
+    λ v q.
+        let c = covered v q in
+        let w = parts_cell parts k g t e v c.0 total bases once full ty s (words v q) c.1.0 c.1.1 in
+        w.1 ∙ (λ i. Ok (Some (scalar t (sym (ap cell_number w.1) i)))),
+  )

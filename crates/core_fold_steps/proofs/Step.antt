@@ -74,8 +74,8 @@ module _ (core : CoreTerm) (calls : CallMeaning) (turns : ℕ) (typed : CallsTyp
   through own e1 ts b c (l ∷ ls) k scope g e a sub near last =
       then_same (right_value calls turns l.right l.site e) (λ vs. run calls turns (chain ls b) (bind_all e l.targets vs)) (λ vs. run calls turns (chain ls c) (bind_all e l.targets vs))
       (λ vs q. through own e1 ts b c ls (note_all k l.targets (right_facts called l.right k)) (l.targets ++ scope) (zip l.targets a.bases.0 ++ g) (bind_all e l.targets vs)
-          (after_bind core calls turns typed called fit l.targets l.site l.right (chain ls b) scope g ts k e vs a q)
-          (λ y i. in_front y l.targets scope (sub y i)) (λ y i. agree_after l.targets scope vs e a.scoped.1 y (sub y i) ∙ near y i) last)
+      (after_bind core calls turns typed called fit l.targets l.site l.right (chain ls b) scope g ts k e vs a q)
+      (λ y i. in_front y l.targets scope (sub y i)) (λ y i. agree_after l.targets scope vs e a.scoped.1 y (sub y i) ∙ near y i) last)
 
   pub fold_here : (above : ℕ) (k : Facts) (b c : BlockTerm) → FoldsHere called above k b c → (scope : List Var) (g : Bases) (ts : List Base) (e : Env) → At core calls turns scope g ts k b e → run calls turns b e ≡ run calls turns c e
   fold_here above k b c h scope g ts e given =
@@ -97,12 +97,12 @@ module _ (core : CoreTerm) (calls : CallMeaning) (turns : ℕ) (typed : CallsTyp
       let fresh = a.scoped.1.0 in
       let scoped = ra.scoped.1 in
       let last : (scope' : List Var) (g' : _) (e' : Env) → At core calls turns scope' g' ts (facts_after called h.between (note_all k (p.var ∷ []) (right_facts called r k))) (Bind (h.consumer ∷ []) h.site (Parted h.frame h.base [] h.op h.old) h.rest) e' → ((y : Var) → is_in y (p.var ∷ scope) ≡ true → is_in y scope' ≡ true) → AgreeOn (p.var ∷ scope) e' e1
-          → run calls turns (Bind (h.consumer ∷ []) h.site (Parted h.frame h.base [] h.op h.old) h.rest) e' ≡ run calls turns (Bind (h.consumer ∷ []) h.site (Parted h.frame h.base [] h.op h.new) h.rest) e' =
+      → run calls turns (Bind (h.consumer ∷ []) h.site (Parted h.frame h.base [] h.op h.old) h.rest) e' ≡ run calls turns (Bind (h.consumer ∷ []) h.site (Parted h.frame h.base [] h.op h.new) h.rest) e' =
       λ scope' g' e' q sub near.
-          let rq = right_at core calls turns typed called fit (h.consumer ∷ []) h.site (Parted h.frame h.base [] h.op h.old) h.rest scope' g' ts (facts_after called h.between (note_all k (p.var ∷ []) (right_facts called r k))) e' q in
-          let ff = frame_fits h.op h.frame [] (part_grids h.old) rq.bases.2 in
-          let parts = subst (λ l. NewParts called l p h.old h.new) h.known h.parts in
-          λ i. and_then (one (if neutral_fits (cell_form h.base []) h.op e' then and_then (each (λ v. parts_same calls turns called fit p scope e cs.0 fresh scoped box fits.0.words inside cs.1 scope' sub (facts_after called h.between (note_all k (p.var ∷ []) (right_facts called r k))) e' near q.sound (cell_form h.base []) h.frame h.old h.new v parts rq.scoped.1 rq.full ff.1.inside ff.0.words i) (members h.frame)) (λ found. Ok (made_of h.frame h.base [] h.op e' found)) else fault F6 h.site)) (λ vs. run calls turns h.rest (bind_all e' (h.consumer ∷ []) vs)) in
+      let rq = right_at core calls turns typed called fit (h.consumer ∷ []) h.site (Parted h.frame h.base [] h.op h.old) h.rest scope' g' ts (facts_after called h.between (note_all k (p.var ∷ []) (right_facts called r k))) e' q in
+      let ff = frame_fits h.op h.frame [] (part_grids h.old) rq.bases.2 in
+      let parts = subst (λ l. NewParts called l p h.old h.new) h.known h.parts in
+      λ i. and_then (one (if neutral_fits (cell_form h.base []) h.op e' then and_then (each (λ v. parts_same calls turns called fit p scope e cs.0 fresh scoped box fits.0.words inside cs.1 scope' sub (facts_after called h.between (note_all k (p.var ∷ []) (right_facts called r k))) e' near q.sound (cell_form h.base []) h.frame h.old h.new v parts rq.scoped.1 rq.full ff.1.inside ff.0.words i) (members h.frame)) (λ found. Ok (made_of h.frame h.base [] h.op e' found)) else fault F6 h.site)) (λ vs. run calls turns h.rest (bind_all e' (h.consumer ∷ []) vs)) in
       let first : run calls turns (Bind (p.var ∷ []) p.site r X) e ≡ run calls turns X e1 = λ i. and_then (value i) (λ vs. run calls turns X (bind_all e (p.var ∷ []) vs)) in
       let middle : run calls turns X e1 ≡ run calls turns Y e1 =
       through (p.var ∷ scope) e1 ts (Bind (h.consumer ∷ []) h.site (Parted h.frame h.base [] h.op h.old) h.rest) (Bind (h.consumer ∷ []) h.site (Parted h.frame h.base [] h.op h.new) h.rest) h.between (note_all k (p.var ∷ []) (right_facts called r k)) (p.var ∷ scope) (zip (p.var ∷ []) a.bases.0 ++ g) e1

@@ -85,7 +85,7 @@ function_at core (x ∷ fs) (suc place) f h e = function_at core fs place f (All
 
 module _ (a : CoreTerm) (place : ℕ) (f : FunTerm) (body : BlockTerm) (found : slice_get a.functions place ≡ Some f) (well : IsWellFormed a)
     (same : (turns : ℕ) (C : CallMeaning) (args : List ArrayValue) → CallsTyped a C → CallsFit (called a) C → FullInside C turns f.body → Distinct (param_vars f ++ bound_in f.body) → Scoped (param_vars f) f.body → BlockBases a (param_bases f) f.body (bases f.results)
-        → Typed (param_bases f) (bind_all no_variables (param_vars f) args) → AreSound (params_facts f) (bind_all no_variables (param_vars f) args) → run C turns f.body (bind_all no_variables (param_vars f) args) ≡ run C turns body (bind_all no_variables (param_vars f) args)) where
+    → Typed (param_bases f) (bind_all no_variables (param_vars f) args) → AreSound (params_facts f) (bind_all no_variables (param_vars f) args) → run C turns f.body (bind_all no_variables (param_vars f) args) ≡ run C turns body (bind_all no_variables (param_vars f) args)) where
   abbrev stepped : CoreTerm
   stepped = record a { functions = replaced_at a.functions place (record f { body = body }) }
 
@@ -119,6 +119,6 @@ fold_outcome above a b step well other =
     let f = step.function in
     body_outcome a step.place f step.body step.found well
     (λ turns C args typed fit full once scoped agreeing env sound.
-        changed a C turns typed (called a) fit (FoldsHere (called a) (above f)) (λ k b c r scope gs ts e' q. fold_here a C turns typed (called a) fit (above f) k b c r scope gs ts e' q) step.edited (param_vars f) (param_bases f) (bases f.results) (bind_all no_variables (param_vars f) args)
-        (record { bases = agreeing; once = distinct_right (param_vars f) (bound_in f.body) once; scoped = scoped; full = full; typed = env; sound = sound }))
+    changed a C turns typed (called a) fit (FoldsHere (called a) (above f)) (λ k b c r scope gs ts e' q. fold_here a C turns typed (called a) fit (above f) k b c r scope gs ts e' q) step.edited (param_vars f) (param_bases f) (bases f.results) (bind_all no_variables (param_vars f) args)
+    (record { bases = agreeing; once = distinct_right (param_vars f) (bound_in f.body) once; scoped = scoped; full = full; typed = env; sound = sound }))
     b step.changed other

@@ -22,7 +22,7 @@ use Rattle.core_fold_steps.specs.Step.{FoldStep, SameAt}
 abbrev pub ProducersHaveCells : Type 0
 ProducersHaveCells =
     (core : CoreTerm) (calls : CallMeaning) (turns : ℕ) (called : ℕ → List (Option (List ℕ))) (frame : List Grid1) (parts : PartsTerm) (k : Facts)
-        (g : Bases) (t : Base) (e : Env) →
+    (g : Bases) (t : Base) (e : Env) →
     CallsTyped core calls → CallsFit called calls → TotalParts called k parts → PartsBases core g parts t → Distinct (bound_in_parts parts) →
     FullInsideParts calls turns parts → Typed g e → AreSound k e → ((v : List ℤ) → has_vector frame v ≡ true → All (FitsSigned w32) v) →
     Covered frame (part_grids parts) → (at : List ℤ → ℤ) × HasCells frame t (cells calls turns parts e) at

@@ -19,8 +19,8 @@ use Rattle.core_calls.specs.Replaced.{replaced_at}
 abbrev pub SameAt : CoreTerm → CallMeaning → ℕ → Facts → BlockTerm → BlockTerm → Type 0
 SameAt core calls turns k b c =
     (scope : List Var) (g : Bases) (ts : List Base)
-        (e : Env) → BlockBases core g b ts → Distinct (bound_in b) → Scoped scope b → FullInside calls turns b → Typed g e → AreSound k e →
-        run calls turns b e ≡ run calls turns c e
+    (e : Env) → BlockBases core g b ts → Distinct (bound_in b) → Scoped scope b → FullInside calls turns b → Typed g e → AreSound k e →
+    run calls turns b e ≡ run calls turns c e
 
 -- one function is changed at one place, where a producer is folded into a consumer; `above` is one more than the greatest number of a variable of a
 -- function
