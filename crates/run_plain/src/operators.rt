@@ -121,7 +121,8 @@ pub fn literal_value(
 
 // The vector of words of one base, of which there are at most 8.
 fn words(frames: &Frames, xs: &[Var]) -> Option<RunValue>
-    ensures { (h : StoreOf) (m : MachineHeap) → Stands h m → (s : SiteOf) → IfSome result (λ v. TellsPlaced (Ok v) h m (literal_in m (current frames.now) xs.now s)) }
+    ensures { (h : StoreOf) (m : MachineHeap) → Stands h m → (s : SiteOf)
+        → IfSome result (λ v. TellsPlaced (Ok v) h m (literal_in m (current frames.now) xs.now s)) }
 {
     let Some(first) = xs.first() else {
         return Some(RunValue::Short(Base::Int, Few::empty()));
