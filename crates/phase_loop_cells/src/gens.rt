@@ -16,7 +16,7 @@ use crate::scratch::CellScratch;
 use buffer_heap::Heap;
 use phase_cells::CellRuns;
 use counted_code::CodeGen;
-use run_eval::{Context, State, cell_of_gens};
+use run_eval::{Context, PhaseCount, State, cell_of_gens};
 use run_store::Store;
 use run_values::Frames;
 use sac_base::{Cell, Memory, Stop};
@@ -73,7 +73,7 @@ impl<'a> CellRuns for WithCells<'a> {
         let mut state = State {
             frames: variables,
             heap: buffers,
-            phases: 0,
+            phases: PhaseCount::within_cell(),
         };
         let answer = gens_at(self, position, &mut scratch.index, &mut state, into);
         let (frames, heap) = state.into_parts();

@@ -16,7 +16,7 @@ use crate::scratch::CellScratch;
 use buffer_heap::Heap;
 use phase_cells::CellRuns;
 use counted_code::CodePart;
-use run_eval::{Context, State, cell_of_parts};
+use run_eval::{Context, PhaseCount, State, cell_of_parts};
 use run_store::Store;
 use run_values::Frames;
 use sac_base::{Cell, Form, Memory, Stop};
@@ -72,7 +72,7 @@ impl<'a> CellRuns for PartCells<'a> {
         let mut state = State {
             frames: variables,
             heap: buffers,
-            phases: 0,
+            phases: PhaseCount::within_cell(),
         };
         let answer = parts_at(self, position, &mut scratch.index, &mut state, into);
         let (frames, heap) = state.into_parts();

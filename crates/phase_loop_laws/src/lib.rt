@@ -22,7 +22,7 @@ ghost use Rattle.phase_laws.specs.Alone.{IsNew};
 ghost use Rattle.phase_laws.specs.Folds.{IsOf};
 ghost use Rattle.phase_laws.specs.Spending.{gens_take, parts_take, total};
 ghost use Rattle.array_with_loops.specs.Cells.{array_from};
-ghost use Rattle.phase_team.specs.declared.plan.Stop.{Stop};
+ghost use Rattle.sac_base.specs.declared.stop.Stop.{Stop};
 ghost use Rattle.phase_team.specs.Endings.{IsArray, IsCombined};
 ghost use Rattle.phase_team.specs.Segments.{cells_from, cost_from};
 ghost use Rattle.phase_loop_laws.specs.Levels.{does_at, means_at, spends_at};

@@ -5,8 +5,8 @@ use Rattle.phase_cells.specs.Idle.{counter, raise}
 use Rattle.run_store.proofs.Opening.{behind_heap}
 use Rattle.sac_base.specs.declared.op.Op.{Op}
 use Rattle.wl_core.specs.Machine.{CellValue}
-use Rattle.phase_team.specs.declared.plan.Stop.{Stop}
-use Rattle.phase_team.specs.declared.plan.Stop.TheVariants.{Faulted, Memory}
+use Rattle.sac_base.specs.declared.stop.Stop.{Stop}
+use Rattle.sac_base.specs.declared.stop.Stop.TheVariants.{Faulted, Memory}
 use Rattle.phase_team.specs.Endings.{IsArray, IsCombined}
 use Rattle.phase_team.specs.Segments.{Costs, cost_from}
 use Rattle.phase_workers.specs.Homes.{CombinesAll, ComputesAll, IsBehind, OrNoMemory}

@@ -3,8 +3,8 @@ use Rattle.std.specs.Prelude.{◌≡◌, ℕ, ◌+◌, ◌%◌, ◌^◌, List, �
 use Rattle.buffer_heap.specs.Heaps.{HeapValue, at}
 use Rattle.sac_base.specs.declared.op.Op.{Op}
 use Rattle.wl_core.specs.Machine.{CellValue}
-use Rattle.phase_team.specs.declared.plan.Stop.{Stop}
-use Rattle.phase_team.specs.declared.plan.Stop.TheVariants.{Faulted, Memory}
+use Rattle.sac_base.specs.declared.stop.Stop.{Stop}
+use Rattle.sac_base.specs.declared.stop.Stop.TheVariants.{Faulted, Memory}
 use Rattle.phase_team.specs.Endings.{IsArray, IsCombined}
 
 -- The heap that goes on behind the one that lends has no buffer. So many buffers were taken and given back behind it: their numbers are counted exactly, all else modulo 2^64.

@@ -205,11 +205,11 @@ fn run_cell<P: Phases>(
     ensures scopes { OnOk result (SameScopes state.old.frames state.new.frames) }
     ensures lender { lender_of state.new.heap ≡ lender_of state.old.heap }
 {
-    let phases = state.phases;
+    let outer = state.phases.enter_cell();
     state.frames.enter()?;
     bind_index(state, g.index, &g.names, index)?;
     let answer = run_first(&g.body, context, outside, state);
-    state.phases = phases;
+    state.phases = outer;
     formed(answer, form, g.site)
 }
 
@@ -418,10 +418,10 @@ fn run_part<P: Phases>(
     ensures scopes { OnOk result (SameScopes state.old.frames state.new.frames) }
     ensures lender { lender_of state.new.heap ≡ lender_of state.old.heap }
 {
-    let phases = state.phases;
+    let outer = state.phases.enter_cell();
     state.frames.enter()?;
     bind_index(state, part.index, &[], index)?;
     let answer = run_first(&part.body, context, outside, state);
-    state.phases = phases;
+    state.phases = outer;
     formed(answer, form, part.site)
 }

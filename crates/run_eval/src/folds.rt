@@ -46,7 +46,7 @@ pub fn begin_fold(
     ensures frames { OnOk result (state.new.frames ≡ state.old.frames) }
     ensures lender { lender_of state.new.heap ≡ lender_of state.old.heap }
 {
-    count(state, true);
+    count(context.alloc, state, true)?;
     if is_small(shape) {
         return Ok(None);
     }

@@ -7,9 +7,8 @@ use Rattle.run_eval.specs.Running.{IsValue, Told, ToldStop, array_job}
 use Rattle.run_store.specs.Stands.{lender_in}
 use Rattle.run_values.specs.Scopes.{current}
 use Rattle.sac_base.specs.Arrays.{size}
-use Rattle.sac_base.specs.declared.stop.Stop.TheVariants as stop
 use Rattle.array_with_loops.specs.Plans.{plan_of}
-use Rattle.phase_team.specs.declared.plan.Stop.TheVariants.{Faulted}
+use Rattle.sac_base.specs.declared.stop.Stop.TheVariants.{Faulted}
 use Rattle.phase_loop_cells.specs.declared.copies.Background.{Background}
 use Rattle.phase_loop_cells.specs.Cells.{gens_cell, gens_taken}
 use Rattle.phase_team.specs.Segments.{cells_from, cost_from}
@@ -59,7 +58,7 @@ returns-in-Err-Faulted-clause-told g c m at =
     let alive : AreAlive h e a.live.now = alive_after s0.heap.own h c.begin_phase.ensures.others e a.live.now (subst (λ f. AreAlive s0.heap.own (current f) a.live.now) (sym frames) c.requires.alive) in
     let none : s.heap.lent ≡ None = none_lent s.heap.lent (c.begin_phase.ensures.lender ∙ ap lender_in c.requires.alone) in
     let same : c.array_cells-end.result ≡ Err (Faulted c.in-Err-Faulted.fault) = search rules in
-    subst (λ f. ToldStop (stop.Faulted c.in-Err-Faulted.fault) s (job_does None (array_job context (current f) m a.gens.now (plan_of p) a.array.now a.old) m)) frames
+    subst (λ f. ToldStop (Faulted c.in-Err-Faulted.fault) s (job_does None (array_job context (current f) m a.gens.now (plan_of p) a.array.now a.old) m)) frames
     (array_faulted context e a.gens.now p b a.live.now c.get-code.ensures.counted c.get-code.ensures.unmarked c.requires.counted h alive c.buffers_are_numbered.ensures.referred width c.requires.large m
     c.in_ok-target.target.buffer s (c.in_ok-target.ensures.begun m (length p.frame) at) none refl c.array_cells-end.new.cells c.in-Err-Faulted.fault
     (computed_as (cells_from (gens_cell context h e a.gens.now p (Some b)) 0 (length p.frame)) h (cost_from (gens_taken context h e a.gens.now p) 0 (length p.frame)) c.array_cells-end.new.cells c.array_cells-end.result (Err (Faulted c.in-Err-Faulted.fault)) same c.array_cells-end.ensures))

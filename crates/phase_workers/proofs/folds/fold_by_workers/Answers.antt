@@ -6,9 +6,8 @@ use Rattle.run_store.specs.Stands.{lender_in}
 use Rattle.run_store.specs.Targets.{target_at}
 use Rattle.run_values.specs.Scopes.{current}
 use Rattle.sac_base.specs.Arrays.{IsFull}
-use Rattle.sac_base.specs.declared.stop.Stop.TheVariants as stop
 use Rattle.array_with_loops.specs.Plans.{plan_of}
-use Rattle.phase_team.specs.declared.plan.Stop.TheVariants.{Faulted}
+use Rattle.sac_base.specs.declared.stop.Stop.TheVariants.{Faulted}
 use Rattle.phase_loop_cells.specs.Cells.{gens_cell, gens_taken}
 use Rattle.phase_team.specs.Segments.{cells_from, cost_from}
 use Rattle.phase_workers.specs.Alive.{AreAlive}
@@ -62,7 +61,7 @@ returns-in-Err-Faulted-clause-told g c m at =
     let begun = c.in_ok-target.ensures.begun m (length p.frame) at in
     let fault = c.in-Err-Faulted.fault in
     let same : c.fold_cells-end.result ≡ Err (Faulted fault) = search rules in
-    subst (λ f. ToldStop (stop.Faulted fault) s (job_does None (fold_job context (current f) m a.gens.now (plan_of p) a.op a.neutral) m)) frames
+    subst (λ f. ToldStop (Faulted fault) s (job_does None (fold_job context (current f) m a.gens.now (plan_of p) a.op a.neutral) m)) frames
     (fold_faulted context e a.gens.now p a.op a.neutral a.live.now c.get-code.ensures.counted c.get-code.ensures.unmarked c.requires.counted h alive c.buffers_are_numbered.ensures.referred c.requires.op c.requires.form full m
     c.in_ok-target.target.buffer s begun (own_stands s.heap _ none begun.stands.heap) c.fold_cells-end.new.value fault
     (combined_as a.op (cells_from (gens_cell context h e a.gens.now p None) 0 (length p.frame)) h (cost_from (gens_taken context h e a.gens.now p) 0 (length p.frame)) c.deref_mut.result.now a.neutral.cells c.fold_cells-end.new.value c.fold_cells-end.result (Err (Faulted fault)) same start c.fold_cells-end.ensures))

@@ -6,8 +6,7 @@ use Rattle.run_store.specs.Stands.{lender_in}
 use Rattle.run_store.specs.Targets.{target_at}
 use Rattle.run_values.specs.Scopes.{current}
 use Rattle.sac_base.specs.Arrays.{IsFull}
-use Rattle.sac_base.specs.declared.stop.Stop.TheVariants as stop
-use Rattle.phase_team.specs.declared.plan.Stop.TheVariants.{Faulted}
+use Rattle.sac_base.specs.declared.stop.Stop.TheVariants.{Faulted}
 use Rattle.phase_loop_cells.specs.Cells.{parts_cell, parts_taken}
 use Rattle.phase_team.specs.Segments.{cells_from, cost_from}
 use Rattle.phase_workers.specs.Alive.{AreAlive}
@@ -64,7 +63,7 @@ returns-in-Err-Faulted-clause-told g c m at =
     let begun = c.in_ok-target.ensures.begun m (length indices) at in
     let fault = c.in-Err-Faulted.fault in
     let same : c.fold_part_cells-end.result ≡ Err (Faulted fault) = search rules in
-    subst (λ f. ToldStop (stop.Faulted fault) s (job_does None (fold_parts_job context (current f) a.parts.now indices form a.op a.neutral) m)) frames
+    subst (λ f. ToldStop (Faulted fault) s (job_does None (fold_parts_job context (current f) a.parts.now indices form a.op a.neutral) m)) frames
     (parts_faulted context h e a.parts.now a.live.now c.get-code.ensures.counted c.get-code.ensures.unmarked c.requires.counted alive c.buffers_are_numbered.ensures.referred form indices a.op a.neutral c.requires.op c.requires.form full m
     c.in_ok-target.target.buffer s begun (own_stands s.heap _ none begun.stands.heap) c.fold_part_cells-end.new.value fault
     (combined_as a.op (cells_from (parts_cell context h e a.parts.now form indices) 0 (length indices)) h (cost_from (parts_taken context h e a.parts.now indices) 0 (length indices)) c.deref_mut.result.now a.neutral.cells c.fold_part_cells-end.new.value c.fold_part_cells-end.result (Err (Faulted fault)) same start c.fold_part_cells-end.ensures))

@@ -5,8 +5,7 @@ use Rattle.run_eval.specs.declared.state.State.{State}
 use Rattle.run_eval.specs.Running.{IsValue, Told, ToldStop, parts_job}
 use Rattle.run_store.specs.Stands.{lender_in}
 use Rattle.run_values.specs.Scopes.{current}
-use Rattle.sac_base.specs.declared.stop.Stop.TheVariants as stop
-use Rattle.phase_team.specs.declared.plan.Stop.TheVariants.{Faulted}
+use Rattle.sac_base.specs.declared.stop.Stop.TheVariants.{Faulted}
 use Rattle.phase_loop_cells.specs.Cells.{parts_cell, parts_taken}
 use Rattle.phase_team.specs.Segments.{cells_from, cost_from}
 use Rattle.phase_workers.specs.Alive.{AreAlive}
@@ -49,7 +48,7 @@ returns-in-Err-Faulted-clause-told g c m at =
     let alive : AreAlive h e a.live.now = alive_after s0.heap.own h c.begin_phase.ensures.others e a.live.now (subst (λ f. AreAlive s0.heap.own (current f) a.live.now) (sym frames) c.requires.alive) in
     let none : s.heap.lent ≡ None = none_lent s.heap.lent (c.begin_phase.ensures.lender ∙ ap lender_in c.requires.alone) in
     let same : c.part_cells-end.result ≡ Err (Faulted c.in-Err-Faulted.fault) = search rules in
-    subst (λ f. ToldStop (stop.Faulted c.in-Err-Faulted.fault) s (job_does None (parts_job context (current f) a.parts.now a.frame.now a.form.now a.shape.now) m)) frames
+    subst (λ f. ToldStop (Faulted c.in-Err-Faulted.fault) s (job_does None (parts_job context (current f) a.parts.now a.frame.now a.form.now a.shape.now) m)) frames
     (parts_faulted context e a.parts.now a.frame.now a.form.now a.shape.now a.live.now c.get-code.ensures.counted c.get-code.ensures.unmarked c.requires.counted h alive c.buffers_are_numbered.ensures.referred c.requires.large m
     c.in_ok-target.target.buffer s (c.in_ok-target.ensures.begun m (length a.frame.now) at) none refl c.part_cells-end.new.cells c.in-Err-Faulted.fault
     (computed_as (cells_from (parts_cell context h e a.parts.now a.form.now a.frame.now) 0 (length a.frame.now)) h (cost_from (parts_taken context h e a.parts.now a.frame.now) 0 (length a.frame.now)) c.part_cells-end.new.cells c.part_cells-end.result (Err (Faulted c.in-Err-Faulted.fault)) same c.part_cells-end.ensures))
