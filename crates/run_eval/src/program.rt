@@ -10,7 +10,7 @@ ghost use Rattle.run_eval.specs.Running.{IsAt, Told};
 ghost use Rattle.run_eval.specs.Tallies.{OrMemory, counted_in};
 ghost use Rattle.run_store.specs.Stands.{Stands, lender_of};
 ghost use Rattle.run_values.specs.Shown.{value_of};
-ghost use Rattle.array_with_loops.specs.Tells.{TellsItems};
+ghost use Rattle.array_ops.specs.Tells.{TellsItems};
 
 use crate::blocks::run_function;
 use crate::phase_count::{PhaseCount, Totals, numbers_of};
