@@ -49,8 +49,8 @@ use Rattle.phase_loop_cells.specs.declared.copies.Background.{Background}
 use Rattle.phase_loop_cells.specs.Cells.{as_cell, gens_cell, gens_taken}
 use Rattle.phase_loop_cells.specs.Opened.{GensIn, lent_env, meaning_in, spending_in}
 use Rattle.phase_workers.specs.Alive.{AreAlive, IsAlive}
-use Rattle.phase_workers.specs.Homes.{ComputesAll}
-use Rattle.phase_workers.proofs.Handing.{handed, handed_stands}
+use Rattle.phase_workers.specs.Homes.{ComputesAll, handed}
+use Rattle.phase_workers.proofs.Handing.{handed_stands}
 use Rattle.phase_workers.proofs.Openings.{AreReferred, alone_gens}
 
 -- ---- variables that stay alive

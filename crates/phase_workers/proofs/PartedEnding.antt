@@ -48,9 +48,9 @@ use Rattle.phase_loop_cells.specs.Cells.{as_cell, parts_cell, parts_taken}
 use Rattle.phase_loop_cells.specs.Opened.{OpenParts, PartsIn, lent_env, meaning_in, spending_in}
 use Rattle.phase_loop_cells.proofs.Levels.{level}
 use Rattle.phase_workers.specs.Alive.{AreAlive}
-use Rattle.phase_workers.specs.Homes.{ComputesAll}
+use Rattle.phase_workers.specs.Homes.{ComputesAll, handed}
 use Rattle.phase_workers.proofs.Ending.{own_stands}
-use Rattle.phase_workers.proofs.Handing.{handed, handed_stands}
+use Rattle.phase_workers.proofs.Handing.{handed_stands}
 use Rattle.phase_workers.proofs.Machines.{machine_of, stands_for_machine, AreSingle}
 use Rattle.phase_workers.proofs.Openings.{AreReferred, readable_here}
 

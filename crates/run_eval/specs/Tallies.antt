@@ -8,6 +8,10 @@ use Rattle.sac_base.specs.declared.stop.Stop.TheVariants.{Faulted, Memory}
 abbrev pub counted_in : ℕ → ℕ → ℕ → PhaseTotals
 counted_in phases draws n = record { phases = (phases + n) % 2 ^ 64; draws = draws }
 
+-- after one phase more
+abbrev pub one_more : PhaseTotals → PhaseTotals
+one_more tally = record { phases = (tally.phases + 1) % 2 ^ 64; draws = tally.draws % 2 ^ 64 }
+
 -- the tally, where there is one, has them
 abbrev pub IsTallyOf : ℕ → ℕ → ℕ → Option PhaseTotals → Type 0
 IsTallyOf phases draws n None = Unit {0}

@@ -1,7 +1,7 @@
 //! The phases of a run so far.
 
 ghost use Rattle.std.specs.Prelude.{◌≡◌, ◌+◌, ◌%◌, ◌^◌, IfOk, IfSome, OnOk};
-ghost use Rattle.run_eval.specs.Tallies.{counted_in};
+ghost use Rattle.run_eval.specs.Tallies.{counted_in, one_more};
 
 use count_table::{Phase, Tally};
 use sac_base::Memory;
@@ -99,7 +99,7 @@ impl PhaseCount {
     /// is none.
     pub fn hand_out(&mut self) -> Option<OpenTally>
         ensures counted { self.new ≡ (self.old + 1) % 2 ^ 64 }
-        ensures tally { IfSome result (λ handed. handed.tally ≡ counted_in handed.before.phases handed.before.draws self.old) }
+        ensures tally { IfSome result (λ handed. one_more handed.tally ≡ counted_in handed.before.phases handed.before.draws self.new) }
     {
         self.number = self.number.wrapping_add(1);
         let before = self.before;
