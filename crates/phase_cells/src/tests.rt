@@ -4,12 +4,12 @@ ghost use Rattle.phase_cells.specs.Idle.{IsAsLent};
 use crate::{CellRuns, LentCells};
 use buffer_heap::Heap;
 use count_table::Tally;
+use phase_team::{CellEnd, NoGate, array_phase};
 use run_store::Store;
 use sac_base::{Cell, Memory, Stop};
 use std::alloc::Global;
 use std::test::Fail;
 use std::thread::Threads;
-use phase_team::{CellEnd, NoGate, array_phase};
 
 // One element for each of ten positions, which is its number.
 #[derive(Drop)]

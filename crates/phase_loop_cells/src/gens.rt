@@ -13,16 +13,16 @@ ghost use Rattle.sac_base.specs.Arrays.{size};
 
 use crate::copies::{Background, ended, put};
 use crate::scratch::CellScratch;
+use array_with_loops::{IndexVector, Plan};
 use buffer_heap::Heap;
-use phase_cells::CellRuns;
 use counted_code::CodeGen;
+use phase_cells::CellRuns;
+use phase_team::CellEnd;
 use run_eval::{Context, PhaseCount, State, cell_of_gens};
 use run_store::Store;
 use run_values::Frames;
 use sac_base::{Cell, Memory, Stop};
 use std::mem;
-use array_with_loops::{IndexVector, Plan};
-use phase_team::CellEnd;
 
 /// The cells of a with-loop whose checks have passed, of the variables of a call and the buffers of a heap.
 pub struct WithCells<'a> {

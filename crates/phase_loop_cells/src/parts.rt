@@ -13,16 +13,16 @@ ghost use Rattle.sac_base.specs.Arrays.{size};
 
 use crate::copies::{ended, put};
 use crate::scratch::CellScratch;
+use array_with_loops::{Frame, IndexVector};
 use buffer_heap::Heap;
-use phase_cells::CellRuns;
 use counted_code::CodePart;
+use phase_cells::CellRuns;
+use phase_team::CellEnd;
 use run_eval::{Context, PhaseCount, State, cell_of_parts};
 use run_store::Store;
 use run_values::Frames;
 use sac_base::{Cell, Form, Memory, Stop};
 use std::mem;
-use array_with_loops::{Frame, IndexVector};
-use phase_team::CellEnd;
 
 /// The cells of a parted loop, of the variables of a call and the buffers of a heap.
 pub struct PartCells<'a> {

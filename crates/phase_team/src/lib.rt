@@ -14,9 +14,9 @@ mod share;
 mod worker;
 
 pub use cells::{CellEnd, PhaseCells};
+pub use gates::{Gate, NoGate};
 pub use law::{answers_are_verdicts, each_schedule_is_a_run};
 pub use phases::{array_phase, fold_phase};
-pub use gates::{Gate, NoGate};
 
 #[cfg(test)]
 mod tests;

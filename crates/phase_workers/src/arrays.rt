@@ -20,17 +20,17 @@ ghost use Rattle.phase_team.specs.Segments.{cells_from, cost_from};
 
 use crate::results::{Begun, Books, begin_phase, end_phase, finish_phase, stop_phase};
 use crate::team::{Workers, compute_array};
+use array_with_loops::Plan;
 use buffer_heap::Heap;
 use core_ir::Var;
 use counted_code::{Code, CodeGen};
 use phase_loop_cells::{Background, WithCells};
+use phase_team::Gate;
 use run_eval::{Context, State};
 use run_store::Target;
 use run_values::{Frames, RunValue};
 use sac_base::{Array, Cell, Stop, elements};
 use std::thread::Threads;
-use array_with_loops::Plan;
-use phase_team::Gate;
 
 /// The result of a genarray or modarray that is a phase, whose cells stand alone.
 pub fn array_by_workers<G: Gate, R: Threads + Sync>(

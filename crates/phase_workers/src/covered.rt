@@ -10,15 +10,15 @@ ghost use Rattle.sac_base.specs.Arrays.{size};
 ghost use Rattle.wl_core.specs.Machine.{CellValue};
 ghost use Rattle.phase_team.specs.Segments.{IsComputed, Tells};
 
+use array_with_loops::{Frame, IndexVector};
 use buffer_heap::Heap;
-use phase_cells::CellRuns;
 use counted_code::CodePart;
+use phase_cells::CellRuns;
 use phase_loop_cells::{CellScratch, PartCells};
+use phase_team::CellEnd;
 use run_store::Store;
 use sac_base::{Cell, Memory, Stop};
 use std::alloc::Global;
-use array_with_loops::{Frame, IndexVector};
-use phase_team::CellEnd;
 
 /// The cells of a parted loop, where a position without one counts as want of memory.
 pub struct CoveredCells<'a> {

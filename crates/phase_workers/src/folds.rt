@@ -23,18 +23,18 @@ ghost use Rattle.phase_team.specs.Segments.{cells_from, cost_from};
 use crate::alive::alive_in_gens;
 use crate::results::{Begun, Books, begin_phase, end_phase, finish_phase, stop_phase};
 use crate::team::{Workers, compute_fold};
+use array_with_loops::{Plan, fits_form};
 use buffer_heap::Heap;
 use core_ir::Var;
 use counted_code::CodeGen;
-use phase_loop_cells::WithCells;
 use phase_checks::gens_are_counted;
+use phase_loop_cells::WithCells;
+use phase_team::Gate;
 use run_eval::{Context, State, fold_in_order};
 use run_store::Target;
 use run_values::{Frames, RunValue};
 use sac_base::{Array, Base, Cell, Op, Stop};
 use std::thread::Threads;
-use array_with_loops::{Plan, fits_form};
-use phase_team::Gate;
 
 // The most positions of a phase.
 const MOST: usize = 16_777_216;
@@ -54,7 +54,10 @@ pub fn fold_outside<G: Gate, R: Threads + Sync>(
     ensures scopes { OnOk result (SameScopes state.old.frames state.new.frames) }
     ensures lender { lender_of state.new.heap ≡ lender_of state.old.heap }
 {
-    if workers.deep || state.heap.lent.is_some() || !is_fold(plan, op, &neutral) {
+    if state.heap.lent.is_some()
+        || !is_fold(plan, op, &neutral)
+        || !workers.nesting.has_room_for_gens(gens, context.code.get())
+    {
         return fold_in_order(gens, plan, op, neutral, context, state);
     }
     let live = alive_in_gens(context.alloc, gens, &state.frames, &state.heap.own)?;

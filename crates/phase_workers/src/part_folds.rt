@@ -23,18 +23,18 @@ use crate::folds::folds;
 use crate::parted::shares;
 use crate::results::{Begun, Books, begin_phase, end_phase, finish_phase, stop_phase};
 use crate::team::{Workers, compute_fold};
+use array_with_loops::{Frame, fits_form};
 use buffer_heap::Heap;
 use core_ir::Var;
 use counted_code::{Code, CodePart};
-use phase_loop_cells::PartCells;
 use phase_checks::parts_are_counted;
+use phase_loop_cells::PartCells;
+use phase_team::Gate;
 use run_eval::{Context, State, fold_parts_in_order};
 use run_store::Target;
 use run_values::{Frames, RunValue};
 use sac_base::{Array, Cell, Form, Op, Stop};
 use std::thread::Threads;
-use array_with_loops::{Frame, fits_form};
-use phase_team::Gate;
 
 /// The result of a parted fold. It is run by the workers where its cells are known to stand alone, and else in order.
 pub fn fold_parts_outside<G: Gate, R: Threads + Sync>(
@@ -51,7 +51,12 @@ pub fn fold_parts_outside<G: Gate, R: Threads + Sync>(
     ensures scopes { OnOk result (SameScopes state.old.frames state.new.frames) }
     ensures lender { lender_of state.new.heap ≡ lender_of state.old.heap }
 {
-    if workers.deep || state.heap.lent.is_some() || !is_fold(form, op, &neutral) {
+    if state.heap.lent.is_some()
+        || !is_fold(form, op, &neutral)
+        || !workers
+            .nesting
+            .has_room_for_parts(parts, context.code.get())
+    {
         return fold_parts_in_order(parts, frame, form, op, neutral, context, state);
     }
     let live = alive_in_parts(context.alloc, parts, &state.frames, &state.heap.own)?;

@@ -22,18 +22,18 @@ use crate::alive::alive_in_parts;
 use crate::covered::{CoveredCells, believed};
 use crate::results::{Begun, Books, begin_phase, end_phase, finish_phase, stop_phase};
 use crate::team::{Workers, compute_array};
+use array_with_loops::Frame;
 use buffer_heap::Heap;
 use core_ir::Var;
 use counted_code::{Code, CodePart};
-use phase_loop_cells::PartCells;
 use phase_checks::parts_are_counted;
+use phase_loop_cells::PartCells;
+use phase_team::Gate;
 use run_eval::{Context, State, parts_in_order};
 use run_store::{Target, is_small};
 use run_values::{Frames, RunValue};
 use sac_base::{Cell, Form, Shape, Stop, elements};
 use std::thread::Threads;
-use array_with_loops::Frame;
-use phase_team::Gate;
 
 /// The result of a parted loop that is no fold. It is run by the workers where it is a phase, its cells are known to stand
 /// alone and none nests too deep, and else in order.
@@ -50,7 +50,12 @@ pub fn parts_outside<G: Gate, R: Threads + Sync>(
     ensures scopes { OnOk result (SameScopes state.old.frames state.new.frames) }
     ensures lender { lender_of state.new.heap ≡ lender_of state.old.heap }
 {
-    if workers.deep || is_small(shape) || state.heap.lent.is_some() {
+    if is_small(shape)
+        || state.heap.lent.is_some()
+        || !workers
+            .nesting
+            .has_room_for_parts(parts, context.code.get())
+    {
         return parts_in_order(parts, frame, form, shape, context, state);
     }
     let live = alive_in_parts(context.alloc, parts, &state.frames, &state.heap.own)?;

@@ -7,14 +7,15 @@ ghost use Rattle.phase_workers.specs.Homes.{CombinesAll, ComputesAll, IsBooked, 
 ghost use Rattle.sac_base.specs.Verdict.{folds};
 ghost use Rattle.phase_team.specs.Segments.{cells_from, cost_from};
 
+use crate::nesting::Nesting;
 use crate::results::Books;
 use buffer_heap::Heap;
 use phase_cells::{CellRuns, LentCells};
+use phase_team::{Gate, array_phase, fold_phase};
 use run_store::lent_counts;
 use sac_base::{Base, Cell, Op, Stop};
 use std::alloc::Global;
 use std::thread::Threads;
-use phase_team::{Gate, array_phase, fold_phase};
 
 /// How many workers a phase has, 1 to 64, where they run, and who is told of it.
 #[derive(Drop)]
@@ -22,8 +23,8 @@ pub struct Workers<'a, G: Gate, R: Threads + Sync> {
     pub rt: &'a R,
     pub gate: &'a G,
     pub workers: u32,
-    /// Whether phases are run in order on this thread, since a cell may nest too deep for the stack of a worker's.
-    pub deep: bool,
+    /// How deep calls nest. A phase is run in order on this thread where a cell may nest too deep for a worker's stack.
+    pub nesting: Nesting,
 }
 
 /// Computes the cells of all positions, each at its place. The workers' heap goes on behind the one that lends, and the
@@ -54,6 +55,7 @@ pub fn compute_array<C: CellRuns, G: Gate, R: Threads + Sync>(
         return Err(Stop::Memory);
     };
     let lent = LentCells { alloc, cells };
+    let tally = &mut books.count.tally;
     let end = array_phase(
         team.rt,
         alloc,
@@ -65,7 +67,7 @@ pub fn compute_array<C: CellRuns, G: Gate, R: Threads + Sync>(
         positions,
         width,
         into,
-        &mut books.count.tally,
+        tally,
     );
     let LentCells { alloc: _, cells: _ } = lent;
     match end {

@@ -21,12 +21,12 @@ use crate::folds::{Sum, add_cell, begin_fold, finish_fold, start};
 use crate::holders::{holder, part_holder};
 use crate::phases::{Outside, Phases};
 use crate::state::{Context, State};
+use array_with_loops::{Frame, IndexVector, Plan, fold_plan, genarray_plan, modarray_plan};
 use core_ir::{CoreOp, PartedOp};
 use counted_code::{CodeGen, CodePart, CodeParted, CodeWith};
 use run_store::{fits, read_array};
 use run_values::RunValue;
 use sac_base::{Array, Cell, FaultKind, Form, Memory, Op, Shape, Site, Stop, fault};
-use array_with_loops::{Frame, IndexVector, Plan, fold_plan, genarray_plan, modarray_plan};
 
 /// The result of a with-loop.
 #[cycle(run)]

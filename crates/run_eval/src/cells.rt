@@ -16,8 +16,8 @@ ghost use Rattle.array_with_loops.specs.Cells.{cell_from};
 use crate::state::{Context, State};
 use run_store::{Store, Target, buffer_cells, claim, fits, is_small, release, settle};
 use run_values::RunValue;
-use std::alloc::Global;
 use sac_base::{Array, Base, Cell, FaultKind, Form, Memory, Shape, Site, Stop, elements, fault};
+use std::alloc::Global;
 
 /// What stands where an index has no cell: the cells of an old array, or those of a default. A cell has so many elements.
 #[derive(Clone, Copy)]

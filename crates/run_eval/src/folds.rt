@@ -13,11 +13,11 @@ ghost use Rattle.sac_base.specs.WithLoops.{combined};
 
 use crate::cells::{count, finish};
 use crate::state::{Context, State};
+use array_with_loops::combine;
 use run_store::{Store, Target, claim, is_small, read_array, release};
 use run_values::{RunValue, small_value};
 use sac_base::{Array, Base, Memory, Op, Shape, Stop, apply2, result_base};
 use std::alloc::Global;
-use array_with_loops::combine;
 
 /// What the cells of a fold have come to.
 #[derive(Drop)]

@@ -22,6 +22,6 @@ pub use in_order::{
 pub use phase_count::{OpenTally, PhaseCount, Totals};
 pub use phases::{Never, Outside, Phases};
 pub use program::{Plan, run, run_with_phases};
+pub use sac_base::Stop;
 pub use state::{Context, CountedCode, State};
 pub use trace::Trace;
-pub use sac_base::Stop;
