@@ -43,10 +43,10 @@ pub fn count(alloc: Global, state: &mut State<'_>, counts: bool) -> Result<(), M
     ensures frames { state.new.frames ≡ state.old.frames }
     ensures lender { lender_of state.new.heap ≡ lender_of state.old.heap }
 {
-    if counts {
-        state.phases.count(alloc)?;
+    if !counts {
+        return Ok(());
     }
-    Ok(())
+    state.phases.count(alloc)
 }
 
 /// A result of this shape that has no cell yet. It is a phase, if it is not small.

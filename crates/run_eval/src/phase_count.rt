@@ -30,9 +30,10 @@ pub struct Totals {
 }
 
 impl Model for PhaseCount {
+    ghost use Rattle.std.specs.Prelude.{ℕ};
     ghost use Rattle.run_eval.specs.Tallies.{IsTallyOf};
 
-    ghost Value = { Rattle.std.specs.Prelude.ℕ };
+    ghost Value = { ℕ };
 
     ghost view = { λ c. c.number };
 
