@@ -7,7 +7,7 @@ use Rattle.counted_laws.proofs.Outcomes.{ends_as_core, even_cost}
 use Rattle.run_store.specs.Stands.{lender_in}
 use Rattle.run_eval.specs.declared.state.State.{State}
 use Rattle.run_eval.specs.declared.trace.Trace.{Trace}
-use Rattle.array_with_loops.specs.Tells.{TellsItems}
+use Rattle.array_ops.specs.Tells.{TellsItems}
 use Rattle.run_eval.specs.Outcomes.{AreArrays, TellsCost, TellsTally}
 use Rattle.run_eval.specs.Running.{IsAt, Told}
 use Rattle.run_eval.proofs.WholeRuns.{starts, whole_is, outcome_told, cost_told, ended_told, tallied_in, tally_told}
