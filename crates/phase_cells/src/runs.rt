@@ -8,9 +8,9 @@ ghost use Rattle.wl_core.specs.Machine.{CellValue};
 ghost use Rattle.phase_team.specs.Segments.{IsComputed, Tells};
 
 use buffer_heap::Heap;
+use phase_team::CellEnd;
 use run_store::Store;
 use sac_base::{Cell, Memory};
-use phase_team::CellEnd;
 
 /// The cells of a loop, each of which is computed on a store that has the buffers of a heap that lends them.
 pub trait CellRuns: Sync {

@@ -4,12 +4,12 @@ ghost use Rattle.phase_cells.specs.Idle.{IsAsLent};
 use crate::{CellRuns, LentCells};
 use buffer_heap::Heap;
 use count_table::Tally;
+use phase_team::{CellEnd, NoGate, array_phase};
 use run_store::Store;
-use sac_base::{Caps, Cell, Memory};
+use sac_base::{Cell, Memory, Stop};
 use std::alloc::Global;
 use std::test::Fail;
 use std::thread::Threads;
-use phase_team::{CellEnd, NoGate, Plan, Stop, array_phase};
 
 // One element for each of ten positions, which is its number.
 #[derive(Drop)]
@@ -73,20 +73,12 @@ fn numbered<R: Threads + Sync>(
         alloc,
         cells: &numbers,
     };
-    let plan = Plan {
-        workers,
-        chunk: None,
-        caps: Caps {
-            turns: 1000,
-            depth: 100,
-        },
-    };
     array_phase(
         rt,
         alloc,
         &cells,
         &NoGate,
-        plan,
+        workers,
         home,
         &mut [],
         10,

@@ -8,11 +8,11 @@ ghost use Rattle.phase_team.specs.Segments.{IsComputed, Tells};
 use crate::runs::CellRuns;
 use buffer_heap::Heap;
 use count_table::{Phase, WorkerSeat};
+use phase_team::{CellEnd, PhaseCells};
 use run_store::{Lent, Store};
-use sac_base::{Cell, Memory};
+use sac_base::{Cell, Memory, Stop};
 use std::alloc::Global;
 use std::mem;
-use phase_team::{CellEnd, PhaseCells, Stop};
 
 /// What a worker has between two cells: a heap of its own, how often it holds each buffer that is lent, and what else a
 /// cell needs, unless one was stopped.

@@ -23,7 +23,6 @@ use Rattle.wl_core.specs.Machine.{CellValue}
 use Rattle.phase_team.specs.Segments.{value_if}
 use Rattle.phase_team.specs.declared.cells.CellEnd.{CellEnd}
 use Rattle.phase_team.specs.declared.cells.CellEnd.TheVariants as end
-use Rattle.phase_team.specs.declared.plan.Stop.TheVariants as team
 use Rattle.phase_loop_cells.specs.declared.copies.Background.{Background}
 use Rattle.run_eval.specs.declared.state.Context.{Context}
 use Rattle.run_eval.specs.declared.state.State.{State}
@@ -87,5 +86,4 @@ ToldCell fill into _ s m = ⊥
 abbrev pub end_of : Result Bool Stop → CellEnd
 end_of (Ok true) = end.Value
 end_of (Ok false) = end.NotHeld
-end_of (Err (Faulted f)) = end.Stopped (team.Faulted f)
-end_of (Err Memory) = end.Stopped team.Memory
+end_of (Err stop) = end.Stopped stop

@@ -8,10 +8,10 @@ ghost use Rattle.run_values.specs.Shown.{value_of};
 ghost use Rattle.array_with_loops.specs.Cells.{cell_from};
 ghost use Rattle.phase_team.specs.Segments.{value_if};
 
+use phase_team::CellEnd;
 use run_store::{Store, copy_into, release};
 use run_values::RunValue;
 use sac_base::{Array, Cell, Memory, Stop};
-use phase_team::{CellEnd, Stop as TeamStop};
 
 /// What stands where an index has no cell: the cells of an old array, or those of a default. A cell has so many elements.
 #[derive(Clone, Copy)]
@@ -89,7 +89,6 @@ pub fn ended(answer: Result<bool, Stop>) -> CellEnd
     match answer {
         Ok(true) => CellEnd::Value,
         Ok(false) => CellEnd::NotHeld,
-        Err(Stop::Faulted(fault)) => CellEnd::Stopped(TeamStop::Faulted(fault)),
-        Err(Stop::Memory) => CellEnd::Stopped(TeamStop::Memory),
+        Err(stop) => CellEnd::Stopped(stop),
     }
 }

@@ -13,16 +13,16 @@ ghost use Rattle.sac_base.specs.Arrays.{size};
 
 use crate::copies::{Background, ended, put};
 use crate::scratch::CellScratch;
+use array_with_loops::{IndexVector, Plan};
 use buffer_heap::Heap;
-use phase_cells::CellRuns;
 use counted_code::CodeGen;
-use run_eval::{Context, State, cell_of_gens};
+use phase_cells::CellRuns;
+use phase_team::CellEnd;
+use run_eval::{Context, PhaseCount, State, cell_of_gens};
 use run_store::Store;
 use run_values::Frames;
 use sac_base::{Cell, Memory, Stop};
 use std::mem;
-use array_with_loops::{IndexVector, Plan};
-use phase_team::CellEnd;
 
 /// The cells of a with-loop whose checks have passed, of the variables of a call and the buffers of a heap.
 pub struct WithCells<'a> {
@@ -73,7 +73,7 @@ impl<'a> CellRuns for WithCells<'a> {
         let mut state = State {
             frames: variables,
             heap: buffers,
-            phases: 0,
+            phases: PhaseCount::within_cell(),
         };
         let answer = gens_at(self, position, &mut scratch.index, &mut state, into);
         let (frames, heap) = state.into_parts();

@@ -13,16 +13,16 @@ ghost use Rattle.sac_base.specs.Arrays.{size};
 
 use crate::copies::{ended, put};
 use crate::scratch::CellScratch;
+use array_with_loops::{Frame, IndexVector};
 use buffer_heap::Heap;
-use phase_cells::CellRuns;
 use counted_code::CodePart;
-use run_eval::{Context, State, cell_of_parts};
+use phase_cells::CellRuns;
+use phase_team::CellEnd;
+use run_eval::{Context, PhaseCount, State, cell_of_parts};
 use run_store::Store;
 use run_values::Frames;
 use sac_base::{Cell, Form, Memory, Stop};
 use std::mem;
-use array_with_loops::{Frame, IndexVector};
-use phase_team::CellEnd;
 
 /// The cells of a parted loop, of the variables of a call and the buffers of a heap.
 pub struct PartCells<'a> {
@@ -72,7 +72,7 @@ impl<'a> CellRuns for PartCells<'a> {
         let mut state = State {
             frames: variables,
             heap: buffers,
-            phases: 0,
+            phases: PhaseCount::within_cell(),
         };
         let answer = parts_at(self, position, &mut scratch.index, &mut state, into);
         let (frames, heap) = state.into_parts();

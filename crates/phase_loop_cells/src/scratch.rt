@@ -3,10 +3,10 @@
 ghost use Rattle.std.specs.Prelude.{◌≡◌, IfOk};
 ghost use Rattle.run_values.specs.Scopes.{current};
 
+use array_with_loops::IndexVector;
 use run_values::Frames;
 use sac_base::Memory;
 use std::alloc::Global;
-use array_with_loops::IndexVector;
 
 /// What a worker has besides its store: the variables of the call, and a vector for the index of each cell in turn, so
 /// that no cell needs one of its own.

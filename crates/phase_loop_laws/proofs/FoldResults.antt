@@ -8,8 +8,8 @@ use Rattle.sac_base.specs.Outcomes.{Ends}
 use Rattle.sac_base.specs.Verdict.{folds, present}
 use Rattle.sac_base.specs.WithLoops.{each, combined}
 use Rattle.wl_core.specs.Machine.{combine}
-use Rattle.phase_team.specs.declared.plan.Stop.{Stop}
-use Rattle.phase_team.specs.declared.plan.Stop.TheVariants.{Faulted, Memory}
+use Rattle.sac_base.specs.declared.stop.Stop.{Stop}
+use Rattle.sac_base.specs.declared.stop.Stop.TheVariants.{Faulted, Memory}
 use Rattle.phase_team.specs.Endings.{IsCombined}
 use Rattle.phase_laws.specs.Folds.{IsOf}
 use Rattle.phase_team.specs.Segments.{HaveWidth}

@@ -11,8 +11,8 @@ use Rattle.counted_code.specs.Values.{Heap, Done, Failed, go_on, then_go, is_sma
 use Rattle.phase_laws.specs.Alone.{IsNew}
 use Rattle.phase_laws.specs.Spending.{total}
 use Rattle.phase_loop_laws.specs.Ordered.{StandsAlone, EndsWith, is_phase, begun, Settles}
-use Rattle.phase_team.specs.declared.plan.Stop.{Stop}
-use Rattle.phase_team.specs.declared.plan.Stop.TheVariants.{Faulted, Memory}
+use Rattle.sac_base.specs.declared.stop.Stop.{Stop}
+use Rattle.sac_base.specs.declared.stop.Stop.TheVariants.{Faulted, Memory}
 use Rattle.phase_loop_laws.specs.Worked.{IsResult, PhaseEnds}
 use Rattle.phase_loop_laws.proofs.Cells.{cells_end, ends_with, fails_with}
 

@@ -10,8 +10,8 @@ use Rattle.sac_base.specs.WithLoops.{Plan, each}
 use Rattle.core_ir.specs.Meaning.{joined as parts_joined}
 use Rattle.array_with_loops.specs.Cells.{array_from, cells_from as placed_from}
 use Rattle.wl_core.specs.Machine.{CellValue}
-use Rattle.phase_team.specs.declared.plan.Stop.{Stop}
-use Rattle.phase_team.specs.declared.plan.Stop.TheVariants.{Faulted, Memory}
+use Rattle.sac_base.specs.declared.stop.Stop.{Stop}
+use Rattle.sac_base.specs.declared.stop.Stop.TheVariants.{Faulted, Memory}
 use Rattle.phase_team.specs.Endings.{IsArray}
 use Rattle.phase_team.specs.Segments.{cells_from}
 use Rattle.phase_loop_laws.specs.Worked.{filled, unfilled, worked, IsResult}

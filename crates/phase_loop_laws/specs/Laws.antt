@@ -20,7 +20,7 @@ use Rattle.phase_laws.specs.Alone.{IsNew}
 use Rattle.phase_laws.specs.Folds.{IsOf}
 use Rattle.phase_laws.specs.Spending.{gens_take, parts_take, total}
 use Rattle.array_with_loops.specs.Cells.{array_from}
-use Rattle.phase_team.specs.declared.plan.Stop.{Stop}
+use Rattle.sac_base.specs.declared.stop.Stop.{Stop}
 use Rattle.phase_team.specs.Endings.{IsArray, IsCombined}
 use Rattle.phase_team.specs.Segments.{cells_from, cost_from}
 use Rattle.phase_loop_laws.specs.Levels.{does_at, means_at, spends_at}

@@ -7,8 +7,8 @@ use Rattle.counted_code.specs.Loops.{Job, job_does}
 use Rattle.counted_code.specs.Values.{Heap, Failed}
 use Rattle.array_with_loops.specs.Cells.{cell_from}
 use Rattle.wl_core.specs.Machine.{CellValue}
-use Rattle.phase_team.specs.declared.plan.Stop.{Stop}
-use Rattle.phase_team.specs.declared.plan.Stop.TheVariants.{Faulted, Memory}
+use Rattle.sac_base.specs.declared.stop.Stop.{Stop}
+use Rattle.sac_base.specs.declared.stop.Stop.TheVariants.{Faulted, Memory}
 use Rattle.phase_loop_laws.specs.Ordered.{begun, Settles}
 
 -- ---- cells

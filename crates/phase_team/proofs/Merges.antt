@@ -6,8 +6,8 @@ use Rattle.wl_core.specs.declared.setup.Job.{Job}
 use Rattle.wl_core.specs.declared.setup.Job.TheVariants.{Write as Store, Fold}
 use Rattle.wl_core.specs.Machine.{CellValue, TakesBase, combine, both}
 use Rattle.wl_core.proofs.FoldLaws.{foldable, elementwise-foldable}
-use Rattle.phase_team.specs.declared.plan.Stop.{Stop}
-use Rattle.phase_team.specs.declared.plan.Stop.TheVariants.{Faulted, Memory}
+use Rattle.sac_base.specs.declared.stop.Stop.{Stop}
+use Rattle.sac_base.specs.declared.stop.Stop.TheVariants.{Faulted, Memory}
 use Rattle.phase_team.specs.Segments.{value_if, HasRows, MergesRows, Ran}
 use Rattle.phase_team.proofs.Sequences.{each-both, each-front, each-back, joined-both, combined-both, widths_both}
 

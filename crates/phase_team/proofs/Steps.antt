@@ -9,8 +9,8 @@ use Rattle.sac_base.specs.declared.op.Op.{Op}
 use Rattle.sac_base.specs.Verdict.{each, present, joined, combined}
 use Rattle.wl_core.specs.declared.setup.Job.{Job}
 use Rattle.wl_core.specs.Machine.{CellValue, combine, both}
-use Rattle.phase_team.specs.declared.plan.Stop.{Stop}
-use Rattle.phase_team.specs.declared.plan.Stop.TheVariants.{Faulted, Memory}
+use Rattle.sac_base.specs.declared.stop.Stop.{Stop}
+use Rattle.sac_base.specs.declared.stop.Stop.TheVariants.{Faulted, Memory}
 use Rattle.phase_team.specs.declared.cells.CellEnd.TheVariants.{Stopped}
 use Rattle.phase_team.specs.Segments.{Tells, cells_from, cost_from, Costs, Gathered, HaveWidth, Ran, Same}
 use Rattle.phase_team.proofs.Sequences.{cells-append, cells_more, cost_more, each-both, each-front, each-back, joined-both, combined_more, both-none, same_sum, same_of, same_then, widths_more, widths_same}

@@ -8,7 +8,7 @@ use Rattle.wl_core.specs.declared.setup.Job.{Job}
 use Rattle.wl_core.specs.declared.setup.Job.TheVariants.{Write as Store, Fold}
 use Rattle.wl_core.specs.Machine.{CellValue}
 use Rattle.count_table.specs.Seats.{WorkerState, FrameState}
-use Rattle.phase_team.specs.declared.plan.Stop.{Stop}
+use Rattle.sac_base.specs.declared.stop.Stop.{Stop}
 use Rattle.phase_team.specs.Crews.{IsBack}
 use Rattle.phase_team.specs.Segments.{cells_from, cost_from, ChunkRoom, CostBoth, Costs, HasRoom, HasRows, Ran, Same}
 use Rattle.phase_team.proofs.Sequences.{cells-append, cost-append, same_sum, same_of, same_then, widths_none}

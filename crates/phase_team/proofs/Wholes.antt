@@ -7,7 +7,7 @@ use Rattle.sac_base.specs.Verdict.{present, combined, fold_op}
 use Rattle.wl_core.specs.declared.setup.Job.TheVariants.{Fold}
 use Rattle.wl_core.specs.Machine.{CellValue, TakesBase, both, combine}
 use Rattle.wl_core.proofs.FoldLaws.{foldable, elementwise-foldable}
-use Rattle.phase_team.specs.declared.plan.Stop.{Stop}
+use Rattle.sac_base.specs.declared.stop.Stop.{Stop}
 use Rattle.phase_team.specs.Segments.{cells_from, value_if, HasRoom, Ran}
 use Rattle.phase_team.specs.Endings.{IsCombined}
 use Rattle.phase_team.proofs.Sequences.{from_first}

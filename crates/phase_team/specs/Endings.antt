@@ -4,8 +4,8 @@ use Rattle.sac_base.specs.Verdict.{each, present, joined}
 use Rattle.sac_base.specs.declared.op.Op.{Op}
 use Rattle.wl_core.specs.Machine.{CellValue, combine}
 use Rattle.count_table.specs.Tallied.{PhaseTotals}
-use Rattle.phase_team.specs.declared.plan.Stop.{Stop}
-use Rattle.phase_team.specs.declared.plan.Stop.TheVariants.{Faulted, Memory}
+use Rattle.sac_base.specs.declared.stop.Stop.{Stop}
+use Rattle.sac_base.specs.declared.stop.Stop.TheVariants.{Faulted, Memory}
 use Rattle.phase_team.specs.Segments.{HaveWidth}
 
 -- the buffer has the cells' elements in order, or the fault is that of the least position that faults

@@ -6,8 +6,8 @@ use Rattle.sac_base.specs.declared.op.Op.{Op}
 use Rattle.wl_core.specs.declared.setup.Job.{Job}
 use Rattle.wl_core.specs.declared.setup.Job.TheVariants.{Write as Store, Fold}
 use Rattle.wl_core.specs.Machine.{CellValue, combine, both}
-use Rattle.phase_team.specs.declared.plan.Stop.{Stop}
-use Rattle.phase_team.specs.declared.plan.Stop.TheVariants.{Faulted, Memory}
+use Rattle.sac_base.specs.declared.stop.Stop.{Stop}
+use Rattle.sac_base.specs.declared.stop.Stop.TheVariants.{Faulted, Memory}
 use Rattle.phase_team.specs.declared.cells.CellEnd.{CellEnd}
 use Rattle.phase_team.specs.declared.cells.CellEnd.TheVariants.{Value, NotHeld, Stopped}
 

@@ -4,12 +4,11 @@ ghost use Rattle.wl_core.specs.Machine.{CellValue};
 ghost use Rattle.phase_team.specs.Crews.{IsFresh};
 ghost use Rattle.phase_team.specs.Segments.{IsComputed, Same, Tells};
 
-use crate::plan::Stop;
 use count_table::{Phase, WorkerSeat};
-use sac_base::{Cell, Memory};
+use sac_base::{Cell, Memory, Stop};
 
 /// What a computed cell came to.
-#[derive(Clone, Copy, Debug, PartialEq, Eq)]
+#[derive(Clone, Copy)]
 pub enum CellEnd {
     /// Its elements were written.
     Value,

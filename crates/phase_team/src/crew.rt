@@ -6,11 +6,11 @@ ghost use Rattle.phase_team.specs.Segments.{cells_from, ChunkRoom, CostBoth, Cos
 ghost use Rattle.phase_team.specs.Crews.{IsBack, IsFresh, Seats, SeatsBehind, Suits};
 
 use crate::cells::PhaseCells;
-use crate::plan::{Gate, Stop};
+use crate::gates::Gate;
 use crate::share::{Share, Stretch};
 use crate::worker::{combine_held, work};
 use count_table::{FrameSeat, Phase, WorkerSeat};
-use sac_base::{Cell, Memory};
+use sac_base::{Cell, Memory, Stop};
 use std::thread::{Threads, join_mut};
 use wl_core::Job;
 

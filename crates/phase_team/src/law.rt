@@ -5,7 +5,7 @@ ghost use Rattle.sac_base.specs.declared.faults.Fault.{Fault};
 ghost use Rattle.sac_base.specs.declared.op.Op.{Op};
 ghost use Rattle.wl_core.specs.declared.setup.Job.TheVariants.{Write as Store, Fold};
 ghost use Rattle.wl_core.specs.Machine.{SetupValue, StateValue, TakesBase, Cells, Partial, Faulted, Finished, HoldsNothing, Runs, Steps, both, chunks, combine, opened, put, sequential};
-ghost use Rattle.phase_team.specs.declared.plan.Stop.TheVariants.{Faulted as FaultedAt};
+ghost use Rattle.sac_base.specs.declared.stop.Stop.TheVariants.{Faulted as FaultedAt};
 ghost use Rattle.wl_core.specs.declared.events.Event.TheVariants.{Write, Stop};
 ghost use Rattle.phase_team.specs.Endings.{IsArray, IsCombined};
 ghost use Rattle.phase_team.specs.Schedules.{draws, AllDone, IsAtWork, IsBegun, IsShared};

@@ -7,16 +7,16 @@
 
 mod cells;
 mod crew;
+mod gates;
 mod law;
 mod phases;
-mod plan;
 mod share;
 mod worker;
 
 pub use cells::{CellEnd, PhaseCells};
+pub use gates::{Gate, NoGate};
 pub use law::{answers_are_verdicts, each_schedule_is_a_run};
 pub use phases::{array_phase, fold_phase};
-pub use plan::{Gate, NoGate, Plan, Stop};
 
 #[cfg(test)]
 mod tests;

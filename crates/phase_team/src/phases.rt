@@ -9,17 +9,17 @@ ghost use Rattle.phase_team.specs.Endings.{IsArray, IsCombined, IsTallied, IsClo
 
 use crate::cells::PhaseCells;
 use crate::crew::run_chunks;
-use crate::plan::{Gate, Plan, Stop};
+use crate::gates::Gate;
 use crate::share::{Share, Stretch};
 use crate::worker::combine_held;
 use count_table::{Phase, Tally};
 use index_cutter::{Cuts, cut};
-use sac_base::{Base, Cell, Memory, Op};
+use sac_base::{Base, Cell, Memory, Op, Stop};
 use std::alloc::Global;
 use std::thread::Threads;
 use wl_core::Job;
 
-/// Computes the cells of a phase into the buffer, each at its place, by as many workers as the plan has. The phase has
+/// Computes the cells of a phase into the buffer, each at its place, by so many workers. The phase has
 /// this count for each shared buffer while it runs.
 ///
 /// `Ok` comes where no cell faults, and the buffer has the elements of all cells in order. `Faulted` is the fault of the
@@ -29,7 +29,7 @@ pub fn array_phase<H: Send, C: PhaseCells<H>, G: Gate, R: Threads + Sync>(
     alloc: Global,
     cells: &C,
     gate: &G,
-    plan: Plan,
+    workers: u32,
     home: &mut H,
     counts: &mut [u64],
     positions: usize,
@@ -37,7 +37,7 @@ pub fn array_phase<H: Send, C: PhaseCells<H>, G: Gate, R: Threads + Sync>(
     buffer: &mut [Cell],
     tally: &mut Tally,
 ) -> Result<(), Stop>
-    requires workers { (1 ≤ plan.workers) × (plan.workers ≤ 64) }
+    requires workers { (1 ≤ workers) × (workers ≤ 64) }
     requires positions { (positions ≤ 16777216) × (positions ≡ C.positions cells.now) × (width ≡ C.width cells.now) }
     requires held { (p : ℕ) → p < positions → C.cell cells.now p ≢ Ok None }
     requires counts { All (λ n. (1 ≤ n) × (n ≤ 2 ^ 62)) counts.old }
@@ -50,7 +50,7 @@ pub fn array_phase<H: Send, C: PhaseCells<H>, G: Gate, R: Threads + Sync>(
     ensures counts { counts.new ≡ counts.old }
     ensures tally { IsTallied tally.old tally.new result }
 {
-    let cuts = cut(positions as u64, plan.workers, None);
+    let cuts = cut(positions as u64, workers, None);
     let share = Share {
         job: Job::Write,
         width,
@@ -65,7 +65,7 @@ pub fn array_phase<H: Send, C: PhaseCells<H>, G: Gate, R: Threads + Sync>(
     }
 }
 
-/// Combines the cells of a phase that are held with a neutral value, by as many workers as the plan has. Each worker
+/// Combines the cells of a phase that are held with a neutral value, by so many workers. Each worker
 /// combines its own cells, and their values are combined with the neutral one, which is taken once.
 ///
 /// `Ok` comes where no cell faults, and the value is that of the neutral one and the held cells combined in order, each of
@@ -76,7 +76,7 @@ pub fn fold_phase<H: Send, C: PhaseCells<H>, G: Gate, R: Threads + Sync>(
     alloc: Global,
     cells: &C,
     gate: &G,
-    plan: Plan,
+    workers: u32,
     home: &mut H,
     counts: &mut [u64],
     positions: usize,
@@ -85,7 +85,7 @@ pub fn fold_phase<H: Send, C: PhaseCells<H>, G: Gate, R: Threads + Sync>(
     value: &mut [Cell],
     tally: &mut Tally,
 ) -> Result<(), Stop>
-    requires workers { (1 ≤ plan.workers) × (plan.workers ≤ 64) }
+    requires workers { (1 ≤ workers) × (workers ≤ 64) }
     requires positions { (positions ≤ 16777216) × (positions ≡ C.positions cells.now) }
     requires op { IsTrue (folds base op) }
     requires counts { All (λ n. (1 ≤ n) × (n ≤ 2 ^ 62)) counts.old }
@@ -98,7 +98,7 @@ pub fn fold_phase<H: Send, C: PhaseCells<H>, G: Gate, R: Threads + Sync>(
     ensures counts { counts.new ≡ counts.old }
     ensures tally { IsTallied tally.old tally.new result }
 {
-    let cuts = cut(positions as u64, plan.workers, None);
+    let cuts = cut(positions as u64, workers, None);
     let Ok(mut rows) = blank_rows(alloc, cuts.count as usize, value.len()) else {
         return Err(Stop::Memory);
     };

@@ -1,9 +1,9 @@
 ghost use Rattle.std.specs.Prelude.{◌≡◌, ℕ, ◌+◌, ◌*◌, ◌≤◌, length};
 ghost use Rattle.phase_team.specs.Samples.{ramp_cell, all_but_first};
 
-use crate::{CellEnd, Gate, NoGate, PhaseCells, Plan, Stop, array_phase, fold_phase};
+use crate::{CellEnd, Gate, NoGate, PhaseCells, array_phase, fold_phase};
 use count_table::{Phase, Tally, WorkerSeat};
-use sac_base::{Base, Caps, Cell, Fault, FaultKind, Memory, Op, Site};
+use sac_base::{Base, Cell, Fault, FaultKind, Memory, Op, Site, Stop};
 use std::alloc::Global;
 use std::sync::atomic::{AtomicU64, Ordering};
 use std::test::Fail;
@@ -88,19 +88,6 @@ impl PhaseCells<u64> for Ramp {
     }
 }
 
-fn plan(workers: u32) -> Plan
-    ensures { (1 ≤ result.workers) × (result.workers ≤ 64) }
-{
-    Plan {
-        workers: workers.clamp(1, 64),
-        chunk: None,
-        caps: Caps {
-            turns: 1000,
-            depth: 100,
-        },
-    }
-}
-
 // The phase that stores the cells. All positions are held.
 fn stored<G: Gate, R: Threads + Sync>(
     rt: &R,
@@ -121,7 +108,7 @@ fn stored<G: Gate, R: Threads + Sync>(
         alloc,
         ramp,
         gate,
-        plan(workers),
+        workers.clamp(1, 64),
         home,
         &mut [1],
         ramp.count,
@@ -149,7 +136,7 @@ fn combined<R: Threads + Sync>(
         alloc,
         ramp,
         &NoGate,
-        plan(workers),
+        workers.clamp(1, 64),
         &mut home,
         &mut [1],
         ramp.count,
@@ -158,6 +145,14 @@ fn combined<R: Threads + Sync>(
         value,
         tally,
     )
+}
+
+// Whether a phase answers the fault of this line.
+fn faults_at(end: &Result<(), Stop>, line: u32) -> bool {
+    match end {
+        Err(Stop::Faulted(fault)) => *fault == zero_divisor(line),
+        _ => false,
+    }
 }
 
 const WORKERS: [u32; 4] = [1, 2, 8, 64];
@@ -183,7 +178,7 @@ fn cells_come_in_order(rt: HostRuntime) -> Result<(), Fail> {
             &mut buffer,
             &mut tally,
         );
-        assert!(rt; end == Ok(()) && home == 10);
+        assert!(rt; end.is_ok() && home == 10);
         assert!(rt; buffer[..6] == [0, 0, 0, 1, 1, 1] && buffer[24..] == [8, 8, 8, 9, 9, 9]);
     }
     assert_eq!(rt; tally.phases(), 4);
@@ -211,9 +206,9 @@ fn the_least_fault_is_the_answer(rt: HostRuntime) -> Result<(), Fail> {
             &mut [0; 48],
             &mut tally,
         );
-        assert_eq!(rt; end, Err(Stop::Faulted(zero_divisor(3))));
+        assert!(rt; faults_at(&end, 3));
         let end = combined(&rt, rt.alloc(), &ramp, workers, &mut [5; 3], &mut tally);
-        assert_eq!(rt; end, Err(Stop::Faulted(zero_divisor(3))));
+        assert!(rt; faults_at(&end, 3));
     }
     assert_eq!(rt; tally.phases(), 8);
     Ok(())
@@ -234,7 +229,7 @@ fn a_fold_takes_its_neutral_value_once(rt: HostRuntime) -> Result<(), Fail> {
         for workers in WORKERS {
             let mut value = [5; 3];
             let end = combined(&rt, rt.alloc(), &ramp, workers, &mut value, &mut tally);
-            assert!(rt; end == Ok(()) && value == [wanted; 3]);
+            assert!(rt; end.is_ok() && value == [wanted; 3]);
         }
     }
     assert_eq!(rt; tally.phases(), 16);
@@ -294,7 +289,7 @@ fn two_chunks_run_side_by_side(rt: HostRuntime) -> Result<(), Fail> {
         &mut buffer,
         &mut Tally::new(),
     );
-    assert!(rt; end == Ok(()) && buffer == [0, 0, 0, 1, 1, 1]);
+    assert!(rt; end.is_ok() && buffer == [0, 0, 0, 1, 1, 1]);
     assert_eq!(rt; gate.met.load(Ordering::SeqCst), 2);
     Ok(())
 }

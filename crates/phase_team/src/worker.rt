@@ -6,10 +6,10 @@ ghost use Rattle.phase_team.specs.Segments.{cells_from, value_if, ChunkRoom, Cos
 ghost use Rattle.phase_team.specs.Crews.{Suits, IsFresh};
 
 use crate::cells::{CellEnd, PhaseCells};
-use crate::plan::{Gate, Stop};
+use crate::gates::Gate;
 use crate::share::{Share, Stretch};
 use count_table::{Phase, WorkerSeat};
-use sac_base::{Cell, Op, apply2};
+use sac_base::{Cell, Op, Stop, apply2};
 use wl_core::Job;
 
 // Combines each element with the one of the value.

@@ -17,8 +17,8 @@ use Rattle.sac_base.specs.Grids.{has_index, has_vector}
 use Rattle.sac_base.specs.Operators.{all_of, with_first}
 use Rattle.sac_base.specs.Outcomes.{Ends, and_then, fault}
 use Rattle.wl_core.specs.Machine.{CellValue}
-use Rattle.phase_team.specs.declared.plan.Stop.{Stop}
-use Rattle.phase_team.specs.declared.plan.Stop.TheVariants.{Faulted, Memory}
+use Rattle.sac_base.specs.declared.stop.Stop.{Stop}
+use Rattle.sac_base.specs.declared.stop.Stop.TheVariants.{Faulted, Memory}
 use Rattle.phase_team.specs.Segments.{cells_from}
 use Rattle.phase_checks.specs.Terms.{parts_term}
 use Rattle.run_eval.specs.declared.state.Context.{Context}

@@ -28,12 +28,10 @@ use Rattle.sac_base.specs.Arrays.{ArrayValue, size}
 use Rattle.sac_base.specs.Outcomes.{Ends}
 use Rattle.sac_base.specs.WithLoops.{cell_at as with_cell_at}
 use Rattle.array_with_loops.specs.declared.plans.Plan.{Plan}
-use Rattle.sac_base.specs.declared.stop.Stop as loops
-use Rattle.sac_base.specs.declared.stop.Stop.TheVariants as stop
 use Rattle.array_with_loops.specs.Plans.{plan_of}
 use Rattle.wl_core.specs.Machine.{CellValue}
-use Rattle.phase_team.specs.declared.plan.Stop.{Stop}
-use Rattle.phase_team.specs.declared.plan.Stop.TheVariants.{Faulted}
+use Rattle.sac_base.specs.declared.stop.Stop.{Stop}
+use Rattle.sac_base.specs.declared.stop.Stop.TheVariants.{Faulted}
 use Rattle.phase_team.specs.Endings.{IsArray}
 use Rattle.phase_team.specs.Segments.{cells_from, cost_from}
 use Rattle.run_eval.specs.declared.state.Context.{Context}
@@ -51,8 +49,8 @@ use Rattle.phase_loop_cells.specs.declared.copies.Background.{Background}
 use Rattle.phase_loop_cells.specs.Cells.{as_cell, gens_cell, gens_taken}
 use Rattle.phase_loop_cells.specs.Opened.{GensIn, lent_env, meaning_in, spending_in}
 use Rattle.phase_workers.specs.Alive.{AreAlive, IsAlive}
-use Rattle.phase_workers.specs.Homes.{ComputesAll}
-use Rattle.phase_workers.proofs.Handing.{handed, handed_stands}
+use Rattle.phase_workers.specs.Homes.{ComputesAll, handed}
+use Rattle.phase_workers.proofs.Handing.{handed_stands}
 use Rattle.phase_workers.proofs.Openings.{AreReferred, alone_gens}
 
 -- ---- variables that stay alive
@@ -145,7 +143,7 @@ module _ (context : Context) (e : Values) (gens : List CodeGen) (p : Plan) (b : 
 
     -- the finished result
     pub array_finished : (es : List ℤ) (home : HeapValue) → ComputesAll (cells_from (gens_cell context h e gens p (Some b)) 0 (length p.frame)) h spent es (Ok home)
-        → (s2 s3 : State) (r : Result RunValue loops.Stop) → s2.heap ≡ record { own = handed h home; lent = None } → s2.phases ≡ s.phases
+        → (s2 s3 : State) (r : Result RunValue Stop) → s2.heap ≡ record { own = handed h home; lent = None } → s2.phases ≡ s.phases
         → ((k : Heap) → IsAt s2 k → Told IsValue r s3 (settled (target_at t) (made es) k)) → Told IsValue r s3 (job_does None job m)
     array_finished es home computed s2 s3 r heap phases finished =
         let ends = array_ends stands_here es (Ok tt) computed.0 in
@@ -157,7 +155,7 @@ module _ (context : Context) (e : Values) (gens : List CodeGen) (p : Plan) (b : 
         }))
 
     -- the fault of the least position
-    pub array_faulted : (es : List ℤ) (f : Fault) → ComputesAll (cells_from (gens_cell context h e gens p (Some b)) 0 (length p.frame)) h spent es (Err (Faulted f)) → ToldStop (stop.Faulted f) s (job_does None job m)
+    pub array_faulted : (es : List ℤ) (f : Fault) → ComputesAll (cells_from (gens_cell context h e gens p (Some b)) 0 (length p.frame)) h spent es (Err (Faulted f)) → ToldStop (Faulted f) s (job_does None job m)
     array_faulted es f faulted =
-        subst (ToldStop (stop.Faulted f) s) (sym (array_ends stands_here es (Err (Faulted f)) faulted))
+        subst (ToldStop (Faulted f) s) (sym (array_ends stands_here es (Err (Faulted f)) faulted))
         (refl, is.stands.phases ∙ ap (λ (ps : List ℕ). length ps % 2 ^ 64) (claim_phases (is_small p.shape) (size p.shape) (count_phase true (length p.frame) m)))

@@ -29,12 +29,10 @@ use Rattle.sac_base.specs.Outcomes.{Ends}
 use Rattle.sac_base.specs.Verdict.{folds}
 use Rattle.sac_base.specs.WithLoops.{fits_form, cell_at as with_cell_at}
 use Rattle.array_with_loops.specs.declared.plans.Plan.{Plan}
-use Rattle.sac_base.specs.declared.stop.Stop as loops
-use Rattle.sac_base.specs.declared.stop.Stop.TheVariants as stop
 use Rattle.array_with_loops.specs.Plans.{plan_of}
 use Rattle.wl_core.specs.Machine.{CellValue}
-use Rattle.phase_team.specs.declared.plan.Stop.{Stop}
-use Rattle.phase_team.specs.declared.plan.Stop.TheVariants.{Faulted}
+use Rattle.sac_base.specs.declared.stop.Stop.{Stop}
+use Rattle.sac_base.specs.declared.stop.Stop.TheVariants.{Faulted}
 use Rattle.phase_team.specs.Endings.{IsCombined}
 use Rattle.phase_team.specs.Segments.{cells_from, cost_from}
 use Rattle.run_eval.specs.declared.state.Context.{Context}
@@ -52,8 +50,8 @@ use Rattle.phase_loop_laws.proofs.Places.{costs_in_all}
 use Rattle.phase_loop_cells.specs.Cells.{as_cell, gens_cell, gens_taken}
 use Rattle.phase_loop_cells.specs.Opened.{GensIn, lent_env, meaning_in, spending_in}
 use Rattle.phase_workers.specs.Alive.{AreAlive}
-use Rattle.phase_workers.specs.Homes.{CombinesAll, IsBehind}
-use Rattle.phase_workers.proofs.Handing.{handed, handed_stands}
+use Rattle.phase_workers.specs.Homes.{CombinesAll, IsBehind, handed}
+use Rattle.phase_workers.proofs.Handing.{handed_stands}
 use Rattle.phase_workers.proofs.Openings.{AreReferred, alone_gens}
 
 -- ---- the neutral value
@@ -102,7 +100,7 @@ module _ (job : Job) (m : Heap) (base : Base) (shape : List ℕ) (n : ℕ) (t : 
 
   -- the finished result, in the heap that has taken over what the workers have counted
   pub phase_finished : (h home : HeapValue) → AreReferred h → StandsFor h (begun job m).heap → (es : List ℤ) → PhaseEnds job base shape n m es (Ok tt) → IsBehind h n home
-      → (s2 s3 : State) (r : Result RunValue loops.Stop) → s2.heap ≡ record { own = handed h home; lent = None } → s2.phases ≡ s.phases
+      → (s2 s3 : State) (r : Result RunValue Stop) → s2.heap ≡ record { own = handed h home; lent = None } → s2.phases ≡ s.phases
       → ((k : Heap) → IsAt s2 k → Told IsValue r s3 (settled (target_at t) (made es) k)) → Told IsValue r s3 (job_does None job m)
   phase_finished h home referred stands es ends behind s2 s3 r heap phases finished =
       let there = handed_stands h home (begun job m).heap ends.heap n referred stands ends.passed behind in
@@ -113,9 +111,9 @@ module _ (job : Job) (m : Heap) (base : Base) (shape : List ℕ) (n : ℕ) (t : 
       }))
 
   -- the fault of the least position. The phase is counted
-  pub phase_faulted : (es : List ℤ) (f : Fault) → PhaseEnds job base shape n m es (Err (Faulted f)) → ToldStop (stop.Faulted f) s (job_does None job m)
+  pub phase_faulted : (es : List ℤ) (f : Fault) → PhaseEnds job base shape n m es (Err (Faulted f)) → ToldStop (Faulted f) s (job_does None job m)
   phase_faulted es f faulted =
-      subst (ToldStop (stop.Faulted f) s) (sym faulted)
+      subst (ToldStop (Faulted f) s) (sym faulted)
       (refl, is.stands.phases ∙ ap (λ (ps : List ℕ). length ps % 2 ^ 64) (claim_phases (is_small job.shape) (size job.shape) (count_phase true (length job.indices) m)))
 
 -- ---- with-loops
@@ -145,11 +143,11 @@ module _ (context : Context) (e : Values) (gens : List CodeGen) (p : Plan) (op :
 
   module _ (t : Option BufferId) (s : State) (is : IsBegun (target_at t) s (begun job m)) (stands : StandsFor h (begun job m).heap) where
     pub fold_finished : (es : List ℤ) (home : HeapValue) → CombinesAll op computed h spent neutral.cells es (Ok home)
-        → (s2 s3 : State) (r : Result RunValue loops.Stop) → s2.heap ≡ record { own = handed h home; lent = None } → s2.phases ≡ s.phases
+        → (s2 s3 : State) (r : Result RunValue Stop) → s2.heap ≡ record { own = handed h home; lent = None } → s2.phases ≡ s.phases
         → ((k : Heap) → IsAt s2 k → Told IsValue r s3 (settled (target_at t) (record { base = p.form.base; shape = p.form.shape; cells = es }) k)) → Told IsValue r s3 (job_does None job m)
     fold_finished es home combined =
         phase_finished job m p.form.base p.form.shape spent t s is h home referred stands es (fold_ends stands es (Ok tt) combined.0) combined.1
 
-    pub fold_faulted : (es : List ℤ) (f : Fault) → CombinesAll op computed h spent neutral.cells es (Err (Faulted f)) → ToldStop (stop.Faulted f) s (job_does None job m)
+    pub fold_faulted : (es : List ℤ) (f : Fault) → CombinesAll op computed h spent neutral.cells es (Err (Faulted f)) → ToldStop (Faulted f) s (job_does None job m)
     fold_faulted es f faulted =
         phase_faulted job m p.form.base p.form.shape spent t s is es f (fold_ends stands es (Err (Faulted f)) faulted)

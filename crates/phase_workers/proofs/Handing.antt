@@ -5,11 +5,8 @@ use Rattle.buffer_heap.specs.Heaps.{Held, HeapValue, at}
 use Rattle.counted_code.specs.Values.{Buffer, Heap, buffer_at}
 use Rattle.run_store.specs.Stands.{Stored, StandsFor}
 use Rattle.phase_loop_laws.specs.Ordered.{Passed}
-use Rattle.phase_workers.specs.Homes.{IsBehind}
+use Rattle.phase_workers.specs.Homes.{IsBehind, handed}
 use Rattle.phase_workers.proofs.Openings.{AreReferred}
-
-abbrev pub handed : HeapValue → HeapValue → HeapValue
-handed h home = record h { births = home.births; taken = (h.taken + home.taken) % 2 ^ 64; given = (h.given + home.given) % 2 ^ 64; reused = (h.reused + home.reused) % 2 ^ 64 }
 
 -- counters modulo 2^64 that are added
 added : (x y a n b : ℕ) → x ≡ a % 2 ^ 64 → y % 2 ^ 64 ≡ n % 2 ^ 64 → b ≡ a + n → (x + y) % 2 ^ 64 ≡ b % 2 ^ 64

@@ -1,3 +1,5 @@
+mod Booking
+mod Booking
 mod Counters
 mod Covering
 mod Ending

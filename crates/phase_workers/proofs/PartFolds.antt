@@ -23,11 +23,9 @@ use Rattle.sac_base.specs.Arrays.{ArrayValue, IsFull}
 use Rattle.sac_base.specs.Outcomes.{Ends}
 use Rattle.sac_base.specs.Verdict.{folds}
 use Rattle.sac_base.specs.WithLoops.{fits_form}
-use Rattle.sac_base.specs.declared.stop.Stop as loops
-use Rattle.sac_base.specs.declared.stop.Stop.TheVariants as stop
 use Rattle.wl_core.specs.Machine.{CellValue}
-use Rattle.phase_team.specs.declared.plan.Stop.{Stop}
-use Rattle.phase_team.specs.declared.plan.Stop.TheVariants.{Faulted}
+use Rattle.sac_base.specs.declared.stop.Stop.{Stop}
+use Rattle.sac_base.specs.declared.stop.Stop.TheVariants.{Faulted}
 use Rattle.phase_team.specs.Endings.{IsCombined}
 use Rattle.phase_team.specs.Segments.{cells_from, cost_from}
 use Rattle.run_eval.specs.declared.state.Context.{Context}
@@ -45,9 +43,8 @@ use Rattle.phase_loop_laws.proofs.Places.{costs_in_all}
 use Rattle.phase_loop_cells.specs.Cells.{parts_cell, parts_taken}
 use Rattle.phase_loop_cells.specs.Opened.{PartsIn, lent_env, meaning_in, spending_in}
 use Rattle.phase_workers.specs.Alive.{AreAlive}
-use Rattle.phase_workers.specs.Homes.{CombinesAll}
+use Rattle.phase_workers.specs.Homes.{CombinesAll, handed}
 use Rattle.phase_workers.proofs.FoldEnding.{phase_faulted, phase_finished, same_cell, whole_of}
-use Rattle.phase_workers.proofs.Handing.{handed}
 use Rattle.phase_workers.proofs.Openings.{AreReferred}
 use Rattle.phase_workers.proofs.PartedEnding.{alone_parts}
 
@@ -77,11 +74,11 @@ module _ (context : Context) (h : HeapValue) (e : Values) (parts : List CodePart
 
     module _ (t : Option BufferId) (s : State) (is : IsBegun (target_at t) s (begun job m)) (stands : StandsFor h (begun job m).heap) where
       pub parts_finished : (es : List ℤ) (home : HeapValue) → CombinesAll op computed h spent neutral.cells es (Ok home)
-          → (s2 s3 : State) (r : Result RunValue loops.Stop) → s2.heap ≡ record { own = handed h home; lent = None } → s2.phases ≡ s.phases
+          → (s2 s3 : State) (r : Result RunValue Stop) → s2.heap ≡ record { own = handed h home; lent = None } → s2.phases ≡ s.phases
           → ((k : Heap) → IsAt s2 k → Told IsValue r s3 (settled (target_at t) (record { base = form.base; shape = form.shape; cells = es }) k)) → Told IsValue r s3 (job_does None job m)
       parts_finished es home combined =
           phase_finished job m form.base form.shape spent t s is h home referred stands es (fold_ends stands es (Ok tt) combined.0) combined.1
 
-      pub parts_faulted : (es : List ℤ) (f : Fault) → CombinesAll op computed h spent neutral.cells es (Err (Faulted f)) → ToldStop (stop.Faulted f) s (job_does None job m)
+      pub parts_faulted : (es : List ℤ) (f : Fault) → CombinesAll op computed h spent neutral.cells es (Err (Faulted f)) → ToldStop (Faulted f) s (job_does None job m)
       parts_faulted es f faulted =
           phase_faulted job m form.base form.shape spent t s is es f (fold_ends stands es (Err (Faulted f)) faulted)

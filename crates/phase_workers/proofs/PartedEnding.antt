@@ -27,11 +27,9 @@ use Rattle.sac_base.specs.declared.faults.Fault.{Fault}
 use Rattle.sac_base.specs.declared.form.Form.{Form}
 use Rattle.sac_base.specs.Arrays.{ArrayValue, size}
 use Rattle.sac_base.specs.Outcomes.{Ends}
-use Rattle.sac_base.specs.declared.stop.Stop as loops
-use Rattle.sac_base.specs.declared.stop.Stop.TheVariants as stop
 use Rattle.wl_core.specs.Machine.{CellValue}
-use Rattle.phase_team.specs.declared.plan.Stop.{Stop}
-use Rattle.phase_team.specs.declared.plan.Stop.TheVariants.{Faulted}
+use Rattle.sac_base.specs.declared.stop.Stop.{Stop}
+use Rattle.sac_base.specs.declared.stop.Stop.TheVariants.{Faulted}
 use Rattle.phase_team.specs.Endings.{IsArray}
 use Rattle.phase_team.specs.Segments.{cells_from, cost_from}
 use Rattle.run_eval.specs.declared.state.Context.{Context}
@@ -50,9 +48,9 @@ use Rattle.phase_loop_cells.specs.Cells.{as_cell, parts_cell, parts_taken}
 use Rattle.phase_loop_cells.specs.Opened.{OpenParts, PartsIn, lent_env, meaning_in, spending_in}
 use Rattle.phase_loop_cells.proofs.Levels.{level}
 use Rattle.phase_workers.specs.Alive.{AreAlive}
-use Rattle.phase_workers.specs.Homes.{ComputesAll}
+use Rattle.phase_workers.specs.Homes.{ComputesAll, handed}
 use Rattle.phase_workers.proofs.Ending.{own_stands}
-use Rattle.phase_workers.proofs.Handing.{handed, handed_stands}
+use Rattle.phase_workers.proofs.Handing.{handed_stands}
 use Rattle.phase_workers.proofs.Machines.{machine_of, stands_for_machine, AreSingle}
 use Rattle.phase_workers.proofs.Openings.{AreReferred, readable_here}
 
@@ -145,7 +143,7 @@ module _ (context : Context) (e : Values) (parts : List CodePart) (frame : List 
 
     -- the finished result
     pub parts_finished : (es : List ℤ) (home : HeapValue) → Computed es (Ok home)
-        → (s2 s3 : State) (r : Result RunValue loops.Stop) → s2.heap ≡ record { own = handed h home; lent = None } → s2.phases ≡ s.phases
+        → (s2 s3 : State) (r : Result RunValue Stop) → s2.heap ≡ record { own = handed h home; lent = None } → s2.phases ≡ s.phases
         → ((k : Heap) → IsAt s2 k → Told IsValue r s3 (settled (target_at t) (made es) k)) → Told IsValue r s3 (job_does None job m)
     parts_finished es home computed s2 s3 r heap phases finished =
         let ends = parts_end stands_here es (Ok tt) computed.0 in
@@ -157,7 +155,7 @@ module _ (context : Context) (e : Values) (parts : List CodePart) (frame : List 
         }))
 
     -- the fault of the least position
-    pub parts_faulted : (es : List ℤ) (f : Fault) → Computed es (Err (Faulted f)) → ToldStop (stop.Faulted f) s (job_does None job m)
+    pub parts_faulted : (es : List ℤ) (f : Fault) → Computed es (Err (Faulted f)) → ToldStop (Faulted f) s (job_does None job m)
     parts_faulted es f faulted =
-        subst (ToldStop (stop.Faulted f) s) (sym (parts_end stands_here es (Err (Faulted f)) faulted))
+        subst (ToldStop (Faulted f) s) (sym (parts_end stands_here es (Err (Faulted f)) faulted))
         (refl, is.stands.phases ∙ ap (λ (ps : List ℕ). length ps % 2 ^ 64) (claim_phases (is_small shape) (size shape) (count_phase true (length frame) m)))

@@ -1,12 +1,11 @@
 -- Parted loops in which each position has a cell.
 use Rattle.std.specs.Prelude.{◌≡◌, ℕ, ◌<◌, true, List, ℤ, length, is_some, Some, None, Result, Ok, Err}
-use Rattle.buffer_heap.specs.Heaps.{HeapValue}
 use Rattle.counted_code.specs.declared.tree.CodePart.{CodePart}
 use Rattle.sac_base.specs.declared.faults.Fault.{Fault}
 use Rattle.sac_base.specs.declared.faults.FaultKind.TheVariants.{F1}
 use Rattle.wl_core.specs.Machine.{CellValue}
-use Rattle.phase_team.specs.declared.plan.Stop.{Stop}
-use Rattle.phase_team.specs.declared.plan.Stop.TheVariants.{Faulted, Memory}
+use Rattle.sac_base.specs.declared.stop.Stop.{Stop}
+use Rattle.sac_base.specs.declared.stop.Stop.TheVariants.{Faulted, Memory}
 use Rattle.run_eval.specs.Loops.{part_held}
 use Rattle.phase_loop_cells.specs.Cells.{index_at}
 
@@ -24,7 +23,7 @@ must_be_there (Ok (Some elements)) = Ok (Some elements)
 must_be_there (Err fault) = Err fault
 
 -- the same end, but a fault only where this is known
-abbrev pub EndsIf : Type 0 → Result HeapValue Stop → Result HeapValue Stop → Type 0
-EndsIf Known end (Ok home) = end ≡ Ok home
+abbrev pub EndsIf : {A : Type 0} → Type 0 → Result A Stop → Result A Stop → Type 0
+EndsIf Known end (Ok a) = end ≡ Ok a
 EndsIf Known end (Err (Faulted fault)) = (end ≡ Err (Faulted fault)) × Known
 EndsIf Known end (Err Memory) = Unit {0}

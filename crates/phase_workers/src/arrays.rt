@@ -10,7 +10,7 @@ ghost use Rattle.phase_loop_cells.specs.Cells.{gens_cell, gens_taken};
 ghost use Rattle.phase_loop_cells.specs.Opened.{GensIn, OpenGens};
 ghost use Rattle.phase_checks.specs.Terms.{gens_term};
 ghost use Rattle.phase_workers.specs.Alive.{AreAlive};
-ghost use Rattle.phase_workers.specs.Homes.{ComputesAll};
+ghost use Rattle.phase_workers.specs.Homes.{ComputesAll, IsBooked, left_in, new_behind};
 ghost use Rattle.run_eval.specs.Running.{IsAt, IsValue, Told, SameScopes, array_job};
 ghost use Rattle.run_store.specs.Stands.{lender_of};
 ghost use Rattle.run_values.specs.Scopes.{current};
@@ -18,19 +18,19 @@ ghost use Rattle.sac_base.specs.Arrays.{size};
 ghost use Rattle.array_with_loops.specs.Plans.{plan_of};
 ghost use Rattle.phase_team.specs.Segments.{cells_from, cost_from};
 
-use crate::results::{begin_phase, finish_phase};
+use crate::results::{Begun, Books, begin_phase, end_phase, finish_phase, stop_phase};
 use crate::team::{Workers, compute_array};
+use array_with_loops::Plan;
 use buffer_heap::Heap;
 use core_ir::Var;
 use counted_code::{Code, CodeGen};
 use phase_loop_cells::{Background, WithCells};
+use phase_team::Gate;
 use run_eval::{Context, State};
 use run_store::Target;
 use run_values::{Frames, RunValue};
 use sac_base::{Array, Cell, Stop, elements};
 use std::thread::Threads;
-use array_with_loops::Plan;
-use phase_team::{Gate, Stop as TeamStop};
 
 /// The result of a genarray or modarray that is a phase, whose cells stand alone.
 pub fn array_by_workers<G: Gate, R: Threads + Sync>(
@@ -55,8 +55,9 @@ pub fn array_by_workers<G: Gate, R: Threads + Sync>(
         return Err(Stop::Memory);
     };
     let _code = context.code.get();
-    let target = begin_phase(context.alloc, &plan.shape, state)?;
+    let begun = begin_phase(context.alloc, &plan.shape, state)?;
     state.heap.own.buffers_are_numbered();
+    let Begun { target, mut books } = begun;
     let Target { mut cells, buffer } = target;
     let background = Background {
         array,
@@ -73,14 +74,18 @@ pub fn array_by_workers<G: Gate, R: Threads + Sync>(
         &state.frames,
         &state.heap.own,
         &mut cells,
+        &mut books,
     );
     match end {
-        Ok(home) => {
-            state.heap.own.take_over(home);
+        Ok(_) => {
+            end_phase(books, state);
             finish_phase(Target { cells, buffer }, array.base(), &plan.shape, state)
         }
-        Err(TeamStop::Faulted(fault)) => Err(Stop::Faulted(fault)),
-        Err(TeamStop::Memory) => Err(Stop::Memory),
+        Err(Stop::Faulted(fault)) => {
+            stop_phase(books, state);
+            Err(Stop::Faulted(fault))
+        }
+        Err(Stop::Memory) => Err(Stop::Memory),
     }
 }
 
@@ -95,17 +100,20 @@ fn array_cells<G: Gate, R: Threads + Sync>(
     frames: &Frames,
     heap: &Heap,
     cells: &mut [Cell],
-) -> Result<Heap, TeamStop>
+    books: &mut Books,
+) -> Result<(), Stop>
     requires counted { GensIn (code_program context.now.code.now) (gens_term gens.now) live.now }
     requires alive { AreAlive heap.now (current frames.now) live.now }
     requires size { background.size ≡ size plan.now.form.shape }
-    ensures { ComputesAll (cells_from (gens_cell context.now heap.now (current frames.now) gens.now plan.now (Some background.entry)) 0 (length plan.now.frame)) heap.now (cost_from (gens_taken context.now heap.now (current frames.now) gens.now plan.now) 0 (length plan.now.frame)) cells.new result }
+    requires home { books.old.home ≡ new_behind heap.now }
+    ensures booked { IsBooked books.old books.new result }
+    ensures computed { ComputesAll (cells_from (gens_cell context.now heap.now (current frames.now) gens.now plan.now (Some background.entry)) 0 (length plan.now.frame)) heap.now (cost_from (gens_taken context.now heap.now (current frames.now) gens.now plan.now) 0 (length plan.now.frame)) cells.new (left_in books.new.home result) }
 {
     let _code = context.code.get();
     heap.buffers_are_numbered();
     let count = plan.frame.count();
     if count > MOST || count.checked_mul(background.size) != Some(cells.len()) {
-        return Err(TeamStop::Memory);
+        return Err(Stop::Memory);
     }
     let with_cells = WithCells {
         context: *context,
@@ -115,7 +123,7 @@ fn array_cells<G: Gate, R: Threads + Sync>(
         plan,
         background: Some(background),
     };
-    let end = each_cell(workers, &with_cells, count, background.size, cells);
+    let end = each_cell(workers, &with_cells, count, background.size, cells, books);
     let WithCells {
         context: _,
         heap: _,
@@ -133,12 +141,15 @@ fn each_cell<G: Gate, R: Threads + Sync>(
     count: usize,
     width: usize,
     cells: &mut [Cell],
-) -> Result<Heap, TeamStop>
+    books: &mut Books,
+) -> Result<(), Stop>
     requires positions { (count ≤ 16777216) × (count ≡ length with_cells.now.plan.now.frame) × (width ≡ size with_cells.now.plan.now.form.shape) }
     requires held { (p : ℕ) → p < count → gens_cell with_cells.now.context with_cells.now.heap.now (current with_cells.now.frames.now) with_cells.now.gens.now with_cells.now.plan.now with_cells.now.background p ≢ Ok None }
     requires lending { IsLending (OpenGens with_cells.now.context with_cells.now.heap.now (current with_cells.now.frames.now) with_cells.now.gens.now) with_cells.now.heap.now }
     requires room { length cells.old ≡ count * width }
-    ensures { ComputesAll (cells_from (gens_cell with_cells.now.context with_cells.now.heap.now (current with_cells.now.frames.now) with_cells.now.gens.now with_cells.now.plan.now with_cells.now.background) 0 count) with_cells.now.heap.now (cost_from (gens_taken with_cells.now.context with_cells.now.heap.now (current with_cells.now.frames.now) with_cells.now.gens.now with_cells.now.plan.now) 0 count) cells.new result }
+    requires home { books.old.home ≡ new_behind with_cells.now.heap.now }
+    ensures booked { IsBooked books.old books.new result }
+    ensures computed { ComputesAll (cells_from (gens_cell with_cells.now.context with_cells.now.heap.now (current with_cells.now.frames.now) with_cells.now.gens.now with_cells.now.plan.now with_cells.now.background) 0 count) with_cells.now.heap.now (cost_from (gens_taken with_cells.now.context with_cells.now.heap.now (current with_cells.now.frames.now) with_cells.now.gens.now with_cells.now.plan.now) 0 count) cells.new (left_in books.new.home result) }
 {
     shares::<CodeGen>();
     shares::<Code>();
@@ -149,6 +160,7 @@ fn each_cell<G: Gate, R: Threads + Sync>(
         count,
         width,
         cells,
+        books,
     )
 }
 

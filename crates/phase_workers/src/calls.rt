@@ -4,11 +4,11 @@ ghost use Rattle.phase_workers.specs.Calls.{IsRun};
 ghost use Rattle.run_eval.specs.Running.{array_job, fold_job, fold_parts_job, parts_job};
 ghost use Rattle.array_with_loops.specs.Plans.{plan_of};
 
+use array_with_loops::{Frame, Plan};
 use counted_code::{CodeGen, CodePart};
 use run_eval::{Context, Phases, State};
 use run_values::RunValue;
 use sac_base::{Array, Form, Op, Shape, Stop};
-use array_with_loops::{Frame, Plan};
 
 /// A call for each kind of with-loop. Calls, and not methods, since a thread that a method starts may not rest on the type
 /// parameters of its `impl`.

@@ -10,15 +10,15 @@ ghost use Rattle.sac_base.specs.Arrays.{size};
 ghost use Rattle.wl_core.specs.Machine.{CellValue};
 ghost use Rattle.phase_team.specs.Segments.{IsComputed, Tells};
 
-use buffer_heap::Heap;
-use phase_cells::CellRuns;
-use counted_code::CodePart;
-use phase_loop_cells::{CellScratch, PartCells};
-use run_store::Store;
-use sac_base::{Cell, Memory};
-use std::alloc::Global;
 use array_with_loops::{Frame, IndexVector};
-use phase_team::{CellEnd, Stop};
+use buffer_heap::Heap;
+use counted_code::CodePart;
+use phase_cells::CellRuns;
+use phase_loop_cells::{CellScratch, PartCells};
+use phase_team::CellEnd;
+use run_store::Store;
+use sac_base::{Cell, Memory, Stop};
+use std::alloc::Global;
 
 /// The cells of a parted loop, where a position without one counts as want of memory.
 pub struct CoveredCells<'a> {
@@ -74,11 +74,11 @@ fn covered(end: CellEnd) -> CellEnd
 /// The end of a phase of such cells, in which a fault is believed only where each position has a cell: to look at all of
 /// them takes long, and a fault is the last thing that a program does.
 pub fn believed(
-    end: Result<Heap, Stop>,
+    end: Result<(), Stop>,
     alloc: Global,
     parts: &[CodePart],
     frame: &Frame,
-) -> Result<Heap, Stop>
+) -> Result<(), Stop>
     ensures { EndsIf (AreCovered parts.now frame.now) end result }
 {
     match end {

@@ -10,7 +10,7 @@ ghost use Rattle.phase_loop_cells.specs.Cells.{gens_cell, gens_taken};
 ghost use Rattle.phase_loop_cells.specs.Opened.{GensIn, OpenGens};
 ghost use Rattle.phase_checks.specs.Terms.{gens_term};
 ghost use Rattle.phase_workers.specs.Alive.{AreAlive};
-ghost use Rattle.phase_workers.specs.Homes.{CombinesAll};
+ghost use Rattle.phase_workers.specs.Homes.{CombinesAll, IsBooked, left_in, new_behind};
 ghost use Rattle.run_eval.specs.Running.{IsAt, IsValue, Told, SameScopes, fold_job};
 ghost use Rattle.run_store.specs.Stands.{lender_of};
 ghost use Rattle.run_values.specs.Scopes.{current};
@@ -21,20 +21,20 @@ ghost use Rattle.array_with_loops.specs.Plans.{plan_of};
 ghost use Rattle.phase_team.specs.Segments.{cells_from, cost_from};
 
 use crate::alive::alive_in_gens;
-use crate::results::{begin_phase, finish_phase};
+use crate::results::{Begun, Books, begin_phase, end_phase, finish_phase, stop_phase};
 use crate::team::{Workers, compute_fold};
+use array_with_loops::{Plan, fits_form};
 use buffer_heap::Heap;
 use core_ir::Var;
 use counted_code::CodeGen;
-use phase_loop_cells::WithCells;
 use phase_checks::gens_are_counted;
+use phase_loop_cells::WithCells;
+use phase_team::Gate;
 use run_eval::{Context, State, fold_in_order};
 use run_store::Target;
 use run_values::{Frames, RunValue};
 use sac_base::{Array, Base, Cell, Op, Stop};
 use std::thread::Threads;
-use array_with_loops::{Plan, fits_form};
-use phase_team::{Gate, Stop as TeamStop};
 
 // The most positions of a phase.
 const MOST: usize = 16_777_216;
@@ -54,7 +54,10 @@ pub fn fold_outside<G: Gate, R: Threads + Sync>(
     ensures scopes { OnOk result (SameScopes state.old.frames state.new.frames) }
     ensures lender { lender_of state.new.heap ≡ lender_of state.old.heap }
 {
-    if workers.deep || state.heap.lent.is_some() || !is_fold(plan, op, &neutral) {
+    if state.heap.lent.is_some()
+        || !is_fold(plan, op, &neutral)
+        || !workers.nesting.has_room_for_gens(gens, context.code.get())
+    {
         return fold_in_order(gens, plan, op, neutral, context, state);
     }
     let live = alive_in_gens(context.alloc, gens, &state.frames, &state.heap.own)?;
@@ -104,7 +107,8 @@ pub fn fold_by_workers<G: Gate, R: Threads + Sync>(
     let _code = context.code.get();
     let _cells = neutral.cells();
     let mut value = neutral.into_cells();
-    let target = begin_phase(context.alloc, &plan.shape, state)?;
+    let begun = begin_phase(context.alloc, &plan.shape, state)?;
+    let Begun { target, mut books } = begun;
     let Target { cells: _, buffer } = target;
     state.heap.own.buffers_are_numbered();
     let end = fold_cells(
@@ -117,18 +121,22 @@ pub fn fold_by_workers<G: Gate, R: Threads + Sync>(
         &state.frames,
         &state.heap.own,
         &mut value,
+        &mut books,
     );
     match end {
-        Ok(home) => {
-            state.heap.own.take_over(home);
+        Ok(_) => {
+            end_phase(books, state);
             let target = Target {
                 cells: value,
                 buffer,
             };
             finish_phase(target, plan.form.base, &plan.form.shape, state)
         }
-        Err(TeamStop::Faulted(fault)) => Err(Stop::Faulted(fault)),
-        Err(TeamStop::Memory) => Err(Stop::Memory),
+        Err(Stop::Faulted(fault)) => {
+            stop_phase(books, state);
+            Err(Stop::Faulted(fault))
+        }
+        Err(Stop::Memory) => Err(Stop::Memory),
     }
 }
 
@@ -143,18 +151,21 @@ fn fold_cells<'a, G: Gate, R: Threads + Sync>(
     frames: &'a Frames,
     heap: &'a Heap,
     value: &mut [Cell],
-) -> Result<Heap, TeamStop>
+    books: &mut Books,
+) -> Result<(), Stop>
     requires counted { GensIn (code_program context.code.now) (gens_term gens.now) live.now }
     requires alive { AreAlive heap.now (current frames.now) live.now }
     requires op { IsTrue (folds_value plan.now.form.base op) }
     requires width { length value.old ≡ size plan.now.form.shape }
-    ensures { CombinesAll op (cells_from (gens_cell context.entry heap.now (current frames.now) gens.now plan.now None) 0 (length plan.now.frame)) heap.now (cost_from (gens_taken context.entry heap.now (current frames.now) gens.now plan.now) 0 (length plan.now.frame)) value.old value.new result }
+    requires home { books.old.home ≡ new_behind heap.now }
+    ensures booked { IsBooked books.old books.new result }
+    ensures combined { CombinesAll op (cells_from (gens_cell context.entry heap.now (current frames.now) gens.now plan.now None) 0 (length plan.now.frame)) heap.now (cost_from (gens_taken context.entry heap.now (current frames.now) gens.now plan.now) 0 (length plan.now.frame)) value.old value.new (left_in books.new.home result) }
 {
     let _code = context.code.get();
     heap.buffers_are_numbered();
     let count = plan.frame.count();
     if count > MOST {
-        return Err(TeamStop::Memory);
+        return Err(Stop::Memory);
     }
     let cells = WithCells {
         context,
@@ -164,7 +175,7 @@ fn fold_cells<'a, G: Gate, R: Threads + Sync>(
         plan,
         background: None,
     };
-    let end = each_fold(workers, &cells, count, op, value);
+    let end = each_fold(workers, &cells, count, op, value, books);
     let WithCells {
         context: _,
         heap: _,
@@ -182,18 +193,21 @@ fn each_fold<G: Gate, R: Threads + Sync>(
     count: usize,
     op: Op,
     value: &mut [Cell],
-) -> Result<Heap, TeamStop>
+    books: &mut Books,
+) -> Result<(), Stop>
     requires positions { (count ≤ 16777216) × (count ≡ length cells.now.plan.now.frame) }
     requires op { IsTrue (folds_value cells.now.plan.now.form.base op) }
     requires lending { IsLending (OpenGens cells.now.context cells.now.heap.now (current cells.now.frames.now) cells.now.gens.now) cells.now.heap.now }
     requires width { length value.old ≡ size cells.now.plan.now.form.shape }
-    ensures { CombinesAll op (cells_from (gens_cell cells.now.context cells.now.heap.now (current cells.now.frames.now) cells.now.gens.now cells.now.plan.now cells.now.background) 0 count) cells.now.heap.now (cost_from (gens_taken cells.now.context cells.now.heap.now (current cells.now.frames.now) cells.now.gens.now cells.now.plan.now) 0 count) value.old value.new result }
+    requires home { books.old.home ≡ new_behind cells.now.heap.now }
+    ensures booked { IsBooked books.old books.new result }
+    ensures combined { CombinesAll op (cells_from (gens_cell cells.now.context cells.now.heap.now (current cells.now.frames.now) cells.now.gens.now cells.now.plan.now cells.now.background) 0 count) cells.now.heap.now (cost_from (gens_taken cells.now.context cells.now.heap.now (current cells.now.frames.now) cells.now.gens.now cells.now.plan.now) 0 count) value.old value.new (left_in books.new.home result) }
 {
     shown(cells.context.code.get());
     all_shown(cells.gens);
     let alloc = cells.context.alloc;
     let base = cells.plan.form.base;
-    compute_fold(workers, alloc, cells, count, base, op, value)
+    compute_fold(workers, alloc, cells, count, base, op, value, books)
 }
 
 // A law. A value that may be shared among threads may be.

@@ -16,11 +16,11 @@ mod results;
 mod team;
 
 pub use folds::fold_outside;
-pub use nesting::nests_within;
+pub use nesting::Nesting;
 pub use outside::array_outside;
 pub use part_folds::fold_parts_outside;
 pub use parted::parts_outside;
+pub use phase_team::{Gate, NoGate};
 pub use program::run;
 pub use run_eval::Plan;
 pub use team::{Workers, compute_array, compute_fold};
-pub use phase_team::{Gate, NoGate};

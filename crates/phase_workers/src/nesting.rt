@@ -4,30 +4,67 @@ use counted_code::{Code, CodeBlock, CodeGen, CodePart, CodeRight, CodeStep};
 use sac_base::Memory;
 use std::alloc::Global;
 
-/// Whether no call of any function nests more than `limit` blocks when calls may go `levels` deep.
-///
-/// The answer has no say in any result: it only decides whether phases are shared out to workers, in whose threads there is
-/// less room for nested blocks. Calls of inline functions, of which `levels` counts none, may nest once for each function
-/// within each level.
-///
-/// # Errors
-///
-/// There is no memory for two numbers for each function.
-pub fn nests_within(alloc: Global, code: &Code, levels: u64, limit: u32) -> Result<bool, Memory> {
+/// How deep the cells of a loop may nest. It has no say in any result: it only decides whether phases are shared out to
+/// workers, in whose threads there is less room for nested blocks.
+#[derive(Drop)]
+pub enum Nesting {
+    /// No cell is too deep: all run on the caller's thread, whose stack has room for each depth.
+    Unlimited,
+    /// Each cell may be too deep: there was no memory to find out.
+    Unknown,
+    /// How many blocks may nest in a call of each function, up to one more than the limit.
+    Known(Vec<u32>),
+}
+
+impl Nesting {
+    /// How deep calls nest for so many workers when they may go `levels` deep.
+    pub fn of(alloc: Global, code: &Code, levels: u64, workers: u32) -> Nesting {
+        if workers <= 1 {
+            return Nesting::Unlimited;
+        }
+        match needs_of(alloc, code, levels) {
+            Ok(needs) => Nesting::Known(needs),
+            Err(_) => Nesting::Unknown,
+        }
+    }
+
+    /// Whether no cell of these generators is too deep for a worker's stack.
+    pub fn has_room_for_gens(&self, gens: &[CodeGen], code: &Code) -> bool {
+        match self {
+            Nesting::Unlimited => true,
+            Nesting::Unknown => false,
+            Nesting::Known(needs) => gens_need(gens, code, needs, needs) <= LIMIT,
+        }
+    }
+
+    /// The same of the parts of a parted loop.
+    pub fn has_room_for_parts(&self, parts: &[CodePart], code: &Code) -> bool {
+        match self {
+            Nesting::Unlimited => true,
+            Nesting::Unknown => false,
+            Nesting::Known(needs) => parts_need(parts, code, needs, needs) <= LIMIT,
+        }
+    }
+}
+
+// The most nested blocks of a cell that a worker computes. A nested block takes about 5 KB of the 8 MB that the stack of a
+// worker's thread has.
+const LIMIT: u32 = 1000;
+
+// How many blocks may nest in a call of each function, up to one more than the limit. Calls of inline functions, which take
+// no level, may nest once for each function within each level.
+fn needs_of(alloc: Global, code: &Code, levels: u64) -> Result<Vec<u32>, Memory> {
     let functions = code.functions.len();
     let mut below = vec![in alloc; 0; functions]?;
     let mut here = vec![in alloc; 0; functions]?;
     // Each round is a level more. One that changes something raises a number, and so the limit ends them early.
     for _ in 0..levels.saturating_add(1) {
         add_level(code, &below, &mut here);
-        if exceeds(&here, limit) {
-            return Ok(false);
-        }
         if !keep(&mut below, &here) {
-            return Ok(true);
+            return Ok(here);
         }
     }
-    Ok(true)
+    Ok(here)
 }
 
 // Raises what each function needs at a level to what its body shows, where `below` is what they need at the level below it.
@@ -46,7 +83,7 @@ fn raise(code: &Code, below: &[u32], here: &mut Vec<u32>) -> bool {
     let mut risen = false;
     let mut place = 0;
     for function in &code.functions {
-        let need = block_need(&function.body, code, below, here);
+        let need = block_need(&function.body, code, below, here).min(LIMIT + 1);
         if place < here.len() && here[place] < need {
             here[place] = need;
             risen = true;
@@ -68,15 +105,6 @@ fn keep(below: &mut Vec<u32>, here: &[u32]) -> bool {
         place = place.saturating_add(1);
     }
     changed
-}
-
-fn exceeds(needs: &[u32], limit: u32) -> bool {
-    for need in needs {
-        if *need > limit {
-            return true;
-        }
-    }
-    false
 }
 
 // How many blocks may nest within a block.

@@ -11,15 +11,15 @@ ghost use Rattle.array_with_loops.specs.Plans.{plan_of};
 use crate::alive::alive_in_gens;
 use crate::arrays::array_by_workers;
 use crate::team::Workers;
+use array_with_loops::Plan;
 use counted_code::CodeGen;
 use phase_checks::gens_are_counted;
+use phase_team::Gate;
 use run_eval::{Context, State, array_in_order};
 use run_store::is_small;
 use run_values::RunValue;
 use sac_base::{Array, Stop};
 use std::thread::Threads;
-use array_with_loops::Plan;
-use phase_team::Gate;
 
 /// The result of a genarray or modarray whose checks have passed. It is run by the workers where it is a phase, its
 /// cells are known to stand alone and none nests too deep, and else in order.
@@ -36,7 +36,10 @@ pub fn array_outside<G: Gate, R: Threads + Sync>(
     ensures scopes { OnOk result (SameScopes state.old.frames state.new.frames) }
     ensures lender { lender_of state.new.heap ≡ lender_of state.old.heap }
 {
-    if workers.deep || is_small(&plan.shape) || state.heap.lent.is_some() {
+    if is_small(&plan.shape)
+        || state.heap.lent.is_some()
+        || !workers.nesting.has_room_for_gens(gens, context.code.get())
+    {
         return array_in_order(gens, plan, array, old, context, state);
     }
     let live = alive_in_gens(context.alloc, gens, &state.frames, &state.heap.own)?;

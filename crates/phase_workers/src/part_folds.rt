@@ -9,7 +9,7 @@ ghost use Rattle.phase_loop_cells.specs.Cells.{parts_cell, parts_taken};
 ghost use Rattle.phase_loop_cells.specs.Opened.{OpenParts, PartsIn};
 ghost use Rattle.phase_checks.specs.Terms.{parts_term};
 ghost use Rattle.phase_workers.specs.Alive.{AreAlive};
-ghost use Rattle.phase_workers.specs.Homes.{CombinesAll};
+ghost use Rattle.phase_workers.specs.Homes.{CombinesAll, IsBooked, left_in, new_behind};
 ghost use Rattle.run_eval.specs.Running.{IsAt, IsValue, Told, SameScopes, fold_parts_job};
 ghost use Rattle.run_store.specs.Stands.{lender_of};
 ghost use Rattle.run_values.specs.Scopes.{current};
@@ -21,20 +21,20 @@ ghost use Rattle.phase_team.specs.Segments.{cells_from, cost_from};
 use crate::alive::alive_in_parts;
 use crate::folds::folds;
 use crate::parted::shares;
-use crate::results::{begin_phase, finish_phase};
+use crate::results::{Begun, Books, begin_phase, end_phase, finish_phase, stop_phase};
 use crate::team::{Workers, compute_fold};
+use array_with_loops::{Frame, fits_form};
 use buffer_heap::Heap;
 use core_ir::Var;
 use counted_code::{Code, CodePart};
-use phase_loop_cells::PartCells;
 use phase_checks::parts_are_counted;
+use phase_loop_cells::PartCells;
+use phase_team::Gate;
 use run_eval::{Context, State, fold_parts_in_order};
 use run_store::Target;
 use run_values::{Frames, RunValue};
 use sac_base::{Array, Cell, Form, Op, Stop};
 use std::thread::Threads;
-use array_with_loops::{Frame, fits_form};
-use phase_team::{Gate, Stop as TeamStop};
 
 /// The result of a parted fold. It is run by the workers where its cells are known to stand alone, and else in order.
 pub fn fold_parts_outside<G: Gate, R: Threads + Sync>(
@@ -51,7 +51,12 @@ pub fn fold_parts_outside<G: Gate, R: Threads + Sync>(
     ensures scopes { OnOk result (SameScopes state.old.frames state.new.frames) }
     ensures lender { lender_of state.new.heap ≡ lender_of state.old.heap }
 {
-    if workers.deep || state.heap.lent.is_some() || !is_fold(form, op, &neutral) {
+    if state.heap.lent.is_some()
+        || !is_fold(form, op, &neutral)
+        || !workers
+            .nesting
+            .has_room_for_parts(parts, context.code.get())
+    {
         return fold_parts_in_order(parts, frame, form, op, neutral, context, state);
     }
     let live = alive_in_parts(context.alloc, parts, &state.frames, &state.heap.own)?;
@@ -95,7 +100,8 @@ fn fold_parts_by_workers<G: Gate, R: Threads + Sync>(
     let _code = context.code.get();
     let _cells = neutral.cells();
     let mut value = neutral.into_cells();
-    let target = begin_phase(context.alloc, &form.shape, state)?;
+    let begun = begin_phase(context.alloc, &form.shape, state)?;
+    let Begun { target, mut books } = begun;
     let Target { cells: _, buffer } = target;
     state.heap.own.buffers_are_numbered();
     let end = fold_part_cells(
@@ -109,18 +115,22 @@ fn fold_parts_by_workers<G: Gate, R: Threads + Sync>(
         &state.frames,
         &state.heap.own,
         &mut value,
+        &mut books,
     );
     match end {
-        Ok(home) => {
-            state.heap.own.take_over(home);
+        Ok(_) => {
+            end_phase(books, state);
             let target = Target {
                 cells: value,
                 buffer,
             };
             finish_phase(target, form.base, &form.shape, state)
         }
-        Err(TeamStop::Faulted(fault)) => Err(Stop::Faulted(fault)),
-        Err(TeamStop::Memory) => Err(Stop::Memory),
+        Err(Stop::Faulted(fault)) => {
+            stop_phase(books, state);
+            Err(Stop::Faulted(fault))
+        }
+        Err(Stop::Memory) => Err(Stop::Memory),
     }
 }
 
@@ -136,18 +146,21 @@ fn fold_part_cells<G: Gate, R: Threads + Sync>(
     frames: &Frames,
     heap: &Heap,
     value: &mut [Cell],
-) -> Result<Heap, TeamStop>
+    books: &mut Books,
+) -> Result<(), Stop>
     requires counted { PartsIn (code_program context.now.code.now) (parts_term parts.now) live.now }
     requires alive { AreAlive heap.now (current frames.now) live.now }
     requires op { IsTrue (folds_value form.now.base op) }
     requires width { length value.old ≡ size form.now.shape }
-    ensures { CombinesAll op (cells_from (parts_cell context.now heap.now (current frames.now) parts.now form.now frame.now) 0 (length frame.now)) heap.now (cost_from (parts_taken context.now heap.now (current frames.now) parts.now frame.now) 0 (length frame.now)) value.old value.new result }
+    requires home { books.old.home ≡ new_behind heap.now }
+    ensures booked { IsBooked books.old books.new result }
+    ensures combined { CombinesAll op (cells_from (parts_cell context.now heap.now (current frames.now) parts.now form.now frame.now) 0 (length frame.now)) heap.now (cost_from (parts_taken context.now heap.now (current frames.now) parts.now frame.now) 0 (length frame.now)) value.old value.new (left_in books.new.home result) }
 {
     let _code = context.code.get();
     heap.buffers_are_numbered();
     let count = frame.count();
     if count > MOST {
-        return Err(TeamStop::Memory);
+        return Err(Stop::Memory);
     }
     let cells = PartCells {
         context: *context,
@@ -157,7 +170,7 @@ fn fold_part_cells<G: Gate, R: Threads + Sync>(
         form,
         frame,
     };
-    let end = each_part_fold(workers, &cells, count, op, value);
+    let end = each_part_fold(workers, &cells, count, op, value, books);
     let PartCells {
         context: _,
         heap: _,
@@ -175,18 +188,21 @@ fn each_part_fold<G: Gate, R: Threads + Sync>(
     count: usize,
     op: Op,
     value: &mut [Cell],
-) -> Result<Heap, TeamStop>
+    books: &mut Books,
+) -> Result<(), Stop>
     requires positions { (count ≤ 16777216) × (count ≡ length cells.now.frame.now) }
     requires op { IsTrue (folds_value cells.now.form.now.base op) }
     requires lending { IsLending (OpenParts cells.now.context cells.now.heap.now (current cells.now.frames.now) cells.now.parts.now) cells.now.heap.now }
     requires width { length value.old ≡ size cells.now.form.now.shape }
-    ensures { CombinesAll op (cells_from (parts_cell cells.now.context cells.now.heap.now (current cells.now.frames.now) cells.now.parts.now cells.now.form.now cells.now.frame.now) 0 count) cells.now.heap.now (cost_from (parts_taken cells.now.context cells.now.heap.now (current cells.now.frames.now) cells.now.parts.now cells.now.frame.now) 0 count) value.old value.new result }
+    requires home { books.old.home ≡ new_behind cells.now.heap.now }
+    ensures booked { IsBooked books.old books.new result }
+    ensures combined { CombinesAll op (cells_from (parts_cell cells.now.context cells.now.heap.now (current cells.now.frames.now) cells.now.parts.now cells.now.form.now cells.now.frame.now) 0 count) cells.now.heap.now (cost_from (parts_taken cells.now.context cells.now.heap.now (current cells.now.frames.now) cells.now.parts.now cells.now.frame.now) 0 count) value.old value.new (left_in books.new.home result) }
 {
     shares::<CodePart>();
     shares::<Code>();
     let alloc = cells.context.alloc;
     let base = cells.form.base;
-    compute_fold(workers, alloc, cells, count, base, op, value)
+    compute_fold(workers, alloc, cells, count, base, op, value, books)
 }
 
 // The most positions of a phase.

@@ -10,7 +10,7 @@ ghost use Rattle.phase_loop_cells.specs.Opened.{OpenParts, PartsIn};
 ghost use Rattle.phase_checks.specs.Terms.{parts_term};
 ghost use Rattle.phase_workers.specs.Alive.{AreAlive};
 ghost use Rattle.phase_workers.specs.Covered.{must_be_there};
-ghost use Rattle.phase_workers.specs.Homes.{ComputesAll};
+ghost use Rattle.phase_workers.specs.Homes.{ComputesAll, IsBooked, left_in, new_behind};
 ghost use Rattle.run_eval.specs.Running.{IsAt, IsValue, Told, SameScopes, parts_job};
 ghost use Rattle.run_store.specs.Stands.{lender_of};
 ghost use Rattle.run_values.specs.Scopes.{current};
@@ -20,20 +20,20 @@ ghost use Rattle.phase_team.specs.Segments.{cells_from, cost_from};
 
 use crate::alive::alive_in_parts;
 use crate::covered::{CoveredCells, believed};
-use crate::results::{begin_phase, finish_phase};
+use crate::results::{Begun, Books, begin_phase, end_phase, finish_phase, stop_phase};
 use crate::team::{Workers, compute_array};
+use array_with_loops::Frame;
 use buffer_heap::Heap;
 use core_ir::Var;
 use counted_code::{Code, CodePart};
-use phase_loop_cells::PartCells;
 use phase_checks::parts_are_counted;
+use phase_loop_cells::PartCells;
+use phase_team::Gate;
 use run_eval::{Context, State, parts_in_order};
 use run_store::{Target, is_small};
 use run_values::{Frames, RunValue};
 use sac_base::{Cell, Form, Shape, Stop, elements};
 use std::thread::Threads;
-use array_with_loops::Frame;
-use phase_team::{Gate, Stop as TeamStop};
 
 /// The result of a parted loop that is no fold. It is run by the workers where it is a phase, its cells are known to stand
 /// alone and none nests too deep, and else in order.
@@ -50,7 +50,12 @@ pub fn parts_outside<G: Gate, R: Threads + Sync>(
     ensures scopes { OnOk result (SameScopes state.old.frames state.new.frames) }
     ensures lender { lender_of state.new.heap ≡ lender_of state.old.heap }
 {
-    if workers.deep || is_small(shape) || state.heap.lent.is_some() {
+    if is_small(shape)
+        || state.heap.lent.is_some()
+        || !workers
+            .nesting
+            .has_room_for_parts(parts, context.code.get())
+    {
         return parts_in_order(parts, frame, form, shape, context, state);
     }
     let live = alive_in_parts(context.alloc, parts, &state.frames, &state.heap.own)?;
@@ -80,8 +85,9 @@ fn parts_by_workers<G: Gate, R: Threads + Sync>(
     ensures lender { lender_of state.new.heap ≡ lender_of state.old.heap }
 {
     let _code = context.code.get();
-    let target = begin_phase(context.alloc, shape, state)?;
+    let begun = begin_phase(context.alloc, shape, state)?;
     state.heap.own.buffers_are_numbered();
+    let Begun { target, mut books } = begun;
     let Target { mut cells, buffer } = target;
     let end = part_cells(
         workers,
@@ -93,14 +99,18 @@ fn parts_by_workers<G: Gate, R: Threads + Sync>(
         &state.frames,
         &state.heap.own,
         &mut cells,
+        &mut books,
     );
     match end {
-        Ok(home) => {
-            state.heap.own.take_over(home);
+        Ok(_) => {
+            end_phase(books, state);
             finish_phase(Target { cells, buffer }, form.base, shape, state)
         }
-        Err(TeamStop::Faulted(fault)) => Err(Stop::Faulted(fault)),
-        Err(TeamStop::Memory) => Err(Stop::Memory),
+        Err(Stop::Faulted(fault)) => {
+            stop_phase(books, state);
+            Err(Stop::Faulted(fault))
+        }
+        Err(Stop::Memory) => Err(Stop::Memory),
     }
 }
 
@@ -115,20 +125,23 @@ fn part_cells<G: Gate, R: Threads + Sync>(
     frames: &Frames,
     heap: &Heap,
     cells: &mut [Cell],
-) -> Result<Heap, TeamStop>
+    books: &mut Books,
+) -> Result<(), Stop>
     requires counted { PartsIn (code_program context.now.code.now) (parts_term parts.now) live.now }
     requires alive { AreAlive heap.now (current frames.now) live.now }
-    ensures { ComputesAll (cells_from (parts_cell context.now heap.now (current frames.now) parts.now form.now frame.now) 0 (length frame.now)) heap.now (cost_from (parts_taken context.now heap.now (current frames.now) parts.now frame.now) 0 (length frame.now)) cells.new result }
+    requires home { books.old.home ≡ new_behind heap.now }
+    ensures booked { IsBooked books.old books.new result }
+    ensures computed { ComputesAll (cells_from (parts_cell context.now heap.now (current frames.now) parts.now form.now frame.now) 0 (length frame.now)) heap.now (cost_from (parts_taken context.now heap.now (current frames.now) parts.now frame.now) 0 (length frame.now)) cells.new (left_in books.new.home result) }
 {
     let _code = context.code.get();
     heap.buffers_are_numbered();
     let Some(size) = elements(&form.shape) else {
-        return Err(TeamStop::Memory);
+        return Err(Stop::Memory);
     };
     let width = size as usize;
     let count = frame.count();
     if count > MOST || count.checked_mul(width) != Some(cells.len()) {
-        return Err(TeamStop::Memory);
+        return Err(Stop::Memory);
     }
     let covered = CoveredCells {
         cells: PartCells {
@@ -140,7 +153,7 @@ fn part_cells<G: Gate, R: Threads + Sync>(
             frame,
         },
     };
-    let end = each_cell(workers, &covered, count, width, cells);
+    let end = each_cell(workers, &covered, count, width, cells, books);
     let CoveredCells {
         cells: PartCells {
             context: _,
@@ -160,11 +173,14 @@ fn each_cell<G: Gate, R: Threads + Sync>(
     count: usize,
     width: usize,
     into: &mut [Cell],
-) -> Result<Heap, TeamStop>
+    books: &mut Books,
+) -> Result<(), Stop>
     requires positions { (count ≤ 16777216) × (count ≡ length covered.now.cells.frame.now) × (width ≡ size covered.now.cells.form.now.shape) }
     requires lending { IsLending (OpenParts covered.now.cells.context covered.now.cells.heap.now (current covered.now.cells.frames.now) covered.now.cells.parts.now) covered.now.cells.heap.now }
     requires room { length into.old ≡ count * width }
-    ensures { ComputesAll (cells_from (λ p. must_be_there (parts_cell covered.now.cells.context covered.now.cells.heap.now (current covered.now.cells.frames.now) covered.now.cells.parts.now covered.now.cells.form.now covered.now.cells.frame.now p)) 0 count) covered.now.cells.heap.now (cost_from (parts_taken covered.now.cells.context covered.now.cells.heap.now (current covered.now.cells.frames.now) covered.now.cells.parts.now covered.now.cells.frame.now) 0 count) into.new result }
+    requires home { books.old.home ≡ new_behind covered.now.cells.heap.now }
+    ensures booked { IsBooked books.old books.new result }
+    ensures computed { ComputesAll (cells_from (λ p. must_be_there (parts_cell covered.now.cells.context covered.now.cells.heap.now (current covered.now.cells.frames.now) covered.now.cells.parts.now covered.now.cells.form.now covered.now.cells.frame.now p)) 0 count) covered.now.cells.heap.now (cost_from (parts_taken covered.now.cells.context covered.now.cells.heap.now (current covered.now.cells.frames.now) covered.now.cells.parts.now covered.now.cells.frame.now) 0 count) into.new (left_in books.new.home result) }
 {
     shares::<CodePart>();
     shares::<Code>();
@@ -175,6 +191,7 @@ fn each_cell<G: Gate, R: Threads + Sync>(
         count,
         width,
         into,
+        books,
     )
 }
 

@@ -12,20 +12,20 @@ ghost use Rattle.array_ops.specs.Tells.{TellsItems};
 
 use crate::calls::LoopCalls;
 use crate::folds::fold_outside;
-use crate::nesting::nests_within;
+use crate::nesting::Nesting;
 use crate::outside::array_outside;
 use crate::part_folds::fold_parts_outside;
 use crate::parted::parts_outside;
 use crate::team::Workers;
+use array_with_loops::{Frame, Plan as LoopPlan};
 use buffer_heap::Heap;
 use counted_code::{Code, CodeGen, CodePart};
+use phase_team::Gate;
 use run_eval::{Context, Plan, State, Trace, run_with_phases};
 use run_values::RunValue;
 use sac_base::{Array, Form, Op, Shape, Stop};
 use std::alloc::Global;
 use std::thread::Threads;
-use array_with_loops::{Frame, Plan as LoopPlan};
-use phase_team::Gate;
 
 /// Runs counted code on arguments, and its phases by as many workers as the plan has. The results are those of its main
 /// function, or there is the first fault, whatever the workers do first.
@@ -56,7 +56,7 @@ pub fn run<G: Gate, R: Threads + Sync>(
         rt,
         gate,
         workers: plan.workers,
-        deep: is_deep(alloc, code, plan),
+        nesting: Nesting::of(alloc, code, plan.caps.depth, plan.workers),
     };
     let calls = LoopCalls {
         array: |gens: &[CodeGen], loop_plan: &LoopPlan, array: &Array, old: bool, context: &Context<
@@ -82,19 +82,3 @@ pub fn run<G: Gate, R: Threads + Sync>(
     };
     run_with_phases(alloc, code, args, heap, plan, calls, trace)
 }
-
-// Whether a cell may nest too deep for the stack of a worker's thread. Where that is not known it counts as too deep. One
-// worker runs on this thread, whose stack has room for each depth.
-fn is_deep(alloc: Global, code: &Code, plan: Plan) -> bool {
-    if plan.workers <= 1 {
-        return false;
-    }
-    match nests_within(alloc, code, plan.caps.depth, LIMIT) {
-        Ok(within) => !within,
-        Err(_) => true,
-    }
-}
-
-// The most nested blocks of a cell that a worker computes. A nested block takes about 5 KB of the 8 MB that the stack of a
-// worker's thread has.
-const LIMIT: u32 = 1000;

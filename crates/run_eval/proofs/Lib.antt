@@ -13,6 +13,7 @@ pub mod PartFrames
 pub mod PartJobs
 pub mod Sizes
 pub mod Steps
+pub mod Tallying
 pub mod Trees
 pub mod Turns
 pub mod WholeRuns

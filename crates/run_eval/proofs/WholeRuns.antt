@@ -30,6 +30,7 @@ use Rattle.run_types.specs.Choosing.{types_of}
 use Rattle.run_types.specs.Reading.{arrays_in}
 use Rattle.run_values.specs.declared.value.RunValue.{RunValue}
 use Rattle.run_values.specs.Shown.{value_of}
+use Rattle.run_eval.specs.Tallies.{OrMemory, counted_in}
 use Rattle.run_eval.specs.declared.state.Context.{Context}
 use Rattle.run_eval.specs.declared.state.State.{State}
 use Rattle.run_eval.specs.declared.trace.Trace.{Trace}
@@ -265,17 +266,33 @@ cost_told (Err Memory) s t w told alone even taken given reused phases = tt
 
 -- so many phases are added to a tally
 abbrev Tallied : PhaseTotals → ℕ → PhaseTotals → Type 0
-Tallied old n new = new ≡ record { phases = (old.phases + n) % 2 ^ 64; draws = (old.draws + 0) % 2 ^ 64 }
+Tallied old n new = new ≡ counted_in old.phases old.draws n
 
-tally_rises : (old new : PhaseTotals) (n p : ℕ) → old.draws < 2 ^ 64 → Tallied old n new → n ≡ p → (new.phases ≡ (old.phases + p) % 2 ^ 64) × (new.draws ≡ old.draws)
-tally_rises old new n p low is same = (
+tally_rises : (old new : PhaseTotals) (n p : ℕ) → Tallied old n new → n ≡ p → (new.phases ≡ (old.phases + p) % 2 ^ 64) × (new.draws ≡ old.draws)
+tally_rises old new n p is same = (
   ap (λ (t : PhaseTotals). t.phases) is ∙ ap (λ k. (old.phases + k) % 2 ^ 64) same,
-  ap (λ (t : PhaseTotals). t.draws) is ∙ ap (λ k. k % 2 ^ 64) (omega arith) ∙ mod-eq_of_lt low,
+  ap (λ (t : PhaseTotals). t.draws) is,
 )
 
-pub tally_told : (r : Result (Vec ArrayValue Global) Stop) (s : State) (old new : PhaseTotals) (w : Ended (List ArrayValue)) → Told AreArrays r s w → old.draws < 2 ^ 64 → Tallied old s.phases new → TellsTally r old new (cost_of w)
-tally_told (Ok v) s old new (Done ws k) told low is = tally_rises old new s.phases (length k.phases % 2 ^ 64) low is told.1.phases
-tally_told (Ok v) s old new (Failed f p) told low is = elim told [ ]
-tally_told (Err (Faulted f)) s old new (Done ws k) told low is = elim told [ ]
-tally_told (Err (Faulted f)) s old new (Failed g p) told low is = tally_rises old new s.phases (length p % 2 ^ 64) low is told.1
-tally_told (Err Memory) s old new w told low is = tt
+pub tally_told : (r : Result (Vec ArrayValue Global) Stop) (s : State) (old new : PhaseTotals) (w : Ended (List ArrayValue)) → Told AreArrays r s w → Tallied old s.phases new → TellsTally r old new (cost_of w)
+tally_told (Ok v) s old new (Done ws k) told is = tally_rises old new s.phases (length k.phases % 2 ^ 64) is told.1.phases
+tally_told (Ok v) s old new (Failed f p) told is = elim told [ ]
+tally_told (Err (Faulted f)) s old new (Done ws k) told is = elim told [ ]
+tally_told (Err (Faulted f)) s old new (Failed g p) told is = tally_rises old new s.phases (length p % 2 ^ 64) is told.1
+tally_told (Err Memory) s old new w told is = tt
+
+-- what the tally had is what is kept of it
+pub tallied_in : (phases draws n : ℕ) (old new : PhaseTotals) → phases ≡ old.phases → draws ≡ old.draws → new ≡ counted_in phases draws n → Tallied old n new
+tallied_in phases draws n old new same even is = is ∙ (λ i. counted_in (same i) (even i) n)
+
+-- ---- the answer, once the tally has come back
+
+pub same_or_memory : {A : Type 0} (answer : Result A Stop) (P : Type 0) → P → OrMemory answer answer P
+same_or_memory (Ok a) P holds = (refl, holds)
+same_or_memory (Err (Faulted f)) P holds = (refl, holds)
+same_or_memory (Err Memory) P holds = tt
+
+pub ended_told : {A : Type 0} (answer result : Result A Stop) (P : Type 0) → OrMemory answer result P → (Q : Result A Stop → Type 0) → Q (Err Memory) → (P → Q answer) → Q result
+ended_told answer (Ok a) P ended Q none some = subst Q ended.0 (some ended.1)
+ended_told answer (Err (Faulted f)) P ended Q none some = subst Q ended.0 (some ended.1)
+ended_told answer (Err Memory) P ended Q none some = none

@@ -1,3 +1,4 @@
 pub mod Loops
 pub mod Outcomes
 pub mod Running
+pub mod Tallies

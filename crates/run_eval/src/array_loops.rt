@@ -21,12 +21,12 @@ use crate::folds::{Sum, add_cell, begin_fold, finish_fold, start};
 use crate::holders::{holder, part_holder};
 use crate::phases::{Outside, Phases};
 use crate::state::{Context, State};
+use array_with_loops::{Frame, IndexVector, Plan, fold_plan, genarray_plan, modarray_plan};
 use core_ir::{CoreOp, PartedOp};
 use counted_code::{CodeGen, CodePart, CodeParted, CodeWith};
 use run_store::{fits, read_array};
 use run_values::RunValue;
 use sac_base::{Array, Cell, FaultKind, Form, Memory, Op, Shape, Site, Stop, fault};
-use array_with_loops::{Frame, IndexVector, Plan, fold_plan, genarray_plan, modarray_plan};
 
 /// The result of a with-loop.
 #[cycle(run)]
@@ -205,11 +205,11 @@ fn run_cell<P: Phases>(
     ensures scopes { OnOk result (SameScopes state.old.frames state.new.frames) }
     ensures lender { lender_of state.new.heap ≡ lender_of state.old.heap }
 {
-    let phases = state.phases;
+    let outer = state.phases.enter_cell();
     state.frames.enter()?;
     bind_index(state, g.index, &g.names, index)?;
     let answer = run_first(&g.body, context, outside, state);
-    state.phases = phases;
+    state.phases = outer;
     formed(answer, form, g.site)
 }
 
@@ -418,10 +418,10 @@ fn run_part<P: Phases>(
     ensures scopes { OnOk result (SameScopes state.old.frames state.new.frames) }
     ensures lender { lender_of state.new.heap ≡ lender_of state.old.heap }
 {
-    let phases = state.phases;
+    let outer = state.phases.enter_cell();
     state.frames.enter()?;
     bind_index(state, part.index, &[], index)?;
     let answer = run_first(&part.body, context, outside, state);
-    state.phases = phases;
+    state.phases = outer;
     formed(answer, form, part.site)
 }

@@ -12,13 +12,13 @@ ghost use Rattle.sac_base.specs.Grids.{members};
 ghost use Rattle.sac_base.specs.WithLoops.{distance};
 
 use crate::state::{Context, State};
+use array_with_loops::{Bounds, Frame};
 use core_ir::Var;
 use counted_code::CodeGen;
 use run_store::read_array;
 use run_values::Few;
 use sac_base::{Array, Grid, Grid1, Memory, Shape, elements};
 use std::alloc::Global;
-use array_with_loops::{Bounds, Frame};
 
 /// The operands of the generators.
 pub fn all_bounds(

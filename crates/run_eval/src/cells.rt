@@ -17,6 +17,7 @@ use crate::state::{Context, State};
 use run_store::{Store, Target, buffer_cells, claim, fits, is_small, release, settle};
 use run_values::RunValue;
 use sac_base::{Array, Base, Cell, FaultKind, Form, Memory, Shape, Site, Stop, elements, fault};
+use std::alloc::Global;
 
 /// What stands where an index has no cell: the cells of an old array, or those of a default. A cell has so many elements.
 #[derive(Clone, Copy)]
@@ -37,14 +38,15 @@ pub fn count_elements(shape: &Shape) -> Result<usize, Memory>
 }
 
 /// Counts a phase, if it is one.
-pub fn count(state: &mut State<'_>, counts: bool)
-    ensures stands { (m : MachineHeap) (n : ℕ) → IsAt state.old m → IsAt state.new (count_phase counts n m) }
+pub fn count(alloc: Global, state: &mut State<'_>, counts: bool) -> Result<(), Memory>
+    ensures stands { (m : MachineHeap) (n : ℕ) → IsAt state.old m → OnOk result (IsAt state.new (count_phase counts n m)) }
     ensures frames { state.new.frames ≡ state.old.frames }
     ensures lender { lender_of state.new.heap ≡ lender_of state.old.heap }
 {
-    if counts {
-        state.phases = state.phases.wrapping_add(1);
+    if !counts {
+        return Ok(());
     }
+    state.phases.count(alloc)
 }
 
 /// A result of this shape that has no cell yet. It is a phase, if it is not small.
@@ -54,7 +56,7 @@ pub fn begin(shape: &Shape, context: &Context<'_>, state: &mut State<'_>) -> Res
     ensures frames { OnOk result (state.new.frames ≡ state.old.frames) }
     ensures lender { lender_of state.new.heap ≡ lender_of state.old.heap }
 {
-    count(state, !is_small(shape));
+    count(context.alloc, state, !is_small(shape))?;
     let mut target = claim(context.alloc, &mut state.heap, shape)?;
     target.cells.clear();
     Ok(target)

@@ -13,11 +13,11 @@ ghost use Rattle.sac_base.specs.WithLoops.{combined};
 
 use crate::cells::{count, finish};
 use crate::state::{Context, State};
+use array_with_loops::combine;
 use run_store::{Store, Target, claim, is_small, read_array, release};
 use run_values::{RunValue, small_value};
 use sac_base::{Array, Base, Memory, Op, Shape, Stop, apply2, result_base};
 use std::alloc::Global;
-use array_with_loops::combine;
 
 /// What the cells of a fold have come to.
 #[derive(Drop)]
@@ -46,7 +46,7 @@ pub fn begin_fold(
     ensures frames { OnOk result (state.new.frames ≡ state.old.frames) }
     ensures lender { lender_of state.new.heap ≡ lender_of state.old.heap }
 {
-    count(state, true);
+    count(context.alloc, state, true)?;
     if is_small(shape) {
         return Ok(None);
     }

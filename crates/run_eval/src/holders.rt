@@ -3,8 +3,8 @@
 ghost use Rattle.std.specs.Prelude.{◌≡◌, option_map};
 ghost use Rattle.run_eval.specs.Loops.{held, part_held};
 
-use counted_code::{CodeGen, CodePart};
 use array_with_loops::Range;
+use counted_code::{CodeGen, CodePart};
 
 /// The first generator whose range holds an index.
 pub fn holder<'a>(gens: &'a [CodeGen], ranges: &[Range], index: &[i32]) -> Option<&'a CodeGen>

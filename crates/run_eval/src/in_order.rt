@@ -12,10 +12,10 @@ ghost use Rattle.array_with_loops.specs.Plans.{plan_of};
 use crate::array_loops::{fold_parts, gen_cell, part_cell, run_array, run_fold, run_parts};
 use crate::phases::Never;
 use crate::state::{Context, State};
+use array_with_loops::{Frame, Plan};
 use counted_code::{CodeGen, CodePart};
 use run_values::RunValue;
 use sac_base::{Array, Form, Op, Shape, Stop};
-use array_with_loops::{Frame, Plan};
 
 /// The result of a genarray or modarray whose checks have passed.
 pub fn array_in_order(

@@ -10,6 +10,7 @@ mod folds;
 mod holders;
 mod in_order;
 mod levels;
+mod phase_count;
 mod phases;
 mod program;
 mod state;
@@ -18,8 +19,9 @@ mod trace;
 pub use in_order::{
     array_in_order, cell_of_gens, cell_of_parts, fold_in_order, fold_parts_in_order, parts_in_order,
 };
+pub use phase_count::{OpenTally, PhaseCount, Totals};
 pub use phases::{Never, Outside, Phases};
 pub use program::{Plan, run, run_with_phases};
+pub use sac_base::Stop;
 pub use state::{Context, CountedCode, State};
 pub use trace::Trace;
-pub use sac_base::Stop;

@@ -9,11 +9,11 @@ ghost use Rattle.std.specs.Prelude.{◌≡◌, None, OnOk, ⊤};
 ghost use Rattle.array_with_loops.specs.Plans.{plan_of};
 
 use crate::state::{Context, State};
+use array_with_loops::{Frame, Plan};
 use counted_code::{CodeGen, CodePart};
 use run_values::RunValue;
 use sac_base::{Array, Form, Op, Shape, Stop};
 use std::marker::Model;
-use array_with_loops::{Frame, Plan};
 
 /// Runs the with-loops that stand outside of cells.
 pub trait Phases {

@@ -7,15 +7,18 @@ ghost use Rattle.counted_code.specs.Values.{Heap as MachineHeap, place_all as al
 ghost use Rattle.counted_code.specs.View.{code_program};
 ghost use Rattle.run_eval.specs.Outcomes.{new_heap, main_in, AreArrays, ArePlaced, IsCleared, HasCounters, KeepsChanges, TellsCost, TellsTally};
 ghost use Rattle.run_eval.specs.Running.{IsAt, Told};
+ghost use Rattle.run_eval.specs.Tallies.{OrMemory, counted_in};
 ghost use Rattle.run_store.specs.Stands.{Stands, lender_of};
 ghost use Rattle.run_values.specs.Shown.{value_of};
 ghost use Rattle.array_ops.specs.Tells.{TellsItems};
 
 use crate::blocks::run_function;
+use crate::phase_count::{PhaseCount, Totals, numbers_of};
 use crate::phases::{Never, Outside, Phases};
 use crate::state::{Context, CountedCode, State};
 use crate::trace::Trace;
 use buffer_heap::Heap;
+use count_table::Tally;
 use counted_code::Code;
 use run_store::{Store, place_own, read_array, release};
 use run_types::all_fit;
@@ -23,7 +26,6 @@ use run_values::{Frames, RunValue};
 use sac_base::{Array, Caps, FaultKind, Memory, Site, Stop, fault};
 use std::alloc::Global;
 use std::mem;
-use std::thread::Threads;
 
 /// How many workers there are, 1 to 64, how many positions a chunk has, or an equal share for each worker where that is not given, and the limits on turns and nested calls.
 #[derive(Clone, Copy, Debug, PartialEq, Eq)]
@@ -36,8 +38,7 @@ pub struct Plan {
 /// Runs counted code on arguments, in one thread. The results are those of its main function, or there is the first fault.
 ///
 /// After every answer, want of memory included, no buffer of the heap is live, and as many were given back as were taken.
-pub fn run<R: Threads + Sync>(
-    _rt: &R,
+pub fn run(
     alloc: Global,
     code: &Code,
     args: Vec<Array>,
@@ -105,10 +106,11 @@ fn run_code<P: Phases>(
     ensures counters { HasCounters trace.new heap.new }
     ensures kept { KeepsChanges trace.old trace.new }
 {
+    let (phases, before) = begin_phases(&mut trace.tally);
     let mut state = State {
         frames: Frames::new(alloc),
         heap: Store::of(mem::replace(heap, Heap::new(alloc))),
-        phases: 0,
+        phases,
     };
     let counted = CountedCode::of(code);
     let context = Context {
@@ -129,9 +131,37 @@ fn run_code<P: Phases>(
     trace.taken = heap.taken();
     trace.given = heap.given();
     trace.reused = heap.reused();
-    trace.phases = phases;
-    trace.tally.raise(phases, 0);
-    answer
+    trace.phases = phases.number();
+    give_back(answer, phases, before, &mut trace.tally)
+}
+
+// The phases of a run, which are closed into a tally until it is given back, and what the tally had before.
+fn begin_phases(tally: &mut Tally) -> (PhaseCount, Totals)
+    ensures phases { result.0 ≡ 0 }
+    ensures before { (result.1.phases ≡ tally.old.phases) × (result.1.draws ≡ tally.old.draws) }
+{
+    let before = numbers_of(tally);
+    let phases = PhaseCount::of(mem::replace(tally, Tally::new()));
+    (phases, before)
+}
+
+// The answer of a run, whose phases were closed into the tally. A run begins and ends outside of cells, so that it still has
+// the tally that it began with.
+fn give_back(
+    answer: Result<Vec<Array>, Stop>,
+    phases: PhaseCount,
+    before: Totals,
+    tally: &mut Tally,
+) -> Result<Vec<Array>, Stop>
+    ensures { OrMemory answer result (tally.new ≡ counted_in before.phases before.draws phases) }
+{
+    match phases.into_tally(before) {
+        Some(own) => {
+            *tally = own;
+            answer
+        }
+        None => Err(Stop::Memory),
+    }
 }
 
 // The first place of a source, which stands for the site of a main function that is not there.

@@ -4,6 +4,7 @@ ghost use Rattle.std.specs.Prelude.{◌≡◌};
 ghost use Rattle.counted_code.specs.Counts.{IsWellCounted, IsUnmarked};
 ghost use Rattle.counted_code.specs.View.{code_program};
 
+use crate::phase_count::PhaseCount;
 use core_ir::Var;
 use counted_code::{Code, CodeBlock};
 use run_store::Store;
@@ -66,12 +67,12 @@ pub struct Context<'a> {
     pub nest: u64,
 }
 
-/// The variables, the buffers and the number of phases so far, modulo 2^64.
+/// The variables, the buffers and the phases so far.
 #[derive(Drop)]
 pub struct State<'a> {
     pub frames: Frames,
     pub heap: Store<'a>,
-    pub phases: u64,
+    pub phases: PhaseCount,
 }
 
 impl<'a> State<'a> {

@@ -67,7 +67,7 @@ fn a_run_leaves_an_empty_heap(rt: HostRuntime) -> Result<(), Fail> {
     let mut trace = Trace::new();
     let cells = [1, 2, 3, 4, 5, 6, 7, 8, 9];
     let args = vec![in alloc; Array::vector(alloc, Base::Int, Vec::from_slice(alloc, &cells)?)]?;
-    let answer = run(&rt, alloc, &code, args, &mut heap, PLAN, &mut trace);
+    let answer = run(alloc, &code, args, &mut heap, PLAN, &mut trace);
     let results = answer.map_err(|_| "results")?;
     assert_eq!(rt; results.len(), 1);
     assert_eq!(rt; results[0].cells(), cells.as_slice());
@@ -91,7 +91,7 @@ fn main_takes_its_arguments_or_there_is_a_fault(rt: HostRuntime) -> Result<(), F
     let mut heap = Heap::new(alloc);
     let mut trace = Trace::new();
     let args = Vec::new(alloc);
-    let fault = match run(&rt, alloc, &code, args, &mut heap, PLAN, &mut trace) {
+    let fault = match run(alloc, &code, args, &mut heap, PLAN, &mut trace) {
         Err(Stop::Faulted(fault)) => Some(fault),
         _ => None,
     };

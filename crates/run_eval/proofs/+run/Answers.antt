@@ -1457,12 +1457,12 @@ array_loops::run_cell-returns g t c =
     let mid = c.bind_index.new.state in
     let answer = c.run_first-answer.result in
     let st = c.run_first-answer.new.state in
-    let new = record st { phases = s.phases } in
+    let new = record st { phases = c.enter_cell-outer.result } in
     let inside = bound.inside ∙ (λ i. bind_values (bind_value (c.in_ok-enter.ensures.current i) g.index (Small (vector Int v))) (c.deref.ensures.value i) (map (λ z. Small (scalar Int z)) v)) in
     record {
       told = λ m at.
-          cell_tells answer c.formed.result st new m (first_value (does_in ctx (code_term g.body) (with_index_value (current s.frames) (gen_head g) v))) a.form.now g.site refl at.phases c.formed.ensures.told
-          (subst (λ e. Told IsValue answer st (first_value (does_in ctx (code_term g.body) e) m)) inside (c.run_first-answer.ensures.told m (moved s mid m bound.heap bound.phases at)));
+          cell_tells answer c.formed.result st new m (first_value (does_in ctx (code_term g.body) (with_index_value (current s.frames) (gen_head g) v))) a.form.now g.site refl (c.enter_cell-outer.ensures.outer ∙ at.phases) c.formed.ensures.told
+          (subst (λ e. Told IsValue answer st (first_value (does_in ctx (code_term g.body) e) m)) inside (c.run_first-answer.ensures.told m (moved s mid m bound.heap (bound.phases ∙ c.enter_cell-outer.ensures.same) at)));
       scopes = cell_scopes answer c.formed.result s.frames mid.frames st.frames c.formed.ensures.same c.run_first-answer.ensures.scopes (bound.outside ∙ c.in_ok-enter.ensures.outer);
       lender = c.run_first-answer.ensures.lender ∙ c.in_ok-bind_index.ensures.lender;
     }
@@ -1530,12 +1530,12 @@ array_loops::run_part-returns g t c =
     let mid = c.bind_index.new.state in
     let answer = c.run_first-answer.result in
     let st = c.run_first-answer.new.state in
-    let new = record st { phases = s.phases } in
+    let new = record st { phases = c.enter_cell-outer.result } in
     let inside = bound.inside ∙ (λ i. bind_value (c.in_ok-enter.ensures.current i) g.index (Small (vector Int v))) in
     record {
       told = λ m at.
-          cell_tells answer c.formed.result st new m (first_value (does_in ctx (code_term g.body) (bind_value (current s.frames) g.index (Small (vector Int v))))) a.form.now g.site refl at.phases c.formed.ensures.told
-          (subst (λ e. Told IsValue answer st (first_value (does_in ctx (code_term g.body) e) m)) inside (c.run_first-answer.ensures.told m (moved s mid m bound.heap bound.phases at)));
+          cell_tells answer c.formed.result st new m (first_value (does_in ctx (code_term g.body) (bind_value (current s.frames) g.index (Small (vector Int v))))) a.form.now g.site refl (c.enter_cell-outer.ensures.outer ∙ at.phases) c.formed.ensures.told
+          (subst (λ e. Told IsValue answer st (first_value (does_in ctx (code_term g.body) e) m)) inside (c.run_first-answer.ensures.told m (moved s mid m bound.heap (bound.phases ∙ c.enter_cell-outer.ensures.same) at)));
       scopes = cell_scopes answer c.formed.result s.frames mid.frames st.frames c.formed.ensures.same c.run_first-answer.ensures.scopes (bound.outside ∙ c.in_ok-enter.ensures.outer);
       lender = c.run_first-answer.ensures.lender ∙ c.in_ok-bind_index.ensures.lender;
     }

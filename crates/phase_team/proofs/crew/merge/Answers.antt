@@ -1,5 +1,5 @@
 use Rattle.std.proofs.Common.{◌++◌, Bool, Result, subst}
-use Rattle.phase_team.specs.declared.plan.Stop.{Stop}
+use Rattle.sac_base.specs.declared.stop.Stop.{Stop}
 use Rattle.phase_team.specs.Segments.{Ran}
 use Rattle.phase_team.proofs.Merges.{stops-front, stops-back, merged}
 use Rattle.phase_team.proofs.crew.merge.Goals as goal

@@ -2,8 +2,9 @@ use Rattle.std.proofs.Common.{length, subst}
 use Rattle.run_values.specs.Scopes.{current}
 use Rattle.phase_loop_cells.specs.Cells.{parts_cell, parts_taken}
 use Rattle.phase_workers.specs.Covered.{AreCovered, must_be_there}
-use Rattle.phase_workers.specs.Homes.{ComputesAll}
+use Rattle.phase_workers.specs.Homes.{ComputesAll, left_in}
 use Rattle.phase_team.specs.Segments.{cells_from, cost_from}
+use Rattle.phase_workers.proofs.Booking.{booked_if, left_if}
 use Rattle.phase_workers.proofs.Covering.{all_believed, parts_there}
 use Rattle.phase_workers.proofs.PartedEnding.{lending_parts}
 use Rattle.phase_workers.proofs.parted.part_cells.Goals as goal
@@ -15,8 +16,8 @@ each_cell-end-requires-clause-lending g c κs within =
     let heap = c.buffers_are_numbered.ensures in
     lending_parts a.context.now a.heap.now (current a.frames.now) a.parts.now a.live.now code.counted code.unmarked c.requires.counted c.requires.alive heap.referred heap.below heap.single heap.counters
 
-pub returns : goal.returns
-returns g c =
+pub returns-clause-computed : goal.returns-clause-computed
+returns-clause-computed g c =
     let a = c.args in
     let h = a.heap.now in
     let e = current a.frames.now in
@@ -24,8 +25,14 @@ returns g c =
     let takes = parts_taken a.context.now h e a.parts.now a.frame.now in
     let es = c.each_cell-end.new.into in
     let n = length a.frame.now in
+    let home = c.each_cell-end.new.books.home in
     all_believed cell h n (cost_from takes 0 n) (AreCovered a.parts.now a.frame.now)
     (λ covered. parts_there a.context.now h e a.parts.now a.form.now a.frame.now covered)
-    es c.each_cell-end.result c.believed.result
-    (subst (λ k. ComputesAll (cells_from (λ p. must_be_there (cell p)) 0 k) h (cost_from takes 0 k) es c.each_cell-end.result) c.count-count.ensures c.each_cell-end.ensures)
-    c.believed.ensures
+    es (left_in home c.each_cell-end.result) (left_in home c.believed.result)
+    (subst (λ k. ComputesAll (cells_from (λ p. must_be_there (cell p)) 0 k) h (cost_from takes 0 k) es (left_in home c.each_cell-end.result)) c.count-count.ensures c.each_cell-end.ensures.computed)
+    (left_if (AreCovered a.parts.now a.frame.now) home c.each_cell-end.result c.believed.result c.believed.ensures)
+
+pub returns-clause-booked : goal.returns-clause-booked
+returns-clause-booked g c =
+    let a = c.args in
+    booked_if (AreCovered a.parts.now a.frame.now) a.books.now c.each_cell-end.new.books c.each_cell-end.result c.believed.result c.believed.ensures c.each_cell-end.ensures.booked
