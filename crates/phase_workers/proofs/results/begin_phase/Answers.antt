@@ -1,4 +1,4 @@
-use Rattle.std.proofs.Common.{◌+◌, ◌%◌, ◌^◌, true, refl}
+use Rattle.std.proofs.Common.{◌+◌, ◌%◌, ◌^◌, true, Ok, refl}
 use Rattle.counted_code.specs.Loops.{count_phase}
 use Rattle.counted_code.specs.Values.{is_small}
 use Rattle.run_eval.proofs.CellPhases.{count_stands}
@@ -7,9 +7,9 @@ use Rattle.sac_base.specs.Arrays.{size}
 use Rattle.phase_workers.proofs.Ending.{begun_claim}
 use Rattle.phase_workers.proofs.results.begin_phase.Goals as goal
 
-pub returns-in_ok-target-clause-begun : goal.returns-in_ok-target-clause-begun
-returns-in_ok-target-clause-begun c m n at =
+pub returns-in-Some-clause-begun : goal.returns-in-Some-clause-begun
+returns-in-Some-clause-begun c m n at =
     let s = c.args.state.now in
     let t : State = record { frames = s.frames; heap = s.heap; phases = c.hand_out-handed_out.new.self } in
     let counted = count_stands s t true m n refl refl c.hand_out-handed_out.ensures.counted at in
-    begun_claim c.claim.result t c.claim.new.heap (is_small c.args.shape.now) (size c.args.shape.now) (count_phase true n m) counted.phases (c.claim.ensures.claimed (count_phase true n m) counted.heap)
+    begun_claim (Ok c.in_ok-target.target) t c.claim.new.heap (is_small c.args.shape.now) (size c.args.shape.now) (count_phase true n m) counted.phases (c.in_ok-target.ensures.claimed (count_phase true n m) counted.heap)
