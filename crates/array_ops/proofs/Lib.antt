@@ -1,2 +1,4 @@
 pub mod Combining
 pub mod Joining
+pub mod Steps
+pub mod TypeLists

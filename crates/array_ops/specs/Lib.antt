@@ -1,3 +1,4 @@
 pub mod Answers
 pub mod Operands
 pub mod Regions
+pub mod Tells

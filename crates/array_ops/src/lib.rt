@@ -4,11 +4,15 @@
 mod elements;
 mod error;
 mod literals;
+mod operations;
 mod parts;
 
 pub use elements::{binary, unary};
 pub use error::ArrayError;
 pub use literals::literal;
+pub use operations::{
+    binary_at, condition_at, copy_all, literal_at, placed, results_of, select_at, unary_of,
+};
 pub use parts::{condition, dim, replace, reshape, select, shape_vector};
 
 #[cfg(test)]

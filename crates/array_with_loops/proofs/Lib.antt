@@ -4,7 +4,5 @@ pub mod BoundSteps
 pub mod EachSteps
 pub mod CellSteps
 pub mod JoinSteps
-pub mod Steps
-pub mod TypeLists
 pub mod Holders
 pub mod GridSteps

@@ -2,5 +2,4 @@ pub mod Ranges
 pub mod Frames
 pub mod Plans
 pub mod Cells
-pub mod Tells
 pub mod GridFrames

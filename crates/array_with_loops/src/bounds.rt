@@ -6,7 +6,7 @@ ghost use Rattle.sac_base.specs.Arrays.{ArrayValue};
 ghost use Rattle.sac_base.specs.WithLoops.{counts, first_of, names_fit, part_or as part_or_value, raised as raised_value, range_from, lower_of, upper_of, step_of, range_of, all_positive};
 ghost use Rattle.array_with_loops.specs.Plans.{first_some, frame_if, raised_list};
 ghost use Rattle.array_with_loops.specs.Ranges.{IsBound, IsStep};
-ghost use Rattle.array_with_loops.specs.Tells.{Tells};
+ghost use Rattle.array_ops.specs.Tells.{Tells};
 
 use crate::ranges::Range;
 use sac_base::{Array, FaultKind, Memory, Shape, Site, Stop, fault};

@@ -4,7 +4,7 @@ ghost use Rattle.std.specs.Prelude.{◌≡◌, ◌≤◌, ◌+◌, ◌*◌, ◌+
 ghost use Rattle.sac_base.specs.Arrays.{size, MOST};
 ghost use Rattle.sac_base.specs.WithLoops.{combined, fits_form as fits_form_value};
 ghost use Rattle.array_with_loops.specs.Cells.{cell_from};
-ghost use Rattle.array_with_loops.specs.Tells.{Tells};
+ghost use Rattle.array_ops.specs.Tells.{Tells};
 
 use array_ops::{ArrayError, binary};
 use sac_base::{Array, Form, Memory, Op, Shape, Stop, elements, same_shape};

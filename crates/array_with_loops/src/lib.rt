@@ -4,15 +4,11 @@
 mod bounds;
 mod finish;
 mod frames;
-mod operations;
 mod plans;
 mod ranges;
 
 pub use bounds::Bounds;
 pub use finish::{add_cell, cell_size, combine, fits_form};
 pub use frames::{Frame, IndexVector};
-pub use operations::{
-    binary_at, condition_at, copy_all, literal_at, placed, results_of, select_at, unary_of,
-};
 pub use plans::{Evaluated, Plan, fold_plan, genarray_plan, modarray_plan};
 pub use ranges::{Axis, Range};

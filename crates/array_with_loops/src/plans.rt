@@ -7,7 +7,7 @@ ghost use Rattle.sac_base.specs.WithLoops.{index_length as index_length_value, e
 ghost use Rattle.std.specs.Prelude.{Bool};
 ghost use Rattle.array_with_loops.specs.Cells.{IsArrayPlan};
 ghost use Rattle.array_with_loops.specs.Plans.{frame_if, plan_of};
-ghost use Rattle.array_with_loops.specs.Tells.{Tells, TellsItems, TellsAs};
+ghost use Rattle.array_ops.specs.Tells.{Tells, TellsItems, TellsAs};
 
 use crate::bounds::Bounds;
 use crate::frames::Frame;

@@ -1,6 +1,5 @@
 -- Sums that stop at the greatest number of 64 bits.
 use Rattle.std.proofs.Common.{◌≡◌, ℕ, suc, ◌+◌, ◌-◌, ◌^◌, ◌≤◌, List, [], ◌∷◌, map, length, drop, refl, ap, ◌∙◌, sym, arith}
-use Rattle.std.specs.Prelude.{min}
 use Rattle.std.proofs.lemmas.List.{at_drop_all}
 use Rattle.core_ir.specs.declared.tree.Var.{Var}
 use Rattle.core_ir.specs.declared.tree.Block.{Block, out-Block}

@@ -1,5 +1,5 @@
 -- A change that keeps the meaning under what is known at its place keeps that of the whole.
-use Rattle.std.proofs.Common.{◌≡◌, ℕ, Bool, true, false, List, [], ◌∷◌, ◌++◌, map, Option, Some, None, Ok, Err, refl, sym, ap, ◌∙◌}
+use Rattle.std.proofs.Common.{◌≡◌, ℕ, Bool, true, false, List, [], ◌∷◌, map, Ok, Err, refl, sym, ap, ◌∙◌}
 use Rattle.std.specs.Prelude.{ℤ, if◌then◌else◌}
 use Rattle.sac_base.specs.declared.base.Base.TheVariants.{Int}
 use Rattle.sac_base.specs.declared.faults.FaultKind.TheVariants.{F6}
@@ -9,8 +9,7 @@ use Rattle.sac_base.specs.Grids.{has_vector, members}
 use Rattle.sac_base.specs.Outcomes.{Ends, and_then, fault, choose}
 use Rattle.sac_base.specs.Parts.{condition}
 use Rattle.sac_base.specs.WithLoops.{with_value, each}
-use Rattle.core_ir.specs.declared.tree.Var.{Var}
-use Rattle.core_ir.specs.Terms.{BlockTerm, RightTerm, GensTerm, PartsTerm, PartHead}
+use Rattle.core_ir.specs.Terms.{BlockTerm, RightTerm, GensTerm, PartsTerm}
 use Rattle.core_ir.specs.Meaning.{Env, CallMeaning, Cells, bind, bind_all, first, loop_value, one, made_of, neutral_fits, held, cell_form, cell_at, generator, operation, with_index, run, right_value, generators, cells}
 use Rattle.core_ir.specs.Scopes.{Scoped, ScopedRight, ScopedGens, ScopedParts}
 use Rattle.core_ir.specs.Edits.{Edited, EditedRight, EditedGens, EditedParts, here, later, inside, in_then, in_else, in_test, in_body, in_gens, in_parts, this_gen, later_gen, this_part, later_part}

@@ -1,5 +1,5 @@
 -- What the bindings on the way say of an environment stays true.
-use Rattle.std.proofs.Common.{◌≡◌, ℕ, Bool, true, false, cond, ◌||◌, eqb, List, [], ◌∷◌, ◌++◌, map, Ok, Err, refl, sym, ap, ◌∙◌}
+use Rattle.std.proofs.Common.{◌≡◌, ℕ, true, cond, ◌||◌, eqb, List, [], ◌∷◌, ◌++◌, map, Ok, Err, refl, sym, ap, ◌∙◌}
 use Rattle.std.specs.Prelude.{ℤ}
 use Rattle.std.proofs.lemmas.Bool.{eq-eqb}
 use Rattle.sac_base.specs.declared.base.Base.TheVariants.{Int}
@@ -8,7 +8,7 @@ use Rattle.sac_base.specs.Arrays.{ArrayValue, vector}
 use Rattle.sac_base.specs.Grids.{has_vector}
 use Rattle.sac_base.specs.Outcomes.{Ends}
 use Rattle.core_ir.specs.declared.tree.Var.{Var}
-use Rattle.core_ir.specs.Terms.{BlockTerm, RightTerm, LetTerm, PartHead, Plain, With, Parted}
+use Rattle.core_ir.specs.Terms.{RightTerm, PartHead, Plain, With, Parted}
 use Rattle.core_ir.specs.Meaning.{Env, Answer, CallMeaning, bind, bind_all, one, right_value}
 use Rattle.core_ir.specs.Binders.{is_in, NoneIn}
 use Rattle.core_ir.specs.Scopes.{AllIn, AgreeOn, ScopedRight}

@@ -1,15 +1,14 @@
 -- Cores whose functions mean the same have the same outcome.
-use Rattle.std.proofs.Common.{◌≡◌, ℕ, zero, suc, List, [], ◌∷◌, ◌++◌, map, length, Option, Some, None, Ok, refl, sym, ap, ◌∙◌}
+use Rattle.std.proofs.Common.{◌≡◌, ℕ, zero, suc, List, [], ◌∷◌, ◌++◌, length, Option, Some, None, refl, ap, ◌∙◌}
 use Rattle.std.specs.Prelude.{slice_get, unwrap_or, if◌then◌else◌}
-use Rattle.sac_base.specs.declared.faults.Caps.{Caps}
-use Rattle.sac_base.specs.declared.faults.FaultKind.TheVariants.{F7, F10}
+use Rattle.sac_base.specs.declared.faults.FaultKind.TheVariants.{F7}
 use Rattle.sac_base.specs.declared.site.Site.{Site}
 use Rattle.sac_base.specs.Arrays.{ArrayValue}
 use Rattle.sac_base.specs.Outcomes.{fault}
 use Rattle.sac_base.specs.Types.{all_have}
 use Rattle.core_ir.specs.Terms.{FunTerm, CoreTerm}
 use Rattle.core_ir.specs.Meaning.{CallMeaning}
-use Rattle.core_ir.specs.Outcome.{Instance, RunMeaning, param_types, function_value, body_of, instance_of, instances, least_among, group_at, chosen, run_chosen, call_chosen, call_by, run_inline, run_deeper, call_at, start_of_source, main_value, outcome, SameOutcome, SameHead, SameHeads, SameOutside, SameFunction, SameFunctions, SameBodies}
+use Rattle.core_ir.specs.Outcome.{RunMeaning, function_value, body_of, instance_of, instances, least_among, group_at, chosen, run_chosen, call_chosen, call_by, run_inline, run_deeper, call_at, start_of_source, main_value, SameOutcome, SameHead, SameHeads, SameOutside, SameFunction, SameFunctions, SameBodies}
 
 -- both are there and look the same from outside, or neither is
 abbrev pub SameHeadAt : Option FunTerm → Option FunTerm → Type 0

@@ -1,6 +1,6 @@
 -- Terms that agree in all but the numbers of variables mean the same under environments that agree.
-use Rattle.std.proofs.Common.{◌≡◌, ℕ, Bool, true, false, not, ◌&&◌, cond, eqb, List, [], ◌∷◌, map, Option, Some, None, Ok, Err, refl, ap, sym, ◌∙◌, ◌++◌}
-use Rattle.std.specs.Prelude.{ℤ, pos, option_map, fold, if◌then◌else◌}
+use Rattle.std.proofs.Common.{◌≡◌, ℕ, Bool, true, false, not, ◌&&◌, cond, eqb, List, [], ◌∷◌, map, Option, Some, None, Ok, Err, refl, ap, ◌∙◌, ◌++◌}
+use Rattle.std.specs.Prelude.{ℤ, option_map, fold, if◌then◌else◌}
 use Rattle.sac_base.specs.declared.base.Base.{Base}
 use Rattle.sac_base.specs.declared.base.Base.TheVariants.{Int}
 use Rattle.sac_base.specs.declared.faults.FaultKind.TheVariants.{F6}
@@ -18,9 +18,9 @@ use Rattle.core_ir.specs.declared.tree.CoreOp.{CoreOp}
 use Rattle.core_ir.specs.declared.tree.CoreOp.TheVariants as making
 use Rattle.core_ir.specs.declared.tree.PartedOp.{PartedOp}
 use Rattle.core_ir.specs.declared.tree.PartedOp.TheVariants as parted
-use Rattle.core_ir.specs.Terms.{PlainTerm, BlockTerm, RightTerm, GensTerm, PartsTerm, GenHead, Gives, Bind, Plain, NoGens, Gen, NoParts, Part}
-use Rattle.core_ir.specs.Meaning.{Env, CallMeaning, missing, bind, bind_all, plain_value, checked, first, loop_value, one, made_of, neutral_fits, joined, extents, cell_form, cell_at, operation, with_index, run, right_value, generators, cells}
-use Rattle.core_ir.specs.Renaming.{Link, Agree, Linked, LinkedOption, under, under_all, RenamedPlain, RenamedCoreOp, RenamedPartedOp, RenamedGenHead, Renamed, RenamedRight, RenamedGens, RenamedParts}
+use Rattle.core_ir.specs.Terms.{PlainTerm, BlockTerm, RightTerm, GensTerm, PartsTerm, Gives, Bind, Plain, NoGens, Gen, NoParts, Part}
+use Rattle.core_ir.specs.Meaning.{Env, CallMeaning, bind, bind_all, plain_value, checked, first, loop_value, one, made_of, neutral_fits, joined, extents, cell_form, cell_at, operation, with_index, run, right_value, generators, cells}
+use Rattle.core_ir.specs.Renaming.{Link, Agree, Linked, LinkedOption, under, under_all, RenamedPlain, RenamedCoreOp, RenamedPartedOp, Renamed, RenamedRight, RenamedGens, RenamedParts}
 
 -- the two are linked below their binders
 pub under_here : (S : Link) (x y a b : Var) → eqb x.0 a.0 ≡ true → eqb y.0 b.0 ≡ true → under S x y a b ≡ true

@@ -1,6 +1,5 @@
 -- Bindings of one block put into another.
-use Rattle.std.proofs.Common.{◌≡◌, ℕ, Bool, true, false, cond, eqb, List, [], ◌∷◌, ◌++◌, Ok, Err, refl, sym, ap, ◌∙◌}
-use Rattle.sac_base.specs.declared.faults.Fault.{Fault}
+use Rattle.std.proofs.Common.{◌≡◌, ℕ, false, cond, eqb, List, [], ◌∷◌, ◌++◌, Ok, Err, refl, sym, ◌∙◌}
 use Rattle.sac_base.specs.declared.site.Site.{Site}
 use Rattle.sac_base.specs.Arrays.{ArrayValue}
 use Rattle.sac_base.specs.Outcomes.{Ends, and_then}
@@ -8,7 +7,7 @@ use Rattle.core_ir.specs.declared.tree.Var.{Var}
 use Rattle.core_ir.specs.Terms.{BlockTerm, LetTerm, Gives, Bind, Plain, Copy, chain}
 use Rattle.core_ir.specs.Meaning.{Env, CallMeaning, missing, bind, bind_all, run, right_value}
 use Rattle.core_ir.specs.Binders.{is_in}
-use Rattle.core_ir.specs.Uses.{Avoids, AvoidsEach, targets_of}
+use Rattle.core_ir.specs.Uses.{AvoidsEach, targets_of}
 use Rattle.core_ir.proofs.Variables.{or_false, in_neither}
 use Rattle.core_ir.proofs.Unused.{unused}
 

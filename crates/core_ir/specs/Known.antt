@@ -6,7 +6,7 @@ use Rattle.sac_base.specs.declared.site.Site.{Site}
 use Rattle.sac_base.specs.Arrays.{vector}
 use Rattle.sac_base.specs.Grids.{has_vector}
 use Rattle.core_ir.specs.declared.tree.Var.{Var}
-use Rattle.core_ir.specs.Terms.{BlockTerm, RightTerm, LetTerm, PartHead, Plain, With, Parted}
+use Rattle.core_ir.specs.Terms.{BlockTerm, RightTerm, LetTerm, Plain, With, Parted}
 use Rattle.core_ir.specs.Meaning.{Env, CallMeaning, run, right_value}
 use Rattle.core_ir.specs.Binders.{is_in}
 use Rattle.core_ir.specs.Scopes.{AllIn, Scoped, ScopedRight}
@@ -53,7 +53,8 @@ module _ (calls : CallMeaning) (turns : ℕ) where
   abbrev pub HoldPassed : List Var → List Passed → Env → Type 0
   HoldPassed scope [] e = Unit {0}
   HoldPassed scope (p ∷ ps) e =
-      ScopedRight p.own p.binding.right × AllIn p.own scope × AllIn p.binding.targets scope × (right_value calls turns p.binding.right p.binding.site e ≡ Ok (map e p.binding.targets)) × HoldPassed scope ps e
+      ScopedRight p.own p.binding.right × AllIn p.own scope × AllIn p.binding.targets scope
+      × (right_value calls turns p.binding.right p.binding.site e ≡ Ok (map e p.binding.targets)) × HoldPassed scope ps e
 
   -- the environment is as the bindings and parts say
   abbrev pub Holds : Known → Env → Type 0

@@ -3,9 +3,11 @@ pub mod Counts
 pub mod Edits
 pub mod Known
 pub mod Meaning
+pub mod OperandLists
 pub mod Outcome
 pub mod Renaming
 pub mod Scopes
+pub mod Statements
 pub mod Terms
 pub mod Uses
 pub mod View

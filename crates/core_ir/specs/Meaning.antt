@@ -158,7 +158,16 @@ name_count (x ∷ xs) = Some (length (x ∷ xs))
 -- a generator with its operands and its cells
 abbrev pub generator : GenHead → (List ℤ → Ends ArrayValue) → Env → Generator
 generator h cell e = record {
-  bounds = record { lower = option_map e h.lower; lower_closed = h.lower_closed; names = name_count h.names; upper = option_map e h.upper; upper_closed = h.upper_closed; step = option_map e h.step; width = option_map e h.width; site = h.site };
+  bounds = record {
+    lower = option_map e h.lower;
+    lower_closed = h.lower_closed;
+    names = name_count h.names;
+    upper = option_map e h.upper;
+    upper_closed = h.upper_closed;
+    step = option_map e h.step;
+    width = option_map e h.width;
+    site = h.site;
+  };
   cell = cell;
 }
 

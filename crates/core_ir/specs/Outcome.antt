@@ -153,4 +153,5 @@ SameFunctions _ _ = ⊥
 abbrev pub SameBodies : CoreTerm → CoreTerm → Type 0
 SameBodies a b =
     (turns : ℕ) (outer : RunMeaning) (nest place : ℕ) (args : List ArrayValue) (site : Site) →
-    body_of turns (call_by a outer (run_inline a turns outer nest)) (slice_get a.functions place) args site ≡ body_of turns (call_by a outer (run_inline a turns outer nest)) (slice_get b.functions place) args site
+    body_of turns (call_by a outer (run_inline a turns outer nest)) (slice_get a.functions place) args site
+    ≡ body_of turns (call_by a outer (run_inline a turns outer nest)) (slice_get b.functions place) args site

@@ -51,7 +51,9 @@ RenamedPlain S (PlainTerm.Check x t) (PlainTerm.Check y u) = (t ≡ u) × (S x y
 RenamedPlain S _ _ = ⊥
 
 abbrev pub RenamedGenHead : Link → GenHead → GenHead → Type 0
-RenamedGenHead S h g = (h.lower_closed ≡ g.lower_closed) × (h.upper_closed ≡ g.upper_closed) × (h.site ≡ g.site) × (name_count h.names ≡ name_count g.names) × LinkedOption S h.lower g.lower × LinkedOption S h.upper g.upper × LinkedOption S h.step g.step × LinkedOption S h.width g.width
+RenamedGenHead S h g =
+    (h.lower_closed ≡ g.lower_closed) × (h.upper_closed ≡ g.upper_closed) × (h.site ≡ g.site) × (name_count h.names ≡ name_count g.names)
+    × LinkedOption S h.lower g.lower × LinkedOption S h.upper g.upper × LinkedOption S h.step g.step × LinkedOption S h.width g.width
 
 abbrev pub RenamedCoreOp : Link → CoreOp → CoreOp → Type 0
 RenamedCoreOp S (making.Genarray x x') (making.Genarray y y') = (S x y ≡ true) × (S x' y' ≡ true)

@@ -41,6 +41,15 @@ parted_uses (parted.Fold op x) = x ∷ []
 abbrev pub head_uses : GenHead → List Var
 head_uses h = option_to_list h.lower ++ (option_to_list h.upper ++ (option_to_list h.step ++ option_to_list h.width))
 
+-- the variables that a right side uses itself, those that only its blocks use left out
+abbrev pub right_uses : RightTerm → List Var
+right_uses (Plain p) = plain_uses p
+right_uses (RightTerm.If x a b) = x ∷ []
+right_uses (RightTerm.Loop first start params test body s) = start
+right_uses (RightTerm.Call g xs) = xs
+right_uses (RightTerm.With op gens) = op_uses op
+right_uses (RightTerm.Parted f b c op parts) = parted_uses op
+
 abbrev mutual
   pub Scoped : List Var → BlockTerm → Type 0
   Scoped scope (Gives xs) = AllIn xs scope

@@ -47,7 +47,17 @@ abbrev mutual
   pub gens_term : {n : _} → Row_of-CoreGen n → GensTerm
   gens_term end_of-CoreGen = NoGens
   gens_term (more_of-CoreGen (CoreGen' lower lower_closed upper upper_closed step width index names body site) rest) =
-      Gen (record { lower = lower; lower_closed = lower_closed; upper = upper; upper_closed = upper_closed; step = step; width = width; index = index; names = names.items; site = site }) (block_term body) (gens_term rest)
+      Gen (record {
+        lower = lower;
+        lower_closed = lower_closed;
+        upper = upper;
+        upper_closed = upper_closed;
+        step = step;
+        width = width;
+        index = index;
+        names = names.items;
+        site = site;
+      }) (block_term body) (gens_term rest)
 
   pub parted_term : PartedLoop → RightTerm
   parted_term (PartedLoop' frame base cell op shape parts) = RightTerm.Parted frame base cell op (parts_term parts)
@@ -62,13 +72,34 @@ let_term l = record { targets = l.targets.items; site = l.site; right = right_te
 
 abbrev pub gen_term : CoreGen → GenTerm
 gen_term (CoreGen' lower lower_closed upper upper_closed step width index names body site) =
-    record { head = record { lower = lower; lower_closed = lower_closed; upper = upper; upper_closed = upper_closed; step = step; width = width; index = index; names = names.items; site = site }; body = block_term body }
+    record {
+      head = record {
+        lower = lower;
+        lower_closed = lower_closed;
+        upper = upper;
+        upper_closed = upper_closed;
+        step = step;
+        width = width;
+        index = index;
+        names = names.items;
+        site = site;
+      };
+      body = block_term body;
+    }
 
 abbrev pub part_term : CorePart → PartTerm
 part_term (CorePart' grid index body site) = record { head = record { grid = grid; index = index; site = site }; body = block_term body }
 
 abbrev pub fun_term : CoreFun → FunTerm
-fun_term f = record { name = f.name; site = f.site; params = f.params.items; results = f.results.items; is_inline = f.inline; body = block_term f.body; ends = f.ends }
+fun_term f = record {
+  name = f.name;
+  site = f.site;
+  params = f.params.items;
+  results = f.results.items;
+  is_inline = f.inline;
+  body = block_term f.body;
+  ends = f.ends;
+}
 
 abbrev pub core_term : Core → CoreTerm
 core_term c = record { functions = map fun_term c.functions.items; groups = map (λ g. g.items) c.groups.items; main = c.main }

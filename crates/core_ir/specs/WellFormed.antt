@@ -7,7 +7,7 @@ use Rattle.sac_base.specs.declared.grid.Grid1.{Grid1}
 use Rattle.sac_base.specs.declared.op.Op.{Op}
 use Rattle.sac_base.specs.declared.op.Op.TheVariants as op
 use Rattle.sac_base.specs.declared.types.ArrayType.{ArrayType}
-use Rattle.sac_base.specs.Arrays.{ArrayValue, IsArray, IsWellTyped, size, MOST}
+use Rattle.sac_base.specs.Arrays.{IsArray, IsWellTyped, size, MOST}
 use Rattle.sac_base.specs.Grids.{has_vector, AreDisjoint}
 use Rattle.sac_base.specs.Shapes.{IsExtent, IsShape}
 use Rattle.sac_base.specs.Types.{compatible}
@@ -153,7 +153,8 @@ module _ (core : CoreTerm) where
   -- some instance of the group takes and gives these bases
   abbrev pub GroupBases : ℕ → List Base → List Base → Type 0
   GroupBases group takes gives =
-      (places : List ℕ) × ((place : ℕ) × ((f : FunTerm) × ((slice_get core.groups group ≡ Some places) × Contains places place × (slice_get core.functions place ≡ Some f) × (bases (param_types f) ≡ takes) × (bases f.results ≡ gives))))
+      (places : List ℕ) × ((place : ℕ) × ((f : FunTerm) × (
+      (slice_get core.groups group ≡ Some places) × Contains places place × (slice_get core.functions place ≡ Some f) × (bases (param_types f) ≡ takes) × (bases f.results ≡ gives))))
 
   -- counts and bases agree
   abbrev mutual
@@ -174,7 +175,8 @@ module _ (core : CoreTerm) where
     pub GensBases : Bases → GensTerm → Base → Type 0
     GensBases g NoGens t = Unit {0}
     GensBases g (Gen h b rest) t =
-        OptionHas g h.lower Int × OptionHas g h.upper Int × OptionHas g h.step Int × OptionHas g h.width Int × BlockBases (ints (h.index ∷ h.names) ++ g) b (t ∷ []) × GensBases g rest t
+        OptionHas g h.lower Int × OptionHas g h.upper Int × OptionHas g h.step Int × OptionHas g h.width Int
+        × BlockBases (ints (h.index ∷ h.names) ++ g) b (t ∷ []) × GensBases g rest t
 
     pub PartsBases : Bases → PartsTerm → Base → Type 0
     PartsBases g NoParts t = Unit {0}

@@ -4,6 +4,7 @@
 mod copy;
 mod count;
 mod laws;
+mod operands;
 mod tree;
 
 pub use copy::{copy_block, copy_core, copy_function};
@@ -11,10 +12,8 @@ pub use count::nodes;
 pub use laws::{
     coincidence, function_by_function, renaming, replacing_one_place, splicing, unused_variable,
 };
+pub use operands::Operands;
 pub use tree::{
     Block, Core, CoreFun, CoreGen, CoreOp, CorePart, Let, PartedLoop, PartedOp, Right, Var,
     WithLoop,
 };
-
-#[cfg(test)]
-mod tests;

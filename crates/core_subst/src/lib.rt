@@ -8,6 +8,3 @@ mod unbound;
 pub use greatest::fresh;
 pub use replace::substitute;
 pub use unbound::free;
-
-#[cfg(test)]
-mod tests;

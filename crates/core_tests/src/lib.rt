@@ -1,7 +1,13 @@
-//! Tests of the cores that programs become, by a text with a line for each binding.
+//! Tests of the core, of its passes, and of sets of indices.
 #![tactic(auto)]
 
 #[cfg(test)]
-mod cores;
+mod counting;
 #[cfg(test)]
-mod text;
+mod generators;
+#[cfg(test)]
+mod grids;
+#[cfg(test)]
+mod substitution;
+#[cfg(test)]
+mod trees;

@@ -1,4 +1,14 @@
 -- Which counted code is well counted.
+--
+-- An example of two results that begins with the references of a and c. To the right are those that are there before each step:
+--     x, y = if c                  a c      each branch ends `mine`, which is a, and `after`, which is c, stays
+--       then  keep a               a
+--             gives a, a           a a      each result takes one
+--       else  d = dim a            a        only reads a: `mine` is empty
+--             release a; keep d    d a      the first leaves d, the second d d
+--             gives d, d           d d
+--     release c                    x y c
+--     gives x, y                   x y
 use Rattle.std.specs.Prelude.{◌≡◌, ℕ, true, false, List, [], ◌∷◌, ◌++◌, length, Option, Some, None, option_to_list, slice_get}
 use Rattle.core_ir.specs.declared.tree.Var.{Var}
 use Rattle.core_ir.specs.Terms.{PlainTerm, FunTerm, CoreTerm}

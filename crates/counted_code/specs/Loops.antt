@@ -36,8 +36,8 @@ pub record Job : Type 0 where
 
 -- a cell that has the form is stored or combined, and its reference is released
 abbrev pub stored : Form → Site → Value → Doing (Option ArrayValue)
-stored form site v h =
-    if fits_form form (read h v) then Done (Some (read h v)) (release v h) else fails F6 site h
+stored form site v heap =
+    if fits_form form (read heap v) then Done (Some (read heap v)) (release v heap) else fails F6 site heap
 
 abbrev pub cell_does : Form → Option Source → Doing (Option ArrayValue)
 cell_does form None = give None
@@ -49,9 +49,9 @@ Writing = ℕ → Option ArrayValue → Heap → Heap
 
 -- the cells of these indices one after another
 abbrev pub cells_do : Form → (List ℤ → Option Source) → Writing → ℕ → List (List ℤ) → Doing (List (Option ArrayValue))
-cells_do form source writing k [] = give []
-cells_do form source writing k (v ∷ vs) =
-    then_go (cell_does form (source v)) (λ c h. then_go (cells_do form source writing (suc k) vs) (λ cs. give (c ∷ cs)) (writing k c h))
+cells_do form source writing place [] = give []
+cells_do form source writing place (v ∷ vs) =
+    then_go (cell_does form (source v)) (λ c heap. then_go (cells_do form source writing (suc place) vs) (λ cs. give (c ∷ cs)) (writing place c heap))
 
 -- ---- the result's buffer
 
@@ -68,58 +68,59 @@ pub record Claimed : Type 0 where
   pub heap : Heap
 
 abbrev pub claim_new : ℕ → Option Value → Heap → Claimed
-claim_new n rest h = record { target = Fresh (length h.buffers); rest = rest; heap = take_buffer (replicate n (pos 0)) h }
+claim_new n rest heap = record { target = Fresh (length heap.buffers); rest = rest; heap = take_buffer (replicate n (pos 0)) heap }
 
 -- the marked variable's buffer, where its reference is the only one
 abbrev pub claim_old : Bool → ℕ → Value → ℕ → Heap → Claimed
-claim_old true b v n h = record { target = Old b; rest = None; heap = record h { reused = h.reused + 1 } }
-claim_old false b v n h = claim_new n (Some v) h
+claim_old true buffer v n heap = record { target = Old buffer; rest = None; heap = record heap { reused = heap.reused + 1 } }
+claim_old false buffer v n heap = claim_new n (Some v) heap
 
 -- a buffer of so many elements, where the result is no small one
 abbrev pub claim : Bool → Option Value → ℕ → Heap → Claimed
-claim true mark n h = record { target = Inside; rest = mark; heap = h }
-claim false None n h = claim_new n None h
-claim false (Some (Small a)) n h = claim_new n (Some (Small a)) h
-claim false (Some (Ref b base shape)) n h = claim_old (count_of h b == 1) b (Ref b base shape) n h
+claim true mark n heap = record { target = Inside; rest = mark; heap = heap }
+claim false None n heap = claim_new n None heap
+claim false (Some (Small a)) n heap = claim_new n (Some (Small a)) heap
+claim false (Some (Ref buffer base shape)) n heap = claim_old (count_of heap buffer == 1) buffer (Ref buffer base shape) n heap
 
 abbrev pub written_at : ℕ → List ℤ → List ℤ → List ℤ
 written_at start new cells = take start cells ++ (new ++ drop (start + length new) cells)
 
 -- each cell is written at its place into the old buffer, where the next cells read what stands there now; a new buffer is read by no cell
 abbrev pub write_cell : Target → Writing
-write_cell (Old b) k (Some c) h = with_cells h b (written_at (k * length c.cells) c.cells (cells_of h b))
-write_cell _ k c h = h
+write_cell (Old buffer) place (Some c) heap = with_cells heap buffer (written_at (place * length c.cells) c.cells (cells_of heap buffer))
+write_cell _ place c heap = heap
 
 abbrev pub release_rest : Option Value → Heap → Heap
-release_rest None h = h
-release_rest (Some v) h = release v h
+release_rest None heap = heap
+release_rest (Some v) heap = release v heap
 
 -- the result as a value
 abbrev pub settled : Target → ArrayValue → Heap → Ended Value
-settled Inside r h = Done (Small r) h
-settled (Fresh b) r h = Done (Ref b r.base r.shape) (with_cells h b r.cells)
-settled (Old b) r h = Done (Ref b r.base r.shape) (with_cells h b r.cells)
+settled Inside r heap = Done (Small r) heap
+settled (Fresh buffer) r heap = Done (Ref buffer r.base r.shape) (with_cells heap buffer r.cells)
+settled (Old buffer) r heap = Done (Ref buffer r.base r.shape) (with_cells heap buffer r.cells)
 
 -- a phase is counted, with its positions, where the loop is a fold or has a buffer as result
 abbrev pub count_phase : Bool → ℕ → Heap → Heap
-count_phase false n h = h
-count_phase true n h = record h { phases = h.phases ++ n ∷ [] }
+count_phase false n heap = heap
+count_phase true n heap = record heap { phases = heap.phases ++ n ∷ [] }
 
 -- ---- loops
 
 -- its buffer is claimed, its cells are run in row-major order, and its result is handed on
 abbrev pub claimed_does : Job → Claimed → Ended Value
 claimed_does j c =
-    then_go (cells_do j.form j.source (write_cell c.target) 0 j.indices) (λ found h. then_go (settled c.target (j.result found)) (λ v k. Done v (release_rest c.rest k)) h) c.heap
+    then_go (cells_do j.form j.source (write_cell c.target) 0 j.indices)
+    (λ found heap. then_go (settled c.target (j.result found)) (λ v after. Done v (release_rest c.rest after)) heap) c.heap
 
 abbrev pub job_does : Option Value → Job → Doing Value
-job_does mark j h =
+job_does mark j heap =
     let small = is_small j.shape in
-    claimed_does j (claim small mark (size j.shape) (count_phase (j.folds || not small) (length j.indices) h))
+    claimed_does j (claim small mark (size j.shape) (count_phase (j.folds || not small) (length j.indices) heap))
 
 -- the checks, and then what they have planned
 abbrev pub loop_does : (Heap → Ends Job) → Option Value → Doing Value
-loop_does checks mark h = then_go (pure_end (checks h)) (job_does mark) h
+loop_does checks mark heap = then_go (pure_end (checks heap)) (job_does mark) heap
 
 -- ---- with-loops
 
@@ -167,5 +168,12 @@ parted_shape frame cell _ = extents frame ++ cell
 abbrev pub parted_job : List Grid1 → Base → List ℕ → PartedOp → List CodeCells → Site → Env → Ends Job
 parted_job frame base cell op parts site e =
     if neutral_fits (cell_form base cell) op e
-    then Ok (record { form = record { base = base; shape = cell }; shape = parted_shape frame cell op; folds = parted_folds op; indices = members frame; source = part_holder parts; result = made_of frame base cell op e })
+    then Ok (record {
+      form = record { base = base; shape = cell };
+      shape = parted_shape frame cell op;
+      folds = parted_folds op;
+      indices = members frame;
+      source = part_holder parts;
+      result = made_of frame base cell op e;
+    })
     else fault F6 site

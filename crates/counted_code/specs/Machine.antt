@@ -42,7 +42,7 @@ bind_values e (x ∷ xs) (v ∷ vs) = bind_values (bind_value e x v) xs vs
 
 -- the arrays of the variables in a heap
 abbrev pub reads : Heap → Values → Env
-reads h e x = read h (e x)
+reads heap e x = read heap (e x)
 
 -- the only value
 abbrev pub one_value : Doing Value → Doing (List Value)
@@ -60,15 +60,15 @@ first_value m = then_go m (λ vs. give (first_of vs))
 
 -- a copy and a check hand their reference on; all else reads, and its result is placed
 abbrev pub plain_does : PlainTerm → Site → Values → Doing Value
-plain_does (PlainTerm.Copy x) s e h = Done (e x) h
-plain_does (PlainTerm.Check x t) s e h = then_go (pure_end (at_site s (checked t (reads h e x)))) (λ a. give (e x)) h
-plain_does p s e h = then_go (pure_end (at_site s (plain_value p (reads h e)))) place_value h
+plain_does (PlainTerm.Copy x) s e heap = Done (e x) heap
+plain_does (PlainTerm.Check x t) s e heap = then_go (pure_end (at_site s (checked t (reads heap e x)))) (λ a. give (e x)) heap
+plain_does p s e heap = then_go (pure_end (at_site s (plain_value p (reads heap e)))) place_value heap
 
 -- ---- loops
 
 -- goes on by the value of a loop's test, which is read and released
 abbrev pub tested : Site → Value → Doing (List Value) → Doing (List Value) → Doing (List Value)
-tested site c more done h = choose_does site (condition (read h c)) more done (release c h)
+tested site c more done heap = choose_does site (condition (read heap c)) more done (release c heap)
 
 -- A loop that may make so many turns more. Its test is tried before each of them.
 abbrev pub repeat_does : ℕ → Site → Site → (List Value → Doing Value) → (List Value → Doing (List Value)) → List Value → Doing (List Value)
@@ -98,27 +98,28 @@ with_index_value e head index =
 module _ (calls : DoesCalls) (turns : ℕ) where
   abbrev mutual
     pub does : CodeTerm → Values → Doing (List Value)
-    does (Giving xs) e h = Done (map e xs) h
-    does (Binding xs s r b) e h = then_go (right_does r s e) (λ vs. does b (bind_values e xs vs)) h
-    does (Keeping x b) e h = does b e (keep (e x) h)
-    does (Releasing x b) e h = does b e (release (e x) h)
+    does (Giving xs) e heap = Done (map e xs) heap
+    does (Binding xs s r b) e heap = then_go (right_does r s e) (λ vs. does b (bind_values e xs vs)) heap
+    does (Keeping x b) e heap = does b e (keep (e x) heap)
+    does (Releasing x b) e heap = does b e (release (e x) heap)
 
     pub right_does : CodeRightTerm → Site → Values → Doing (List Value)
-    right_does (PlainCode p) s e h = one_value (plain_does p s e) h
-    right_does (IfCode x a b) s e h = choose_does s (condition (read h (e x))) (does a e) (does b e) h
-    right_does (LoopCode first_body start params test body test_site) s e h =
-        turns_do first_body turns s test_site (λ vs. first_value (does test (bind_values e params vs))) (λ vs. does body (bind_values e params vs)) (map e start) h
-    right_does (CallCode group xs) s e h = calls group (map e xs) s h
-    right_does (WithCode op gens) s e h =
-        one_value (loop_does (λ k. with_job (code_generators gens e k) (operation op s (reads k e))) None) h
-    right_does (PartedCode frame base cell op parts reuse) s e h =
-        one_value (loop_does (λ k. parted_job frame base cell op (code_cells parts e) s (reads k e)) (option_map e reuse)) h
+    right_does (PlainCode p) s e heap = one_value (plain_does p s e) heap
+    right_does (IfCode x a b) s e heap = choose_does s (condition (read heap (e x))) (does a e) (does b e) heap
+    right_does (LoopCode first_body start params test body test_site) s e heap =
+        turns_do first_body turns s test_site (λ vs. first_value (does test (bind_values e params vs)))
+        (λ vs. does body (bind_values e params vs)) (map e start) heap
+    right_does (CallCode group xs) s e heap = calls group (map e xs) s heap
+    right_does (WithCode op gens) s e heap =
+        one_value (loop_does (λ before. with_job (code_generators gens e before) (operation op s (reads before e))) None) heap
+    right_does (PartedCode frame base cell op parts reuse) s e heap =
+        one_value (loop_does (λ before. parted_job frame base cell op (code_cells parts e) s (reads before e)) (option_map e reuse)) heap
 
     -- the generators, with the operands that they have in a heap
     pub code_generators : CodeGensTerm → Values → Heap → List CodeGenerator
-    code_generators NoCodeGens e k = []
-    code_generators (GenCode g b rest) e k =
-        record { bounds = bounds_of g (reads k e); cell = λ index. first_value (does b (with_index_value e g index)) } ∷ code_generators rest e k
+    code_generators NoCodeGens e heap = []
+    code_generators (GenCode g b rest) e heap =
+        record { bounds = bounds_of g (reads heap e); cell = λ index. first_value (does b (with_index_value e g index)) } ∷ code_generators rest e heap
 
     pub code_cells : CodePartsTerm → Values → List CodeCells
     code_cells NoCodeParts e = []

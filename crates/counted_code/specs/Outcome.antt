@@ -27,7 +27,7 @@ abbrev pub DoesRun : Type 0
 DoesRun = ℕ → List Value → Site → Doing (List Value)
 
 abbrev pub results_do : List ArrayType → Site → List Value → Doing (List Value)
-results_do types site vs h = if all_have types (map (read h) vs) then Done vs h else fails F7 site h
+results_do types site vs heap = if all_have types (map (read heap) vs) then Done vs heap else fails F7 site heap
 
 -- a function on values, where `calls` is what the calls in it do
 abbrev pub function_does : ℕ → DoesCalls → CodeFunTerm → List Value → Doing (List Value)
@@ -49,8 +49,8 @@ module _ (code : CodeProgram) where
 
   -- a call takes the instance that it takes in the core; `outer` runs one that is not inline, and `inner` one that is
   abbrev pub call_does : DoesRun → DoesRun → DoesCalls
-  call_does outer inner group vs site h =
-      chosen_does outer inner (chosen (core_of_code code) group (map (read h) vs)) vs site h
+  call_does outer inner group vs site heap =
+      chosen_does outer inner (chosen (core_of_code code) group (map (read heap) vs)) vs site heap
 
   module _ (turns : ℕ) where
     -- an inline function runs at its caller's depth
@@ -73,7 +73,7 @@ module _ (code : CodeProgram) where
 
 -- main's results are copied out and released
 abbrev pub copied_out : List Value → Doing (List ArrayValue)
-copied_out vs h = Done (map (read h) vs) (release_all vs h)
+copied_out vs heap = Done (map (read heap) vs) (release_all vs heap)
 
 -- the arguments are placed, and handed on to main
 abbrev pub main_does : ℕ → DoesCalls → Option CodeFunTerm → List ArrayValue → Doing (List ArrayValue)
@@ -90,15 +90,15 @@ whole_run code args caps =
 
 -- its outcome
 abbrev pub outcome_of : Ended (List ArrayValue) → Answer
-outcome_of (Done ws h) = Ok ws
+outcome_of (Done ws heap) = Ok ws
 outcome_of (Failed f phases) = Err f
 
 -- its cost; a run that ends with a fault costs its phases alone
 abbrev pub cost_of : Ended (List ArrayValue) → Cost
-cost_of (Done ws h) = record { taken = h.taken % 2 ^ 64; given = h.given % 2 ^ 64; reused = h.reused % 2 ^ 64; phases = length h.phases % 2 ^ 64 }
+cost_of (Done ws heap) = record { taken = heap.taken % 2 ^ 64; given = heap.given % 2 ^ 64; reused = heap.reused % 2 ^ 64; phases = length heap.phases % 2 ^ 64 }
 cost_of (Failed f phases) = record { taken = 0; given = 0; reused = 0; phases = length phases % 2 ^ 64 }
 
 -- the numbers of positions of its phases
 abbrev pub phases_of : Ended (List ArrayValue) → List ℕ
-phases_of (Done ws h) = h.phases
+phases_of (Done ws heap) = heap.phases
 phases_of (Failed f phases) = phases

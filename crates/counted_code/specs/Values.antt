@@ -41,53 +41,53 @@ is_small (n ∷ []) = nat_le n 8
 is_small (m ∷ (n ∷ ns)) = false
 
 abbrev pub buffer_at : Heap → ℕ → Buffer
-buffer_at h b = slice_index_or h.buffers b no_buffer
+buffer_at heap buffer = slice_index_or heap.buffers buffer no_buffer
 
 abbrev pub count_of : Heap → ℕ → ℕ
-count_of h b = (buffer_at h b).count
+count_of heap buffer = (buffer_at heap buffer).count
 
 abbrev pub cells_of : Heap → ℕ → List ℤ
-cells_of h b = (buffer_at h b).cells
+cells_of heap buffer = (buffer_at heap buffer).cells
 
 -- the array that a value is in a heap
 abbrev pub read : Heap → Value → ArrayValue
-read h (Small a) = a
-read h (Ref b base shape) = record { base = base; shape = shape; cells = cells_of h b }
+read heap (Small a) = a
+read heap (Ref buffer base shape) = record { base = base; shape = shape; cells = cells_of heap buffer }
 
 -- ---- changes of the heap
 
 abbrev pub with_buffer : Heap → ℕ → Buffer → Heap
-with_buffer h b x = record h { buffers = slice_set h.buffers b x }
+with_buffer heap buffer x = record heap { buffers = slice_set heap.buffers buffer x }
 
 abbrev pub with_count : Heap → ℕ → ℕ → Heap
-with_count h b n = with_buffer h b (record { count = n; cells = cells_of h b })
+with_count heap buffer n = with_buffer heap buffer (record { count = n; cells = cells_of heap buffer })
 
 abbrev pub with_cells : Heap → ℕ → List ℤ → Heap
-with_cells h b xs = with_buffer h b (record { count = count_of h b; cells = xs })
+with_cells heap buffer xs = with_buffer heap buffer (record { count = count_of heap buffer; cells = xs })
 
 -- one reference more
 abbrev pub keep : Value → Heap → Heap
-keep (Small a) h = h
-keep (Ref b base shape) h = with_count h b (count_of h b + 1)
+keep (Small a) heap = heap
+keep (Ref buffer base shape) heap = with_count heap buffer (count_of heap buffer + 1)
 
 -- a buffer with so many references loses one; with its last reference it is given back, and its cells are gone
 abbrev pub release_count : ℕ → ℕ → Heap → Heap
-release_count b zero h = h
-release_count b (suc zero) h = record (with_buffer h b no_buffer) { given = h.given + 1 }
-release_count b (suc (suc n)) h = with_count h b (suc n)
+release_count buffer zero heap = heap
+release_count buffer (suc zero) heap = record (with_buffer heap buffer no_buffer) { given = heap.given + 1 }
+release_count buffer (suc (suc n)) heap = with_count heap buffer (suc n)
 
 -- one reference less
 abbrev pub release : Value → Heap → Heap
-release (Small a) h = h
-release (Ref b base shape) h = release_count b (count_of h b) h
+release (Small a) heap = heap
+release (Ref buffer base shape) heap = release_count buffer (count_of heap buffer) heap
 
 abbrev pub release_all : List Value → Heap → Heap
-release_all [] h = h
-release_all (v ∷ vs) h = release_all vs (release v h)
+release_all [] heap = heap
+release_all (v ∷ vs) heap = release_all vs (release v heap)
 
 -- a new buffer with one reference
 abbrev pub take_buffer : List ℤ → Heap → Heap
-take_buffer xs h = record h { buffers = h.buffers ++ record { count = 1; cells = xs } ∷ []; taken = h.taken + 1 }
+take_buffer xs heap = record heap { buffers = heap.buffers ++ record { count = 1; cells = xs } ∷ []; taken = heap.taken + 1 }
 
 -- ---- what is done to a heap
 
@@ -100,23 +100,23 @@ abbrev pub Doing : Type 0 → Type 0
 Doing A = Heap → Ended A
 
 abbrev pub give : {A : Type 0} → A → Doing A
-give a h = Done a h
+give a heap = Done a heap
 
 abbrev pub go_on : {A B : Type 0} → Ended A → (A → Doing B) → Ended B
-go_on (Done a h) next = next a h
+go_on (Done a heap) next = next a heap
 go_on (Failed f phases) next = Failed f phases
 
 -- one after another, up to the first fault
 abbrev pub then_go : {A B : Type 0} → Doing A → (A → Doing B) → Doing B
-then_go first next h = go_on (first h) next
+then_go first next heap = go_on (first heap) next
 
 -- a value or a fault that changes nothing
 abbrev pub pure_end : {A : Type 0} → Ends A → Doing A
-pure_end (Ok a) h = Done a h
-pure_end (Err f) h = Failed f h.phases
+pure_end (Ok a) heap = Done a heap
+pure_end (Err f) heap = Failed f heap.phases
 
 abbrev pub fails : {A : Type 0} → FaultKind → Site → Doing A
-fails kind site h = Failed (record { kind = kind; site = site }) h.phases
+fails kind site heap = Failed (record { kind = kind; site = site }) heap.phases
 
 -- goes on by what a condition says
 abbrev pub choose_does : {A : Type 0} → Site → Option Bool → Doing A → Doing A → Doing A
@@ -125,17 +125,17 @@ choose_does site (Some true) first second = first
 choose_does site (Some false) first second = second
 
 abbrev pub phases_as : {A : Type 0} → List ℕ → Ended A → Ended A
-phases_as n (Done a h) = Done a (record h { phases = n })
+phases_as n (Done a heap) = Done a (record heap { phases = n })
 phases_as n (Failed f m) = Failed f n
 
 -- the same, but with-loops within it are no phases
 abbrev pub apart : {A : Type 0} → Doing A → Doing A
-apart m h = phases_as h.phases (m h)
+apart m heap = phases_as heap.phases (m heap)
 
 -- an array as a value of its own: small, or in a new buffer
 abbrev pub place_as : Bool → ArrayValue → Doing Value
-place_as true a h = Done (Small a) h
-place_as false a h = Done (Ref (length h.buffers) a.base a.shape) (take_buffer a.cells h)
+place_as true a heap = Done (Small a) heap
+place_as false a heap = Done (Ref (length heap.buffers) a.base a.shape) (take_buffer a.cells heap)
 
 abbrev pub place_value : ArrayValue → Doing Value
 place_value a = place_as (is_small a.shape) a

@@ -49,7 +49,17 @@ abbrev mutual
   pub code_gens_term : {n : _} → Row_of-CodeGen n → CodeGensTerm
   code_gens_term end_of-CodeGen = NoCodeGens
   code_gens_term (more_of-CodeGen lower lower_closed upper upper_closed step width index names shape body results site rest) =
-      GenCode (record { lower = lower; lower_closed = lower_closed; upper = upper; upper_closed = upper_closed; step = step; width = width; index = index; names = names.items; site = site }) (steps_term body results.items) (code_gens_term rest)
+      GenCode (record {
+        lower = lower;
+        lower_closed = lower_closed;
+        upper = upper;
+        upper_closed = upper_closed;
+        step = step;
+        width = width;
+        index = index;
+        names = names.items;
+        site = site;
+      }) (steps_term body results.items) (code_gens_term rest)
 
   pub code_parted_term : CodeParted → CodeRightTerm
   code_parted_term (CodeParted' frame base cell op shape parts reuse) = PartedCode frame base cell op (code_parts_term parts) reuse
@@ -67,7 +77,15 @@ abbrev pub code_term : CodeBlock → CodeTerm
 code_term b = steps_before b.steps.items (Giving b.results.items)
 
 abbrev pub code_fun_term : CodeFun → CodeFunTerm
-code_fun_term f = record { name = f.name; site = f.site; params = f.params.items; results = f.results.items; is_inline = f.inline; body = code_term f.body; ends = f.ends }
+code_fun_term f = record {
+  name = f.name;
+  site = f.site;
+  params = f.params.items;
+  results = f.results.items;
+  is_inline = f.inline;
+  body = code_term f.body;
+  ends = f.ends;
+}
 
 abbrev pub code_program : Code → CodeProgram
 code_program c = record { functions = map code_fun_term c.functions.items; groups = map (λ g. g.items) c.groups.items; main = c.main }

@@ -9,3 +9,4 @@ pub mod Printed
 pub mod Generated
 pub mod Spelled
 pub mod Typed
+pub mod Codes

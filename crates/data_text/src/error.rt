@@ -1,3 +1,6 @@
+ghost use Rattle.std.specs.Prelude.{◌≡◌};
+ghost use Rattle.data_text.specs.Codes.{data_code};
+
 use sac_base::Memory;
 use std::alloc::AllocFailed;
 use thiserror::Error;
@@ -17,6 +20,22 @@ pub enum DataCode {
     I5,
     /// There are more than 8 extents, or more than 16,777,216 elements.
     I6,
+}
+
+impl DataCode {
+    /// The code that stands for this refusal in the output.
+    pub fn code(self) -> &'static str
+        ensures { result.now ≡ data_code self }
+    {
+        match self {
+            DataCode::I1 => "I1",
+            DataCode::I2 => "I2",
+            DataCode::I3 => "I3",
+            DataCode::I4 => "I4",
+            DataCode::I5 => "I5",
+            DataCode::I6 => "I6",
+        }
+    }
 }
 
 /// Why there are no arrays.

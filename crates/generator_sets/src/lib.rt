@@ -19,6 +19,3 @@ pub use laws::{canonical_count, pieces_of_a_set};
 pub use moving::shift;
 pub use parts::{Parts, partition};
 pub use sets::{meet, minus};
-
-#[cfg(test)]
-mod tests;

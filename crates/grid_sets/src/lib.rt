@@ -16,6 +16,3 @@ pub use laws::{axis_count, common_period};
 pub use pair::{GridError, is_too_fine, meet1, minus1};
 pub use period::{COARSEST, FINEST};
 pub use segment::Segment;
-
-#[cfg(test)]
-mod tests;

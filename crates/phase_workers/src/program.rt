@@ -8,7 +8,7 @@ ghost use Rattle.phase_workers.specs.Calls.{IsRun};
 ghost use Rattle.run_eval.specs.Outcomes.{new_heap, IsCleared, HasCounters, KeepsChanges, TellsCost, TellsTally};
 ghost use Rattle.run_eval.specs.Running.{array_job, fold_job, fold_parts_job, parts_job};
 ghost use Rattle.array_with_loops.specs.Plans.{plan_of};
-ghost use Rattle.array_with_loops.specs.Tells.{TellsItems};
+ghost use Rattle.array_ops.specs.Tells.{TellsItems};
 
 use crate::calls::LoopCalls;
 use crate::folds::fold_outside;

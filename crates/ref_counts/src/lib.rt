@@ -10,6 +10,3 @@ mod steps;
 mod uses;
 
 pub use functions::count_refs;
-
-#[cfg(test)]
-mod tests;

@@ -22,7 +22,7 @@ use Rattle.counted_code.specs.Values.{Buffer, Heap, Value, Small, Ref, Ended, Do
 use Rattle.counted_code.specs.View.{code_program, code_fun_term}
 use Rattle.sac_base.specs.declared.stop.Stop.{Stop}
 use Rattle.sac_base.specs.declared.stop.Stop.TheVariants.{Faulted, Memory}
-use Rattle.array_with_loops.specs.Tells.{TellsItems}
+use Rattle.array_ops.specs.Tells.{TellsItems}
 use Rattle.run_store.specs.Stands.{Placed, Stands, lender_of}
 use Rattle.run_store.specs.declared.store.Store.{Store}
 use Rattle.run_store.proofs.Ends.{new_stands, taken_stands, reused_stands}

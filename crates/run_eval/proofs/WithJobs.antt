@@ -13,7 +13,7 @@ use Rattle.counted_code.specs.Loops.{CodeGenerator, Job, claim, count_phase, hol
 use Rattle.counted_code.specs.Machine.{Values, bounds_of, one_value, reads}
 use Rattle.counted_code.specs.Values.{Heap, go_on, give, is_small, pure_end}
 use Rattle.array_with_loops.specs.Cells.{array_from}
-use Rattle.array_with_loops.specs.Tells.{TellsStop}
+use Rattle.array_ops.specs.Tells.{TellsStop}
 use Rattle.sac_base.specs.declared.stop.Stop.{Stop}
 use Rattle.sac_base.specs.declared.stop.Stop.TheVariants.{Faulted, Memory}
 use Rattle.array_with_loops.proofs.CellSteps.{genarray_finish, modarray_finish}

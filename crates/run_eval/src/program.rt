@@ -9,7 +9,7 @@ ghost use Rattle.run_eval.specs.Outcomes.{new_heap, main_in, AreArrays, ArePlace
 ghost use Rattle.run_eval.specs.Running.{IsAt, Told};
 ghost use Rattle.run_store.specs.Stands.{Stands, lender_of};
 ghost use Rattle.run_values.specs.Shown.{value_of};
-ghost use Rattle.array_with_loops.specs.Tells.{TellsItems};
+ghost use Rattle.array_ops.specs.Tells.{TellsItems};
 
 use crate::blocks::run_function;
 use crate::phases::{Never, Outside, Phases};

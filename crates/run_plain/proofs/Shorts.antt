@@ -15,7 +15,7 @@ use Rattle.run_store.specs.declared.store.Store.{Store}
 use Rattle.counted_code.specs.Values.{Heap, Value, Small, Ref, place_value, read}
 use Rattle.sac_base.specs.declared.stop.Stop.{Stop}
 use Rattle.sac_base.specs.declared.stop.Stop.TheVariants.{Faulted, Memory}
-use Rattle.array_with_loops.specs.Tells.{TellsStop}
+use Rattle.array_ops.specs.Tells.{TellsStop}
 use Rattle.run_store.specs.Stands.{Stands, Placed, TellsPlaced}
 use Rattle.run_store.proofs.Placing.{small_placed}
 use Rattle.run_values.specs.declared.few.Few.{Few}

@@ -10,15 +10,14 @@ ghost use Rattle.sac_base.specs.Arrays.{ArrayValue};
 ghost use Rattle.sac_base.specs.Operators.{binary as binary_arrays, unary as unary_arrays};
 ghost use Rattle.sac_base.specs.Outcomes.{at_site, Ends};
 ghost use Rattle.sac_base.specs.Parts.{literal as literal_arrays, replace as replace_arrays, reshape as reshape_arrays};
-ghost use Rattle.array_with_loops.specs.Tells.{Tells};
+ghost use Rattle.array_ops.specs.Tells.{Tells};
 
-use array_ops::{literal, replace, reshape};
+use array_ops::{binary_at, literal, placed, replace, reshape, unary_of};
 use core_ir::Var;
 use run_store::{Store, place_result, read_array};
 use run_values::{Frames, RunValue};
 use sac_base::{Array, Memory, Op, Site, Stop};
 use std::alloc::Global;
-use array_with_loops::{binary_at, placed, unary_of};
 
 /// The arrays of variables.
 pub fn read_all(

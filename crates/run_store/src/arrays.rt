@@ -7,7 +7,7 @@ ghost use Rattle.sac_base.specs.Arrays.{form_of, size, MOST};
 ghost use Rattle.run_store.specs.Stands.{Stands, Placed, TellsPlaced, lender_of};
 ghost use Rattle.sac_base.specs.Arrays.{ArrayValue};
 ghost use Rattle.sac_base.specs.Outcomes.{Ends};
-ghost use Rattle.array_with_loops.specs.Tells.{Tells};
+ghost use Rattle.array_ops.specs.Tells.{Tells};
 ghost use Rattle.run_values.specs.Numbers.{numbers};
 ghost use Rattle.run_values.specs.Shown.{value_of};
 

@@ -4,7 +4,7 @@ ghost use Rattle.std.specs.Prelude.{◌≡◌, [], ◌∷◌, take, drop, map, u
 ghost use Rattle.counted_code.specs.Values.{Heap as MachineHeap, read, cells_of};
 ghost use Rattle.sac_base.specs.Arrays.{scalar, vector};
 ghost use Rattle.sac_base.specs.declared.base.Base.{Base as BaseOf};
-ghost use Rattle.array_with_loops.specs.Tells.{Tells};
+ghost use Rattle.array_ops.specs.Tells.{Tells};
 ghost use Rattle.sac_base.specs.Outcomes.{at_site};
 ghost use Rattle.sac_base.specs.Parts.{part_at, selected, select as select_arrays};
 ghost use Rattle.run_store.specs.Stands.{Stands, TellsPlaced, lender_of};
@@ -18,7 +18,7 @@ use buffer_heap::BufferId;
 use run_values::{Few, RunValue};
 use sac_base::{Array, Cell, MOST_ELEMENTS, Memory, Site, Stop};
 use std::alloc::Global;
-use array_with_loops::select_at;
+use array_ops::select_at;
 
 /// The part of an array at an index.
 pub fn select_value(

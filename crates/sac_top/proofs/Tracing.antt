@@ -20,7 +20,7 @@ use Rattle.counted_code.specs.View.{code_program}
 use Rattle.counted_code.specs.Outcome.{whole_run, outcome_of, cost_of}
 use Rattle.sac_base.specs.declared.stop.Stop.{Stop}
 use Rattle.sac_base.specs.declared.stop.Stop.TheVariants as stop
-use Rattle.array_with_loops.specs.Tells.{TellsItems}
+use Rattle.array_ops.specs.Tells.{TellsItems}
 use Rattle.run_eval.specs.declared.trace.Trace.{Trace}
 use Rattle.run_eval.specs.Outcomes.{new_heap, IsCleared, HasCounters, TellsCost, TellsTally}
 use Rattle.sac_words.specs.declared.options.Mode.TheVariants.{Run}

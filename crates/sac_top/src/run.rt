@@ -7,7 +7,7 @@ ghost use Rattle.value_meaning.specs.Calls.{outcome};
 ghost use Rattle.data_text.specs.Texts.{Refusal, text_value};
 ghost use Rattle.data_text.specs.Generated.{generated_all};
 ghost use Rattle.data_text.specs.Found.{Tells};
-ghost use Rattle.array_with_loops.specs.Tells.{TellsItems};
+ghost use Rattle.array_ops.specs.Tells.{TellsItems};
 ghost use Rattle.run_eval.specs.Outcomes.{new_heap, IsCleared};
 ghost use Rattle.sac_words.specs.Meaning.{meant, input_meant, IsSized, file};
 ghost use Rattle.sac_due.specs.Input.{main_types, main_bases};

@@ -17,7 +17,7 @@ use Rattle.value_meaning.specs.Environments.{env_of, env_step, env_of_bindings, 
 use Rattle.value_meaning.specs.Evaluation.{block_in, meanings_in, function_in, names_of_params, types_of_params, meaning_in, cell_in, main_at}
 use Rattle.sac_base.specs.Types.{all_have}
 use Rattle.sac_base.specs.Outcomes.{Ends, Env, fault, and_then, no_variables, with_variables}
-use Rattle.array_with_loops.proofs.Steps.{value_then}
+use Rattle.array_ops.proofs.Steps.{value_then}
 use Rattle.value_meaning.specs.Calls.{RunMeaning, body_of, call_by, run_chosen, run_inline, run_deeper, results_in, call_at, outcome_of}
 use Rattle.sac_ast.specs.Bases.{base_in}
 use Rattle.sac_ast.specs.View.{expr, index_view}

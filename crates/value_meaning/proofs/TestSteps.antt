@@ -6,7 +6,7 @@ use Rattle.sac_base.specs.declared.faults.FaultKind.TheVariants.{F9}
 use Rattle.sac_base.specs.Arrays.{ArrayValue}
 use Rattle.sac_base.specs.Outcomes.{Ends, Env, and_then, fault}
 use Rattle.value_meaning.specs.Meaning.{repeat}
-use Rattle.array_with_loops.proofs.Steps.{said, test_fault, test_true, test_false}
+use Rattle.array_ops.proofs.Steps.{said, test_fault, test_true, test_false}
 
 module _ (site test_site : Site) (test : Env → Ends ArrayValue) (body : Env → Ends Env) where
   pub turn_test_fault : (left : ℕ) (env : Env) (f : Fault) → said test_site (test env) ≡ Err f → repeat left site test_site test body env ≡ Err f

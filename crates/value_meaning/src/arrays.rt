@@ -5,14 +5,13 @@ ghost use Rattle.sac_base.specs.Outcomes.{at_site, or_zero};
 ghost use Rattle.sac_base.specs.Parts.{replace as replace_value};
 ghost use Rattle.value_meaning.specs.Environments.{env_of};
 ghost use Rattle.value_meaning.specs.Meaning.{built_in};
-ghost use Rattle.array_with_loops.specs.Tells.{Tells};
+ghost use Rattle.array_ops.specs.Tells.{Tells};
 
 use crate::environment::{Environment, lookup};
-use array_ops::{dim, replace, reshape, shape_vector};
+use array_ops::{dim, placed, replace, reshape, shape_vector};
 use sac_ast::Builtin;
 use sac_base::{Array, Base, FaultKind, Name, Site, Stop, copy_array, fault};
 use std::alloc::Global;
-use array_with_loops::placed;
 
 /// The value of a variable with another part at an index.
 pub fn replace_at(

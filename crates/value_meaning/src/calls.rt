@@ -8,7 +8,7 @@ ghost use Rattle.value_meaning.specs.Calls.{chosen, fits as fits_value, is_least
 ghost use Rattle.value_meaning.specs.Environments.{env_of};
 ghost use Rattle.value_meaning.specs.Evaluation.{names_of_params, types_of_params};
 ghost use Rattle.value_meaning.specs.Meaning.{names, with_index};
-ghost use Rattle.array_with_loops.specs.Tells.{Tells, TellsEnv};
+ghost use Rattle.array_ops.specs.Tells.{Tells, TellsEnv};
 ghost use Rattle.sac_base.specs.Outcomes.{first_result, with_variables};
 
 use crate::environment::{Environment, assign};

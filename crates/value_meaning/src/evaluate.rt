@@ -11,7 +11,7 @@ ghost use Rattle.value_meaning.specs.Meaning.{call_with};
 ghost use Rattle.sac_base.specs.Outcomes.{and_then};
 ghost use Rattle.array_with_loops.specs.Cells.{IsArrayPlan, array_from};
 ghost use Rattle.array_with_loops.specs.Plans.{operation_of, plan_of};
-ghost use Rattle.array_with_loops.specs.Tells.{Tells, TellsItems, TellsEnv, TellsAs};
+ghost use Rattle.array_ops.specs.Tells.{Tells, TellsItems, TellsEnv, TellsAs};
 ghost use Rattle.sac_base.specs.WithLoops.{each, combined};
 ghost use Rattle.value_meaning.specs.Meaning.{name_count as name_count_value};
 ghost use Rattle.value_meaning.specs.WithSource.{bounds_in, bound_in, maybe_in, operation_in, held_in, checked_in, cells_in};
@@ -25,7 +25,11 @@ use crate::environment::{Environment, assign, lookup};
 use sac_ast::{Bound, Expression, Function, Generator, Index, Operation, Statement, Target};
 use sac_base::{Array, Base, FaultKind, Form, Memory, Name, Op, Site, Stop, fault};
 use std::alloc::Global;
-use array_with_loops::{Bounds, Evaluated, IndexVector, Plan, Range, add_cell, binary_at, cell_size, combine, condition_at, fits_form, fold_plan, genarray_plan, literal_at, modarray_plan, results_of, select_at, unary_of};
+use array_ops::{binary_at, condition_at, literal_at, results_of, select_at, unary_of};
+use array_with_loops::{
+    Bounds, Evaluated, IndexVector, Plan, Range, add_cell, cell_size, combine, fits_form, fold_plan,
+    genarray_plan, modarray_plan,
+};
 
 /// The function that runs, and how far it may go on.
 #[derive(Clone, Copy)]

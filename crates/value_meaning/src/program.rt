@@ -5,14 +5,14 @@ ghost use Rattle.sac_base.specs.declared.site.Site.{Site as Place};
 ghost use Rattle.sac_ast.specs.View.{functions as trees, program};
 ghost use Rattle.value_meaning.specs.Calls.{is_main, outcome};
 ghost use Rattle.value_meaning.specs.Evaluation.{main_at};
-ghost use Rattle.array_with_loops.specs.Tells.{TellsItems, IsOutcome};
+ghost use Rattle.array_ops.specs.Tells.{TellsItems, IsOutcome};
 
 use crate::calls::all_fit;
 use crate::evaluate::{Context, run_function};
 use sac_ast::{Function, Program};
 use sac_base::{Array, Caps, FaultKind, Memory, Outcome, Stop, fault};
 use std::alloc::Global;
-use array_with_loops::copy_all;
+use array_ops::copy_all;
 
 /// Runs a program on arguments, and gives what its meaning is: the results of `main`, or the first fault.
 pub fn plain_run(

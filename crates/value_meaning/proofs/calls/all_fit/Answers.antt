@@ -2,7 +2,7 @@ use Rattle.std.proofs.Common.{sym, ◌∙◌}
 use Rattle.std.proofs.lemmas.List.{length-map}
 use Rattle.sac_ast.specs.declared.Param.{Param}
 use Rattle.value_meaning.specs.Evaluation.{types_of_params}
-use Rattle.array_with_loops.proofs.TypeLists.{have_length}
+use Rattle.array_ops.proofs.TypeLists.{have_length}
 use Rattle.value_meaning.proofs.calls.all_fit.Goals as goal
 
 pub returns-then-params-args : goal.returns-then-params-args

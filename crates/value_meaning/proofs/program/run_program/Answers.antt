@@ -4,7 +4,7 @@ use Rattle.sac_ast.specs.View.{functions}
 use Rattle.sac_ast.specs.Bases.{base_in}
 use Rattle.value_meaning.specs.Calls.{is_main, main_of, outcome_of}
 use Rattle.value_meaning.specs.Evaluation.{main_at}
-use Rattle.array_with_loops.specs.Tells.{TellsItems}
+use Rattle.array_ops.specs.Tells.{TellsItems}
 use Rattle.value_meaning.proofs.program.run_program.Goals as goal
 
 pub returns-in-Some : goal.returns-in-Some

@@ -1,6 +1,6 @@
 ghost use Rattle.std.specs.Prelude.{◌≡◌, pos, IfOk, ◌∷◌, []};
 
-use crate::{GenError, meet, minus, partition, shift};
+use generator_sets::{GenError, meet, minus, partition, shift};
 use sac_base::{Grid, Grid1};
 use std::alloc::{AllocError, Global};
 use std::test::Fail;

@@ -7,7 +7,7 @@ use Rattle.sac_base.specs.Parts.{condition}
 use Rattle.sac_base.specs.Outcomes.{Ends, and_then, choose}
 use Rattle.sac_base.specs.declared.stop.Stop.{Stop}
 use Rattle.sac_base.specs.declared.stop.Stop.TheVariants.{Faulted, Memory}
-use Rattle.array_with_loops.specs.Tells.{TellsStop}
+use Rattle.array_ops.specs.Tells.{TellsStop}
 
 -- ---- faults
 

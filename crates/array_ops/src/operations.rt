@@ -8,9 +8,12 @@ ghost use Rattle.sac_base.specs.Outcomes.{at_site, fault as fault_at};
 ghost use Rattle.sac_base.specs.Types.{all_have as all_have_value};
 ghost use Rattle.sac_base.specs.Parts.{condition as condition_value, literal as literal_value, select as select_value};
 ghost use Rattle.sac_base.specs.declared.faults.FaultKind.{FaultKind as Kind};
-ghost use Rattle.array_with_loops.specs.Tells.{Tells, TellsItems, TellsCondition};
+ghost use Rattle.array_ops.specs.Tells.{Tells, TellsItems, TellsCondition};
 
-use array_ops::{ArrayError, binary, condition, literal, select, unary};
+use crate::elements::{binary, unary};
+use crate::error::ArrayError;
+use crate::literals::literal;
+use crate::parts::{condition, select};
 use sac_base::{Array, ArrayType, FaultKind, Memory, Op, Site, Stop, contains, copy_array, fault};
 use std::alloc::Global;
 

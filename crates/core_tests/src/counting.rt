@@ -1,6 +1,6 @@
-use super::*;
 use core_ir::{Block, Core, CoreFun, CoreGen, CoreOp, Let, Right, Var, WithLoop};
 use counted_code::{CodeBlock, CodeFun, CodeRight, CodeStep};
+use ref_counts::count_refs;
 use sac_base::{Array, ArrayType, Base, Memory, Name, Op, Part, Site};
 use std::alloc::Global;
 use std::test::Fail;

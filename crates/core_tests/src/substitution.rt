@@ -1,7 +1,7 @@
-use super::*;
 use core_ir::{
     Block, Core, CoreFun, CoreGen, CoreOp, Let, Right, Var, WithLoop, copy_block, copy_core,
 };
+use core_subst::{free, fresh, substitute};
 use sac_base::{Array, ArrayType, Base, Cell, Memory, Name, Op, Part, Site};
 use std::alloc::Global;
 use std::test::Fail;

@@ -1,5 +1,5 @@
 use Rattle.std.proofs.Common.{◌≡◌, take}
-use Rattle.array_with_loops.proofs.operations.copy_all.Given as goal
+use Rattle.array_ops.proofs.operations.copy_all.Given as goal
 
 abbrev pub invariant-loop-array : goal.invariant-loop-array
 invariant-loop-array l = l.copies.items ≡ take l.array-index l.arrays

@@ -1,4 +1,4 @@
-use crate::{GridError, meet1, minus1};
+use grid_sets::{GridError, meet1, minus1};
 use sac_base::Grid1;
 use std::alloc::Global;
 
