@@ -35,8 +35,10 @@ use type_check::Checked;
 /// `Memory`, also where there are 2^32 functions or more, or would be as many variables in one of them.
 pub fn to_core(alloc: Global, checked: &Checked) -> Result<Core, Memory>
     ensures lowered { IfOk result (λ core. core_term core ≡ lowered_program (tree checked.now.program)) }
-    ensures well_formed { ProgramFormed (tree checked.now.program) → IsAccepted (tree checked.now.program) → IfOk result (λ core. IsWellFormed (core_term core)) }
-    ensures outcome { ProgramFormed (tree checked.now.program) → IsAccepted (tree checked.now.program) → IfOk result (λ core. HasOutcomeOf (tree checked.now.program) (core_term core)) }
+    ensures well_formed { ProgramFormed (tree checked.now.program) → IsAccepted (tree checked.now.program)
+        → IfOk result (λ core. IsWellFormed (core_term core)) }
+    ensures outcome { ProgramFormed (tree checked.now.program) → IsAccepted (tree checked.now.program)
+        → IfOk result (λ core. HasOutcomeOf (tree checked.now.program) (core_term core)) }
 {
     let program = checked.program();
     few(&program.functions)?;
