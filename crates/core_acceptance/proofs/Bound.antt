@@ -6,12 +6,12 @@ use Rattle.sac_base.specs.declared.base.Base.{Base}
 use Rattle.sac_base.specs.declared.base.Base.TheVariants.{Int, Bool as Truth}
 use Rattle.sac_base.specs.declared.name.Name.{Name}
 use Rattle.sac_base.specs.declared.site.Site.{Site}
-use Rattle.sac_ast.specs.declared.CheckCode.TheVariants.{C2, C3, C4, C8}
+use Rattle.check_rules.specs.declared.code.CheckCode.TheVariants.{C2, C3, C4, C8}
 use Rattle.sac_ast.specs.declared.Target.{Target}
 use Rattle.sac_ast.specs.Tree.{IndexTree, named, parts, Expr, Exprs, no_exprs, expr_and, MaybeExpr, left_out, given, Stmt, Block, no_stmts, stmt_and, BoundTree, dot, at, Gen, gen, Gens, no_gens, gen_and, OperationTree, FunctionTree, number, truth, variable, literal, unary, binary, choice, select, call, builtin, with_loop, assign, replace, if_else, while_do, do_while, genarray, modarray, fold}
 use Rattle.sac_ast.specs.Bases.{may_be, may_match, operand_base, operands_fit, agree, all_known, first_named}
-use Rattle.type_check.specs.Accepted.{Names, Known, Place, Findings, unless, call_rules, numbers_fit, some_takes, stands_earlier, use_rules, builtin_rules, cell_rules, first_cell, is_fold, several_targets, repeated_targets, bind, base_of}
-use Rattle.type_check.specs.Accepted as a
+use Rattle.check_rules.specs.Accepted.{Names, Known, Place, Findings, unless, call_rules, numbers_fit, some_takes, stands_earlier, use_rules, builtin_rules, cell_rules, first_cell, is_fold, several_targets, repeated_targets, bind, base_of}
+use Rattle.check_rules.specs.Accepted as a
 use Rattle.value_meaning.specs.Meaning.{names}
 use Rattle.core_lowering.specs.Definite.{AtMostOne, IsDefinite, AreDefinite, MaybeDefinite, BoundDefinite, GenDefinite, GensDefinite, OperationDefinite, StmtDefinite, BlockDefinite}
 use Rattle.core_lowering.specs.Definite as d

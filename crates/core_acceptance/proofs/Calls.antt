@@ -14,11 +14,11 @@ use Rattle.sac_base.specs.declared.types.ArrayType.{ArrayType}
 use Rattle.sac_base.specs.Arrays.{same_base}
 use Rattle.sac_base.specs.Operators.{result_base}
 use Rattle.sac_base.specs.Verdict.{folds}
-use Rattle.sac_ast.specs.declared.CheckCode.TheVariants.{C2, C3, C4, C8}
+use Rattle.check_rules.specs.declared.code.CheckCode.TheVariants.{C2, C3, C4, C8}
 use Rattle.sac_ast.specs.Tree.{FunctionTree}
 use Rattle.sac_ast.specs.Bases.{may_be, operand_base, operands_fit, common_base, with_base, all_known, known_bases, same_bases, bases_of_params, bases_of_results, counts_beside, first_named, takes_bases, instance_by, call_bases_in}
 use Rattle.core_ir.specs.WellFormed.{UnaryBase, BinaryBase, bases}
-use Rattle.type_check.specs.Accepted.{Place, Findings, unless, call_rules, numbers_fit, some_takes, stands_earlier, is_clean, in_call}
+use Rattle.check_rules.specs.Accepted.{Place, Findings, unless, call_rules, numbers_fit, some_takes, stands_earlier, is_clean, in_call}
 use Rattle.core_lowering.specs.Programs.{count_in, result_count}
 use Rattle.core_lowering.specs.Typed.{InstanceBases}
 use Rattle.core_acceptance.specs.Formed.{TakesOne, TakesTwo, IsFolding}

@@ -2,9 +2,9 @@
 use Rattle.std.proofs.Common.{◌≡◌, Bool, true, false, not, ◌||◌, ◌&&◌, List, [], ◌∷◌, ◌++◌, refl}
 use Rattle.sac_base.specs.declared.name.Name.{Name}
 use Rattle.sac_base.specs.declared.site.Site.{Site}
-use Rattle.sac_ast.specs.declared.CheckCode.{CheckCode}
-use Rattle.sac_ast.specs.declared.CheckCode.TheVariants.{C1, C5}
-use Rattle.type_check.specs.Accepted.{Names, Place, unless, use_rules}
+use Rattle.check_rules.specs.declared.code.CheckCode.{CheckCode}
+use Rattle.check_rules.specs.declared.code.CheckCode.TheVariants.{C1, C5}
+use Rattle.check_rules.specs.Accepted.{Names, Place, unless, use_rules}
 
 -- ---- parts of an empty list
 

@@ -2,7 +2,7 @@
 use Rattle.std.proofs.Common.{◌<◌, ◌^◌, length}
 use Rattle.sac_ast.specs.Tree.{ProgramTree}
 use Rattle.core_ir.specs.WellFormed.{IsWellFormed}
-use Rattle.type_check.specs.Accepted.{IsAccepted}
+use Rattle.check_rules.specs.Accepted.{IsAccepted}
 use Rattle.core_lowering.specs.Programs.{HasOutcomeOf, lowered_program}
 use Rattle.core_lowering.proofs.Whole.{outcome_same}
 use Rattle.core_lowering.proofs.WellMade.{well_formed}

@@ -4,11 +4,11 @@ use Rattle.sac_base.specs.declared.base.Base.{Base}
 use Rattle.sac_base.specs.declared.base.Base.TheVariants.{Int, Bool as Truth}
 use Rattle.sac_base.specs.declared.name.Name.{Name}
 use Rattle.sac_base.specs.declared.site.Site.{Site}
-use Rattle.sac_ast.specs.declared.CheckCode.TheVariants.{C4}
+use Rattle.check_rules.specs.declared.code.CheckCode.TheVariants.{C4}
 use Rattle.sac_ast.specs.Tree.{Expr, Exprs, no_exprs, expr_and, MaybeExpr, left_out, given, Stmt, Block, no_stmts, stmt_and, BoundTree, dot, at, Gen, gen, Gens, no_gens, gen_and, OperationTree, number, truth, variable, literal, unary, binary, choice, select, call, builtin, with_loop, assign, replace, if_else, while_do, do_while, genarray, modarray, fold}
 use Rattle.sac_ast.specs.Bases.{may_be, may_match, operand_base, operands_fit, agree}
-use Rattle.type_check.specs.Accepted.{Names, Known, Place, unless, call_rules, use_rules, builtin_rules, cell_rules, first_cell, is_fold, several_targets, repeated_targets, bind, base_of}
-use Rattle.type_check.specs.Accepted as a
+use Rattle.check_rules.specs.Accepted.{Names, Known, Place, unless, call_rules, use_rules, builtin_rules, cell_rules, first_cell, is_fold, several_targets, repeated_targets, bind, base_of}
+use Rattle.check_rules.specs.Accepted as a
 use Rattle.core_lowering.specs.Standing.{CallsIn, CallsInAll, CallsInMaybe, CallsInBound, CallsInGen, CallsInGens, CallsInOperation, CallsInStmt, CallsInBlock}
 use Rattle.core_acceptance.proofs.Clean.{nil_right, nil2, nil3, nil4, nil5, nil8}
 

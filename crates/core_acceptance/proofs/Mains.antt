@@ -2,11 +2,11 @@
 use Rattle.std.proofs.Common.{◌≡◌, ℕ, zero, suc, Bool, true, false, not, List, [], ◌∷◌, Option, Some, None, is_some, IsTrue, if◌then◌else◌, refl, ap, sym, subst, ◌∙◌}
 use Rattle.std.specs.Prelude.{filter, flat_map, position, slice_get, unwrap_or, option_map}
 use Rattle.std.proofs.lemmas.Option.{slice_get-map}
-use Rattle.sac_ast.specs.declared.CheckCode.TheVariants.{C8}
+use Rattle.check_rules.specs.declared.code.CheckCode.TheVariants.{C8}
 use Rattle.sac_ast.specs.Tree.{FunctionTree, ProgramTree}
 use Rattle.core_ir.specs.Terms.{FunTerm}
-use Rattle.type_check.specs.Accepted.{unless, is_named, main_name, main_count, main_rules, in_functions, IsAccepted}
-use Rattle.type_check.specs.declared.violation.Violation.{Violation}
+use Rattle.check_rules.specs.Accepted.{unless, is_named, main_name, main_count, main_rules, in_functions, IsAccepted}
+use Rattle.check_rules.specs.declared.violation.Violation.{Violation}
 use Rattle.value_meaning.specs.Calls.{is_main}
 use Rattle.core_lowering.specs.Programs.{lowered_function, lowered_program}
 use Rattle.core_lowering.proofs.Chosen.{position_at}

@@ -12,11 +12,11 @@ use Rattle.sac_base.specs.declared.types.Part.{Part}
 use Rattle.sac_base.specs.declared.types.Part.TheVariants.{Known as Exactly, Rank, Plus, Star}
 use Rattle.sac_base.specs.Arrays.{same_base}
 use Rattle.sac_base.specs.Types.{parts_overlap, apart, strictly_below, compatible}
-use Rattle.sac_ast.specs.declared.CheckCode.TheVariants.{C2, C3, C4, C6, C8}
+use Rattle.check_rules.specs.declared.code.CheckCode.TheVariants.{C2, C3, C4, C6, C8}
 use Rattle.sac_ast.specs.Tree.{FunctionTree, ProgramTree}
 use Rattle.sac_ast.specs.Bases.{first_named, same_bases, bases_of_params, all_known}
-use Rattle.type_check.specs.Accepted.{Place, unless, is_named, is_inline, count_named, numbers_fit, some_takes, stands_earlier, call_rules, main_name, main_count, main_rules, may_stand_together, same_truth, base_list, param_types, values_fit, repeated_params, clash_rules, in_function, in_functions, names_in, known_params, none_known, IsAccepted}
-use Rattle.type_check.specs.Accepted as a
+use Rattle.check_rules.specs.Accepted.{Place, unless, is_named, is_inline, count_named, numbers_fit, some_takes, stands_earlier, call_rules, main_name, main_count, main_rules, may_stand_together, same_truth, base_list, param_types, values_fit, repeated_params, clash_rules, in_function, in_functions, names_in, known_params, none_known, IsAccepted}
+use Rattle.check_rules.specs.Accepted as a
 use Rattle.value_meaning.specs.Calls.{is_main}
 use Rattle.core_lowering.specs.Lowering.{has_name}
 use Rattle.core_lowering.specs.Standing.{CallsInFunction, all_names, MayStandTogether, StandsBefore, IsStanding}

@@ -8,13 +8,13 @@ use Rattle.sac_base.specs.declared.base.Base.{Base}
 use Rattle.sac_base.specs.declared.base.Base.TheVariants.{Int, Bool as Truth}
 use Rattle.sac_base.specs.declared.name.Name.{Name}
 use Rattle.sac_base.specs.Arrays.{same_base}
-use Rattle.sac_ast.specs.declared.CheckCode.TheVariants.{C4, C9}
+use Rattle.check_rules.specs.declared.code.CheckCode.TheVariants.{C4, C9}
 use Rattle.sac_ast.specs.declared.Known.{Known as Binding}
 use Rattle.sac_ast.specs.declared.Target.{Target}
 use Rattle.sac_ast.specs.declared.Param.{Param}
 use Rattle.sac_ast.specs.Tree.{IndexTree, named, parts}
 use Rattle.sac_ast.specs.Bases.{Bases, base_bound, base_of_name, may_be, may_match, first_base, with_bases, index_bases, bound_params}
-use Rattle.type_check.specs.Accepted.{Names, Known, with_names, unless, target_names, index_targets, param_names, bound_first, bind, base_first, base_of, later_bases, in_targets, in_index_names, known_params, repeated}
+use Rattle.check_rules.specs.Accepted.{Names, Known, with_names, unless, target_names, index_targets, param_names, bound_first, bind, base_first, base_of, later_bases, in_targets, in_index_names, known_params, repeated}
 use Rattle.value_meaning.specs.Meaning.{or_int}
 use Rattle.core_lowering.specs.Typed.{TargetsTyped, IntTargets, ParamsTyped}
 use Rattle.core_lowering.proofs.Scopes.{same_name}

@@ -7,13 +7,13 @@ use Rattle.sac_base.specs.declared.name.Name.{Name}
 use Rattle.sac_base.specs.Arrays.{same_base}
 use Rattle.sac_base.specs.Operators.{result_base}
 use Rattle.sac_ast.specs.declared.Builtin.TheVariants.{Dim, Shape, Reshape}
-use Rattle.sac_ast.specs.declared.CheckCode.TheVariants.{C4}
+use Rattle.check_rules.specs.declared.code.CheckCode.TheVariants.{C4}
 use Rattle.sac_ast.specs.declared.Target.{Target}
 use Rattle.sac_ast.specs.Tree.{IndexTree, named, parts, Expr, Exprs, no_exprs, expr_and, MaybeExpr, left_out, given, Stmt, Block, no_stmts, stmt_and, BoundTree, dot, at, gen, Gens, no_gens, gen_and, OperationTree, number, truth, variable, literal, unary, binary, choice, select, call, builtin, with_loop, assign, replace, if_else, while_do, do_while, genarray, modarray, fold}
 use Rattle.sac_ast.specs.Bases.{Bases, where_holds, may_be, may_match, operand_base, operands_fit, agree, common_base, literal_base, first_base, are_int, known_bases, call_bases_in, value_base, with_bases, index_bases}
 use Rattle.sac_ast.specs.Bases as b
-use Rattle.type_check.specs.Accepted.{Names, Known, Place, Finding, Passage, base_first, target_names, unless, with_names, index_targets, index_names, bound_after, bound_behind, base_of, bind, use_rules, cell_rules, first_cell, is_fold, is_clean, several_targets, repeated_targets, in_call, in_targets, in_index_names}
-use Rattle.type_check.specs.Accepted as a
+use Rattle.check_rules.specs.Accepted.{Names, Known, Place, Finding, Passage, base_first, target_names, unless, with_names, index_targets, index_names, bound_after, bound_behind, base_of, bind, use_rules, cell_rules, first_cell, is_fold, is_clean, several_targets, repeated_targets, in_call, in_targets, in_index_names}
+use Rattle.check_rules.specs.Accepted as a
 use Rattle.value_meaning.specs.Meaning.{default_base, or_int}
 use Rattle.core_lowering.specs.Definite as d
 use Rattle.core_lowering.specs.Typed.{InstanceBases, FirstTyped, IntTargets, IsTyped, LiteralTyped, AllTyped, AreTyped, MaybeTyped, BoundTyped, GensTyped, OperationTyped, StmtTyped, BlockTyped}

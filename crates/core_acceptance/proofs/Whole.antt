@@ -7,11 +7,11 @@ use Rattle.std.proofs.lemmas.Slice.Eq.{bytes_eq-Decides}
 use Rattle.sac_base.specs.declared.name.Name.{Name}
 use Rattle.sac_base.specs.declared.site.Site.{Site}
 use Rattle.sac_base.specs.Types.{compatible}
-use Rattle.sac_ast.specs.declared.CheckCode.TheVariants.{C3, C4, C6, C8}
+use Rattle.check_rules.specs.declared.code.CheckCode.TheVariants.{C3, C4, C6, C8}
 use Rattle.sac_ast.specs.Tree.{FunctionTree, ProgramTree}
 use Rattle.sac_ast.specs.Bases.{first_named, same_bases, bases_of_params}
-use Rattle.type_check.specs.Accepted.{Names, Place, unless, is_named, main_name, main_count, main_rules, may_stand_together, same_truth, base_list, param_types, values_fit, clash_rules, in_function, in_functions, names_in, known_params, none_known, repeated_params, IsAccepted}
-use Rattle.type_check.specs.Accepted as a
+use Rattle.check_rules.specs.Accepted.{Names, Place, unless, is_named, main_name, main_count, main_rules, may_stand_together, same_truth, base_list, param_types, values_fit, clash_rules, in_function, in_functions, names_in, known_params, none_known, repeated_params, IsAccepted}
+use Rattle.check_rules.specs.Accepted as a
 use Rattle.core_lowering.specs.Definite.{AreDefinite}
 use Rattle.core_lowering.specs.Programs.{count_in, result_count, IsDefiniteFunction, AreDefiniteFunctions, IsDefiniteProgram}
 use Rattle.core_lowering.proofs.Chosen.{position_step}

@@ -4,12 +4,12 @@ use Rattle.std.specs.Prelude.{◌==◌}
 use Rattle.std.proofs.lemmas.Bool.{eqb-true}
 use Rattle.sac_base.specs.declared.base.Base.{Base}
 use Rattle.sac_base.specs.declared.types.ArrayType.{ArrayType}
-use Rattle.sac_ast.specs.declared.CheckCode.TheVariants.{C3, C4}
+use Rattle.check_rules.specs.declared.code.CheckCode.TheVariants.{C3, C4}
 use Rattle.sac_ast.specs.Tree.{FunctionTree, ProgramTree}
 use Rattle.sac_ast.specs.Bases.{call_bases_in, known_in, bound_params, may_be, in_block}
 use Rattle.core_ir.specs.WellFormed.{bases}
-use Rattle.type_check.specs.Accepted.{Place, unless, names_in, param_names, no_names, with_names, bound_behind, repeated_params, known_params, none_known, values_fit, clash_rules, in_function, in_functions, main_rules, IsAccepted}
-use Rattle.type_check.specs.Accepted as a
+use Rattle.check_rules.specs.Accepted.{Place, unless, names_in, param_names, no_names, with_names, bound_behind, repeated_params, known_params, none_known, values_fit, clash_rules, in_function, in_functions, main_rules, IsAccepted}
+use Rattle.check_rules.specs.Accepted as a
 use Rattle.core_lowering.specs.Typed.{InstanceBases, AreTyped, IsTypedFunction, AreTypedFunctions}
 use Rattle.sac_ast.specs.Bases as b
 use Rattle.core_acceptance.specs.Formed.{FunctionFormed, FunctionsFormed, ProgramFormed}

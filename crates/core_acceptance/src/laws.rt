@@ -3,7 +3,7 @@
 ghost use Rattle.std.specs.Prelude.{◌<◌, ◌^◌, length};
 ghost use Rattle.sac_ast.specs.Tree.{ProgramTree};
 ghost use Rattle.core_ir.specs.WellFormed.{IsWellFormed};
-ghost use Rattle.type_check.specs.Accepted.{IsAccepted};
+ghost use Rattle.check_rules.specs.Accepted.{IsAccepted};
 ghost use Rattle.core_lowering.specs.Programs.{IsDefiniteProgram, HasOutcomeOf, lowered_program};
 ghost use Rattle.core_lowering.specs.Standing.{IsStanding};
 ghost use Rattle.core_lowering.specs.Typed.{AreTypedFunctions};

@@ -32,6 +32,10 @@ abbrev mutual
   used_in_parts NoParts = []
   used_in_parts (Part h b rest) = used_in b ++ used_in_parts rest
 
+-- the variables that a generator's body sees as its index
+abbrev pub index_names : GenHead → List Var
+index_names h = h.index ∷ h.names
+
 -- the block uses the variable and does not bind it
 abbrev pub is_free : BlockTerm → Var → Bool
 is_free b x = is_in x (used_in b) && not (is_in x (bound_in b))

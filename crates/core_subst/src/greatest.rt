@@ -2,10 +2,9 @@
 
 ghost use Rattle.std.specs.Prelude.{◌≡◌, suc, IfSome, map};
 ghost use Rattle.core_ir.specs.View.{block_term, right_term, with_term, gen_term, parted_term, fun_term};
-ghost use Rattle.core_ir.specs.Scopes.{op_uses, parted_uses};
 ghost use Rattle.core_subst.specs.Names.{above, above_all, above_function, variable_at, IsNew};
 
-use core_ir::{Block, CoreFun, CoreGen, CoreOp, PartedLoop, PartedOp, Right, Var, WithLoop};
+use core_ir::{Block, CoreFun, CoreGen, PartedLoop, Right, Var, WithLoop};
 use sac_base::ArrayType;
 
 /// The variable whose number is one above the greatest in the function, and the first where it has no variable. There is none exactly where the greatest number is `u32::MAX`.
@@ -64,26 +63,6 @@ fn above_head(generator: &CoreGen) -> u64
         .max(above_option(generator.width))
 }
 
-fn above_op(op: CoreOp) -> u64
-    ensures { result ≡ above_all (op_uses op) }
-{
-    match op {
-        CoreOp::Genarray { shape, default } => above_var(shape).max(above_var(default)),
-        CoreOp::Modarray { array } => above_var(array),
-        CoreOp::Fold { neutral, .. } => above_var(neutral),
-    }
-}
-
-fn above_parted_op(op: PartedOp) -> u64
-    ensures { result ≡ above_all (parted_uses op) }
-{
-    match op {
-        PartedOp::Genarray => 0,
-        PartedOp::Modarray { array } => above_var(array),
-        PartedOp::Fold { neutral, .. } => above_var(neutral),
-    }
-}
-
 #[cycle(fresh)]
 fn above_block(block: &Block) -> u64
     ensures { result ≡ above (block_term block.now) }
@@ -102,18 +81,6 @@ fn above_right(right: &Right) -> u64
     ensures { result ≡ Rattle.core_subst.specs.Names.above_right (right_term right.now) }
 {
     match right {
-        Right::Const(_) | Right::Always(_) => 0,
-        Right::Copy(x)
-        | Right::Unary(_, x)
-        | Right::Dim(x)
-        | Right::ShapeOf(x)
-        | Right::Check(x, _) => above_var(*x),
-        Right::Binary(_, x, y) | Right::Reshape(x, y) | Right::Select(x, y) => above_var(*x).max(
-            above_var(*y),
-        ),
-        Right::Replace(x, y, z) => above_var(*x).max(above_var(*y)).max(above_var(*z)),
-        Right::Literal(xs) => above_vars(xs),
-        Right::Call { args, .. } => above_vars(args),
         Right::If { cond, yes, no } => above_var(*cond).max(above_block(yes)).max(above_block(no)),
         Right::Loop {
             start,
@@ -127,6 +94,7 @@ fn above_right(right: &Right) -> u64
             .max(above_block(body)),
         Right::With(w) => above_with(w),
         Right::Parted(p) => above_parted(p),
+        _ => above_vars(right.operands().as_slice()),
     }
 }
 
@@ -134,7 +102,7 @@ fn above_right(right: &Right) -> u64
 fn above_with(with: &WithLoop) -> u64
     ensures { result ≡ Rattle.core_subst.specs.Names.above_right (with_term with.now) }
 {
-    let mut number = above_op(with.op);
+    let mut number = above_vars(with.op.operands().as_slice());
     for generator in &with.gens {
         number = number
             .max(above_head(generator))
@@ -149,7 +117,7 @@ fn above_with(with: &WithLoop) -> u64
 fn above_parted(parted: &PartedLoop) -> u64
     ensures { result ≡ Rattle.core_subst.specs.Names.above_right (parted_term parted.now) }
 {
-    let mut number = above_parted_op(parted.op);
+    let mut number = above_vars(parted.op.operands().as_slice());
     for part in &parted.parts {
         number = number
             .max(above_var(part.index))

@@ -6,10 +6,10 @@ ghost use Rattle.std.specs.BTreeSet.{contains};
 ghost use Rattle.core_ir.specs.declared.tree.Var.{Var};
 ghost use Rattle.core_ir.specs.View.{block_term, right_term, with_term, gen_term, parted_term, part_term};
 ghost use Rattle.core_ir.specs.Binders.{is_in, bound_in, bound_in_right};
-ghost use Rattle.core_ir.specs.Scopes.{op_uses, parted_uses, head_uses};
-ghost use Rattle.core_subst.specs.Names.{used_in, used_in_right, is_free, AreAscending, variable};
+ghost use Rattle.core_ir.specs.Scopes.{head_uses};
+ghost use Rattle.core_subst.specs.Names.{index_names, used_in, used_in_right, is_free, AreAscending, variable};
 
-use core_ir::{Block, CoreGen, CoreOp, CorePart, PartedLoop, PartedOp, Right, Var, WithLoop};
+use core_ir::{Block, CoreGen, CorePart, PartedLoop, Right, Var, WithLoop};
 use sac_base::Memory;
 use std::alloc::Global;
 use std::collections::BTreeSet;
@@ -92,18 +92,6 @@ fn meet_right(right: &Right, met: &mut Met) -> Result<(), Memory>
     ensures bound { OnOk result (met.new.bound.items ≡ met.old.bound.items ++ bound_in_right (right_term right.now)) }
 {
     match right {
-        Right::Const(_) | Right::Always(_) => Ok(()),
-        Right::Copy(x)
-        | Right::Unary(_, x)
-        | Right::Dim(x)
-        | Right::ShapeOf(x)
-        | Right::Check(x, _) => add(&mut met.used, &[*x]),
-        Right::Binary(_, x, y) | Right::Reshape(x, y) | Right::Select(x, y) => {
-            add(&mut met.used, &[*x, *y])
-        }
-        Right::Replace(x, y, z) => add(&mut met.used, &[*x, *y, *z]),
-        Right::Literal(xs) => add(&mut met.used, xs),
-        Right::Call { args, .. } => add(&mut met.used, args),
         Right::If { cond, yes, no } => {
             meet_after(yes, &[*cond], &[], met)?;
             meet_block(no, met)
@@ -120,6 +108,7 @@ fn meet_right(right: &Right, met: &mut Met) -> Result<(), Memory>
         }
         Right::With(w) => meet_with(w, met),
         Right::Parted(p) => meet_parted(p, met),
+        _ => add(&mut met.used, right.operands().as_slice()),
     }
 }
 
@@ -139,7 +128,7 @@ fn meet_with(with: &WithLoop, met: &mut Met) -> Result<(), Memory>
     ensures used { OnOk result (met.new.used.items ≡ met.old.used.items ++ used_in_right (with_term with.now)) }
     ensures bound { OnOk result (met.new.bound.items ≡ met.old.bound.items ++ bound_in_right (with_term with.now)) }
 {
-    meet_op(with.op, &mut met.used)?;
+    add(&mut met.used, with.op.operands().as_slice())?;
     for generator in &with.gens {
         meet_generator(generator, met)?;
     }
@@ -149,7 +138,7 @@ fn meet_with(with: &WithLoop, met: &mut Met) -> Result<(), Memory>
 #[cycle(free)]
 fn meet_generator(generator: &CoreGen, met: &mut Met) -> Result<(), Memory>
     ensures used { OnOk result (met.new.used.items ≡ met.old.used.items ++ (head_uses (gen_term generator.now).head ++ used_in (gen_term generator.now).body)) }
-    ensures bound { OnOk result (met.new.bound.items ≡ met.old.bound.items ++ (((gen_term generator.now).head.index ∷ (gen_term generator.now).head.names) ++ bound_in (gen_term generator.now).body)) }
+    ensures bound { OnOk result (met.new.bound.items ≡ met.old.bound.items ++ (index_names (gen_term generator.now).head ++ bound_in (gen_term generator.now).body)) }
 {
     meet_head(generator, &mut met.used)?;
     meet_index(generator, &mut met.bound)?;
@@ -161,7 +150,7 @@ fn meet_parted(parted: &PartedLoop, met: &mut Met) -> Result<(), Memory>
     ensures used { OnOk result (met.new.used.items ≡ met.old.used.items ++ used_in_right (parted_term parted.now)) }
     ensures bound { OnOk result (met.new.bound.items ≡ met.old.bound.items ++ bound_in_right (parted_term parted.now)) }
 {
-    meet_parted_op(parted.op, &mut met.used)?;
+    add(&mut met.used, parted.op.operands().as_slice())?;
     for part in &parted.parts {
         meet_part(part, met)?;
     }
@@ -179,7 +168,7 @@ fn meet_part(part: &CorePart, met: &mut Met) -> Result<(), Memory>
 
 /// The variables that a generator's body sees as its index.
 fn meet_index(generator: &CoreGen, bound: &mut Vec<Var>) -> Result<(), Memory>
-    ensures { OnOk result (bound.new.items ≡ bound.old.items ++ ((gen_term generator.now).head.index ∷ (gen_term generator.now).head.names)) }
+    ensures { OnOk result (bound.new.items ≡ bound.old.items ++ index_names (gen_term generator.now).head) }
 {
     bound.push(generator.index)?;
     add(bound, &generator.names)
@@ -201,26 +190,4 @@ fn meet_head(generator: &CoreGen, used: &mut Vec<Var>) -> Result<(), Memory>
     meet_option(generator.upper, used)?;
     meet_option(generator.step, used)?;
     meet_option(generator.width, used)
-}
-
-fn meet_op(op: CoreOp, used: &mut Vec<Var>) -> Result<(), Memory>
-    ensures { OnOk result (used.new.items ≡ used.old.items ++ op_uses op) }
-{
-    match op {
-        CoreOp::Genarray { shape, default } => used.extend_from_slice(&[shape, default])?,
-        CoreOp::Modarray { array } => used.push(array)?,
-        CoreOp::Fold { neutral, .. } => used.push(neutral)?,
-    }
-    Ok(())
-}
-
-fn meet_parted_op(op: PartedOp, used: &mut Vec<Var>) -> Result<(), Memory>
-    ensures { OnOk result (used.new.items ≡ used.old.items ++ parted_uses op) }
-{
-    match op {
-        PartedOp::Genarray => {}
-        PartedOp::Modarray { array } => used.push(array)?,
-        PartedOp::Fold { neutral, .. } => used.push(neutral)?,
-    }
-    Ok(())
 }

@@ -5,4 +5,5 @@ pub mod Counting
 pub mod Sitting
 pub mod Ending
 pub mod Sums
+pub mod HoldsReading
 pub mod Reading

@@ -1,5 +1,5 @@
 -- Each kind of step on a phase's table is an event of the phase machine, or leaves its state as it is.
-use Rattle.std.proofs.Common.{◌≡◌, ◌≢◌, ℕ, ◌+◌, ◌-◌, ◌*◌, ◌%◌, ◌^◌, ◌<◌, ◌≤◌, min, Bool, true, false, cond, ltb, eqb, List, [], ◌∷◌, ◌++◌, length, set, get_or, sym, refl, ap, ◌∙◌, subst, arith, ⊎_elim, get_or-set_same, get_or-set_other}
+use Rattle.std.proofs.Common.{◌≡◌, ◌≢◌, ℕ, ◌+◌, ◌-◌, ◌*◌, ◌%◌, ◌^◌, ◌<◌, ◌≤◌, min, Bool, true, false, cond, ltb, eqb, List, [], ◌∷◌, ◌++◌, length, set, get_or, sym, refl, ap, ◌∙◌, subst, arith, ⊎_elim}
 use Rattle.std.proofs.Math.Nat.{mod-eq_of_lt}
 use Rattle.std.proofs.lemmas.Bool.{le-ltb, lt-ltb, ne_eqb, eq-eqb, cases_eq}
 use Rattle.std.proofs.lemmas.List.{set-get_or}
@@ -8,19 +8,22 @@ use lib.ListN.{get_elem?}
 use Rattle.atomic_table.proofs.Lists.{set_again}
 use Rattle.std.specs.declared.option.Option.{Option}
 use Rattle.wl_core.specs.declared.events.Event.TheVariants.{Draw, Keep, Release}
-use Rattle.wl_core.specs.Machine.{SetupValue, StateValue, Works, chunks, first, put, holds_of as all_holds, opened as opened_state}
+use Rattle.wl_core.specs.declared.limits.TheConstants.{MOST_HOLDS}
+use Rattle.wl_core.specs.Machine.{SetupValue, StateValue, Works, chunks, first, put, opened as opened_state}
 use Rattle.count_table.specs.declared.view.FrameView.{FrameView}
 use Rattle.count_table.specs.declared.view.WorkerView.{WorkerView}
 use Rattle.count_table.specs.declared.view.View.{View}
 use Rattle.count_table.specs.declared.view.View.TheVariants.{Frame, Worker, Spent}
-use Rattle.count_table.specs.Views.{times, without, total, drawn_of, has_number, drawn_times}
+use Rattle.count_table.specs.Views.{times, total, drawn_of, drawn_times}
 use Rattle.count_table.specs.Rule.{Counted}
 use Rattle.count_table.specs.Opening.{opened}
 use Rattle.count_table.specs.Plays.{after_draw, after_keep, after_release, seated, fresh, joined}
 use Rattle.count_table.specs.Reading.{owned_by, held_by, IsReading, LeadsTo, StepsAreEvents}
-use Rattle.count_table.proofs.Totals.{times-append, times-without, total-set, total-push, total_at, total-le}
-use Rattle.count_table.proofs.Sums.{put_same, put_other, none_either_way, sum-same, sum-times, total-only, pair_times-le, pair_times-append}
-use Rattle.count_table.proofs.Facts.{few_next, few_holds, held_twice}
+use Rattle.count_table.specs.HoldsReading.{IsHoldsReading}
+use Rattle.count_table.proofs.HoldsReading as holds
+use Rattle.count_table.proofs.Totals.{times-append, total-set, total-push, total_at, total-le}
+use Rattle.count_table.proofs.Sums.{put_same, put_other, none_either_way, pair_times-le, pair_times-append}
+use Rattle.count_table.proofs.Facts.{few_next}
 
 module _ {T : Type 0} where
   owned-le : (n c : ℕ) (v : View T) → owned_by n c v ≤ 1 * times c (drawn_of v)
@@ -28,15 +31,9 @@ module _ {T : Type 0} where
   owned-le n c (Worker w) = elim (eqb w.number n) as (λ b. cond {A = ℕ} b (times c w.drawn) 0 ≤ 1 * times c w.drawn) [ true ↦ omega arith | false ↦ omega arith ]
   owned-le n c Spent = omega arith
 
-  -- a view of another worker has none of its holds
-  held-none : (n b : ℕ) (v : View T) → has_number n v ≡ 0 → held_by n b v ≡ 0
-  held-none n b (Frame f) z = refl
-  held-none n b (Worker w) z = held_at (eqb w.number n) z
-    where
-      held_at : (e : Bool) → cond {A = ℕ} e 1 0 ≡ 0 → cond {A = ℕ} e (times b w.holds) 0 ≡ 0
-      held_at true z = absurd (omega arith)
-      held_at false z = refl
-  held-none n b Spent z = refl
+  -- what a table says of chunks and buffers, of buffers alone
+  holds_of_reading : {u : SetupValue} {s : StateValue} {n : ℕ} {cs : List ℕ} {f : FrameView T} {vs : List (View T)} → IsReading u n cs f vs s → IsHoldsReading u cs f vs s
+  holds_of_reading r = record { opening_is = r.opening_is; few_seats = r.few_seats; counts_are = r.counts_are; holds_are = r.holds_are }
 
   module _ (u : SetupValue) (s : StateValue) (n : ℕ) (cs : List ℕ) (hs : List (Home (Option T))) (f : FrameView T) (vs : List (View T)) (h : Counted n cs hs f vs) (r : IsReading u n cs f vs s) where
     module _ (i : ℕ) (w : WorkerView T) (at : get_elem? vs i ≡ some (Worker w)) where
@@ -131,103 +128,30 @@ module _ {T : Type 0} where
             holds_are = λ k b lt lt'. r.holds_are k b lt lt' ∙ sym (turned (held_by k b) (record w { ended = true }) refl);
           }))
 
-      -- what the worker holds stands in its own view alone
-      own_holds : (b : ℕ) → total (held_by w.number b) vs ≡ times b w.holds
-      own_holds b =
-          let one : has_number {T = T} w.number (Worker w) ≡ 1 = (let e : eqb w.number w.number ≡ true = eq-eqb w.number w.number refl in rw e refl) in
-          let here : held_by {T = T} w.number b (Worker w) ≡ times b w.holds = (let e : eqb w.number w.number ≡ true = eq-eqb w.number w.number refl in rw e refl) in
-          total-only (held_by w.number b) (has_number w.number) vs i (Worker w) at (held-none w.number b) (omega arith) (h.one_each w.number) ∙ here
+      -- the table as before, where the holds are those of another state whose chunks are the same
+      counted_again : (cs' : List ℕ) (w' : WorkerView T) (s' : StateValue) → w'.drawn ≡ w.drawn → w'.number ≡ w.number → s'.taken ≡ s.taken → s'.owner ≡ s.owner
+          → IsHoldsReading u cs' f (set vs i (Worker w')) s' → IsReading u n cs' f (set vs i (Worker w')) s'
+      counted_again cs' w' s' drew named took owned holds = record {
+        chunks_are = r.chunks_are;
+        opening_is = r.opening_is;
+        few_seats = r.few_seats;
+        taken = took ∙ r.taken;
+        owners = λ c k l.
+            ap (λ (z : ℕ). owned_by {T = T} k c (Frame f) + z) (turned (owned_by k c) w' (λ j. cond {A = ℕ} (eqb (named j) k) (times c (drew j)) 0))
+            ∙ r.owners c k (let e = took in omega arith) ∙ ap (λ (g : ℕ → ℕ). cond {A = ℕ} (eqb (g c) k) 1 0) (sym owned);
+        counts_are = holds.counts_are;
+        holds_are = holds.holds_are;
+      }
 
-      state_holds : (b : ℕ) → b < length u.counts → s.holds w.number b ≡ times b w.holds
-      state_holds b lt = r.holds_are w.number b is_worker lt ∙ own_holds b
+      keep_is_event : (b : ℕ) → b < length f.opening → length w.holds < MOST_HOLDS → LeadsTo u s (Keep w.number b) n (set cs b ((get_or cs b 0 + 1) % 2 ^ 64)) f (set vs i (Worker (after_keep w b)))
+      keep_is_event b lt room =
+          let e = holds.keep_is_event u s n cs hs f vs h (holds_of_reading r) i w at b lt room in
+          (e.0, e.1, counted_again (set cs b ((get_or cs b 0 + 1) % 2 ^ 64)) (after_keep w b) e.0 refl refl (ap (λ (x : StateValue). x.taken) e.1.3) (ap (λ (x : StateValue). x.owner) e.1.3) e.2)
 
-      few_state_holds : length w.holds < 2 ^ 56 → all_holds u s w.number < 2 ^ 56
-      few_state_holds room =
-          let a = sum-same (s.holds w.number) (λ b. times b w.holds) (length u.counts) state_holds in
-          let b = sum-times w.holds (length u.counts) (λ b has. let l = (h.fit i (Worker w) at).holds_within b has in let e = buffers in omega arith) in omega arith
-
-      module _ (b : ℕ) (lt : b < length f.opening) where
-        in_setup : b < length u.counts
-        in_setup = let e = buffers in omega arith
-
-        -- count b becomes x, and the worker's holds of b become y
-        module _ (x y : ℕ) (held : List ℕ) (here : y ≡ times b held) (there : (c : ℕ) → c ≢ b → times c held ≡ times c w.holds) where
-          abbrev rest : WorkerView T
-          rest = record w { holds = held }
-
-          own_held : (c : ℕ) → c < length u.counts → put (s.holds w.number) b y c ≡ times c held
-          own_held c lt' = ⊎_elim
-              (λ (e : c ≡ b). subst (λ (k : ℕ). put (s.holds w.number) b y k ≡ times k held) (sym e) (put_same (s.holds w.number) b y ∙ here))
-              (λ (ne : c ≢ b). put_other (s.holds w.number) b y c ne ∙ state_holds c lt' ∙ sym (there c ne))
-              (cases_eq c b)
-
-          own_after : (c : ℕ) → total (held_by w.number c) (set vs i (Worker rest)) ≡ times c held
-          own_after c =
-              let e : eqb w.number w.number ≡ true = eq-eqb w.number w.number refl in
-              let old : held_by {T = T} w.number c (Worker w) ≡ times c w.holds = rw e refl in
-              let new : held_by {T = T} w.number c (Worker rest) ≡ times c held = rw e refl in
-              let t = total-set (held_by w.number c) vs i (Worker w) (Worker rest) at in let o = own_holds c in omega arith
-
-          others_after : (k c : ℕ) → k ≢ w.number → total (held_by k c) (set vs i (Worker rest)) ≡ total (held_by k c) vs
-          others_after k c ne =
-              let e : eqb w.number k ≡ false = ne_eqb w.number k (λ p. ne (sym p)) in
-              let old : held_by {T = T} k c (Worker w) ≡ 0 = rw e refl in
-              let new : held_by {T = T} k c (Worker rest) ≡ 0 = rw e refl in
-              turned (held_by k c) rest (new ∙ sym old)
-
-          held_after : (k c : ℕ) → k < u.workers → c < length u.counts → put s.holds w.number (put (s.holds w.number) b y) k c ≡ total (held_by k c) (set vs i (Worker rest))
-          held_after k c ltk ltc = ⊎_elim
-              (λ (e : k ≡ w.number). subst (λ (j : ℕ). put s.holds w.number (put (s.holds w.number) b y) j c ≡ total (held_by {T = T} j c) (set vs i (Worker rest))) (sym e)
-              (ap (λ (g : ℕ → ℕ). g c) (put_same s.holds w.number (put (s.holds w.number) b y)) ∙ own_held c ltc ∙ sym (own_after c)))
-              (λ (ne : k ≢ w.number). ap (λ (g : ℕ → ℕ). g c) (put_other s.holds w.number (put (s.holds w.number) b y) k ne) ∙ r.holds_are k c ltk ltc ∙ sym (others_after k c ne))
-              (cases_eq k w.number)
-
-          count_after : (c : ℕ) → c < length u.counts → put s.count b x c ≡ get_or (set cs b x) c 0
-          count_after c ltc = ⊎_elim
-              (λ (e : c ≡ b). subst (λ (k : ℕ). put s.count b x k ≡ get_or (set cs b x) k 0) (sym e) (put_same s.count b x ∙ sym (get_or-set_same cs b x 0 (let l = h.buffers in omega arith))))
-              (λ (ne : c ≢ b). put_other s.count b x c ne ∙ r.counts_are c ltc ∙ sym (get_or-set_other cs b c x 0 ne))
-              (cases_eq c b)
-
-          recounted : IsReading u n (set cs b x) f (set vs i (Worker rest)) (record s { count = put s.count b x; holds = put s.holds w.number (put (s.holds w.number) b y) })
-          recounted = record {
-            chunks_are = r.chunks_are;
-            opening_is = r.opening_is;
-            few_seats = r.few_seats;
-            taken = r.taken;
-            owners = λ c k l. ap (λ (z : ℕ). owned_by {T = T} k c (Frame f) + z) (turned (owned_by k c) rest refl) ∙ r.owners c k l;
-            counts_are = count_after;
-            holds_are = held_after;
-          }
-
-        count_small : get_or cs b 0 < 2 ^ 64 - 1
-        count_small = let few = few_holds n cs hs f vs h b in let c = h.count_is b lt in let o = h.opened b 0 lt in omega arith
-
-        keep_is_event : length w.holds < 2 ^ 56 → LeadsTo u s (Keep w.number b) n (set cs b ((get_or cs b 0 + 1) % 2 ^ 64)) f (set vs i (Worker (after_keep w b)))
-        keep_is_event room =
-            let count = r.counts_are b in_setup in
-            let x : s.count b + 1 ≡ (get_or cs b 0 + 1) % 2 ^ 64 = (let c = count_small in omega arith) in
-            let s' : StateValue = record s { count = put s.count b (s.count b + 1); holds = put s.holds w.number (put (s.holds w.number) b (s.holds w.number b + 1)) } in (
-              s',
-              (is_worker, in_setup, few_state_holds room, refl),
-              subst (λ (m : ℕ). IsReading u n (set cs b m) f (set vs i (Worker (after_keep w b))) s') x
-                  (recounted (s.count b + 1) (s.holds w.number b + 1) (b ∷ w.holds)
-                  (let e : eqb b b ≡ true = eq-eqb b b refl in let one : cond {A = ℕ} (eqb b b) 1 0 ≡ 1 = rw e refl in let o = state_holds b in_setup in omega arith)
-                  (λ c ne. let e : eqb b c ≡ false = ne_eqb b c (λ p. ne (sym p)) in let z : cond {A = ℕ} (eqb b c) 1 0 ≡ 0 = rw e refl in omega arith)),
-            )
-
-        release_is_event : 0 < times b w.holds → LeadsTo u s (Release w.number b) n (set cs b ((get_or cs b 0 + (2 ^ 64 - 1)) % 2 ^ 64)) f (set vs i (Worker (after_release w b)))
-        release_is_event held =
-            let count = r.counts_are b in_setup in
-            let two = held_twice n cs hs f vs h i w at b held in
-            let x : s.count b - 1 ≡ (get_or cs b 0 + (2 ^ 64 - 1)) % 2 ^ 64 = (let c = count_small in omega arith) in
-            let s' : StateValue = record s { count = put s.count b (s.count b - 1); holds = put s.holds w.number (put (s.holds w.number) b (s.holds w.number b - 1)) } in (
-              s',
-              (is_worker, in_setup, (let o = state_holds b in_setup in omega arith), refl),
-              subst (λ (m : ℕ). IsReading u n (set cs b m) f (set vs i (Worker (after_release w b))) s') x
-                  (recounted (s.count b - 1) (s.holds w.number b - 1) (without b w.holds)
-                  (let t = times-without b b w.holds held in let e : eqb b b ≡ true = eq-eqb b b refl in let one : cond {A = ℕ} (eqb b b) 1 0 ≡ 1 = rw e refl in let o = state_holds b in_setup in omega arith)
-                  (λ c ne. let t = times-without b c w.holds held in let e : eqb b c ≡ false = ne_eqb b c (λ p. ne (sym p)) in let z : cond {A = ℕ} (eqb b c) 1 0 ≡ 0 = rw e refl in omega arith)),
-            )
+      release_is_event : (b : ℕ) → b < length f.opening → 0 < times b w.holds → LeadsTo u s (Release w.number b) n (set cs b ((get_or cs b 0 + (2 ^ 64 - 1)) % 2 ^ 64)) f (set vs i (Worker (after_release w b)))
+      release_is_event b lt held =
+          let e = holds.release_is_event u s n cs hs f vs h (holds_of_reading r) i w at b lt held in
+          (e.0, e.1, counted_again (set cs b ((get_or cs b 0 + (2 ^ 64 - 1)) % 2 ^ 64)) (after_release w b) e.0 refl refl (ap (λ (x : StateValue). x.taken) e.1.3) (ap (λ (x : StateValue). x.owner) e.1.3) e.2)
 
       look_is_no_event : (b : ℕ) → IsReading u n (set cs b (get_or cs b 0)) f (set vs i (Worker w)) s
       look_is_no_event b =

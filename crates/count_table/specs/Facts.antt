@@ -1,7 +1,8 @@
 -- What follows from the rule of a phase's table.
-use Rattle.std.specs.Prelude.{◌≡◌, ℕ, ◌+◌, ◌*◌, ◌^◌, ◌<◌, ◌≤◌, min, List, ◌∷◌, length, slice_index}
+use Rattle.std.specs.Prelude.{◌≡◌, ℕ, ◌+◌, ◌*◌, ◌<◌, ◌≤◌, min, List, ◌∷◌, length, slice_index}
 use mathlib.Core.Option.{some}
 use lib.ListN.{get_elem?}
+use Rattle.wl_core.specs.declared.limits.TheConstants.{MOST_CHUNKS, MOST_HOLDS, MOST_REFERENCES, MOST_WORKERS}
 use Rattle.count_table.specs.declared.view.FrameView.{FrameView}
 use Rattle.count_table.specs.declared.view.WorkerView.{WorkerView}
 use Rattle.count_table.specs.declared.view.View.{View}
@@ -18,5 +19,5 @@ pub record RuleFacts {T : Type 0} (next : ℕ) (counts : List ℕ) (f : FrameVie
   -- a worker's chunks lie below the next number
   pub below_next : (k : ℕ) (w : WorkerView T) (c : ℕ) → get_elem? vs k ≡ some (Worker w) → 0 < times c w.drawn → c < next
   -- no word comes near its end
-  pub small_next : next ≤ 4096 + 64
-  pub small_counts : (b : ℕ) → b < length f.opening → slice_index counts b ≤ 2 ^ 62 + 64 * 2 ^ 56
+  pub small_next : next ≤ MOST_CHUNKS + MOST_WORKERS
+  pub small_counts : (b : ℕ) → b < length f.opening → slice_index counts b ≤ MOST_REFERENCES + MOST_WORKERS * MOST_HOLDS

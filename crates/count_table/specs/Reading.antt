@@ -4,6 +4,7 @@ use mathlib.Core.Option.{some}
 use lib.ListN.{get_elem?}
 use Rattle.wl_core.specs.declared.events.Event.{Event}
 use Rattle.wl_core.specs.declared.events.Event.TheVariants.{Draw, Keep, Release, Write, Stop}
+use Rattle.wl_core.specs.declared.limits.TheConstants.{MOST_HOLDS}
 use Rattle.wl_core.specs.Machine.{SetupValue, StateValue, Steps, Works, chunks}
 use Rattle.count_table.specs.declared.view.FrameView.{FrameView}
 use Rattle.count_table.specs.declared.view.WorkerView.{WorkerView}
@@ -51,13 +52,16 @@ pub record StepsAreEvents {T : Type 0} (u : SetupValue) (s : StateValue) (next :
   pub draw : (i : ℕ) (w : WorkerView T) → get_elem? vs i ≡ some (Worker w) → next < chunks u → ((c : ℕ) → ¬ Works u s w.number c)
       → LeadsTo u s (Draw w.number) ((next + 1) % 2 ^ 64) counts f (slice_set vs i (Worker (after_draw w next)))
   -- a draw that finds none
-  pub draw_none : (i : ℕ) (w : WorkerView T) → get_elem? vs i ≡ some (Worker w) → chunks u ≤ next → IsReading u ((next + 1) % 2 ^ 64) counts f (slice_set vs i (Worker (after_draw w next))) s
-  pub keep : (i : ℕ) (w : WorkerView T) (b : ℕ) → get_elem? vs i ≡ some (Worker w) → b < w.buffers → length w.holds < 2 ^ 56
+  pub draw_none : (i : ℕ) (w : WorkerView T) → get_elem? vs i ≡ some (Worker w) → chunks u ≤ next
+      → IsReading u ((next + 1) % 2 ^ 64) counts f (slice_set vs i (Worker (after_draw w next))) s
+  pub keep : (i : ℕ) (w : WorkerView T) (b : ℕ) → get_elem? vs i ≡ some (Worker w) → b < w.buffers → length w.holds < MOST_HOLDS
       → LeadsTo u s (Keep w.number b) next (slice_set counts b ((slice_index counts b + 1) % 2 ^ 64)) f (slice_set vs i (Worker (after_keep w b)))
   pub release : (i : ℕ) (w : WorkerView T) (b : ℕ) → get_elem? vs i ≡ some (Worker w) → 0 < times b w.holds
-      → LeadsTo u s (Release w.number b) next (slice_set counts b ((slice_index counts b + (2 ^ 64 - 1)) % 2 ^ 64)) f (slice_set vs i (Worker (after_release w b)))
+      → LeadsTo u s (Release w.number b) next (slice_set counts b ((slice_index counts b + (2 ^ 64 - 1)) % 2 ^ 64)) f
+      (slice_set vs i (Worker (after_release w b)))
   -- a look at a count, a new seat, and the two loads by which a seat leaves
-  pub look : (i : ℕ) (w : WorkerView T) (b : ℕ) → get_elem? vs i ≡ some (Worker w) → IsReading u next (slice_set counts b (slice_index counts b)) f (slice_set vs i (Worker w)) s
+  pub look : (i : ℕ) (w : WorkerView T) (b : ℕ) → get_elem? vs i ≡ some (Worker w)
+      → IsReading u next (slice_set counts b (slice_index counts b)) f (slice_set vs i (Worker w)) s
   pub seat : f.made < u.workers → IsReading u next counts (seated f) (vs ++ Worker (fresh f) ∷ []) s
   pub move : (i : ℕ) (w : WorkerView T) → get_elem? vs i ≡ some (Worker w) → IsReading u next counts f (slice_set vs i Spent ++ Worker w ∷ []) s
   pub join : (i : ℕ) (w : WorkerView T) → get_elem? vs i ≡ some (Worker w) → w.holds ≡ [] → IsReading u next counts (joined f w) (slice_set vs i Spent) s

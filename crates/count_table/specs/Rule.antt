@@ -1,9 +1,11 @@
--- The rule of a phase's table, between any two steps of any threads. Word 0 is the next chunk number, and word b + 1 the count of the shared buffer b. The slots have the parts of the chunks.
-use Rattle.std.specs.Prelude.{◌≡◌, ℕ, ◌+◌, ◌^◌, ◌<◌, ◌≤◌, min, cond, nat_lt, List, [], ◌∷◌, length, slice_index, slice_get, All}
+-- The rule of a phase's table, between any two steps of any threads. Word 0 is the next chunk number, and word b + 1 the count of the shared
+-- buffer b. The slots have the parts of the chunks.
+use Rattle.std.specs.Prelude.{◌≡◌, ℕ, ◌+◌, ◌<◌, ◌≤◌, min, cond, nat_lt, List, [], ◌∷◌, length, slice_index, slice_get, All}
 use mathlib.Core.Option.{some, Option as Home}
 use Rattle.std.specs.declared.option.Option.{Option}
 use lib.ListN.{get_elem?}
 use Rattle.atomic_table.specs.Table.{State}
+use Rattle.wl_core.specs.declared.limits.TheConstants.{MOST_CHUNKS, MOST_HOLDS, MOST_REFERENCES, MOST_WORKERS}
 use Rattle.count_table.specs.declared.view.FrameView.{FrameView}
 use Rattle.count_table.specs.declared.view.WorkerView.{WorkerView}
 use Rattle.count_table.specs.declared.view.View.{View}
@@ -13,7 +15,7 @@ use Rattle.count_table.specs.Views.{times, total, drawn_times, drawn_count, none
 -- a worker's view beside the frame's
 pub record IsSeatOf {T : Type 0} (f : FrameView T) (w : WorkerView T) : Type 0 where
   pub number_made : w.number < f.made
-  pub few_holds : length w.holds ≤ 2 ^ 56
+  pub few_holds : length w.holds ≤ MOST_HOLDS
   pub holds_within : (b : ℕ) → 0 < times b w.holds → b < length f.opening
   -- what never changes is the same in both
   pub same_parts : w.parts ≡ f.parts
@@ -36,9 +38,9 @@ pub record Counted {T : Type 0} (next : ℕ) (counts : List ℕ) (homes : List (
   pub buffers : length counts ≡ length f.opening
   pub count_is : (b : ℕ) → b < length f.opening → slice_index counts b ≡ slice_index f.opening b + total (holds_of b) vs
   -- the frame's view is in range
-  pub opened : All (λ n. (1 ≤ n) × (n ≤ 2 ^ 62)) f.opening
-  pub few_seats : f.made ≤ 64
-  pub few_chunks : length f.parts ≤ 4096
+  pub opened : All (λ n. (1 ≤ n) × (n ≤ MOST_REFERENCES)) f.opening
+  pub few_seats : f.made ≤ MOST_WORKERS
+  pub few_chunks : length f.parts ≤ MOST_CHUNKS
   pub drawn_by : All (λ p. p.1 < f.made) f.drawn
   -- the workers' views are as many as are out, each with a number of its own
   pub out_is : total is_out vs ≡ f.out

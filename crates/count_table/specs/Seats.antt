@@ -1,9 +1,10 @@
 -- A phase and its seats as callers see them.
-use Rattle.std.specs.Prelude.{◌≡◌, ℕ, ◌<◌, Bool, List, [], ◌∷◌, length, slice_get}
+use Rattle.std.specs.Prelude.{◌≡◌, ℕ, ◌+◌, ◌-◌, ◌<◌, ◌≤◌, Bool, true, cond, List, [], ◌∷◌, ◌++◌, map, length, slice_get, All}
 use Rattle.atomic_table.specs.Seated.{TableId}
 use Rattle.std.specs.declared.option.Option.{Option}
 use Rattle.std.specs.declared.option.Option.TheVariants.{None, Some}
 use Rattle.atomic_table.specs.Table.{Me, rest}
+use Rattle.wl_core.specs.declared.limits.TheConstants.{MOST_REFERENCES}
 use Rattle.count_table.specs.declared.view.FrameView.{FrameView}
 use Rattle.count_table.specs.declared.view.WorkerView.{WorkerView}
 use Rattle.count_table.specs.declared.view.View.{View}
@@ -38,6 +39,10 @@ pub record FrameState (T : Type 0) : Type 0 where
   -- how many of the seats that left had drawn until no chunk was left
   pub nones : ℕ
 
+-- counts that buffers may have when a phase opens
+abbrev pub AreReferences : List ℕ → Type 0
+AreReferences counts = All (λ n. (1 ≤ n) × (n ≤ MOST_REFERENCES)) counts
+
 module _ {T : Type 0} where
   abbrev pub phase_of : TableId → List T → ℕ → PhaseId T
   phase_of t p b = record { table = t; parts = p; buffers = b }
@@ -51,6 +56,17 @@ module _ {T : Type 0} where
   -- a phase that was just opened with these counts, and the frame's seat
   abbrev pub IsOpened : List ℕ → PhaseId T → FrameState T → Type 0
   IsOpened counts p f = (p.buffers ≡ length counts) × (f ≡ record { phase = p; opening = counts; made = 0; out = 0; drawn = []; nones = 0 })
+
+  -- a seat that drew the chunk c, and one that found none left
+  abbrev pub drew : WorkerState T → ℕ → WorkerState T
+  drew w c = record w { drawn = w.drawn ++ c ∷ []; ready = Some c }
+
+  abbrev pub ended : WorkerState T → WorkerState T
+  ended w = record w { ended = true; ready = None }
+
+  -- the frame's seat, to which a seat came back
+  abbrev pub left : FrameState T → WorkerState T → FrameState T
+  left f w = record f { out = f.out - 1; drawn = f.drawn ++ map (λ c. (c, w.number)) w.drawn; nones = f.nones + cond w.ended 1 0 }
 
   -- each buffer that a worker holds is one of the phase
   abbrev pub HoldsWithin : WorkerView T → Type 0

@@ -1,8 +1,9 @@
 // One phase: its table, the frame's seat and the workers' seats.
-ghost use Rattle.std.specs.Prelude.{◌≡◌, ◌≢◌, ℕ, ◌+◌, ◌-◌, ◌%◌, ◌^◌, ◌<◌, ◌≤◌, [], ◌∷◌, ◌++◌, true, false, length, map, slice_index, slice_get, MatchOption, IfSome, IfOk, IfErr, All, cond, nat_lt, None, Some};
+ghost use Rattle.std.specs.Prelude.{◌≡◌, ◌≢◌, ℕ, ◌+◌, ◌-◌, ◌%◌, ◌^◌, ◌<◌, ◌≤◌, [], ◌∷◌, ◌++◌, true, false, length, map, slice_index, slice_get, MatchOption, IfSome, IfOk, IfErr, cond, nat_lt, None};
 ghost use Rattle.std.specs.Slots.{IsFull};
 ghost use Rattle.count_table.specs.Views.{times, without};
-ghost use Rattle.count_table.specs.Seats.{PhaseId, WorkerState, FrameState, IsOpened};
+ghost use Rattle.count_table.specs.Seats.{PhaseId, WorkerState, FrameState, IsOpened, AreReferences, ended, drew, left};
+ghost use Rattle.wl_core.specs.declared.limits.TheConstants.{MOST_CHUNKS, MOST_HOLDS, MOST_WORKERS};
 
 use crate::opening::{Unopened, empty_slots, fill_slots, words_of};
 use crate::rule::{Draw, Keep, Leaving, Look, Moving, Opening, PhaseRule, Release, Seating};
@@ -31,7 +32,8 @@ impl<T: Send + Drop> Model for Phase<T> {
 
     ghost view = { λ p. phase_of p.table.shared.table_id p.table.shared.key.parts.value.items p.buffers };
 
-    ghost invariant = { λ p. (p.table.shared.table_id.words ≡ p.buffers + 1) × (p.chunks ≡ length p.table.shared.key.parts.value.items) × (p.buffers < 2 ^ 61) × (p.table.shared.table_id.slots ≡ p.chunks) };
+    ghost invariant = { λ p. (p.table.shared.table_id.words ≡ p.buffers + 1)
+        × (p.chunks ≡ length p.table.shared.key.parts.value.items) × (p.buffers < 2 ^ 61) × (p.table.shared.table_id.slots ≡ p.chunks) };
 }
 
 /// What a worker steps with. It shows the worker's number, what it holds and has drawn, and whether it has drawn None.
@@ -78,8 +80,8 @@ impl Phase<()> {
         counts: &[u64],
         chunks: u64,
     ) -> Result<(Phase<()>, FrameSeat<()>), Memory>
-        requires counts { All (λ n. (1 ≤ n) × (n ≤ 2 ^ 62)) counts.now }
-        requires chunks { chunks ≤ 4096 }
+        requires counts { AreReferences counts.now }
+        requires chunks { chunks ≤ MOST_CHUNKS }
         ensures chunks { IfOk result (λ r. length r.0.parts ≡ chunks) }
         ensures opened { IfOk result (λ r. IsOpened counts.now r.0 r.1) }
     {
@@ -99,8 +101,8 @@ impl<T: Send + Drop> Phase<T> {
         counts: &[u64],
         mut parts: Vec<T>,
     ) -> Result<(Phase<T>, FrameSeat<T>), Unopened<T>>
-        requires counts { All (λ n. (1 ≤ n) × (n ≤ 2 ^ 62)) counts.now }
-        requires parts { length parts.items ≤ 4096 }
+        requires counts { AreReferences counts.now }
+        requires parts { length parts.items ≤ MOST_CHUNKS }
         ensures parts { IfOk result (λ r. r.0.parts ≡ parts.items) }
         ensures opened { IfOk result (λ r. IsOpened counts.now r.0 r.1) }
         ensures back { IfErr result (λ e. e.parts.items ≡ parts.items) }
@@ -136,7 +138,7 @@ impl<T: Send + Drop> Phase<T> {
     /// Makes a seat for one worker, which holds nothing and has drawn nothing. The seats of a phase are numbered from 0.
     pub fn seat(&self, frame: &mut FrameSeat<T>) -> WorkerSeat<T>
         requires phase { frame.old.phase ≡ self.now }
-        requires room { frame.old.made < 64 }
+        requires room { frame.old.made < MOST_WORKERS }
         ensures frame { frame.new ≡ record frame.old { made = frame.old.made + 1; out = frame.old.out + 1 } }
         ensures seat { result ≡ record { phase = self.now; number = frame.old.made; holds = []; drawn = []; ended = false; ready = None } }
     {
@@ -149,7 +151,7 @@ impl<T: Send + Drop> Phase<T> {
         requires phase { seat.old.phase ≡ self.now }
         requires more { seat.old.ended ≡ false }
         ensures later { IfSome result (λ c. (k : ℕ) → 0 < times k seat.old.drawn → k < c) }
-        ensures drawn { MatchOption result (seat.new ≡ record seat.old { ended = true; ready = None }) (λ c. (c < length self.now.parts) × (seat.new ≡ record seat.old { drawn = seat.old.drawn ++ c ∷ []; ready = Some c })) }
+        ensures drawn { MatchOption result (seat.new ≡ ended seat.old) (λ c. (c < length self.now.parts) × (seat.new ≡ drew seat.old c)) }
     {
         let next = self.table.shared.fetch_add::<Draw>(&mut seat.seat, 0, 1);
         seat.ready = if next < self.chunks { Some(next) } else { None };
@@ -181,7 +183,7 @@ impl<T: Send + Drop> Phase<T> {
     pub fn keep(&self, seat: &mut WorkerSeat<T>, buffer: u64)
         requires phase { seat.old.phase ≡ self.now }
         requires buffer { buffer < self.now.buffers }
-        requires room { length seat.old.holds < 2 ^ 56 }
+        requires room { length seat.old.holds < MOST_HOLDS }
         ensures { seat.new ≡ record seat.old { holds = buffer ∷ seat.old.holds } }
     {
         self.table
@@ -217,7 +219,7 @@ impl<T: Send + Drop> Phase<T> {
     pub fn leave(&self, seat: WorkerSeat<T>, frame: &mut FrameSeat<T>)
         requires phase { (frame.old.phase ≡ self.now) × (seat.phase ≡ self.now) }
         requires holds { seat.holds ≡ [] }
-        ensures { frame.new ≡ record frame.old { out = frame.old.out - 1; drawn = frame.old.drawn ++ map (λ c. (c, seat.number)) seat.drawn; nones = frame.old.nones + cond seat.ended 1 0 } }
+        ensures { frame.new ≡ left frame.old seat }
     {
         let WorkerSeat { mut seat, ready: _ } = seat;
         let moved = self.table.shared.split_seat::<Moving>(&mut seat);

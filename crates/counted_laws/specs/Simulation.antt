@@ -73,7 +73,8 @@ MatchesPure _ _ _ _ _ = ⊥
 -- calls do what they mean, and take over their arguments' references
 abbrev pub CallsMatch : (ℕ → ℕ) → DoesCalls → CallMeaning → Type 0
 CallsMatch results_of does_calls calls =
-    (g : ℕ) (vs : List Value) (s : Site) (h : Heap) (others : ℕ → ℕ) → Owns h vs others → Matches (results_of g) others h (does_calls g vs s h) (calls g (map (read h) vs) s)
+    (g : ℕ) (vs : List Value) (s : Site) (h : Heap) (others : ℕ → ℕ) → Owns h vs others →
+    Matches (results_of g) others h (does_calls g vs s h) (calls g (map (read h) vs) s)
 
 -- no buffer is live at the end; after a fault there is no heap
 abbrev pub LeavesNothing : Ended (List ArrayValue) → Type 0

@@ -81,7 +81,15 @@ abbrev mutual
   placing_parts (Part h b rest) = PartCode h (placing (h.index ∷ []) b) (placing_parts rest)
 
 abbrev pub placing_fun : FunTerm → CodeFunTerm
-placing_fun f = record { name = f.name; site = f.site; params = f.params; results = f.results; is_inline = f.is_inline; body = placing (param_vars f) f.body; ends = f.ends }
+placing_fun f = record {
+  name = f.name;
+  site = f.site;
+  params = f.params;
+  results = f.results;
+  is_inline = f.is_inline;
+  body = placing (param_vars f) f.body;
+  ends = f.ends;
+}
 
 -- a program whose functions have the references of their arguments
 abbrev pub placing_core : CoreTerm → CodeProgram

@@ -1,6 +1,10 @@
 ghost use Rattle.std.specs.Prelude.{◌≡◌, ◌+◌, ◌*◌, ◌<◌, ◌≤◌, ℕ, None, IfSome};
 ghost use Rattle.std.specs.Int.{div_ceil};
 ghost use Rattle.index_cutter.specs.Cuts.{chunk_size};
+ghost use Rattle.sac_base.specs.Arrays.{MOST};
+ghost use Rattle.wl_core.specs.declared.limits.TheConstants.{MOST_CHUNKS, MOST_WORKERS};
+
+use wl_core::MOST_CHUNKS;
 
 /// Positions cut into `count` chunks of `size` positions each, the last of which may have fewer. Chunk k begins at
 /// position `k * size`.
@@ -11,14 +15,11 @@ pub struct Cuts {
     pub count: u64,
 }
 
-// The most chunks that positions are cut into.
-const MOST_CHUNKS: u64 = 4096;
-
 /// Cuts positions into chunks of the given size, or of an equal share for each worker, and in each case into chunks so
-/// large that there are at most 4,096.
+/// large that there are at most `MOST_CHUNKS`.
 pub fn cut(positions: u64, workers: u32, chunk: Option<u64>) -> Cuts
-    requires positions { positions ≤ 16777216 }
-    requires workers { (1 ≤ workers) × (workers ≤ 64) }
+    requires positions { positions ≤ MOST }
+    requires workers { (1 ≤ workers) × (workers ≤ MOST_WORKERS) }
     requires chunk { IfSome chunk (λ size. 1 ≤ size) }
     ensures positions { result.positions ≡ positions }
     ensures size { result.size ≡ chunk_size positions workers chunk }
@@ -26,7 +27,7 @@ pub fn cut(positions: u64, workers: u32, chunk: Option<u64>) -> Cuts
     ensures some { 1 ≤ result.size }
     ensures covers { positions ≤ result.count * result.size }
     ensures filled { (k : ℕ) → k < result.count → k * result.size < positions }
-    ensures most { result.count ≤ 4096 }
+    ensures most { result.count ≤ MOST_CHUNKS }
     ensures shared { chunk ≡ None → result.count ≤ workers }
 {
     let wish = chunk.unwrap_or(positions.div_ceil(workers as u64));

@@ -5,3 +5,4 @@ pub mod Growing
 pub mod Numbers
 pub mod Phased
 pub mod Spending
+pub mod Statements

@@ -33,7 +33,8 @@ phase_cells (Some cut) true Inside form source vs = chunks_do form source (write
 module _ (cut : Option Cut) where
   abbrev pub claimed_phase : Bool → Job → Claimed → Ended Value
   claimed_phase phase j c =
-      then_go (phase_cells cut phase c.target j.form j.source j.indices) (λ found h. then_go (settled c.target (j.result found)) (λ v k. Done v (release_rest c.rest k)) h) c.heap
+      then_go (phase_cells cut phase c.target j.form j.source j.indices)
+      (λ found h. then_go (settled c.target (j.result found)) (λ v k. Done v (release_rest c.rest k)) h) c.heap
 
   abbrev pub phase_does : Option Value → Job → Doing Value
   phase_does mark j h =
@@ -58,7 +59,8 @@ module _ (cut : Option Cut) where
       right_phased (PlainCode p) s e h = one_value (plain_does p s e) h
       right_phased (IfCode x a b) s e h = choose_does s (condition (read h (e x))) (phased a e) (phased b e) h
       right_phased (LoopCode first_body start params test body test_site) s e h =
-          turns_do first_body turns s test_site (λ vs. first_value (phased test (bind_values e params vs))) (λ vs. phased body (bind_values e params vs)) (map e start) h
+          turns_do first_body turns s test_site (λ vs. first_value (phased test (bind_values e params vs)))
+          (λ vs. phased body (bind_values e params vs)) (map e start) h
       right_phased (CallCode group xs) s e h = calls group (map e xs) s h
       right_phased (WithCode op gens) s e h =
           one_value (phased_loop (λ k. with_job (code_generators cell_calls turns gens e k) (operation op s (reads k e))) None) h
@@ -80,13 +82,16 @@ module _ (cut : Option Cut) where
     abbrev pub inline_phased : (cells_outer outer : DoesRun) → ℕ → DoesRun
     inline_phased cells_outer outer zero place vs site = fails F10 site
     inline_phased cells_outer outer (suc nest) place vs site =
-        body_phased turns (call_does code cells_outer (inline_does code turns cells_outer nest)) (call_does code outer (inline_phased cells_outer outer nest)) (slice_get code.functions place) vs site
+        body_phased turns (call_does code cells_outer (inline_does code turns cells_outer nest))
+        (call_does code outer (inline_phased cells_outer outer nest)) (slice_get code.functions place) vs site
 
     -- one that is not inline, one level deeper
     abbrev pub deeper_phased : ℕ → DoesRun
     deeper_phased zero place vs site = fails F10 site
     deeper_phased (suc left) place vs site =
-        body_phased turns (call_does_at code turns left) (call_does code (deeper_phased left) (inline_phased (deeper_does code turns left) (deeper_phased left) (length code.functions))) (slice_get code.functions place) vs site
+        body_phased turns (call_does_at code turns left)
+        (call_does code (deeper_phased left) (inline_phased (deeper_does code turns left) (deeper_phased left) (length code.functions)))
+        (slice_get code.functions place) vs site
 
     -- what calls do outside of cells, where so many levels are left
     abbrev pub calls_phased : ℕ → DoesCalls
@@ -103,4 +108,5 @@ module _ (cut : Option Cut) where
 
   abbrev pub phased_run : CodeProgram → List ArrayValue → Caps → Ended (List ArrayValue)
   phased_run code args caps =
-      main_phased caps.turns (call_does_at code caps.turns caps.depth) (calls_phased code caps.turns caps.depth) (slice_get code.functions code.main) args empty_heap
+      main_phased caps.turns (call_does_at code caps.turns caps.depth) (calls_phased code caps.turns caps.depth)
+      (slice_get code.functions code.main) args empty_heap

@@ -69,7 +69,8 @@ pub record Step (A : Type 0) : Type 0 where
 abbrev pub repeat_spends : ℕ → Step ArrayValue → Step (List ArrayValue) → List ArrayValue → Spending
 repeat_spends zero test body vs = test.spends vs
 repeat_spends (suc left) test body vs =
-    both (test.spends vs) (after (test.value vs) (λ c. choice (condition c) (both (body.spends vs) (after (body.value vs) (repeat_spends left test body))) nothing))
+    both (test.spends vs) (after (test.value vs) (λ c.
+    choice (condition c) (both (body.spends vs) (after (body.value vs) (repeat_spends left test body))) nothing))
 
 abbrev pub turns_spend : Bool → ℕ → Step ArrayValue → Step (List ArrayValue) → List ArrayValue → Spending
 turns_spend false turns test body vs = repeat_spends turns test body vs
@@ -106,9 +107,12 @@ module _ (calls : CallMeaning) (turns : ℕ) (call_spends : CallSpending) where
         (record { value = λ vs. run calls turns (core_of body) (bind_all ρ params vs); spends = λ vs. spends body (bind_all ρ params vs) }) (map ρ start)
     right_spends (CallCode group xs) s ρ = call_spends group (map ρ xs)
     right_spends (WithCode op gens) s ρ =
-        after (plan (map (λ (g : Generator). g.bounds) (generators calls turns (core_of_gens gens) ρ)) (operation op s ρ)) (λ p. cells_spend (is_fold (operation op s ρ)) p.shape p.indices (gens_take gens ρ p.ranges))
+        after (plan (map (λ (g : Generator). g.bounds) (generators calls turns (core_of_gens gens) ρ)) (operation op s ρ))
+        (λ p. cells_spend (is_fold (operation op s ρ)) p.shape p.indices (gens_take gens ρ p.ranges))
     right_spends (PartedCode frame base cell op parts reuse) s ρ =
-        if neutral_fits (cell_form base cell) op ρ then cells_spend (parted_folds op) (parted_shape frame cell op) (members frame) (parts_take parts ρ) else nothing
+        if neutral_fits (cell_form base cell) op ρ
+        then cells_spend (parted_folds op) (parted_shape frame cell op) (members frame) (parts_take parts ρ)
+        else nothing
 
     -- how many buffers the cell at an index takes: that of the first generator whose range holds it
     pub gens_take : CodeGensTerm → Env → List Range → List ℤ → ℕ
@@ -149,17 +153,21 @@ module _ (code : CodeProgram) where
     abbrev pub inline_spends : RunMeaning → RunSpending → ℕ → RunSpending
     inline_spends outer_value outer zero place args = nothing
     inline_spends outer_value outer (suc nest) place args =
-        body_spends turns (call_by (core_of_code code) outer_value (run_inline (core_of_code code) turns outer_value nest)) (calls_spend outer (inline_spends outer_value outer nest)) (slice_get code.functions place) args
+        body_spends turns (call_by (core_of_code code) outer_value (run_inline (core_of_code code) turns outer_value nest))
+        (calls_spend outer (inline_spends outer_value outer nest)) (slice_get code.functions place) args
 
     -- one that is not inline, where so many levels are left
     abbrev pub deeper_spends : ℕ → RunSpending
     deeper_spends zero place args = nothing
     deeper_spends (suc left) place args =
-        body_spends turns (call_at (core_of_code code) turns left) (calls_spend (deeper_spends left) (inline_spends (run_deeper (core_of_code code) turns left) (deeper_spends left) (length code.functions))) (slice_get code.functions place) args
+        body_spends turns (call_at (core_of_code code) turns left)
+        (calls_spend (deeper_spends left) (inline_spends (run_deeper (core_of_code code) turns left) (deeper_spends left) (length code.functions)))
+        (slice_get code.functions place) args
 
     -- calls, where so many levels are left
     abbrev pub calls_spend_at : ℕ → CallSpending
-    calls_spend_at left = calls_spend (deeper_spends left) (inline_spends (run_deeper (core_of_code code) turns left) (deeper_spends left) (length code.functions))
+    calls_spend_at left =
+        calls_spend (deeper_spends left) (inline_spends (run_deeper (core_of_code code) turns left) (deeper_spends left) (length code.functions))
 
 -- ---- a whole run
 
@@ -168,7 +176,8 @@ abbrev pub main_spends : CodeProgram → ℕ → ℕ → Option CodeFunTerm → 
 main_spends code turns depth None args = nothing
 main_spends code turns depth (Some f) args =
     if all_have (code_param_types f) args
-    then both (record { taken = total (λ (a : ArrayValue). buffers_of a.shape) args; phases = [] }) (body_spends turns (call_at (core_of_code code) turns depth) (calls_spend_at code turns depth) (Some f) args)
+    then both (record { taken = total (λ (a : ArrayValue). buffers_of a.shape) args; phases = [] })
+    (body_spends turns (call_at (core_of_code code) turns depth) (calls_spend_at code turns depth) (Some f) args)
     else nothing
 
 abbrev pub whole_spends : CodeProgram → List ArrayValue → Caps → Spending

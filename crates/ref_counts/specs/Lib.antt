@@ -1,3 +1,5 @@
+pub mod Endings
 pub mod Latest
 pub mod Owning
 pub mod Pieces
+pub mod Placements

@@ -21,7 +21,8 @@ module _ {S : Type 0} where
   abbrev pub IsSound : HashMap ℕ ℕ S → Owned → Type 0
   IsSound last Gone = Unit {0}
   IsSound last (One x) = Unit {0}
-  IsSound last (Fork' leaves used_before p first q second) = IsBound last (owned_vars first ++ owned_vars second) used_before × IsSound last first × IsSound last second
+  IsSound last (Fork' leaves used_before p first q second) =
+      IsBound last (owned_vars first ++ owned_vars second) used_before × IsSound last first × IsSound last second
 
   -- it passes, and is not used at this place or later
   abbrev pub ends : HashMap ℕ ℕ S → ℕ → Bool → List Var → Var → Bool

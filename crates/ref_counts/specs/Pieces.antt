@@ -16,7 +16,20 @@ pub record CodePartTerm : Type 0 where
   pub body : CodeTerm
 
 abbrev pub code_gen_term : CodeGen → CodeGenTerm
-code_gen_term g = record { head = record { lower = g.lower; lower_closed = g.lower_closed; upper = g.upper; upper_closed = g.upper_closed; step = g.step; width = g.width; index = g.index; names = g.names.items; site = g.site }; body = code_term g.body }
+code_gen_term g = record {
+  head = record {
+    lower = g.lower;
+    lower_closed = g.lower_closed;
+    upper = g.upper;
+    upper_closed = g.upper_closed;
+    step = g.step;
+    width = g.width;
+    index = g.index;
+    names = g.names.items;
+    site = g.site;
+  };
+  body = code_term g.body;
+}
 
 abbrev pub code_part_term : CodePart → CodePartTerm
 code_part_term p = record { head = record { grid = p.grid; index = p.index; site = p.site }; body = code_term p.body }

@@ -1,19 +1,15 @@
 //! Functions and programs.
 
-ghost use Rattle.std.specs.Prelude.{◌≡◌, IfOk, List, map};
+ghost use Rattle.std.specs.Prelude.{◌≡◌, IfOk, map};
 ghost use Rattle.core_ir.specs.declared.tree.Var.{Var};
 ghost use Rattle.sac_base.specs.declared.types.ArrayType.{ArrayType};
-ghost use Rattle.sac_base.specs.Arrays.{ArrayValue};
-ghost use Rattle.sac_base.specs.declared.faults.Caps.{Caps};
-ghost use Rattle.core_ir.specs.Outcome.{outcome};
 ghost use Rattle.core_ir.specs.View.{fun_term, core_term};
 ghost use Rattle.core_ir.specs.WellFormed.{IsWellFormed};
 ghost use Rattle.counted_code.specs.Counts.{IsWellCounted, IsUnmarked};
-ghost use Rattle.counted_code.specs.Outcome.{whole_run, outcome_of};
 ghost use Rattle.counted_code.specs.Prompt.{IsPrompt};
 ghost use Rattle.counted_code.specs.Terms.{core_of_code};
 ghost use Rattle.counted_code.specs.View.{code_fun_term, code_program};
-ghost use Rattle.counted_laws.specs.Simulation.{LeavesNothing};
+ghost use Rattle.ref_counts.specs.Placements.{RunsAsTheCore, RunsLeaveNothing};
 ghost use Rattle.counted_placing.specs.Placing.{placing_fun, placing_core};
 
 use crate::place::place_block;
@@ -29,8 +25,8 @@ pub fn count_refs(alloc: Global, core: Core) -> Result<Code, Memory>
     ensures prompt { IsWellFormed (core_term core) → IfOk result (λ code. IsPrompt (code_program code)) }
     ensures unmarked { IfOk result (λ code. IsUnmarked (code_program code)) }
     ensures same { IfOk result (λ code. core_of_code (code_program code) ≡ core_term core) }
-    ensures outcome { IsWellFormed (core_term core) → (args : List ArrayValue) (caps : Caps) → IfOk result (λ code. outcome_of (whole_run (code_program code) args caps) ≡ outcome (core_term core) args caps) }
-    ensures nothing_left { IsWellFormed (core_term core) → (args : List ArrayValue) (caps : Caps) → IfOk result (λ code. LeavesNothing (whole_run (code_program code) args caps)) }
+    ensures outcome { IsWellFormed (core_term core) → RunsAsTheCore (core_term core) result }
+    ensures nothing_left { IsWellFormed (core_term core) → RunsLeaveNothing result }
 {
     place_core(alloc, core)
 }

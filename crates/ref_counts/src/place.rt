@@ -1,22 +1,17 @@
 //! Steps that keep and release are put between bindings.
 
-ghost use Rattle.std.specs.Prelude.{◌≡◌, ◌+◌, [], ◌∷◌, ◌++◌, IfOk, drop, length, List};
-ghost use Rattle.core_ir.specs.declared.tree.Var.{Var};
-ghost use Rattle.core_ir.specs.Terms.{BlockTerm, Gives, chain};
+ghost use Rattle.std.specs.Prelude.{◌≡◌, [], IfOk};
 ghost use Rattle.core_ir.specs.View.{block_term, let_term, right_term, with_term, parted_term, gen_term, part_term};
-ghost use Rattle.counted_code.specs.Prompt.{uses, uses_right};
-ghost use Rattle.counted_code.specs.Terms.{Giving};
-ghost use Rattle.counted_code.specs.View.{code_term, code_right_term, steps_before, code_with_term, code_parted_term};
-ghost use Rattle.ref_counts.specs.Latest.{AreLast};
-ghost use Rattle.ref_counts.specs.Owning.{owned_vars, IsSound};
+ghost use Rattle.counted_code.specs.View.{code_term, code_right_term, code_with_term, code_parted_term};
 ghost use Rattle.ref_counts.specs.Pieces.{code_gen_term, code_part_term, placing_gen, placing_part};
+ghost use Rattle.ref_counts.specs.Placements.{ResultsPlaced, LetPlaced};
 ghost use Rattle.counted_placing.specs.Placing.{placing, placing_right};
 
-use crate::held::{Owned, add_vars, take_ending, with_all};
+use crate::held::{Owned, add_vars, take_ending, take_unused, with_all};
 use crate::last::{LastUses, last_uses};
 use crate::split::needing_more;
 use crate::steps::{
-    branches, copy_vars, count_uses, handed_on, push_binding, push_keeps, push_releases, read_from,
+    among, copy_vars, count_uses, handed_on, push_binding, push_keeps, push_releases, read_from,
 };
 use crate::uses::add_uses;
 use core_ir::{Block, CoreGen, CorePart, Let, PartedLoop, Right, Var, WithLoop};
@@ -56,10 +51,10 @@ fn place_results(
     owned: Owned,
     steps: &mut Vec<CodeStep>,
 ) -> Result<(), Memory>
-    ensures { (us : List Var) → AreLast last.now us → IsSound last.now owned → drop from us ≡ results.now → IfOk result (λ done. steps_before steps.new.items (Giving results.now) ≡ steps_before steps.old.items (placing (owned_vars owned) (Gives results.now))) }
+    ensures { ResultsPlaced last.now from owned results.now steps.old.items steps.new.items result }
 {
     let mut dead = Vec::new(alloc);
-    let left = take_ending(alloc, owned, last, from, true, &[], &mut dead)?;
+    let left = take_unused(alloc, owned, last, from, &mut dead)?;
     push_releases(&dead, steps)?;
     let mut live = Vec::new(alloc);
     add_vars(&left, &mut live)?;
@@ -78,23 +73,16 @@ fn place_let(
     owned: Owned,
     steps: &mut Vec<CodeStep>,
 ) -> Result<Owned, Memory>
-    ensures { (us : List Var) (rest : BlockTerm) → AreLast last.now us → IsSound last.now owned → drop from us ≡ uses_right (let_term binding.now).right ++ uses rest → to ≡ from + length (uses_right (let_term binding.now).right) → IfOk result (λ left. IsSound last.now left × (steps_before steps.new.items (placing (owned_vars left) rest) ≡ steps_before steps.old.items (placing (owned_vars owned) (chain (let_term binding.now ∷ []) rest)))) }
+    ensures { LetPlaced last.now (let_term binding.now) from to owned steps.old.items steps.new.items result }
 {
     let mut dead = Vec::new(alloc);
-    let live = take_ending(alloc, owned, last, from, true, &[], &mut dead)?;
+    let live = take_unused(alloc, owned, last, from, &mut dead)?;
     push_releases(&dead, steps)?;
     let handed = handed_on(alloc, &binding.right)?;
     let read_from = read_from(&binding.right, from, to);
+    let may_end = among(&binding.right, &handed);
     let mut mine = Vec::new(alloc);
-    let stay = take_ending(
-        alloc,
-        live,
-        last,
-        read_from,
-        branches(&binding.right),
-        &handed,
-        &mut mine,
-    )?;
+    let stay = take_ending(alloc, live, last, read_from, may_end, &mut mine)?;
     let more = needing_more(alloc, &handed, &mine)?;
     push_keeps(&more, steps)?;
     let right = place_right(alloc, &binding.right, &mine)?;

@@ -1,14 +1,16 @@
 //! Steps that are appended, and what right sides hand on.
 
-ghost use Rattle.std.specs.Prelude.{◌≡◌, IfOk, length, List};
-ghost use Rattle.core_ir.specs.declared.tree.Var.{Var};
+ghost use Rattle.std.specs.Prelude.{◌≡◌, IfOk, length};
 ghost use Rattle.core_ir.specs.View.{right_term};
 ghost use Rattle.counted_code.specs.Prompt.{uses_right, hands};
-ghost use Rattle.counted_code.specs.Terms.{CodeTerm, Binding};
-ghost use Rattle.counted_code.specs.View.{code_right_term, steps_before};
+ghost use Rattle.counted_code.specs.Terms.{Binding};
+ghost use Rattle.counted_code.specs.View.{code_right_term};
+ghost use Rattle.ref_counts.specs.Endings.{takes_all, among_list};
 ghost use Rattle.ref_counts.specs.Latest.{read_place};
+ghost use Rattle.ref_counts.specs.Placements.{Appended};
 ghost use Rattle.counted_placing.specs.Placing.{keeps, releases, is_conditional};
 
+use crate::held::Among;
 use crate::uses::add_right;
 use core_ir::{Right, Var};
 use counted_code::{CodeLet, CodeRight, CodeStep};
@@ -44,13 +46,14 @@ pub fn handed_on(alloc: Global, right: &Right) -> Result<Vec<Var>, Memory>
     }
 }
 
-/// Whether the right side is a conditional.
-pub fn branches(right: &Right) -> bool
-    ensures { result ≡ is_conditional (right_term right.now) }
+/// Whose references may end in the right side: those of what it hands on, and in a conditional, whose branches can release them, those of all.
+pub fn among<'a>(right: &Right, handed: &'a [Var]) -> Among<'a>
+    ensures all { takes_all result ≡ is_conditional (right_term right.now) }
+    ensures list { handed.now ≡ hands (right_term right.now) → among_list result ≡ handed.now }
 {
     match right {
-        Right::If { .. } => true,
-        _ => false,
+        Right::If { .. } => Among::All,
+        _ => Among::These(handed),
     }
 }
 
@@ -66,7 +69,7 @@ pub fn read_from(right: &Right, from: usize, to: usize) -> usize
 
 /// Appends a Release of each variable.
 pub fn push_releases(vars: &[Var], steps: &mut Vec<CodeStep>) -> Result<(), Memory>
-    ensures { IfOk result (λ done. (t : CodeTerm) → steps_before steps.new.items t ≡ steps_before steps.old.items (releases vars.now t)) }
+    ensures { IfOk result (λ done. Appended steps.old.items steps.new.items (releases vars.now)) }
 {
     for x in vars {
         steps.push(CodeStep::Release(*x))?;
@@ -76,7 +79,7 @@ pub fn push_releases(vars: &[Var], steps: &mut Vec<CodeStep>) -> Result<(), Memo
 
 /// Appends a Keep of each variable.
 pub fn push_keeps(vars: &[Var], steps: &mut Vec<CodeStep>) -> Result<(), Memory>
-    ensures { IfOk result (λ done. (t : CodeTerm) → steps_before steps.new.items t ≡ steps_before steps.old.items (keeps vars.now t)) }
+    ensures { IfOk result (λ done. Appended steps.old.items steps.new.items (keeps vars.now)) }
 {
     for x in vars {
         steps.push(CodeStep::Keep(*x))?;
@@ -91,7 +94,7 @@ pub fn push_binding(
     right: CodeRight,
     steps: &mut Vec<CodeStep>,
 ) -> Result<(), Memory>
-    ensures { IfOk result (λ done. (t : CodeTerm) → steps_before steps.new.items t ≡ steps_before steps.old.items (Binding targets.items site (code_right_term right) t)) }
+    ensures { IfOk result (λ done. Appended steps.old.items steps.new.items (Binding targets.items site (code_right_term right))) }
 {
     steps.push(CodeStep::Bind(CodeLet {
         targets,

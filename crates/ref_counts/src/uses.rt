@@ -2,10 +2,10 @@
 
 ghost use Rattle.std.specs.Prelude.{◌≡◌, ◌++◌, option_to_list, IfOk};
 ghost use Rattle.core_ir.specs.View.{block_term, right_term, with_term, parted_term, gen_term};
-ghost use Rattle.core_ir.specs.Scopes.{op_uses, parted_uses, head_uses};
+ghost use Rattle.core_ir.specs.Scopes.{head_uses};
 ghost use Rattle.counted_code.specs.Prompt.{uses, uses_right};
 
-use core_ir::{Block, CoreGen, CoreOp, PartedLoop, PartedOp, Right, Var, WithLoop};
+use core_ir::{Block, CoreGen, PartedLoop, Right, Var, WithLoop};
 use sac_base::Memory;
 
 /// Appends all uses of variables in the block, nested ones included, from the first to the last.
@@ -26,16 +26,6 @@ pub fn add_right(right: &Right, out: &mut Vec<Var>) -> Result<(), Memory>
     ensures { IfOk result (λ done. out.new.items ≡ out.old.items ++ uses_right (right_term right.now)) }
 {
     match right {
-        Right::Const(_) => Ok(()),
-        Right::Copy(x) => add_all(&[*x], out),
-        Right::Unary(_, x) => add_all(&[*x], out),
-        Right::Binary(_, x, y) => add_all(&[*x, *y], out),
-        Right::Literal(xs) => add_all(xs, out),
-        Right::Dim(x) => add_all(&[*x], out),
-        Right::ShapeOf(x) => add_all(&[*x], out),
-        Right::Reshape(x, y) => add_all(&[*x, *y], out),
-        Right::Select(x, y) => add_all(&[*x, *y], out),
-        Right::Replace(x, y, z) => add_all(&[*x, *y, *z], out),
         Right::If { cond, yes, no } => {
             add_all(&[*cond], out)?;
             add_uses(yes, out)?;
@@ -53,11 +43,9 @@ pub fn add_right(right: &Right, out: &mut Vec<Var>) -> Result<(), Memory>
             add_uses(body, out)?;
             Ok(())
         }
-        Right::Call { args, .. } => add_all(args, out),
         Right::With(w) => add_with(w, out),
         Right::Parted(p) => add_parted(p, out),
-        Right::Always(_) => Ok(()),
-        Right::Check(x, _) => add_all(&[*x], out),
+        _ => add_all(right.operands().as_slice(), out),
     }
 }
 
@@ -65,7 +53,7 @@ pub fn add_right(right: &Right, out: &mut Vec<Var>) -> Result<(), Memory>
 fn add_with(with: &WithLoop, out: &mut Vec<Var>) -> Result<(), Memory>
     ensures { IfOk result (λ done. out.new.items ≡ out.old.items ++ uses_right (with_term with.now)) }
 {
-    add_operation(with.op, out)?;
+    add_all(with.op.operands().as_slice(), out)?;
     for generator in &with.gens {
         add_bounds(generator, out)?;
         add_uses(&generator.body, out)?;
@@ -77,31 +65,11 @@ fn add_with(with: &WithLoop, out: &mut Vec<Var>) -> Result<(), Memory>
 fn add_parted(parted: &PartedLoop, out: &mut Vec<Var>) -> Result<(), Memory>
     ensures { IfOk result (λ done. out.new.items ≡ out.old.items ++ uses_right (parted_term parted.now)) }
 {
-    add_parted_operation(parted.op, out)?;
+    add_all(parted.op.operands().as_slice(), out)?;
     for part in &parted.parts {
         add_uses(&part.body, out)?;
     }
     Ok(())
-}
-
-fn add_operation(op: CoreOp, out: &mut Vec<Var>) -> Result<(), Memory>
-    ensures { IfOk result (λ done. out.new.items ≡ out.old.items ++ op_uses op) }
-{
-    match op {
-        CoreOp::Genarray { shape, default } => add_all(&[shape, default], out),
-        CoreOp::Modarray { array } => add_all(&[array], out),
-        CoreOp::Fold { neutral, .. } => add_all(&[neutral], out),
-    }
-}
-
-fn add_parted_operation(op: PartedOp, out: &mut Vec<Var>) -> Result<(), Memory>
-    ensures { IfOk result (λ done. out.new.items ≡ out.old.items ++ parted_uses op) }
-{
-    match op {
-        PartedOp::Genarray => Ok(()),
-        PartedOp::Modarray { array } => add_all(&[array], out),
-        PartedOp::Fold { neutral, .. } => add_all(&[neutral], out),
-    }
 }
 
 fn add_bounds(generator: &CoreGen, out: &mut Vec<Var>) -> Result<(), Memory>

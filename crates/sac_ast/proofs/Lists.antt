@@ -1,12 +1,12 @@
 -- Lists of trees: how high they are, and what is left of them from a place on.
-use Rattle.std.proofs.Common.{◌≡◌, ℕ, suc, ◌+◌, ◌<◌, List, ◌∷◌, length, get_or, drop, Option, Some, None, ap, ◌∙◌, arith}
+use Rattle.std.proofs.Common.{◌≡◌, ℕ, suc, ◌+◌, ◌<◌, List, length, get_or, drop, Option, Some, None, ap, ◌∙◌, arith}
 use Rattle.std.proofs.Math.Seq.{drop-cons}
 use denote.Param.Weighed.{most}
 use Rattle.sac_ast.specs.declared.Expression.{Expression, size-Expression}
 use Rattle.sac_ast.specs.declared.Statement.{Statement, size-Statement}
 use Rattle.sac_ast.specs.declared.Generator.{Generator, size-Generator}
 use Rattle.sac_ast.specs.Tree
-use Rattle.sac_ast.specs.View.{expr, exprs, generator, generators, stmt, block}
+use Rattle.sac_ast.specs.View.{expr, exprs, generator, generators}
 
 abbrev pub exprs_size : List Expression → ℕ
 exprs_size es = most (λ e. size-Expression e) es

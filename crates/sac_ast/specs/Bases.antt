@@ -1,5 +1,5 @@
 -- The base of each expression of a function, which is known before the program runs. An expression whose own rule is violated has none.
-use Rattle.std.specs.Prelude.{List, [], ◌∷◌, ◌++◌, Bool, true, false, ◌&&◌, if◌then◌else◌, Option, Some, None, Ok, Err, Result, map, find, bytes_eq, length, ◌==◌}
+use Rattle.std.specs.Prelude.{List, [], ◌∷◌, ◌++◌, Bool, true, false, ◌&&◌, Option, Some, None, map, find, bytes_eq, length, ◌==◌}
 use Rattle.std.specs.List.{list_all}
 use Rattle.sac_base.specs.declared.base.Base.{Base}
 use Rattle.sac_base.specs.declared.base.Base.TheVariants.{Int, Bool as Truth}

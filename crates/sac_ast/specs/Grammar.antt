@@ -1,5 +1,5 @@
 -- The grammar of the language, and the tree of each phrase.
-use Rattle.std.specs.Prelude.{ℕ, zero, suc, ◌≡◌, Bool, true, false, List, [], ◌∷◌, ◌++◌, ◌⊎◌, codes, map, length, pos}
+use Rattle.std.specs.Prelude.{ℕ, zero, suc, Bool, true, false, List, [], ◌∷◌, ◌++◌, ◌⊎◌, codes, map, length, pos}
 use Rattle.std.specs.Str.Parse.{digits_value}
 use mathlib.Core.Logic.{inl, inr}
 use Rattle.sac_base.specs.declared.site.Site.{Site}
@@ -10,12 +10,11 @@ use Rattle.sac_base.specs.declared.types.Part.{Part}
 use Rattle.sac_base.specs.declared.types.Part.TheVariants.{Known, Rank, Plus, Star}
 use Rattle.sac_base.specs.declared.op.Op.{Op}
 use Rattle.sac_base.specs.declared.op.Op.TheVariants.{Add, Sub, Mul, Div, Rem, Min, Max, Neg, Not, Eq, Ne, Lt, Le, Gt, Ge, And, Or}
-use Rattle.sac_ast.specs.declared.Builtin.{Builtin}
 use Rattle.sac_ast.specs.declared.Builtin.TheVariants as built
 use Rattle.sac_ast.specs.declared.Target.{Target}
 use Rattle.sac_ast.specs.declared.Param.{Param}
 use Rattle.sac_ast.specs.Texts.{Lexeme}
-use Rattle.sac_ast.specs.Shape.{Terminal, text, name, number, end, Shape, nothing, term, ref, seq, alt, many, Value, Derives}
+use Rattle.sac_ast.specs.Shape.{text, name, number, end, Shape, nothing, term, ref, seq, alt, many, Value, Derives}
 use Rattle.sac_ast.specs.Tree as tree
 use Rattle.sac_ast.specs.Tree.{Expr, Exprs, MaybeExpr, Stmt, ProgramTree, FunctionTree, Gen, BoundTree, IndexTree, OperationTree}
 use Rattle.sac_ast.specs.View.{exprs_of, block_of, gens_of}

@@ -1,6 +1,7 @@
 pub mod Bases
 pub mod Grammar
 pub mod Heights
+pub mod Mains
 pub mod Refusals
 pub mod Shape
 pub mod Texts

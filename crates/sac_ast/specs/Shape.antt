@@ -1,5 +1,5 @@
 -- Grammars whose right sides are regular expressions over terminals and nonterminals, with the value of each phrase.
-use Rattle.std.specs.Prelude.{ℕ, zero, suc, ◌≡◌, Bool, true, false, List, [], ◌∷◌, ◌++◌, ◌⊎◌, IsTrue}
+use Rattle.std.specs.Prelude.{ℕ, zero, suc, ◌≡◌, Bool, List, [], ◌∷◌, ◌++◌, ◌⊎◌, IsTrue}
 use Rattle.std.specs.Str.{bytes_eq}
 use mathlib.Core.Logic.{inl, inr}
 use Rattle.sac_ast.specs.Texts.{Lexeme, is_name, is_number, is_end}

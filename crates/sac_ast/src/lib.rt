@@ -1,9 +1,15 @@
 //! The trees of a source.
 #![tactic(auto)]
 
+mod mains;
 mod measure;
+mod rules;
 
 pub use measure::height;
+pub use rules::{
+    agree, base_of_name, builtin_base, choice_base, first_base, literal_base, may_be, may_match,
+    operand_base, operands_fit, where_holds,
+};
 use sac_base::{ArrayType, Base, Name, Op, Site};
 
 /// A whole source.
@@ -138,31 +144,6 @@ pub enum Operation {
         neutral: Expression,
         site: Site,
     },
-}
-
-/// A rule of acceptance.
-#[derive(Clone, Copy, Debug, PartialEq, Eq)]
-pub enum CheckCode {
-    /// A used variable is bound nowhere in the function.
-    C1,
-    /// A called function does not exist.
-    C2,
-    /// A number of arguments, results, targets or returned values is wrong.
-    C3,
-    /// A base is not the one that is needed.
-    C4,
-    /// A used variable is not bound on every path to the use.
-    C5,
-    /// An instance clashes with an earlier one of its name.
-    C6,
-    /// There is no `main`, or a second one.
-    C7,
-    /// `main` is inline, or an inline function calls an inline name that does not stand wholly before it.
-    C8,
-    /// A name stands twice in a list of parameters, targets or index names.
-    C9,
-    /// A dot is a bound of a fold.
-    C10,
 }
 
 /// A name that is bound, and the base of what it is bound to, where that has one.

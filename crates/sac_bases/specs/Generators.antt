@@ -10,7 +10,8 @@ module _ (calls : CallBases) (known : Bases) where
   abbrev pub one_given : Gen → Given
   one_given (gen lower lower_closed index upper upper_closed step width body cell site) =
       record {
-        are_int = are_int (bound_base calls known lower) (bound_base calls known upper) (maybe_base calls known step (Some Int)) (maybe_base calls known width (Some Int));
+        are_int = are_int (bound_base calls known lower) (bound_base calls known upper)
+            (maybe_base calls known step (Some Int)) (maybe_base calls known width (Some Int));
         cell = base calls known cell;
       }
 

@@ -40,4 +40,5 @@ takes_known fs name bs f = bytes_eq f.name name && counts_beside (first_named fs
 abbrev pub in_bounds_of : List FunctionTree → Generator → Bases → Bases
 in_bounds_of fs g known =
     let calls = call_bases_in fs in
-    in_maybe calls (maybe g.width) (in_maybe calls (maybe g.step) (in_bound calls (bound g.upper) (in_bound calls (bound g.lower) known ++ index_bases (index_view g.index))))
+    let bounds = in_bound calls (bound g.upper) (in_bound calls (bound g.lower) known ++ index_bases (index_view g.index)) in
+    in_maybe calls (maybe g.width) (in_maybe calls (maybe g.step) bounds)

@@ -6,11 +6,10 @@ ghost use Rattle.sac_ast.specs.View;
 ghost use Rattle.sac_bases.specs.Generators;
 
 use crate::call::call_instance;
-use crate::rules::{
-    base_of_name, builtin_base, choice_base, literal_base, may_be, may_match, operand_base,
-    operands_fit, where_holds,
+use sac_ast::{
+    Bound, Expression, Function, Generator, Known, Operation, base_of_name, builtin_base,
+    choice_base, literal_base, may_be, may_match, operand_base, operands_fit, where_holds,
 };
-use sac_ast::{Bound, Expression, Function, Generator, Known, Operation};
 use sac_base::{Base, Memory, Name, result_base};
 use std::alloc::Global;
 
@@ -175,7 +174,8 @@ fn all_given(
     functions: &[Function],
     known: &[Known],
 ) -> Result<Vec<Given>, Memory>
-    ensures { IfOk result (λ given. given.items ≡ Generators.all_given (Bases.call_bases_in (View.functions functions.now)) known.now (View.generators gs.now)) }
+    ensures { IfOk result (λ given. given.items
+        ≡ Generators.all_given (Bases.call_bases_in (View.functions functions.now)) known.now (View.generators gs.now)) }
 {
     let mut given = Vec::new(alloc);
     for g in gs {

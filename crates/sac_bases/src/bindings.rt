@@ -4,13 +4,12 @@ ghost use Rattle.std.specs.Prelude.{◌≡◌, ◌++◌, [], ◌∷◌, Some, On
 ghost use Rattle.sac_base.specs.declared.types.ArrayType.{ArrayType as ArrayTypeValue};
 ghost use Rattle.sac_ast.specs.declared.Target.{Target as TargetValue};
 ghost use Rattle.sac_ast.specs.Tree;
-ghost use Rattle.sac_bases.specs.Lookup.{in_bounds_of};
+ghost use Rattle.sac_bases.specs.Lookup.{base_at as base_at_value, in_bounds_of};
 ghost use Rattle.sac_ast.specs.Bases;
 ghost use Rattle.sac_ast.specs.View;
 
 use crate::base::{base_of, bases_of};
 use crate::call::call_instance;
-use crate::rules::base_at;
 use sac_ast::{
     Bound, Expression, Function, Generator, Index, Known, Operation, Param, Statement, Target,
 };
@@ -23,6 +22,16 @@ fn bind(known: &mut Vec<Known>, name: &Name, base: Option<Base>) -> Result<(), M
     let name = copy_name(name)?;
     known.push(Known { name, base })?;
     Ok(())
+}
+
+// The base at a place, where it is there.
+fn base_at(bases: &[Option<Base>], place: usize) -> Option<Base>
+    ensures { result ≡ base_at_value bases.now place }
+{
+    match bases.get(place) {
+        Some(base) => *base,
+        None => None,
+    }
 }
 
 // Binds targets to values of these bases; those beyond them have none.
@@ -48,7 +57,8 @@ fn bind_results(
     name: &Name,
     bases: &[Option<Base>],
 ) -> Result<(), Memory>
-    ensures { OnOk result (known.new.items ≡ Bases.with_bases targets.now (Bases.known_bases (Bases.call_bases_in (View.functions functions.now) name.now bases.now)) known.old.items) }
+    ensures { OnOk result (known.new.items
+        ≡ Bases.with_bases targets.now (Bases.known_bases (Bases.call_bases_in (View.functions functions.now) name.now bases.now)) known.old.items) }
 {
     let results = result_bases(alloc, call_instance(functions, name, bases))?;
     bind_targets(known, targets, &results)
@@ -199,7 +209,9 @@ fn in_cell(
     functions: &[Function],
     known: &mut Vec<Known>,
 ) -> Result<(), Memory>
-    ensures { OnOk result (known.new.items ≡ Bases.in_expr (Bases.call_bases_in (View.functions functions.now)) (View.expr g.now.cell) (Bases.in_block (Bases.call_bases_in (View.functions functions.now)) (View.block g.now.body.items) known.old.items)) }
+    ensures { OnOk result (known.new.items
+        ≡ Bases.in_expr (Bases.call_bases_in (View.functions functions.now)) (View.expr g.now.cell)
+        (Bases.in_block (Bases.call_bases_in (View.functions functions.now)) (View.block g.now.body.items) known.old.items)) }
 {
     in_block(&g.body, alloc, functions, known)?;
     in_expr(&g.cell, alloc, functions, known)
@@ -303,7 +315,8 @@ fn in_assign(
     functions: &[Function],
     known: &mut Vec<Known>,
 ) -> Result<(), Memory>
-    ensures { OnOk result (known.new.items ≡ Bases.in_stmt (Bases.call_bases_in (View.functions functions.now)) (Tree.assign targets.now (View.expr value.now)) known.old.items) }
+    ensures { OnOk result (known.new.items
+        ≡ Bases.in_stmt (Bases.call_bases_in (View.functions functions.now)) (Tree.assign targets.now (View.expr value.now)) known.old.items) }
 {
     match value {
         Expression::Call(name, es, _) => {

@@ -25,7 +25,8 @@ fn first_taking<'a>(
     name: &Name,
     bases: &[Option<Base>],
 ) -> Option<&'a Function>
-    ensures { option_map (λ f. View.function f.now) result ≡ find (takes_known (View.functions functions.now) name.now bases.now) (View.functions functions.now) }
+    ensures { option_map (λ f. View.function f.now) result
+        ≡ find (takes_known (View.functions functions.now) name.now bases.now) (View.functions functions.now) }
 {
     for f in functions {
         if takes_bases(functions, name, bases, f) {

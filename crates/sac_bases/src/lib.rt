@@ -4,7 +4,6 @@
 mod base;
 mod bindings;
 mod call;
-mod rules;
 
 pub use base::{base_of, bases_of};
 pub use bindings::{base_in, known_in};

@@ -4,7 +4,6 @@ ghost use Rattle.std.specs.Prelude.{◌≡◌, List, IfOk};
 ghost use Rattle.sac_base.specs.Arrays.{ArrayValue};
 ghost use Rattle.sac_base.specs.declared.faults.Caps.{Caps};
 ghost use Rattle.sac_ast.specs.View.{program as tree};
-ghost use Rattle.type_check.specs.Accepted.{IsAccepted};
 ghost use Rattle.value_meaning.specs.Calls.{outcome};
 ghost use Rattle.core_acceptance.specs.Formed.{ProgramFormed};
 ghost use Rattle.counted_code.specs.View.{code_program};
@@ -38,13 +37,10 @@ pub struct Compiled {
 ///
 /// `Memory`, also where the program has 2^32 functions or more, or would have as many variables in one of them.
 pub fn compile(alloc: Global, checked: &Checked) -> Result<Compiled, Memory>
-    ensures counted { ProgramFormed (tree checked.now.program) → IsAccepted (tree checked.now.program)
-        → IfOk result (λ c. IsWellCounted (code_program c.code)) }
-    ensures prompt { ProgramFormed (tree checked.now.program) → IsAccepted (tree checked.now.program)
-        → IfOk result (λ c. IsPrompt (code_program c.code)) }
+    ensures counted { ProgramFormed (tree checked.now.program) → IfOk result (λ c. IsWellCounted (code_program c.code)) }
+    ensures prompt { ProgramFormed (tree checked.now.program) → IfOk result (λ c. IsPrompt (code_program c.code)) }
     ensures unmarked { IfOk result (λ c. IsUnmarked (code_program c.code)) }
-    ensures outcome { ProgramFormed (tree checked.now.program) → IsAccepted (tree checked.now.program)
-        → (args : List ArrayValue) (caps : Caps) → AreArrays args
+    ensures outcome { ProgramFormed (tree checked.now.program) → (args : List ArrayValue) (caps : Caps) → AreArrays args
         → IfOk result (λ c. outcome_of (whole_run (code_program c.code) args caps) ≡ outcome (tree checked.now.program) args caps) }
     ensures none { IfOk result (λ c. (c.folded ≡ 0) × (c.scalarised ≡ 0)) }
 {

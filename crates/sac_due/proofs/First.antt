@@ -3,11 +3,11 @@ use Rattle.std.proofs.Common.{◌≡◌, ℕ, zero, suc, [], inl, inr, refl, sym
 use Rattle.std.specs.Prelude.{Contains}
 use Rattle.std.proofs.lemmas.List.Elements.{All-contains}
 use Rattle.sac_base.specs.declared.site.Site.{Site}
-use Rattle.sac_ast.specs.declared.CheckCode.{CheckCode}
-use Rattle.sac_ast.specs.declared.CheckCode.TheVariants.{C1, C2, C3, C4, C5, C6, C7, C8, C9, C10}
+use Rattle.check_rules.specs.declared.code.CheckCode.{CheckCode}
+use Rattle.check_rules.specs.declared.code.CheckCode.TheVariants.{C1, C2, C3, C4, C5, C6, C7, C8, C9, C10}
 use Rattle.sac_ast.specs.Tree.{ProgramTree}
-use Rattle.type_check.specs.declared.violation.Violation.{Violation}
-use Rattle.type_check.specs.Accepted.{code_number, IsAccepted, IsFirstViolation, IsNoLater}
+use Rattle.check_rules.specs.declared.violation.Violation.{Violation}
+use Rattle.check_rules.specs.Accepted.{code_number, IsAccepted, IsFirstViolation, IsNoLater}
 
 abbrev code_by : ℕ → CheckCode
 code_by zero = C1

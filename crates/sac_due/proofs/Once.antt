@@ -8,7 +8,7 @@ use Rattle.sac_ast.specs.Texts.{Lexeme}
 use Rattle.sac_ast.specs.Tree.{ProgramTree}
 use Rattle.sac_ast.specs.Grammar.{IsProgram}
 use Rattle.sac_ast.specs.Refusals.{IsStuckAt, IsTooDeepAt}
-use Rattle.type_check.specs.Accepted.{IsFirstViolation}
+use Rattle.check_rules.specs.Accepted.{IsFirstViolation}
 use Rattle.sac_words.specs.Meaning.{Meant, Origin, empty, file, generated}
 use Rattle.sac_due.specs.Texts.{refused_at, lex_code, check_code}
 use Rattle.sac_due.specs.Report.{Numbers}

@@ -4,12 +4,12 @@ use Rattle.sac_base.specs.declared.site.Site.{Site}
 use Rattle.sac_lex.specs.declared.token.LexCode.{LexCode}
 use Rattle.sac_lex.specs.Cut.{IsTokenList, IsRefusal}
 use Rattle.sac_lex.specs.Cut
-use Rattle.sac_ast.specs.declared.CheckCode.{CheckCode}
+use Rattle.check_rules.specs.declared.code.CheckCode.{CheckCode}
 use Rattle.sac_ast.specs.Texts.{Lexeme}
 use Rattle.sac_ast.specs.Tree.{ProgramTree}
 use Rattle.sac_ast.specs.Heights.{IsTreeOf}
 use Rattle.sac_ast.specs.Refusals.{IsStuckAt, IsTooDeepAt}
-use Rattle.type_check.specs.Accepted.{IsAccepted, IsFirstViolation}
+use Rattle.check_rules.specs.Accepted.{IsAccepted, IsFirstViolation}
 use Rattle.sac_due.specs.Texts.{line, refused_at, lex_code, check_code}
 
 -- the longest source, in bytes

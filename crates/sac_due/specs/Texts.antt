@@ -6,8 +6,8 @@ use Rattle.sac_base.specs.declared.faults.Fault.{Fault}
 use Rattle.sac_base.specs.Faults.{fault_code}
 use Rattle.sac_lex.specs.declared.token.LexCode.{LexCode}
 use Rattle.sac_lex.specs.declared.token.LexCode.TheVariants.{L1, L2, L3, L4, L5}
-use Rattle.sac_ast.specs.declared.CheckCode.{CheckCode}
-use Rattle.sac_ast.specs.declared.CheckCode.TheVariants.{C1, C2, C3, C4, C5, C6, C7, C8, C9, C10}
+use Rattle.check_rules.specs.declared.code.CheckCode.{CheckCode}
+use Rattle.check_rules.specs.declared.code.CheckCode.TheVariants.{C1, C2, C3, C4, C5, C6, C7, C8, C9, C10}
 use Rattle.data_text.specs.declared.error.DataCode.{DataCode}
 use Rattle.data_text.specs.declared.error.DataCode.TheVariants.{I1, I2, I3, I4, I5, I6}
 use Rattle.data_text.specs.Texts.{Refusal}

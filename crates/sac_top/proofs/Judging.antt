@@ -8,7 +8,7 @@ use Rattle.sac_lex.specs.Cut
 use Rattle.sac_lex.specs.Cut.{IsTokenList}
 use Rattle.sac_ast.specs.Tree.{ProgramTree}
 use Rattle.sac_ast.specs.Heights.{IsTreeOf}
-use Rattle.sac_ast.specs.declared.CheckCode.{CheckCode}
+use Rattle.check_rules.specs.declared.code.CheckCode.{CheckCode}
 use Rattle.sac_parse.specs.declared.error.ParseCode.{ParseCode}
 use Rattle.sac_parse.specs.declared.error.ParseCode.TheVariants.{P1, P2}
 use Rattle.sac_parse.specs.declared.error.ParseError.{ParseError}
@@ -17,7 +17,7 @@ use Rattle.sac_parse.specs.Tokens.{lexemes}
 use Rattle.sac_parse.specs.Verdict.{IsRefusalOf}
 use Rattle.type_check.specs.declared.program.CheckError.{CheckError}
 use Rattle.type_check.specs.declared.program.CheckError.TheVariants as check_error
-use Rattle.type_check.specs.Programs.{IsRefusal as IsRefused}
+use Rattle.check_rules.specs.Programs.{IsRefusal as IsRefused}
 use Rattle.sac_due.specs.Texts.{refused_at, lex_code, check_code}
 use Rattle.sac_due.specs.Source.{HasTree, IsRefusedSource, no_tokens, stuck, too_deep, not_accepted}
 use Rattle.sac_top.specs.Codes.{parse_code}

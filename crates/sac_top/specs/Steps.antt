@@ -7,7 +7,7 @@ use Rattle.sac_base.specs.Outcomes.{Ends}
 use Rattle.sac_io.specs.Files.{Contents, Lacks}
 use Rattle.sac_ast.specs.Tree.{ProgramTree}
 use Rattle.sac_ast.specs.View as View
-use Rattle.type_check.specs.declared.program.Checked.{Checked}
+use Rattle.type_check.specs.declared.checked.Checked.{Checked}
 use Rattle.sac_base.specs.declared.stop.Stop.{Stop}
 use Rattle.sac_base.specs.declared.stop.Stop.TheVariants as stop
 use Rattle.sac_words.specs.declared.options.Mode.{Mode}

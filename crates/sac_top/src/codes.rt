@@ -4,7 +4,7 @@ ghost use Rattle.sac_due.specs.Texts.{lex_code, check_code, data_code};
 ghost use Rattle.sac_top.specs.Codes.{parse_code};
 
 use data_text::DataCode;
-use sac_ast::CheckCode;
+use type_check::CheckCode;
 use sac_lex::LexCode;
 use sac_parse::ParseCode;
 

@@ -8,7 +8,7 @@ use Rattle.sac_ast.specs.View.{function, functions}
 use Rattle.core_ir.specs.declared.tree.Core.{Core}
 use Rattle.core_ir.specs.View.{core_term}
 use Rattle.core_ir.specs.WellFormed.{IsWellFormed}
-use Rattle.type_check.specs.Accepted.{IsAccepted}
+use Rattle.check_rules.specs.Accepted.{IsAccepted}
 use Rattle.core_lowering.specs.Programs.{HasOutcomeOf, lowered_program}
 use Rattle.core_acceptance.specs.Formed.{ProgramFormed}
 use Rattle.core_acceptance.proofs.Cores.{core_well_formed, core_outcome}

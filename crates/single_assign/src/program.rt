@@ -6,7 +6,6 @@ ghost use Rattle.sac_ast.specs.View.{function, functions as trees, program as tr
 ghost use Rattle.core_ir.specs.View.{core_term, fun_term};
 ghost use Rattle.core_ir.specs.WellFormed.{IsWellFormed};
 ghost use Rattle.value_meaning.specs.Calls.{is_main};
-ghost use Rattle.type_check.specs.Accepted.{IsAccepted};
 ghost use Rattle.core_acceptance.specs.Formed.{ProgramFormed};
 ghost use Rattle.core_lowering.specs.Programs.{function_names as names_of_functions, HasOutcomeOf, lowered_program, places_of as places_of_name};
 ghost use Rattle.core_lowering_steps.specs.Functions.{params_declared};
@@ -35,10 +34,8 @@ use type_check::Checked;
 /// `Memory`, also where there are 2^32 functions or more, or would be as many variables in one of them.
 pub fn to_core(alloc: Global, checked: &Checked) -> Result<Core, Memory>
     ensures lowered { IfOk result (λ core. core_term core ≡ lowered_program (tree checked.now.program)) }
-    ensures well_formed { ProgramFormed (tree checked.now.program) → IsAccepted (tree checked.now.program)
-        → IfOk result (λ core. IsWellFormed (core_term core)) }
-    ensures outcome { ProgramFormed (tree checked.now.program) → IsAccepted (tree checked.now.program)
-        → IfOk result (λ core. HasOutcomeOf (tree checked.now.program) (core_term core)) }
+    ensures well_formed { ProgramFormed (tree checked.now.program) → IfOk result (λ core. IsWellFormed (core_term core)) }
+    ensures outcome { ProgramFormed (tree checked.now.program) → IfOk result (λ core. HasOutcomeOf (tree checked.now.program) (core_term core)) }
 {
     let program = checked.program();
     few(&program.functions)?;

@@ -1,10 +1,3 @@
-pub mod Places
-pub mod Instances
-pub mod Positions
-pub mod Earliest
-pub mod Lists
 pub mod Walks
 pub mod Same
-pub mod Clashing
 pub mod Whole
-pub mod Rows

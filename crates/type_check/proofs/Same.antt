@@ -7,19 +7,19 @@ use Rattle.sac_base.specs.declared.site.Site.{Site}
 use Rattle.sac_base.specs.Operators.{result_base}
 use Rattle.sac_ast.specs.declared.Builtin.{Builtin}
 use Rattle.sac_ast.specs.declared.Builtin.TheVariants.{Dim, Shape, Reshape}
-use Rattle.sac_ast.specs.declared.CheckCode.{CheckCode}
-use Rattle.sac_ast.specs.declared.CheckCode.TheVariants.{C1, C2, C3, C4, C5, C8, C9, C10}
+use Rattle.check_rules.specs.declared.code.CheckCode.{CheckCode}
+use Rattle.check_rules.specs.declared.code.CheckCode.TheVariants.{C1, C2, C3, C4, C5, C8, C9, C10}
 use Rattle.sac_ast.specs.declared.Target.{Target}
 use Rattle.sac_ast.specs.declared.Param.{Param}
 use Rattle.sac_ast.specs.Tree.{Expr, Exprs, no_exprs, expr_and, MaybeExpr, left_out, given, Stmt, Block, no_stmts, stmt_and, BoundTree, dot, at, Gen, gen, Gens, no_gens, gen_and, OperationTree, number, truth, variable, literal, unary, binary, choice, select, call, builtin, with_loop, assign, replace, if_else, while_do, do_while, genarray, modarray, fold}
 use Rattle.sac_ast.specs.Bases.{where_holds, may_be, may_match, operand_base, operands_fit, agree, common_base, literal_base, builtin_base, first_base, all_known, known_bases, call_bases_in, first_named, are_int}
-use Rattle.type_check.specs.declared.violation.Violation.{Violation}
-use Rattle.type_check.specs.declared.judged.Cell.{Cell}
-use Rattle.type_check.specs.Accepted.{Names, Known, Place, with_names, no_names, index_targets, index_names, bound_after, bound_behind, bind, base_of, later_bases, numbers_fit, some_takes, stands_earlier, is_fold}
-use Rattle.type_check.specs.Accepted as a
-use Rattle.type_check.specs.Walk as w
-use Rattle.type_check.specs.First.{earlier, unless, is_clean, first_of}
-use Rattle.type_check.proofs.Earliest.{earlier_grouped, first_of_append, first_of_unless, clean_first}
+use Rattle.check_rules.specs.declared.violation.Violation.{Violation}
+use Rattle.check_rules.specs.declared.judged.Cell.{Cell}
+use Rattle.check_rules.specs.Accepted.{Names, Known, Place, with_names, no_names, index_targets, index_names, bound_after, bound_behind, bind, base_of, later_bases, numbers_fit, some_takes, stands_earlier, is_fold}
+use Rattle.check_rules.specs.Accepted as a
+use Rattle.check_rules.specs.Walk as w
+use Rattle.check_rules.specs.First.{earlier, unless, is_clean, first_of}
+use Rattle.check_rules.proofs.Earliest.{earlier_grouped, first_of_append, first_of_unless, clean_first}
 
 -- ---- what the walk keeps of a list of violations
 

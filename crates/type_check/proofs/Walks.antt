@@ -16,13 +16,13 @@ use Rattle.sac_ast.specs.Tree
 use Rattle.sac_ast.specs.View.{expr, exprs, stmt, block, generator, generators}
 use Rattle.sac_ast.proofs.Views.{expression_opened, expression_layer}
 use Rattle.sac_ast.proofs.Lists.{exprs-drop, generators-drop}
-use Rattle.type_check.specs.Accepted.{Names, Known, Place, bind, base_of, no_names, bound_after, bound_behind}
-use Rattle.type_check.specs.declared.violation.Violation.{Violation}
-use Rattle.type_check.specs.declared.judged.Cell.{Cell}
-use Rattle.type_check.specs.First.{earlier}
-use Rattle.type_check.specs.Tables.{among, with_common}
-use Rattle.type_check.specs.Walk.{Walked, in_value, in_values, in_generator, in_generators, in_statement, in_block, in_targets, repeated_targets, several_targets, call_first, call_bases, choice_found, replaced_first, use_rules, bound_by_both}
-use Rattle.type_check.proofs.Earliest.{earlier_grouped}
+use Rattle.check_rules.specs.Accepted.{Names, Known, Place, bind, base_of, no_names, bound_after, bound_behind}
+use Rattle.check_rules.specs.declared.violation.Violation.{Violation}
+use Rattle.check_rules.specs.declared.judged.Cell.{Cell}
+use Rattle.check_rules.specs.First.{earlier}
+use Rattle.check_rules.specs.Tables.{among, with_common}
+use Rattle.check_rules.specs.Walk.{Walked, in_value, in_values, in_generator, in_generators, in_statement, in_block, in_targets, repeated_targets, several_targets, call_first, call_bases, choice_found, replaced_first, use_rules, bound_by_both}
+use Rattle.check_rules.proofs.Earliest.{earlier_grouped}
 use denote.Ref.{Bor}
 
 -- ---- the loops over lists of phrases

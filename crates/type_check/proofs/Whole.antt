@@ -3,19 +3,19 @@ use Rattle.std.proofs.Common.{◌≡◌, ℕ, ◌+◌, ◌<◌, List, [], ◌∷
 use Rattle.std.specs.Prelude.{◌==◌, flat_map}
 use Rattle.std.proofs.lemmas.List.{drop_more}
 use Rattle.sac_base.specs.declared.site.Site.{Site}
-use Rattle.sac_ast.specs.declared.CheckCode.TheVariants.{C3, C4, C6, C8}
+use Rattle.check_rules.specs.declared.code.CheckCode.TheVariants.{C3, C4, C6, C8}
 use Rattle.sac_ast.specs.declared.Function.{Function}
 use Rattle.sac_ast.specs.Tree.{FunctionTree, ProgramTree}
 use Rattle.sac_ast.specs.View.{function, functions}
-use Rattle.type_check.specs.Accepted.{Names, Known, Place, with_names, no_names, bound_behind, param_names, known_params, none_known, names_in, values_fit, is_named, main_name, may_stand_together, violations}
-use Rattle.type_check.specs.Accepted as a
-use Rattle.type_check.specs.Walk as w
-use Rattle.type_check.specs.Programs.{stands_with, mains, main_counted, inline_mains, one_function, ended_first, in_functions, in_program}
+use Rattle.check_rules.specs.Accepted.{Names, Known, Place, with_names, no_names, bound_behind, param_names, known_params, none_known, names_in, values_fit, is_named, main_name, may_stand_together, violations}
+use Rattle.check_rules.specs.Accepted as a
+use Rattle.check_rules.specs.Walk as w
+use Rattle.check_rules.specs.Programs.{stands_with, mains, main_counted, inline_mains, one_function, ended_first, in_functions, in_program}
 use Rattle.sac_base.specs.declared.base.Base.{Base}
-use Rattle.type_check.specs.declared.violation.Violation.{Violation}
-use Rattle.type_check.specs.First.{earlier, unless, first_of}
-use Rattle.type_check.proofs.Earliest.{earlier_grouped}
-use Rattle.type_check.proofs.Positions.{next_functions}
+use Rattle.check_rules.specs.declared.violation.Violation.{Violation}
+use Rattle.check_rules.specs.First.{earlier, unless, first_of}
+use Rattle.check_rules.proofs.Earliest.{earlier_grouped}
+use Rattle.check_rules.proofs.Positions.{next_functions}
 use Rattle.type_check.proofs.Same.{joined, one, and_then_one, behind, repeated_params_is, block_is, values_is}
 
 pub function_is : (fs before : List FunctionTree) (f : FunctionTree) → w.in_function fs before f ≡ first_of (a.in_function fs before f)

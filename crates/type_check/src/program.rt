@@ -1,51 +1,30 @@
 //! The test of a whole program.
 
 ghost use Rattle.std.specs.Prelude.{◌≡◌, ◌≤◌, [], map, take, length, IfOk, IfErr};
-ghost use Rattle.sac_ast.specs.Bases.{first_named};
 ghost use Rattle.sac_ast.specs.declared.Param.{Param as ParamTree};
 ghost use Rattle.sac_ast.specs.View;
-ghost use Rattle.type_check.specs.Accepted.{IsAccepted, main_name, values_fit as are_fit};
-ghost use Rattle.type_check.specs.First.{earlier as earlier_of};
-ghost use Rattle.type_check.specs.Programs.{in_functions as functions_first, in_program as program_first, main_counted, mains, inline_main, inline_mains, main_bases as main_bases_of, IsRefusal, one_function, ended_first, is_main_named, params_of};
-ghost use Rattle.type_check.specs.Walk.{in_function as function_first};
+ghost use Rattle.check_rules.specs.Accepted.{IsAccepted, values_fit as are_fit};
+ghost use Rattle.check_rules.specs.First.{earlier as earlier_of};
+ghost use Rattle.check_rules.specs.Programs.{in_functions as functions_first, in_program as program_first, main_counted, mains, inline_main, inline_mains, main_bases as main_bases_of, one_function, ended_first, is_main_named};
+ghost use Rattle.check_rules.specs.Walk.{in_function as function_first};
+ghost use Rattle.type_check.specs.Refusals.{IsRefusal};
 
-use crate::bound::Bound;
-use crate::calls::Place;
-use crate::clashes::stands_beside;
-use crate::functions::Functions;
-use crate::judged::JudgedAll;
-use crate::listing::listed;
-use crate::rules::may_be;
-use crate::targets::{bind_params, push_params, repeated_params};
-use crate::violation::{Violation, earlier, unless};
+use crate::checked::Checked;
 use crate::walk::{block, expressions};
+use check_rules::bound::Bound;
+use check_rules::calls::Place;
+use check_rules::clashes::stands_beside;
+use check_rules::code::CheckCode;
+use check_rules::functions::Functions;
+use check_rules::judged::JudgedAll;
+use check_rules::listing::listed;
+use check_rules::targets::{bind_params, push_params, repeated_params};
+use check_rules::violation::{Violation, earlier, unless};
 use indexmap::IndexMap;
-use sac_ast::{CheckCode, Function, Param, Program};
+use sac_ast::{Function, Param, Program, may_be};
 use sac_base::{ArrayType, Base, Memory, Site};
 use std::alloc::Global;
 use thiserror::Error;
-
-/// A program in which no rule is violated.
-#[derive(Drop)]
-pub struct Checked {
-    pub program: Program,
-    pub main_bases: Vec<Base>,
-}
-
-impl Checked {
-    pub fn program(&self) -> &Program
-        ensures { result.now ≡ self.now.program }
-    {
-        &self.program
-    }
-
-    /// The bases of the parameters of `main`.
-    pub fn main_bases(&self) -> &[Base]
-        ensures { result.now ≡ self.now.main_bases.items }
-    {
-        &self.main_bases
-    }
-}
 
 /// Why a program is not accepted.
 #[derive(Clone, Copy, Debug, PartialEq, Eq, Error)]
@@ -73,7 +52,7 @@ pub fn check(alloc: Global, program: Program) -> Result<Checked, CheckError>
     if let Some(violation) = first {
         return Err(CheckError::Refused(violation.code, violation.site));
     }
-    match main_bases(&program.functions, alloc) {
+    match main_bases(&program, alloc) {
         Ok(main_bases) => Ok(Checked {
             program,
             main_bases,
@@ -216,15 +195,13 @@ fn check_main(f: &Function) -> Option<Violation>
 }
 
 // The bases of the parameters of the first `main`.
-fn main_bases(functions: &[Function], alloc: Global) -> Result<Vec<Base>, Memory>
-    ensures { IfOk result (λ bases. bases.items ≡ params_of (first_named (View.functions functions.now) main_name)) }
+fn main_bases(program: &Program, alloc: Global) -> Result<Vec<Base>, Memory>
+    ensures { IfOk result (λ bases. bases.items ≡ main_bases_of (View.program program.now)) }
 {
-    for f in functions {
-        if is_main(f) {
-            return param_bases(&f.params, alloc);
-        }
+    match program.main() {
+        Some(f) => param_bases(&f.params, alloc),
+        None => Ok(Vec::new(alloc)),
     }
-    Ok(Vec::new(alloc))
 }
 
 fn param_bases(params: &[Param], alloc: Global) -> Result<Vec<Base>, Memory>

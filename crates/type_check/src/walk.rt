@@ -1,27 +1,29 @@
 //! The walk over the phrases of a function, in the order of its tree.
 
 ghost use Rattle.std.specs.Prelude.{◌≡◌, [], ◌∷◌, take, length, IfOk, OnOk};
-ghost use Rattle.type_check.specs.Accepted.{bound_after, bound_behind, is_fold as is_fold_tree};
+ghost use Rattle.check_rules.specs.Accepted.{bound_after, bound_behind, is_fold as is_fold_tree};
 ghost use Rattle.sac_ast.specs.Bases.{are_int as int_bases};
 ghost use Rattle.sac_ast.specs.Tree;
 ghost use Rattle.sac_ast.specs.View;
-ghost use Rattle.type_check.specs.Places.{place};
-ghost use Rattle.type_check.specs.Tables.{among, entered};
-ghost use Rattle.type_check.specs.Walk.{in_value, in_values, in_maybe, in_bound, in_generators, in_operation, in_statement, in_block, in_limits, in_inside, in_branches, in_generator, bound_by_both, choice_first, choice_found, condition_first, replaced_first};
+ghost use Rattle.check_rules.specs.Places.{place};
+ghost use Rattle.check_rules.specs.Tables.{among, entered};
+ghost use Rattle.check_rules.specs.Walk.{in_value, in_values, in_maybe, in_bound, in_generators, in_operation, in_statement, in_block, in_limits, in_inside, in_branches, in_generator, bound_by_both, choice_first, choice_found, condition_first, replaced_first};
 
-use crate::bound::Bound;
-use crate::calls::{Place, call_results};
-use crate::judged::{Cell, Judged, JudgedAll, JudgedCell, JudgedCells, Limits, judge};
-use crate::names::{base_of, bind};
-use crate::rules::{
-    agree, builtin_base, choice_base, first_base, literal_base, may_be, may_match, operand_base,
-    operands_fit,
+use check_rules::bound::Bound;
+use check_rules::calls::{Place, call_results};
+use check_rules::code::CheckCode;
+use check_rules::judged::{Cell, Judged, JudgedAll, JudgedCell, JudgedCells, Limits, judge};
+use check_rules::names::{base_of, bind};
+use check_rules::targets::{
+    bind_index_names, bind_targets, index_parts, push_targets, repeated_targets,
 };
-use crate::targets::{bind_index_names, bind_targets, index_parts, push_targets, repeated_targets};
-use crate::uses::{builtin_rules, cell_rules, first_cell, several_targets, use_rules};
-use crate::violation::{Violation, earlier, unless};
+use check_rules::uses::{builtin_rules, cell_rules, first_cell, several_targets, use_rules};
+use check_rules::violation::{Violation, earlier, unless};
 use indexmap::IndexMap;
-use sac_ast::{Bound as BoundTree, CheckCode, Expression, Generator, Operation, Statement, Target};
+use sac_ast::{
+    Bound as BoundTree, Expression, Generator, Operation, Statement, Target, agree, builtin_base,
+    choice_base, first_base, literal_base, may_be, may_match, operand_base, operands_fit,
+};
 use sac_base::{Base, Memory, Site, result_base};
 
 type Known<'a> = IndexMap<&'a str, Option<Base>>;

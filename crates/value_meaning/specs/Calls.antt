@@ -1,5 +1,5 @@
 -- The meaning of calls, and of a whole program.
-use Rattle.std.specs.Prelude.{ℕ, zero, suc, List, Bool, ◌&&◌, ◌||◌, not, if◌then◌else◌, Option, Some, None, Ok, map, length, position, bytes_eq, slice_get, codes}
+use Rattle.std.specs.Prelude.{ℕ, zero, suc, List, Bool, ◌&&◌, ◌||◌, not, if◌then◌else◌, Option, Some, None, Ok, map, length, position, bytes_eq, slice_get}
 use Rattle.std.specs.List.{list_all}
 use Rattle.sac_base.specs.declared.site.Site.{Site}
 use Rattle.sac_base.specs.declared.faults.Caps.{Caps}
@@ -14,6 +14,7 @@ use Rattle.sac_ast.specs.Tree.{Expr, FunctionTree, ProgramTree}
 use Rattle.sac_ast.specs.Bases.{base_in}
 use Rattle.sac_base.specs.Outcomes.{Ends, and_then, fault, no_variables, with_variables}
 use Rattle.value_meaning.specs.Meaning.{CallMeaning, block, meanings}
+pub use Rattle.sac_ast.specs.Mains.{MAIN, is_main}
 
 abbrev pub param_types : FunctionTree → List ArrayType
 param_types f = map (λ (p : Param). p.ty) f.params
@@ -77,12 +78,6 @@ module _ (fs : List FunctionTree) where
     -- what calls mean where so many levels are left
     abbrev pub call_at : ℕ → CallMeaning
     call_at left = call_by (run_deeper left) (run_inline (run_deeper left) (length fs))
-
-abbrev pub MAIN : Name
-MAIN = codes "main"
-
-abbrev pub is_main : FunctionTree → Bool
-is_main f = bytes_eq f.name MAIN
 
 -- main runs at depth 0; its arguments must be in the types of its parameters
 abbrev pub outcome_of : List FunctionTree → (FunctionTree → Expr → Option Base) → Caps → List ArrayValue → Site → Option FunctionTree → Ends (List ArrayValue)

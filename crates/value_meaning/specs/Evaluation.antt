@@ -65,7 +65,8 @@ run_chosen_in context place =
 -- what the function that runs gives for arguments
 abbrev pub function_in : Context → List ArrayValue → Ends (List ArrayValue)
 function_in context args =
-    and_then (block_in context (function context.current.now).body (with_variables (names_of_params context.current.now.params.items) args no_variables)) (λ env.
+    let begin = with_variables (names_of_params context.current.now.params.items) args no_variables in
+    and_then (block_in context (function context.current.now).body begin) (λ env.
     and_then (meanings_in context (function context.current.now).values env) (results_in context.current.now.results.items context.current.now.ends))
 
 -- the cell of a generator at an index vector

@@ -110,7 +110,16 @@ module _ (turns : ℕ) (base_of : Expr → Option Base) (call : CallMeaning) whe
         and_then (maybe step env) (λ s.
         and_then (maybe width env) (λ w.
         Ok (record {
-          bounds = record { lower = l; lower_closed = lower_closed; names = name_count index; upper = u; upper_closed = upper_closed; step = s; width = w; site = site };
+          bounds = record {
+            lower = l;
+            lower_closed = lower_closed;
+            names = name_count index;
+            upper = u;
+            upper_closed = upper_closed;
+            step = s;
+            width = w;
+            site = site;
+          };
           cell = λ v. and_then (block body (with_index index v env)) (meaning cell);
         })))))
 

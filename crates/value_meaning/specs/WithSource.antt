@@ -32,7 +32,16 @@ bounds_in context env g =
     and_then (bound_in context (View.bound g.upper) env) (λ u.
     and_then (maybe_in context (View.maybe g.step) env) (λ s.
     and_then (maybe_in context (View.maybe g.width) env) (λ w.
-    Ok (record { lower = l; lower_closed = g.lower_closed; names = name_count (index_view g.index); upper = u; upper_closed = g.upper_closed; step = s; width = w; site = g.site })))))
+    Ok (record {
+      lower = l;
+      lower_closed = g.lower_closed;
+      names = name_count (index_view g.index);
+      upper = u;
+      upper_closed = g.upper_closed;
+      step = s;
+      width = w;
+      site = g.site;
+    })))))
 
 abbrev pub operation_in : Context → OperationTree → Gens → Env → Ends Operation
 operation_in context op gs env = operation context.turns (bases_in context) (calls_in context) op (default_base (bases_in context) gs) env
@@ -40,7 +49,16 @@ operation_in context op gs env = operation context.turns (bases_in context) (cal
 -- a generator as far as its cells go
 abbrev pub generator_of : Context → Env → Generator → WithLoops.Generator
 generator_of context env g = record {
-  bounds = record { lower = None; lower_closed = g.lower_closed; names = None; upper = None; upper_closed = g.upper_closed; step = None; width = None; site = g.site };
+  bounds = record {
+    lower = None;
+    lower_closed = g.lower_closed;
+    names = None;
+    upper = None;
+    upper_closed = g.upper_closed;
+    step = None;
+    width = None;
+    site = g.site;
+  };
   cell = λ v. cell_in context g v env;
 }
 

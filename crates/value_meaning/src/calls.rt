@@ -12,11 +12,11 @@ ghost use Rattle.array_ops.specs.Tells.{Tells, TellsEnv};
 ghost use Rattle.sac_base.specs.Outcomes.{first_result, with_variables};
 
 use crate::environment::{Environment, assign};
+use array_with_loops::IndexVector;
 use sac_ast::{Function, Index, Param, Target};
 use sac_base::{Array, Base, Name, Stop, contains, copy_array, same_name};
 use shape_types::below;
 use std::alloc::Global;
-use array_with_loops::IndexVector;
 
 /// The place of the least instance that fits the arguments.
 pub fn choose_instance(functions: &[Function], name: &Name, args: &[Array]) -> Option<usize>

@@ -22,14 +22,14 @@ use crate::calls::{
 };
 use crate::defaults::default_or_zero;
 use crate::environment::{Environment, assign, lookup};
+use array_ops::{binary_at, condition_at, literal_at, results_of, select_at, unary_of};
+use array_with_loops::{
+    Bounds, Evaluated, IndexVector, Plan, Range, add_cell, cell_size, combine, fits_form,
+    fold_plan, genarray_plan, modarray_plan,
+};
 use sac_ast::{Bound, Expression, Function, Generator, Index, Operation, Statement, Target};
 use sac_base::{Array, Base, FaultKind, Form, Memory, Name, Op, Site, Stop, fault};
 use std::alloc::Global;
-use array_ops::{binary_at, condition_at, literal_at, results_of, select_at, unary_of};
-use array_with_loops::{
-    Bounds, Evaluated, IndexVector, Plan, Range, add_cell, cell_size, combine, fits_form, fold_plan,
-    genarray_plan, modarray_plan,
-};
 
 /// The function that runs, and how far it may go on.
 #[derive(Clone, Copy)]
@@ -564,7 +564,8 @@ fn array_cells(
     env: &Environment<'_>,
 ) -> Result<Array, Stop>
     requires { IsArrayPlan old background.now (plan_of plan) }
-    ensures { Tells result (and_then (cells_in context.now gs.now plan.ranges.items plan.frame plan.form (env_of env.now)) (λ found. Ok (array_from old background.now (plan_of plan) found))) }
+    ensures { Tells result (and_then (cells_in context.now gs.now plan.ranges.items plan.frame plan.form (env_of env.now))
+        (λ found. Ok (array_from old background.now (plan_of plan) found))) }
 {
     let mut cells = Vec::new(context.alloc);
     let mut index = IndexVector::new(context.alloc);
@@ -588,7 +589,8 @@ fn fold_cells(
     context: &Context<'_>,
     env: &Environment<'_>,
 ) -> Result<Array, Stop>
-    ensures { Tells result (and_then (cells_in context.now gs.now plan.now.ranges.items plan.now.frame plan.now.form (env_of env.now)) (λ found. Ok (fold (combined op) neutral found))) }
+    ensures { Tells result (and_then (cells_in context.now gs.now plan.now.ranges.items plan.now.frame plan.now.form (env_of env.now))
+        (λ found. Ok (fold (combined op) neutral found))) }
 {
     let mut value = neutral;
     let mut index = IndexVector::new(context.alloc);

@@ -9,6 +9,3 @@ mod evaluate;
 mod program;
 
 pub use program::plain_run;
-
-#[cfg(test)]
-mod tests;

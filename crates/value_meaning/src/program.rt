@@ -1,18 +1,18 @@
 //! A whole program.
 
-ghost use Rattle.std.specs.Prelude.{◌≡◌, ◌<◌, ◌++◌, IfOk, IfSome, length, position};
+ghost use Rattle.std.specs.Prelude.{◌≡◌, ◌<◌, ◌++◌, IfOk, length};
 ghost use Rattle.sac_base.specs.declared.site.Site.{Site as Place};
-ghost use Rattle.sac_ast.specs.View.{functions as trees, program};
-ghost use Rattle.value_meaning.specs.Calls.{is_main, outcome};
+ghost use Rattle.sac_ast.specs.View.{program};
+ghost use Rattle.value_meaning.specs.Calls.{outcome};
 ghost use Rattle.value_meaning.specs.Evaluation.{main_at};
 ghost use Rattle.array_ops.specs.Tells.{TellsItems, IsOutcome};
 
 use crate::calls::all_fit;
 use crate::evaluate::{Context, run_function};
+use array_ops::copy_all;
 use sac_ast::{Function, Program};
 use sac_base::{Array, Caps, FaultKind, Memory, Outcome, Stop, fault};
 use std::alloc::Global;
-use array_ops::copy_all;
 
 /// Runs a program on arguments, and gives what its meaning is: the results of `main`, or the first fault.
 pub fn plain_run(
@@ -39,7 +39,7 @@ fn run_program(
     ensures { TellsItems result (outcome (program checked.now) args.now caps) }
 {
     let functions = checked.functions.as_slice();
-    match find_main(functions) {
+    match checked.main_place() {
         None => Err(fault(FaultKind::F7, checked.end)),
         Some(place) => run_main(alloc, functions, place, args, caps),
     }
@@ -69,17 +69,4 @@ fn run_main(
     };
     let args = copy_all(alloc, args)?;
     run_function(args, &context)
-}
-
-/// The place of `main`.
-fn find_main(functions: &[Function]) -> Option<usize>
-    ensures told { result ≡ position is_main (trees functions.now) }
-    ensures within { IfSome result (λ p. p < length functions.now) }
-{
-    for i in 0..functions.len() {
-        if functions[i].name.as_str() == "main" {
-            return Some(i);
-        }
-    }
-    None
 }

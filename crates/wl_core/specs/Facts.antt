@@ -1,7 +1,8 @@
 -- What holds in every state that events lead to.
-use Rattle.std.specs.Prelude.{◌≡◌, ℕ, ◌+◌, ◌^◌, ◌<◌, ◌≤◌, true, false, cond, ◌==◌, ℤ, List, [], ◌∷◌, length, slice_index, slice_get, Option, Some, None, Ok, Err}
+use Rattle.std.specs.Prelude.{◌≡◌, ℕ, ◌+◌, ◌<◌, ◌≤◌, true, false, cond, ◌==◌, ℤ, List, [], ◌∷◌, length, slice_index, slice_get, Option, Some, None, Ok, Err}
 use Rattle.sac_base.specs.declared.faults.Fault.{Fault}
 use Rattle.sac_base.specs.Verdict.{present, combined}
+use Rattle.wl_core.specs.declared.limits.TheConstants.{MOST_HOLDS}
 use Rattle.wl_core.specs.declared.setup.Job.{Job}
 use Rattle.wl_core.specs.declared.setup.Job.TheVariants.{Write as Store, Fold}
 use Rattle.wl_core.specs.Machine.{CellValue, SetupValue, StateValue, VerdictValue, Faulted, combine, Works, first, end, chunks, sum_below, holds_of, listed, whole, sequential}
@@ -42,7 +43,8 @@ pub record Facts (u : SetupValue) (s : StateValue) : Type 0 where
   pub one_each : (w c d : ℕ) → Works u s w c → Works u s w d → c ≡ d
   pub within : (c : ℕ) → c < s.taken → (first u c ≤ s.next c) × (s.next c ≤ end u c)
   -- the positions before a taken chunk's next were written once each, by its owner, and do not fault
-  pub done : (c p : ℕ) → c < s.taken → first u c ≤ p → p < s.next c → (s.written p ≡ s.owner c ∷ []) × ((value : Option (List ℤ)) × (slice_get u.cells p ≡ Some (Ok value)))
+  pub done : (c p : ℕ) → c < s.taken → first u c ≤ p → p < s.next c
+      → (s.written p ≡ s.owner c ∷ []) × ((value : Option (List ℤ)) × (slice_get u.cells p ≡ Some (Ok value)))
   -- and no other position was written
   pub ahead : (c p : ℕ) → c < s.taken → s.next c ≤ p → p < end u c → s.written p ≡ []
   pub untaken : (c p : ℕ) → s.taken ≤ c → first u c ≤ p → p < end u c → s.written p ≡ []
@@ -51,9 +53,9 @@ pub record Facts (u : SetupValue) (s : StateValue) : Type 0 where
   pub partials : (w : ℕ) → s.partial w ≡ partial_by u.job (own_cells u s w)
   -- a stopped chunk's next position faults
   pub stops : (c : ℕ) → c < s.taken → s.stopped c ≡ true → (s.next c < end u c) × ((fault : Fault) × (slice_get u.cells (s.next c) ≡ Some (Err fault)))
-  -- each count is that of the opening and the holds of all workers, which have at most 2^56 each
+  -- each count is that of the opening and the holds of all workers, which have at most `MOST_HOLDS` each
   pub counts : (b : ℕ) → b < length u.counts → s.count b ≡ slice_index u.counts b + sum_below (λ w. s.holds w b) u.workers
-  pub few : (w : ℕ) → w < u.workers → holds_of u s w ≤ 2 ^ 56
+  pub few : (w : ℕ) → w < u.workers → holds_of u s w ≤ MOST_HOLDS
 
 -- what a state without faults makes of what was stored, or of the workers' partial values
 abbrev pub made_by : Job → ℕ → ℕ → StateValue → VerdictValue
@@ -65,7 +67,8 @@ NoneStopped s = (c : ℕ) → c < s.taken → s.stopped c ≡ false
 
 -- the fault at which the least stopped chunk stopped
 abbrev pub StopsFirst : SetupValue → StateValue → Fault → Type 0
-StopsFirst u s fault = (c : ℕ) × (c < s.taken) × (s.stopped c ≡ true) × ((d : ℕ) → d < c → s.stopped d ≡ false) × (slice_get u.cells (s.next c) ≡ Some (Err fault))
+StopsFirst u s fault =
+    (c : ℕ) × (c < s.taken) × (s.stopped c ≡ true) × ((d : ℕ) → d < c → s.stopped d ≡ false) × (slice_get u.cells (s.next c) ≡ Some (Err fault))
 
 -- what a finished state says: the stop of the least stopped chunk is the sequential fault, and where none stopped, the stored cells joined,
 -- or the partial values combined, are the sequential verdict; the counts are those of the opening

@@ -1,10 +1,11 @@
 -- A phase: a with-loop's positions are cut into chunks, a chunk is taken by one worker, and a worker writes the cells of its chunk in order.
-use Rattle.std.specs.Prelude.{◌≡◌, ℕ, zero, suc, ◌+◌, ◌*◌, ◌^◌, ◌<◌, ◌≤◌, ◌/◌, ◌-◌, ◌⊎◌, min, Bool, true, false, cond, ◌==◌, ℤ, IsTrue, List, [], ◌∷◌, ◌++◌, length, slice_index, slice_get, Option, Some, None, Ok, Err}
+use Rattle.std.specs.Prelude.{◌≡◌, ℕ, zero, suc, ◌+◌, ◌*◌, ◌<◌, ◌≤◌, ◌/◌, ◌-◌, ◌⊎◌, min, Bool, true, false, cond, ◌==◌, ℤ, IsTrue, List, [], ◌∷◌, ◌++◌, length, slice_index, slice_get, Option, Some, None, Ok, Err}
 use Rattle.sac_base.specs.declared.faults.Fault.{Fault}
 use Rattle.sac_base.specs.declared.op.Op.{Op}
-use Rattle.sac_base.specs.Arrays.{IsCell}
+use Rattle.sac_base.specs.Arrays.{IsCell, MOST}
 use Rattle.sac_base.specs.Outcomes.{Ends}
 use Rattle.sac_base.specs.Verdict.{each, present, joined, combined, elementwise, folds, fold_op}
+use Rattle.wl_core.specs.declared.limits.TheConstants.{MOST_HOLDS, MOST_REFERENCES, MOST_WORKERS}
 use Rattle.wl_core.specs.declared.setup.Job.{Job}
 use Rattle.wl_core.specs.declared.setup.Job.TheVariants.{Write as Store, Fold}
 use Rattle.wl_core.specs.declared.events.Event.{Event}
@@ -42,7 +43,7 @@ OfBase Store value = Unit {0}
 OfBase (Fold base op) value = (k : ℕ) (z : ℤ) → slice_get value k ≡ Some z → IsCell base z
 
 abbrev pub CountsFit : List ℕ → Type 0
-CountsFit counts = (b : ℕ) → b < length counts → (1 ≤ slice_index counts b) × (slice_index counts b ≤ 2 ^ 62)
+CountsFit counts = (b : ℕ) → b < length counts → (1 ≤ slice_index counts b) × (slice_index counts b ≤ MOST_REFERENCES)
 
 -- all values have one length
 abbrev pub OneLength : List CellValue → Type 0
@@ -51,8 +52,8 @@ OneLength cells = (p q : ℕ) (x y : List ℤ) → slice_get cells p ≡ Some (O
 -- what a phase may be opened with; an index that is not held stands only in a fold
 pub record IsSetup (u : SetupValue) : Type 0 where
   pub size : 1 ≤ u.size
-  pub positions : length u.cells ≤ 16777216
-  pub workers : u.workers ≤ 64
+  pub positions : length u.cells ≤ MOST
+  pub workers : u.workers ≤ MOST_WORKERS
   pub counts : CountsFit u.counts
   pub one_length : OneLength u.cells
   pub held : (p : ℕ) → slice_get u.cells p ≡ Some (Ok None) → IsFold u.job
@@ -134,16 +135,22 @@ Steps u s (Draw w) t =
     (w < u.workers) × ((c : ℕ) → ¬ Works u s w c) × (s.taken < chunks u)
     × (t ≡ record s { taken = s.taken + 1; owner = put s.owner s.taken w; next = put s.next s.taken (first u s.taken); stopped = put s.stopped s.taken false })
 Steps u s (Keep w b) t =
-    (w < u.workers) × (b < length u.counts) × (holds_of u s w < 2 ^ 56)
+    (w < u.workers) × (b < length u.counts) × (holds_of u s w < MOST_HOLDS)
     × (t ≡ record s { count = put s.count b (s.count b + 1); holds = put s.holds w (put (s.holds w) b (s.holds w b + 1)) })
 Steps u s (Release w b) t =
     (w < u.workers) × (b < length u.counts) × (0 < s.holds w b)
     × (t ≡ record s { count = put s.count b (s.count b - 1); holds = put s.holds w (put (s.holds w) b (s.holds w b - 1)) })
 Steps u s (Write w) t =
     (w < u.workers) × ((c : ℕ) × (value : Option (List ℤ)) × Works u s w c × (slice_get u.cells (s.next c) ≡ Some (Ok value))
-    × (t ≡ record s { next = put s.next c (s.next c + 1); written = put s.written (s.next c) (s.written (s.next c) ++ w ∷ []); stored = store u.job s.stored (s.next c) value; partial = gather u.job s.partial w value }))
+    × (t ≡ record s {
+      next = put s.next c (s.next c + 1);
+      written = put s.written (s.next c) (s.written (s.next c) ++ w ∷ []);
+      stored = store u.job s.stored (s.next c) value;
+      partial = gather u.job s.partial w value;
+    }))
 Steps u s (Stop w) t =
-    (w < u.workers) × ((c : ℕ) × (fault : Fault) × Works u s w c × (slice_get u.cells (s.next c) ≡ Some (Err fault)) × (t ≡ record s { stopped = put s.stopped c true }))
+    (w < u.workers) × ((c : ℕ) × (fault : Fault) × Works u s w c × (slice_get u.cells (s.next c) ≡ Some (Err fault))
+    × (t ≡ record s { stopped = put s.stopped c true }))
 
 -- why an event is refused: the first reason in the order of the lines
 abbrev pub Refuses : SetupValue → StateValue → Event → Refused → Type 0
@@ -151,7 +158,7 @@ Refuses u s (Draw w) NoSuch = u.workers ≤ w
 Refuses u s (Draw w) HasChunk = (w < u.workers) × ((c : ℕ) × Works u s w c)
 Refuses u s (Draw w) NoChunk = (w < u.workers) × ((c : ℕ) → ¬ Works u s w c) × (chunks u ≤ s.taken)
 Refuses u s (Keep w b) NoSuch = (u.workers ≤ w) ⊎ (length u.counts ≤ b)
-Refuses u s (Keep w b) Full = (w < u.workers) × (b < length u.counts) × (2 ^ 56 ≤ holds_of u s w)
+Refuses u s (Keep w b) Full = (w < u.workers) × (b < length u.counts) × (MOST_HOLDS ≤ holds_of u s w)
 Refuses u s (Release w b) NoSuch = (u.workers ≤ w) ⊎ (length u.counts ≤ b)
 Refuses u s (Release w b) NotHeld = (w < u.workers) × (b < length u.counts) × (s.holds w b ≡ 0)
 Refuses u s (Write w) NoSuch = u.workers ≤ w

@@ -1,5 +1,6 @@
 -- A setup, a state and a verdict in memory as the values that they stand for.
-use Rattle.std.specs.Prelude.{◌≡◌, ℕ, ◌/◌, ◌<◌, false, cond, ◌&&◌, nat_lt, ℤ, List, [], ◌∷◌, length, map, slice_get, slice_index, slice_index_or, Option, Some, None, Result, Ok, Err}
+use Rattle.std.specs.Prelude.{◌≡◌, ℕ, ◌/◌, ◌<◌, false, cond, ◌&&◌, nat_lt, ℤ, List, [], ◌∷◌, length, map, slice_get, slice_index, slice_index_or, Option, Some, None, MatchOption, Result, Ok, Err}
+use Rattle.sac_base.specs.declared.faults.Fault.{Fault}
 use Rattle.wl_core.specs.declared.setup.CellResult.{CellResult}
 use Rattle.wl_core.specs.declared.setup.CellResult.TheVariants.{Value, Faults, NotHeld}
 use Rattle.wl_core.specs.declared.setup.Job.{Job}
@@ -10,7 +11,8 @@ use Rattle.wl_core.specs.declared.events.Event.{Event}
 use Rattle.wl_core.specs.declared.events.Refused.{Refused}
 use Rattle.wl_core.specs.declared.ending.Verdict.{Verdict}
 use Rattle.wl_core.specs.declared.ending.Verdict.TheVariants.{Cells as CellsOf, Partial as PartialOf, Faulted as FaultedAt}
-use Rattle.wl_core.specs.Machine.{CellValue, SetupValue, StateValue, VerdictValue, Cells, Partial, Faulted, IsSetup, Works, Steps, Refuses, Reached, chunks, holds_of}
+use Rattle.wl_core.specs.Facts.{NoneStopped, StopsFirst}
+use Rattle.wl_core.specs.Machine.{CellValue, OneLength, SetupValue, StateValue, VerdictValue, Cells, Partial, Faulted, IsSetup, Works, Steps, Refuses, Reached, chunks, holds_of}
 use Rattle.wl_core.specs.Rows.{row_of, times_of, partial_of, items_of, PutsRow, AddsValue}
 
 abbrev pub cell_of : CellResult → CellValue
@@ -65,7 +67,8 @@ pub record IsSized (u : SetupValue) (b : State) : Type 0 where
   pub held : length b.held.items ≡ u.workers
   pub workers : b.holds.workers ≡ u.workers
   pub buffers : b.holds.buffers ≡ length u.counts
-  pub widths : (p : ℕ) (value : List ℤ) → slice_get u.cells p ≡ Some (Ok (Some value)) → (length value ≡ b.stored.width) × (length value ≡ b.partials.rows.width)
+  pub widths : (p : ℕ) (value : List ℤ)
+      → slice_get u.cells p ≡ Some (Ok (Some value)) → (length value ≡ b.stored.width) × (length value ≡ b.partials.rows.width)
   pub rows : RowsFor u.job (length u.cells) u.workers b.stored.count b.partials.rows.count
   -- an unfinished chunk is the one that its worker took last
   pub last : (w c : ℕ) → Works u (state_of u b) w c → slice_index b.latest.items w ≡ c
@@ -76,6 +79,18 @@ pub record IsReached (u : Setup) (b : State) : Type 0 where
   pub setup : IsSetup (setup_of u)
   pub sized : IsSized (setup_of u) b
   pub reached : Reached (setup_of u) (state_of (setup_of u) b)
+
+-- the worker's unfinished chunk, or None where it has none
+abbrev pub IsUnfinished : Setup → State → ℕ → Option ℕ → Type 0
+IsUnfinished u b w found = MatchOption found ((c : ℕ) → ¬ Works (setup_of u) (state_of (setup_of u) b) w c) (λ c. Works (setup_of u) (state_of (setup_of u) b) w c)
+
+-- the fault at which the least stopped chunk stopped, or None where none stopped
+abbrev pub IsFirstStop : Setup → State → Option Fault → Type 0
+IsFirstStop u b found = MatchOption found (NoneStopped (state_of (setup_of u) b)) (λ fault. StopsFirst (setup_of u) (state_of (setup_of u) b) fault)
+
+-- where all values have one length, it is this one
+abbrev pub IsWidth : List CellValue → ℕ → Type 0
+IsWidth cells width = OneLength cells → (p : ℕ) (value : List ℤ) → slice_get cells p ≡ Some (Ok (Some value)) → length value ≡ width
 
 -- there is a row for the value
 abbrev pub EnterFits : Job → State → ℕ → ℕ → List ℤ → Type 0

@@ -1,8 +1,7 @@
-ghost use Rattle.std.specs.Prelude.{◌≡◌, ℕ, ◌<◌, ◌↔◌, IsTrue, IfOk, IsSomeAnd, MatchOption, Some, Err, length, slice_get};
+ghost use Rattle.std.specs.Prelude.{◌≡◌, ◌<◌, ◌↔◌, IsTrue, IfOk, IsSomeAnd, Some, Err, length, slice_get};
 ghost use Rattle.sac_base.specs.declared.faults.Fault.{Fault};
-ghost use Rattle.wl_core.specs.Facts.{NoneStopped, StopsFirst};
 ghost use Rattle.wl_core.specs.Machine.{ChunksDone, Finished, HoldsNothing, sequential};
-ghost use Rattle.wl_core.specs.Reading.{setup_of, state_of, verdict_of, IsReached};
+ghost use Rattle.wl_core.specs.Reading.{setup_of, state_of, verdict_of, IsReached, IsFirstStop};
 
 use crate::setup::{cell, chunk_end};
 use crate::{CellResult, Job, Setup, State};
@@ -76,7 +75,7 @@ pub fn outcome(alloc: Global, setup: &Setup, state: &State) -> Result<Verdict, M
 // The fault at which the least stopped chunk stopped.
 fn first_stop(setup: &Setup, state: &State) -> Option<Fault>
     requires { IsReached setup.now state.now }
-    ensures { MatchOption result (NoneStopped (state_of (setup_of setup.now) state.now)) (λ fault. StopsFirst (setup_of setup.now) (state_of (setup_of setup.now) state.now) fault) }
+    ensures { IsFirstStop setup.now state.now result }
 {
     for chunk in 0..state.taken {
         if state.stopped[chunk] {

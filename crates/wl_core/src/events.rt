@@ -1,6 +1,7 @@
 ghost use Rattle.std.specs.Prelude.{◌≡◌, ◌<◌};
 ghost use Rattle.wl_core.specs.Reading.{Answers, EnterFits, Enters, IsReached, Moves};
 
+use crate::limits::MOST_HOLDS;
 use crate::setup::{cell, chunk_start};
 use crate::state::unfinished;
 use crate::{CellResult, Job, Setup, State};
@@ -21,7 +22,8 @@ pub enum Event {
     Stop(u32),
 }
 
-/// Why an event is refused. Where several reasons hold, the one that stands first among NoSuch, HasChunk, NoChunk, NoOwn, AtFault, NotFault, NotHeld and Full is given.
+/// Why an event is refused. Where several reasons hold, the one that stands first among NoSuch, HasChunk, NoChunk, NoOwn, AtFault, NotFault,
+/// NotHeld and Full is given.
 #[derive(Clone, Copy, Debug, PartialEq, Eq)]
 pub enum Refused {
     /// Every chunk was taken.
@@ -38,12 +40,9 @@ pub enum Refused {
     NotHeld,
     /// There is no such worker or buffer.
     NoSuch,
-    /// The worker has 2^56 holds.
+    /// The worker has as many holds as it may have.
     Full,
 }
-
-/// The most holds that a worker may have.
-const MOST_HOLDS: u64 = 1 << 56;
 
 /// Does an event, or gives the first reason to refuse it and changes nothing. The state was reached from the opening of this setup by steps.
 pub fn step(setup: &Setup, state: &mut State, event: Event) -> Result<(), Refused>

@@ -1,6 +1,6 @@
-ghost use Rattle.std.specs.Prelude.{◌≡◌, ℕ, ◌<◌, length, slice_get, List, ℤ, Option, Some, Ok};
-ghost use Rattle.wl_core.specs.Machine.{IsSetup, OneLength, chunks, end, first};
-ghost use Rattle.wl_core.specs.Reading.{setup_of, cell_of};
+ghost use Rattle.std.specs.Prelude.{◌≡◌, ◌<◌, length, slice_get, Some};
+ghost use Rattle.wl_core.specs.Machine.{IsSetup, chunks, end, first};
+ghost use Rattle.wl_core.specs.Reading.{setup_of, cell_of, IsWidth};
 
 use sac_base::{Base, Cell, Fault, Op};
 
@@ -68,7 +68,7 @@ pub fn chunk_end(setup: &Setup, chunk: usize) -> usize
 
 /// The length that all values have, or 0 where there is none.
 pub fn value_width(setup: &Setup) -> usize
-    ensures { OneLength (setup_of setup.now).cells → (p : ℕ) (value : List ℤ) → slice_get (setup_of setup.now).cells p ≡ Some (Ok (Some value)) → length value ≡ result }
+    ensures { IsWidth (setup_of setup.now).cells result }
 {
     for cell in &setup.cells {
         if let CellResult::Value(value) = cell {

@@ -1,6 +1,6 @@
-ghost use Rattle.std.specs.Prelude.{◌≡◌, ◌<◌, ℕ, IfOk, MatchOption};
-ghost use Rattle.wl_core.specs.Machine.{IsSetup, opened, Works};
-ghost use Rattle.wl_core.specs.Reading.{setup_of, state_of, IsReached};
+ghost use Rattle.std.specs.Prelude.{◌≡◌, ◌<◌, IfOk};
+ghost use Rattle.wl_core.specs.Machine.{IsSetup, opened};
+ghost use Rattle.wl_core.specs.Reading.{setup_of, state_of, IsReached, IsUnfinished};
 
 use crate::holds::Holds;
 use crate::partials::Partials;
@@ -59,7 +59,7 @@ pub fn open_state(alloc: Global, setup: &Setup) -> Result<State, Memory>
 pub fn unfinished(setup: &Setup, state: &State, worker: u32) -> Option<usize>
     requires reached { IsReached setup.now state.now }
     requires worker { worker < setup.now.workers }
-    ensures { MatchOption result ((c : ℕ) → ¬ Works (setup_of setup.now) (state_of (setup_of setup.now) state.now) worker c) (λ c. Works (setup_of setup.now) (state_of (setup_of setup.now) state.now) worker c) }
+    ensures { IsUnfinished setup.now state.now worker result }
 {
     let chunk = state.latest[worker as usize];
     if chunk < state.taken

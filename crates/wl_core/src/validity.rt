@@ -5,22 +5,18 @@ ghost use Rattle.sac_base.specs.Verdict;
 ghost use Rattle.wl_core.specs.Machine.{CellFits, CountsFit, IsFold, IsSetup, OfBase, TakesBase};
 ghost use Rattle.wl_core.specs.Reading.{setup_of, cell_of};
 
+use crate::limits::{MOST_REFERENCES, MOST_WORKERS};
 use crate::setup::value_width;
 use crate::{CellResult, Job, Setup};
-use sac_base::{Base, Cell, Op};
+use sac_base::{Base, Cell, MOST_ELEMENTS, Op};
 
-const MOST_POSITIONS: usize = 16_777_216;
-
-const MOST_WORKERS: u32 = 64;
-
-const MOST_COUNT: u64 = 1 << 62;
-
-/// Whether a phase may be opened with the setup: at least one cell makes a chunk, there are at most 16,777,216 positions and 64 workers, the counts are
-/// from 1 to 2^62, all values have one length, only a fold has a cell that is not held, and its operation and its values are of its base.
+/// Whether a phase may be opened with the setup: at least one cell makes a chunk, there are at most `MOST_ELEMENTS` positions and `MOST_WORKERS` workers, the
+/// counts are from 1 to `MOST_REFERENCES`, all values have one length, only a fold has a cell that is not held, and its operation and its values are of its base.
 pub fn is_setup(setup: &Setup) -> bool
     ensures { IsTrue result ↔ IsSetup (setup_of setup.now) }
 {
-    if setup.cuts_size == 0 || setup.cells.len() > MOST_POSITIONS || setup.workers > MOST_WORKERS {
+    let positions = setup.cells.len() as u64;
+    if setup.cuts_size == 0 || positions > MOST_ELEMENTS || setup.workers > MOST_WORKERS {
         return false;
     }
     if !takes_base(setup.job) || !counts_fit(&setup.counts) {
@@ -57,7 +53,7 @@ fn counts_fit(counts: &[u64]) -> bool
     ensures { IsTrue result ↔ CountsFit counts.now }
 {
     for count in counts {
-        if *count == 0 || *count > MOST_COUNT {
+        if *count == 0 || *count > MOST_REFERENCES {
             return false;
         }
     }

@@ -16,15 +16,15 @@ above_block-returns t c =
 pub above_with-returns : goal.above_with-returns
 above_with-returns t c =
     let w = out-WithLoop c.args.with.now in
-    started c.loop-generator.number c.above_op-number.result (above_all (op_uses w.op)) (gens_above w.gens.items)
-    (ended gens_above c.loop-generator.number c.above_op-number.result c.loop-generator.generator-index c.deref-generator-items.result.now _ refl c.loop-generator.invariant (omega arith) c.deref-generator-items.ensures.value)
-    c.above_op-number.ensures
+    started c.loop-generator.number c.above_vars-number.result (above_all (op_uses w.op)) (gens_above w.gens.items)
+    (ended gens_above c.loop-generator.number c.above_vars-number.result c.loop-generator.generator-index c.deref-generator-items.result.now _ refl c.loop-generator.invariant (omega arith) c.deref-generator-items.ensures.value)
+    (c.above_vars-number.ensures ∙ ap above_all (c.as_slice.ensures ∙ c.operands.ensures))
     ∙ sym (with_above c.args.with.now)
 
 pub above_parted-returns : goal.above_parted-returns
 above_parted-returns t c =
     let p = out-PartedLoop c.args.parted.now in
-    started c.loop-part.number c.above_parted_op-number.result (above_all (parted_uses p.op)) (parts_above p.parts.items)
-    (ended parts_above c.loop-part.number c.above_parted_op-number.result c.loop-part.part-index c.deref-part-items.result.now _ refl c.loop-part.invariant (omega arith) c.deref-part-items.ensures.value)
-    c.above_parted_op-number.ensures
+    started c.loop-part.number c.above_vars-number.result (above_all (parted_uses p.op)) (parts_above p.parts.items)
+    (ended parts_above c.loop-part.number c.above_vars-number.result c.loop-part.part-index c.deref-part-items.result.now _ refl c.loop-part.invariant (omega arith) c.deref-part-items.ensures.value)
+    (c.above_vars-number.ensures ∙ ap above_all (c.as_slice.ensures ∙ c.operands.ensures))
     ∙ sym (parted_above c.args.parted.now)

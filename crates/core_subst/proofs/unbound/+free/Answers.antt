@@ -45,8 +45,8 @@ pub meet_with-returns-clause-used : goal.meet_with-returns-clause-used
 meet_with-returns-clause-used t c =
     let w = c.args.with.now in
     let gens = (out-WithLoop w).gens.items in
-    all_met gens_used c.loop-generator.met.used.items c.meet_op.new.used.items c.loop-generator.generator-index c.deref-generator-items.result.now gens refl c.loop-generator.invariant.used c.loop-generator-test.false c.deref-generator-items.ensures.value
-    ∙ (λ i. c.in_ok-meet_op.ensures i ++ gens_used gens)
+    all_met gens_used c.loop-generator.met.used.items c.add.new.vars.items c.loop-generator.generator-index c.deref-generator-items.result.now gens refl c.loop-generator.invariant.used c.loop-generator-test.false c.deref-generator-items.ensures.value
+    ∙ (λ i. (c.in_ok-add.ensures ∙ ap (λ l. c.args.met.now.used.items ++ l) (c.as_slice.ensures ∙ c.operands.ensures)) i ++ gens_used gens)
     ∙ two c.args.met.now.used.items (op_uses (out-WithLoop w).op) (gens_used gens) _ (with_used w)
 
 pub meet_with-returns-clause-bound : goal.meet_with-returns-clause-bound
@@ -68,8 +68,8 @@ pub meet_parted-returns-clause-used : goal.meet_parted-returns-clause-used
 meet_parted-returns-clause-used t c =
     let w = c.args.parted.now in
     let parts = (out-PartedLoop w).parts.items in
-    all_met parts_used c.loop-part.met.used.items c.meet_parted_op.new.used.items c.loop-part.part-index c.deref-part-items.result.now parts refl c.loop-part.invariant.used c.loop-part-test.false c.deref-part-items.ensures.value
-    ∙ (λ i. c.in_ok-meet_parted_op.ensures i ++ parts_used parts)
+    all_met parts_used c.loop-part.met.used.items c.add.new.vars.items c.loop-part.part-index c.deref-part-items.result.now parts refl c.loop-part.invariant.used c.loop-part-test.false c.deref-part-items.ensures.value
+    ∙ (λ i. (c.in_ok-add.ensures ∙ ap (λ l. c.args.met.now.used.items ++ l) (c.as_slice.ensures ∙ c.operands.ensures)) i ++ parts_used parts)
     ∙ two c.args.met.now.used.items (parted_uses (out-PartedLoop w).op) (parts_used parts) _ (parted_used w)
 
 pub meet_parted-returns-clause-bound : goal.meet_parted-returns-clause-bound

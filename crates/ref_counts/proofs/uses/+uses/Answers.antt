@@ -1,4 +1,4 @@
-use Rattle.std.proofs.Common.{arith}
+use Rattle.std.proofs.Common.{◌++◌, arith, ap, ◌∙◌}
 use Rattle.ref_counts.proofs.Collected.{block_collected, with_collected, parted_collected}
 use Rattle.ref_counts.proofs.uses.+uses.Goals as goal
 
@@ -9,10 +9,10 @@ add_uses-returns t c =
 
 pub add_with-returns : goal.add_with-returns
 add_with-returns t c =
-    with_collected c.args.with.now c.args.out.now.items c.add_operation.new.out.items c.loop-generator.out.items c.loop-generator.generator-index c.deref-generator-items.result.now
-    c.in_ok-add_operation.ensures c.loop-generator.invariant (omega arith) c.deref-generator-items.ensures.value
+    with_collected c.args.with.now c.args.out.now.items c.add_all.new.out.items c.loop-generator.out.items c.loop-generator.generator-index c.deref-generator-items.result.now
+    (c.in_ok-add_all.ensures ∙ ap (λ xs. c.args.out.now.items ++ xs) (c.as_slice.ensures ∙ c.operands.ensures)) c.loop-generator.invariant (omega arith) c.deref-generator-items.ensures.value
 
 pub add_parted-returns : goal.add_parted-returns
 add_parted-returns t c =
-    parted_collected c.args.parted.now c.args.out.now.items c.add_parted_operation.new.out.items c.loop-part.out.items c.loop-part.part-index c.deref-part-items.result.now
-    c.in_ok-add_parted_operation.ensures c.loop-part.invariant (omega arith) c.deref-part-items.ensures.value
+    parted_collected c.args.parted.now c.args.out.now.items c.add_all.new.out.items c.loop-part.out.items c.loop-part.part-index c.deref-part-items.result.now
+    (c.in_ok-add_all.ensures ∙ ap (λ xs. c.args.out.now.items ++ xs) (c.as_slice.ensures ∙ c.operands.ensures)) c.loop-part.invariant (omega arith) c.deref-part-items.ensures.value

@@ -7,24 +7,23 @@ pub returns-in_err-compiled-clause-cleared : goal.returns-in_err-compiled-clause
 returns-in_err-compiled-clause-cleared g c = untouched _ c.requires.new
 
 pub pre-run-counted : goal.pre-run-counted
-pre-run-counted g c = c.in_ok-compiled.ensures.counted (source_formed c.requires.read.0 _ c.requires.read.1) c.requires.read.1.accepted
+pre-run-counted g c = c.in_ok-compiled.ensures.counted (source_formed c.requires.read.0 _ c.requires.read.1)
 
 pub returns-clause-outcome : goal.returns-clause-outcome
 returns-clause-outcome g c =
     let formed = source_formed c.requires.read.0 _ c.requires.read.1 in
-    ends_with c.outcome_told.result _ _ (c.in_ok-compiled.ensures.outcome formed c.requires.read.1.accepted _ _ c.requires.arrays)
+    ends_with c.outcome_told.result _ _ (c.in_ok-compiled.ensures.outcome formed _ _ c.requires.arrays)
     (c.outcome_told.ensures.outcome _ c.run-result.ensures.outcome)
 
 pub returns-clause-traced : goal.returns-clause-traced
 returns-clause-traced g c =
     let formed = source_formed c.requires.read.0 _ c.requires.read.1 in
-    let accepted = c.requires.read.1.accepted in
     IfOk-weaker c.outcome_told.result _ _ (λ o ended. run_traced _ _ _ _ c.run-result.result _ _ _ _ _ c.requires.arrays
     (record {
-      counted = c.in_ok-compiled.ensures.counted formed accepted;
-      prompt = c.in_ok-compiled.ensures.prompt formed accepted;
+      counted = c.in_ok-compiled.ensures.counted formed;
+      prompt = c.in_ok-compiled.ensures.prompt formed;
       unmarked = c.in_ok-compiled.ensures.unmarked;
-      outcome = c.in_ok-compiled.ensures.outcome formed accepted;
+      outcome = c.in_ok-compiled.ensures.outcome formed;
     })
     c.run-result.ensures.outcome c.run-result.ensures.cost c.run-result.ensures.tally c.run-result.ensures.counters c.in_ok-compiled.ensures.none.0 c.in_ok-compiled.ensures.none.1 ended)
     c.outcome_told.ensures.ended

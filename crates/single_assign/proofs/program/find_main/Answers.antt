@@ -2,7 +2,7 @@ use Rattle.std.proofs.Common.{◌≡◌, get_or, true, sym, ap, ◌∙◌, arith
 use Rattle.sac_ast.specs.View.{function}
 use Rattle.value_meaning.specs.Calls.{is_main, MAIN}
 use Rattle.std.specs.Prelude.{bytes_eq}
-use Rattle.value_meaning.proofs.CallChoice.{position_at, position_none}
+use Rattle.sac_ast.proofs.FirstPlaces.{position_at, position_none}
 use Rattle.single_assign.proofs.program.find_main.Goals as goal
 
 pub returns-then-eq : goal.returns-then-eq

@@ -1,8 +1,8 @@
 use Rattle.std.proofs.Common.{rules, ◌<◌, ◌+◌, length, take, drop, sym, ap, ◌∙◌}
 use Rattle.sac_ast.specs.View.{function, functions}
 use Rattle.sac_ast.specs.declared.Function.{Function}
-use Rattle.type_check.specs.First.{earlier}
-use Rattle.type_check.specs.Programs.{in_functions, one_function}
+use Rattle.check_rules.specs.First.{earlier}
+use Rattle.check_rules.specs.Programs.{in_functions, one_function}
 use Rattle.type_check.proofs.Whole.{functions_step}
 use Rattle.type_check.proofs.program.all_functions.Goals as goal
 

@@ -1,7 +1,7 @@
 use Rattle.std.proofs.Common.{◌≡◌, [], take, drop}
 use Rattle.sac_ast.specs.View.{functions}
-use Rattle.type_check.specs.First.{earlier}
-use Rattle.type_check.specs.Programs.{in_functions}
+use Rattle.check_rules.specs.First.{earlier}
+use Rattle.check_rules.specs.Programs.{in_functions}
 use Rattle.type_check.proofs.program.all_functions.Given as goal
 
 abbrev pub invariant-loop-at : goal.invariant-loop-at

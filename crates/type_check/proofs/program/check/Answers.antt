@@ -1,7 +1,7 @@
 use Rattle.std.proofs.Common.{◌≡◌, Option, Some, None, refl, sym, ◌∙◌}
 use Rattle.sac_ast.specs.View.{program}
-use Rattle.type_check.specs.Accepted.{violations}
-use Rattle.type_check.proofs.Earliest.{first_is, no_first}
+use Rattle.check_rules.specs.Accepted.{violations}
+use Rattle.check_rules.proofs.Earliest.{first_is, no_first}
 use Rattle.type_check.proofs.Whole.{program_is}
 use Rattle.type_check.proofs.program.check.Goals as goal
 
@@ -18,3 +18,8 @@ pub returns-in-Ok-main_bases-clause-accepted : goal.returns-in-Ok-main_bases-cla
 returns-in-Ok-main_bases-clause-accepted c =
     let p = program c.args.program in
     no_first (violations p) (sym (program_is p) ∙ sym c.in-Ok.ensures ∙ none_where c.in-Ok.first c.in_default.not-Some)
+
+pub invariant_of-result : goal.invariant_of-result
+invariant_of-result c =
+    let p = program c.args.program in
+    record { accepted = no_first (violations p) (sym (program_is p) ∙ sym c.in-Ok.ensures ∙ none_where c.in-Ok.first c.in_default.not-Some) }

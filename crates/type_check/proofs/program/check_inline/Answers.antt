@@ -1,9 +1,9 @@
 use Rattle.std.proofs.Common.{rules, ◌<◌, ◌+◌, ◌∷◌, length, drop, sym, ap, ◌∙◌}
 use Rattle.std.proofs.lemmas.List.{drop_more}
 use Rattle.sac_ast.specs.View.{function, functions}
-use Rattle.type_check.specs.First.{earlier}
-use Rattle.type_check.specs.Programs.{mains, inline_mains}
-use Rattle.type_check.proofs.Clashing.{inline_step}
+use Rattle.check_rules.specs.First.{earlier}
+use Rattle.check_rules.specs.Programs.{mains, inline_mains}
+use Rattle.check_rules.proofs.Clashing.{inline_step}
 use Rattle.type_check.proofs.program.check_inline.Goals as goal
 
 pub loop-f-preserved : goal.loop-f-preserved

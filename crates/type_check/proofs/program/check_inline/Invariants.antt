@@ -1,7 +1,7 @@
 use Rattle.std.proofs.Common.{◌≡◌, drop}
 use Rattle.sac_ast.specs.View.{functions}
-use Rattle.type_check.specs.First.{earlier}
-use Rattle.type_check.specs.Programs.{mains, inline_mains}
+use Rattle.check_rules.specs.First.{earlier}
+use Rattle.check_rules.specs.Programs.{mains, inline_mains}
 use Rattle.type_check.proofs.program.check_inline.Given as goal
 
 abbrev pub invariant-loop-f : goal.invariant-loop-f

@@ -1,6 +1,6 @@
 use Rattle.std.proofs.Common.{◌≡◌, drop, false}
 use Rattle.sac_ast.specs.View.{functions}
-use Rattle.type_check.specs.Programs.{mains_left}
+use Rattle.check_rules.specs.Programs.{mains_left}
 use Rattle.type_check.proofs.program.count_mains.Given as goal
 
 abbrev pub invariant-loop-f : goal.invariant-loop-f

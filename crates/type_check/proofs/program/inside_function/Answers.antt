@@ -1,9 +1,9 @@
 use Rattle.std.proofs.Common.{◌≡◌, ℕ, List, Bor, take, ap, ◌∙◌, bytes_eq}
 use Rattle.std.specs.Map.{lookup}
 use Rattle.sac_ast.specs.View.{function, functions, block, exprs}
-use Rattle.type_check.specs.Accepted.{Place, with_names, param_names, no_names, known_params, none_known, bound_behind}
-use Rattle.type_check.specs.Tables.{among, entered, has}
-use Rattle.type_check.specs.Walk.{in_block, in_values, repeated_params}
+use Rattle.check_rules.specs.Accepted.{Place, with_names, param_names, no_names, known_params, none_known, bound_behind}
+use Rattle.check_rules.specs.Tables.{among, entered, has}
+use Rattle.check_rules.specs.Walk.{in_block, in_values, repeated_params}
 use Rattle.type_check.proofs.Whole.{ended_from}
 use Rattle.type_check.proofs.program.inside_function.Goals as goal
 

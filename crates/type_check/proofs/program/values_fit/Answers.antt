@@ -1,5 +1,5 @@
 use Rattle.std.proofs.Common.{rules, ◌≡◌, ◌≤◌, min, length, sym, ◌∙◌}
-use Rattle.type_check.proofs.Clashing.{values_end}
+use Rattle.check_rules.proofs.Clashing.{values_end}
 use Rattle.type_check.proofs.program.values_fit.Goals as goal
 
 pub returns : goal.returns

@@ -1,5 +1,5 @@
 use Rattle.std.proofs.Common.{◌≡◌, drop}
-use Rattle.type_check.specs.Accepted.{values_fit}
+use Rattle.check_rules.specs.Accepted.{values_fit}
 use Rattle.type_check.proofs.program.values_fit.Given as goal
 
 abbrev pub invariant-loop-k : goal.invariant-loop-k

@@ -3,12 +3,12 @@ use Rattle.std.specs.Prelude.{IfOk, OnOk}
 use Rattle.sac_ast.specs.Tree
 use Rattle.sac_ast.specs.View.{expr, exprs, stmt, block, generators}
 use Rattle.sac_ast.proofs.Views.{expr_call, expr_choice, stmt_assign, stmt_replace, stmt_if}
-use Rattle.type_check.specs.Accepted.{with_names, target_names, bound_after, bound_behind}
-use Rattle.type_check.specs.First.{earlier}
-use Rattle.type_check.specs.Places.{place}
-use Rattle.type_check.specs.Tables.{among, has, with_common, entered}
-use Rattle.type_check.specs.Walk.{in_value, in_values, in_generators, in_statement, in_block, in_targets, bound_by_both}
-use Rattle.type_check.proofs.Places.{kept_twice}
+use Rattle.check_rules.specs.Accepted.{with_names, target_names, bound_after, bound_behind}
+use Rattle.check_rules.specs.First.{earlier}
+use Rattle.check_rules.specs.Places.{place}
+use Rattle.check_rules.specs.Tables.{among, has, with_common, entered}
+use Rattle.check_rules.specs.Walk.{in_value, in_values, in_generators, in_statement, in_block, in_targets, bound_by_both}
+use Rattle.check_rules.proofs.Places.{kept_twice}
 use Rattle.type_check.proofs.Walks.{values_first, values_bases, values_known, generators_first, generators_cells, generators_known, block_first, block_known, block_names, choice_from, called_first, called_known, plain_first, plain_known, replaced_from, both_bound}
 use Rattle.type_check.proofs.walk.+walk.Goals as goal
 

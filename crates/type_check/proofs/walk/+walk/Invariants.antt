@@ -4,12 +4,12 @@ use Rattle.sac_ast.specs.declared.Statement.{size-Statement}
 use Rattle.sac_ast.specs.declared.Generator.{size-Generator}
 use Rattle.sac_ast.specs.declared.Bound.{size-Bound}
 use Rattle.sac_ast.specs.declared.Operation.{size-Operation}
-use Rattle.type_check.specs.Accepted.{bound_behind}
+use Rattle.check_rules.specs.Accepted.{bound_behind}
 use Rattle.sac_ast.specs.View.{exprs, generators, block}
-use Rattle.type_check.specs.First.{earlier}
-use Rattle.type_check.specs.Places.{place}
-use Rattle.type_check.specs.Tables.{among, entered}
-use Rattle.type_check.specs.Walk.{in_values, in_generators, in_block}
+use Rattle.check_rules.specs.First.{earlier}
+use Rattle.check_rules.specs.Places.{place}
+use Rattle.check_rules.specs.Tables.{among, entered}
+use Rattle.check_rules.specs.Walk.{in_values, in_generators, in_block}
 use Rattle.sac_ast.proofs.Lists.{exprs_size, block_size, cells_size, maybe_size}
 use Rattle.type_check.proofs.walk.+walk.Given as goal
 

@@ -1,7 +1,7 @@
 use Rattle.std.proofs.Common.{◌≡◌, get_or, true, sym, ◌∙◌, subst, arith}
 use Rattle.sac_ast.specs.View.{function, functions}
 use Rattle.value_meaning.specs.Calls.{is_least}
-use Rattle.value_meaning.proofs.CallChoice.{position_at, position_none}
+use Rattle.sac_ast.proofs.FirstPlaces.{position_at, position_none}
 use Rattle.value_meaning.proofs.calls.choose_instance.Goals as goal
 
 pub returns-then-is_least-clause-told : goal.returns-then-is_least-clause-told

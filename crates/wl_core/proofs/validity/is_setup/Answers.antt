@@ -1,5 +1,6 @@
 use Rattle.std.proofs.Common.{◌≡◌, ℕ, ◌<◌, ◌≤◌, List, length, map, get_or, Some, refl, sym, ap, ◌∙◌, subst, ⊎_elim, arith}
 use Rattle.std.specs.Prelude.{slice_get}
+use Rattle.sac_base.specs.Arrays.{MOST}
 use Rattle.std.proofs.lemmas.Bool.{true≢false, cases_lt}
 use Rattle.std.proofs.lemmas.List.{length-map}
 use Rattle.wl_core.specs.declared.setup.CellResult.{CellResult}
@@ -42,6 +43,6 @@ returns c =
     let fits : (p : ℕ) (x : CellValue) → slice_get (setup_of u).cells p ≡ Some x → CellFits u.job c.value_width-width.result x =
     (λ p x at. ⊎_elim (λ (l : p < i). c.loop-cell.invariant p x l at) (λ (g : i ≤ p). absurd (no_cell items p x (omega arith) at)) (cases_lt p i)) in
     let counts : CountsFit u.counts.items = subst CountsFit c.deref.ensures.value (c.counts_fit.ensures.0 c.if-not-counts_fit.false) in
-    let positions : length (setup_of u).cells ≤ 16777216 = let l = length-map items cell_of in let n = c.if-len-gt-MOST_POSITIONS.false in let e = c.len.ensures in let ok = u.cells.ok.0 in omega arith in
+    let positions : length (setup_of u).cells ≤ MOST = let l = length-map items cell_of in let n = c.if-positions-gt-MOST_ELEMENTS.false in let e = c.len-positions.ensures in let ok = u.cells.ok.0 in omega arith in
     let size : 1 ≤ u.cuts_size = let z = c.if-setup-eq0.false in omega arith in
     (λ t. setup_is (setup_of u) c.value_width-width.result size positions c.if-setup-gt-MOST_WORKERS.false counts (c.takes_base.ensures.0 c.if-not-takes_base.false) fits, λ is. refl)

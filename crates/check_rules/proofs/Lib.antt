@@ -1,0 +1,7 @@
+pub mod Clashing
+pub mod Earliest
+pub mod Instances
+pub mod Lists
+pub mod Places
+pub mod Positions
+pub mod Rows
