@@ -36,14 +36,13 @@ passed true false false w x a ok = absurd (cc)
 passed true false true false x a ok = absurd (cc)
 passed true false true true x a ok = record { full = refl; same = cc }
 
-array_of : LineValue → ArrayValue
+abbrev array_of : LineValue → ArrayValue
 array_of v = record { base = v.base; shape = v.extents; cells = v.elements }
 
 equal : (m n : ℕ) → (m == n) ≡ true → m ≡ n
 equal m n is = grind (arith, nat_tests)
 
 form_full : (base : Base) (o : Option LineValue) (a : ArrayValue) → judged_form base o ≡ Ok a → IsFull a
-unfolding array_of
 form_full base None a ok = absurd (cc)
 form_full base (Some v) a ok =
     let p = passed (is_in_range v) (is_too_large v) (length v.elements == size v.extents) (same_base v.base base) (array_of v) a ok in
@@ -90,19 +89,21 @@ cells_typed base p [] k d inside = absurd (omega (arith, inside))
 cells_typed base p (i ∷ ks) zero d inside = element_typed base (generated_number p i) (below (i * 1103 + p * 12345 + 7))
 cells_typed base p (i ∷ ks) (suc k) d inside = cells_typed base p ks k d (omega (arith, inside))
 
+abbrev made_of : Base → ℕ → List ℕ → ArrayValue
+made_of base p shape = record { base = base; shape = shape; cells = generated_cells base p (size shape) }
+
+made_typed : (base : Base) (p : ℕ) (shape : List ℕ) → IsFull (made_of base p shape) × IsWellTyped (made_of base p shape)
+made_typed base p shape =
+    (length-map-range_with_len (λ k. generated_element base (generated_number p k)) 0 (size shape), cells_typed base p (range_with_len 0 (size shape)))
+
+not_refused : (t : Bool) (refusal : Refusal) (x a : ArrayValue) → (if t then Err refusal else Ok x) ≡ Ok a → x ≡ a
+not_refused true refusal x a ok = absurd (cc)
+not_refused false refusal x a ok = cc
+
 made_array : (base : Base) (p : ℕ) (shape : List ℕ) (a : ArrayValue) → generated_of base p shape ≡ Ok a → IsFull a × IsWellTyped a
-made_array base p shape a ok = by (nat_lt 8 (length shape) || nat_lt MOST (size shape)) ok
-  where
-    made : ArrayValue
-    made = record { base = base; shape = shape; cells = generated_cells base p (size shape) }
-
-    typed : IsFull made × IsWellTyped made
-    unfolding made
-    typed = (length-map-range_with_len (λ k. generated_element base (generated_number p k)) 0 (size shape), cells_typed base p (range_with_len 0 (size shape)))
-
-    by : (t : Bool) → (if t then Err (record { code = I6; number = p + 1 }) else Ok made) ≡ Ok a → IsFull a × IsWellTyped a
-    by true is = absurd (cc)
-    by false is = subst (λ (x : ArrayValue). IsFull x × IsWellTyped x) (cc) typed
+made_array base p shape a ok =
+    let same = not_refused (nat_lt 8 (length shape) || nat_lt MOST (size shape)) (record { code = I6; number = p + 1 }) (made_of base p shape) a ok in
+    subst (λ (x : ArrayValue). IsFull x × IsWellTyped x) same (made_typed base p shape)
 
 with_ok : (one : Result ArrayValue Refusal) (others : Result (List ArrayValue) Refusal) (all : List ArrayValue) → with_array one others ≡ Ok all → (a : ArrayValue) × (as' : List ArrayValue) × (one ≡ Ok a) × (others ≡ Ok as') × (a ∷ as' ≡ all)
 with_ok (Err refusal) others all ok = absurd (cc)
