@@ -1,6 +1,6 @@
 use core_ir::{
-    Block, Core, CoreFun, CoreGen, CoreOp, CorePart, Let, PartedLoop, PartedOp, Right, Var, WithLoop,
-    copy_block, copy_core, copy_function, nodes,
+    Block, Core, CoreFun, CoreGen, CoreOp, CorePart, Let, PartedLoop, PartedOp, Right, Var,
+    WithLoop, copy_block, copy_core, copy_function, nodes,
 };
 use sac_base::{
     Array, ArrayType, Base, Cell, FaultKind, Grid, Grid1, Memory, Name, Op, Part, Shape, Site,

@@ -1,3 +1,4 @@
 pub mod Counts
 pub mod Pieces
+pub mod Statements
 pub mod Unions

@@ -1,7 +1,7 @@
 ghost use Rattle.std.specs.Prelude.{◌≡◌, ℕ, ◌*◌, ◌<◌, ◌≤◌, ◌^◌, ◌≢◌, ◌∷◌, [], min, length, IfOk, Err};
 ghost use Rattle.std.specs.List.{All};
 ghost use Rattle.sac_base.specs.Grids.{within, Splits, SplitsVectors};
-ghost use Rattle.grid_sets.specs.Segments.{IsUniform, IsAxisCount, IsTooFine};
+ghost use Rattle.grid_sets.specs.Segments.{IsUniform, IsAxisCount, HasRuns, IsTooFine};
 ghost use Rattle.generator_sets.specs.Pieces.{in_box, IsUniformVector, axis_grids, products};
 ghost use Rattle.generator_sets.specs.Counts.{IsCanonicalCount, IsDue};
 
@@ -36,7 +36,7 @@ fn runs_of_axis(
     requires { limit < 2 ^ 63 }
     ensures split { IfOk result (λ runs. Splits runs.items (within axis.now.lo axis.now.hi)) }
     ensures uniform { IfOk result (λ runs. All (IsUniform grids.now) runs.items) }
-    ensures count { (greatest runs : ℕ) → IsAxisCount grids.now axis.now.hi axis.now.lo greatest runs → IfOk result (λ made. (greatest ≤ limit) × (length made.items ≡ runs)) }
+    ensures count { HasRuns grids.now axis.now.lo axis.now.hi limit result }
     ensures fine { (greatest runs : ℕ) → IsAxisCount grids.now axis.now.hi axis.now.lo greatest runs → result ≡ Err GenError.TooFine → limit < greatest }
     ensures too_fine { result ≡ Err GenError.TooFine → IsTooFine limit grids.now }
     ensures few { result ≢ Err GenError.TooMany }

@@ -1,8 +1,9 @@
-ghost use Rattle.std.specs.Prelude.{◌≡◌, ℕ, ◌≤◌, pos, length, map, position, IfOk, List, ℤ, true};
+ghost use Rattle.std.specs.Prelude.{◌≡◌, ℕ, ◌≤◌, pos, length, map, position, IfOk};
 ghost use Rattle.std.specs.List.{All};
 ghost use Rattle.sac_base.specs.Grids.{has_vector, SplitsVectors};
 ghost use Rattle.generator_sets.specs.Pieces.{lows};
 ghost use Rattle.generator_sets.specs.Counts.{IsCanonicalCount, IsDue};
+ghost use Rattle.generator_sets.specs.Unions.{NamesFirst};
 
 use crate::cut::cut;
 use crate::error::GenError;
@@ -36,7 +37,7 @@ pub fn partition(alloc: Global, frame: &Grid, generators: &[Grid]) -> Result<Par
     requires axes { All (λ g. length g ≡ length frame.now) generators.now }
     requires unit { All (λ axis. axis.step ≡ pos 1) frame.now }
     ensures cover { IfOk result (λ parts. SplitsVectors (map (λ part. part.0) parts.parts.items) (has_vector frame.now)) }
-    ensures first { IfOk result (λ parts. All (λ part. (v : List ℤ) → has_vector part.0 v ≡ true → part.1 ≡ position (λ g. has_vector g v) generators.now) parts.parts.items) }
+    ensures first { IfOk result (λ parts. All (NamesFirst generators.now) parts.parts.items) }
     ensures few { IfOk result (λ parts. length parts.parts.items ≤ 64) }
     ensures due { (greatest count : ℕ) → IsCanonicalCount generators.now 0 frame.now greatest count → IsDue 4096 greatest count result }
 {

@@ -1,5 +1,6 @@
 -- An axis, cut into segments, and the segments into runs.
-use Rattle.std.specs.Prelude.{◌≡◌, ℕ, zero, suc, ◌+◌, ◌%◌, ◌<◌, ◌≤◌, min, max, Bool, true, not, ◌&&◌, nat_le, nat_lt, cond, ℤ, pos, ◌+ℤ◌, ◌-ℤ◌, ◌≤ℤ◌, ◌<ℤ◌, int_le, unsigned_abs, List, ◌++◌, ◌⊎◌, length, if◌then◌else◌}
+use Rattle.std.specs.Prelude.{◌≡◌, ℕ, zero, suc, ◌+◌, ◌-◌, ◌%◌, ◌<◌, ◌≤◌, min, max, Bool, true, not, ◌&&◌, nat_le, nat_lt, cond, ℤ, pos, ◌+ℤ◌, ◌-ℤ◌, ◌≤ℤ◌, ◌<ℤ◌, int_le, unsigned_abs, List, ◌++◌, ◌⊎◌, length, if◌then◌else◌, Result, IfOk, Vec}
+use Rattle.std.specs.Global.{Global}
 use Rattle.std.specs.List.{All, Any, list_all}
 use Rattle.std.proofs.Math.Bool.{beq}
 use Rattle.sac_base.specs.declared.grid.Grid1.{Grid1}
@@ -55,6 +56,16 @@ abbrev pub IsRun : ℤ → ℤ → ℕ → ℕ → ℕ → Grid1 → Type 0
 IsRun from to p start stop g =
     (x : ℤ) → has_index g x ≡ (within from to x && (nat_le start (place_of from p x) && nat_lt (place_of from p x) stop))
 
+-- the same of the places of two numbers
+abbrev pub IsRunBetween : ℤ → ℤ → ℕ → (first stop : ℤ) → Grid1 → Type 0
+IsRunBetween from to p first stop = IsRun from to p (unsigned_abs (first -ℤ from)) (unsigned_abs (stop -ℤ from))
+
+-- how far it is from a number to where the grid has a gap after members, or members after a gap
+abbrev pub change_after : ℤ → Grid1 → ℕ
+change_after x g =
+    let phase = unsigned_abs (x -ℤ g.lo) % unsigned_abs g.step in
+    cond (nat_lt phase (unsigned_abs g.width)) (unsigned_abs g.width - phase) (unsigned_abs g.step - phase)
+
 -- From `from` on numbers are grouped into maximal runs of neighbours that belong to the same grids: whether a run begins after so many.
 abbrev pub begins_run : List Grid1 → ℤ → ℕ → Bool
 begins_run grids from zero = true
@@ -75,6 +86,11 @@ pub data IsAxisCount (grids : List Grid1) (to : ℤ) : ℤ → ℕ → ℕ → T
   and_segment : (from stop : ℤ) (p greatest runs : ℕ) → IsFirstSegment from to grids stop → IsPeriod from stop grids p → IsAxisCount grids to stop greatest runs
       → IsAxisCount grids to from (max p greatest) (runs_of grids from stop p + runs)
 
+-- the answer has as many pieces as the axis has runs, and then no period is above the limit
+abbrev pub HasRuns : {E : Type 0} → List Grid1 → (from to : ℤ) → ℕ → Result (Vec Grid1 Global) E → Type 0
+HasRuns grids from to limit answer =
+    (greatest runs : ℕ) → IsAxisCount grids to from greatest runs → IfOk answer (λ pieces. (greatest ≤ limit) × (length pieces.items ≡ runs))
+
 -- A segment of which each common multiple of the steps is above the limit.
 pub record IsTooFine (limit : ℕ) (grids : List Grid1) : Type 0 where
   pub from : ℤ
@@ -90,3 +106,7 @@ pub record Extends (old new : List Grid1) (set : ℤ → Bool) (grids : List Gri
   pub split : Splits more set
   pub uniform : All (IsUniform grids) more
   pub counted : length more ≡ count
+
+-- The list goes on with the runs of a segment.
+abbrev pub ExtendsByRuns : (old new : List Grid1) (from to : ℤ) → List Grid1 → ℕ → Type 0
+ExtendsByRuns old new from to grids period = Extends old new (within from to) grids (runs_of grids from to period)

@@ -1,7 +1,7 @@
-ghost use Rattle.std.specs.Prelude.{◌≡◌, ℕ, ◌<◌, ◌≤◌, ◌^◌, ◌<ℤ◌, IfOk, OnOk, Err, length};
+ghost use Rattle.std.specs.Prelude.{◌≡◌, ℕ, ◌<◌, ◌^◌, ◌<ℤ◌, IfOk, OnOk, Err};
 ghost use Rattle.std.specs.List.{All};
 ghost use Rattle.sac_base.specs.Grids.{within, Splits};
-ghost use Rattle.grid_sets.specs.Segments.{NoCut, IsMultipleFor, IsUniform, Extends, runs_of, IsAxisCount, IsTooFine};
+ghost use Rattle.grid_sets.specs.Segments.{NoCut, IsMultipleFor, IsUniform, ExtendsByRuns, HasRuns, IsAxisCount, IsTooFine};
 
 use crate::pair::GridError;
 use crate::period::segment_period;
@@ -23,7 +23,7 @@ fn append_runs(
     requires fits { period < 2 ^ 63 }
     requires clear { All (NoCut segment.now.from segment.now.to) grids.now }
     requires multiple { All (IsMultipleFor period segment.now.from segment.now.to) grids.now }
-    ensures { OnOk result (Extends pieces.old.items pieces.new.items (within segment.now.from segment.now.to) grids.now (runs_of grids.now segment.now.from segment.now.to period)) }
+    ensures { OnOk result (ExtendsByRuns pieces.old.items pieces.new.items segment.now.from segment.now.to grids.now period) }
 {
     let mut more = segment_runs(alloc, segment, period, grids)?;
     pieces.append(&mut more)?;
@@ -40,7 +40,7 @@ pub fn axis_runs(
     requires { limit < 2 ^ 63 }
     ensures split { IfOk result (λ pieces. Splits pieces.items (within axis.now.from axis.now.to)) }
     ensures uniform { IfOk result (λ pieces. All (IsUniform grids.now) pieces.items) }
-    ensures count { (greatest runs : ℕ) → IsAxisCount grids.now axis.now.to axis.now.from greatest runs → IfOk result (λ pieces. (greatest ≤ limit) × (length pieces.items ≡ runs)) }
+    ensures count { HasRuns grids.now axis.now.from axis.now.to limit result }
     ensures fine { (greatest runs : ℕ) → IsAxisCount grids.now axis.now.to axis.now.from greatest runs → result ≡ Err GridError.TooFine → limit < greatest }
     ensures too_fine { result ≡ Err GridError.TooFine → IsTooFine limit grids.now }
 {

@@ -1,7 +1,7 @@
-ghost use Rattle.std.specs.Prelude.{◌≡◌, ℕ, ◌<◌, ◌≤◌, ◌-◌, ◌%◌, ◌^◌, ℤ, ◌-ℤ◌, ◌≤ℤ◌, ◌<ℤ◌, ◌⊎◌, unsigned_abs, not, nat_lt, true, false, cond, IfOk, length, min};
+ghost use Rattle.std.specs.Prelude.{◌≡◌, ℕ, ◌<◌, ◌≤◌, ◌^◌, ℤ, ◌-ℤ◌, ◌≤ℤ◌, ◌<ℤ◌, ◌⊎◌, unsigned_abs, not, true, false, IfOk, length, min};
 ghost use Rattle.std.specs.List.{All};
 ghost use Rattle.sac_base.specs.Grids.{has_index, within, Splits};
-ghost use Rattle.grid_sets.specs.Segments.{NoCut, IsMultipleFor, IsUniform, IsRun, alike, runs_of};
+ghost use Rattle.grid_sets.specs.Segments.{NoCut, IsMultipleFor, IsUniform, IsRunBetween, change_after, alike, runs_of};
 
 use crate::period::is_spanning;
 use crate::segment::{Segment, behind};
@@ -32,7 +32,7 @@ fn first_numbers(segment: &Segment, count: u64) -> Segment
 fn steps_to_change(segment: &Segment, grid: &Grid1) -> u64
     requires below { grid.now.lo ≤ℤ segment.now.from }
     requires narrow { grid.now.width <ℤ grid.now.step }
-    ensures { let phase = unsigned_abs (segment.now.from -ℤ grid.now.lo) % unsigned_abs grid.now.step in result ≡ cond (nat_lt phase (unsigned_abs grid.now.width)) (unsigned_abs grid.now.width - phase) (unsigned_abs grid.now.step - phase) }
+    ensures { result ≡ change_after segment.now.from grid.now }
 {
     let step = grid.step.unsigned_abs();
     let width = grid.width.unsigned_abs();
@@ -85,7 +85,7 @@ fn repeated(segment: &Segment, period: u64, run: &Segment) -> Grid1
     requires near { unsigned_abs (run.now.to -ℤ segment.now.from) ≤ period }
     requires fits { period < 2 ^ 63 }
     ensures lo { result.lo ≡ run.now.from }
-    ensures members { IsRun segment.now.from segment.now.to period (unsigned_abs (run.now.from -ℤ segment.now.from)) (unsigned_abs (run.now.to -ℤ segment.now.from)) result }
+    ensures members { IsRunBetween segment.now.from segment.now.to period run.now.from run.now.to result }
 {
     Grid1 {
         lo: run.from,

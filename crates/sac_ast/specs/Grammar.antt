@@ -58,6 +58,54 @@ abbrev pub one_of : List ℕ × Op → List (List ℕ × Op) → Rule
 one_of o [] = sign o.0
 one_of o (p ∷ ps) = sign o.0 ∣ one_of p ps
 
+-- operators by their spellings, at least one
+abbrev pub Signs : Type 0
+Signs = (List ℕ × Op) × List (List ℕ × Op)
+
+abbrev pub operator : Signs → Rule
+operator signs = one_of signs.0 signs.1
+
+-- the operators of each level, from the weakest to the strongest
+abbrev pub disjunction_signs : Signs
+disjunction_signs = ((codes "||", Or), [])
+
+abbrev pub conjunction_signs : Signs
+conjunction_signs = ((codes "&&", And), [])
+
+abbrev pub equality_signs : Signs
+equality_signs = ((codes "==", Eq), (codes "!=", Ne) ∷ [])
+
+abbrev pub comparison_signs : Signs
+comparison_signs = ((codes "<", Lt), (codes "<=", Le) ∷ (codes ">", Gt) ∷ (codes ">=", Ge) ∷ [])
+
+abbrev pub sum_signs : Signs
+sum_signs = ((codes "+", Add), (codes "-", Sub) ∷ [])
+
+abbrev pub product_signs : Signs
+product_signs = ((codes "*", Mul), (codes "/", Div) ∷ (codes "%", Rem) ∷ [])
+
+abbrev pub prefix_signs : Signs
+prefix_signs = ((codes "-", Neg), (codes "!", Not) ∷ [])
+
+-- the operators that are words
+abbrev pub extreme_signs : Signs
+extreme_signs = ((codes "min", Min), (codes "max", Max) ∷ [])
+
+-- the signs of assignments that compute with the variable's own value
+abbrev pub update_signs : Signs
+update_signs = ((codes "+=", Add), (codes "-=", Sub) ∷ (codes "*=", Mul) ∷ (codes "/=", Div) ∷ (codes "%=", Rem) ∷ [])
+
+-- the signs of assignments that count by one
+abbrev pub count_signs : Signs
+count_signs = ((codes "++", Add), (codes "--", Sub) ∷ [])
+
+-- the operators that a fold may combine with
+abbrev pub fold_signs : Signs
+fold_signs = (
+  (codes "+", Add),
+  (codes "*", Mul) ∷ (codes "min", Min) ∷ (codes "max", Max) ∷ (codes "&&", And) ∷ (codes "||", Or) ∷ [],
+)
+
 abbrev pub Tree : Nonterminal → Type 0
 Tree program = ProgramTree
 Tree function = FunctionTree
@@ -83,52 +131,121 @@ Tree bound = BoundTree
 Tree index = IndexTree
 Tree operation = OperationTree
 
+-- ---- the alternatives of each rule that has several
+
+-- `int[+]`, `int[*]`, `int[.,.]` and `int[2,3]`
+abbrev pub Dots : Rule
+Dots = up_to 7 (sign (codes "."))
+
+abbrev pub Numbers : Rule
+Numbers = up_to 7 (term number)
+
+abbrev pub Extents : Rule
+Extents = sign (codes "+") ∣ sign (codes "*") ∣ Dots ∣ Numbers
+
+abbrev pub While : Rule
+While = sign (codes "while") ⋅ parens (ref expression) ⋅ ref block
+
+abbrev pub Do : Rule
+Do = sign (codes "do") ⋅ ref block ⋅ sign (codes "while") ⋅ parens (ref expression) ⋅ sign (codes ";")
+
+abbrev pub For : Rule
+For =
+    sign (codes "for") ⋅ parens (ref assign ⋅ sign (codes ";") ⋅ ref expression ⋅ sign (codes ";") ⋅ ref assign)
+    ⋅ ref block
+
+-- what stands behind the first name of an assignment: `a, b = ..`, `a[..] = ..`, `a += ..` and `a++`
+abbrev pub Targets : Rule
+Targets = many (sign (codes ",") ⋅ term name) ⋅ sign (codes "=") ⋅ ref expression
+
+abbrev pub Replacement : Rule
+Replacement = sign (codes "[") ⋅ listed (ref expression) ⋅ sign (codes "]") ⋅ sign (codes "=") ⋅ ref expression
+
+abbrev pub Update : Rule
+Update = operator update_signs ⋅ ref expression
+
+abbrev pub Assigned : Rule
+Assigned = Targets ∣ Replacement ∣ Update ∣ operator count_signs
+
+abbrev pub NameOrCall : Rule
+NameOrCall = term name ⋅ opt (parens (opt (listed (ref expression))))
+
+abbrev pub DimOrShape : Rule
+DimOrShape = (sign (codes "dim") ∣ sign (codes "shape")) ⋅ parens (ref expression)
+
+abbrev pub Pair : Rule
+Pair = parens (ref expression ⋅ sign (codes ",") ⋅ ref expression)
+
+abbrev pub Reshape : Rule
+Reshape = sign (codes "reshape") ⋅ Pair
+
+abbrev pub Extreme : Rule
+Extreme = operator extreme_signs ⋅ Pair
+
+abbrev pub Literal : Rule
+Literal = sign (codes "[") ⋅ opt (listed (ref expression)) ⋅ sign (codes "]")
+
+abbrev pub WithLoop : Rule
+WithLoop =
+    sign (codes "with") ⋅ sign (codes "{") ⋅ many (ref generator) ⋅ sign (codes "}") ⋅ sign (codes ":")
+    ⋅ ref operation
+
+abbrev pub Genarray : Rule
+Genarray = sign (codes "genarray") ⋅ parens (ref expression ⋅ opt (sign (codes ",") ⋅ ref expression))
+
+abbrev pub Modarray : Rule
+Modarray = sign (codes "modarray") ⋅ parens (ref expression)
+
+abbrev pub Fold : Rule
+Fold = sign (codes "fold") ⋅ parens (operator fold_signs ⋅ sign (codes ",") ⋅ ref expression)
+
+-- `<=` or `<`
+abbrev pub Relation : Rule
+Relation = sign (codes "<=") ∣ sign (codes "<")
+
+-- ---- the rules
+
 abbrev pub rule : Nonterminal → Rule
 rule program = many (ref function) ⋅ term end
-rule function = opt (sign (codes "inline")) ⋅ listed (ref type') ⋅ term name ⋅ parens (opt (listed (ref param))) ⋅ sign (codes "{") ⋅ many (ref statement) ⋅ sign (codes "return") ⋅ parens (listed (ref expression)) ⋅ sign (codes ";") ⋅ sign (codes "}")
+rule function =
+    opt (sign (codes "inline")) ⋅ listed (ref type') ⋅ term name ⋅ parens (opt (listed (ref param))) ⋅ sign (codes "{")
+    ⋅ many (ref statement)
+    ⋅ sign (codes "return") ⋅ parens (listed (ref expression)) ⋅ sign (codes ";") ⋅ sign (codes "}")
 rule param = ref type' ⋅ term name
-rule type' = (sign (codes "int") ∣ sign (codes "bool")) ⋅ opt (sign (codes "[") ⋅ opt (sign (codes "+") ∣ sign (codes "*") ∣ up_to 7 (sign (codes ".")) ∣ up_to 7 (term number)) ⋅ sign (codes "]"))
-rule statement =
-    ref assign ⋅ sign (codes ";")
-    ∣ ref if_statement
-    ∣ sign (codes "while") ⋅ parens (ref expression) ⋅ ref block
-    ∣ sign (codes "do") ⋅ ref block ⋅ sign (codes "while") ⋅ parens (ref expression) ⋅ sign (codes ";")
-    ∣ sign (codes "for") ⋅ parens (ref assign ⋅ sign (codes ";") ⋅ ref expression ⋅ sign (codes ";") ⋅ ref assign) ⋅ ref block
-rule if_statement = sign (codes "if") ⋅ parens (ref expression) ⋅ ref block ⋅ opt (sign (codes "else") ⋅ ref else_branch)
+rule type' = (sign (codes "int") ∣ sign (codes "bool")) ⋅ opt (sign (codes "[") ⋅ opt Extents ⋅ sign (codes "]"))
+rule statement = ref assign ⋅ sign (codes ";") ∣ ref if_statement ∣ While ∣ Do ∣ For
+rule if_statement =
+    sign (codes "if") ⋅ parens (ref expression) ⋅ ref block ⋅ opt (sign (codes "else") ⋅ ref else_branch)
 rule else_branch = ref block ∣ ref if_statement
 rule block = sign (codes "{") ⋅ many (ref statement) ⋅ sign (codes "}")
-rule assign = term name ⋅ (
-    many (sign (codes ",") ⋅ term name) ⋅ sign (codes "=") ⋅ ref expression
-    ∣ sign (codes "[") ⋅ listed (ref expression) ⋅ sign (codes "]") ⋅ sign (codes "=") ⋅ ref expression
-    ∣ one_of (codes "+=", Add) ((codes "-=", Sub) ∷ (codes "*=", Mul) ∷ (codes "/=", Div) ∷ (codes "%=", Rem) ∷ []) ⋅ ref expression
-    ∣ one_of (codes "++", Add) ((codes "--", Sub) ∷ []))
+rule assign = term name ⋅ Assigned
 rule expression = ref disjunction ⋅ opt (sign (codes "?") ⋅ ref expression ⋅ sign (codes ":") ⋅ ref expression)
-rule disjunction = ref conjunction ⋅ many (one_of (codes "||", Or) [] ⋅ ref conjunction)
-rule conjunction = ref equality ⋅ many (one_of (codes "&&", And) [] ⋅ ref equality)
-rule equality = ref comparison ⋅ many (one_of (codes "==", Eq) ((codes "!=", Ne) ∷ []) ⋅ ref comparison)
-rule comparison = ref sum ⋅ many (one_of (codes "<", Lt) ((codes "<=", Le) ∷ (codes ">", Gt) ∷ (codes ">=", Ge) ∷ []) ⋅ ref sum)
-rule sum = ref product ⋅ many (one_of (codes "+", Add) ((codes "-", Sub) ∷ []) ⋅ ref product)
-rule product = ref prefix ⋅ many (one_of (codes "*", Mul) ((codes "/", Div) ∷ (codes "%", Rem) ∷ []) ⋅ ref prefix)
-rule prefix = one_of (codes "-", Neg) ((codes "!", Not) ∷ []) ⋅ ref prefix ∣ ref postfix
+rule disjunction = ref conjunction ⋅ many (operator disjunction_signs ⋅ ref conjunction)
+rule conjunction = ref equality ⋅ many (operator conjunction_signs ⋅ ref equality)
+rule equality = ref comparison ⋅ many (operator equality_signs ⋅ ref comparison)
+rule comparison = ref sum ⋅ many (operator comparison_signs ⋅ ref sum)
+rule sum = ref product ⋅ many (operator sum_signs ⋅ ref product)
+rule product = ref prefix ⋅ many (operator product_signs ⋅ ref prefix)
+rule prefix = operator prefix_signs ⋅ ref prefix ∣ ref postfix
 rule postfix = ref primary ⋅ many (sign (codes "[") ⋅ listed (ref expression) ⋅ sign (codes "]"))
 rule primary =
     term number
     ∣ sign (codes "true")
     ∣ sign (codes "false")
-    ∣ term name ⋅ opt (parens (opt (listed (ref expression))))
-    ∣ (sign (codes "dim") ∣ sign (codes "shape")) ⋅ parens (ref expression)
-    ∣ sign (codes "reshape") ⋅ parens (ref expression ⋅ sign (codes ",") ⋅ ref expression)
-    ∣ one_of (codes "min", Min) ((codes "max", Max) ∷ []) ⋅ parens (ref expression ⋅ sign (codes ",") ⋅ ref expression)
+    ∣ NameOrCall
+    ∣ DimOrShape
+    ∣ Reshape
+    ∣ Extreme
     ∣ parens (ref expression)
-    ∣ sign (codes "[") ⋅ opt (listed (ref expression)) ⋅ sign (codes "]")
-    ∣ sign (codes "with") ⋅ sign (codes "{") ⋅ many (ref generator) ⋅ sign (codes "}") ⋅ sign (codes ":") ⋅ ref operation
-rule generator = parens (ref bound ⋅ (sign (codes "<=") ∣ sign (codes "<")) ⋅ ref index ⋅ (sign (codes "<=") ∣ sign (codes "<")) ⋅ ref bound ⋅ opt (sign (codes "step") ⋅ ref sum) ⋅ opt (sign (codes "width") ⋅ ref sum)) ⋅ opt (ref block) ⋅ sign (codes ":") ⋅ ref expression ⋅ sign (codes ";")
+    ∣ Literal
+    ∣ WithLoop
+rule generator =
+    parens (ref bound ⋅ Relation ⋅ ref index ⋅ Relation ⋅ ref bound
+    ⋅ opt (sign (codes "step") ⋅ ref sum) ⋅ opt (sign (codes "width") ⋅ ref sum))
+    ⋅ opt (ref block) ⋅ sign (codes ":") ⋅ ref expression ⋅ sign (codes ";")
 rule bound = sign (codes ".") ∣ ref sum
 rule index = term name ∣ sign (codes "[") ⋅ listed (term name) ⋅ sign (codes "]")
-rule operation =
-    sign (codes "genarray") ⋅ parens (ref expression ⋅ opt (sign (codes ",") ⋅ ref expression))
-    ∣ sign (codes "modarray") ⋅ parens (ref expression)
-    ∣ sign (codes "fold") ⋅ parens (one_of (codes "+", Add) ((codes "*", Mul) ∷ (codes "min", Min) ∷ (codes "max", Max) ∷ (codes "&&", And) ∷ (codes "||", Or) ∷ []) ⋅ sign (codes ",") ⋅ ref expression)
+rule operation = Genarray ∣ Modarray ∣ Fold
 
 -- ---- the tree of each phrase
 
@@ -158,13 +275,16 @@ chosen o [] t = (o.1, t.site)
 chosen o (p ∷ ps) (inl t) = (o.1, t.site)
 chosen o (p ∷ ps) (inr v) = chosen p ps v
 
-abbrev pub assign_ops : List (List ℕ × Op)
-assign_ops = (codes "-=", Sub) ∷ (codes "*=", Mul) ∷ (codes "/=", Div) ∷ (codes "%=", Rem) ∷ []
+abbrev pub the_operator : (signs : Signs) → V (operator signs) → Op × Site
+the_operator signs = chosen signs.0 signs.1
 
 -- operators of one level group to the left
 abbrev pub chain : (o : List ℕ × Op) (ps : List (List ℕ × Op)) → Expr → List (V (one_of o ps) × Expr) → Expr
 chain o ps e [] = e
 chain o ps e ((v, x) ∷ rest) = chain o ps (tree.binary (chosen o ps v).0 e x (chosen o ps v).1) rest
+
+abbrev pub operations : (signs : Signs) → Expr → List (V (operator signs) × Expr) → Expr
+operations signs = chain signs.0 signs.1
 
 -- an index list of two or more is the literal of them
 abbrev pub index_of : Site → List Expr → Expr
@@ -201,14 +321,23 @@ abbrev pub base_of : Lexeme ⊎ Lexeme → Base
 base_of (inl t) = base.Int
 base_of (inr t) = base.Bool
 
-abbrev pub Extents : Rule
-Extents = sign (codes "+") ∣ sign (codes "*") ∣ up_to 7 (sign (codes ".")) ∣ up_to 7 (term number)
+pattern abbrev pub as_plus : Lexeme → V Extents
+as_plus t = inl t
+
+pattern abbrev pub as_star : Lexeme → V Extents
+as_star t = inr (inl t)
+
+pattern abbrev pub as_dots : V Dots → V Extents
+as_dots v = inr (inr (inl v))
+
+pattern abbrev pub as_numbers : V Numbers → V Extents
+as_numbers v = inr (inr (inr v))
 
 abbrev pub part_of : V Extents → Part
-part_of (inl t) = Plus
-part_of (inr (inl t)) = Star
-part_of (inr (inr (inl v))) = Rank (length (parts 7 (sign (codes ".")) v))
-part_of (inr (inr (inr v))) = Known (map (λ (t : Lexeme). digits_value 10 t.text) (parts 7 (term number) v))
+part_of (as_plus t) = Plus
+part_of (as_star t) = Star
+part_of (as_dots v) = Rank (length (parts 7 (sign (codes ".")) v))
+part_of (as_numbers v) = Known (map (λ (t : Lexeme). digits_value 10 t.text) (parts 7 (term number) v))
 
 abbrev pub brackets_part : (Lexeme × ((V Extents ⊎ Unit {0}) × Lexeme)) ⊎ Unit {0} → Part
 brackets_part (inl (l, (inl v, r))) = part_of v
@@ -219,56 +348,142 @@ abbrev pub name_or_call : Lexeme → V (opt (parens (opt (listed (ref expression
 name_or_call t (inl (l, (es, r))) = tree.call t.text (exprs_of (maybe_items es)) t.site
 name_or_call t (inr u) = to_variable t
 
+-- ---- the alternatives of a rule's value
+
+pattern abbrev pub as_assign : V (ref assign ⋅ sign (codes ";")) → V (rule statement)
+as_assign v = inl v
+
+pattern abbrev pub as_if : Stmt → V (rule statement)
+as_if v = inr (inl v)
+
+pattern abbrev pub as_while : V While → V (rule statement)
+as_while v = inr (inr (inl v))
+
+pattern abbrev pub as_do : V Do → V (rule statement)
+as_do v = inr (inr (inr (inl v)))
+
+pattern abbrev pub as_for : V For → V (rule statement)
+as_for v = inr (inr (inr (inr v)))
+
+pattern abbrev pub as_targets : V Targets → V Assigned
+as_targets v = inl v
+
+pattern abbrev pub as_replacement : V Replacement → V Assigned
+as_replacement v = inr (inl v)
+
+pattern abbrev pub as_update : V Update → V Assigned
+as_update v = inr (inr (inl v))
+
+pattern abbrev pub as_count : V (operator count_signs) → V Assigned
+as_count v = inr (inr (inr v))
+
+pattern abbrev pub as_number : Lexeme → V (rule primary)
+as_number v = inl v
+
+pattern abbrev pub as_true : Lexeme → V (rule primary)
+as_true v = inr (inl v)
+
+pattern abbrev pub as_false : Lexeme → V (rule primary)
+as_false v = inr (inr (inl v))
+
+pattern abbrev pub as_name : V NameOrCall → V (rule primary)
+as_name v = inr (inr (inr (inl v)))
+
+pattern abbrev pub as_builtin : V DimOrShape → V (rule primary)
+as_builtin v = inr (inr (inr (inr (inl v))))
+
+pattern abbrev pub as_reshape : V Reshape → V (rule primary)
+as_reshape v = inr (inr (inr (inr (inr (inl v)))))
+
+pattern abbrev pub as_extreme : V Extreme → V (rule primary)
+as_extreme v = inr (inr (inr (inr (inr (inr (inl v))))))
+
+pattern abbrev pub as_parens : V (parens (ref expression)) → V (rule primary)
+as_parens v = inr (inr (inr (inr (inr (inr (inr (inl v)))))))
+
+pattern abbrev pub as_literal : V Literal → V (rule primary)
+as_literal v = inr (inr (inr (inr (inr (inr (inr (inr (inl v))))))))
+
+pattern abbrev pub as_with_loop : V WithLoop → V (rule primary)
+as_with_loop v = inr (inr (inr (inr (inr (inr (inr (inr (inr v))))))))
+
+pattern abbrev pub as_genarray : V Genarray → V (rule operation)
+as_genarray v = inl v
+
+pattern abbrev pub as_modarray : V Modarray → V (rule operation)
+as_modarray v = inr (inl v)
+
+pattern abbrev pub as_fold : V Fold → V (rule operation)
+as_fold v = inr (inr v)
+
+-- ---- the tree of each rule's value
+
 abbrev pub action : (k : Nonterminal) → V (rule k) → Tree k
 action program (fs, e) = record { functions = fs; end = e.site }
 action function (i, (ts, (n, ((_, (ps, _)), (_, (b, (r, ((_, (vs, _)), _)))))))) =
-    record { inline = is_there i; results = items ts; name = n.text; site = n.site; params = maybe_items ps; body = block_of (concat b); values = exprs_of (items vs); ends = r.site }
+    record {
+      inline = is_there i;
+      results = items ts;
+      name = n.text;
+      site = n.site;
+      params = maybe_items ps;
+      body = block_of (concat b);
+      values = exprs_of (items vs);
+      ends = r.site;
+    }
 action param (t, n) = record { ty = t; name = n.text; site = n.site }
 action type' (b, e) = record { base = base_of b; part = brackets_part e }
-action statement (inl (a, _)) = a ∷ []
-action statement (inr (inl s)) = s ∷ []
-action statement (inr (inr (inl (w, ((_, (c, _)), b))))) = tree.while_do c (block_of b) w.site ∷ []
-action statement (inr (inr (inr (inl (d, (b, (w, ((_, (c, _)), _)))))))) = tree.do_while (block_of b) c d.site w.site ∷ []
-action statement (inr (inr (inr (inr (f, ((_, ((a, (_, (c, (_, s)))), _)), b)))))) = a ∷ tree.while_do c (block_of (b ++ (s ∷ []))) f.site ∷ []
+action statement (as_assign (a, _)) = a ∷ []
+action statement (as_if s) = s ∷ []
+action statement (as_while (w, ((_, (c, _)), b))) = tree.while_do c (block_of b) w.site ∷ []
+action statement (as_do (d, (b, (w, ((_, (c, _)), _))))) = tree.do_while (block_of b) c d.site w.site ∷ []
+action statement (as_for (f, ((_, ((a, (_, (c, (_, s)))), _)), b))) =
+    a ∷ tree.while_do c (block_of (b ++ (s ∷ []))) f.site ∷ []
 action if_statement (i, ((_, (c, _)), (b, e))) = tree.if_else c (block_of b) (block_of (block_or_none e)) i.site
 action else_branch (inl b) = b
 action else_branch (inr s) = s ∷ []
 action block (_, (ss, _)) = concat ss
-action assign (n, inl (ns, (_, e))) = tree.assign (target n ∷ map (λ p. target p.1) ns) e
-action assign (n, inr (inl (l, (v, (_, (_, e)))))) = tree.replace (target n) l.site (index_of l.site (items v)) e
-action assign (n, inr (inr (inl (o, e)))) = let c = chosen (codes "+=", Add) assign_ops o in tree.assign (target n ∷ []) (tree.binary c.0 (to_variable n) e c.1)
-action assign (n, inr (inr (inr o))) = let c = chosen (codes "++", Add) ((codes "--", Sub) ∷ []) o in tree.assign (target n ∷ []) (tree.binary c.0 (to_variable n) (tree.number (pos 1) c.1) c.1)
+action assign (n, as_targets (ns, (_, e))) = tree.assign (target n ∷ map (λ p. target p.1) ns) e
+action assign (n, as_replacement (l, (v, (_, (_, e))))) =
+    tree.replace (target n) l.site (index_of l.site (items v)) e
+action assign (n, as_update (o, e)) =
+    let c = the_operator update_signs o in
+    tree.assign (target n ∷ []) (tree.binary c.0 (to_variable n) e c.1)
+action assign (n, as_count o) =
+    let c = the_operator count_signs o in
+    tree.assign (target n ∷ []) (tree.binary c.0 (to_variable n) (tree.number (pos 1) c.1) c.1)
 action expression (c, inl (q, (a, (_, b)))) = tree.choice c a b q.site
 action expression (c, inr u) = c
-action disjunction (e, rest) = chain (codes "||", Or) [] e rest
-action conjunction (e, rest) = chain (codes "&&", And) [] e rest
-action equality (e, rest) = chain (codes "==", Eq) ((codes "!=", Ne) ∷ []) e rest
-action comparison (e, rest) = chain (codes "<", Lt) ((codes "<=", Le) ∷ (codes ">", Gt) ∷ (codes ">=", Ge) ∷ []) e rest
-action sum (e, rest) = chain (codes "+", Add) ((codes "-", Sub) ∷ []) e rest
-action product (e, rest) = chain (codes "*", Mul) ((codes "/", Div) ∷ (codes "%", Rem) ∷ []) e rest
+action disjunction (e, rest) = operations disjunction_signs e rest
+action conjunction (e, rest) = operations conjunction_signs e rest
+action equality (e, rest) = operations equality_signs e rest
+action comparison (e, rest) = operations comparison_signs e rest
+action sum (e, rest) = operations sum_signs e rest
+action product (e, rest) = operations product_signs e rest
 action prefix (inr e) = e
-action prefix (inl (o, e)) = let c = chosen (codes "-", Neg) ((codes "!", Not) ∷ []) o in tree.unary c.0 e c.1
+action prefix (inl (o, e)) = let c = the_operator prefix_signs o in tree.unary c.0 e c.1
 action postfix (e, rest) = selects e rest
-action primary (inl t) = tree.number (pos (digits_value 10 t.text)) t.site
-action primary (inr (inl t)) = tree.truth true t.site
-action primary (inr (inr (inl t))) = tree.truth false t.site
-action primary (inr (inr (inr (inl (t, v))))) = name_or_call t v
-action primary (inr (inr (inr (inr (inl (inl t, (_, (e, _)))))))) = tree.builtin built.Dim (exprs_of (e ∷ [])) t.site
-action primary (inr (inr (inr (inr (inl (inr t, (_, (e, _)))))))) = tree.builtin built.Shape (exprs_of (e ∷ [])) t.site
-action primary (inr (inr (inr (inr (inr (inl (t, (_, ((a, (_, b)), _))))))))) = tree.builtin built.Reshape (exprs_of (a ∷ b ∷ [])) t.site
-action primary (inr (inr (inr (inr (inr (inr (inl (o, (_, ((a, (_, b)), _)))))))))) = let c = chosen (codes "min", Min) ((codes "max", Max) ∷ []) o in tree.binary c.0 a b c.1
-action primary (inr (inr (inr (inr (inr (inr (inr (inl (_, (e, _)))))))))) = e
-action primary (inr (inr (inr (inr (inr (inr (inr (inr (inl (l, (es, _))))))))))) = tree.literal (exprs_of (maybe_items es)) l.site
-action primary (inr (inr (inr (inr (inr (inr (inr (inr (inr (w, (_, (gs, (_, (_, o)))))))))))))) = tree.with_loop (gens_of gs) o w.site
+action primary (as_number t) = tree.number (pos (digits_value 10 t.text)) t.site
+action primary (as_true t) = tree.truth true t.site
+action primary (as_false t) = tree.truth false t.site
+action primary (as_name (t, v)) = name_or_call t v
+action primary (as_builtin (inl t, (_, (e, _)))) = tree.builtin built.Dim (exprs_of (e ∷ [])) t.site
+action primary (as_builtin (inr t, (_, (e, _)))) = tree.builtin built.Shape (exprs_of (e ∷ [])) t.site
+action primary (as_reshape (t, (_, ((a, (_, b)), _)))) = tree.builtin built.Reshape (exprs_of (a ∷ b ∷ [])) t.site
+action primary (as_extreme (o, (_, ((a, (_, b)), _)))) =
+    let c = the_operator extreme_signs o in tree.binary c.0 a b c.1
+action primary (as_parens (_, (e, _))) = e
+action primary (as_literal (l, (es, _))) = tree.literal (exprs_of (maybe_items es)) l.site
+action primary (as_with_loop (w, (_, (gs, (_, (_, o)))))) = tree.with_loop (gens_of gs) o w.site
 action generator ((l, ((low, (lc, (i, (uc, (up, (s, w)))))), _)), (b, (_, (e, _)))) =
     tree.gen low (is_there lc) i up (is_there uc) (maybe s) (maybe w) (block_of (body_or_none b)) e l.site
 action bound (inl t) = tree.dot t.site
 action bound (inr e) = tree.at e
 action index (inl t) = tree.named (target t)
 action index (inr (_, (v, _))) = tree.parts (map target (items v))
-action operation (inl (t, (_, ((e, d), _)))) = tree.genarray e (maybe d) t.site
-action operation (inr (inl (t, (_, (e, _))))) = tree.modarray e t.site
-action operation (inr (inr (t, (_, ((o, (_, e)), _))))) = tree.fold (chosen (codes "+", Add) ((codes "*", Mul) ∷ (codes "min", Min) ∷ (codes "max", Max) ∷ (codes "&&", And) ∷ (codes "||", Or) ∷ []) o).0 e t.site
+action operation (as_genarray (t, (_, ((e, d), _)))) = tree.genarray e (maybe d) t.site
+action operation (as_modarray (t, (_, (e, _)))) = tree.modarray e t.site
+action operation (as_fold (t, (_, ((o, (_, e)), _)))) = tree.fold (the_operator fold_signs o).0 e t.site
 
 -- the tokens are a phrase of the nonterminal with this tree
 abbrev pub IsPhrase : (k : Nonterminal) → List Lexeme → Tree k → Type 0

@@ -12,7 +12,7 @@ use Rattle.sac_grammar.specs.Run.{starts, first, is_nullable}
 use Rattle.sac_grammar.specs.Tables.{first_of}
 use Rattle.sac_grammar.specs.Parsing.{Reading, Stop, Halts, Parts}
 use Rattle.sac_grammar.proofs.Parsing.{read_then, stop_right, stop_parts, no_parts, one_more_part, read_parts}
-use Rattle.sac_descent.proofs.Steps.{TheOperator}
+use Rattle.sac_phrases.proofs.Steps.{TheOperator}
 
 nullable_ops : (o : List ℕ × Op) (ps : List (List ℕ × Op)) → is_nullable (one_of o ps) ≡ false
 nullable_ops o [] = refl

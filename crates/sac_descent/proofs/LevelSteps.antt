@@ -17,16 +17,16 @@ use Rattle.sac_grammar.specs.Limits.{High}
 use Rattle.sac_grammar.specs.Parsing.{Found}
 use Rattle.sac_grammar.proofs.Levels.{derives_rule}
 use Rattle.sac_grammar.proofs.Parsing.{read_ref, found, stops, stop_ref, stop_left}
-use Rattle.sac_descent.specs.declared.halt.Halt.{Halt}
-use Rattle.sac_descent.specs.declared.halt.Halt.TheVariants.{High as TooHigh, Memory}
-use Rattle.sac_descent.specs.declared.level.Level.{Level}
-use Rattle.sac_descent.specs.declared.level.Level.TheVariants.{Disjunction, Conjunction, Equality, Comparison, Sum, Product}
-use Rattle.sac_descent.specs.declared.place.Place.{Place}
-use Rattle.sac_descent.specs.declared.place.Measured.{Measured}
-use Rattle.sac_descent.specs.Heights.{IsAbove}
-use Rattle.sac_descent.specs.Contract.{lexemes_of, IsLowAt, IsKept, operator_of}
-use Rattle.sac_descent.specs.Levels.{first_operator, more_operators, IsLevelAt, IsOperandAt}
-use Rattle.sac_descent.proofs.Steps.{operator_found, operator_none, kept_phrase, high_halted, memory_halted}
+use Rattle.sac_phrases.specs.declared.halt.Halt.{Halt}
+use Rattle.sac_phrases.specs.declared.halt.Halt.TheVariants.{High as TooHigh, Memory}
+use Rattle.sac_phrases.specs.declared.level.Level.{Level}
+use Rattle.sac_phrases.specs.declared.level.Level.TheVariants.{Disjunction, Conjunction, Equality, Comparison, Sum, Product}
+use Rattle.sac_phrases.specs.declared.place.Place.{Place}
+use Rattle.sac_phrases.specs.declared.place.Measured.{Measured}
+use Rattle.sac_phrases.specs.Heights.{IsAbove}
+use Rattle.sac_phrases.specs.Contract.{lexemes_of, IsLowAt, IsKept, operator_of}
+use Rattle.sac_phrases.specs.Levels.{first_operator, more_operators, IsLevelAt, IsOperandAt}
+use Rattle.sac_phrases.proofs.Steps.{operator_found, operator_none, kept_phrase, high_halted, memory_halted}
 use Rattle.sac_descent.proofs.Grown.{tall_more}
 use Rattle.sac_descent.proofs.Chains.{Chain, chain_begin, chain_more, chain_done, chain_stop, chain_over, starts_part, pairs_same}
 

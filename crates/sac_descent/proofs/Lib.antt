@@ -1,5 +1,3 @@
-pub mod Texts
-pub mod Steps
 pub mod Grown
 pub mod Chains
 pub mod LevelSteps
@@ -7,4 +5,3 @@ pub mod ListSteps
 pub mod PhraseSteps
 pub mod LoopSteps
 pub mod StatementSteps
-pub mod LeafSteps

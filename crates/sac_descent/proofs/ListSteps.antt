@@ -20,14 +20,14 @@ use Rattle.sac_grammar.specs.Limits.{High}
 use Rattle.sac_grammar.specs.Parsing.{Found, Reading, Stop, Halts, Halted, Parts}
 use Rattle.sac_grammar.proofs.Levels.{derives_rule}
 use Rattle.sac_grammar.proofs.Parsing.{read_ref, read_then, found, stop_ref, stop_right, stop_parts, no_parts, one_more_part, read_parts}
-use Rattle.sac_descent.specs.declared.halt.Halt.{Halt}
-use Rattle.sac_descent.specs.declared.halt.Halt.TheVariants.{High as TooHigh}
-use Rattle.sac_descent.specs.declared.place.Place.{Place}
-use Rattle.sac_descent.specs.declared.place.Measured.{Measured}
-use Rattle.sac_descent.specs.Heights.{IsAbove}
-use Rattle.sac_descent.specs.Contract.{StopOf, lexemes_of, IsLowAt, IsLow, IsNear, IsKept, IsPhraseAt, IsPhraseNear}
-use Rattle.sac_descent.specs.Parts.{IsListOf, IsGenerators, AreStatements, IsBlockAt, itself}
-use Rattle.sac_descent.proofs.Steps.{SoFar, list_start, list_more, list_end, list_stop, token_read, starts_there, kept_phrase, high_halted}
+use Rattle.sac_phrases.specs.declared.halt.Halt.{Halt}
+use Rattle.sac_phrases.specs.declared.halt.Halt.TheVariants.{High as TooHigh}
+use Rattle.sac_phrases.specs.declared.place.Place.{Place}
+use Rattle.sac_phrases.specs.declared.place.Measured.{Measured}
+use Rattle.sac_phrases.specs.Heights.{IsAbove}
+use Rattle.sac_phrases.specs.Contract.{StopOf, lexemes_of, IsLowAt, IsLow, IsNear, IsKept, IsPhraseAt, IsPhraseNear}
+use Rattle.sac_phrases.specs.Parts.{IsListOf, IsGenerators, AreStatements, IsBlockAt, itself}
+use Rattle.sac_phrases.proofs.Steps.{SoFar, list_start, list_more, list_end, list_stop, token_read, starts_there, kept_phrase, high_halted}
 use Rattle.sac_descent.proofs.Grown.{tall_more}
 
 map_append : {A B : Type 0} (f : A → B) (xs ys : List A) → map f (xs ++ ys) ≡ map f xs ++ map f ys

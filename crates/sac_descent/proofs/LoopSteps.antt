@@ -23,14 +23,13 @@ use Rattle.sac_grammar.specs.Run.{starts, first}
 use Rattle.sac_grammar.specs.Tables.{first_of}
 use Rattle.sac_grammar.specs.Parsing.{Found, Reading, nth, is_apart}
 use Rattle.sac_grammar.proofs.Parsing.{read_ref, read_then, read_first, read_second, found, stops}
-use Rattle.sac_descent.specs.declared.halt.Halt.{Halt}
-use Rattle.sac_descent.specs.declared.place.Place.{Place}
-use Rattle.sac_descent.specs.declared.place.Measured.{Measured}
-use Rattle.sac_descent.specs.Heights.{IsAbove}
-use Rattle.sac_descent.specs.Contract.{lexemes_of, IsLowAt, IsNear, IsKept, IsPhraseAt, IsPhraseNear, IsPartAt, operator_of}
-use Rattle.sac_descent.specs.Parts.{IsInParens, IsMaybe, IsOperation, IsOperationOf, IsBlockOf, IsRelation}
-use Rattle.sac_descent.proofs.Steps.{operator_found, token_read, starts_there, kept_phrase, part_nth, part_second}
-use Rattle.sac_descent.proofs.PhraseSteps.{At}
+use Rattle.sac_phrases.specs.declared.halt.Halt.{Halt}
+use Rattle.sac_phrases.specs.declared.place.Place.{Place}
+use Rattle.sac_phrases.specs.declared.place.Measured.{Measured}
+use Rattle.sac_phrases.specs.Heights.{IsAbove}
+use Rattle.sac_phrases.specs.Contract.{lexemes_of, IsLowAt, IsNear, IsKept, IsPhraseAt, IsPhraseNear, IsPartAt, operator_of}
+use Rattle.sac_phrases.specs.Parts.{IsInParens, IsMaybe, IsOperation, IsOperationOf, IsBlockOf, IsRelation}
+use Rattle.sac_phrases.proofs.Steps.{At, operator_found, token_read, starts_there, kept_phrase, part_nth, part_second}
 
 -- ---- bounds
 

@@ -27,17 +27,14 @@ use Rattle.sac_grammar.proofs.Machine.{false_true}
 use Rattle.sac_grammar.proofs.High.{tall_before}
 use Rattle.sac_grammar.proofs.Table.{table}
 use Rattle.sac_grammar.proofs.Parsing.{stop_agree, read_ref, read_then, read_first, read_second, read_none, found, stops, stop_ref, stop_ref_at, stop_right, stop_first, stop_second}
-use Rattle.sac_descent.specs.declared.halt.Halt.{Halt}
-use Rattle.sac_descent.specs.declared.halt.Halt.TheVariants.{High as TooHigh}
-use Rattle.sac_descent.specs.declared.place.Place.{Place}
-use Rattle.sac_descent.specs.declared.place.Measured.{Measured}
-use Rattle.sac_descent.specs.Heights.{IsAbove}
-use Rattle.sac_descent.specs.Contract.{StopOf, lexemes_of, IsLowAt, IsNear, IsKept, IsPhraseAt, IsPartAt, operator_of}
-use Rattle.sac_descent.specs.Parts.{IsListOf, IsArguments, IsInParens, IsPair, IsPrimary, IsPrimaryOf, IsGenerators, IsBuiltinWord, Comma}
-use Rattle.sac_descent.proofs.Steps.{operator_found, operator_none, high_halted, token_read, starts_there, kept_phrase, part_first, part_means}
-
-abbrev pub At : Terminal → List Lexeme → Lexeme → List Lexeme → Type 0
-At t ts x rest = (ts ≡ x ∷ rest) × (matches t x ≡ true)
+use Rattle.sac_phrases.specs.declared.halt.Halt.{Halt}
+use Rattle.sac_phrases.specs.declared.halt.Halt.TheVariants.{High as TooHigh}
+use Rattle.sac_phrases.specs.declared.place.Place.{Place}
+use Rattle.sac_phrases.specs.declared.place.Measured.{Measured}
+use Rattle.sac_phrases.specs.Heights.{IsAbove}
+use Rattle.sac_phrases.specs.Contract.{StopOf, lexemes_of, IsLowAt, IsNear, IsKept, IsPhraseAt, IsPartAt, operator_of}
+use Rattle.sac_phrases.specs.Parts.{IsListOf, IsArguments, IsInParens, IsPair, IsPrimary, IsPrimaryOf, IsGenerators, IsBuiltinWord, Comma}
+use Rattle.sac_phrases.proofs.Steps.{At, operator_found, operator_none, high_halted, token_read, starts_there, kept_phrase, part_first, part_means}
 
 -- ---- heights
 

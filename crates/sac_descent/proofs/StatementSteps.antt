@@ -10,7 +10,7 @@ use Rattle.sac_ast.specs.declared.Statement.{Statement}
 use Rattle.sac_ast.specs.declared.Target.{Target}
 use Rattle.sac_ast.specs.Texts.{Lexeme}
 use Rattle.sac_ast.specs.Shape.{text, name, term, ref, seq, many}
-use Rattle.sac_ast.specs.Grammar.{Rule, V, rule, action, sign, listed, items, opt, parens, assign_ops, target, to_variable, index_of, concat, block_or_none, expression, statement, if_statement, else_branch, block, assign}
+use Rattle.sac_ast.specs.Grammar.{Rule, V, rule, action, sign, listed, items, opt, parens, update_signs, target, to_variable, index_of, concat, block_or_none, expression, statement, if_statement, else_branch, block, assign}
 use Rattle.sac_ast.specs.Heights.{height, heights, stmt_height, block_height}
 use Rattle.sac_ast.specs.Tree as tree
 use Rattle.sac_ast.specs.Tree.{Expr, Stmt, Block}
@@ -20,16 +20,16 @@ use Rattle.sac_grammar.specs.Run.{starts}
 use Rattle.sac_grammar.specs.Limits.{depth_in}
 use Rattle.sac_grammar.specs.Parsing.{Found, TooTall, Reading, Halts, nth}
 use Rattle.sac_grammar.proofs.Parsing.{read_ref, read_then, read_first, read_second, found, stops, stop_ref, stop_right, stop_first, tall_after, stop_agree}
-use Rattle.sac_descent.specs.declared.halt.Halt.{Halt}
-use Rattle.sac_descent.specs.declared.halt.Halt.TheVariants.{Stuck, High as TooHigh, Memory}
-use Rattle.sac_descent.specs.declared.place.Place.{Place}
-use Rattle.sac_descent.specs.declared.place.Measured.{Measured}
-use Rattle.sac_descent.specs.Heights.{IsAbove}
-use Rattle.sac_descent.specs.Contract.{StopOf, lexemes_of, IsLowAt, IsLow, IsKept, IsPhraseAt, IsPartAt, operator_of}
-use Rattle.sac_descent.specs.Parts.{IsListOf, IsInParens, AreStatements, IsStatement, IsStatementOf, IsBlockOf, IsElse, IsBlockAt, itself, AssignRest, IsAssigned, IsAssignedOf, AreTargets}
-use Rattle.sac_descent.proofs.Steps.{operator_found, token_read, starts_there, kept_phrase, high_halted}
+use Rattle.sac_phrases.specs.declared.halt.Halt.{Halt}
+use Rattle.sac_phrases.specs.declared.halt.Halt.TheVariants.{Stuck, High as TooHigh, Memory}
+use Rattle.sac_phrases.specs.declared.place.Place.{Place}
+use Rattle.sac_phrases.specs.declared.place.Measured.{Measured}
+use Rattle.sac_phrases.specs.Heights.{IsAbove}
+use Rattle.sac_phrases.specs.Contract.{StopOf, lexemes_of, IsLowAt, IsLow, IsKept, IsPhraseAt, IsPartAt, operator_of}
+use Rattle.sac_phrases.specs.Parts.{IsListOf, IsInParens, AreStatements, IsStatement, IsStatementOf, IsBlockOf, IsElse, IsBlockAt, itself, AssignRest, IsAssigned, IsAssignedOf, AreTargets}
+use Rattle.sac_phrases.proofs.Steps.{At, operator_found, token_read, starts_there, kept_phrase, high_halted}
 use Rattle.sac_descent.proofs.ListSteps.{stmts_append, index_tall, length_map}
-use Rattle.sac_descent.proofs.PhraseSteps.{At, IsInside}
+use Rattle.sac_descent.proofs.PhraseSteps.{IsInside}
 
 -- ---- blocks
 
@@ -194,9 +194,9 @@ replace_read place t {ts} {a} {b} {c} {d} {rest} {l} {r} {q} y list index x node
 update_tall : (node n k d : ℕ) → (n ≤ 99 → node ≡ 1 + (1 + max 1 n)) → (n ≡ k) × (d + k ≤ 99) → node ≡ 1 + (1 + max 1 k)
 update_tall node n k d a h = let e : node ≡ 1 + (1 + max 1 n) = a (omega arith) in omega arith
 
-pub compound_read : (place : Place) (t : Lexeme) {ts a rest : List Lexeme} (op : Op) (site : Site) (x : Measured Expression) (node : Measured Statement) (u : Lexeme) → operator_of ((codes "+=", Add) ∷ assign_ops) ts ≡ Some (op, site) → ts ≡ u ∷ a → Found expression a (View.expr x.tree) rest × IsLowAt place x.height (height (View.expr x.tree)) → View.stmt node.tree ≡ tree.assign (target t ∷ []) (tree.binary op (to_variable t) (View.expr x.tree) site) → (x.height ≤ 99 → node.height ≡ 1 + (1 + max 1 x.height)) → AssignedAt place t 2 node ts rest
+pub compound_read : (place : Place) (t : Lexeme) {ts a rest : List Lexeme} (op : Op) (site : Site) (x : Measured Expression) (node : Measured Statement) (u : Lexeme) → operator_of (update_signs.0 ∷ update_signs.1) ts ≡ Some (op, site) → ts ≡ u ∷ a → Found expression a (View.expr x.tree) rest × IsLowAt place x.height (height (View.expr x.tree)) → View.stmt node.tree ≡ tree.assign (target t ∷ []) (tree.binary op (to_variable t) (View.expr x.tree) site) → (x.height ≤ 99 → node.height ≡ 1 + (1 + max 1 x.height)) → AssignedAt place t 2 node ts rest
 compound_read place t {ts} {a} {rest} op site x node u o split g tr above =
-    let f = operator_found (codes "+=", Add) assign_ops o split in (
+    let f = operator_found update_signs.0 update_signs.1 o split in (
       (f.value, View.expr x.tree),
       read_then f.reads (read_ref g.0),
       record {

@@ -1,25 +1,25 @@
 //! Expressions, with-loops and statements, by recursive descent: each function reads one phrase with one token of lookahead.
 ghost use Rattle.std.specs.Prelude.{◌≡◌, ◌<◌, ◌≤◌, ◌∷◌, IfOk, length, codes, true};
 ghost use Rattle.sac_ast.specs.Shape.{ref, seq, many};
-ghost use Rattle.sac_ast.specs.Grammar.{expression, prefix, postfix, primary, generator, bound, operation, statement, if_statement, else_branch, block, assign, sum, listed, opt, parens, sign, rule};
+ghost use Rattle.sac_ast.specs.Grammar.{expression, prefix, postfix, primary, generator, bound, operation, statement, if_statement, else_branch};
+ghost use Rattle.sac_ast.specs.Grammar.{block, assign, sum, listed, opt, parens, sign, rule};
 ghost use Rattle.sac_ast.specs.Heights.{height, gen_height, bound_height, operation_height, stmt_height};
 ghost use Rattle.sac_ast.specs.View as view;
 ghost use Rattle.sac_ast.specs.Texts.{is_name};
 ghost use Rattle.sac_grammar.specs.Parsing.{nth};
-ghost use Rattle.sac_descent.specs.Contract.{lexemes_of, lexeme, IsPhraseAt, IsPhraseNear, IsPartAt};
-ghost use Rattle.sac_descent.specs.Parts.{IsListOf, IsArguments, IsInParens, IsPair, IsPrimary, IsPrimaryOf, IsGenerators, IsMaybe, IsBlockAt, itself, AssignRest, IsOperation, IsBlockOf, IsStatements, IsStatement, IsStatementOf, IsElse, IsAssigned, IsAssignedOf, Comma};
-ghost use Rattle.sac_descent.specs.Levels.{first_operator, more_operators, IsLevelAt, IsOperandAt};
+ghost use Rattle.sac_phrases.specs.Contract.{lexemes_of, lexeme, IsPhraseAt, IsPhraseNear, IsPartAt};
+ghost use Rattle.sac_phrases.specs.Parts.{IsListOf, IsArguments, IsInParens, IsPair, IsPrimary, IsPrimaryOf, IsGenerators, IsMaybe, IsBlockAt};
+ghost use Rattle.sac_phrases.specs.Parts.{itself, AssignRest, IsOperation, IsBlockOf, IsStatements, IsStatement, IsStatementOf, IsElse, IsAssigned};
+ghost use Rattle.sac_phrases.specs.Parts.{IsAssignedOf, Comma};
+ghost use Rattle.sac_phrases.specs.Levels.{first_operator, more_operators, IsLevelAt, IsOperandAt};
 
-use crate::halt::Halt;
-use crate::level::{self, Level};
-use crate::place::{self, Measured, Place};
-use crate::{cursor, leaf, node};
 use sac_ast::{Bound, Builtin, Expression, Generator, Operation, Statement, Target};
 use sac_base::{Op, Site};
 use sac_lex::Token;
-
-/// What was read, and the tokens behind it.
-pub type Read<'a, T> = Result<(Measured<T>, &'a [Token<'a>]), Halt<'a>>;
+use sac_phrases::halt::Halt;
+use sac_phrases::level::{self, Level};
+use sac_phrases::place::{self, Measured, Place, Read};
+use sac_phrases::{cursor, leaf, node};
 
 // ---- expressions
 

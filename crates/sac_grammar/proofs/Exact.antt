@@ -1,13 +1,12 @@
 -- A predictive parser is exact: what it reads are the phrases, and where it gets stuck no phrase goes on.
-use Rattle.std.proofs.Common.{ℕ, zero, suc, ◌≡◌, ◌<◌, ◌+◌, ◌≤◌, Bool, true, false, not, ◌&&◌, ◌||◌, List, [], ◌∷◌, ◌++◌, ◌⊎◌, inl, inr, IsTrue, refl, sym, ap, ◌∙◌, subst, append_assoc, append-nil, arith, nat_lt, length, length-append}
-use Rattle.std.specs.List.{list_any, list_all}
-use Rattle.std.specs.Str.{bytes_eq}
+use Rattle.std.proofs.Common.{ℕ, zero, suc, ◌≡◌, ◌<◌, Bool, true, false, not, List, [], ◌∷◌, ◌++◌, inl, inr, refl, sym, ap, ◌∙◌, subst, append-nil, arith, nat_lt, length, length-append}
+use Rattle.std.specs.List.{list_any}
 use Rattle.std.proofs.lemmas.Bool.Decides.{nat_tests}
 use Rattle.sac_ast.specs.Texts.{Lexeme}
 use Rattle.sac_ast.specs.Shape.{Terminal, text, name, number, end, matches, Shape, nothing, term, ref, seq, alt, many, Value, Matches, DerivesIn, Derives}
-use Rattle.sac_grammar.specs.Run.{starts, is_nullable, first, Runs, Sticks, RunsIn, SticksIn, Reads, Fails, SameFirst, same, extends, is_predictive, covers, is_below, IsPredictive}
-use Rattle.sac_grammar.proofs.Machine.{false_true, and_left, and_right, or_cases, or_true_left, or_true_right, bytes_same, Begins, begins, begins_there, reads_shape, SameEnd, same_run, only_run, Stable, stable_map, stable_run, stable_stick, Sound, sound_run, sample_token, Begun, begun_stick}
-use Rattle.sac_grammar.proofs.Levels.{derives_rule, more_levels}
+use Rattle.sac_grammar.specs.Run.{starts, is_nullable, first, Runs, RunsIn, SticksIn, Reads, Fails, SameFirst, same, extends, covers, is_below, IsPredictive}
+use Rattle.sac_grammar.proofs.Machine.{false_true, and_left, and_right, or_cases, or_true_left, or_true_right, bytes_same, begins, begins_there, reads_shape, SameEnd, same_run, only_run, Stable, stable_map, stable_run, stable_stick, Sound, sound_run, sample_token, Begun, begun_stick}
+use Rattle.sac_grammar.proofs.Levels.{derives_rule}
 
 same_matches : (f g : Terminal) (x : Lexeme) → same f g ≡ true → matches f x ≡ true → matches g x ≡ true
 same_matches (text a) (text b) x c m = subst (λ t. matches (text t) x ≡ true) (bytes_same a b c) m

@@ -1,18 +1,18 @@
 -- A phrase with a part that is too high is too high.
-use Rattle.std.proofs.Common.{Bool, true, false, ◌&&◌, ℕ, zero, suc, ◌≡◌, ◌<◌, ◌≤◌, ◌+◌, max, List, [], ◌∷◌, ◌++◌, ◌⊎◌, inl, inr, refl, sym, ap, ◌∙◌, subst, arith, codes, map}
+use Rattle.std.proofs.Common.{Bool, true, false, ◌&&◌, ℕ, ◌≡◌, ◌≤◌, max, List, [], ◌∷◌, ◌++◌, ◌⊎◌, inl, inr, refl, arith, codes, map}
 use Rattle.sac_ast.specs.Texts.{Lexeme}
 use Rattle.sac_base.specs.declared.site.Site.{Site}
 use Rattle.sac_base.specs.declared.op.Op.{Op}
 use Rattle.sac_base.specs.declared.op.Op.TheVariants.{Add, Sub, Mul, Div, Rem, Min, Max, Neg, Not, Eq, Ne, Lt, Le, Gt, Ge, And, Or}
-use Rattle.sac_ast.specs.Shape.{Terminal, text, name, number, Shape, nothing, term, ref, seq, alt, many, Value, Derives}
+use Rattle.sac_ast.specs.Shape.{name, nothing, term, ref, seq, alt, many}
 use Rattle.sac_ast.specs.Tree as tree
 use Rattle.sac_ast.specs.Tree.{Expr, Exprs, Stmt, Gen}
 use Rattle.sac_ast.specs.View.{exprs_of, block_of, gens_of}
-use Rattle.sac_ast.specs.Grammar.{Nonterminal, program, function, param, type', statement, if_statement, else_branch, block, assign, expression, disjunction, conjunction, equality, comparison, sum, product, prefix, postfix, primary, generator, bound, index, operation, Rule, V, Tree, rule, action, one_of, chosen, chain, selects, index_of, items, concat, sign, opt, listed, parens, assign_ops, maybe_items, maybe, body_or_none, name_or_call}
-use Rattle.sac_grammar.specs.Tables.{first_of, ext_of, rank_of}
+use Rattle.sac_ast.specs.Grammar.{Nonterminal, program, function, param, type', statement, if_statement, else_branch, block, assign, expression, disjunction, conjunction, equality, comparison, sum, product, prefix, postfix, primary, generator, bound, index, operation, Rule, V, Tree, rule, action, one_of, chosen, chain, selects, index_of, items, concat, sign, opt, listed, parens, update_signs, maybe_items, maybe, body_or_none, name_or_call}
+use Rattle.sac_grammar.specs.Tables.{first_of}
 use Rattle.sac_grammar.proofs.Machine.{false_true, and_left, and_right}
 use Rattle.sac_grammar.specs.High.{AnyOf, HasHigh}
-use Rattle.sac_ast.specs.Heights.{height, heights, maybe_height, stmt_height, block_height, gen_height, gens_height, bound_height, operation_height, function_height}
+use Rattle.sac_ast.specs.Heights.{height, heights, maybe_height, block_height, gen_height, gens_height}
 use Rattle.sac_grammar.specs.Limits.{Over, High, Within}
 
 -- no operator is high
@@ -227,7 +227,7 @@ module _ (d : ℕ) where
   grows_assign (n, inr (inl (l, (v, (r, (t, e)))))) (inr (inr (inr (inl h)))) = absurd h
   grows_assign (n, inr (inl (l, (v, (r, (t, e)))))) (inr (inr (inr (inr (inl h))))) = absurd h
   grows_assign (n, inr (inl (l, (v, (r, (t, e)))))) (inr (inr (inr (inr (inr h))))) = omega arith
-  grows_assign (n, inr (inr (inl (o, e)))) (inr (inl h)) = no_op (High d) (codes "+=", Add) assign_ops o h
+  grows_assign (n, inr (inr (inl (o, e)))) (inr (inl h)) = no_op (High d) update_signs.0 update_signs.1 o h
   grows_assign (n, inr (inr (inl (o, e)))) (inr (inr h)) = omega arith
   grows_assign (n, inr (inr (inr o))) (inr h) = no_op (High d) (codes "++", Add) ((codes "--", Sub) ∷ []) o h
 

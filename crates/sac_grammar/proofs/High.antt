@@ -1,12 +1,12 @@
 -- Behind a phrase that is too high every program is too high.
-use Rattle.std.proofs.Common.{ℕ, zero, suc, ◌≡◌, ◌+◌, ◌<◌, ◌≤◌, ◌&&◌, length, length-append, cond, arith, Bool, true, false, List, [], ◌∷◌, ◌++◌, ◌⊎◌, inl, inr, refl, sym, ap, ◌∙◌, subst, append_assoc, append-nil}
+use Rattle.std.proofs.Common.{ℕ, zero, suc, ◌≡◌, ◌+◌, ◌<◌, ◌≤◌, length, length-append, cond, arith, Bool, true, false, List, [], ◌∷◌, ◌++◌, inl, inr, refl, sym, ap, ◌∙◌, subst, append_assoc, append-nil}
 use Rattle.sac_ast.specs.Texts.{Lexeme}
-use Rattle.sac_ast.specs.Shape.{Terminal, Shape, nothing, term, ref, seq, alt, many, Value, MatchesEach, Matches, Derives}
-use Rattle.sac_grammar.specs.Run.{starts, first, RunsEach, SticksAfter, SameFirst, Runs, RunsIn, Reads, IsPredictive}
+use Rattle.sac_ast.specs.Shape.{Terminal, Shape, nothing, term, ref, seq, alt, many, Value, Matches, Derives}
+use Rattle.sac_grammar.specs.Run.{first, RunsEach, SticksAfter, SameFirst, Runs, RunsIn, Reads, IsPredictive}
 use Rattle.sac_grammar.specs.High.{AnyOf, HasHigh, Tops, Tall, ends_so}
 use Rattle.sac_grammar.proofs.Machine.{false_true, and_left, and_right, SameEnd, same_run, Stable, stable_map, stable_test, stable_seq, stable_run, stuck_each, Sound, sound_run, sample_shape, Begun, begun_each}
 use Rattle.sac_grammar.proofs.Levels.{derives_rule}
-use Rattle.sac_grammar.proofs.Exact.{phrase_read, same_read, stable_read, sound_read, sample, same_front}
+use Rattle.sac_grammar.proofs.Exact.{same_read, stable_read, sound_read, sample, same_front}
 
 module _ {N : Type 0} (Tree : N → Type 0) (first_of : N → List Terminal) where
   stable_top : (P Q : (k : N) → List Lexeme → Tree k → List Lexeme → Type 0) (S T : (k : N) → List Lexeme → List Lexeme → Type 0) → ((k : N) (ts : List Lexeme) (v : Tree k) (r : List Lexeme) → P k ts v r → Stable (λ xs ys. Q k xs v ys) ts r) → ((k : N) (ts r : List Lexeme) → S k ts r → Stable (T k) ts r) → (s : Shape N) (ts r : List Lexeme) → Tops Tree first_of P S s ts r → Stable (Tops Tree first_of Q T s) ts r

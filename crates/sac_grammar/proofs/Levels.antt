@@ -1,10 +1,8 @@
 -- From right sides to nonterminals: derivations and runs of finitely many levels.
-use Rattle.std.proofs.Common.{ℕ, zero, suc, ◌≡◌, ◌+◌, ◌≤◌, Bool, true, false, not, ◌&&◌, List, [], ◌∷◌, ◌++◌, ◌⊎◌, inl, inr, IsTrue, refl, sym, ap, ◌∙◌, subst, append_assoc, append-nil, arith}
-use Rattle.std.specs.List.{list_any, list_all}
+use Rattle.std.proofs.Common.{ℕ, zero, suc, ◌+◌, ◌≤◌, List, [], ◌∷◌, inl, inr, refl, arith}
 use Rattle.sac_ast.specs.Texts.{Lexeme}
-use Rattle.sac_ast.specs.Shape.{Terminal, matches, Shape, nothing, term, ref, seq, alt, many, Value, MatchesEach, Matches, DerivesIn, Derives}
-use Rattle.sac_grammar.specs.Run.{starts, is_nullable, first, RunsEach, SticksAfter, Runs, Sticks, RunsIn, SticksIn, Reads, Fails, are_apart, extends, is_predictive}
-use Rattle.sac_grammar.proofs.Machine.{false_true, and_left, Begins, begins, begins_there, reads_shape, SameEnd, same_run, only_run, Stable, stable_run, stable_stick, Sound, sound_run, sample_shape, Begun, begun_stick}
+use Rattle.sac_ast.specs.Shape.{Terminal, Shape, nothing, term, ref, seq, alt, many, Value, MatchesEach, Matches, DerivesIn, Derives}
+use Rattle.sac_grammar.specs.Run.{first, RunsEach, SticksAfter, Runs, Sticks, RunsIn, SticksIn, Reads, Fails}
 
 -- ---- a relation that holds in more cases
 

@@ -1,17 +1,17 @@
 -- The steps of a parser: from the parts of a phrase to the phrase.
-use Rattle.std.proofs.Common.{ℕ, zero, suc, ◌≡◌, ◌<◌, ◌≤◌, ◌+◌, Bool, true, false, ◌&&◌, ◌||◌, cond, List, [], ◌∷◌, ◌++◌, ◌⊎◌, inl, inr, refl, sym, ap, ◌∙◌, subst, length, IsTrue, arith}
+use Rattle.std.proofs.Common.{ℕ, zero, suc, ◌≡◌, ◌<◌, Bool, true, false, List, [], ◌∷◌, ◌++◌, inl, inr, refl, sym, subst, length}
 use Rattle.sac_ast.specs.Texts.{Lexeme}
-use Rattle.sac_ast.specs.Shape.{Terminal, text, matches, Shape, nothing, term, ref, seq, alt, many, Value}
+use Rattle.sac_ast.specs.Shape.{Terminal, nothing, term, ref, seq, alt, many}
 use Rattle.sac_ast.specs.Grammar.{Nonterminal, Tree, rule, action, Rule, V, opt}
-use Rattle.sac_grammar.specs.Run.{starts, is_nullable, first, are_apart, RunsEach, SticksAfter, Runs, Sticks, Reads, Fails}
+use Rattle.sac_grammar.specs.Run.{starts, first, are_apart, RunsEach, SticksAfter, Runs, Sticks}
 use Rattle.sac_grammar.specs.Tables.{first_of, ext_of, rank_of}
 use Rattle.sac_grammar.specs.High.{Tops, Tall}
 use Rattle.sac_grammar.specs.Limits.{High, Within, depth_in, gap_of}
 use Rattle.sac_grammar.specs.Parsing.{Found, Lost, TooTall, Reading, Stop, stuck, high, StopsAt, StopsIn, Halted, Halts, nth, inject, is_apart, ReadEach, Parts}
-use Rattle.sac_grammar.proofs.Machine.{false_true, and_left, and_right, apart_not}
+use Rattle.sac_grammar.proofs.Machine.{and_left, and_right, apart_not}
 use Rattle.sac_grammar.proofs.Levels.{reads_rule, fails_rule}
 use Rattle.sac_grammar.proofs.Exact.{reads_shorter}
-use Rattle.sac_grammar.proofs.High.{tall_rule, tall_behind, tall_before}
+use Rattle.sac_grammar.proofs.High.{tall_rule, tall_behind}
 use Rattle.sac_grammar.proofs.Grows.{grows}
 use Rattle.sac_grammar.proofs.Table.{table}
 

@@ -1,7 +1,8 @@
 -- When a phrase is too high, at a place with so many nodes around it.
-use Rattle.std.specs.Prelude.{ℕ, zero, suc, ◌+◌, ◌<◌, Bool, true, false, if◌then◌else◌}
-use Rattle.sac_ast.specs.Grammar.{Nonterminal, Tree, rule, program, function, param, type', statement, if_statement, else_branch, block, assign, expression, disjunction, conjunction, equality, comparison, sum, product, prefix, postfix, primary, generator, bound, index, operation}
-use Rattle.sac_ast.specs.Tree.{Stmt}
+use Rattle.std.specs.Prelude.{ℕ, ◌+◌, ◌<◌, if◌then◌else◌}
+use Rattle.sac_ast.specs.Grammar.{Nonterminal, Tree, rule, program, function, param, type', statement, if_statement, else_branch, block, assign}
+use Rattle.sac_ast.specs.Grammar.{expression, disjunction, conjunction, equality, comparison, sum, product, prefix, postfix, primary, generator}
+use Rattle.sac_ast.specs.Grammar.{bound, index, operation}
 use Rattle.sac_ast.specs.View.{block_of}
 use Rattle.sac_ast.specs.Heights.{height, stmt_height, block_height, gen_height, bound_height, operation_height, function_height}
 use Rattle.sac_grammar.specs.High.{AnyOf, ends_so}

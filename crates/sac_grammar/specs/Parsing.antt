@@ -1,13 +1,13 @@
 -- What a parser of the language has done: it read a phrase, or it stopped, stuck at a token or where the tree would become too high.
-use Rattle.std.specs.Prelude.{ℕ, zero, suc, ◌≡◌, ◌&&◌, Bool, true, false, List, [], ◌∷◌}
+use Rattle.std.specs.Prelude.{ℕ, zero, suc, ◌≡◌, ◌&&◌, Bool, true, List, [], ◌∷◌}
 use mathlib.Core.Logic.{inl, inr}
 use Rattle.sac_ast.specs.Texts.{Lexeme}
-use Rattle.sac_ast.specs.Shape.{Terminal, Shape, nothing, term, ref, seq, alt, many, Value}
-use Rattle.sac_ast.specs.Grammar.{Nonterminal, Tree, rule, action, Rule, V, program, function, expression, disjunction, prefix, postfix, if_statement}
+use Rattle.sac_ast.specs.Shape.{nothing, term, ref, seq, alt, many}
+use Rattle.sac_ast.specs.Grammar.{Nonterminal, Tree, rule, action, Rule, V}
 use Rattle.sac_grammar.specs.Run.{starts, first, are_apart, Runs, Sticks, Reads, Fails}
 use Rattle.sac_grammar.specs.High.{Tops, Tall}
 use Rattle.sac_grammar.specs.Tables.{first_of}
-use Rattle.sac_grammar.specs.Limits.{High, depth_in, gap_of}
+use Rattle.sac_grammar.specs.Limits.{High, gap_of}
 
 -- the parser reads a phrase of k with this tree
 abbrev pub Found : (k : Nonterminal) → List Lexeme → Tree k → List Lexeme → Type 0
@@ -80,7 +80,8 @@ is_apart n s = true
 -- these parts were read, and the rest is left
 abbrev pub ReadEach : (a : Rule) → List Lexeme → List (V a) → List Lexeme → Type 0
 ReadEach a ts [] rest = rest ≡ ts
-ReadEach a ts (v ∷ vs) rest = (starts (first first_of a) ts ≡ true) × ((mid : List Lexeme) × Runs Tree first_of Found a ts v mid × ReadEach a mid vs rest)
+ReadEach a ts (v ∷ vs) rest =
+    (starts (first first_of a) ts ≡ true) × ((mid : List Lexeme) × Runs Tree first_of Found a ts v mid × ReadEach a mid vs rest)
 
 pub record Parts (a : Rule) (ts : List Lexeme) (vs : List (V a)) (rest : List Lexeme) : Type 0 where
   pub each : ReadEach a ts vs rest

@@ -34,19 +34,30 @@ first first_of (seq a b) = first first_of a ++ (if is_nullable a then first firs
 first first_of (alt a b) = first first_of a ++ first first_of b
 first first_of (many a) = first first_of a
 
+-- a parser reads phrases of each nonterminal from tokens, with a tree and a rest; and it gets stuck in them, before a rest
+abbrev pub Readers : {N : Type 0} → (N → Type 0) → Type 1
+Readers {N} Tree = (k : N) → List Lexeme → Tree k → List Lexeme → Type 0
+
+abbrev pub Stuck : Type 0 → Type 1
+Stuck N = (k : N) → List Lexeme → List Lexeme → Type 0
+
+-- the same of one part: from these tokens, with this value and this rest
+abbrev pub Reader : Type 0 → Type 1
+Reader V = List Lexeme → V → List Lexeme → Type 0
+
 -- one part after another, as long as the first token begins one
-abbrev pub RunsEach : {V : Type 0} → List Terminal → (List Lexeme → V → List Lexeme → Type 0) → List Lexeme → List V → List Lexeme → Type 0
+abbrev pub RunsEach : {V : Type 0} → List Terminal → Reader V → List Lexeme → List V → List Lexeme → Type 0
 RunsEach fs P ts [] rest = (rest ≡ ts) × (starts fs ts ≡ false)
 RunsEach fs P ts (v ∷ vs) rest = (starts fs ts ≡ true) × ((mid : List Lexeme) × P ts v mid × RunsEach fs P mid vs rest)
 
 -- some parts, and then one that gets stuck
-abbrev pub SticksAfter : {V : Type 0} → List Terminal → (List Lexeme → V → List Lexeme → Type 0) → (List Lexeme → List Lexeme → Type 0) → List Lexeme → List V → List Lexeme → Type 0
+abbrev pub SticksAfter : {V : Type 0} → List Terminal → Reader V → (List Lexeme → List Lexeme → Type 0) → List Lexeme → List V → List Lexeme → Type 0
 SticksAfter fs P Q ts [] rest = (starts fs ts ≡ true) × Q ts rest
 SticksAfter fs P Q ts (v ∷ vs) rest = (starts fs ts ≡ true) × ((mid : List Lexeme) × P ts v mid × SticksAfter fs P Q mid vs rest)
 
 module _ {N : Type 0} (Tree : N → Type 0) (first_of : N → List Terminal) where
   -- the parser reads a phrase from the tokens, with this value and this rest
-  abbrev pub Runs : ((k : N) → List Lexeme → Tree k → List Lexeme → Type 0) → (s : Shape N) → List Lexeme → Value Tree s → List Lexeme → Type 0
+  abbrev pub Runs : Readers Tree → (s : Shape N) → List Lexeme → Value Tree s → List Lexeme → Type 0
   Runs R nothing ts v rest = rest ≡ ts
   Runs R (term t) ts v rest = (ts ≡ v ∷ rest) × IsTrue (matches t v)
   Runs R (ref k) ts v rest = R k ts v rest
@@ -56,12 +67,13 @@ module _ {N : Type 0} (Tree : N → Type 0) (first_of : N → List Terminal) whe
   Runs R (many a) ts vs rest = RunsEach (first first_of a) (Runs R a) ts vs rest
 
   -- the parser gets stuck at the first token of the rest
-  abbrev pub Sticks : ((k : N) → List Lexeme → Tree k → List Lexeme → Type 0) → ((k : N) → List Lexeme → List Lexeme → Type 0) → (s : Shape N) → List Lexeme → List Lexeme → Type 0
+  abbrev pub Sticks : Readers Tree → Stuck N → (s : Shape N) → List Lexeme → List Lexeme → Type 0
   Sticks R S nothing ts rest = ⊥
   Sticks R S (term t) ts rest = (rest ≡ ts) × (starts (t ∷ []) ts ≡ false)
   Sticks R S (ref k) ts rest = S k ts rest
   Sticks R S (seq a b) ts rest = Sticks R S a ts rest ⊎ ((v : Value Tree a) × (mid : List Lexeme) × Runs R a ts v mid × Sticks R S b mid rest)
-  Sticks R S (alt a b) ts rest = ((starts (first first_of a) ts ≡ true) × Sticks R S a ts rest) ⊎ ((starts (first first_of a) ts ≡ false) × Sticks R S b ts rest)
+  Sticks R S (alt a b) ts rest =
+      ((starts (first first_of a) ts ≡ true) × Sticks R S a ts rest) ⊎ ((starts (first first_of a) ts ≡ false) × Sticks R S b ts rest)
   Sticks R S (many a) ts rest = (vs : List (Value Tree a)) × SticksAfter (first first_of a) (Runs R a) (Sticks R S a) ts vs rest
 
   module _ (rule : N → Shape N) (action : (k : N) → Value Tree (rule k) → Tree k) where

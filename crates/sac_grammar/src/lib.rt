@@ -8,7 +8,8 @@ ghost use Rattle.sac_ast.specs.Grammar.{Nonterminal, Tree, IsPhrase, program};
 ghost use Rattle.sac_ast.specs.Tree.{ProgramTree};
 ghost use Rattle.sac_ast.specs.Heights.{open_behind, IsTreeOf};
 ghost use Rattle.sac_ast.specs.Refusals.{Starts, IsStuckAt, IsTooDeepAt};
-ghost use Rattle.sac_grammar.specs.Verdicts.{IsRead, NoHighBefore};
+ghost use Rattle.sac_grammar.specs.Verdicts.{IsStuckBefore, IsTallBefore};
+ghost use Rattle.sac_grammar.specs.Verdicts.{StuckTokensAreRefused, OpenBracketsAreRefused, HighPhrasesAreRefused, TokensBehindAreRefused};
 ghost use Rattle.sac_grammar.specs.Limits.{High};
 ghost use Rattle.sac_grammar.specs.Parsing.{Found, Lost, TooTall};
 
@@ -18,20 +19,20 @@ ghost use Rattle.sac_grammar.specs.Parsing.{Found, Lost, TooTall};
 pub fn parser_is_exact()
     ensures one_tree { (k : Nonterminal) (ts : List Lexeme) (v w : Tree k) → IsPhrase k ts v → IsPhrase k ts w → v ≡ w }
     ensures found { (k : Nonterminal) (ts : List Lexeme) (v : Tree k) → Found k ts v [] → IsPhrase k ts v }
-    ensures lost { (k : Nonterminal) (ts r : List Lexeme) → Lost k ts r → (u : List Lexeme) × (ts ≡ u ++ r) × ((w : List Lexeme) × (v : Tree k) × IsPhrase k (u ++ w) v) × ((x : Lexeme) (xs ys : List Lexeme) (v : Tree k) → r ≡ x ∷ xs → IsPhrase k (u ++ (x ∷ ys)) v → ⊥) }
-    ensures tall { (d : ℕ) (k : Nonterminal) (ts r : List Lexeme) → TooTall d k ts r → (u : List Lexeme) × (ts ≡ u ++ r) × ((w : List Lexeme) × (v : Tree k) × IsPhrase k (u ++ w) v) × ((x : Lexeme) (xs ys : List Lexeme) (v : Tree k) → r ≡ x ∷ xs → IsPhrase k (u ++ (x ∷ ys)) v → High d k v) }
+    ensures lost { (k : Nonterminal) (ts r : List Lexeme) → Lost k ts r → IsStuckBefore k ts r }
+    ensures tall { (d : ℕ) (k : Nonterminal) (ts r : List Lexeme) → TooTall d k ts r → IsTallBefore d k ts r }
 {}
 
 /// What a run over the tokens of a program says of their refusal. `read` are the tokens as far as the limit on brackets allows it.
 pub fn refusals()
     // Stuck at a token: it is the fault.
-    ensures stuck { (ts read : List Lexeme) (x : Lexeme) (r : List Lexeme) → IsRead ts read → Lost program read (x ∷ r) → NoHighBefore read (x ∷ r) → IsStuckAt ts x.site }
+    ensures stuck { StuckTokensAreRefused }
     // Stuck behind the last token that was read, with which too many brackets are open: the tokens are nested too deep there.
-    ensures deep { (ts u : List Lexeme) (x : Lexeme) → IsRead ts (u ++ (x ∷ [])) → 200 < open_behind 0 (u ++ (x ∷ [])) → Lost program (u ++ (x ∷ [])) [] → NoHighBefore (u ++ (x ∷ [])) [] → IsTooDeepAt ts x.site }
+    ensures deep { OpenBracketsAreRefused }
     // Too high with the next token, with which some program goes on: they are nested too deep there.
-    ensures tall { (ts read : List Lexeme) (x : Lexeme) (r : List Lexeme) → IsRead ts read → TooTall 0 program read (x ∷ r) → ((u : List Lexeme) → read ≡ u ++ (x ∷ r) → Starts (u ++ (x ∷ []))) → NoHighBefore read (x ∷ r) → IsTooDeepAt ts x.site }
+    ensures tall { HighPhrasesAreRefused }
     // A token behind a whole program: it is the fault.
-    ensures behind { (ts read : List Lexeme) (p : ProgramTree) (x : Lexeme) (r : List Lexeme) → IsRead ts read → Found program read p (x ∷ r) → NoHighBefore read (x ∷ r) → IsStuckAt ts x.site }
+    ensures behind { TokensBehindAreRefused }
     // Stuck behind the end token: that does not happen.
     ensures ended { (u : List Lexeme) (e : Lexeme) → is_end e.text ≡ true → Lost program (u ++ (e ∷ [])) [] → ⊥ }
 {}

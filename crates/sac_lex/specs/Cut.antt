@@ -80,9 +80,13 @@ pub record IsFront (source : List ℕ) (chunks : List Chunk) (rest : List ℕ) :
   pub within : AllByRecursion (λ (c : Chunk). IsWithinLimits c.kind c.text) chunks
   pub few : length (lexemes start chunks) ≤ 200000
 
+-- the end token stands behind the last byte
+abbrev pub end_token : List ℕ → Lexeme
+end_token source = record { kind = token.End; text = []; site = site_after start source }
+
 -- the tokens of the whole source, and the end token
 abbrev pub IsTokenList : List ℕ → List Lexeme → Type 0
-IsTokenList source tokens = (chunks : List Chunk) × IsFront source chunks [] × (tokens ≡ lexemes start chunks ++ (record { kind = token.End; text = []; site = site_after start source } ∷ []))
+IsTokenList source tokens = (chunks : List Chunk) × IsFront source chunks [] × (tokens ≡ lexemes start chunks ++ (end_token source ∷ []))
 
 abbrev pub is_token : PieceKind → Bool
 is_token Name = true
@@ -101,11 +105,14 @@ IsExcess count L5 kind text = kind ≡ Open
 -- why a text is refused that stands behind so many tokens: nothing is spelled at its front, or a piece is there that is refused
 abbrev pub IsRefusedAt : ℕ → LexCode → List ℕ → Type 0
 IsRefusedAt count L1 rest = (rest ≢ []) × HasNoSpelling rest
-IsRefusedAt count code rest = (kind : PieceKind) × (text later : List ℕ) × (rest ≡ text ++ later) × IsLongest kind text later × IsExcess count code kind text
+IsRefusedAt count code rest =
+    (kind : PieceKind) × (text later : List ℕ) × (rest ≡ text ++ later) × IsLongest kind text later × IsExcess count code kind text
 
 -- the first refusal in the source, and its site
 abbrev pub IsRefusal : List ℕ → LexCode → Site → Type 0
-IsRefusal source code site = (chunks : List Chunk) × (rest : List ℕ) × IsFront source chunks rest × (site ≡ site_after start (bytes_of chunks)) × IsRefusedAt (length (lexemes start chunks)) code rest
+IsRefusal source code site =
+    (chunks : List Chunk) × (rest : List ℕ) × IsFront source chunks rest × (site ≡ site_after start (bytes_of chunks))
+    × IsRefusedAt (length (lexemes start chunks)) code rest
 
 -- the text of the token stands in the source at its site
 abbrev pub StandsIn : List ℕ → Lexeme → Type 0

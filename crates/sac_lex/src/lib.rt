@@ -1,6 +1,7 @@
 //! Cuts a source into tokens, which are slices of it, in one pass.
 //!
-//! A source is cut into pieces: blanks, comments and tokens. Each is the longest spelling that begins where it stands. A source has one token list or one first refusal.
+//! A source is cut into pieces: blanks, comments and tokens. Each is the longest spelling that begins where it stands.
+//! A source has one token list or one first refusal.
 #![tactic(auto)]
 
 mod bytes;

@@ -1,5 +1,6 @@
 //! Tokens and refusals.
 ghost use Rattle.std.specs.Prelude.{◌≡◌};
+ghost use Rattle.sac_lex.specs.Codes.{lex_code};
 ghost use Rattle.sac_lex.specs.Text.{IsTextOf, IsTextOf-prop};
 ghost use Rattle.sac_lex.specs.declared.token.LexError.TheVariants.{Memory};
 
@@ -10,10 +11,13 @@ use thiserror::Error;
 /// What a token is.
 #[derive(Clone, Copy, Debug, PartialEq, Eq)]
 pub enum TokenKind {
+    /// A letter or `_`, and letters, digits and `_`.
     Name,
+    /// Decimal digits.
     Number,
     /// A reserved word.
     Word,
+    /// An operator, a bracket or a separator.
     Sign,
     /// The end of the source.
     End,
@@ -43,11 +47,28 @@ pub enum LexCode {
     L5,
 }
 
+impl LexCode {
+    /// The code that stands for this refusal in the output.
+    pub fn code(self) -> &'static str
+        ensures { result.now ≡ lex_code self }
+    {
+        match self {
+            LexCode::L1 => "L1",
+            LexCode::L2 => "L2",
+            LexCode::L3 => "L3",
+            LexCode::L4 => "L4",
+            LexCode::L5 => "L5",
+        }
+    }
+}
+
 /// What stops the lexer: the first refusal in the source, or want of memory.
 #[derive(Debug, Drop, Error)]
 pub enum LexError {
+    /// The first piece that is refused, and where it begins.
     #[error("refused {0:?} at {1:?}")]
     Refused(LexCode, Site),
+    /// No memory was found.
     #[error("no memory was found")]
     Memory,
 }

@@ -23,8 +23,8 @@ use Rattle.sac_grammar.specs.Parsing.{Found, Reading, stuck, high, Halted, Halts
 use Rattle.sac_grammar.proofs.Parsing.{found, read_then, read_parts, read_ref, one_more_part, stops, stop_left, stop_right, stop_parts, stop_ref}
 use Rattle.sac_grammar.proofs.Stops.{StopsBefore}
 use Rattle.sac_grammar.proofs.Verdicts.{AllLow, none_high}
-use Rattle.sac_descent.specs.declared.halt.Halt.{Halt}
-use Rattle.sac_descent.specs.Contract.{StopOf}
+use Rattle.sac_phrases.specs.declared.halt.Halt.{Halt}
+use Rattle.sac_phrases.specs.Contract.{StopOf}
 use Rattle.sac_parse.specs.Programs.{IsFunctionAt, IsProgramAt, IsNotLate}
 
 pub function_error : (checked : Bool) (ts : List Lexeme) (r : Result (Function × Bor (List Token)) Halt) (e : Halt) → IsErrAnd r (λ f. f ≡ e) → Halted (StopOf e) checked 0 function ts → IsFunctionAt checked ts r

@@ -19,9 +19,9 @@ use Rattle.sac_parse.specs.declared.error.ParseError.{ParseError}
 use Rattle.sac_parse.specs.Verdict.{IsRefusalOf, IsRefusalAt, IsReadOf, IsTooHigh}
 use Rattle.sac_parse.specs.Brackets.{IsWithinBrackets}
 use Rattle.sac_grammar.specs.Parsing.{stuck, high, Halted}
-use Rattle.sac_descent.specs.declared.halt.Halt.{Halt}
-use Rattle.sac_descent.specs.declared.halt.Halt.TheVariants.{Stuck, High as TooHigh}
-use Rattle.sac_descent.specs.Contract.{lexemes_of, StopOf}
+use Rattle.sac_phrases.specs.declared.halt.Halt.{Halt}
+use Rattle.sac_phrases.specs.declared.halt.Halt.TheVariants.{Stuck, High as TooHigh}
+use Rattle.sac_phrases.specs.Contract.{lexemes_of, StopOf}
 use Rattle.sac_parse.specs.Programs.{IsNotLate}
 use Rattle.sac_parse.proofs.ReadTokens.{last_same, whole_read}
 

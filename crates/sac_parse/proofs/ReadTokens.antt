@@ -11,7 +11,7 @@ use Rattle.sac_ast.specs.Texts.{Lexeme, is_end}
 use Rattle.sac_ast.specs.Heights.{open_behind, opens, closes, IsShallow}
 use Rattle.sac_grammar.specs.Verdicts.{IsRead}
 use Rattle.sac_grammar.proofs.Machine.{false_true}
-use Rattle.sac_descent.specs.Contract.{lexeme, lexemes_of}
+use Rattle.sac_phrases.specs.Contract.{lexeme, lexemes_of}
 use Rattle.sac_parse.specs.Tokens.{lexemes}
 use Rattle.sac_parse.specs.Brackets.{IsWithinBrackets}
 use Rattle.sac_parse.specs.Verdict.{IsReadOf}

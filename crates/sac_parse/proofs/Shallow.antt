@@ -3,7 +3,7 @@ use Rattle.std.proofs.Common.{ℕ, zero, suc, ◌≡◌, ◌<◌, ◌≤◌, ◌
 use Rattle.std.proofs.str.Laws.{order}
 use Rattle.sac_ast.specs.Texts.{Lexeme}
 use Rattle.sac_lex.specs.declared.token.Token.{Token}
-use Rattle.sac_descent.specs.Contract.{lexeme, lexemes_of}
+use Rattle.sac_phrases.specs.Contract.{lexeme, lexemes_of}
 use Rattle.sac_ast.specs.Heights.{opens, closes, open_behind, IsShallow}
 
 pub open_more : (n : ℕ) (ts : List Lexeme) (t : Lexeme) → open_behind n (ts ++ (t ∷ [])) ≡ open_behind (open_behind n ts) (t ∷ [])

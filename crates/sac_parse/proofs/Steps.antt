@@ -12,10 +12,10 @@ use Rattle.sac_grammar.specs.Limits.{depth_in}
 use Rattle.sac_grammar.specs.Parsing.{Reading, Stop, stuck, high, StopsIn, Halts, Parts, nth, inject, is_apart}
 use Rattle.sac_grammar.proofs.Machine.{or_true_left, begins_left, begins_right}
 use Rattle.sac_grammar.proofs.Parsing.{read_first, read_then, read_none, read_parts, read_nth, stops, stop_ref, stop_left, stop_right, stop_first, stop_parts, stop_nth, no_parts, one_more_part}
-use Rattle.sac_descent.specs.declared.halt.Halt.{Halt}
-use Rattle.sac_descent.specs.declared.halt.Halt.TheVariants.{Stuck, High as TooHigh, Memory}
-use Rattle.sac_descent.specs.declared.place.Place.{Place}
-use Rattle.sac_descent.specs.Contract.{StopOf, IsStuckAt, IsLeafAt, IsPartAt}
+use Rattle.sac_phrases.specs.declared.halt.Halt.{Halt}
+use Rattle.sac_phrases.specs.declared.halt.Halt.TheVariants.{Stuck, High as TooHigh, Memory}
+use Rattle.sac_phrases.specs.declared.place.Place.{Place}
+use Rattle.sac_phrases.specs.Contract.{StopOf, IsStuckAt, IsLeafAt, IsPartAt}
 use Rattle.sac_parse.specs.Leaves.{numbers_of, AreNumbers}
 
 -- ---- tokens

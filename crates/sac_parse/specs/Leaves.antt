@@ -14,7 +14,7 @@ use Rattle.sac_ast.specs.Shape.{term, ref, number}
 use Rattle.sac_ast.specs.Grammar.{V, sign, opt, parens, listed, up_to, parts, items, maybe_items, base_of, Extents, part_of, is_there, type', param}
 use Rattle.sac_lex.specs.declared.token.Token.{Token}
 use Rattle.sac_grammar.specs.Parsing.{Reading}
-use Rattle.sac_descent.specs.Contract.{lexemes_of}
+use Rattle.sac_phrases.specs.Contract.{lexemes_of}
 
 abbrev pub IsBase : Base → Lexeme ⊎ Lexeme → Type 0
 IsBase base v = base ≡ base_of v

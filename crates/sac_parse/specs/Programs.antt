@@ -12,9 +12,9 @@ use Rattle.sac_ast.specs.View as View
 use Rattle.sac_ast.specs.View.{exprs_of}
 use Rattle.sac_grammar.specs.Parsing.{Found, stuck, high, Halted}
 use Rattle.sac_grammar.specs.Verdicts.{NoHighBefore}
-use Rattle.sac_descent.specs.declared.halt.Halt.{Halt}
-use Rattle.sac_descent.specs.declared.place.Place.{Place}
-use Rattle.sac_descent.specs.Contract.{lexemes_of, StopOf, IsLowAt}
+use Rattle.sac_phrases.specs.declared.halt.Halt.{Halt}
+use Rattle.sac_phrases.specs.declared.place.Place.{Place}
+use Rattle.sac_phrases.specs.Contract.{lexemes_of, StopOf, IsLowAt}
 use Rattle.sac_parse.specs.declared.program.Returned.{Returned}
 
 -- how a function ends

@@ -3,13 +3,13 @@ ghost use Rattle.std.specs.Prelude.{◌≡◌, ◌<◌, ◌≤◌, ◌+◌, IfOk
 ghost use Rattle.std.specs.Str.Parse.{digits_value};
 ghost use Rattle.sac_ast.specs.Shape.{term, alt, ref, number as a_number};
 ghost use Rattle.sac_ast.specs.Grammar.{type', sign, opt, up_to, Extents};
-ghost use Rattle.sac_descent.specs.Contract.{lexemes_of, IsLeafAt, is_number_token};
+ghost use Rattle.sac_phrases.specs.Contract.{lexemes_of, IsLeafAt, is_number_token};
 ghost use Rattle.sac_parse.specs.Leaves.{IsBase, IsCount, AreNumbers, IsInnerPart, IsType};
 
 use sac_base::{ArrayType, Base, Part, Shape};
-use sac_descent::halt::Halt;
-use sac_descent::{cursor, leaf};
 use sac_lex::Token;
+use sac_phrases::halt::Halt;
+use sac_phrases::{cursor, leaf};
 use std::alloc::Global;
 
 fn base<'a>(tokens: &'a [Token<'a>]) -> Result<(Base, &'a [Token<'a>]), Halt<'a>>

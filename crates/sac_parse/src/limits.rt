@@ -1,11 +1,11 @@
 //! The limit on open brackets.
 ghost use Rattle.std.specs.Prelude.{◌≡◌, ◌<◌, ◌≤◌, ◌+◌, ◌∷◌, [], MatchOption, length, take};
 ghost use Rattle.sac_ast.specs.Heights.{open_behind, IsShallow};
-ghost use Rattle.sac_descent.specs.Contract.{lexeme, lexemes_of};
-ghost use Rattle.sac_parse.specs.Brackets.{IsWithinBrackets};
+ghost use Rattle.sac_phrases.specs.Contract.{lexeme, lexemes_of};
+ghost use Rattle.sac_parse.specs.Brackets.{IsFirstTooDeep, IsWithinBrackets};
 
-use sac_descent::cursor;
 use sac_lex::Token;
+use sac_phrases::cursor;
 
 /// The most brackets that may be open at a token.
 const MOST_OPEN: usize = 200;
@@ -32,7 +32,7 @@ fn open_behind(depth: usize, token: &Token) -> usize
 
 /// The first token at which too many brackets are open.
 pub fn first_too_deep(tokens: &[Token]) -> Option<usize>
-    ensures { MatchOption result (IsShallow (lexemes_of tokens.now)) (λ i. (i < length tokens.now) × IsShallow (lexemes_of (take i tokens.now)) × (200 < open_behind 0 (lexemes_of (take (i + 1) tokens.now)))) }
+    ensures { MatchOption result (IsShallow (lexemes_of tokens.now)) (IsFirstTooDeep tokens.now) }
 {
     let mut depth = 0;
     for (i, token) in tokens.iter().enumerate() {

@@ -2,17 +2,18 @@
 ghost use Rattle.std.specs.Prelude.{◌<◌, ◌≤◌, IfOk, length, codes};
 ghost use Rattle.sac_ast.specs.Shape.{ref};
 ghost use Rattle.sac_ast.specs.Grammar.{type', param, opt, listed, parens};
-ghost use Rattle.sac_descent.specs.Contract.{lexemes_of, IsLeafAt, IsPartAt};
+ghost use Rattle.sac_phrases.specs.Contract.{lexemes_of, IsLeafAt, IsPartAt};
 ghost use Rattle.sac_parse.specs.Leaves.{IsParam, AreTypes, AreParams, AreParamsInParens, IsInlineAt};
 ghost use Rattle.sac_parse.specs.Programs.{Ending, IsReturned, IsFunctionAt, IsProgramAt};
 
 use crate::array_type::array_type;
 use sac_ast::{Expression, Function, Param, Program};
 use sac_base::{ArrayType, Site};
-use sac_descent::halt::Halt;
-use sac_descent::place::{Measured, Place};
-use sac_descent::{cursor, descent, leaf};
+use sac_descent::descent;
 use sac_lex::Token;
+use sac_phrases::halt::Halt;
+use sac_phrases::place::{Measured, Place};
+use sac_phrases::{cursor, leaf};
 use std::alloc::Global;
 
 const TYPES: [&[u8]; 2] = [b"int", b"bool"];

@@ -8,7 +8,8 @@ use Rattle.sac_base.specs.declared.types.Part.TheVariants.{Known, Rank, Plus, St
 use Rattle.sac_base.specs.declared.types.ArrayType.{ArrayType}
 use Rattle.sac_ast.specs.declared.Target.{Target}
 use Rattle.sac_ast.specs.declared.Param.{Param}
-use Rattle.sac_ast.specs.Tree.{IndexTree, named, parts, Expr, Exprs, no_exprs, expr_and, MaybeExpr, left_out, given, Stmt, Block, no_stmts, stmt_and, BoundTree, Gen, gen, Gens, no_gens, gen_and, OperationTree, FunctionTree, ProgramTree}
+use Rattle.sac_ast.specs.Tree.{IndexTree, named, parts, Expr, Exprs, no_exprs, expr_and, MaybeExpr, left_out, given, Stmt, Block, no_stmts, stmt_and}
+use Rattle.sac_ast.specs.Tree.{BoundTree, Gen, gen, Gens, no_gens, gen_and, OperationTree, FunctionTree, ProgramTree}
 use Rattle.sac_ast.specs.Tree as tree
 use Rattle.sac_print.specs.declared.level.Level.{Level}
 use Rattle.sac_print.specs.declared.level.Level.TheVariants as level
@@ -53,11 +54,15 @@ abbrev mutual
   spell (tree.binary o a b s) wanted =
       if is_function o
       then one (operator_text o) ⋅ parens (spell a level.Expression ⋅ comma ⋅ spell b level.Expression)
-      else opening (is_looser (level_of o) wanted) ⋅ spell a (level_of o) ⋅ one (operator_text o) ⋅ spell b (tighter (level_of o)) ⋅ closing (is_looser (level_of o) wanted)
+      else
+      opening (is_looser (level_of o) wanted) ⋅ spell a (level_of o) ⋅ one (operator_text o)
+      ⋅ spell b (tighter (level_of o)) ⋅ closing (is_looser (level_of o) wanted)
   spell (tree.choice c a b s) wanted =
-      opening (is_looser level.Expression wanted) ⋅ spell c level.Disjunction ⋅ one (codes "?") ⋅ spell a level.Expression ⋅ one (codes ":") ⋅ spell b level.Expression ⋅ closing (is_looser level.Expression wanted)
+      opening (is_looser level.Expression wanted) ⋅ spell c level.Disjunction ⋅ one (codes "?") ⋅ spell a level.Expression
+      ⋅ one (codes ":") ⋅ spell b level.Expression ⋅ closing (is_looser level.Expression wanted)
   -- an index that is a literal of two elements or more is written as the list of them
-  spell (tree.select a (tree.literal (expr_and x (expr_and y es)) u) s) wanted = spell a level.Postfix ⋅ brackets (spell x level.Expression ⋅ comma ⋅ spell y level.Expression ⋅ spell_more es)
+  spell (tree.select a (tree.literal (expr_and x (expr_and y es)) u) s) wanted =
+      spell a level.Postfix ⋅ brackets (spell x level.Expression ⋅ comma ⋅ spell y level.Expression ⋅ spell_more es)
   spell (tree.select a i s) wanted = spell a level.Postfix ⋅ brackets (spell i level.Expression)
   spell (tree.call x es s) wanted = one x ⋅ parens (spell_list es)
   spell (tree.builtin b es s) wanted = one (builtin_text b) ⋅ parens (spell_list es)
@@ -81,7 +86,8 @@ abbrev mutual
   pub spell_stmt : Stmt → Texts
   spell_stmt (tree.assign ts e) = targets_texts ts ⋅ one (codes "=") ⋅ spell e level.Expression ⋅ one (codes ";")
   spell_stmt (tree.replace t s (tree.literal (expr_and x (expr_and y es)) u) e) =
-      target_texts t ⋅ brackets (spell x level.Expression ⋅ comma ⋅ spell y level.Expression ⋅ spell_more es) ⋅ one (codes "=") ⋅ spell e level.Expression ⋅ one (codes ";")
+      target_texts t ⋅ brackets (spell x level.Expression ⋅ comma ⋅ spell y level.Expression ⋅ spell_more es)
+      ⋅ one (codes "=") ⋅ spell e level.Expression ⋅ one (codes ";")
   spell_stmt (tree.replace t s i e) = target_texts t ⋅ brackets (spell i level.Expression) ⋅ one (codes "=") ⋅ spell e level.Expression ⋅ one (codes ";")
   spell_stmt (tree.if_else c a b s) = one (codes "if") ⋅ parens (spell c level.Expression) ⋅ braces (spell_block a) ⋅ spell_else b
   spell_stmt (tree.while_do c b s) = one (codes "while") ⋅ parens (spell c level.Expression) ⋅ braces (spell_block b)
@@ -107,7 +113,8 @@ abbrev mutual
 
   pub spell_gen : Gen → Texts
   spell_gen (gen l lc i u uc step width b e s) =
-      parens (spell_bound l ⋅ one (bound_sign lc) ⋅ index_texts i ⋅ one (bound_sign uc) ⋅ spell_bound u ⋅ spell_maybe step (codes "step") ⋅ spell_maybe width (codes "width"))
+      parens (spell_bound l ⋅ one (bound_sign lc) ⋅ index_texts i ⋅ one (bound_sign uc) ⋅ spell_bound u
+      ⋅ spell_maybe step (codes "step") ⋅ spell_maybe width (codes "width"))
       ⋅ spell_body b ⋅ one (codes ":") ⋅ spell e level.Expression ⋅ one (codes ";")
 
   pub spell_gens : Gens → Texts

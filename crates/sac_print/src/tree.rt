@@ -3,7 +3,8 @@ ghost use Rattle.std.specs.Prelude.{◌≡◌};
 ghost use Rattle.sac_ast.specs.View.{expr, exprs, maybe, stmt, block, bound, generator, generators, operation};
 ghost use Rattle.sac_print.specs.declared.level.Level.TheVariants as level;
 ghost use Rattle.sac_print.specs.Texts.{Prints};
-ghost use Rattle.sac_print.specs.Canonical.{spell, spell_index, spell_list, spell_maybe, spell_stmt, spell_block, spell_else, spell_body, spell_bound, spell_gen, spell_gens, spell_operation, spell_default, parens, braces};
+ghost use Rattle.sac_print.specs.Canonical.{spell, spell_index, spell_list, spell_maybe, spell_stmt, spell_block, spell_else, spell_body};
+ghost use Rattle.sac_print.specs.Canonical.{spell_bound, spell_gen, spell_gens, spell_operation, spell_default, parens, braces};
 
 use crate::level::Level;
 use crate::lists::{put_index_names, put_targets};

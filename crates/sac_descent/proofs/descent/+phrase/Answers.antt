@@ -7,13 +7,13 @@ use Rattle.sac_ast.specs.View as View
 use Rattle.sac_ast.specs.Tree as tree
 use Rattle.sac_ast.specs.Tree.{Expr}
 use Rattle.sac_ast.proofs.Views.{generator_is}
-use Rattle.sac_descent.specs.Heights.{IsAbove}
+use Rattle.sac_phrases.specs.Heights.{IsAbove}
 use Rattle.sac_grammar.proofs.Parsing.{read_ref, read_then, read_first, read_none, stops, stop_ref, stop_left, stop_right, stop_first, stop_second}
-use Rattle.sac_descent.specs.Contract.{lexeme, lexemes_of}
-use Rattle.sac_descent.specs.declared.level.Level.{Level}
-use Rattle.sac_descent.specs.Levels.{IsOperandAt}
-use Rattle.sac_descent.specs.Parts.{AssignRest, IsPrimaryOf, IsStatementOf, IsAssignedOf}
-use Rattle.sac_descent.proofs.Steps.{less_three, less_four, less_le, token_read, token_halts, starts_there, memory_halts, memory_halted, operator_halts, operator_found, part_nth, part_last}
+use Rattle.sac_phrases.specs.Contract.{lexeme, lexemes_of}
+use Rattle.sac_phrases.specs.declared.level.Level.{Level}
+use Rattle.sac_phrases.specs.Levels.{IsOperandAt}
+use Rattle.sac_phrases.specs.Parts.{AssignRest, IsPrimaryOf, IsStatementOf, IsAssignedOf}
+use Rattle.sac_phrases.proofs.Steps.{less_three, less_four, less_le, token_read, token_halts, starts_there, memory_halts, memory_halted, operator_halts, operator_found, part_nth, part_last}
 use Rattle.sac_descent.proofs.LevelSteps.{LevelSoFar, level_tall, level_begin, level_low, level_fail, level_memory, level_more, level_stop, level_end, level_high}
 use Rattle.sac_descent.proofs.ListSteps.{ListRead, PostRead, GensRead, StmtsRead, list_begin, list_next, list_whole, list_halts, post_begin, post_next, post_halts, post_end, post_high, select_tall, gens_begin, gens_next, gens_whole, gens_halts, stmts_begin, stmts_next, stmts_whole, stmts_halts}
 use Rattle.sac_descent.proofs.PhraseSteps.{arguments_some, arguments_none, parens_read, pair_read, variable_read, call_read, builtin_read, reshape_read, extreme_read, array_read, parens_primary, with_read, prefix_postfix, prefix_high, inside, small_depth, room_depth, stop_inside, prefix_stop, prefix_read, plain_read, choice_stop, choice_read, primary_kept}

@@ -1,10 +1,10 @@
 use Rattle.std.proofs.Common.{◌≡◌, ◌+◌, ◌*◌, ◌<◌, ◌≤◌, length, true}
 use Rattle.sac_ast.specs.Heights.{height}
 use Rattle.sac_ast.specs.View as View
-use Rattle.sac_descent.specs.Contract.{lexemes_of}
+use Rattle.sac_phrases.specs.Contract.{lexemes_of}
 use Rattle.sac_descent.proofs.LevelSteps.{LevelSoFar}
 use Rattle.sac_descent.proofs.ListSteps.{ListRead, PostRead, GensRead, StmtsRead}
-use Rattle.sac_descent.specs.Heights.{rank}
+use Rattle.sac_phrases.specs.Heights.{rank}
 use Rattle.sac_descent.proofs.descent.+phrase.Given as goal
 
 abbrev pub decreases-alternative : goal.decreases-alternative

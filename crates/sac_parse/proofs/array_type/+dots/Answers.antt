@@ -1,6 +1,6 @@
 use Rattle.std.proofs.Common.{◌<◌, refl, sym, ap, length, codes, arith}
 use Rattle.sac_ast.specs.Shape.{text}
-use Rattle.sac_descent.specs.Contract.{lexemes_of}
+use Rattle.sac_phrases.specs.Contract.{lexemes_of}
 use Rattle.sac_ast.specs.Grammar.{sign, up_to}
 use Rattle.sac_parse.specs.Leaves.{IsCount}
 use Rattle.sac_parse.proofs.Steps.{token_read, token_halts, up_to_none, up_to_one, up_to_more, up_to_stop, up_to_stop_more, leaf_error}

@@ -1,6 +1,6 @@
 use Rattle.std.proofs.Common.{◌≡◌, ◌<◌, ◌++◌, sym, subst, arith, w32, to_z, of_z}
 use Rattle.sac_ast.specs.Shape.{term, number}
-use Rattle.sac_descent.specs.Contract.{lexeme, lexemes_of}
+use Rattle.sac_phrases.specs.Contract.{lexeme, lexemes_of}
 use Rattle.sac_ast.specs.Grammar.{up_to}
 use Rattle.sac_parse.specs.Leaves.{AreNumbers, numbers_of}
 use Rattle.sac_parse.proofs.Steps.{token_read, token_halts, up_to_none, up_to_one, up_to_stop, pushed, more_numbers, leaf_error}

@@ -1,6 +1,6 @@
 use Rattle.std.proofs.Common.{◌≡◌, inl, inr, refl, ◌∙◌, codes}
 use Rattle.sac_ast.specs.Shape.{ref, text}
-use Rattle.sac_descent.specs.Contract.{lexeme, lexemes_of}
+use Rattle.sac_phrases.specs.Contract.{lexeme, lexemes_of}
 use Rattle.sac_ast.specs.Grammar.{opt, type', action, Extents}
 use Rattle.sac_grammar.proofs.Parsing.{found, read_ref, read_then, read_first, read_none, stop_left, stop_right, stop_first}
 use Rattle.sac_parse.specs.Leaves.{IsType}

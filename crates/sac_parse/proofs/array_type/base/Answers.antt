@@ -1,6 +1,6 @@
 use Rattle.std.proofs.Common.{inl, inr, refl, codes}
 use Rattle.sac_ast.specs.Shape.{text}
-use Rattle.sac_descent.specs.Contract.{lexeme}
+use Rattle.sac_phrases.specs.Contract.{lexeme}
 use Rattle.sac_grammar.proofs.Parsing.{read_first, read_second}
 use Rattle.sac_parse.proofs.Steps.{token_read, starts_there}
 use Rattle.sac_parse.proofs.array_type.base.Goals as goal

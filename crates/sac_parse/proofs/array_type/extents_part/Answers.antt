@@ -1,6 +1,6 @@
 use Rattle.std.proofs.Common.{◌++◌, [], ◌∷◌, inl, inr, refl, sym, ap, ◌∙◌, codes}
 use Rattle.sac_ast.specs.Shape.{term, text, number}
-use Rattle.sac_descent.specs.Contract.{lexeme, lexemes_of}
+use Rattle.sac_phrases.specs.Contract.{lexeme, lexemes_of}
 use Rattle.sac_ast.specs.Grammar.{opt, Extents, parts}
 use Rattle.sac_grammar.proofs.Parsing.{read_none}
 use Rattle.sac_parse.specs.Leaves.{numbers_of, IsInnerPart}

@@ -1,7 +1,7 @@
 use Rattle.std.proofs.Common.{◌≡◌, ◌<◌, ◌∷◌, [], ◌∙◌, ap, subst, arith, get_or}
 use Rattle.sac_lex.specs.declared.token.Token.{Token}
 use Rattle.sac_ast.specs.Heights.{open_behind}
-use Rattle.sac_descent.specs.Contract.{lexeme}
+use Rattle.sac_phrases.specs.Contract.{lexeme}
 use Rattle.sac_parse.proofs.Shallow.{open_at, open_next, shallow, shallow_whole}
 use Rattle.sac_parse.proofs.limits.first_too_deep.Goals as goal
 

@@ -1,6 +1,6 @@
 use Rattle.std.proofs.Common.{refl, codes}
 use Rattle.sac_ast.specs.Shape.{text}
-use Rattle.sac_descent.specs.Contract.{lexeme, lexemes_of}
+use Rattle.sac_phrases.specs.Contract.{lexeme, lexemes_of}
 use Rattle.sac_grammar.proofs.Parsing.{read_then, stop_left, stop_right}
 use Rattle.sac_parse.proofs.Steps.{token_read, token_halts, part_error}
 use Rattle.sac_parse.specs.Programs.{Ending, IsReturned}

@@ -1,6 +1,6 @@
 use Rattle.std.proofs.Common.{codes}
 use Rattle.sac_ast.specs.Shape.{text, name}
-use Rattle.sac_descent.specs.Contract.{lexemes_of}
+use Rattle.sac_phrases.specs.Contract.{lexemes_of}
 use Rattle.sac_ast.specs.Grammar.{function}
 use Rattle.sac_grammar.proofs.Parsing.{read_then, stop_left, stop_right, stops}
 use Rattle.sac_parse.proofs.Steps.{token_read, token_halts}

@@ -1,5 +1,5 @@
 use Rattle.sac_ast.specs.Shape.{ref, name}
-use Rattle.sac_descent.specs.Contract.{lexeme, lexemes_of}
+use Rattle.sac_phrases.specs.Contract.{lexeme, lexemes_of}
 use Rattle.sac_ast.specs.Grammar.{param, action}
 use Rattle.sac_grammar.proofs.Parsing.{found, read_ref, read_then, stop_left, stop_right}
 use Rattle.sac_parse.specs.Leaves.{IsParam}

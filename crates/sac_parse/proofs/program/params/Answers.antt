@@ -1,6 +1,6 @@
 use Rattle.std.proofs.Common.{◌++◌, [], ◌∷◌, inl, inr, sym, ap, ◌∙◌, subst, arith}
 use Rattle.sac_ast.specs.Shape.{ref}
-use Rattle.sac_descent.specs.Contract.{lexemes_of}
+use Rattle.sac_phrases.specs.Contract.{lexemes_of}
 use Rattle.sac_ast.specs.Grammar.{opt, listed, param}
 use Rattle.sac_grammar.proofs.Parsing.{read_first, read_none, stop_left, stop_first}
 use Rattle.sac_parse.specs.Leaves.{AreParams}

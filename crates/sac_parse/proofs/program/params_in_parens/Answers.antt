@@ -1,6 +1,6 @@
 use Rattle.std.proofs.Common.{codes}
 use Rattle.sac_ast.specs.Shape.{ref, text}
-use Rattle.sac_descent.specs.Contract.{lexeme, lexemes_of}
+use Rattle.sac_phrases.specs.Contract.{lexeme, lexemes_of}
 use Rattle.sac_ast.specs.Grammar.{opt, listed, parens, param}
 use Rattle.sac_grammar.proofs.Parsing.{read_then, stop_left, stop_right}
 use Rattle.sac_parse.specs.Leaves.{AreParamsInParens}

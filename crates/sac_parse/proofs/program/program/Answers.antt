@@ -1,5 +1,5 @@
 use Rattle.std.proofs.Common.{sym, ap, ◌∙◌, subst, length, arith}
-use Rattle.sac_descent.specs.Contract.{lexemes_of}
+use Rattle.sac_phrases.specs.Contract.{lexemes_of}
 use Rattle.sac_parse.proofs.Steps.{token_read, token_halts}
 use Rattle.sac_ast.specs.Shape.{end}
 use Rattle.sac_parse.proofs.Functions.{Functions, no_functions, more_functions, function_stops, end_stops, program_error, whole_program}

@@ -1,6 +1,6 @@
 use Rattle.std.proofs.Common.{◌++◌, [], ◌∷◌, sym, ap, ◌∙◌, subst, arith}
 use Rattle.sac_ast.specs.Shape.{ref}
-use Rattle.sac_descent.specs.Contract.{lexemes_of}
+use Rattle.sac_phrases.specs.Contract.{lexemes_of}
 use Rattle.sac_ast.specs.Grammar.{listed, type'}
 use Rattle.sac_grammar.proofs.Parsing.{stop_left}
 use Rattle.sac_parse.specs.Leaves.{AreTypes}

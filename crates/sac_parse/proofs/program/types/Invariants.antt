@@ -1,7 +1,7 @@
 use Rattle.std.proofs.Common.{◌<◌, length}
 use Rattle.sac_ast.specs.Shape.{ref}
 use Rattle.sac_ast.specs.Grammar.{type'}
-use Rattle.sac_descent.specs.Contract.{lexemes_of}
+use Rattle.sac_phrases.specs.Contract.{lexemes_of}
 use Rattle.sac_parse.proofs.Steps.{SoFar}
 use Rattle.sac_parse.proofs.program.types.Given as goal
 

@@ -3,7 +3,7 @@ use Rattle.sac_ast.specs.View as View
 use Rattle.sac_ast.specs.Grammar.{program}
 use Rattle.sac_ast.specs.Heights.{IsTreeOf}
 use Rattle.sac_grammar.specs.Parsing.{Found}
-use Rattle.sac_descent.specs.Contract.{lexemes_of}
+use Rattle.sac_phrases.specs.Contract.{lexemes_of}
 use Rattle.sac_parse.specs.Verdict.{IsRefusalOf}
 use Rattle.sac_parse.proofs.ReadTokens.{is_read, source_tokens, source_ended, no_tokens, some_tokens}
 use Rattle.sac_parse.proofs.Judge.{judge_lost, judge_found, accepted, halt_stuck, halt_high, none_stuck, none_too_high}

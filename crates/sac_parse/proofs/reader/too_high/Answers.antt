@@ -1,7 +1,7 @@
 use Rattle.std.proofs.Common.{false, inl, inr}
 use Rattle.sac_ast.specs.View as View
 use Rattle.sac_grammar.proofs.Machine.{false_true}
-use Rattle.sac_descent.specs.Contract.{lexemes_of}
+use Rattle.sac_phrases.specs.Contract.{lexemes_of}
 use Rattle.sac_parse.proofs.ReadTokens.{taken, count_taken}
 use Rattle.sac_parse.proofs.Judge.{judge_high, halt_stuck, halt_high}
 use Rattle.sac_parse.proofs.reader.too_high.Goals as goal
