@@ -1,5 +1,5 @@
 -- What an input gives are arrays with as many elements as their shapes say, each of their base.
-use Rattle.std.proofs.Common.{◌≡◌, ◌<◌, ◌≤◌, ◌^◌, ◌==◌, ◌+◌, ◌*◌, ◌%◌, ℕ, zero, suc, Bool, true, false, not, ◌&&◌, List, [], ◌∷◌, map, length, refl, sym, subst, Option, Some, None, Result, Ok, Err, IfOk, ℤ, pos, inl, inr, arith, slice_index_or, Vec, Global}
+use Rattle.std.proofs.Common.{◌≡◌, ◌<◌, ◌==◌, ◌+◌, ◌*◌, ◌%◌, ℕ, zero, suc, Bool, true, false, not, List, [], ◌∷◌, map, length, refl, sym, subst, Option, Some, None, Result, Ok, Err, IfOk, ℤ, pos, inl, inr, arith, slice_index_or, Vec, Global}
 use Rattle.std.specs.Prelude.{if◌then◌else◌, ◌||◌, nat_lt}
 use Rattle.std.specs.List.{range_with_len}
 use Rattle.std.proofs.lemmas.Bool.Decides.{nat_tests}
@@ -12,7 +12,6 @@ use Rattle.sac_base.specs.Arrays.{ArrayValue, IsCell, IsFull, IsWellTyped, size,
 use Rattle.data_text.specs.declared.error.DataCode.{DataCode}
 use Rattle.data_text.specs.declared.error.DataCode.TheVariants.{I2, I3, I4, I5, I6}
 use Rattle.data_text.specs.declared.error.DataError.{DataError}
-use Rattle.data_text.specs.declared.error.DataError.TheVariants as error
 use Rattle.data_text.specs.Found.{Tells}
 use Rattle.data_text.specs.Generated.{generated, generated_all, generated_cells, generated_element, generated_number, generated_of, generated_shape, with_array}
 use Rattle.data_text.specs.Lines.{LineValue, is_in_range, is_too_large, judged_form, line_at, line_value}
