@@ -1,5 +1,5 @@
 -- What acceptance says of the core that was made.
-use Rattle.std.proofs.Common.{◌≡◌, ◌<◌, ◌^◌, List, length, map, Result, Ok, Err, IfOk, sym, ◌∙◌, subst, arith}
+use Rattle.std.proofs.Common.{◌≡◌, ◌<◌, ◌^◌, List, length, Result, Ok, Err, IfOk, sym, subst, arith}
 use Rattle.std.proofs.lemmas.List.{length-map}
 use Rattle.sac_base.specs.declared.memory.Memory.{Memory}
 use Rattle.sac_ast.specs.declared.Function.{Function}
