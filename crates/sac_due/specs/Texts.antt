@@ -9,7 +9,8 @@ use Rattle.sac_lex.specs.declared.token.LexCode.TheVariants.{L1, L2, L3, L4, L5}
 use Rattle.check_rules.specs.declared.code.CheckCode.{CheckCode}
 use Rattle.check_rules.specs.declared.code.CheckCode.TheVariants.{C1, C2, C3, C4, C5, C6, C7, C8, C9, C10}
 use Rattle.data_text.specs.declared.error.DataCode.{DataCode}
-use Rattle.data_text.specs.declared.error.DataCode.TheVariants.{I1, I2, I3, I4, I5, I6}
+use Rattle.data_text.specs.declared.error.DataCode.TheVariants.{I2}
+use Rattle.data_text.specs.Codes.{data_code}
 use Rattle.data_text.specs.Texts.{Refusal}
 
 -- a text and a line feed
@@ -37,14 +38,6 @@ check_code C7 = codes "C7"
 check_code C8 = codes "C8"
 check_code C9 = codes "C9"
 check_code C10 = codes "C10"
-
-abbrev pub data_code : DataCode → List ℕ
-data_code I1 = codes "I1"
-data_code I2 = codes "I2"
-data_code I3 = codes "I3"
-data_code I4 = codes "I4"
-data_code I5 = codes "I5"
-data_code I6 = codes "I6"
 
 -- a code and its place in the source, behind a word
 abbrev pub placed : List ℕ → List ℕ → Site → List ℕ
