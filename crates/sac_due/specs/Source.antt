@@ -10,7 +10,9 @@ use Rattle.sac_ast.specs.Tree.{ProgramTree}
 use Rattle.sac_ast.specs.Heights.{IsTreeOf}
 use Rattle.sac_ast.specs.Refusals.{IsStuckAt, IsTooDeepAt}
 use Rattle.check_rules.specs.Accepted.{IsAccepted, IsFirstViolation}
-use Rattle.sac_due.specs.Texts.{line, refused_at, lex_code, check_code}
+use Rattle.sac_lex.specs.Codes.{lex_code}
+use Rattle.check_rules.specs.Codes.{check_code}
+use Rattle.sac_due.specs.Texts.{line, refused_at}
 
 -- the longest source, in bytes
 abbrev pub SOURCE_LIMIT : ℕ
