@@ -96,8 +96,9 @@ def main():
         before, after = text_of(MAP).split(HEAD + "\n", 1)
         lines = after.splitlines(keepends=True)
         rest = next((at for at, line in enumerate(lines) if not line.startswith("|")), len(lines))
+        whole = before + HEAD + "\n" + lines[0] + shown(table(own)) + "".join(lines[rest:])
         with open(os.path.join(TOP, MAP), "w", encoding="utf-8") as file:
-            file.write(before + HEAD + "\n" + lines[0] + shown(table(own)) + "".join(lines[rest:]))
+            file.write(whole)
     wrong = []
     for crate, libraries in all_uses.items():
         said = sources(crate)

@@ -1,6 +1,7 @@
 ghost use Rattle.std.specs.Prelude.{◌≡◌, IsTrue, ◌≢◌, ◌+◌, ◌-◌, ◌<◌, ◌≤◌, ◌%◌, ◌^◌, ◌==◌, ◌↔◌, ℕ, pos, [], length, replicate, count_by, is_some, Some, None, OnErr, OnOk, IfOk, ⊤};
 ghost use Rattle.buffer_heap.specs.Heaps.{In, Out, Held, HeapValue, at, IsLive, IsIn, IsInAndSole, IsNamed, HasRoom, IsLifted, with_place, with_count, with_content, count_of, content_of, lifted, released};
 ghost use Rattle.buffer_heap.specs.Places.{held_of};
+ghost use Rattle.sac_base.specs.Arrays.{MOST};
 ghost use Rattle.sac_base.specs.declared.outcome.Released.TheVariants.{Freed};
 
 use sac_base::{Cell, Memory, Released};
@@ -8,7 +9,8 @@ use std::alloc::Global;
 use std::marker::Model;
 use std::mem;
 
-/// A place in a heap, and the number of the buffer that it names there. A buffer stays at its place until it is freed, and then the place may get another buffer, which has another number.
+/// A place in a heap, and the number of the buffer that it names there. A buffer stays at its place until it is freed, and
+/// then the place may get another buffer, which has another number.
 #[derive(Clone, Copy, Debug, PartialEq, Eq)]
 pub struct BufferId {
     place: usize,
@@ -76,7 +78,8 @@ impl Model for Heap {
       reused = h.reused;
     } };
 
-    ghost invariant = { λ h. (h.taken ≡ (h.given + count_by is_some (map held_of h.places.items)) % 2 ^ 64) × AreNumbered h.births (map held_of h.places.items) };
+    ghost invariant = { λ h. (h.taken ≡ (h.given + count_by is_some (map held_of h.places.items)) % 2 ^ 64)
+        × AreNumbered h.births (map held_of h.places.items) };
 }
 
 // Where the stack of vacant places ends: no place of a heap.
@@ -182,12 +185,13 @@ impl Heap {
     ///
     /// `Memory`: nothing has changed.
     pub fn take(&mut self, len: u64) -> Result<BufferId, Memory>
-        requires { len ≤ 16777216 }
+        requires { len ≤ MOST }
         ensures vacant { IfOk result (λ id. at self.old id.place ≡ None) }
         ensures holds { IfOk result (λ id. at self.new id.place ≡ Some (record { born = id.born; count = 1; content = In (replicate len (pos 0)) })) }
         ensures others { IfOk result (λ id. (b : ℕ) → b ≢ id.place → at self.new b ≡ at self.old b) }
         ensures number { IfOk result (λ id. (id.born ≡ self.old.births) × (self.new.births ≡ self.old.births + 1)) }
-        ensures counters { OnOk result ((self.new.taken ≡ (self.old.taken + 1) % 2 ^ 64) × (self.new.given ≡ self.old.given) × (self.new.reused ≡ self.old.reused)) }
+        ensures counters { OnOk result ((self.new.taken ≡ (self.old.taken + 1) % 2 ^ 64)
+            × (self.new.given ≡ self.old.given) × (self.new.reused ≡ self.old.reused)) }
         ensures unchanged { OnErr result (self.new ≡ self.old) }
     {
         let mut cells = Vec::new(self.alloc);
@@ -205,7 +209,8 @@ impl Heap {
         ensures holds { IfOk result (λ id. at self.new id.place ≡ Some (record { born = id.born; count = 1; content = In cells.items })) }
         ensures others { IfOk result (λ id. (b : ℕ) → b ≢ id.place → at self.new b ≡ at self.old b) }
         ensures number { IfOk result (λ id. (id.born ≡ self.old.births) × (self.new.births ≡ self.old.births + 1)) }
-        ensures counters { OnOk result ((self.new.taken ≡ (self.old.taken + 1) % 2 ^ 64) × (self.new.given ≡ self.old.given) × (self.new.reused ≡ self.old.reused)) }
+        ensures counters { OnOk result ((self.new.taken ≡ (self.old.taken + 1) % 2 ^ 64)
+            × (self.new.given ≡ self.old.given) × (self.new.reused ≡ self.old.reused)) }
         ensures unchanged { OnErr result (self.new ≡ self.old) }
     {
         if self.births == u64::MAX {
@@ -383,7 +388,8 @@ impl Heap {
         ensures holds { IfOk result (λ id. at self.new id.place ≡ Some (record { born = id.born; count = 1; content = In cells.items })) }
         ensures others { IfOk result (λ id. (b : ℕ) → b ≢ id.place → at self.new b ≡ at self.old b) }
         ensures number { IfOk result (λ id. (id.born ≡ self.old.births) × (self.new.births ≡ self.old.births + 1)) }
-        ensures counters { OnOk result ((self.new.taken ≡ (self.old.taken + 1) % 2 ^ 64) × (self.new.given ≡ self.old.given) × (self.new.reused ≡ self.old.reused)) }
+        ensures counters { OnOk result ((self.new.taken ≡ (self.old.taken + 1) % 2 ^ 64)
+            × (self.new.given ≡ self.old.given) × (self.new.reused ≡ self.old.reused)) }
         ensures unchanged { OnErr result (self.new ≡ self.old) }
     {
         let born = self.births;

@@ -8,3 +8,4 @@ pub mod Told
 pub mod Typing
 pub mod Whole
 pub mod WholeTyped
+pub mod Cores

@@ -3,4 +3,6 @@
 
 mod laws;
 
-pub use laws::{accepted_definite, accepted_main, accepted_standing, accepted_typed};
+pub use laws::{
+    accepted_core, accepted_definite, accepted_main, accepted_standing, accepted_typed,
+};

@@ -3,7 +3,10 @@ use Rattle.std.specs.Prelude.{◌≡◌, ℕ, List, Result, Ok, Err, map, ⊤}
 use Rattle.core_ir.specs.declared.tree.Var.{Var}
 use Rattle.sac_base.specs.declared.site.Site.{Site}
 use Rattle.sac_base.specs.Arrays.{ArrayValue}
-use Rattle.sac_base.specs.Outcomes.{Ends}
+use Rattle.sac_base.specs.declared.op.Op.{Op}
+use Rattle.sac_base.specs.Operators.{binary}
+use Rattle.sac_base.specs.Outcomes.{Ends, at_site}
+use Rattle.sac_base.specs.Parts.{literal, replace, reshape}
 use Rattle.run_store.specs.declared.store.Store.{Store}
 use Rattle.counted_code.specs.Terms.{CodeRightTerm, PlainCode}
 use Rattle.counted_code.specs.Values.{Heap, Value, Ended, Done, Failed, read}
@@ -17,6 +20,19 @@ use Rattle.run_values.specs.Shown.{value_of}
 -- the arrays of variables
 abbrev pub arrays_of : Heap → Values → List Var → List ArrayValue
 arrays_of m e xs = map (λ x. read m (e x)) xs
+
+-- what operations on values mean: operators, literals, and the array under another shape or with another part
+abbrev pub binary_in : Heap → Op → RunValue → RunValue → Site → Ends ArrayValue
+binary_in m op a b site = at_site site (binary op (read m (value_of a)) (read m (value_of b)))
+
+abbrev pub literal_in : Heap → Values → List Var → Site → Ends ArrayValue
+literal_in m e xs site = at_site site (literal (arrays_of m e xs))
+
+abbrev pub reshaped_in : Heap → RunValue → RunValue → Site → Ends ArrayValue
+reshaped_in m shape array site = at_site site (reshape (read m (value_of shape)) (read m (value_of array)))
+
+abbrev pub replaced_in : Heap → RunValue → RunValue → RunValue → Site → Ends ArrayValue
+replaced_in m array index part site = at_site site (replace (read m (value_of array)) (read m (value_of index)) (read m (value_of part)))
 
 -- the answer is the machine's end: its value, in whose heap the heap stands, or its fault, with the phases as they were; want of memory says nothing
 abbrev pub TellsEnd : Result RunValue Stop → Store → List ℕ → Ended Value → Type 0

@@ -3,13 +3,12 @@
 ghost use Rattle.std.specs.Prelude.{◌≡◌, IfOk, Ok, map};
 ghost use Rattle.counted_code.specs.Values.{Heap as MachineHeap, read};
 ghost use Rattle.run_store.specs.Stands.{Stands, TellsPlaced, lender_of};
-ghost use Rattle.run_plain.specs.Reads.{arrays_of};
+ghost use Rattle.run_plain.specs.Reads.{arrays_of, binary_in, literal_in, reshaped_in, replaced_in};
 ghost use Rattle.run_values.specs.Scopes.{current};
 ghost use Rattle.run_values.specs.Shown.{value_of};
 ghost use Rattle.sac_base.specs.Arrays.{ArrayValue};
-ghost use Rattle.sac_base.specs.Operators.{binary as binary_arrays, unary as unary_arrays};
-ghost use Rattle.sac_base.specs.Outcomes.{at_site, Ends};
-ghost use Rattle.sac_base.specs.Parts.{literal as literal_arrays, replace as replace_arrays, reshape as reshape_arrays};
+ghost use Rattle.sac_base.specs.Operators.{unary as unary_arrays};
+ghost use Rattle.sac_base.specs.Outcomes.{Ends};
 ghost use Rattle.array_ops.specs.Tells.{Tells};
 
 use array_ops::{binary_at, literal, placed, replace, reshape, unary_of};
@@ -52,7 +51,7 @@ pub fn binary_array(
     b: RunValue,
     site: Site,
 ) -> Result<Array, Stop>
-    ensures { (m : MachineHeap) → Stands heap.now m → Tells result (at_site site (binary_arrays op (read m (value_of a)) (read m (value_of b)))) }
+    ensures { (m : MachineHeap) → Stands heap.now m → Tells result (binary_in m op a b site) }
 {
     let left = read_array(alloc, heap, a)?;
     let right = read_array(alloc, heap, b)?;
@@ -67,7 +66,7 @@ pub fn literal_array(
     xs: &[Var],
     site: Site,
 ) -> Result<Array, Stop>
-    ensures { (m : MachineHeap) → Stands heap.now m → Tells result (at_site site (literal_arrays (arrays_of m (current frames.now) xs.now))) }
+    ensures { (m : MachineHeap) → Stands heap.now m → Tells result (literal_in m (current frames.now) xs.now site) }
 {
     let arrays = read_all(alloc, heap, frames, xs)?;
     placed(literal(alloc, &arrays), site)
@@ -80,7 +79,7 @@ fn reshape_array(
     array: RunValue,
     site: Site,
 ) -> Result<Array, Stop>
-    ensures { (m : MachineHeap) → Stands heap.now m → Tells result (at_site site (reshape_arrays (read m (value_of shape)) (read m (value_of array)))) }
+    ensures { (m : MachineHeap) → Stands heap.now m → Tells result (reshaped_in m shape array site) }
 {
     let shape = read_array(alloc, heap, shape)?;
     let array = read_array(alloc, heap, array)?;
@@ -95,7 +94,7 @@ fn replace_array(
     part: RunValue,
     site: Site,
 ) -> Result<Array, Stop>
-    ensures { (m : MachineHeap) → Stands heap.now m → Tells result (at_site site (replace_arrays (read m (value_of array)) (read m (value_of index)) (read m (value_of part)))) }
+    ensures { (m : MachineHeap) → Stands heap.now m → Tells result (replaced_in m array index part site) }
 {
     let array = read_array(alloc, heap, array)?;
     let index = read_array(alloc, heap, index)?;
@@ -111,7 +110,7 @@ pub fn reshape_value(
     array: RunValue,
     site: Site,
 ) -> Result<RunValue, Stop>
-    ensures told { (m : MachineHeap) → Stands heap.old m → TellsPlaced result heap.new m (at_site site (reshape_arrays (read m (value_of shape)) (read m (value_of array)))) }
+    ensures told { (m : MachineHeap) → Stands heap.old m → TellsPlaced result heap.new m (reshaped_in m shape array site) }
     ensures lender { lender_of heap.new ≡ lender_of heap.old }
 {
     let answer = reshape_array(alloc, heap, shape, array, site);
@@ -127,7 +126,7 @@ pub fn replace_value(
     part: RunValue,
     site: Site,
 ) -> Result<RunValue, Stop>
-    ensures told { (m : MachineHeap) → Stands heap.old m → TellsPlaced result heap.new m (at_site site (replace_arrays (read m (value_of array)) (read m (value_of index)) (read m (value_of part)))) }
+    ensures told { (m : MachineHeap) → Stands heap.old m → TellsPlaced result heap.new m (replaced_in m array index part site) }
     ensures lender { lender_of heap.new ≡ lender_of heap.old }
 {
     let answer = replace_array(alloc, heap, array, index, part, site);

@@ -8,6 +8,3 @@ mod right;
 pub use arrays::{read_all, replace_value, reshape_value};
 pub use operators::{binary_value, literal_value, unary_value};
 pub use right::plain_value;
-
-#[cfg(test)]
-mod tests;

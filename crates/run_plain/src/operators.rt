@@ -3,7 +3,7 @@
 ghost use Rattle.std.specs.Prelude.{◌≡◌, Ok, IfSome, map};
 ghost use Rattle.counted_code.specs.Values.{Heap as MachineHeap, Small, read};
 ghost use Rattle.run_store.specs.Stands.{Stands, TellsPlaced, lender_of};
-ghost use Rattle.run_plain.specs.Reads.{arrays_of};
+ghost use Rattle.run_plain.specs.Reads.{binary_in, literal_in};
 ghost use Rattle.run_values.specs.Scopes.{current};
 ghost use Rattle.run_values.specs.Shown.{value_of};
 ghost use Rattle.run_store.specs.declared.store.Store.{Store as StoreOf};
@@ -13,13 +13,15 @@ ghost use Rattle.sac_base.specs.declared.site.Site.{Site as SiteOf};
 ghost use Rattle.sac_base.specs.Arrays.{scalar, vector};
 ghost use Rattle.sac_base.specs.Operators.{binary as binary_arrays, unary as unary_arrays};
 ghost use Rattle.sac_base.specs.Outcomes.{at_site};
-ghost use Rattle.sac_base.specs.Parts.{literal as literal_arrays};
 
 use crate::arrays::{binary_array, literal_array, unary_array};
 use core_ir::Var;
 use run_store::{Store, place_result};
 use run_values::{Few, Frames, RunValue, short_binary, short_unary};
-use sac_base::{Base, Cell, FaultKind, Op, Site, Stop, ZeroDivisor, apply1, apply2, fault, result_base, same_base};
+use sac_base::{
+    Base, Cell, FaultKind, Op, Site, Stop, ZeroDivisor, apply1, apply2, fault, result_base,
+    same_base,
+};
 use std::alloc::Global;
 
 /// An operator of one operand.
@@ -51,7 +53,7 @@ pub fn binary_value(
     b: RunValue,
     site: Site,
 ) -> Result<RunValue, Stop>
-    ensures told { (m : MachineHeap) → Stands heap.old m → TellsPlaced result heap.new m (at_site site (binary_arrays op (read m (value_of a)) (read m (value_of b)))) }
+    ensures told { (m : MachineHeap) → Stands heap.old m → TellsPlaced result heap.new m (binary_in m op a b site) }
     ensures lender { lender_of heap.new ≡ lender_of heap.old }
 {
     match (a, b) {
@@ -67,7 +69,8 @@ pub fn binary_value(
 }
 
 fn word_binary(op: Op, x: Cell, y: Cell, site: Site) -> Result<RunValue, Stop>
-    ensures { (h : StoreOf) (m : MachineHeap) → Stands h m → (s t : BaseOf) → TellsPlaced result h m (at_site site (binary_arrays op (scalar s x) (scalar t y))) }
+    ensures { (h : StoreOf) (m : MachineHeap) → Stands h m → (s t : BaseOf)
+        → TellsPlaced result h m (at_site site (binary_arrays op (scalar s x) (scalar t y))) }
 {
     match apply2(op, x, y) {
         Ok(value) => Ok(RunValue::Word(result_base(op), value)),
@@ -76,7 +79,8 @@ fn word_binary(op: Op, x: Cell, y: Cell, site: Site) -> Result<RunValue, Stop>
 }
 
 fn few_binary(op: Op, x: &Few, y: &Few, site: Site) -> Result<RunValue, Stop>
-    ensures { (h : StoreOf) (m : MachineHeap) → Stands h m → (s t : BaseOf) → TellsPlaced result h m (at_site site (binary_arrays op (vector s (numbers x.now)) (vector t (numbers y.now)))) }
+    ensures { (h : StoreOf) (m : MachineHeap) → Stands h m → (s t : BaseOf)
+        → TellsPlaced result h m (at_site site (binary_arrays op (vector s (numbers x.now)) (vector t (numbers y.now)))) }
 {
     match short_binary(op, x, y) {
         Ok(few) => Ok(RunValue::Short(result_base(op), few)),
@@ -103,7 +107,7 @@ pub fn literal_value(
     xs: &[Var],
     site: Site,
 ) -> Result<RunValue, Stop>
-    ensures told { (m : MachineHeap) → Stands heap.old m → TellsPlaced result heap.new m (at_site site (literal_arrays (arrays_of m (current frames.now) xs.now))) }
+    ensures told { (m : MachineHeap) → Stands heap.old m → TellsPlaced result heap.new m (literal_in m (current frames.now) xs.now site) }
     ensures lender { lender_of heap.new ≡ lender_of heap.old }
 {
     match words(frames, xs) {
@@ -117,7 +121,8 @@ pub fn literal_value(
 
 // The vector of words of one base, of which there are at most 8.
 fn words(frames: &Frames, xs: &[Var]) -> Option<RunValue>
-    ensures { (h : StoreOf) (m : MachineHeap) → Stands h m → (s : SiteOf) → IfSome result (λ v. TellsPlaced (Ok v) h m (at_site s (literal_arrays (arrays_of m (current frames.now) xs.now)))) }
+    ensures { (h : StoreOf) (m : MachineHeap) → Stands h m → (s : SiteOf)
+        → IfSome result (λ v. TellsPlaced (Ok v) h m (literal_in m (current frames.now) xs.now s)) }
 {
     let Some(first) = xs.first() else {
         return Some(RunValue::Short(Base::Int, Few::empty()));

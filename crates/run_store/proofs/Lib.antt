@@ -6,3 +6,4 @@ pub mod Placing
 pub mod Targets
 pub mod Wholes
 pub mod Ends
+mod Regions

@@ -26,10 +26,12 @@ pub record IsCounted (heap : HeapValue) (phase : PhaseId (Unit {0})) (seat : Wor
 
 -- the buffer at a place is held once more, or once less
 abbrev pub held_once_more : LentValue → ℕ → LentValue
-held_once_more l b = record { heap = l.heap; seat = record l.seat { holds = b ∷ l.seat.holds }; holds = slice_set l.holds b (slice_index_or l.holds b 0 + 1) }
+held_once_more l b =
+    record { heap = l.heap; seat = record l.seat { holds = b ∷ l.seat.holds }; holds = slice_set l.holds b (slice_index_or l.holds b 0 + 1) }
 
 abbrev pub held_once_less : LentValue → ℕ → LentValue
-held_once_less l b = record { heap = l.heap; seat = record l.seat { holds = without b l.seat.holds }; holds = slice_set l.holds b (slice_index_or l.holds b 0 - 1) }
+held_once_less l b =
+    record { heap = l.heap; seat = record l.seat { holds = without b l.seat.holds }; holds = slice_set l.holds b (slice_index_or l.holds b 0 - 1) }
 
 -- the heap that lends and the seat as it was when it held nothing
 pub record Lender : Type 0 where

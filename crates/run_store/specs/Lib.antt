@@ -1,3 +1,4 @@
 pub mod Lents
 pub mod Stands
 pub mod Targets
+pub mod Selects

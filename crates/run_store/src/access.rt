@@ -2,7 +2,7 @@
 //!
 //! A reference to a buffer that is not live counts as want of memory, and so does one too many. In well-counted code there is none.
 
-ghost use Rattle.std.specs.Prelude.{◌≡◌, ◌+◌, IfOk, OnOk};
+ghost use Rattle.std.specs.Prelude.{◌≡◌, ◌+◌, IsTrue, IsSome, IfOk, OnOk};
 ghost use Rattle.counted_code.specs.Values.{Heap as MachineHeap, cells_of, count_of, with_count, release_count, keep as kept, release as released};
 ghost use Rattle.run_store.specs.Stands.{lender_of};
 ghost use Rattle.run_store.specs.Stands.{Stands};
@@ -53,7 +53,9 @@ fn keep_buffer(heap: &mut Store<'_>, id: BufferId) -> Result<(), Memory>
 }
 
 // Whether the buffer is one of those that are lent.
-fn is_lent(heap: &Store<'_>, id: BufferId) -> bool {
+fn is_lent(heap: &Store<'_>, id: BufferId) -> bool
+    ensures { IsTrue result → IsSome heap.now.lent }
+{
     match &heap.lent {
         Some(lent) => lent.has(id),
         None => false,
@@ -61,12 +63,13 @@ fn is_lent(heap: &Store<'_>, id: BufferId) -> bool {
 }
 
 fn keep_lent(heap: &mut Store<'_>, id: BufferId) -> Result<(), Memory>
+    requires { IsSome heap.old.lent }
     ensures kept { (m : MachineHeap) → Stands heap.old m → OnOk result (Stands heap.new (with_count m id.born (count_of m id.born + 1))) }
     ensures lender { lender_of heap.new ≡ lender_of heap.old }
 {
     match &mut heap.lent {
         Some(lent) => lent.keep(id),
-        None => Err(Memory),
+        None => unreachable!(),
     }
 }
 
@@ -104,12 +107,13 @@ fn release_buffer(heap: &mut Store<'_>, id: BufferId) -> Result<(), Memory>
 }
 
 fn release_lent(heap: &mut Store<'_>, id: BufferId) -> Result<(), Memory>
+    requires { IsSome heap.old.lent }
     ensures released { (m : MachineHeap) → Stands heap.old m → OnOk result (Stands heap.new (release_count id.born (count_of m id.born) m)) }
     ensures lender { lender_of heap.new ≡ lender_of heap.old }
 {
     match &mut heap.lent {
         Some(lent) => lent.release(id),
-        None => Err(Memory),
+        None => unreachable!(),
     }
 }
 

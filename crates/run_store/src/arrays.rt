@@ -1,9 +1,9 @@
 //! Arrays as values, and values as arrays.
 
-ghost use Rattle.std.specs.Prelude.{◌≡◌, length, map, unsigned_abs, IfOk, Ok};
+ghost use Rattle.std.specs.Prelude.{◌≡◌, length, map, pos, unsigned_abs, IfOk, Ok};
 ghost use Rattle.counted_code.specs.Values.{Heap as MachineHeap, read, is_small, place_value, place_as};
 ghost use Rattle.std.specs.Prelude.{false};
-ghost use Rattle.sac_base.specs.Arrays.{form_of, size, MOST};
+ghost use Rattle.sac_base.specs.Arrays.{size, MOST};
 ghost use Rattle.run_store.specs.Stands.{Stands, Placed, TellsPlaced, lender_of};
 ghost use Rattle.sac_base.specs.Arrays.{ArrayValue};
 ghost use Rattle.sac_base.specs.Outcomes.{Ends};
@@ -14,7 +14,7 @@ ghost use Rattle.run_values.specs.Shown.{value_of};
 use crate::access::buffer_cells;
 use crate::store::Store;
 use run_values::{Few, RunValue, small_value};
-use sac_base::{Array, Base, Cell, Form, Memory, Shape, Stop, elements};
+use sac_base::{Array, Base, Cell, Memory, Shape, Stop, elements};
 use std::alloc::Global;
 
 /// The array that a value is.
@@ -32,20 +32,6 @@ pub fn read_array(alloc: Global, heap: &Store<'_>, value: RunValue) -> Result<Ar
             let cells = Vec::from_slice(alloc, buffer_cells(heap, id)?)?;
             array_of(alloc, base, &extents, cells)
         }
-    }
-}
-
-/// What a type sees of the array that a value is.
-pub fn value_form(alloc: Global, value: &RunValue) -> Result<Form, Memory>
-    ensures { (m : MachineHeap) → IfOk result (λ f. f ≡ form_of (read m (value_of value.now))) }
-{
-    let extents = value.extents();
-    match Shape::from_extents(alloc, extents.as_slice()) {
-        Some(shape) => Ok(Form {
-            base: value.base(),
-            shape,
-        }),
-        None => Err(Memory),
     }
 }
 
@@ -70,12 +56,23 @@ pub fn place_cells(
     cells: Vec<Cell>,
 ) -> Result<RunValue, Memory>
     requires { length cells.items ≡ size shape.now }
-    ensures placed { (m : MachineHeap) → Stands heap.old m → IfOk result (λ v. Placed v heap.new (place_value (record { base = base; shape = shape.now; cells = cells.items }) m)) }
+    ensures placed { (m : MachineHeap) → Stands heap.old m
+        → IfOk result (λ v. Placed v heap.new (place_value (record { base = base; shape = shape.now; cells = cells.items }) m)) }
     ensures lender { lender_of heap.new ≡ lender_of heap.old }
 {
     match small_value(base, shape, &cells) {
         Some(value) => Ok(value),
         None => put_cells(heap, base, shape, cells),
+    }
+}
+
+// The extents of a shape, of which there are at most 8.
+pub(crate) fn extents_of(shape: &Shape) -> Few
+    ensures { numbers result ≡ map pos shape.now }
+{
+    match Few::from_slice(shape.extents()) {
+        Some(extents) => extents,
+        None => unreachable!(),
     }
 }
 
@@ -86,12 +83,11 @@ fn put_cells(
     shape: &Shape,
     cells: Vec<Cell>,
 ) -> Result<RunValue, Memory>
-    ensures placed { (m : MachineHeap) → Stands heap.old m → IfOk result (λ v. Placed v heap.new (place_as false (record { base = base; shape = shape.now; cells = cells.items }) m)) }
+    ensures placed { (m : MachineHeap) → Stands heap.old m
+        → IfOk result (λ v. Placed v heap.new (place_as false (record { base = base; shape = shape.now; cells = cells.items }) m)) }
     ensures lender { lender_of heap.new ≡ lender_of heap.old }
 {
-    let Some(extents) = Few::from_slice(shape.extents()) else {
-        return Err(Memory);
-    };
+    let extents = extents_of(shape);
     let id = heap.own.put(cells)?;
     Ok(RunValue::Buffer(base, id, extents))
 }

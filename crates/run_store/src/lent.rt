@@ -2,6 +2,7 @@
 
 ghost use Rattle.std.specs.Prelude.{◌≡◌, ◌≢◌, ℕ, ◌<◌, ◌≤◌, IsTrue, ◌↔◌, IfOk, OnOk, ◌^◌, All, [], replicate, length};
 ghost use Rattle.buffer_heap.specs.Heaps.{IsLive, IsNamed, at, content_of, count_of, In};
+ghost use Rattle.count_table.specs.Seats.{AreReferences};
 ghost use Rattle.run_store.specs.Lents.{held_once_more, held_once_less, holds_at, lender_as, opening_counts};
 
 use buffer_heap::{BufferId, Heap};
@@ -9,17 +10,18 @@ use count_table::{Phase, WorkerSeat};
 use sac_base::{Cell, Memory};
 use std::alloc::Global;
 use std::marker::Model;
+use wl_core::{MOST_HOLDS, MOST_REFERENCES};
 
 /// The counts that a phase is opened with which lends the buffers of a heap: at each place that of its buffer, and 1 where
 /// there is none.
 pub fn lent_counts(alloc: Global, heap: &Heap) -> Result<Vec<u64>, Memory>
     ensures counts { IfOk result (λ counts. counts.items ≡ opening_counts heap.now) }
-    ensures range { IfOk result (λ counts. All (λ n. (1 ≤ n) × (n ≤ 2 ^ 62)) counts.items) }
+    ensures range { IfOk result (λ counts. AreReferences counts.items) }
 {
     let mut counts = Vec::new(alloc);
     for place in 0..heap.places() {
         let count = heap.count_at(place);
-        if count > MOST_COUNT {
+        if count > MOST_REFERENCES {
             return Err(Memory);
         }
         counts.push(if count == 0 { 1 } else { count })?;
@@ -48,12 +50,6 @@ impl<'a> Model for Lent<'a> {
 
     ghost invariant = { λ l. IsCounted l.heap.now l.table.now l.seat l.holds.items l.all };
 }
-
-// The most references of a buffer when a phase is opened.
-const MOST_COUNT: u64 = 1 << 62;
-
-// The most holds of one seat.
-const MOST_HOLDS: u64 = 1 << 56;
 
 impl<'a> Lent<'a> {
     /// The buffers of a heap, none of which the seat holds so far.

@@ -1,19 +1,18 @@
-//! Values in a store of buffers: references that are kept and released, arrays that are read and placed, selections, and the results of loops while they are made.
+//! Values in a store of buffers: references that are kept and released, arrays that are read and placed, selections, and
+//! the results of loops while they are made.
 #![tactic(auto)]
 
 mod access;
 mod arrays;
 mod lent;
 mod select;
+mod slices;
 mod store;
 mod target;
 
 pub use access::{buffer_cells, keep, release};
-pub use arrays::{place_array, place_cells, place_own, place_result, read_array, value_form};
+pub use arrays::{place_array, place_cells, place_own, place_result, read_array};
 pub use lent::{Lent, lent_counts};
 pub use select::select_value;
 pub use store::Store;
 pub use target::{Target, claim, copy_into, fits, is_small, overwrite, settle, write};
-
-#[cfg(test)]
-mod tests;

@@ -2,25 +2,26 @@
 
 ghost use Rattle.std.specs.Prelude.{◌≡◌, [], ◌∷◌, take, drop, map, unsigned_abs, IfOk, IfSome, Some, Ok};
 ghost use Rattle.counted_code.specs.Values.{Heap as MachineHeap, read, cells_of};
-ghost use Rattle.sac_base.specs.Arrays.{scalar, vector};
+ghost use Rattle.sac_base.specs.Arrays.{vector};
 ghost use Rattle.sac_base.specs.declared.base.Base.{Base as BaseOf};
 ghost use Rattle.array_ops.specs.Tells.{Tells};
-ghost use Rattle.sac_base.specs.Outcomes.{at_site};
-ghost use Rattle.sac_base.specs.Parts.{part_at, selected, select as select_arrays};
+ghost use Rattle.sac_base.specs.Parts.{part_at, numbers_of};
+ghost use Rattle.run_store.specs.Selects.{selected_in, IsCellAt, IsElement};
 ghost use Rattle.run_store.specs.Stands.{Stands, TellsPlaced, lender_of};
 ghost use Rattle.run_values.specs.Numbers.{numbers};
 ghost use Rattle.run_values.specs.Shown.{value_of};
 
 use crate::access::buffer_cells;
 use crate::arrays::{place_result, read_array};
+use crate::slices::buffer_part;
 use crate::store::Store;
+use array_ops::select_at;
 use buffer_heap::BufferId;
 use run_values::{Few, RunValue};
 use sac_base::{Array, Cell, MOST_ELEMENTS, Memory, Site, Stop};
 use std::alloc::Global;
-use array_ops::select_at;
 
-/// The part of an array at an index.
+/// The part of an array at an index. Of an array in a buffer that part alone is read.
 pub fn select_value(
     alloc: Global,
     heap: &mut Store<'_>,
@@ -28,7 +29,7 @@ pub fn select_value(
     index: RunValue,
     site: Site,
 ) -> Result<RunValue, Stop>
-    ensures told { (m : MachineHeap) → Stands heap.old m → TellsPlaced result heap.new m (at_site site (select_arrays (read m (value_of array)) (read m (value_of index)))) }
+    ensures told { (m : MachineHeap) → Stands heap.old m → TellsPlaced result heap.new m (selected_in m array index site) }
     ensures lender { lender_of heap.new ≡ lender_of heap.old }
 {
     match find_cell(heap, &array, &index)? {
@@ -45,7 +46,7 @@ fn select_part(
     index: RunValue,
     site: Site,
 ) -> Result<RunValue, Stop>
-    ensures told { (m : MachineHeap) → Stands heap.old m → TellsPlaced result heap.new m (at_site site (select_arrays (read m (value_of array)) (read m (value_of index)))) }
+    ensures told { (m : MachineHeap) → Stands heap.old m → TellsPlaced result heap.new m (selected_in m array index site) }
     ensures lender { lender_of heap.new ≡ lender_of heap.old }
 {
     let part = copy_part(alloc, heap, array, index, site);
@@ -59,7 +60,39 @@ fn copy_part(
     index: RunValue,
     site: Site,
 ) -> Result<Array, Stop>
-    ensures { (m : MachineHeap) → Stands heap.now m → Tells result (at_site site (select_arrays (read m (value_of array)) (read m (value_of index)))) }
+    ensures { (m : MachineHeap) → Stands heap.now m → Tells result (selected_in m array index site) }
+{
+    let Some(few) = index_numbers(&index) else {
+        return copy_any_part(alloc, heap, array, index, site);
+    };
+    match array {
+        RunValue::Buffer(base, id, extents) => {
+            buffer_part(alloc, heap, base, id, &extents, &few, site)
+        }
+        _ => copy_any_part(alloc, heap, array, index, site),
+    }
+}
+
+// The numbers of an index that the value holds itself.
+fn index_numbers(index: &RunValue) -> Option<Few>
+    ensures { (m : MachineHeap) → IfSome result (λ few. numbers_of (read m (value_of index.now)) ≡ Some (numbers few)) }
+{
+    match index {
+        RunValue::Short(_, few) => Some(*few),
+        RunValue::Word(_, n) => Some(Few::one(*n)),
+        _ => None,
+    }
+}
+
+// The part of any array at any index.
+fn copy_any_part(
+    alloc: Global,
+    heap: &Store<'_>,
+    array: RunValue,
+    index: RunValue,
+    site: Site,
+) -> Result<Array, Stop>
+    ensures { (m : MachineHeap) → Stands heap.now m → Tells result (selected_in m array index site) }
 {
     let array = read_array(alloc, heap, array)?;
     let index = read_array(alloc, heap, index)?;
@@ -68,7 +101,7 @@ fn copy_part(
 
 // The element at an index of full length that lies in the array. Where there is none, nothing is said.
 fn find_cell(heap: &Store<'_>, array: &RunValue, index: &RunValue) -> Result<Option<Cell>, Memory>
-    ensures { (m : MachineHeap) → Stands heap.now m → IfOk result (λ o. IfSome o (λ n. select_arrays (read m (value_of array.now)) (read m (value_of index.now)) ≡ Ok (scalar (read m (value_of array.now)).base n))) }
+    ensures { (m : MachineHeap) → Stands heap.now m → IfOk result (IsCellAt m array.now index.now) }
 {
     match index {
         RunValue::Short(_, few) => select_cell(heap, array, few),
@@ -78,7 +111,7 @@ fn find_cell(heap: &Store<'_>, array: &RunValue, index: &RunValue) -> Result<Opt
 }
 
 fn select_cell(heap: &Store<'_>, array: &RunValue, index: &Few) -> Result<Option<Cell>, Memory>
-    ensures { (m : MachineHeap) → Stands heap.now m → IfOk result (λ o. IfSome o (λ n. selected (read m (value_of array.now)) (part_at (read m (value_of array.now)).shape (numbers index.now)) ≡ Ok (scalar (read m (value_of array.now)).base n))) }
+    ensures { (m : MachineHeap) → Stands heap.now m → IfOk result (IsElement (read m (value_of array.now)) (numbers index.now)) }
 {
     match array {
         RunValue::Buffer(_, id, extents) => buffer_cell(heap, *id, extents, index),
@@ -93,7 +126,8 @@ fn buffer_cell(
     extents: &Few,
     index: &Few,
 ) -> Result<Option<Cell>, Memory>
-    ensures { (m : MachineHeap) → Stands heap.now m → (base : BaseOf) → IfOk result (λ o. IfSome o (λ n. selected (record { base = base; shape = map unsigned_abs (numbers extents.now); cells = cells_of m id.born }) (part_at (map unsigned_abs (numbers extents.now)) (numbers index.now)) ≡ Ok (scalar base n))) }
+    ensures { (m : MachineHeap) → Stands heap.now m → (base : BaseOf)
+        → IfOk result (IsElement (record { base = base; shape = map unsigned_abs (numbers extents.now); cells = cells_of m id.born }) (numbers index.now)) }
 {
     let Some(place) = cell_place(extents.as_slice(), index.as_slice()) else {
         return Ok(None);
@@ -103,7 +137,7 @@ fn buffer_cell(
 }
 
 fn short_cell(few: &Few, index: &Few) -> Option<Cell>
-    ensures { (base : BaseOf) → IfSome result (λ n. selected (vector base (numbers few.now)) (part_at (vector base (numbers few.now)).shape (numbers index.now)) ≡ Ok (scalar base n)) }
+    ensures { (base : BaseOf) → IsElement (vector base (numbers few.now)) (numbers index.now) result }
 {
     let extents = Few::one(few.len() as Cell);
     let Some(place) = cell_place(extents.as_slice(), index.as_slice()) else {

@@ -11,9 +11,10 @@ ghost use Rattle.sac_base.specs.Arrays.{size, same_shape, MOST};
 ghost use Rattle.sac_base.specs.WithLoops.{fits_form};
 
 use crate::access::buffer_cells;
+use crate::arrays::extents_of;
 use crate::store::Store;
 use buffer_heap::BufferId;
-use run_values::{Few, RunValue, small_value};
+use run_values::{RunValue, small_value};
 use sac_base::{Base, Cell, Form, Memory, Shape, elements, same_base};
 use std::alloc::Global;
 
@@ -38,7 +39,8 @@ pub fn is_small(shape: &Shape) -> bool
 /// A result of this shape whose cells are all 0. The buffers of the own heap stay as they are.
 pub fn claim(alloc: Global, heap: &mut Store<'_>, shape: &Shape) -> Result<Target, Memory>
     ensures cells { IfOk result (λ t. t.cells.items ≡ replicate (size shape.now) (pos 0)) }
-    ensures claimed { (m : MachineHeap) → Stands heap.old m → IfOk result (λ t. IsClaimed t heap.new (claimed (is_small_shape shape.now) None (size shape.now) m)) }
+    ensures claimed { (m : MachineHeap) → Stands heap.old m
+        → IfOk result (λ t. IsClaimed t heap.new (claimed (is_small_shape shape.now) None (size shape.now) m)) }
     ensures others { (b : ℕ) (x : Held) → at heap.old.own b ≡ Some x → at heap.new.own b ≡ Some x }
     ensures lender { lender_of heap.new ≡ lender_of heap.old }
 {
@@ -86,7 +88,8 @@ pub fn settle(
     base: Base,
     shape: &Shape,
 ) -> Result<RunValue, Memory>
-    ensures placed { (m : MachineHeap) → Stands heap.old m → IfOk result (λ v. Placed v heap.new (settled (target_of target) (record { base = base; shape = shape.now; cells = target.cells.items }) m)) }
+    ensures placed { (m : MachineHeap) → Stands heap.old m
+        → IfOk result (λ v. Placed v heap.new (settled (target_of target) (record { base = base; shape = shape.now; cells = target.cells.items }) m)) }
     ensures lender { lender_of heap.new ≡ lender_of heap.old }
 {
     match target.buffer {
@@ -114,12 +117,11 @@ fn settle_buffer(
     base: Base,
     shape: &Shape,
 ) -> Result<RunValue, Memory>
-    ensures placed { (m : MachineHeap) → Stands heap.old m → IfOk result (λ v. Placed v heap.new (settled (Fresh id.born) (record { base = base; shape = shape.now; cells = cells.items }) m)) }
+    ensures placed { (m : MachineHeap) → Stands heap.old m
+        → IfOk result (λ v. Placed v heap.new (settled (Fresh id.born) (record { base = base; shape = shape.now; cells = cells.items }) m)) }
     ensures lender { lender_of heap.new ≡ lender_of heap.old }
 {
-    let Some(extents) = Few::from_slice(shape.extents()) else {
-        return Err(Memory);
-    };
+    let extents = extents_of(shape);
     if !heap.own.is_lifted(id, cells.len()) {
         return Err(Memory);
     }

@@ -1,5 +1,6 @@
 -- The choice of an instance, in the parts in which the code makes it.
-use Rattle.std.specs.Prelude.{ℕ, Bool, true, false, not, ◌||◌, List, Option, Some, None, map}
+use Rattle.std.specs.Prelude.{ℕ, Bool, true, false, not, ◌&&◌, ◌||◌, List, Option, Some, None, map}
+use Rattle.std.specs.List.{list_all}
 use Rattle.sac_base.specs.declared.types.ArrayType.{ArrayType}
 use Rattle.sac_base.specs.Arrays.{ArrayValue}
 use Rattle.sac_base.specs.Types.{all_have, all_below}
@@ -24,6 +25,10 @@ least_in fs places args = least_among (instances fs places) args (instances fs p
 -- an instance does not contain the arguments, or these types are below its types
 abbrev pub is_beside : List ArrayType → List ArrayValue → List ArrayType → Bool
 is_beside types args others = not (all_have others args) || all_below types others
+
+-- these types contain the arguments, and are below those of each instance that does
+abbrev pub are_least : List Instance → List ArrayValue → List ArrayType → Bool
+are_least all args types = all_have types args && list_all (λ (j : Instance). is_beside types args j.types) all
 
 -- whether the function at a place, if there is one, contains the arguments, and its types are below those of every other instance that does
 abbrev pub least_at : List Instance → List ArrayValue → ℕ → Option FunTerm → Bool

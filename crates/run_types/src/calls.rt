@@ -1,12 +1,11 @@
 //! Which function a call takes.
 
-ghost use Rattle.std.specs.Prelude.{◌≡◌, ◌<◌, ◌&&◌, IfSome, IsTrue, length, slice_get};
-ghost use Rattle.std.specs.List.{list_all};
-ghost use Rattle.core_ir.specs.Outcome.{Instance, chosen, instances};
+ghost use Rattle.std.specs.Prelude.{◌≡◌, ◌<◌, IfSome, IsTrue, length, slice_get};
+ghost use Rattle.core_ir.specs.Outcome.{chosen, instances};
 ghost use Rattle.counted_code.specs.Terms.{core_of_code};
 ghost use Rattle.counted_code.specs.Values.{Heap};
 ghost use Rattle.counted_code.specs.View.{code_program};
-ghost use Rattle.run_types.specs.Choosing.{functions_of, types_of, least_in, least_at, beside_at, is_beside};
+ghost use Rattle.run_types.specs.Choosing.{functions_of, types_of, least_in, least_at, beside_at, are_least};
 ghost use Rattle.run_types.specs.Reading.{arrays_in};
 ghost use Rattle.sac_base.specs.Types.{all_have, all_below as are_all_below};
 
@@ -17,7 +16,8 @@ use run_values::RunValue;
 use sac_base::ArrayType;
 use shape_types::below;
 
-/// The place of the function that a call of a group takes: the first of the group's instances that fits the arguments, with types below those of every other one that does.
+/// The place of the function that a call of a group takes: the first of the group's instances that fits the arguments, with types below those
+/// of every other one that does.
 pub fn choose(code: &Code, group: u32, args: &[RunValue]) -> Option<usize>
     ensures told { (h : Heap) → result ≡ chosen (core_of_code (code_program code.now)) group (arrays_in h args.now) }
     ensures within { IfSome result (λ place. place < length code.now.functions.items) }
@@ -42,7 +42,8 @@ fn choose_among(functions: &[CodeFun], places: &[u32], args: &[RunValue]) -> Opt
 
 // Whether there is a function at a place that fits the arguments, with types below those of every other one at the places that does.
 fn is_least_at(functions: &[CodeFun], places: &[u32], args: &[RunValue], place: usize) -> bool
-    ensures told { (h : Heap) → result ≡ least_at (instances (functions_of functions.now) places.now) (arrays_in h args.now) place (slice_get (functions_of functions.now) place) }
+    ensures told { (h : Heap)
+        → result ≡ least_at (instances (functions_of functions.now) places.now) (arrays_in h args.now) place (slice_get (functions_of functions.now) place) }
     ensures within { IsTrue result → place < length functions.now }
 {
     if place >= functions.len() {
@@ -58,7 +59,7 @@ fn is_least(
     args: &[RunValue],
     params: &[(Var, ArrayType)],
 ) -> bool
-    ensures { (h : Heap) → result ≡ (all_have (types_of params.now) (arrays_in h args.now) && list_all (λ (j : Instance). is_beside (types_of params.now) (arrays_in h args.now) j.types) (instances (functions_of functions.now) places.now)) }
+    ensures { (h : Heap) → result ≡ are_least (instances (functions_of functions.now) places.now) (arrays_in h args.now) (types_of params.now) }
 {
     if !all_fit(params, args) {
         return false;

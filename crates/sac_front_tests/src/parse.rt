@@ -23,7 +23,7 @@ fn refusal(alloc: Global, source: &[u8]) -> Refusal {
 #[test]
 fn refusals(rt: HostRuntime) {
     let alloc = rt.alloc();
-    let rows: [(&[u8], Refusal); 9] = [
+    let rows: [(&[u8], Refusal); 10] = [
         (b"int main(){return(2+3*4);}", None),
         (b"int main() { return 1; }", Some((ParseCode::P1, 1, 21))),
         (b"", None),
@@ -33,7 +33,11 @@ fn refusals(rt: HostRuntime) {
             None,
         ),
         (
-            b"int main() { x++; y += 2; if (x < 1) { x, y = f(2); } else if (true) { a[1, 2] = 3; } for (i = 0; i < 3; i++) { } do { } while (false); return (a ? b : c, min(1, 2), dim(a)); }",
+            b"int main() { x++; y += 2; if (x < 1) { x, y = f(2); } else if (true) { a[1, 2] = 3; } return (x); }",
+            None,
+        ),
+        (
+            b"int main() { for (i = 0; i < 3; i++) { } do { } while (false); return (a ? b : c, min(1, 2), dim(a)); }",
             None,
         ),
         (

@@ -2,3 +2,4 @@ pub mod Once
 pub mod Scopes
 pub mod Loops
 pub mod Whole
+pub mod Cores

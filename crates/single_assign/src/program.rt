@@ -1,11 +1,13 @@
 //! The core of a whole program.
 
-ghost use Rattle.std.specs.Prelude.{◌≡◌, ℕ, IfOk, List, map, position, unwrap_or};
+ghost use Rattle.std.specs.Prelude.{◌≡◌, ◌<◌, ◌^◌, ℕ, IfOk, List, OnOk, length, map, position, unwrap_or};
 ghost use Rattle.sac_ast.specs.Tree.{FunctionTree};
 ghost use Rattle.sac_ast.specs.View.{function, functions as trees, program as tree};
 ghost use Rattle.core_ir.specs.View.{core_term, fun_term};
+ghost use Rattle.core_ir.specs.WellFormed.{IsWellFormed};
 ghost use Rattle.value_meaning.specs.Calls.{is_main};
-ghost use Rattle.core_lowering.specs.Programs.{function_names as names_of_functions, lowered_program, places_of as places_of_name};
+ghost use Rattle.core_acceptance.specs.Formed.{ProgramFormed};
+ghost use Rattle.core_lowering.specs.Programs.{function_names as names_of_functions, HasOutcomeOf, lowered_program, places_of as places_of_name};
 ghost use Rattle.core_lowering_steps.specs.Functions.{params_declared};
 ghost use Rattle.single_assign.specs.Functions.{function_in, function_of, functions_by, params_made};
 ghost use Rattle.single_assign.specs.Looks.{look, texts};
@@ -25,11 +27,27 @@ use type_check::Checked;
 
 /// The core of an accepted program: each assignment makes new variables, each conditional gives the variables bound in it, and each loop carries those that it binds.
 ///
-/// Where it would need 2^32 functions or groups, or more variables in a function, memory is wanting.
+/// Of a program that has the form that the grammar gives, the core is well formed, and on all arguments and under all limits its outcome is that of the program, faults and their sites included.
+///
+/// # Errors
+///
+/// `Memory`, also where there are 2^32 functions or more, or would be as many variables in one of them.
 pub fn to_core(alloc: Global, checked: &Checked) -> Result<Core, Memory>
-    ensures { IfOk result (λ core. core_term core ≡ lowered_program (tree checked.now.program)) }
+    ensures lowered { IfOk result (λ core. core_term core ≡ lowered_program (tree checked.now.program)) }
+    ensures well_formed { ProgramFormed (tree checked.now.program) → IfOk result (λ core. IsWellFormed (core_term core)) }
+    ensures outcome { ProgramFormed (tree checked.now.program) → IfOk result (λ core. HasOutcomeOf (tree checked.now.program) (core_term core)) }
 {
-    lower_program(alloc, checked.program())
+    let program = checked.program();
+    few(&program.functions)?;
+    lower_program(alloc, program)
+}
+
+// Where there are 2^32 functions or more, memory is wanting.
+fn few(functions: &[Function]) -> Result<(), Memory>
+    ensures { OnOk result (length functions.now < 2 ^ 32) }
+{
+    let _count = small_place(functions.len())?;
+    Ok(())
 }
 
 fn lower_program(alloc: Global, program: &Program) -> Result<Core, Memory>

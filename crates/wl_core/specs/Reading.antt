@@ -82,11 +82,13 @@ pub record IsReached (u : Setup) (b : State) : Type 0 where
 
 -- the worker's unfinished chunk, or None where it has none
 abbrev pub IsUnfinished : Setup → State → ℕ → Option ℕ → Type 0
-IsUnfinished u b w found = MatchOption found ((c : ℕ) → ¬ Works (setup_of u) (state_of (setup_of u) b) w c) (λ c. Works (setup_of u) (state_of (setup_of u) b) w c)
+IsUnfinished u b w found =
+    MatchOption found ((c : ℕ) → ¬ Works (setup_of u) (state_of (setup_of u) b) w c) (λ c. Works (setup_of u) (state_of (setup_of u) b) w c)
 
 -- the fault at which the least stopped chunk stopped, or None where none stopped
 abbrev pub IsFirstStop : Setup → State → Option Fault → Type 0
-IsFirstStop u b found = MatchOption found (NoneStopped (state_of (setup_of u) b)) (λ fault. StopsFirst (setup_of u) (state_of (setup_of u) b) fault)
+IsFirstStop u b found =
+    MatchOption found (NoneStopped (state_of (setup_of u) b)) (λ fault. StopsFirst (setup_of u) (state_of (setup_of u) b) fault)
 
 -- where all values have one length, it is this one
 abbrev pub IsWidth : List CellValue → ℕ → Type 0

@@ -10,8 +10,9 @@ use crate::setup::value_width;
 use crate::{CellResult, Job, Setup};
 use sac_base::{Base, Cell, MOST_ELEMENTS, Op};
 
-/// Whether a phase may be opened with the setup: at least one cell makes a chunk, there are at most `MOST_ELEMENTS` positions and `MOST_WORKERS` workers, the
-/// counts are from 1 to `MOST_REFERENCES`, all values have one length, only a fold has a cell that is not held, and its operation and its values are of its base.
+/// Whether a phase may be opened with the setup: at least one cell makes a chunk, there are at most `MOST_ELEMENTS` positions and `MOST_WORKERS`
+/// workers, the counts are from 1 to `MOST_REFERENCES`, all values have one length, only a fold has a cell that is not held, and its operation
+/// and its values are of its base.
 pub fn is_setup(setup: &Setup) -> bool
     ensures { IsTrue result ↔ IsSetup (setup_of setup.now) }
 {

@@ -11,7 +11,7 @@ returns-clause-placed c m stands =
     let s = c.args.heap.now in
     let k = c.put.new.self in
     let put = c.in_ok-id.ensures in
-    let shape : map unsigned_abs (numbers c.in-Some.extents) ≡ c.args.shape.now = ap (map unsigned_abs) (c.in-Some.ensures ∙ c.extents.ensures.value) ∙ abs_pos c.args.shape.now in
+    let shape : map unsigned_abs (numbers c.extents_of-extents.result) ≡ c.args.shape.now = ap (map unsigned_abs) c.extents_of-extents.ensures ∙ abs_pos c.args.shape.now in
     let number = own_number s k m id.place id.born c.args.cells.items put.holds put.others put.number.0 stands in (
       (λ i. Ref (number i) c.args.base (shape i)),
       own_taken s k m id.place id.born c.args.cells.items put.holds put.others put.number.0 stands put.number.1 put.counters.0 put.counters.1 put.counters.2,

@@ -1,0 +1,6 @@
+mod Checks
+mod Bodies
+mod Calls
+mod Edits
+mod Step
+mod Backward

@@ -1,0 +1,3 @@
+pub mod Inlined
+pub mod Laws
+pub mod Step
