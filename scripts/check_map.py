@@ -38,7 +38,7 @@ def sources(crate):
     """All that the files of a crate say, in one text."""
     said = []
     for folder, _, files in os.walk(os.path.join(TOP, "crates", crate)):
-        if "/out" in folder:
+        if "/out/" in folder + "/":
             continue
         said += [text_of(os.path.join(folder, file)) for file in files if file.endswith((".rt", ".antt"))]
     return "\n".join(said)

@@ -3,18 +3,14 @@ use Rattle.std.proofs.Common.{ℕ, ◌<◌, ◌^◌, List, length, arith}
 use Rattle.sac_ast.specs.Tree.{ProgramTree}
 use Rattle.core_ir.specs.WellFormed.{IsWellFormed}
 use Rattle.core_lowering.specs.Programs.{HasOutcomeOf, lowered_program}
-use Rattle.core_lowering.proofs.Whole.{outcome_same}
-use Rattle.core_lowering.proofs.WellMade.{well_formed}
 use Rattle.core_acceptance.specs.Formed.{ProgramFormed}
 use Rattle.core_acceptance.specs.Stands.{MainStands}
-use Rattle.core_acceptance.proofs.Whole.{accepted_definite}
-use Rattle.core_acceptance.proofs.WholeTyped.{accepted_typed}
-use Rattle.core_acceptance.proofs.Standing.{accepted_standing}
+use Rattle.core_acceptance.proofs.Cores as accepted
 use Rattle.core_acceptance.proofs.Mains.{accepted_main}
 use Rattle.sac_due.specs.Source.{IsProgramOf}
 use Rattle.core_source_laws.proofs.Read.{formed, few}
 
-source_formed : (source : List ℕ) (p : ProgramTree) → IsProgramOf source p → ProgramFormed p
+pub source_formed : (source : List ℕ) (p : ProgramTree) → IsProgramOf source p → ProgramFormed p
 source_formed source p h = formed source h.tree.tokens p h.tree.cut h.tree.tree.0
 
 source_few : (source : List ℕ) (p : ProgramTree) → IsProgramOf source p → length p.functions < 2 ^ 32
@@ -23,12 +19,10 @@ source_few source p h =
     omega arith
 
 pub core_well_formed : (source : List ℕ) (p : ProgramTree) → IsProgramOf source p → IsWellFormed (lowered_program p)
-core_well_formed source p h =
-    let w = source_formed source p h in
-    well_formed p (accepted_definite p w h.accepted) (accepted_typed p w h.accepted) (accepted_standing p (source_few source p h) h.accepted)
+core_well_formed source p h = accepted.core_well_formed p (source_formed source p h) h.accepted (source_few source p h)
 
 pub core_outcome : (source : List ℕ) (p : ProgramTree) → IsProgramOf source p → HasOutcomeOf p (lowered_program p)
-core_outcome source p h = outcome_same p (accepted_definite p (source_formed source p h) h.accepted)
+core_outcome source p h = accepted.core_outcome p (source_formed source p h) h.accepted
 
 pub core_main : (source : List ℕ) (p : ProgramTree) → IsProgramOf source p → MainStands (lowered_program p)
 core_main source p h = accepted_main p h.accepted

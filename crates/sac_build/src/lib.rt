@@ -4,8 +4,3 @@
 mod compiler;
 
 pub use compiler::{Compiled, compile};
-
-#[cfg(test)]
-mod tests;
-#[cfg(test)]
-mod text;

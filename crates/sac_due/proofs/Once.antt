@@ -10,7 +10,9 @@ use Rattle.sac_ast.specs.Grammar.{IsProgram}
 use Rattle.sac_ast.specs.Refusals.{IsStuckAt, IsTooDeepAt}
 use Rattle.check_rules.specs.Accepted.{IsFirstViolation}
 use Rattle.sac_words.specs.Meaning.{Meant, Origin, empty, file, generated}
-use Rattle.sac_due.specs.Texts.{refused_at, lex_code, check_code}
+use Rattle.sac_lex.specs.Codes.{lex_code}
+use Rattle.check_rules.specs.Codes.{check_code}
+use Rattle.sac_due.specs.Texts.{refused_at}
 use Rattle.sac_due.specs.Report.{Numbers}
 use Rattle.sac_due.specs.Source.{plain, IsTokensOf, HasTree, IsProgramOf, IsTooDeep, IsRefusedSource, too_long, no_tokens, stuck, too_deep, not_accepted}
 use Rattle.sac_due.specs.Input.{IsMissing, IsTooLong, IsText, arguments}

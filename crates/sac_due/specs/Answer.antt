@@ -52,8 +52,10 @@ input_fault = record { status = ReadFault; text = line (codes "read fault input"
 -- What a run comes to before it writes, after so many fetches: what is due, or a fault of the files. A read fault names what was fetched last.
 pub data IsAnswer (words : List (List ℕ)) (files : Option Contents) (numbers : Numbers) (failed : Type 0) : ℕ → Ending → Type 0 where
   refused : words_mean words ≡ None → IsAnswer words files numbers failed 0 (record { status = Usage; text = line usage_text })
-  by_source : (end : Ending) → IsSome (words_mean words) → IsDueFor words files numbers end → (end.status ≡ ReadFault → LacksSource words files × (end ≡ source_fault)) → IsAnswer words files numbers failed 1 end
-  by_input : (end : Ending) → FetchesInput words files → IsDueFor words files numbers end → (end.status ≡ ReadFault → LacksInput words files × (end ≡ input_fault)) → IsAnswer words files numbers failed 2 end
+  by_source : (end : Ending) → IsSome (words_mean words) → IsDueFor words files numbers end
+      → (end.status ≡ ReadFault → LacksSource words files × (end ≡ source_fault)) → IsAnswer words files numbers failed 1 end
+  by_input : (end : Ending) → FetchesInput words files → IsDueFor words files numbers end
+      → (end.status ≡ ReadFault → LacksInput words files × (end ≡ input_fault)) → IsAnswer words files numbers failed 2 end
   source_failed : IsSome (words_mean words) → failed → IsAnswer words files numbers failed 1 source_fault
   input_failed : FetchesInput words files → failed → IsAnswer words files numbers failed 2 input_fault
 
@@ -81,11 +83,14 @@ pub record EndsAsDue (words : List (List ℕ)) (files : Option Contents) (number
 -- the line of a read fault was written, which names what was fetched last
 pub data SaysReadFault (words : List (List ℕ)) (files : Option Contents) (before after : ℕ) (old new : Option (List ℕ)) : Type 0 where
   source : Calls before after 1 → new ≡ with_more old (line (codes "read fault source")) → SaysReadFault words files before after old new
-  input : Calls before after 2 → FetchesInput words files → new ≡ with_more old (line (codes "read fault input")) → SaysReadFault words files before after old new
+  input : Calls before after 2 → FetchesInput words files → new ≡ with_more old (line (codes "read fault input"))
+      → SaysReadFault words files before after old new
 
--- a front of the text that the run came to was written
-pub record EndsCutShort (words : List (List ℕ)) (files : Option Contents) (numbers : Numbers) (failed : Type 0) (old new : Option (List ℕ)) : Type 0 where
+-- A front of the text that the run came to was written, where the number of fetches with which it came to it is that of the calls that were made.
+pub record EndsCutShort (words : List (List ℕ)) (files : Option Contents) (numbers : Numbers) (failed : Type 0) (before after : ℕ)
+    (old new : Option (List ℕ)) : Type 0 where
   pub count : ℕ
   pub end : Ending
   pub answer : IsAnswer words files numbers failed count end
+  pub calls : Calls before after count
   pub front : AppendsFront old new end.text

@@ -41,7 +41,8 @@ run_on asked p numbers (Ok args) = ended asked numbers (outcome p args asked.cap
 pub data IsRunDue (asked : Meant) (p : ProgramTree) (input : Option (List ℕ)) (numbers : Numbers) : Ending → Type 0 where
   missing : IsMissing asked.input input → IsRunDue asked p input numbers (record { status = ReadFault; text = line (codes "read fault input") })
   too_long : IsTooLong asked.input input → IsRunDue asked p input numbers (record { status = Input; text = line (codes "refused input size") })
-  run : (bytes : List ℕ) (end : Ending) → IsText asked.input input bytes → end ≡ run_on asked p numbers (arguments p asked.input bytes) → IsRunDue asked p input numbers end
+  run : (bytes : List ℕ) (end : Ending) → IsText asked.input input bytes → end ≡ run_on asked p numbers (arguments p asked.input bytes)
+      → IsRunDue asked p input numbers end
 
 -- what is due for an accepted program
 pub data IsProgramDue (asked : Meant) (p : ProgramTree) (input : Option (List ℕ)) (numbers : Numbers) : Ending → Type 0 where
@@ -56,5 +57,5 @@ pub data IsDue (words : List (List ℕ)) (source input : Option (List ℕ)) (num
       → IsDue words source input numbers (record { status = ReadFault; text = line (codes "read fault source") })
   refused : (asked : Meant) (bytes text : List ℕ) → words_mean words ≡ Some asked → source ≡ Some bytes → IsRefusedSource bytes text
       → IsDue words source input numbers (record { status = Source; text = text })
-  accepted : (asked : Meant) (bytes : List ℕ) (p : ProgramTree) (end : Ending) → words_mean words ≡ Some asked → source ≡ Some bytes → IsProgramOf bytes p
-      → IsProgramDue asked p input numbers end → IsDue words source input numbers end
+  accepted : (asked : Meant) (bytes : List ℕ) (p : ProgramTree) (end : Ending) → words_mean words ≡ Some asked → source ≡ Some bytes
+      → IsProgramOf bytes p → IsProgramDue asked p input numbers end → IsDue words source input numbers end

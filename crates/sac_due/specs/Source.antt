@@ -10,7 +10,9 @@ use Rattle.sac_ast.specs.Tree.{ProgramTree}
 use Rattle.sac_ast.specs.Heights.{IsTreeOf}
 use Rattle.sac_ast.specs.Refusals.{IsStuckAt, IsTooDeepAt}
 use Rattle.check_rules.specs.Accepted.{IsAccepted, IsFirstViolation}
-use Rattle.sac_due.specs.Texts.{line, refused_at, lex_code, check_code}
+use Rattle.sac_lex.specs.Codes.{lex_code}
+use Rattle.check_rules.specs.Codes.{check_code}
+use Rattle.sac_due.specs.Texts.{line, refused_at}
 
 -- the longest source, in bytes
 abbrev pub SOURCE_LIMIT : ℕ
@@ -42,7 +44,10 @@ IsTooDeep source site = (tokens : List Lexeme) × IsTokensOf source tokens × Is
 -- the line with which a source is refused
 pub data IsRefusedSource (source : List ℕ) : List ℕ → Type 0 where
   too_long : SOURCE_LIMIT < length source → IsRefusedSource source (line (codes "refused source size"))
-  no_tokens : (code : LexCode) (site : Site) → length source ≤ SOURCE_LIMIT → IsRefusal source code site → IsRefusedSource source (refused_at (lex_code code) site)
-  stuck : (tokens : List Lexeme) (site : Site) → length source ≤ SOURCE_LIMIT → IsTokensOf source tokens → IsStuckAt tokens site → IsRefusedSource source (refused_at (codes "P1") site)
+  no_tokens : (code : LexCode) (site : Site) → length source ≤ SOURCE_LIMIT → IsRefusal source code site
+      → IsRefusedSource source (refused_at (lex_code code) site)
+  stuck : (tokens : List Lexeme) (site : Site) → length source ≤ SOURCE_LIMIT → IsTokensOf source tokens → IsStuckAt tokens site
+      → IsRefusedSource source (refused_at (codes "P1") site)
   too_deep : (site : Site) → length source ≤ SOURCE_LIMIT → IsTooDeep source site → IsRefusedSource source (refused_at (codes "P2") site)
-  not_accepted : (p : ProgramTree) (code : CheckCode) (site : Site) → length source ≤ SOURCE_LIMIT → HasTree source p → IsFirstViolation p code site → IsRefusedSource source (refused_at (check_code code) site)
+  not_accepted : (p : ProgramTree) (code : CheckCode) (site : Site) → length source ≤ SOURCE_LIMIT → HasTree source p → IsFirstViolation p code site
+      → IsRefusedSource source (refused_at (check_code code) site)

@@ -4,12 +4,11 @@ use Rattle.std.specs.Fmt.{decimal}
 use Rattle.sac_base.specs.declared.site.Site.{Site}
 use Rattle.sac_base.specs.declared.faults.Fault.{Fault}
 use Rattle.sac_base.specs.Faults.{fault_code}
-use Rattle.sac_lex.specs.declared.token.LexCode.{LexCode}
-use Rattle.sac_lex.specs.declared.token.LexCode.TheVariants.{L1, L2, L3, L4, L5}
-use Rattle.check_rules.specs.declared.code.CheckCode.{CheckCode}
-use Rattle.check_rules.specs.declared.code.CheckCode.TheVariants.{C1, C2, C3, C4, C5, C6, C7, C8, C9, C10}
+use Rattle.sac_lex.specs.Codes.{lex_code}
+use Rattle.check_rules.specs.Codes.{check_code}
 use Rattle.data_text.specs.declared.error.DataCode.{DataCode}
-use Rattle.data_text.specs.declared.error.DataCode.TheVariants.{I1, I2, I3, I4, I5, I6}
+use Rattle.data_text.specs.declared.error.DataCode.TheVariants.{I2}
+use Rattle.data_text.specs.Codes.{data_code}
 use Rattle.data_text.specs.Texts.{Refusal}
 
 -- a text and a line feed
@@ -18,33 +17,6 @@ line text = text ++ codes "\n"
 
 abbrev pub usage_text : List ℕ
 usage_text = codes "usage: sac FILE [--input FILE] [--workers N] [--chunk K] [--turns T] [--depth C] [--mode run|check|print] [--report] [--gen N]"
-
-abbrev pub lex_code : LexCode → List ℕ
-lex_code L1 = codes "L1"
-lex_code L2 = codes "L2"
-lex_code L3 = codes "L3"
-lex_code L4 = codes "L4"
-lex_code L5 = codes "L5"
-
-abbrev pub check_code : CheckCode → List ℕ
-check_code C1 = codes "C1"
-check_code C2 = codes "C2"
-check_code C3 = codes "C3"
-check_code C4 = codes "C4"
-check_code C5 = codes "C5"
-check_code C6 = codes "C6"
-check_code C7 = codes "C7"
-check_code C8 = codes "C8"
-check_code C9 = codes "C9"
-check_code C10 = codes "C10"
-
-abbrev pub data_code : DataCode → List ℕ
-data_code I1 = codes "I1"
-data_code I2 = codes "I2"
-data_code I3 = codes "I3"
-data_code I4 = codes "I4"
-data_code I5 = codes "I5"
-data_code I6 = codes "I6"
 
 -- a code and its place in the source, behind a word
 abbrev pub placed : List ℕ → List ℕ → Site → List ℕ

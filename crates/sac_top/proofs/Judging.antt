@@ -18,9 +18,11 @@ use Rattle.sac_parse.specs.Verdict.{IsRefusalOf}
 use Rattle.type_check.specs.declared.program.CheckError.{CheckError}
 use Rattle.type_check.specs.declared.program.CheckError.TheVariants as check_error
 use Rattle.check_rules.specs.Programs.{IsRefusal as IsRefused}
-use Rattle.sac_due.specs.Texts.{refused_at, lex_code, check_code}
+use Rattle.sac_lex.specs.Codes.{lex_code}
+use Rattle.check_rules.specs.Codes.{check_code}
+use Rattle.sac_due.specs.Texts.{refused_at}
 use Rattle.sac_due.specs.Source.{HasTree, IsRefusedSource, no_tokens, stuck, too_deep, not_accepted}
-use Rattle.sac_top.specs.Codes.{parse_code}
+use Rattle.sac_parse.specs.Codes.{parse_code}
 use Rattle.sac_top.specs.Steps.{RefusedWith, IsJudged}
 use Rattle.sac_top.specs.declared.source.Judged.{Judged}
 use Rattle.sac_top.specs.declared.source.Judged.TheVariants.{Accepted, Refused}

@@ -28,6 +28,10 @@ tree checked = View.program checked.program
 abbrev pub ending : Answer → Ending
 ending answer = record { status = answer.status; text = answer.text.items }
 
+-- some source is this program, and is accepted
+abbrev pub IsRead : ProgramTree → Type 0
+IsRead p = (source : List ℕ) × IsProgramOf source p
+
 -- the line with which a source is refused
 abbrev pub RefusedWith : List ℕ → Judged → Type 0
 RefusedWith text (Refused line) = line.items ≡ text

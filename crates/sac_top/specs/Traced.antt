@@ -19,6 +19,7 @@ use Rattle.counted_code.specs.Outcome.{whole_run, outcome_of, cost_of}
 use Rattle.run_eval.specs.declared.trace.Trace.{Trace}
 use Rattle.run_eval.specs.Outcomes.{HasCounters}
 use Rattle.sac_words.specs.Meaning.{Meant, file}
+use Rattle.sac_build.specs.Arguments.{AreArrays}
 use Rattle.sac_due.specs.Report.{Numbers}
 use Rattle.sac_due.specs.Source.{IsProgramOf}
 use Rattle.sac_due.specs.Input.{IsText, arguments}
@@ -41,12 +42,12 @@ IsRunStatus Faulted = ⊤
 IsRunStatus Limit = ⊤
 IsRunStatus _ = ⊥
 
--- Code for a program: it is well counted and prompt, no loop in it is marked, and on all arguments and under all limits its outcome on the machine is that of the program.
+-- Code for a program: it is well counted and prompt, no loop in it is marked, and on all arguments that are arrays and under all limits its outcome on the machine is that of the program.
 pub record IsCodeFor (p : ProgramTree) (code : CodeProgram) : Type 0 where
   pub counted : IsWellCounted code
   pub prompt : IsPrompt code
   pub unmarked : IsUnmarked code
-  pub outcome : (args : List ArrayValue) (caps : Caps) → outcome_of (whole_run code args caps) ≡ outcome p args caps
+  pub outcome : (args : List ArrayValue) (caps : Caps) → AreArrays args → outcome_of (whole_run code args caps) ≡ outcome p args caps
 
 -- the trace's four numbers of a run are the cost
 abbrev pub HasCost : Trace → Cost → Type 0

@@ -1,17 +1,17 @@
 //! The arguments of `main`.
 ghost use Rattle.std.specs.Prelude.{◌≡◌, ◌≤◌, map, IfOk};
 ghost use Rattle.sac_base.specs.declared.types.ArrayType.{ArrayType as Ty};
-ghost use Rattle.sac_base.specs.Arrays.{form_of};
 ghost use Rattle.sac_ast.specs.declared.Param.{Param as ParamOf};
 ghost use Rattle.sac_ast.specs.View.{program as tree};
 ghost use Rattle.data_text.specs.Texts.{text_value};
 ghost use Rattle.data_text.specs.Generated.{generated_all};
 ghost use Rattle.data_text.specs.Found.{Tells};
+ghost use Rattle.sac_build.specs.Arguments.{AreArrays};
 ghost use Rattle.sac_due.specs.Input.{main_types, main_bases};
 
 use data_text::{DataError, generate, read_arrays};
 use sac_ast::{Param, Program};
-use sac_base::{Array, ArrayType, Base, Form, Memory, copy_type};
+use sac_base::{Array, ArrayType, Base, Memory, copy_type};
 use std::alloc::Global;
 
 fn types_of(alloc: Global, params: &[Param]) -> Result<Vec<ArrayType>, Memory>
@@ -46,24 +46,14 @@ fn bases_of(alloc: Global, types: &[ArrayType]) -> Result<Vec<Base>, Memory>
     Ok(bases)
 }
 
-/// The forms of arguments.
-pub fn forms_of(alloc: Global, args: &[Array]) -> Result<Vec<Form>, Memory>
-    ensures { IfOk result (λ forms. forms.items ≡ map form_of args.now) }
-{
-    let mut forms = Vec::new(alloc);
-    for array in args {
-        forms.push(array.form())?;
-    }
-    Ok(forms)
-}
-
 /// The arguments that a text gives.
 pub fn read_arguments(
     alloc: Global,
     program: &Program,
     text: &[u8],
 ) -> Result<Vec<Array>, DataError>
-    ensures { Tells result (text_value text.now (main_bases (tree program.now))) }
+    ensures exact { Tells result (text_value text.now (main_bases (tree program.now))) }
+    ensures arrays { IfOk result (λ args. AreArrays args.items) }
 {
     let types = main_types(alloc, program)?;
     let bases = bases_of(alloc, &types)?;
@@ -73,7 +63,8 @@ pub fn read_arguments(
 /// The arguments that are generated from a number.
 pub fn generate_arguments(alloc: Global, program: &Program, n: u32) -> Result<Vec<Array>, DataError>
     requires { (1 ≤ n) × (n ≤ 4096) }
-    ensures { Tells result (generated_all (main_types (tree program.now)) 0 n) }
+    ensures exact { Tells result (generated_all (main_types (tree program.now)) 0 n) }
+    ensures arrays { IfOk result (λ args. AreArrays args.items) }
 {
     let types = main_types(alloc, program)?;
     generate(alloc, &types, n)

@@ -3,7 +3,6 @@ ghost use Rattle.std.specs.Prelude.{◌≡◌, ◌≢◌, ◌++◌, IfOk, OnOk};
 ghost use Rattle.sac_due.specs.Texts.{line, placed, refused_data};
 ghost use Rattle.sac_top.specs.Steps.{ending};
 
-use crate::codes::data_code;
 use data_text::DataCode;
 use itoa::Buffer;
 use sac_base::{Memory, Site};
@@ -56,7 +55,7 @@ fn numbered(alloc: Global, code: DataCode, number: u64) -> Result<Vec<u8>, Memor
 {
     let mut line = Vec::new(alloc);
     push(&mut line, "refused ")?;
-    push(&mut line, data_code(code))?;
+    push(&mut line, code.code())?;
     push(&mut line, " at line ")?;
     push(&mut line, Buffer::new().format(number))?;
     push(&mut line, "\n")?;

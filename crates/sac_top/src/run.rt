@@ -12,11 +12,11 @@ ghost use Rattle.run_eval.specs.Outcomes.{new_heap, IsCleared};
 ghost use Rattle.sac_words.specs.Meaning.{meant, input_meant, IsSized, file};
 ghost use Rattle.sac_due.specs.Input.{main_types, main_bases};
 ghost use Rattle.sac_due.specs.Due.{ended, run_on};
-ghost use Rattle.sac_build.specs.Read.{IsRead};
+ghost use Rattle.sac_build.specs.Arguments.{AreArrays};
 ghost use Rattle.sac_top.specs.Traced.{numbers_of, IsRunStatus, IsRunTraced, IsGivenTraced, IsProgramTraced};
-ghost use Rattle.sac_top.specs.Steps.{ending, ends_of, tree, HasEnded, HasWorkers, file_of, file_in, IsFileAnswer, IsRunAnswer, IsProgramAnswer};
+ghost use Rattle.sac_top.specs.Steps.{ending, ends_of, tree, HasEnded, HasWorkers, IsRead, file_of, file_in, IsFileAnswer, IsRunAnswer, IsProgramAnswer};
 
-use crate::arguments::{forms_of, generate_arguments, read_arguments};
+use crate::arguments::{generate_arguments, read_arguments};
 use crate::line::{Answer, answer_line, refused_data};
 use crate::results::answer_outcome;
 use buffer_heap::Heap;
@@ -61,13 +61,13 @@ fn outcome_of<G: Gate, R: Threads + Sync>(
 ) -> Result<Outcome, Memory>
     requires workers { HasWorkers options.now.workers }
     requires read { IsRead (tree checked.now) }
+    requires arrays { AreArrays args.items }
     requires new { heap.old ≡ new_heap }
     ensures outcome { IfOk result (λ o. ends_of o ≡ outcome (tree checked.now) args.items options.now.caps) }
     ensures traced { IfOk result (λ o. IsRunTraced (tree checked.now) args.items options.now.caps trace.old.tally trace.new heap.new) }
     ensures cleared { IsCleared heap.new }
 {
-    let forms = forms_of(alloc, &args)?;
-    let compiled = compile(alloc, checked, &forms)?;
+    let compiled = compile(alloc, checked)?;
     let plan = Plan {
         workers: options.workers,
         chunk: options.chunk,
@@ -92,6 +92,7 @@ fn answer_run<G: Gate, R: Threads + Sync>(
 ) -> Result<Answer, Memory>
     requires workers { HasWorkers options.now.workers }
     requires read { IsRead (tree checked.now) }
+    requires arrays { AreArrays args.items }
     requires new { heap.old ≡ new_heap }
     ensures answer { IfOk result (λ answer. ending answer ≡ ended (meant options.now) (numbers_of trace.new) (outcome (tree checked.now) args.items options.now.caps)) }
     ensures traced { IfOk result (λ answer. IsRunTraced (tree checked.now) args.items options.now.caps trace.old.tally trace.new heap.new) }
@@ -114,6 +115,7 @@ fn answer_given<G: Gate, R: Threads + Sync>(
 ) -> Result<Answer, Memory>
     requires workers { HasWorkers options.now.workers }
     requires read { IsRead (tree checked.now) }
+    requires arrays { IfOk given (λ args. AreArrays args.items) }
     requires new { heap.old ≡ new_heap }
     ensures answer { (r : Result (List ArrayValue) Refusal) → Tells given r
         → IfOk result (λ answer. ending answer ≡ run_on (meant options.now) (tree checked.now) (numbers_of trace.new) r) }

@@ -1,0 +1,5 @@
+use Rattle.sac_top.proofs.Arguments as arguments
+use Rattle.sac_top.proofs.arguments.generate_arguments.Goals as goal
+
+pub returns-clause-arrays : goal.returns-clause-arrays
+returns-clause-arrays c = arguments.made_arrays c.generate.result _ _ c.generate.ensures
