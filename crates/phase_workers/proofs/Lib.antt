@@ -1,5 +1,4 @@
 mod Booking
-mod Booking
 mod Counters
 mod Covering
 mod Ending

@@ -17,8 +17,8 @@ use Rattle.phase_workers.specs.Homes.{handed, left_in}
 use Rattle.phase_workers.proofs.Booking.{done_has, stop_moved, stopped_has}
 use Rattle.phase_workers.proofs.folds.fold_by_workers.Goals as goal
 
-pub returns-in-Ok-end-clause-told : goal.returns-in-Ok-end-clause-told
-returns-in-Ok-end-clause-told g c m at =
+pub returns-in-Ok-clause-told : goal.returns-in-Ok-clause-told
+returns-in-Ok-clause-told g c m at =
     let a = c.args in
     let p = a.plan.now in
     let context = a.context.now in
@@ -38,7 +38,7 @@ returns-in-Ok-end-clause-told g c m at =
     subst (λ f. Told IsValue c.finish_phase.result c.finish_phase.new.state (job_does None (fold_job context (current f) m a.gens.now (plan_of p) a.op a.neutral) m)) frames
     (fold_finished context e a.gens.now p a.op a.neutral a.live.now c.get-code.ensures.counted c.get-code.ensures.unmarked c.requires.counted h alive c.buffers_are_numbered.ensures.referred c.requires.op c.requires.form full m
     c.in_ok-begun.begun.target.buffer s begun (own_stands s.heap _ none begun.stands.heap) c.fold_cells-end.new.value home
-    (combined_as a.op (cells_from (gens_cell context h e a.gens.now p None) 0 (length p.frame)) h (cost_from (gens_taken context h e a.gens.now p) 0 (length p.frame)) c.deref_mut.result.now a.neutral.cells c.fold_cells-end.new.value (Ok home) (Ok home) refl start c.in-Ok-end.ensures.combined)
+    (combined_as a.op (cells_from (gens_cell context h e a.gens.now p None) 0 (length p.frame)) h (cost_from (gens_taken context h e a.gens.now p) 0 (length p.frame)) c.deref_mut.result.now a.neutral.cells c.fold_cells-end.new.value (Ok home) (Ok home) refl start c.in-Ok.ensures.combined)
     s2 c.finish_phase.new.state c.finish_phase.result (c.end_phase.ensures.heap ∙ (λ i. record { own = handed h home; lent = none i })) c.end_phase.ensures.phases
     (λ k at2.
     subst (λ (zs : List ℤ). Told IsValue c.finish_phase.result c.finish_phase.new.state (settled (target_at c.in_ok-begun.begun.target.buffer) (record { base = p.form.base; shape = p.form.shape; cells = zs }) k)) (taken_back _ c.into_cells-value.result.len c.fold_cells-end.new.value len)
@@ -69,9 +69,9 @@ returns-in-Err-Faulted-clause-told g c m at =
     (combined_as a.op (cells_from (gens_cell context h e a.gens.now p None) 0 (length p.frame)) h (cost_from (gens_taken context h e a.gens.now p) 0 (length p.frame)) c.deref_mut.result.now a.neutral.cells c.fold_cells-end.new.value (left_in home c.fold_cells-end.result) (Err (Faulted fault)) (ap (left_in home) same) start c.fold_cells-end.ensures.combined)))
 
 pub end_phase-requires-clause-tally : goal.end_phase-requires-clause-tally
-end_phase-requires-clause-tally g c κs within =
+end_phase-requires-clause-tally g c =
     done_has c.in_ok-begun.begun.books c.fold_cells-end.new.books c.begin_phase.new.state.phases c.fold_cells-end.result c.in_ok-begun.ensures.tally c.fold_cells-end.ensures.booked (search rules)
 
-pub stop_phase-requires-clause-tally : goal.stop_phase-requires-clause-tally
-stop_phase-requires-clause-tally g c κs within =
-    stopped_has c.in_ok-begun.begun.books c.fold_cells-end.new.books c.begin_phase.new.state.phases c.fold_cells-end.result c.in-Err-Faulted.fault c.in_ok-begun.ensures.tally c.fold_cells-end.ensures.booked (search rules)
+pub stop_phase-requires : goal.stop_phase-requires
+stop_phase-requires g c =
+    record { tally = stopped_has c.in_ok-begun.begun.books c.fold_cells-end.new.books c.begin_phase.new.state.phases c.fold_cells-end.result c.in-Err-Faulted.fault c.in_ok-begun.ensures.tally c.fold_cells-end.ensures.booked (search rules) }

@@ -17,8 +17,8 @@ use Rattle.phase_workers.specs.Homes.{handed, left_in}
 use Rattle.phase_workers.proofs.Booking.{done_has, stop_moved, stopped_has}
 use Rattle.phase_workers.proofs.part_folds.fold_parts_by_workers.Goals as goal
 
-pub returns-in-Ok-end-clause-told : goal.returns-in-Ok-end-clause-told
-returns-in-Ok-end-clause-told g c m at =
+pub returns-in-Ok-clause-told : goal.returns-in-Ok-clause-told
+returns-in-Ok-clause-told g c m at =
     let a = c.args in
     let context = a.context.now in
     let form = a.form.now in
@@ -39,7 +39,7 @@ returns-in-Ok-end-clause-told g c m at =
     subst (λ f. Told IsValue c.finish_phase.result c.finish_phase.new.state (job_does None (fold_parts_job context (current f) a.parts.now indices form a.op a.neutral) m)) frames
     (parts_finished context h e a.parts.now a.live.now c.get-code.ensures.counted c.get-code.ensures.unmarked c.requires.counted alive c.buffers_are_numbered.ensures.referred form indices a.op a.neutral c.requires.op c.requires.form full m
     c.in_ok-begun.begun.target.buffer s begun (own_stands s.heap _ none begun.stands.heap) c.fold_part_cells-end.new.value home
-    (combined_as a.op (cells_from (parts_cell context h e a.parts.now form indices) 0 (length indices)) h (cost_from (parts_taken context h e a.parts.now indices) 0 (length indices)) c.deref_mut.result.now a.neutral.cells c.fold_part_cells-end.new.value (Ok home) (Ok home) refl start c.in-Ok-end.ensures.combined)
+    (combined_as a.op (cells_from (parts_cell context h e a.parts.now form indices) 0 (length indices)) h (cost_from (parts_taken context h e a.parts.now indices) 0 (length indices)) c.deref_mut.result.now a.neutral.cells c.fold_part_cells-end.new.value (Ok home) (Ok home) refl start c.in-Ok.ensures.combined)
     s2 c.finish_phase.new.state c.finish_phase.result (c.end_phase.ensures.heap ∙ (λ i. record { own = handed h home; lent = none i })) c.end_phase.ensures.phases
     (λ k at2.
     subst (λ (zs : List ℤ). Told IsValue c.finish_phase.result c.finish_phase.new.state (settled (target_at c.in_ok-begun.begun.target.buffer) (record { base = form.base; shape = form.shape; cells = zs }) k)) (taken_back _ c.into_cells-value.result.len c.fold_part_cells-end.new.value len)
@@ -71,9 +71,9 @@ returns-in-Err-Faulted-clause-told g c m at =
     (combined_as a.op (cells_from (parts_cell context h e a.parts.now form indices) 0 (length indices)) h (cost_from (parts_taken context h e a.parts.now indices) 0 (length indices)) c.deref_mut.result.now a.neutral.cells c.fold_part_cells-end.new.value (left_in home c.fold_part_cells-end.result) (Err (Faulted fault)) (ap (left_in home) same) start c.fold_part_cells-end.ensures.combined)))
 
 pub end_phase-requires-clause-tally : goal.end_phase-requires-clause-tally
-end_phase-requires-clause-tally g c κs within =
+end_phase-requires-clause-tally g c =
     done_has c.in_ok-begun.begun.books c.fold_part_cells-end.new.books c.begin_phase.new.state.phases c.fold_part_cells-end.result c.in_ok-begun.ensures.tally c.fold_part_cells-end.ensures.booked (search rules)
 
-pub stop_phase-requires-clause-tally : goal.stop_phase-requires-clause-tally
-stop_phase-requires-clause-tally g c κs within =
-    stopped_has c.in_ok-begun.begun.books c.fold_part_cells-end.new.books c.begin_phase.new.state.phases c.fold_part_cells-end.result c.in-Err-Faulted.fault c.in_ok-begun.ensures.tally c.fold_part_cells-end.ensures.booked (search rules)
+pub stop_phase-requires : goal.stop_phase-requires
+stop_phase-requires g c =
+    record { tally = stopped_has c.in_ok-begun.begun.books c.fold_part_cells-end.new.books c.begin_phase.new.state.phases c.fold_part_cells-end.result c.in-Err-Faulted.fault c.in_ok-begun.ensures.tally c.fold_part_cells-end.ensures.booked (search rules) }

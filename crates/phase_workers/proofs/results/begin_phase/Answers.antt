@@ -7,8 +7,8 @@ use Rattle.sac_base.specs.Arrays.{size}
 use Rattle.phase_workers.proofs.Ending.{begun_claim}
 use Rattle.phase_workers.proofs.results.begin_phase.Goals as goal
 
-pub returns-in-Some-clause-begun : goal.returns-in-Some-clause-begun
-returns-in-Some-clause-begun c m n at =
+pub returns-clause-begun : goal.returns-clause-begun
+returns-clause-begun c m n at =
     let s = c.args.state.now in
     let t : State = record { frames = s.frames; heap = s.heap; phases = c.hand_out-handed_out.new.self } in
     let counted = count_stands s t true m n refl refl c.hand_out-handed_out.ensures.counted at in
