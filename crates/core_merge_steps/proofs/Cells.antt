@@ -125,8 +125,8 @@ module _ (core : CoreTerm) (calls : CallMeaning) (turns : ℕ) (typed : CallsTyp
   pub nest_cells : (grid : List Grid1) (v : List ℤ) (inside : has_vector grid v ≡ true) (long : length v ≡ length grid) (k : Facts) (m : IndexFacts) (frame : List Grid1) (t : Base) (b : BlockTerm) (inner : PartsTerm) (nest : IsNest called k grid m frame t b inner) (alone : AvoidsParts nest.z inner)
       (scope : List Var) (g : Bases) (e : Env) → At core calls turns scope g (t ∷ []) k b e → SaysAll v m e
       → (f : Env) × (first (run calls turns b e) ≡ parted_value frame t [] parted.Genarray (cells calls turns inner f) nest.site f)
-          × ((j : PartHead) (c : BlockTerm) → Standing inner j c → (w : List ℤ) → first (run calls turns (chain (nest.before ++ nest.after) c) (bind e j.index (vector Int w))) ≡ first (run calls turns c (bind f j.index (vector Int w))))
-          × Covered frame (part_grids inner)
+      × ((j : PartHead) (c : BlockTerm) → Standing inner j c → (w : List ℤ) → first (run calls turns (chain (nest.before ++ nest.after) c) (bind e j.index (vector Int w))) ≡ first (run calls turns c (bind f j.index (vector Int w))))
+      × Covered frame (part_grids inner)
   nest_cells grid v inside long k m frame t b inner nest alone scope g e given says =
       let z = nest.z in
       let R : RightTerm = Parted frame t [] parted.Genarray inner in
@@ -143,12 +143,12 @@ module _ (core : CoreTerm) (calls : CallMeaning) (turns : ℕ) (typed : CallsTyp
       let rest = distinct_right (z ∷ []) (bound_in_parts inner ++ bound_in ch) at.once in
       let after_value : (x : ArrayValue) → P ≡ Ok x → first (run calls turns ch (bind F z x)) ≡ Ok x =
       λ x p.
-          let a2 = after_bind core calls turns typed called fit (z ∷ []) nest.site R ch W.seen W.bases (t ∷ []) W.facts F (x ∷ []) at (ap one p) in
-          let s2 = says_learned calls turns v (length grid) W.indices W.facts F (z ∷ []) R nest.site (x ∷ []) long at.sound W.says (ap one p) in
-          let r = block_total core calls turns typed called fit grid v inside long ch (zip (z ∷ []) us ++ W.bases) (t ∷ []) k2 m2 (bind F z x) W.total a2.bases a2.once a2.full a2.typed a2.sound s2 in
-          let self : eqb z.0 z.0 ≡ true = eq-eqb z.0 z.0 refl in
-          let only = kept nest.after z (z ∷ W.seen) (bind F z x) r.0 at.scoped.2 (λ i. self i || is_in z W.seen) r.1 in
-          ap first r.1 ∙ (λ i. Ok (first_result (only i))) ∙ (λ i. Ok (cond (self i) x (F z))) in
+      let a2 = after_bind core calls turns typed called fit (z ∷ []) nest.site R ch W.seen W.bases (t ∷ []) W.facts F (x ∷ []) at (ap one p) in
+      let s2 = says_learned calls turns v (length grid) W.indices W.facts F (z ∷ []) R nest.site (x ∷ []) long at.sound W.says (ap one p) in
+      let r = block_total core calls turns typed called fit grid v inside long ch (zip (z ∷ []) us ++ W.bases) (t ∷ []) k2 m2 (bind F z x) W.total a2.bases a2.once a2.full a2.typed a2.sound s2 in
+      let self : eqb z.0 z.0 ≡ true = eq-eqb z.0 z.0 refl in
+      let only = kept nest.after z (z ∷ W.seen) (bind F z x) r.0 at.scoped.2 (λ i. self i || is_in z W.seen) r.1 in
+      ap first r.1 ∙ (λ i. Ok (first_result (only i))) ∙ (λ i. Ok (cond (self i) x (F z))) in
       let whole_value : first (run calls turns b e) ≡ P =
       (λ i. first (run calls turns (nest.whole i) e)) ∙ ap first (W.passed B) ∙ through_one P (λ vs. run calls turns ch (bind_all F (z ∷ []) vs)) after_value in
       let shape = extents frame ++ [] in
@@ -162,30 +162,34 @@ module _ (core : CoreTerm) (calls : CallMeaning) (turns : ℕ) (typed : CallsTyp
         typed = bound_zip W.bases F (z ∷ []) us (a0 ∷ []) at.typed (refl, tt) at.bases.1.1 (subst (λ bs. HaveBases bs (a0 ∷ [])) (sym at.bases.1.0.3) (refl, tt));
         sound = noted W.facts F (z ∷ []) (right_facts called R W.facts) (a0 ∷ []) at.sound (record { shape = refl; literal = tt; full = length-replicate (size shape) (pos 0) }, tt);
       } in
-      let V = walk core calls turns typed called fit grid v inside long (Gives (z ∷ [])) (t ∷ []) (λ ls n o. total_block called grid (chain ls (Gives (z ∷ []))) n o) (λ l ls n o. refl) nest.after (z ∷ W.seen) (zip (z ∷ []) us ++ W.bases) k2 m2 E0 d (says_others v W.indices F (z ∷ []) (a0 ∷ []) W.says) W.total in
-      (F, whole_value, (λ j c st w.
-              let s = scoped_at W.seen inner j c st at.scoped.0.1 in
-              let fr = W.fresh j.index s.0 in
-              let vw = vector Int w in
-              let E1 = bind e j.index vw in
-              let near : AgreeOn scope E1 e = λ y i. λ q. cond (apart_in j.index y scope fr.0 i q) vw (e y) in
-              let one_side = W.beside E1 j.index near fr.1 in
-              let f1 = one_side.0 in
-              let E2 = bind f1 z a0 in
-              let not_after = targets_bound nest.after (Gives (z ∷ [])) j.index (distinct_apart (bound_in_parts inner) (bound_in ch) j.index rest (bound_at inner j c st)) in
-              let other_side = V.beside E2 j.index (agree_more (z ∷ []) W.seen (a0 ∷ []) f1 F one_side.2) not_after in
-              let f2 = other_side.0 in
-              let zj : eqb z.0 j.index.0 ≡ false = apart_in z j.index (bound_in_parts inner ++ bound_in ch) at.once.0 (in_left j.index (bound_in_parts inner) (bound_in ch) (bound_at inner j c st)) in
-              let self : eqb j.index.0 j.index.0 ≡ true = eq-eqb j.index.0 j.index.0 refl in
-              let own : f2 j.index ≡ vw = other_side.3 ∙ (λ q. cond (zj q) a0 (f1 j.index)) ∙ one_side.3 ∙ (λ q. cond (self q) vw (e j.index)) in
-              let last : AgreeOn (j.index ∷ W.seen) f2 (bind F j.index vw) =
-              λ y i.
-                  seen_or F f2 vw W.seen y j.index own i (λ n.
-                      let ns = or_right (eqb z.0 y.0) (is_in y W.seen) n in
-                      other_side.2 y (V.sub y ns) ∙ V.old y ns ∙ (λ q. cond (apart_in z y W.seen at.scoped.1.0 n q) a0 (F y))) in
-              ap first (
-                (λ i. run calls turns (chain_append nest.before nest.after c i) E1)
-                ∙ one_side.1 (chain nest.after c)
-                ∙ unused calls turns z (chain nest.after c) f1 E2 (avoids_chain z nest.after c (lets_back z nest.before nest.after nest.unused) (avoids_at z inner j c st alone)) (λ y n. sym (λ q. cond (n q) a0 (f1 y)))
-                ∙ other_side.1 c
-                ∙ same_on calls turns (j.index ∷ W.seen) c f2 (bind F j.index vw) s.1 last)), at.bases.1.0.2.2)
+      let V = walk core calls turns typed called fit grid v inside long (Gives (z ∷ [])) (t ∷ []) (λ ls n o. total_block called grid (chain ls (Gives (z ∷ []))) n o) (λ l ls n o. refl) nest.after (z ∷ W.seen) (zip (z ∷ []) us ++ W.bases) k2 m2 E0 d (says_others v W.indices F (z ∷ []) (a0 ∷ []) W.says) W.total in (
+        F,
+        whole_value,
+        (λ j c st w.
+            let s = scoped_at W.seen inner j c st at.scoped.0.1 in
+            let fr = W.fresh j.index s.0 in
+            let vw = vector Int w in
+            let E1 = bind e j.index vw in
+            let near : AgreeOn scope E1 e = λ y i. λ q. cond (apart_in j.index y scope fr.0 i q) vw (e y) in
+            let one_side = W.beside E1 j.index near fr.1 in
+            let f1 = one_side.0 in
+            let E2 = bind f1 z a0 in
+            let not_after = targets_bound nest.after (Gives (z ∷ [])) j.index (distinct_apart (bound_in_parts inner) (bound_in ch) j.index rest (bound_at inner j c st)) in
+            let other_side = V.beside E2 j.index (agree_more (z ∷ []) W.seen (a0 ∷ []) f1 F one_side.2) not_after in
+            let f2 = other_side.0 in
+            let zj : eqb z.0 j.index.0 ≡ false = apart_in z j.index (bound_in_parts inner ++ bound_in ch) at.once.0 (in_left j.index (bound_in_parts inner) (bound_in ch) (bound_at inner j c st)) in
+            let self : eqb j.index.0 j.index.0 ≡ true = eq-eqb j.index.0 j.index.0 refl in
+            let own : f2 j.index ≡ vw = other_side.3 ∙ (λ q. cond (zj q) a0 (f1 j.index)) ∙ one_side.3 ∙ (λ q. cond (self q) vw (e j.index)) in
+            let last : AgreeOn (j.index ∷ W.seen) f2 (bind F j.index vw) =
+            λ y i.
+            seen_or F f2 vw W.seen y j.index own i (λ n.
+            let ns = or_right (eqb z.0 y.0) (is_in y W.seen) n in
+            other_side.2 y (V.sub y ns) ∙ V.old y ns ∙ (λ q. cond (apart_in z y W.seen at.scoped.1.0 n q) a0 (F y))) in
+            ap first (
+            (λ i. run calls turns (chain_append nest.before nest.after c i) E1)
+            ∙ one_side.1 (chain nest.after c)
+            ∙ unused calls turns z (chain nest.after c) f1 E2 (avoids_chain z nest.after c (lets_back z nest.before nest.after nest.unused) (avoids_at z inner j c st alone)) (λ y n. sym (λ q. cond (n q) a0 (f1 y)))
+            ∙ other_side.1 c
+            ∙ same_on calls turns (j.index ∷ W.seen) c f2 (bind F j.index vw) s.1 last)),
+        at.bases.1.0.2.2,
+      )

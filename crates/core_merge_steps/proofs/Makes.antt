@@ -97,8 +97,7 @@ module _ (calls : CallMeaning) (turns : ℕ) where
       (λ z. select (cond (q.1 z) k (e u)) (cond (eq-eqb c.0 c.0 refl z) k (e c))) ∙ (λ z. select (at z) k) ∙ component own j low in
       let at2 : e2 u ≡ vector Int own = (λ z. cond (q.2 z) w (cond (q.1 z) k (e u))) ∙ at in
       let r = picked u own xs (suc j) more e2 at2 (omega (arith, l)) q.4 in
-      let mine : r.0 x ≡ w = r.2 x q.3 ∙ (λ z. cond (eq-eqb x.0 x.0 refl z) w (bind e c k x)) in
-      (
+      let mine : r.0 x ≡ w = r.2 x q.3 ∙ (λ z. cond (eq-eqb x.0 x.0 refl z) w (bind e c k x)) in (
         r.0,
         (λ X. (λ i. run calls turns (chain (q.0 i) X) e) ∙ (λ i. and_then (one (at_site t (value i))) (λ vs. run calls turns (chain more X) (bind_all (bind e c k) (x ∷ []) vs))) ∙ r.1 X),
         (λ y h.
@@ -161,6 +160,6 @@ module _ (calls : CallMeaning) (turns : ℕ) where
       ∙ (λ k. and_then (one (at_site h.second (other_row k))) (λ vs. run calls turns b (bind_all f1 (l ∷ []) vs)))
       ∙ unused_each calls turns (u ∷ targets_of h.picks) b (bind f1 l (vector Int w)) (bind (bind e i (vector Int v)) l (vector Int w)) avoids
       (λ y n.
-          let s = or_false (eqb u.0 y.0) (is_in y (targets_of h.picks)) n in
-          let same : f y ≡ e y = r.2 y s.1 ∙ (λ k. cond (s.0 k) (vector Int (v ++ w)) (e y)) in
-          λ k. cond (eqb l.0 y.0) (vector Int w) (cond (eqb i.0 y.0) (vector Int v) (same k)))
+      let s = or_false (eqb u.0 y.0) (is_in y (targets_of h.picks)) n in
+      let same : f y ≡ e y = r.2 y s.1 ∙ (λ k. cond (s.0 k) (vector Int (v ++ w)) (e y)) in
+      λ k. cond (eqb l.0 y.0) (vector Int w) (cond (eqb i.0 y.0) (vector Int v) (same k)))

@@ -138,20 +138,20 @@ module _ (core : CoreTerm) (calls : CallMeaning) (turns : ℕ) (typed : CallsTyp
         let there : has_vector j.grid (v ++ u) ≡ has_vector g.grid u = (λ i. has_vector (m.0 i) (v ++ u)) ∙ append_has h.grid g.grid v u long ∙ (λ i. inside i && has_vector g.grid u) in
         (λ i. if there i then and_then (first (run calls turns d (bind e j.index (vector Int (v ++ u))))) (held (cell_form t []) (m.1 i)) else cell_at (cell_form t []) (cells calls turns (append_parts pieces others) e) (v ++ u))
         ∙ go (has_vector g.grid u) refl has (λ q.
-            let x = m.2 in
-            let lu = has_length g.grid u q in
-            ap first (
-              (λ i. run calls turns (x.whole i) (bind e j.index (vector Int (v ++ u))))
-              ∙ made_both calls turns j.index x.outer x.inner (length h.grid) (length g.grid) x.makes x.body e v u x.made x.avoids long lu short (omega (arith, lu, few))
-              ∙ sym (renamed calls turns (under (under itself h.index x.outer) g.index x.inner) (bind (bind e h.index (vector Int v)) g.index (vector Int u)) (bind (bind e x.outer (vector Int v)) x.inner (vector Int u)) (chain (before ++ after) c) x.body
-                  (agree_bind (under itself h.index x.outer) (bind e h.index (vector Int v)) (bind e x.outer (vector Int v)) g.index x.inner (vector Int u) (agree_bind itself e e h.index x.outer (vector Int v) (agree_itself e))) x.renamed))
-            ∙ same g c (embed g c (inl (refl, refl))) u)
+        let x = m.2 in
+        let lu = has_length g.grid u q in
+        ap first (
+        (λ i. run calls turns (x.whole i) (bind e j.index (vector Int (v ++ u))))
+        ∙ made_both calls turns j.index x.outer x.inner (length h.grid) (length g.grid) x.makes x.body e v u x.made x.avoids long lu short (omega (arith, lu, few))
+        ∙ sym (renamed calls turns (under (under itself h.index x.outer) g.index x.inner) (bind (bind e h.index (vector Int v)) g.index (vector Int u)) (bind (bind e x.outer (vector Int v)) x.inner (vector Int u)) (chain (before ++ after) c) x.body
+        (agree_bind (under itself h.index x.outer) (bind e h.index (vector Int v)) (bind e x.outer (vector Int v)) g.index x.inner (vector Int u) (agree_bind itself e e h.index x.outer (vector Int v) (agree_itself e))) x.renamed))
+        ∙ same g c (embed g c (inl (refl, refl))) u)
         (λ q. pieces_cell rest pieces others u m.3 (λ i b s. embed i b (inr s)) q few)
       where
         go : (b : Bool) → has_vector g.grid u ≡ b → (b || any_has rest u) ≡ true → (has_vector g.grid u ≡ true → first (run calls turns d (bind e j.index (vector Int (v ++ u)))) ≡ first (run calls turns c (bind f g.index (vector Int u))))
             → (any_has rest u ≡ true → cell_at (cell_form t []) (cells calls turns (append_parts pieces others) e) (v ++ u) ≡ cell_at (cell_form t []) (cells calls turns rest f) u)
             → (if b then and_then (first (run calls turns d (bind e j.index (vector Int (v ++ u))))) (held (cell_form t []) g.site) else cell_at (cell_form t []) (cells calls turns (append_parts pieces others) e) (v ++ u))
-                ≡ (if b then and_then (first (run calls turns c (bind f g.index (vector Int u)))) (held (cell_form t []) g.site) else cell_at (cell_form t []) (cells calls turns rest f) u)
+            ≡ (if b then and_then (first (run calls turns c (bind f g.index (vector Int u)))) (held (cell_form t []) g.site) else cell_at (cell_form t []) (cells calls turns rest f) u)
         go true q n here there = λ i. and_then (here q i) (held (cell_form t []) g.site)
         go false q n here there = there n
 
@@ -166,25 +166,24 @@ module _ (core : CoreTerm) (calls : CallMeaning) (turns : ℕ) (typed : CallsTyp
       let nest = w.1.1.0 in
       go (has_vector h.grid v) refl has
       (λ q.
-          let N = nest_cells core calls turns typed called fit h.grid v q (has_length h.grid v q) (in_part k h) (own_index (length h.grid) h.index) frame t b w.0 nest y.1 (h.index ∷ scope) ((h.index, Int) ∷ g) (bind e h.index (vector Int v))
-          (record {
-              bases = bs.0;
-              once = distinct_left (bound_in b) (bound_in_parts rest) once.1;
-              scoped = sc.1;
-              full = full.0;
-              typed = typed_one g e h.index Int (vector Int v) ty refl;
-              sound = entered k e h v s q;
-            }) (says_own (length h.grid) h.index e v (has_length h.grid v q) words) in
-          (
-            cells calls turns w.0 N.0,
-            (λ i. and_then (N.1 i) (held (cell_form t cell) h.site)) ∙ held_all t cell (extents frame ++ []) h.site (each (cell_at (cell_form t []) (cells calls turns w.0 N.0)) (members frame)) (append_nothing (extents frame) ∙ ext),
-            (λ u inn.
-                let lu = has_length frame u inn in
-                (λ i. cell_at (cell_form t []) (cells calls turns (y.0 i) e) (v ++ u)) ∙ pieces_cell h nest.before nest.after w.0 N.0 v (has_length h.grid v q) q (omega (arith, sn, lv, has_length h.grid v q)) N.2 w.0 pieces others u y.2 (λ i c st. st) (covered_any frame w.0 u N.3 inn) (omega (arith, lu, sf))),
-          ))
+      let N = nest_cells core calls turns typed called fit h.grid v q (has_length h.grid v q) (in_part k h) (own_index (length h.grid) h.index) frame t b w.0 nest y.1 (h.index ∷ scope) ((h.index, Int) ∷ g) (bind e h.index (vector Int v))
+      (record {
+        bases = bs.0;
+        once = distinct_left (bound_in b) (bound_in_parts rest) once.1;
+        scoped = sc.1;
+        full = full.0;
+        typed = typed_one g e h.index Int (vector Int v) ty refl;
+        sound = entered k e h v s q;
+      }) (says_own (length h.grid) h.index e v (has_length h.grid v q) words) in (
+        cells calls turns w.0 N.0,
+        (λ i. and_then (N.1 i) (held (cell_form t cell) h.site)) ∙ held_all t cell (extents frame ++ []) h.site (each (cell_at (cell_form t []) (cells calls turns w.0 N.0)) (members frame)) (append_nothing (extents frame) ∙ ext),
+        (λ u inn.
+            let lu = has_length frame u inn in
+            (λ i. cell_at (cell_form t []) (cells calls turns (y.0 i) e) (v ++ u)) ∙ pieces_cell h nest.before nest.after w.0 N.0 v (has_length h.grid v q) q (omega (arith, sn, lv, has_length h.grid v q)) N.2 w.0 pieces others u y.2 (λ i c st. st) (covered_any frame w.0 u N.3 inn) (omega (arith, lu, sf))),
+      ))
       (λ q r.
-          let z = merged_cell outer cell scope g rest w.1.0 w.1.1.1 others v y.3 (All-tail (Within outer) h.grid (part_grids rest) ins) bs.1 (distinct_right (bound_in b) (bound_in_parts rest) once.1) sc.2 full.1 ty s ext lv sn sf words r in
-          (z.0, z.1, λ u inn. (λ i. cell_at (cell_form t []) (cells calls turns (y.0 i) e) (v ++ u)) ∙ passed_over h nest.before nest.after w.0 pieces others v u (length outer) y.2 lv (λ x p. has_length outer x (All-head (Within outer) h.grid (part_grids rest) ins x p)) q ∙ z.2 u inn))
+      let z = merged_cell outer cell scope g rest w.1.0 w.1.1.1 others v y.3 (All-tail (Within outer) h.grid (part_grids rest) ins) bs.1 (distinct_right (bound_in b) (bound_in_parts rest) once.1) sc.2 full.1 ty s ext lv sn sf words r in
+      (z.0, z.1, λ u inn. (λ i. cell_at (cell_form t []) (cells calls turns (y.0 i) e) (v ++ u)) ∙ passed_over h nest.before nest.after w.0 pieces others v u (length outer) y.2 lv (λ x p. has_length outer x (All-head (Within outer) h.grid (part_grids rest) ins x p)) q ∙ z.2 u inn))
     where
       Cell : Ends (Option ArrayValue) → Type 0
       Cell x = (inner : List _) × (x ≡ and_then (and_then (each (cell_at (cell_form t []) inner) (members frame)) (λ found. Ok (joined t (extents frame ++ []) found))) (λ a. Ok (Some a))) × ((u : List ℤ) → has_vector frame u ≡ true → cell_at (cell_form t []) (cells calls turns new e) (v ++ u) ≡ cell_at (cell_form t []) inner u)
@@ -213,6 +212,6 @@ merge_outcome above a b step well other =
     let f = step.function in
     body_outcome a step.place f step.body step.found well
     (λ turns C args typed fit full once scoped agreeing env sound.
-        changed a C turns typed (called a) fit (MergesHere (called a) (above f)) (λ k b c r scope gs ts e' q. merge_here a C turns typed (called a) fit (above f) k b c r scope gs ts e' q) step.edited (param_vars f) (param_bases f) (bases f.results) (bind_all no_variables (param_vars f) args)
-        (record { bases = agreeing; once = distinct_right (param_vars f) (bound_in f.body) once; scoped = scoped; full = full; typed = env; sound = sound }))
+    changed a C turns typed (called a) fit (MergesHere (called a) (above f)) (λ k b c r scope gs ts e' q. merge_here a C turns typed (called a) fit (above f) k b c r scope gs ts e' q) step.edited (param_vars f) (param_bases f) (bases f.results) (bind_all no_variables (param_vars f) args)
+    (record { bases = agreeing; once = distinct_right (param_vars f) (bound_in f.body) once; scoped = scoped; full = full; typed = env; sound = sound }))
     b step.changed other

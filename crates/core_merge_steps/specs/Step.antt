@@ -23,9 +23,9 @@ abbrev pub Picks : Var → ℕ → List Var → List LetTerm → Type 0
 Picks u j [] ls = ls ≡ []
 Picks u j (x ∷ xs) ls =
     (c : Var) × ((s : Site) × ((t : Site) ×
-        ((more : List LetTerm) × ((ls ≡ record { targets = c ∷ []; site = s; right = Plain (PlainTerm.Const (scalar Int (pos j))) } ∷
-        record { targets = x ∷ []; site = t; right = Plain (PlainTerm.Select u c) } ∷ more)
-        × (eqb c.0 u.0 ≡ false) × (eqb x.0 u.0 ≡ false) × (is_in x (targets_of more) ≡ false) × Picks u (suc j) xs more))))
+    ((more : List LetTerm) × ((ls ≡ record { targets = c ∷ []; site = s; right = Plain (PlainTerm.Const (scalar Int (pos j))) } ∷
+    record { targets = x ∷ []; site = t; right = Plain (PlainTerm.Select u c) } ∷ more)
+    × (eqb c.0 u.0 ≡ false) × (eqb x.0 u.0 ≡ false) × (is_in x (targets_of more) ≡ false) × Picks u (suc j) xs more))))
 
 -- the first n components of u as the vector i, and the m others as the vector l
 pub record IndicesMade (u i l : Var) (n m : ℕ) (makes : List LetTerm) : Type 0 where
@@ -65,8 +65,8 @@ module _ (called : ℕ → List (Option (List ℕ))) (k : Facts) (frame : List G
   MergedParts NoParts count w new = new ≡ NoParts
   MergedParts (Part h b rest) count w new =
       (pieces : PartsTerm) × ((others : PartsTerm) ×
-          ((new ≡ append_parts pieces others) × AvoidsParts w.1.1.0.z w.0 × InnerMerged h w.1.1.0.before w.1.1.0.after w.0 pieces ×
-          MergedParts rest w.1.0 w.1.1.1 others))
+      ((new ≡ append_parts pieces others) × AvoidsParts w.1.1.0.z w.0 × InnerMerged h w.1.1.0.before w.1.1.0.after w.0 pieces ×
+      MergedParts rest w.1.0 w.1.1.1 others))
 
 -- one parted genarray becomes one over the product of the frames
 pub record MergesHere (called : ℕ → List (Option (List ℕ))) (above : ℕ) (k : Facts) (b c : BlockTerm) : Type 0 where

@@ -59,13 +59,13 @@ module _ (core : CoreTerm) (calls : CallMeaning) (turns : ℕ) (typed : CallsTyp
       changed (later {known = k} {xs = xs} {s = s} {r = r} {b = b} {c = c} h) scope g ts e a w f =
           then_same (right_value calls turns r s e) (λ vs. run calls turns b (bind_all e xs vs)) (λ vs. run calls turns c (bind_all e xs vs))
           (λ vs q. changed h (xs ++ scope) (zip xs a.bases.0 ++ g) ts (bind_all e xs vs) (record {
-                  bases = a.bases.1.2;
-                  once = distinct_right (bound_in_right r) (bound_in b) (distinct_right xs (bound_in_right r ++ bound_in b) a.once);
-                  scoped = a.scoped.2;
-                  full = a.full.2;
-                  typed = bound_zip g e xs a.bases.0 vs a.typed (distinct_left xs (bound_in_right r ++ bound_in b) a.once) a.bases.1.1 (right_typed core calls turns typed r s g a.bases.0 e vs a.bases.1.0 (distinct_left (bound_in_right r) (bound_in b) (distinct_right xs (bound_in_right r ++ bound_in b) a.once)) a.typed q);
-                  sound = noted k e xs (right_facts called r k) vs a.sound (right_sound calls turns called fit r s k e vs a.full.0 a.full.1 a.sound q);
-                }) (within_zip m g xs a.bases.0 w f.0) f.2)
+            bases = a.bases.1.2;
+            once = distinct_right (bound_in_right r) (bound_in b) (distinct_right xs (bound_in_right r ++ bound_in b) a.once);
+            scoped = a.scoped.2;
+            full = a.full.2;
+            typed = bound_zip g e xs a.bases.0 vs a.typed (distinct_left xs (bound_in_right r ++ bound_in b) a.once) a.bases.1.1 (right_typed core calls turns typed r s g a.bases.0 e vs a.bases.1.0 (distinct_left (bound_in_right r) (bound_in b) (distinct_right xs (bound_in_right r ++ bound_in b) a.once)) a.typed q);
+            sound = noted k e xs (right_facts called r k) vs a.sound (right_sound calls turns called fit r s k e vs a.full.0 a.full.1 a.sound q);
+          }) (within_zip m g xs a.bases.0 w f.0) f.2)
       changed (inside {known = k} {xs = xs} {s = s} {r = r} {b = b} h) scope g ts e a w f =
           λ i. and_then (changed_right h s scope g a.bases.0 e (record { bases = a.bases.1.0; once = distinct_left (bound_in_right r) (bound_in b) (distinct_right xs (bound_in_right r ++ bound_in b) a.once); scoped = a.scoped.0; full = a.full.1; typed = a.typed; sound = a.sound }) w f.1 i) (λ vs. run calls turns b (bind_all e xs vs))
 
@@ -81,18 +81,18 @@ module _ (core : CoreTerm) (calls : CallMeaning) (turns : ℕ) (typed : CallsTyp
           loop_same (λ vs. DescribeAll [] vs × HaveBases ts vs) fb turns s u (λ vs. first (run calls turns t (bind_all e params vs))) (λ vs. first (run calls turns c (bind_all e params vs)))
           (λ vs. run calls turns b (bind_all e params vs)) (λ vs. run calls turns b (bind_all e params vs))
           (λ vs d. ap first (changed h (params ++ scope) (zip params ts ++ g) (Truth ∷ []) (bind_all e params vs) (record {
-                    bases = a.bases.2;
-                    once = distinct_left (bound_in t) (bound_in b) rest;
-                    scoped = a.scoped.2;
-                    full = a.full.0;
-                    typed = bound_zip g e params ts vs a.typed p a.bases.1 d.1;
-                    sound = noted k e params [] vs a.sound d.0;
-                  }) (within_zip m g params ts w f.0) f.1))
+            bases = a.bases.2;
+            once = distinct_left (bound_in t) (bound_in b) rest;
+            scoped = a.scoped.2;
+            full = a.full.0;
+            typed = bound_zip g e params ts vs a.typed p a.bases.1 d.1;
+            sound = noted k e params [] vs a.sound d.0;
+          }) (within_zip m g params ts w f.0) f.1))
           (λ vs d. refl)
           (λ vs ws d q. (
-                all_full (block_facts called b n) ws (block_sound calls turns called fit b n (bind_all e params vs) ws a.full.1 (noted k e params [] vs a.sound d.0) q),
-                block_typed core calls turns typed b (zip params ts ++ g) ts (bind_all e params vs) ws a.bases.3 (distinct_right (bound_in t) (bound_in b) rest) (bound_zip g e params ts vs a.typed p a.bases.1 d.1) q,
-              ))
+            all_full (block_facts called b n) ws (block_sound calls turns called fit b n (bind_all e params vs) ws a.full.1 (noted k e params [] vs a.sound d.0) q),
+            block_typed core calls turns typed b (zip params ts ++ g) ts (bind_all e params vs) ws a.bases.3 (distinct_right (bound_in t) (bound_in b) rest) (bound_zip g e params ts vs a.typed p a.bases.1 d.1) q,
+          ))
           (map e start) (all_full (map k start) (map e start) (described k e start a.sound), values_typed g e start ts a.typed a.bases.0)
       changed_right (in_body {known = k} {first = fb} {start = start} {params = params} {a = t} {b = b} {c = c} {s = u} h) s scope g ts e a w f =
           let rest = distinct_right params (bound_in t ++ bound_in b) a.once in
@@ -102,17 +102,17 @@ module _ (core : CoreTerm) (calls : CallMeaning) (turns : ℕ) (typed : CallsTyp
           (λ vs. run calls turns b (bind_all e params vs)) (λ vs. run calls turns c (bind_all e params vs))
           (λ vs d. refl)
           (λ vs d. changed h (params ++ scope) (zip params ts ++ g) ts (bind_all e params vs) (record {
-                  bases = a.bases.3;
-                  once = distinct_right (bound_in t) (bound_in b) rest;
-                  scoped = a.scoped.3;
-                  full = a.full.1;
-                  typed = bound_zip g e params ts vs a.typed p a.bases.1 d.1;
-                  sound = noted k e params [] vs a.sound d.0;
-                }) (within_zip m g params ts w f.0) f.2)
+            bases = a.bases.3;
+            once = distinct_right (bound_in t) (bound_in b) rest;
+            scoped = a.scoped.3;
+            full = a.full.1;
+            typed = bound_zip g e params ts vs a.typed p a.bases.1 d.1;
+            sound = noted k e params [] vs a.sound d.0;
+          }) (within_zip m g params ts w f.0) f.2)
           (λ vs ws d q. (
-                all_full (block_facts called b n) ws (block_sound calls turns called fit b n (bind_all e params vs) ws a.full.1 (noted k e params [] vs a.sound d.0) q),
-                block_typed core calls turns typed b (zip params ts ++ g) ts (bind_all e params vs) ws a.bases.3 (distinct_right (bound_in t) (bound_in b) rest) (bound_zip g e params ts vs a.typed p a.bases.1 d.1) q,
-              ))
+            all_full (block_facts called b n) ws (block_sound calls turns called fit b n (bind_all e params vs) ws a.full.1 (noted k e params [] vs a.sound d.0) q),
+            block_typed core calls turns typed b (zip params ts ++ g) ts (bind_all e params vs) ws a.bases.3 (distinct_right (bound_in t) (bound_in b) rest) (bound_zip g e params ts vs a.typed p a.bases.1 d.1) q,
+          ))
           (map e start) (all_full (map k start) (map e start) (described k e start a.sound), values_typed g e start ts a.typed a.bases.0)
       changed_right (in_gens {op = op} h) s scope g ts e a w f =
           λ i. one (with_value (changed_gens h scope g a.bases.0 e (record { bases = a.bases.1.1; once = a.once; scoped = a.scoped.1; full = a.full; typed = a.typed; sound = a.sound }) w f i) (operation op s e))
@@ -122,25 +122,29 @@ module _ (core : CoreTerm) (calls : CallMeaning) (turns : ℕ) (typed : CallsTyp
       pub changed_gens : {k : Facts} {r q : GensTerm} → EditedGens Facts (fact_ways called) Rule k r q → (scope : List Var) (g : Bases) (t : Base) (e : Env) → (a : GensAt core calls turns scope g t k r e) → Within m g → FollowsGens core m r g t a.bases → generators calls turns r e ≡ generators calls turns q e
       changed_gens (this_gen {known = k} {h = j} {b = b} {rest = rest} h) scope g t e a w f =
           λ i. generator j (λ index. first (changed h ((j.index ∷ j.names) ++ scope) (ints (j.index ∷ j.names) ++ g) (t ∷ []) (with_index e j index) (record {
-                  bases = a.bases.4;
-                  once = distinct_left (bound_in b) (bound_in_gens rest) (distinct_right (j.index ∷ j.names) (bound_in b ++ bound_in_gens rest) a.once);
-                  scoped = a.scoped.2;
-                  full = a.full.0;
-                  typed = bound_index g e j.index j.names index a.typed (distinct_left (j.index ∷ j.names) (bound_in b ++ bound_in_gens rest) a.once);
-                  sound = noted k e (j.index ∷ j.names) [] (vector Int index ∷ map (scalar Int) index) a.sound (vector_full index, scalars_full index);
-                }) (within_ints m g (j.index ∷ j.names) w f.0) f.1 i)) e ∷ generators calls turns rest e
+            bases = a.bases.4;
+            once = distinct_left (bound_in b) (bound_in_gens rest) (distinct_right (j.index ∷ j.names) (bound_in b ++ bound_in_gens rest) a.once);
+            scoped = a.scoped.2;
+            full = a.full.0;
+            typed = bound_index g e j.index j.names index a.typed (distinct_left (j.index ∷ j.names) (bound_in b ++ bound_in_gens rest) a.once);
+            sound = noted k e (j.index ∷ j.names) [] (vector Int index ∷ map (scalar Int) index) a.sound (vector_full index, scalars_full index);
+          }) (within_ints m g (j.index ∷ j.names) w f.0) f.1 i)) e ∷ generators calls turns rest e
       changed_gens (later_gen {h = j} {b = b} {g = r} h) scope g t e a w f =
           λ i. generator j (λ index. first (run calls turns b (with_index e j index))) e ∷ changed_gens h scope g t e (record { bases = a.bases.5; once = distinct_right (bound_in b) (bound_in_gens r) (distinct_right (j.index ∷ j.names) (bound_in b ++ bound_in_gens r) a.once); scoped = a.scoped.3; full = a.full.1; typed = a.typed; sound = a.sound }) w f.2 i
 
       pub changed_parts : {k : Facts} {r q : PartsTerm} → EditedParts Facts (fact_ways called) Rule k r q → (scope : List Var) (g : Bases) (t : Base) (e : Env) → (a : PartsAt core calls turns scope g t k r e) → Within m g → FollowsParts core m r g t a.bases → SameCells (cells calls turns r e) (cells calls turns q e)
-      changed_parts (this_part {known = k} {h = j} {b = b} {rest = rest} h) scope g t e a w f =
-          (refl, refl, (λ index q. ap first (changed h (j.index ∷ scope) ((j.index, Int) ∷ g) (t ∷ []) (bind e j.index (vector Int index)) (record {
-                      bases = a.bases.0;
-                      once = distinct_left (bound_in b) (bound_in_parts rest) a.once.1;
-                      scoped = a.scoped.1;
-                      full = a.full.0;
-                      typed = typed_one g e j.index Int (vector Int index) a.typed refl;
-                      sound = entered k e j index a.sound q;
-                    }) (within_one m g j.index Int w f.0) f.1)), same_cells-refl (cells calls turns rest e))
+      changed_parts (this_part {known = k} {h = j} {b = b} {rest = rest} h) scope g t e a w f = (
+        refl,
+        refl,
+        (λ index q. ap first (changed h (j.index ∷ scope) ((j.index, Int) ∷ g) (t ∷ []) (bind e j.index (vector Int index)) (record {
+          bases = a.bases.0;
+          once = distinct_left (bound_in b) (bound_in_parts rest) a.once.1;
+          scoped = a.scoped.1;
+          full = a.full.0;
+          typed = typed_one g e j.index Int (vector Int index) a.typed refl;
+          sound = entered k e j index a.sound q;
+        }) (within_one m g j.index Int w f.0) f.1)),
+        same_cells-refl (cells calls turns rest e),
+      )
       changed_parts (later_part {h = j} {b = b} {p = r} h) scope g t e a w f =
           (refl, refl, (λ index q. refl), changed_parts h scope g t e (record { bases = a.bases.1; once = distinct_right (bound_in b) (bound_in_parts r) a.once.1; scoped = a.scoped.2; full = a.full.1; typed = a.typed; sound = a.sound }) w f.2)

@@ -106,8 +106,7 @@ module _ (core : CoreTerm) where
       follow : (b : BlockTerm) (g : Bases) (ts : List Base) (d : BlockBases core g b ts) → Agrees m (collect b g ts d) → Follows core m b g ts d
       follow (Gives xs) g ts d h = tt
       follow (Bind xs s r b) g ts d h =
-          let rest = right m (zip xs d.0) (collect_right r g d.0 d.1.0 ++ collect b (zip xs d.0 ++ g) ts d.1.2) h in
-          (
+          let rest = right m (zip xs d.0) (collect_right r g d.0 d.1.0 ++ collect b (zip xs d.0 ++ g) ts d.1.2) h in (
             zip_agrees m xs d.0 d.1.1 (left m (zip xs d.0) (collect_right r g d.0 d.1.0 ++ collect b (zip xs d.0 ++ g) ts d.1.2) h),
             follow_right r g d.0 d.1.0 (left m (collect_right r g d.0 d.1.0) (collect b (zip xs d.0 ++ g) ts d.1.2) rest),
             follow b (zip xs d.0 ++ g) ts d.1.2 (right m (collect_right r g d.0 d.1.0) (collect b (zip xs d.0 ++ g) ts d.1.2) rest),

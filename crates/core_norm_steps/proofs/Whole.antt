@@ -43,6 +43,6 @@ norm_outcome above a b step well other =
     let f = step.function in
     body_outcome a step.place f step.body step.found well
     (λ turns C args typed fit full once scoped agreeing env sound.
-        changed a C turns typed (called a) fit step.table (NormHere (above f) step.table) (λ k b c r scope gs ts e' q w z. norm_here a C turns (above f) step.table k b c r scope gs ts e' q w) step.edited (param_vars f) (param_bases f) (bases f.results) (bind_all no_variables (param_vars f) args)
-        (record { bases = step.agreeing; once = distinct_right (param_vars f) (bound_in f.body) once; scoped = scoped; full = full; typed = env; sound = sound }) step.params step.follows)
+    changed a C turns typed (called a) fit step.table (NormHere (above f) step.table) (λ k b c r scope gs ts e' q w z. norm_here a C turns (above f) step.table k b c r scope gs ts e' q w) step.edited (param_vars f) (param_bases f) (bases f.results) (bind_all no_variables (param_vars f) args)
+    (record { bases = step.agreeing; once = distinct_right (param_vars f) (bound_in f.body) once; scoped = scoped; full = full; typed = env; sound = sound }) step.params step.follows)
     b step.changed other

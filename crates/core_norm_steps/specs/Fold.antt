@@ -21,8 +21,8 @@ abbrev pub FoldPartOf : ℕ → GensTerm → Option ℕ → PartHead → BlockTe
 FoldPartOf n gens None h b = ⊥
 FoldPartOf n gens (Some m) h b =
     (head : GenHead) × ((body : BlockTerm) ×
-        (GenAt gens m head body × (h.site ≡ head.site) × ((head.names ≡ []) ⊎ (length head.names ≡ n)) ×
-        NamedBody (under itself head.index h.index) h.index 0 head.names body b))
+    (GenAt gens m head body × (h.site ≡ head.site) × ((head.names ≡ []) ⊎ (length head.names ≡ n)) ×
+    NamedBody (under itself head.index h.index) h.index 0 head.names body b))
 
 abbrev pub FoldLabelled : ℕ → GensTerm → List (List Grid1 × Option ℕ) → PartsTerm → Type 0
 FoldLabelled n gens [] NoParts = Unit {0}

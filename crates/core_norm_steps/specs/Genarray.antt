@@ -31,17 +31,17 @@ abbrev pub NamedBody : Link → Var → ℕ → List Var → BlockTerm → Block
 NamedBody S i j [] body b = Renamed S body b
 NamedBody S i j (x ∷ xs) body b =
     (c : Var) × ((y : Var) × ((s : Site) ×
-        ((t : Site) × ((rest : BlockTerm) ×
-        ((b ≡ Bind (c ∷ []) s (Plain (PlainTerm.Const (scalar Int (pos j)))) (Bind (y ∷ []) t (Plain (PlainTerm.Select i c)) rest))
-        × (eqb c.0 i.0 ≡ false) × (eqb y.0 i.0 ≡ false) × Avoids c rest × NamedBody (under S x y) i (suc j) xs body rest)))))
+    ((t : Site) × ((rest : BlockTerm) ×
+    ((b ≡ Bind (c ∷ []) s (Plain (PlainTerm.Const (scalar Int (pos j)))) (Bind (y ∷ []) t (Plain (PlainTerm.Select i c)) rest))
+    × (eqb c.0 i.0 ≡ false) × (eqb y.0 i.0 ≡ false) × Avoids c rest × NamedBody (under S x y) i (suc j) xs body rest)))))
 
 -- a part of a generator, or of the default
 abbrev pub PartOf : Var → ℕ → GensTerm → Option ℕ → PartHead → BlockTerm → Type 0
 PartOf default n gens None h b = (b ≡ Gives (default ∷ [])) × (eqb h.index.0 default.0 ≡ false)
 PartOf default n gens (Some m) h b =
     (head : GenHead) × ((body : BlockTerm) ×
-        (GenAt gens m head body × (h.site ≡ head.site) × ((head.names ≡ []) ⊎ (length head.names ≡ n)) ×
-        NamedBody (under itself head.index h.index) h.index 0 head.names body b))
+    (GenAt gens m head body × (h.site ≡ head.site) × ((head.names ≡ []) ⊎ (length head.names ≡ n)) ×
+    NamedBody (under itself head.index h.index) h.index 0 head.names body b))
 
 abbrev pub LabelledParts : Var → ℕ → GensTerm → List (List Grid1 × Option ℕ) → PartsTerm → Type 0
 LabelledParts default n gens [] NoParts = Unit {0}

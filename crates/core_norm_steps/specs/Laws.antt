@@ -37,7 +37,7 @@ ScalarsSelectAsVectors =
     (calls : CallMeaning) (turns : ℕ) (a i t j : Var) (s u : Site) (rest : BlockTerm) (e : Env) → (e i).shape ≡ [] → eqb j.0 a.0 ≡ false →
     Avoids j rest →
     run calls turns (Bind (t ∷ []) s (Plain (Select a i)) rest) e ≡
-        run calls turns (Bind (j ∷ []) u (Plain (Literal (i ∷ []))) (Bind (t ∷ []) s (Plain (Select a j)) rest)) e
+    run calls turns (Bind (j ∷ []) u (Plain (Literal (i ∷ []))) (Bind (t ∷ []) s (Plain (Select a j)) rest)) e
 
 -- the same of a fold with-loop, whose parts are those of generators alone
 abbrev pub FoldsAreParted : Type 0

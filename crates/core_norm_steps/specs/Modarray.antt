@@ -22,8 +22,8 @@ OldPartOf array n gens None h b = (z : Var) ×
     ((s : Site) × ((b ≡ Bind (z ∷ []) s (Plain (PlainTerm.Select array h.index)) (Gives (z ∷ []))) × (eqb h.index.0 array.0 ≡ false)))
 OldPartOf array n gens (Some m) h b =
     (head : GenHead) × ((body : BlockTerm) ×
-        (GenAt gens m head body × (h.site ≡ head.site) × ((head.names ≡ []) ⊎ (length head.names ≡ n)) ×
-        NamedBody (under itself head.index h.index) h.index 0 head.names body b))
+    (GenAt gens m head body × (h.site ≡ head.site) × ((head.names ≡ []) ⊎ (length head.names ≡ n)) ×
+    NamedBody (under itself head.index h.index) h.index 0 head.names body b))
 
 abbrev pub OldLabelled : Var → ℕ → GensTerm → List (List Grid1 × Option ℕ) → PartsTerm → Type 0
 OldLabelled array n gens [] NoParts = Unit {0}
