@@ -1,4 +1,4 @@
-use Rattle.sac_top.proofs.Arguments as arguments
+use Rattle.sac_top.proofs.GivenArrays as arguments
 use Rattle.sac_top.proofs.arguments.generate_arguments.Goals as goal
 
 pub returns-clause-arrays : goal.returns-clause-arrays
