@@ -1,11 +1,12 @@
 //! A function's body in the place of a call.
 
 ghost use Rattle.std.specs.Prelude.{◌≡◌, ◌+◌, ◌≤◌, ◌^◌, ◌++◌, [], ◌∷◌, IfOk, OnOk, map};
-ghost use Rattle.core_ir.specs.Terms.{BlockTerm, Plain, Check, chain};
+ghost use Rattle.core_ir.specs.Terms.{Plain, Check};
 ghost use Rattle.core_ir.specs.View.{block_term, fun_term, let_term};
 ghost use Rattle.core_subst.specs.Names.{above_function};
 ghost use Rattle.core_copy.specs.Mapped.{raised_within};
-ghost use Rattle.core_inlining.specs.Inlined.{bindings, checks, inlined};
+ghost use Rattle.core_inlining.specs.Inlined.{bindings, checks};
+ghost use Rattle.inline_calls.specs.Placed.{StandFor};
 
 use core_copy::{copy_raised, raise};
 use core_ir::{Block, CoreFun, Let, Right, Var};
@@ -25,7 +26,7 @@ pub fn inlined_bindings(
     args: &[Var],
 ) -> Result<Vec<Let>, Memory>
     requires { above_function (fun_term function.now) + by ≤ 2 ^ 32 }
-    ensures { IfOk result (λ lets. (rest : BlockTerm) → chain (map let_term lets.items) rest ≡ inlined by (fun_term function.now) targets.now site args.now rest) }
+    ensures { IfOk result (λ lets. StandFor by (fun_term function.now) targets.now site args.now (map let_term lets.items)) }
 {
     let params = raised_params(alloc, &function.params, by)?;
     let types = types_of(alloc, &function.params)?;
