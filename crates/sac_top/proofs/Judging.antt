@@ -17,7 +17,7 @@ use Rattle.sac_parse.specs.Tokens.{lexemes}
 use Rattle.sac_parse.specs.Verdict.{IsRefusalOf}
 use Rattle.type_check.specs.declared.program.CheckError.{CheckError}
 use Rattle.type_check.specs.declared.program.CheckError.TheVariants as check_error
-use Rattle.check_rules.specs.Programs.{IsRefusal as IsRefused}
+use Rattle.type_check.specs.Refusals.{IsRefusal as IsRefused}
 use Rattle.sac_lex.specs.Codes.{lex_code}
 use Rattle.check_rules.specs.Codes.{check_code}
 use Rattle.sac_due.specs.Texts.{refused_at}
