@@ -7,7 +7,7 @@ pub returns-in_err-compiled-clause-cleared : goal.returns-in_err-compiled-clause
 returns-in_err-compiled-clause-cleared g c = untouched _ c.requires.new
 
 pub run-result-requires-clause-counted : goal.run-result-requires-clause-counted
-run-result-requires-clause-counted g c = c.in_ok-compiled.ensures.counted (source_formed c.requires.read.0 _ c.requires.read.1)
+run-result-requires-clause-counted g c κs within = c.in_ok-compiled.ensures.counted (source_formed c.requires.read.0 _ c.requires.read.1)
 
 pub returns-clause-outcome : goal.returns-clause-outcome
 returns-clause-outcome g c =
