@@ -1,0 +1,2 @@
+mod SlotFacts
+mod NoteFacts

@@ -1,0 +1,9 @@
+//! What is known of the variables of a core, in a table that the end of a block takes back.
+#![tactic(auto)]
+
+mod known;
+mod slots;
+mod table;
+
+pub use known::Known;
+pub use table::FactTable;
