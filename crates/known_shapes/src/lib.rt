@@ -3,4 +3,7 @@
 
 mod results;
 
-pub use results::{both_shapes, common_shape, one_shape, rank_shape, shape_literal, type_shape};
+pub use results::{
+    both_shapes, common_shape, one_shape, rank_shape, scalar_shape, selected_shape, shape_literal,
+    type_shape,
+};

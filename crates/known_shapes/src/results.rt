@@ -2,7 +2,8 @@
 
 ghost use Rattle.std.specs.Prelude.{◌≡◌};
 ghost use Rattle.sac_base.specs.Operators.{common_shape as common};
-ghost use Rattle.core_facts.specs.Facts.{both_shapes as both, one_shape as same, type_shape as typed, shape_literal as literal_shape, rank_of};
+ghost use Rattle.core_facts.specs.Facts.{both_shapes as both, one_shape as same, type_shape as typed, shape_literal as literal_shape, rank_of, is_scalar_of};
+ghost use Rattle.core_facts.specs.Facts.{selected_shape as selected, index_count as count_of, rest_of as behind};
 
 use sac_base::{Array, Part, Shape, part_has, same_shape};
 use std::alloc::Global;
@@ -80,6 +81,59 @@ pub fn rank_shape(alloc: Global, known: &Option<Shape>) -> Option<Shape>
 {
     match known {
         Some(shape) => Some(Shape::vector(alloc, shape.rank() as i32)),
+        None => None,
+    }
+}
+
+/// The shape of a number that an array gives.
+pub fn scalar_shape(alloc: Global, known: &Option<Shape>) -> Option<Shape>
+    ensures { result ≡ is_scalar_of known.now }
+{
+    match known {
+        Some(_) => Some(Shape::empty(alloc)),
+        None => None,
+    }
+}
+
+/// The shape of the part of an array at an index.
+pub fn selected_shape(array: &Option<Shape>, index: &Option<Shape>) -> Option<Shape>
+    ensures { result ≡ selected array.now index.now }
+{
+    match array {
+        Some(array) => match index {
+            Some(index) => rest_of(array, index_count(index)),
+            None => None,
+        },
+        None => None,
+    }
+}
+
+// How many components an index of this shape has.
+#[tactic(auto, using(crate::proofs::Counts::scalar_counts, crate::proofs::Counts::vector_counts, crate::proofs::Counts::others_count))]
+fn index_count(index: &Shape) -> Option<usize>
+    ensures { result ≡ count_of index.now }
+{
+    let extents = index.extents();
+    if index.rank() == 0 {
+        Some(1)
+    } else if index.rank() == 1 {
+        Some(extents[0].unsigned_abs() as usize)
+    } else {
+        None
+    }
+}
+
+fn rest_of(shape: &Shape, count: Option<usize>) -> Option<Shape>
+    ensures { result ≡ behind shape.now count }
+{
+    match count {
+        Some(n) => {
+            if n <= shape.rank() {
+                Some(shape.rest(n))
+            } else {
+                None
+            }
+        }
         None => None,
     }
 }
