@@ -1,7 +1,8 @@
 //! Parts of arrays, and the built-in functions on shapes.
 
 ghost use Rattle.std.specs.Prelude.{◌≡◌, length, IfOk};
-ghost use Rattle.sac_base.specs.Parts.{select as select_value, replace as replace_value, reshape as reshape_value, dim as dim_value, shape_vector as shape_vector_value, condition as condition_value, part_at_index, numbers_of};
+ghost use Rattle.sac_base.specs.Parts.{select as select_value, replace as replace_value, reshape as reshape_value, dim as dim_value};
+ghost use Rattle.sac_base.specs.Parts.{shape_vector as shape_vector_value, condition as condition_value, part_at_index, numbers_of};
 ghost use Rattle.array_ops.specs.Answers.{Gives};
 ghost use Rattle.array_ops.specs.Regions.{IsRegion};
 

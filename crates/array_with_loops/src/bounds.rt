@@ -3,7 +3,8 @@
 ghost use Rattle.std.specs.Prelude.{◌≡◌, ◌≤◌, ◌+ℤ◌, ◌-ℤ◌, pos, length, map, replicate, option_map, int_le, All, Bool, IsTrue, IfOk, IfSome};
 ghost use Rattle.std.specs.List.{list_all};
 ghost use Rattle.sac_base.specs.Arrays.{ArrayValue};
-ghost use Rattle.sac_base.specs.WithLoops.{counts, first_of, names_fit, part_or as part_or_value, raised as raised_value, range_from, lower_of, upper_of, step_of, range_of, all_positive};
+ghost use Rattle.sac_base.specs.WithLoops.{counts, first_of, names_fit, part_or as part_or_value, raised as raised_value, range_from, lower_of};
+ghost use Rattle.sac_base.specs.WithLoops.{upper_of, step_of, range_of, all_positive};
 ghost use Rattle.array_with_loops.specs.Plans.{first_some, frame_if, raised_list};
 ghost use Rattle.array_with_loops.specs.Ranges.{IsBound, IsStep};
 ghost use Rattle.array_ops.specs.Tells.{Tells};
@@ -32,7 +33,16 @@ impl Model for Bounds {
 
     ghost Value = { BoundsValue };
 
-    ghost view = { λ b. record { lower = b.lower; lower_closed = b.lower_closed; names = b.names; upper = b.upper; upper_closed = b.upper_closed; step = b.step; width = b.width; site = b.site } };
+    ghost view = { λ b. record {
+      lower = b.lower;
+      lower_closed = b.lower_closed;
+      names = b.names;
+      upper = b.upper;
+      upper_closed = b.upper_closed;
+      step = b.step;
+      width = b.width;
+      site = b.site;
+    } };
 }
 
 impl Bounds {
@@ -58,7 +68,8 @@ impl Bounds {
         None
     }
 
-    /// What the generator holds, where its index has `n` components, which are to be at most `most`. Where the loop is bounded, its members are to lie in the frame.
+    /// What the generator holds, where its index has `n` components, which are to be at most `most`. Where the loop is bounded, its members are to
+    /// lie in the frame.
     pub fn range(
         &self,
         alloc: Global,
@@ -95,7 +106,8 @@ impl Bounds {
 
     // The bounds with the lower one in the range and the upper one not, if the parts are vectors of `n` elements and steps and widths are at least 1.
     fn axes(&self, alloc: Global, n: usize, frame: &Shape) -> Result<Option<Range>, Memory>
-        ensures value { IfOk result (λ r. r ≡ range_from (lower_of n self.now) (upper_of n frame.now self.now) (step_of n self.now.step) (step_of n self.now.width)) }
+        ensures value { IfOk result (λ r. r
+            ≡ range_from (lower_of n self.now) (upper_of n frame.now self.now) (step_of n self.now.step) (step_of n self.now.width)) }
         ensures length { IfOk result (λ o. IfSome o (λ r. length r ≡ n)) }
     {
         let Some(lower) = self.lower_bound(alloc, n)? else {

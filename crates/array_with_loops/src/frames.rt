@@ -1,6 +1,7 @@
 //! The indices of a with-loop's frame.
 
-ghost use Rattle.std.specs.Prelude.{◌≡◌, ◌≤◌, ◌<◌, [], length, slice_index_or, List, ℤ, IfOk, IfSome, OnOk, is_some, nat_le, All, FitsSigned, false, true, map, pos};
+ghost use Rattle.std.specs.Prelude.{◌≡◌, ◌≤◌, ◌<◌, [], length, slice_index_or, List, ℤ, IfOk, IfSome, OnOk, is_some, nat_le, All, FitsSigned, false};
+ghost use Rattle.std.specs.Prelude.{true, map, pos};
 ghost use mir.Syntax.{w32};
 ghost use Rattle.sac_base.specs.Arrays.{size, MOST};
 ghost use Rattle.sac_base.specs.declared.grid.Grid1.{Grid1};

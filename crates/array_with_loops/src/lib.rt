@@ -1,4 +1,5 @@
-//! With-loops whose bounds are evaluated: which indices each generator holds, the frame, and what is made of the cells. The evaluators of sources and of cores run the cells.
+//! With-loops whose bounds are evaluated: which indices each generator holds, the frame, and what is made of the cells. The evaluators of sources
+//! and of cores run the cells.
 #![tactic(auto)]
 
 mod bounds;

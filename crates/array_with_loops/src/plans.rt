@@ -3,7 +3,8 @@
 ghost use Rattle.std.specs.Prelude.{◌≡◌, ◌≤◌, ◌+◌, length, map, All, IsTrue, IfOk};
 ghost use Rattle.sac_base.specs.Arrays.{ArrayValue, size, MOST};
 ghost use Rattle.sac_base.specs.Parts.{shape_of_numbers, vector_of};
-ghost use Rattle.sac_base.specs.WithLoops.{index_length as index_length_value, each, range_of, genarray_plan as genarray_value, modarray_plan as modarray_value, fold_plan as fold_value};
+ghost use Rattle.sac_base.specs.WithLoops.{index_length as index_length_value, each, range_of, genarray_plan as genarray_value};
+ghost use Rattle.sac_base.specs.WithLoops.{modarray_plan as modarray_value, fold_plan as fold_value};
 ghost use Rattle.std.specs.Prelude.{Bool};
 ghost use Rattle.array_with_loops.specs.Cells.{IsArrayPlan};
 ghost use Rattle.array_with_loops.specs.Plans.{frame_if, plan_of};

@@ -1,6 +1,7 @@
 //! Which indices a generator holds.
 
-ghost use Rattle.std.specs.Prelude.{◌≡◌, ◌<◌, ◌≤◌, ◌%◌, ℕ, ◌-ℤ◌, pos, true, false, int_le, int_lt, List, [], ◌∷◌, length, All, Some, None, Ok, IfOk, IfSome, IfNone, map, unsigned_abs};
+ghost use Rattle.std.specs.Prelude.{◌≡◌, ◌<◌, ◌≤◌, ◌%◌, ℕ, ◌-ℤ◌, pos, true, false, int_le, int_lt, List, [], ◌∷◌, length, All, Some, None, Ok, IfOk};
+ghost use Rattle.std.specs.Prelude.{IfSome, IfNone, map, unsigned_abs};
 ghost use Rattle.sac_base.specs.WithLoops.{holds_at, holds as holds_all, axes as axes_of, lies_in, members, is_empty_box, joined_axis, joined_range, span_of};
 ghost use Rattle.std.specs.List.{list_all};
 ghost use Rattle.array_with_loops.specs.Ranges.{IsAxis, IsBound, IsStep, is_empty_axis, axis_within, axes_within};

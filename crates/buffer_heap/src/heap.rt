@@ -1,5 +1,7 @@
-ghost use Rattle.std.specs.Prelude.{◌≡◌, IsTrue, ◌≢◌, ◌+◌, ◌-◌, ◌<◌, ◌≤◌, ◌%◌, ◌^◌, ◌==◌, ◌↔◌, ℕ, pos, [], length, replicate, count_by, is_some, Some, None, OnErr, OnOk, IfOk, ⊤};
-ghost use Rattle.buffer_heap.specs.Heaps.{In, Out, Held, HeapValue, at, IsLive, IsIn, IsInAndSole, IsNamed, HasRoom, IsLifted, with_place, with_count, with_content, count_of, content_of, lifted, released};
+ghost use Rattle.std.specs.Prelude.{◌≡◌, IsTrue, ◌≢◌, ◌+◌, ◌-◌, ◌<◌, ◌≤◌, ◌%◌, ◌^◌, ◌==◌, ◌↔◌, ℕ, pos, [], length, replicate, count_by, is_some};
+ghost use Rattle.std.specs.Prelude.{Some, None, OnErr, OnOk, IfOk, ⊤};
+ghost use Rattle.buffer_heap.specs.Heaps.{In, Out, Held, HeapValue, at, IsLive, IsIn, IsInAndSole, IsNamed, HasRoom, IsLifted, with_place};
+ghost use Rattle.buffer_heap.specs.Heaps.{with_count, with_content, count_of, content_of, lifted, released};
 ghost use Rattle.buffer_heap.specs.Places.{held_of};
 ghost use Rattle.sac_base.specs.Arrays.{MOST};
 ghost use Rattle.sac_base.specs.declared.outcome.Released.TheVariants.{Freed};

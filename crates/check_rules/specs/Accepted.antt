@@ -1,6 +1,7 @@
 -- Which programs are accepted. The violations of a program are a list of rules and sites, one for each place at which a rule is violated; a program
 -- is accepted where there is none, and is else refused at the first site in the text, with the least rule that is violated there.
-use Rattle.std.specs.Prelude.{◌≡◌, ◌≤◌, ◌<◌, ◌⊎◌, ℕ, filter, List, [], ◌∷◌, ◌++◌, Bool, true, false, not, ◌&&◌, ◌||◌, if◌then◌else◌, Option, Some, None, map, flat_map, length, bytes_eq, is_some, ◌==◌, All, Contains, codes}
+use Rattle.std.specs.Prelude.{◌≡◌, ◌≤◌, ◌<◌, ◌⊎◌, ℕ, filter, List, [], ◌∷◌, ◌++◌, Bool, true, false, not, ◌&&◌, ◌||◌, if◌then◌else◌, Option, Some}
+use Rattle.std.specs.Prelude.{None, map, flat_map, length, bytes_eq, is_some, ◌==◌, All, Contains, codes}
 use Rattle.std.specs.List.{list_any, list_all}
 use Rattle.sac_base.specs.declared.base.Base.{Base}
 use Rattle.sac_base.specs.declared.base.Base.TheVariants.{Int, Bool as Truth}
@@ -14,11 +15,15 @@ use Rattle.check_rules.specs.declared.code.CheckCode.{CheckCode}
 use Rattle.check_rules.specs.declared.code.CheckCode.TheVariants.{C1, C2, C3, C4, C5, C6, C7, C8, C9, C10}
 use Rattle.sac_ast.specs.declared.Param.{Param}
 use Rattle.sac_ast.specs.declared.Target.{Target}
-use Rattle.sac_ast.specs.Tree.{IndexTree, named, parts, Expr, Exprs, no_exprs, expr_and, MaybeExpr, left_out, given, Stmt, Block, no_stmts, stmt_and, BoundTree, dot, at, Gen, gen, Gens, no_gens, gen_and, OperationTree, FunctionTree, ProgramTree, number, truth, variable, literal, unary, binary, choice, select, call, builtin, with_loop, assign, replace, if_else, while_do, do_while, genarray, modarray, fold}
+use Rattle.sac_ast.specs.Tree.{IndexTree, named, parts, Expr, Exprs, no_exprs, expr_and, MaybeExpr, left_out, given, Stmt, Block, no_stmts, stmt_and}
+use Rattle.sac_ast.specs.Tree.{BoundTree, dot, at, Gen, gen, Gens, no_gens, gen_and, OperationTree, FunctionTree, ProgramTree, number, truth}
+use Rattle.sac_ast.specs.Tree.{variable, literal, unary, binary, choice, select, call, builtin, with_loop, assign, replace, if_else, while_do}
+use Rattle.sac_ast.specs.Tree.{do_while, genarray, modarray, fold}
 use Rattle.sac_base.specs.Operators.{result_base}
 use Rattle.check_rules.specs.declared.violation.Violation.{Violation}
 use Rattle.check_rules.specs.declared.judged.Cell.{Cell}
-use Rattle.sac_ast.specs.Bases.{are_int, where_holds, may_be, may_match, operand_base, operands_fit, agree, common_base, literal_base, builtin_base, first_base, all_known, known_bases, call_bases_in, takes_bases, first_named, same_bases, bases_of_params}
+use Rattle.sac_ast.specs.Bases.{are_int, where_holds, may_be, may_match, operand_base, operands_fit, agree, common_base, literal_base, builtin_base}
+use Rattle.sac_ast.specs.Bases.{first_base, all_known, known_bases, call_bases_in, takes_bases, first_named, same_bases, bases_of_params}
 
 -- a violation, unless the rule holds
 abbrev pub unless : Bool → CheckCode → Site → List Violation
@@ -172,7 +177,8 @@ some_takes fs name (Some bs) = list_any (takes_bases fs name bs) fs
 abbrev pub count_named : List FunctionTree → Name → ℕ
 count_named fs name = length (filter (is_named name) fs)
 
--- Where a phrase stands: the functions of the program, those before its own in the file, whether its own is inline, and the names that are bound anywhere in it.
+-- Where a phrase stands: the functions of the program, those before its own in the file, whether its own is inline, and the names that are bound
+-- anywhere in it.
 pub record Place : Type 0 where
   pub functions : List FunctionTree
   pub before : List FunctionTree
@@ -349,7 +355,8 @@ module _ (p : Place) where
         let value = in_value cell (bound_behind body inside) block.known in
         let fits = are_int least.base most.base steps.base widths.base in
         record {
-          violations = least.violations ++ repeated_targets (index_targets index) ++ indices.violations ++ most.violations ++ steps.violations ++ widths.violations ++ block.violations ++ value.violations;
+          violations = least.violations ++ repeated_targets (index_targets index) ++ indices.violations ++ most.violations
+              ++ steps.violations ++ widths.violations ++ block.violations ++ value.violations;
           cells = record { fits = fits; base = value.base; site = site } ∷ [];
           known = value.known;
         }
@@ -475,7 +482,8 @@ main_count (first ∷ second ∷ rest) end = unless false C7 second.site
 
 -- there is one `main`, and it is not inline
 abbrev pub main_rules : List FunctionTree → Site → List Violation
-main_rules fs end = main_count (filter (is_named main_name) fs) end ++ flat_map (λ (g : FunctionTree). unless (not g.inline) C8 g.site) (filter (is_named main_name) fs)
+main_rules fs end = main_count (filter (is_named main_name) fs) end
+    ++ flat_map (λ (g : FunctionTree). unless (not g.inline) C8 g.site) (filter (is_named main_name) fs)
 
 -- the rules of each function, with those that stand before it
 abbrev pub in_functions : List FunctionTree → List FunctionTree → List FunctionTree → List Violation

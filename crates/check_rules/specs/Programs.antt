@@ -33,7 +33,8 @@ one_function fs before f = earlier (unless (stands_with f before) C6 f.site) (in
 -- a function by what is found in its parts
 abbrev pub ended_first : Option Violation → Option Violation → Option Violation → List (Option Base) → FunctionTree → Option Violation
 ended_first twice body inside bases f =
-    earlier (earlier (earlier (earlier twice body) inside) (unless (length bases == length f.results) C3 f.ends)) (unless (values_fit bases f.results) C4 f.ends)
+    earlier (earlier (earlier (earlier twice body) inside) (unless (length bases == length f.results) C3 f.ends))
+    (unless (values_fit bases f.results) C4 f.ends)
 
 abbrev pub is_main_named : FunctionTree → Bool
 is_main_named f = is_named main_name f

@@ -12,9 +12,14 @@ use Rattle.sac_ast.specs.declared.Param.{Param}
 use Rattle.sac_ast.specs.declared.Target.{Target}
 use Rattle.sac_ast.specs.declared.Generator.{Generator}
 use Rattle.sac_ast.specs.View
-use Rattle.sac_ast.specs.Tree.{Expr, Exprs, no_exprs, expr_and, MaybeExpr, left_out, given, Stmt, Block, no_stmts, stmt_and, BoundTree, dot, at, Gen, gen, Gens, no_gens, gen_and, OperationTree, FunctionTree, number, truth, variable, literal, unary, binary, choice, select, call, builtin, with_loop, assign, replace, if_else, while_do, do_while, genarray, modarray, fold}
-use Rattle.sac_ast.specs.Bases.{are_int, where_holds, may_be, may_match, operand_base, operands_fit, agree, common_base, literal_base, builtin_base, first_base, all_known, known_bases, call_bases_in, first_named}
-use Rattle.check_rules.specs.Accepted.{Names, with_names, index_targets, index_names, bound_after, bound_behind, Known, bind, base_of, no_names, numbers_fit, some_takes, Place, stands_earlier, is_fold, later_bases, none_known, known_params, param_names, names_in, values_fit}
+use Rattle.sac_ast.specs.Tree.{Expr, Exprs, no_exprs, expr_and, MaybeExpr, left_out, given, Stmt, Block, no_stmts, stmt_and, BoundTree, dot, at, Gen}
+use Rattle.sac_ast.specs.Tree.{gen, Gens, no_gens, gen_and, OperationTree, FunctionTree, number, truth, variable, literal, unary, binary, choice}
+use Rattle.sac_ast.specs.Tree.{select, call, builtin, with_loop, assign, replace, if_else, while_do, do_while, genarray, modarray, fold}
+use Rattle.sac_ast.specs.Bases.{are_int, where_holds, may_be, may_match, operand_base, operands_fit, agree, common_base, literal_base, builtin_base}
+use Rattle.sac_ast.specs.Bases.{first_base, all_known, known_bases, call_bases_in, first_named}
+use Rattle.check_rules.specs.Accepted.{Names, with_names, index_targets, index_names, bound_after, bound_behind, Known, bind, base_of, no_names}
+use Rattle.check_rules.specs.Accepted.{numbers_fit, some_takes, Place, stands_earlier, is_fold, later_bases, none_known, known_params, param_names}
+use Rattle.check_rules.specs.Accepted.{names_in, values_fit}
 use Rattle.check_rules.specs.declared.violation.Violation.{Violation}
 use Rattle.check_rules.specs.declared.judged.Cell.{Cell}
 use Rattle.check_rules.specs.First.{earlier, unless, is_clean}
@@ -196,7 +201,9 @@ module _ (p : Place) where
         let value = in_value cell (bound_behind body inside) block.known in
         let fits = are_int least.base most.base steps.base widths.base in
         record {
-          first = earlier (earlier (earlier (earlier (earlier least.first (earlier (repeated_targets no_names (index_targets index)) indices.first)) most.first) steps.first) widths.first) (earlier block.first value.first);
+          first = earlier (earlier (earlier
+              (earlier (earlier least.first (earlier (repeated_targets no_names
+              (index_targets index)) indices.first)) most.first) steps.first) widths.first) (earlier block.first value.first);
           cells = record { fits = fits; base = value.base; site = site } ∷ [];
           known = value.known;
         }
@@ -234,7 +241,8 @@ module _ (p : Place) where
         let value = in_value e bound place.known in
         let here = bind target.name None value.known in
         record {
-          first = earlier (earlier (earlier (earlier (use_rules target.name target.site bound) (unless (may_be Int place.base) C4 bracket)) (unless (may_match (base_of here target.name) value.base) C4 target.site)) place.first) value.first;
+          first = earlier (earlier (earlier (earlier (use_rules target.name target.site bound) (unless (may_be Int place.base) C4 bracket))
+              (unless (may_match (base_of here target.name) value.base) C4 target.site)) place.first) value.first;
           known = here;
         }
     in_statement (if_else c first second site) bound known =

@@ -72,7 +72,8 @@ fn are_taken(
     name: &Name,
     bases: &[Option<Base>],
 ) -> bool
-    ensures { result ≡ (not (is_some (option_map (λ g. View.function g.now) first.entry)) || some_takes_of (View.functions here.now.functions.now.all.now) name.now (Bases.all_known bases.now)) }
+    ensures { result ≡ (not (is_some (option_map (λ g. View.function g.now) first.entry))
+        || some_takes_of (View.functions here.now.functions.now.all.now) name.now (Bases.all_known bases.now)) }
 {
     !is_there(first) || some_takes(here.functions, name, bases)
 }
@@ -96,7 +97,8 @@ fn lacks_base(bases: &[Option<Base>]) -> bool
 
 // An inline function calls an inline name only where each instance of it stands earlier in the file.
 fn stands_earlier(here: &Place<'_>, first: Option<&Function>, name: &Name) -> bool
-    ensures { result ≡ (not here.now.inline || not (is_inline_of (option_map (λ g. View.function g.now) first.entry)) || is_below (last_place (is_named name.now) (View.functions here.now.functions.now.all.now)) here.now.at) }
+    ensures { result ≡ (not here.now.inline || not (is_inline_of (option_map (λ g. View.function g.now) first.entry))
+        || is_below (last_place (is_named name.now) (View.functions here.now.functions.now.all.now)) here.now.at) }
 {
     !here.inline || !is_inline(first) || here.functions.are_before(name, here.at)
 }

@@ -1,7 +1,8 @@
 //! Which instances of a name may stand together.
 
 ghost use Rattle.std.specs.Prelude.{◌≡◌, ◌≤◌, map, filter, take, drop, length};
-ghost use Rattle.sac_base.specs.Types.{overlap as types_overlap, apart as types_apart, all_below as types_below, compatible as types_compatible, strictly_below as is_strictly_below};
+ghost use Rattle.sac_base.specs.Types.{overlap as types_overlap, apart as types_apart, all_below as types_below, compatible as types_compatible};
+ghost use Rattle.sac_base.specs.Types.{strictly_below as is_strictly_below};
 ghost use Rattle.sac_ast.specs.Bases.{same_bases};
 ghost use Rattle.sac_ast.specs.declared.Param.{Param as ParamTree};
 ghost use Rattle.sac_ast.specs.View;
@@ -30,7 +31,8 @@ pub fn stands_beside(functions: &Functions<'_>, f: &Function, at: usize) -> bool
 // A place before which no function has the name, where only those before another place are looked at.
 fn first_before(functions: &Functions<'_>, name: &Name, at: usize) -> usize
     requires { at ≤ length functions.now.all.now }
-    ensures { filter (is_named name.now) (View.functions (drop result (take at functions.now.all.now))) ≡ filter (is_named name.now) (View.functions (take at functions.now.all.now)) }
+    ensures { filter (is_named name.now) (View.functions (drop result (take at functions.now.all.now)))
+        ≡ filter (is_named name.now) (View.functions (take at functions.now.all.now)) }
 {
     match functions.first_place(name) {
         None => at,
@@ -44,7 +46,8 @@ fn stands_if_named(f: &Function, g: &Function) -> bool
     !same_name(&g.name, &f.name) || may_stand_together(f, g)
 }
 
-// Two instances have the same numbers of parameters and results, are both inline or neither, have types that may stand together, and equal bases of results where those of the parameters are equal.
+// Two instances have the same numbers of parameters and results, are both inline or neither, have types that may stand together, and equal bases of
+// results where those of the parameters are equal.
 fn may_stand_together(g: &Function, h: &Function) -> bool
     ensures { result ≡ may_stand (View.function g.now) (View.function h.now) }
 {

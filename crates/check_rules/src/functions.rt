@@ -5,7 +5,8 @@ ghost use Rattle.std.proofs.Props.{props};
 ghost use Rattle.sac_ast.specs.Bases;
 ghost use Rattle.sac_ast.specs.View;
 ghost use Rattle.sac_ast.specs.declared.Param.{Param as ParamTree};
-ghost use Rattle.check_rules.specs.Groups.{IsFirst, IsLast, is_known as is_known_value, has_each, takes_beside, first_place as first_place_of, last_place, is_below, with_first, with_last};
+ghost use Rattle.check_rules.specs.Groups.{IsFirst, IsLast, is_known as is_known_value, has_each, takes_beside, first_place as first_place_of};
+ghost use Rattle.check_rules.specs.Groups.{last_place, is_below, with_first, with_last};
 ghost use Rattle.check_rules.specs.Tables.{place_of};
 ghost use Rattle.check_rules.specs.Accepted.{is_named};
 
@@ -111,7 +112,8 @@ fn first_taking<'a>(
     name: &Name,
     bases: &[Option<Base>],
 ) -> Option<&'a Function>
-    ensures { option_map (λ f. View.function f.now) result ≡ find (takes_beside (option_map (λ f. View.function f.now) first.entry) name.now bases.now) (View.functions (drop from functions.now)) }
+    ensures { option_map (λ f. View.function f.now) result
+        ≡ find (takes_beside (option_map (λ f. View.function f.now) first.entry) name.now bases.now) (View.functions (drop from functions.now)) }
 {
     for k in from..functions.len() {
         if takes_bases(&functions[k], first, name, bases) {

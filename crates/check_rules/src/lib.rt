@@ -1,4 +1,5 @@
-//! The rules of acceptance on single phrases: the names that are bound, the functions by name, calls, instances that clash, and the earliest of some violations. `type_check` walks whole programs with them.
+//! The rules of acceptance on single phrases: the names that are bound, the functions by name, calls, instances that clash, and the earliest of some
+//! violations. `type_check` walks whole programs with them.
 #![tactic(auto)]
 
 pub mod bound;

@@ -1,7 +1,9 @@
 //! The names that are bound anywhere in a function.
 
 ghost use Rattle.std.specs.Prelude.{◌≡◌, [], ◌∷◌, OnOk, IfOk};
-ghost use Rattle.check_rules.specs.Accepted.{with_names, target_names, param_names, index_names, names_in, names_in_expr, names_in_exprs, names_in_maybe, names_in_bound, names_in_gen, names_in_gens, names_in_operation, names_in_stmt, names_in_block};
+ghost use Rattle.check_rules.specs.Accepted.{with_names, target_names, param_names, index_names, names_in, names_in_expr, names_in_exprs};
+ghost use Rattle.check_rules.specs.Accepted.{names_in_maybe, names_in_bound, names_in_gen, names_in_gens, names_in_operation, names_in_stmt};
+ghost use Rattle.check_rules.specs.Accepted.{names_in_block};
 ghost use Rattle.sac_ast.specs.View;
 ghost use Rattle.check_rules.specs.Tables.{has};
 

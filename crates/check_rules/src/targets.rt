@@ -5,7 +5,8 @@ ghost use Rattle.check_rules.specs.Accepted.{no_names, with_names, target_names,
 ghost use Rattle.sac_ast.specs.View;
 ghost use Rattle.check_rules.specs.First.{earlier as earlier_of};
 ghost use Rattle.check_rules.specs.Tables.{among, entered, has};
-ghost use Rattle.check_rules.specs.Walk.{in_targets, in_index_names, repeated_targets as targets_repeated, repeated_params as params_repeated, unless_new, base_behind};
+ghost use Rattle.check_rules.specs.Walk.{in_targets, in_index_names, repeated_targets as targets_repeated, repeated_params as params_repeated};
+ghost use Rattle.check_rules.specs.Walk.{unless_new, base_behind};
 
 use crate::bound::Bound;
 use crate::code::CheckCode;

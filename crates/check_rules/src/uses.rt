@@ -4,7 +4,8 @@ ghost use Rattle.std.specs.Prelude.{◌≡◌};
 ghost use Rattle.check_rules.specs.First.{earlier as earlier_of};
 ghost use Rattle.check_rules.specs.Places.{place};
 ghost use Rattle.check_rules.specs.Tables.{among};
-ghost use Rattle.check_rules.specs.Walk.{use_rules as use_rules_of, builtin_rules as builtin_rules_of, cell_rules as cell_rules_of, cell_rule as cell_rule_of, first_cell as first_cell_of, several_targets as several_targets_of};
+ghost use Rattle.check_rules.specs.Walk.{use_rules as use_rules_of, builtin_rules as builtin_rules_of, cell_rules as cell_rules_of};
+ghost use Rattle.check_rules.specs.Walk.{cell_rule as cell_rule_of, first_cell as first_cell_of, several_targets as several_targets_of};
 
 use crate::bound::Bound;
 use crate::calls::Place;

@@ -1,11 +1,14 @@
--- What each tree that is read from a source has: numbers of 32 bits, operators and built-in functions with as many operands as they take, folds with an operator that folds, and index lists with a name.
+-- What each tree that is read from a source has: numbers of 32 bits, operators and built-in functions with as many operands as they take, folds with
+-- an operator that folds, and index lists with a name.
 use Rattle.std.specs.Prelude.{List, [], ◌∷◌, FitsSigned}
 use mir.Syntax.{w32}
 use Rattle.sac_base.specs.declared.op.Op.{Op}
 use Rattle.sac_base.specs.declared.op.Op.TheVariants.{Neg, Not, Add, Mul, Min, Max, And, Or}
 use Rattle.sac_ast.specs.declared.Builtin.{Builtin}
 use Rattle.sac_ast.specs.declared.Builtin.TheVariants.{Dim, Shape, Reshape}
-use Rattle.sac_ast.specs.Tree.{Expr, Exprs, no_exprs, expr_and, MaybeExpr, left_out, given, Stmt, Block, no_stmts, stmt_and, BoundTree, dot, at, Gen, gen, Gens, no_gens, gen_and, OperationTree, FunctionTree, ProgramTree, number, truth, variable, literal, unary, binary, choice, select, call, builtin, with_loop, assign, replace, if_else, while_do, do_while, genarray, modarray, fold}
+use Rattle.sac_ast.specs.Tree.{Expr, Exprs, no_exprs, expr_and, MaybeExpr, left_out, given, Stmt, Block, no_stmts, stmt_and, BoundTree, dot, at, Gen}
+use Rattle.sac_ast.specs.Tree.{gen, Gens, no_gens, gen_and, OperationTree, FunctionTree, ProgramTree, number, truth, variable, literal, unary, binary}
+use Rattle.sac_ast.specs.Tree.{choice, select, call, builtin, with_loop, assign, replace, if_else, while_do, do_while, genarray, modarray, fold}
 use Rattle.core_lowering.specs.Definite.{HasName}
 
 -- an operator of one operand

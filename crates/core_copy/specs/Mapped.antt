@@ -2,7 +2,8 @@
 use Rattle.std.specs.Prelude.{◌≡◌, ℕ, ◌+◌, List, [], ◌∷◌, map, unwrap_or}
 use Rattle.core_ir.specs.declared.tree.Var.{Var}
 use Rattle.core_ir.specs.Meaning.{Env, CallMeaning, run}
-use Rattle.core_ir.specs.Terms.{BlockTerm, RightTerm, GensTerm, PartsTerm, LetTerm, GenTerm, PartTerm, GenHead, PartHead, Gives, Bind, Plain, NoGens, Gen, NoParts, Part}
+use Rattle.core_ir.specs.Terms.{BlockTerm, RightTerm, GensTerm, PartsTerm, LetTerm, GenTerm, PartTerm, GenHead, PartHead, Gives, Bind, Plain, NoGens}
+use Rattle.core_ir.specs.Terms.{Gen, NoParts, Part}
 use Rattle.core_subst.specs.Names.{variable, variable_at}
 use Rattle.core_subst.specs.Substitution.{plain_with, core_op_with, parted_op_with, gen_head_with}
 

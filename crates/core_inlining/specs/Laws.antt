@@ -19,7 +19,8 @@ BodiesMeanTheirFunctions =
 -- a call of a group whose only instance is inline may be replaced by that instance's body
 abbrev pub CallsMayBeInlined : Type 0
 CallsMayBeInlined =
-    (core : CoreTerm) (turns : ℕ) (outer : RunMeaning) → CallsBelow core → (nest by group place : ℕ) (f : FunTerm) (ts xs : List Var) (s : Site) (rest : BlockTerm) (e : Env) →
+    (core : CoreTerm) (turns : ℕ) (outer : RunMeaning) → CallsBelow core
+    → (nest by group place : ℕ) (f : FunTerm) (ts xs : List Var) (s : Site) (rest : BlockTerm) (e : Env) →
     group_at core group ≡ place ∷ [] → slice_get core.functions place ≡ Some f → f.is_inline ≡ true → place < nest → CanInline by f ts xs rest →
     run (call_by core outer (run_inline core turns outer nest)) turns (inlined by f ts s xs rest) e ≡
     run (call_by core outer (run_inline core turns outer nest)) turns (Bind ts s (Call group xs) rest) e

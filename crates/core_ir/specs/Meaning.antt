@@ -1,5 +1,6 @@
 -- What blocks mean: under an environment, with calls by a given meaning, and with at most `turns` turns in each execution of a loop.
-use Rattle.std.specs.Prelude.{ℕ, zero, suc, ◌-◌, Bool, true, false, cond, eqb, List, [], ◌∷◌, ◌++◌, map, flat_map, length, fold, ℤ, pos, ◌-ℤ◌, Option, Some, None, Result, Ok, Err, if◌then◌else◌, option_map}
+use Rattle.std.specs.Prelude.{ℕ, zero, suc, ◌-◌, Bool, true, false, cond, eqb, List, [], ◌∷◌, ◌++◌, map, flat_map, length, fold, ℤ, pos, ◌-ℤ◌, Option}
+use Rattle.std.specs.Prelude.{Some, None, Result, Ok, Err, if◌then◌else◌, option_map}
 use Rattle.sac_base.specs.declared.base.Base.{Base}
 use Rattle.sac_base.specs.declared.base.Base.TheVariants.{Int}
 use Rattle.sac_base.specs.declared.faults.FaultKind.{FaultKind}
@@ -141,7 +142,8 @@ made_of frame base cell parted.Genarray e found = joined base (extents frame ++ 
 made_of frame base cell (parted.Modarray x) e found = joined base (extents frame ++ cell) found
 made_of frame base cell (parted.Fold op x) e found = fold (combined op) (e x) found
 
--- the cells of the frame's indices in row-major order, or the fault of the least index that has one; before any cell, F6 at the loop's site where the neutral value has another form
+-- the cells of the frame's indices in row-major order, or the fault of the least index that has one; before any cell, F6 at the loop's site where
+-- the neutral value has another form
 abbrev pub parted_value : List Grid1 → Base → List ℕ → PartedOp → List Cells → Site → Env → Ends ArrayValue
 parted_value frame base cell op parts site e =
     if neutral_fits (cell_form base cell) op e

@@ -1,5 +1,6 @@
 -- What calls mean, and the outcome of a core.
-use Rattle.std.specs.Prelude.{◌≡◌, ℕ, zero, suc, Bool, ◌&&◌, ◌||◌, not, if◌then◌else◌, List, [], ◌∷◌, map, flat_map, length, Option, Some, None, Ok, slice_get, unwrap_or}
+use Rattle.std.specs.Prelude.{◌≡◌, ℕ, zero, suc, Bool, ◌&&◌, ◌||◌, not, if◌then◌else◌, List, [], ◌∷◌, map, flat_map, length, Option, Some, None, Ok}
+use Rattle.std.specs.Prelude.{slice_get, unwrap_or}
 use Rattle.std.specs.List.{list_all}
 use Rattle.sac_base.specs.declared.faults.Caps.{Caps}
 use Rattle.sac_base.specs.declared.faults.FaultKind.TheVariants.{F7, F10}
@@ -85,7 +86,8 @@ module _ (core : CoreTerm) where
   call_by outer inner group args site = call_chosen outer inner (chosen core group args) args site
 
   module _ (turns : ℕ) where
-    -- An inline function runs at its caller's depth. It calls only inline functions that stand before it, so calls of inline functions nest at most as deep as there are functions: `nest` bounds them.
+    -- An inline function runs at its caller's depth. It calls only inline functions that stand before it, so calls of inline functions nest at most
+    -- as deep as there are functions: `nest` bounds them.
     abbrev pub run_inline : RunMeaning → ℕ → RunMeaning
     run_inline outer zero place args site = fault F10 site
     run_inline outer (suc nest) place args site =

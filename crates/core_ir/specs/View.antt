@@ -11,7 +11,8 @@ use Rattle.core_ir.specs.declared.tree.CoreGen.{CoreGen, CoreGen'}
 use Rattle.core_ir.specs.declared.tree.CorePart.{CorePart, CorePart'}
 use Rattle.core_ir.specs.declared.tree.CoreFun.{CoreFun}
 use Rattle.core_ir.specs.declared.tree.Core.{Core}
-use Rattle.core_ir.specs.Terms.{PlainTerm, BlockTerm, RightTerm, GensTerm, PartsTerm, LetTerm, GenTerm, PartTerm, FunTerm, CoreTerm, Gives, Bind, Plain, NoGens, Gen, NoParts, Part}
+use Rattle.core_ir.specs.Terms.{PlainTerm, BlockTerm, RightTerm, GensTerm, PartsTerm, LetTerm, GenTerm, PartTerm, FunTerm, CoreTerm, Gives, Bind}
+use Rattle.core_ir.specs.Terms.{Plain, NoGens, Gen, NoParts, Part}
 
 abbrev mutual
   pub block_term : Block → BlockTerm

@@ -1,5 +1,6 @@
 -- When a core is well formed.
-use Rattle.std.specs.Prelude.{◌≡◌, ℕ, ◌^◌, ◌<◌, ◌≤◌, true, false, cond, eqb, List, [], ◌∷◌, ◌++◌, map, length, All, AllPairs, Contains, zip, ℤ, pos, FitsSigned, Option, Some, None, slice_get}
+use Rattle.std.specs.Prelude.{◌≡◌, ℕ, ◌^◌, ◌<◌, ◌≤◌, true, false, cond, eqb, List, [], ◌∷◌, ◌++◌, map, length, All, AllPairs, Contains, zip, ℤ, pos}
+use Rattle.std.specs.Prelude.{FitsSigned, Option, Some, None, slice_get}
 use mir.Syntax.{w32}
 use Rattle.sac_base.specs.declared.base.Base.{Base}
 use Rattle.sac_base.specs.declared.base.Base.TheVariants.{Int, Bool as Truth}
@@ -154,7 +155,8 @@ module _ (core : CoreTerm) where
   abbrev pub GroupBases : ℕ → List Base → List Base → Type 0
   GroupBases group takes gives =
       (places : List ℕ) × ((place : ℕ) × ((f : FunTerm) × (
-      (slice_get core.groups group ≡ Some places) × Contains places place × (slice_get core.functions place ≡ Some f) × (bases (param_types f) ≡ takes) × (bases f.results ≡ gives))))
+      (slice_get core.groups group ≡ Some places) × Contains places place × (slice_get core.functions place ≡ Some f)
+      × (bases (param_types f) ≡ takes) × (bases f.results ≡ gives))))
 
   -- counts and bases agree
   abbrev mutual

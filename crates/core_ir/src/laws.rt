@@ -1,6 +1,7 @@
 //! Laws of the meaning, on which the passes over the core stand.
 
-ghost use Rattle.core_ir.specs.Statements.{RenamedMeansTheSame, ScopeDecides, UnusedHasNoSay, UnusedMayGo, SplicedBindsTheResult, EditedMeansTheSame, BodiesDecide, FunctionsDecide};
+ghost use Rattle.core_ir.specs.Statements.{RenamedMeansTheSame, ScopeDecides, UnusedHasNoSay, UnusedMayGo, SplicedBindsTheResult, EditedMeansTheSame};
+ghost use Rattle.core_ir.specs.Statements.{BodiesDecide, FunctionsDecide};
 
 /// Law: blocks that differ in the numbers of variables alone mean the same under environments that agree along the link.
 pub fn renaming()
@@ -18,12 +19,14 @@ pub fn unused_variable()
     ensures dropped { UnusedMayGo }
 {}
 
-/// Law: the bindings of a block with one result, followed by a copy of the result, are a binding of what the block gives, faults included. What follows uses none of the block's own variables.
+/// Law: the bindings of a block with one result, followed by a copy of the result, are a binding of what the block gives, faults included. What
+/// follows uses none of the block's own variables.
 pub fn splicing()
     ensures { SplicedBindsTheResult }
 {}
 
-/// Law: where one place inside a block is changed, and the old and the new mean the same in each environment that is as the bindings and parts on the way say, the whole means the same.
+/// Law: where one place inside a block is changed, and the old and the new mean the same in each environment that is as the bindings and parts on
+/// the way say, the whole means the same.
 pub fn replacing_one_place()
     ensures { EditedMeansTheSame }
 {}

@@ -36,7 +36,8 @@ impl Right {
     ghost use Rattle.core_ir.specs.Scopes.{right_uses};
     ghost use Rattle.core_ir.specs.View.{right_term};
 
-    /// The variables that the right side reads itself: its operands, the condition of an `If`, the first values of a `Loop`, the arguments of a call, and what the operation of a with-loop reads.
+    /// The variables that the right side reads itself: its operands, the condition of an `If`, the first values of a `Loop`, the arguments of a
+    /// call, and what the operation of a with-loop reads.
     pub fn operands(&self) -> Operands<'_>
         ensures { operand_list result ≡ right_uses (right_term self.now) }
     {

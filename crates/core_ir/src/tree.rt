@@ -68,7 +68,8 @@ pub enum Right {
         yes: Block,
         no: Block,
     },
-    /// A loop over the parameters, whose first values are those of `start`. The first result of `test` says whether a turn is made, and a turn gives the parameters the results of `body`. Where `first_body` holds the first turn is made before the first test.
+    /// A loop over the parameters, whose first values are those of `start`. The first result of `test` says whether a turn is made, and a turn gives
+    /// the parameters the results of `body`. Where `first_body` holds the first turn is made before the first test.
     Loop {
         first_body: bool,
         start: Vec<Var>,

@@ -1,5 +1,7 @@
--- How the trees of a source become blocks of the core: each assignment makes new variables, each conditional gives the variables bound in it, and each loop carries those that it binds.
-use Rattle.std.specs.Prelude.{ℕ, zero, suc, ◌+◌, List, [], ◌∷◌, ◌++◌, map, filter, length, Bool, true, false, ◌&&◌, if◌then◌else◌, Option, Some, None, is_some, pos, bytes_eq}
+-- How the trees of a source become blocks of the core: each assignment makes new variables, each conditional gives the variables bound in it, and
+-- each loop carries those that it binds.
+use Rattle.std.specs.Prelude.{ℕ, zero, suc, ◌+◌, List, [], ◌∷◌, ◌++◌, map, filter, length, Bool, true, false, ◌&&◌, if◌then◌else◌, Option, Some, None}
+use Rattle.std.specs.Prelude.{is_some, pos, bytes_eq}
 use Rattle.std.specs.List.{list_any}
 use Rattle.sac_base.specs.declared.base.Base.{Base}
 use Rattle.sac_base.specs.declared.base.Base.TheVariants.{Int, Bool as Truth}
@@ -11,7 +13,9 @@ use Rattle.sac_base.specs.Operators.{of_truth}
 use Rattle.sac_ast.specs.declared.Target.{Target}
 use Rattle.sac_ast.specs.declared.Builtin.{Builtin}
 use Rattle.sac_ast.specs.declared.Builtin.TheVariants.{Dim, Shape, Reshape}
-use Rattle.sac_ast.specs.Tree.{IndexTree, named, parts, Expr, Exprs, no_exprs, expr_and, MaybeExpr, left_out, given, Stmt, Block, no_stmts, stmt_and, BoundTree, dot, at, Gen, gen, Gens, no_gens, gen_and, OperationTree, number, truth, variable, choice, call, builtin, with_loop, assign, if_else, while_do, do_while, genarray, modarray}
+use Rattle.sac_ast.specs.Tree.{IndexTree, named, parts, Expr, Exprs, no_exprs, expr_and, MaybeExpr, left_out, given, Stmt, Block, no_stmts, stmt_and}
+use Rattle.sac_ast.specs.Tree.{BoundTree, dot, at, Gen, gen, Gens, no_gens, gen_and, OperationTree, number, truth, variable, choice, call, builtin}
+use Rattle.sac_ast.specs.Tree.{with_loop, assign, if_else, while_do, do_while, genarray, modarray}
 use Rattle.sac_ast.specs.Tree
 use Rattle.core_ir.specs.declared.tree.Var.{Var}
 use Rattle.core_ir.specs.declared.tree.CoreOp.{CoreOp}
@@ -244,7 +248,17 @@ module _ (group_of : Name → ℕ) (base_of : Expr → Option Base) (base_of_nam
         let c = lowered cell b.scope b.next in
         record {
           lets = l.lets ++ (u.lets ++ (s.lets ++ w.lets));
-          head = record { lower = l.result; lower_closed = lower_closed; upper = u.result; upper_closed = upper_closed; step = s.result; width = w.result; index = numbered w.next; names = index_names index w.next; site = site };
+          head = record {
+            lower = l.result;
+            lower_closed = lower_closed;
+            upper = u.result;
+            upper_closed = upper_closed;
+            step = s.result;
+            width = w.result;
+            index = numbered w.next;
+            names = index_names index w.next;
+            site = site;
+          };
           body = chain (b.lets ++ c.lets) (Gives (c.result ∷ []));
           next = c.next;
         }
@@ -276,7 +290,11 @@ module _ (group_of : Name → ℕ) (base_of : Expr → Option Base) (base_of_nam
     lowered_stmt (assign targets (call name es site)) scope n =
         let a = lowered_all es scope n in
         record {
-          lets = a.lets ++ (record { targets = variables_from a.next (length (names targets)); site = site; right = RightTerm.Call (group_of name) a.results } ∷ []);
+          lets = a.lets ++ (record {
+            targets = variables_from a.next (length (names targets));
+            site = site;
+            right = RightTerm.Call (group_of name) a.results;
+          } ∷ []);
           scope = pushed (names targets) a.next scope;
           next = a.next + length (names targets);
         }
@@ -295,7 +313,11 @@ module _ (group_of : Name → ℕ) (base_of : Expr → Option Base) (base_of_nam
         let d = lowered_block second scope b.next in
         let both = merged (names_bound first ++ names_bound second) b.scope d.scope in
         record {
-          lets = a.lets ++ (record { targets = variables_from d.next (length both); site = site; right = RightTerm.If a.result (chain b.lets (Gives (vars_in b.scope both))) (chain d.lets (Gives (vars_in d.scope both))) } ∷ []);
+          lets = a.lets ++ (record {
+            targets = variables_from d.next (length both);
+            site = site;
+            right = RightTerm.If a.result (chain b.lets (Gives (vars_in b.scope both))) (chain d.lets (Gives (vars_in d.scope both)));
+          } ∷ []);
           scope = pushed both d.next scope;
           next = d.next + length both;
         }
@@ -305,7 +327,12 @@ module _ (group_of : Name → ℕ) (base_of : Expr → Option Base) (base_of_nam
         let t = lowered c inside (n + length all) in
         let b = lowered_block body inside t.next in
         record {
-          lets = record { targets = variables_from b.next (length all); site = site; right = RightTerm.Loop false (vars_in scope all) (variables_from n (length all)) (chain t.lets (Gives (t.result ∷ []))) (chain b.lets (Gives (vars_in b.scope all))) site } ∷ [];
+          lets = record {
+            targets = variables_from b.next (length all);
+            site = site;
+            right = RightTerm.Loop false (vars_in scope all)
+                (variables_from n (length all)) (chain t.lets (Gives (t.result ∷ []))) (chain b.lets (Gives (vars_in b.scope all))) site;
+          } ∷ [];
           scope = pushed all b.next scope;
           next = b.next + length all;
         }
@@ -316,7 +343,12 @@ module _ (group_of : Name → ℕ) (base_of : Expr → Option Base) (base_of_nam
         let b = lowered_block body inside (s.next + length all) in
         let t = lowered c inside b.next in
         record {
-          lets = s.lets ++ (record { targets = variables_from t.next (length all); site = site; right = RightTerm.Loop true s.results (variables_from s.next (length all)) (chain t.lets (Gives (t.result ∷ []))) (chain b.lets (Gives (vars_in b.scope all))) test } ∷ []);
+          lets = s.lets ++ (record {
+            targets = variables_from t.next (length all);
+            site = site;
+            right = RightTerm.Loop true s.results
+                (variables_from s.next (length all)) (chain t.lets (Gives (t.result ∷ []))) (chain b.lets (Gives (vars_in b.scope all))) test;
+          } ∷ []);
           scope = pushed all t.next scope;
           next = t.next + length all;
         }

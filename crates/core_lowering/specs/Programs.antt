@@ -1,5 +1,6 @@
 -- How a program becomes a core, and which programs do.
-use Rattle.std.specs.Prelude.{◌≡◌, ℕ, suc, List, [], ◌∷◌, ◌++◌, false, if◌then◌else◌, Option, Some, None, map, length, position, is_some, IsTrue, bytes_eq, unwrap_or}
+use Rattle.std.specs.Prelude.{◌≡◌, ℕ, suc, List, [], ◌∷◌, ◌++◌, false, if◌then◌else◌, Option, Some, None, map, length, position, is_some, IsTrue}
+use Rattle.std.specs.Prelude.{bytes_eq, unwrap_or}
 use Rattle.sac_base.specs.declared.base.Base.{Base}
 use Rattle.sac_base.specs.declared.name.Name.{Name}
 use Rattle.sac_base.specs.declared.types.ArrayType.{ArrayType}

@@ -2,7 +2,9 @@
 use Rattle.std.specs.Prelude.{◌≡◌, ℕ, ◌<◌, ◌^◌, List, true, false, map, length, Some, slice_get, position, bytes_eq}
 use Rattle.sac_base.specs.declared.name.Name.{Name}
 use Rattle.sac_base.specs.Types.{compatible}
-use Rattle.sac_ast.specs.Tree.{Expr, Exprs, no_exprs, expr_and, MaybeExpr, left_out, given, Stmt, Block, no_stmts, stmt_and, BoundTree, dot, at, Gen, gen, Gens, no_gens, gen_and, OperationTree, FunctionTree, ProgramTree, number, truth, variable, choice, call, builtin, with_loop, assign, if_else, while_do, do_while, genarray, modarray}
+use Rattle.sac_ast.specs.Tree.{Expr, Exprs, no_exprs, expr_and, MaybeExpr, left_out, given, Stmt, Block, no_stmts, stmt_and, BoundTree, dot, at, Gen}
+use Rattle.sac_ast.specs.Tree.{gen, Gens, no_gens, gen_and, OperationTree, FunctionTree, ProgramTree, number, truth, variable, choice, call, builtin}
+use Rattle.sac_ast.specs.Tree.{with_loop, assign, if_else, while_do, do_while, genarray, modarray}
 use Rattle.sac_ast.specs.Tree
 use Rattle.sac_ast.specs.Bases.{bases_of_params}
 use Rattle.core_ir.specs.WellFormed.{bases}
@@ -88,4 +90,5 @@ pub record IsStanding (p : ProgramTree) : Type 0 where
   pub called : (i : ℕ) (f : FunctionTree) → slice_get p.functions i ≡ Some f → CallsInFunction (λ x. has_name (all_names p.functions) x ≡ true) f
   -- an inline function calls inline functions that stand before it
   pub backward : (i : ℕ) (f : FunctionTree) → slice_get p.functions i ≡ Some f → f.inline ≡ true → CallsInFunction (StandsBefore p.functions i) f
-  pub together : (i j : ℕ) (f g : FunctionTree) → i < j → slice_get p.functions i ≡ Some f → slice_get p.functions j ≡ Some g → f.name ≡ g.name → MayStandTogether f g
+  pub together : (i j : ℕ) (f g : FunctionTree) → i < j → slice_get p.functions i ≡ Some f
+      → slice_get p.functions j ≡ Some g → f.name ≡ g.name → MayStandTogether f g

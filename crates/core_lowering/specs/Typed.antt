@@ -8,7 +8,9 @@ use Rattle.sac_base.specs.Verdict.{folds}
 use Rattle.sac_ast.specs.declared.Target.{Target}
 use Rattle.sac_ast.specs.declared.Builtin.{Builtin}
 use Rattle.sac_ast.specs.declared.Builtin.TheVariants.{Dim, Shape, Reshape}
-use Rattle.sac_ast.specs.Tree.{IndexTree, Expr, Exprs, no_exprs, expr_and, MaybeExpr, left_out, given, Stmt, Block, no_stmts, stmt_and, BoundTree, dot, at, Gen, gen, Gens, no_gens, gen_and, OperationTree, number, truth, variable, choice, call, builtin, with_loop, assign, if_else, while_do, do_while, genarray, modarray}
+use Rattle.sac_ast.specs.Tree.{IndexTree, Expr, Exprs, no_exprs, expr_and, MaybeExpr, left_out, given, Stmt, Block, no_stmts, stmt_and, BoundTree}
+use Rattle.sac_ast.specs.Tree.{dot, at, Gen, gen, Gens, no_gens, gen_and, OperationTree, number, truth, variable, choice, call, builtin, with_loop}
+use Rattle.sac_ast.specs.Tree.{assign, if_else, while_do, do_while, genarray, modarray}
 use Rattle.sac_ast.specs.Tree.{FunctionTree}
 use Rattle.sac_ast.specs.Tree
 use Rattle.sac_ast.specs.Bases.{base_in, bases_of_params}
@@ -83,7 +85,8 @@ module _ (base_of : Expr → Option Base) (base_of_name : Name → Base) (Instan
 
     pub GenTyped : Gen → Base → Type 0
     GenTyped (gen lower lower_closed index upper upper_closed step width body cell site) t =
-        BoundTyped lower × BoundTyped upper × MaybeTyped step Int × MaybeTyped width Int × IntTargets base_of_name (index_targets index) × BlockTyped body × IsTyped cell t
+        BoundTyped lower × BoundTyped upper × MaybeTyped step Int × MaybeTyped width Int
+        × IntTargets base_of_name (index_targets index) × BlockTyped body × IsTyped cell t
 
     pub GensTyped : Gens → Base → Type 0
     GensTyped no_gens t = Unit {0}

@@ -12,7 +12,8 @@ ghost use Rattle.core_lowering.specs.Programs.{IsDefiniteProgram, HasOutcomeOf, 
 ghost use Rattle.core_lowering.specs.Typed.{AreTypedFunctions};
 ghost use Rattle.core_lowering.specs.Standing.{IsStanding};
 
-/// Law: the core of a program has the program's outcome on all arguments and under all limits, faults and their sites included, where each variable that is used is bound on every path to its use and each call has as many targets as results.
+/// Law: the core of a program has the program's outcome on all arguments and under all limits, faults and their sites included, where each variable
+/// that is used is bound on every path to its use and each call has as many targets as results.
 pub fn lowered_outcome()
     ensures { (p : ProgramTree) → IsDefiniteProgram p → HasOutcomeOf p (lowered_program p) }
 {}
@@ -28,12 +29,15 @@ pub fn lowered_scopes()
     ensures once { (fs : List FunctionTree) (f : FunctionTree) → Distinct (param_vars (lowered_function fs f) ++ bound_in (lowered_function fs f).body) }
 {}
 
-/// Law: where the phrases of a program have the bases that are asked for, each function of its core is well formed: variables are bound once, used where they are in scope, and have agreeing bases.
+/// Law: where the phrases of a program have the bases that are asked for, each function of its core is well formed: variables are bound once, used
+/// where they are in scope, and have agreeing bases.
 pub fn lowered_functions()
-    ensures { (p : ProgramTree) → IsDefiniteProgram p → AreTypedFunctions p.functions p.functions → All (IsFunction (lowered_program p)) (lowered_program p).functions }
+    ensures { (p : ProgramTree) → IsDefiniteProgram p → AreTypedFunctions p.functions p.functions
+        → All (IsFunction (lowered_program p)) (lowered_program p).functions }
 {}
 
-/// Law: the core of a program is well formed, where besides its functions stand together as the core asks: called names have instances, inline functions call inline functions that stand before them, and instances of a name may share it.
+/// Law: the core of a program is well formed, where besides its functions stand together as the core asks: called names have instances, inline
+/// functions call inline functions that stand before them, and instances of a name may share it.
 pub fn lowered_core()
     ensures { (p : ProgramTree) → IsDefiniteProgram p → AreTypedFunctions p.functions p.functions → IsStanding p → IsWellFormed (lowered_program p) }
 {}

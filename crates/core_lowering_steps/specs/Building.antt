@@ -7,7 +7,9 @@ use Rattle.sac_base.specs.declared.site.Site.{Site}
 use Rattle.sac_base.specs.Arrays.{scalar}
 use Rattle.sac_base.specs.Operators.{of_truth}
 use Rattle.sac_ast.specs.declared.Target.{Target}
-use Rattle.sac_ast.specs.Tree.{IndexTree, named, parts, Expr, Exprs, no_exprs, expr_and, MaybeExpr, left_out, given, Stmt, Block, no_stmts, stmt_and, BoundTree, dot, at, Gen, gen, Gens, no_gens, gen_and, OperationTree, number, truth, variable, choice, call, builtin, with_loop, assign, if_else, while_do, do_while, genarray, modarray}
+use Rattle.sac_ast.specs.Tree.{IndexTree, named, parts, Expr, Exprs, no_exprs, expr_and, MaybeExpr, left_out, given, Stmt, Block, no_stmts, stmt_and}
+use Rattle.sac_ast.specs.Tree.{BoundTree, dot, at, Gen, gen, Gens, no_gens, gen_and, OperationTree, number, truth, variable, choice, call, builtin}
+use Rattle.sac_ast.specs.Tree.{with_loop, assign, if_else, while_do, do_while, genarray, modarray}
 use Rattle.sac_ast.specs.Tree
 use Rattle.core_ir.specs.declared.tree.Var.{Var}
 use Rattle.core_ir.specs.declared.tree.CoreOp.{CoreOp}
@@ -206,7 +208,17 @@ module _ (group_of : Name → ℕ) (base_of : Expr → Option Base) (base_of_nam
         record {
           state = c.state;
           gen = record {
-            head = record { lower = l.result; lower_closed = lower_closed; upper = u.result; upper_closed = upper_closed; step = t.result; width = w.result; index = f.result; names = i.results; site = site };
+            head = record {
+              lower = l.result;
+              lower_closed = lower_closed;
+              upper = u.result;
+              upper_closed = upper_closed;
+              step = t.result;
+              width = w.result;
+              index = f.result;
+              names = i.results;
+              site = site;
+            };
             body = c.block;
           };
         }
@@ -255,7 +267,8 @@ module _ (group_of : Name → ℕ) (base_of : Expr → Option Base) (base_of_nam
         let both = bound_in_both b.scope d.scope (once [] (names_bound first ++ names_bound second)) in
         let t = declared both scope (resumed a.state d.state) in
         record {
-          state = with_let t.state t.results site (RightTerm.If a.result (chain b.state.lets (Gives (vars_of b.scope both))) (chain d.state.lets (Gives (vars_of d.scope both))));
+          state = with_let t.state t.results site
+              (RightTerm.If a.result (chain b.state.lets (Gives (vars_of b.scope both))) (chain d.state.lets (Gives (vars_of d.scope both))));
           scope = t.scope;
         }
     make_stmt (while_do c body site) scope s =

@@ -11,7 +11,8 @@ use Rattle.core_ir.specs.Terms.{PlainTerm, RightTerm, Plain, GenTerm, GensTerm}
 use Rattle.core_ir.specs.Terms
 use Rattle.core_lowering.specs.Lowering.{once, names_bound}
 use Rattle.core_lowering_steps.specs.Looks.{Look, vars_of}
-use Rattle.core_lowering_steps.specs.Building.{Built, Made, MadeList, MadeNames, MadeBlock, MadeGens, MadeGiven, block_giving, block_of, bound_at, bound_in, bound_in_both, declared, nested, make, make_block, make_starts}
+use Rattle.core_lowering_steps.specs.Building.{Built, Made, MadeList, MadeNames, MadeBlock, MadeGens, MadeGiven, block_giving, block_of, bound_at}
+use Rattle.core_lowering_steps.specs.Building.{bound_in, bound_in_both, declared, nested, make, make_block, make_starts}
 use Rattle.core_lowering_steps.specs.Functions.{MadeParams}
 
 -- ---- what stands before what is made

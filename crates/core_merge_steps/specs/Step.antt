@@ -10,7 +10,8 @@ use Rattle.core_ir.specs.declared.tree.PartedOp.TheVariants as parted
 use Rattle.core_ir.specs.Binders.{is_in}
 use Rattle.core_ir.specs.Edits.{Edited}
 use Rattle.core_ir.specs.Renaming.{Renamed, under}
-use Rattle.core_ir.specs.Terms.{PlainTerm, BlockTerm, RightTerm, PartsTerm, LetTerm, PartHead, FunTerm, CoreTerm, Gives, Bind, Plain, NoParts, Part, Parted, chain}
+use Rattle.core_ir.specs.Terms.{PlainTerm, BlockTerm, RightTerm, PartsTerm, LetTerm, PartHead, FunTerm, CoreTerm, Gives, Bind, Plain, NoParts, Part}
+use Rattle.core_ir.specs.Terms.{Parted, chain}
 use Rattle.core_ir.specs.Uses.{AvoidsEach, AvoidsParts, targets_of}
 use Rattle.core_facts.specs.Facts.{Facts}
 use Rattle.core_settled.specs.Called.{called, params_facts}

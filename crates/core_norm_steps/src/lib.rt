@@ -1,7 +1,8 @@
 //! Laws: a parted loop in the place of a with-loop.
 #![tactic(auto)]
 
-ghost use Rattle.core_norm_steps.specs.Laws.{GenarraysAreParted, ModarraysAreParted, ScalarsSelectAsVectors, FoldsAreParted, NormStepsKeepOutcomes, FunctionsHaveTables};
+ghost use Rattle.core_norm_steps.specs.Laws.{GenarraysAreParted, ModarraysAreParted, ScalarsSelectAsVectors, FoldsAreParted, NormStepsKeepOutcomes};
+ghost use Rattle.core_norm_steps.specs.Laws.{FunctionsHaveTables};
 
 /// Law: where the bounds are literal and the shapes known, the parted loop in the place of a genarray with-loop means the same, faults and their
 /// sites included.

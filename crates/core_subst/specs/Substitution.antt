@@ -9,7 +9,8 @@ use Rattle.core_ir.specs.declared.tree.PartedOp.{PartedOp}
 use Rattle.core_ir.specs.declared.tree.PartedOp.TheVariants as parted
 use Rattle.core_ir.specs.Meaning.{Env, CallMeaning, run}
 use Rattle.core_ir.specs.Binders.{is_in}
-use Rattle.core_ir.specs.Terms.{PlainTerm, BlockTerm, RightTerm, GensTerm, PartsTerm, LetTerm, GenTerm, PartTerm, GenHead, Gives, Bind, Plain, NoGens, Gen, NoParts, Part}
+use Rattle.core_ir.specs.Terms.{PlainTerm, BlockTerm, RightTerm, GensTerm, PartsTerm, LetTerm, GenTerm, PartTerm, GenHead, Gives, Bind, Plain, NoGens}
+use Rattle.core_ir.specs.Terms.{Gen, NoParts, Part}
 
 -- what stands for x: the second member of the first pair of x
 abbrev pub partner : List (Var × Var) → Var → Var

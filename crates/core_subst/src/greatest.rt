@@ -7,7 +7,8 @@ ghost use Rattle.core_subst.specs.Names.{above, above_all, above_function, varia
 use core_ir::{Block, CoreFun, CoreGen, PartedLoop, Right, Var, WithLoop};
 use sac_base::ArrayType;
 
-/// The variable whose number is one above the greatest in the function, and the first where it has no variable. There is none exactly where the greatest number is `u32::MAX`.
+/// The variable whose number is one above the greatest in the function, and the first where it has no variable. There is none exactly where the
+/// greatest number is `u32::MAX`.
 pub fn fresh(fun: &CoreFun) -> Option<Var>
     ensures exact { result ≡ variable_at (above_function (fun_term fun.now)) }
     ensures new { IfSome result (λ x. IsNew (fun_term fun.now) x) }

@@ -6,7 +6,8 @@ ghost use Rattle.std.specs.BTreeMap.{get};
 ghost use Rattle.core_ir.specs.declared.tree.Var.{Var};
 ghost use Rattle.core_ir.specs.View.{block_term, right_term, with_term, gen_term, parted_term, part_term};
 ghost use Rattle.core_ir.specs.Binders.{is_in, NoneIn, bound_in};
-ghost use Rattle.core_subst.specs.Substitution.{partner, partner_at, image, below, seconds, MeansThrough, core_op_with, parted_op_with, substituted, substituted_right, substituted_gen, substituted_part};
+ghost use Rattle.core_subst.specs.Substitution.{partner, partner_at, image, below, seconds, MeansThrough, core_op_with, parted_op_with, substituted};
+ghost use Rattle.core_subst.specs.Substitution.{substituted_right, substituted_gen, substituted_part};
 
 use core_ir::{Block, CoreGen, CoreOp, CorePart, Let, PartedLoop, PartedOp, Right, Var, WithLoop};
 use sac_base::Memory;
@@ -15,7 +16,8 @@ use std::collections::BTreeMap;
 
 /// Replaces free uses: each first member of a pair by its second. Of two pairs with one first member the first counts.
 ///
-/// No second member is bound in the block, so that none is captured. The new block means under an environment what the old one means where the first members have the values of the second.
+/// No second member is bound in the block, so that none is captured. The new block means under an environment what the old one means where the first
+/// members have the values of the second.
 pub fn substitute(alloc: Global, block: Block, pairs: &[(Var, Var)]) -> Result<Block, Memory>
     requires { NoneIn (seconds pairs.now) (bound_in (block_term block)) }
     ensures term { IfOk result (λ b. block_term b ≡ substituted (partner pairs.now) (block_term block)) }

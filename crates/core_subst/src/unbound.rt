@@ -138,7 +138,8 @@ fn meet_with(with: &WithLoop, met: &mut Met) -> Result<(), Memory>
 #[cycle(free)]
 fn meet_generator(generator: &CoreGen, met: &mut Met) -> Result<(), Memory>
     ensures used { OnOk result (met.new.used.items ≡ met.old.used.items ++ (head_uses (gen_term generator.now).head ++ used_in (gen_term generator.now).body)) }
-    ensures bound { OnOk result (met.new.bound.items ≡ met.old.bound.items ++ (index_names (gen_term generator.now).head ++ bound_in (gen_term generator.now).body)) }
+    ensures bound { OnOk result (met.new.bound.items ≡ met.old.bound.items
+        ++ (index_names (gen_term generator.now).head ++ bound_in (gen_term generator.now).body)) }
 {
     meet_head(generator, &mut met.used)?;
     meet_index(generator, &mut met.bound)?;

@@ -139,7 +139,8 @@ fn function(alloc: Global, params: &[Var], body: Block) -> Result<Option<CoreFun
     }))
 }
 
-/// `int[*] main() { a = with { ([0] <= iv < [16]) : iv[0] * 2; } : genarray([16], 0); b = with { ([0] <= iv < [16]) : a[iv] + 1; } : genarray([16], 0); return (b); }`
+/// `int[*] main() { a = with { ([0] <= iv < [16]) : iv[0] * 2; } : genarray([16], 0); b = with { ([0] <= iv < [16]) : a[iv] + 1; } : genarray([16],
+/// 0); return (b); }`
 fn two_loops(alloc: Global) -> Result<Option<Core>, Memory> {
     let mut lets = Vec::new(alloc);
     producer(alloc, &mut lets)?;

@@ -1,5 +1,6 @@
 // One phase: its table, the frame's seat and the workers' seats.
-ghost use Rattle.std.specs.Prelude.{◌≡◌, ◌≢◌, ℕ, ◌+◌, ◌-◌, ◌%◌, ◌^◌, ◌<◌, ◌≤◌, [], ◌∷◌, ◌++◌, true, false, length, map, slice_index, slice_get, MatchOption, IfSome, IfOk, IfErr, cond, nat_lt, None};
+ghost use Rattle.std.specs.Prelude.{◌≡◌, ◌≢◌, ℕ, ◌+◌, ◌-◌, ◌%◌, ◌^◌, ◌<◌, ◌≤◌, [], ◌∷◌, ◌++◌, true, false, length, map, slice_index, slice_get};
+ghost use Rattle.std.specs.Prelude.{MatchOption, IfSome, IfOk, IfErr, cond, nat_lt, None};
 ghost use Rattle.std.specs.Slots.{IsFull};
 ghost use Rattle.count_table.specs.Views.{times, without};
 ghost use Rattle.count_table.specs.Seats.{PhaseId, WorkerState, FrameState, IsOpened, AreReferences, ended, drew, left};

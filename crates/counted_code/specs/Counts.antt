@@ -16,7 +16,9 @@ use Rattle.core_ir.specs.Binders.{is_in, NoneIn}
 use Rattle.core_ir.specs.Outcome.{group_at}
 use Rattle.core_ir.specs.Scopes.{AllIn, plain_uses, op_uses, parted_uses, head_uses}
 use Rattle.core_ir.specs.WellFormed.{Distinct, IsWellFormed}
-use Rattle.counted_code.specs.Terms.{CodeTerm, CodeRightTerm, CodeGensTerm, CodePartsTerm, CodeFunTerm, CodeProgram, Giving, Binding, Keeping, Releasing, PlainCode, IfCode, LoopCode, CallCode, WithCode, PartedCode, NoCodeGens, GenCode, NoCodeParts, PartCode, core_of_code}
+use Rattle.counted_code.specs.Terms.{CodeTerm, CodeRightTerm, CodeGensTerm, CodePartsTerm, CodeFunTerm, CodeProgram, Giving, Binding, Keeping}
+use Rattle.counted_code.specs.Terms.{Releasing, PlainCode, IfCode, LoopCode, CallCode, WithCode, PartedCode, NoCodeGens, GenCode, NoCodeParts}
+use Rattle.counted_code.specs.Terms.{PartCode, core_of_code}
 use Rattle.counted_code.specs.Outcome.{code_param_vars}
 
 -- the same variables, each as often, in some order
@@ -41,7 +43,8 @@ abbrev pub PlainGives : ℕ → PlainTerm → Type 0
 PlainGives n (PlainTerm.Always k) = Unit {0}
 PlainGives n _ = 1 ≡ n
 
--- A term has n results. It may read the variables of `outer`, and has the references of `refs`, a variable standing there once for each of them: it hands on or releases each of them once.
+-- A term has n results. It may read the variables of `outer`, and has the references of `refs`, a variable standing there once for each of them: it
+-- hands on or releases each of them once.
 -- Of the references that a right side finds it ends `mine`, and `after` are there when it is done.
 module _ (results_of : ℕ → ℕ) where
   abbrev mutual

@@ -1,5 +1,6 @@
 -- Loops over cells: what is done once their checks have passed.
-use Rattle.std.specs.Prelude.{ℕ, suc, ◌+◌, ◌*◌, ◌==◌, Bool, true, false, ◌||◌, not, List, [], ◌∷◌, ◌++◌, map, length, take, drop, replicate, ℤ, pos, Option, Some, None, Ok, if◌then◌else◌}
+use Rattle.std.specs.Prelude.{ℕ, suc, ◌+◌, ◌*◌, ◌==◌, Bool, true, false, ◌||◌, not, List, [], ◌∷◌, ◌++◌, map, length, take, drop, replicate, ℤ, pos}
+use Rattle.std.specs.Prelude.{Option, Some, None, Ok, if◌then◌else◌}
 use Rattle.sac_base.specs.declared.base.Base.{Base}
 use Rattle.sac_base.specs.declared.faults.FaultKind.TheVariants.{F6}
 use Rattle.sac_base.specs.declared.form.Form.{Form}
@@ -12,7 +13,8 @@ use Rattle.sac_base.specs.WithLoops.{Bounds, Range, Operation, fold_by, holds, p
 use Rattle.core_ir.specs.declared.tree.PartedOp.{PartedOp}
 use Rattle.core_ir.specs.declared.tree.PartedOp.TheVariants as parted
 use Rattle.core_ir.specs.Meaning.{Env, cell_form, extents, neutral_fits, made_of}
-use Rattle.counted_code.specs.Values.{Heap, Value, Small, Ref, Ended, Done, Doing, give, then_go, pure_end, fails, apart, is_small, read, count_of, cells_of, with_cells, release, take_buffer}
+use Rattle.counted_code.specs.Values.{Heap, Value, Small, Ref, Ended, Done, Doing, give, then_go, pure_end, fails, apart, is_small, read, count_of}
+use Rattle.counted_code.specs.Values.{cells_of, with_cells, release, take_buffer}
 
 -- ---- cells
 

@@ -10,7 +10,8 @@ use Rattle.sac_base.specs.WithLoops.{Bounds}
 use Rattle.core_ir.specs.declared.tree.Var.{Var}
 use Rattle.core_ir.specs.Terms.{PlainTerm, GenHead}
 use Rattle.core_ir.specs.Meaning.{Env, missing, checked, plain_value, generator, operation}
-use Rattle.counted_code.specs.Terms.{CodeTerm, CodeRightTerm, CodeGensTerm, CodePartsTerm, Giving, Binding, Keeping, Releasing, PlainCode, IfCode, LoopCode, CallCode, WithCode, PartedCode, NoCodeGens, GenCode, NoCodeParts, PartCode}
+use Rattle.counted_code.specs.Terms.{CodeTerm, CodeRightTerm, CodeGensTerm, CodePartsTerm, Giving, Binding, Keeping, Releasing, PlainCode, IfCode}
+use Rattle.counted_code.specs.Terms.{LoopCode, CallCode, WithCode, PartedCode, NoCodeGens, GenCode, NoCodeParts, PartCode}
 use Rattle.counted_code.specs.Values.{Heap, Value, Small, Done, Doing, give, then_go, pure_end, fails, choose_does, keep, release, read, place_value}
 use Rattle.counted_code.specs.Loops.{CodeGenerator, CodeCells, with_job, parted_job, loop_does}
 

@@ -95,7 +95,12 @@ outcome_of (Failed f phases) = Err f
 
 -- its cost; a run that ends with a fault costs its phases alone
 abbrev pub cost_of : Ended (List ArrayValue) → Cost
-cost_of (Done ws heap) = record { taken = heap.taken % 2 ^ 64; given = heap.given % 2 ^ 64; reused = heap.reused % 2 ^ 64; phases = length heap.phases % 2 ^ 64 }
+cost_of (Done ws heap) = record {
+  taken = heap.taken % 2 ^ 64;
+  given = heap.given % 2 ^ 64;
+  reused = heap.reused % 2 ^ 64;
+  phases = length heap.phases % 2 ^ 64;
+}
 cost_of (Failed f phases) = record { taken = 0; given = 0; reused = 0; phases = length phases % 2 ^ 64 }
 
 -- the numbers of positions of its phases

@@ -4,7 +4,9 @@ use Rattle.core_ir.specs.declared.tree.Var.{Var}
 use Rattle.core_ir.specs.Terms.{BlockTerm, RightTerm, GensTerm, PartsTerm, Gives, Bind, Plain, NoGens, Gen, NoParts, Part}
 use Rattle.core_ir.specs.Binders.{is_in}
 use Rattle.core_ir.specs.Scopes.{AllIn, plain_uses, op_uses, parted_uses, head_uses}
-use Rattle.counted_code.specs.Terms.{CodeTerm, CodeRightTerm, CodeGensTerm, CodePartsTerm, CodeFunTerm, CodeProgram, Giving, Binding, Keeping, Releasing, PlainCode, IfCode, LoopCode, CallCode, WithCode, PartedCode, NoCodeGens, GenCode, NoCodeParts, PartCode, core_of, core_of_right, core_of_code}
+use Rattle.counted_code.specs.Terms.{CodeTerm, CodeRightTerm, CodeGensTerm, CodePartsTerm, CodeFunTerm, CodeProgram, Giving, Binding, Keeping}
+use Rattle.counted_code.specs.Terms.{Releasing, PlainCode, IfCode, LoopCode, CallCode, WithCode, PartedCode, NoCodeGens, GenCode, NoCodeParts}
+use Rattle.counted_code.specs.Terms.{PartCode, core_of, core_of_right, core_of_code}
 use Rattle.counted_code.specs.Outcome.{code_param_vars}
 use Rattle.counted_code.specs.Counts.{Reordered, plain_hands, CountedRight, group_results}
 
@@ -47,7 +49,8 @@ abbrev pub times : Var → List Var → ℕ
 times x [] = 0
 times x (y ∷ ys) = cond (eqb y.0 x.0) (suc (times x ys)) (times x ys)
 
--- `outside` are the variables bound outside the cell, loop test, loop body or function in which the term stands, and `later` those that are used after the term, both in it.
+-- `outside` are the variables bound outside the cell, loop test, loop body or function in which the term stands, and `later` those that are used
+-- after the term, both in it.
 -- `above` are references that the blocks around the term end, and `refs` those that it ends itself. They are split as in well-counted code.
 module _ (results_of : ℕ → ℕ) where
   abbrev mutual

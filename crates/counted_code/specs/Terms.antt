@@ -8,7 +8,8 @@ use Rattle.sac_base.specs.declared.types.ArrayType.{ArrayType}
 use Rattle.core_ir.specs.declared.tree.Var.{Var}
 use Rattle.core_ir.specs.declared.tree.CoreOp.{CoreOp}
 use Rattle.core_ir.specs.declared.tree.PartedOp.{PartedOp}
-use Rattle.core_ir.specs.Terms.{PlainTerm, GenHead, PartHead, BlockTerm, RightTerm, GensTerm, PartsTerm, FunTerm, CoreTerm, Gives, Bind, Plain, NoGens, Gen, NoParts, Part}
+use Rattle.core_ir.specs.Terms.{PlainTerm, GenHead, PartHead, BlockTerm, RightTerm, GensTerm, PartsTerm, FunTerm, CoreTerm, Gives, Bind, Plain}
+use Rattle.core_ir.specs.Terms.{NoGens, Gen, NoParts, Part}
 
 mutual
   -- steps, and at their end the results

@@ -1,5 +1,6 @@
 -- Values, the heap of buffers, and steps that change it.
-use Rattle.std.specs.Prelude.{ℕ, zero, suc, ◌+◌, Bool, true, false, nat_le, List, [], ◌∷◌, ◌++◌, length, ℤ, Option, Some, None, Ok, Err, slice_index_or, slice_set}
+use Rattle.std.specs.Prelude.{ℕ, zero, suc, ◌+◌, Bool, true, false, nat_le, List, [], ◌∷◌, ◌++◌, length, ℤ, Option, Some, None, Ok, Err}
+use Rattle.std.specs.Prelude.{slice_index_or, slice_set}
 use Rattle.sac_base.specs.declared.base.Base.{Base}
 use Rattle.sac_base.specs.declared.faults.Fault.{Fault}
 use Rattle.sac_base.specs.declared.faults.FaultKind.{FaultKind}

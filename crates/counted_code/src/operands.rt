@@ -10,7 +10,8 @@ impl CodeRight {
     ghost use Rattle.counted_code.specs.Terms.{core_of_right};
     ghost use Rattle.counted_code.specs.View.{code_right_term};
 
-    /// The variables that the right side reads itself: its operands, the condition of an `If`, the first values of a `Loop`, the arguments of a call, and what the operation of a with-loop reads.
+    /// The variables that the right side reads itself: its operands, the condition of an `If`, the first values of a `Loop`, the arguments of a
+    /// call, and what the operation of a with-loop reads.
     pub fn operands(&self) -> Operands<'_>
         ensures { operand_list result ≡ right_uses (core_of_right (code_right_term self.now)) }
     {

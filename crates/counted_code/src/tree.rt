@@ -74,7 +74,8 @@ pub enum CodeRight {
         yes: CodeBlock,
         no: CodeBlock,
     },
-    /// A loop over the parameters, whose first values are those of `start`. The first result of `test` says whether a turn is made, and a turn gives the parameters the results of `body`. Where `first_body` holds the first turn is made before the first test.
+    /// A loop over the parameters, whose first values are those of `start`. The first result of `test` says whether a turn is made, and a turn gives
+    /// the parameters the results of `body`. Where `first_body` holds the first turn is made before the first test.
     Loop {
         first_body: bool,
         start: Vec<Var>,
@@ -144,7 +145,8 @@ pub struct CodePart {
     pub site: Site,
 }
 
-/// What an evaluation costs, each number modulo 2^64: buffers taken, buffers given back, marked loops that took over a buffer, and phases, which are the with-loops outside every cell that passed their checks and are folds or have a buffer as result.
+/// What an evaluation costs, each number modulo 2^64: buffers taken, buffers given back, marked loops that took over a buffer, and phases, which are
+/// the with-loops outside every cell that passed their checks and are folds or have a buffer as result.
 #[derive(Clone, Copy, Debug, PartialEq, Eq)]
 pub struct Cost {
     pub taken: u64,

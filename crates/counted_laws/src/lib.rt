@@ -9,7 +9,8 @@ pub fn outcome_of_the_core()
     ensures nothing_left { RunsLeaveNothing }
 {}
 
-/// Law: a run of well-counted code without marks that ends without a fault gives back as many buffers as it took; so the two numbers of each run's cost are equal.
+/// Law: a run of well-counted code without marks that ends without a fault gives back as many buffers as it took; so the two numbers of each run's
+/// cost are equal.
 pub fn taken_is_given()
     ensures heap { RunsGiveAllBack }
     ensures cost { CostsAreEven }

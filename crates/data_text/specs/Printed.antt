@@ -45,7 +45,8 @@ total Truth zs = pos (count_by is_true zs)
 
 -- the line of a summary
 abbrev pub summary_text : Base → List ℕ → List ℤ → List ℕ
-summary_text base ns zs = form_text base ns ++ (codes ": elements " ++ (decimal (length zs) ++ (codes " sum " ++ (signed_decimal (total base zs) ++ codes "\n"))))
+summary_text base ns zs = form_text base ns ++ (codes ": elements " ++
+    (decimal (length zs) ++ (codes " sum " ++ (signed_decimal (total base zs) ++ codes "\n"))))
 
 abbrev pub summary_line : ArrayValue → List ℕ
 summary_line a = summary_text a.base a.shape a.cells

@@ -1,5 +1,6 @@
 -- The numbers of a line as the reader keeps them.
-use Rattle.std.specs.Prelude.{ℕ, if◌then◌else◌, nat_le, nat_lt, not, ◌==◌, Result, Ok, Err, List, [], ◌∷◌, ◌++◌, length, Option, Some, None, option_map, option_and_then, ℤ, pos}
+use Rattle.std.specs.Prelude.{ℕ, if◌then◌else◌, nat_le, nat_lt, not, ◌==◌, Result, Ok, Err, List, [], ◌∷◌, ◌++◌, length, Option, Some, None}
+use Rattle.std.specs.Prelude.{option_map, option_and_then, ℤ, pos}
 use Rattle.sac_base.specs.declared.base.Base.{Base}
 use Rattle.sac_base.specs.Arrays.{ArrayValue, MOST, size, same_base}
 use Rattle.sac_base.specs.Parts.{shape_of_numbers}

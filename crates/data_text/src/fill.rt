@@ -1,7 +1,9 @@
 ghost use Rattle.std.specs.Prelude.{◌≡◌, ◌+◌, ◌^◌, ◌<◌, ◌≤◌, ◌≤ℤ◌, IfOk, Some, replicate, pos, unsigned_abs};
 ghost use Rattle.sac_base.specs.Parts.{short};
 ghost use Rattle.data_text.specs.Found.{Tells, TellsOne};
-ghost use Rattle.data_text.specs.Generated.{generated_element as generated_element_value, generated_number as generated_number_value, generated_shape as generated_shape_value, generated_cells as generated_cells_value, generated_all, generated};
+ghost use Rattle.data_text.specs.Generated.{generated_element as generated_element_value, generated_number as generated_number_value};
+ghost use Rattle.data_text.specs.Generated.{generated_shape as generated_shape_value, generated_cells as generated_cells_value, generated_all};
+ghost use Rattle.data_text.specs.Generated.{generated};
 
 use crate::error::{DataCode, DataError};
 use sac_base::{Array, ArrayType, Base, Cell, Memory, Part, Shape, elements};

@@ -3,7 +3,8 @@ ghost use Rattle.sac_base.specs.Arrays.{MOST};
 ghost use Rattle.std.specs.Fmt.{decimal, signed_decimal};
 ghost use Rattle.std.specs.List.{flat_map};
 ghost use Rattle.data_text.specs.Numbers.{base_text, truth_text};
-ghost use Rattle.data_text.specs.Printed.{Appends, array_line, form_text, commas, further_extent, element_text, spaced, line_text, summary_line, summary_text, total};
+ghost use Rattle.data_text.specs.Printed.{Appends, array_line, form_text, commas, further_extent, element_text, spaced, line_text, summary_line};
+ghost use Rattle.data_text.specs.Printed.{summary_text, total};
 
 use itoa::Buffer;
 use sac_base::{Array, Base, Cell, Memory};

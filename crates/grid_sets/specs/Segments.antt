@@ -1,5 +1,6 @@
 -- An axis, cut into segments, and the segments into runs.
-use Rattle.std.specs.Prelude.{◌≡◌, ℕ, zero, suc, ◌+◌, ◌-◌, ◌%◌, ◌<◌, ◌≤◌, min, max, Bool, true, not, ◌&&◌, nat_le, nat_lt, cond, ℤ, pos, ◌+ℤ◌, ◌-ℤ◌, ◌≤ℤ◌, ◌<ℤ◌, int_le, unsigned_abs, List, ◌++◌, ◌⊎◌, length, if◌then◌else◌, Result, IfOk, Vec}
+use Rattle.std.specs.Prelude.{◌≡◌, ℕ, zero, suc, ◌+◌, ◌-◌, ◌%◌, ◌<◌, ◌≤◌, min, max, Bool, true, not, ◌&&◌, nat_le, nat_lt, cond, ℤ, pos, ◌+ℤ◌, ◌-ℤ◌}
+use Rattle.std.specs.Prelude.{◌≤ℤ◌, ◌<ℤ◌, int_le, unsigned_abs, List, ◌++◌, ◌⊎◌, length, if◌then◌else◌, Result, IfOk, Vec}
 use Rattle.std.specs.Global.{Global}
 use Rattle.std.specs.List.{All, Any, list_all}
 use Rattle.std.proofs.Math.Bool.{beq}

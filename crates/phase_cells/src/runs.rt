@@ -55,7 +55,8 @@ pub trait CellRuns: Sync {
         requires position { position < positions self.now }
         requires width { length into.old ≡ width self.now }
         ensures tells { (k : MachineHeap) → Stands store.old k → opens self.now k → Tells (cell self.now position) into.new result }
-        ensures left { (k : MachineHeap) → Stands store.old k → opens self.now k → IsComputed result → IsLeft (opens self.now) (lends self.now) (takes self.now position) k store.new }
+        ensures left { (k : MachineHeap) → Stands store.old k → opens self.now k → IsComputed result
+            → IsLeft (opens self.now) (lends self.now) (takes self.now position) k store.new }
         ensures ready { IsComputed result → ready self.now scratch.new }
         ensures lender { lender_of store.new ≡ lender_of store.old };
 }

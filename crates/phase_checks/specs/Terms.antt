@@ -7,7 +7,17 @@ use Rattle.counted_code.specs.Terms.{CodeGensTerm, CodePartsTerm, NoCodeGens, Ge
 use Rattle.counted_code.specs.View.{code_term}
 
 abbrev pub gen_head : CodeGen → GenHead
-gen_head g = record { lower = g.lower; lower_closed = g.lower_closed; upper = g.upper; upper_closed = g.upper_closed; step = g.step; width = g.width; index = g.index; names = g.names.items; site = g.site }
+gen_head g = record {
+  lower = g.lower;
+  lower_closed = g.lower_closed;
+  upper = g.upper;
+  upper_closed = g.upper_closed;
+  step = g.step;
+  width = g.width;
+  index = g.index;
+  names = g.names.items;
+  site = g.site;
+}
 
 abbrev pub part_head : CodePart → PartHead
 part_head p = record { grid = p.grid; index = p.index; site = p.site }

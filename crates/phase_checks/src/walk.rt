@@ -1,6 +1,7 @@
 //! The walk through a block, from its end to its start.
 //!
-//! What a block hands on and releases tells which references it has: at its end those of its results, and in front of each step those that the step needs for what follows. So nothing is guessed, and a block is well counted from a list of references if it has just these.
+//! What a block hands on and releases tells which references it has: at its end those of its results, and in front of each step those that the step
+//! needs for what follows. So nothing is guessed, and a block is well counted from a list of references if it has just these.
 
 ghost use Rattle.std.specs.Prelude.{◌≡◌, [], IfOk, IfSome, IsTrue};
 ghost use Rattle.counted_code.specs.Counts.{CountedGens, CountedParts, UnmarkedGens, UnmarkedParts, group_results};
@@ -28,7 +29,8 @@ pub fn gens_are_counted(
     outer: &[Var],
     gens: &[CodeGen],
 ) -> Result<bool, Memory>
-    ensures { IfOk result (λ b. IsTrue b → CountedGens (group_results (core_of_code (code_program code.now))) outer.now (gens_term gens.now) × UnmarkedGens (gens_term gens.now)) }
+    ensures { IfOk result (λ b. IsTrue b → CountedGens (group_results (core_of_code (code_program code.now))) outer.now (gens_term gens.now)
+        × UnmarkedGens (gens_term gens.now)) }
 {
     for generator in gens {
         if !gen_is_counted(alloc, code, outer, generator)? {
@@ -46,7 +48,8 @@ pub fn parts_are_counted(
     outer: &[Var],
     parts: &[CodePart],
 ) -> Result<bool, Memory>
-    ensures { IfOk result (λ b. IsTrue b → CountedParts (group_results (core_of_code (code_program code.now))) outer.now (parts_term parts.now) × UnmarkedParts (parts_term parts.now)) }
+    ensures { IfOk result (λ b. IsTrue b → CountedParts (group_results (core_of_code (code_program code.now))) outer.now (parts_term parts.now)
+        × UnmarkedParts (parts_term parts.now)) }
 {
     for part in parts {
         if !part_is_counted(alloc, code, outer, part)? {

@@ -53,7 +53,8 @@ Leaves holding n h (Done a k) (Ok b) = (a ≡ b) × Unchanged holding n h k
 Leaves holding n h (Failed f phases) (Err g) = (f ≡ g) × (phases ≡ h.phases)
 Leaves _ _ _ _ _ = ⊥
 
--- From a heap on, the cell at each index is the given one and takes so many buffers, whatever else there is in the heap: only the buffers that are held here have a say.
+-- From a heap on, the cell at each index is the given one and takes so many buffers, whatever else there is in the heap: only the buffers that are
+-- held here have a say.
 abbrev pub StandAlone : (ℕ → ℕ) → Heap → Form → (List ℤ → Option Source) → (List ℤ → Ends (Option ArrayValue)) → (List ℤ → ℕ) → Type 0
 StandAlone holding h form source cell takes =
     (v : List ℤ) (k : Heap) → Owns k [] holding → SameCells holding h k → Leaves holding (takes v) k (cell_does form (source v) k) (cell v)

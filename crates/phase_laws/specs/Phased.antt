@@ -10,11 +10,15 @@ use Rattle.sac_base.specs.Parts.{condition}
 use Rattle.sac_base.specs.Types.{all_have}
 use Rattle.core_ir.specs.Meaning.{operation}
 use Rattle.core_ir.specs.Outcome.{start_of_source}
-use Rattle.counted_code.specs.Loops.{Source, Job, Claimed, Target, Inside, Fresh, Old, cells_do, write_cell, release_rest, settled, claim, count_phase, with_job, parted_job}
-use Rattle.counted_code.specs.Machine.{Values, DoesCalls, no_values, bind_values, reads, one_value, first_value, plain_does, turns_do, code_generators, code_cells}
+use Rattle.counted_code.specs.Loops.{Source, Job, Claimed, Target, Inside, Fresh, Old, cells_do, write_cell, release_rest, settled, claim}
+use Rattle.counted_code.specs.Loops.{count_phase, with_job, parted_job}
+use Rattle.counted_code.specs.Machine.{Values, DoesCalls, no_values, bind_values, reads, one_value, first_value, plain_does, turns_do}
+use Rattle.counted_code.specs.Machine.{code_generators, code_cells}
 use Rattle.counted_code.specs.Outcome.{DoesRun, code_param_types, code_param_vars, results_do, call_does, inline_does, deeper_does, call_does_at, copied_out}
-use Rattle.counted_code.specs.Terms.{CodeTerm, CodeRightTerm, CodeFunTerm, CodeProgram, Giving, Binding, Keeping, Releasing, PlainCode, IfCode, LoopCode, CallCode, WithCode, PartedCode}
-use Rattle.counted_code.specs.Values.{Heap, empty_heap, Value, Ended, Done, Doing, then_go, pure_end, fails, choose_does, is_small, keep, release, read, place_all}
+use Rattle.counted_code.specs.Terms.{CodeTerm, CodeRightTerm, CodeFunTerm, CodeProgram, Giving, Binding, Keeping, Releasing, PlainCode, IfCode}
+use Rattle.counted_code.specs.Terms.{LoopCode, CallCode, WithCode, PartedCode}
+use Rattle.counted_code.specs.Values.{Heap, empty_heap, Value, Ended, Done, Doing, then_go, pure_end, fails, choose_does, is_small, keep, release}
+use Rattle.counted_code.specs.Values.{read, place_all}
 use Rattle.phase_laws.specs.Chunks.{pieces, chunks_do}
 
 -- the lengths of the chunks that so many positions are cut into

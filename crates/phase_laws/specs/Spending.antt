@@ -1,5 +1,6 @@
 -- What a run spends: how many buffers it takes, and its phases. These are functions on arrays: no heap is spoken of.
-use Rattle.std.specs.Prelude.{ℕ, zero, suc, ◌+◌, ◌-◌, Bool, true, false, cond, ◌||◌, not, List, [], ◌∷◌, ◌++◌, map, length, ℤ, Option, Some, None, Result, Ok, Err, if◌then◌else◌, slice_get}
+use Rattle.std.specs.Prelude.{ℕ, zero, suc, ◌+◌, ◌-◌, Bool, true, false, cond, ◌||◌, not, List, [], ◌∷◌, ◌++◌, map, length, ℤ, Option, Some, None}
+use Rattle.std.specs.Prelude.{Result, Ok, Err, if◌then◌else◌, slice_get}
 use Rattle.sac_base.specs.declared.faults.Caps.{Caps}
 use Rattle.sac_base.specs.declared.base.Base.TheVariants.{Int}
 use Rattle.sac_base.specs.declared.site.Site.{Site}
@@ -9,12 +10,15 @@ use Rattle.sac_base.specs.Outcomes.{Ends}
 use Rattle.sac_base.specs.Parts.{condition}
 use Rattle.sac_base.specs.Types.{all_have}
 use Rattle.sac_base.specs.WithLoops.{Generator, Range, holds, plan}
-use Rattle.core_ir.specs.Meaning.{Env, CallMeaning, bind, bind_all, with_index, no_variables, first, plain_value, operation, generators, cell_form, neutral_fits, run, right_value}
+use Rattle.core_ir.specs.Meaning.{Env, CallMeaning, bind, bind_all, with_index, no_variables, first, plain_value, operation, generators, cell_form}
+use Rattle.core_ir.specs.Meaning.{neutral_fits, run, right_value}
 use Rattle.core_ir.specs.Outcome.{RunMeaning, call_by, call_at, chosen, run_deeper, run_inline}
 use Rattle.core_ir.specs.Terms.{PlainTerm}
 use Rattle.counted_code.specs.Loops.{is_fold, parted_folds, parted_shape}
 use Rattle.counted_code.specs.Outcome.{code_param_types, code_param_vars}
-use Rattle.counted_code.specs.Terms.{CodeTerm, CodeRightTerm, CodeGensTerm, CodePartsTerm, CodeFunTerm, CodeProgram, Giving, Binding, Keeping, Releasing, PlainCode, IfCode, LoopCode, CallCode, WithCode, PartedCode, NoCodeGens, GenCode, NoCodeParts, PartCode, core_of, core_of_right, core_of_gens, core_of_code}
+use Rattle.counted_code.specs.Terms.{CodeTerm, CodeRightTerm, CodeGensTerm, CodePartsTerm, CodeFunTerm, CodeProgram, Giving, Binding, Keeping}
+use Rattle.counted_code.specs.Terms.{Releasing, PlainCode, IfCode, LoopCode, CallCode, WithCode, PartedCode, NoCodeGens, GenCode, NoCodeParts}
+use Rattle.counted_code.specs.Terms.{PartCode, core_of, core_of_right, core_of_gens, core_of_code}
 use Rattle.counted_code.specs.Values.{is_small}
 
 -- the number of buffers that are taken, where there is no fault; and the number of positions of each phase, up to the fault where there is one

@@ -41,14 +41,16 @@ CallsDoWhatTheyMean =
     (code : CodeProgram) → IsWellCounted code → IsUnmarked code → (turns left nest : ℕ) →
     CallsMatch (group_results (core_of_code code))
     (call_does code (deeper_does code turns left) (inline_does code turns (deeper_does code turns left) nest))
-    (call_by (core_of_code code) (run_deeper (core_of_code code) turns left) (run_inline (core_of_code code) turns (run_deeper (core_of_code code) turns left) nest))
+    (call_by (core_of_code code) (run_deeper (core_of_code code) turns left)
+    (run_inline (core_of_code code) turns (run_deeper (core_of_code code) turns left) nest))
 
 -- and spend what they spend on arrays
 abbrev pub CallsSpendAsOnArrays : Type 0
 CallsSpendAsOnArrays =
     (code : CodeProgram) → IsWellCounted code → IsUnmarked code → (turns left nest : ℕ) →
     CallsSpend (call_does code (deeper_does code turns left) (inline_does code turns (deeper_does code turns left) nest))
-    (calls_spend code (deeper_spends code turns left) (inline_spends code turns (run_deeper (core_of_code code) turns left) (deeper_spends code turns left) nest))
+    (calls_spend code (deeper_spends code turns left)
+    (inline_spends code turns (run_deeper (core_of_code code) turns left) (deeper_spends code turns left) nest))
 
 -- a whole run spends what it spends on arrays
 abbrev pub RunsSpend : Type 0
@@ -237,7 +239,8 @@ UncutFunctions =
     (code : CodeProgram) (turns left nest : ℕ) →
     (deeper_phased None code turns left ≡ deeper_does code turns left)
     ×
-    (inline_phased None code turns (deeper_does code turns left) (deeper_phased None code turns left) nest ≡ inline_does code turns (deeper_does code turns left) nest)
+    (inline_phased None code turns (deeper_does code turns left) (deeper_phased None code turns left) nest
+    ≡ inline_does code turns (deeper_does code turns left) nest)
 
 -- and a whole run
 abbrev pub UncutRuns : Type 0

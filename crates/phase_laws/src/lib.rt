@@ -1,7 +1,14 @@
-//! Laws of loops over cells: in well-counted code without marks, what a run spends is a function of arrays, and a cell depends on no more of a heap than the arrays of its variables; so the cells of a phase may be run in chunks.
+//! Laws of loops over cells: in well-counted code without marks, what a run spends is a function of arrays, and a cell depends on no more of a heap
+//! than the arrays of its variables; so the cells of a phase may be run in chunks.
 #![tactic(auto)]
 
-ghost use Rattle.phase_laws.specs.Statements.{BlocksSpend, CallsDoWhatTheyMean, CallsSpendAsOnArrays, RunsSpend, WithCellsStandAlone, PartedCellsStandAlone, CellsAreAlikeElsewhere, CellsInOrderLeave, CellsInOrderTell, BlocksAreBlind, RightSidesAreBlind, GeneratorsAreBlind, PartsAreBlind, CellsAreBlind, CallsOfEachLevelAreBlind, BlocksGrow, GeneratorsGrow, PartsGrow, OneCellGrows, CellsGrow, CallsOfEachLevelGrow, ChunksRunAsCells, ChunksLeave, HalvesAreBeside, PiecesAreTheWhole, PhasedOutcomesAreTheSame, PhasedCostsAreTheSame, PhasesAreTheSame, PhasedRunsLeaveNothing, UncutBlocks, UncutRightSides, UncutFunctions, UncutRuns, PartialsMerge, FoldsOfPartials, AsManyCells, ResultsInParts};
+ghost use Rattle.phase_laws.specs.Statements.{BlocksSpend, CallsDoWhatTheyMean, CallsSpendAsOnArrays, RunsSpend, WithCellsStandAlone};
+ghost use Rattle.phase_laws.specs.Statements.{PartedCellsStandAlone, CellsAreAlikeElsewhere, CellsInOrderLeave, CellsInOrderTell, BlocksAreBlind};
+ghost use Rattle.phase_laws.specs.Statements.{RightSidesAreBlind, GeneratorsAreBlind, PartsAreBlind, CellsAreBlind, CallsOfEachLevelAreBlind};
+ghost use Rattle.phase_laws.specs.Statements.{BlocksGrow, GeneratorsGrow, PartsGrow, OneCellGrows, CellsGrow, CallsOfEachLevelGrow, ChunksRunAsCells};
+ghost use Rattle.phase_laws.specs.Statements.{ChunksLeave, HalvesAreBeside, PiecesAreTheWhole, PhasedOutcomesAreTheSame, PhasedCostsAreTheSame};
+ghost use Rattle.phase_laws.specs.Statements.{PhasesAreTheSame, PhasedRunsLeaveNothing, UncutBlocks, UncutRightSides, UncutFunctions, UncutRuns};
+ghost use Rattle.phase_laws.specs.Statements.{PartialsMerge, FoldsOfPartials, AsManyCells, ResultsInParts};
 
 /// Law: a block spends on a heap what it spends on arrays, from each heap in which its references are counted and its variables can be read.
 pub fn spending_of_blocks()
@@ -14,7 +21,8 @@ pub fn spending_of_calls()
     ensures spending { CallsSpendAsOnArrays }
 {}
 
-/// Law: a whole run takes and gives back as many buffers as it spends on arrays, reuses none, and has the phases that it spends; with a fault it has those up to the fault.
+/// Law: a whole run takes and gives back as many buffers as it spends on arrays, reuses none, and has the phases that it spends; with a fault it has
+/// those up to the fault.
 pub fn spending_of_runs()
     ensures { RunsSpend }
 {}
@@ -34,7 +42,8 @@ pub fn a_cell_elsewhere()
     ensures { CellsAreAlikeElsewhere }
 {}
 
-/// Law: cells that stand alone, run one after another with nothing written between them, are the cells each run from the first heap, up to the first fault. They take as many buffers as all of them together, and leave the heap unchanged.
+/// Law: cells that stand alone, run one after another with nothing written between them, are the cells each run from the first heap, up to the first
+/// fault. They take as many buffers as all of them together, and leave the heap unchanged.
 pub fn cells_one_after_another()
     ensures leaves { CellsInOrderLeave }
     ensures told { CellsInOrderTell }
@@ -60,7 +69,8 @@ pub fn a_buffer_more_for_each_one_taken()
     ensures calls { CallsOfEachLevelGrow }
 {}
 
-/// Law: cells that stand alone may be run in chunks, each from the same heap with numbers of its own. The chunks in two halves come to what all come to, and pieces are the whole list together.
+/// Law: cells that stand alone may be run in chunks, each from the same heap with numbers of its own. The chunks in two halves come to what all come
+/// to, and pieces are the whole list together.
 pub fn cells_in_chunks()
     ensures ran { ChunksRunAsCells }
     ensures leaves { ChunksLeave }
@@ -84,7 +94,8 @@ pub fn phases_without_a_cut()
     ensures runs { UncutRuns }
 {}
 
-/// Law: a fold may be made of the partial values of its chunks. The partial value of two lists of cells is merged of theirs, and a fold combines its neutral value with the partial value of all cells.
+/// Law: a fold may be made of the partial values of its chunks. The partial value of two lists of cells is merged of theirs, and a fold combines its
+/// neutral value with the partial value of all cells.
 pub fn folds_in_parts()
     ensures parts { PartialsMerge }
     ensures whole { FoldsOfPartials }

@@ -52,7 +52,9 @@ index_at indices place = slice_index_or indices place []
 -- what the cell of a position comes to, and how many buffers it takes
 abbrev pub gens_cell : Context → HeapValue → Values → List CodeGen → Plan → Option Background → ℕ → CellValue
 gens_cell context lends e gens plan background place =
-    as_cell (fill_at background place) (with_cell_at plan.form (generators (meaning_in context) context.turns (core_of_gens (gens_term gens)) (lent_env lends e)) plan.ranges.items (index_at plan.frame place))
+    as_cell (fill_at background place)
+    (with_cell_at plan.form (generators (meaning_in context) context.turns (core_of_gens (gens_term gens)) (lent_env lends e)) plan.ranges.items
+    (index_at plan.frame place))
 
 abbrev pub gens_taken : Context → HeapValue → Values → List CodeGen → Plan → ℕ → ℕ
 gens_taken context lends e gens plan place =
@@ -62,7 +64,8 @@ gens_taken context lends e gens plan place =
 
 abbrev pub parts_cell : Context → HeapValue → Values → List CodePart → Form → List (List ℤ) → ℕ → CellValue
 parts_cell context lends e parts form indices place =
-    as_cell None (part_cell_at (cell_form form.base form.shape) (cells (meaning_in context) context.turns (core_of_parts (parts_term parts)) (lent_env lends e)) (index_at indices place))
+    as_cell None (part_cell_at (cell_form form.base form.shape)
+    (cells (meaning_in context) context.turns (core_of_parts (parts_term parts)) (lent_env lends e)) (index_at indices place))
 
 abbrev pub parts_taken : Context → HeapValue → Values → List CodePart → List (List ℤ) → ℕ → ℕ
 parts_taken context lends e parts indices place =

@@ -23,7 +23,8 @@ use Rattle.phase_checks.specs.Terms.{gens_term, parts_term}
 -- what calls mean and spend, with the levels that are left
 abbrev pub meant_calls : CodeProgram → (turns left nest : ℕ) → CallMeaning
 meant_calls code turns left nest =
-    call_by (core_of_code code) (run_deeper (core_of_code code) turns left) (run_inline (core_of_code code) turns (run_deeper (core_of_code code) turns left) nest)
+    call_by (core_of_code code) (run_deeper (core_of_code code) turns left)
+    (run_inline (core_of_code code) turns (run_deeper (core_of_code code) turns left) nest)
 
 abbrev pub spent_calls : CodeProgram → (turns left nest : ℕ) → CallSpending
 spent_calls code turns left nest =
@@ -57,7 +58,9 @@ lent_env h e x = lent_array h (e x)
 
 -- ---- heaps of the machine
 
--- The code is well-counted and without marks. In this heap the variables that the cells read are the arrays of the heap that lends, and each of that heap's buffers has as many references as there. How many buffers were taken has no say in what a cell does: `taken` is the number at which none was lost, and `holding` counts the references to every buffer.
+-- The code is well-counted and without marks. In this heap the variables that the cells read are the arrays of the heap that lends, and each of that
+-- heap's buffers has as many references as there. How many buffers were taken has no say in what a cell does: `taken` is the number at which none
+-- was lost, and `holding` counts the references to every buffer.
 pub record IsOpen (CountedIn : List Var → Type 0) (code : CodeProgram) (lends : HeapValue) (e : Values) (k : Heap) : Type 0 where
   pub counted : IsWellCounted code
   pub unmarked : IsUnmarked code

@@ -30,7 +30,8 @@ pub fn put(
     place: usize,
     into: &mut [Cell],
 ) -> Result<bool, Memory>
-    ensures told { (m : MachineHeap) → Stands store.old m → IfOk result (λ written. IsPut (fill_at background.entry place) into.new written store.new (option_map value_of value) m) }
+    ensures told { (m : MachineHeap) → Stands store.old m
+        → IfOk result (λ written. IsPut (fill_at background.entry place) into.new written store.new (option_map value_of value) m) }
     ensures lender { lender_of store.new ≡ lender_of store.old }
 {
     match value {

@@ -92,7 +92,10 @@ fn gens_at(
     into: &mut [Cell],
 ) -> Result<bool, Stop>
     requires { position < length cells.now.plan.now.frame }
-    ensures told { (m : MachineHeap) → IsAt state.old m → ToldCell (fill_at cells.now.background position) into.new result state.new (cell_does cells.now.plan.now.form (source_in cells.now.context (current state.old.frames) cells.now.gens.now cells.now.plan.now.ranges.items (index_at cells.now.plan.now.frame position)) m) }
+    ensures told { (m : MachineHeap) → IsAt state.old m
+        → ToldCell (fill_at cells.now.background position) into.new result state.new
+        (cell_does cells.now.plan.now.form (source_in cells.now.context (current state.old.frames) cells.now.gens.now cells.now.plan.now.ranges.items
+        (index_at cells.now.plan.now.frame position)) m) }
     ensures current { OnOk result (current state.new.frames ≡ current state.old.frames) }
     ensures lender { lender_of state.new.heap ≡ lender_of state.old.heap }
 {

@@ -91,7 +91,9 @@ fn parts_at(
     into: &mut [Cell],
 ) -> Result<bool, Stop>
     requires { position < length cells.now.frame.now }
-    ensures told { (m : MachineHeap) → IsAt state.old m → ToldCell None into.new result state.new (cell_does cells.now.form.now (part_source_in cells.now.context (current state.old.frames) cells.now.parts.now (index_at cells.now.frame.now position)) m) }
+    ensures told { (m : MachineHeap) → IsAt state.old m
+        → ToldCell None into.new result state.new (cell_does cells.now.form.now
+        (part_source_in cells.now.context (current state.old.frames) cells.now.parts.now (index_at cells.now.frame.now position)) m) }
     ensures current { OnOk result (current state.new.frames ≡ current state.old.frames) }
     ensures lender { lender_of state.new.heap ≡ lender_of state.old.heap }
 {

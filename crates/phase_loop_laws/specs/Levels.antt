@@ -13,7 +13,8 @@ does_at code turns left nest =
 
 abbrev pub means_at : CodeProgram → (turns left nest : ℕ) → CallMeaning
 means_at code turns left nest =
-    call_by (core_of_code code) (run_deeper (core_of_code code) turns left) (run_inline (core_of_code code) turns (run_deeper (core_of_code code) turns left) nest)
+    call_by (core_of_code code) (run_deeper (core_of_code code) turns left)
+    (run_inline (core_of_code code) turns (run_deeper (core_of_code code) turns left) nest)
 
 abbrev pub spends_at : CodeProgram → (turns left nest : ℕ) → CallSpending
 spends_at code turns left nest =

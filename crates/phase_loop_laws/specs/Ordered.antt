@@ -16,7 +16,8 @@ use Rattle.phase_laws.specs.Numbers.{SourceIsBlind}
 abbrev pub balanced : Heap → Heap
 balanced h = record h { taken = h.given + live h.buffers }
 
--- From this heap on the cell at each index is the given one and takes so many buffers, whatever else there is in the heap. The numbers of the heap have no say in it, and each buffer that it takes has a place of its own.
+-- From this heap on the cell at each index is the given one and takes so many buffers, whatever else there is in the heap. The numbers of the heap
+-- have no say in it, and each buffer that it takes has a place of its own.
 pub record StandsAlone (h : Heap) (form : Form) (source : List ℤ → Option Source) (cell : List ℤ → Ends (Option ArrayValue)) (takes : List ℤ → ℕ) : Type 0 where
   pub alone : StandAlone (λ b. count_of h b) (balanced h) form source cell takes
   pub blind : (v : List ℤ) → SourceIsBlind (source v)

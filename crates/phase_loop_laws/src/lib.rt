@@ -1,7 +1,9 @@
 //! Laws of parallel phases: what the workers of a phase compute is what the machine of counted code does in order.
 #![tactic(auto)]
 
-ghost use Rattle.phase_loop_laws.specs.Laws.{CellsComeToValues, CellsComeToFault, PhasesComeToResults, PhasesComeToFault, PlacesCostTogether, LoopsAreMade, PartedLoopsAreMade, FoldsAreMade, PhasesEndAsMade, LoopCellsHaveForm, PartCellsHaveForm, LoopsStandAlone, PartedLoopsStandAlone};
+ghost use Rattle.phase_loop_laws.specs.Laws.{CellsComeToValues, CellsComeToFault, PhasesComeToResults, PhasesComeToFault, PlacesCostTogether};
+ghost use Rattle.phase_loop_laws.specs.Laws.{LoopsAreMade, PartedLoopsAreMade, FoldsAreMade, PhasesEndAsMade, LoopCellsHaveForm, PartCellsHaveForm};
+ghost use Rattle.phase_loop_laws.specs.Laws.{LoopsStandAlone, PartedLoopsStandAlone};
 
 /// Law: from a heap on in which they stand alone, the machine's cells come in order to their values or to their first fault. The heap's numbers may be any.
 pub fn cells_in_order()
@@ -20,13 +22,15 @@ pub fn costs_of_places()
     ensures { PlacesCostTogether }
 {}
 
-/// Law: the elements that workers put one after another are those of the array that is made of all cells. Where an index has no cell, a with-loop has the elements behind it, and a parted loop has none.
+/// Law: the elements that workers put one after another are those of the array that is made of all cells. Where an index has no cell, a with-loop
+/// has the elements behind it, and a parted loop has none.
 pub fn arrays_of_workers()
     ensures with_loops { LoopsAreMade }
     ensures parted_loops { PartedLoopsAreMade }
 {}
 
-/// Law: the elements that workers combine with those of a neutral array are those of the fold of all cells, where the cells that are there have the neutral one's base and shape.
+/// Law: the elements that workers combine with those of a neutral array are those of the fold of all cells, where the cells that are there have the
+/// neutral one's base and shape.
 pub fn folds_of_workers()
     ensures { FoldsAreMade }
 {}

@@ -14,9 +14,11 @@ IsArray cells buffer (Ok done) = (values : List (Option (List ℤ))) × (each ce
 IsArray cells buffer (Err (Faulted fault)) = each cells ≡ Err fault
 IsArray cells buffer (Err Memory) = Unit {0}
 
--- the value is the neutral one, taken once, combined with the cells that are held, in order, each of which has as many elements, or the fault is that of the least position that faults
+-- the value is the neutral one, taken once, combined with the cells that are held, in order, each of which has as many elements, or the fault is
+-- that of the least position that faults
 abbrev pub IsCombined : Op → List CellValue → List ℤ → List ℤ → Result (Unit {0}) Stop → Type 0
-IsCombined op cells neutral value (Ok done) = (values : List (Option (List ℤ))) × (each cells ≡ Ok values) × (value ≡ fold (combine op) neutral (present values)) × HaveWidth (length neutral) values
+IsCombined op cells neutral value (Ok done) = (values : List (Option (List ℤ))) × (each cells ≡ Ok values)
+    × (value ≡ fold (combine op) neutral (present values)) × HaveWidth (length neutral) values
 IsCombined op cells neutral value (Err (Faulted fault)) = each cells ≡ Err fault
 IsCombined op cells neutral value (Err Memory) = Unit {0}
 

@@ -10,7 +10,8 @@ zero_divisor line = record { kind = F2; site = record { line = line; col = 28 } 
 -- three elements that have the position as their value, below 1000. Two positions fault, and those from `held` on are not held
 abbrev pub ramp_cell : ℕ → ℕ → ℕ → ℕ → CellValue
 ramp_cell first second held p =
-    cond (p == first) (Err (zero_divisor 3)) (cond (p == second) (Err (zero_divisor 4)) (cond (nat_lt p held) (Ok (Some (pos (p % 1000) ∷ pos (p % 1000) ∷ pos (p % 1000) ∷ []))) (Ok None)))
+    cond (p == first) (Err (zero_divisor 3)) (cond (p == second) (Err (zero_divisor 4))
+    (cond (nat_lt p held) (Ok (Some (pos (p % 1000) ∷ pos (p % 1000) ∷ pos (p % 1000) ∷ []))) (Ok None)))
 
 -- nothing is counted of kind 0
 abbrev pub all_but_first : ℕ → ℕ → ℕ

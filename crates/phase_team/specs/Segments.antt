@@ -60,7 +60,8 @@ Holds (Fold base op) width values held rows = combined (combine op) (present val
 abbrev pub HaveWidth : ℕ → List (Option (List ℤ)) → Type 0
 HaveWidth width values = All (λ (x : List ℤ). length x ≡ width) (present values)
 
--- the cells were taken in order: none faults, each that is held has a row's elements, and this was made of their values, or the first that did not come to a value stopped them
+-- the cells were taken in order: none faults, each that is held has a row's elements, and this was made of their values, or the first that did not
+-- come to a value stopped them
 abbrev pub Ran : Job → ℕ → List CellValue → List ℤ → Result Bool Stop → Type 0
 Ran job width cells rows (Ok held) = (values : List (Option (List ℤ))) × (each cells ≡ Ok values) × Holds job width values held rows × HaveWidth width values
 Ran job width cells rows (Err (Faulted fault)) = each cells ≡ Err fault
@@ -68,7 +69,8 @@ Ran job width cells rows (Err Memory) = Unit {0}
 
 -- the cells that are held, which have so many elements, were combined in order
 abbrev pub Gathered : Op → ℕ → List CellValue → List ℤ → Result Bool Stop → Type 0
-Gathered op width cells value (Ok held) = (values : List (Option (List ℤ))) × (each cells ≡ Ok values) × (combined (combine op) (present values) ≡ value_if held value) × HaveWidth width values
+Gathered op width cells value (Ok held) = (values : List (Option (List ℤ))) × (each cells ≡ Ok values)
+    × (combined (combine op) (present values) ≡ value_if held value) × HaveWidth width values
 Gathered op width cells value (Err (Faulted fault)) = each cells ≡ Err fault
 Gathered op width cells value (Err Memory) = Unit {0}
 

@@ -72,7 +72,8 @@ pub trait PhaseCells<H>: Sync {
         ensures tells { Tells (cell self.now position) into.new result }
         ensures idle { idle self.now worker.new }
         ensures seat { seat.new ≡ seat.old }
-        ensures spent { IsComputed result → (kind : ℕ) → Same kind (spent self.now worker.new kind) (spent self.now worker.old kind + cost self.now kind position) };
+        ensures spent { IsComputed result → (kind : ℕ)
+            → Same kind (spent self.now worker.new kind) (spent self.now worker.old kind + cost self.now kind position) };
 
     /// Hands a context back.
     ///

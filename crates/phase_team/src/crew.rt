@@ -100,7 +100,8 @@ fn run_first<H: Send, C: PhaseCells<H>, G: Gate, R: Threads + Sync>(
     ensures ran { Ran share.job share.width (cells_from (C.cell cells.now) from.start from.left) rows.new result }
     ensures worker { C.idle cells.now worker.new }
     ensures home { C.open_home cells.now home.new }
-    ensures spent { IfOk result (λ _. CostBoth (C.cost cells.now) from.start from.left (C.kept cells.now home.old) (C.spent cells.now worker.old) (C.kept cells.now home.new) (C.spent cells.now worker.new)) }
+    ensures spent { IfOk result (λ _. CostBoth (C.cost cells.now) from.start from.left (C.kept cells.now home.old)
+        (C.spent cells.now worker.old) (C.kept cells.now home.new) (C.spent cells.now worker.new)) }
     ensures seat { seat.new ≡ seat.old }
     ensures frame { IsBack frame.old frame.new }
 {
@@ -139,7 +140,8 @@ fn side_by_side<H: Send, C: PhaseCells<H>, G: Gate, R: Threads + Sync>(
     rest: &mut [Cell],
 ) -> (Result<bool, Stop>, Result<bool, Stop>)
     requires suits { Suits (C.cell cells.now) (C.positions cells.now) (C.width cells.now) (C.shared cells.now) table.now.buffers share from.start share.size }
-    requires behind { Suits (C.cell cells.now) (C.positions cells.now) (C.width cells.now) (C.shared cells.now) table.now.buffers share behind.start behind.left }
+    requires behind { Suits (C.cell cells.now) (C.positions cells.now) (C.width cells.now)
+        (C.shared cells.now) table.now.buffers share behind.start behind.left }
     requires seats { Seats table.now share behind frame.old }
     requires seat { IsFresh table.now seat.old }
     requires worker { C.idle cells.now worker.old }
@@ -156,10 +158,13 @@ fn side_by_side<H: Send, C: PhaseCells<H>, G: Gate, R: Threads + Sync>(
     ensures frame { IsBack frame.old frame.new }
 {
     let mut here = || -> Result<bool, Stop>
-        requires { IsSync C.row × IsSync G.row × IsSend C.Worker.row × Suits (C.cell cells.now) (C.positions cells.now) (C.width cells.now) (C.shared cells.now) table.now.buffers share from.start share.size × IsFresh table.now seat.now × C.idle cells.now worker.now × ChunkRoom share.job share.width share.size (length mine.now) }
+        requires { IsSync C.row × IsSync G.row × IsSend C.Worker.row
+            × Suits (C.cell cells.now) (C.positions cells.now) (C.width cells.now) (C.shared cells.now) table.now.buffers share from.start share.size
+            × IsFresh table.now seat.now × C.idle cells.now worker.now × ChunkRoom share.job share.width share.size (length mine.now) }
         ensures ran { Ran share.job share.width (cells_from (C.cell cells.entry.now) from.start share.size) mine.exit.now result }
         ensures worker { C.idle cells.entry.now worker.exit.now }
-        ensures spent { IfOk result (λ _. Costs (C.cost cells.entry.now) from.start share.size (C.spent cells.entry.now worker.entry.now) (C.spent cells.entry.now worker.exit.now)) }
+        ensures spent { IfOk result (λ _. Costs (C.cost cells.entry.now) from.start share.size
+            (C.spent cells.entry.now worker.entry.now) (C.spent cells.entry.now worker.exit.now)) }
         ensures seat { seat.exit.now ≡ seat.entry.now }
     {
         work(
@@ -167,10 +172,14 @@ fn side_by_side<H: Send, C: PhaseCells<H>, G: Gate, R: Threads + Sync>(
         )
     };
     let mut there = || -> Result<bool, Stop>
-        requires { IsSync R.row × IsSync C.row × IsSync G.row × IsSend C.Worker.row × IsSend H.row × Suits (C.cell cells.now) (C.positions cells.now) (C.width cells.now) (C.shared cells.now) table.now.buffers share behind.start behind.left × Seats table.now share behind frame.now × C.open_home cells.now home.now × HasRoom share.job share.width share.size behind.left (length rest.now) }
+        requires { IsSync R.row × IsSync C.row × IsSync G.row × IsSend C.Worker.row × IsSend H.row
+            × Suits (C.cell cells.now) (C.positions cells.now) (C.width cells.now)
+            (C.shared cells.now) table.now.buffers share behind.start behind.left × Seats table.now share behind frame.now
+            × C.open_home cells.now home.now × HasRoom share.job share.width share.size behind.left (length rest.now) }
         ensures ran { Ran share.job share.width (cells_from (C.cell cells.entry.now) behind.start behind.left) rest.exit.now result }
         ensures home { C.open_home cells.entry.now home.exit.now }
-        ensures kept { IfOk result (λ _. Costs (C.cost cells.entry.now) behind.start behind.left (C.kept cells.entry.now home.entry.now) (C.kept cells.entry.now home.exit.now)) }
+        ensures kept { IfOk result (λ _. Costs (C.cost cells.entry.now) behind.start behind.left
+            (C.kept cells.entry.now home.entry.now) (C.kept cells.entry.now home.exit.now)) }
         ensures frame { IsBack frame.entry.now frame.exit.now }
     { run_chunks(rt, cells, gate, table, frame, home, share, behind, rest) };
     join_mut(rt, &mut here, &mut there)
@@ -186,7 +195,8 @@ fn merge(
 ) -> Result<bool, Stop>
     requires rows { HasRows share.job share.width (length mine.old) (length rest.now) }
     requires takes { TakesBase share.job }
-    ensures ran { (xs : List CellValue) → (ys : List CellValue) → Ran share.job share.width xs mine.old first → Ran share.job share.width ys rest.now later → Ran share.job share.width (xs ++ ys) (mine.new ++ rest.now) result }
+    ensures ran { (xs : List CellValue) → (ys : List CellValue) → Ran share.job share.width xs mine.old first
+        → Ran share.job share.width ys rest.now later → Ran share.job share.width (xs ++ ys) (mine.new ++ rest.now) result }
     ensures both { IfOk result (λ _. IsOk first × IsOk later) }
 {
     match (first, later) {

@@ -122,7 +122,8 @@ fn run_fold<H: Send, C: PhaseCells<H>, G: Gate, R: Threads + Sync>(
     value: &mut [Cell],
     tally: &mut Tally,
 ) -> Result<(), Stop>
-    requires suits { Suits (C.cell cells.now) (C.positions cells.now) (C.width cells.now) (C.shared cells.now) (length counts.old) (record { job = Job.Fold base op; width = length value.old; size = cuts.size }) 0 cuts.positions }
+    requires suits { Suits (C.cell cells.now) (C.positions cells.now) (C.width cells.now) (C.shared cells.now) (length counts.old)
+        (record { job = Job.Fold base op; width = length value.old; size = cuts.size }) 0 cuts.positions }
     requires cuts { (cuts.count ≡ div_ceil cuts.positions cuts.size) × (cuts.count ≤ 64) }
     requires counts { All (λ n. (1 ≤ n) × (n ≤ 2 ^ 62)) counts.old }
     requires home { C.open_home cells.now home.old }

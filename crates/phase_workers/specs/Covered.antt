@@ -13,7 +13,8 @@ use Rattle.phase_loop_cells.specs.Cells.{index_at}
 abbrev pub AreCovered : List CodePart → List (List ℤ) → Type 0
 AreCovered parts indices = (place : ℕ) → place < length indices → is_some (part_held parts (index_at indices place)) ≡ true
 
--- What a position without a cell counts as: some fault, no matter which. Workers stop there for want of memory, and believe a fault only where each position has a cell.
+-- What a position without a cell counts as: some fault, no matter which. Workers stop there for want of memory, and believe a fault only where each
+-- position has a cell.
 abbrev pub no_cell : Fault
 no_cell = record { kind = F1; site = record { line = 0; col = 0 } }
 

@@ -10,7 +10,8 @@ use Rattle.run_eval.specs.Tallies.{counted_in}
 use Rattle.run_eval.specs.declared.phase_count.OpenTally.{OpenTally}
 use Rattle.phase_workers.specs.declared.results.Books.{Books}
 
--- The heap that goes on behind the one that lends has no buffer. So many buffers were taken and given back behind it: their numbers are counted exactly, all else modulo 2^64.
+-- The heap that goes on behind the one that lends has no buffer. So many buffers were taken and given back behind it: their numbers are counted
+-- exactly, all else modulo 2^64.
 pub record IsBehind (lends : HeapValue) (n : ℕ) (home : HeapValue) : Type 0 where
   pub empty : (b : ℕ) → at home b ≡ None
   pub births : home.births ≡ lends.births + n
@@ -30,7 +31,12 @@ left_in home (Err stop) = Err stop
 -- the main heap once it has taken over the workers' heap
 abbrev pub handed : HeapValue → HeapValue → HeapValue
 handed h home =
-    record h { births = home.births; taken = (h.taken + home.taken) % 2 ^ 64; given = (h.given + home.given) % 2 ^ 64; reused = (h.reused + home.reused) % 2 ^ 64 }
+    record h {
+      births = home.births;
+      taken = (h.taken + home.taken) % 2 ^ 64;
+      given = (h.given + home.given) % 2 ^ 64;
+      reused = (h.reused + home.reused) % 2 ^ 64;
+    }
 
 -- there are the elements of all cells in order, and such a heap; or the fault is that of the least position that faults
 abbrev pub ComputesAll : List CellValue → HeapValue → ℕ → List ℤ → Result HeapValue Stop → Type 0

@@ -47,7 +47,9 @@ pub fn array_by_workers<G: Gate, R: Threads + Sync>(
     requires alive { AreAlive state.old.heap.own (current state.old.frames) live.now }
     requires alone { state.old.heap.lent ≡ None }
     requires large { is_small plan.now.shape ≡ false }
-    ensures told { (m : MachineHeap) → IsAt state.old m → Told IsValue result state.new (job_does None (array_job context.now (current state.old.frames) m gens.now (plan_of plan.now) array.now old) m) }
+    ensures told { (m : MachineHeap) → IsAt state.old m
+        → Told IsValue result state.new
+        (job_does None (array_job context.now (current state.old.frames) m gens.now (plan_of plan.now) array.now old) m) }
     ensures scopes { OnOk result (SameScopes state.old.frames state.new.frames) }
     ensures lender { lender_of state.new.heap ≡ lender_of state.old.heap }
 {
@@ -107,7 +109,9 @@ fn array_cells<G: Gate, R: Threads + Sync>(
     requires size { background.size ≡ size plan.now.form.shape }
     requires home { books.old.home ≡ new_behind heap.now }
     ensures booked { IsBooked books.old books.new result }
-    ensures computed { ComputesAll (cells_from (gens_cell context.now heap.now (current frames.now) gens.now plan.now (Some background.entry)) 0 (length plan.now.frame)) heap.now (cost_from (gens_taken context.now heap.now (current frames.now) gens.now plan.now) 0 (length plan.now.frame)) cells.new (left_in books.new.home result) }
+    ensures computed { ComputesAll (cells_from (gens_cell context.now heap.now (current frames.now) gens.now plan.now (Some background.entry)) 0
+        (length plan.now.frame)) heap.now (cost_from (gens_taken context.now heap.now (current frames.now) gens.now plan.now) 0
+        (length plan.now.frame)) cells.new (left_in books.new.home result) }
 {
     let _code = context.code.get();
     heap.buffers_are_numbered();
@@ -144,12 +148,21 @@ fn each_cell<G: Gate, R: Threads + Sync>(
     books: &mut Books,
 ) -> Result<(), Stop>
     requires positions { (count ≤ 16777216) × (count ≡ length with_cells.now.plan.now.frame) × (width ≡ size with_cells.now.plan.now.form.shape) }
-    requires held { (p : ℕ) → p < count → gens_cell with_cells.now.context with_cells.now.heap.now (current with_cells.now.frames.now) with_cells.now.gens.now with_cells.now.plan.now with_cells.now.background p ≢ Ok None }
-    requires lending { IsLending (OpenGens with_cells.now.context with_cells.now.heap.now (current with_cells.now.frames.now) with_cells.now.gens.now) with_cells.now.heap.now }
+    requires held { (p : ℕ) → p < count
+        → gens_cell with_cells.now.context with_cells.now.heap.now
+        (current with_cells.now.frames.now) with_cells.now.gens.now with_cells.now.plan.now with_cells.now.background p ≢ Ok None }
+    requires lending { IsLending (OpenGens with_cells.now.context with_cells.now.heap.now
+        (current with_cells.now.frames.now) with_cells.now.gens.now) with_cells.now.heap.now }
     requires room { length cells.old ≡ count * width }
     requires home { books.old.home ≡ new_behind with_cells.now.heap.now }
     ensures booked { IsBooked books.old books.new result }
-    ensures computed { ComputesAll (cells_from (gens_cell with_cells.now.context with_cells.now.heap.now (current with_cells.now.frames.now) with_cells.now.gens.now with_cells.now.plan.now with_cells.now.background) 0 count) with_cells.now.heap.now (cost_from (gens_taken with_cells.now.context with_cells.now.heap.now (current with_cells.now.frames.now) with_cells.now.gens.now with_cells.now.plan.now) 0 count) cells.new (left_in books.new.home result) }
+    ensures computed { ComputesAll
+        (cells_from (gens_cell with_cells.now.context with_cells.now.heap.now
+        (current with_cells.now.frames.now) with_cells.now.gens.now with_cells.now.plan.now with_cells.now.background) 0 count)
+        with_cells.now.heap.now
+        (cost_from (gens_taken with_cells.now.context with_cells.now.heap.now
+        (current with_cells.now.frames.now) with_cells.now.gens.now with_cells.now.plan.now) 0 count)
+        cells.new (left_in books.new.home result) }
 {
     shares::<CodeGen>();
     shares::<Code>();

@@ -44,13 +44,18 @@ where
 {
     ghost runs = { λ c.
         A.IsAlwaysCallable c.array
-        × ((gens : _) (plan : _) (array : _) (old : _) (context : _) (s : _) (r : _) (t : _) → A.post c.array gens plan array old context s r t → IsRun (λ e m. array_job context.now e m gens.now (plan_of plan.now) array.now old) s.now r t.now)
+        × ((gens : _) (plan : _) (array : _) (old : _) (context : _) (s : _) (r : _) (t : _) → A.post c.array gens plan array old context s r t
+        → IsRun (λ e m. array_job context.now e m gens.now (plan_of plan.now) array.now old) s.now r t.now)
         × F.IsAlwaysCallable c.fold
-        × ((gens : _) (plan : _) (op : _) (neutral : _) (context : _) (s : _) (r : _) (t : _) → F.post c.fold gens plan op neutral context s r t → IsRun (λ e m. fold_job context.now e m gens.now (plan_of plan.now) op neutral) s.now r t.now)
+        × ((gens : _) (plan : _) (op : _) (neutral : _) (context : _) (s : _) (r : _) (t : _) → F.post c.fold gens plan op neutral context s r t
+        → IsRun (λ e m. fold_job context.now e m gens.now (plan_of plan.now) op neutral) s.now r t.now)
         × P.IsAlwaysCallable c.parts
-        × ((parts : _) (frame : _) (form : _) (shape : _) (context : _) (s : _) (r : _) (t : _) → P.post c.parts parts frame form shape context s r t → IsRun (λ e m. parts_job context.now e parts.now frame.now form.now shape.now) s.now r t.now)
+        × ((parts : _) (frame : _) (form : _) (shape : _) (context : _) (s : _) (r : _) (t : _) → P.post c.parts parts frame form shape context s r t
+        → IsRun (λ e m. parts_job context.now e parts.now frame.now form.now shape.now) s.now r t.now)
         × Q.IsAlwaysCallable c.fold_parts
-        × ((parts : _) (frame : _) (form : _) (op : _) (neutral : _) (context : _) (s : _) (r : _) (t : _) → Q.post c.fold_parts parts frame form op neutral context s r t → IsRun (λ e m. fold_parts_job context.now e parts.now frame.now form.now op neutral) s.now r t.now) };
+        × ((parts : _) (frame : _) (form : _) (op : _) (neutral : _) (context : _) (s : _) (r : _) (t : _)
+        → Q.post c.fold_parts parts frame form op neutral context s r t
+        → IsRun (λ e m. fold_parts_job context.now e parts.now frame.now form.now op neutral) s.now r t.now) };
 
     fn array(
         &self,

@@ -28,7 +28,8 @@ pub struct CoveredCells<'a> {
 impl<'a> CellRuns for CoveredCells<'a> {
     type Scratch = CellScratch;
 
-    ghost cell = { λ s p. must_be_there (parts_cell s.cells.context s.cells.heap.now (current s.cells.frames.now) s.cells.parts.now s.cells.form.now s.cells.frame.now p) };
+    ghost cell = { λ s p. must_be_there
+        (parts_cell s.cells.context s.cells.heap.now (current s.cells.frames.now) s.cells.parts.now s.cells.form.now s.cells.frame.now p) };
 
     ghost takes = { λ s p. parts_taken s.cells.context s.cells.heap.now (current s.cells.frames.now) s.cells.parts.now s.cells.frame.now p };
 

@@ -50,7 +50,8 @@ pub fn fold_outside<G: Gate, R: Threads + Sync>(
     context: &Context<'_>,
     state: &mut State<'_>,
 ) -> Result<RunValue, Stop>
-    ensures told { (m : MachineHeap) → IsAt state.old m → Told IsValue result state.new (job_does None (fold_job context.now (current state.old.frames) m gens.now (plan_of plan.now) op neutral) m) }
+    ensures told { (m : MachineHeap) → IsAt state.old m
+        → Told IsValue result state.new (job_does None (fold_job context.now (current state.old.frames) m gens.now (plan_of plan.now) op neutral) m) }
     ensures scopes { OnOk result (SameScopes state.old.frames state.new.frames) }
     ensures lender { lender_of state.new.heap ≡ lender_of state.old.heap }
 {
@@ -100,7 +101,8 @@ pub fn fold_by_workers<G: Gate, R: Threads + Sync>(
     requires alone { state.old.heap.lent ≡ None }
     requires op { IsTrue (folds_value plan.now.form.base op) }
     requires form { IsTrue (fits_form_value plan.now.form neutral) }
-    ensures told { (m : MachineHeap) → IsAt state.old m → Told IsValue result state.new (job_does None (fold_job context.now (current state.old.frames) m gens.now (plan_of plan.now) op neutral) m) }
+    ensures told { (m : MachineHeap) → IsAt state.old m
+        → Told IsValue result state.new (job_does None (fold_job context.now (current state.old.frames) m gens.now (plan_of plan.now) op neutral) m) }
     ensures scopes { OnOk result (SameScopes state.old.frames state.new.frames) }
     ensures lender { lender_of state.new.heap ≡ lender_of state.old.heap }
 {
@@ -159,7 +161,9 @@ fn fold_cells<'a, G: Gate, R: Threads + Sync>(
     requires width { length value.old ≡ size plan.now.form.shape }
     requires home { books.old.home ≡ new_behind heap.now }
     ensures booked { IsBooked books.old books.new result }
-    ensures combined { CombinesAll op (cells_from (gens_cell context.entry heap.now (current frames.now) gens.now plan.now None) 0 (length plan.now.frame)) heap.now (cost_from (gens_taken context.entry heap.now (current frames.now) gens.now plan.now) 0 (length plan.now.frame)) value.old value.new (left_in books.new.home result) }
+    ensures combined { CombinesAll op (cells_from (gens_cell context.entry heap.now (current frames.now) gens.now plan.now None) 0
+        (length plan.now.frame)) heap.now (cost_from (gens_taken context.entry heap.now (current frames.now) gens.now plan.now) 0
+        (length plan.now.frame)) value.old value.new (left_in books.new.home result) }
 {
     let _code = context.code.get();
     heap.buffers_are_numbered();
@@ -201,7 +205,11 @@ fn each_fold<G: Gate, R: Threads + Sync>(
     requires width { length value.old ≡ size cells.now.plan.now.form.shape }
     requires home { books.old.home ≡ new_behind cells.now.heap.now }
     ensures booked { IsBooked books.old books.new result }
-    ensures combined { CombinesAll op (cells_from (gens_cell cells.now.context cells.now.heap.now (current cells.now.frames.now) cells.now.gens.now cells.now.plan.now cells.now.background) 0 count) cells.now.heap.now (cost_from (gens_taken cells.now.context cells.now.heap.now (current cells.now.frames.now) cells.now.gens.now cells.now.plan.now) 0 count) value.old value.new (left_in books.new.home result) }
+    ensures combined { CombinesAll op
+        (cells_from (gens_cell cells.now.context cells.now.heap.now
+        (current cells.now.frames.now) cells.now.gens.now cells.now.plan.now cells.now.background) 0 count) cells.now.heap.now
+        (cost_from (gens_taken cells.now.context cells.now.heap.now
+        (current cells.now.frames.now) cells.now.gens.now cells.now.plan.now) 0 count) value.old value.new (left_in books.new.home result) }
 {
     shown(cells.context.code.get());
     all_shown(cells.gens);

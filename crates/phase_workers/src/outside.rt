@@ -32,7 +32,9 @@ pub fn array_outside<G: Gate, R: Threads + Sync>(
     context: &Context<'_>,
     state: &mut State<'_>,
 ) -> Result<RunValue, Stop>
-    ensures told { (m : MachineHeap) → IsAt state.old m → Told IsValue result state.new (job_does None (array_job context.now (current state.old.frames) m gens.now (plan_of plan.now) array.now old) m) }
+    ensures told { (m : MachineHeap) → IsAt state.old m
+        → Told IsValue result state.new
+        (job_does None (array_job context.now (current state.old.frames) m gens.now (plan_of plan.now) array.now old) m) }
     ensures scopes { OnOk result (SameScopes state.old.frames state.new.frames) }
     ensures lender { lender_of state.new.heap ≡ lender_of state.old.heap }
 {

@@ -47,7 +47,9 @@ pub fn fold_parts_outside<G: Gate, R: Threads + Sync>(
     context: &Context<'_>,
     state: &mut State<'_>,
 ) -> Result<RunValue, Stop>
-    ensures told { (m : MachineHeap) → IsAt state.old m → Told IsValue result state.new (job_does None (fold_parts_job context.now (current state.old.frames) parts.now frame.now form.now op neutral) m) }
+    ensures told { (m : MachineHeap) → IsAt state.old m
+        → Told IsValue result state.new
+        (job_does None (fold_parts_job context.now (current state.old.frames) parts.now frame.now form.now op neutral) m) }
     ensures scopes { OnOk result (SameScopes state.old.frames state.new.frames) }
     ensures lender { lender_of state.new.heap ≡ lender_of state.old.heap }
 {
@@ -93,7 +95,9 @@ fn fold_parts_by_workers<G: Gate, R: Threads + Sync>(
     requires alone { state.old.heap.lent ≡ None }
     requires op { IsTrue (folds_value form.now.base op) }
     requires form { IsTrue (fits_form_value form.now neutral) }
-    ensures told { (m : MachineHeap) → IsAt state.old m → Told IsValue result state.new (job_does None (fold_parts_job context.now (current state.old.frames) parts.now frame.now form.now op neutral) m) }
+    ensures told { (m : MachineHeap) → IsAt state.old m
+        → Told IsValue result state.new
+        (job_does None (fold_parts_job context.now (current state.old.frames) parts.now frame.now form.now op neutral) m) }
     ensures scopes { OnOk result (SameScopes state.old.frames state.new.frames) }
     ensures lender { lender_of state.new.heap ≡ lender_of state.old.heap }
 {
@@ -154,7 +158,9 @@ fn fold_part_cells<G: Gate, R: Threads + Sync>(
     requires width { length value.old ≡ size form.now.shape }
     requires home { books.old.home ≡ new_behind heap.now }
     ensures booked { IsBooked books.old books.new result }
-    ensures combined { CombinesAll op (cells_from (parts_cell context.now heap.now (current frames.now) parts.now form.now frame.now) 0 (length frame.now)) heap.now (cost_from (parts_taken context.now heap.now (current frames.now) parts.now frame.now) 0 (length frame.now)) value.old value.new (left_in books.new.home result) }
+    ensures combined { CombinesAll op (cells_from (parts_cell context.now heap.now (current frames.now) parts.now form.now frame.now) 0
+        (length frame.now)) heap.now (cost_from (parts_taken context.now heap.now (current frames.now) parts.now frame.now) 0
+        (length frame.now)) value.old value.new (left_in books.new.home result) }
 {
     let _code = context.code.get();
     heap.buffers_are_numbered();
@@ -196,7 +202,11 @@ fn each_part_fold<G: Gate, R: Threads + Sync>(
     requires width { length value.old ≡ size cells.now.form.now.shape }
     requires home { books.old.home ≡ new_behind cells.now.heap.now }
     ensures booked { IsBooked books.old books.new result }
-    ensures combined { CombinesAll op (cells_from (parts_cell cells.now.context cells.now.heap.now (current cells.now.frames.now) cells.now.parts.now cells.now.form.now cells.now.frame.now) 0 count) cells.now.heap.now (cost_from (parts_taken cells.now.context cells.now.heap.now (current cells.now.frames.now) cells.now.parts.now cells.now.frame.now) 0 count) value.old value.new (left_in books.new.home result) }
+    ensures combined { CombinesAll op
+        (cells_from (parts_cell cells.now.context cells.now.heap.now
+        (current cells.now.frames.now) cells.now.parts.now cells.now.form.now cells.now.frame.now) 0 count) cells.now.heap.now
+        (cost_from (parts_taken cells.now.context cells.now.heap.now
+        (current cells.now.frames.now) cells.now.parts.now cells.now.frame.now) 0 count) value.old value.new (left_in books.new.home result) }
 {
     shares::<CodePart>();
     shares::<Code>();

@@ -46,7 +46,8 @@ pub fn parts_outside<G: Gate, R: Threads + Sync>(
     context: &Context<'_>,
     state: &mut State<'_>,
 ) -> Result<RunValue, Stop>
-    ensures told { (m : MachineHeap) → IsAt state.old m → Told IsValue result state.new (job_does None (parts_job context.now (current state.old.frames) parts.now frame.now form.now shape.now) m) }
+    ensures told { (m : MachineHeap) → IsAt state.old m
+        → Told IsValue result state.new (job_does None (parts_job context.now (current state.old.frames) parts.now frame.now form.now shape.now) m) }
     ensures scopes { OnOk result (SameScopes state.old.frames state.new.frames) }
     ensures lender { lender_of state.new.heap ≡ lender_of state.old.heap }
 {
@@ -80,7 +81,8 @@ fn parts_by_workers<G: Gate, R: Threads + Sync>(
     requires alive { AreAlive state.old.heap.own (current state.old.frames) live.now }
     requires alone { state.old.heap.lent ≡ None }
     requires large { is_small_shape shape.now ≡ false }
-    ensures told { (m : MachineHeap) → IsAt state.old m → Told IsValue result state.new (job_does None (parts_job context.now (current state.old.frames) parts.now frame.now form.now shape.now) m) }
+    ensures told { (m : MachineHeap) → IsAt state.old m
+        → Told IsValue result state.new (job_does None (parts_job context.now (current state.old.frames) parts.now frame.now form.now shape.now) m) }
     ensures scopes { OnOk result (SameScopes state.old.frames state.new.frames) }
     ensures lender { lender_of state.new.heap ≡ lender_of state.old.heap }
 {
@@ -131,7 +133,9 @@ fn part_cells<G: Gate, R: Threads + Sync>(
     requires alive { AreAlive heap.now (current frames.now) live.now }
     requires home { books.old.home ≡ new_behind heap.now }
     ensures booked { IsBooked books.old books.new result }
-    ensures computed { ComputesAll (cells_from (parts_cell context.now heap.now (current frames.now) parts.now form.now frame.now) 0 (length frame.now)) heap.now (cost_from (parts_taken context.now heap.now (current frames.now) parts.now frame.now) 0 (length frame.now)) cells.new (left_in books.new.home result) }
+    ensures computed { ComputesAll (cells_from (parts_cell context.now heap.now (current frames.now) parts.now form.now frame.now) 0
+        (length frame.now)) heap.now (cost_from (parts_taken context.now heap.now (current frames.now) parts.now frame.now) 0
+        (length frame.now)) cells.new (left_in books.new.home result) }
 {
     let _code = context.code.get();
     heap.buffers_are_numbered();
@@ -176,11 +180,19 @@ fn each_cell<G: Gate, R: Threads + Sync>(
     books: &mut Books,
 ) -> Result<(), Stop>
     requires positions { (count ≤ 16777216) × (count ≡ length covered.now.cells.frame.now) × (width ≡ size covered.now.cells.form.now.shape) }
-    requires lending { IsLending (OpenParts covered.now.cells.context covered.now.cells.heap.now (current covered.now.cells.frames.now) covered.now.cells.parts.now) covered.now.cells.heap.now }
+    requires lending { IsLending (OpenParts covered.now.cells.context covered.now.cells.heap.now
+        (current covered.now.cells.frames.now) covered.now.cells.parts.now) covered.now.cells.heap.now }
     requires room { length into.old ≡ count * width }
     requires home { books.old.home ≡ new_behind covered.now.cells.heap.now }
     ensures booked { IsBooked books.old books.new result }
-    ensures computed { ComputesAll (cells_from (λ p. must_be_there (parts_cell covered.now.cells.context covered.now.cells.heap.now (current covered.now.cells.frames.now) covered.now.cells.parts.now covered.now.cells.form.now covered.now.cells.frame.now p)) 0 count) covered.now.cells.heap.now (cost_from (parts_taken covered.now.cells.context covered.now.cells.heap.now (current covered.now.cells.frames.now) covered.now.cells.parts.now covered.now.cells.frame.now) 0 count) into.new (left_in books.new.home result) }
+    ensures computed { ComputesAll
+        (cells_from (λ p. must_be_there
+        (parts_cell covered.now.cells.context covered.now.cells.heap.now
+        (current covered.now.cells.frames.now) covered.now.cells.parts.now covered.now.cells.form.now covered.now.cells.frame.now p)) 0 count)
+        covered.now.cells.heap.now
+        (cost_from (parts_taken covered.now.cells.context covered.now.cells.heap.now
+        (current covered.now.cells.frames.now) covered.now.cells.parts.now covered.now.cells.frame.now) 0 count)
+        into.new (left_in books.new.home result) }
 {
     shares::<CodePart>();
     shares::<Code>();

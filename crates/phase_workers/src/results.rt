@@ -34,7 +34,9 @@ pub struct Begun {
 
 /// Begins a phase, which is counted.
 pub fn begin_phase(alloc: Global, shape: &Shape, state: &mut State<'_>) -> Result<Begun, Memory>
-    ensures begun { (m : MachineHeap) (n : ℕ) → IsAt state.old m → IfOk result (λ b. IsBegun (target_of b.target) state.new (claimed (is_small_shape shape.now) None (size shape.now) (count_phase true n m))) }
+    ensures begun { (m : MachineHeap) (n : ℕ) → IsAt state.old m
+        → IfOk result (λ b. IsBegun (target_of b.target) state.new
+        (claimed (is_small_shape shape.now) None (size shape.now) (count_phase true n m))) }
     ensures home { IfOk result (λ b. b.books.home ≡ new_behind state.new.heap.own) }
     ensures tally { IfOk result (λ b. WillHave b.books.count state.new.phases) }
     ensures others { (b : ℕ) (x : Held) → at state.old.heap.own b ≡ Some x → at state.new.heap.own b ≡ Some x }
@@ -89,7 +91,8 @@ pub fn finish_phase(
     shape: &Shape,
     state: &mut State<'_>,
 ) -> Result<RunValue, Stop>
-    ensures told { (m : MachineHeap) → IsAt state.old m → Told IsValue result state.new (settled (target_of target) (record { base = base; shape = shape.now; cells = target.cells.items }) m) }
+    ensures told { (m : MachineHeap) → IsAt state.old m
+        → Told IsValue result state.new (settled (target_of target) (record { base = base; shape = shape.now; cells = target.cells.items }) m) }
     ensures frames { state.new.frames ≡ state.old.frames }
     ensures lender { lender_of state.new.heap ≡ lender_of state.old.heap }
 {

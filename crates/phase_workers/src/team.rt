@@ -48,7 +48,8 @@ pub fn compute_array<C: CellRuns, G: Gate, R: Threads + Sync>(
     requires room { length into.old ≡ positions * width }
     requires home { books.old.home ≡ new_behind (C.lends cells.now) }
     ensures booked { IsBooked books.old books.new result }
-    ensures computed { ComputesAll (cells_from (C.cell cells.now) 0 positions) (C.lends cells.now) (cost_from (C.takes cells.now) 0 positions) into.new (left_in books.new.home result) }
+    ensures computed { ComputesAll (cells_from (C.cell cells.now) 0 positions) (C.lends cells.now)
+        (cost_from (C.takes cells.now) 0 positions) into.new (left_in books.new.home result) }
 {
     let lends = cells.heap();
     let Ok(mut counts) = lent_counts(alloc, lends) else {
@@ -98,7 +99,8 @@ pub fn compute_fold<C: CellRuns, G: Gate, R: Threads + Sync>(
     requires width { length value.old ≡ C.width cells.now }
     requires home { books.old.home ≡ new_behind (C.lends cells.now) }
     ensures booked { IsBooked books.old books.new result }
-    ensures combined { CombinesAll op (cells_from (C.cell cells.now) 0 positions) (C.lends cells.now) (cost_from (C.takes cells.now) 0 positions) value.old value.new (left_in books.new.home result) }
+    ensures combined { CombinesAll op (cells_from (C.cell cells.now) 0 positions) (C.lends cells.now)
+        (cost_from (C.takes cells.now) 0 positions) value.old value.new (left_in books.new.home result) }
 {
     let lends = cells.heap();
     let Ok(mut counts) = lent_counts(alloc, lends) else {

@@ -18,7 +18,8 @@ use counted_code::{Code, CodeFun};
 use sac_base::{ArrayType, Memory};
 use std::alloc::Global;
 
-/// The program with steps that keep and release references: each reference is handed on or released at its last use, and one is added only where the next step hands it on.
+/// The program with steps that keep and release references: each reference is handed on or released at its last use, and one is added only where the
+/// next step hands it on.
 pub fn count_refs(alloc: Global, core: Core) -> Result<Code, Memory>
     ensures placed { IfOk result (λ code. code_program code ≡ placing_core (core_term core)) }
     ensures counted { IsWellFormed (core_term core) → IfOk result (λ code. IsWellCounted (code_program code)) }

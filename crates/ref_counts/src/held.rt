@@ -10,7 +10,9 @@ use core_ir::Var;
 use sac_base::Memory;
 use std::alloc::Global;
 
-/// Variables in an order, as a tree. A fork says before which place each of its variables is used once more, so those that are used no more are found without a walk over the others. What was taken out leaves its place, so the depth is the logarithm of the number of variables that were put in.
+/// Variables in an order, as a tree. A fork says before which place each of its variables is used once more, so those that are used no more are
+/// found without a walk over the others. What was taken out leaves its place, so the depth is the logarithm of the number of variables that were put
+/// in.
 #[derive(Drop)]
 pub enum Owned {
     Gone,

@@ -1,5 +1,6 @@
 -- What the evaluator's functions tell of the machine.
-use Rattle.std.specs.Prelude.{◌≡◌, ℕ, ◌+◌, ◌%◌, ◌^◌, ◌++◌, Bool, true, false, List, [], ◌∷◌, ℤ, length, map, fold, Option, Some, None, Result, Ok, Err, if◌then◌else◌, ⊤}
+use Rattle.std.specs.Prelude.{◌≡◌, ℕ, ◌+◌, ◌%◌, ◌^◌, ◌++◌, Bool, true, false, List, [], ◌∷◌, ℤ, length, map, fold, Option, Some, None, Result, Ok}
+use Rattle.std.specs.Prelude.{Err, if◌then◌else◌, ⊤}
 use Rattle.sac_base.specs.declared.base.Base.TheVariants.{Int}
 use Rattle.sac_base.specs.declared.faults.FaultKind.TheVariants.{F3, F6, F10}
 use Rattle.sac_base.specs.declared.faults.Fault.{Fault}
@@ -131,7 +132,8 @@ vars_of params = map (λ (p : Var × ArrayType). p.0) params
 pub record Reaches (context : Context) (steps : List CodeStep) (s : State) (m : Heap) (left : List CodeStep) (t : State) : Type 0 where
   pub heap : Heap
   pub stands : IsAt t heap
-  pub goes_on : (rest : CodeTerm) → does_in context (steps_before steps rest) (current s.frames) m ≡ does_in context (steps_before left rest) (current t.frames) heap
+  pub goes_on : (rest : CodeTerm) → does_in context (steps_before steps rest) (current s.frames) m
+      ≡ does_in context (steps_before left rest) (current t.frames) heap
 
 -- the machine fails in these steps, whatever comes
 pub record FailsIn (context : Context) (steps : List CodeStep) (s : State) (m : Heap) (f : Fault) (t : State) : Type 0 where
@@ -148,7 +150,17 @@ ToldSteps context steps s t m (Err Memory) = ⊤
 -- ---- with-loops
 
 abbrev pub gen_head : CodeGen → GenHead
-gen_head g = record { lower = g.lower; lower_closed = g.lower_closed; upper = g.upper; upper_closed = g.upper_closed; step = g.step; width = g.width; index = g.index; names = g.names.items; site = g.site }
+gen_head g = record {
+  lower = g.lower;
+  lower_closed = g.lower_closed;
+  upper = g.upper;
+  upper_closed = g.upper_closed;
+  step = g.step;
+  width = g.width;
+  index = g.index;
+  names = g.names.items;
+  site = g.site;
+}
 
 abbrev pub part_head : CodePart → PartHead
 part_head p = record { grid = p.grid; index = p.index; site = p.site }
@@ -156,7 +168,10 @@ part_head p = record { grid = p.grid; index = p.index; site = p.site }
 -- a generator with its operands in a heap, and a part, with what their bodies do
 abbrev pub generator_in : Context → Values → Heap → CodeGen → CodeGenerator
 generator_in context e k g =
-    record { bounds = bounds_of (gen_head g) (reads k e); cell = λ index. first_value (does_in context (code_term g.body) (with_index_value e (gen_head g) index)) }
+    record {
+      bounds = bounds_of (gen_head g) (reads k e);
+      cell = λ index. first_value (does_in context (code_term g.body) (with_index_value e (gen_head g) index));
+    }
 
 abbrev pub cells_in : Context → Values → CodePart → CodeCells
 cells_in context e p =
@@ -165,21 +180,49 @@ cells_in context e p =
 -- an array of the cells of generators
 abbrev pub array_job : Context → Values → Heap → List CodeGen → Plan → ArrayValue → Bool → Job
 array_job context e k gens p background old =
-    record { form = p.form; shape = p.shape; folds = false; indices = p.indices; source = holder (map (generator_in context e k) gens) p.ranges; result = array_from old background p }
+    record {
+      form = p.form;
+      shape = p.shape;
+      folds = false;
+      indices = p.indices;
+      source = holder (map (generator_in context e k) gens) p.ranges;
+      result = array_from old background p;
+    }
 
 -- their combination
 abbrev pub fold_job : Context → Values → Heap → List CodeGen → Plan → Op → ArrayValue → Job
 fold_job context e k gens p op neutral =
-    record { form = p.form; shape = p.shape; folds = true; indices = p.indices; source = holder (map (generator_in context e k) gens) p.ranges; result = fold (combined op) neutral }
+    record {
+      form = p.form;
+      shape = p.shape;
+      folds = true;
+      indices = p.indices;
+      source = holder (map (generator_in context e k) gens) p.ranges;
+      result = fold (combined op) neutral;
+    }
 
 -- the same of the parts of a parted loop
 abbrev pub parts_job : Context → Values → List CodePart → List (List ℤ) → Form → List ℕ → Job
 parts_job context e parts indices form shape =
-    record { form = form; shape = shape; folds = false; indices = indices; source = part_holder (map (cells_in context e) parts); result = joined form.base shape }
+    record {
+      form = form;
+      shape = shape;
+      folds = false;
+      indices = indices;
+      source = part_holder (map (cells_in context e) parts);
+      result = joined form.base shape;
+    }
 
 abbrev pub fold_parts_job : Context → Values → List CodePart → List (List ℤ) → Form → Op → ArrayValue → Job
 fold_parts_job context e parts indices form op neutral =
-    record { form = form; shape = form.shape; folds = true; indices = indices; source = part_holder (map (cells_in context e) parts); result = fold (combined op) neutral }
+    record {
+      form = form;
+      shape = form.shape;
+      folds = true;
+      indices = indices;
+      source = part_holder (map (cells_in context e) parts);
+      result = fold (combined op) neutral;
+    }
 
 -- ---- small steps
 
@@ -191,8 +234,10 @@ SaysTruth (Err Memory) site said = ⊤
 
 -- the levels of a function that is called here, or the fault where none is left
 abbrev pub Deeper : Result Context Stop → Context → Bool → Site → Type 0
-Deeper (Ok inner) context true site = (context.nest ≡ inner.nest + 1) × (inner.left ≡ context.left) × (inner.turns ≡ context.turns) × (inner.code.now ≡ context.code.now)
-Deeper (Ok inner) context false site = (context.left ≡ inner.left + 1) × (inner.nest ≡ length context.code.now.functions.items) × (inner.turns ≡ context.turns) × (inner.code.now ≡ context.code.now)
+Deeper (Ok inner) context true site = (context.nest ≡ inner.nest + 1) × (inner.left ≡ context.left)
+    × (inner.turns ≡ context.turns) × (inner.code.now ≡ context.code.now)
+Deeper (Ok inner) context false site = (context.left ≡ inner.left + 1) × (inner.nest ≡ length context.code.now.functions.items)
+    × (inner.turns ≡ context.turns) × (inner.code.now ≡ context.code.now)
 Deeper (Err (Faulted f)) context true site = (context.nest ≡ 0) × (f ≡ record { kind = F10; site = site })
 Deeper (Err (Faulted f)) context false site = (context.left ≡ 0) × (f ≡ record { kind = F10; site = site })
 Deeper (Err Memory) context inline site = ⊤

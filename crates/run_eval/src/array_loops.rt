@@ -5,7 +5,8 @@ ghost use Rattle.counted_code.specs.Loops.{job_does};
 ghost use Rattle.counted_code.specs.Values.{Heap as MachineHeap};
 ghost use Rattle.counted_code.specs.View.{code_term, code_with_term, code_parted_term};
 ghost use Rattle.run_eval.specs.Loops.{IsPresent, array_of, cells_run, part_source_in, source_in, unreleased};
-ghost use Rattle.run_eval.specs.Running.{right_in, cell_in, part_in, gen_head, part_head, IsAt, Told, IsValue, IsOnly, SameScopes, array_job, fold_job, parts_job, fold_parts_job};
+ghost use Rattle.run_eval.specs.Running.{right_in, cell_in, part_in, gen_head, part_head, IsAt, Told, IsValue, IsOnly, SameScopes, array_job};
+ghost use Rattle.run_eval.specs.Running.{fold_job, parts_job, fold_parts_job};
 ghost use Rattle.run_store.specs.Stands.{lender_of};
 ghost use Rattle.run_values.specs.Scopes.{current};
 ghost use Rattle.sac_base.specs.WithLoops.{combined};
@@ -37,7 +38,8 @@ pub fn run_with<P: Phases>(
     outside: Option<&Outside<P>>,
     state: &mut State<'_>,
 ) -> Result<RunValue, Stop>
-    ensures told { (m : MachineHeap) → IsAt state.old m → Told IsOnly result state.new (right_in context.now (code_with_term with.now) site (current state.old.frames) m) }
+    ensures told { (m : MachineHeap) → IsAt state.old m
+        → Told IsOnly result state.new (right_in context.now (code_with_term with.now) site (current state.old.frames) m) }
     ensures scopes { OnOk result (SameScopes state.old.frames state.new.frames) }
     ensures lender { lender_of state.new.heap ≡ lender_of state.old.heap }
 {
@@ -74,7 +76,9 @@ pub fn run_array<P: Phases>(
     outside: Option<&Outside<P>>,
     state: &mut State<'_>,
 ) -> Result<RunValue, Stop>
-    ensures told { (m : MachineHeap) → IsAt state.old m → Told IsValue result state.new (job_does None (array_job context.now (current state.old.frames) m gens.now (plan_of plan.now) array.now old) m) }
+    ensures told { (m : MachineHeap) → IsAt state.old m
+        → Told IsValue result state.new
+        (job_does None (array_job context.now (current state.old.frames) m gens.now (plan_of plan.now) array.now old) m) }
     ensures scopes { OnOk result (SameScopes state.old.frames state.new.frames) }
     ensures lender { lender_of state.new.heap ≡ lender_of state.old.heap }
 {
@@ -107,7 +111,10 @@ fn fill<P: Phases>(
     state: &mut State<'_>,
     cells: &mut Vec<Cell>,
 ) -> Result<(), Stop>
-    ensures told { (m : MachineHeap) → IsAt state.old m → Told (λ _ found. cells.new.items ≡ cells.old.items ++ cells_from background.now.old background.now.array.now background.now.size 0 found) result state.new (cells_run plan.now.form (source_in context.now (current state.old.frames) gens.now plan.now.ranges.items) plan.now.frame m) }
+    ensures told { (m : MachineHeap) → IsAt state.old m
+        → Told (λ _ found. cells.new.items ≡ cells.old.items
+        ++ cells_from background.now.old background.now.array.now background.now.size 0 found) result state.new
+        (cells_run plan.now.form (source_in context.now (current state.old.frames) gens.now plan.now.ranges.items) plan.now.frame m) }
     ensures scopes { OnOk result (SameScopes state.old.frames state.new.frames) }
     ensures lender { lender_of state.new.heap ≡ lender_of state.old.heap }
 {
@@ -131,7 +138,8 @@ pub fn run_fold<P: Phases>(
     outside: Option<&Outside<P>>,
     state: &mut State<'_>,
 ) -> Result<RunValue, Stop>
-    ensures told { (m : MachineHeap) → IsAt state.old m → Told IsValue result state.new (job_does None (fold_job context.now (current state.old.frames) m gens.now (plan_of plan.now) op neutral) m) }
+    ensures told { (m : MachineHeap) → IsAt state.old m
+        → Told IsValue result state.new (job_does None (fold_job context.now (current state.old.frames) m gens.now (plan_of plan.now) op neutral) m) }
     ensures scopes { OnOk result (SameScopes state.old.frames state.new.frames) }
     ensures lender { lender_of state.new.heap ≡ lender_of state.old.heap }
 {
@@ -154,7 +162,8 @@ fn fold_cells<P: Phases>(
     outside: Option<&Outside<P>>,
     state: &mut State<'_>,
 ) -> Result<Sum, Stop>
-    ensures told { (m : MachineHeap) → IsAt state.old m → Told (λ s found. array_of s ≡ fold (combined op) (array_of start) found) result state.new (cells_run plan.now.form (source_in context.now (current state.old.frames) gens.now plan.now.ranges.items) plan.now.frame m) }
+    ensures told { (m : MachineHeap) → IsAt state.old m → Told (λ s found. array_of s ≡ fold (combined op) (array_of start) found) result state.new
+        (cells_run plan.now.form (source_in context.now (current state.old.frames) gens.now plan.now.ranges.items) plan.now.frame m) }
     ensures scopes { OnOk result (SameScopes state.old.frames state.new.frames) }
     ensures lender { lender_of state.new.heap ≡ lender_of state.old.heap }
 {
@@ -178,7 +187,9 @@ pub fn gen_cell<P: Phases>(
     outside: Option<&Outside<P>>,
     state: &mut State<'_>,
 ) -> Result<Option<RunValue>, Stop>
-    ensures told { (m : MachineHeap) → IsAt state.old m → Told IsPresent result state.new (unreleased plan.now.form (source_in context.now (current state.old.frames) gens.now plan.now.ranges.items index.now) m) }
+    ensures told { (m : MachineHeap) → IsAt state.old m
+        → Told IsPresent result state.new
+        (unreleased plan.now.form (source_in context.now (current state.old.frames) gens.now plan.now.ranges.items index.now) m) }
     ensures scopes { OnOk result (SameScopes state.old.frames state.new.frames) }
     ensures lender { lender_of state.new.heap ≡ lender_of state.old.heap }
 {
@@ -201,7 +212,9 @@ fn run_cell<P: Phases>(
     outside: Option<&Outside<P>>,
     state: &mut State<'_>,
 ) -> Result<RunValue, Stop>
-    ensures told { (m : MachineHeap) → IsAt state.old m → Told IsValue result state.new (cell_in context.now (gen_head g.now) (code_term g.now.body) form.now index.now (current state.old.frames) m) }
+    ensures told { (m : MachineHeap) → IsAt state.old m
+        → Told IsValue result state.new
+        (cell_in context.now (gen_head g.now) (code_term g.now.body) form.now index.now (current state.old.frames) m) }
     ensures scopes { OnOk result (SameScopes state.old.frames state.new.frames) }
     ensures lender { lender_of state.new.heap ≡ lender_of state.old.heap }
 {
@@ -222,7 +235,8 @@ pub fn run_parted<P: Phases>(
     outside: Option<&Outside<P>>,
     state: &mut State<'_>,
 ) -> Result<RunValue, Stop>
-    ensures told { (m : MachineHeap) → IsAt state.old m → Told IsOnly result state.new (right_in context.now (code_parted_term parted.now) site (current state.old.frames) m) }
+    ensures told { (m : MachineHeap) → IsAt state.old m
+        → Told IsOnly result state.new (right_in context.now (code_parted_term parted.now) site (current state.old.frames) m) }
     ensures scopes { OnOk result (SameScopes state.old.frames state.new.frames) }
     ensures lender { lender_of state.new.heap ≡ lender_of state.old.heap }
 {
@@ -278,7 +292,8 @@ pub fn run_parts<P: Phases>(
     outside: Option<&Outside<P>>,
     state: &mut State<'_>,
 ) -> Result<RunValue, Stop>
-    ensures told { (m : MachineHeap) → IsAt state.old m → Told IsValue result state.new (job_does None (parts_job context.now (current state.old.frames) parts.now frame.now form.now shape.now) m) }
+    ensures told { (m : MachineHeap) → IsAt state.old m
+        → Told IsValue result state.new (job_does None (parts_job context.now (current state.old.frames) parts.now frame.now form.now shape.now) m) }
     ensures scopes { OnOk result (SameScopes state.old.frames state.new.frames) }
     ensures lender { lender_of state.new.heap ≡ lender_of state.old.heap }
 {
@@ -309,7 +324,9 @@ fn join_parts<P: Phases>(
     state: &mut State<'_>,
     cells: &mut Vec<Cell>,
 ) -> Result<(), Stop>
-    ensures told { (m : MachineHeap) → IsAt state.old m → Told (λ _ found. cells.new.items ≡ cells.old.items ++ flat_map elements_of found) result state.new (cells_run form.now (part_source_in context.now (current state.old.frames) parts.now) frame.now m) }
+    ensures told { (m : MachineHeap) → IsAt state.old m
+        → Told (λ _ found. cells.new.items ≡ cells.old.items ++ flat_map elements_of found) result state.new
+        (cells_run form.now (part_source_in context.now (current state.old.frames) parts.now) frame.now m) }
     ensures scopes { OnOk result (SameScopes state.old.frames state.new.frames) }
     ensures lender { lender_of state.new.heap ≡ lender_of state.old.heap }
 {
@@ -334,7 +351,9 @@ pub fn fold_parts<P: Phases>(
     outside: Option<&Outside<P>>,
     state: &mut State<'_>,
 ) -> Result<RunValue, Stop>
-    ensures told { (m : MachineHeap) → IsAt state.old m → Told IsValue result state.new (job_does None (fold_parts_job context.now (current state.old.frames) parts.now frame.now form.now op neutral) m) }
+    ensures told { (m : MachineHeap) → IsAt state.old m
+        → Told IsValue result state.new
+        (job_does None (fold_parts_job context.now (current state.old.frames) parts.now frame.now form.now op neutral) m) }
     ensures scopes { OnOk result (SameScopes state.old.frames state.new.frames) }
     ensures lender { lender_of state.new.heap ≡ lender_of state.old.heap }
 {
@@ -367,7 +386,8 @@ fn combine_parts<P: Phases>(
     outside: Option<&Outside<P>>,
     state: &mut State<'_>,
 ) -> Result<Sum, Stop>
-    ensures told { (m : MachineHeap) → IsAt state.old m → Told (λ s found. array_of s ≡ fold (combined op) (array_of start) found) result state.new (cells_run form.now (part_source_in context.now (current state.old.frames) parts.now) frame.now m) }
+    ensures told { (m : MachineHeap) → IsAt state.old m → Told (λ s found. array_of s ≡ fold (combined op) (array_of start) found) result state.new
+        (cells_run form.now (part_source_in context.now (current state.old.frames) parts.now) frame.now m) }
     ensures scopes { OnOk result (SameScopes state.old.frames state.new.frames) }
     ensures lender { lender_of state.new.heap ≡ lender_of state.old.heap }
 {
@@ -391,7 +411,8 @@ pub fn part_cell<P: Phases>(
     outside: Option<&Outside<P>>,
     state: &mut State<'_>,
 ) -> Result<Option<RunValue>, Stop>
-    ensures told { (m : MachineHeap) → IsAt state.old m → Told IsPresent result state.new (unreleased form.now (part_source_in context.now (current state.old.frames) parts.now index.now) m) }
+    ensures told { (m : MachineHeap) → IsAt state.old m
+        → Told IsPresent result state.new (unreleased form.now (part_source_in context.now (current state.old.frames) parts.now index.now) m) }
     ensures scopes { OnOk result (SameScopes state.old.frames state.new.frames) }
     ensures lender { lender_of state.new.heap ≡ lender_of state.old.heap }
 {
@@ -414,7 +435,9 @@ fn run_part<P: Phases>(
     outside: Option<&Outside<P>>,
     state: &mut State<'_>,
 ) -> Result<RunValue, Stop>
-    ensures told { (m : MachineHeap) → IsAt state.old m → Told IsValue result state.new (part_in context.now (part_head part.now) (code_term part.now.body) form.now index.now (current state.old.frames) m) }
+    ensures told { (m : MachineHeap) → IsAt state.old m
+        → Told IsValue result state.new
+        (part_in context.now (part_head part.now) (code_term part.now.body) form.now index.now (current state.old.frames) m) }
     ensures scopes { OnOk result (SameScopes state.old.frames state.new.frames) }
     ensures lender { lender_of state.new.heap ≡ lender_of state.old.heap }
 {

@@ -4,7 +4,8 @@ ghost use Rattle.counted_code.specs.Machine.{first_value, repeat_does, turns_do}
 ghost use Rattle.counted_code.specs.Outcome.{function_does};
 ghost use Rattle.counted_code.specs.Values.{Heap as MachineHeap, then_go};
 ghost use Rattle.counted_code.specs.View.{code_term, code_right_term, code_fun_term};
-ghost use Rattle.run_eval.specs.Running.{calls_in, does_in, right_in, turn_in, test_in, IsAt, Told, ToldSteps, IsValue, IsFirst, IsOnly, Appends, SameScopes, SameOuter, EndsScope, truth_of};
+ghost use Rattle.run_eval.specs.Running.{calls_in, does_in, right_in, turn_in, test_in, IsAt, Told, ToldSteps, IsValue, IsFirst, IsOnly, Appends};
+ghost use Rattle.run_eval.specs.Running.{SameScopes, SameOuter, EndsScope, truth_of};
 ghost use Rattle.run_store.specs.Stands.{lender_of};
 ghost use Rattle.run_values.specs.Scopes.{current};
 ghost use Rattle.run_values.specs.Shown.{value_of};
@@ -98,7 +99,8 @@ fn run_open<P: Phases>(
     state: &mut State<'_>,
     values: &mut Vec<RunValue>,
 ) -> Result<(), Stop>
-    ensures told { (m : MachineHeap) → IsAt state.old m → Told (λ _ ws. Appends values.old.items values.new.items ws) result state.new (does_in context.now (code_term block.now) (current state.old.frames) m) }
+    ensures told { (m : MachineHeap) → IsAt state.old m → Told (λ _ ws. Appends values.old.items values.new.items ws) result state.new
+        (does_in context.now (code_term block.now) (current state.old.frames) m) }
     ensures scopes { OnOk result (EndsScope state.old.frames state.new.frames) }
     ensures lender { lender_of state.new.heap ≡ lender_of state.old.heap }
 {
@@ -117,7 +119,8 @@ fn run_block<P: Phases>(
     state: &mut State<'_>,
     values: &mut Vec<RunValue>,
 ) -> Result<(), Stop>
-    ensures told { (m : MachineHeap) → IsAt state.old m → Told (λ _ ws. Appends values.old.items values.new.items ws) result state.new (does_in context.now (code_term block.now) (current state.old.frames) m) }
+    ensures told { (m : MachineHeap) → IsAt state.old m → Told (λ _ ws. Appends values.old.items values.new.items ws) result state.new
+        (does_in context.now (code_term block.now) (current state.old.frames) m) }
     ensures scopes { OnOk result (SameScopes state.old.frames state.new.frames) }
     ensures lender { lender_of state.new.heap ≡ lender_of state.old.heap }
 {
@@ -133,7 +136,8 @@ pub fn run_first<P: Phases>(
     outside: Option<&Outside<P>>,
     state: &mut State<'_>,
 ) -> Result<RunValue, Stop>
-    ensures told { (m : MachineHeap) → IsAt state.old m → Told IsValue result state.new (first_value (does_in context.now (code_term block.now) (current state.old.frames)) m) }
+    ensures told { (m : MachineHeap) → IsAt state.old m
+        → Told IsValue result state.new (first_value (does_in context.now (code_term block.now) (current state.old.frames)) m) }
     ensures scopes { OnOk result (EndsScope state.old.frames state.new.frames) }
     ensures lender { lender_of state.new.heap ≡ lender_of state.old.heap }
 {
@@ -151,7 +155,8 @@ fn run_inner<P: Phases>(
     outside: Option<&Outside<P>>,
     state: &mut State<'_>,
 ) -> Result<RunValue, Stop>
-    ensures told { (m : MachineHeap) → IsAt state.old m → Told IsValue result state.new (first_value (does_in context.now (code_term block.now) (current state.old.frames)) m) }
+    ensures told { (m : MachineHeap) → IsAt state.old m
+        → Told IsValue result state.new (first_value (does_in context.now (code_term block.now) (current state.old.frames)) m) }
     ensures scopes { OnOk result (SameScopes state.old.frames state.new.frames) }
     ensures lender { lender_of state.new.heap ≡ lender_of state.old.heap }
 {
@@ -168,7 +173,8 @@ fn run_right<P: Phases>(
     outside: Option<&Outside<P>>,
     state: &mut State<'_>,
 ) -> Result<RunValue, Stop>
-    ensures told { (m : MachineHeap) → IsAt state.old m → Told IsFirst result state.new (right_in context.now (code_right_term right.now) site (current state.old.frames) m) }
+    ensures told { (m : MachineHeap) → IsAt state.old m
+        → Told IsFirst result state.new (right_in context.now (code_right_term right.now) site (current state.old.frames) m) }
     ensures scopes { OnOk result (SameScopes state.old.frames state.new.frames) }
     ensures lender { lender_of state.new.heap ≡ lender_of state.old.heap }
 {
@@ -199,7 +205,8 @@ fn run_rights<P: Phases>(
     state: &mut State<'_>,
     values: &mut Vec<RunValue>,
 ) -> Result<(), Stop>
-    ensures told { (m : MachineHeap) → IsAt state.old m → Told (λ _ ws. Appends values.old.items values.new.items ws) result state.new (right_in context.now (code_right_term right.now) site (current state.old.frames) m) }
+    ensures told { (m : MachineHeap) → IsAt state.old m → Told (λ _ ws. Appends values.old.items values.new.items ws) result state.new
+        (right_in context.now (code_right_term right.now) site (current state.old.frames) m) }
     ensures scopes { OnOk result (SameScopes state.old.frames state.new.frames) }
     ensures lender { lender_of state.new.heap ≡ lender_of state.old.heap }
 {
@@ -254,7 +261,8 @@ fn run_one<P: Phases>(
     outside: Option<&Outside<P>>,
     state: &mut State<'_>,
 ) -> Result<RunValue, Stop>
-    ensures told { (m : MachineHeap) → IsAt state.old m → Told IsOnly result state.new (right_in context.now (code_right_term right.now) site (current state.old.frames) m) }
+    ensures told { (m : MachineHeap) → IsAt state.old m
+        → Told IsOnly result state.new (right_in context.now (code_right_term right.now) site (current state.old.frames) m) }
     ensures scopes { OnOk result (SameScopes state.old.frames state.new.frames) }
     ensures lender { lender_of state.new.heap ≡ lender_of state.old.heap }
 {
@@ -276,7 +284,11 @@ fn run_loop<P: Phases>(
     state: &mut State<'_>,
     values: &mut Vec<RunValue>,
 ) -> Result<(), Stop>
-    ensures told { (m : MachineHeap) → IsAt state.old m → Told (λ _ ws. map value_of values.new.items ≡ ws) result state.new (turns_do first_body context.now.turns turn.now.site turn.now.test_site (test_in context.now turn.now.params.now (code_term turn.now.test.now) (current state.old.frames)) (turn_in context.now turn.now.params.now (code_term turn.now.body.now) (current state.old.frames)) (map value_of values.old.items) m) }
+    ensures told { (m : MachineHeap) → IsAt state.old m
+        → Told (λ _ ws. map value_of values.new.items ≡ ws) result state.new
+        (turns_do first_body context.now.turns turn.now.site turn.now.test_site
+        (test_in context.now turn.now.params.now (code_term turn.now.test.now) (current state.old.frames))
+        (turn_in context.now turn.now.params.now (code_term turn.now.body.now) (current state.old.frames)) (map value_of values.old.items) m) }
     ensures scopes { OnOk result (SameScopes state.old.frames state.new.frames) }
     ensures lender { lender_of state.new.heap ≡ lender_of state.old.heap }
 {
@@ -309,7 +321,11 @@ fn repeat<P: Phases>(
     values: &mut Vec<RunValue>,
     next: &mut Vec<RunValue>,
 ) -> Result<(), Stop>
-    ensures told { (m : MachineHeap) → IsAt state.old m → Told (λ _ ws. map value_of values.new.items ≡ ws) result state.new (repeat_does most turn.now.site turn.now.test_site (test_in context.now turn.now.params.now (code_term turn.now.test.now) (current state.old.frames)) (turn_in context.now turn.now.params.now (code_term turn.now.body.now) (current state.old.frames)) (map value_of values.old.items) m) }
+    ensures told { (m : MachineHeap) → IsAt state.old m
+        → Told (λ _ ws. map value_of values.new.items ≡ ws) result state.new
+        (repeat_does most turn.now.site turn.now.test_site
+        (test_in context.now turn.now.params.now (code_term turn.now.test.now) (current state.old.frames))
+        (turn_in context.now turn.now.params.now (code_term turn.now.body.now) (current state.old.frames)) (map value_of values.old.items) m) }
     ensures scopes { OnOk result (SameScopes state.old.frames state.new.frames) }
     ensures lender { lender_of state.new.heap ≡ lender_of state.old.heap }
 {
@@ -335,7 +351,10 @@ fn run_test<P: Phases>(
     state: &mut State<'_>,
     values: &[RunValue],
 ) -> Result<bool, Stop>
-    ensures told { (m : MachineHeap) → IsAt state.old m → Told (λ t u. t ≡ u) result state.new (then_go (test_in context.now turn.now.params.now (code_term turn.now.test.now) (current state.old.frames) (map value_of values.now)) (truth_of turn.now.test_site) m) }
+    ensures told { (m : MachineHeap) → IsAt state.old m
+        → Told (λ t u. t ≡ u) result state.new
+        (then_go (test_in context.now turn.now.params.now (code_term turn.now.test.now) (current state.old.frames) (map value_of values.now))
+        (truth_of turn.now.test_site) m) }
     ensures scopes { OnOk result (SameScopes state.old.frames state.new.frames) }
     ensures lender { lender_of state.new.heap ≡ lender_of state.old.heap }
 {
@@ -357,7 +376,8 @@ fn run_turn<P: Phases>(
     values: &mut Vec<RunValue>,
     next: &mut Vec<RunValue>,
 ) -> Result<(), Stop>
-    ensures told { (m : MachineHeap) → IsAt state.old m → Told (λ _ ws. map value_of values.new.items ≡ ws) result state.new (turn_in context.now turn.now.params.now (code_term turn.now.body.now) (current state.old.frames) (map value_of values.old.items) m) }
+    ensures told { (m : MachineHeap) → IsAt state.old m → Told (λ _ ws. map value_of values.new.items ≡ ws) result state.new
+        (turn_in context.now turn.now.params.now (code_term turn.now.body.now) (current state.old.frames) (map value_of values.old.items) m) }
     ensures scopes { OnOk result (SameScopes state.old.frames state.new.frames) }
     ensures lender { lender_of state.new.heap ≡ lender_of state.old.heap }
 {
@@ -381,7 +401,8 @@ fn run_call<P: Phases>(
     state: &mut State<'_>,
     values: &mut Vec<RunValue>,
 ) -> Result<(), Stop>
-    ensures told { (m : MachineHeap) → IsAt state.old m → Told (λ _ ws. Appends values.old.items values.new.items ws) result state.new (calls_in context.now group (map value_of args.now) site m) }
+    ensures told { (m : MachineHeap) → IsAt state.old m
+        → Told (λ _ ws. Appends values.old.items values.new.items ws) result state.new (calls_in context.now group (map value_of args.now) site m) }
     ensures scopes { OnOk result (SameScopes state.old.frames state.new.frames) }
     ensures lender { lender_of state.new.heap ≡ lender_of state.old.heap }
 {
@@ -404,7 +425,8 @@ pub fn run_function<P: Phases>(
     state: &mut State<'_>,
     values: &mut Vec<RunValue>,
 ) -> Result<(), Stop>
-    ensures told { (m : MachineHeap) → IsAt state.old m → Told (λ _ ws. Appends values.old.items values.new.items ws) result state.new (function_does context.now.turns (calls_in context.now) (code_fun_term function.now) (map value_of args.now) m) }
+    ensures told { (m : MachineHeap) → IsAt state.old m → Told (λ _ ws. Appends values.old.items values.new.items ws) result state.new
+        (function_does context.now.turns (calls_in context.now) (code_fun_term function.now) (map value_of args.now) m) }
     ensures scopes { OnOk result (SameScopes state.old.frames state.new.frames) }
     ensures lender { lender_of state.new.heap ≡ lender_of state.old.heap }
 {

@@ -26,7 +26,8 @@ pub fn all_bounds(
     context: &Context<'_>,
     state: &State<'_>,
 ) -> Result<Vec<Bounds>, Memory>
-    ensures { (m : MachineHeap) → Stands state.now.heap m → IfOk result (λ v. v.items ≡ map (λ g. bounds_of (gen_head g) (reads m (current state.now.frames))) gens.now) }
+    ensures { (m : MachineHeap) → Stands state.now.heap m
+        → IfOk result (λ v. v.items ≡ map (λ g. bounds_of (gen_head g) (reads m (current state.now.frames))) gens.now) }
 {
     let mut bounds = Vec::new(context.alloc);
     for g in gens {

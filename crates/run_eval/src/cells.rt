@@ -52,7 +52,9 @@ pub fn count(alloc: Global, state: &mut State<'_>, counts: bool) -> Result<(), M
 /// A result of this shape that has no cell yet. It is a phase, if it is not small.
 pub fn begin(shape: &Shape, context: &Context<'_>, state: &mut State<'_>) -> Result<Target, Memory>
     ensures cells { IfOk result (λ t. t.cells.items ≡ []) }
-    ensures begun { (m : MachineHeap) (n : ℕ) → IsAt state.old m → IfOk result (λ t. IsBegun (target_of t) state.new (claimed (is_small_shape shape.now) None (size shape.now) (count_phase (not (is_small_shape shape.now)) n m))) }
+    ensures begun { (m : MachineHeap) (n : ℕ) → IsAt state.old m
+        → IfOk result (λ t. IsBegun (target_of t) state.new
+        (claimed (is_small_shape shape.now) None (size shape.now) (count_phase (not (is_small_shape shape.now)) n m))) }
     ensures frames { OnOk result (state.new.frames ≡ state.old.frames) }
     ensures lender { lender_of state.new.heap ≡ lender_of state.old.heap }
 {
@@ -69,7 +71,8 @@ pub fn finish(
     shape: &Shape,
     state: &mut State<'_>,
 ) -> Result<RunValue, Stop>
-    ensures told { (m : MachineHeap) → IsAt state.old m → Told IsValue result state.new (settled (target_of target) (record { base = base; shape = shape.now; cells = target.cells.items }) m) }
+    ensures told { (m : MachineHeap) → IsAt state.old m
+        → Told IsValue result state.new (settled (target_of target) (record { base = base; shape = shape.now; cells = target.cells.items }) m) }
     ensures frames { OnOk result (state.new.frames ≡ state.old.frames) }
     ensures lender { lender_of state.new.heap ≡ lender_of state.old.heap }
 {
@@ -134,7 +137,9 @@ pub fn put_cell(
     place: usize,
     cells: &mut Vec<Cell>,
 ) -> Result<(), Memory>
-    ensures put { (m : MachineHeap) → Stands heap.old m → OnOk result ((cells.new.items ≡ cells.old.items ++ cell_from background.now.old background.now.array.now background.now.size place (option_map (read m) (option_map value_of value))) × Stands heap.new (release_rest (option_map value_of value) m)) }
+    ensures put { (m : MachineHeap) → Stands heap.old m
+        → OnOk result ((cells.new.items ≡ cells.old.items ++ cell_from background.now.old background.now.array.now background.now.size place
+        (option_map (read m) (option_map value_of value))) × Stands heap.new (release_rest (option_map value_of value) m)) }
     ensures lender { lender_of heap.new ≡ lender_of heap.old }
 {
     match value {
@@ -152,7 +157,9 @@ pub fn join_cell(
     value: Option<RunValue>,
     cells: &mut Vec<Cell>,
 ) -> Result<(), Memory>
-    ensures joined { (m : MachineHeap) → Stands heap.old m → OnOk result ((cells.new.items ≡ cells.old.items ++ elements_of (option_map (read m) (option_map value_of value))) × Stands heap.new (release_rest (option_map value_of value) m)) }
+    ensures joined { (m : MachineHeap) → Stands heap.old m
+        → OnOk result ((cells.new.items ≡ cells.old.items ++ elements_of (option_map (read m) (option_map value_of value)))
+        × Stands heap.new (release_rest (option_map value_of value) m)) }
     ensures lender { lender_of heap.new ≡ lender_of heap.old }
 {
     match value {

@@ -42,7 +42,8 @@ pub fn begin_fold(
     context: &Context<'_>,
     state: &mut State<'_>,
 ) -> Result<Option<Target>, Memory>
-    ensures begun { (m : MachineHeap) (n : ℕ) → IsAt state.old m → IfOk result (λ t. IsBegun (fold_target t) state.new (claimed (is_small_shape shape.now) None (size shape.now) (count_phase true n m))) }
+    ensures begun { (m : MachineHeap) (n : ℕ) → IsAt state.old m
+        → IfOk result (λ t. IsBegun (fold_target t) state.new (claimed (is_small_shape shape.now) None (size shape.now) (count_phase true n m))) }
     ensures frames { OnOk result (state.new.frames ≡ state.old.frames) }
     ensures lender { lender_of state.new.heap ≡ lender_of state.old.heap }
 {
@@ -62,7 +63,9 @@ pub fn add_cell(
     sum: Sum,
     value: Option<RunValue>,
 ) -> Result<Sum, Memory>
-    ensures added { (m : MachineHeap) → Stands heap.old m → IfOk result (λ s. (array_of s ≡ combined op (array_of sum) (option_map (read m) (option_map value_of value))) × Stands heap.new (release_rest (option_map value_of value) m)) }
+    ensures added { (m : MachineHeap) → Stands heap.old m
+        → IfOk result (λ s. (array_of s ≡ combined op (array_of sum) (option_map (read m) (option_map value_of value)))
+        × Stands heap.new (release_rest (option_map value_of value) m)) }
     ensures lender { lender_of heap.new ≡ lender_of heap.old }
 {
     match value {

@@ -26,7 +26,9 @@ pub fn array_in_order(
     context: &Context<'_>,
     state: &mut State<'_>,
 ) -> Result<RunValue, Stop>
-    ensures told { (m : MachineHeap) → IsAt state.old m → Told IsValue result state.new (job_does None (array_job context.now (current state.old.frames) m gens.now (plan_of plan.now) array.now old) m) }
+    ensures told { (m : MachineHeap) → IsAt state.old m
+        → Told IsValue result state.new
+        (job_does None (array_job context.now (current state.old.frames) m gens.now (plan_of plan.now) array.now old) m) }
     ensures scopes { OnOk result (SameScopes state.old.frames state.new.frames) }
     ensures lender { lender_of state.new.heap ≡ lender_of state.old.heap }
 {
@@ -42,7 +44,8 @@ pub fn fold_in_order(
     context: &Context<'_>,
     state: &mut State<'_>,
 ) -> Result<RunValue, Stop>
-    ensures told { (m : MachineHeap) → IsAt state.old m → Told IsValue result state.new (job_does None (fold_job context.now (current state.old.frames) m gens.now (plan_of plan.now) op neutral) m) }
+    ensures told { (m : MachineHeap) → IsAt state.old m
+        → Told IsValue result state.new (job_does None (fold_job context.now (current state.old.frames) m gens.now (plan_of plan.now) op neutral) m) }
     ensures scopes { OnOk result (SameScopes state.old.frames state.new.frames) }
     ensures lender { lender_of state.new.heap ≡ lender_of state.old.heap }
 {
@@ -58,7 +61,8 @@ pub fn parts_in_order(
     context: &Context<'_>,
     state: &mut State<'_>,
 ) -> Result<RunValue, Stop>
-    ensures told { (m : MachineHeap) → IsAt state.old m → Told IsValue result state.new (job_does None (parts_job context.now (current state.old.frames) parts.now frame.now form.now shape.now) m) }
+    ensures told { (m : MachineHeap) → IsAt state.old m
+        → Told IsValue result state.new (job_does None (parts_job context.now (current state.old.frames) parts.now frame.now form.now shape.now) m) }
     ensures scopes { OnOk result (SameScopes state.old.frames state.new.frames) }
     ensures lender { lender_of state.new.heap ≡ lender_of state.old.heap }
 {
@@ -75,7 +79,9 @@ pub fn fold_parts_in_order(
     context: &Context<'_>,
     state: &mut State<'_>,
 ) -> Result<RunValue, Stop>
-    ensures told { (m : MachineHeap) → IsAt state.old m → Told IsValue result state.new (job_does None (fold_parts_job context.now (current state.old.frames) parts.now frame.now form.now op neutral) m) }
+    ensures told { (m : MachineHeap) → IsAt state.old m
+        → Told IsValue result state.new
+        (job_does None (fold_parts_job context.now (current state.old.frames) parts.now frame.now form.now op neutral) m) }
     ensures scopes { OnOk result (SameScopes state.old.frames state.new.frames) }
     ensures lender { lender_of state.new.heap ≡ lender_of state.old.heap }
 {
@@ -90,7 +96,9 @@ pub fn cell_of_gens(
     context: &Context<'_>,
     state: &mut State<'_>,
 ) -> Result<Option<RunValue>, Stop>
-    ensures told { (m : MachineHeap) → IsAt state.old m → Told IsPresent result state.new (unreleased plan.now.form (source_in context.now (current state.old.frames) gens.now plan.now.ranges.items index.now) m) }
+    ensures told { (m : MachineHeap) → IsAt state.old m
+        → Told IsPresent result state.new
+        (unreleased plan.now.form (source_in context.now (current state.old.frames) gens.now plan.now.ranges.items index.now) m) }
     ensures scopes { OnOk result (SameScopes state.old.frames state.new.frames) }
     ensures lender { lender_of state.new.heap ≡ lender_of state.old.heap }
 {
@@ -105,7 +113,8 @@ pub fn cell_of_parts(
     context: &Context<'_>,
     state: &mut State<'_>,
 ) -> Result<Option<RunValue>, Stop>
-    ensures told { (m : MachineHeap) → IsAt state.old m → Told IsPresent result state.new (unreleased form.now (part_source_in context.now (current state.old.frames) parts.now index.now) m) }
+    ensures told { (m : MachineHeap) → IsAt state.old m
+        → Told IsPresent result state.new (unreleased form.now (part_source_in context.now (current state.old.frames) parts.now index.now) m) }
     ensures scopes { OnOk result (SameScopes state.old.frames state.new.frames) }
     ensures lender { lender_of state.new.heap ≡ lender_of state.old.heap }
 {

@@ -31,7 +31,9 @@ pub trait Phases {
         state: &mut State<'_>,
     ) -> Result<RunValue, Stop>
         requires { runs self.now }
-        ensures told { (m : MachineHeap) → IsAt state.old m → Told IsValue result state.new (job_does None (array_job context.now (current state.old.frames) m gens.now (plan_of plan.now) array.now old) m) }
+        ensures told { (m : MachineHeap) → IsAt state.old m
+            → Told IsValue result state.new
+            (job_does None (array_job context.now (current state.old.frames) m gens.now (plan_of plan.now) array.now old) m) }
         ensures scopes { OnOk result (SameScopes state.old.frames state.new.frames) }
         ensures lender { lender_of state.new.heap ≡ lender_of state.old.heap };
 
@@ -46,7 +48,9 @@ pub trait Phases {
         state: &mut State<'_>,
     ) -> Result<RunValue, Stop>
         requires { runs self.now }
-        ensures told { (m : MachineHeap) → IsAt state.old m → Told IsValue result state.new (job_does None (fold_job context.now (current state.old.frames) m gens.now (plan_of plan.now) op neutral) m) }
+        ensures told { (m : MachineHeap) → IsAt state.old m
+            → Told IsValue result state.new
+            (job_does None (fold_job context.now (current state.old.frames) m gens.now (plan_of plan.now) op neutral) m) }
         ensures scopes { OnOk result (SameScopes state.old.frames state.new.frames) }
         ensures lender { lender_of state.new.heap ≡ lender_of state.old.heap };
 
@@ -61,7 +65,9 @@ pub trait Phases {
         state: &mut State<'_>,
     ) -> Result<RunValue, Stop>
         requires { runs self.now }
-        ensures told { (m : MachineHeap) → IsAt state.old m → Told IsValue result state.new (job_does None (parts_job context.now (current state.old.frames) parts.now frame.now form.now shape.now) m) }
+        ensures told { (m : MachineHeap) → IsAt state.old m
+            → Told IsValue result state.new
+            (job_does None (parts_job context.now (current state.old.frames) parts.now frame.now form.now shape.now) m) }
         ensures scopes { OnOk result (SameScopes state.old.frames state.new.frames) }
         ensures lender { lender_of state.new.heap ≡ lender_of state.old.heap };
 
@@ -77,7 +83,9 @@ pub trait Phases {
         state: &mut State<'_>,
     ) -> Result<RunValue, Stop>
         requires { runs self.now }
-        ensures told { (m : MachineHeap) → IsAt state.old m → Told IsValue result state.new (job_does None (fold_parts_job context.now (current state.old.frames) parts.now frame.now form.now op neutral) m) }
+        ensures told { (m : MachineHeap) → IsAt state.old m
+            → Told IsValue result state.new
+            (job_does None (fold_parts_job context.now (current state.old.frames) parts.now frame.now form.now op neutral) m) }
         ensures scopes { OnOk result (SameScopes state.old.frames state.new.frames) }
         ensures lender { lender_of state.new.heap ≡ lender_of state.old.heap };
 }
@@ -171,7 +179,9 @@ impl<P: Phases> Outside<P> {
         context: &Context<'_>,
         state: &mut State<'_>,
     ) -> Result<RunValue, Stop>
-        ensures told { (m : MachineHeap) → IsAt state.old m → Told IsValue result state.new (job_does None (array_job context.now (current state.old.frames) m gens.now (plan_of plan.now) array.now old) m) }
+        ensures told { (m : MachineHeap) → IsAt state.old m
+            → Told IsValue result state.new
+            (job_does None (array_job context.now (current state.old.frames) m gens.now (plan_of plan.now) array.now old) m) }
         ensures scopes { OnOk result (SameScopes state.old.frames state.new.frames) }
         ensures lender { lender_of state.new.heap ≡ lender_of state.old.heap }
     {
@@ -188,7 +198,9 @@ impl<P: Phases> Outside<P> {
         context: &Context<'_>,
         state: &mut State<'_>,
     ) -> Result<RunValue, Stop>
-        ensures told { (m : MachineHeap) → IsAt state.old m → Told IsValue result state.new (job_does None (fold_job context.now (current state.old.frames) m gens.now (plan_of plan.now) op neutral) m) }
+        ensures told { (m : MachineHeap) → IsAt state.old m
+            → Told IsValue result state.new
+            (job_does None (fold_job context.now (current state.old.frames) m gens.now (plan_of plan.now) op neutral) m) }
         ensures scopes { OnOk result (SameScopes state.old.frames state.new.frames) }
         ensures lender { lender_of state.new.heap ≡ lender_of state.old.heap }
     {
@@ -205,7 +217,9 @@ impl<P: Phases> Outside<P> {
         context: &Context<'_>,
         state: &mut State<'_>,
     ) -> Result<RunValue, Stop>
-        ensures told { (m : MachineHeap) → IsAt state.old m → Told IsValue result state.new (job_does None (parts_job context.now (current state.old.frames) parts.now frame.now form.now shape.now) m) }
+        ensures told { (m : MachineHeap) → IsAt state.old m
+            → Told IsValue result state.new
+            (job_does None (parts_job context.now (current state.old.frames) parts.now frame.now form.now shape.now) m) }
         ensures scopes { OnOk result (SameScopes state.old.frames state.new.frames) }
         ensures lender { lender_of state.new.heap ≡ lender_of state.old.heap }
     {
@@ -223,7 +237,9 @@ impl<P: Phases> Outside<P> {
         context: &Context<'_>,
         state: &mut State<'_>,
     ) -> Result<RunValue, Stop>
-        ensures told { (m : MachineHeap) → IsAt state.old m → Told IsValue result state.new (job_does None (fold_parts_job context.now (current state.old.frames) parts.now frame.now form.now op neutral) m) }
+        ensures told { (m : MachineHeap) → IsAt state.old m
+            → Told IsValue result state.new
+            (job_does None (fold_parts_job context.now (current state.old.frames) parts.now frame.now form.now op neutral) m) }
         ensures scopes { OnOk result (SameScopes state.old.frames state.new.frames) }
         ensures lender { lender_of state.new.heap ≡ lender_of state.old.heap }
     {

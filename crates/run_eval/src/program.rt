@@ -27,7 +27,8 @@ use sac_base::{Array, Caps, FaultKind, Memory, Site, Stop, fault};
 use std::alloc::Global;
 use std::mem;
 
-/// How many workers there are, 1 to 64, how many positions a chunk has, or an equal share for each worker where that is not given, and the limits on turns and nested calls.
+/// How many workers there are, 1 to 64, how many positions a chunk has, or an equal share for each worker where that is not given, and the limits on
+/// turns and nested calls.
 #[derive(Clone, Copy, Debug, PartialEq, Eq)]
 pub struct Plan {
     pub workers: u32,

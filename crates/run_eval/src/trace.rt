@@ -28,7 +28,16 @@ pub struct Trace {
 impl Trace {
     /// No code, and all numbers 0.
     pub fn new() -> Trace
-        ensures { result ≡ record { code = None; folded = 0; scalarised = 0; taken = 0; given = 0; reused = 0; phases = 0; tally = record { phases = 0; draws = 0 } } }
+        ensures { result ≡ record {
+          code = None;
+          folded = 0;
+          scalarised = 0;
+          taken = 0;
+          given = 0;
+          reused = 0;
+          phases = 0;
+          tally = record { phases = 0; draws = 0 };
+        } }
     {
         Trace {
             code: None,

@@ -14,7 +14,10 @@ use Rattle.sac_ast.specs.declared.Param.{Param}
 use Rattle.sac_ast.specs.declared.Known.{Known}
 use Rattle.sac_ast.specs.declared.Builtin.{Builtin}
 use Rattle.sac_ast.specs.declared.Builtin.TheVariants.{Dim, Shape, Reshape}
-use Rattle.sac_ast.specs.Tree.{IndexTree, named, parts, Expr, Exprs, no_exprs, expr_and, MaybeExpr, left_out, given, Stmt, Block, no_stmts, stmt_and, BoundTree, dot, at, Gen, gen, Gens, no_gens, gen_and, OperationTree, FunctionTree, number, truth, variable, literal, unary, binary, choice, select, call, builtin, with_loop, assign, replace, if_else, while_do, do_while, genarray, modarray, fold}
+use Rattle.sac_ast.specs.Tree.{IndexTree, named, parts, Expr, Exprs, no_exprs, expr_and, MaybeExpr, left_out, given, Stmt, Block, no_stmts, stmt_and}
+use Rattle.sac_ast.specs.Tree.{BoundTree, dot, at, Gen, gen, Gens, no_gens, gen_and, OperationTree, FunctionTree, number, truth, variable, literal}
+use Rattle.sac_ast.specs.Tree.{unary, binary, choice, select, call, builtin, with_loop, assign, replace, if_else, while_do, do_while, genarray}
+use Rattle.sac_ast.specs.Tree.{modarray, fold}
 
 -- ---- rules: one that asks for a base, or compares two, holds where a base is missing
 

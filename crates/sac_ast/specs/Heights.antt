@@ -4,7 +4,8 @@ use Rattle.std.specs.List.{AllByRecursion}
 use Rattle.std.specs.Str.{bytes_eq}
 use Rattle.sac_ast.specs.Texts.{Lexeme}
 use Rattle.sac_ast.specs.Tree
-use Rattle.sac_ast.specs.Tree.{Expr, Exprs, no_exprs, expr_and, MaybeExpr, left_out, given, Stmt, Block, no_stmts, stmt_and, BoundTree, Gen, gen, Gens, no_gens, gen_and, OperationTree, FunctionTree, ProgramTree}
+use Rattle.sac_ast.specs.Tree.{Expr, Exprs, no_exprs, expr_and, MaybeExpr, left_out, given, Stmt, Block, no_stmts, stmt_and, BoundTree, Gen, gen}
+use Rattle.sac_ast.specs.Tree.{Gens, no_gens, gen_and, OperationTree, FunctionTree, ProgramTree}
 use Rattle.sac_ast.specs.Grammar.{IsProgram}
 
 -- a leaf has the height 1, and every other node the greatest height of its children plus 1; a list has the greatest height in it
@@ -46,7 +47,8 @@ abbrev mutual
   bound_height (Tree.at e) = height e
 
   pub gen_height : Gen → ℕ
-  gen_height (gen l lc i u uc st w b e s) = 1 + max (bound_height l) (max (bound_height u) (max (maybe_height st) (max (maybe_height w) (max (block_height b) (height e)))))
+  gen_height (gen l lc i u uc st w b e s) = 1
+      + max (bound_height l) (max (bound_height u) (max (maybe_height st) (max (maybe_height w) (max (block_height b) (height e)))))
 
   pub gens_height : Gens → ℕ
   gens_height no_gens = 0

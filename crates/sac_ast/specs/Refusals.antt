@@ -18,7 +18,8 @@ StartsWithin u = (w : List Lexeme) × (p : ProgramTree) × IsTreeOf (u ++ w) p
 -- a place of so many tokens is not after the first token at which too many brackets are open, nor after the end of the first function that is too high
 pub record IsInReach (ts : List Lexeme) (place : ℕ) : Type 0 where
   pub brackets : (v w : List Lexeme) (y : Lexeme) → ts ≡ v ++ (y ∷ w) → 200 < open_behind 0 (v ++ (y ∷ [])) → place ≤ length v
-  pub functions : (v : List Lexeme) (gs : List FunctionTree) (f w : List Lexeme) (g : FunctionTree) → ts ≡ v ++ (f ++ w) → MatchesEach (IsPhrase function) v gs → IsPhrase function f g → 100 < function_height g → place < length v + length f
+  pub functions : (v : List Lexeme) (gs : List FunctionTree) (f w : List Lexeme) (g : FunctionTree) → ts ≡ v ++ (f ++ w)
+      → MatchesEach (IsPhrase function) v gs → IsPhrase function f g → 100 < function_height g → place < length v + length f
 
 -- no program starts with the tokens up to the one at the site, and the tokens before it start some
 pub record IsStuckAt (ts : List Lexeme) (site : Site) : Type 0 where

@@ -11,7 +11,9 @@ pub record Lexeme : Type 0 where
   pub site : Site
 
 abbrev pub reserved : List (List ℕ)
-reserved = codes "int" ∷ codes "bool" ∷ codes "true" ∷ codes "false" ∷ codes "inline" ∷ codes "return" ∷ codes "if" ∷ codes "else" ∷ codes "while" ∷ codes "do" ∷ codes "for" ∷ codes "with" ∷ codes "genarray" ∷ codes "modarray" ∷ codes "fold" ∷ codes "step" ∷ codes "width" ∷ codes "dim" ∷ codes "shape" ∷ codes "reshape" ∷ codes "min" ∷ codes "max" ∷ []
+reserved = codes "int" ∷ codes "bool" ∷ codes "true" ∷ codes "false" ∷ codes "inline" ∷ codes "return" ∷ codes "if" ∷ codes "else"
+    ∷ codes "while" ∷ codes "do" ∷ codes "for" ∷ codes "with" ∷ codes "genarray" ∷ codes "modarray" ∷ codes "fold" ∷ codes "step"
+    ∷ codes "width" ∷ codes "dim" ∷ codes "shape" ∷ codes "reshape" ∷ codes "min" ∷ codes "max" ∷ []
 
 abbrev pub is_reserved : List ℕ → Bool
 is_reserved text = list_any (λ word. bytes_eq word text) reserved

@@ -1,6 +1,7 @@
 //! The height of a program.
 ghost use Rattle.std.specs.Prelude.{◌≡◌, ◌+◌};
-ghost use Rattle.sac_ast.specs.Heights.{height, heights, maybe_height, stmt_height, block_height, bound_height, gen_height, gens_height, operation_height, function_height, program_height, capped};
+ghost use Rattle.sac_ast.specs.Heights.{height, heights, maybe_height, stmt_height, block_height, bound_height, gen_height, gens_height};
+ghost use Rattle.sac_ast.specs.Heights.{operation_height, function_height, program_height, capped};
 ghost use Rattle.sac_ast.specs.View as view;
 
 use crate::{Bound, Expression, Function, Generator, Operation, Program, Statement};
@@ -128,7 +129,8 @@ fn function(f: &Function) -> u64
 
 /// The greatest height of a function, or `u64::MAX` where it is greater, and 0 where there is no function.
 ///
-/// The height of a leaf is 1, and that of every other node, a function, statement, generator, operation or expression, the greatest height of its children plus 1.
+/// The height of a leaf is 1, and that of every other node, a function, statement, generator, operation or expression, the greatest height of its
+/// children plus 1.
 pub fn height(program: &Program) -> u64
     ensures { result ≡ capped (program_height (view.program program.now)) }
 {

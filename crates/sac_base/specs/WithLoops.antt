@@ -1,5 +1,7 @@
 -- What a with-loop gives, once its bounds and the arguments of its operation are known.
-use Rattle.std.specs.Prelude.{ℕ, zero, suc, ◌+◌, List, [], ◌∷◌, ◌++◌, ℤ, pos, ◌+ℤ◌, ◌-ℤ◌, int_lt, int_le, Bool, true, false, ◌&&◌, ◌||◌, not, if◌then◌else◌, Option, Some, None, Result, Ok, Err, map, length, take, drop, replicate, flat_map, filter, fold, nat_le, ◌==◌}
+use Rattle.std.specs.Prelude.{ℕ, zero, suc, ◌+◌, List, [], ◌∷◌, ◌++◌, ℤ, pos, ◌+ℤ◌, ◌-ℤ◌, int_lt, int_le, Bool, true, false, ◌&&◌, ◌||◌, not}
+use Rattle.std.specs.Prelude.{if◌then◌else◌, Option, Some, None, Result, Ok, Err, map, length, take, drop, replicate, flat_map, filter, fold, nat_le}
+use Rattle.std.specs.Prelude.{◌==◌}
 use Rattle.std.specs.List.{list_all, list_any, zip}
 use Rattle.std.specs.Int.{int_min, int_max, int_rem_euclid}
 use Rattle.sac_base.specs.declared.op.Op.{Op}
@@ -172,7 +174,8 @@ abbrev pub within_frame : Option (List ℕ) → Site → Option Range → Ends R
 within_frame frame site None = fault F5 site
 within_frame frame site (Some r) = if all_within frame r then Ok r else fault F5 site
 
--- a generator whose index has n components, which are at most `most`; `frame` is where its members must lie, and `dots` is the frame that an upper dot speaks of
+-- a generator whose index has n components, which are at most `most`; `frame` is where its members must lie, and `dots` is the frame that an upper
+-- dot speaks of
 abbrev pub range_of : ℕ → ℕ → Option (List ℕ) → List ℕ → Bounds → Ends Range
 range_of n most frame dots g =
     if nat_le n 8 && nat_le n most && names_fit n g.names
@@ -210,7 +213,12 @@ modarray_plan gs n array site =
     let frame = take n array.shape in
     and_then (each (range_of n (length array.shape) (Some frame) frame) gs) (λ ranges.
     if nat_le (size frame) MOST
-    then Ok (record { ranges = ranges; indices = box (shape_spans frame); form = record { base = array.base; shape = drop n array.shape }; shape = array.shape })
+    then Ok (record {
+      ranges = ranges;
+      indices = box (shape_spans frame);
+      form = record { base = array.base; shape = drop n array.shape };
+      shape = array.shape;
+    })
     else fault F8 site)
 
 -- the box from the lower to the upper bound is empty

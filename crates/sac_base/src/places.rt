@@ -35,7 +35,8 @@ fn capped_product(extents: &[i32]) -> u64
     all
 }
 
-/// The place at which the part of an array at an index vector begins, in row-major order. There is none exactly where the vector is longer than the shape or a component lies outside its extent.
+/// The place at which the part of an array at an index vector begins, in row-major order. There is none exactly where the vector is longer than the
+/// shape or a component lies outside its extent.
 pub fn offset(shape: &Shape, index: &[i32]) -> Option<u64>
     requires { size shape.now ≤ MOST }
     ensures { result ≡ place_of shape.now index.now }

@@ -31,7 +31,8 @@ pub struct Compiled {
 
 /// Compiles an accepted program.
 ///
-/// No loop in the code is marked. Where the program has the form that the grammar gives, the code is well counted and prompt, and on all arguments that are arrays and under all limits its outcome on the machine is that of the program, faults and their sites included.
+/// No loop in the code is marked. Where the program has the form that the grammar gives, the code is well counted and prompt, and on all arguments
+/// that are arrays and under all limits its outcome on the machine is that of the program, faults and their sites included.
 ///
 /// # Errors
 ///

@@ -14,7 +14,8 @@ use Rattle.sac_ast.specs.declared.Index.{Index}
 use Rattle.sac_ast.specs.declared.Target.{Target}
 use Rattle.sac_ast.specs.Texts.{Lexeme}
 use Rattle.sac_ast.specs.Shape.{ref, seq, many}
-use Rattle.sac_ast.specs.Grammar.{Nonterminal, Tree, Rule, V, operator, count_signs, Assigned, to_variable, sign, listed, opt, parens, items, maybe_items, maybe, concat, block_or_none}
+use Rattle.sac_ast.specs.Grammar.{Nonterminal, Tree, Rule, V, operator, count_signs, Assigned, to_variable, sign, listed, opt, parens, items}
+use Rattle.sac_ast.specs.Grammar.{maybe_items, maybe, concat, block_or_none}
 use Rattle.sac_ast.specs.Grammar.{body_or_none, is_there, target, rule, action, expression, primary, generator, operation, statement, else_branch}
 use Rattle.sac_ast.specs.Grammar.{block, assign, index}
 use Rattle.sac_ast.specs.Heights.{height, heights, gens_height, maybe_height, operation_height, stmt_height, block_height}

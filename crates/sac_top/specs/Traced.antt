@@ -42,7 +42,8 @@ IsRunStatus Faulted = ⊤
 IsRunStatus Limit = ⊤
 IsRunStatus _ = ⊥
 
--- Code for a program: it is well counted and prompt, no loop in it is marked, and on all arguments that are arrays and under all limits its outcome on the machine is that of the program.
+-- Code for a program: it is well counted and prompt, no loop in it is marked, and on all arguments that are arrays and under all limits its outcome
+-- on the machine is that of the program.
 pub record IsCodeFor (p : ProgramTree) (code : CodeProgram) : Type 0 where
   pub counted : IsWellCounted code
   pub prompt : IsPrompt code
@@ -57,7 +58,8 @@ HasCost t cost = (t.taken ≡ cost.taken) × (t.given ≡ cost.given) × (t.reus
 abbrev pub HasRisen : PhaseTotals → PhaseTotals → ℕ → Type 0
 HasRisen before after phases = (after.phases ≡ (before.phases + phases) % 2 ^ 64) × (after.draws ≡ before.draws)
 
--- The trace has code for the program, and what the run of that code on these arguments costs on the machine: after results all of it, after a fault the phases. By as many phases its tally has risen from what it was before. The heap's counters are the trace's.
+-- The trace has code for the program, and what the run of that code on these arguments costs on the machine: after results all of it, after a fault
+-- the phases. By as many phases its tally has risen from what it was before. The heap's counters are the trace's.
 pub record IsRunTraced (p : ProgramTree) (args : List ArrayValue) (caps : Caps) (before : PhaseTotals) (trace : Trace) (heap : HeapValue) : Type 0 where
   pub code : Code
   pub kept : trace.code ≡ Some code
@@ -70,14 +72,16 @@ pub record IsRunTraced (p : ProgramTree) (args : List ArrayValue) (caps : Caps) 
   pub counters : HasCounters trace heap
 
 -- the input gave arguments, what is written is the outcome on them, with the numbers of the trace, and the trace tells that run
-pub record IsGivenTraced (asked : Meant) (p : ProgramTree) (given : Result (List ArrayValue) Refusal) (end : Ending) (before : PhaseTotals) (trace : Trace) (heap : HeapValue) : Type 0 where
+pub record IsGivenTraced (asked : Meant) (p : ProgramTree) (given : Result (List ArrayValue) Refusal) (end : Ending)
+    (before : PhaseTotals) (trace : Trace) (heap : HeapValue) : Type 0 where
   pub args : List ArrayValue
   pub are : given ≡ Ok args
   pub ends : end ≡ ended asked (numbers_of trace) (outcome p args asked.caps)
   pub run : IsRunTraced p args asked.caps before trace heap
 
 -- the same for what stands under the input's name
-pub record IsProgramTraced (asked : Meant) (p : ProgramTree) (files : Option Contents) (end : Ending) (before : PhaseTotals) (trace : Trace) (heap : HeapValue) : Type 0 where
+pub record IsProgramTraced (asked : Meant) (p : ProgramTree) (files : Option Contents) (end : Ending)
+    (before : PhaseTotals) (trace : Trace) (heap : HeapValue) : Type 0 where
   pub input : Option (List ℕ)
   pub text : List ℕ
   pub found : (name : List ℕ) → asked.input ≡ file name → Finds files name input
@@ -93,7 +97,8 @@ pub record IsTraced (asked : Meant) (files : Option Contents) (end : Ending) (be
   pub run : IsProgramTraced asked program files end before trace heap
 
 -- the text of the run that the trace tells was written
-pub record EndsTraced (asked : Meant) (files : Option Contents) (old new : Option (List ℕ)) (status : Status) (before : PhaseTotals) (trace : Trace) (heap : HeapValue) : Type 0 where
+pub record EndsTraced (asked : Meant) (files : Option Contents) (old new : Option (List ℕ)) (status : Status)
+    (before : PhaseTotals) (trace : Trace) (heap : HeapValue) : Type 0 where
   pub text : List ℕ
   pub written : new ≡ with_more old text
   pub traced : IsTraced asked files (record { status = status; text = text }) before trace heap

@@ -45,7 +45,8 @@ fn answer_source<G: Gate, R: Threads + Sync, F: Files>(
     ensures answer { IfOk result (λ answer. (count : ℕ) × IsSourceAnswer (meant options.now) source.now (F.files files.old) (numbers_of trace.new)
         (Rose (F.faults files.old) (F.faults files.new)) count (ending answer) × Calls (F.calls files.old) (F.calls files.new) count) }
     ensures traced { options.now.mode ≡ Mode.Run → IfOk result (λ answer. IsRunStatus answer.status
-        → (p : ProgramTree) × IsProgramOf source.now p × IsProgramTraced (meant options.now) p (F.files files.old) (ending answer) trace.old.tally trace.new heap.new) }
+        → (p : ProgramTree) × IsProgramOf source.now p
+        × IsProgramTraced (meant options.now) p (F.files files.old) (ending answer) trace.old.tally trace.new heap.new) }
     ensures cleared { IsCleared heap.new }
     ensures never_falls { F.faults files.old ≤ F.faults files.new }
     ensures calls { OnErr result ((count : ℕ) × MayFetchMore (meant options.now) source.now count × Calls (F.calls files.old) (F.calls files.new) count) }

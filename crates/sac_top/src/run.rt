@@ -94,7 +94,8 @@ fn answer_run<G: Gate, R: Threads + Sync>(
     requires read { IsRead (tree checked.now) }
     requires arrays { AreArrays args.items }
     requires new { heap.old ≡ new_heap }
-    ensures answer { IfOk result (λ answer. ending answer ≡ ended (meant options.now) (numbers_of trace.new) (outcome (tree checked.now) args.items options.now.caps)) }
+    ensures answer { IfOk result (λ answer. ending answer
+        ≡ ended (meant options.now) (numbers_of trace.new) (outcome (tree checked.now) args.items options.now.caps)) }
     ensures traced { IfOk result (λ answer. IsRunTraced (tree checked.now) args.items options.now.caps trace.old.tally trace.new heap.new) }
     ensures cleared { IsCleared heap.new }
 {
@@ -120,7 +121,8 @@ fn answer_given<G: Gate, R: Threads + Sync>(
     ensures answer { (r : Result (List ArrayValue) Refusal) → Tells given r
         → IfOk result (λ answer. ending answer ≡ run_on (meant options.now) (tree checked.now) (numbers_of trace.new) r) }
     ensures traced { (r : Result (List ArrayValue) Refusal) → Tells given r
-        → IfOk result (λ answer. IsRunStatus answer.status → IsGivenTraced (meant options.now) (tree checked.now) r (ending answer) trace.old.tally trace.new heap.new) }
+        → IfOk result (λ answer. IsRunStatus answer.status
+        → IsGivenTraced (meant options.now) (tree checked.now) r (ending answer) trace.old.tally trace.new heap.new) }
     ensures cleared { IsCleared heap.new }
 {
     match given {
@@ -146,9 +148,11 @@ fn answer_text<G: Gate, R: Threads + Sync>(
     requires workers { HasWorkers options.now.workers }
     requires read { IsRead (tree checked.now) }
     requires new { heap.old ≡ new_heap }
-    ensures answer { IfOk result (λ answer. ending answer ≡ run_on (meant options.now) (tree checked.now) (numbers_of trace.new) (text_value text.now (main_bases (tree checked.now)))) }
+    ensures answer { IfOk result (λ answer. ending answer
+        ≡ run_on (meant options.now) (tree checked.now) (numbers_of trace.new) (text_value text.now (main_bases (tree checked.now)))) }
     ensures traced { IfOk result (λ answer. IsRunStatus answer.status
-        → IsGivenTraced (meant options.now) (tree checked.now) (text_value text.now (main_bases (tree checked.now))) (ending answer) trace.old.tally trace.new heap.new) }
+        → IsGivenTraced (meant options.now) (tree checked.now) (text_value text.now (main_bases (tree checked.now)))
+        (ending answer) trace.old.tally trace.new heap.new) }
     ensures cleared { IsCleared heap.new }
 {
     let given = read_arguments(alloc, checked.program(), text);
@@ -169,9 +173,11 @@ fn answer_generated<G: Gate, R: Threads + Sync>(
     requires sized { (1 ≤ n) × (n ≤ 4096) }
     requires read { IsRead (tree checked.now) }
     requires new { heap.old ≡ new_heap }
-    ensures answer { IfOk result (λ answer. ending answer ≡ run_on (meant options.now) (tree checked.now) (numbers_of trace.new) (generated_all (main_types (tree checked.now)) 0 n)) }
+    ensures answer { IfOk result (λ answer. ending answer
+        ≡ run_on (meant options.now) (tree checked.now) (numbers_of trace.new) (generated_all (main_types (tree checked.now)) 0 n)) }
     ensures traced { IfOk result (λ answer. IsRunStatus answer.status
-        → IsGivenTraced (meant options.now) (tree checked.now) (generated_all (main_types (tree checked.now)) 0 n) (ending answer) trace.old.tally trace.new heap.new) }
+        → IsGivenTraced (meant options.now) (tree checked.now) (generated_all (main_types (tree checked.now)) 0 n)
+        (ending answer) trace.old.tally trace.new heap.new) }
     ensures cleared { IsCleared heap.new }
 {
     let given = generate_arguments(alloc, checked.program(), n);

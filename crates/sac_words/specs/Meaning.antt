@@ -1,5 +1,6 @@
 -- What the words ask for.
-use Rattle.std.specs.Prelude.{ℕ, ◌≤◌, ⊤, Bool, ◌&&◌, false, nat_le, List, [], ◌∷◌, map, Option, Some, None, option_map, option_and_then, codes, bytes_eq, if◌then◌else◌}
+use Rattle.std.specs.Prelude.{ℕ, ◌≤◌, ⊤, Bool, ◌&&◌, false, nat_le, List, [], ◌∷◌, map, Option, Some, None, option_map, option_and_then, codes}
+use Rattle.std.specs.Prelude.{bytes_eq, if◌then◌else◌}
 use Rattle.std.specs.Borrow.{Bor}
 use Rattle.std.specs.Str.{all_ascii_digits}
 use Rattle.std.specs.Str.Parse.{digits_value}

@@ -13,7 +13,8 @@ pub struct Instance {
     pub params: Vec<ArrayType>,
 }
 
-/// The place of the least instance that fits arguments of these forms: its types contain the forms, and each is below or equal to that of every other instance that fits.
+/// The place of the least instance that fits arguments of these forms: its types contain the forms, and each is below or equal to that of every
+/// other instance that fits.
 ///
 /// Of instances any two of which may stand together there is none exactly where no instance fits.
 pub fn pick(instances: &[Instance], args: &[Form]) -> Option<usize>

@@ -9,7 +9,10 @@ ghost use Rattle.core_ir.specs.View.{block_term, gen_term, right_term};
 ghost use Rattle.core_lowering.specs.Lowering.{built_in as built_in_value};
 ghost use Rattle.core_lowering_steps.specs.Building.{block_giving, block_of, bound_at, first_var, given_bound, index_declared, start_at, use_at};
 ghost use Rattle.single_assign.specs.Looks.{look, texts};
-ghost use Rattle.single_assign.specs.Views.{built, made, made_list, made_option, made_scope, made_names, made_block, made_gen, made_gens, made_operation, make_in, make_all_in, make_maybe_in, make_bound_in, make_gen_in, make_gens_in, make_operation_in, make_stmt_in, make_block_in, make_inside_in, make_cell_in, make_default_in, make_starts_in, make_if_in, make_turn_in, make_while_in, make_do_in, made_given, name_base_in};
+ghost use Rattle.single_assign.specs.Views.{built, made, made_list, made_option, made_scope, made_names, made_block, made_gen, made_gens};
+ghost use Rattle.single_assign.specs.Views.{made_operation, make_in, make_all_in, make_maybe_in, make_bound_in, make_gen_in, make_gens_in};
+ghost use Rattle.single_assign.specs.Views.{make_operation_in, make_stmt_in, make_block_in, make_inside_in, make_cell_in, make_default_in};
+ghost use Rattle.single_assign.specs.Views.{make_starts_in, make_if_in, make_turn_in, make_while_in, make_do_in, made_given, name_base_in};
 
 use crate::builder::Builder;
 use crate::context::Context;
@@ -104,7 +107,8 @@ fn close_giving(
     scope: &Scope<'_>,
     out: &mut Builder,
 ) -> Result<Block, Memory>
-    ensures { IfOk result (λ b. made_block (built out.new) (block_term b) ≡ block_giving (texts names.now) (built out.old) (made_scope (built inner) (look scope.now))) }
+    ensures { IfOk result (λ b. made_block (built out.new) (block_term b)
+        ≡ block_giving (texts names.now) (built out.old) (made_scope (built inner) (look scope.now))) }
 {
     let results = scope.vars(cx.alloc, names)?;
     out.resume(&inner);
@@ -244,7 +248,8 @@ fn index_names(
     scope: &mut Scope<'_>,
     out: &mut Builder,
 ) -> Result<Vec<Var>, Memory>
-    ensures { IfOk result (λ v. made_names (built out.new) v.items (look scope.new) ≡ index_declared (index_view index.now) var (look scope.old) (built out.old)) }
+    ensures { IfOk result (λ v. made_names (built out.new) v.items (look scope.new)
+        ≡ index_declared (index_view index.now) var (look scope.old) (built out.old)) }
 {
     match index {
         Index::Named(target) => {
@@ -297,7 +302,8 @@ fn lower_cell(
     scope: &mut Scope<'_>,
     out: &mut Builder,
 ) -> Result<Block, Memory>
-    ensures { IfOk result (λ b. made_block (built out.new) (block_term b) ≡ make_cell_in cx.now (block g.now.body.items) (expr g.now.cell) (look scope.old) (built out.old)) }
+    ensures { IfOk result (λ b. made_block (built out.new) (block_term b)
+        ≡ make_cell_in cx.now (block g.now.body.items) (expr g.now.cell) (look scope.old) (built out.old)) }
 {
     let mut inner = out.nested(cx.alloc);
     lower_block(&g.body, cx, scope, &mut inner)?;
@@ -436,7 +442,8 @@ fn lower_assign(
     scope: &mut Scope<'_>,
     out: &mut Builder,
 ) -> Result<(), Memory>
-    ensures { OnOk result (made_scope (built out.new) (look scope.new) ≡ make_stmt_in cx.now (Tree.assign targets.now (expr value.now)) (look scope.old) (built out.old)) }
+    ensures { OnOk result (made_scope (built out.new) (look scope.new)
+        ≡ make_stmt_in cx.now (Tree.assign targets.now (expr value.now)) (look scope.old) (built out.old)) }
 {
     match value {
         Expression::Call(name, es, site) => {
@@ -491,7 +498,8 @@ fn lower_if<'n>(
     scope: &Scope<'_>,
     out: &mut Builder,
 ) -> Result<Given<'n>, Memory>
-    ensures { IfOk result (λ g. made_given (built out.new) g ≡ make_if_in cx.now (expr cond.now) (block yes.now) (block no.now) (look scope.now) (built out.old)) }
+    ensures { IfOk result (λ g. made_given (built out.new) g
+        ≡ make_if_in cx.now (expr cond.now) (block yes.now) (block no.now) (look scope.now) (built out.old)) }
 {
     let cond = lower(cond, cx, scope, out)?;
     let bound = once_bound_in_either(cx.alloc, yes, no)?;
@@ -519,7 +527,8 @@ fn lower_turn(
     scope: &Scope<'_>,
     out: &mut Builder,
 ) -> Result<Block, Memory>
-    ensures { IfOk result (λ b. made_block (built out.new) (block_term b) ≡ make_turn_in cx.now (texts names.now) (block ss.now) (look scope.now) (built out.old)) }
+    ensures { IfOk result (λ b. made_block (built out.new) (block_term b)
+        ≡ make_turn_in cx.now (texts names.now) (block ss.now) (look scope.now) (built out.old)) }
 {
     let mut inner = out.nested(cx.alloc);
     let mut inside = (&*scope).inside(cx.alloc);
@@ -536,7 +545,8 @@ fn lower_while<'n>(
     scope: &Scope<'_>,
     out: &mut Builder,
 ) -> Result<Given<'n>, Memory>
-    ensures { IfOk result (λ g. made_given (built out.new) g ≡ make_while_in cx.now (expr cond.now) (block body.now) test_site (look scope.now) (built out.old)) }
+    ensures { IfOk result (λ g. made_given (built out.new) g
+        ≡ make_while_in cx.now (expr cond.now) (block body.now) test_site (look scope.now) (built out.old)) }
 {
     let bound = once_bound(cx.alloc, body)?;
     let names = known(cx.alloc, &bound, scope)?;
@@ -599,7 +609,8 @@ fn lower_do<'n>(
     scope: &Scope<'_>,
     out: &mut Builder,
 ) -> Result<Given<'n>, Memory>
-    ensures { IfOk result (λ g. made_given (built out.new) g ≡ make_do_in cx.now (block body.now) (expr cond.now) site test_site (look scope.now) (built out.old)) }
+    ensures { IfOk result (λ g. made_given (built out.new) g
+        ≡ make_do_in cx.now (block body.now) (expr cond.now) site test_site (look scope.now) (built out.old)) }
 {
     let names = once_bound(cx.alloc, body)?;
     let start = starts(&names, site, cx, scope, out)?;

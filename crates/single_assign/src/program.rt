@@ -25,9 +25,11 @@ use sac_bases::known_in;
 use std::alloc::Global;
 use type_check::Checked;
 
-/// The core of an accepted program: each assignment makes new variables, each conditional gives the variables bound in it, and each loop carries those that it binds.
+/// The core of an accepted program: each assignment makes new variables, each conditional gives the variables bound in it, and each loop carries
+/// those that it binds.
 ///
-/// Of a program that has the form that the grammar gives, the core is well formed, and on all arguments and under all limits its outcome is that of the program, faults and their sites included.
+/// Of a program that has the form that the grammar gives, the core is well formed, and on all arguments and under all limits its outcome is that of
+/// the program, faults and their sites included.
 ///
 /// # Errors
 ///

@@ -5,7 +5,8 @@ ghost use Rattle.sac_ast.specs.declared.Param.{Param as ParamTree};
 ghost use Rattle.sac_ast.specs.View;
 ghost use Rattle.check_rules.specs.Accepted.{IsAccepted, values_fit as are_fit};
 ghost use Rattle.check_rules.specs.First.{earlier as earlier_of};
-ghost use Rattle.check_rules.specs.Programs.{in_functions as functions_first, in_program as program_first, main_counted, mains, inline_main, inline_mains, main_bases as main_bases_of, one_function, ended_first, is_main_named};
+ghost use Rattle.check_rules.specs.Programs.{in_functions as functions_first, in_program as program_first, main_counted, mains, inline_main};
+ghost use Rattle.check_rules.specs.Programs.{inline_mains, main_bases as main_bases_of, one_function, ended_first, is_main_named};
 ghost use Rattle.check_rules.specs.Walk.{in_function as function_first};
 ghost use Rattle.type_check.specs.Refusals.{IsRefusal};
 
@@ -91,7 +92,8 @@ fn function(
     alloc: Global,
 ) -> Result<Option<Violation>, Memory>
     requires { at ≤ length functions.now.all.now }
-    ensures { IfOk result (λ r. r ≡ one_function (View.functions functions.now.all.now) (View.functions (take at functions.now.all.now)) (View.function f.now)) }
+    ensures { IfOk result (λ r. r ≡ one_function (View.functions functions.now.all.now)
+        (View.functions (take at functions.now.all.now)) (View.function f.now)) }
 {
     let clash = unless(stands_beside(functions, f, at), CheckCode::C6, f.site);
     let inside = inside_function(functions, f, at, alloc)?;
@@ -104,7 +106,8 @@ fn inside_function<'a>(
     at: usize,
     alloc: Global,
 ) -> Result<Option<Violation>, Memory>
-    ensures { IfOk result (λ r. r ≡ function_first (View.functions functions.now.all.now) (View.functions (take at functions.now.all.now)) (View.function f.now)) }
+    ensures { IfOk result (λ r. r ≡ function_first (View.functions functions.now.all.now)
+        (View.functions (take at functions.now.all.now)) (View.function f.now)) }
 {
     let here = Place {
         functions,

@@ -7,7 +7,9 @@ ghost use Rattle.sac_ast.specs.Tree;
 ghost use Rattle.sac_ast.specs.View;
 ghost use Rattle.check_rules.specs.Places.{place};
 ghost use Rattle.check_rules.specs.Tables.{among, entered};
-ghost use Rattle.check_rules.specs.Walk.{in_value, in_values, in_maybe, in_bound, in_generators, in_operation, in_statement, in_block, in_limits, in_inside, in_branches, in_generator, bound_by_both, choice_first, choice_found, condition_first, replaced_first};
+ghost use Rattle.check_rules.specs.Walk.{in_value, in_values, in_maybe, in_bound, in_generators, in_operation, in_statement, in_block, in_limits};
+ghost use Rattle.check_rules.specs.Walk.{in_inside, in_branches, in_generator, bound_by_both, choice_first, choice_found, condition_first};
+ghost use Rattle.check_rules.specs.Walk.{replaced_first};
 
 use check_rules::bound::Bound;
 use check_rules::calls::{Place, call_results};
@@ -133,7 +135,8 @@ pub fn expressions<'a>(
     known: &mut Known<'a>,
 ) -> Result<JudgedAll, Memory>
     ensures first { IfOk result (λ r. r.first ≡ (in_values (place here.now) (View.exprs es.now) (among bound.old.trail.items) (entered known.old)).first) }
-    ensures bases { IfOk result (λ r. r.bases.items ≡ (in_values (place here.now) (View.exprs es.now) (among bound.old.trail.items) (entered known.old)).bases) }
+    ensures bases { IfOk result (λ r. r.bases.items
+        ≡ (in_values (place here.now) (View.exprs es.now) (among bound.old.trail.items) (entered known.old)).bases) }
     ensures known { OnOk result (entered known.new ≡ (in_values (place here.now) (View.exprs es.now) (among bound.old.trail.items) (entered known.old)).known) }
     ensures kept { OnOk result (bound.new.trail.items ≡ bound.old.trail.items) }
 {
@@ -158,7 +161,8 @@ fn optional<'a>(
 ) -> Result<Judged, Memory>
     ensures first { IfOk result (λ r. r.first ≡ (in_maybe (place here.now) (View.maybe e.now) other (among bound.old.trail.items) (entered known.old)).first) }
     ensures base { IfOk result (λ r. r.base ≡ (in_maybe (place here.now) (View.maybe e.now) other (among bound.old.trail.items) (entered known.old)).base) }
-    ensures known { OnOk result (entered known.new ≡ (in_maybe (place here.now) (View.maybe e.now) other (among bound.old.trail.items) (entered known.old)).known) }
+    ensures known { OnOk result (entered known.new
+        ≡ (in_maybe (place here.now) (View.maybe e.now) other (among bound.old.trail.items) (entered known.old)).known) }
     ensures kept { OnOk result (bound.new.trail.items ≡ bound.old.trail.items) }
 {
     match e {
@@ -178,7 +182,8 @@ fn limit<'a>(
 ) -> Result<Judged, Memory>
     ensures first { IfOk result (λ r. r.first ≡ (in_bound (place here.now) (View.bound b.now) folds (among bound.old.trail.items) (entered known.old)).first) }
     ensures base { IfOk result (λ r. r.base ≡ (in_bound (place here.now) (View.bound b.now) folds (among bound.old.trail.items) (entered known.old)).base) }
-    ensures known { OnOk result (entered known.new ≡ (in_bound (place here.now) (View.bound b.now) folds (among bound.old.trail.items) (entered known.old)).known) }
+    ensures known { OnOk result (entered known.new
+        ≡ (in_bound (place here.now) (View.bound b.now) folds (among bound.old.trail.items) (entered known.old)).known) }
     ensures kept { OnOk result (bound.new.trail.items ≡ bound.old.trail.items) }
 {
     match b {
@@ -260,9 +265,12 @@ fn generator<'a>(
     bound: &mut Bound<'a>,
     known: &mut Known<'a>,
 ) -> Result<JudgedCell, Memory>
-    ensures first { IfOk result (λ r. r.first ≡ (in_generator (place here.now) (View.generator g.now) folds (among bound.old.trail.items) (entered known.old)).first) }
-    ensures cell { IfOk result (λ r. (r.cell ∷ []) ≡ (in_generator (place here.now) (View.generator g.now) folds (among bound.old.trail.items) (entered known.old)).cells) }
-    ensures known { OnOk result (entered known.new ≡ (in_generator (place here.now) (View.generator g.now) folds (among bound.old.trail.items) (entered known.old)).known) }
+    ensures first { IfOk result (λ r. r.first
+        ≡ (in_generator (place here.now) (View.generator g.now) folds (among bound.old.trail.items) (entered known.old)).first) }
+    ensures cell { IfOk result (λ r. (r.cell ∷ [])
+        ≡ (in_generator (place here.now) (View.generator g.now) folds (among bound.old.trail.items) (entered known.old)).cells) }
+    ensures known { OnOk result (entered known.new
+        ≡ (in_generator (place here.now) (View.generator g.now) folds (among bound.old.trail.items) (entered known.old)).known) }
     ensures kept { OnOk result (bound.new.trail.items ≡ bound.old.trail.items) }
 {
     let outside = limits(g, folds, here, bound, known)?;
@@ -286,9 +294,12 @@ fn generators<'a>(
     bound: &mut Bound<'a>,
     known: &mut Known<'a>,
 ) -> Result<JudgedCells, Memory>
-    ensures first { IfOk result (λ r. r.first ≡ (in_generators (place here.now) (View.generators gs.now) folds (among bound.old.trail.items) (entered known.old)).first) }
-    ensures cells { IfOk result (λ r. r.cells.items ≡ (in_generators (place here.now) (View.generators gs.now) folds (among bound.old.trail.items) (entered known.old)).cells) }
-    ensures known { OnOk result (entered known.new ≡ (in_generators (place here.now) (View.generators gs.now) folds (among bound.old.trail.items) (entered known.old)).known) }
+    ensures first { IfOk result (λ r. r.first
+        ≡ (in_generators (place here.now) (View.generators gs.now) folds (among bound.old.trail.items) (entered known.old)).first) }
+    ensures cells { IfOk result (λ r. r.cells.items
+        ≡ (in_generators (place here.now) (View.generators gs.now) folds (among bound.old.trail.items) (entered known.old)).cells) }
+    ensures known { OnOk result (entered known.new
+        ≡ (in_generators (place here.now) (View.generators gs.now) folds (among bound.old.trail.items) (entered known.old)).known) }
     ensures kept { OnOk result (bound.new.trail.items ≡ bound.old.trail.items) }
 {
     let mut first = None;
@@ -310,9 +321,12 @@ fn operation<'a>(
     bound: &mut Bound<'a>,
     known: &mut Known<'a>,
 ) -> Result<Judged, Memory>
-    ensures first { IfOk result (λ r. r.first ≡ (in_operation (place here.now) (View.operation op.now) cell (among bound.old.trail.items) (entered known.old)).first) }
-    ensures base { IfOk result (λ r. r.base ≡ (in_operation (place here.now) (View.operation op.now) cell (among bound.old.trail.items) (entered known.old)).base) }
-    ensures known { OnOk result (entered known.new ≡ (in_operation (place here.now) (View.operation op.now) cell (among bound.old.trail.items) (entered known.old)).known) }
+    ensures first { IfOk result (λ r. r.first
+        ≡ (in_operation (place here.now) (View.operation op.now) cell (among bound.old.trail.items) (entered known.old)).first) }
+    ensures base { IfOk result (λ r. r.base
+        ≡ (in_operation (place here.now) (View.operation op.now) cell (among bound.old.trail.items) (entered known.old)).base) }
+    ensures known { OnOk result (entered known.new
+        ≡ (in_operation (place here.now) (View.operation op.now) cell (among bound.old.trail.items) (entered known.old)).known) }
     ensures kept { OnOk result (bound.new.trail.items ≡ bound.old.trail.items) }
 {
     match op {
@@ -349,7 +363,8 @@ fn statement<'a>(
     known: &mut Known<'a>,
 ) -> Result<Option<Violation>, Memory>
     ensures first { IfOk result (λ r. r ≡ (in_statement (place here.now) (View.stmt s.now) (among bound.old.trail.items) (entered known.old)).first) }
-    ensures known { OnOk result (entered known.new ≡ (in_statement (place here.now) (View.stmt s.now) (among bound.old.trail.items) (entered known.old)).known) }
+    ensures known { OnOk result (entered known.new
+        ≡ (in_statement (place here.now) (View.stmt s.now) (among bound.old.trail.items) (entered known.old)).known) }
     ensures names { OnOk result (among bound.new.trail.items ≡ bound_after (View.stmt s.now) (among bound.old.trail.items)) }
     ensures kept { OnOk result (take (length bound.old.trail.items) bound.new.trail.items ≡ bound.old.trail.items) }
 {
@@ -433,8 +448,10 @@ fn assign<'a>(
     bound: &mut Bound<'a>,
     known: &mut Known<'a>,
 ) -> Result<Option<Violation>, Memory>
-    ensures first { IfOk result (λ r. r ≡ (in_statement (place here.now) (Tree.assign targets.now (View.expr e.now)) (among bound.old.trail.items) (entered known.old)).first) }
-    ensures known { OnOk result (entered known.new ≡ (in_statement (place here.now) (Tree.assign targets.now (View.expr e.now)) (among bound.old.trail.items) (entered known.old)).known) }
+    ensures first { IfOk result (λ r. r
+        ≡ (in_statement (place here.now) (Tree.assign targets.now (View.expr e.now)) (among bound.old.trail.items) (entered known.old)).first) }
+    ensures known { OnOk result (entered known.new
+        ≡ (in_statement (place here.now) (Tree.assign targets.now (View.expr e.now)) (among bound.old.trail.items) (entered known.old)).known) }
     ensures names { OnOk result (among bound.new.trail.items ≡ bound_after (Tree.assign targets.now (View.expr e.now)) (among bound.old.trail.items)) }
     ensures kept { OnOk result (take (length bound.old.trail.items) bound.new.trail.items ≡ bound.old.trail.items) }
 {
@@ -467,8 +484,10 @@ fn branches<'a>(
     bound: &mut Bound<'a>,
     known: &mut Known<'a>,
 ) -> Result<Option<Violation>, Memory>
-    ensures first { IfOk result (λ r. r ≡ (in_branches (place here.now) (View.block yes.now) (View.block no.now) (among bound.old.trail.items) (entered known.old)).first) }
-    ensures known { OnOk result (entered known.new ≡ (in_branches (place here.now) (View.block yes.now) (View.block no.now) (among bound.old.trail.items) (entered known.old)).known) }
+    ensures first { IfOk result (λ r. r
+        ≡ (in_branches (place here.now) (View.block yes.now) (View.block no.now) (among bound.old.trail.items) (entered known.old)).first) }
+    ensures known { OnOk result (entered known.new
+        ≡ (in_branches (place here.now) (View.block yes.now) (View.block no.now) (among bound.old.trail.items) (entered known.old)).known) }
     ensures names { OnOk result (among bound.new.trail.items ≡ bound_by_both (View.block yes.now) (View.block no.now) (among bound.old.trail.items)) }
     ensures kept { OnOk result (take (length bound.old.trail.items) bound.new.trail.items ≡ bound.old.trail.items) }
 {

@@ -63,7 +63,8 @@ module _ (fs : List FunctionTree) where
   call_by outer inner name args site = call_chosen outer inner (chosen fs name args) args site
 
   module _ (turns : ℕ) (base_of : FunctionTree → Expr → Option Base) where
-    -- An inline function runs at its caller's depth. It calls only inline functions that stand before it, so calls of inline functions nest at most as deep as there are functions: `nest` bounds them.
+    -- An inline function runs at its caller's depth. It calls only inline functions that stand before it, so calls of inline functions nest at most
+    -- as deep as there are functions: `nest` bounds them.
     abbrev pub run_inline : RunMeaning → ℕ → RunMeaning
     run_inline outer zero place args site = fault F10 site
     run_inline outer (suc nest) place args site =

@@ -13,7 +13,10 @@ use Rattle.sac_base.specs.Parts
 use Rattle.sac_ast.specs.declared.Target.{Target}
 use Rattle.sac_ast.specs.declared.Builtin.{Builtin}
 use Rattle.sac_ast.specs.declared.Builtin.TheVariants.{Dim, Shape, Reshape}
-use Rattle.sac_ast.specs.Tree.{IndexTree, named, parts, Expr, Exprs, no_exprs, expr_and, MaybeExpr, left_out, given, Stmt, Block, no_stmts, stmt_and, BoundTree, dot, at, Gen, gen, Gens, no_gens, gen_and, OperationTree, number, truth, variable, unary as unary_expr, binary as binary_expr, choice, call as call_expr, builtin, with_loop, assign, if_else, while_do, do_while, genarray, modarray}
+use Rattle.sac_ast.specs.Tree.{IndexTree, named, parts, Expr, Exprs, no_exprs, expr_and, MaybeExpr, left_out, given, Stmt, Block, no_stmts, stmt_and}
+use Rattle.sac_ast.specs.Tree.{BoundTree, dot, at, Gen, gen, Gens, no_gens, gen_and, OperationTree, number, truth, variable, unary as unary_expr}
+use Rattle.sac_ast.specs.Tree.{binary as binary_expr, choice, call as call_expr, builtin, with_loop, assign, if_else, while_do, do_while, genarray}
+use Rattle.sac_ast.specs.Tree.{modarray}
 use Rattle.sac_ast.specs.Tree
 use Rattle.sac_base.specs.Outcomes.{Ends, and_then, fault, at_site, Env, with_variable, with_variables, or_zero, first_result, choose}
 use Rattle.sac_base.specs.WithLoops.{Generator, Operation, with_value}

@@ -5,7 +5,8 @@ use Rattle.sac_base.specs.Verdict.{present, combined}
 use Rattle.wl_core.specs.declared.limits.TheConstants.{MOST_HOLDS}
 use Rattle.wl_core.specs.declared.setup.Job.{Job}
 use Rattle.wl_core.specs.declared.setup.Job.TheVariants.{Write as Store, Fold}
-use Rattle.wl_core.specs.Machine.{CellValue, SetupValue, StateValue, VerdictValue, Faulted, combine, Works, first, end, chunks, sum_below, holds_of, listed, whole, sequential}
+use Rattle.wl_core.specs.Machine.{CellValue, SetupValue, StateValue, VerdictValue, Faulted, combine, Works, first, end, chunks, sum_below, holds_of}
+use Rattle.wl_core.specs.Machine.{listed, whole, sequential}
 
 -- the elements of a cell's value, where it has one
 abbrev pub value_of : Option CellValue → Option (List ℤ)

@@ -1,5 +1,6 @@
 -- A phase: a with-loop's positions are cut into chunks, a chunk is taken by one worker, and a worker writes the cells of its chunk in order.
-use Rattle.std.specs.Prelude.{◌≡◌, ℕ, zero, suc, ◌+◌, ◌*◌, ◌<◌, ◌≤◌, ◌/◌, ◌-◌, ◌⊎◌, min, Bool, true, false, cond, ◌==◌, ℤ, IsTrue, List, [], ◌∷◌, ◌++◌, length, slice_index, slice_get, Option, Some, None, Ok, Err}
+use Rattle.std.specs.Prelude.{◌≡◌, ℕ, zero, suc, ◌+◌, ◌*◌, ◌<◌, ◌≤◌, ◌/◌, ◌-◌, ◌⊎◌, min, Bool, true, false, cond, ◌==◌, ℤ, IsTrue, List, [], ◌∷◌}
+use Rattle.std.specs.Prelude.{◌++◌, length, slice_index, slice_get, Option, Some, None, Ok, Err}
 use Rattle.sac_base.specs.declared.faults.Fault.{Fault}
 use Rattle.sac_base.specs.declared.op.Op.{Op}
 use Rattle.sac_base.specs.Arrays.{IsCell, MOST}

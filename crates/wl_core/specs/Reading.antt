@@ -1,5 +1,6 @@
 -- A setup, a state and a verdict in memory as the values that they stand for.
-use Rattle.std.specs.Prelude.{◌≡◌, ℕ, ◌/◌, ◌<◌, false, cond, ◌&&◌, nat_lt, ℤ, List, [], ◌∷◌, length, map, slice_get, slice_index, slice_index_or, Option, Some, None, MatchOption, Result, Ok, Err}
+use Rattle.std.specs.Prelude.{◌≡◌, ℕ, ◌/◌, ◌<◌, false, cond, ◌&&◌, nat_lt, ℤ, List, [], ◌∷◌, length, map, slice_get, slice_index, slice_index_or}
+use Rattle.std.specs.Prelude.{Option, Some, None, MatchOption, Result, Ok, Err}
 use Rattle.sac_base.specs.declared.faults.Fault.{Fault}
 use Rattle.wl_core.specs.declared.setup.CellResult.{CellResult}
 use Rattle.wl_core.specs.declared.setup.CellResult.TheVariants.{Value, Faults, NotHeld}
@@ -12,7 +13,8 @@ use Rattle.wl_core.specs.declared.events.Refused.{Refused}
 use Rattle.wl_core.specs.declared.ending.Verdict.{Verdict}
 use Rattle.wl_core.specs.declared.ending.Verdict.TheVariants.{Cells as CellsOf, Partial as PartialOf, Faulted as FaultedAt}
 use Rattle.wl_core.specs.Facts.{NoneStopped, StopsFirst}
-use Rattle.wl_core.specs.Machine.{CellValue, OneLength, SetupValue, StateValue, VerdictValue, Cells, Partial, Faulted, IsSetup, Works, Steps, Refuses, Reached, chunks, holds_of}
+use Rattle.wl_core.specs.Machine.{CellValue, OneLength, SetupValue, StateValue, VerdictValue, Cells, Partial, Faulted, IsSetup, Works, Steps, Refuses}
+use Rattle.wl_core.specs.Machine.{Reached, chunks, holds_of}
 use Rattle.wl_core.specs.Rows.{row_of, times_of, partial_of, items_of, PutsRow, AddsValue}
 
 abbrev pub cell_of : CellResult → CellValue
