@@ -5,10 +5,11 @@ ghost use Rattle.sac_ast.specs.Bases;
 ghost use Rattle.sac_ast.specs.View;
 ghost use Rattle.sac_bases.specs.Generators;
 
-use crate::call::call_instance;
+use crate::names::BoundNames;
+use check_rules::functions::Functions;
 use sac_ast::{
-    Bound, Expression, Function, Generator, Known, Operation, base_of_name, builtin_base,
-    choice_base, literal_base, may_be, may_match, operand_base, operands_fit, where_holds,
+    Bound, Expression, Generator, Operation, builtin_base, choice_base, literal_base, may_be,
+    may_match, operand_base, operands_fit, where_holds,
 };
 use sac_base::{Base, Memory, Name, result_base};
 use std::alloc::Global;
@@ -18,15 +19,15 @@ use std::alloc::Global;
 pub fn base_of(
     e: &Expression,
     alloc: Global,
-    functions: &[Function],
-    known: &[Known],
+    functions: &Functions<'_>,
+    known: &BoundNames<'_>,
 ) -> Result<Option<Base>, Memory>
-    ensures { IfOk result (λ b. b ≡ Bases.base (Bases.call_bases_in (View.functions functions.now)) known.now (View.expr e.now)) }
+    ensures { IfOk result (λ b. b ≡ Bases.base (Bases.call_bases_in (View.functions functions.now.all.now)) known.now.all.items (View.expr e.now)) }
 {
     match e {
         Expression::Number(_, _) => Ok(Some(Base::Int)),
         Expression::Truth(_, _) => Ok(Some(Base::Bool)),
-        Expression::Variable(name, _) => Ok(base_of_name(known, name)),
+        Expression::Variable(name, _) => Ok(variable_base(known, name)),
         Expression::Literal(es, _) => {
             let bases = bases_of(es, alloc, functions, known)?;
             Ok(literal_base(&bases))
@@ -68,11 +69,18 @@ pub fn base_of(
     }
 }
 
-// The base of a call that stands as a value: it has one result.
-fn call_base(functions: &[Function], name: &Name, bases: &[Option<Base>]) -> Option<Base>
-    ensures { result ≡ Bases.value_base (Bases.call_bases_in (View.functions functions.now) name.now bases.now) }
+// The base of a variable.
+fn variable_base(known: &BoundNames<'_>, name: &Name) -> Option<Base>
+    ensures { result ≡ Bases.base_of_name known.now.all.items name.now }
 {
-    match call_instance(functions, name, bases) {
+    known.base_of(name.as_str())
+}
+
+// The base of a call that stands as a value: it has one result.
+fn call_base(functions: &Functions<'_>, name: &Name, bases: &[Option<Base>]) -> Option<Base>
+    ensures { result ≡ Bases.value_base (Bases.call_bases_in (View.functions functions.now.all.now) name.now bases.now) }
+{
+    match functions.instance(name, bases) {
         None => None,
         Some(f) => {
             if f.results.len() == 1 {
@@ -89,10 +97,10 @@ fn call_base(functions: &[Function], name: &Name, bases: &[Option<Base>]) -> Opt
 pub fn bases_of(
     es: &[Expression],
     alloc: Global,
-    functions: &[Function],
-    known: &[Known],
+    functions: &Functions<'_>,
+    known: &BoundNames<'_>,
 ) -> Result<Vec<Option<Base>>, Memory>
-    ensures { IfOk result (λ bs. bs.items ≡ Bases.bases (Bases.call_bases_in (View.functions functions.now)) known.now (View.exprs es.now)) }
+    ensures { IfOk result (λ bs. bs.items ≡ Bases.bases (Bases.call_bases_in (View.functions functions.now.all.now)) known.now.all.items (View.exprs es.now)) }
 {
     let mut bases = Vec::new(alloc);
     for e in es {
@@ -108,10 +116,10 @@ fn maybe_base(
     e: &Option<Expression>,
     other: Option<Base>,
     alloc: Global,
-    functions: &[Function],
-    known: &[Known],
+    functions: &Functions<'_>,
+    known: &BoundNames<'_>,
 ) -> Result<Option<Base>, Memory>
-    ensures { IfOk result (λ b. b ≡ Bases.maybe_base (Bases.call_bases_in (View.functions functions.now)) known.now (View.maybe e.now) other) }
+    ensures { IfOk result (λ b. b ≡ Bases.maybe_base (Bases.call_bases_in (View.functions functions.now.all.now)) known.now.all.items (View.maybe e.now) other) }
 {
     match e {
         None => Ok(other),
@@ -123,10 +131,10 @@ fn maybe_base(
 fn bound_base(
     b: &Bound,
     alloc: Global,
-    functions: &[Function],
-    known: &[Known],
+    functions: &Functions<'_>,
+    known: &BoundNames<'_>,
 ) -> Result<Option<Base>, Memory>
-    ensures { IfOk result (λ base. base ≡ Bases.bound_base (Bases.call_bases_in (View.functions functions.now)) known.now (View.bound b.now)) }
+    ensures { IfOk result (λ base. base ≡ Bases.bound_base (Bases.call_bases_in (View.functions functions.now.all.now)) known.now.all.items (View.bound b.now)) }
 {
     match b {
         Bound::Dot(_) => Ok(Some(Base::Int)),
@@ -140,10 +148,10 @@ fn operation_base(
     op: &Operation,
     cell: Option<Base>,
     alloc: Global,
-    functions: &[Function],
-    known: &[Known],
+    functions: &Functions<'_>,
+    known: &BoundNames<'_>,
 ) -> Result<Option<Base>, Memory>
-    ensures { IfOk result (λ b. b ≡ Bases.operation_base (Bases.call_bases_in (View.functions functions.now)) known.now (View.operation op.now) cell) }
+    ensures { IfOk result (λ b. b ≡ Bases.operation_base (Bases.call_bases_in (View.functions functions.now.all.now)) known.now.all.items (View.operation op.now) cell) }
 {
     match op {
         Operation::Genarray { shape, default, .. } => {
@@ -171,11 +179,11 @@ pub struct Given {
 fn all_given(
     gs: &[Generator],
     alloc: Global,
-    functions: &[Function],
-    known: &[Known],
+    functions: &Functions<'_>,
+    known: &BoundNames<'_>,
 ) -> Result<Vec<Given>, Memory>
     ensures { IfOk result (λ given. given.items
-        ≡ Generators.all_given (Bases.call_bases_in (View.functions functions.now)) known.now (View.generators gs.now)) }
+        ≡ Generators.all_given (Bases.call_bases_in (View.functions functions.now.all.now)) known.now.all.items (View.generators gs.now)) }
 {
     let mut given = Vec::new(alloc);
     for g in gs {
@@ -189,10 +197,10 @@ fn all_given(
 fn one_given(
     g: &Generator,
     alloc: Global,
-    functions: &[Function],
-    known: &[Known],
+    functions: &Functions<'_>,
+    known: &BoundNames<'_>,
 ) -> Result<Given, Memory>
-    ensures { IfOk result (λ given. given ≡ Generators.one_given (Bases.call_bases_in (View.functions functions.now)) known.now (View.generator g.now)) }
+    ensures { IfOk result (λ given. given ≡ Generators.one_given (Bases.call_bases_in (View.functions functions.now.all.now)) known.now.all.items (View.generator g.now)) }
 {
     let int = Some(Base::Int);
     let lower = bound_base(&g.lower, alloc, functions, known)?;

@@ -9,20 +9,11 @@ ghost use Rattle.sac_ast.specs.Bases;
 ghost use Rattle.sac_ast.specs.View;
 
 use crate::base::{base_of, bases_of};
-use crate::call::call_instance;
-use sac_ast::{
-    Bound, Expression, Function, Generator, Index, Known, Operation, Param, Statement, Target,
-};
-use sac_base::{ArrayType, Base, Memory, Name, copy_name};
+use crate::names::BoundNames;
+use check_rules::functions::Functions;
+use sac_ast::{Bound, Expression, Function, Generator, Index, Operation, Param, Statement, Target};
+use sac_base::{ArrayType, Base, Memory, Name};
 use std::alloc::Global;
-
-fn bind(known: &mut Vec<Known>, name: &Name, base: Option<Base>) -> Result<(), Memory>
-    ensures { OnOk result (known.new.items ≡ known.old.items ++ record { name = name.now; base = base } ∷ []) }
-{
-    let name = copy_name(name)?;
-    known.push(Known { name, base })?;
-    Ok(())
-}
 
 // The base at a place, where it is there.
 fn base_at(bases: &[Option<Base>], place: usize) -> Option<Base>
@@ -35,32 +26,32 @@ fn base_at(bases: &[Option<Base>], place: usize) -> Option<Base>
 }
 
 // Binds targets to values of these bases; those beyond them have none.
-fn bind_targets(
-    known: &mut Vec<Known>,
-    targets: &[Target],
+fn bind_targets<'a>(
+    known: &mut BoundNames<'a>,
+    targets: &'a [Target],
     bases: &[Option<Base>],
 ) -> Result<(), Memory>
-    ensures { OnOk result (known.new.items ≡ Bases.with_bases targets.now bases.now known.old.items) }
+    ensures { OnOk result (known.new.all.items ≡ Bases.with_bases targets.now bases.now known.old.all.items) }
 {
     for k in 0..targets.len() {
-        bind(known, &targets[k].name, base_at(bases, k))?;
+        known.bind(&targets[k].name, base_at(bases, k))?;
     }
     Ok(())
 }
 
 // Binds targets to the results of a call with arguments of these bases.
-fn bind_results(
-    known: &mut Vec<Known>,
-    targets: &[Target],
+fn bind_results<'a>(
+    known: &mut BoundNames<'a>,
+    targets: &'a [Target],
     alloc: Global,
-    functions: &[Function],
+    functions: &Functions<'_>,
     name: &Name,
     bases: &[Option<Base>],
 ) -> Result<(), Memory>
-    ensures { OnOk result (known.new.items
-        ≡ Bases.with_bases targets.now (Bases.known_bases (Bases.call_bases_in (View.functions functions.now) name.now bases.now)) known.old.items) }
+    ensures { OnOk result (known.new.all.items
+        ≡ Bases.with_bases targets.now (Bases.known_bases (Bases.call_bases_in (View.functions functions.now.all.now) name.now bases.now)) known.old.all.items) }
 {
-    let results = result_bases(alloc, call_instance(functions, name, bases))?;
+    let results = result_bases(alloc, functions.instance(name, bases))?;
     bind_targets(known, targets, &results)
 }
 
@@ -84,42 +75,42 @@ fn bases_of_types(alloc: Global, types: &[ArrayType]) -> Result<Vec<Option<Base>
     Ok(bases)
 }
 
-fn bind_params(known: &mut Vec<Known>, params: &[Param]) -> Result<(), Memory>
-    ensures { OnOk result (known.new.items ≡ known.old.items ++ Bases.bound_params params.now) }
+fn bind_params<'a>(known: &mut BoundNames<'a>, params: &'a [Param]) -> Result<(), Memory>
+    ensures { OnOk result (known.new.all.items ≡ known.old.all.items ++ Bases.bound_params params.now) }
 {
     for param in params {
-        bind(known, &param.name, Some(param.ty.base))?;
+        known.bind(&param.name, Some(param.ty.base))?;
     }
     Ok(())
 }
 
-fn bind_index(known: &mut Vec<Known>, index: &Index) -> Result<(), Memory>
-    ensures { OnOk result (known.new.items ≡ known.old.items ++ Bases.index_bases (View.index_view index.now)) }
+fn bind_index<'a>(known: &mut BoundNames<'a>, index: &'a Index) -> Result<(), Memory>
+    ensures { OnOk result (known.new.all.items ≡ known.old.all.items ++ Bases.index_bases (View.index_view index.now)) }
 {
     match index {
-        Index::Named(target) => bind(known, &target.name, Some(Base::Int)),
+        Index::Named(target) => known.bind(&target.name, Some(Base::Int)),
         Index::Parts(targets) => bind_parts(known, targets),
     }
 }
 
-fn bind_parts(known: &mut Vec<Known>, targets: &[Target]) -> Result<(), Memory>
-    ensures { OnOk result (known.new.items ≡ known.old.items ++ map (λ (t : TargetValue). record { name = t.name; base = Some Base.Int }) targets.now) }
+fn bind_parts<'a>(known: &mut BoundNames<'a>, targets: &'a [Target]) -> Result<(), Memory>
+    ensures { OnOk result (known.new.all.items ≡ known.old.all.items ++ map (λ (t : TargetValue). record { name = t.name; base = Some Base.Int }) targets.now) }
 {
     for target in targets {
-        bind(known, &target.name, Some(Base::Int))?;
+        known.bind(&target.name, Some(Base::Int))?;
     }
     Ok(())
 }
 
 // Adds the bindings of an expression.
 #[cycle(bindings)]
-fn in_expr(
-    e: &Expression,
+fn in_expr<'a>(
+    e: &'a Expression,
     alloc: Global,
-    functions: &[Function],
-    known: &mut Vec<Known>,
+    functions: &Functions<'_>,
+    known: &mut BoundNames<'a>,
 ) -> Result<(), Memory>
-    ensures { OnOk result (known.new.items ≡ Bases.in_expr (Bases.call_bases_in (View.functions functions.now)) (View.expr e.now) known.old.items) }
+    ensures { OnOk result (known.new.all.items ≡ Bases.in_expr (Bases.call_bases_in (View.functions functions.now.all.now)) (View.expr e.now) known.old.all.items) }
 {
     match e {
         Expression::Number(_, _) | Expression::Truth(_, _) | Expression::Variable(_, _) => Ok(()),
@@ -144,13 +135,13 @@ fn in_expr(
 }
 
 #[cycle(bindings)]
-fn in_exprs(
-    es: &[Expression],
+fn in_exprs<'a>(
+    es: &'a [Expression],
     alloc: Global,
-    functions: &[Function],
-    known: &mut Vec<Known>,
+    functions: &Functions<'_>,
+    known: &mut BoundNames<'a>,
 ) -> Result<(), Memory>
-    ensures { OnOk result (known.new.items ≡ Bases.in_exprs (Bases.call_bases_in (View.functions functions.now)) (View.exprs es.now) known.old.items) }
+    ensures { OnOk result (known.new.all.items ≡ Bases.in_exprs (Bases.call_bases_in (View.functions functions.now.all.now)) (View.exprs es.now) known.old.all.items) }
 {
     for e in es {
         in_expr(e, alloc, functions, known)?;
@@ -159,13 +150,13 @@ fn in_exprs(
 }
 
 #[cycle(bindings)]
-fn in_maybe(
-    e: &Option<Expression>,
+fn in_maybe<'a>(
+    e: &'a Option<Expression>,
     alloc: Global,
-    functions: &[Function],
-    known: &mut Vec<Known>,
+    functions: &Functions<'_>,
+    known: &mut BoundNames<'a>,
 ) -> Result<(), Memory>
-    ensures { OnOk result (known.new.items ≡ Bases.in_maybe (Bases.call_bases_in (View.functions functions.now)) (View.maybe e.now) known.old.items) }
+    ensures { OnOk result (known.new.all.items ≡ Bases.in_maybe (Bases.call_bases_in (View.functions functions.now.all.now)) (View.maybe e.now) known.old.all.items) }
 {
     match e {
         None => Ok(()),
@@ -174,13 +165,13 @@ fn in_maybe(
 }
 
 #[cycle(bindings)]
-fn in_bound(
-    b: &Bound,
+fn in_bound<'a>(
+    b: &'a Bound,
     alloc: Global,
-    functions: &[Function],
-    known: &mut Vec<Known>,
+    functions: &Functions<'_>,
+    known: &mut BoundNames<'a>,
 ) -> Result<(), Memory>
-    ensures { OnOk result (known.new.items ≡ Bases.in_bound (Bases.call_bases_in (View.functions functions.now)) (View.bound b.now) known.old.items) }
+    ensures { OnOk result (known.new.all.items ≡ Bases.in_bound (Bases.call_bases_in (View.functions functions.now.all.now)) (View.bound b.now) known.old.all.items) }
 {
     match b {
         Bound::Dot(_) => Ok(()),
@@ -189,13 +180,13 @@ fn in_bound(
 }
 
 #[cycle(bindings)]
-fn in_generator(
-    g: &Generator,
+fn in_generator<'a>(
+    g: &'a Generator,
     alloc: Global,
-    functions: &[Function],
-    known: &mut Vec<Known>,
+    functions: &Functions<'_>,
+    known: &mut BoundNames<'a>,
 ) -> Result<(), Memory>
-    ensures { OnOk result (known.new.items ≡ Bases.in_gen (Bases.call_bases_in (View.functions functions.now)) (View.generator g.now) known.old.items) }
+    ensures { OnOk result (known.new.all.items ≡ Bases.in_gen (Bases.call_bases_in (View.functions functions.now.all.now)) (View.generator g.now) known.old.all.items) }
 {
     in_bounds(g, alloc, functions, known)?;
     in_cell(g, alloc, functions, known)
@@ -203,15 +194,15 @@ fn in_generator(
 
 // Adds the bindings of a generator's block and cell.
 #[cycle(bindings)]
-fn in_cell(
-    g: &Generator,
+fn in_cell<'a>(
+    g: &'a Generator,
     alloc: Global,
-    functions: &[Function],
-    known: &mut Vec<Known>,
+    functions: &Functions<'_>,
+    known: &mut BoundNames<'a>,
 ) -> Result<(), Memory>
-    ensures { OnOk result (known.new.items
-        ≡ Bases.in_expr (Bases.call_bases_in (View.functions functions.now)) (View.expr g.now.cell)
-        (Bases.in_block (Bases.call_bases_in (View.functions functions.now)) (View.block g.now.body.items) known.old.items)) }
+    ensures { OnOk result (known.new.all.items
+        ≡ Bases.in_expr (Bases.call_bases_in (View.functions functions.now.all.now)) (View.expr g.now.cell)
+        (Bases.in_block (Bases.call_bases_in (View.functions functions.now.all.now)) (View.block g.now.body.items) known.old.all.items)) }
 {
     in_block(&g.body, alloc, functions, known)?;
     in_expr(&g.cell, alloc, functions, known)
@@ -219,13 +210,13 @@ fn in_cell(
 
 // Adds the bindings of a generator's bounds, index, step and width.
 #[cycle(bindings)]
-fn in_bounds(
-    g: &Generator,
+fn in_bounds<'a>(
+    g: &'a Generator,
     alloc: Global,
-    functions: &[Function],
-    known: &mut Vec<Known>,
+    functions: &Functions<'_>,
+    known: &mut BoundNames<'a>,
 ) -> Result<(), Memory>
-    ensures { OnOk result (known.new.items ≡ in_bounds_of (View.functions functions.now) g.now known.old.items) }
+    ensures { OnOk result (known.new.all.items ≡ in_bounds_of (View.functions functions.now.all.now) g.now known.old.all.items) }
 {
     in_bound(&g.lower, alloc, functions, known)?;
     bind_index(known, &g.index)?;
@@ -236,13 +227,13 @@ fn in_bounds(
 }
 
 #[cycle(bindings)]
-fn in_generators(
-    gs: &[Generator],
+fn in_generators<'a>(
+    gs: &'a [Generator],
     alloc: Global,
-    functions: &[Function],
-    known: &mut Vec<Known>,
+    functions: &Functions<'_>,
+    known: &mut BoundNames<'a>,
 ) -> Result<(), Memory>
-    ensures { OnOk result (known.new.items ≡ Bases.in_gens (Bases.call_bases_in (View.functions functions.now)) (View.generators gs.now) known.old.items) }
+    ensures { OnOk result (known.new.all.items ≡ Bases.in_gens (Bases.call_bases_in (View.functions functions.now.all.now)) (View.generators gs.now) known.old.all.items) }
 {
     for g in gs {
         in_generator(g, alloc, functions, known)?;
@@ -251,13 +242,13 @@ fn in_generators(
 }
 
 #[cycle(bindings)]
-fn in_operation(
-    op: &Operation,
+fn in_operation<'a>(
+    op: &'a Operation,
     alloc: Global,
-    functions: &[Function],
-    known: &mut Vec<Known>,
+    functions: &Functions<'_>,
+    known: &mut BoundNames<'a>,
 ) -> Result<(), Memory>
-    ensures { OnOk result (known.new.items ≡ Bases.in_operation (Bases.call_bases_in (View.functions functions.now)) (View.operation op.now) known.old.items) }
+    ensures { OnOk result (known.new.all.items ≡ Bases.in_operation (Bases.call_bases_in (View.functions functions.now.all.now)) (View.operation op.now) known.old.all.items) }
 {
     match op {
         Operation::Genarray { shape, default, .. } => {
@@ -270,13 +261,13 @@ fn in_operation(
 }
 
 #[cycle(bindings)]
-fn in_stmt(
-    s: &Statement,
+fn in_stmt<'a>(
+    s: &'a Statement,
     alloc: Global,
-    functions: &[Function],
-    known: &mut Vec<Known>,
+    functions: &Functions<'_>,
+    known: &mut BoundNames<'a>,
 ) -> Result<(), Memory>
-    ensures { OnOk result (known.new.items ≡ Bases.in_stmt (Bases.call_bases_in (View.functions functions.now)) (View.stmt s.now) known.old.items) }
+    ensures { OnOk result (known.new.all.items ≡ Bases.in_stmt (Bases.call_bases_in (View.functions functions.now.all.now)) (View.stmt s.now) known.old.all.items) }
 {
     match s {
         Statement::Assign { targets, value } => in_assign(value, targets, alloc, functions, known),
@@ -289,7 +280,7 @@ fn in_stmt(
         } => {
             in_expr(index, alloc, functions, known)?;
             in_expr(value, alloc, functions, known)?;
-            bind(known, &target.name, None)
+            known.bind(&target.name, None)
         }
         Statement::If { cond, yes, no, .. } => {
             in_expr(cond, alloc, functions, known)?;
@@ -308,15 +299,15 @@ fn in_stmt(
 }
 
 #[cycle(bindings)]
-fn in_assign(
-    value: &Expression,
-    targets: &[Target],
+fn in_assign<'a>(
+    value: &'a Expression,
+    targets: &'a [Target],
     alloc: Global,
-    functions: &[Function],
-    known: &mut Vec<Known>,
+    functions: &Functions<'_>,
+    known: &mut BoundNames<'a>,
 ) -> Result<(), Memory>
-    ensures { OnOk result (known.new.items
-        ≡ Bases.in_stmt (Bases.call_bases_in (View.functions functions.now)) (Tree.assign targets.now (View.expr value.now)) known.old.items) }
+    ensures { OnOk result (known.new.all.items
+        ≡ Bases.in_stmt (Bases.call_bases_in (View.functions functions.now.all.now)) (Tree.assign targets.now (View.expr value.now)) known.old.all.items) }
 {
     match value {
         Expression::Call(name, es, _) => {
@@ -333,13 +324,13 @@ fn in_assign(
 }
 
 #[cycle(bindings)]
-fn in_block(
-    ss: &[Statement],
+fn in_block<'a>(
+    ss: &'a [Statement],
     alloc: Global,
-    functions: &[Function],
-    known: &mut Vec<Known>,
+    functions: &Functions<'_>,
+    known: &mut BoundNames<'a>,
 ) -> Result<(), Memory>
-    ensures { OnOk result (known.new.items ≡ Bases.in_block (Bases.call_bases_in (View.functions functions.now)) (View.block ss.now) known.old.items) }
+    ensures { OnOk result (known.new.all.items ≡ Bases.in_block (Bases.call_bases_in (View.functions functions.now.all.now)) (View.block ss.now) known.old.all.items) }
 {
     for s in ss {
         in_stmt(s, alloc, functions, known)?;
@@ -347,11 +338,15 @@ fn in_block(
     Ok(())
 }
 
-/// What the names of a function are bound to; the first binding of a name counts.
-pub fn known_in(alloc: Global, functions: &[Function], f: &Function) -> Result<Vec<Known>, Memory>
-    ensures { IfOk result (λ known. known.items ≡ Bases.known_in (View.functions functions.now) (View.function f.now)) }
+/// What the names of a function are bound to.
+pub fn known_in<'a>(
+    alloc: Global,
+    functions: &Functions<'_>,
+    f: &'a Function,
+) -> Result<BoundNames<'a>, Memory>
+    ensures { IfOk result (λ known. known.all.items ≡ Bases.known_in (View.functions functions.now.all.now) (View.function f.now)) }
 {
-    let mut known = Vec::new(alloc);
+    let mut known = BoundNames::new(alloc);
     bind_params(&mut known, &f.params)?;
     in_block(&f.body, alloc, functions, &mut known)?;
     in_exprs(&f.values, alloc, functions, &mut known)?;
@@ -367,6 +362,7 @@ pub fn base_in(
 ) -> Result<Option<Base>, Memory>
     ensures { IfOk result (λ b. b ≡ Bases.base_in (View.functions functions.now) (View.function f.now) (View.expr e.now)) }
 {
-    let known = known_in(alloc, functions, f)?;
-    base_of(e, alloc, functions, &known)
+    let by_name = Functions::new(alloc, functions)?;
+    let known = known_in(alloc, &by_name, f)?;
+    base_of(e, alloc, &by_name, &known)
 }

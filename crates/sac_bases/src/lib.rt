@@ -3,8 +3,8 @@
 
 mod base;
 mod bindings;
-mod call;
+mod names;
 
 pub use base::{base_of, bases_of};
 pub use bindings::{base_in, known_in};
-pub use call::call_instance;
+pub use names::BoundNames;

@@ -8,8 +8,8 @@ use Rattle.sac_bases.proofs.base.+bases.Goals as goal
 
 pub base_of-returns-in_ok-wanted-in-With : goal.base_of-returns-in_ok-wanted-in-With
 base_of-returns-in_ok-wanted-in-With t c =
-    let calls = call_bases_in (functions c.args.functions.now) in
-    let known = c.args.known.now in
+    let calls = call_bases_in (functions c.args.functions.now.all.now) in
+    let known = c.args.known.now.all.items in
     let gs = c.in-With.gs in
     let op = c.in-With.op in
     c.with_base.ensures
@@ -25,5 +25,5 @@ pub one_given-returns : goal.one_given-returns
 one_given-returns t c =
     let a = c.args in
     ap (λ b. record { are_int = b; cell = c.in_ok-cell.cell }) c.are_int.ensures
-    ∙ given_from (call_bases_in (functions a.functions.now)) a.known.now a.g.now c.in_ok-lower.lower c.in_ok-upper.upper c.in_ok-step.step c.in_ok-width.width c.in_ok-cell.cell
+    ∙ given_from (call_bases_in (functions a.functions.now.all.now)) a.known.now.all.items a.g.now c.in_ok-lower.lower c.in_ok-upper.upper c.in_ok-step.step c.in_ok-width.width c.in_ok-cell.cell
     c.in_ok-lower.ensures c.in_ok-upper.ensures c.in_ok-step.ensures c.in_ok-width.ensures c.in_ok-cell.ensures

@@ -32,10 +32,10 @@ decreases-one_given l = 4 * size-Generator l.g.now + 3
 
 abbrev pub invariant-bases_of-loop-e : goal.invariant-bases_of-loop-e
 invariant-bases_of-loop-e l =
-    l.bases.items ++ bases (call_bases_in (functions l.functions)) l.known (exprs (drop l.e-index l.es))
-    ≡ bases (call_bases_in (functions l.functions)) l.known (exprs l.es)
+    l.bases.items ++ bases (call_bases_in (functions l.functions.all.now)) l.known.all.items (exprs (drop l.e-index l.es))
+    ≡ bases (call_bases_in (functions l.functions.all.now)) l.known.all.items (exprs l.es)
 
 abbrev pub invariant-all_given-loop-g : goal.invariant-all_given-loop-g
 invariant-all_given-loop-g l =
-    l.given.items ++ all_given (call_bases_in (functions l.functions)) l.known (generators (drop l.g-index l.gs))
-    ≡ all_given (call_bases_in (functions l.functions)) l.known (generators l.gs)
+    l.given.items ++ all_given (call_bases_in (functions l.functions.all.now)) l.known.all.items (generators (drop l.g-index l.gs))
+    ≡ all_given (call_bases_in (functions l.functions.all.now)) l.known.all.items (generators l.gs)

@@ -47,15 +47,15 @@ decreases-in_block l = 4 * block_size l.ss.now + 4
 
 abbrev pub invariant-in_exprs-loop-e : goal.invariant-in_exprs-loop-e
 invariant-in_exprs-loop-e l =
-    in_exprs (call_bases_in (functions l.functions)) (exprs (drop l.e-index l.es)) l.known.items
-    ≡ in_exprs (call_bases_in (functions l.functions)) (exprs l.es) l.initial.known.items
+    in_exprs (call_bases_in (functions l.functions.all.now)) (exprs (drop l.e-index l.es)) l.known.all.items
+    ≡ in_exprs (call_bases_in (functions l.functions.all.now)) (exprs l.es) l.initial.known.all.items
 
 abbrev pub invariant-in_generators-loop-g : goal.invariant-in_generators-loop-g
 invariant-in_generators-loop-g l =
-    in_gens (call_bases_in (functions l.functions)) (generators (drop l.g-index l.gs)) l.known.items
-    ≡ in_gens (call_bases_in (functions l.functions)) (generators l.gs) l.initial.known.items
+    in_gens (call_bases_in (functions l.functions.all.now)) (generators (drop l.g-index l.gs)) l.known.all.items
+    ≡ in_gens (call_bases_in (functions l.functions.all.now)) (generators l.gs) l.initial.known.all.items
 
 abbrev pub invariant-in_block-loop-s : goal.invariant-in_block-loop-s
 invariant-in_block-loop-s l =
-    in_block (call_bases_in (functions l.functions)) (block (drop l.s-index l.ss)) l.known.items
-    ≡ in_block (call_bases_in (functions l.functions)) (block l.ss) l.initial.known.items
+    in_block (call_bases_in (functions l.functions.all.now)) (block (drop l.s-index l.ss)) l.known.all.items
+    ≡ in_block (call_bases_in (functions l.functions.all.now)) (block l.ss) l.initial.known.all.items

@@ -3,4 +3,4 @@ use Rattle.sac_ast.specs.Bases.{bound_params}
 use Rattle.sac_bases.proofs.bindings.bind_params.Given as goal
 
 abbrev pub invariant-loop-param : goal.invariant-loop-param
-invariant-loop-param l = l.known.items ++ bound_params (drop l.param-index l.params) ≡ l.initial.known.items ++ bound_params l.params
+invariant-loop-param l = l.known.all.items ++ bound_params (drop l.param-index l.params) ≡ l.initial.known.all.items ++ bound_params l.params

@@ -6,5 +6,5 @@ use Rattle.sac_bases.proofs.bindings.bind_parts.Given as goal
 
 abbrev pub invariant-loop-target : goal.invariant-loop-target
 invariant-loop-target l =
-    l.known.items ++ map {B = Known} (λ (t : Target). record { name = t.name; base = Some Int }) (drop l.target-index l.targets)
-    ≡ l.initial.known.items ++ map {B = Known} (λ (t : Target). record { name = t.name; base = Some Int }) l.targets
+    l.known.all.items ++ map {B = Known} (λ (t : Target). record { name = t.name; base = Some Int }) (drop l.target-index l.targets)
+    ≡ l.initial.known.all.items ++ map {B = Known} (λ (t : Target). record { name = t.name; base = Some Int }) l.targets
