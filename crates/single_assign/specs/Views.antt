@@ -70,10 +70,10 @@ abbrev pub group_in : Context → Name → ℕ
 group_in cx = place_by cx.names.now
 
 abbrev pub base_of_in : Context → Expr → Option Base
-base_of_in cx = Bases.base (Bases.call_bases_in (functions cx.functions.now)) cx.known.now
+base_of_in cx = Bases.base (Bases.call_bases_in (functions cx.functions.now.all.now)) cx.known.now.all.items
 
 abbrev pub name_base_in : Context → Name → Base
-name_base_in cx x = or_int (Bases.base_of_name cx.known.now x)
+name_base_in cx x = or_int (Bases.base_of_name cx.known.now.all.items x)
 
 abbrev pub make_in : Context → Expr → Look → Built → Made
 make_in cx = make (group_in cx) (base_of_in cx) (name_base_in cx)

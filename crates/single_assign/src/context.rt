@@ -5,20 +5,21 @@ ghost use Rattle.sac_ast.specs.View.{generators};
 ghost use Rattle.value_meaning.specs.Meaning.{default_base as default_base_value, or_int as or_int_value};
 ghost use Rattle.single_assign.specs.Views.{base_of_in, group_in, name_base_in, place_by};
 
+use check_rules::functions::Functions;
 use indexmap::IndexSet;
-use sac_ast::{Function, Generator, Known};
+use sac_ast::Generator;
 use sac_base::{Base, Memory, Name};
-use sac_bases::base_of;
+use sac_bases::{BoundNames, base_of};
 use std::alloc::Global;
 
 #[derive(Clone, Copy)]
 pub struct Context<'a> {
     pub alloc: Global,
-    pub functions: &'a [Function],
+    pub functions: &'a Functions<'a>,
     /// The names of functions, in the order of their groups.
     pub names: &'a IndexSet<&'a str>,
     /// What the names of the function are bound to.
-    pub known: &'a [Known],
+    pub known: &'a BoundNames<'a>,
 }
 
 impl Context<'_> {
@@ -36,12 +37,7 @@ impl Context<'_> {
     pub fn base_of_name(&self, name: &str) -> Base
         ensures { result ≡ name_base_in self.now name.now }
     {
-        for known in self.known {
-            if known.name.as_str() == name {
-                return or_int(known.base);
-            }
-        }
-        Base::Int
+        or_int(self.known.base_of(name))
     }
 
     /// The base of the cells that a genarray without a default has.

@@ -18,6 +18,7 @@ use crate::context::Context;
 use crate::lower::{lower_all, lower_block};
 use crate::scope::Scope;
 use core_ir::{Core, CoreFun, Var};
+use check_rules::functions::Functions;
 use indexmap::IndexSet;
 use sac_ast::{Function, Param, Program};
 use sac_base::{ArrayType, Memory, copy_name, copy_type};
@@ -58,7 +59,7 @@ fn lower_program(alloc: Global, program: &Program) -> Result<Core, Memory>
     let names = function_names(alloc, &program.functions)?;
     let functions = lower_functions(alloc, &program.functions, &names)?;
     let groups = groups(alloc, &program.functions, names.as_slice())?;
-    let main = main_place(&program.functions)?;
+    let main = main_place(program)?;
     Ok(Core {
         functions,
         groups,
@@ -112,24 +113,13 @@ fn groups(alloc: Global, functions: &[Function], names: &[&str]) -> Result<Vec<V
 }
 
 // The place of `main`, and 0 where there is none.
-fn main_place(functions: &[Function]) -> Result<u32, Memory>
-    ensures { IfOk result (λ place. place ≡ unwrap_or (position is_main (trees functions.now)) 0) }
+fn main_place(program: &Program) -> Result<u32, Memory>
+    ensures { IfOk result (λ place. place ≡ unwrap_or (position is_main (trees program.now.functions.items)) 0) }
 {
-    match find_main(functions) {
+    match program.main_place() {
         Some(place) => small_place(place),
         None => Ok(0),
     }
-}
-
-fn find_main(functions: &[Function]) -> Option<usize>
-    ensures { result ≡ position is_main (trees functions.now) }
-{
-    for i in 0..functions.len() {
-        if functions[i].name.as_str() == "main" {
-            return Some(i);
-        }
-    }
-    None
 }
 
 fn lower_functions(
@@ -139,9 +129,10 @@ fn lower_functions(
 ) -> Result<Vec<CoreFun>, Memory>
     ensures { IfOk result (λ v. map fun_term v.items ≡ functions_by (place_by names.now) (trees functions.now) (trees functions.now)) }
 {
+    let by_name = Functions::new(alloc, functions)?;
     let mut cores = Vec::new(alloc);
     for f in functions {
-        let core = lower_one(alloc, functions, names, f)?;
+        let core = lower_one(alloc, &by_name, names, f)?;
         cores.push(core)?;
     }
     Ok(cores)
@@ -149,11 +140,11 @@ fn lower_functions(
 
 fn lower_one(
     alloc: Global,
-    functions: &[Function],
+    functions: &Functions<'_>,
     names: &IndexSet<&str>,
     f: &Function,
 ) -> Result<CoreFun, Memory>
-    ensures { IfOk result (λ core. fun_term core ≡ function_of (place_by names.now) (trees functions.now) (function f.now)) }
+    ensures { IfOk result (λ core. fun_term core ≡ function_of (place_by names.now) (trees functions.now.all.now) (function f.now)) }
 {
     let known = known_in(alloc, functions, f)?;
     let cx = Context {

@@ -17,7 +17,8 @@ loop-f-preserved c =
     let cores = c.loop-f.cores.items in
     let below : k < length all = search rules in
     let rest = functions_by group fs (functions (drop (k + 1) all)) in
-    let one = c.in_ok-core.ensures ∙ ap (λ f. function_of group fs (function f)) c.f-item.is in
+    let whole = ap (λ gs. function_of group (functions gs) (function item)) c.in_ok-by_name.ensures in
+    let one = c.in_ok-core.ensures ∙ whole ∙ ap (λ f. function_of group fs (function f)) c.f-item.is in
     (λ i. map fun_term (c.in_ok-push.ensures.items i) ++ rest)
     ∙ map_next fun_term cores c.in_ok-core.core rest
     ∙ (λ i. map fun_term cores ++ (one i ∷ rest))

@@ -11,8 +11,8 @@ use Rattle.single_assign.proofs.program.lower_one.Goals as goal
 pub returns : goal.returns
 returns c =
     let f = function c.args.f.now in
-    let fs = functions c.args.functions.now in
-    let known = c.deref.ensures.value ∙ c.in_ok-known.ensures in
+    let fs = functions c.args.functions.now.all.now in
+    let known = c.in_ok-known.ensures in
     subst (λ m. IfOk c.lower_function.result (λ core. fun_term core ≡ m))
     (λ i. function_by (place_by c.args.names.now) (base (call_bases_in fs) (known i)) (λ x. or_int (base_of_name (known i) x)) f)
     c.lower_function.ensures

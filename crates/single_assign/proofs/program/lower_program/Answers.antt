@@ -1,7 +1,5 @@
 use Rattle.std.proofs.Common.{ap, ◌∙◌, map}
-use Rattle.std.specs.Prelude.{position, unwrap_or}
 use Rattle.sac_ast.specs.View.{functions, program}
-use Rattle.value_meaning.specs.Calls.{is_main}
 use Rattle.core_lowering.specs.Programs.{function_names, places_of}
 use Rattle.core_ir.specs.View.{fun_term}
 use Rattle.single_assign.specs.Functions.{functions_by}
@@ -18,5 +16,4 @@ returns c =
     let groups = c.in_ok-groups.ensures
     ∙ ap (λ fs. map (λ x. places_of x 0 (functions fs)) (texts c.as_slice.result.now)) c.deref-3.ensures.value
     ∙ ap (λ ks. map (λ x. places_of x 0 (functions c.args.program.now.functions.items)) (texts ks)) c.as_slice.ensures.keys in
-    let main = c.in_ok-main.ensures ∙ ap (λ fs. unwrap_or (position is_main (functions fs)) 0) c.deref-4.ensures.value in
-    program_ends (program c.args.program.now) (map fun_term c.in_ok-functions.functions.items) (map (λ g. g.items) c.in_ok-groups.groups.items) c.in_ok-main.main (texts keys) names funs groups main
+    program_ends (program c.args.program.now) (map fun_term c.in_ok-functions.functions.items) (map (λ g. g.items) c.in_ok-groups.groups.items) c.in_ok-main.main (texts keys) names funs groups c.in_ok-main.ensures
