@@ -33,7 +33,9 @@ use Rattle.sac_due.specs.Due.{Ending, ended, run_on}
 use Rattle.sac_due.specs.Answer.{Finds}
 use Rattle.sac_top.specs.Traced.{numbers_of, IsRunStatus, HasCost, IsCodeFor, IsRunTraced, IsGivenTraced, IsProgramTraced, IsTraced}
 use Rattle.sac_top.specs.Steps.{ending, ends_of, HasEnded}
+use Rattle.sac_top.specs.Sessions.{IsLeft}
 use Rattle.sac_top.specs.declared.line.Answer.{Answer}
+use Rattle.sac_top.specs.declared.session.Session.{Session}
 use Rattle.sac_top.proofs.Runs.{finds_whole}
 
 -- ---- the heap
@@ -43,8 +45,12 @@ nothing_at zero = refl
 nothing_at (suc b) = refl
 
 -- a heap that was not touched
-pub untouched : (h : HeapValue) → h ≡ new_heap → IsCleared h
+untouched : (h : HeapValue) → h ≡ new_heap → IsCleared h
 untouched h new = subst IsCleared (sym new) (nothing_at, refl)
+
+-- a session whose heap was not touched
+pub stays : {G R : Type 0} (session : Session G R) → session.heap.now ≡ new_heap → IsLeft session session
+stays session new = record { heap = refl; trace = refl; cleared = untouched session.heap.now new }
 
 -- ---- the code and its run
 

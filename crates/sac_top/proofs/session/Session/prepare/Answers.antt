@@ -2,9 +2,9 @@ use Rattle.std.proofs.Common.{ap, Ok, Err, refl}
 use Rattle.sac_io.specs.Count.{Rose}
 use Rattle.sac_due.specs.Answer
 use Rattle.sac_top.proofs.Whole.{no_numbers, refused_words, source_missing, source_failed, source_longer, fetched_once, once, on_err, refused_fetched, whole_answer, whole_calls}
-use Rattle.sac_top.proofs.Tracing.{untouched, not_run, source_traced, same_mode}
+use Rattle.sac_top.proofs.Tracing.{stays, not_run, source_traced, same_mode}
 use Rattle.sac_top.proofs.Workers.{asked_workers}
-use Rattle.sac_top.proofs.prepare.prepare.Goals as goal
+use Rattle.sac_top.proofs.session.Session.prepare.Goals as goal
 
 pub answer_source-requires-clause-workers : goal.answer_source-requires-clause-workers
 answer_source-requires-clause-workers g c κs within = asked_workers _ _ c.in-Ok.ensures.read
@@ -62,11 +62,11 @@ returns-clause-calls g c = once _ _ no_numbers (Rose 0 0) _ c.in-Ok.ensures.read
 pub returns-in-Err-Refused-clause-traced : goal.returns-in-Err-Refused-clause-traced
 returns-in-Err-Refused-clause-traced g c = λ asked means runs. not_run _ _ _ (λ is. is) c.answer_line.ensures
 
-pub returns-in-Err-Refused-clause-cleared : goal.returns-in-Err-Refused-clause-cleared
-returns-in-Err-Refused-clause-cleared g c = untouched _ c.requires
+pub returns-in-Err-Refused-clause-left : goal.returns-in-Err-Refused-clause-left
+returns-in-Err-Refused-clause-left g c = stays _ c.requires
 
-pub returns-in-Err-Memory-clause-cleared : goal.returns-in-Err-Memory-clause-cleared
-returns-in-Err-Memory-clause-cleared g c = untouched _ c.requires
+pub returns-in-Err-Memory-clause-left : goal.returns-in-Err-Memory-clause-left
+returns-in-Err-Memory-clause-left g c = stays _ c.requires
 
 pub returns-in-Ok-Whole-clause-traced : goal.returns-in-Ok-Whole-clause-traced
 returns-in-Ok-Whole-clause-traced g c =
@@ -77,20 +77,20 @@ returns-in-Ok-Whole-clause-traced g c =
 pub returns-in-Ok-Longer-clause-traced : goal.returns-in-Ok-Longer-clause-traced
 returns-in-Ok-Longer-clause-traced g c = λ asked means runs. not_run _ _ _ (λ is. is) c.answer_line-in-Ok-Longer.ensures
 
-pub returns-in-Ok-Longer-clause-cleared : goal.returns-in-Ok-Longer-clause-cleared
-returns-in-Ok-Longer-clause-cleared g c = untouched _ c.requires
+pub returns-in-Ok-Longer-clause-left : goal.returns-in-Ok-Longer-clause-left
+returns-in-Ok-Longer-clause-left g c = stays _ c.requires
 
 pub returns-in-Err-Missing-clause-traced : goal.returns-in-Err-Missing-clause-traced
 returns-in-Err-Missing-clause-traced g c = λ asked means runs. not_run _ _ _ (λ is. is) c.answer_line-in-Err-Missing.ensures
 
-pub returns-in-Err-Missing-clause-cleared : goal.returns-in-Err-Missing-clause-cleared
-returns-in-Err-Missing-clause-cleared g c = untouched _ c.requires
+pub returns-in-Err-Missing-clause-left : goal.returns-in-Err-Missing-clause-left
+returns-in-Err-Missing-clause-left g c = stays _ c.requires
 
 pub returns-in-Err-Failed-clause-traced : goal.returns-in-Err-Failed-clause-traced
 returns-in-Err-Failed-clause-traced g c = λ asked means runs. not_run _ _ _ (λ is. is) c.answer_line-in-Err-Failed.ensures
 
-pub returns-in-Err-Failed-clause-cleared : goal.returns-in-Err-Failed-clause-cleared
-returns-in-Err-Failed-clause-cleared g c = untouched _ c.requires
+pub returns-in-Err-Failed-clause-left : goal.returns-in-Err-Failed-clause-left
+returns-in-Err-Failed-clause-left g c = stays _ c.requires
 
-pub returns-clause-cleared : goal.returns-clause-cleared
-returns-clause-cleared g c = untouched _ c.requires
+pub returns-clause-left : goal.returns-clause-left
+returns-clause-left g c = stays _ c.requires
