@@ -4,7 +4,7 @@ use Rattle.sac_due.specs.Answer
 use Rattle.sac_top.proofs.Whole.{no_numbers, refused_words, source_missing, source_failed, source_longer, fetched_once, once, on_err, refused_fetched, whole_answer, whole_calls}
 use Rattle.sac_top.proofs.Tracing.{stays, not_run, source_traced, same_mode}
 use Rattle.sac_top.proofs.Workers.{asked_workers}
-use Rattle.sac_top.proofs.session.Session.prepare.Goals as goal
+use Rattle.sac_top.proofs.session.Session.answer_words.Goals as goal
 
 pub answer_source-requires-clause-workers : goal.answer_source-requires-clause-workers
 answer_source-requires-clause-workers g c κs within = asked_workers _ _ c.in-Ok.ensures.read
