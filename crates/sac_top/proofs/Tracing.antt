@@ -180,3 +180,12 @@ source_traced r words files between asked other source before t h means too hold
 
 pub same_mode : (words : List (List ℕ)) (asked other : Meant) → words_mean words ≡ Some asked → words_mean words ≡ Some other → other.mode ≡ Run → asked.mode ≡ Run
 same_mode words asked other means too run = ap (λ (k : Meant). k.mode) (same_some asked other (sym means ∙ too)) ∙ run
+
+-- the same of a trace and a heap that are as those were
+pub retold : (r : Result Answer NoMemory) (asked : Meant) (files : Option Contents) (old before : PhaseTotals) (s t : Trace) (k h : HeapValue) → old ≡ before → s ≡ t → k ≡ h
+    → IfOk r (λ a. IsRunStatus a.status → IsTraced asked files (ending a) old s k)
+    → IfOk r (λ a. IsRunStatus a.status → IsTraced asked files (ending a) before t h)
+retold r asked files old before s t k h b same heap x =
+    subst (λ (m : HeapValue). IfOk r (λ a. IsRunStatus a.status → IsTraced asked files (ending a) before t m)) heap
+    (subst (λ (u : Trace). IfOk r (λ a. IsRunStatus a.status → IsTraced asked files (ending a) before u k)) same
+    (subst (λ (w : PhaseTotals). IfOk r (λ a. IsRunStatus a.status → IsTraced asked files (ending a) w s k)) b x))

@@ -21,4 +21,4 @@ returns-in-Err-Refused-check c =
 
 pub returns-in-Ok-check : goal.returns-in-Ok-check
 returns-in-Ok-check c =
-    accepted _ _ _ c.requires (has_tree _ _ _ c.in-Ok.ensures.tokens c.in-Ok-parse.ensures) c.in-Ok-check.ensures.accepted c.in-Ok-check.ensures.program c.in-Ok-check.ensures.bases
+    accepted c.args.source.now c.in-Ok-parse.program c.in-Ok-check.checked c.requires (has_tree _ _ _ c.in-Ok.ensures.tokens c.in-Ok-parse.ensures) c.in-Ok-check.ensures.accepted c.in-Ok-check.ensures.program c.in-Ok-check.ensures.bases
