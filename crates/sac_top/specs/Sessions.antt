@@ -2,13 +2,11 @@
 use Rattle.std.specs.Prelude.{◌≡◌, Result, IfOk}
 use Rattle.sac_base.specs.declared.memory.Memory.{Memory}
 use Rattle.sac_ast.specs.Tree.{ProgramTree}
-use Rattle.type_check.specs.declared.checked.Checked.{Checked}
 use Rattle.buffer_heap.specs.Heaps.{HeapValue}
 use Rattle.count_table.specs.Tallied.{PhaseTotals}
 use Rattle.run_eval.specs.declared.trace.Trace.{Trace}
 use Rattle.run_eval.specs.Outcomes.{IsCleared}
 use Rattle.sac_words.specs.Meaning.{Meant, meant, IsSized}
-use Rattle.sac_due.specs.Input.{main_bases}
 use Rattle.sac_due.specs.Due.{Ending}
 use Rattle.sac_top.specs.declared.line.Answer.{Answer}
 use Rattle.sac_top.specs.declared.session.Job.{Job}

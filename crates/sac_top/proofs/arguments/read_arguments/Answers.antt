@@ -1,8 +1,6 @@
-use Rattle.std.proofs.Common.{rules, sym, subst, ◌∙◌}
+use Rattle.std.proofs.Common.{subst, ◌∙◌}
 use Rattle.data_text.specs.Found.{Tells}
 use Rattle.data_text.specs.Texts.{text_value}
-use Rattle.sac_ast.specs.View.{program as tree}
-use Rattle.sac_due.specs.Input.{main_bases}
 use Rattle.sac_top.proofs.GivenArrays as arguments
 use Rattle.sac_top.proofs.arguments.read_arguments.Goals as goal
 
