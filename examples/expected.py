@@ -4,6 +4,8 @@
 Works out what each example has to print, in Python and apart from `sac`, and compares it with the stored texts (NAME.out). With PROGRAM, as
 ../crates/sac_main/out/sac_main, also runs that program on each example, with 1 and with 4 workers, and compares what it prints.
 With --write as the word, stores the texts.
+
+Where an example's input is too large to be run plainly, there is a small one beside it (NAME.small.in, NAME.small.out).
 """
 import os
 import subprocess
@@ -17,7 +19,7 @@ class Fault(Exception):
 
 
 def arrays(name):
-    """The input of an example: a list of (shape, elements); an element is a number or a truth value."""
+    """The arrays of an input, NAME or NAME.small: a list of (shape, elements); an element is a number or a truth value."""
     path = os.path.join(HERE, f"{name}.in")
     if not os.path.exists(path):
         return []
@@ -203,10 +205,15 @@ EXAMPLES = {"sum": total, **{it.__name__: it for it in (
     quotients, ranks, relax, statistics, transpose)}}
 
 
-def expected(name):
-    """The text and the status that are due."""
+def inputs(name):
+    """The names of an example's inputs."""
+    return [name, *(it for it in [f"{name}.small"] if os.path.exists(os.path.join(HERE, f"{it}.in")))]
+
+
+def expected(given):
+    """The text and the status that are due for an input."""
     try:
-        return "".join(map(line, EXAMPLES[name](*arrays(name)))), 0
+        return "".join(map(line, EXAMPLES[given.split(".")[0]](*arrays(given)))), 0
     except Fault as fault:
         return str(fault), 1
 
@@ -214,9 +221,9 @@ def expected(name):
 def main():
     word, wrong = (sys.argv[1:] + [""])[0], 0
     there = sorted(file[:-4] for file in os.listdir(HERE) if file.endswith(".sac"))
-    for name in there:
-        text, status = expected(name)
-        path = os.path.join(HERE, f"{name}.out")
+    for name, given in ((name, given) for name in there for given in inputs(name)):
+        text, status = expected(given)
+        path = os.path.join(HERE, f"{given}.out")
         if word == "--write":
             with open(path, "w", encoding="ascii") as file:
                 file.write(text)
@@ -224,13 +231,14 @@ def main():
         with open(path, encoding="ascii") as file:
             if file.read() != text:
                 wrong += 1
-                print(f"{name}.out is not what Python works out")
+                print(f"{given}.out is not what Python works out")
+        path = os.path.join(HERE, f"{given}.in")
+        words = ["--input", path] if os.path.exists(path) else []
         for workers in ("1", "4") if word else ():
-            given = ["--input", os.path.join(HERE, f"{name}.in")] if os.path.exists(os.path.join(HERE, f"{name}.in")) else []
-            run = subprocess.run([word, os.path.join(HERE, f"{name}.sac"), *given, "--workers", workers], stdout=subprocess.PIPE, text=True)
+            run = subprocess.run([word, os.path.join(HERE, f"{name}.sac"), *words, "--workers", workers], stdout=subprocess.PIPE, text=True)
             if (run.stdout, run.returncode) != (text, status):
                 wrong += 1
-                print(f"{name} with {workers} workers: status {run.returncode}, and another text: {run.stdout[:200]!r}")
+                print(f"{given} with {workers} workers: status {run.returncode}, and another text: {run.stdout[:200]!r}")
     print(f"{len(there)} examples, {wrong} wrong")
     return 1 if wrong else 0
 

@@ -33,7 +33,9 @@ use Rattle.sac_due.specs.Due.{Ending, ended, run_on}
 use Rattle.sac_due.specs.Answer.{Finds}
 use Rattle.sac_top.specs.Traced.{numbers_of, IsRunStatus, HasCost, IsCodeFor, IsRunTraced, IsGivenTraced, IsProgramTraced, IsTraced}
 use Rattle.sac_top.specs.Steps.{ending, ends_of, HasEnded}
+use Rattle.sac_top.specs.Sessions.{IsLeft}
 use Rattle.sac_top.specs.declared.line.Answer.{Answer}
+use Rattle.sac_top.specs.declared.session.Session.{Session}
 use Rattle.sac_top.proofs.Runs.{finds_whole}
 
 -- ---- the heap
@@ -43,8 +45,12 @@ nothing_at zero = refl
 nothing_at (suc b) = refl
 
 -- a heap that was not touched
-pub untouched : (h : HeapValue) → h ≡ new_heap → IsCleared h
+untouched : (h : HeapValue) → h ≡ new_heap → IsCleared h
 untouched h new = subst IsCleared (sym new) (nothing_at, refl)
+
+-- a session whose heap was not touched
+pub stays : {G R : Type 0} (session : Session G R) → session.heap.now ≡ new_heap → IsLeft session session
+stays session new = record { heap = refl; trace = refl; cleared = untouched session.heap.now new }
 
 -- ---- the code and its run
 
@@ -174,3 +180,12 @@ source_traced r words files between asked other source before t h means too hold
 
 pub same_mode : (words : List (List ℕ)) (asked other : Meant) → words_mean words ≡ Some asked → words_mean words ≡ Some other → other.mode ≡ Run → asked.mode ≡ Run
 same_mode words asked other means too run = ap (λ (k : Meant). k.mode) (same_some asked other (sym means ∙ too)) ∙ run
+
+-- the same of a trace and a heap that are as those were
+pub retold : (r : Result Answer NoMemory) (asked : Meant) (files : Option Contents) (old before : PhaseTotals) (s t : Trace) (k h : HeapValue) → old ≡ before → s ≡ t → k ≡ h
+    → IfOk r (λ a. IsRunStatus a.status → IsTraced asked files (ending a) old s k)
+    → IfOk r (λ a. IsRunStatus a.status → IsTraced asked files (ending a) before t h)
+retold r asked files old before s t k h b same heap x =
+    subst (λ (m : HeapValue). IfOk r (λ a. IsRunStatus a.status → IsTraced asked files (ending a) before t m)) heap
+    (subst (λ (u : Trace). IfOk r (λ a. IsRunStatus a.status → IsTraced asked files (ending a) before u k)) same
+    (subst (λ (w : PhaseTotals). IfOk r (λ a. IsRunStatus a.status → IsTraced asked files (ending a) w s k)) b x))

@@ -14,6 +14,7 @@ use Rattle.sac_words.specs.declared.options.Mode.{Mode}
 use Rattle.sac_words.specs.declared.options.Mode.TheVariants.{Run}
 use Rattle.sac_words.specs.Meaning.{Meant, Origin, file}
 use Rattle.sac_due.specs.Report.{Numbers}
+use Rattle.sac_due.specs.Input.{main_bases}
 use Rattle.sac_due.specs.Source.{IsProgramOf, IsRefusedSource}
 use Rattle.sac_due.specs.Due.{Ending, IsRunDue, IsProgramDue}
 use Rattle.sac_due.specs.Answer.{Finds, input_fault}
@@ -37,9 +38,13 @@ abbrev pub RefusedWith : List ℕ → Judged → Type 0
 RefusedWith text (Refused line) = line.items ≡ text
 RefusedWith text (Accepted checked) = ⊥
 
+-- an accepted program has the bases of its main function's parameters
+abbrev pub HasBases : Checked → Type 0
+HasBases checked = checked.main_bases.items ≡ main_bases (tree checked)
+
 -- the source is a program, or is refused
 abbrev pub IsJudged : List ℕ → Judged → Type 0
-IsJudged source (Accepted checked) = IsProgramOf source (tree checked)
+IsJudged source (Accepted checked) = IsProgramOf source (tree checked) × HasBases checked
 IsJudged source (Refused line) = IsRefusedSource source line.items
 
 abbrev pub ends_of : Outcome → Ends (List ArrayValue)

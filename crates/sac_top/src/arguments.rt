@@ -1,6 +1,5 @@
 //! The arguments of `main`.
 ghost use Rattle.std.specs.Prelude.{◌≡◌, ◌≤◌, map, IfOk};
-ghost use Rattle.sac_base.specs.declared.types.ArrayType.{ArrayType as Ty};
 ghost use Rattle.sac_ast.specs.declared.Param.{Param as ParamOf};
 ghost use Rattle.sac_ast.specs.View.{program as tree};
 ghost use Rattle.data_text.specs.Texts.{text_value};
@@ -8,11 +7,13 @@ ghost use Rattle.data_text.specs.Generated.{generated_all};
 ghost use Rattle.data_text.specs.Found.{Tells};
 ghost use Rattle.sac_build.specs.Arguments.{AreArrays};
 ghost use Rattle.sac_due.specs.Input.{main_types, main_bases};
+ghost use Rattle.sac_top.specs.Steps.{HasBases};
 
 use data_text::{DataError, generate, read_arrays};
 use sac_ast::{Param, Program};
-use sac_base::{Array, ArrayType, Base, Memory, copy_type};
+use sac_base::{Array, ArrayType, Memory, copy_type};
 use std::alloc::Global;
+use type_check::Checked;
 
 fn types_of(alloc: Global, params: &[Param]) -> Result<Vec<ArrayType>, Memory>
     ensures { IfOk result (λ types. types.items ≡ map (λ (p : ParamOf). p.ty) params.now) }
@@ -28,36 +29,23 @@ fn types_of(alloc: Global, params: &[Param]) -> Result<Vec<ArrayType>, Memory>
 fn main_types(alloc: Global, program: &Program) -> Result<Vec<ArrayType>, Memory>
     ensures { IfOk result (λ types. types.items ≡ main_types (tree program.now)) }
 {
-    for function in &program.functions {
-        if function.name.as_str() == "main" {
-            return types_of(alloc, &function.params);
-        }
+    match program.main() {
+        Some(main) => types_of(alloc, &main.params),
+        None => Ok(Vec::new(alloc)),
     }
-    Ok(Vec::new(alloc))
-}
-
-fn bases_of(alloc: Global, types: &[ArrayType]) -> Result<Vec<Base>, Memory>
-    ensures { IfOk result (λ bases. bases.items ≡ map (λ (ty : Ty). ty.base) types.now) }
-{
-    let mut bases = Vec::new(alloc);
-    for ty in types {
-        bases.push(ty.base)?;
-    }
-    Ok(bases)
 }
 
 /// The arguments that a text gives.
 pub fn read_arguments(
     alloc: Global,
-    program: &Program,
+    checked: &Checked,
     text: &[u8],
 ) -> Result<Vec<Array>, DataError>
-    ensures exact { Tells result (text_value text.now (main_bases (tree program.now))) }
+    requires { HasBases checked.now }
+    ensures exact { Tells result (text_value text.now (main_bases (tree checked.now.program))) }
     ensures arrays { IfOk result (λ args. AreArrays args.items) }
 {
-    let types = main_types(alloc, program)?;
-    let bases = bases_of(alloc, &types)?;
-    read_arrays(alloc, text, &bases)
+    read_arrays(alloc, text, checked.main_bases())
 }
 
 /// The arguments that are generated from a number.

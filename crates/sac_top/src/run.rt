@@ -8,30 +8,29 @@ ghost use Rattle.data_text.specs.Texts.{Refusal, text_value};
 ghost use Rattle.data_text.specs.Generated.{generated_all};
 ghost use Rattle.data_text.specs.Found.{Tells};
 ghost use Rattle.array_ops.specs.Tells.{TellsItems};
-ghost use Rattle.run_eval.specs.Outcomes.{new_heap, IsCleared};
-ghost use Rattle.sac_words.specs.Meaning.{meant, input_meant, IsSized, file};
+ghost use Rattle.run_eval.specs.Outcomes.{new_heap};
+ghost use Rattle.sac_words.specs.Meaning.{input_meant, file};
 ghost use Rattle.sac_due.specs.Input.{main_types, main_bases};
 ghost use Rattle.sac_due.specs.Due.{ended, run_on};
 ghost use Rattle.sac_build.specs.Arguments.{AreArrays};
-ghost use Rattle.sac_top.specs.Traced.{numbers_of, IsRunStatus, IsRunTraced, IsGivenTraced, IsProgramTraced};
-ghost use Rattle.sac_top.specs.Steps.{ending, ends_of, tree, HasEnded, HasWorkers, IsRead, file_of, file_in, IsFileAnswer, IsRunAnswer, IsProgramAnswer};
+ghost use Rattle.sac_top.specs.Traced.{numbers_of, IsRunTraced, IsGivenTraced, IsProgramTraced};
+ghost use Rattle.sac_top.specs.Steps.{ends_of, HasEnded, file_of, file_in, IsFileAnswer, IsRunAnswer, IsProgramAnswer};
+ghost use Rattle.sac_top.specs.Sessions.{asked_of, program_of, IsReady, IsLeft, EndsWith, EndsSo, TellsRun};
 
 use crate::arguments::{generate_arguments, read_arguments};
 use crate::line::{Answer, answer_line, refused_data};
 use crate::results::answer_outcome;
-use buffer_heap::Heap;
+use crate::session::{Job, Session};
 use data_text::DataError;
 use phase_workers::{Gate, Plan, run};
-use run_eval::{Stop, Trace};
+use run_eval::Stop;
 use sac_base::{Array, Memory, Outcome};
 use sac_build::compile;
 use sac_due::Status;
 use sac_io::{FetchError, Fetched, Files};
 use sac_print::print_program;
-use sac_words::{Input, Mode, Options};
-use std::alloc::Global;
+use sac_words::{Input, Mode};
 use std::thread::Threads;
-use type_check::Checked;
 
 /// The longest input, in bytes.
 const INPUT_LIMIT: u64 = 67_108_864;
@@ -48,237 +47,174 @@ fn outcome_told(told: Result<Vec<Array>, Stop>) -> Result<Outcome, Memory>
     }
 }
 
-// What an accepted program comes to: it is compiled, and workers run its code.
-fn outcome_of<G: Gate, R: Threads + Sync>(
-    rt: &R,
-    alloc: Global,
-    checked: &Checked,
-    options: &Options,
-    args: Vec<Array>,
-    heap: &mut Heap,
-    gate: &G,
-    trace: &mut Trace,
-) -> Result<Outcome, Memory>
-    requires workers { HasWorkers options.now.workers }
-    requires read { IsRead (tree checked.now) }
-    requires arrays { AreArrays args.items }
-    requires new { heap.old ≡ new_heap }
-    ensures outcome { IfOk result (λ o. ends_of o ≡ outcome (tree checked.now) args.items options.now.caps) }
-    ensures traced { IfOk result (λ o. IsRunTraced (tree checked.now) args.items options.now.caps trace.old.tally trace.new heap.new) }
-    ensures cleared { IsCleared heap.new }
-{
-    let compiled = compile(alloc, checked)?;
-    let plan = Plan {
-        workers: options.workers,
-        chunk: options.chunk,
-        caps: options.caps,
-    };
-    let result = run(rt, alloc, &compiled.code, args, heap, plan, gate, trace);
-    trace.code = Some(compiled.code);
-    trace.folded = compiled.folded;
-    trace.scalarised = compiled.scalarised;
-    outcome_told(result)
-}
-
-fn answer_run<G: Gate, R: Threads + Sync>(
-    rt: &R,
-    alloc: Global,
-    checked: &Checked,
-    options: &Options,
-    args: Vec<Array>,
-    heap: &mut Heap,
-    gate: &G,
-    trace: &mut Trace,
-) -> Result<Answer, Memory>
-    requires workers { HasWorkers options.now.workers }
-    requires read { IsRead (tree checked.now) }
-    requires arrays { AreArrays args.items }
-    requires new { heap.old ≡ new_heap }
-    ensures answer { IfOk result (λ answer. ending answer
-        ≡ ended (meant options.now) (numbers_of trace.new) (outcome (tree checked.now) args.items options.now.caps)) }
-    ensures traced { IfOk result (λ answer. IsRunTraced (tree checked.now) args.items options.now.caps trace.old.tally trace.new heap.new) }
-    ensures cleared { IsCleared heap.new }
-{
-    let outcome = outcome_of(rt, alloc, checked, options, args, heap, gate, trace)?;
-    answer_outcome(alloc, &outcome, options, trace)
-}
-
-// What the program comes to on these arguments, or on their refusal.
-fn answer_given<G: Gate, R: Threads + Sync>(
-    rt: &R,
-    alloc: Global,
-    checked: &Checked,
-    options: &Options,
-    given: Result<Vec<Array>, DataError>,
-    heap: &mut Heap,
-    gate: &G,
-    trace: &mut Trace,
-) -> Result<Answer, Memory>
-    requires workers { HasWorkers options.now.workers }
-    requires read { IsRead (tree checked.now) }
-    requires arrays { IfOk given (λ args. AreArrays args.items) }
-    requires new { heap.old ≡ new_heap }
-    ensures answer { (r : Result (List ArrayValue) Refusal) → Tells given r
-        → IfOk result (λ answer. ending answer ≡ run_on (meant options.now) (tree checked.now) (numbers_of trace.new) r) }
-    ensures traced { (r : Result (List ArrayValue) Refusal) → Tells given r
-        → IfOk result (λ answer. IsRunStatus answer.status
-        → IsGivenTraced (meant options.now) (tree checked.now) r (ending answer) trace.old.tally trace.new heap.new) }
-    ensures cleared { IsCleared heap.new }
-{
-    match given {
-        Ok(args) => answer_run(rt, alloc, checked, options, args, heap, gate, trace),
-        Err(DataError::Refused(code, number)) => Ok(Answer {
-            status: Status::Input,
-            text: refused_data(alloc, code, number)?,
-        }),
-        Err(DataError::Memory) => Err(Memory),
+impl<'a, G: Gate, R: Threads + Sync> Session<'a, G, R> {
+    // What the program comes to: it is compiled, and workers run its code.
+    fn outcome_of(&mut self, job: &Job<'_>, args: Vec<Array>) -> Result<Outcome, Memory>
+        requires ready { IsReady job.now }
+        requires new { self.old.heap.now ≡ new_heap }
+        requires arrays { AreArrays args.items }
+        ensures outcome { IfOk result (λ o. ends_of o ≡ outcome (program_of job.now) args.items (asked_of job.now).caps) }
+        ensures traced { IfOk result (λ o. IsRunTraced (program_of job.now) args.items (asked_of job.now).caps
+            self.old.trace.now.tally self.new.trace.now self.new.heap.now) }
+        ensures left { IsLeft self.old self.new }
+    {
+        let compiled = compile(self.alloc, job.checked)?;
+        let plan = Plan {
+            workers: job.options.workers,
+            chunk: job.options.chunk,
+            caps: job.options.caps,
+        };
+        let result = run(
+            self.rt,
+            self.alloc,
+            &compiled.code,
+            args,
+            self.heap,
+            plan,
+            self.gate,
+            self.trace,
+        );
+        self.trace.code = Some(compiled.code);
+        self.trace.folded = compiled.folded;
+        self.trace.scalarised = compiled.scalarised;
+        outcome_told(result)
     }
-}
 
-fn answer_text<G: Gate, R: Threads + Sync>(
-    rt: &R,
-    alloc: Global,
-    checked: &Checked,
-    options: &Options,
-    text: &[u8],
-    heap: &mut Heap,
-    gate: &G,
-    trace: &mut Trace,
-) -> Result<Answer, Memory>
-    requires workers { HasWorkers options.now.workers }
-    requires read { IsRead (tree checked.now) }
-    requires new { heap.old ≡ new_heap }
-    ensures answer { IfOk result (λ answer. ending answer
-        ≡ run_on (meant options.now) (tree checked.now) (numbers_of trace.new) (text_value text.now (main_bases (tree checked.now)))) }
-    ensures traced { IfOk result (λ answer. IsRunStatus answer.status
-        → IsGivenTraced (meant options.now) (tree checked.now) (text_value text.now (main_bases (tree checked.now)))
-        (ending answer) trace.old.tally trace.new heap.new) }
-    ensures cleared { IsCleared heap.new }
-{
-    let given = read_arguments(alloc, checked.program(), text);
-    answer_given(rt, alloc, checked, options, given, heap, gate, trace)
-}
-
-fn answer_generated<G: Gate, R: Threads + Sync>(
-    rt: &R,
-    alloc: Global,
-    checked: &Checked,
-    options: &Options,
-    n: u32,
-    heap: &mut Heap,
-    gate: &G,
-    trace: &mut Trace,
-) -> Result<Answer, Memory>
-    requires workers { HasWorkers options.now.workers }
-    requires sized { (1 ≤ n) × (n ≤ 4096) }
-    requires read { IsRead (tree checked.now) }
-    requires new { heap.old ≡ new_heap }
-    ensures answer { IfOk result (λ answer. ending answer
-        ≡ run_on (meant options.now) (tree checked.now) (numbers_of trace.new) (generated_all (main_types (tree checked.now)) 0 n)) }
-    ensures traced { IfOk result (λ answer. IsRunStatus answer.status
-        → IsGivenTraced (meant options.now) (tree checked.now) (generated_all (main_types (tree checked.now)) 0 n)
-        (ending answer) trace.old.tally trace.new heap.new) }
-    ensures cleared { IsCleared heap.new }
-{
-    let given = generate_arguments(alloc, checked.program(), n);
-    answer_given(rt, alloc, checked, options, given, heap, gate, trace)
-}
-
-fn answer_file<G: Gate, R: Threads + Sync, F: Files>(
-    rt: &R,
-    alloc: Global,
-    checked: &Checked,
-    options: &Options,
-    name: &str,
-    files: &mut F,
-    heap: &mut Heap,
-    gate: &G,
-    trace: &mut Trace,
-) -> Result<Answer, Memory>
-    requires workers { HasWorkers options.now.workers }
-    requires named { input_meant options.now.input ≡ file name.now }
-    requires read { IsRead (tree checked.now) }
-    requires new { heap.old ≡ new_heap }
-    ensures answer { IfOk result (λ answer. IsFileAnswer (meant options.now) (tree checked.now) (F.files files.old) (numbers_of trace.new)
-        (Rose (F.faults files.old) (F.faults files.new)) name.now (ending answer)) }
-    ensures traced { IfOk result (λ answer. IsRunStatus answer.status
-        → IsProgramTraced (meant options.now) (tree checked.now) (F.files files.old) (ending answer) trace.old.tally trace.new heap.new) }
-    ensures cleared { IsCleared heap.new }
-    ensures never_falls { F.faults files.old ≤ F.faults files.new }
-    ensures calls { F.calls files.new ≡ (F.calls files.old + 1) % 2 ^ 64 }
-{
-    let mut text = Vec::new(alloc);
-    match files.fetch(name, INPUT_LIMIT, &mut text) {
-        Ok(Fetched::Whole) => answer_text(rt, alloc, checked, options, &text, heap, gate, trace),
-        Ok(Fetched::Longer) => answer_line(alloc, Status::Input, "refused input size"),
-        Err(FetchError::Missing) => answer_line(alloc, Status::ReadFault, "read fault input"),
-        Err(FetchError::Failed) => answer_line(alloc, Status::ReadFault, "read fault input"),
-        Err(FetchError::Memory) => Err(Memory),
+    fn answer_run(&mut self, job: &Job<'_>, args: Vec<Array>) -> Result<Answer, Memory>
+        requires ready { IsReady job.now }
+        requires new { self.old.heap.now ≡ new_heap }
+        requires arrays { AreArrays args.items }
+        ensures answer { EndsWith result (ended (asked_of job.now) (numbers_of self.new.trace.now)
+            (outcome (program_of job.now) args.items (asked_of job.now).caps)) }
+        ensures traced { IfOk result (λ answer. IsRunTraced (program_of job.now) args.items (asked_of job.now).caps
+            self.old.trace.now.tally self.new.trace.now self.new.heap.now) }
+        ensures left { IsLeft self.old self.new }
+    {
+        let outcome = self.outcome_of(job, args)?;
+        answer_outcome(self.alloc, &outcome, job.options, self.trace)
     }
-}
 
-fn answer_input<G: Gate, R: Threads + Sync, F: Files>(
-    rt: &R,
-    alloc: Global,
-    checked: &Checked,
-    options: &Options,
-    files: &mut F,
-    heap: &mut Heap,
-    gate: &G,
-    trace: &mut Trace,
-) -> Result<Answer, Memory>
-    requires workers { HasWorkers options.now.workers }
-    requires sized { IsSized options.now.input }
-    requires read { IsRead (tree checked.now) }
-    requires new { heap.old ≡ new_heap }
-    ensures answer { IfOk result (λ answer. IsRunAnswer (meant options.now) (tree checked.now) (F.files files.old) (numbers_of trace.new)
-        (Rose (F.faults files.old) (F.faults files.new)) (ending answer)) }
-    ensures traced { IfOk result (λ answer. IsRunStatus answer.status
-        → IsProgramTraced (meant options.now) (tree checked.now) (F.files files.old) (ending answer) trace.old.tally trace.new heap.new) }
-    ensures cleared { IsCleared heap.new }
-    ensures never_falls { F.faults files.old ≤ F.faults files.new }
-    ensures calls { MatchOption (file_of (input_meant options.now.input)) (files.new ≡ files.old)
-        (λ _. F.calls files.new ≡ (F.calls files.old + 1) % 2 ^ 64) }
-{
-    match options.input {
-        Input::Empty => answer_text(rt, alloc, checked, options, &[], heap, gate, trace),
-        Input::File(name) => answer_file(
-            rt, alloc, checked, options, name, files, heap, gate, trace,
-        ),
-        Input::Generated(n) => answer_generated(rt, alloc, checked, options, n, heap, gate, trace),
+    // What the program comes to on these arguments, or on their refusal.
+    fn answer_given(
+        &mut self,
+        job: &Job<'_>,
+        given: Result<Vec<Array>, DataError>,
+    ) -> Result<Answer, Memory>
+        requires ready { IsReady job.now }
+        requires new { self.old.heap.now ≡ new_heap }
+        requires arrays { IfOk given (λ args. AreArrays args.items) }
+        ensures answer { (r : Result (List ArrayValue) Refusal) → Tells given r
+            → EndsWith result (run_on (asked_of job.now) (program_of job.now) (numbers_of self.new.trace.now) r) }
+        ensures traced { (r : Result (List ArrayValue) Refusal) → Tells given r
+            → TellsRun self.old self.new result (IsGivenTraced (asked_of job.now) (program_of job.now) r) }
+        ensures left { IsLeft self.old self.new }
+    {
+        match given {
+            Ok(args) => self.answer_run(job, args),
+            Err(DataError::Refused(code, number)) => Ok(Answer {
+                status: Status::Input,
+                text: refused_data(self.alloc, code, number)?,
+            }),
+            Err(DataError::Memory) => Err(Memory),
+        }
     }
-}
 
-/// What an accepted program comes to.
-pub fn answer_program<G: Gate, R: Threads + Sync, F: Files>(
-    rt: &R,
-    alloc: Global,
-    checked: &Checked,
-    options: &Options,
-    files: &mut F,
-    heap: &mut Heap,
-    gate: &G,
-    trace: &mut Trace,
-) -> Result<Answer, Memory>
-    requires workers { HasWorkers options.now.workers }
-    requires sized { IsSized options.now.input }
-    requires read { IsRead (tree checked.now) }
-    requires new { heap.old ≡ new_heap }
-    ensures answer { IfOk result (λ answer. IsProgramAnswer (meant options.now) (tree checked.now) (F.files files.old) (numbers_of trace.new)
-        (Rose (F.faults files.old) (F.faults files.new)) (ending answer)) }
-    ensures traced { options.now.mode ≡ Mode.Run → IfOk result (λ answer. IsRunStatus answer.status
-        → IsProgramTraced (meant options.now) (tree checked.now) (F.files files.old) (ending answer) trace.old.tally trace.new heap.new) }
-    ensures cleared { IsCleared heap.new }
-    ensures never_falls { F.faults files.old ≤ F.faults files.new }
-    ensures calls { MatchOption (file_in options.now.mode (input_meant options.now.input)) (files.new ≡ files.old)
-        (λ _. F.calls files.new ≡ (F.calls files.old + 1) % 2 ^ 64) }
-{
-    match options.mode {
-        Mode::Run => answer_input(rt, alloc, checked, options, files, heap, gate, trace),
-        Mode::Check => answer_line(alloc, Status::Done, "accepted"),
-        Mode::Print => Ok(Answer {
-            status: Status::Done,
-            text: print_program(alloc, checked.program())?,
-        }),
+    fn answer_text(&mut self, job: &Job<'_>, text: &[u8]) -> Result<Answer, Memory>
+        requires ready { IsReady job.now }
+        requires new { self.old.heap.now ≡ new_heap }
+        ensures answer { EndsWith result (run_on (asked_of job.now) (program_of job.now) (numbers_of self.new.trace.now)
+            (text_value text.now (main_bases (program_of job.now)))) }
+        ensures traced { TellsRun self.old self.new result (IsGivenTraced (asked_of job.now) (program_of job.now)
+            (text_value text.now (main_bases (program_of job.now)))) }
+        ensures left { IsLeft self.old self.new }
+    {
+        let given = read_arguments(self.alloc, job.checked, text);
+        self.answer_given(job, given)
+    }
+
+    fn answer_generated(&mut self, job: &Job<'_>, n: u32) -> Result<Answer, Memory>
+        requires ready { IsReady job.now }
+        requires new { self.old.heap.now ≡ new_heap }
+        requires sized { (1 ≤ n) × (n ≤ 4096) }
+        ensures answer { EndsWith result (run_on (asked_of job.now) (program_of job.now) (numbers_of self.new.trace.now)
+            (generated_all (main_types (program_of job.now)) 0 n)) }
+        ensures traced { TellsRun self.old self.new result (IsGivenTraced (asked_of job.now) (program_of job.now)
+            (generated_all (main_types (program_of job.now)) 0 n)) }
+        ensures left { IsLeft self.old self.new }
+    {
+        let given = generate_arguments(self.alloc, job.checked.program(), n);
+        self.answer_given(job, given)
+    }
+
+    fn answer_file<F: Files>(
+        &mut self,
+        job: &Job<'_>,
+        name: &str,
+        files: &mut F,
+    ) -> Result<Answer, Memory>
+        requires ready { IsReady job.now }
+        requires new { self.old.heap.now ≡ new_heap }
+        requires named { input_meant job.now.options.now.input ≡ file name.now }
+        ensures answer { EndsSo result (IsFileAnswer (asked_of job.now) (program_of job.now) (F.files files.old) (numbers_of self.new.trace.now)
+            (Rose (F.faults files.old) (F.faults files.new)) name.now) }
+        ensures traced { TellsRun self.old self.new result (IsProgramTraced (asked_of job.now) (program_of job.now) (F.files files.old)) }
+        ensures left { IsLeft self.old self.new }
+        ensures never_falls { F.faults files.old ≤ F.faults files.new }
+        ensures calls { F.calls files.new ≡ (F.calls files.old + 1) % 2 ^ 64 }
+    {
+        let alloc = self.alloc;
+        let mut text = Vec::new(alloc);
+        match files.fetch(name, INPUT_LIMIT, &mut text) {
+            Ok(Fetched::Whole) => self.answer_text(job, &text),
+            Ok(Fetched::Longer) => answer_line(alloc, Status::Input, "refused input size"),
+            Err(FetchError::Missing) => answer_line(alloc, Status::ReadFault, "read fault input"),
+            Err(FetchError::Failed) => answer_line(alloc, Status::ReadFault, "read fault input"),
+            Err(FetchError::Memory) => Err(Memory),
+        }
+    }
+
+    fn answer_input<F: Files>(&mut self, job: &Job<'_>, files: &mut F) -> Result<Answer, Memory>
+        requires ready { IsReady job.now }
+        requires new { self.old.heap.now ≡ new_heap }
+        ensures answer { EndsSo result (IsRunAnswer (asked_of job.now) (program_of job.now) (F.files files.old) (numbers_of self.new.trace.now)
+            (Rose (F.faults files.old) (F.faults files.new))) }
+        ensures traced { TellsRun self.old self.new result (IsProgramTraced (asked_of job.now) (program_of job.now) (F.files files.old)) }
+        ensures left { IsLeft self.old self.new }
+        ensures never_falls { F.faults files.old ≤ F.faults files.new }
+        ensures calls { MatchOption (file_of (asked_of job.now).input) (files.new ≡ files.old)
+            (λ _. F.calls files.new ≡ (F.calls files.old + 1) % 2 ^ 64) }
+    {
+        match job.options.input {
+            Input::Empty => self.answer_text(job, &[]),
+            Input::File(name) => self.answer_file(job, name, files),
+            Input::Generated(n) => self.answer_generated(job, n),
+        }
+    }
+
+    /// What an accepted program comes to.
+    pub fn answer_program<F: Files>(
+        &mut self,
+        job: &Job<'_>,
+        files: &mut F,
+    ) -> Result<Answer, Memory>
+        requires ready { IsReady job.now }
+        requires new { self.old.heap.now ≡ new_heap }
+        ensures answer { EndsSo result (IsProgramAnswer (asked_of job.now) (program_of job.now) (F.files files.old) (numbers_of self.new.trace.now)
+            (Rose (F.faults files.old) (F.faults files.new))) }
+        ensures traced { job.now.options.now.mode ≡ Mode.Run
+            → TellsRun self.old self.new result (IsProgramTraced (asked_of job.now) (program_of job.now) (F.files files.old)) }
+        ensures left { IsLeft self.old self.new }
+        ensures never_falls { F.faults files.old ≤ F.faults files.new }
+        ensures calls { MatchOption (file_in (asked_of job.now).mode (asked_of job.now).input) (files.new ≡ files.old)
+            (λ _. F.calls files.new ≡ (F.calls files.old + 1) % 2 ^ 64) }
+    {
+        match job.options.mode {
+            Mode::Run => self.answer_input(job, files),
+            Mode::Check => answer_line(self.alloc, Status::Done, "accepted"),
+            Mode::Print => Ok(Answer {
+                status: Status::Done,
+                text: print_program(self.alloc, job.checked.program())?,
+            }),
+        }
     }
 }

@@ -3,7 +3,6 @@ ghost use Rattle.std.specs.Prelude.{◌≡◌, ◌≤◌, length, IfOk, codes};
 ghost use Rattle.sac_due.specs.Texts.{refused_at};
 ghost use Rattle.sac_top.specs.Steps.{RefusedWith, IsJudged};
 
-use crate::codes::{check_code, lex_code, parse_code};
 use crate::line::placed;
 use sac_base::{Memory, Site};
 use sac_lex::{LexError, lex};
@@ -33,17 +32,17 @@ pub fn judge(alloc: Global, source: &[u8]) -> Result<Judged, Memory>
 {
     let tokens = match lex(alloc, source) {
         Ok(tokens) => tokens,
-        Err(LexError::Refused(code, site)) => return refusal(alloc, lex_code(code), site),
+        Err(LexError::Refused(code, site)) => return refusal(alloc, code.code(), site),
         Err(LexError::Memory) => return Err(Memory),
     };
     let program = match parse(alloc, &tokens) {
         Ok(program) => program,
-        Err(ParseError::Refused(code, site)) => return refusal(alloc, parse_code(code), site),
+        Err(ParseError::Refused(code, site)) => return refusal(alloc, code.code(), site),
         Err(ParseError::Memory) => return Err(Memory),
     };
     match check(alloc, program) {
         Ok(checked) => Ok(Judged::Accepted(checked)),
-        Err(CheckError::Refused(code, site)) => refusal(alloc, check_code(code), site),
+        Err(CheckError::Refused(code, site)) => refusal(alloc, code.code(), site),
         Err(CheckError::Memory) => Err(Memory),
     }
 }

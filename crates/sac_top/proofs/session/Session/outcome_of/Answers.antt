@@ -1,23 +1,23 @@
 use Rattle.std.proofs.lemmas.Result.{IfOk-weaker}
 use Rattle.core_source_laws.proofs.Cores.{source_formed}
-use Rattle.sac_top.proofs.Tracing.{untouched, run_traced, ends_with}
-use Rattle.sac_top.proofs.run.outcome_of.Goals as goal
+use Rattle.sac_top.proofs.Tracing.{stays, run_traced, ends_with}
+use Rattle.sac_top.proofs.session.Session.outcome_of.Goals as goal
 
-pub returns-in_err-compiled-clause-cleared : goal.returns-in_err-compiled-clause-cleared
-returns-in_err-compiled-clause-cleared g c = untouched _ c.requires.new
+pub returns-in_err-compiled-clause-left : goal.returns-in_err-compiled-clause-left
+returns-in_err-compiled-clause-left g c = stays _ c.requires.new
 
 pub run-result-requires-clause-counted : goal.run-result-requires-clause-counted
-run-result-requires-clause-counted g c κs within = c.in_ok-compiled.ensures.counted (source_formed c.requires.read.0 _ c.requires.read.1)
+run-result-requires-clause-counted g c κs within = c.in_ok-compiled.ensures.counted (source_formed c.requires.ready.read.0 _ c.requires.ready.read.1)
 
 pub returns-clause-outcome : goal.returns-clause-outcome
 returns-clause-outcome g c =
-    let formed = source_formed c.requires.read.0 _ c.requires.read.1 in
+    let formed = source_formed c.requires.ready.read.0 _ c.requires.ready.read.1 in
     ends_with c.outcome_told.result _ _ (c.in_ok-compiled.ensures.outcome formed _ _ c.requires.arrays)
     (c.outcome_told.ensures.outcome _ c.run-result.ensures.outcome)
 
 pub returns-clause-traced : goal.returns-clause-traced
 returns-clause-traced g c =
-    let formed = source_formed c.requires.read.0 _ c.requires.read.1 in
+    let formed = source_formed c.requires.ready.read.0 _ c.requires.ready.read.1 in
     IfOk-weaker c.outcome_told.result _ _ (λ o ended. run_traced _ _ _ _ c.run-result.result _ _ _ _ _ c.requires.arrays
     (record {
       counted = c.in_ok-compiled.ensures.counted formed;

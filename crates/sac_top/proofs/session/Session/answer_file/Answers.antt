@@ -1,7 +1,7 @@
 use Rattle.std.proofs.Common.{ap, Ok, Err}
 use Rattle.sac_top.proofs.Runs.{whole, longer, missing, file_failed}
-use Rattle.sac_top.proofs.Tracing.{untouched, not_run, whole_traced}
-use Rattle.sac_top.proofs.run.answer_file.Goals as goal
+use Rattle.sac_top.proofs.Tracing.{stays, not_run, whole_traced}
+use Rattle.sac_top.proofs.session.Session.answer_file.Goals as goal
 
 pub returns-in-Ok-Whole-clause-answer : goal.returns-in-Ok-Whole-clause-answer
 returns-in-Ok-Whole-clause-answer g c =
@@ -29,20 +29,20 @@ returns-in-Ok-Whole-clause-traced g c =
 pub returns-in-Ok-Longer-clause-traced : goal.returns-in-Ok-Longer-clause-traced
 returns-in-Ok-Longer-clause-traced g c = not_run _ _ _ (λ is. is) c.answer_line.ensures
 
-pub returns-in-Ok-Longer-clause-cleared : goal.returns-in-Ok-Longer-clause-cleared
-returns-in-Ok-Longer-clause-cleared g c = untouched _ c.requires.new
+pub returns-in-Ok-Longer-clause-left : goal.returns-in-Ok-Longer-clause-left
+returns-in-Ok-Longer-clause-left g c = stays _ c.requires.new
 
 pub returns-in-Err-Missing-clause-traced : goal.returns-in-Err-Missing-clause-traced
 returns-in-Err-Missing-clause-traced g c = not_run _ _ _ (λ is. is) c.answer_line-in-Err-Missing.ensures
 
-pub returns-in-Err-Missing-clause-cleared : goal.returns-in-Err-Missing-clause-cleared
-returns-in-Err-Missing-clause-cleared g c = untouched _ c.requires.new
+pub returns-in-Err-Missing-clause-left : goal.returns-in-Err-Missing-clause-left
+returns-in-Err-Missing-clause-left g c = stays _ c.requires.new
 
 pub returns-in-Err-Failed-clause-traced : goal.returns-in-Err-Failed-clause-traced
 returns-in-Err-Failed-clause-traced g c = not_run _ _ _ (λ is. is) c.answer_line-in-Err-Failed.ensures
 
-pub returns-in-Err-Failed-clause-cleared : goal.returns-in-Err-Failed-clause-cleared
-returns-in-Err-Failed-clause-cleared g c = untouched _ c.requires.new
+pub returns-in-Err-Failed-clause-left : goal.returns-in-Err-Failed-clause-left
+returns-in-Err-Failed-clause-left g c = stays _ c.requires.new
 
-pub returns-clause-cleared : goal.returns-clause-cleared
-returns-clause-cleared g c = untouched _ c.requires.new
+pub returns-clause-left : goal.returns-clause-left
+returns-clause-left g c = stays _ c.requires.new

@@ -2,7 +2,7 @@ use Rattle.std.proofs.Common.{ap}
 use Rattle.sac_words.specs.Meaning.{input_meant}
 use Rattle.sac_top.proofs.Runs.{run_empty, run_generated}
 use Rattle.sac_top.proofs.Tracing.{empty_traced, generated_traced}
-use Rattle.sac_top.proofs.run.answer_input.Goals as goal
+use Rattle.sac_top.proofs.session.Session.answer_input.Goals as goal
 
 pub returns-in-Empty-clause-answer : goal.returns-in-Empty-clause-answer
 returns-in-Empty-clause-answer g c = run_empty _ _ _ _ _ _ (ap input_meant c.in-Empty.is) c.answer_text.ensures.answer
