@@ -8,8 +8,8 @@ use std::alloc::Global;
 #[derive(Drop)]
 pub struct Case {
     pub words: String,
-    pub source: String,
-    pub input: String,
+    source: Vec<u8>,
+    input: Vec<u8>,
     /// Whether further text belongs to the input, and not to the source.
     pub fills_input: bool,
 }
@@ -19,40 +19,34 @@ impl Case {
     pub fn new(alloc: Global, words: &str) -> Option<Case> {
         Some(Case {
             words: String::from_str(alloc, words).ok()?,
-            source: String::new(alloc),
-            input: String::new(alloc),
+            source: Vec::new(alloc),
+            input: Vec::new(alloc),
             fills_input: false,
         })
     }
 
     /// Appends to the source or to the input.
-    pub fn push(&mut self, text: &str) -> Option<()> {
+    pub fn push(&mut self, bytes: &[u8]) -> Option<()> {
         let filled = if self.fills_input {
             &mut self.input
         } else {
             &mut self.source
         };
-        filled.push_str(text).ok()
+        filled.extend_from_slice(bytes).ok()
     }
 
     /// The source as `p.sac` and the input as `p.in`. The fetches with the listed numbers fail.
     pub fn files(&self, alloc: Global, failing: Vec<u64>) -> Option<MemFiles> {
-        files_of(
-            alloc,
-            self.source.as_bytes(),
-            self.input.as_bytes(),
-            failing,
-        )
+        files_of(alloc, &self.source, &self.input, failing)
     }
 
     /// The same, with the text that was filled last cut to so many bytes.
     pub fn cut_files(&self, alloc: Global, bytes: usize) -> Option<MemFiles> {
-        let (source, input) = (self.source.as_bytes(), self.input.as_bytes());
         let none = Vec::new(alloc);
         if self.fills_input {
-            files_of(alloc, source, input.get(..bytes)?, none)
+            files_of(alloc, &self.source, self.input.get(..bytes)?, none)
         } else {
-            files_of(alloc, source.get(..bytes)?, input, none)
+            files_of(alloc, self.source.get(..bytes)?, &self.input, none)
         }
     }
 }

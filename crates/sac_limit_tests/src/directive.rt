@@ -12,6 +12,8 @@ pub enum Directive<'a> {
     Line(&'a str),
     /// Appends a text so many times.
     Text(u64, &'a str),
+    /// Appends the bytes of these numbers.
+    Bytes(&'a str),
     /// Runs the case with each of these numbers of workers.
     Run(&'a str),
     /// Runs the case over sinks that take one byte a call, of which the first call fails, then the second, and so on.
@@ -38,6 +40,7 @@ impl<'a> Directive<'a> {
         match word {
             "words" => Directive::Words(rest),
             "line" => Directive::Line(rest),
+            "bytes" => Directive::Bytes(rest),
             "run" => Directive::Run(rest),
             "sinks" => Directive::Sinks(number(rest)),
             "files" => Directive::Files(number(rest)),

@@ -25,12 +25,17 @@ fn follow<R: Threads + Sync + Print>(
         Directive::Source => case.fills_input = false,
         Directive::Input => case.fills_input = true,
         Directive::Line(text) => {
-            case.push(text)?;
-            case.push("\n")?;
+            case.push(text.as_bytes())?;
+            case.push(b"\n")?;
         }
         Directive::Text(count, text) => {
             for _ in 0..count {
-                case.push(text)?;
+                case.push(text.as_bytes())?;
+            }
+        }
+        Directive::Bytes(numbers) => {
+            for number in numbers.split_whitespace() {
+                case.push(&[number.parse::<u8>().ok()?])?;
             }
         }
         Directive::Run(workers) => runs::with_workers(rt, alloc, case, workers)?,
