@@ -1,0 +1,124 @@
+#!/usr/bin/env python3
+"""refuse_memory.py PROGRAM [EXAMPLE ..]: runs the program on examples with each allocation refused in turn.
+
+The Nth call of malloc, calloc, realloc, aligned_alloc or posix_memalign fails, for N = 1, 2, .. until a run makes fewer calls. Each run has to end
+with the example's own text and status, or with status 8 and nothing written. Prints a line for each example, and each run that ends otherwise.
+It needs a C compiler and a program that is linked dynamically.
+"""
+import os
+import pathlib
+import subprocess
+import sys
+import tempfile
+
+ROOT = pathlib.Path(__file__).resolve().parent.parent
+# The first calls are each refused; of the others as many, evenly spread, as come to about this number of runs.
+EACH, MOST = 300, 300
+
+SHIM = r"""
+#define _GNU_SOURCE
+#include <dlfcn.h>
+#include <errno.h>
+#include <stdatomic.h>
+#include <stdlib.h>
+#include <unistd.h>
+
+static atomic_long calls;
+static long refused = -1;
+
+static int refuses(void) {
+    if (refused < 0) {
+        const char *text = getenv("REFUSED");
+        refused = text ? atol(text) : 0;
+    }
+    long call = atomic_fetch_add(&calls, 1) + 1;
+    if (call != refused) return 0;
+    errno = ENOMEM;
+    return 1;
+}
+
+extern void *__libc_malloc(size_t);
+extern void *__libc_calloc(size_t, size_t);
+extern void *__libc_realloc(void *, size_t);
+extern void *__libc_memalign(size_t, size_t);
+
+void *malloc(size_t size) { return refuses() ? NULL : __libc_malloc(size); }
+void *calloc(size_t count, size_t size) { return refuses() ? NULL : __libc_calloc(count, size); }
+void *realloc(void *at, size_t size) { return refuses() ? NULL : __libc_realloc(at, size); }
+void *aligned_alloc(size_t align, size_t size) { return refuses() ? NULL : __libc_memalign(align, size); }
+int posix_memalign(void **at, size_t align, size_t size) {
+    if (refuses()) return ENOMEM;
+    *at = __libc_memalign(align, size);
+    return *at ? 0 : ENOMEM;
+}
+
+// The number of calls goes to descriptor 9.
+__attribute__((destructor)) static void tell(void) {
+    char text[24];
+    int at = sizeof text;
+    long count = atomic_load(&calls);
+    do { text[--at] = '0' + count % 10; count /= 10; } while (count);
+    if (write(9, text + at, sizeof text - at) < 0) return;
+}
+"""
+
+
+def shim(folder):
+    source, made = folder / "shim.c", folder / "shim.so"
+    source.write_text(SHIM)
+    subprocess.run(["cc", "-O1", "-shared", "-fPIC", "-o", made, source], check=True)
+    return made
+
+
+def run(program, made, example, workers, refused):
+    """Returns the status, the text, and how many allocations the run asked for."""
+    words = [program, f"{example}.sac", "--workers", workers]
+    given = pathlib.Path(f"{example}.in")
+    if given.exists():
+        words += ["--input", str(given)]
+    reader, writer = os.pipe()
+    os.dup2(writer, 9, inheritable=True)
+    os.close(writer)
+    env = {"LD_PRELOAD": str(made), "REFUSED": str(refused)}
+    try:
+        ended = subprocess.run(words, env=env, capture_output=True, pass_fds=[9], timeout=120)
+    finally:
+        os.close(9)
+    with os.fdopen(reader) as told:
+        calls = told.read()
+    return ended.returncode, ended.stdout, int(calls or 0)
+
+
+def tries(program, made, example, workers):
+    """Returns how many runs there were, how many of them ended with status 8, and those that ended otherwise than they may."""
+    status, text, calls = run(program, made, example, workers, 0)
+    step = max(1, calls // MOST)
+    numbers = [n for n in range(1, calls + 1) if n <= EACH or n % step == 0]
+    memory, wrong = 0, []
+    for number in numbers:
+        now, written, _ = run(program, made, example, workers, number)
+        if (now, written) == (8, b""):
+            memory += 1
+        elif (now, written) != (status, text):
+            wrong.append((number, now, written[:60]))
+    return len(numbers), calls, memory, wrong
+
+
+def main():
+    program = os.path.abspath(sys.argv[1])
+    names = sys.argv[2:] or sorted(it.stem for it in (ROOT / "examples").glob("*.sac"))
+    lost = 0
+    with tempfile.TemporaryDirectory() as folder:
+        made = shim(pathlib.Path(folder))
+        for name in names:
+            for workers in ("1", "4"):
+                runs, calls, memory, wrong = tries(program, made, ROOT / "examples" / name, workers)
+                print(f"{name} with {workers}: {calls} allocations, {runs} refused in turn, {memory} of them ended in status 8, {len(wrong)} wrong")
+                for number, status, written in wrong[:5]:
+                    print(f"    allocation {number}: status {status}, {written!r}")
+                lost += len(wrong)
+    return 1 if lost else 0
+
+
+if __name__ == "__main__":
+    sys.exit(main())
