@@ -1,0 +1,7 @@
+//! Tests of kernels: blocks of counted code that become kernels, and their runs.
+#![tactic(auto)]
+
+#[cfg(test)]
+mod border;
+#[cfg(test)]
+mod stencil;
