@@ -5,7 +5,7 @@ use Rattle.sac_ast.specs.Texts.{Lexeme, is_end}
 use Rattle.sac_ast.specs.Shape.{DerivesIn}
 use Rattle.sac_ast.specs.Tree.{ProgramTree}
 use Rattle.sac_ast.specs.Grammar.{Tree, rule, action, program, IsProgram}
-use Rattle.sac_ast.specs.Heights.{open_behind, IsLow, IsTreeOf}
+use Rattle.sac_ast.specs.Heights.{IsLow, IsTreeOf}
 use Rattle.sac_ast.specs.Refusals.{Starts, IsTooDeepAt}
 use Rattle.sac_grammar.specs.Run.{RunsIn}
 use Rattle.sac_grammar.specs.Tables.{first_of, ext_of, rank_of}
@@ -13,8 +13,10 @@ use Rattle.sac_grammar.specs.Parsing.{Found, Lost, TooTall}
 use Rattle.sac_grammar.specs.Verdicts.{IsRead, NoHighBefore}
 use Rattle.sac_grammar.proofs.Table.{table}
 use Rattle.sac_grammar.proofs.Exact.{read_whole, stuck_at, same_front}
-use Rattle.sac_grammar.proofs.Verdicts.{stuck_refusal, deep_refusal, tall_refusal, behind_refusal, none_high_read}
+use Rattle.sac_grammar.proofs.Verdicts.{stuck_refusal, tall_refusal, behind_refusal, none_high_read}
 use Rattle.sac_grammar.proofs.Ends.{ended}
+use Rattle.sac_refusals.specs.Words.{brackets_at}
+use Rattle.sac_refusals.proofs.Crowded.{crowded_refusal}
 use Rattle.sac_parse.specs.declared.error.ParseError.{ParseError}
 use Rattle.sac_parse.specs.Verdict.{IsRefusalOf, IsRefusalAt, IsReadOf, IsTooHigh}
 use Rattle.sac_parse.specs.Brackets.{IsWithinBrackets}
@@ -34,7 +36,7 @@ stuck_at_end : (ts read : List Lexeme) → IsReadOf ts read → Lost program rea
 stuck_at_end ts read f l none e (u, x, split, is) =
     subst (IsRefusalOf ts) (sym is)
     (⊎_elim
-    (λ (deep : 200 < open_behind 0 read). deep_refusal ts u x (subst (IsRead ts) split f.front) (subst (λ r. 200 < open_behind 0 r) split deep) (subst (λ r. Lost program r []) split l) (subst (λ r. NoHighBefore r []) split none))
+    (λ (deep : 200 < brackets_at u x). crowded_refusal ts u x (subst (IsRead ts) split f.front) deep (subst (λ r. Lost program r []) split l) (subst (λ r. NoHighBefore r []) split none))
     (λ (end : is_end x.text ≡ true). let t : IsTooDeepAt ts x.site = absurd (ended u x end (subst (λ r. Lost program r []) split l)) in t)
     (f.last u x split))
 

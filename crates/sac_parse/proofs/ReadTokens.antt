@@ -1,5 +1,5 @@
 -- The tokens that are read, as the first ones of a source.
-use Rattle.std.proofs.Common.{ℕ, zero, suc, ◌≡◌, ◌<◌, ◌≤◌, ◌+◌, ◌-◌, true, cond, List, [], ◌∷◌, ◌++◌, inl, inr, refl, sym, ap, ◌∙◌, subst, append_assoc, append-nil, arith, length, length-append, map, take, drop, get_or, min, ⊎_elim}
+use Rattle.std.proofs.Common.{ℕ, zero, suc, ◌≡◌, ◌<◌, ◌≤◌, ◌+◌, ◌-◌, Bool, true, false, not, ◌&&◌, cond, List, [], ◌∷◌, ◌++◌, inl, inr, refl, sym, ap, ◌∙◌, subst, append_assoc, append-nil, arith, length, length-append, map, take, drop, min, ⊎_elim}
 use Rattle.std.proofs.str.Laws.{order}
 use Rattle.sac_lex.specs.Cut as cut
 use Rattle.sac_lex.specs.Cut.{lexeme as cut_lexeme, IsEnded}
@@ -8,14 +8,17 @@ use Rattle.sac_lex.specs.declared.token.Token.{Token}
 use Rattle.sac_lex.specs.declared.token.TokenKind.{TokenKind}
 use Rattle.sac_lex.specs.declared.token.TokenKind.TheVariants.{End}
 use Rattle.sac_ast.specs.Texts.{Lexeme, is_end}
+use Rattle.sac_ast.specs.Shape.{matches}
 use Rattle.sac_ast.specs.Heights.{open_behind, opens, closes, IsShallow}
 use Rattle.sac_grammar.specs.Verdicts.{IsRead}
 use Rattle.sac_grammar.proofs.Machine.{false_true}
+use Rattle.std.specs.List.{list_any}
+use Rattle.sac_refusals.specs.Words.{brackets_at, bracket_words, is_bracket_word, ends_with_fold}
 use Rattle.sac_phrases.specs.Contract.{lexeme, lexemes_of}
 use Rattle.sac_parse.specs.Tokens.{lexemes}
 use Rattle.sac_parse.specs.Brackets.{IsWithinBrackets}
 use Rattle.sac_parse.specs.Verdict.{IsReadOf}
-use Rattle.sac_parse.proofs.Shallow.{open_more, take_more_token, take_lexemes}
+use Rattle.sac_parse.proofs.Shallow.{open_more, take_lexemes}
 
 -- ---- lists
 
@@ -34,6 +37,17 @@ last_same [] [] x y e = cc
 last_same [] (b ∷ v) x y e = let n = ap length e in let k = length-append v (y ∷ []) in absurd (omega arith)
 last_same (a ∷ u) [] x y e = let n = ap length e in let k = length-append u (x ∷ []) in absurd (omega arith)
 last_same (a ∷ u) (b ∷ v) x y e = let t : u ++ (x ∷ []) ≡ v ++ (y ∷ []) = cc in last_same u v x y t
+
+-- of equal lists with one more token each
+pub snoc_same : (u v : List Lexeme) (x y : Lexeme) → u ++ (x ∷ []) ≡ v ++ (y ∷ []) → (u ≡ v) × (x ≡ y)
+snoc_same [] [] x y e = (refl, let h : x ≡ y = cc in h)
+snoc_same [] (b ∷ v) x y e = let n = ap length e in let k = length-append v (y ∷ []) in absurd (omega arith)
+snoc_same (a ∷ u) [] x y e = let n = ap length e in let k = length-append u (x ∷ []) in absurd (omega arith)
+snoc_same (a ∷ u) (b ∷ v) x y e =
+    let h : a ≡ b = cc in
+    let t : u ++ (x ∷ []) ≡ v ++ (y ∷ []) = cc in
+    let s = snoc_same u v x y t in
+    (λ i. h i ∷ s.0 i, s.1)
 
 -- ---- the end token
 
@@ -103,14 +117,16 @@ is_read ts read h (inl (e, few)) = record {
   front = subst (λ r. IsRead (lexemes_of ts) (lexemes_of r)) (sym e) (all_read (lexemes_of ts) few);
   last = λ u x l. inr (ended_text ts h u x (ap lexemes_of (sym e) ∙ l));
 }
-is_read ts read h (inr (i, lt, e, few, deep)) = record {
+is_read ts read h (inr (i, e, (lt, few, (t, split, crowd)))) = record {
   front = read_by ts (lexemes_of read) i lt (ap lexemes_of e) few;
-  last = λ u x l. inl (subst (λ r. 200 < open_behind 0 (lexemes_of r)) (sym e) deep);
+  last = λ u x l.
+      let same = snoc_same (lexemes_of (take i ts)) u t x (sym split ∙ ap lexemes_of (sym e) ∙ l) in
+      inl (subst (λ (y : Lexeme). 200 < brackets_at u y) same.1 (subst (λ v. 200 < brackets_at v t) same.0 crowd));
 }
 
 pub read_some : (ts read : List Token) → IsEnded (map cut_lexeme ts) → IsWithinBrackets ts read → 0 < length read
 read_some ts read h (inl (e, few)) = let n = ap length e in let k = ended_some ts h in omega arith
-read_some ts read h (inr (i, lt, e, few, deep)) =
+read_some ts read h (inr (i, e, (lt, few, crowd))) =
     let n = ap length e in
     let a = lexemes_length (take (i + 1) ts) in
     let b = ap length (take_lexemes ts (i + 1)) in
@@ -123,16 +139,30 @@ end_opens_none : (n : ℕ) (t : List ℕ) → is_end t ≡ true → cond (opens 
 end_opens_none n [] e = refl
 end_opens_none n (c ∷ t) e = false_true e
 
+end_is_no_word : (t : Lexeme) → is_end t.text ≡ true → is_bracket_word t ≡ false
+end_is_no_word t e = no_word t.text e
+  where
+    no_word : (text : List ℕ) → is_end text ≡ true → list_any (λ f. matches f (record { text = text; site = t.site })) bracket_words ≡ false
+    no_word [] i = refl
+    no_word (c ∷ text) i = false_true i
+
+none_next : (a b : Bool) → a ≡ false → cond {A = ℕ} (a && b) 1 0 ≡ 0
+none_next true b e = false_true (sym e)
+none_next false b e = refl
+
+-- an end token is none with which there are too many brackets
+end_is_shallow : (u : List Lexeme) (x : Lexeme) → is_end x.text ≡ true → open_behind 0 u ≤ 200 → 200 < brackets_at u x → ⊥
+end_is_shallow u x e few crowd =
+    let same : open_behind 0 (u ++ (x ∷ [])) ≡ open_behind 0 u = open_more 0 u x ∙ end_opens_none (open_behind 0 u) x.text e in
+    let none = none_next (is_bracket_word x) (not (ends_with_fold u)) (end_is_no_word x e) in
+    absurd (omega arith)
+
 pub whole_read : (ts read : List Token) → IsWithinBrackets ts read → (u : List Lexeme) (x : Lexeme) → lexemes_of read ≡ u ++ (x ∷ []) → is_end x.text ≡ true → (read ≡ ts) × IsShallow (lexemes_of ts)
 whole_read ts read (inl w) u x l end = w
-whole_read [] read (inr (i, lt, e, few, deep)) u x l end = absurd (omega arith)
-whole_read (t ∷ ts) read (inr (i, lt, e, few, deep)) u x l end =
-    let more = take_more_token (t ∷ ts) i t lt in
-    let last : lexeme (get_or (t ∷ ts) i t) ≡ x = last_same (lexemes_of (take i (t ∷ ts))) u (lexeme (get_or (t ∷ ts) i t)) x (sym more ∙ ap lexemes_of (sym e) ∙ l) in
-    let n = open_behind 0 (lexemes_of (take i (t ∷ ts))) in
-    let same : open_behind 0 (lexemes_of (take (i + 1) (t ∷ ts))) ≡ n = ap (open_behind 0) more ∙ open_more 0 (lexemes_of (take i (t ∷ ts))) (lexeme (get_or (t ∷ ts) i t)) ∙ ap (λ (y : Lexeme). open_behind n (y ∷ [])) last ∙ end_opens_none n x.text end in
-    let k = few (lexemes_of (take i (t ∷ ts))) [] (sym (append-nil (lexemes_of (take i (t ∷ ts))))) in
-    absurd (omega arith)
+whole_read ts read (inr (i, e, (lt, few, (t, split, crowd)))) u x l end =
+    let same = snoc_same (lexemes_of (take i ts)) u t x (sym split ∙ ap lexemes_of (sym e) ∙ l) in
+    let k = few (lexemes_of (take i ts)) [] (sym (append-nil (lexemes_of (take i ts)))) in
+    absurd (end_is_shallow (lexemes_of (take i ts)) t (subst (λ (y : Lexeme). is_end y.text ≡ true) (sym same.1) end) k crowd)
 
 -- ---- the view of tokens
 

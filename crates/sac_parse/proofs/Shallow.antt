@@ -1,9 +1,13 @@
 -- Brackets that are depth behind the tokens, one more token at a time.
-use Rattle.std.proofs.Common.{ℕ, zero, suc, ◌≡◌, ◌<◌, ◌≤◌, ◌+◌, ◌-◌, cond, List, [], ◌∷◌, ◌++◌, length, take, get_or, refl, sym, ap, ◌∙◌, subst, arith, length-append, length-take-le, ⊎_elim}
+use Rattle.std.proofs.Common.{ℕ, zero, suc, ◌≡◌, ◌<◌, ◌≤◌, ◌+◌, ◌-◌, cond, Bool, ◌&&◌, not, true, false, List, [], ◌∷◌, ◌++◌, length, take, drop, get_or, codes, refl, sym, ap, ◌∙◌, subst, arith, length-append, length-take-le, ⊎_elim}
 use Rattle.std.proofs.str.Laws.{order}
 use Rattle.sac_ast.specs.Texts.{Lexeme}
 use Rattle.sac_lex.specs.declared.token.Token.{Token}
 use Rattle.sac_phrases.specs.Contract.{lexeme, lexemes_of}
+use Rattle.std.specs.Str.{bytes_eq}
+use Rattle.sac_grammar.specs.Run.{starts}
+use Rattle.sac_refusals.specs.Words.{bracket_words, ends_with_fold, opens_next}
+use Rattle.sac_parse.specs.Brackets.{IsCrowdedAt}
 use Rattle.sac_ast.specs.Heights.{opens, closes, open_behind, IsShallow}
 
 pub open_more : (n : ℕ) (ts : List Lexeme) (t : Lexeme) → open_behind n (ts ++ (t ∷ [])) ≡ open_behind (open_behind n ts) (t ∷ [])
@@ -74,3 +78,43 @@ take_whole (t ∷ ts) = ap (λ l. t ∷ l) (take_whole ts)
 
 pub shallow_whole : (ts : List Token) (i depth : ℕ) → i ≡ length ts → Open ts i depth → IsShallow (lexemes_of ts)
 shallow_whole ts i depth e o = subst (λ l. IsShallow (lexemes_of l)) (ap (λ n. take n ts) e ∙ take_whole ts) (shallow ts i depth (omega arith) o)
+
+-- ---- words behind which a bracket opens
+
+drop_more : (ts : List Token) (i : ℕ) (d : Token) → i < length ts → lexemes_of (drop i ts) ≡ lexeme (get_or ts i d) ∷ lexemes_of (drop (i + 1) ts)
+drop_more [] i d le = absurd (omega arith)
+drop_more (x ∷ ts) zero d le = refl
+drop_more (x ∷ ts) (suc i) d le = drop_more ts i d (omega arith) ∙ ap (λ n. lexeme (get_or ts i d) ∷ lexemes_of (drop n (x ∷ ts))) (let q : suc (i + 1) ≡ suc i + 1 = omega arith in q)
+
+-- the token at which the loop stops
+pub crowded : (ts before rest : List Token) (i depth next all : ℕ) (d : Token) → Open ts i depth → i < length ts → next ≡ open_behind depth (lexeme (get_or ts i d) ∷ []) → before ≡ take i ts → rest ≡ drop i ts → ((t : Lexeme) (r : List Lexeme) → lexemes_of rest ≡ t ∷ r → all ≡ next + cond (opens_next (lexemes_of before) t) 1 0) → 200 < all → IsCrowdedAt ts i
+crowded ts before rest i depth next all d o le n b r w h =
+    let t = lexeme (get_or ts i d) in
+    let more = take_more_token ts i d le in
+    let at : next ≡ open_behind 0 (lexemes_of (take i ts) ++ (t ∷ [])) = open_at ts i depth next d o le n ∙ ap (open_behind 0) more in
+    let whole : all ≡ next + cond (opens_next (lexemes_of (take i ts)) t) 1 0 = w t (lexemes_of (drop (i + 1) ts)) (ap lexemes_of r ∙ drop_more ts i d le) ∙ ap (λ l. next + cond (opens_next (lexemes_of l) t) 1 0) b in
+    (t, more, subst (λ m. 200 < m) (whole ∙ ap (λ m. m + cond (opens_next (lexemes_of (take i ts)) t) 1 0) at) h)
+
+-- ---- the operator of a fold
+
+pub two_last : (ts : List Token) (n m : ℕ) (d e : Token) → length ts ≡ n + 2 → m ≡ n + 1 → (bytes_eq (codes "fold") (get_or ts n d).text.now && bytes_eq (codes "(") (get_or ts m e).text.now) ≡ ends_with_fold (lexemes_of ts)
+two_last [] n m d e l k = absurd (omega arith)
+two_last (a ∷ []) n m d e l k = absurd (omega arith)
+two_last (a ∷ b ∷ []) zero zero d e l k = absurd (omega arith)
+two_last (a ∷ b ∷ []) zero (suc zero) d e l k = refl
+two_last (a ∷ b ∷ []) zero (suc (suc m)) d e l k = absurd (omega arith)
+two_last (a ∷ b ∷ []) (suc n) m d e l k = absurd (omega arith)
+two_last (a ∷ b ∷ c ∷ ts) zero m d e l k = absurd (omega arith)
+two_last (a ∷ b ∷ c ∷ ts) (suc n) zero d e l k = absurd (omega arith)
+two_last (a ∷ b ∷ c ∷ ts) (suc n) (suc m) d e l k = two_last (b ∷ c ∷ ts) n m d e (omega arith) (omega arith)
+
+pub few_tokens : (ts : List Token) → length ts < 2 → false ≡ ends_with_fold (lexemes_of ts)
+few_tokens [] l = refl
+few_tokens (a ∷ []) l = refl
+few_tokens (a ∷ b ∷ ts) l = absurd (omega arith)
+
+pub next_there : (b o : Bool) (before rest : List Token) → b ≡ starts bracket_words (lexemes_of rest) → b ≡ true → o ≡ ends_with_fold (lexemes_of before) → (t : Lexeme) (r : List Lexeme) → lexemes_of rest ≡ t ∷ r → not o ≡ opens_next (lexemes_of before) t
+next_there b o before rest e word f t r split = ap not f ∙ ap (λ x. x && not (ends_with_fold (lexemes_of before))) (sym word ∙ e ∙ ap (starts bracket_words) split)
+
+pub next_none : (b : Bool) (before rest : List Token) → b ≡ starts bracket_words (lexemes_of rest) → b ≡ false → (t : Lexeme) (r : List Lexeme) → lexemes_of rest ≡ t ∷ r → b ≡ opens_next (lexemes_of before) t
+next_none b before rest e word t r split = word ∙ ap (λ x. x && not (ends_with_fold (lexemes_of before))) (sym word ∙ e ∙ ap (starts bracket_words) split)

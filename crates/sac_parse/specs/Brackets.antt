@@ -1,16 +1,21 @@
 -- The tokens that are read, as far as the limit on open brackets allows it.
-use Rattle.std.specs.Prelude.{ℕ, ◌≡◌, ◌<◌, ◌+◌, List, take, length, ◌⊎◌}
+use Rattle.std.specs.Prelude.{ℕ, ◌≡◌, ◌<◌, ◌+◌, List, [], ◌∷◌, ◌++◌, take, length, ◌⊎◌}
 use Rattle.sac_lex.specs.declared.token.Token.{Token}
-use Rattle.sac_ast.specs.Heights.{open_behind, IsShallow}
+use Rattle.sac_ast.specs.Texts.{Lexeme}
+use Rattle.sac_ast.specs.Heights.{IsShallow}
+use Rattle.sac_refusals.specs.Words.{brackets_at}
 use Rattle.sac_phrases.specs.Contract.{lexemes_of}
 
--- the first token at which too many brackets are open is the one at this place
-abbrev pub IsFirstTooDeep : List Token → ℕ → Type 0
-IsFirstTooDeep ts i = (i < length ts) × IsShallow (lexemes_of (take i ts)) × (200 < open_behind 0 (lexemes_of (take (i + 1) ts)))
+-- with the token at this place, more brackets are open or must open than the limit allows
+abbrev pub IsCrowdedAt : List Token → ℕ → Type 0
+IsCrowdedAt ts i =
+    (t : Lexeme) × (lexemes_of (take (i + 1) ts) ≡ lexemes_of (take i ts) ++ (t ∷ [])) × (200 < brackets_at (lexemes_of (take i ts)) t)
 
--- at no token are too many brackets open, or first at the one at this place
+-- the first such token is the one at this place
+abbrev pub IsFirstCrowded : List Token → ℕ → Type 0
+IsFirstCrowded ts i = (i < length ts) × IsShallow (lexemes_of (take i ts)) × IsCrowdedAt ts i
+
+-- there is no such token, or the first one is at this place
 abbrev pub IsWithinBrackets : List Token → List Token → Type 0
 IsWithinBrackets ts read =
-    ((read ≡ ts) × IsShallow (lexemes_of ts))
-    ⊎ ((i : ℕ) × (i < length ts) × (read ≡ take (i + 1) ts) × IsShallow (lexemes_of (take i ts))
-    × (200 < open_behind 0 (lexemes_of (take (i + 1) ts))))
+    ((read ≡ ts) × IsShallow (lexemes_of ts)) ⊎ ((i : ℕ) × (read ≡ take (i + 1) ts) × IsFirstCrowded ts i)

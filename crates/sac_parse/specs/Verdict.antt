@@ -3,11 +3,12 @@ use Rattle.std.specs.Prelude.{◌≡◌, ◌<◌, true, List, [], ◌∷◌, ◌
 use Rattle.sac_ast.specs.declared.Program.{Program}
 use Rattle.sac_ast.specs.Texts.{Lexeme, is_end}
 use Rattle.sac_ast.specs.Grammar.{program}
-use Rattle.sac_ast.specs.Heights.{IsTreeOf, open_behind}
+use Rattle.sac_ast.specs.Heights.{IsTreeOf}
 use Rattle.sac_ast.specs.Refusals.{IsStuckAt, IsTooDeepAt}
 use Rattle.sac_ast.specs.View as View
 use Rattle.sac_grammar.specs.Parsing.{TooTall}
 use Rattle.sac_grammar.specs.Verdicts.{IsRead, NoHighBefore}
+use Rattle.sac_refusals.specs.Words.{brackets_at}
 use Rattle.sac_parse.specs.declared.error.ParseCode.TheVariants.{P1, P2}
 use Rattle.sac_parse.specs.declared.error.ParseError.{ParseError}
 use Rattle.sac_parse.specs.declared.error.ParseError.TheVariants.{Refused, Memory}
@@ -28,10 +29,10 @@ abbrev pub IsRefusalAt : List Lexeme → List Lexeme → ParseError → Type 0
 IsRefusalAt read (x ∷ r) e = e ≡ Refused P1 x.site
 IsRefusalAt read [] e = (u : List Lexeme) × (x : Lexeme) × (read ≡ u ++ (x ∷ [])) × (e ≡ Refused P2 x.site)
 
--- the tokens that are read: with the last one too many brackets are open, or it is the end token
+-- the tokens that are read: with the last one too many brackets are open or must open, or it is the end token
 pub record IsReadOf (ts read : List Lexeme) : Type 0 where
   pub front : IsRead ts read
-  pub last : (u : List Lexeme) (x : Lexeme) → read ≡ u ++ (x ∷ []) → (200 < open_behind 0 read) ⊎ (is_end x.text ≡ true)
+  pub last : (u : List Lexeme) (x : Lexeme) → read ≡ u ++ (x ∷ []) → (200 < brackets_at u x) ⊎ (is_end x.text ≡ true)
 
 -- a program of the tokens is too high with the first token of the rest
 pub record IsTooHigh (ts read rest : List Lexeme) : Type 0 where

@@ -8,6 +8,7 @@ ghost use Rattle.sac_ast.specs.Tree.{ProgramTree};
 ghost use Rattle.sac_ast.specs.Heights.{IsTreeOf};
 ghost use Rattle.sac_ast.specs.Refusals.{IsStuckAt, IsTooDeepAt};
 ghost use Rattle.sac_refusals.specs.Stops.{IsFirstStop, IsFirstStuck, IsFirstTooDeep};
+ghost use Rattle.sac_refusals.specs.Words.{WordsOpenBrackets, CrowdedTokensStop, CrowdedTokensAreRefused};
 
 /// Laws of the first token with which no program within the limits starts: there is one at most, none where the tokens have a tree, and a refusal
 /// there meets the bounds that the parser keeps.
@@ -17,4 +18,13 @@ pub fn first_stops()
     ensures stuck { (ts : List Lexeme) (s : Site) → IsFirstStuck ts s → IsStuckAt ts s }
     ensures deep { (ts : List Lexeme) (s : Site) → IsFirstTooDeep ts s → IsTooDeepAt ts s }
     ensures no_tree { (ts : List Lexeme) (s : Site) (p : ProgramTree) → IsFirstStop ts s → IsTreeOf ts p → ⊥ }
+{}
+
+/// Laws of words behind which a bracket opens: it does in each program, and no program within the limits starts with such a word where
+/// as many brackets as may be are open.
+pub fn words_open_brackets()
+    ensures opened { WordsOpenBrackets }
+    ensures crowded { CrowdedTokensStop }
+    // The parser's refusal where it is stuck behind such a token, the last one that it reads.
+    ensures refused { CrowdedTokensAreRefused }
 {}
