@@ -18,7 +18,7 @@ use buffer_heap::Heap;
 use counted_code::CodeGen;
 use phase_cells::CellRuns;
 use phase_team::CellEnd;
-use run_eval::{Context, PhaseCount, State, cell_of_gens};
+use run_eval::{CellSource, Context, PhaseCount, State, cell_in_order};
 use run_store::Store;
 use run_values::Frames;
 use sac_base::{Cell, Memory, Stop};
@@ -100,9 +100,10 @@ fn gens_at(
     ensures lender { lender_of state.new.heap ≡ lender_of state.old.heap }
 {
     cells.plan.frame.index(position, index)?;
-    let value = cell_of_gens(
-        cells.gens,
-        cells.plan,
+    let value = cell_in_order(
+        &CellSource::Generators(cells.gens),
+        &cells.plan.ranges,
+        &cells.plan.form,
         index.components(),
         &cells.context,
         state,

@@ -18,7 +18,7 @@ use buffer_heap::Heap;
 use counted_code::CodePart;
 use phase_cells::CellRuns;
 use phase_team::CellEnd;
-use run_eval::{Context, PhaseCount, State, cell_of_parts};
+use run_eval::{CellSource, Context, PhaseCount, State, cell_in_order};
 use run_store::Store;
 use run_values::Frames;
 use sac_base::{Cell, Form, Memory, Stop};
@@ -98,8 +98,9 @@ fn parts_at(
     ensures lender { lender_of state.new.heap ≡ lender_of state.old.heap }
 {
     cells.frame.index(position, index)?;
-    let value = cell_of_parts(
-        cells.parts,
+    let value = cell_in_order(
+        &CellSource::Parts(cells.parts),
+        &[],
         cells.form,
         index.components(),
         &cells.context,

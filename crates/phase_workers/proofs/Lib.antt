@@ -4,6 +4,7 @@ mod Covering
 mod Ending
 mod FoldEnding
 mod Handing
+mod LoopKinds
 mod Machines
 mod Openings
 mod PartFolds

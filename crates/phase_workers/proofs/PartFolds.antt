@@ -49,9 +49,9 @@ use Rattle.phase_workers.proofs.Openings.{AreReferred}
 use Rattle.phase_workers.proofs.PartedEnding.{alone_parts}
 
 module _ (context : Context) (h : HeapValue) (e : Values) (parts : List CodePart) (xs : List Var) (counted : IsWellCounted (code_program context.code.now)) (unmarked : IsUnmarked (code_program context.code.now)) (here : PartsIn (code_program context.code.now) (parts_term parts) xs) (alive : AreAlive h e xs) (referred : AreReferred h) where
-  module _ (form : Form) (indices : List (List ℤ)) (op : Op) (neutral : ArrayValue) (allowed : IsTrue (folds form.base op)) (fits : IsTrue (fits_form form neutral)) (full : IsFull neutral) (m : Heap) where
+  module _ (form : Form) (indices : List (List ℤ)) (shape : List ℕ) (op : Op) (neutral : ArrayValue) (allowed : IsTrue (folds form.base op)) (fits : IsTrue (fits_form form neutral)) (full : IsFull neutral) (m : Heap) where
     abbrev job : Job
-    job = fold_parts_job context e parts indices form op neutral
+    job = fold_parts_job context e parts indices form shape op neutral
 
     abbrev spent : ℕ
     spent = cost_from (parts_taken context h e parts indices) 0 (length indices)

@@ -30,7 +30,7 @@ use counted_code::CodeGen;
 use phase_checks::gens_are_counted;
 use phase_loop_cells::WithCells;
 use phase_team::Gate;
-use run_eval::{Context, State, fold_in_order};
+use run_eval::{CellLoop, CellSource, Context, LoopResult, State, run_in_order};
 use run_store::Target;
 use run_values::{Frames, RunValue};
 use sac_base::{Array, Base, Cell, Op, Stop};
@@ -59,11 +59,11 @@ pub fn fold_outside<G: Gate, R: Threads + Sync>(
         || !is_fold(plan, op, &neutral)
         || !workers.nesting.has_room_for_gens(gens, context.code.get())
     {
-        return fold_in_order(gens, plan, op, neutral, context, state);
+        return fold_in_order(gens, plan, op, &neutral, context, state);
     }
     let live = alive_in_gens(context.alloc, gens, &state.frames, &state.heap.own)?;
     if !gens_are_counted(context.alloc, context.code.get(), &live, gens)? {
-        return fold_in_order(gens, plan, op, neutral, context, state);
+        return fold_in_order(gens, plan, op, &neutral, context, state);
     }
     fold_by_workers(workers, gens, plan, op, neutral, context, &live, state)
 }
@@ -83,6 +83,31 @@ pub fn folds(base: Base, op: Op) -> bool
         Base::Int => matches!(op, Op::Add | Op::Mul | Op::Min | Op::Max),
         Base::Bool => matches!(op, Op::And | Op::Or),
     }
+}
+
+// The same in order.
+fn fold_in_order(
+    gens: &[CodeGen],
+    plan: &Plan,
+    op: Op,
+    neutral: &Array,
+    context: &Context<'_>,
+    state: &mut State<'_>,
+) -> Result<RunValue, Stop>
+    ensures told { (m : MachineHeap) → IsAt state.old m
+        → Told IsValue result state.new
+        (job_does None (fold_job context.now (current state.old.frames) m gens.now (plan_of plan.now) op neutral.now) m) }
+    ensures scopes { OnOk result (SameScopes state.old.frames state.new.frames) }
+    ensures lender { lender_of state.new.heap ≡ lender_of state.old.heap }
+{
+    let source = CellSource::Generators(gens);
+    let result = LoopResult::Folded { op, neutral };
+    let work = CellLoop {
+        source,
+        plan,
+        result,
+    };
+    run_in_order(&work, context, state)
 }
 
 /// The result of a fold whose cells stand alone. The neutral value has their form.

@@ -17,7 +17,7 @@ mod team;
 
 pub use folds::fold_outside;
 pub use nesting::Nesting;
-pub use outside::array_outside;
+pub use outside::{array_outside, loop_outside};
 pub use part_folds::fold_parts_outside;
 pub use parted::parts_outside;
 pub use phase_team::{Gate, NoGate};

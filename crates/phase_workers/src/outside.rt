@@ -1,8 +1,9 @@
-//! With-loops that stand outside of cells.
+//! Loops over cells that stand outside of cells.
 
 ghost use Rattle.std.specs.Prelude.{◌≡◌, None, OnOk};
 ghost use Rattle.counted_code.specs.Loops.{job_does};
 ghost use Rattle.counted_code.specs.Values.{Heap as MachineHeap};
+ghost use Rattle.run_eval.specs.Jobs.{job_of};
 ghost use Rattle.run_eval.specs.Running.{IsAt, IsValue, SameScopes, Told, array_job};
 ghost use Rattle.run_store.specs.Stands.{lender_of};
 ghost use Rattle.run_values.specs.Scopes.{current};
@@ -10,16 +11,52 @@ ghost use Rattle.array_with_loops.specs.Plans.{plan_of};
 
 use crate::alive::alive_in_gens;
 use crate::arrays::array_by_workers;
+use crate::folds::fold_outside;
+use crate::part_folds::fold_parts_outside;
+use crate::parted::parts_outside;
 use crate::team::Workers;
 use array_with_loops::Plan;
 use counted_code::CodeGen;
 use phase_checks::gens_are_counted;
 use phase_team::Gate;
-use run_eval::{Context, State, array_in_order};
+use run_eval::{CellLoop, CellSource, Context, LoopResult, State, run_in_order};
 use run_store::is_small;
 use run_values::RunValue;
-use sac_base::{Array, Stop};
+use sac_base::{Array, Stop, copy_array};
 use std::thread::Threads;
+
+/// The result of a loop whose checks have passed. It is run by the workers where it is a phase, its cells are known to stand
+/// alone and none nests too deep, and else in order.
+pub fn loop_outside<G: Gate, R: Threads + Sync>(
+    workers: &Workers<'_, G, R>,
+    work: &CellLoop<'_>,
+    context: &Context<'_>,
+    state: &mut State<'_>,
+) -> Result<RunValue, Stop>
+    ensures told { (m : MachineHeap) → IsAt state.old m
+        → Told IsValue result state.new (job_does None (job_of context.now (current state.old.frames) m work.now) m) }
+    ensures scopes { OnOk result (SameScopes state.old.frames state.new.frames) }
+    ensures lender { lender_of state.new.heap ≡ lender_of state.old.heap }
+{
+    let plan = work.plan;
+    match (work.source, work.result) {
+        (CellSource::Generators(gens), LoopResult::Filled { array, old }) => {
+            array_outside(workers, gens, plan, array, old, context, state)
+        }
+        (CellSource::Generators(gens), LoopResult::Folded { op, neutral }) => {
+            let neutral = copy_array(neutral)?;
+            fold_outside(workers, gens, plan, op, neutral, context, state)
+        }
+        (CellSource::Parts(parts), LoopResult::Joined) => {
+            parts_outside(workers, parts, plan, context, state)
+        }
+        (CellSource::Parts(parts), LoopResult::Folded { op, neutral }) => {
+            let neutral = copy_array(neutral)?;
+            fold_parts_outside(workers, parts, plan, op, neutral, context, state)
+        }
+        _ => run_in_order(work, context, state),
+    }
+}
 
 /// The result of a genarray or modarray whose checks have passed. It is run by the workers where it is a phase, its
 /// cells are known to stand alone and none nests too deep, and else in order.
@@ -49,4 +86,29 @@ pub fn array_outside<G: Gate, R: Threads + Sync>(
         return array_in_order(gens, plan, array, old, context, state);
     }
     array_by_workers(workers, gens, plan, array, old, context, &live, state)
+}
+
+// The same in order.
+fn array_in_order(
+    gens: &[CodeGen],
+    plan: &Plan,
+    array: &Array,
+    old: bool,
+    context: &Context<'_>,
+    state: &mut State<'_>,
+) -> Result<RunValue, Stop>
+    ensures told { (m : MachineHeap) → IsAt state.old m
+        → Told IsValue result state.new
+        (job_does None (array_job context.now (current state.old.frames) m gens.now (plan_of plan.now) array.now old) m) }
+    ensures scopes { OnOk result (SameScopes state.old.frames state.new.frames) }
+    ensures lender { lender_of state.new.heap ≡ lender_of state.old.heap }
+{
+    let source = CellSource::Generators(gens);
+    let result = LoopResult::Filled { array, old };
+    let work = CellLoop {
+        source,
+        plan,
+        result,
+    };
+    run_in_order(&work, context, state)
 }

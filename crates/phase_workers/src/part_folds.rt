@@ -23,14 +23,14 @@ use crate::folds::folds;
 use crate::parted::shares;
 use crate::results::{Begun, Books, begin_phase, end_phase, finish_phase, stop_phase};
 use crate::team::{Workers, compute_fold};
-use array_with_loops::{Frame, fits_form};
+use array_with_loops::{Frame, Plan, fits_form};
 use buffer_heap::Heap;
 use core_ir::Var;
 use counted_code::{Code, CodePart};
 use phase_checks::parts_are_counted;
 use phase_loop_cells::PartCells;
 use phase_team::Gate;
-use run_eval::{Context, State, fold_parts_in_order};
+use run_eval::{CellLoop, CellSource, Context, LoopResult, State, run_in_order};
 use run_store::Target;
 use run_values::{Frames, RunValue};
 use sac_base::{Array, Cell, Form, Op, Stop};
@@ -40,8 +40,7 @@ use std::thread::Threads;
 pub fn fold_parts_outside<G: Gate, R: Threads + Sync>(
     workers: &Workers<'_, G, R>,
     parts: &[CodePart],
-    frame: &Frame,
-    form: &Form,
+    plan: &Plan,
     op: Op,
     neutral: Array,
     context: &Context<'_>,
@@ -49,25 +48,23 @@ pub fn fold_parts_outside<G: Gate, R: Threads + Sync>(
 ) -> Result<RunValue, Stop>
     ensures told { (m : MachineHeap) → IsAt state.old m
         → Told IsValue result state.new
-        (job_does None (fold_parts_job context.now (current state.old.frames) parts.now frame.now form.now op neutral) m) }
+        (job_does None (fold_parts_job context.now (current state.old.frames) parts.now plan.now.frame plan.now.form plan.now.shape op neutral) m) }
     ensures scopes { OnOk result (SameScopes state.old.frames state.new.frames) }
     ensures lender { lender_of state.new.heap ≡ lender_of state.old.heap }
 {
     if state.heap.lent.is_some()
-        || !is_fold(form, op, &neutral)
+        || !is_fold(&plan.form, op, &neutral)
         || !workers
             .nesting
             .has_room_for_parts(parts, context.code.get())
     {
-        return fold_parts_in_order(parts, frame, form, op, neutral, context, state);
+        return fold_parts_in_order(parts, plan, op, &neutral, context, state);
     }
     let live = alive_in_parts(context.alloc, parts, &state.frames, &state.heap.own)?;
     if !parts_are_counted(context.alloc, context.code.get(), &live, parts)? {
-        return fold_parts_in_order(parts, frame, form, op, neutral, context, state);
+        return fold_parts_in_order(parts, plan, op, &neutral, context, state);
     }
-    fold_parts_by_workers(
-        workers, parts, frame, form, op, neutral, context, &live, state,
-    )
+    fold_parts_by_workers(workers, parts, plan, op, neutral, context, &live, state)
 }
 
 // Whether the operator folds cells of a form, which the neutral value has as well.
@@ -78,12 +75,36 @@ fn is_fold(form: &Form, op: Op, neutral: &Array) -> bool
     folds(form.base, op) && fits_form(form, neutral)
 }
 
+// The same in order.
+fn fold_parts_in_order(
+    parts: &[CodePart],
+    plan: &Plan,
+    op: Op,
+    neutral: &Array,
+    context: &Context<'_>,
+    state: &mut State<'_>,
+) -> Result<RunValue, Stop>
+    ensures told { (m : MachineHeap) → IsAt state.old m
+        → Told IsValue result state.new (job_does None
+        (fold_parts_job context.now (current state.old.frames) parts.now plan.now.frame plan.now.form plan.now.shape op neutral.now) m) }
+    ensures scopes { OnOk result (SameScopes state.old.frames state.new.frames) }
+    ensures lender { lender_of state.new.heap ≡ lender_of state.old.heap }
+{
+    let source = CellSource::Parts(parts);
+    let result = LoopResult::Folded { op, neutral };
+    let work = CellLoop {
+        source,
+        plan,
+        result,
+    };
+    run_in_order(&work, context, state)
+}
+
 // The result of a parted fold whose cells stand alone. The neutral value has their form.
 fn fold_parts_by_workers<G: Gate, R: Threads + Sync>(
     workers: &Workers<'_, G, R>,
     parts: &[CodePart],
-    frame: &Frame,
-    form: &Form,
+    plan: &Plan,
     op: Op,
     neutral: Array,
     context: &Context<'_>,
@@ -93,26 +114,26 @@ fn fold_parts_by_workers<G: Gate, R: Threads + Sync>(
     requires counted { PartsIn (code_program context.now.code.now) (parts_term parts.now) live.now }
     requires alive { AreAlive state.old.heap.own (current state.old.frames) live.now }
     requires alone { state.old.heap.lent ≡ None }
-    requires op { IsTrue (folds_value form.now.base op) }
-    requires form { IsTrue (fits_form_value form.now neutral) }
+    requires op { IsTrue (folds_value plan.now.form.base op) }
+    requires form { IsTrue (fits_form_value plan.now.form neutral) }
     ensures told { (m : MachineHeap) → IsAt state.old m
         → Told IsValue result state.new
-        (job_does None (fold_parts_job context.now (current state.old.frames) parts.now frame.now form.now op neutral) m) }
+        (job_does None (fold_parts_job context.now (current state.old.frames) parts.now plan.now.frame plan.now.form plan.now.shape op neutral) m) }
     ensures scopes { OnOk result (SameScopes state.old.frames state.new.frames) }
     ensures lender { lender_of state.new.heap ≡ lender_of state.old.heap }
 {
     let _code = context.code.get();
     let _cells = neutral.cells();
     let mut value = neutral.into_cells();
-    let begun = begin_phase(context.alloc, &form.shape, state)?;
+    let begun = begin_phase(context.alloc, &plan.shape, state)?;
     let Begun { target, mut books } = begun;
     let Target { cells: _, buffer } = target;
     state.heap.own.buffers_are_numbered();
     let end = fold_part_cells(
         workers,
         parts,
-        frame,
-        form,
+        &plan.frame,
+        &plan.form,
         op,
         context,
         live,
@@ -128,7 +149,7 @@ fn fold_parts_by_workers<G: Gate, R: Threads + Sync>(
                 cells: value,
                 buffer,
             };
-            finish_phase(target, form.base, &form.shape, state)
+            finish_phase(target, plan.form.base, &plan.form.shape, state)
         }
         Err(Stop::Faulted(fault)) => {
             stop_phase(books, state);

@@ -22,17 +22,17 @@ use crate::alive::alive_in_parts;
 use crate::covered::{CoveredCells, believed};
 use crate::results::{Begun, Books, begin_phase, end_phase, finish_phase, stop_phase};
 use crate::team::{Workers, compute_array};
-use array_with_loops::Frame;
+use array_with_loops::{Frame, Plan};
 use buffer_heap::Heap;
 use core_ir::Var;
 use counted_code::{Code, CodePart};
 use phase_checks::parts_are_counted;
 use phase_loop_cells::PartCells;
 use phase_team::Gate;
-use run_eval::{Context, State, parts_in_order};
+use run_eval::{CellLoop, CellSource, Context, LoopResult, State, run_in_order};
 use run_store::{Target, is_small};
 use run_values::{Frames, RunValue};
-use sac_base::{Cell, Form, Shape, Stop, elements};
+use sac_base::{Cell, Form, Stop, elements};
 use std::thread::Threads;
 
 /// The result of a parted loop that is no fold. It is run by the workers where it is a phase, its cells are known to stand
@@ -40,39 +40,58 @@ use std::thread::Threads;
 pub fn parts_outside<G: Gate, R: Threads + Sync>(
     workers: &Workers<'_, G, R>,
     parts: &[CodePart],
-    frame: &Frame,
-    form: &Form,
-    shape: &Shape,
+    plan: &Plan,
     context: &Context<'_>,
     state: &mut State<'_>,
 ) -> Result<RunValue, Stop>
     ensures told { (m : MachineHeap) → IsAt state.old m
-        → Told IsValue result state.new (job_does None (parts_job context.now (current state.old.frames) parts.now frame.now form.now shape.now) m) }
+        → Told IsValue result state.new (job_does None (parts_job context.now (current state.old.frames) parts.now plan.now.frame plan.now.form plan.now.shape) m) }
     ensures scopes { OnOk result (SameScopes state.old.frames state.new.frames) }
     ensures lender { lender_of state.new.heap ≡ lender_of state.old.heap }
 {
-    if is_small(shape)
+    if is_small(&plan.shape)
         || state.heap.lent.is_some()
         || !workers
             .nesting
             .has_room_for_parts(parts, context.code.get())
     {
-        return parts_in_order(parts, frame, form, shape, context, state);
+        return parts_in_order(parts, plan, context, state);
     }
     let live = alive_in_parts(context.alloc, parts, &state.frames, &state.heap.own)?;
     if !parts_are_counted(context.alloc, context.code.get(), &live, parts)? {
-        return parts_in_order(parts, frame, form, shape, context, state);
+        return parts_in_order(parts, plan, context, state);
     }
-    parts_by_workers(workers, parts, frame, form, shape, context, &live, state)
+    parts_by_workers(workers, parts, plan, context, &live, state)
+}
+
+// The same in order.
+fn parts_in_order<'a>(
+    parts: &'a [CodePart],
+    plan: &'a Plan,
+    context: &Context<'_>,
+    state: &mut State<'_>,
+) -> Result<RunValue, Stop>
+    ensures told { (m : MachineHeap) → IsAt state.old m
+        → Told IsValue result state.new
+        (job_does None (parts_job context.now (current state.old.frames) parts.now plan.now.frame plan.now.form plan.now.shape) m) }
+    ensures scopes { OnOk result (SameScopes state.old.frames state.new.frames) }
+    ensures lender { lender_of state.new.heap ≡ lender_of state.old.heap }
+{
+    let source = CellSource::Parts(parts);
+    let result = LoopResult::Joined;
+    let work = CellLoop {
+        source,
+        plan,
+        result,
+    };
+    run_in_order(&work, context, state)
 }
 
 // The same of a loop that is a phase, whose cells stand alone.
 fn parts_by_workers<G: Gate, R: Threads + Sync>(
     workers: &Workers<'_, G, R>,
     parts: &[CodePart],
-    frame: &Frame,
-    form: &Form,
-    shape: &Shape,
+    plan: &Plan,
     context: &Context<'_>,
     live: &[Var],
     state: &mut State<'_>,
@@ -80,22 +99,22 @@ fn parts_by_workers<G: Gate, R: Threads + Sync>(
     requires counted { PartsIn (code_program context.now.code.now) (parts_term parts.now) live.now }
     requires alive { AreAlive state.old.heap.own (current state.old.frames) live.now }
     requires alone { state.old.heap.lent ≡ None }
-    requires large { is_small_shape shape.now ≡ false }
+    requires large { is_small_shape plan.now.shape ≡ false }
     ensures told { (m : MachineHeap) → IsAt state.old m
-        → Told IsValue result state.new (job_does None (parts_job context.now (current state.old.frames) parts.now frame.now form.now shape.now) m) }
+        → Told IsValue result state.new (job_does None (parts_job context.now (current state.old.frames) parts.now plan.now.frame plan.now.form plan.now.shape) m) }
     ensures scopes { OnOk result (SameScopes state.old.frames state.new.frames) }
     ensures lender { lender_of state.new.heap ≡ lender_of state.old.heap }
 {
     let _code = context.code.get();
-    let begun = begin_phase(context.alloc, shape, state)?;
+    let begun = begin_phase(context.alloc, &plan.shape, state)?;
     state.heap.own.buffers_are_numbered();
     let Begun { target, mut books } = begun;
     let Target { mut cells, buffer } = target;
     let end = part_cells(
         workers,
         parts,
-        frame,
-        form,
+        &plan.frame,
+        &plan.form,
         context,
         live,
         &state.frames,
@@ -106,7 +125,7 @@ fn parts_by_workers<G: Gate, R: Threads + Sync>(
     match end {
         Ok(_) => {
             end_phase(books, state);
-            finish_phase(Target { cells, buffer }, form.base, shape, state)
+            finish_phase(Target { cells, buffer }, plan.form.base, &plan.shape, state)
         }
         Err(Stop::Faulted(fault)) => {
             stop_phase(books, state);

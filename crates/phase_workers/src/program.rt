@@ -5,25 +5,20 @@ ghost use Rattle.counted_code.specs.Counts.{IsWellCounted, IsUnmarked};
 ghost use Rattle.counted_code.specs.Outcome.{cost_of, outcome_of, whole_run};
 ghost use Rattle.counted_code.specs.View.{code_program};
 ghost use Rattle.phase_workers.specs.Calls.{IsRun};
+ghost use Rattle.run_eval.specs.Jobs.{job_of};
 ghost use Rattle.run_eval.specs.Outcomes.{new_heap, IsCleared, HasCounters, KeepsChanges, TellsCost, TellsTally};
-ghost use Rattle.run_eval.specs.Running.{array_job, fold_job, fold_parts_job, parts_job};
-ghost use Rattle.array_with_loops.specs.Plans.{plan_of};
 ghost use Rattle.array_ops.specs.Tells.{TellsItems};
 
-use crate::calls::LoopCalls;
-use crate::folds::fold_outside;
+use crate::calls::LoopCall;
 use crate::nesting::Nesting;
-use crate::outside::array_outside;
-use crate::part_folds::fold_parts_outside;
-use crate::parted::parts_outside;
+use crate::outside::loop_outside;
 use crate::team::Workers;
-use array_with_loops::{Frame, Plan as LoopPlan};
 use buffer_heap::Heap;
-use counted_code::{Code, CodeGen, CodePart};
+use counted_code::Code;
 use phase_team::Gate;
-use run_eval::{Context, Plan, State, Trace, run_with_phases};
+use run_eval::{CellLoop, Context, Plan, State, Trace, run_with_phases};
 use run_values::RunValue;
-use sac_base::{Array, Form, Op, Shape, Stop};
+use sac_base::{Array, Stop};
 use std::alloc::Global;
 use std::thread::Threads;
 
@@ -58,27 +53,13 @@ pub fn run<G: Gate, R: Threads + Sync>(
         workers: plan.workers,
         nesting: Nesting::of(alloc, code, plan.caps.depth, plan.workers),
     };
-    let calls = LoopCalls {
-        array: |gens: &[CodeGen], loop_plan: &LoopPlan, array: &Array, old: bool, context: &Context<
-            '_,
-        >, state: &mut State<'_>| -> Result<RunValue, Stop>
-            ensures { IsRun (λ e m. array_job context.now e m gens.now (plan_of loop_plan.now) array.now old) state.old result state.new }
-        { array_outside(&workers, gens, loop_plan, array, old, context, state) },
-        fold: |gens: &[CodeGen], loop_plan: &LoopPlan, op: Op, neutral: Array, context: &Context<
-            '_,
-        >, state: &mut State<'_>| -> Result<RunValue, Stop>
-            ensures { IsRun (λ e m. fold_job context.now e m gens.now (plan_of loop_plan.now) op neutral) state.old result state.new }
-        { fold_outside(&workers, gens, loop_plan, op, neutral, context, state) },
-        parts: |parts: &[CodePart], frame: &Frame, form: &Form, shape: &Shape, context: &Context<
-            '_,
-        >, state: &mut State<'_>| -> Result<RunValue, Stop>
-            ensures { IsRun (λ e m. parts_job context.now e parts.now frame.now form.now shape.now) state.old result state.new }
-        { parts_outside(&workers, parts, frame, form, shape, context, state) },
-        fold_parts: |parts: &[CodePart], frame: &Frame, form: &Form, op: Op, neutral: Array, context: &Context<
-            '_,
-        >, state: &mut State<'_>| -> Result<RunValue, Stop>
-            ensures { IsRun (λ e m. fold_parts_job context.now e parts.now frame.now form.now op neutral) state.old result state.new }
-        { fold_parts_outside(&workers, parts, frame, form, op, neutral, context, state) },
+    let calls = LoopCall {
+        run: |work: &CellLoop<'_>, context: &Context<'_>, state: &mut State<'_>| -> Result<
+            RunValue,
+            Stop,
+        >
+            ensures { IsRun (λ e m. job_of context.now e m work.now) state.old result state.new }
+        { loop_outside(&workers, work, context, state) },
     };
     run_with_phases(alloc, code, args, heap, plan, calls, trace)
 }

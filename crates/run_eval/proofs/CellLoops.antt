@@ -1,33 +1,34 @@
 -- The loops over cells, and the jobs that they do.
-use Rattle.std.proofs.Common.{◌≡◌, ℕ, ◌+◌, ◌<◌, ◌≤◌, List, [], ◌∷◌, ◌++◌, length, get_or, map, Bool, true, sym, ap, ◌∙◌, subst, Result, Ok, Option, None, append-nil}
-use Rattle.std.specs.Prelude.{ℤ, fold, flat_map, not, option_map}
+use Rattle.std.proofs.Common.{◌≡◌, ℕ, ◌+◌, ◌<◌, ◌≤◌, List, [], ◌∷◌, length, get_or, Bool, true, false, refl, sym, ap, ◌∙◌, subst, Result, Ok, Option, Some, None}
+use Rattle.std.specs.Prelude.{ℤ, option_map}
+use Rattle.sac_base.specs.declared.base.Base.{Base}
 use Rattle.sac_base.specs.declared.form.Form.{Form}
-use Rattle.sac_base.specs.declared.op.Op.{Op}
 use Rattle.sac_base.specs.Arrays.{ArrayValue, size}
-use Rattle.sac_base.specs.WithLoops.{Plan, combined}
-use Rattle.core_ir.specs.Meaning.{elements_of}
-use Rattle.counted_code.specs.declared.tree.CodeGen.{CodeGen}
-use Rattle.counted_code.specs.declared.tree.CodePart.{CodePart}
 use Rattle.counted_code.specs.Loops as machine
-use Rattle.counted_code.specs.Loops.{Source, claim, count_phase, job_does, release_rest, settled}
+use Rattle.counted_code.specs.Loops.{Job, Source, job_does, release_rest, settled}
 use Rattle.counted_code.specs.Machine.{Values}
-use Rattle.counted_code.specs.Values.{Heap, is_small, read}
+use Rattle.counted_code.specs.Values.{Heap, read}
 use Rattle.array_with_loops.specs.Cells.{cells_from}
+use Rattle.array_with_loops.specs.Plans.{plan_of}
 use Rattle.sac_base.specs.declared.stop.Stop.{Stop}
 use Rattle.run_store.specs.Stands.{Stands}
 use Rattle.run_values.specs.declared.value.RunValue.{RunValue}
 use Rattle.run_values.specs.declared.frames.Frames.{Frames}
 use Rattle.run_values.specs.Scopes.{current}
 use Rattle.run_values.specs.Shown.{value_of}
+use Rattle.run_eval.specs.declared.cell_loop.CellLoop.{CellLoop}
+use Rattle.run_eval.specs.declared.cell_loop.LoopResult.{LoopResult}
+use Rattle.run_eval.specs.declared.cell_loop.LoopResult.TheVariants.{Filled}
+use Rattle.run_eval.specs.declared.cells.Background.{Background}
 use Rattle.run_eval.specs.declared.state.Context.{Context}
 use Rattle.run_eval.specs.declared.state.State.{State}
-use Rattle.run_eval.specs.Running.{IsAt, IsValue, SameScopes, Told, ToldStop, array_job, cells_in, fold_job, fold_parts_job, generator_in, parts_job}
-use Rattle.run_eval.specs.Loops.{IsBegun, IsPresent, cells_run, part_source_in, source_in, unreleased}
-use Rattle.run_eval.proofs.CellJobs.{WritesNothing, job_ends, job_stops}
+use Rattle.run_eval.specs.Jobs.{array_over, cells_job, folds_of, job_of, result_of}
+use Rattle.run_eval.specs.Running.{IsAt, IsValue, SameScopes, Told, ToldStop}
+use Rattle.run_eval.specs.Loops.{IsBegun, IsPresent, cells_run, loop_cells, loop_source, unreleased}
+use Rattle.run_eval.proofs.CellBodies.{loop_source_is}
+use Rattle.run_eval.proofs.CellJobs.{WritesNothing, claim_of, job_ends, job_stops}
 use Rattle.run_eval.proofs.CellRuns.{Carries, Cells, Makes, Making, carried_end, carried_step, carried_stop}
 use Rattle.run_eval.proofs.CellTold.{agreed}
-use Rattle.run_eval.proofs.CellMakings.{filling, joining}
-use Rattle.run_eval.proofs.WithHolders.{part_source_is, source_is}
 
 -- ---- loops, whose cells depend on the values in the scope
 
@@ -59,97 +60,47 @@ module _ {X Y : Type 0} (make : Making X Y) (form : Form) (source : Values → L
         agreed (Makes make x0 0 (make x k [])) R tt a s (cells_run form (source (current s0.frames)) indices m) next
         (carried_end make form (source (current s0.frames)) indices x0 m s x k (carried m at) past)
 
-pub filled_all : (old : Bool) (array : ArrayValue) (n k : ℕ) (x x0 : List ℤ) (found : Cells) → filling old array n x k [] ≡ filling old array n x0 0 found → x ≡ x0 ++ cells_from old array n 0 found
-filled_all old array n k x x0 found is = sym (append-nil x) ∙ is
+-- ---- jobs
 
-pub joined_all : (k : ℕ) (x x0 : List ℤ) (found : Cells) → joining x k [] ≡ joining x0 0 found → x ≡ x0 ++ flat_map elements_of found
-joined_all k x x0 found is = sym (append-nil x) ∙ is
+module _ (context : Context) (w : CellLoop) (s s0 : State) (t : machine.Target) (m : Heap) (frames : s0.frames ≡ s.frames) (nothing : WritesNothing t)
+    (folds : Bool) (result : Cells → ArrayValue) (begun : IsBegun t s0 (claim_of (cells_job context (current s.frames) m w folds result) m)) where
+  abbrev job : Job
+  job = cells_job context (current s.frames) m w folds result
 
--- ---- jobs of generators
+  abbrev claimed : Heap
+  claimed = (claim_of job m).heap
 
-module _ (context : Context) (gens : List CodeGen) (p : Plan) (s s0 : State) (t : machine.Target) (m : Heap) (frames : s0.frames ≡ s.frames) (nothing : WritesNothing t) where
-  sources_are : source_in context (current s0.frames) gens p.ranges ≡ machine.holder (map (generator_in context (current s.frames) m) gens) p.ranges
-  sources_are = λ i v. (ap (λ (f : Frames). source_in context (current f) gens p.ranges v) frames ∙ sym (source_is context (current s.frames) m gens p.ranges v)) i
+  sources_are : loop_source context (current s0.frames) w ≡ job.source
+  sources_are = λ i v. (ap (λ (f : Frames). loop_source context (current f) w v) frames ∙ loop_source_is context (current s.frames) m w v) i
 
-  module _ (array : ArrayValue) (old : Bool) (n : ℕ) (sized : n ≡ size p.form.shape)
-      (begun : IsBegun t s0 (claim (is_small p.shape) None (size p.shape) (count_phase (not (is_small p.shape)) (length p.indices) m))) where
-    pub array_stops : (stop : Stop) (s1 : State)
-        → ((h : Heap) → IsAt s0 h → ToldStop stop s1 (cells_run p.form (source_in context (current s0.frames) gens p.ranges) p.indices h))
-        → ToldStop stop s1 (job_does None (array_job context (current s.frames) m gens p array old) m)
-    array_stops stop s1 told =
-        job_stops (array_job context (current s.frames) m gens p array old) m t s0 begun nothing stop s1
-        (subst (λ f. ToldStop stop s1 (cells_run p.form f p.indices (claim (is_small p.shape) None (size p.shape) (count_phase (not (is_small p.shape)) (length p.indices) m)).heap)) sources_are (told _ begun.stands))
+  pub loop_stops : (stop : Stop) (s1 : State) → ((h : Heap) → IsAt s0 h → ToldStop stop s1 (loop_cells context (current s0.frames) w h))
+      → ToldStop stop s1 (job_does None job m)
+  loop_stops stop s1 told =
+      job_stops job m t s0 begun nothing stop s1 (subst (λ f. ToldStop stop s1 (cells_run job.form f job.indices claimed)) sources_are (told claimed begun.stands))
 
-    pub array_tells : (before items : List ℤ) (r : Result RunValue Stop) (s1 s2 : State) → before ≡ []
-        → ((h : Heap) → IsAt s0 h → Told {A = Unit {0}} (λ _ found. items ≡ before ++ cells_from old array n 0 found) (Ok tt) s1 (cells_run p.form (source_in context (current s0.frames) gens p.ranges) p.indices h))
-        → ((h : Heap) → IsAt s1 h → Told IsValue r s2 (settled t (record { base = array.base; shape = p.shape; cells = items }) h))
-        → Told IsValue r s2 (job_does None (array_job context (current s.frames) m gens p array old) m)
-    array_tells before items r s1 s2 none told finished =
-        job_ends (array_job context (current s.frames) m gens p array old) m t s0 begun nothing {A = Unit {0}}
-        (λ _ found. items ≡ before ++ cells_from old array n 0 found) tt (record { base = array.base; shape = p.shape; cells = items }) r s1 s2
-        (λ found is. λ i. record { base = array.base; shape = p.shape; cells = (is ∙ ap (λ b. b ++ cells_from old array n 0 found) none ∙ ap (λ n. cells_from old array n 0 found) sized) i })
-        (subst (λ f. Told {A = Unit {0}} (λ _ found. items ≡ before ++ cells_from old array n 0 found) (Ok tt) s1 (cells_run p.form f p.indices (claim (is_small p.shape) None (size p.shape) (count_phase (not (is_small p.shape)) (length p.indices) m)).heap)) sources_are (told _ begun.stands))
-        finished
+  pub loop_tells : {A : Type 0} (R : A → Cells → Type 0) (a : A) (made : ArrayValue) (r : Result RunValue Stop) (s1 s2 : State)
+      → ((found : Cells) → R a found → made ≡ result found)
+      → ((h : Heap) → IsAt s0 h → Told R (Ok a) s1 (loop_cells context (current s0.frames) w h))
+      → ((h : Heap) → IsAt s1 h → Told IsValue r s2 (settled t made h))
+      → Told IsValue r s2 (job_does None job m)
+  loop_tells R a made r s1 s2 is told finished =
+      job_ends job m t s0 begun nothing R a made r s1 s2 is
+      (subst (λ f. Told R (Ok a) s1 (cells_run job.form f job.indices claimed)) sources_are (told claimed begun.stands)) finished
 
-  module _ (op : Op) (neutral : ArrayValue) (begun : IsBegun t s0 (claim (is_small p.shape) None (size p.shape) (count_phase true (length p.indices) m))) where
-    pub fold_stops : (stop : Stop) (s1 : State)
-        → ((h : Heap) → IsAt s0 h → ToldStop stop s1 (cells_run p.form (source_in context (current s0.frames) gens p.ranges) p.indices h))
-        → ToldStop stop s1 (job_does None (fold_job context (current s.frames) m gens p op neutral) m)
-    fold_stops stop s1 told =
-        job_stops (fold_job context (current s.frames) m gens p op neutral) m t s0 begun nothing stop s1
-        (subst (λ f. ToldStop stop s1 (cells_run p.form f p.indices (claim (is_small p.shape) None (size p.shape) (count_phase true (length p.indices) m)).heap)) sources_are (told _ begun.stands))
+-- ---- results
 
-    pub fold_tells : {A : Type 0} (array : A → ArrayValue) (a0 a : A) (r : Result RunValue Stop) (s1 s2 : State) → array a0 ≡ neutral
-        → ((h : Heap) → IsAt s0 h → Told (λ b found. array b ≡ fold (combined op) (array a0) found) (Ok a) s1 (cells_run p.form (source_in context (current s0.frames) gens p.ranges) p.indices h))
-        → ((h : Heap) → IsAt s1 h → Told IsValue r s2 (settled t (array a) h))
-        → Told IsValue r s2 (job_does None (fold_job context (current s.frames) m gens p op neutral) m)
-    fold_tells array a0 a r s1 s2 start told finished =
-        job_ends (fold_job context (current s.frames) m gens p op neutral) m t s0 begun nothing
-        (λ b found. array b ≡ fold (combined op) (array a0) found) a (array a) r s1 s2
-        (λ found is. is ∙ ap (λ n. fold (combined op) n found) start)
-        (subst (λ f. Told (λ b found. array b ≡ fold (combined op) (array a0) found) (Ok a) s1 (cells_run p.form f p.indices (claim (is_small p.shape) None (size p.shape) (count_phase true (length p.indices) m)).heap)) sources_are (told _ begun.stands))
-        finished
+module _ (context : Context) (e : Values) (m : Heap) (w : CellLoop) (r : Result RunValue Stop) (t : State) where
+  -- the result of a loop that is no other than this
+  pub made_as : (made : LoopResult) (folds : Bool) (result : Cells → ArrayValue) → w.result ≡ made → folds_of made ≡ folds
+      → ((found : Cells) → result_of made (plan_of w.plan.now) found ≡ result found)
+      → Told IsValue r t (job_does None (cells_job context e m w folds result) m) → Told IsValue r t (job_does None (job_of context e m w) m)
+  made_as made folds result is same results told =
+      subst (λ made. Told IsValue r t (job_does None (cells_job context e m w (folds_of made) (result_of made (plan_of w.plan.now))) m)) (sym is)
+      (subst (Told IsValue r t) (λ i. job_does None (cells_job context e m w (sym same i) (λ found. sym (results found) i)) m) told)
 
--- ---- jobs of parts
-
-module _ (context : Context) (parts : List CodePart) (indices : List (List ℤ)) (form : Form) (s s0 : State) (t : machine.Target) (m : Heap) (frames : s0.frames ≡ s.frames) (nothing : WritesNothing t) where
-  part_sources_are : part_source_in context (current s0.frames) parts ≡ machine.part_holder (map (cells_in context (current s.frames)) parts)
-  part_sources_are = λ i v. (ap (λ (f : Frames). part_source_in context (current f) parts v) frames ∙ sym (part_source_is context (current s.frames) parts v)) i
-
-  module _ (shape : List ℕ) (begun : IsBegun t s0 (claim (is_small shape) None (size shape) (count_phase (not (is_small shape)) (length indices) m))) where
-    pub parts_stop : (stop : Stop) (s1 : State)
-        → ((h : Heap) → IsAt s0 h → ToldStop stop s1 (cells_run form (part_source_in context (current s0.frames) parts) indices h))
-        → ToldStop stop s1 (job_does None (parts_job context (current s.frames) parts indices form shape) m)
-    parts_stop stop s1 told =
-        job_stops (parts_job context (current s.frames) parts indices form shape) m t s0 begun nothing stop s1
-        (subst (λ f. ToldStop stop s1 (cells_run form f indices (claim (is_small shape) None (size shape) (count_phase (not (is_small shape)) (length indices) m)).heap)) part_sources_are (told _ begun.stands))
-
-    pub parts_tell : (before items : List ℤ) (r : Result RunValue Stop) (s1 s2 : State) → before ≡ []
-        → ((h : Heap) → IsAt s0 h → Told {A = Unit {0}} (λ _ found. items ≡ before ++ flat_map elements_of found) (Ok tt) s1 (cells_run form (part_source_in context (current s0.frames) parts) indices h))
-        → ((h : Heap) → IsAt s1 h → Told IsValue r s2 (settled t (record { base = form.base; shape = shape; cells = items }) h))
-        → Told IsValue r s2 (job_does None (parts_job context (current s.frames) parts indices form shape) m)
-    parts_tell before items r s1 s2 none told finished =
-        job_ends (parts_job context (current s.frames) parts indices form shape) m t s0 begun nothing {A = Unit {0}}
-        (λ _ found. items ≡ before ++ flat_map elements_of found) tt (record { base = form.base; shape = shape; cells = items }) r s1 s2
-        (λ found is. λ i. record { base = form.base; shape = shape; cells = (is ∙ ap (λ b. b ++ flat_map elements_of found) none) i })
-        (subst (λ f. Told {A = Unit {0}} (λ _ found. items ≡ before ++ flat_map elements_of found) (Ok tt) s1 (cells_run form f indices (claim (is_small shape) None (size shape) (count_phase (not (is_small shape)) (length indices) m)).heap)) part_sources_are (told _ begun.stands))
-        finished
-
-  module _ (op : Op) (neutral : ArrayValue) (begun : IsBegun t s0 (claim (is_small form.shape) None (size form.shape) (count_phase true (length indices) m))) where
-    pub part_fold_stops : (stop : Stop) (s1 : State)
-        → ((h : Heap) → IsAt s0 h → ToldStop stop s1 (cells_run form (part_source_in context (current s0.frames) parts) indices h))
-        → ToldStop stop s1 (job_does None (fold_parts_job context (current s.frames) parts indices form op neutral) m)
-    part_fold_stops stop s1 told =
-        job_stops (fold_parts_job context (current s.frames) parts indices form op neutral) m t s0 begun nothing stop s1
-        (subst (λ f. ToldStop stop s1 (cells_run form f indices (claim (is_small form.shape) None (size form.shape) (count_phase true (length indices) m)).heap)) part_sources_are (told _ begun.stands))
-
-    pub part_fold_tells : {A : Type 0} (array : A → ArrayValue) (a0 a : A) (r : Result RunValue Stop) (s1 s2 : State) → array a0 ≡ neutral
-        → ((h : Heap) → IsAt s0 h → Told (λ b found. array b ≡ fold (combined op) (array a0) found) (Ok a) s1 (cells_run form (part_source_in context (current s0.frames) parts) indices h))
-        → ((h : Heap) → IsAt s1 h → Told IsValue r s2 (settled t (array a) h))
-        → Told IsValue r s2 (job_does None (fold_parts_job context (current s.frames) parts indices form op neutral) m)
-    part_fold_tells array a0 a r s1 s2 start told finished =
-        job_ends (fold_parts_job context (current s.frames) parts indices form op neutral) m t s0 begun nothing
-        (λ b found. array b ≡ fold (combined op) (array a0) found) a (array a) r s1 s2
-        (λ found is. is ∙ ap (λ n. fold (combined op) n found) start)
-        (subst (λ f. Told (λ b found. array b ≡ fold (combined op) (array a0) found) (Ok a) s1 (cells_run form f indices (claim (is_small form.shape) None (size form.shape) (count_phase true (length indices) m)).heap)) part_sources_are (told _ begun.stands))
-        finished
+  pub filled_as : (b : Background) (base : Base) → w.result ≡ Filled b.array b.old → base ≡ b.array.now.base → b.size ≡ size w.plan.now.form.shape
+      → Told IsValue r t (job_does None (cells_job context e m w false (array_over base w.plan.now.shape (Some b))) m)
+      → Told IsValue r t (job_does None (job_of context e m w) m)
+  filled_as b base is based sized told =
+      made_as (Filled b.array b.old) false (array_over base w.plan.now.shape (Some b)) is refl
+      (λ found i. record { base = sym based i; shape = w.plan.now.shape; cells = cells_from b.old b.array.now (sym sized i) 0 found }) told

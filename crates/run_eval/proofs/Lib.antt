@@ -1,5 +1,6 @@
 pub mod Binding
 pub mod CallSteps
+pub mod CellBodies
 pub mod CellJobs
 pub mod CellLoops
 pub mod CellMakings

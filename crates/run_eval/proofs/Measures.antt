@@ -8,6 +8,8 @@ use Rattle.counted_code.specs.declared.tree.CodeFun.{CodeFun}
 use Rattle.counted_code.specs.declared.tree.CodeGen.{CodeGen, size-CodeGen}
 use Rattle.counted_code.specs.declared.tree.CodePart.{CodePart, size-CodePart}
 use Rattle.counted_code.specs.declared.tree.CodeStep.{CodeStep, size-CodeStep}
+use Rattle.run_eval.specs.declared.cell_loop.CellSource.{CellSource}
+use Rattle.run_eval.specs.declared.cell_loop.CellSource.TheVariants.{Generators, Parts}
 use Rattle.run_eval.specs.declared.state.Context.{Context}
 use Rattle.run_eval.specs.Running.{Deeper}
 
@@ -22,6 +24,10 @@ gens_size gs = most (λ g. size-CodeGen g) gs
 
 abbrev pub parts_size : List CodePart → ℕ
 parts_size ps = most (λ p. size-CodePart p) ps
+
+abbrev pub source_size : CellSource → ℕ
+source_size (Generators gens) = gens_size gens.now
+source_size (Parts parts) = parts_size parts.now
 
 -- more than any body of the functions
 unfoldable pub height : List CodeFun → ℕ

@@ -1,3 +1,4 @@
+pub mod Jobs
 pub mod Loops
 pub mod Outcomes
 pub mod Running

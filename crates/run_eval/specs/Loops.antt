@@ -1,22 +1,33 @@
 -- Loops over cells as the evaluator runs them: nothing is written into the heap before the last cell.
-use Rattle.std.specs.Prelude.{◌≡◌, ◌≤ℤ◌, pos, negsuc, List, [], ◌∷◌, ℤ, Option, Some, None, if◌then◌else◌, option_map}
+use Rattle.std.specs.Prelude.{◌≡◌, ◌≤ℤ◌, pos, negsuc, ℕ, List, [], ◌∷◌, ◌++◌, ℤ, Option, Some, None, if◌then◌else◌, map, option_map}
+use Rattle.sac_base.specs.declared.base.Base.{Base}
 use Rattle.sac_base.specs.declared.base.Base.TheVariants.{Int}
 use Rattle.sac_base.specs.declared.form.Form.{Form}
 use Rattle.sac_base.specs.declared.grid.Grid1.{Grid1}
+use Rattle.sac_base.specs.declared.site.Site.{Site}
 use Rattle.sac_base.specs.Arrays.{ArrayValue, scalar, vector}
-use Rattle.sac_base.specs.Grids.{has_vector}
-use Rattle.sac_base.specs.WithLoops.{Range, holds}
+use Rattle.sac_base.specs.Grids.{has_vector, members}
+use Rattle.sac_base.specs.WithLoops.{Plan, Range, holds}
+use Rattle.core_ir.specs.declared.tree.PartedOp.{PartedOp}
+use Rattle.core_ir.specs.declared.tree.PartedOp.TheVariants as parted
+use Rattle.core_ir.specs.Meaning.{extents}
+use Rattle.core_ir.specs.declared.tree.Var.{Var}
+use Rattle.counted_code.specs.declared.tree.CodeBlock.{CodeBlock}
 use Rattle.counted_code.specs.declared.tree.CodeGen.{CodeGen}
 use Rattle.counted_code.specs.declared.tree.CodePart.{CodePart}
 use Rattle.counted_code.specs.Loops as machine
 use Rattle.counted_code.specs.Loops.{Source, Claimed, Inside, cell_does}
-use Rattle.counted_code.specs.Machine.{Values, bind_value, with_index_value, first_value}
+use Rattle.counted_code.specs.Machine.{Values, bind_value, bind_values, with_index_value, first_value}
 use Rattle.counted_code.specs.Values.{Value, Small, Doing, give, then_go, apart}
 use Rattle.counted_code.specs.View.{code_term}
 use Rattle.run_store.specs.Targets.{target_of}
 use Rattle.run_store.specs.declared.target.Target.{Target}
 use Rattle.run_values.specs.declared.value.RunValue.{RunValue}
 use Rattle.run_values.specs.Shown.{value_of}
+use Rattle.run_eval.specs.declared.cell_loop.CellBody.{CellBody}
+use Rattle.run_eval.specs.declared.cell_loop.CellLoop.{CellLoop}
+use Rattle.run_eval.specs.declared.cell_loop.CellSource.{CellSource}
+use Rattle.run_eval.specs.declared.cell_loop.CellSource.TheVariants.{Generators, Parts}
 use Rattle.run_eval.specs.declared.folds.Sum.{Sum}
 use Rattle.run_eval.specs.declared.folds.Sum.TheVariants.{Word, Whole}
 use Rattle.run_eval.specs.declared.state.Context.{Context}
@@ -50,6 +61,42 @@ source_in context e gens ranges index = option_map (gen_source context e index) 
 abbrev pub part_source_in : Context → Values → List CodePart → List ℤ → Option Source
 part_source_in context e parts index = option_map (part_source context e index) (part_held parts index)
 
+-- what computes the cell of an index, and where it is a fault that it has another form
+pub record Body : Type 0 where
+  pub block : CodeBlock
+  pub index : Var
+  pub names : List Var
+  pub site : Site
+
+abbrev pub body_of : CellBody → Body
+body_of b = record { block = b.block.now; index = b.index; names = b.names.now; site = b.site }
+
+abbrev pub gen_body : CodeGen → Body
+gen_body g = record { block = g.body; index = g.index; names = g.names.items; site = g.site }
+
+abbrev pub part_body : CodePart → Body
+part_body p = record { block = p.body; index = p.index; names = []; site = p.site }
+
+abbrev pub held_body : CellSource → List Range → List ℤ → Option Body
+held_body (Generators gens) ranges v = option_map gen_body (held gens.now ranges v)
+held_body (Parts parts) ranges v = option_map part_body (part_held parts.now v)
+
+-- the variables of a body
+abbrev pub body_env : Values → Body → List ℤ → Values
+body_env e b index = bind_values (bind_value e b.index (Small (vector Int index))) b.names (map (λ z. Small (scalar Int z)) index)
+
+abbrev pub body_source : Context → Values → List ℤ → Body → Source
+body_source context e index b =
+    record { cell = first_value (does_in context (code_term b.block) (body_env e b index)); site = b.site }
+
+-- where the cells of a loop come from
+abbrev pub source_at : Context → Values → CellSource → List Range → List ℤ → Option Source
+source_at context e (Generators gens) ranges = source_in context e gens.now ranges
+source_at context e (Parts parts) ranges = part_source_in context e parts.now
+
+abbrev pub loop_source : Context → Values → CellLoop → List ℤ → Option Source
+loop_source context e work = source_at context e work.source work.plan.now.ranges.items
+
 -- ---- cells
 
 -- a cell that has its form and is not released yet
@@ -64,6 +111,13 @@ IsPresent o w = option_map value_of o ≡ w
 abbrev pub cells_run : Form → (List ℤ → Option Source) → List (List ℤ) → Doing (List (Option ArrayValue))
 cells_run form source [] = give []
 cells_run form source (v ∷ vs) = then_go (cell_does form (source v)) (λ c. then_go (cells_run form source vs) (λ cs. give (c ∷ cs)))
+
+abbrev pub loop_cells : Context → Values → CellLoop → Doing (List (Option ArrayValue))
+loop_cells context e work = cells_run work.plan.now.form (loop_source context e work) work.plan.now.frame
+
+-- a cell that has its form, of a body
+abbrev pub body_cell : Context → Body → Form → List ℤ → Values → Doing Value
+body_cell context b form index e = then_go (apart (body_source context e index b).cell) (formed form b.site)
 
 -- ---- results that are not finished
 
@@ -82,7 +136,18 @@ abbrev pub array_of : Sum → ArrayValue
 array_of (Word base n) = scalar base n
 array_of (Whole a) = a
 
--- ---- frames
+-- ---- parted loops
+
+-- a fold has the shape of a cell, and any other loop that of the frame and of a cell
+abbrev pub shape_of_parts : List Grid1 → List ℕ → PartedOp → List ℕ
+shape_of_parts frame cell (parted.Fold op neutral) = cell
+shape_of_parts frame cell parted.Genarray = extents frame ++ cell
+shape_of_parts frame cell (parted.Modarray x) = extents frame ++ cell
+
+-- parts have grids, and no ranges
+abbrev pub plan_of_parts : List Grid1 → Base → List ℕ → PartedOp → Plan
+plan_of_parts frame base cell op =
+    record { ranges = []; indices = members frame; form = record { base = base; shape = cell }; shape = shape_of_parts frame cell op }
 
 -- no gaps, and numbers of 32 bits
 pub record IsWordAxis (a : Grid1) : Type 0 where

@@ -213,11 +213,11 @@ parts_job context e parts indices form shape =
       result = joined form.base shape;
     }
 
-abbrev pub fold_parts_job : Context → Values → List CodePart → List (List ℤ) → Form → Op → ArrayValue → Job
-fold_parts_job context e parts indices form op neutral =
+abbrev pub fold_parts_job : Context → Values → List CodePart → List (List ℤ) → Form → List ℕ → Op → ArrayValue → Job
+fold_parts_job context e parts indices form shape op neutral =
     record {
       form = form;
-      shape = form.shape;
+      shape = shape;
       folds = true;
       indices = indices;
       source = part_holder (map (cells_in context e) parts);

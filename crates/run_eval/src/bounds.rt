@@ -1,10 +1,11 @@
-//! The operands of with-loops, and the frames of parted loops.
+//! The operands of with-loops, and the plans of parted loops.
 
 ghost use Rattle.std.specs.Prelude.{◌≡◌, ◌++◌, ◌-ℤ◌, IfOk, IfSome, IsTrue, All, map, option_map, pos};
 ghost use Rattle.core_ir.specs.Meaning.{extents, name_count};
 ghost use Rattle.counted_code.specs.Machine.{bounds_of, reads};
 ghost use Rattle.counted_code.specs.Values.{Heap as MachineHeap};
-ghost use Rattle.run_eval.specs.Loops.{IsWordAxis};
+ghost use Rattle.array_with_loops.specs.Plans.{plan_of};
+ghost use Rattle.run_eval.specs.Loops.{IsWordAxis, plan_of_parts, shape_of_parts};
 ghost use Rattle.run_eval.specs.Running.{gen_head};
 ghost use Rattle.run_store.specs.Stands.{Stands};
 ghost use Rattle.run_values.specs.Scopes.{current};
@@ -12,12 +13,12 @@ ghost use Rattle.sac_base.specs.Grids.{members};
 ghost use Rattle.sac_base.specs.WithLoops.{distance};
 
 use crate::state::{Context, State};
-use array_with_loops::{Bounds, Frame};
-use core_ir::Var;
+use array_with_loops::{Bounds, Frame, Plan};
+use core_ir::{PartedOp, Var};
 use counted_code::CodeGen;
 use run_store::read_array;
 use run_values::Few;
-use sac_base::{Array, Grid, Grid1, Memory, Shape, elements};
+use sac_base::{Array, Base, Form, Grid, Grid1, Memory, Shape, elements};
 use std::alloc::Global;
 
 /// The operands of the generators.
@@ -79,8 +80,8 @@ fn operand(
     }
 }
 
-/// The members of a frame. One that has gaps, or no array's indices, counts as want of memory.
-pub fn frame_of(alloc: Global, grid: &Grid) -> Result<Frame, Memory>
+// The members of a frame. One that has gaps, or no array's indices, counts as want of memory.
+fn frame_of(alloc: Global, grid: &Grid) -> Result<Frame, Memory>
     ensures { IfOk result (λ f. f ≡ members grid.now) }
 {
     if !are_words(grid) {
@@ -147,8 +148,40 @@ fn extent_of(axis: &Grid1) -> Option<i32>
     }
 }
 
-/// The extents of a frame, followed by those of its cells.
-pub fn joined_shape(alloc: Global, frame: &Grid, cell: &Shape) -> Result<Shape, Memory>
+/// The plan of a parted loop, whose frame may have no gaps.
+pub fn parted_plan(
+    alloc: Global,
+    frame: &Grid,
+    base: Base,
+    cell: &Shape,
+    op: PartedOp,
+) -> Result<Plan, Memory>
+    ensures { IfOk result (λ p. plan_of p ≡ plan_of_parts frame.now base cell.now op) }
+{
+    let shape = parted_shape(alloc, frame, cell, op)?;
+    Ok(Plan {
+        ranges: Vec::new(alloc),
+        frame: frame_of(alloc, frame)?,
+        form: Form {
+            base,
+            shape: cell.copy(),
+        },
+        shape,
+    })
+}
+
+// The shape of a cell, if the loop is a fold, and else that of an array of the cells.
+fn parted_shape(alloc: Global, frame: &Grid, cell: &Shape, op: PartedOp) -> Result<Shape, Memory>
+    ensures { IfOk result (λ shape. shape ≡ shape_of_parts frame.now cell.now op) }
+{
+    match op {
+        PartedOp::Fold { .. } => Ok(cell.copy()),
+        _ => joined_shape(alloc, frame, cell),
+    }
+}
+
+// The extents of a frame, followed by those of its cells.
+fn joined_shape(alloc: Global, frame: &Grid, cell: &Shape) -> Result<Shape, Memory>
     ensures { IfOk result (λ shape. shape ≡ extents frame.now ++ cell.now) }
 {
     let outer = outer_shape(alloc, frame)?;

@@ -1,9 +1,9 @@
 //! The cells of results that are not finished.
 
 ghost use Rattle.std.specs.Prelude.{◌≡◌, ◌++◌, ℕ, [], None, Ok, not, option_map, IfOk, OnOk};
-ghost use Rattle.core_ir.specs.Meaning.{elements_of};
 ghost use Rattle.counted_code.specs.Loops.{claim as claimed, count_phase, settled, release_rest};
 ghost use Rattle.counted_code.specs.Values.{Heap as MachineHeap, Ended, Value, go_on, is_small as is_small_shape, read};
+ghost use Rattle.run_eval.specs.Jobs.{cell_over};
 ghost use Rattle.run_eval.specs.Loops.{IsBegun};
 ghost use Rattle.run_eval.specs.Running.{IsAt, IsValue, Told, formed as formed_cell};
 ghost use Rattle.run_eval.specs.declared.state.State.{State as RunState};
@@ -105,8 +105,21 @@ pub fn append(heap: &Store<'_>, value: &RunValue, cells: &mut Vec<Cell>) -> Resu
     Ok(())
 }
 
-/// Appends what stands at a place that has no cell.
+/// Appends what stands at a place that has no cell, if there is a background.
 fn append_background(
+    background: Option<Background<'_>>,
+    place: usize,
+    cells: &mut Vec<Cell>,
+) -> Result<(), Memory>
+    ensures { OnOk result (cells.new.items ≡ cells.old.items ++ cell_over background.entry place None) }
+{
+    match background {
+        Some(background) => append_from(&background, place, cells),
+        None => Ok(()),
+    }
+}
+
+fn append_from(
     background: &Background<'_>,
     place: usize,
     cells: &mut Vec<Cell>,
@@ -129,36 +142,16 @@ fn append_background(
     Ok(())
 }
 
-/// Appends the cell at a place and releases it, or what stands there.
+/// Appends the cell at a place and releases it, or what stands there, if there is a background.
 pub fn put_cell(
     heap: &mut Store<'_>,
     value: Option<RunValue>,
-    background: &Background<'_>,
+    background: Option<Background<'_>>,
     place: usize,
     cells: &mut Vec<Cell>,
 ) -> Result<(), Memory>
     ensures put { (m : MachineHeap) → Stands heap.old m
-        → OnOk result ((cells.new.items ≡ cells.old.items ++ cell_from background.now.old background.now.array.now background.now.size place
-        (option_map (read m) (option_map value_of value))) × Stands heap.new (release_rest (option_map value_of value) m)) }
-    ensures lender { lender_of heap.new ≡ lender_of heap.old }
-{
-    match value {
-        Some(value) => {
-            append(heap, &value, cells)?;
-            release(heap, value)
-        }
-        None => append_background(background, place, cells),
-    }
-}
-
-/// Appends a cell and releases it, if there is one.
-pub fn join_cell(
-    heap: &mut Store<'_>,
-    value: Option<RunValue>,
-    cells: &mut Vec<Cell>,
-) -> Result<(), Memory>
-    ensures joined { (m : MachineHeap) → Stands heap.old m
-        → OnOk result ((cells.new.items ≡ cells.old.items ++ elements_of (option_map (read m) (option_map value_of value)))
+        → OnOk result ((cells.new.items ≡ cells.old.items ++ cell_over background.entry place (option_map (read m) (option_map value_of value)))
         × Stands heap.new (release_rest (option_map value_of value) m)) }
     ensures lender { lender_of heap.new ≡ lender_of heap.old }
 {
@@ -167,6 +160,6 @@ pub fn join_cell(
             append(heap, &value, cells)?;
             release(heap, value)
         }
-        None => Ok(()),
+        None => append_background(background, place, cells),
     }
 }

@@ -16,7 +16,7 @@ use crate::state::{Context, State};
 use array_with_loops::combine;
 use run_store::{Store, Target, claim, is_small, read_array, release};
 use run_values::{RunValue, small_value};
-use sac_base::{Array, Base, Memory, Op, Shape, Stop, apply2, result_base};
+use sac_base::{Array, Base, Memory, Op, Shape, Stop, apply2, copy_array, result_base};
 use std::alloc::Global;
 
 /// What the cells of a fold have come to.
@@ -27,12 +27,12 @@ pub enum Sum {
 }
 
 /// The neutral value.
-pub fn start(neutral: Array) -> Sum
-    ensures { array_of result ≡ neutral }
+pub fn start(neutral: &Array) -> Result<Sum, Memory>
+    ensures { IfOk result (λ s. array_of s ≡ neutral.now) }
 {
     match neutral.as_scalar() {
-        Some(n) => Sum::Word(neutral.base(), n),
-        None => Sum::Whole(neutral),
+        Some(n) => Ok(Sum::Word(neutral.base(), n)),
+        None => Ok(Sum::Whole(copy_array(neutral)?)),
     }
 }
 

@@ -5,6 +5,7 @@ mod array_loops;
 mod bindings;
 mod blocks;
 mod bounds;
+mod cell_loop;
 mod cells;
 mod folds;
 mod holders;
@@ -16,9 +17,8 @@ mod program;
 mod state;
 mod trace;
 
-pub use in_order::{
-    array_in_order, cell_of_gens, cell_of_parts, fold_in_order, fold_parts_in_order, parts_in_order,
-};
+pub use cell_loop::{CellLoop, CellSource, LoopResult};
+pub use in_order::{cell_in_order, run_in_order};
 pub use phase_count::{OpenTally, PhaseCount, Totals};
 pub use phases::{Never, Outside, Phases};
 pub use program::{Plan, run, run_with_phases};

@@ -18,7 +18,7 @@ use Rattle.counted_code.specs.View.{code_term, code_right_term, code_fun_term, c
 use Rattle.run_values.specs.Scopes.{current, outer}
 use Rattle.run_values.specs.Shown.{value_of}
 use Rattle.run_eval.specs.declared.state.State.{State}
-use Rattle.run_eval.specs.Running.{calls_in, does_in, right_in, turn_in, test_in, truth_of, Told, ToldStop, ToldSteps, IsValue, IsFirst, IsOnly, Appends, SameScopes, SameOuter, EndsScope, Reaches, SaysTruth, vars_of, array_job, fold_job, fold_parts_job, formed, gen_head, parts_job, cells_in}
+use Rattle.run_eval.specs.Running.{calls_in, does_in, right_in, turn_in, test_in, truth_of, Told, ToldStop, ToldSteps, IsValue, IsFirst, IsOnly, Appends, SameScopes, SameOuter, EndsScope, Reaches, SaysTruth, vars_of, array_job, fold_job, formed, gen_head, cells_in}
 use Rattle.run_eval.proofs.Binding.{let_goes, let_stops, one_target, keep_goes, release_goes}
 use Rattle.run_eval.proofs.CallSteps.{none_chosen, call_runs, call_stops, chosen_same, function_at, place_same, within_same, results_fit, results_unfit, alone, no_place}
 use Rattle.run_eval.proofs.Measures.{falls, body_below, body_size, steps_size, gens_size, parts_size}
@@ -36,18 +36,20 @@ use Rattle.sac_base.specs.WithLoops.{combined, fits_form, genarray, modarray, fo
 use Rattle.counted_code.specs.declared.tree.CodeGen.{CodeGen}
 use Rattle.counted_code.specs.declared.tree.CodeParted.{out-CodeParted}
 use Rattle.counted_code.specs.declared.tree.CodeWith.{out-CodeWith}
-use Rattle.run_eval.specs.Loops.{IsPresent, array_of, cells_run, fold_target, held, part_held, gen_source, part_source, part_source_in, source_in, unreleased}
-use Rattle.counted_code.specs.Loops.{job_does, settled, loop_does, parted_job}
+use Rattle.run_eval.specs.Jobs.{array_over, cells_job, cells_over}
+use Rattle.run_eval.specs.Loops.{IsPresent, array_of, body_cell, body_env, body_of, body_source, fold_target, held_body, loop_cells, loop_source, source_at, unreleased}
+use Rattle.run_eval.specs.declared.cell_loop.LoopResult.TheVariants.{Joined, Folded}
+use Rattle.counted_code.specs.Loops.{job_does, loop_does, parted_job}
 use Rattle.array_with_loops.specs.Cells.{cells_from}
 use Rattle.array_with_loops.specs.Plans.{plan_of}
 use Rattle.run_store.specs.Targets.{target_of}
 use Rattle.run_eval.proofs.CellJobs.{fold_nothing, target_nothing}
-use Rattle.run_eval.proofs.CellLoops.{array_stops, array_tells, filled_all, fold_stops, fold_tells, joined_all, loop_end, loop_step, loop_stop, part_fold_stops, part_fold_tells, parts_stop, parts_tell}
-use Rattle.run_eval.proofs.CellMakings.{filled_more, filling, folded_more, folding, joined_more, joining}
+use Rattle.run_eval.proofs.CellLoops.{filled_as, loop_end, loop_step, loop_stop, loop_stops, loop_tells, made_as}
+use Rattle.run_eval.proofs.CellMakings.{covered_all, covered_more, covering, folded_more, folding}
 use Rattle.run_eval.proofs.CellRuns.{carried_start}
 use Rattle.run_eval.proofs.CellScopes.{cell_scopes, cell_tells, scopes_after, scopes_join}
 use Rattle.run_eval.proofs.CellTold.{present_told}
-use Rattle.run_eval.proofs.WithHolders.{held_below, part_held_below}
+use Rattle.run_eval.proofs.CellBodies.{bodies_are, body_smaller}
 
 pub blocks::run_steps-run_step-requires : goal.blocks::run_steps-run_step-requires
 blocks::run_steps-run_step-requires g t c κs p = (omega (arith, c.decreases, step_below c.args.steps.now c.loop-step.step-index c.step-item.result c.loop-step-test.true, ap size-CodeStep c.step-item.is), p)
@@ -1124,324 +1126,297 @@ blocks::run_function-returns g t c =
       lender = c.in_ok-run_open.ensures.lender ∙ c.in_ok-bind_params.ensures.lender;
     }
 
-pub array_loops::run_with-run_array-requires : goal.array_loops::run_with-run_array-requires
-array_loops::run_with-run_array-requires g t c κs p =
-    (omega (arith, c.decreases, gens_below c.args.with.now, ap gens_size c.deref-in-Genarray-2.ensures.value), p)
+pub array_loops::run_with-run_cell_loop-requires : goal.array_loops::run_with-run_cell_loop-requires
+array_loops::run_with-run_cell_loop-requires g t c κs p =
+    (omega (arith, c.decreases, gens_below c.args.with.now, ap gens_size c.deref-2.ensures.value), p)
 
-pub array_loops::run_with-run_array-requires-in-Modarray : goal.array_loops::run_with-run_array-requires-in-Modarray
-array_loops::run_with-run_array-requires-in-Modarray g t c κs p =
-    (omega (arith, c.decreases, gens_below c.args.with.now, ap gens_size c.deref-in-Modarray-2.ensures.value), p)
+pub array_loops::run_with-run_cell_loop-requires-in-Modarray : goal.array_loops::run_with-run_cell_loop-requires-in-Modarray
+array_loops::run_with-run_cell_loop-requires-in-Modarray g t c κs p =
+    (omega (arith, c.decreases, gens_below c.args.with.now, ap gens_size c.deref-2.ensures.value), p)
 
-pub array_loops::run_with-run_fold-requires : goal.array_loops::run_with-run_fold-requires
-array_loops::run_with-run_fold-requires g t c κs p =
-    (omega (arith, c.decreases, gens_below c.args.with.now, ap gens_size c.deref-in-Fold-2.ensures.value), p)
+pub array_loops::run_with-run_cell_loop-requires-in-Fold : goal.array_loops::run_with-run_cell_loop-requires-in-Fold
+array_loops::run_with-run_cell_loop-requires-in-Fold g t c κs p =
+    (omega (arith, c.decreases, gens_below c.args.with.now, ap gens_size c.deref-2.ensures.value), p)
+
+pub array_loops::run_parted-run_cell_loop-requires : goal.array_loops::run_parted-run_cell_loop-requires
+array_loops::run_parted-run_cell_loop-requires g t c κs p =
+    (omega (arith, c.decreases, parts_below c.args.parted.now, ap parts_size c.deref.ensures.value), p)
+
+pub array_loops::run_parted-run_cell_loop-requires-in_default : goal.array_loops::run_parted-run_cell_loop-requires-in_default
+array_loops::run_parted-run_cell_loop-requires-in_default g t c κs p =
+    (omega (arith, c.decreases, parts_below c.args.parted.now, ap parts_size c.deref.ensures.value), p)
+
+pub array_loops::run_cell_loop-run_array-requires : goal.array_loops::run_cell_loop-run_array-requires
+array_loops::run_cell_loop-run_array-requires g t c κs p =
+    (omega (arith, c.decreases), p)
+
+pub array_loops::run_cell_loop-run_fold-requires : goal.array_loops::run_cell_loop-run_fold-requires
+array_loops::run_cell_loop-run_fold-requires g t c κs p =
+    (omega (arith, c.decreases), p)
 
 pub array_loops::run_array-fill-requires : goal.array_loops::run_array-fill-requires
 array_loops::run_array-fill-requires g t c κs p =
     (omega (arith, c.decreases), p)
 
-pub array_loops::fill-gen_cell-requires : goal.array_loops::fill-gen_cell-requires
-array_loops::fill-gen_cell-requires g t c κs p =
+pub array_loops::fill-loop_cell-requires : goal.array_loops::fill-loop_cell-requires
+array_loops::fill-loop_cell-requires g t c κs p =
     (omega (arith, c.decreases), p)
 
 pub array_loops::run_fold-fold_cells-requires : goal.array_loops::run_fold-fold_cells-requires
 array_loops::run_fold-fold_cells-requires g t c κs p =
     (omega (arith, c.decreases), p)
 
-pub array_loops::fold_cells-gen_cell-requires : goal.array_loops::fold_cells-gen_cell-requires
-array_loops::fold_cells-gen_cell-requires g t c κs p =
+pub array_loops::fold_cells-loop_cell-requires : goal.array_loops::fold_cells-loop_cell-requires
+array_loops::fold_cells-loop_cell-requires g t c κs p =
     (omega (arith, c.decreases), p)
 
-pub array_loops::gen_cell-run_cell-requires : goal.array_loops::gen_cell-run_cell-requires
-array_loops::gen_cell-run_cell-requires g t c κs p =
-    let found : Some c.in-Some.g.now ≡ held c.args.gens.now c.args.plan.now.ranges.items c.args.index.now = ap (option_map (λ g. g.now)) (sym c.in-Some.is) ∙ c.holder.ensures ∙ ap (λ rs. held c.args.gens.now rs c.args.index.now) c.deref.ensures.value in
-    (omega (arith, c.decreases, held_below c.args.gens.now c.args.plan.now.ranges.items c.args.index.now c.in-Some.g.now found), p)
-
-pub array_loops::run_parts-join_parts-requires : goal.array_loops::run_parts-join_parts-requires
-array_loops::run_parts-join_parts-requires g t c κs p =
+pub array_loops::run_cell_loop-run_array-requires-in-Joined : goal.array_loops::run_cell_loop-run_array-requires-in-Joined
+array_loops::run_cell_loop-run_array-requires-in-Joined g t c κs p =
     (omega (arith, c.decreases), p)
 
-pub array_loops::join_parts-part_cell-requires : goal.array_loops::join_parts-part_cell-requires
-array_loops::join_parts-part_cell-requires g t c κs p =
-    (omega (arith, c.decreases), p)
+pub array_loops::loop_cell-run_cell-requires : goal.array_loops::loop_cell-run_cell-requires
+array_loops::loop_cell-run_cell-requires g t c κs p =
+    let a = c.args in
+    let found : Some (body_of c.in-Some.body) ≡ held_body a.source.now a.ranges.now a.index.now = ap (option_map body_of) (sym c.in-Some.is) ∙ c.body_at.ensures in
+    (omega (arith, c.decreases, body_smaller a.source.now a.ranges.now a.index.now (body_of c.in-Some.body) found), p)
 
-pub array_loops::fold_parts-combine_parts-requires : goal.array_loops::fold_parts-combine_parts-requires
-array_loops::fold_parts-combine_parts-requires g t c κs p =
-    (omega (arith, c.decreases), p)
+pub array_loops::run_cell_loop-returns-in_ok-size-in-Filled : goal.array_loops::run_cell_loop-returns-in_ok-size-in-Filled
+array_loops::run_cell_loop-returns-in_ok-size-in-Filled g t c =
+    let a = c.args in
+    let s = a.state.now in
+    let i = c.in-Filled in
+    record {
+      told = λ m at.
+          filled_as a.context.now (current s.frames) m a.work.now c.run_array.result c.run_array.new.state
+          (record { array = i.array; old = i.old; size = c.in_ok-size-in-Filled.size }) c.base.result i.is c.base.ensures c.in_ok-size-in-Filled.ensures (c.run_array.ensures.told m at);
+      scopes = c.run_array.ensures.scopes;
+      lender = c.run_array.ensures.lender;
+    }
 
-pub array_loops::combine_parts-part_cell-requires : goal.array_loops::combine_parts-part_cell-requires
-array_loops::combine_parts-part_cell-requires g t c κs p =
-    (omega (arith, c.decreases), p)
+pub array_loops::run_cell_loop-returns-in-Joined : goal.array_loops::run_cell_loop-returns-in-Joined
+array_loops::run_cell_loop-returns-in-Joined g t c =
+    let a = c.args in
+    let s = a.state.now in
+    let p = a.work.now.plan.now in
+    record {
+      told = λ m at.
+          made_as a.context.now (current s.frames) m a.work.now c.run_array-in-Joined.result c.run_array-in-Joined.new.state
+          Joined false (array_over p.form.base p.shape None) c.in-Joined.is refl (λ found. refl) (c.run_array-in-Joined.ensures.told m at);
+      scopes = c.run_array-in-Joined.ensures.scopes;
+      lender = c.run_array-in-Joined.ensures.lender;
+    }
 
-pub array_loops::part_cell-run_part-requires : goal.array_loops::part_cell-run_part-requires
-array_loops::part_cell-run_part-requires g t c κs p =
-    let found : Some c.in-Some.part.now ≡ part_held c.args.parts.now c.args.index.now = ap (option_map (λ p. p.now)) (sym c.in-Some.is) ∙ c.part_holder.ensures in
-    (omega (arith, c.decreases, part_held_below c.args.parts.now c.args.index.now c.in-Some.part.now found), p)
-
-pub array_loops::run_parted-run_parts-requires : goal.array_loops::run_parted-run_parts-requires
-array_loops::run_parted-run_parts-requires g t c κs p =
-    (omega (arith, c.decreases, parts_below c.args.parted.now, ap parts_size c.deref-in_default.ensures.value), p)
-
-pub array_loops::run_parted-fold_parts-requires : goal.array_loops::run_parted-fold_parts-requires
-array_loops::run_parted-fold_parts-requires g t c κs p =
-    (omega (arith, c.decreases, parts_below c.args.parted.now, ap parts_size c.deref.ensures.value), p)
+pub array_loops::run_cell_loop-returns-in-Folded : goal.array_loops::run_cell_loop-returns-in-Folded
+array_loops::run_cell_loop-returns-in-Folded g t c =
+    let a = c.args in
+    let s = a.state.now in
+    let i = c.in-Folded in
+    record {
+      told = λ m at.
+          made_as a.context.now (current s.frames) m a.work.now c.run_fold.result c.run_fold.new.state
+          (Folded i.op i.neutral) true (fold (combined i.op) i.neutral.now) i.is refl (λ found. refl) (c.run_fold.ensures.told m at);
+      scopes = c.run_fold.ensures.scopes;
+      lender = c.run_fold.ensures.lender;
+    }
 
 pub array_loops::fill-loop-place-init : goal.array_loops::fill-loop-place-init
 array_loops::fill-loop-place-init g t c =
-    record { carried = λ m at. carried_start (filling c.args.background.now.old c.args.background.now.array.now c.args.background.now.size) c.args.plan.now.form ((λ (e : Values). source_in c.args.context.now e c.args.gens.now c.args.plan.now.ranges.items) (current c.args.state.now.frames)) c.args.plan.now.frame c.args.cells.now.items m c.args.state.now at; scopes = (refl, refl); lender = refl }
+    let a = c.args in
+    let w = a.work.now in
+    let p = w.plan.now in
+    let source = λ (e : Values). loop_source a.context.now e w in
+    let s = a.state.now in
+    record { carried = λ m at. carried_start (covering a.background) p.form (source (current s.frames)) p.frame a.cells.now.items m s at; scopes = (refl, refl); lender = refl }
 
 pub array_loops::fill-returns-in_err-value : goal.array_loops::fill-returns-in_err-value
 array_loops::fill-returns-in_err-value g t c =
     let a = c.args in
-    let ctx = a.context.now in
+    let w = a.work.now in
+    let p = w.plan.now in
+    let source = λ (e : Values). loop_source a.context.now e w in
     let s = a.state.now in
-    let k = c.loop-place.place in
-    let inside : k < length c.args.plan.now.frame = omega (arith, c.loop-place-test.true, c.count-place-end.ensures) in
-    let is : c.components.result.now ≡ get_or c.args.plan.now.frame k [] = c.components.ensures.value ∙ c.in_ok-index.ensures [] in
-    let st = c.gen_cell.new.state in
+    let here = c.loop-place in
+    let k = here.place in
+    let inside : k < length p.frame = omega (arith, c.loop-place-test.true, c.count-place-end.ensures) in
+    let is : c.components.result.now ≡ get_or p.frame k [] = c.components.ensures.value ∙ c.in_ok-index.ensures [] in
+    let st = c.loop_cell.new.state in
     let stop = c.in_err-value.field-0.0 in
-    let is' : c.from_residual-in_err-value.result ≡ Err stop = search rules in
+    let handed' : c.from_residual-in_err-value.result ≡ Err stop = search rules in
     record {
       told = λ m at.
-          handed (λ (_ : Unit {0}) found. c.loop-place.cells.items ≡ c.args.cells.now.items ++ cells_from c.args.background.now.old c.args.background.now.array.now c.args.background.now.size 0 found) c.from_residual-in_err-value.result stop st (cells_run c.args.plan.now.form ((λ (e : Values). source_in c.args.context.now e c.args.gens.now c.args.plan.now.ranges.items) (current s.frames)) c.args.plan.now.frame m) is'
-          (loop_stop (filling c.args.background.now.old c.args.background.now.array.now c.args.background.now.size) c.args.plan.now.form (λ (e : Values). source_in c.args.context.now e c.args.gens.now c.args.plan.now.ranges.items) c.args.plan.now.frame c.args.cells.now.items s c.loop-place.state c.loop-place.cells.items k c.loop-place.invariant.carried c.loop-place.invariant.scopes c.components.result.now stop st inside is c.in_err-value.ensures.told m at);
-      scopes = no_scopes (SameScopes s.frames st.frames) c.from_residual-in_err-value.result stop is';
-      lender = c.in_err-value.ensures.lender ∙ c.loop-place.invariant.lender;
+          handed (λ (_ : Unit {0}) found. here.cells.items ≡ a.cells.now.items ++ cells_over a.background 0 found) c.from_residual-in_err-value.result stop st (loop_cells a.context.now (current s.frames) w m) handed'
+          (loop_stop (covering a.background) p.form source p.frame a.cells.now.items s here.state here.cells.items k here.invariant.carried here.invariant.scopes c.components.result.now stop st inside is
+          (λ m at. subst (λ rs. ToldStop stop st (unreleased p.form (source_at a.context.now (current here.state.frames) w.source rs c.components.result.now) m)) c.deref.ensures.value (c.in_err-value.ensures.told m at)) m at);
+      scopes = no_scopes (SameScopes s.frames st.frames) c.from_residual-in_err-value.result stop handed';
+      lender = c.in_err-value.ensures.lender ∙ here.invariant.lender;
     }
 
 pub array_loops::fill-loop-place-preserved : goal.array_loops::fill-loop-place-preserved
 array_loops::fill-loop-place-preserved g t c =
     let a = c.args in
-    let ctx = a.context.now in
+    let w = a.work.now in
+    let p = w.plan.now in
+    let source = λ (e : Values). loop_source a.context.now e w in
     let s = a.state.now in
-    let k = c.loop-place.place in
-    let inside : k < length c.args.plan.now.frame = omega (arith, c.loop-place-test.true, c.count-place-end.ensures) in
-    let is : c.components.result.now ≡ get_or c.args.plan.now.frame k [] = c.components.ensures.value ∙ c.in_ok-index.ensures [] in
-    let st = c.gen_cell.new.state in
+    let here = c.loop-place in
+    let k = here.place in
+    let inside : k < length p.frame = omega (arith, c.loop-place-test.true, c.count-place-end.ensures) in
+    let is : c.components.result.now ≡ get_or p.frame k [] = c.components.ensures.value ∙ c.in_ok-index.ensures [] in
+    let st = c.loop_cell.new.state in
     let o = c.in_ok-value.value in
     record {
-      carried = loop_step (filling c.args.background.now.old c.args.background.now.array.now c.args.background.now.size) c.args.plan.now.form (λ (e : Values). source_in c.args.context.now e c.args.gens.now c.args.plan.now.ranges.items) c.args.plan.now.frame c.args.cells.now.items s c.loop-place.state c.loop-place.cells.items k c.loop-place.invariant.carried c.loop-place.invariant.scopes c.components.result.now o st (record st { heap = c.put_cell.new.heap }) c.put_cell.new.cells.items inside is c.in_ok-value.ensures.told
-          (λ h stands. let q = c.in_ok-put_cell.ensures.put h stands in (filled_more c.args.background.now.old c.args.background.now.array.now c.args.background.now.size k c.loop-place.cells.items c.put_cell.new.cells.items (option_map (read h) (option_map value_of o)) q.0, q.1)) refl;
-      scopes = scopes_after s.frames c.loop-place.state.frames st.frames c.loop-place.invariant.scopes c.in_ok-value.ensures.scopes;
-      lender = c.in_ok-put_cell.ensures.lender ∙ c.in_ok-value.ensures.lender ∙ c.loop-place.invariant.lender;
+      carried = loop_step (covering a.background) p.form source p.frame a.cells.now.items s here.state here.cells.items k here.invariant.carried here.invariant.scopes c.components.result.now o st (record st { heap = c.put_cell.new.heap }) c.put_cell.new.cells.items inside is
+          (λ m at. subst (λ rs. Told IsPresent (Ok o) st (unreleased p.form (source_at a.context.now (current here.state.frames) w.source rs c.components.result.now) m)) c.deref.ensures.value (c.in_ok-value.ensures.told m at))
+          (λ h stands. let q = c.in_ok-put_cell.ensures.put h stands in (covered_more a.background k here.cells.items c.put_cell.new.cells.items (option_map (read h) (option_map value_of o)) q.0, q.1)) refl;
+      scopes = scopes_after s.frames here.state.frames st.frames here.invariant.scopes c.in_ok-value.ensures.scopes;
+      lender = c.in_ok-put_cell.ensures.lender ∙ c.in_ok-value.ensures.lender ∙ here.invariant.lender;
     }
 
 pub array_loops::fill-returns : goal.array_loops::fill-returns
 array_loops::fill-returns g t c =
     let a = c.args in
-    let ctx = a.context.now in
+    let w = a.work.now in
+    let p = w.plan.now in
+    let source = λ (e : Values). loop_source a.context.now e w in
     let s = a.state.now in
-    let k = c.loop-place.place in
+    let here = c.loop-place in
+    let k = here.place in
     record {
-      told = loop_end (filling c.args.background.now.old c.args.background.now.array.now c.args.background.now.size) c.args.plan.now.form (λ (e : Values). source_in c.args.context.now e c.args.gens.now c.args.plan.now.ranges.items) c.args.plan.now.frame c.args.cells.now.items s c.loop-place.state c.loop-place.cells.items k c.loop-place.invariant.carried c.loop-place.invariant.scopes tt (λ (_ : Unit {0}) found. c.loop-place.cells.items ≡ c.args.cells.now.items ++ cells_from c.args.background.now.old c.args.background.now.array.now c.args.background.now.size 0 found) (λ found is. filled_all c.args.background.now.old c.args.background.now.array.now c.args.background.now.size k c.loop-place.cells.items c.args.cells.now.items found is) (omega (arith, c.loop-place-test.false, c.count-place-end.ensures));
-      scopes = c.loop-place.invariant.scopes;
-      lender = c.loop-place.invariant.lender;
+      told = loop_end (covering a.background) p.form source p.frame a.cells.now.items s here.state here.cells.items k here.invariant.carried here.invariant.scopes tt (λ (_ : Unit {0}) found. here.cells.items ≡ a.cells.now.items ++ cells_over a.background 0 found)
+          (λ found is. covered_all a.background k here.cells.items a.cells.now.items found is) (omega (arith, c.loop-place-test.false, c.count-place-end.ensures));
+      scopes = here.invariant.scopes;
+      lender = here.invariant.lender;
     }
 
 pub array_loops::fold_cells-loop-place-init : goal.array_loops::fold_cells-loop-place-init
 array_loops::fold_cells-loop-place-init g t c =
-    record { carried = λ m at. carried_start (folding c.args.op) c.args.plan.now.form ((λ (e : Values). source_in c.args.context.now e c.args.gens.now c.args.plan.now.ranges.items) (current c.args.state.now.frames)) c.args.plan.now.frame (array_of c.args.start) m c.args.state.now at; scopes = (refl, refl); lender = refl }
+    let a = c.args in
+    let w = a.work.now in
+    let p = w.plan.now in
+    let source = λ (e : Values). loop_source a.context.now e w in
+    let s = a.state.now in
+    record { carried = λ m at. carried_start (folding a.op) p.form (source (current s.frames)) p.frame (array_of a.first) m s at; scopes = (refl, refl); lender = refl }
 
 pub array_loops::fold_cells-returns-in_err-value : goal.array_loops::fold_cells-returns-in_err-value
 array_loops::fold_cells-returns-in_err-value g t c =
     let a = c.args in
-    let ctx = a.context.now in
+    let w = a.work.now in
+    let p = w.plan.now in
+    let source = λ (e : Values). loop_source a.context.now e w in
     let s = a.state.now in
-    let k = c.loop-place.place in
-    let inside : k < length c.args.plan.now.frame = omega (arith, c.loop-place-test.true, c.count-place-end.ensures) in
-    let is : c.components.result.now ≡ get_or c.args.plan.now.frame k [] = c.components.ensures.value ∙ c.in_ok-index.ensures [] in
-    let st = c.gen_cell.new.state in
+    let here = c.loop-place in
+    let k = here.place in
+    let inside : k < length p.frame = omega (arith, c.loop-place-test.true, c.count-place-end.ensures) in
+    let is : c.components.result.now ≡ get_or p.frame k [] = c.components.ensures.value ∙ c.in_ok-index.ensures [] in
+    let st = c.loop_cell.new.state in
     let stop = c.in_err-value.field-0.0 in
-    let is' : c.from_residual-in_err-value.result ≡ Err stop = search rules in
+    let handed' : c.from_residual-in_err-value.result ≡ Err stop = search rules in
     record {
       told = λ m at.
-          handed (λ s found. array_of s ≡ fold (combined c.args.op) (array_of c.args.start) found) c.from_residual-in_err-value.result stop st (cells_run c.args.plan.now.form ((λ (e : Values). source_in c.args.context.now e c.args.gens.now c.args.plan.now.ranges.items) (current s.frames)) c.args.plan.now.frame m) is'
-          (loop_stop (folding c.args.op) c.args.plan.now.form (λ (e : Values). source_in c.args.context.now e c.args.gens.now c.args.plan.now.ranges.items) c.args.plan.now.frame (array_of c.args.start) s c.loop-place.state (array_of c.loop-place.sum) k c.loop-place.invariant.carried c.loop-place.invariant.scopes c.components.result.now stop st inside is c.in_err-value.ensures.told m at);
-      scopes = no_scopes (SameScopes s.frames st.frames) c.from_residual-in_err-value.result stop is';
-      lender = c.in_err-value.ensures.lender ∙ c.loop-place.invariant.lender;
+          handed (λ s found. array_of s ≡ fold (combined a.op) (array_of a.first) found) c.from_residual-in_err-value.result stop st (loop_cells a.context.now (current s.frames) w m) handed'
+          (loop_stop (folding a.op) p.form source p.frame (array_of a.first) s here.state (array_of here.sum) k here.invariant.carried here.invariant.scopes c.components.result.now stop st inside is
+          (λ m at. subst (λ rs. ToldStop stop st (unreleased p.form (source_at a.context.now (current here.state.frames) w.source rs c.components.result.now) m)) c.deref.ensures.value (c.in_err-value.ensures.told m at)) m at);
+      scopes = no_scopes (SameScopes s.frames st.frames) c.from_residual-in_err-value.result stop handed';
+      lender = c.in_err-value.ensures.lender ∙ here.invariant.lender;
     }
 
 pub array_loops::fold_cells-loop-place-preserved : goal.array_loops::fold_cells-loop-place-preserved
 array_loops::fold_cells-loop-place-preserved g t c =
     let a = c.args in
-    let ctx = a.context.now in
+    let w = a.work.now in
+    let p = w.plan.now in
+    let source = λ (e : Values). loop_source a.context.now e w in
     let s = a.state.now in
-    let k = c.loop-place.place in
-    let inside : k < length c.args.plan.now.frame = omega (arith, c.loop-place-test.true, c.count-place-end.ensures) in
-    let is : c.components.result.now ≡ get_or c.args.plan.now.frame k [] = c.components.ensures.value ∙ c.in_ok-index.ensures [] in
-    let st = c.gen_cell.new.state in
+    let here = c.loop-place in
+    let k = here.place in
+    let inside : k < length p.frame = omega (arith, c.loop-place-test.true, c.count-place-end.ensures) in
+    let is : c.components.result.now ≡ get_or p.frame k [] = c.components.ensures.value ∙ c.in_ok-index.ensures [] in
+    let st = c.loop_cell.new.state in
     let o = c.in_ok-value.value in
     record {
-      carried = loop_step (folding c.args.op) c.args.plan.now.form (λ (e : Values). source_in c.args.context.now e c.args.gens.now c.args.plan.now.ranges.items) c.args.plan.now.frame (array_of c.args.start) s c.loop-place.state (array_of c.loop-place.sum) k c.loop-place.invariant.carried c.loop-place.invariant.scopes c.components.result.now o st (record st { heap = c.add_cell.new.heap }) (array_of c.in_ok-sum.sum) inside is c.in_ok-value.ensures.told
-          (λ h stands. let q = c.in_ok-sum.ensures.added h stands in (folded_more c.args.op k (array_of c.loop-place.sum) (array_of c.in_ok-sum.sum) (option_map (read h) (option_map value_of o)) q.0, q.1)) refl;
-      scopes = scopes_after s.frames c.loop-place.state.frames st.frames c.loop-place.invariant.scopes c.in_ok-value.ensures.scopes;
-      lender = c.in_ok-sum.ensures.lender ∙ c.in_ok-value.ensures.lender ∙ c.loop-place.invariant.lender;
+      carried = loop_step (folding a.op) p.form source p.frame (array_of a.first) s here.state (array_of here.sum) k here.invariant.carried here.invariant.scopes c.components.result.now o st (record st { heap = c.add_cell.new.heap }) (array_of c.in_ok-sum.sum) inside is
+          (λ m at. subst (λ rs. Told IsPresent (Ok o) st (unreleased p.form (source_at a.context.now (current here.state.frames) w.source rs c.components.result.now) m)) c.deref.ensures.value (c.in_ok-value.ensures.told m at))
+          (λ h stands. let q = c.in_ok-sum.ensures.added h stands in (folded_more a.op k (array_of here.sum) (array_of c.in_ok-sum.sum) (option_map (read h) (option_map value_of o)) q.0, q.1)) refl;
+      scopes = scopes_after s.frames here.state.frames st.frames here.invariant.scopes c.in_ok-value.ensures.scopes;
+      lender = c.in_ok-sum.ensures.lender ∙ c.in_ok-value.ensures.lender ∙ here.invariant.lender;
     }
 
 pub array_loops::fold_cells-returns : goal.array_loops::fold_cells-returns
 array_loops::fold_cells-returns g t c =
     let a = c.args in
-    let ctx = a.context.now in
+    let w = a.work.now in
+    let p = w.plan.now in
+    let source = λ (e : Values). loop_source a.context.now e w in
     let s = a.state.now in
-    let k = c.loop-place.place in
+    let here = c.loop-place in
+    let k = here.place in
     record {
-      told = loop_end (folding c.args.op) c.args.plan.now.form (λ (e : Values). source_in c.args.context.now e c.args.gens.now c.args.plan.now.ranges.items) c.args.plan.now.frame (array_of c.args.start) s c.loop-place.state (array_of c.loop-place.sum) k c.loop-place.invariant.carried c.loop-place.invariant.scopes c.loop-place.sum (λ s found. array_of s ≡ fold (combined c.args.op) (array_of c.args.start) found) (λ found is. is) (omega (arith, c.loop-place-test.false, c.count-place-end.ensures));
-      scopes = c.loop-place.invariant.scopes;
-      lender = c.loop-place.invariant.lender;
+      told = loop_end (folding a.op) p.form source p.frame (array_of a.first) s here.state (array_of here.sum) k here.invariant.carried here.invariant.scopes here.sum (λ s found. array_of s ≡ fold (combined a.op) (array_of a.first) found)
+          (λ found is. is) (omega (arith, c.loop-place-test.false, c.count-place-end.ensures));
+      scopes = here.invariant.scopes;
+      lender = here.invariant.lender;
     }
 
-pub array_loops::join_parts-loop-place-init : goal.array_loops::join_parts-loop-place-init
-array_loops::join_parts-loop-place-init g t c =
-    record { carried = λ m at. carried_start joining c.args.form.now ((λ (e : Values). part_source_in c.args.context.now e c.args.parts.now) (current c.args.state.now.frames)) c.args.frame.now c.args.cells.now.items m c.args.state.now at; scopes = (refl, refl); lender = refl }
-
-pub array_loops::join_parts-returns-in_err-value : goal.array_loops::join_parts-returns-in_err-value
-array_loops::join_parts-returns-in_err-value g t c =
+pub array_loops::loop_cell-returns-in_err-value-in-Some : goal.array_loops::loop_cell-returns-in_err-value-in-Some
+array_loops::loop_cell-returns-in_err-value-in-Some g t c =
     let a = c.args in
     let ctx = a.context.now in
     let s = a.state.now in
-    let k = c.loop-place.place in
-    let inside : k < length c.args.frame.now = omega (arith, c.loop-place-test.true, c.count-place-end.ensures) in
-    let is : c.components.result.now ≡ get_or c.args.frame.now k [] = c.components.ensures.value ∙ c.in_ok-index.ensures [] in
-    let st = c.part_cell.new.state in
-    let stop = c.in_err-value.field-0.0 in
-    let is' : c.from_residual-in_err-value.result ≡ Err stop = search rules in
-    record {
-      told = λ m at.
-          handed (λ (_ : Unit {0}) found. c.loop-place.cells.items ≡ c.args.cells.now.items ++ flat_map elements_of found) c.from_residual-in_err-value.result stop st (cells_run c.args.form.now ((λ (e : Values). part_source_in c.args.context.now e c.args.parts.now) (current s.frames)) c.args.frame.now m) is'
-          (loop_stop joining c.args.form.now (λ (e : Values). part_source_in c.args.context.now e c.args.parts.now) c.args.frame.now c.args.cells.now.items s c.loop-place.state c.loop-place.cells.items k c.loop-place.invariant.carried c.loop-place.invariant.scopes c.components.result.now stop st inside is c.in_err-value.ensures.told m at);
-      scopes = no_scopes (SameScopes s.frames st.frames) c.from_residual-in_err-value.result stop is';
-      lender = c.in_err-value.ensures.lender ∙ c.loop-place.invariant.lender;
-    }
-
-pub array_loops::join_parts-loop-place-preserved : goal.array_loops::join_parts-loop-place-preserved
-array_loops::join_parts-loop-place-preserved g t c =
-    let a = c.args in
-    let ctx = a.context.now in
-    let s = a.state.now in
-    let k = c.loop-place.place in
-    let inside : k < length c.args.frame.now = omega (arith, c.loop-place-test.true, c.count-place-end.ensures) in
-    let is : c.components.result.now ≡ get_or c.args.frame.now k [] = c.components.ensures.value ∙ c.in_ok-index.ensures [] in
-    let st = c.part_cell.new.state in
-    let o = c.in_ok-value.value in
-    record {
-      carried = loop_step joining c.args.form.now (λ (e : Values). part_source_in c.args.context.now e c.args.parts.now) c.args.frame.now c.args.cells.now.items s c.loop-place.state c.loop-place.cells.items k c.loop-place.invariant.carried c.loop-place.invariant.scopes c.components.result.now o st (record st { heap = c.join_cell.new.heap }) c.join_cell.new.cells.items inside is c.in_ok-value.ensures.told
-          (λ h stands. let q = c.in_ok-join_cell.ensures.joined h stands in (joined_more k c.loop-place.cells.items c.join_cell.new.cells.items (option_map (read h) (option_map value_of o)) q.0, q.1)) refl;
-      scopes = scopes_after s.frames c.loop-place.state.frames st.frames c.loop-place.invariant.scopes c.in_ok-value.ensures.scopes;
-      lender = c.in_ok-join_cell.ensures.lender ∙ c.in_ok-value.ensures.lender ∙ c.loop-place.invariant.lender;
-    }
-
-pub array_loops::join_parts-returns : goal.array_loops::join_parts-returns
-array_loops::join_parts-returns g t c =
-    let a = c.args in
-    let ctx = a.context.now in
-    let s = a.state.now in
-    let k = c.loop-place.place in
-    record {
-      told = loop_end joining c.args.form.now (λ (e : Values). part_source_in c.args.context.now e c.args.parts.now) c.args.frame.now c.args.cells.now.items s c.loop-place.state c.loop-place.cells.items k c.loop-place.invariant.carried c.loop-place.invariant.scopes tt (λ (_ : Unit {0}) found. c.loop-place.cells.items ≡ c.args.cells.now.items ++ flat_map elements_of found) (λ found is. joined_all k c.loop-place.cells.items c.args.cells.now.items found is) (omega (arith, c.loop-place-test.false, c.count-place-end.ensures));
-      scopes = c.loop-place.invariant.scopes;
-      lender = c.loop-place.invariant.lender;
-    }
-
-pub array_loops::combine_parts-loop-place-init : goal.array_loops::combine_parts-loop-place-init
-array_loops::combine_parts-loop-place-init g t c =
-    record { carried = λ m at. carried_start (folding c.args.op) c.args.form.now ((λ (e : Values). part_source_in c.args.context.now e c.args.parts.now) (current c.args.state.now.frames)) c.args.frame.now (array_of c.args.start) m c.args.state.now at; scopes = (refl, refl); lender = refl }
-
-pub array_loops::combine_parts-returns-in_err-value : goal.array_loops::combine_parts-returns-in_err-value
-array_loops::combine_parts-returns-in_err-value g t c =
-    let a = c.args in
-    let ctx = a.context.now in
-    let s = a.state.now in
-    let k = c.loop-place.place in
-    let inside : k < length c.args.frame.now = omega (arith, c.loop-place-test.true, c.count-place-end.ensures) in
-    let is : c.components.result.now ≡ get_or c.args.frame.now k [] = c.components.ensures.value ∙ c.in_ok-index.ensures [] in
-    let st = c.part_cell.new.state in
-    let stop = c.in_err-value.field-0.0 in
-    let is' : c.from_residual-in_err-value.result ≡ Err stop = search rules in
-    record {
-      told = λ m at.
-          handed (λ s found. array_of s ≡ fold (combined c.args.op) (array_of c.args.start) found) c.from_residual-in_err-value.result stop st (cells_run c.args.form.now ((λ (e : Values). part_source_in c.args.context.now e c.args.parts.now) (current s.frames)) c.args.frame.now m) is'
-          (loop_stop (folding c.args.op) c.args.form.now (λ (e : Values). part_source_in c.args.context.now e c.args.parts.now) c.args.frame.now (array_of c.args.start) s c.loop-place.state (array_of c.loop-place.sum) k c.loop-place.invariant.carried c.loop-place.invariant.scopes c.components.result.now stop st inside is c.in_err-value.ensures.told m at);
-      scopes = no_scopes (SameScopes s.frames st.frames) c.from_residual-in_err-value.result stop is';
-      lender = c.in_err-value.ensures.lender ∙ c.loop-place.invariant.lender;
-    }
-
-pub array_loops::combine_parts-loop-place-preserved : goal.array_loops::combine_parts-loop-place-preserved
-array_loops::combine_parts-loop-place-preserved g t c =
-    let a = c.args in
-    let ctx = a.context.now in
-    let s = a.state.now in
-    let k = c.loop-place.place in
-    let inside : k < length c.args.frame.now = omega (arith, c.loop-place-test.true, c.count-place-end.ensures) in
-    let is : c.components.result.now ≡ get_or c.args.frame.now k [] = c.components.ensures.value ∙ c.in_ok-index.ensures [] in
-    let st = c.part_cell.new.state in
-    let o = c.in_ok-value.value in
-    record {
-      carried = loop_step (folding c.args.op) c.args.form.now (λ (e : Values). part_source_in c.args.context.now e c.args.parts.now) c.args.frame.now (array_of c.args.start) s c.loop-place.state (array_of c.loop-place.sum) k c.loop-place.invariant.carried c.loop-place.invariant.scopes c.components.result.now o st (record st { heap = c.add_cell.new.heap }) (array_of c.in_ok-sum.sum) inside is c.in_ok-value.ensures.told
-          (λ h stands. let q = c.in_ok-sum.ensures.added h stands in (folded_more c.args.op k (array_of c.loop-place.sum) (array_of c.in_ok-sum.sum) (option_map (read h) (option_map value_of o)) q.0, q.1)) refl;
-      scopes = scopes_after s.frames c.loop-place.state.frames st.frames c.loop-place.invariant.scopes c.in_ok-value.ensures.scopes;
-      lender = c.in_ok-sum.ensures.lender ∙ c.in_ok-value.ensures.lender ∙ c.loop-place.invariant.lender;
-    }
-
-pub array_loops::combine_parts-returns : goal.array_loops::combine_parts-returns
-array_loops::combine_parts-returns g t c =
-    let a = c.args in
-    let ctx = a.context.now in
-    let s = a.state.now in
-    let k = c.loop-place.place in
-    record {
-      told = loop_end (folding c.args.op) c.args.form.now (λ (e : Values). part_source_in c.args.context.now e c.args.parts.now) c.args.frame.now (array_of c.args.start) s c.loop-place.state (array_of c.loop-place.sum) k c.loop-place.invariant.carried c.loop-place.invariant.scopes c.loop-place.sum (λ s found. array_of s ≡ fold (combined c.args.op) (array_of c.args.start) found) (λ found is. is) (omega (arith, c.loop-place-test.false, c.count-place-end.ensures));
-      scopes = c.loop-place.invariant.scopes;
-      lender = c.loop-place.invariant.lender;
-    }
-
-pub array_loops::gen_cell-returns-in_err-value-in-Some : goal.array_loops::gen_cell-returns-in_err-value-in-Some
-array_loops::gen_cell-returns-in_err-value-in-Some g t c =
-    let a = c.args in
-    let ctx = a.context.now in
-    let s = a.state.now in
+    let e = current s.frames in
     let v = a.index.now in
-    let form = a.plan.now.form in
-    let found : Some c.in-Some.g.now ≡ held a.gens.now a.plan.now.ranges.items v = ap (option_map (λ x. x.now)) (sym c.in-Some.is) ∙ c.holder.ensures ∙ ap (λ rs. held a.gens.now rs v) c.deref.ensures.value in
+    let form = a.form.now in
+    let src = a.source.now in
+    let rs = a.ranges.now in
+    let found : Some (body_of c.in-Some.body) ≡ held_body src rs v = ap (option_map body_of) (sym c.in-Some.is) ∙ c.body_at.ensures in
+    let source : Some (body_source ctx e v (body_of c.in-Some.body)) ≡ source_at ctx e src rs v = ap (option_map (body_source ctx e v)) found ∙ sym (bodies_are ctx e v src rs) in
     let st = c.run_cell.new.state in
     let stop = c.in_err-value-in-Some.field-0.0 in
     let is : c.from_residual.result ≡ Err stop = search rules in
     record {
       told = λ m at.
-          handed IsPresent c.from_residual.result stop st (unreleased form (source_in ctx (current s.frames) a.gens.now a.plan.now.ranges.items v) m) is
-          (subst (λ h. ToldStop stop st (unreleased form (option_map (gen_source ctx (current s.frames) v) h) m)) found
-          (stop_then stop st (then_go (apart (gen_source ctx (current s.frames) v c.in-Some.g.now).cell) (formed form (gen_source ctx (current s.frames) v c.in-Some.g.now).site) m) (λ w. give (Some w)) (c.in_err-value-in-Some.ensures.told m at)));
+          handed IsPresent c.from_residual.result stop st (unreleased form (source_at ctx e src rs v) m) is
+          (subst (λ o. ToldStop stop st (unreleased form o m)) source
+          (stop_then stop st (body_cell ctx (body_of c.in-Some.body) form v e m) (λ w. give (Some w)) (c.in_err-value-in-Some.ensures.told m at)));
       scopes = no_scopes (SameScopes s.frames st.frames) c.from_residual.result stop is;
       lender = c.in_err-value-in-Some.ensures.lender;
     }
 
-pub array_loops::gen_cell-returns-in_ok-value-in-Some : goal.array_loops::gen_cell-returns-in_ok-value-in-Some
-array_loops::gen_cell-returns-in_ok-value-in-Some g t c =
+pub array_loops::loop_cell-returns-in_ok-value-in-Some : goal.array_loops::loop_cell-returns-in_ok-value-in-Some
+array_loops::loop_cell-returns-in_ok-value-in-Some g t c =
     let a = c.args in
     let ctx = a.context.now in
     let s = a.state.now in
+    let e = current s.frames in
     let v = a.index.now in
-    let form = a.plan.now.form in
-    let found : Some c.in-Some.g.now ≡ held a.gens.now a.plan.now.ranges.items v = ap (option_map (λ x. x.now)) (sym c.in-Some.is) ∙ c.holder.ensures ∙ ap (λ rs. held a.gens.now rs v) c.deref.ensures.value in
+    let form = a.form.now in
+    let src = a.source.now in
+    let rs = a.ranges.now in
+    let found : Some (body_of c.in-Some.body) ≡ held_body src rs v = ap (option_map body_of) (sym c.in-Some.is) ∙ c.body_at.ensures in
+    let source : Some (body_source ctx e v (body_of c.in-Some.body)) ≡ source_at ctx e src rs v = ap (option_map (body_source ctx e v)) found ∙ sym (bodies_are ctx e v src rs) in
     let st = c.run_cell.new.state in
-    let w = c.in_ok-value-in-Some.value in
+    let value = c.in_ok-value-in-Some.value in
     record {
       told = λ m at.
-          subst (λ h. Told IsPresent (Ok (Some w)) st (unreleased form (option_map (gen_source ctx (current s.frames) v) h) m)) found
-          (present_told w st form (gen_source ctx (current s.frames) v c.in-Some.g.now) m (c.in_ok-value-in-Some.ensures.told m at));
+          subst (λ o. Told IsPresent (Ok (Some value)) st (unreleased form o m)) source
+          (present_told value st form (body_source ctx e v (body_of c.in-Some.body)) m (c.in_ok-value-in-Some.ensures.told m at));
       scopes = c.in_ok-value-in-Some.ensures.scopes;
       lender = c.in_ok-value-in-Some.ensures.lender;
     }
 
-pub array_loops::gen_cell-returns-in-None : goal.array_loops::gen_cell-returns-in-None
-array_loops::gen_cell-returns-in-None g t c =
+pub array_loops::loop_cell-returns-in-None : goal.array_loops::loop_cell-returns-in-None
+array_loops::loop_cell-returns-in-None g t c =
     let a = c.args in
     let ctx = a.context.now in
     let s = a.state.now in
+    let e = current s.frames in
     let v = a.index.now in
-    let form = a.plan.now.form in
-    let none : None ≡ held a.gens.now a.plan.now.ranges.items v = ap (option_map (λ x. x.now)) (sym c.in-None.is) ∙ c.holder.ensures ∙ ap (λ rs. held a.gens.now rs v) c.deref.ensures.value in
+    let form = a.form.now in
+    let src = a.source.now in
+    let rs = a.ranges.now in
+    let none : None ≡ held_body src rs v = ap (option_map body_of) (sym c.in-None.is) ∙ c.body_at.ensures in
+    let source : None ≡ source_at ctx e src rs v = ap (option_map (body_source ctx e v)) none ∙ sym (bodies_are ctx e v src rs) in
     record {
-      told = λ m at. subst (λ h. Told IsPresent (Ok None) s (unreleased form (option_map (gen_source ctx (current s.frames) v) h) m)) none (refl, at);
+      told = λ m at. subst (λ o. Told IsPresent (Ok None) s (unreleased form o m)) source (refl, at);
       scopes = (refl, refl);
       lender = refl;
     }
@@ -1451,91 +1426,18 @@ array_loops::run_cell-returns g t c =
     let a = c.args in
     let ctx = a.context.now in
     let s = a.state.now in
-    let g = a.g.now in
+    let b = body_of a.body.now in
     let v = a.index.now in
     let bound = c.in_ok-bind_index.ensures.bound in
     let mid = c.bind_index.new.state in
     let answer = c.run_first-answer.result in
     let st = c.run_first-answer.new.state in
     let new = record st { phases = c.enter_cell-outer.result } in
-    let inside = bound.inside ∙ (λ i. bind_values (bind_value (c.in_ok-enter.ensures.current i) g.index (Small (vector Int v))) (c.deref.ensures.value i) (map (λ z. Small (scalar Int z)) v)) in
+    let inside = bound.inside ∙ (λ i. body_env (c.in_ok-enter.ensures.current i) b v) in
     record {
       told = λ m at.
-          cell_tells answer c.formed.result st new m (first_value (does_in ctx (code_term g.body) (with_index_value (current s.frames) (gen_head g) v))) a.form.now g.site refl (c.enter_cell-outer.ensures.outer ∙ at.phases) c.formed.ensures.told
-          (subst (λ e. Told IsValue answer st (first_value (does_in ctx (code_term g.body) e) m)) inside (c.run_first-answer.ensures.told m (moved s mid m bound.heap (bound.phases ∙ c.enter_cell-outer.ensures.same) at)));
-      scopes = cell_scopes answer c.formed.result s.frames mid.frames st.frames c.formed.ensures.same c.run_first-answer.ensures.scopes (bound.outside ∙ c.in_ok-enter.ensures.outer);
-      lender = c.run_first-answer.ensures.lender ∙ c.in_ok-bind_index.ensures.lender;
-    }
-
-pub array_loops::part_cell-returns-in_err-value-in-Some : goal.array_loops::part_cell-returns-in_err-value-in-Some
-array_loops::part_cell-returns-in_err-value-in-Some g t c =
-    let a = c.args in
-    let ctx = a.context.now in
-    let s = a.state.now in
-    let v = a.index.now in
-    let form = a.form.now in
-    let found : Some c.in-Some.part.now ≡ part_held a.parts.now v = ap (option_map (λ x. x.now)) (sym c.in-Some.is) ∙ c.part_holder.ensures in
-    let st = c.run_part.new.state in
-    let stop = c.in_err-value-in-Some.field-0.0 in
-    let is : c.from_residual.result ≡ Err stop = search rules in
-    record {
-      told = λ m at.
-          handed IsPresent c.from_residual.result stop st (unreleased form (part_source_in ctx (current s.frames) a.parts.now v) m) is
-          (subst (λ h. ToldStop stop st (unreleased form (option_map (part_source ctx (current s.frames) v) h) m)) found
-          (stop_then stop st (then_go (apart (part_source ctx (current s.frames) v c.in-Some.part.now).cell) (formed form (part_source ctx (current s.frames) v c.in-Some.part.now).site) m) (λ w. give (Some w)) (c.in_err-value-in-Some.ensures.told m at)));
-      scopes = no_scopes (SameScopes s.frames st.frames) c.from_residual.result stop is;
-      lender = c.in_err-value-in-Some.ensures.lender;
-    }
-
-pub array_loops::part_cell-returns-in_ok-value-in-Some : goal.array_loops::part_cell-returns-in_ok-value-in-Some
-array_loops::part_cell-returns-in_ok-value-in-Some g t c =
-    let a = c.args in
-    let ctx = a.context.now in
-    let s = a.state.now in
-    let v = a.index.now in
-    let form = a.form.now in
-    let found : Some c.in-Some.part.now ≡ part_held a.parts.now v = ap (option_map (λ x. x.now)) (sym c.in-Some.is) ∙ c.part_holder.ensures in
-    let st = c.run_part.new.state in
-    let w = c.in_ok-value-in-Some.value in
-    record {
-      told = λ m at.
-          subst (λ h. Told IsPresent (Ok (Some w)) st (unreleased form (option_map (part_source ctx (current s.frames) v) h) m)) found
-          (present_told w st form (part_source ctx (current s.frames) v c.in-Some.part.now) m (c.in_ok-value-in-Some.ensures.told m at));
-      scopes = c.in_ok-value-in-Some.ensures.scopes;
-      lender = c.in_ok-value-in-Some.ensures.lender;
-    }
-
-pub array_loops::part_cell-returns-in-None : goal.array_loops::part_cell-returns-in-None
-array_loops::part_cell-returns-in-None g t c =
-    let a = c.args in
-    let ctx = a.context.now in
-    let s = a.state.now in
-    let v = a.index.now in
-    let form = a.form.now in
-    let none : None ≡ part_held a.parts.now v = ap (option_map (λ x. x.now)) (sym c.in-None.is) ∙ c.part_holder.ensures in
-    record {
-      told = λ m at. subst (λ h. Told IsPresent (Ok None) s (unreleased form (option_map (part_source ctx (current s.frames) v) h) m)) none (refl, at);
-      scopes = (refl, refl);
-      lender = refl;
-    }
-
-pub array_loops::run_part-returns : goal.array_loops::run_part-returns
-array_loops::run_part-returns g t c =
-    let a = c.args in
-    let ctx = a.context.now in
-    let s = a.state.now in
-    let g = a.part.now in
-    let v = a.index.now in
-    let bound = c.in_ok-bind_index.ensures.bound in
-    let mid = c.bind_index.new.state in
-    let answer = c.run_first-answer.result in
-    let st = c.run_first-answer.new.state in
-    let new = record st { phases = c.enter_cell-outer.result } in
-    let inside = bound.inside ∙ (λ i. bind_value (c.in_ok-enter.ensures.current i) g.index (Small (vector Int v))) in
-    record {
-      told = λ m at.
-          cell_tells answer c.formed.result st new m (first_value (does_in ctx (code_term g.body) (bind_value (current s.frames) g.index (Small (vector Int v))))) a.form.now g.site refl (c.enter_cell-outer.ensures.outer ∙ at.phases) c.formed.ensures.told
-          (subst (λ e. Told IsValue answer st (first_value (does_in ctx (code_term g.body) e) m)) inside (c.run_first-answer.ensures.told m (moved s mid m bound.heap (bound.phases ∙ c.enter_cell-outer.ensures.same) at)));
+          cell_tells answer c.formed.result st new m (first_value (does_in ctx (code_term b.block) (body_env (current s.frames) b v))) a.form.now b.site refl (c.enter_cell-outer.ensures.outer ∙ at.phases) c.formed.ensures.told
+          (subst (λ e. Told IsValue answer st (first_value (does_in ctx (code_term b.block) e) m)) inside (c.run_first-answer.ensures.told m (moved s mid m bound.heap (bound.phases ∙ c.enter_cell-outer.ensures.same) at)));
       scopes = cell_scopes answer c.formed.result s.frames mid.frames st.frames c.formed.ensures.same c.run_first-answer.ensures.scopes (bound.outside ∙ c.in_ok-enter.ensures.outer);
       lender = c.run_first-answer.ensures.lender ∙ c.in_ok-bind_index.ensures.lender;
     }
@@ -1544,17 +1446,19 @@ pub array_loops::run_array-returns-in_err-fill : goal.array_loops::run_array-ret
 array_loops::run_array-returns-in_err-fill g t c =
     let a = c.args in
     let ctx = a.context.now in
+    let w = a.work.now in
+    let p = w.plan.now in
     let s = a.state.now in
-    let p = a.plan.now in
     let target = c.in_ok-target.target in
     let s0 = c.begin.new.state in
     let s1 = c.fill.new.state in
     let stop = c.in_err-fill.field-0.0 in
     let is : c.from_residual-in_err-fill.result ≡ Err stop = search rules in
+    let result = array_over a.base p.shape a.background in
     record {
       told = λ m at.
-          handed IsValue c.from_residual-in_err-fill.result stop s1 (job_does None (array_job ctx (current s.frames) m a.gens.now (plan_of p) a.array.now a.old) m) is
-          (array_stops ctx a.gens.now (plan_of p) s s0 (target_of target) m c.in_ok-target.ensures.frames (target_nothing target) a.array.now a.old c.in_ok-size.size c.in_ok-size.ensures (c.in_ok-target.ensures.begun m (length p.frame) at) stop s1 c.in_err-fill.ensures.told);
+          handed IsValue c.from_residual-in_err-fill.result stop s1 (job_does None (cells_job ctx (current s.frames) m w false result) m) is
+          (loop_stops ctx w s s0 (target_of target) m c.in_ok-target.ensures.frames (target_nothing target) false result (c.in_ok-target.ensures.begun m (length p.frame) at) stop s1 c.in_err-fill.ensures.told);
       scopes = no_scopes (SameScopes s.frames s1.frames) c.from_residual-in_err-fill.result stop is;
       lender = c.in_err-fill.ensures.lender ∙ c.in_ok-target.ensures.lender;
     }
@@ -1563,19 +1467,22 @@ pub array_loops::run_array-returns : goal.array_loops::run_array-returns
 array_loops::run_array-returns g t c =
     let a = c.args in
     let ctx = a.context.now in
+    let w = a.work.now in
+    let p = w.plan.now in
     let s = a.state.now in
-    let p = a.plan.now in
     let target = c.in_ok-target.target in
     let s0 = c.begin.new.state in
     let s1 = c.fill.new.state in
     let s2 = c.finish.new.state in
     let items = c.fill.new.cells.items in
     let r = c.finish.result in
+    let result = array_over a.base p.shape a.background in
     record {
       told = λ m at.
-          array_tells ctx a.gens.now (plan_of p) s s0 (target_of target) m c.in_ok-target.ensures.frames (target_nothing target) a.array.now a.old c.in_ok-size.size c.in_ok-size.ensures (c.in_ok-target.ensures.begun m (length p.frame) at)
-          target.cells.items items r s1 s2 c.in_ok-target.ensures.cells c.in_ok-fill.ensures.told
-          (λ h there. subst (λ b. Told IsValue r s2 (settled (target_of target) (record { base = b; shape = p.shape; cells = items }) h)) c.base.ensures (c.finish.ensures.told h there));
+          loop_tells ctx w s s0 (target_of target) m c.in_ok-target.ensures.frames (target_nothing target) false result (c.in_ok-target.ensures.begun m (length p.frame) at)
+          {A = Unit {0}} (λ _ found. items ≡ target.cells.items ++ cells_over a.background 0 found) tt (record { base = a.base; shape = p.shape; cells = items }) r s1 s2
+          (λ found is. λ i. record { base = a.base; shape = p.shape; cells = (is ∙ ap (λ b. b ++ cells_over a.background 0 found) c.in_ok-target.ensures.cells) i })
+          c.in_ok-fill.ensures.told c.finish.ensures.told;
       scopes = on_ok r (λ q. scopes_join s.frames s0.frames s1.frames s2.frames c.in_ok-target.ensures.frames c.in_ok-fill.ensures.scopes q) c.finish.ensures.frames;
       lender = c.finish.ensures.lender ∙ c.in_ok-fill.ensures.lender ∙ c.in_ok-target.ensures.lender;
     }
@@ -1584,17 +1491,19 @@ pub array_loops::run_fold-returns-in_err-sum : goal.array_loops::run_fold-return
 array_loops::run_fold-returns-in_err-sum g t c =
     let a = c.args in
     let ctx = a.context.now in
+    let w = a.work.now in
+    let p = w.plan.now in
     let s = a.state.now in
-    let p = a.plan.now in
     let target = c.in_ok-target.target in
     let s0 = c.begin_fold.new.state in
     let s1 = c.fold_cells.new.state in
     let stop = c.in_err-sum.field-0.0 in
     let is : c.from_residual-in_err-sum.result ≡ Err stop = search rules in
+    let result = fold (combined a.op) a.neutral.now in
     record {
       told = λ m at.
-          handed IsValue c.from_residual-in_err-sum.result stop s1 (job_does None (fold_job ctx (current s.frames) m a.gens.now (plan_of p) a.op a.neutral) m) is
-          (fold_stops ctx a.gens.now (plan_of p) s s0 (fold_target target) m c.in_ok-target.ensures.frames (fold_nothing target) a.op a.neutral (c.in_ok-target.ensures.begun m (length p.frame) at) stop s1 c.in_err-sum.ensures.told);
+          handed IsValue c.from_residual-in_err-sum.result stop s1 (job_does None (cells_job ctx (current s.frames) m w true result) m) is
+          (loop_stops ctx w s s0 (fold_target target) m c.in_ok-target.ensures.frames (fold_nothing target) true result (c.in_ok-target.ensures.begun m (length p.frame) at) stop s1 c.in_err-sum.ensures.told);
       scopes = no_scopes (SameScopes s.frames s1.frames) c.from_residual-in_err-sum.result stop is;
       lender = c.in_err-sum.ensures.lender ∙ c.in_ok-target.ensures.lender;
     }
@@ -1603,90 +1512,21 @@ pub array_loops::run_fold-returns : goal.array_loops::run_fold-returns
 array_loops::run_fold-returns g t c =
     let a = c.args in
     let ctx = a.context.now in
+    let w = a.work.now in
+    let p = w.plan.now in
     let s = a.state.now in
-    let p = a.plan.now in
     let target = c.in_ok-target.target in
     let s0 = c.begin_fold.new.state in
     let s1 = c.fold_cells.new.state in
     let s2 = c.finish_fold.new.state in
     let r = c.finish_fold.result in
+    let first = c.in_ok-first.first in
+    let result = fold (combined a.op) a.neutral.now in
     record {
       told = λ m at.
-          fold_tells ctx a.gens.now (plan_of p) s s0 (fold_target target) m c.in_ok-target.ensures.frames (fold_nothing target) a.op a.neutral (c.in_ok-target.ensures.begun m (length p.frame) at)
-          array_of c.start.result c.in_ok-sum.sum r s1 s2 c.start.ensures c.in_ok-sum.ensures.told c.finish_fold.ensures.told;
-      scopes = on_ok r (λ q. scopes_join s.frames s0.frames s1.frames s2.frames c.in_ok-target.ensures.frames c.in_ok-sum.ensures.scopes q) c.finish_fold.ensures.frames;
-      lender = c.finish_fold.ensures.lender ∙ c.in_ok-sum.ensures.lender ∙ c.in_ok-target.ensures.lender;
-    }
-
-pub array_loops::run_parts-returns-in_err-join_parts : goal.array_loops::run_parts-returns-in_err-join_parts
-array_loops::run_parts-returns-in_err-join_parts g t c =
-    let a = c.args in
-    let ctx = a.context.now in
-    let s = a.state.now in
-    let target = c.in_ok-target.target in
-    let s0 = c.begin.new.state in
-    let s1 = c.join_parts.new.state in
-    let stop = c.in_err-join_parts.field-0.0 in
-    let is : c.from_residual-in_err-join_parts.result ≡ Err stop = search rules in
-    record {
-      told = λ m at.
-          handed IsValue c.from_residual-in_err-join_parts.result stop s1 (job_does None (parts_job ctx (current s.frames) a.parts.now a.frame.now a.form.now a.shape.now) m) is
-          (parts_stop ctx a.parts.now a.frame.now a.form.now s s0 (target_of target) m c.in_ok-target.ensures.frames (target_nothing target) a.shape.now (c.in_ok-target.ensures.begun m (length a.frame.now) at) stop s1 c.in_err-join_parts.ensures.told);
-      scopes = no_scopes (SameScopes s.frames s1.frames) c.from_residual-in_err-join_parts.result stop is;
-      lender = c.in_err-join_parts.ensures.lender ∙ c.in_ok-target.ensures.lender;
-    }
-
-pub array_loops::run_parts-returns : goal.array_loops::run_parts-returns
-array_loops::run_parts-returns g t c =
-    let a = c.args in
-    let ctx = a.context.now in
-    let s = a.state.now in
-    let target = c.in_ok-target.target in
-    let s0 = c.begin.new.state in
-    let s1 = c.join_parts.new.state in
-    let s2 = c.finish.new.state in
-    let items = c.join_parts.new.cells.items in
-    let r = c.finish.result in
-    record {
-      told = λ m at.
-          parts_tell ctx a.parts.now a.frame.now a.form.now s s0 (target_of target) m c.in_ok-target.ensures.frames (target_nothing target) a.shape.now (c.in_ok-target.ensures.begun m (length a.frame.now) at)
-          target.cells.items items r s1 s2 c.in_ok-target.ensures.cells c.in_ok-join_parts.ensures.told c.finish.ensures.told;
-      scopes = on_ok r (λ q. scopes_join s.frames s0.frames s1.frames s2.frames c.in_ok-target.ensures.frames c.in_ok-join_parts.ensures.scopes q) c.finish.ensures.frames;
-      lender = c.finish.ensures.lender ∙ c.in_ok-join_parts.ensures.lender ∙ c.in_ok-target.ensures.lender;
-    }
-
-pub array_loops::fold_parts-returns-in_err-sum : goal.array_loops::fold_parts-returns-in_err-sum
-array_loops::fold_parts-returns-in_err-sum g t c =
-    let a = c.args in
-    let ctx = a.context.now in
-    let s = a.state.now in
-    let target = c.in_ok-target.target in
-    let s0 = c.begin_fold.new.state in
-    let s1 = c.combine_parts.new.state in
-    let stop = c.in_err-sum.field-0.0 in
-    let is : c.from_residual-in_err-sum.result ≡ Err stop = search rules in
-    record {
-      told = λ m at.
-          handed IsValue c.from_residual-in_err-sum.result stop s1 (job_does None (fold_parts_job ctx (current s.frames) a.parts.now a.frame.now a.form.now a.op a.neutral) m) is
-          (part_fold_stops ctx a.parts.now a.frame.now a.form.now s s0 (fold_target target) m c.in_ok-target.ensures.frames (fold_nothing target) a.op a.neutral (c.in_ok-target.ensures.begun m (length a.frame.now) at) stop s1 c.in_err-sum.ensures.told);
-      scopes = no_scopes (SameScopes s.frames s1.frames) c.from_residual-in_err-sum.result stop is;
-      lender = c.in_err-sum.ensures.lender ∙ c.in_ok-target.ensures.lender;
-    }
-
-pub array_loops::fold_parts-returns : goal.array_loops::fold_parts-returns
-array_loops::fold_parts-returns g t c =
-    let a = c.args in
-    let ctx = a.context.now in
-    let s = a.state.now in
-    let target = c.in_ok-target.target in
-    let s0 = c.begin_fold.new.state in
-    let s1 = c.combine_parts.new.state in
-    let s2 = c.finish_fold.new.state in
-    let r = c.finish_fold.result in
-    record {
-      told = λ m at.
-          part_fold_tells ctx a.parts.now a.frame.now a.form.now s s0 (fold_target target) m c.in_ok-target.ensures.frames (fold_nothing target) a.op a.neutral (c.in_ok-target.ensures.begun m (length a.frame.now) at)
-          array_of c.start.result c.in_ok-sum.sum r s1 s2 c.start.ensures c.in_ok-sum.ensures.told c.finish_fold.ensures.told;
+          loop_tells ctx w s s0 (fold_target target) m c.in_ok-target.ensures.frames (fold_nothing target) true result (c.in_ok-target.ensures.begun m (length p.frame) at)
+          (λ b found. array_of b ≡ fold (combined a.op) (array_of first) found) c.in_ok-sum.sum (array_of c.in_ok-sum.sum) r s1 s2
+          (λ found is. is ∙ ap (λ n. fold (combined a.op) n found) c.in_ok-first.ensures) c.in_ok-sum.ensures.told c.finish_fold.ensures.told;
       scopes = on_ok r (λ q. scopes_join s.frames s0.frames s1.frames s2.frames c.in_ok-target.ensures.frames c.in_ok-sum.ensures.scopes q) c.finish_fold.ensures.frames;
       lender = c.finish_fold.ensures.lender ∙ c.in_ok-sum.ensures.lender ∙ c.in_ok-target.ensures.lender;
     }
@@ -1699,8 +1539,8 @@ array_loops::run_with-returns-in_err-plan-in-Genarray-clause-told g t c =
     let e = current s.frames in
     let w = a.with.now in
     let gs = (out-CodeWith w).gens.items in
-    let bs = c.deref-in-Genarray.result.now in
     let i = c.in-Genarray in
+    let bs = c.deref-in-Genarray.result.now in
     let stop = c.in_err-plan-in-Genarray.field-0.0 in
     let is : c.from_residual-in_err-plan-in-Genarray.result ≡ Err stop = search rules in
     λ m at.
@@ -1716,13 +1556,14 @@ array_loops::run_with-returns-in-Genarray-clause-told g t c =
     let e = current s.frames in
     let w = a.with.now in
     let gs = (out-CodeWith w).gens.items in
-    let bs = c.deref-in-Genarray.result.now in
     let i = c.in-Genarray in
-    let st = c.run_array.new.state in
-    let r = c.run_array.result in
+    let bs = c.deref-in-Genarray.result.now in
+    let st = c.run_cell_loop.new.state in
+    let r = c.run_cell_loop.result in
     λ m at.
     subst (Told IsOnly r st) (sym (with_means ctx e w a.site m))
-    (genarray_tells ctx e m gs a.site bs (c.deref-in-Genarray.ensures.value ∙ c.in_ok-bounds.ensures m at.heap ∙ ap (map (λ (g : CodeGen). bounds_of (gen_head g) (reads m e))) c.deref.ensures.value) (out-CodeWith w).op c.in_ok-shape-in-Genarray.shape c.in_ok-default-in-Genarray.default (plan_of c.in_ok-plan-in-Genarray.plan) r st (ap (λ o. operation o a.site (reads m e)) i.is ∙ (λ j. genarray ((ap (read m) (sym c.get.ensures) ∙ sym (c.in_ok-shape-in-Genarray.ensures m at.heap)) j) ((ap (read m) (sym c.get-in-Genarray.ensures) ∙ sym (c.in_ok-default-in-Genarray.ensures m at.heap)) j) a.site)) c.in_ok-plan-in-Genarray.ensures.told (subst (λ (gens : List CodeGen). Told IsValue r st (job_does None (array_job ctx e m gens (plan_of c.in_ok-plan-in-Genarray.plan) c.in_ok-default-in-Genarray.default false) m)) c.deref-in-Genarray-2.ensures.value (c.run_array.ensures.told m at)))
+    (genarray_tells ctx e m gs a.site bs (c.deref-in-Genarray.ensures.value ∙ c.in_ok-bounds.ensures m at.heap ∙ ap (map (λ (g : CodeGen). bounds_of (gen_head g) (reads m e))) c.deref.ensures.value) (out-CodeWith w).op c.in_ok-shape-in-Genarray.shape c.in_ok-default-in-Genarray.default (plan_of c.in_ok-plan-in-Genarray.plan) r st (ap (λ o. operation o a.site (reads m e)) i.is ∙ (λ j. genarray ((ap (read m) (sym c.get.ensures) ∙ sym (c.in_ok-shape-in-Genarray.ensures m at.heap)) j) ((ap (read m) (sym c.get-in-Genarray.ensures) ∙ sym (c.in_ok-default-in-Genarray.ensures m at.heap)) j) a.site)) c.in_ok-plan-in-Genarray.ensures.told
+    (subst (λ (gens : List CodeGen). Told IsValue r st (job_does None (array_job ctx e m gens (plan_of c.in_ok-plan-in-Genarray.plan) c.in_ok-default-in-Genarray.default false) m)) c.deref-2.ensures.value (c.run_cell_loop.ensures.told m at)))
 
 pub array_loops::run_with-returns-in_err-plan-in-Modarray-clause-told : goal.array_loops::run_with-returns-in_err-plan-in-Modarray-clause-told
 array_loops::run_with-returns-in_err-plan-in-Modarray-clause-told g t c =
@@ -1732,14 +1573,14 @@ array_loops::run_with-returns-in_err-plan-in-Modarray-clause-told g t c =
     let e = current s.frames in
     let w = a.with.now in
     let gs = (out-CodeWith w).gens.items in
-    let bs = c.deref-in-Modarray.result.now in
     let i = c.in-Modarray in
+    let bs = c.deref-in-Modarray.result.now in
     let stop = c.in_err-plan-in-Modarray.field-0.0 in
     let is : c.from_residual-in_err-plan-in-Modarray.result ≡ Err stop = search rules in
     λ m at.
     handed IsOnly c.from_residual-in_err-plan-in-Modarray.result stop s (right_in ctx (code_with_term w) a.site e m) is
     (subst (ToldStop stop s) (sym (with_means ctx e w a.site m))
-    (with_stops ctx e m gs a.site bs (c.deref-in-Modarray.ensures.value ∙ c.in_ok-bounds.ensures m at.heap ∙ ap (map (λ (g : CodeGen). bounds_of (gen_head g) (reads m e))) c.deref.ensures.value) (out-CodeWith w).op (modarray c.in_ok-old-in-Modarray.old a.site) (ap (λ o. operation o a.site (reads m e)) i.is ∙ (λ j. modarray ((ap (read m) (sym c.get-in-Modarray.ensures) ∙ sym (c.in_ok-old-in-Modarray.ensures m at.heap)) j) a.site)) stop s at c.in_err-plan-in-Modarray.ensures.told))
+    (with_stops ctx e m gs a.site bs (c.deref-in-Modarray.ensures.value ∙ c.in_ok-bounds.ensures m at.heap ∙ ap (map (λ (g : CodeGen). bounds_of (gen_head g) (reads m e))) c.deref.ensures.value) (out-CodeWith w).op (modarray c.in_ok-array-in-Modarray.array a.site) (ap (λ o. operation o a.site (reads m e)) i.is ∙ (λ j. modarray ((ap (read m) (sym c.get-in-Modarray.ensures) ∙ sym (c.in_ok-array-in-Modarray.ensures m at.heap)) j) a.site)) stop s at c.in_err-plan-in-Modarray.ensures.told))
 
 pub array_loops::run_with-returns-in-Modarray-clause-told : goal.array_loops::run_with-returns-in-Modarray-clause-told
 array_loops::run_with-returns-in-Modarray-clause-told g t c =
@@ -1749,13 +1590,14 @@ array_loops::run_with-returns-in-Modarray-clause-told g t c =
     let e = current s.frames in
     let w = a.with.now in
     let gs = (out-CodeWith w).gens.items in
-    let bs = c.deref-in-Modarray.result.now in
     let i = c.in-Modarray in
-    let st = c.run_array-in-Modarray.new.state in
-    let r = c.run_array-in-Modarray.result in
+    let bs = c.deref-in-Modarray.result.now in
+    let st = c.run_cell_loop-in-Modarray.new.state in
+    let r = c.run_cell_loop-in-Modarray.result in
     λ m at.
     subst (Told IsOnly r st) (sym (with_means ctx e w a.site m))
-    (modarray_tells ctx e m gs a.site bs (c.deref-in-Modarray.ensures.value ∙ c.in_ok-bounds.ensures m at.heap ∙ ap (map (λ (g : CodeGen). bounds_of (gen_head g) (reads m e))) c.deref.ensures.value) (out-CodeWith w).op c.in_ok-old-in-Modarray.old (plan_of c.in_ok-plan-in-Modarray.plan) r st (ap (λ o. operation o a.site (reads m e)) i.is ∙ (λ j. modarray ((ap (read m) (sym c.get-in-Modarray.ensures) ∙ sym (c.in_ok-old-in-Modarray.ensures m at.heap)) j) a.site)) c.in_ok-plan-in-Modarray.ensures.told (subst (λ (gens : List CodeGen). Told IsValue r st (job_does None (array_job ctx e m gens (plan_of c.in_ok-plan-in-Modarray.plan) c.in_ok-old-in-Modarray.old true) m)) c.deref-in-Modarray-2.ensures.value (c.run_array-in-Modarray.ensures.told m at)))
+    (modarray_tells ctx e m gs a.site bs (c.deref-in-Modarray.ensures.value ∙ c.in_ok-bounds.ensures m at.heap ∙ ap (map (λ (g : CodeGen). bounds_of (gen_head g) (reads m e))) c.deref.ensures.value) (out-CodeWith w).op c.in_ok-array-in-Modarray.array (plan_of c.in_ok-plan-in-Modarray.plan) r st (ap (λ o. operation o a.site (reads m e)) i.is ∙ (λ j. modarray ((ap (read m) (sym c.get-in-Modarray.ensures) ∙ sym (c.in_ok-array-in-Modarray.ensures m at.heap)) j) a.site)) c.in_ok-plan-in-Modarray.ensures.told
+    (subst (λ (gens : List CodeGen). Told IsValue r st (job_does None (array_job ctx e m gens (plan_of c.in_ok-plan-in-Modarray.plan) c.in_ok-array-in-Modarray.array true) m)) c.deref-2.ensures.value (c.run_cell_loop-in-Modarray.ensures.told m at)))
 
 pub array_loops::run_with-returns-in_err-plan-in-Fold-clause-told : goal.array_loops::run_with-returns-in_err-plan-in-Fold-clause-told
 array_loops::run_with-returns-in_err-plan-in-Fold-clause-told g t c =
@@ -1765,8 +1607,8 @@ array_loops::run_with-returns-in_err-plan-in-Fold-clause-told g t c =
     let e = current s.frames in
     let w = a.with.now in
     let gs = (out-CodeWith w).gens.items in
-    let bs = c.deref-in-Fold.result.now in
     let i = c.in-Fold in
+    let bs = c.deref-in-Fold.result.now in
     let stop = c.in_err-plan-in-Fold.field-0.0 in
     let is : c.from_residual-in_err-plan-in-Fold.result ≡ Err stop = search rules in
     λ m at.
@@ -1782,13 +1624,14 @@ array_loops::run_with-returns-clause-told g t c =
     let e = current s.frames in
     let w = a.with.now in
     let gs = (out-CodeWith w).gens.items in
-    let bs = c.deref-in-Fold.result.now in
     let i = c.in-Fold in
-    let st = c.run_fold.new.state in
-    let r = c.run_fold.result in
+    let bs = c.deref-in-Fold.result.now in
+    let st = c.run_cell_loop-in-Fold.new.state in
+    let r = c.run_cell_loop-in-Fold.result in
     λ m at.
     subst (Told IsOnly r st) (sym (with_means ctx e w a.site m))
-    (with_fold_tells ctx e m gs a.site bs (c.deref-in-Fold.ensures.value ∙ c.in_ok-bounds.ensures m at.heap ∙ ap (map (λ (g : CodeGen). bounds_of (gen_head g) (reads m e))) c.deref.ensures.value) (out-CodeWith w).op i.op c.in_ok-neutral-in-Fold.neutral (plan_of c.in_ok-plan-in-Fold.plan) r st (ap (λ o. operation o a.site (reads m e)) i.is ∙ (λ j. fold_by i.op ((ap (read m) (sym c.get-in-Fold.ensures) ∙ sym (c.in_ok-neutral-in-Fold.ensures m at.heap)) j) a.site)) c.in_ok-plan-in-Fold.ensures (subst (λ (gens : List CodeGen). Told IsValue r st (job_does None (fold_job ctx e m gens (plan_of c.in_ok-plan-in-Fold.plan) i.op c.in_ok-neutral-in-Fold.neutral) m)) c.deref-in-Fold-2.ensures.value (c.run_fold.ensures.told m at)))
+    (with_fold_tells ctx e m gs a.site bs (c.deref-in-Fold.ensures.value ∙ c.in_ok-bounds.ensures m at.heap ∙ ap (map (λ (g : CodeGen). bounds_of (gen_head g) (reads m e))) c.deref.ensures.value) (out-CodeWith w).op i.op c.in_ok-neutral-in-Fold.neutral (plan_of c.in_ok-plan-in-Fold.plan) r st (ap (λ o. operation o a.site (reads m e)) i.is ∙ (λ j. fold_by i.op ((ap (read m) (sym c.get-in-Fold.ensures) ∙ sym (c.in_ok-neutral-in-Fold.ensures m at.heap)) j) a.site)) c.in_ok-plan-in-Fold.ensures
+    (subst (λ (gens : List CodeGen). Told IsValue r st (job_does None (fold_job ctx e m gens (plan_of c.in_ok-plan-in-Fold.plan) i.op c.in_ok-neutral-in-Fold.neutral) m)) c.deref-2.ensures.value (c.run_cell_loop-in-Fold.ensures.told m at)))
 
 -- an option that has nothing
 no_mark : {A : Type 0} (o : Option A) → is_some o ≡ false → o ≡ None
@@ -1802,11 +1645,11 @@ array_loops::run_parted-returns-then-not-fits-clause-told g t c =
     let s = a.state.now in
     let e = current s.frames in
     let p = out-CodeParted a.parted.now in
-    let i = c.in-Fold in
     let unmarked = sym c.is_some.ensures ∙ c.if-is_some.false in
+    let i = c.in-Fold in
     λ m at.
     let meant = parted_means ctx e a.parted.now a.site m ∙ (λ j. one_value (loop_does (λ k. parted_job p.frame p.base p.cell p.op (map (cells_in ctx e) p.parts.items) a.site (reads k e)) (option_map e (no_mark p.reuse unmarked j))) m) in
-    let misfits = sym (c.fits.ensures m ∙ (λ j. fits_form (record { base = p.base; shape = c.copy.ensures j }) (read m (c.get-neutral.ensures j)))) ∙ c.if-not-fits.true in
+    let misfits = (sym (c.fits.ensures m ∙ (λ j. fits_form ((c.in_ok-plan.ensures j).form) (read m (c.get-neutral.ensures j))))) ∙ c.if-not-fits.true in
     subst (λ stop. ToldStop stop s (right_in ctx (code_parted_term a.parted.now) a.site e m)) (sym c.fault.ensures)
     (subst (ToldStop (Faulted (record { kind = F6; site = a.site })) s) (sym meant)
     (fold_misfits ctx e m p.frame p.base p.cell p.parts.items a.site p.op i.op i.neutral i.is s at misfits))
@@ -1818,16 +1661,16 @@ array_loops::run_parted-returns-in-Fold-clause-told g t c =
     let s = a.state.now in
     let e = current s.frames in
     let p = out-CodeParted a.parted.now in
-    let i = c.in-Fold in
-    let st = c.fold_parts.new.state in
-    let r = c.fold_parts.result in
     let unmarked = sym c.is_some.ensures ∙ c.if-is_some.false in
+    let i = c.in-Fold in
+    let st = c.run_cell_loop.new.state in
+    let r = c.run_cell_loop.result in
     λ m at.
     let meant = parted_means ctx e a.parted.now a.site m ∙ (λ j. one_value (loop_does (λ k. parted_job p.frame p.base p.cell p.op (map (cells_in ctx e) p.parts.items) a.site (reads k e)) (option_map e (no_mark p.reuse unmarked j))) m) in
-    let fits = sym (c.fits.ensures m ∙ (λ j. fits_form (record { base = p.base; shape = c.copy.ensures j }) (read m (c.get-neutral.ensures j)))) ∙ c.if-not-fits.false in
+    let fits = (sym (c.fits.ensures m ∙ (λ j. fits_form ((c.in_ok-plan.ensures j).form) (read m (c.get-neutral.ensures j))))) ∙ c.if-not-fits.false in
     subst (Told IsOnly r st) (sym meant)
-    (part_fold_is ctx e m p.frame p.base p.cell p.parts.items a.site p.op i.op i.neutral i.is c.in_ok-frame.frame (record { base = p.base; shape = c.copy.result }) c.in_ok-neutral-in-Fold.neutral c.deref.result.now r st
-    c.in_ok-frame.ensures (λ j. record { base = p.base; shape = c.copy.ensures j }) (c.in_ok-neutral-in-Fold.ensures m at.heap ∙ ap (read m) c.get-neutral.ensures) c.deref.ensures.value fits (c.fold_parts.ensures.told m at))
+    (part_fold_is ctx e m p.frame p.base p.cell p.parts.items a.site p.op i.op i.neutral i.is (plan_of c.in_ok-plan.plan) c.in_ok-neutral-in-Fold.neutral c.deref.result.now r st
+    c.in_ok-plan.ensures (c.in_ok-neutral-in-Fold.ensures m at.heap ∙ ap (read m) c.get-neutral.ensures) c.deref.ensures.value fits (c.run_cell_loop.ensures.told m at))
 
 pub array_loops::run_parted-returns : goal.array_loops::run_parted-returns
 array_loops::run_parted-returns g t c =
@@ -1836,15 +1679,15 @@ array_loops::run_parted-returns g t c =
     let s = a.state.now in
     let e = current s.frames in
     let p = out-CodeParted a.parted.now in
-    let st = c.run_parts.new.state in
-    let r = c.run_parts.result in
     let unmarked = sym c.is_some.ensures ∙ c.if-is_some.false in
+    let st = c.run_cell_loop-in_default.new.state in
+    let r = c.run_cell_loop-in_default.result in
     record {
       told = λ m at.
           let meant = parted_means ctx e a.parted.now a.site m ∙ (λ j. one_value (loop_does (λ k. parted_job p.frame p.base p.cell p.op (map (cells_in ctx e) p.parts.items) a.site (reads k e)) (option_map e (no_mark p.reuse unmarked j))) m) in
           subst (Told IsOnly r st) (sym meant)
-          (part_cells_are ctx e m p.frame p.base p.cell p.parts.items a.site p.op c.in_ok-frame.frame (record { base = p.base; shape = c.copy.result }) c.in_ok-shape-in_default.shape c.deref-in_default.result.now r st
-          (λ o x is. c.in_default.not-Fold o x is) c.in_ok-frame.ensures (λ j. record { base = p.base; shape = c.copy.ensures j }) c.in_ok-shape-in_default.ensures c.deref-in_default.ensures.value (c.run_parts.ensures.told m at));
-      scopes = c.run_parts.ensures.scopes;
-      lender = c.run_parts.ensures.lender;
+          (part_cells_are ctx e m p.frame p.base p.cell p.parts.items a.site p.op (plan_of c.in_ok-plan.plan) c.deref.result.now r st
+          (λ o x is. c.in_default.not-Fold o x is) c.in_ok-plan.ensures c.deref.ensures.value (c.run_cell_loop-in_default.ensures.told m at));
+      scopes = c.run_cell_loop-in_default.ensures.scopes;
+      lender = c.run_cell_loop-in_default.ensures.lender;
     }

@@ -3,22 +3,21 @@ use Rattle.counted_code.specs.declared.tree.CodeBlock.{size-CodeBlock}
 use Rattle.counted_code.specs.declared.tree.CodeLet.{size-CodeLet}
 use Rattle.counted_code.specs.declared.tree.CodeRight.{size-CodeRight}
 use Rattle.counted_code.specs.declared.tree.CodeStep.{size-CodeStep}
+use Rattle.counted_code.specs.Machine.{Values}
 use Rattle.counted_code.specs.Values.{Heap}
 use Rattle.counted_code.specs.View.{code_term}
 use Rattle.run_store.specs.Stands.{lender_of}
 use Rattle.run_values.specs.Scopes.{current}
 use Rattle.run_values.specs.Shown.{value_of}
 use Rattle.run_eval.specs.Running.{turn_in, test_in, IsAt, SameScopes, SameOuter, Reaches}
-use Rattle.run_eval.proofs.Measures.{rank_of, body_size, steps_size, gens_size, parts_size}
+use Rattle.run_eval.proofs.Measures.{rank_of, body_size, steps_size, source_size}
 use Rattle.run_eval.proofs.Turns.{Turned}
 use Rattle.run_eval.proofs.+run.Given as goal
-use Rattle.counted_code.specs.declared.tree.CodeGen.{size-CodeGen}
-use Rattle.counted_code.specs.declared.tree.CodePart.{size-CodePart}
 use Rattle.counted_code.specs.declared.tree.CodeParted.{size-CodeParted}
 use Rattle.counted_code.specs.declared.tree.CodeWith.{size-CodeWith}
-use Rattle.run_eval.specs.Loops.{array_of, part_source_in, source_in}
-use Rattle.run_eval.proofs.CellMakings.{filling, folding, joining}
-use Rattle.run_eval.proofs.CellRuns.{Carries}
+use Rattle.run_eval.specs.Loops.{array_of, loop_source}
+use Rattle.run_eval.proofs.CellMakings.{covering, folding}
+use Rattle.run_eval.proofs.CellLoops.{Carried}
 
 abbrev pub decreases-blocks::run_steps : goal.decreases-blocks::run_steps
 decreases-blocks::run_steps g l = rank_of l.context.now + 8 * steps_size l.steps.now + 2
@@ -88,69 +87,40 @@ decreases-blocks::repeat-loop-left g l = l.left
 abbrev pub decreases-array_loops::run_with : goal.decreases-array_loops::run_with
 decreases-array_loops::run_with g l = rank_of l.context.now + 8 * size-CodeWith l.with.now + 1
 
-abbrev pub decreases-array_loops::run_array : goal.decreases-array_loops::run_array
-decreases-array_loops::run_array g l = rank_of l.context.now + 8 * gens_size l.gens.now + 6
-
-abbrev pub decreases-array_loops::fill : goal.decreases-array_loops::fill
-decreases-array_loops::fill g l = rank_of l.context.now + 8 * gens_size l.gens.now + 5
-
-abbrev pub decreases-array_loops::run_fold : goal.decreases-array_loops::run_fold
-decreases-array_loops::run_fold g l = rank_of l.context.now + 8 * gens_size l.gens.now + 6
-
-abbrev pub decreases-array_loops::fold_cells : goal.decreases-array_loops::fold_cells
-decreases-array_loops::fold_cells g l = rank_of l.context.now + 8 * gens_size l.gens.now + 5
-
-abbrev pub decreases-array_loops::gen_cell : goal.decreases-array_loops::gen_cell
-decreases-array_loops::gen_cell g l = rank_of l.context.now + 8 * gens_size l.gens.now + 4
-
-abbrev pub decreases-array_loops::run_cell : goal.decreases-array_loops::run_cell
-decreases-array_loops::run_cell g l = rank_of l.context.now + 8 * size-CodeGen l.g.now + 3
-
 abbrev pub decreases-array_loops::run_parted : goal.decreases-array_loops::run_parted
 decreases-array_loops::run_parted g l = rank_of l.context.now + 8 * size-CodeParted l.parted.now + 1
 
-abbrev pub decreases-array_loops::run_parts : goal.decreases-array_loops::run_parts
-decreases-array_loops::run_parts g l = rank_of l.context.now + 8 * parts_size l.parts.now + 6
+abbrev pub decreases-array_loops::run_cell_loop : goal.decreases-array_loops::run_cell_loop
+decreases-array_loops::run_cell_loop g l = rank_of l.context.now + 8 * source_size l.work.now.source + 7
 
-abbrev pub decreases-array_loops::join_parts : goal.decreases-array_loops::join_parts
-decreases-array_loops::join_parts g l = rank_of l.context.now + 8 * parts_size l.parts.now + 5
+abbrev pub decreases-array_loops::run_array : goal.decreases-array_loops::run_array
+decreases-array_loops::run_array g l = rank_of l.context.now + 8 * source_size l.work.now.source + 6
 
-abbrev pub decreases-array_loops::fold_parts : goal.decreases-array_loops::fold_parts
-decreases-array_loops::fold_parts g l = rank_of l.context.now + 8 * parts_size l.parts.now + 6
+abbrev pub decreases-array_loops::fill : goal.decreases-array_loops::fill
+decreases-array_loops::fill g l = rank_of l.context.now + 8 * source_size l.work.now.source + 5
 
-abbrev pub decreases-array_loops::combine_parts : goal.decreases-array_loops::combine_parts
-decreases-array_loops::combine_parts g l = rank_of l.context.now + 8 * parts_size l.parts.now + 5
+abbrev pub decreases-array_loops::run_fold : goal.decreases-array_loops::run_fold
+decreases-array_loops::run_fold g l = rank_of l.context.now + 8 * source_size l.work.now.source + 6
 
-abbrev pub decreases-array_loops::part_cell : goal.decreases-array_loops::part_cell
-decreases-array_loops::part_cell g l = rank_of l.context.now + 8 * parts_size l.parts.now + 4
+abbrev pub decreases-array_loops::fold_cells : goal.decreases-array_loops::fold_cells
+decreases-array_loops::fold_cells g l = rank_of l.context.now + 8 * source_size l.work.now.source + 5
 
-abbrev pub decreases-array_loops::run_part : goal.decreases-array_loops::run_part
-decreases-array_loops::run_part g l = rank_of l.context.now + 8 * size-CodePart l.part.now + 3
+abbrev pub decreases-array_loops::loop_cell : goal.decreases-array_loops::loop_cell
+decreases-array_loops::loop_cell g l = rank_of l.context.now + 8 * source_size l.source.now + 4
+
+abbrev pub decreases-array_loops::run_cell : goal.decreases-array_loops::run_cell
+decreases-array_loops::run_cell g l = rank_of l.context.now + 8 * size-CodeBlock l.body.now.block.now + 4
 
 abbrev pub invariant-array_loops::fill-loop-place : goal.invariant-array_loops::fill-loop-place
 invariant-array_loops::fill-loop-place g l = record {
-  carried : (m : Heap) → IsAt l.initial.state m → Carries (filling l.background.old l.background.array.now l.background.size) l.plan.form (source_in l.context (current l.initial.state.frames) l.gens l.plan.ranges.items) l.plan.frame l.initial.cells.items m l.state l.cells.items l.place;
+  carried : Carried (covering l.background) l.work.plan.now.form (λ (e : Values). loop_source l.context e l.work) l.work.plan.now.frame l.initial.cells.items l.initial.state l.state l.cells.items l.place;
   scopes : SameScopes l.initial.state.frames l.state.frames;
   lender : lender_of l.state.heap ≡ lender_of l.initial.state.heap;
 }
 
 abbrev pub invariant-array_loops::fold_cells-loop-place : goal.invariant-array_loops::fold_cells-loop-place
 invariant-array_loops::fold_cells-loop-place g l = record {
-  carried : (m : Heap) → IsAt l.initial.state m → Carries (folding l.op) l.plan.form (source_in l.context (current l.initial.state.frames) l.gens l.plan.ranges.items) l.plan.frame (array_of l.initial.sum) m l.state (array_of l.sum) l.place;
-  scopes : SameScopes l.initial.state.frames l.state.frames;
-  lender : lender_of l.state.heap ≡ lender_of l.initial.state.heap;
-}
-
-abbrev pub invariant-array_loops::join_parts-loop-place : goal.invariant-array_loops::join_parts-loop-place
-invariant-array_loops::join_parts-loop-place g l = record {
-  carried : (m : Heap) → IsAt l.initial.state m → Carries joining l.form (part_source_in l.context (current l.initial.state.frames) l.parts) l.frame l.initial.cells.items m l.state l.cells.items l.place;
-  scopes : SameScopes l.initial.state.frames l.state.frames;
-  lender : lender_of l.state.heap ≡ lender_of l.initial.state.heap;
-}
-
-abbrev pub invariant-array_loops::combine_parts-loop-place : goal.invariant-array_loops::combine_parts-loop-place
-invariant-array_loops::combine_parts-loop-place g l = record {
-  carried : (m : Heap) → IsAt l.initial.state m → Carries (folding l.op) l.form (part_source_in l.context (current l.initial.state.frames) l.parts) l.frame (array_of l.initial.sum) m l.state (array_of l.sum) l.place;
+  carried : Carried (folding l.op) l.work.plan.now.form (λ (e : Values). loop_source l.context e l.work) l.work.plan.now.frame (array_of l.initial.sum) l.initial.state l.state (array_of l.sum) l.place;
   scopes : SameScopes l.initial.state.frames l.state.frames;
   lender : lender_of l.state.heap ≡ lender_of l.initial.state.heap;
 }

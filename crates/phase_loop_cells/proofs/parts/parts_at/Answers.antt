@@ -12,7 +12,7 @@ returns-in_err-value-clause-told c m at =
     let cells = a.cells.now in
     let e = current a.state.now.frames in
     let is : c.components.result.now ≡ index_at cells.frame.now a.position = c.components.ensures.value ∙ c.in_ok-index.ensures [] in
-    let st = c.cell_of_parts.new.state in
+    let st = c.cell_in_order.new.state in
     let stop = c.in_err-value.field-0.0 in
     let handed : c.from_residual-in_err-value.result ≡ Err stop = search rules in
     stop_handed None a.into.now c.from_residual-in_err-value.result stop st cells.form.now (part_source_in cells.context e cells.parts.now (index_at cells.frame.now a.position)) m handed
@@ -24,7 +24,7 @@ returns-clause-told c m at =
     let cells = a.cells.now in
     let e = current a.state.now.frames in
     let is : c.components.result.now ≡ index_at cells.frame.now a.position = c.components.ensures.value ∙ c.in_ok-index.ensures [] in
-    let st = c.cell_of_parts.new.state in
+    let st = c.cell_in_order.new.state in
     let o = c.in_ok-value.value in
     put_told None c.put.new.into c.in_ok-written.written o st (record st { heap = c.put.new.store }) cells.form.now (part_source_in cells.context e cells.parts.now (index_at cells.frame.now a.position)) m
     (subst (λ v. Told IsPresent (Ok o) st (unreleased cells.form.now (part_source_in cells.context e cells.parts.now v) m)) is (c.in_ok-value.ensures.told m at)) c.in_ok-written.ensures.told refl

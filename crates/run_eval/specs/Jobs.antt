@@ -1,0 +1,62 @@
+-- The machine's job of a loop whose checks have passed.
+use Rattle.std.specs.Prelude.{ℕ, Bool, true, false, List, ℤ, map, fold, Option, Some, None, flat_map}
+use Rattle.sac_base.specs.declared.base.Base.{Base}
+use Rattle.sac_base.specs.Arrays.{ArrayValue}
+use Rattle.sac_base.specs.WithLoops.{Plan, Range, combined}
+use Rattle.core_ir.specs.Meaning.{elements_of, joined}
+use Rattle.counted_code.specs.Loops.{Job, Source, holder, part_holder}
+use Rattle.counted_code.specs.Machine.{Values}
+use Rattle.counted_code.specs.Values.{Heap}
+use Rattle.array_with_loops.specs.Cells.{array_from, cell_from, cells_from}
+use Rattle.array_with_loops.specs.Plans.{plan_of}
+use Rattle.run_eval.specs.declared.cell_loop.CellLoop.{CellLoop}
+use Rattle.run_eval.specs.declared.cell_loop.CellSource.{CellSource}
+use Rattle.run_eval.specs.declared.cell_loop.CellSource.TheVariants.{Generators, Parts}
+use Rattle.run_eval.specs.declared.cell_loop.LoopResult.{LoopResult}
+use Rattle.run_eval.specs.declared.cell_loop.LoopResult.TheVariants.{Filled, Joined, Folded}
+use Rattle.run_eval.specs.declared.cells.Background.{Background}
+use Rattle.run_eval.specs.declared.state.Context.{Context}
+use Rattle.run_eval.specs.Running.{cells_in, generator_in}
+
+-- where the machine's cells come from
+abbrev pub source_of : Context → Values → Heap → CellSource → List Range → List ℤ → Option Source
+source_of context e k (Generators gens) ranges = holder (map (generator_in context e k) gens.now) ranges
+source_of context e k (Parts parts) ranges = part_holder (map (cells_in context e) parts.now)
+
+-- what is made of its cells
+abbrev pub result_of : LoopResult → Plan → List (Option ArrayValue) → ArrayValue
+result_of (Filled array old) p = array_from old array.now p
+result_of Joined p = joined p.form.base p.shape
+result_of (Folded op neutral) p = fold (combined op) neutral.now
+
+abbrev pub folds_of : LoopResult → Bool
+folds_of (Filled array old) = false
+folds_of Joined = false
+folds_of (Folded op neutral) = true
+
+abbrev pub cells_job : Context → Values → Heap → CellLoop → Bool → (List (Option ArrayValue) → ArrayValue) → Job
+cells_job context e k work folds result =
+    record {
+      form = work.plan.now.form;
+      shape = work.plan.now.shape;
+      folds = folds;
+      indices = work.plan.now.frame;
+      source = source_of context e k work.source work.plan.now.ranges.items;
+      result = result;
+    }
+
+abbrev pub job_of : Context → Values → Heap → CellLoop → Job
+job_of context e k work = cells_job context e k work (folds_of work.result) (result_of work.result (plan_of work.plan.now))
+
+-- ---- arrays over a background, or with nothing where there is no cell
+
+abbrev pub cell_over : Option Background → ℕ → Option ArrayValue → List ℤ
+cell_over None place c = elements_of c
+cell_over (Some b) place c = cell_from b.old b.array.now b.size place c
+
+abbrev pub cells_over : Option Background → ℕ → List (Option ArrayValue) → List ℤ
+cells_over None place found = flat_map elements_of found
+cells_over (Some b) place found = cells_from b.old b.array.now b.size place found
+
+abbrev pub array_over : Base → List ℕ → Option Background → List (Option ArrayValue) → ArrayValue
+array_over base shape background found = record { base = base; shape = shape; cells = cells_over background 0 found }
