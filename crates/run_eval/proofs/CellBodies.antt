@@ -5,7 +5,6 @@ use Rattle.sac_base.specs.WithLoops.{Range}
 use Rattle.counted_code.specs.declared.tree.CodeBlock.{size-CodeBlock}
 use Rattle.counted_code.specs.declared.tree.CodeGen.{CodeGen, size-CodeGen}
 use Rattle.counted_code.specs.declared.tree.CodePart.{CodePart, size-CodePart}
-use Rattle.counted_code.specs.Loops.{Source}
 use Rattle.counted_code.specs.Machine.{Values}
 use Rattle.counted_code.specs.Values.{Heap}
 use Rattle.run_eval.specs.declared.cell_loop.CellLoop.{CellLoop}

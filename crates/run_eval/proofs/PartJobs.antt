@@ -3,7 +3,6 @@ use Rattle.std.proofs.Common.{◌≡◌, ℕ, List, [], ◌∷◌, ◌++◌, map
 use Rattle.std.specs.Prelude.{if◌then◌else◌}
 use Rattle.sac_base.specs.declared.base.Base.{Base}
 use Rattle.sac_base.specs.declared.faults.FaultKind.TheVariants.{F6}
-use Rattle.sac_base.specs.declared.form.Form.{Form}
 use Rattle.sac_base.specs.declared.grid.Grid1.{Grid1}
 use Rattle.sac_base.specs.declared.op.Op.{Op}
 use Rattle.sac_base.specs.declared.site.Site.{Site}
@@ -11,7 +10,6 @@ use Rattle.sac_base.specs.Arrays.{ArrayValue, same_form}
 use Rattle.sac_base.specs.Grids.{members}
 use Rattle.sac_base.specs.Outcomes.{fault}
 use Rattle.sac_base.specs.WithLoops.{Plan}
-use Rattle.std.specs.Prelude.{ℤ}
 use Rattle.core_ir.specs.declared.tree.PartedOp.{PartedOp}
 use Rattle.core_ir.specs.declared.tree.PartedOp.TheVariants as parted
 use Rattle.core_ir.specs.declared.tree.Var.{Var}

@@ -12,7 +12,6 @@ use Rattle.sac_base.specs.Arrays.{ArrayValue}
 use Rattle.sac_base.specs.Types.{all_have}
 use Rattle.core_ir.specs.declared.tree.Var.{Var}
 use Rattle.core_ir.specs.Outcome.{start_of_source}
-use Rattle.std.proofs.Math.Nat.{mod-eq_of_lt}
 use Rattle.count_table.specs.Tallied.{PhaseTotals}
 use Rattle.counted_code.specs.declared.tree.Code.{Code}
 use Rattle.counted_code.specs.declared.tree.CodeFun.{CodeFun}

@@ -1,4 +1,4 @@
-use Rattle.std.proofs.Common.{◌≡◌, ◌∙◌, length, refl, sym, ap, subst, arith}
+use Rattle.std.proofs.Common.{◌≡◌, ◌∙◌, length, sym, ap, subst, arith}
 use Rattle.buffer_heap.specs.Heaps.{HeapValue}
 use Rattle.counted_code.specs.Values.{empty_heap}
 use Rattle.counted_code.specs.Outcome.{cost_of, outcome_of, whole_run}
