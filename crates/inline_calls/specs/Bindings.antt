@@ -1,0 +1,31 @@
+-- One binding with calls inlined.
+use Rattle.std.specs.Prelude.{ℕ, List}
+use Rattle.sac_base.specs.declared.site.Site.{Site}
+use Rattle.core_ir.specs.declared.tree.Var.{Var}
+use Rattle.core_ir.specs.Terms.{BlockTerm, RightTerm, GensTerm, PartsTerm, LetTerm, GenTerm, PartTerm, CoreTerm, Bind, chain}
+use Rattle.core_inlined_bodies.specs.declared.growth.Growth.{Growth}
+use Rattle.core_inlined_bodies.specs.Inlining.{IsLeft, BlockInlined, RightInlined}
+use Rattle.core_inlined_bodies.specs.Functions.{Anywhere}
+
+-- put before any block with calls inlined, the bindings are the binding and that block with calls inlined
+abbrev pub LetInlined : CoreTerm → Growth → LetTerm → List LetTerm → Growth → Type 0
+LetInlined core s l ks t =
+    (rest new : BlockTerm) (u : Growth) → BlockInlined core Anywhere t rest new u → BlockInlined core Anywhere s (Bind l.targets l.site l.right rest) (chain ks new) u
+
+-- the same of a call
+abbrev pub CallInlined : CoreTerm → Growth → List Var → Site → ℕ → List Var → List LetTerm → Growth → Type 0
+CallInlined core s ts site group xs ks t = LetInlined core s (record { targets = ts; site = site; right = RightTerm.Call group xs }) ks t
+
+-- a call of a function that has no room, or no call
+abbrev pub MayStay : CoreTerm → Growth → RightTerm → Type 0
+MayStay core s (RightTerm.Call group xs) = IsLeft core s group
+MayStay core s r = Unit {0}
+
+-- a generator with calls in its body inlined, and a part
+pub record GenInlined (core : CoreTerm) (s : Growth) (g h : GenTerm) (t : Growth) : Type 0 where
+  pub head : g.head ≡ h.head
+  pub body : BlockInlined core Anywhere s g.body h.body t
+
+pub record PartInlined (core : CoreTerm) (s : Growth) (p q : PartTerm) (t : Growth) : Type 0 where
+  pub head : p.head ≡ q.head
+  pub body : BlockInlined core Anywhere s p.body q.body t
