@@ -1,15 +1,16 @@
 -- A block whose bindings are gone through one after another.
-use Rattle.std.proofs.Common.{◌≡◌, ℕ, suc, ◌+◌, ◌-◌, ◌^◌, ◌<◌, ◌≤◌, List, [], ◌∷◌, ◌++◌, map, length, take, take_all, get_or, refl, sym, ap, subst, ◌∙◌, arith, inr}
+use Rattle.std.proofs.Common.{◌≡◌, ℕ, Bool, suc, ◌+◌, ◌-◌, ◌^◌, ◌<◌, ◌≤◌, List, [], ◌∷◌, ◌++◌, map, length, take, take_all, get_or, refl, sym, ap, subst, ◌∙◌, arith, inr}
 use Rattle.std.proofs.Math.Seq.{take-suc}
+use Rattle.sac_base.specs.declared.site.Site.{Site}
 use Rattle.core_ir.specs.declared.tree.Var.{Var}
 use Rattle.core_ir.specs.declared.tree.Let.{Let}
-use Rattle.core_ir.specs.declared.tree.CoreGen.{CoreGen}
-use Rattle.core_ir.specs.declared.tree.CorePart.{CorePart}
+use Rattle.core_ir.specs.declared.tree.CoreGen.{CoreGen, CoreGen', CoreGen-F, out-CoreGen, roll-CoreGen, out-roll-CoreGen}
+use Rattle.core_ir.specs.declared.tree.CorePart.{CorePart, CorePart', CorePart-F, out-CorePart, roll-CorePart, out-roll-CorePart}
 use Rattle.core_ir.specs.declared.tree.Block.{Block, Block-F, out-Block, roll-Block}
 use Rattle.core_ir.specs.declared.tree.WithLoop.{WithLoop, WithLoop-F, out-WithLoop, roll-WithLoop}
 use Rattle.core_ir.specs.declared.tree.PartedLoop.{PartedLoop, PartedLoop-F, out-PartedLoop, roll-PartedLoop}
 use Rattle.core_ir.specs.declared.tree.Right.TheBlock.{the_data, the_data-1, the_data-2, the_data-3, the_data-4, the_data-5, the_data-6}
-use Rattle.core_ir.specs.Terms.{BlockTerm, RightTerm, GensTerm, PartsTerm, LetTerm, GenTerm, PartTerm, FunTerm, CoreTerm, Gives, Bind, Plain, NoGens, Gen, NoParts, Part, chain, gens_of, parts_of}
+use Rattle.core_ir.specs.Terms.{PlainTerm, BlockTerm, RightTerm, GensTerm, PartsTerm, LetTerm, GenTerm, PartTerm, FunTerm, CoreTerm, Gives, Bind, Plain, NoGens, Gen, NoParts, Part, chain, gens_of, parts_of}
 use Rattle.core_ir.specs.View.{block_term, let_term, with_term, gen_term, parted_term, part_term}
 use Rattle.core_ir.proofs.Trees.{block_out, block_roll, with_out, with_roll, parted_out, parted_roll}
 use Rattle.core_inlined_bodies.specs.declared.growth.Growth.{Growth}
@@ -24,8 +25,12 @@ use Rattle.inline_calls.proofs.Steps.{map_snoc, chain_both}
 abbrev pub SoFar : CoreTerm → Growth → List LetTerm → List LetTerm → Growth → Type 0
 SoFar core s ls ks t = (rest new : BlockTerm) (u : Growth) → BlockInlined core Anywhere t rest new u → BlockInlined core Anywhere s (chain ls rest) (chain ks new) u
 
-pub taken_more : {A B : Type 0} (f : A → B) (xs : List A) (i : ℕ) (d : A) → i < length xs → map f (take (suc i) xs) ≡ map f (take i xs) ++ (f (get_or xs i d) ∷ [])
-taken_more f xs i d h = ap (map f) (take-suc xs i d h) ∙ map_snoc f (take i xs) (get_or xs i d)
+pub taken_more : {A B : Type 0} (f : A → B) (xs : List A) (i : ℕ) (x : A) → i < length xs → x ≡ get_or xs i x → map f (take (i + 1) xs) ≡ map f (take i xs) ++ (f x ∷ [])
+taken_more f xs i x h p =
+    ap (λ k. map f (take k xs)) (plus_one i) ∙ ap (map f) (take-suc xs i x h) ∙ map_snoc f (take i xs) (get_or xs i x) ∙ ap (λ y. map f (take i xs) ++ (f y ∷ [])) (sym p)
+  where
+    plus_one : (i : ℕ) → i + 1 ≡ suc i
+    plus_one i = omega arith
 
 pub let_turn : (core : CoreTerm) (s m t : Growth) (ls ls' ks more ks' : List LetTerm) (l : LetTerm) → SoFar core s ls ks m → LetInlined core m l more t → ls' ≡ ls ++ (l ∷ []) → ks' ≡ ks ++ more → SoFar core s ls' ks' t
 let_turn core s m t ls ls' ks more ks' l f g p q rest new u d =
@@ -44,6 +49,10 @@ block_whole core s t x b f p =
     subst (λ (y : BlockTerm). BlockInlined core Anywhere s y (block_term (roll-Block x)) t) (sym (block_out b))
     (subst (λ (y : BlockTerm). BlockInlined core Anywhere s (chain (map let_term (out-Block b).lets.items) (Gives (out-Block b).results.items)) y t) (ap (λ rs. chain (map let_term x.lets.items) (Gives rs)) (sym p) ∙ sym (block_roll x))
     (f (Gives (out-Block b).results.items) (Gives (out-Block b).results.items) t ends))
+
+-- after the loop all are taken
+pub taken_all : {A B : Type 0} (f : A → B) (items all : List A) (n : ℕ) → length items ≤ n → items ≡ all → map f (take n items) ≡ map f all
+taken_all f items all n h p = ap (map f) (take_all n items h ∙ p)
 
 -- ---- generators
 
@@ -112,6 +121,58 @@ parted_whole core s t x w f frame base cell op =
     ((λ i. RightTerm.Parted (sym frame i) (sym base i) (sym cell i) (sym op i) (parts_of (map part_term x.parts.items))) ∙ sym (parted_roll x))
     (divided (subst (λ g. PartsInlined core Anywhere s g (parts_of (map part_term x.parts.items)) t) (parts_end (map part_term (out-PartedLoop w).parts.items))
     (subst (λ g. PartsInlined core Anywhere s (parts_then (map part_term (out-PartedLoop w).parts.items) NoParts) g t) (parts_end (map part_term x.parts.items)) (f NoParts NoParts t no_parts)))))
+
+-- ---- a generator, and a part
+
+abbrev shown_gen : CoreGen-F the_data the_data-1 the_data-2 the_data-3 the_data-4 the_data-5 the_data-6 → GenTerm
+shown_gen x = record {
+  head = record { lower = x.lower; lower_closed = x.lower_closed; upper = x.upper; upper_closed = x.upper_closed; step = x.step; width = x.width; index = x.index; names = x.names.items; site = x.site };
+  body = block_term x.body;
+}
+
+gen_out : (g : CoreGen) → gen_term g ≡ shown_gen (out-CoreGen g)
+unfolding out-CoreGen denote.Hole.Carrier.out
+gen_out (CoreGen' a b c d e f h i j k) = refl
+
+pub gen_whole : (core : CoreTerm) (s t : Growth) (x : CoreGen-F the_data the_data-1 the_data-2 the_data-3 the_data-4 the_data-5 the_data-6) (g : CoreGen) → (shown_gen x).head ≡ (shown_gen (out-CoreGen g)).head → BlockInlined core Anywhere s (block_term (out-CoreGen g).body) (block_term x.body) t
+    → GenInlined core s (gen_term g) (gen_term (roll-CoreGen x)) t
+gen_whole core s t x g p d =
+    subst (λ (u : GenTerm). GenInlined core s u (gen_term (roll-CoreGen x)) t) (sym (gen_out g))
+    (subst (λ (v : GenTerm). GenInlined core s (shown_gen (out-CoreGen g)) v t) (ap shown_gen (sym (out-roll-CoreGen x)) ∙ sym (gen_out (roll-CoreGen x))) (record { head = sym p; body = d }))
+
+abbrev shown_part : CorePart-F the_data the_data-1 the_data-2 the_data-3 the_data-4 the_data-5 the_data-6 → PartTerm
+shown_part x = record { head = record { grid = x.grid; index = x.index; site = x.site }; body = block_term x.body }
+
+part_out : (p : CorePart) → part_term p ≡ shown_part (out-CorePart p)
+unfolding out-CorePart denote.Hole.Carrier.out
+part_out (CorePart' a b c d) = refl
+
+pub part_whole : (core : CoreTerm) (s t : Growth) (x : CorePart-F the_data the_data-1 the_data-2 the_data-3 the_data-4 the_data-5 the_data-6) (p : CorePart) → (shown_part x).head ≡ (shown_part (out-CorePart p)).head → BlockInlined core Anywhere s (block_term (out-CorePart p).body) (block_term x.body) t
+    → PartInlined core s (part_term p) (part_term (roll-CorePart x)) t
+part_whole core s t x p q d =
+    subst (λ (u : PartTerm). PartInlined core s u (part_term (roll-CorePart x)) t) (sym (part_out p))
+    (subst (λ (v : PartTerm). PartInlined core s (shown_part (out-CorePart p)) v t) (ap shown_part (sym (out-roll-CorePart x)) ∙ sym (part_out (roll-CorePart x))) (record { head = sym q; body = d }))
+
+-- ---- right sides without blocks
+
+pub same_leaf : (core : CoreTerm) (s : Growth) (r : RightTerm) (p q : PlainTerm) → r ≡ Plain p → q ≡ p → RightInlined core Anywhere s r (Plain q) s
+same_leaf core s r p q e f = subst (λ (x : RightTerm). RightInlined core Anywhere s x (Plain q) s) (sym e) (subst (λ (x : PlainTerm). RightInlined core Anywhere s (Plain p) (Plain x) s) (sym f) plain)
+
+-- ---- right sides with blocks, and calls
+
+pub both_branches : (core : CoreTerm) (s m t : Growth) (r : RightTerm) (x : Var) (a b c d : BlockTerm) → r ≡ RightTerm.If x a b → BlockInlined core Anywhere s a c m → BlockInlined core Anywhere m b d t → RightInlined core Anywhere s r (RightTerm.If x c d) t
+both_branches core s m t r x a b c d e p q = subst (λ (y : RightTerm). RightInlined core Anywhere s y (RightTerm.If x c d) t) (sym e) (branches p q)
+
+pub both_blocks : (core : CoreTerm) (s m t : Growth) (r : RightTerm) (first : Bool) (start start' params params' : List Var) (a b c d : BlockTerm) (u : Site) → r ≡ RightTerm.Loop first start params a b u → start' ≡ start → params' ≡ params
+    → BlockInlined core Anywhere s a c m → BlockInlined core Anywhere m b d t → RightInlined core Anywhere s r (RightTerm.Loop first start' params' c d u) t
+both_blocks core s m t r first start start' params params' a b c d u e v w p q =
+    subst (λ (y : RightTerm). RightInlined core Anywhere s y (RightTerm.Loop first start' params' c d u) t) (sym e)
+    (subst (λ (y : RightTerm). RightInlined core Anywhere s (RightTerm.Loop first start params a b u) y t) (λ i. RightTerm.Loop first (sym v i) (sym w i) c d u) (turns p q))
+
+pub call_stays : (core : CoreTerm) (s : Growth) (r : RightTerm) (group : ℕ) (xs ys : List Var) → r ≡ RightTerm.Call group xs → ys ≡ xs → MayStay core s r → RightInlined core Anywhere s r (RightTerm.Call group ys) s
+call_stays core s r group xs ys e f m =
+    subst (λ (x : RightTerm). RightInlined core Anywhere s x (RightTerm.Call group ys) s) (sym e)
+    (subst (λ (zs : List Var). RightInlined core Anywhere s (RightTerm.Call group xs) (RightTerm.Call group zs) s) (sym f) (left (subst (MayStay core s) e m)))
 
 -- ---- a function without room for any other
 
