@@ -4,4 +4,4 @@ mod Names
 mod Scopes
 mod Bases
 mod Left
-mod Whole
+pub mod Whole

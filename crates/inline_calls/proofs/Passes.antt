@@ -1,14 +1,17 @@
 -- Passes over the functions of a core.
 use Rattle.std.proofs.Common.{◌≡◌, ℕ, zero, suc, ◌+◌, ◌<◌, ◌≤◌, Bool, true, false, List, [], ◌∷◌, map, length, set, get_or, Option, Some, None, refl, sym, ap, subst, ◌∙◌, ◌⊎◌, inl, inr, arith}
 use Rattle.std.specs.Prelude.{slice_get, unwrap_or}
+use mathlib.Core.Bool.{beq}
 use Rattle.std.proofs.lemmas.Bool.{cases_lt}
 use Rattle.std.proofs.lemmas.Option.{slice_get_within}
 use Rattle.core_ir.specs.declared.tree.CoreFun.{CoreFun}
 use Rattle.core_ir.specs.Outcome.{SameOutcome}
 use Rattle.core_ir.specs.Terms.{FunTerm, CoreTerm}
 use Rattle.core_ir.specs.View.{fun_term}
+use Rattle.core_ir.specs.WellFormed.{IsWellFormed}
 use Rattle.core_calls.specs.Replaced.{replaced_at}
-use Rattle.core_inlined_bodies.specs.Functions.{LeavesLarge, DoneBelow, ComeTo, OnlyLargeLeft}
+use Rattle.core_inlined_bodies.proofs.Whole.{functions_may_be_inlined, passes_go_on}
+use Rattle.core_inlined_bodies.specs.Functions.{FunctionInlined, LeavesLarge, DoneBelow, ComeTo, OnlyLargeLeft}
 
 no_place : (n : ℕ) → n < 0 → ⊥
 no_place n h = omega arith
@@ -59,3 +62,43 @@ pub itself_there : (fs : List FunTerm) (i : ℕ) (f : FunTerm) → slice_get fs 
 itself_there [] i f e = refl
 itself_there (g ∷ fs) zero f e = ap (λ h. h ∷ fs) (ap (λ o. unwrap_or o g) e)
 itself_there (g ∷ fs) (suc i) f e = ap (λ hs. g ∷ hs) (itself_there fs i f e)
+
+-- ---- a turn of a pass
+
+pub record HasCome (start core : CoreTerm) (inlines : Bool) (place : ℕ) : Type 0 where
+  pub outcome : SameOutcome start core
+  pub well : IsWellFormed core
+  pub come : ComeTo core inlines place
+
+next : (n : ℕ) → suc n ≡ n + 1
+next n = omega arith
+
+pub function_turn : (start old new : CoreTerm) (inlines : Bool) (place : ℕ) (g : FunTerm) → HasCome start old inlines place → FunctionInlined old new place → slice_get old.functions place ≡ Some g → g.is_inline ≡ inlines → HasCome start new inlines (place + 1)
+function_turn start old new inlines place g h step found e =
+    let own : step.function.is_inline ≡ inlines = ap (λ (o : Option FunTerm). (unwrap_or o g).is_inline) (sym step.found ∙ found) ∙ e in
+    let w = functions_may_be_inlined old new place step h.well in
+    record { outcome = same_all start old new h.outcome w.0; well = w.1; come = subst (ComeTo new inlines) (next place) (passes_go_on old new place inlines step h.well own h.come) }
+
+pub function_passed : (start core : CoreTerm) (inlines : Bool) (place : ℕ) (g : FunTerm) → HasCome start core inlines place → slice_get core.functions place ≡ Some g → (g.is_inline ≡ inlines → ⊥) → HasCome start core inlines (place + 1)
+function_passed start core inlines place g h found e =
+    record { outcome = h.outcome; well = h.well; come = subst (ComeTo core inlines) (next place) (passed_over core inlines place g found e h.come) }
+
+mapped_count : (fs : List CoreFun) → length (map fun_term fs) ≡ length fs
+mapped_count [] = refl
+mapped_count (f ∷ fs) = ap suc (mapped_count fs)
+
+pub all_through : (core : CoreTerm) (fs : List CoreFun) → core.functions ≡ map fun_term fs → ComeTo core false (length fs) → OnlyLargeLeft core
+all_through core fs e come =
+    all_done core (come.1 refl) (subst (DoneBelow core false) (sym (mapped_count fs) ∙ ap length (sym e)) come.0)
+
+pub alike : (a b : Bool) → beq a b ≡ true → a ≡ b
+alike true true h = refl
+alike false false h = refl
+alike true false h = absurd (cc)
+alike false true h = absurd (cc)
+
+pub unlike : (a b : Bool) → beq a b ≡ false → a ≡ b → ⊥
+unlike true true h e = absurd (cc)
+unlike false false h e = absurd (cc)
+unlike true false h e = absurd (cc)
+unlike false true h e = absurd (cc)
