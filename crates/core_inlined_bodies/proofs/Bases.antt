@@ -88,12 +88,17 @@ module _ (core : CoreTerm) where
   checks_typed s (t ∷ ts) (ty ∷ tys) (z ∷ zs) rest g us p h n d k =
       let b = ty.base in
       let next : Bases = (t, b) ∷ g in
-      let keeps : Keeps (t ∷ []) g next = λ y e. λ i. cond ((or_false (eqb t.0 y.0) false e).0 i) (Some b) (base_of g y) in
-      ((b ∷ []), ((h.0, refl), refl,
-      checks_typed s ts tys zs rest next us (omega (arith, p)) (has_kept zs (bases tys) g next t keeps (or_false (eqb z.0 t.0) (is_in t zs) n.0).1 h.1) (none_rest ts zs z n.1) d.1
-      (λ wider w m. k wider
-      (λ y e. let v = or_false (eqb t.0 y.0) (is_in y ts) e in w y v.1 ∙ keeps y (λ i. v.0 i || false))
-      (w t d.0 ∙ (λ i. cond (Rattle.std.proofs.lemmas.Bool.eq-eqb t.0 t.0 refl i) (Some b) (base_of g t)), m))))
+      let keeps : Keeps (t ∷ []) g next = λ y e. λ i. cond ((or_false (eqb t.0 y.0) false e).0 i) (Some b) (base_of g y) in (
+        (b ∷ []),
+        (
+          (h.0, refl),
+          refl,
+          checks_typed s ts tys zs rest next us (omega (arith, p)) (has_kept zs (bases tys) g next t keeps (or_false (eqb z.0 t.0) (is_in t zs) n.0).1 h.1) (none_rest ts zs z n.1) d.1
+              (λ wider w m. k wider
+              (λ y e. let v = or_false (eqb t.0 y.0) (is_in y ts) e in w y v.1 ∙ keeps y (λ i. v.0 i || false))
+              (w t d.0 ∙ (λ i. cond (Rattle.std.proofs.lemmas.Bool.eq-eqb t.0 t.0 refl i) (Some b) (base_of g t)), m)),
+        ),
+      )
   checks_typed s [] (ty ∷ tys) zs rest g us p h n d k = absurd (omega arith)
   checks_typed s (t ∷ ts) [] zs rest g us p h n d k = absurd (omega arith)
   checks_typed s [] [] (z ∷ zs) rest g us p h n d k = absurd h
@@ -102,9 +107,15 @@ module _ (core : CoreTerm) where
   bindings_typed : (b rest : BlockTerm) (g : Bases) (rs us : List Base) → BlockBases core g b rs
       → ((wider : Bases) → Keeps (targets_of (bindings b)) g wider → HasBases wider (results b) rs → BlockBases core wider rest us) → BlockBases core g (chain (bindings b) rest) us
   bindings_typed (Gives xs) rest g rs us h k = k g (λ y e. refl) h
-  bindings_typed (Bind xs s r b) rest g rs us h k =
-      (h.0, (h.1.0, h.1.1, bindings_typed b rest (zip xs h.0 ++ g) rs us h.1.2
-      (λ wider w m. k wider (λ y e. let v = or_false (is_in y xs) (is_in y (targets_of (bindings b))) (sym (in_more y xs (targets_of (bindings b))) ∙ e) in w y v.1 ∙ zip_keeps xs h.0 g y v.0) m)))
+  bindings_typed (Bind xs s r b) rest g rs us h k = (
+    h.0,
+    (
+      h.1.0,
+      h.1.1,
+      bindings_typed b rest (zip xs h.0 ++ g) rs us h.1.2
+          (λ wider w m. k wider (λ y e. let v = or_false (is_in y xs) (is_in y (targets_of (bindings b))) (sym (in_more y xs (targets_of (bindings b))) ∙ e) in w y v.1 ∙ zip_keeps xs h.0 g y v.0) m),
+    ),
+  )
 
 -- ---- a list of variables with bases, within others
 
@@ -194,24 +205,34 @@ module _ (core : CoreTerm) (well : All (IsFunction core) core.functions) where
         let low = fresh_left xs (bound_in_right r ++ bound_in rest) s.above fb in
         let inner = fresh_right xs (bound_in_right r ++ bound_in rest) s.above fb in
         let up = (rises_right core CanInline e).above in
-        let dr = distinct_right xs (bound_in_right r ++ bound_in rest) d in
-        (h.0, (typed_right e g h.0 l (fresh_left (bound_in_right r) (bound_in rest) s.above inner) (distinct_left (bound_in_right r) (bound_in rest) dr) h.1.0, h.1.1,
-        typed k (zip xs h.0 ++ g) us (low_more (zip xs h.0 ++ g) s.above m.above up (low_zip xs h.0 g s.above low l)) (fresh_more (bound_in rest) s.above m.above up (fresh_right (bound_in_right r) (bound_in rest) s.above inner)) (distinct_right (bound_in_right r) (bound_in rest) dr) h.1.2))
+        let dr = distinct_right xs (bound_in_right r ++ bound_in rest) d in (
+          h.0,
+          (
+            typed_right e g h.0 l (fresh_left (bound_in_right r) (bound_in rest) s.above inner) (distinct_left (bound_in_right r) (bound_in rest) dr) h.1.0,
+            h.1.1,
+            typed k (zip xs h.0 ++ g) us (low_more (zip xs h.0 ++ g) s.above m.above up (low_zip xs h.0 g s.above low l)) (fresh_more (bound_in rest) s.above m.above up (fresh_right (bound_in_right r) (bound_in rest) s.above inner)) (distinct_right (bound_in_right r) (bound_in rest) dr) h.1.2,
+          ),
+        )
 
     pub typed_right : {s t : Growth} {b c : RightTerm} → RightInlined core CanInline s b c t → (g : Bases) (us : List Base) → Low g s.above → Fresh (bound_in_right b) s.above → Distinct (bound_in_right b) → RightBases core g b us → RightBases core g c us
     typed_right plain g us l f d h = h
     typed_right (left _) g us l f d h = h
     typed_right (branches {s = s} {m = m} {a = a} {b = b} e k) g us l f d h =
-        let up = (rises core CanInline e).above in
-        (h.0, typed e g us l (fresh_left (bound_in a) (bound_in b) s.above f) (distinct_left (bound_in a) (bound_in b) d) h.1,
-        typed k g us (low_more g s.above m.above up l) (fresh_more (bound_in b) s.above m.above up (fresh_right (bound_in a) (bound_in b) s.above f)) (distinct_right (bound_in a) (bound_in b) d) h.2)
+        let up = (rises core CanInline e).above in (
+          h.0,
+          typed e g us l (fresh_left (bound_in a) (bound_in b) s.above f) (distinct_left (bound_in a) (bound_in b) d) h.1,
+          typed k g us (low_more g s.above m.above up l) (fresh_more (bound_in b) s.above m.above up (fresh_right (bound_in a) (bound_in b) s.above f)) (distinct_right (bound_in a) (bound_in b) d) h.2,
+        )
     typed_right (turns {s = s} {m = m} {params = params} {a = a} {b = b} e k) g us l f d h =
         let up = (rises core CanInline e).above in
         let low = low_zip params us g s.above (fresh_left params (bound_in a ++ bound_in b) s.above f) l in
         let inner = fresh_right params (bound_in a ++ bound_in b) s.above f in
-        let dr = distinct_right params (bound_in a ++ bound_in b) d in
-        (h.0, h.1, typed e (zip params us ++ g) (Truth ∷ []) low (fresh_left (bound_in a) (bound_in b) s.above inner) (distinct_left (bound_in a) (bound_in b) dr) h.2,
-        typed k (zip params us ++ g) us (low_more (zip params us ++ g) s.above m.above up low) (fresh_more (bound_in b) s.above m.above up (fresh_right (bound_in a) (bound_in b) s.above inner)) (distinct_right (bound_in a) (bound_in b) dr) h.3)
+        let dr = distinct_right params (bound_in a ++ bound_in b) d in (
+          h.0,
+          h.1,
+          typed e (zip params us ++ g) (Truth ∷ []) low (fresh_left (bound_in a) (bound_in b) s.above inner) (distinct_left (bound_in a) (bound_in b) dr) h.2,
+          typed k (zip params us ++ g) us (low_more (zip params us ++ g) s.above m.above up low) (fresh_more (bound_in b) s.above m.above up (fresh_right (bound_in a) (bound_in b) s.above inner)) (distinct_right (bound_in a) (bound_in b) dr) h.3,
+        )
     typed_right (generated e) g us l f d h = (h.0, (h.1.0, typed_gens e g h.0 l f d h.1.1, h.1.2))
     typed_right (divided {frame = frame} {base = t} {cell = cell} {op = op} {p = p} {q = q} e) g us l f d h =
         (h.0, typed_parts e g t l f d h.1, subst (λ (gs : List (List Grid1)). PartedFits op frame cell gs) (grids_kept e) h.2, h.3)
@@ -222,10 +243,14 @@ module _ (core : CoreTerm) (well : All (IsFunction core) core.functions) where
         let xs = v.index ∷ v.names in
         let up = (rises core CanInline e).above in
         let inner = fresh_right xs (bound_in b ++ bound_in_gens gs) s.above f in
-        let dr = distinct_right xs (bound_in b ++ bound_in_gens gs) d in
-        (h.0, h.1, h.2, h.3,
-        typed e (ints xs ++ g) (u ∷ []) (low_ints xs g s.above (fresh_left xs (bound_in b ++ bound_in_gens gs) s.above f) l) (fresh_left (bound_in b) (bound_in_gens gs) s.above inner) (distinct_left (bound_in b) (bound_in_gens gs) dr) h.4,
-        typed_gens k g u (low_more g s.above m.above up l) (fresh_more (bound_in_gens gs) s.above m.above up (fresh_right (bound_in b) (bound_in_gens gs) s.above inner)) (distinct_right (bound_in b) (bound_in_gens gs) dr) h.5)
+        let dr = distinct_right xs (bound_in b ++ bound_in_gens gs) d in (
+          h.0,
+          h.1,
+          h.2,
+          h.3,
+          typed e (ints xs ++ g) (u ∷ []) (low_ints xs g s.above (fresh_left xs (bound_in b ++ bound_in_gens gs) s.above f) l) (fresh_left (bound_in b) (bound_in_gens gs) s.above inner) (distinct_left (bound_in b) (bound_in_gens gs) dr) h.4,
+          typed_gens k g u (low_more g s.above m.above up l) (fresh_more (bound_in_gens gs) s.above m.above up (fresh_right (bound_in b) (bound_in_gens gs) s.above inner)) (distinct_right (bound_in b) (bound_in_gens gs) dr) h.5,
+        )
 
     typed_parts : {s t : Growth} {b c : PartsTerm} → PartsInlined core CanInline s b c t → (g : Bases) (u : Base) → Low g s.above → Fresh (bound_in_parts b) s.above → Distinct (bound_in_parts b) → PartsBases core g b u → PartsBases core g c u
     typed_parts no_parts g u l f d h = h
@@ -233,9 +258,10 @@ module _ (core : CoreTerm) (well : All (IsFunction core) core.functions) where
         let xs = v.index ∷ [] in
         let up = (rises core CanInline e).above in
         let inner = fresh_right xs (bound_in b ++ bound_in_parts ps) s.above f in
-        let dr = distinct_right xs (bound_in b ++ bound_in_parts ps) d in
-        (typed e ((v.index, Int) ∷ g) (u ∷ []) (low_ints xs g s.above (fresh_left xs (bound_in b ++ bound_in_parts ps) s.above f) l) (fresh_left (bound_in b) (bound_in_parts ps) s.above inner) (distinct_left (bound_in b) (bound_in_parts ps) dr) h.0,
-        typed_parts k g u (low_more g s.above m.above up l) (fresh_more (bound_in_parts ps) s.above m.above up (fresh_right (bound_in b) (bound_in_parts ps) s.above inner)) (distinct_right (bound_in b) (bound_in_parts ps) dr) h.1)
+        let dr = distinct_right xs (bound_in b ++ bound_in_parts ps) d in (
+          typed e ((v.index, Int) ∷ g) (u ∷ []) (low_ints xs g s.above (fresh_left xs (bound_in b ++ bound_in_parts ps) s.above f) l) (fresh_left (bound_in b) (bound_in_parts ps) s.above inner) (distinct_left (bound_in b) (bound_in_parts ps) dr) h.0,
+          typed_parts k g u (low_more g s.above m.above up l) (fresh_more (bound_in_parts ps) s.above m.above up (fresh_right (bound_in b) (bound_in_parts ps) s.above inner)) (distinct_right (bound_in b) (bound_in_parts ps) dr) h.1,
+        )
 
     grids_kept : {s t : Growth} {b c : PartsTerm} → PartsInlined core CanInline s b c t → part_grids b ≡ part_grids c
     grids_kept no_parts = refl

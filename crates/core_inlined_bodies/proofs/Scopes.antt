@@ -53,9 +53,12 @@ turned_or false false c = refl
 checks_scoped : (s : Site) (ts : List Var) (tys : List ArrayType) (zs : List Var) (rest : BlockTerm) (scope : List Var) → length ts ≡ length tys → length zs ≡ length tys → AllIn zs scope → NoneIn ts scope → Distinct ts
     → ((wider : List Var) → Widened ts scope wider → Scoped wider rest) → Scoped scope (chain (checks s ts tys zs) rest)
 checks_scoped s [] [] [] rest scope p q a n d k = k scope (λ y. refl)
-checks_scoped s (t ∷ ts) (ty ∷ tys) (z ∷ zs) rest scope p q a n d k =
-    ((a.0, tt), (n.0, tt), checks_scoped s ts tys zs rest (t ∷ scope) (omega (arith, p)) (omega (arith, q)) (all_more zs (t ∷ []) scope a.1) (none_more t ts scope d.0 n.1) d.1
-    (λ wider w. k wider (λ y. w y ∙ turned_or (eqb t.0 y.0) (is_in y ts) (is_in y scope))))
+checks_scoped s (t ∷ ts) (ty ∷ tys) (z ∷ zs) rest scope p q a n d k = (
+  (a.0, tt),
+  (n.0, tt),
+  checks_scoped s ts tys zs rest (t ∷ scope) (omega (arith, p)) (omega (arith, q)) (all_more zs (t ∷ []) scope a.1) (none_more t ts scope d.0 n.1) d.1
+      (λ wider w. k wider (λ y. w y ∙ turned_or (eqb t.0 y.0) (is_in y ts) (is_in y scope))),
+)
 checks_scoped s [] (ty ∷ tys) zs rest scope p q a n d k = absurd (omega arith)
 checks_scoped s (t ∷ ts) [] zs rest scope p q a n d k = absurd (omega arith)
 checks_scoped s [] [] (z ∷ zs) rest scope p q a n d k = absurd (omega arith)
@@ -162,9 +165,9 @@ module _ (core : CoreTerm) (well : All (IsFunction core) core.functions) where
         (distinct_right ts (bound_in rest) d)
         (block_wider rest (ts ++ scope) wider (λ y p. w y ∙ wide (is_in y ts) (is_in y T) (is_in y P) (is_in y scope) (sym (in_more y ts scope) ∙ p))
         (none_by (bound_in rest) wider (λ y p.
-          let l = fresh_below (bound_in rest) by y inner p in
-          let q = or_false (is_in y ts) (is_in y scope) (sym (in_more y ts scope) ∙ none_at y (bound_in rest) (ts ++ scope) (bound_new rest (ts ++ scope) h.2) p) in
-          w y ∙ (λ j. q.0 j || (outside_low T by a y (targets_put f by) l j || (outside_low P by a y (params_put f by) l j || q.1 j)))))
+        let l = fresh_below (bound_in rest) by y inner p in
+        let q = or_false (is_in y ts) (is_in y scope) (sym (in_more y ts scope) ∙ none_at y (bound_in rest) (ts ++ scope) (bound_new rest (ts ++ scope) h.2) p) in
+        w y ∙ (λ j. q.0 j || (outside_low T by a y (targets_put f by) l j || (outside_low P by a y (params_put f by) l j || q.1 j)))))
         h.2))
       where
         wide : (a b c d : Bool) → (a || d) ≡ true → (a || (b || (c || d))) ≡ true
@@ -176,24 +179,31 @@ module _ (core : CoreTerm) (well : All (IsFunction core) core.functions) where
         let low = fresh_left xs (bound_in_right r ++ bound_in rest) s.above fb in
         let inner = fresh_right xs (bound_in_right r ++ bound_in rest) s.above fb in
         let l = (rises_right core CanInline e).above in
-        let dr = distinct_right xs (bound_in_right r ++ bound_in rest) d in
-        (scoped_right e scope fs (fresh_left (bound_in_right r) (bound_in rest) s.above inner) (distinct_left (bound_in_right r) (bound_in rest) dr) h.0, h.1,
-        scoped k (xs ++ scope) (fresh_more (xs ++ scope) s.above m.above l (fresh_both xs scope s.above low fs)) (fresh_more (bound_in rest) s.above m.above l (fresh_right (bound_in_right r) (bound_in rest) s.above inner)) (distinct_right (bound_in_right r) (bound_in rest) dr) h.2)
+        let dr = distinct_right xs (bound_in_right r ++ bound_in rest) d in (
+          scoped_right e scope fs (fresh_left (bound_in_right r) (bound_in rest) s.above inner) (distinct_left (bound_in_right r) (bound_in rest) dr) h.0,
+          h.1,
+          scoped k (xs ++ scope) (fresh_more (xs ++ scope) s.above m.above l (fresh_both xs scope s.above low fs)) (fresh_more (bound_in rest) s.above m.above l (fresh_right (bound_in_right r) (bound_in rest) s.above inner)) (distinct_right (bound_in_right r) (bound_in rest) dr) h.2,
+        )
 
     pub scoped_right : {s t : Growth} {b c : RightTerm} → RightInlined core CanInline s b c t → (scope : List Var) → Fresh scope s.above → Fresh (bound_in_right b) s.above → Distinct (bound_in_right b) → ScopedRight scope b → ScopedRight scope c
     scoped_right plain scope fs fb d h = h
     scoped_right (left l) scope fs fb d h = h
     scoped_right (branches {s = s} {m = m} {a = a} {b = b} e k) scope fs fb d h =
-        let l = (rises core CanInline e).above in
-        (h.0, scoped e scope fs (fresh_left (bound_in a) (bound_in b) s.above fb) (distinct_left (bound_in a) (bound_in b) d) h.1,
-        scoped k scope (fresh_more scope s.above m.above l fs) (fresh_more (bound_in b) s.above m.above l (fresh_right (bound_in a) (bound_in b) s.above fb)) (distinct_right (bound_in a) (bound_in b) d) h.2)
+        let l = (rises core CanInline e).above in (
+          h.0,
+          scoped e scope fs (fresh_left (bound_in a) (bound_in b) s.above fb) (distinct_left (bound_in a) (bound_in b) d) h.1,
+          scoped k scope (fresh_more scope s.above m.above l fs) (fresh_more (bound_in b) s.above m.above l (fresh_right (bound_in a) (bound_in b) s.above fb)) (distinct_right (bound_in a) (bound_in b) d) h.2,
+        )
     scoped_right (turns {s = s} {m = m} {params = params} {a = a} {b = b} e k) scope fs fb d h =
         let l = (rises core CanInline e).above in
         let sc = fresh_both params scope s.above (fresh_left params (bound_in a ++ bound_in b) s.above fb) fs in
         let inner = fresh_right params (bound_in a ++ bound_in b) s.above fb in
-        let dr = distinct_right params (bound_in a ++ bound_in b) d in
-        (h.0, h.1, scoped e (params ++ scope) sc (fresh_left (bound_in a) (bound_in b) s.above inner) (distinct_left (bound_in a) (bound_in b) dr) h.2,
-        scoped k (params ++ scope) (fresh_more (params ++ scope) s.above m.above l sc) (fresh_more (bound_in b) s.above m.above l (fresh_right (bound_in a) (bound_in b) s.above inner)) (distinct_right (bound_in a) (bound_in b) dr) h.3)
+        let dr = distinct_right params (bound_in a ++ bound_in b) d in (
+          h.0,
+          h.1,
+          scoped e (params ++ scope) sc (fresh_left (bound_in a) (bound_in b) s.above inner) (distinct_left (bound_in a) (bound_in b) dr) h.2,
+          scoped k (params ++ scope) (fresh_more (params ++ scope) s.above m.above l sc) (fresh_more (bound_in b) s.above m.above l (fresh_right (bound_in a) (bound_in b) s.above inner)) (distinct_right (bound_in a) (bound_in b) dr) h.3,
+        )
     scoped_right (generated e) scope fs fb d h = (h.0, scoped_gens e scope fs fb d h.1)
     scoped_right (divided e) scope fs fb d h = (h.0, scoped_parts e scope fs fb d h.1)
 
@@ -203,9 +213,12 @@ module _ (core : CoreTerm) (well : All (IsFunction core) core.functions) where
         let xs = v.index ∷ v.names in
         let l = (rises core CanInline e).above in
         let inner = fresh_right xs (bound_in b ++ bound_in_gens g) s.above fb in
-        let dr = distinct_right xs (bound_in b ++ bound_in_gens g) d in
-        (h.0, h.1, scoped e (xs ++ scope) (fresh_both xs scope s.above (fresh_left xs (bound_in b ++ bound_in_gens g) s.above fb) fs) (fresh_left (bound_in b) (bound_in_gens g) s.above inner) (distinct_left (bound_in b) (bound_in_gens g) dr) h.2,
-        scoped_gens k scope (fresh_more scope s.above m.above l fs) (fresh_more (bound_in_gens g) s.above m.above l (fresh_right (bound_in b) (bound_in_gens g) s.above inner)) (distinct_right (bound_in b) (bound_in_gens g) dr) h.3)
+        let dr = distinct_right xs (bound_in b ++ bound_in_gens g) d in (
+          h.0,
+          h.1,
+          scoped e (xs ++ scope) (fresh_both xs scope s.above (fresh_left xs (bound_in b ++ bound_in_gens g) s.above fb) fs) (fresh_left (bound_in b) (bound_in_gens g) s.above inner) (distinct_left (bound_in b) (bound_in_gens g) dr) h.2,
+          scoped_gens k scope (fresh_more scope s.above m.above l fs) (fresh_more (bound_in_gens g) s.above m.above l (fresh_right (bound_in b) (bound_in_gens g) s.above inner)) (distinct_right (bound_in b) (bound_in_gens g) dr) h.3,
+        )
 
     scoped_parts : {s t : Growth} {b c : PartsTerm} → PartsInlined core CanInline s b c t → (scope : List Var) → Fresh scope s.above → Fresh (bound_in_parts b) s.above → Distinct (bound_in_parts b) → ScopedParts scope b → ScopedParts scope c
     scoped_parts no_parts scope fs fb d h = h
@@ -213,6 +226,8 @@ module _ (core : CoreTerm) (well : All (IsFunction core) core.functions) where
         let xs = v.index ∷ [] in
         let l = (rises core CanInline e).above in
         let inner = fresh_right xs (bound_in b ++ bound_in_parts g) s.above fb in
-        let dr = distinct_right xs (bound_in b ++ bound_in_parts g) d in
-        (h.0, scoped e (xs ++ scope) (fresh_both xs scope s.above (fresh_left xs (bound_in b ++ bound_in_parts g) s.above fb) fs) (fresh_left (bound_in b) (bound_in_parts g) s.above inner) (distinct_left (bound_in b) (bound_in_parts g) dr) h.1,
-        scoped_parts k scope (fresh_more scope s.above m.above l fs) (fresh_more (bound_in_parts g) s.above m.above l (fresh_right (bound_in b) (bound_in_parts g) s.above inner)) (distinct_right (bound_in b) (bound_in_parts g) dr) h.2)
+        let dr = distinct_right xs (bound_in b ++ bound_in_parts g) d in (
+          h.0,
+          scoped e (xs ++ scope) (fresh_both xs scope s.above (fresh_left xs (bound_in b ++ bound_in_parts g) s.above fb) fs) (fresh_left (bound_in b) (bound_in_parts g) s.above inner) (distinct_left (bound_in b) (bound_in_parts g) dr) h.1,
+          scoped_parts k scope (fresh_more scope s.above m.above l fs) (fresh_more (bound_in_parts g) s.above m.above l (fresh_right (bound_in b) (bound_in_parts g) s.above inner)) (distinct_right (bound_in b) (bound_in_parts g) dr) h.2,
+        )

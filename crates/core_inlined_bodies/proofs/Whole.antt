@@ -414,9 +414,11 @@ module _ (a : CoreTerm) (n : ℕ) (f : FunTerm) (c : BlockTerm) (found : slice_g
             absurd (let q = sym inline ∙ e in cc)
 
     pub goes_on : (inlines : Bool) → f.is_inline ≡ inlines → ComeTo a inlines n → ComeTo (stepped a n f c) inlines (suc n)
-    goes_on true e come =
-        (up_to true come.0 (large_after n (backward n f found e) come.0 (inl (omega arith)))
-        (λ place g p o t l. elsewhere place g (backward place g o t) (inl (omega (arith, p))) l), λ q. absurd (cc))
+    goes_on true e come = (
+      up_to true come.0 (large_after n (backward n f found e) come.0 (inl (omega arith)))
+          (λ place g p o t l. elsewhere place g (backward place g o t) (inl (omega (arith, p))) l),
+      λ q. absurd (cc),
+    )
     goes_on false e come =
         let all = everywhere (InlineBelow a (length a.functions)) all_below in
         let before = come.1 refl in

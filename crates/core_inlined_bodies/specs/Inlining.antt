@@ -8,7 +8,8 @@ use Rattle.core_ir.specs.declared.tree.CoreOp.{CoreOp}
 use Rattle.core_ir.specs.declared.tree.PartedOp.{PartedOp}
 use Rattle.core_ir.specs.Counts.{bindings}
 use Rattle.core_ir.specs.Outcome.{group_at}
-use Rattle.core_ir.specs.Terms.{PlainTerm, BlockTerm, RightTerm, GensTerm, PartsTerm, GenHead, PartHead, FunTerm, CoreTerm, Gives, Bind, Plain, NoGens, Gen, NoParts, Part}
+use Rattle.core_ir.specs.Terms.{PlainTerm, BlockTerm, RightTerm, GensTerm, PartsTerm, GenHead, PartHead, FunTerm, CoreTerm, Gives, Bind, Plain}
+use Rattle.core_ir.specs.Terms.{NoGens, Gen, NoParts, Part}
 use Rattle.core_subst.specs.Names.{above_function}
 use Rattle.core_inlining.specs.Inlined.{inlined}
 use Rattle.core_inlined_bodies.specs.declared.growth.Growth.{Growth}

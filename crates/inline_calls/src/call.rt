@@ -4,7 +4,7 @@ ghost use Rattle.std.specs.Prelude.{◌≡◌, ℕ, IfOk, IfSome, IfNone, map};
 ghost use Rattle.core_ir.specs.Terms.{FunTerm};
 ghost use Rattle.core_ir.specs.View.{core_term, fun_term, let_term};
 ghost use Rattle.core_inlined_bodies.specs.Inlining.{IsInstance, IsLeft, Fits, TooGreat, grown};
-ghost use Rattle.inline_calls.specs.Bindings.{CallInlined, LetInlined, MayStay};
+ghost use Rattle.inline_calls.specs.Bindings.{GivesCall, LetInlined, MayStay};
 
 use crate::place::inlined_bindings;
 use core_inlined_bodies::Growth;
@@ -51,7 +51,10 @@ fn grown_with(growth: Growth, function: &CoreFun) -> Option<Growth>
         .saturating_add(function.results.len() as u64);
     let count = growth.count.saturating_add(weight);
     let above = u64::from(new.0);
-    let greatest = growth.above.saturating_sub(1).saturating_add(above.saturating_sub(1));
+    let greatest = growth
+        .above
+        .saturating_sub(1)
+        .saturating_add(above.saturating_sub(1));
     if count > MOST_BINDINGS || greatest >= u64::from(u32::MAX) {
         return None;
     }
@@ -62,13 +65,26 @@ fn grown_with(growth: Growth, function: &CoreFun) -> Option<Growth>
 }
 
 /// The bindings that stand in the place of a binding, where that is a call that is inlined.
-pub fn inlined_call(alloc: Global, core: &Core, growth: Growth, binding: &Let) -> Result<Option<Inlined>, Memory>
+pub fn inlined_call(
+    alloc: Global,
+    core: &Core,
+    growth: Growth,
+    binding: &Let,
+) -> Result<Option<Inlined>, Memory>
     ensures placed { IfOk result (λ o. IfSome o (λ i. LetInlined (core_term core.now) growth (let_term binding.now) (map let_term i.lets.items) i.growth)) }
     ensures left { IfOk result (λ o. IfNone o (MayStay (core_term core.now) growth (let_term binding.now).right)) }
 {
     match &binding.right {
         Right::Call { group, args } => {
-            inlined_instance(alloc, core, growth, &binding.targets, binding.site, *group, args)
+            inlined_instance(
+                alloc,
+                core,
+                growth,
+                &binding.targets,
+                binding.site,
+                *group,
+                args,
+            )
         }
         _ => Ok(None),
     }
@@ -84,7 +100,7 @@ fn inlined_instance(
     group: u32,
     args: &[Var],
 ) -> Result<Option<Inlined>, Memory>
-    ensures placed { IfOk result (λ o. IfSome o (λ i. CallInlined (core_term core.now) growth targets.now site group args.now (map let_term i.lets.items) i.growth)) }
+    ensures placed { IfOk result (λ o. IfSome o (GivesCall (core_term core.now) growth targets.now site group args.now)) }
     ensures left { IfOk result (λ o. IfNone o (IsLeft (core_term core.now) growth group)) }
 {
     let Some(function) = instance_of(core, group) else {

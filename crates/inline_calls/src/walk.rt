@@ -1,11 +1,10 @@
 //! A walk over a block that inlines calls.
 
-ghost use Rattle.std.specs.Prelude.{◌≡◌, ◌++◌, List, IfOk, OnOk, map};
-ghost use Rattle.core_ir.specs.Terms.{LetTerm};
+ghost use Rattle.std.specs.Prelude.{◌≡◌, IfOk, OnOk, map};
 ghost use Rattle.core_ir.specs.View.{core_term, block_term, let_term, right_term, with_term, gen_term, parted_term, part_term};
 ghost use Rattle.core_inlined_bodies.specs.Inlining.{BlockInlined, RightInlined};
 ghost use Rattle.core_inlined_bodies.specs.Functions.{Anywhere};
-ghost use Rattle.inline_calls.specs.Bindings.{LetInlined, GenInlined, PartInlined, MayStay};
+ghost use Rattle.inline_calls.specs.Bindings.{Pushed, RightWalked, GenInlined, PartInlined};
 
 use crate::call::{Inlined, inlined_call};
 use core_inlined_bodies::Growth;
@@ -15,7 +14,12 @@ use std::alloc::Global;
 
 /// A copy of a block in which calls of inline functions are inlined, as long as there is room.
 #[cycle(inlining)]
-pub fn inline_block(alloc: Global, core: &Core, growth: &mut Growth, block: &Block) -> Result<Block, Memory>
+pub fn inline_block(
+    alloc: Global,
+    core: &Core,
+    growth: &mut Growth,
+    block: &Block,
+) -> Result<Block, Memory>
     ensures { IfOk result (λ b. BlockInlined (core_term core.now) Anywhere growth.old (block_term block.now) (block_term b) growth.new) }
 {
     let mut lets = Vec::new(alloc);
@@ -37,7 +41,7 @@ fn push_binding(
     binding: &Let,
     lets: &mut Vec<Let>,
 ) -> Result<(), Memory>
-    ensures { OnOk result ((ks : List LetTerm) × ((map let_term lets.new.items ≡ map let_term lets.old.items ++ ks) × LetInlined (core_term core.now) growth.old (let_term binding.now) ks growth.new)) }
+    ensures { OnOk result (Pushed (core_term core.now) growth.old (let_term binding.now) (map let_term lets.old.items) (map let_term lets.new.items) growth.new) }
 {
     match inlined_call(alloc, core, *growth, binding)? {
         Some(inlined) => {
@@ -61,8 +65,13 @@ fn push_binding(
 }
 
 #[cycle(inlining)]
-fn inline_right(alloc: Global, core: &Core, growth: &mut Growth, right: &Right) -> Result<Right, Memory>
-    ensures { IfOk result (λ r. MayStay (core_term core.now) growth.old (right_term right.now) → RightInlined (core_term core.now) Anywhere growth.old (right_term right.now) (right_term r) growth.new) }
+fn inline_right(
+    alloc: Global,
+    core: &Core,
+    growth: &mut Growth,
+    right: &Right,
+) -> Result<Right, Memory>
+    ensures { IfOk result (λ r. RightWalked (core_term core.now) growth.old (right_term right.now) (right_term r) growth.new) }
 {
     match right {
         Right::Const(a) => Ok(Right::Const(copy_array(a)?)),
@@ -107,7 +116,12 @@ fn inline_right(alloc: Global, core: &Core, growth: &mut Growth, right: &Right) 
 }
 
 #[cycle(inlining)]
-fn inline_with(alloc: Global, core: &Core, growth: &mut Growth, with: &WithLoop) -> Result<WithLoop, Memory>
+fn inline_with(
+    alloc: Global,
+    core: &Core,
+    growth: &mut Growth,
+    with: &WithLoop,
+) -> Result<WithLoop, Memory>
     ensures { IfOk result (λ w. RightInlined (core_term core.now) Anywhere growth.old (with_term with.now) (with_term w) growth.new) }
 {
     let mut gens = Vec::new(alloc);
@@ -118,7 +132,12 @@ fn inline_with(alloc: Global, core: &Core, growth: &mut Growth, with: &WithLoop)
 }
 
 #[cycle(inlining)]
-fn inline_gen(alloc: Global, core: &Core, growth: &mut Growth, generator: &CoreGen) -> Result<CoreGen, Memory>
+fn inline_gen(
+    alloc: Global,
+    core: &Core,
+    growth: &mut Growth,
+    generator: &CoreGen,
+) -> Result<CoreGen, Memory>
     ensures { IfOk result (λ g. GenInlined (core_term core.now) growth.old (gen_term generator.now) (gen_term g) growth.new) }
 {
     Ok(CoreGen {
@@ -136,7 +155,12 @@ fn inline_gen(alloc: Global, core: &Core, growth: &mut Growth, generator: &CoreG
 }
 
 #[cycle(inlining)]
-fn inline_parted(alloc: Global, core: &Core, growth: &mut Growth, parted: &PartedLoop) -> Result<PartedLoop, Memory>
+fn inline_parted(
+    alloc: Global,
+    core: &Core,
+    growth: &mut Growth,
+    parted: &PartedLoop,
+) -> Result<PartedLoop, Memory>
     ensures { IfOk result (λ p. RightInlined (core_term core.now) Anywhere growth.old (parted_term parted.now) (parted_term p) growth.new) }
 {
     let mut parts = Vec::new(alloc);
@@ -155,7 +179,12 @@ fn inline_parted(alloc: Global, core: &Core, growth: &mut Growth, parted: &Parte
 }
 
 #[cycle(inlining)]
-fn inline_part(alloc: Global, core: &Core, growth: &mut Growth, part: &CorePart) -> Result<CorePart, Memory>
+fn inline_part(
+    alloc: Global,
+    core: &Core,
+    growth: &mut Growth,
+    part: &CorePart,
+) -> Result<CorePart, Memory>
     ensures { IfOk result (λ p. PartInlined (core_term core.now) growth.old (part_term part.now) (part_term p) growth.new) }
 {
     Ok(CorePart {
