@@ -1,6 +1,5 @@
 -- In blocks with calls inlined bases agree.
 use Rattle.std.proofs.Common.{◌≡◌, ℕ, suc, ◌+◌, ◌<◌, ◌≤◌, Bool, true, false, cond, ◌||◌, eqb, List, [], ◌∷◌, ◌++◌, map, length, zip, Option, Some, None, All, refl, sym, ap, subst, ◌∙◌, arith, ◌⊎◌, inl, inr}
-use Rattle.std.specs.Prelude.{max, slice_get, unwrap_or}
 use Rattle.std.proofs.lemmas.Bool.{eqb-true, cases_lt}
 use Rattle.sac_base.specs.declared.base.Base.{Base}
 use Rattle.sac_base.specs.declared.base.Base.TheVariants.{Int, Bool as Truth}
@@ -8,14 +7,13 @@ use Rattle.sac_base.specs.declared.grid.Grid1.{Grid1}
 use Rattle.sac_base.specs.declared.site.Site.{Site}
 use Rattle.sac_base.specs.declared.types.ArrayType.{ArrayType}
 use Rattle.core_ir.specs.declared.tree.Var.{Var}
-use Rattle.core_ir.specs.declared.tree.PartedOp.{PartedOp}
 use Rattle.core_ir.specs.Binders.{is_in, NoneIn, bound_in, bound_in_right, bound_in_gens, bound_in_parts}
 use Rattle.core_ir.specs.Outcome.{param_types, param_vars}
-use Rattle.core_ir.specs.Terms.{BlockTerm, RightTerm, GensTerm, PartsTerm, FunTerm, CoreTerm, Gives, Bind, Plain, Check, chain}
+use Rattle.core_ir.specs.Terms.{BlockTerm, RightTerm, GensTerm, PartsTerm, FunTerm, CoreTerm, Gives, Bind, chain}
 use Rattle.core_ir.specs.Uses.{targets_of}
-use Rattle.core_ir.specs.WellFormed.{Bases, base_of, HasBase, HasBases, bases, ints, part_grids, PartedFits, param_bases, BlockBases, RightBases, GensBases, PartsBases, Distinct, IsFunction}
+use Rattle.core_ir.specs.WellFormed.{Bases, base_of, HasBases, bases, ints, part_grids, PartedFits, param_bases, BlockBases, RightBases, GensBases, PartsBases, Distinct, IsFunction}
 use Rattle.core_ir.proofs.Variables.{or_false, same_number, in_more}
-use Rattle.core_subst.specs.Names.{above, above_all, above_function}
+use Rattle.core_subst.specs.Names.{above_all, above_function}
 use Rattle.core_copy.specs.Mapped.{raised, mapped}
 use Rattle.core_copy.proofs.Within.{raised_apart}
 use Rattle.core_edits.specs.Within.{bases_mapped}
@@ -24,9 +22,9 @@ use Rattle.core_edits.proofs.Wider.{block_bases_wider}
 use Rattle.core_inlining.specs.Inlined.{bindings, results, checks, inlined, CanInline}
 use Rattle.core_inlining.proofs.Bodies.{results_mapped}
 use Rattle.core_inlined_bodies.specs.declared.growth.Growth.{Growth}
-use Rattle.core_inlined_bodies.specs.Inlining.{IsInstance, grown, BlockInlined, RightInlined, GensInlined, PartsInlined, ends, placed, kept, plain, left, branches, turns, generated, divided, no_gens, a_gen, no_parts, a_part}
-use Rattle.core_inlined_bodies.proofs.Counts.{rises, rises_right, rises_gens, rises_parts, mapped_length, all_at, at_call, lower, upper, trans}
-use Rattle.core_inlined_bodies.proofs.Names.{in_either, in_none, clash, not_in, none_by, none_at, distinct_left, distinct_right, Fresh, fresh_left, fresh_right, fresh_more, fresh_below, own_vars, range, behind_first, itself}
+use Rattle.core_inlined_bodies.specs.Inlining.{BlockInlined, RightInlined, GensInlined, PartsInlined, ends, placed, kept, plain, left, branches, turns, generated, divided, no_gens, a_gen, no_parts, a_part}
+use Rattle.core_inlined_bodies.proofs.Counts.{rises, rises_right, mapped_length, all_at, at_call, lower, upper, trans}
+use Rattle.core_inlined_bodies.proofs.Names.{clash, not_in, none_by, distinct_left, distinct_right, Fresh, fresh_left, fresh_right, fresh_more, fresh_below, range}
 use Rattle.core_inlined_bodies.proofs.Scopes.{other_way, params_put, targets_put, outside_low, outside_high}
 
 -- ---- bases of variables

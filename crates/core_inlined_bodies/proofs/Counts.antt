@@ -1,18 +1,18 @@
 -- Where calls are inlined, counts agree, and the numbers of variables are below those that are put in.
-use Rattle.std.proofs.Common.{◌≡◌, ℕ, zero, suc, ◌+◌, ◌-◌, ◌^◌, ◌<◌, ◌≤◌, true, List, [], ◌∷◌, ◌++◌, map, length, get_or, zip, Option, Some, None, refl, sym, ap, subst, ◌∙◌, arith}
+use Rattle.std.proofs.Common.{◌≡◌, ℕ, zero, suc, ◌+◌, ◌<◌, ◌≤◌, List, [], ◌∷◌, ◌++◌, map, length, get_or, zip, Option, Some, refl, sym, ap, subst, ◌∙◌, arith}
 use Rattle.std.specs.Prelude.{max, All, Contains, slice_get, unwrap_or}
 use Rattle.std.proofs.lemmas.Option.{slice_get_within}
 use Rattle.sac_base.specs.declared.base.Base.{Base}
 use Rattle.sac_base.specs.declared.types.ArrayType.{ArrayType}
 use Rattle.core_ir.specs.declared.tree.Var.{Var}
-use Rattle.core_ir.specs.Outcome.{param_types, group_at}
-use Rattle.core_ir.specs.Scopes.{Scoped, plain_uses, op_uses, parted_uses}
-use Rattle.core_ir.specs.Terms.{BlockTerm, RightTerm, GensTerm, PartsTerm, FunTerm, CoreTerm, Gives, Bind, Plain, NoGens, Gen, NoParts, Part}
-use Rattle.core_ir.specs.WellFormed.{Bases, HasBases, bases, ints, BlockBases, RightBases, GensBases, PartsBases, IsFunction, IsWellFormed}
+use Rattle.core_ir.specs.Outcome.{param_types}
+use Rattle.core_ir.specs.Scopes.{op_uses, parted_uses}
+use Rattle.core_ir.specs.Terms.{BlockTerm, RightTerm, GensTerm, PartsTerm, FunTerm, CoreTerm, Gives, Bind}
+use Rattle.core_ir.specs.WellFormed.{Bases, HasBases, bases, ints, BlockBases, RightBases, GensBases, PartsBases, IsFunction}
 use Rattle.core_subst.specs.Names.{above, above_all, above_head, above_right, above_gens, above_parts, above_function}
 use Rattle.core_inlining.specs.Inlined.{results, CanInline}
 use Rattle.core_inlined_bodies.specs.declared.growth.Growth.{Growth}
-use Rattle.core_inlined_bodies.specs.Inlining.{IsInstance, Fits, grown, weight, BlockInlined, RightInlined, GensInlined, PartsInlined, ends, placed, kept, plain, left, branches, turns, generated, divided, no_gens, a_gen, no_parts, a_part}
+use Rattle.core_inlined_bodies.specs.Inlining.{IsInstance, grown, weight, BlockInlined, RightInlined, GensInlined, PartsInlined, ends, placed, kept, plain, left, branches, turns, generated, divided, no_gens, a_gen, no_parts, a_part}
 use Rattle.core_inlined_bodies.specs.Functions.{Anywhere}
 use Rattle.sac_base.specs.declared.base.Base.TheVariants.{Int, Bool as Truth}
 

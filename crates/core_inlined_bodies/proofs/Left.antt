@@ -1,17 +1,15 @@
 -- The calls that are left in a block with calls inlined, and how great it is.
-use Rattle.std.proofs.Common.{◌≡◌, ℕ, suc, ◌+◌, ◌-◌, ◌^◌, ◌<◌, ◌≤◌, true, List, [], ◌∷◌, ◌++◌, map, length, Option, Some, None, refl, sym, ap, subst, ◌∙◌, arith, ◌⊎◌, inl, inr}
-use Rattle.std.specs.Prelude.{max, option_map, slice_get}
+use Rattle.std.proofs.Common.{◌≡◌, ℕ, suc, ◌+◌, ◌-◌, ◌^◌, ◌<◌, ◌≤◌, true, List, [], ◌∷◌, map, length, Option, Some, None, refl, sym, ap, subst, ◌∙◌, arith, inl, inr}
+use Rattle.std.specs.Prelude.{max, option_map}
 use Rattle.sac_base.specs.declared.site.Site.{Site}
 use Rattle.sac_base.specs.declared.types.ArrayType.{ArrayType}
 use Rattle.core_ir.specs.declared.tree.Var.{Var}
-use Rattle.core_ir.specs.declared.tree.CoreOp.{CoreOp}
-use Rattle.core_ir.specs.declared.tree.PartedOp.{PartedOp}
 use Rattle.core_ir.specs.Counts.{bindings as many, bindings_right as many_right, bindings_gens as many_gens, bindings_parts as many_parts}
-use Rattle.core_ir.specs.Outcome.{group_at, param_types, param_vars}
+use Rattle.core_ir.specs.Outcome.{param_types, param_vars}
 use Rattle.core_ir.specs.Scopes.{plain_uses, op_uses, parted_uses}
-use Rattle.core_ir.specs.Terms.{PlainTerm, BlockTerm, RightTerm, GensTerm, PartsTerm, GenHead, LetTerm, FunTerm, CoreTerm, Gives, Bind, Plain, NoGens, Gen, NoParts, Part, chain}
+use Rattle.core_ir.specs.Terms.{BlockTerm, RightTerm, GensTerm, PartsTerm, GenHead, LetTerm, FunTerm, CoreTerm, Gives, Bind, Plain, NoGens, Gen, NoParts, Part, chain}
 use Rattle.core_calls.specs.Nests.{CallsAll, CallsAllRight, CallsAllGens, CallsAllParts, StandsIn, InlineBelow}
-use Rattle.core_calls.proofs.Agreeing.{weaker, weaker_right, weaker_gens, weaker_parts}
+use Rattle.core_calls.proofs.Agreeing.{weaker, weaker_right}
 use Rattle.core_subst.specs.Names.{above, above_all, above_option, above_head, above_right, above_gens, above_parts, above_function}
 use Rattle.core_subst.specs.Substitution.{plain_with, core_op_with, parted_op_with}
 use Rattle.core_copy.specs.Mapped.{raised, mapped, mapped_right, mapped_gens, mapped_parts, mapped_gen_head}
@@ -20,9 +18,9 @@ use Rattle.core_inlining.specs.Inlined.{bindings, results, checks, inlined, CanI
 use Rattle.core_inlining.proofs.Backward.{inlined_calls}
 use Rattle.core_inlining.proofs.Bodies.{results_mapped}
 use Rattle.core_inlined_bodies.specs.declared.growth.Growth.{Growth}
-use Rattle.core_inlined_bodies.specs.Inlining.{IsInstance, IsLeft, TooGreat, MOST_BINDINGS, grown, weight, greatest, BlockInlined, RightInlined, GensInlined, PartsInlined, ends, placed, kept, plain, left, branches, turns, generated, divided, no_gens, a_gen, no_parts, a_part}
+use Rattle.core_inlined_bodies.specs.Inlining.{IsInstance, IsLeft, TooGreat, grown, weight, greatest, BlockInlined, RightInlined, GensInlined, PartsInlined, ends, placed, kept, plain, left, branches, turns, generated, divided, no_gens, a_gen, no_parts, a_part}
 use Rattle.core_inlined_bodies.specs.Functions.{AreTooLarge, LeavesLarge, DoneBelow, unchanged}
-use Rattle.core_inlined_bodies.proofs.Counts.{Rises, rises_all, grows, rises, rises_right, rises_gens, rises_parts, mapped_length, most, trans}
+use Rattle.core_inlined_bodies.proofs.Counts.{Rises, rises, rises_gens, rises_parts, mapped_length, trans}
 
 -- ---- how many bindings
 

@@ -8,11 +8,11 @@ use Rattle.sac_base.specs.declared.types.ArrayType.{ArrayType}
 use Rattle.core_ir.specs.declared.tree.Var.{Var}
 use Rattle.core_ir.specs.Binders.{is_in, NoneIn, bound_in, bound_in_right, bound_in_gens, bound_in_parts}
 use Rattle.core_ir.specs.Outcome.{param_types, param_vars}
-use Rattle.core_ir.specs.Terms.{BlockTerm, RightTerm, GensTerm, PartsTerm, FunTerm, CoreTerm, Gives, Bind, Plain, Check, chain}
+use Rattle.core_ir.specs.Terms.{BlockTerm, RightTerm, GensTerm, PartsTerm, FunTerm, CoreTerm, Gives, Bind, chain}
 use Rattle.core_ir.specs.WellFormed.{Distinct, IsFunction}
 use Rattle.core_ir.proofs.Variables.{in_more, or_false}
 use Rattle.core_subst.specs.Names.{above, above_all, above_function, variable}
-use Rattle.core_subst.proofs.Above.{block_new, function_new}
+use Rattle.core_subst.proofs.Above.{block_new}
 use Rattle.core_copy.specs.Mapped.{raised, mapped}
 use Rattle.core_copy.proofs.Renaming.{bound_mapped}
 use Rattle.core_copy.proofs.Within.{raised_apart}
@@ -20,8 +20,8 @@ use Rattle.core_edits.proofs.Mapping.{distinct_mapped}
 use Rattle.core_inlining.specs.Inlined.{bindings, results, checks, inlined, CanInline}
 use Rattle.core_inlining.proofs.Bodies.{results_mapped}
 use Rattle.core_inlined_bodies.specs.declared.growth.Growth.{Growth}
-use Rattle.core_inlined_bodies.specs.Inlining.{IsInstance, grown, BlockInlined, RightInlined, GensInlined, PartsInlined, ends, placed, kept, plain, left, branches, turns, generated, divided, no_gens, a_gen, no_parts, a_part}
-use Rattle.core_inlined_bodies.proofs.Counts.{Rises, rises, rises_right, rises_gens, rises_parts, mapped_length, all_at, trans}
+use Rattle.core_inlined_bodies.specs.Inlining.{BlockInlined, RightInlined, GensInlined, PartsInlined, ends, placed, kept, plain, left, branches, turns, generated, divided, no_gens, a_gen, no_parts, a_part}
+use Rattle.core_inlined_bodies.proofs.Counts.{rises, rises_right, rises_gens, rises_parts, mapped_length, all_at, trans}
 
 -- ---- members of lists
 

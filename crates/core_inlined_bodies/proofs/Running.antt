@@ -7,15 +7,15 @@ use Rattle.sac_base.specs.Parts.{condition}
 use Rattle.sac_base.specs.WithLoops.{with_value}
 use Rattle.sac_base.specs.declared.site.Site.{Site}
 use Rattle.core_ir.specs.declared.tree.Var.{Var}
-use Rattle.core_ir.specs.Meaning.{Env, CallMeaning, bind, bind_all, first, one, loop_value, parted_value, generator, operation, with_index, run, right_value, generators, cells}
+use Rattle.core_ir.specs.Meaning.{CallMeaning, bind, bind_all, first, one, loop_value, parted_value, generator, operation, with_index, run, right_value, generators, cells}
 use Rattle.core_ir.specs.Outcome.{RunMeaning, param_types, param_vars, call_by, run_inline}
-use Rattle.core_ir.specs.Terms.{BlockTerm, RightTerm, GensTerm, PartsTerm, LetTerm, FunTerm, CoreTerm, Bind, chain}
+use Rattle.core_ir.specs.Terms.{BlockTerm, RightTerm, GensTerm, PartsTerm, LetTerm, FunTerm, CoreTerm, chain}
 use Rattle.core_calls.specs.Nests.{CallsAll, CallsAllRight, CallsAllGens, CallsAllParts, StandsIn, InlineBelow, CallsBelow}
 use Rattle.core_copy.specs.Mapped.{raised, mapped}
 use Rattle.core_inlining.specs.Inlined.{bindings, results, checks, inlined, CanInline}
 use Rattle.core_inlining.proofs.Calls.{inlined_call}
 use Rattle.core_inlined_bodies.specs.declared.growth.Growth.{Growth}
-use Rattle.core_inlined_bodies.specs.Inlining.{IsInstance, BlockInlined, RightInlined, GensInlined, PartsInlined, ends, placed, kept, plain, left, branches, turns, generated, divided, no_gens, a_gen, no_parts, a_part}
+use Rattle.core_inlined_bodies.specs.Inlining.{BlockInlined, RightInlined, GensInlined, PartsInlined, ends, placed, kept, plain, left, branches, turns, generated, divided, no_gens, a_gen, no_parts, a_part}
 
 module _ (calls : CallMeaning) (count : ℕ) where
   -- what follows bindings may be changed

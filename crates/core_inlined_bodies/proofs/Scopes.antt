@@ -1,5 +1,5 @@
 -- Blocks with calls inlined stay scoped.
-use Rattle.std.proofs.Common.{◌≡◌, ℕ, suc, ◌+◌, ◌<◌, ◌≤◌, Bool, true, false, ◌||◌, eqb, List, [], ◌∷◌, ◌++◌, map, length, All, refl, sym, ap, subst, ◌∙◌, arith, ◌⊎◌, inl, inr}
+use Rattle.std.proofs.Common.{◌≡◌, ℕ, ◌+◌, ◌<◌, ◌≤◌, Bool, true, false, ◌||◌, eqb, List, [], ◌∷◌, ◌++◌, map, length, All, refl, sym, ap, ◌∙◌, arith, ◌⊎◌, inl, inr}
 use Rattle.std.proofs.lemmas.Bool.{eqb-true, eq-eqb}
 use Rattle.std.proofs.lemmas.List.{map-append}
 use Rattle.sac_base.specs.declared.site.Site.{Site}
@@ -8,11 +8,11 @@ use Rattle.core_ir.specs.declared.tree.Var.{Var}
 use Rattle.core_ir.specs.Binders.{is_in, NoneIn, bound_in, bound_in_right, bound_in_gens, bound_in_parts}
 use Rattle.core_ir.specs.Outcome.{param_types, param_vars}
 use Rattle.core_ir.specs.Scopes.{AllIn, Scoped, ScopedRight, ScopedGens, ScopedParts}
-use Rattle.core_ir.specs.Terms.{BlockTerm, RightTerm, GensTerm, PartsTerm, FunTerm, CoreTerm, Gives, Bind, Plain, Check, chain}
+use Rattle.core_ir.specs.Terms.{BlockTerm, RightTerm, GensTerm, PartsTerm, FunTerm, CoreTerm, Gives, Bind, chain}
 use Rattle.core_ir.specs.Uses.{targets_of}
 use Rattle.core_ir.specs.WellFormed.{Distinct, IsFunction}
 use Rattle.core_ir.proofs.Variables.{in_more, or_false, all_more, or_right}
-use Rattle.core_subst.specs.Names.{above, above_all, above_function}
+use Rattle.core_subst.specs.Names.{above_function}
 use Rattle.core_copy.specs.Mapped.{raised, mapped}
 use Rattle.core_copy.proofs.Renaming.{bound_mapped}
 use Rattle.core_copy.proofs.Within.{raised_apart}
@@ -21,9 +21,9 @@ use Rattle.core_edits.proofs.Wider.{block_wider, bound_new}
 use Rattle.core_inlining.specs.Inlined.{bindings, results, checks, inlined, CanInline}
 use Rattle.core_inlining.proofs.Bodies.{results_mapped}
 use Rattle.core_inlined_bodies.specs.declared.growth.Growth.{Growth}
-use Rattle.core_inlined_bodies.specs.Inlining.{IsInstance, grown, BlockInlined, RightInlined, GensInlined, PartsInlined, ends, placed, kept, plain, left, branches, turns, generated, divided, no_gens, a_gen, no_parts, a_part}
+use Rattle.core_inlined_bodies.specs.Inlining.{BlockInlined, RightInlined, GensInlined, PartsInlined, ends, placed, kept, plain, left, branches, turns, generated, divided, no_gens, a_gen, no_parts, a_part}
 use Rattle.core_inlined_bodies.proofs.Counts.{rises, rises_right, rises_gens, rises_parts, mapped_length, trans}
-use Rattle.core_inlined_bodies.proofs.Names.{in_either, in_none, in_left, clash, not_in, none_by, none_at, distinct_left, distinct_right, distinct_apart, Fresh, fresh_both, fresh_left, fresh_right, fresh_more, fresh_below, own_vars, own_fresh, raised_between}
+use Rattle.core_inlined_bodies.proofs.Names.{in_either, in_left, clash, not_in, none_by, none_at, distinct_left, distinct_right, Fresh, fresh_both, fresh_left, fresh_right, fresh_more, fresh_below, own_vars, own_fresh, raised_between}
 
 -- ---- what the bindings of an inlined call have in scope
 

@@ -1,21 +1,19 @@
 -- Whole cores in one function of which calls are inlined.
-use Rattle.std.proofs.Common.{◌≡◌, ℕ, zero, suc, ◌+◌, ◌^◌, ◌<◌, ◌≤◌, Bool, true, false, List, [], ◌∷◌, ◌++◌, map, length, zip, get_or, Option, Some, None, refl, sym, ap, subst, ◌∙◌, ◌⊎◌, inl, inr, arith}
+use Rattle.std.proofs.Common.{◌≡◌, ℕ, zero, suc, ◌^◌, ◌<◌, ◌≤◌, Bool, true, false, List, [], ◌∷◌, ◌++◌, map, length, zip, get_or, Option, Some, None, refl, sym, ap, subst, ◌∙◌, ◌⊎◌, inl, inr, arith}
 use Rattle.std.specs.Prelude.{max, All, AllPairs, Contains, slice_get, unwrap_or}
 use Rattle.std.proofs.lemmas.Bool.{cases_lt}
 use Rattle.std.proofs.lemmas.Option.{slice_get_within}
 use Rattle.std.proofs.lemmas.List.Elements.{All-append, All-contains}
 use Rattle.sac_base.specs.declared.base.Base.{Base}
 use Rattle.sac_base.specs.declared.base.Base.TheVariants.{Int, Bool as Truth}
-use Rattle.sac_base.specs.declared.site.Site.{Site}
 use Rattle.sac_base.specs.declared.types.ArrayType.{ArrayType}
-use Rattle.sac_base.specs.Arrays.{ArrayValue}
 use Rattle.sac_base.specs.Outcomes.{and_then}
 use Rattle.core_ir.specs.declared.tree.Var.{Var}
 use Rattle.core_ir.specs.Binders.{is_in, bound_in}
-use Rattle.core_ir.specs.Meaning.{Env, CallMeaning, bind_all, no_variables, run}
-use Rattle.core_ir.specs.Outcome.{RunMeaning, param_types, param_vars, group_at, body_of, results_in, call_by, run_inline, SameOutcome}
+use Rattle.core_ir.specs.Meaning.{bind_all, no_variables}
+use Rattle.core_ir.specs.Outcome.{param_vars, body_of, results_in, call_by, run_inline, SameOutcome}
 use Rattle.core_ir.specs.Terms.{BlockTerm, RightTerm, GensTerm, PartsTerm, FunTerm, CoreTerm, Gives, Bind, Plain, NoGens, Gen, NoParts, Part}
-use Rattle.core_ir.specs.WellFormed.{Bases, base_of, bases, ints, param_bases, GroupBases, BlockBases, RightBases, GensBases, PartsBases, Distinct, IsFunction, IsWellFormed, MayShareName, PlacesShare, CallsBackward, calls_in, calls_in_right, calls_in_gens, calls_in_parts}
+use Rattle.core_ir.specs.WellFormed.{Bases, base_of, bases, ints, param_bases, GroupBases, BlockBases, RightBases, GensBases, PartsBases, Distinct, IsFunction, IsWellFormed, PlacesShare, CallsBackward, calls_in, calls_in_right, calls_in_gens, calls_in_parts}
 use Rattle.core_bases.proofs.Backward.{below}
 use Rattle.core_calls.specs.Nests.{CallsAll, CallsAllRight, CallsAllGens, CallsAllParts, StandsIn, InlineBelow, CallsBelow, SameBodiesNested}
 use Rattle.core_calls.specs.Replaced.{replaced_at}
@@ -30,7 +28,7 @@ use Rattle.core_inlined_bodies.specs.Inlining.{IsInstance, BlockInlined, RightIn
 use Rattle.core_inlined_bodies.specs.Functions.{Anywhere, unchanged, FunctionInlined, AreTooLarge, LeavesLarge, DoneBelow, ComeTo}
 use Rattle.core_inlined_bodies.proofs.Counts.{all_at, counted, upper}
 use Rattle.core_inlined_bodies.proofs.Running.{running}
-use Rattle.core_inlined_bodies.proofs.Names.{Names, names, both, same, Fresh, fresh_left, fresh_right, distinct_left, distinct_right, own_fresh, own_vars}
+use Rattle.core_inlined_bodies.proofs.Names.{names, both, same, Fresh, fresh_left, fresh_right, distinct_right, own_fresh, own_vars}
 use Rattle.core_inlined_bodies.proofs.Scopes.{scoped}
 use Rattle.core_inlined_bodies.proofs.Bases.{Low, typed}
 use Rattle.core_inlined_bodies.proofs.Left.{sized, calls_left, large_left}

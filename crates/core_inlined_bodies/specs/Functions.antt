@@ -2,9 +2,7 @@
 use Rattle.std.specs.Prelude.{◌≡◌, ℕ, ◌+◌, ◌-◌, ◌^◌, ◌<◌, ◌≤◌, ◌⊎◌, Bool, true, false, List, length, Some, slice_get}
 use Rattle.core_ir.specs.declared.tree.Var.{Var}
 use Rattle.core_ir.specs.Counts.{bindings}
-use Rattle.core_ir.specs.Outcome.{SameOutcome}
 use Rattle.core_ir.specs.Terms.{BlockTerm, FunTerm, CoreTerm}
-use Rattle.core_ir.specs.WellFormed.{IsWellFormed}
 use Rattle.core_calls.specs.Nests.{CallsAll}
 use Rattle.core_calls.specs.Replaced.{replaced_at}
 use Rattle.core_subst.specs.Names.{above_function}

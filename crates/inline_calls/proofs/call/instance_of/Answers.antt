@@ -1,4 +1,4 @@
-use Rattle.std.proofs.Common.{◌≡◌, [], ◌∷◌, ◌∙◌, ap, subst, length, Some, arith}
+use Rattle.std.proofs.Common.{◌≡◌, [], ◌∙◌, ap, subst, Some, arith}
 use Rattle.std.specs.Prelude.{slice_get, unwrap_or}
 use Rattle.core_ir.specs.View.{core_term, fun_term}
 use Rattle.inline_calls.proofs.Instances.{mapped_at, one_item, read_at, is_instance, no_instance}
