@@ -1,6 +1,7 @@
 -- One binding with calls inlined.
 use Rattle.std.specs.Prelude.{◌≡◌, ◌++◌, ℕ, List, map}
 use Rattle.sac_base.specs.declared.site.Site.{Site}
+use Rattle.core_ir.specs.declared.tree.Let.{Let}
 use Rattle.core_ir.specs.declared.tree.Var.{Var}
 use Rattle.core_ir.specs.Terms.{BlockTerm, RightTerm, GensTerm, PartsTerm, LetTerm, GenTerm, PartTerm, CoreTerm, Bind, chain}
 use Rattle.core_ir.specs.View.{let_term}
@@ -38,8 +39,8 @@ pub record PartInlined (core : CoreTerm) (s : Growth) (p q : PartTerm) (t : Grow
   pub body : BlockInlined core Anywhere s p.body q.body t
 
 -- such bindings were put behind others
-abbrev pub Pushed : CoreTerm → Growth → LetTerm → List LetTerm → List LetTerm → Growth → Type 0
-Pushed core s l old new t = (ks : List LetTerm) × ((new ≡ old ++ ks) × LetInlined core s l ks t)
+abbrev pub Pushed : CoreTerm → Growth → LetTerm → List Let → List Let → Growth → Type 0
+Pushed core s l old new t = (ks : List LetTerm) × ((map let_term new ≡ map let_term old ++ ks) × LetInlined core s l ks t)
 
 -- a right side with calls inlined, if it is no call for which there is room
 abbrev pub RightWalked : CoreTerm → Growth → RightTerm → RightTerm → Growth → Type 0

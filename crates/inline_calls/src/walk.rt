@@ -1,6 +1,6 @@
 //! A walk over a block that inlines calls.
 
-ghost use Rattle.std.specs.Prelude.{◌≡◌, IfOk, OnOk, map};
+ghost use Rattle.std.specs.Prelude.{◌≡◌, IfOk, OnOk};
 ghost use Rattle.core_ir.specs.View.{core_term, block_term, let_term, right_term, with_term, gen_term, parted_term, part_term};
 ghost use Rattle.core_inlined_bodies.specs.Inlining.{BlockInlined, RightInlined};
 ghost use Rattle.core_inlined_bodies.specs.Functions.{Anywhere};
@@ -41,7 +41,7 @@ fn push_binding(
     binding: &Let,
     lets: &mut Vec<Let>,
 ) -> Result<(), Memory>
-    ensures { OnOk result (Pushed (core_term core.now) growth.old (let_term binding.now) (map let_term lets.old.items) (map let_term lets.new.items) growth.new) }
+    ensures { OnOk result (Pushed (core_term core.now) growth.old (let_term binding.now) lets.old.items lets.new.items growth.new) }
 {
     match inlined_call(alloc, core, *growth, binding)? {
         Some(inlined) => {
