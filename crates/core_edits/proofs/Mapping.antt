@@ -21,7 +21,7 @@ use Rattle.core_edits.specs.Within.{KeepsApart, bases_mapped}
 -- ---- uses and calls
 
 module _ (f : Var → Var) where
-  plain_uses_mapped : (p : PlainTerm) → plain_uses (plain_with f p) ≡ map f (plain_uses p)
+  pub plain_uses_mapped : (p : PlainTerm) → plain_uses (plain_with f p) ≡ map f (plain_uses p)
   plain_uses_mapped (PlainTerm.Const a) = refl
   plain_uses_mapped (PlainTerm.Copy x) = refl
   plain_uses_mapped (PlainTerm.Unary o x) = refl
@@ -35,12 +35,12 @@ module _ (f : Var → Var) where
   plain_uses_mapped (PlainTerm.Always k) = refl
   plain_uses_mapped (PlainTerm.Check x t) = refl
 
-  op_uses_mapped : (o : CoreOp) → op_uses (core_op_with f o) ≡ map f (op_uses o)
+  pub op_uses_mapped : (o : CoreOp) → op_uses (core_op_with f o) ≡ map f (op_uses o)
   op_uses_mapped (making.Genarray x y) = refl
   op_uses_mapped (making.Modarray x) = refl
   op_uses_mapped (making.Fold o x) = refl
 
-  parted_uses_mapped : (o : PartedOp) → parted_uses (parted_op_with f o) ≡ map f (parted_uses o)
+  pub parted_uses_mapped : (o : PartedOp) → parted_uses (parted_op_with f o) ≡ map f (parted_uses o)
   parted_uses_mapped parted.Genarray = refl
   parted_uses_mapped (parted.Modarray x) = refl
   parted_uses_mapped (parted.Fold o x) = refl

@@ -50,7 +50,7 @@ module _ (P : ℕ → Type 0) where
   bindings_call (Gives xs) rest h k = k
   bindings_call (Bind xs s r b) rest h k = (h.0, bindings_call b rest h.1 k)
 
-  inlined_calls : (by : ℕ) (f : FunTerm) (ts xs : List Var) (s : Site) (rest : BlockTerm) → CallsAll P f.body → CallsAll P rest → CallsAll P (inlined by f ts s xs rest)
+  pub inlined_calls : (by : ℕ) (f : FunTerm) (ts xs : List Var) (s : Site) (rest : BlockTerm) → CallsAll P f.body → CallsAll P rest → CallsAll P (inlined by f ts s xs rest)
   inlined_calls by f ts xs s rest h k =
       checks_call s _ (param_types f) xs _
       (bindings_call (mapped (raised by) f.body) _ (mapped_calls (raised by) f.body h)

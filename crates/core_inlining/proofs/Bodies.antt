@@ -29,11 +29,11 @@ whole : (b : BlockTerm) → chain (bindings b) (Gives (results b)) ≡ b
 whole (Gives xs) = refl
 whole (Bind xs s r b) = ap (Bind xs s r) (whole b)
 
-targets_mapped : (f : Var → Var) (b : BlockTerm) → targets_of (bindings (mapped f b)) ≡ map f (targets_of (bindings b))
+pub targets_mapped : (f : Var → Var) (b : BlockTerm) → targets_of (bindings (mapped f b)) ≡ map f (targets_of (bindings b))
 targets_mapped f (Gives xs) = refl
 targets_mapped f (Bind xs s r b) = ap (λ ys. map f xs ++ ys) (targets_mapped f b) ∙ sym (map-append f xs (targets_of (bindings b)))
 
-results_mapped : (f : Var → Var) (b : BlockTerm) → results (mapped f b) ≡ map f (results b)
+pub results_mapped : (f : Var → Var) (b : BlockTerm) → results (mapped f b) ≡ map f (results b)
 results_mapped f (Gives xs) = refl
 results_mapped f (Bind xs s r b) = results_mapped f b
 

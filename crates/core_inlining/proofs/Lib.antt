@@ -1,6 +1,6 @@
 mod Checks
-mod Bodies
-mod Calls
+pub mod Bodies
+pub mod Calls
 mod Edits
 mod Step
-mod Backward
+pub mod Backward

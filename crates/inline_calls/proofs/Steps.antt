@@ -17,11 +17,11 @@ use Rattle.core_copy.specs.Mapped.{raised, raised_within, mapped}
 use Rattle.core_copy.proofs.Within.{all_same, fits}
 use Rattle.core_inlining.specs.Inlined.{bindings, results, checks, inlined}
 
-map_snoc : {A B : Type 0} (f : A → B) (xs : List A) (x : A) → map f (xs ++ (x ∷ [])) ≡ map f xs ++ (f x ∷ [])
+pub map_snoc : {A B : Type 0} (f : A → B) (xs : List A) (x : A) → map f (xs ++ (x ∷ [])) ≡ map f xs ++ (f x ∷ [])
 map_snoc f [] x = refl
 map_snoc f (y ∷ ys) x = ap (λ l. f y ∷ l) (map_snoc f ys x)
 
-map_both : {A B : Type 0} (f : A → B) (xs ys : List A) → map f (xs ++ ys) ≡ map f xs ++ map f ys
+pub map_both : {A B : Type 0} (f : A → B) (xs ys : List A) → map f (xs ++ ys) ≡ map f xs ++ map f ys
 map_both f [] ys = refl
 map_both f (x ∷ xs) ys = ap (λ l. f x ∷ l) (map_both f xs ys)
 
@@ -29,7 +29,7 @@ map_twice : {A B C : Type 0} (f : B → C) (g : A → B) (xs : List A) → map (
 map_twice f g [] = refl
 map_twice f g (x ∷ xs) = ap (λ l. f (g x) ∷ l) (map_twice f g xs)
 
-chain_both : (ls ks : List LetTerm) (rest : BlockTerm) → chain (ls ++ ks) rest ≡ chain ls (chain ks rest)
+pub chain_both : (ls ks : List LetTerm) (rest : BlockTerm) → chain (ls ++ ks) rest ≡ chain ls (chain ks rest)
 chain_both [] ks rest = refl
 chain_both (l ∷ ls) ks rest = ap (Bind l.targets l.site l.right) (chain_both ls ks rest)
 

@@ -1,6 +1,10 @@
-//! The bindings that stand in the place of a call.
+//! Inlining: calls of inline functions become the bodies of these.
 #![tactic(auto)]
 
+mod call;
+mod functions;
 mod place;
+mod walk;
 
+pub use functions::inline_all;
 pub use place::inlined_bindings;

@@ -1,0 +1,7 @@
+mod Counts
+mod Running
+mod Names
+mod Scopes
+mod Bases
+mod Left
+pub mod Whole

@@ -1,0 +1,3 @@
+pub mod Inlining
+pub mod Functions
+pub mod Laws

@@ -1,0 +1,38 @@
+use Rattle.std.proofs.Common.{◌+◌, sym, ap, subst, ◌∙◌, length, arith}
+use Rattle.core_ir.specs.declared.tree.Core.{Core}
+use Rattle.core_ir.specs.Outcome.{SameOutcome}
+use Rattle.core_ir.specs.View.{core_term, fun_term}
+use Rattle.core_ir.specs.WellFormed.{IsWellFormed}
+use Rattle.core_inlined_bodies.specs.Functions.{ComeTo}
+use Rattle.inline_calls.proofs.Passes.{alike, unlike, function_turn, function_passed}
+use Rattle.inline_calls.proofs.Instances.{mapped_at, read_at}
+use Rattle.inline_calls.proofs.functions.inline_functions.Goals as goal
+use Rattle.inline_calls.proofs.functions.inline_functions.Goals.{then-index-inlines+in_ok-inline_function, else-index-inlines}
+
+pub loop-place-preserved : goal.loop-place-preserved
+loop-place-preserved c =
+    let v = c.loop-place.invariant in
+    let items = c.loop-place.core.functions.items in
+    let k = c.loop-place.place in
+    let x = c.index.result.now in
+    let start = core_term c.args.core.now in
+    let old = core_term c.loop-place.core in
+    let found = mapped_at fun_term items k x (read_at items k x (omega (arith, c.loop-place-test.true, c.len-place-end.ensures, v.count)) c.index.ensures) in
+    elim c.if-index-inlines.branch [
+      | then-index-inlines+in_ok-inline_function w ↦
+          let turn = function_turn start old (core_term w.inline_function.new.core) c.args.inlines k (fun_term x) (record { outcome = v.outcome; well = v.well; come = v.come }) w.in_ok-inline_function.ensures.inlined found (alike x.inline c.args.inlines w.if-index-inlines.true) in
+          record {
+            outcome = subst (λ (m : Core). SameOutcome start (core_term m)) (sym w.core-is) turn.outcome;
+            well = subst (λ (m : Core). IsWellFormed (core_term m)) (sym w.core-is) turn.well;
+            come = subst (λ (m : Core). ComeTo (core_term m) c.args.inlines (k + 1)) (sym w.core-is) turn.come;
+            count = ap (λ (m : Core). length m.functions.items) w.core-is ∙ w.in_ok-inline_function.ensures.count ∙ v.count;
+          }
+      | else-index-inlines w ↦
+          let turn = function_passed start old c.args.inlines k (fun_term x) (record { outcome = v.outcome; well = v.well; come = v.come }) found (unlike x.inline c.args.inlines w.if-index-inlines.false) in
+          record {
+            outcome = subst (λ (m : Core). SameOutcome start (core_term m)) (sym w.core-is) turn.outcome;
+            well = subst (λ (m : Core). IsWellFormed (core_term m)) (sym w.core-is) turn.well;
+            come = subst (λ (m : Core). ComeTo (core_term m) c.args.inlines (k + 1)) (sym w.core-is) turn.come;
+            count = ap (λ (m : Core). length m.functions.items) w.core-is ∙ v.count;
+          }
+    ]

@@ -1,0 +1,14 @@
+use Rattle.std.proofs.Common.{◌≡◌, length}
+use Rattle.core_ir.specs.Outcome.{SameOutcome}
+use Rattle.core_ir.specs.View.{core_term}
+use Rattle.core_ir.specs.WellFormed.{IsWellFormed}
+use Rattle.core_inlined_bodies.specs.Functions.{ComeTo}
+use Rattle.inline_calls.proofs.functions.inline_functions.Given as goal
+
+abbrev pub invariant-loop-place : goal.invariant-loop-place
+invariant-loop-place l = record {
+  outcome : SameOutcome (core_term l.initial.core) (core_term l.core);
+  well : IsWellFormed (core_term l.core);
+  come : ComeTo (core_term l.core) l.inlines l.place;
+  count : length l.core.functions.items ≡ length l.initial.core.functions.items;
+}

@@ -1,0 +1,202 @@
+//! A walk over a block that inlines calls.
+
+ghost use Rattle.std.specs.Prelude.{◌≡◌, IfOk, OnOk};
+ghost use Rattle.core_ir.specs.View.{core_term, block_term, let_term, right_term, with_term, gen_term, parted_term, part_term};
+ghost use Rattle.core_inlined_bodies.specs.Inlining.{BlockInlined, RightInlined};
+ghost use Rattle.core_inlined_bodies.specs.Functions.{Anywhere};
+ghost use Rattle.inline_calls.specs.Bindings.{Pushed, RightWalked, GenInlined, PartInlined};
+
+use crate::call::{Inlined, inlined_call};
+use core_inlined_bodies::Growth;
+use core_ir::{Block, Core, CoreGen, CorePart, Let, PartedLoop, Right, Var, WithLoop};
+use sac_base::{Memory, copy_array, copy_type};
+use std::alloc::Global;
+
+/// A copy of a block in which calls of inline functions are inlined, as long as there is room.
+#[cycle(inlining)]
+pub fn inline_block(
+    alloc: Global,
+    core: &Core,
+    growth: &mut Growth,
+    block: &Block,
+) -> Result<Block, Memory>
+    ensures { IfOk result (λ b. BlockInlined (core_term core.now) Anywhere growth.old (block_term block.now) (block_term b) growth.new) }
+{
+    let mut lets = Vec::new(alloc);
+    for binding in &block.lets {
+        push_binding(alloc, core, growth, binding, &mut lets)?;
+    }
+    Ok(Block {
+        lets,
+        results: copy_vars(alloc, &block.results)?,
+    })
+}
+
+/// Pushes the bindings that stand for a binding.
+#[cycle(inlining)]
+fn push_binding(
+    alloc: Global,
+    core: &Core,
+    growth: &mut Growth,
+    binding: &Let,
+    lets: &mut Vec<Let>,
+) -> Result<(), Memory>
+    ensures { OnOk result (Pushed (core_term core.now) growth.old (let_term binding.now) lets.old.items lets.new.items growth.new) }
+{
+    match inlined_call(alloc, core, *growth, binding)? {
+        Some(inlined) => {
+            let Inlined {
+                lets: mut inner,
+                growth: after,
+            } = inlined;
+            lets.append(&mut inner)?;
+            *growth = after;
+        }
+        None => {
+            let right = inline_right(alloc, core, growth, &binding.right)?;
+            lets.push(Let {
+                targets: copy_vars(alloc, &binding.targets)?,
+                site: binding.site,
+                right,
+            })?;
+        }
+    }
+    Ok(())
+}
+
+#[cycle(inlining)]
+fn inline_right(
+    alloc: Global,
+    core: &Core,
+    growth: &mut Growth,
+    right: &Right,
+) -> Result<Right, Memory>
+    ensures { IfOk result (λ r. RightWalked (core_term core.now) growth.old (right_term right.now) (right_term r) growth.new) }
+{
+    match right {
+        Right::Const(a) => Ok(Right::Const(copy_array(a)?)),
+        Right::Copy(x) => Ok(Right::Copy(*x)),
+        Right::Unary(op, x) => Ok(Right::Unary(*op, *x)),
+        Right::Binary(op, x, y) => Ok(Right::Binary(*op, *x, *y)),
+        Right::Literal(xs) => Ok(Right::Literal(copy_vars(alloc, xs)?)),
+        Right::Dim(x) => Ok(Right::Dim(*x)),
+        Right::ShapeOf(x) => Ok(Right::ShapeOf(*x)),
+        Right::Reshape(x, y) => Ok(Right::Reshape(*x, *y)),
+        Right::Select(x, y) => Ok(Right::Select(*x, *y)),
+        Right::Replace(x, y, z) => Ok(Right::Replace(*x, *y, *z)),
+        Right::If { cond, yes, no } => Ok(Right::If {
+            cond: *cond,
+            yes: inline_block(alloc, core, growth, yes)?,
+            no: inline_block(alloc, core, growth, no)?,
+        }),
+        Right::Loop {
+            first_body,
+            start,
+            params,
+            test,
+            body,
+            test_site,
+        } => Ok(Right::Loop {
+            first_body: *first_body,
+            start: copy_vars(alloc, start)?,
+            params: copy_vars(alloc, params)?,
+            test: inline_block(alloc, core, growth, test)?,
+            body: inline_block(alloc, core, growth, body)?,
+            test_site: *test_site,
+        }),
+        Right::Call { group, args } => Ok(Right::Call {
+            group: *group,
+            args: copy_vars(alloc, args)?,
+        }),
+        Right::With(w) => Ok(Right::With(inline_with(alloc, core, growth, w)?)),
+        Right::Parted(p) => Ok(Right::Parted(inline_parted(alloc, core, growth, p)?)),
+        Right::Always(kind) => Ok(Right::Always(*kind)),
+        Right::Check(x, ty) => Ok(Right::Check(*x, copy_type(ty))),
+    }
+}
+
+#[cycle(inlining)]
+fn inline_with(
+    alloc: Global,
+    core: &Core,
+    growth: &mut Growth,
+    with: &WithLoop,
+) -> Result<WithLoop, Memory>
+    ensures { IfOk result (λ w. RightInlined (core_term core.now) Anywhere growth.old (with_term with.now) (with_term w) growth.new) }
+{
+    let mut gens = Vec::new(alloc);
+    for generator in &with.gens {
+        gens.push(inline_gen(alloc, core, growth, generator)?)?;
+    }
+    Ok(WithLoop { gens, op: with.op })
+}
+
+#[cycle(inlining)]
+fn inline_gen(
+    alloc: Global,
+    core: &Core,
+    growth: &mut Growth,
+    generator: &CoreGen,
+) -> Result<CoreGen, Memory>
+    ensures { IfOk result (λ g. GenInlined (core_term core.now) growth.old (gen_term generator.now) (gen_term g) growth.new) }
+{
+    Ok(CoreGen {
+        lower: generator.lower,
+        lower_closed: generator.lower_closed,
+        upper: generator.upper,
+        upper_closed: generator.upper_closed,
+        step: generator.step,
+        width: generator.width,
+        index: generator.index,
+        names: copy_vars(alloc, &generator.names)?,
+        body: inline_block(alloc, core, growth, &generator.body)?,
+        site: generator.site,
+    })
+}
+
+#[cycle(inlining)]
+fn inline_parted(
+    alloc: Global,
+    core: &Core,
+    growth: &mut Growth,
+    parted: &PartedLoop,
+) -> Result<PartedLoop, Memory>
+    ensures { IfOk result (λ p. RightInlined (core_term core.now) Anywhere growth.old (parted_term parted.now) (parted_term p) growth.new) }
+{
+    let mut parts = Vec::new(alloc);
+    for part in &parted.parts {
+        parts.push(inline_part(alloc, core, growth, part)?)?;
+    }
+    let frame = parted.frame.copy(alloc)?;
+    let cell = parted.cell.copy();
+    Ok(PartedLoop {
+        frame,
+        base: parted.base,
+        cell,
+        op: parted.op,
+        parts,
+    })
+}
+
+#[cycle(inlining)]
+fn inline_part(
+    alloc: Global,
+    core: &Core,
+    growth: &mut Growth,
+    part: &CorePart,
+) -> Result<CorePart, Memory>
+    ensures { IfOk result (λ p. PartInlined (core_term core.now) growth.old (part_term part.now) (part_term p) growth.new) }
+{
+    Ok(CorePart {
+        grid: part.grid.copy(alloc)?,
+        index: part.index,
+        body: inline_block(alloc, core, growth, &part.body)?,
+        site: part.site,
+    })
+}
+
+fn copy_vars(alloc: Global, vars: &[Var]) -> Result<Vec<Var>, Memory>
+    ensures { IfOk result (λ v. v.items ≡ vars.now) }
+{
+    Ok(Vec::from_slice(alloc, vars)?)
+}
