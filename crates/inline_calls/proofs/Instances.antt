@@ -5,7 +5,7 @@ use Rattle.std.proofs.lemmas.Bool.{cases_lt}
 use Rattle.sac_base.specs.declared.site.Site.{Site}
 use Rattle.core_ir.specs.declared.tree.Var.{Var}
 use Rattle.core_ir.specs.Outcome.{group_at}
-use Rattle.core_ir.specs.Terms.{BlockTerm, RightTerm, LetTerm, FunTerm, CoreTerm, Bind, chain}
+use Rattle.core_ir.specs.Terms.{BlockTerm, RightTerm, LetTerm, FunTerm, CoreTerm, Bind}
 use Rattle.core_inlining.specs.Inlined.{inlined}
 use Rattle.core_inlined_bodies.specs.declared.growth.Growth.{Growth}
 use Rattle.core_inlined_bodies.specs.Inlining.{IsInstance, Fits, grown, BlockInlined, placed}

@@ -3,7 +3,7 @@ use Rattle.std.specs.Prelude.{◌≡◌, ◌++◌, ℕ, List, map}
 use Rattle.sac_base.specs.declared.site.Site.{Site}
 use Rattle.core_ir.specs.declared.tree.Let.{Let}
 use Rattle.core_ir.specs.declared.tree.Var.{Var}
-use Rattle.core_ir.specs.Terms.{BlockTerm, RightTerm, GensTerm, PartsTerm, LetTerm, GenTerm, PartTerm, CoreTerm, Bind, chain}
+use Rattle.core_ir.specs.Terms.{BlockTerm, RightTerm, LetTerm, GenTerm, PartTerm, CoreTerm, Bind, chain}
 use Rattle.core_ir.specs.View.{let_term}
 use Rattle.core_inlined_bodies.specs.declared.growth.Growth.{Growth}
 use Rattle.core_inlined_bodies.specs.Inlining.{IsLeft, BlockInlined, RightInlined}

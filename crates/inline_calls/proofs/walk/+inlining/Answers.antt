@@ -1,8 +1,6 @@
-use Rattle.std.proofs.Common.{arith, map, take, ap, sym, subst, refl, ◌∙◌, ◌+◌, length, [], ◌∷◌, Option, IfSome, IfNone}
+use Rattle.std.proofs.Common.{arith, map, take, ap, subst, refl, ◌∙◌, ◌+◌, [], ◌∷◌, Option, IfSome, IfNone}
 use Rattle.core_ir.specs.declared.tree.CoreGen.{out-CoreGen}
 use Rattle.core_ir.specs.declared.tree.CorePart.{out-CorePart}
-use Rattle.core_ir.specs.declared.tree.WithLoop.{out-WithLoop}
-use Rattle.core_ir.specs.declared.tree.PartedLoop.{out-PartedLoop}
 use Rattle.core_ir.specs.View.{core_term, block_term, let_term, right_term, gen_term, part_term}
 use Rattle.inline_calls.proofs.Turns.{SoFar, GensSoFar, PartsSoFar, taken_more, taken_all, let_turn, block_whole, gen_turn, with_whole, part_turn, parted_whole, gen_whole, part_whole, same_leaf, both_branches, both_blocks, call_stays, binding_kept}
 use Rattle.inline_calls.proofs.Steps.{map_snoc, map_both}
