@@ -30,7 +30,7 @@ def most_variables():
 def most_functions():
     count = 9_000
     one = "".join(f"int f{k}(int x) {{ return (f{k - 1}(x)); }}\n" for k in range(1, count))
-    return "int f0(int x) { return (x); }\n" + one + main_of("", "f100(7)")
+    return "int f0(int x) { return (x); }\n" + one + main_of("", "f99(7)")
 
 
 def most_instances():
@@ -46,13 +46,13 @@ def most_calls_of_one_name():
 
 def deepest_loops():
     loop = "1"
-    for _ in range(48):
+    for _ in range(47):
         loop = f"with {{ ([0] <= iv < [1]) : {loop}; }} : fold(+, 0)"
-    return main_of("x = 0; " + f"x = x + {loop}; " * 300, "x")
+    return main_of("x = 0; " + f"x = x + {loop}; " * 150, "x")
 
 
 def many_generators(step):
-    grids = "".join(f"([0] <= iv < [100000] step [{step(k)}]) : {k}; " for k in range(8_000))
+    grids = "".join(f"([0] <= iv < [10] step [{step(k)}]) : {k}; " for k in range(8_000))
     return f"int[*] main() {{ a = with {{ {grids} }} : genarray([10], 0); return (shape(a)); }}\n"
 
 
@@ -79,7 +79,7 @@ KINDS = {
     "9,000 functions": most_functions,
     "6,247 instances of one name": most_instances,
     "12,000 calls of 999 instances": most_calls_of_one_name,
-    "300 nests of 48 with-loops": deepest_loops,
+    "150 nests of 47 with-loops": deepest_loops,
     "8,000 grids of steps that fit": lambda: many_generators(lambda k: 1 + k % 4),
     "8,000 grids of too fine a period": lambda: many_generators(lambda k: 2 * k + 1),
     "4,000 inline functions that double": chains_of_inline,

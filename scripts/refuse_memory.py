@@ -17,10 +17,10 @@ EACH, MOST = 300, 300
 
 SHIM = r"""
 #define _GNU_SOURCE
-#include <dlfcn.h>
 #include <errno.h>
 #include <stdatomic.h>
 #include <stdlib.h>
+#include <sys/syscall.h>
 #include <unistd.h>
 
 static atomic_long calls;
@@ -53,12 +53,18 @@ int posix_memalign(void **at, size_t align, size_t size) {
 }
 
 // The number of calls goes to descriptor 9.
-__attribute__((destructor)) static void tell(void) {
+static void tell(void) {
     char text[24];
     int at = sizeof text;
     long count = atomic_load(&calls);
     do { text[--at] = '0' + count % 10; count /= 10; } while (count);
     if (write(9, text + at, sizeof text - at) < 0) return;
+}
+
+// A program of this toolchain ends by this call.
+void _exit(int status) {
+    tell();
+    for (;;) syscall(SYS_exit_group, status);
 }
 """
 
