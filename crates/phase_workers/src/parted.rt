@@ -45,7 +45,8 @@ pub fn parts_outside<G: Gate, R: Threads + Sync>(
     state: &mut State<'_>,
 ) -> Result<RunValue, Stop>
     ensures told { (m : MachineHeap) → IsAt state.old m
-        → Told IsValue result state.new (job_does None (parts_job context.now (current state.old.frames) parts.now plan.now.frame plan.now.form plan.now.shape) m) }
+        → Told IsValue result state.new
+        (job_does None (parts_job context.now (current state.old.frames) parts.now plan.now.frame plan.now.form plan.now.shape) m) }
     ensures scopes { OnOk result (SameScopes state.old.frames state.new.frames) }
     ensures lender { lender_of state.new.heap ≡ lender_of state.old.heap }
 {
@@ -101,7 +102,8 @@ fn parts_by_workers<G: Gate, R: Threads + Sync>(
     requires alone { state.old.heap.lent ≡ None }
     requires large { is_small_shape plan.now.shape ≡ false }
     ensures told { (m : MachineHeap) → IsAt state.old m
-        → Told IsValue result state.new (job_does None (parts_job context.now (current state.old.frames) parts.now plan.now.frame plan.now.form plan.now.shape) m) }
+        → Told IsValue result state.new
+        (job_does None (parts_job context.now (current state.old.frames) parts.now plan.now.frame plan.now.form plan.now.shape) m) }
     ensures scopes { OnOk result (SameScopes state.old.frames state.new.frames) }
     ensures lender { lender_of state.new.heap ≡ lender_of state.old.heap }
 {

@@ -119,7 +119,8 @@ fn maybe_base(
     functions: &Functions<'_>,
     known: &BoundNames<'_>,
 ) -> Result<Option<Base>, Memory>
-    ensures { IfOk result (λ b. b ≡ Bases.maybe_base (Bases.call_bases_in (View.functions functions.now.all.now)) known.now.all.items (View.maybe e.now) other) }
+    ensures { IfOk result (λ b. b ≡ Bases.maybe_base (Bases.call_bases_in (View.functions functions.now.all.now)) known.now.all.items
+        (View.maybe e.now) other) }
 {
     match e {
         None => Ok(other),
@@ -134,7 +135,8 @@ fn bound_base(
     functions: &Functions<'_>,
     known: &BoundNames<'_>,
 ) -> Result<Option<Base>, Memory>
-    ensures { IfOk result (λ base. base ≡ Bases.bound_base (Bases.call_bases_in (View.functions functions.now.all.now)) known.now.all.items (View.bound b.now)) }
+    ensures { IfOk result (λ base. base
+        ≡ Bases.bound_base (Bases.call_bases_in (View.functions functions.now.all.now)) known.now.all.items (View.bound b.now)) }
 {
     match b {
         Bound::Dot(_) => Ok(Some(Base::Int)),
@@ -151,7 +153,8 @@ fn operation_base(
     functions: &Functions<'_>,
     known: &BoundNames<'_>,
 ) -> Result<Option<Base>, Memory>
-    ensures { IfOk result (λ b. b ≡ Bases.operation_base (Bases.call_bases_in (View.functions functions.now.all.now)) known.now.all.items (View.operation op.now) cell) }
+    ensures { IfOk result (λ b. b ≡ Bases.operation_base (Bases.call_bases_in (View.functions functions.now.all.now)) known.now.all.items
+        (View.operation op.now) cell) }
 {
     match op {
         Operation::Genarray { shape, default, .. } => {
@@ -200,7 +203,8 @@ fn one_given(
     functions: &Functions<'_>,
     known: &BoundNames<'_>,
 ) -> Result<Given, Memory>
-    ensures { IfOk result (λ given. given ≡ Generators.one_given (Bases.call_bases_in (View.functions functions.now.all.now)) known.now.all.items (View.generator g.now)) }
+    ensures { IfOk result (λ given. given
+        ≡ Generators.one_given (Bases.call_bases_in (View.functions functions.now.all.now)) known.now.all.items (View.generator g.now)) }
 {
     let int = Some(Base::Int);
     let lower = bound_base(&g.lower, alloc, functions, known)?;

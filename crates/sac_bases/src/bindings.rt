@@ -49,7 +49,8 @@ fn bind_results<'a>(
     bases: &[Option<Base>],
 ) -> Result<(), Memory>
     ensures { OnOk result (known.new.all.items
-        ≡ Bases.with_bases targets.now (Bases.known_bases (Bases.call_bases_in (View.functions functions.now.all.now) name.now bases.now)) known.old.all.items) }
+        ≡ Bases.with_bases targets.now
+        (Bases.known_bases (Bases.call_bases_in (View.functions functions.now.all.now) name.now bases.now)) known.old.all.items) }
 {
     let results = result_bases(alloc, functions.instance(name, bases))?;
     bind_targets(known, targets, &results)
@@ -110,7 +111,8 @@ fn in_expr<'a>(
     functions: &Functions<'_>,
     known: &mut BoundNames<'a>,
 ) -> Result<(), Memory>
-    ensures { OnOk result (known.new.all.items ≡ Bases.in_expr (Bases.call_bases_in (View.functions functions.now.all.now)) (View.expr e.now) known.old.all.items) }
+    ensures { OnOk result (known.new.all.items
+        ≡ Bases.in_expr (Bases.call_bases_in (View.functions functions.now.all.now)) (View.expr e.now) known.old.all.items) }
 {
     match e {
         Expression::Number(_, _) | Expression::Truth(_, _) | Expression::Variable(_, _) => Ok(()),
@@ -141,7 +143,8 @@ fn in_exprs<'a>(
     functions: &Functions<'_>,
     known: &mut BoundNames<'a>,
 ) -> Result<(), Memory>
-    ensures { OnOk result (known.new.all.items ≡ Bases.in_exprs (Bases.call_bases_in (View.functions functions.now.all.now)) (View.exprs es.now) known.old.all.items) }
+    ensures { OnOk result (known.new.all.items
+        ≡ Bases.in_exprs (Bases.call_bases_in (View.functions functions.now.all.now)) (View.exprs es.now) known.old.all.items) }
 {
     for e in es {
         in_expr(e, alloc, functions, known)?;
@@ -156,7 +159,8 @@ fn in_maybe<'a>(
     functions: &Functions<'_>,
     known: &mut BoundNames<'a>,
 ) -> Result<(), Memory>
-    ensures { OnOk result (known.new.all.items ≡ Bases.in_maybe (Bases.call_bases_in (View.functions functions.now.all.now)) (View.maybe e.now) known.old.all.items) }
+    ensures { OnOk result (known.new.all.items
+        ≡ Bases.in_maybe (Bases.call_bases_in (View.functions functions.now.all.now)) (View.maybe e.now) known.old.all.items) }
 {
     match e {
         None => Ok(()),
@@ -171,7 +175,8 @@ fn in_bound<'a>(
     functions: &Functions<'_>,
     known: &mut BoundNames<'a>,
 ) -> Result<(), Memory>
-    ensures { OnOk result (known.new.all.items ≡ Bases.in_bound (Bases.call_bases_in (View.functions functions.now.all.now)) (View.bound b.now) known.old.all.items) }
+    ensures { OnOk result (known.new.all.items
+        ≡ Bases.in_bound (Bases.call_bases_in (View.functions functions.now.all.now)) (View.bound b.now) known.old.all.items) }
 {
     match b {
         Bound::Dot(_) => Ok(()),
@@ -186,7 +191,8 @@ fn in_generator<'a>(
     functions: &Functions<'_>,
     known: &mut BoundNames<'a>,
 ) -> Result<(), Memory>
-    ensures { OnOk result (known.new.all.items ≡ Bases.in_gen (Bases.call_bases_in (View.functions functions.now.all.now)) (View.generator g.now) known.old.all.items) }
+    ensures { OnOk result (known.new.all.items
+        ≡ Bases.in_gen (Bases.call_bases_in (View.functions functions.now.all.now)) (View.generator g.now) known.old.all.items) }
 {
     in_bounds(g, alloc, functions, known)?;
     in_cell(g, alloc, functions, known)
@@ -233,7 +239,8 @@ fn in_generators<'a>(
     functions: &Functions<'_>,
     known: &mut BoundNames<'a>,
 ) -> Result<(), Memory>
-    ensures { OnOk result (known.new.all.items ≡ Bases.in_gens (Bases.call_bases_in (View.functions functions.now.all.now)) (View.generators gs.now) known.old.all.items) }
+    ensures { OnOk result (known.new.all.items
+        ≡ Bases.in_gens (Bases.call_bases_in (View.functions functions.now.all.now)) (View.generators gs.now) known.old.all.items) }
 {
     for g in gs {
         in_generator(g, alloc, functions, known)?;
@@ -248,7 +255,8 @@ fn in_operation<'a>(
     functions: &Functions<'_>,
     known: &mut BoundNames<'a>,
 ) -> Result<(), Memory>
-    ensures { OnOk result (known.new.all.items ≡ Bases.in_operation (Bases.call_bases_in (View.functions functions.now.all.now)) (View.operation op.now) known.old.all.items) }
+    ensures { OnOk result (known.new.all.items
+        ≡ Bases.in_operation (Bases.call_bases_in (View.functions functions.now.all.now)) (View.operation op.now) known.old.all.items) }
 {
     match op {
         Operation::Genarray { shape, default, .. } => {
@@ -267,7 +275,8 @@ fn in_stmt<'a>(
     functions: &Functions<'_>,
     known: &mut BoundNames<'a>,
 ) -> Result<(), Memory>
-    ensures { OnOk result (known.new.all.items ≡ Bases.in_stmt (Bases.call_bases_in (View.functions functions.now.all.now)) (View.stmt s.now) known.old.all.items) }
+    ensures { OnOk result (known.new.all.items
+        ≡ Bases.in_stmt (Bases.call_bases_in (View.functions functions.now.all.now)) (View.stmt s.now) known.old.all.items) }
 {
     match s {
         Statement::Assign { targets, value } => in_assign(value, targets, alloc, functions, known),
@@ -330,7 +339,8 @@ fn in_block<'a>(
     functions: &Functions<'_>,
     known: &mut BoundNames<'a>,
 ) -> Result<(), Memory>
-    ensures { OnOk result (known.new.all.items ≡ Bases.in_block (Bases.call_bases_in (View.functions functions.now.all.now)) (View.block ss.now) known.old.all.items) }
+    ensures { OnOk result (known.new.all.items
+        ≡ Bases.in_block (Bases.call_bases_in (View.functions functions.now.all.now)) (View.block ss.now) known.old.all.items) }
 {
     for s in ss {
         in_stmt(s, alloc, functions, known)?;

@@ -186,7 +186,8 @@ fn plain_runs_have_their_values(rt: HostRuntime) -> Result<(), Fail> {
         (DEEPER, 199, 0, 200, Ending::Gives(&[], &[199])),
         (DEEPER, 200, 0, 200, Ending::Faults(FaultKind::F10, 1, 41)),
         (
-            "int f(int x) { return (1); } int f(int[.] x) { return (2); } int f(int[*] x) { return (3); } int[*] main(int a) { return ([f(a), f([4, 5]), f([[1, 2], [3, 4]])]); }",
+            "int f(int x) { return (1); } int f(int[.] x) { return (2); } int f(int[*] x) { return (3); }
+int[*] main(int a) { return ([f(a), f([4, 5]), f([[1, 2], [3, 4]])]); }",
             3,
             0,
             1,
