@@ -1,5 +1,6 @@
 -- What a contract sees of a heap: at each place nothing or a live buffer, the number of the next one, and three counters.
 use Rattle.std.specs.Prelude.{◌≡◌, ◌<◌, ℕ, zero, suc, ◌+◌, ◌%◌, ◌^◌, List, [], ℤ, Option, Some, None, IsSomeAnd, length, slice_index_or, slice_set}
+use Rattle.sac_base.specs.declared.limits.TheConstants.{MOST_REFERENCES}
 
 -- the cells of a buffer that is in, or the number of cells of one that is out
 pub data Content : Type 0 where
@@ -42,7 +43,11 @@ IsNamed born x = IsIn x × (x.born ≡ born)
 
 -- the buffer of this number is in, and may have one reference more
 abbrev pub HasRoom : ℕ → Held → Type 0
-HasRoom born x = IsIn x × (x.born ≡ born) × (x.count < 2 ^ 62)
+HasRoom born x = IsIn x × (x.born ≡ born) × (x.count < MOST_REFERENCES)
+
+-- the buffer is in, and may have one reference more
+abbrev pub MayBeKept : Held → Type 0
+MayBeKept x = IsIn x × (x.count < MOST_REFERENCES)
 
 -- the buffer of this number is out, with so many cells
 abbrev pub IsLifted : ℕ → ℕ → Held → Type 0

@@ -1,12 +1,12 @@
 ghost use Rattle.std.specs.Prelude.{◌≡◌, IsTrue, ◌≢◌, ◌+◌, ◌-◌, ◌<◌, ◌≤◌, ◌%◌, ◌^◌, ◌==◌, ◌↔◌, ℕ, pos, [], length, replicate, count_by, is_some};
 ghost use Rattle.std.specs.Prelude.{Some, None, OnErr, OnOk, IfOk, ⊤};
-ghost use Rattle.buffer_heap.specs.Heaps.{In, Out, Held, HeapValue, at, IsLive, IsIn, IsInAndSole, IsNamed, HasRoom, IsLifted, with_place};
+ghost use Rattle.buffer_heap.specs.Heaps.{In, Out, Held, HeapValue, at, IsLive, IsIn, IsInAndSole, IsNamed, HasRoom, MayBeKept, IsLifted, with_place};
 ghost use Rattle.buffer_heap.specs.Heaps.{with_count, with_content, count_of, content_of, lifted, released};
 ghost use Rattle.buffer_heap.specs.Places.{held_of};
 ghost use Rattle.sac_base.specs.Arrays.{MOST};
 ghost use Rattle.sac_base.specs.declared.outcome.Released.TheVariants.{Freed};
 
-use sac_base::{Cell, Memory, Released};
+use sac_base::{Cell, MOST_REFERENCES, Memory, Released};
 use std::alloc::Global;
 use std::marker::Model;
 use std::mem;
@@ -252,7 +252,7 @@ impl Heap {
         match self.places.get(id.place) {
             Some(place) => place.born == id.born
                 && place.count > 0
-                && place.count < 1 << 62
+                && place.count < MOST_REFERENCES
                 && place.out_len.is_none(),
             None => false,
         }
@@ -314,7 +314,7 @@ impl Heap {
 
     /// One reference more to a buffer that is in.
     pub fn keep(&mut self, id: BufferId)
-        requires { IsLive self.old id.place (λ x. IsIn x × (x.count < 2 ^ 62)) }
+        requires { IsLive self.old id.place MayBeKept }
         ensures { self.new ≡ with_place self.old id.place (with_count (at self.old id.place) (count_of (at self.old id.place) + 1)) }
     {
         self.places[id.place].count += 1;

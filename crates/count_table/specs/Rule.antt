@@ -5,7 +5,8 @@ use mathlib.Core.Option.{some, Option as Home}
 use Rattle.std.specs.declared.option.Option.{Option}
 use lib.ListN.{get_elem?}
 use Rattle.atomic_table.specs.Table.{State}
-use Rattle.wl_core.specs.declared.limits.TheConstants.{MOST_CHUNKS, MOST_HOLDS, MOST_REFERENCES, MOST_WORKERS}
+use Rattle.sac_base.specs.declared.limits.TheConstants.{MOST_REFERENCES}
+use Rattle.wl_core.specs.declared.limits.TheConstants.{MOST_CHUNKS, MOST_HOLDS, MOST_WORKERS}
 use Rattle.count_table.specs.declared.view.FrameView.{FrameView}
 use Rattle.count_table.specs.declared.view.WorkerView.{WorkerView}
 use Rattle.count_table.specs.declared.view.View.{View}

@@ -1,8 +1,9 @@
 // Whole phases.
-ghost use Rattle.std.specs.Prelude.{◌≡◌, ◌≢◌, ℕ, ◌+◌, ◌*◌, ◌^◌, ◌<◌, ◌≤◌, IsTrue, All, None, Ok, length, IfOk};
+ghost use Rattle.std.specs.Prelude.{◌≡◌, ◌≢◌, ℕ, ◌+◌, ◌*◌, ◌<◌, ◌≤◌, IsTrue, None, Ok, length, IfOk};
 ghost use Rattle.std.specs.Int.{div_ceil};
 ghost use Rattle.sac_base.specs.Verdict.{folds};
 ghost use Rattle.wl_core.specs.Machine.{IsFold};
+ghost use Rattle.count_table.specs.Seats.{AreReferences};
 ghost use Rattle.phase_team.specs.Segments.{cells_from, Costs, HasRoom, Ran};
 ghost use Rattle.phase_team.specs.Crews.{Suits};
 ghost use Rattle.phase_team.specs.Endings.{IsArray, IsCombined, IsTallied, IsClosed};
@@ -40,7 +41,7 @@ pub fn array_phase<H: Send, C: PhaseCells<H>, G: Gate, R: Threads + Sync>(
     requires workers { (1 ≤ workers) × (workers ≤ 64) }
     requires positions { (positions ≤ 16777216) × (positions ≡ C.positions cells.now) × (width ≡ C.width cells.now) }
     requires held { (p : ℕ) → p < positions → C.cell cells.now p ≢ Ok None }
-    requires counts { All (λ n. (1 ≤ n) × (n ≤ 2 ^ 62)) counts.old }
+    requires counts { AreReferences counts.old }
     requires shared { length counts.old ≡ C.shared cells.now }
     requires home { C.open_home cells.now home.old }
     requires room { length buffer.old ≡ positions * width }
@@ -88,7 +89,7 @@ pub fn fold_phase<H: Send, C: PhaseCells<H>, G: Gate, R: Threads + Sync>(
     requires workers { (1 ≤ workers) × (workers ≤ 64) }
     requires positions { (positions ≤ 16777216) × (positions ≡ C.positions cells.now) }
     requires op { IsTrue (folds base op) }
-    requires counts { All (λ n. (1 ≤ n) × (n ≤ 2 ^ 62)) counts.old }
+    requires counts { AreReferences counts.old }
     requires shared { length counts.old ≡ C.shared cells.now }
     requires home { C.open_home cells.now home.old }
     requires width { length value.old ≡ C.width cells.now }
@@ -125,7 +126,7 @@ fn run_fold<H: Send, C: PhaseCells<H>, G: Gate, R: Threads + Sync>(
     requires suits { Suits (C.cell cells.now) (C.positions cells.now) (C.width cells.now) (C.shared cells.now) (length counts.old)
         (record { job = Job.Fold base op; width = length value.old; size = cuts.size }) 0 cuts.positions }
     requires cuts { (cuts.count ≡ div_ceil cuts.positions cuts.size) × (cuts.count ≤ 64) }
-    requires counts { All (λ n. (1 ≤ n) × (n ≤ 2 ^ 62)) counts.old }
+    requires counts { AreReferences counts.old }
     requires home { C.open_home cells.now home.old }
     requires room { HasRoom (Job.Fold base op) (length value.old) cuts.size cuts.positions (length rows.old) }
     ensures combined { IsCombined op (cells_from (C.cell cells.now) 0 cuts.positions) value.old value.new result }
@@ -168,7 +169,7 @@ fn run_phase<H: Send, C: PhaseCells<H>, G: Gate, R: Threads + Sync>(
 ) -> Result<bool, Stop>
     requires suits { Suits (C.cell cells.now) (C.positions cells.now) (C.width cells.now) (C.shared cells.now) (length counts.old) share 0 cuts.positions }
     requires cuts { (cuts.size ≡ share.size) × (cuts.count ≡ div_ceil cuts.positions cuts.size) × (cuts.count ≤ 64) }
-    requires counts { All (λ n. (1 ≤ n) × (n ≤ 2 ^ 62)) counts.old }
+    requires counts { AreReferences counts.old }
     requires home { C.open_home cells.now home.old }
     requires room { HasRoom share.job share.width share.size cuts.positions (length rows.old) }
     ensures ran { Ran share.job share.width (cells_from (C.cell cells.now) 0 cuts.positions) rows.new result }

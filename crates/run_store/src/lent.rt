@@ -7,10 +7,10 @@ ghost use Rattle.run_store.specs.Lents.{held_once_more, held_once_less, holds_at
 
 use buffer_heap::{BufferId, Heap};
 use count_table::{Phase, WorkerSeat};
-use sac_base::{Cell, Memory};
+use sac_base::{Cell, MOST_REFERENCES, Memory};
 use std::alloc::Global;
 use std::marker::Model;
-use wl_core::{MOST_HOLDS, MOST_REFERENCES};
+use wl_core::MOST_HOLDS;
 
 /// The counts that a phase is opened with which lends the buffers of a heap: at each place that of its buffer, and 1 where
 /// there is none.

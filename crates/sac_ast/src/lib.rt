@@ -7,8 +7,8 @@ mod rules;
 
 pub use measure::height;
 pub use rules::{
-    agree, base_of_name, builtin_base, choice_base, first_base, literal_base, may_be, may_match,
-    operand_base, operands_fit, where_holds,
+    agree, builtin_base, choice_base, first_base, literal_base, may_be, may_match, operand_base,
+    operands_fit, where_holds,
 };
 use sac_base::{ArrayType, Base, Name, Op, Site};
 

@@ -3,8 +3,8 @@
 ghost use Rattle.std.specs.Prelude.{◌≡◌, [], ◌∷◌};
 ghost use Rattle.sac_ast.specs.Bases;
 
-use crate::{Builtin, Known};
-use sac_base::{Base, Name, Op, same_name};
+use crate::Builtin;
+use sac_base::{Base, Op};
 
 /// Whether a base, where it is there, is the one that is asked for.
 pub fn may_be(wanted: Base, base: Option<Base>) -> bool
@@ -125,16 +125,4 @@ fn second_base(bases: &[Option<Base>]) -> Option<Base>
         [] | [_] => None,
         [_, base, ..] => *base,
     }
-}
-
-/// The base of what a name is bound to first.
-pub fn base_of_name(known: &[Known], name: &Name) -> Option<Base>
-    ensures { result ≡ Bases.base_of_name known.now name.now }
-{
-    for k in known {
-        if same_name(&k.name, name) {
-            return k.base;
-        }
-    }
-    None
 }

@@ -6,7 +6,8 @@ use Rattle.sac_base.specs.declared.op.Op.{Op}
 use Rattle.sac_base.specs.Arrays.{IsCell, MOST}
 use Rattle.sac_base.specs.Outcomes.{Ends}
 use Rattle.sac_base.specs.Verdict.{each, present, joined, combined, elementwise, folds, fold_op}
-use Rattle.wl_core.specs.declared.limits.TheConstants.{MOST_HOLDS, MOST_REFERENCES, MOST_WORKERS}
+use Rattle.sac_base.specs.declared.limits.TheConstants.{MOST_REFERENCES}
+use Rattle.wl_core.specs.declared.limits.TheConstants.{MOST_HOLDS, MOST_WORKERS}
 use Rattle.wl_core.specs.declared.setup.Job.{Job}
 use Rattle.wl_core.specs.declared.setup.Job.TheVariants.{Write as Store, Fold}
 use Rattle.wl_core.specs.declared.events.Event.{Event}

@@ -21,7 +21,7 @@ pub use laws::{
     each_event_has_one_answer, events_keep_facts, every_order_gives_one_verdict,
     fold_operations_combine_in_any_order, partial_values_combine_to_all,
 };
-pub use limits::{MOST_CHUNKS, MOST_HOLDS, MOST_REFERENCES, MOST_WORKERS};
+pub use limits::{MOST_CHUNKS, MOST_HOLDS, MOST_WORKERS};
 pub use setup::{CellResult, Job, Setup};
 pub use state::{State, open_state};
 pub use validity::is_setup;

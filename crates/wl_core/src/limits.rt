@@ -6,8 +6,5 @@ pub const MOST_WORKERS: u32 = 64;
 /// The most chunks of a phase.
 pub const MOST_CHUNKS: u64 = 4096;
 
-/// The most references that a buffer may have when a phase opens.
-pub const MOST_REFERENCES: u64 = 1 << 62;
-
 /// The most holds that a worker may have.
 pub const MOST_HOLDS: u64 = 1 << 56;

@@ -5,10 +5,10 @@ ghost use Rattle.sac_base.specs.Verdict;
 ghost use Rattle.wl_core.specs.Machine.{CellFits, CountsFit, IsFold, IsSetup, OfBase, TakesBase};
 ghost use Rattle.wl_core.specs.Reading.{setup_of, cell_of};
 
-use crate::limits::{MOST_REFERENCES, MOST_WORKERS};
+use crate::limits::MOST_WORKERS;
 use crate::setup::value_width;
 use crate::{CellResult, Job, Setup};
-use sac_base::{Base, Cell, MOST_ELEMENTS, Op};
+use sac_base::{Base, Cell, MOST_ELEMENTS, MOST_REFERENCES, Op};
 
 /// Whether a phase may be opened with the setup: at least one cell makes a chunk, there are at most `MOST_ELEMENTS` positions and `MOST_WORKERS`
 /// workers, the counts are from 1 to `MOST_REFERENCES`, all values have one length, only a fold has a cell that is not held, and its operation
