@@ -4,14 +4,14 @@ use Rattle.sac_base.specs.declared.op.Op.{Op}
 use Rattle.sac_base.specs.declared.site.Site.{Site}
 use Rattle.sac_ast.specs.Texts.{Lexeme}
 use Rattle.sac_ast.specs.Shape.{seq, many}
-use Rattle.sac_ast.specs.Grammar.{Nonterminal, Rule, V, one_of, chosen, chain}
+use Rattle.sac_ast.specs.Grammar.{Rule, V, one_of, chosen, chain}
 use Rattle.sac_ast.specs.Heights.{height}
 use Rattle.sac_ast.specs.Tree as tree
 use Rattle.sac_ast.specs.Tree.{Expr}
 use Rattle.sac_grammar.specs.Run.{starts, first, is_nullable}
 use Rattle.sac_grammar.specs.Tables.{first_of}
-use Rattle.sac_grammar.specs.Parsing.{Reading, Stop, Halts, Parts}
-use Rattle.sac_grammar.proofs.Parsing.{read_then, stop_right, stop_parts, no_parts, one_more_part, read_parts}
+use Rattle.sac_grammar.specs.Parsing.{Reading, Parts}
+use Rattle.sac_grammar.proofs.Parsing.{read_then, no_parts, one_more_part, read_parts}
 use Rattle.sac_phrases.proofs.Steps.{TheOperator}
 
 nullable_ops : (o : List ℕ × Op) (ps : List (List ℕ × Op)) → is_nullable (one_of o ps) ≡ false
@@ -83,6 +83,3 @@ module _ (o : List ℕ × Op) (ps : List (List ℕ × Op)) (a : Rule) (see : V a
 
   pub chain_done : {ts rest : List Lexeme} {left : Expr} (c : Chain o ps a see ts left rest) → starts (first first_of (one_of o ps)) rest ≡ false → Reading (seq a (many (seq (one_of o ps) a))) ts (c.head, c.tail) rest
   chain_done {ts} {rest} {left} c s = read_then c.begins (read_parts c.goes_on (ap (λ fs. starts fs rest) (first_ops o ps a) ∙ s))
-
-  pub chain_stop : {P : Stop → Type 0} {checked : Bool} {D : Nonterminal → ℕ} {ts rest behind : List Lexeme} {left : Expr} {x : Op × Site} → Chain o ps a see ts left rest → TheOperator o ps rest x behind → Halts P checked D a behind → Halts P checked D (seq a (many (seq (one_of o ps) a))) ts
-  chain_stop {P} {checked} {D} {ts} {rest} {behind} {left} {x} c f h = stop_right c.begins (stop_parts c.goes_on (starts_part f) (stop_right f.reads h))

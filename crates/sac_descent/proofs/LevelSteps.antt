@@ -28,7 +28,7 @@ use Rattle.sac_phrases.specs.Contract.{lexemes_of, IsLowAt, IsKept, operator_of}
 use Rattle.sac_phrases.specs.Levels.{first_operator, more_operators, IsLevelAt, IsOperandAt}
 use Rattle.sac_phrases.proofs.Steps.{operator_found, operator_none, kept_phrase, high_halted, memory_halted}
 use Rattle.sac_descent.proofs.Grown.{tall_more}
-use Rattle.sac_descent.proofs.Chains.{Chain, chain_begin, chain_more, chain_done, chain_stop, chain_over, starts_part, pairs_same}
+use Rattle.sac_descent.proofs.Chains.{Chain, chain_begin, chain_more, chain_done, chain_over, starts_part, pairs_same}
 
 -- what the loop over a level knows of the trees
 abbrev pub LevelSoFar : Level → List Lexeme → Expr → List Lexeme → Type 0
@@ -82,14 +82,6 @@ level_more Equality place ts left rest op site behind x after c n f = chain_more
 level_more Comparison place ts left rest op site behind x after c n f = chain_more (first_operator Comparison) (more_operators Comparison) (ref sum) (λ (e : Expr). e) c (operator_found (first_operator Comparison) (more_operators Comparison) n.0 n.1.1) (read_ref f.0)
 level_more Sum place ts left rest op site behind x after c n f = chain_more (first_operator Sum) (more_operators Sum) (ref product) (λ (e : Expr). e) c (operator_found (first_operator Sum) (more_operators Sum) n.0 n.1.1) (read_ref f.0)
 level_more Product place ts left rest op site behind x after c n f = chain_more (first_operator Product) (more_operators Product) (ref prefix) (λ (e : Expr). e) c (operator_found (first_operator Product) (more_operators Product) n.0 n.1.1) (read_ref f.0)
-
-pub level_stop : (level : Level) (place : Place) (ts : List Lexeme) (left : Expr) (rest : List Lexeme) (op : Op) (site : Site) (behind : Bor (List Token)) (e : Halt) → LevelSoFar level ts left rest → IsNext level rest op site behind → IsOperandAt level place (lexemes_of behind.now) (Err e) → IsLevelAt level place ts (Err e)
-level_stop Disjunction place ts left rest op site behind e c n h = stops (chain_stop (first_operator Disjunction) (more_operators Disjunction) (ref conjunction) (λ (e : Expr). e) c (operator_found (first_operator Disjunction) (more_operators Disjunction) n.0 n.1.1) (stop_ref h))
-level_stop Conjunction place ts left rest op site behind e c n h = stops (chain_stop (first_operator Conjunction) (more_operators Conjunction) (ref equality) (λ (e : Expr). e) c (operator_found (first_operator Conjunction) (more_operators Conjunction) n.0 n.1.1) (stop_ref h))
-level_stop Equality place ts left rest op site behind e c n h = stops (chain_stop (first_operator Equality) (more_operators Equality) (ref comparison) (λ (e : Expr). e) c (operator_found (first_operator Equality) (more_operators Equality) n.0 n.1.1) (stop_ref h))
-level_stop Comparison place ts left rest op site behind e c n h = stops (chain_stop (first_operator Comparison) (more_operators Comparison) (ref sum) (λ (e : Expr). e) c (operator_found (first_operator Comparison) (more_operators Comparison) n.0 n.1.1) (stop_ref h))
-level_stop Sum place ts left rest op site behind e c n h = stops (chain_stop (first_operator Sum) (more_operators Sum) (ref product) (λ (e : Expr). e) c (operator_found (first_operator Sum) (more_operators Sum) n.0 n.1.1) (stop_ref h))
-level_stop Product place ts left rest op site behind e c n h = stops (chain_stop (first_operator Product) (more_operators Product) (ref prefix) (λ (e : Expr). e) c (operator_found (first_operator Product) (more_operators Product) n.0 n.1.1) (stop_ref h))
 
 pub level_end : (level : Level) (place : Place) (ts : List Lexeme) (node : Measured Expression) (rest : List Token) (result : Result (Measured Expression × Bor (List Token)) Halt) → LevelSoFar level ts (View.expr node.tree) (lexemes_of rest) → operator_of (first_operator level ∷ more_operators level) (lexemes_of rest) ≡ None → (place.checked ≡ true → node.height ≡ height (View.expr node.tree)) → IsKept place node rest result → IsLevelAt level place ts result
 level_end Disjunction place ts node rest result c n tall kept = kept_phrase place disjunction View.expr height ts node rest (View.expr node.tree) result refl kept (λ e h. h) tall refl (subst (λ (e : Expr). Found disjunction ts e (lexemes_of rest)) (sym (c.same ∙ ap (chain (first_operator Disjunction) (more_operators Disjunction) c.head) (pairs_same c.tail))) (found (chain_done (first_operator Disjunction) (more_operators Disjunction) (ref conjunction) (λ (e : Expr). e) c (operator_none (first_operator Disjunction) (more_operators Disjunction) (lexemes_of rest) n))))

@@ -92,11 +92,11 @@ list_halts {P} {checked} {D} place ts es n mid behind t l comma h = list_stop l.
 abbrev pub Bracketed : Rule
 Bracketed = seq (sign (codes "[")) (seq (listed (ref expression)) (sign (codes "]")))
 
-selects_append : (e : Expr) (xs ys : List (V Bracketed)) → selects e (xs ++ ys) ≡ selects (selects e xs) ys
+pub selects_append : (e : Expr) (xs ys : List (V Bracketed)) → selects e (xs ++ ys) ≡ selects (selects e xs) ys
 selects_append e [] ys = refl
 selects_append e ((t, (v, u)) ∷ xs) ys = selects_append (tree.select e (index_of t.site (items v)) t.site) xs ys
 
-selects_first : (e : Expr) (xs : List (V Bracketed)) → height e ≤ height (selects e xs)
+pub selects_first : (e : Expr) (xs : List (V Bracketed)) → height e ≤ height (selects e xs)
 selects_first e [] = omega arith
 selects_first e ((t, (v, u)) ∷ xs) = let h = selects_first (tree.select e (index_of t.site (items v)) t.site) xs in omega arith
 

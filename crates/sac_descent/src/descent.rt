@@ -7,7 +7,7 @@ ghost use Rattle.sac_ast.specs.Heights.{height, gen_height, bound_height, operat
 ghost use Rattle.sac_ast.specs.View as view;
 ghost use Rattle.sac_ast.specs.Texts.{is_name};
 ghost use Rattle.sac_grammar.specs.Parsing.{nth};
-ghost use Rattle.sac_phrases.specs.Contract.{lexemes_of, lexeme, IsPhraseAt, IsPhraseNear, IsPartAt};
+ghost use Rattle.sac_phrases.specs.Contract.{lexemes_of, lexeme, IsPhraseAt, IsPhraseNear, IsPartAt, IsNodeAt};
 ghost use Rattle.sac_phrases.specs.Parts.{IsListOf, IsArguments, IsInParens, IsPair, IsPrimary, IsPrimaryOf, IsGenerators, IsMaybe, IsBlockAt};
 ghost use Rattle.sac_phrases.specs.Parts.{itself, AssignRest, IsOperation, IsBlockOf, IsStatements, IsStatement, IsStatementOf, IsElse, IsAssigned};
 ghost use Rattle.sac_phrases.specs.Parts.{IsAssignedOf, Comma};
@@ -183,9 +183,10 @@ fn with_loop<'a>(place: Place, tokens: &'a [Token<'a>]) -> Read<'a, Expression>
 /// A primary expression, which may be too high for its place by its last node.
 #[cycle(phrase)]
 fn alternative<'a>(place: Place, tokens: &'a [Token<'a>]) -> Read<'a, Expression>
-    ensures phrase { IsPartAt place (rule primary) (IsPrimaryOf place) (lexemes_of tokens.now) result }
+    ensures phrase { IsNodeAt place primary (IsPrimaryOf place) (lexemes_of tokens.now) result }
     ensures shorter { IfOk result (λ x. length x.1.now < length tokens.now) }
 {
+    let inner = place.inside();
     if cursor::starts_number(tokens) {
         leaf::number(place, tokens)
     } else if cursor::starts_with(tokens, b"true") {
@@ -193,19 +194,19 @@ fn alternative<'a>(place: Place, tokens: &'a [Token<'a>]) -> Read<'a, Expression
     } else if cursor::starts_with(tokens, b"false") {
         leaf::truth_false(place, tokens)
     } else if cursor::starts_name(tokens) {
-        name_or_call(place, tokens)
+        name_or_call(inner, tokens)
     } else if cursor::starts_with_any(tokens, &leaf::BUILTINS) {
-        builtin(place, tokens)
+        builtin(inner, tokens)
     } else if cursor::starts_with(tokens, b"reshape") {
-        reshape(place, tokens)
+        reshape(inner, tokens)
     } else if cursor::starts_with_any(tokens, &leaf::EXTREMES) {
-        extreme(place, tokens)
+        extreme(inner, tokens)
     } else if cursor::starts_with(tokens, b"(") {
         parens(place, tokens)
     } else if cursor::starts_with(tokens, b"[") {
-        array(place, tokens)
+        array(inner, tokens)
     } else {
-        with_loop(place, tokens)
+        with_loop(inner, tokens)
     }
 }
 
@@ -214,6 +215,9 @@ fn primary<'a>(place: Place, tokens: &'a [Token<'a>]) -> Read<'a, Expression>
     ensures phrase { IsPhraseAt place primary view.expr height (lexemes_of tokens.now) result }
     ensures shorter { IfOk result (λ x. length x.1.now < length tokens.now) }
 {
+    if place.has_no_room(leaf::least_parts(tokens)) {
+        return Err(Halt::High(tokens));
+    }
     let (node, rest) = alternative(place, tokens)?;
     place::kept(place, node, rest)
 }
@@ -229,7 +233,7 @@ fn postfix<'a>(place: Place, tokens: &'a [Token<'a>]) -> Read<'a, Expression>
         if place.has_no_room(array.height) {
             return Err(Halt::High(rest));
         }
-        let (index, after) = list(place, behind)?;
+        let (index, after) = list(place.inside(), behind)?;
         let (_close, after) = cursor::expect(after, b"]")?;
         array = node::select(place, array, node::index_of(index, open.site), open.site)?;
         rest = after;
@@ -279,7 +283,7 @@ fn chain<'a>(place: Place, level: Level, tokens: &'a [Token<'a>]) -> Read<'a, Ex
         if place.has_no_room(left.height) {
             return Err(Halt::High(rest));
         }
-        let (right, after) = operand(place, level, behind)?;
+        let (right, after) = operand(place.inside(), level, behind)?;
         left = node::binary(place, op, left, right, site)?;
         rest = after;
     }
@@ -293,10 +297,13 @@ fn expression<'a>(place: Place, tokens: &'a [Token<'a>]) -> Read<'a, Expression>
     ensures shorter { IfOk result (λ x. length x.1.now < length tokens.now) }
 {
     let (cond, rest) = chain(place, Level::Disjunction, tokens)?;
-    let Some((sign, rest)) = cursor::accept(rest, b"?") else {
+    let Some((sign, behind)) = cursor::accept(rest, b"?") else {
         return Ok((cond, rest));
     };
-    let (yes, rest) = expression(place.inside(), rest)?;
+    if place.has_no_room(cond.height) {
+        return Err(Halt::High(rest));
+    }
+    let (yes, rest) = expression(place.inside(), behind)?;
     let (_colon, rest) = cursor::expect(rest, b":")?;
     let (no, rest) = expression(place.inside(), rest)?;
     place::kept(place, node::choice(place, cond, yes, no, sign.site)?, rest)

@@ -16,7 +16,7 @@ use Rattle.sac_ast.specs.Heights.{height, heights, maybe_height, block_height, g
 use Rattle.sac_grammar.specs.Limits.{Over, High, Within}
 
 -- no operator is high
-no_op : {P : Type 0} (H : (k : Nonterminal) → Tree k → Type 0) (o : List ℕ × Op) (ps : List (List ℕ × Op)) (v : V (one_of o ps)) → HasHigh Tree first_of H (one_of o ps) v → P
+pub no_op : {P : Type 0} (H : (k : Nonterminal) → Tree k → Type 0) (o : List ℕ × Op) (ps : List (List ℕ × Op)) (v : V (one_of o ps)) → HasHigh Tree first_of H (one_of o ps) v → P
 no_op H o [] v h = absurd h
 no_op H o (p ∷ ps) (inl v) h = absurd h
 no_op H o (p ∷ ps) (inr v) h = no_op H p ps v h
@@ -27,7 +27,7 @@ module _ (d : ℕ) where
   HH = HasHigh Tree first_of (High d)
 
   -- a chain is no lower than its first operand, and each operand is in it
-  chain_first : (o : List ℕ × Op) (ps : List (List ℕ × Op)) (e : Expr) (rest : List (V (one_of o ps) × Expr)) → height e ≤ height (chain o ps e rest)
+  pub chain_first : (o : List ℕ × Op) (ps : List (List ℕ × Op)) (e : Expr) (rest : List (V (one_of o ps) × Expr)) → height e ≤ height (chain o ps e rest)
   chain_first o ps e [] = omega arith
   chain_first o ps e ((v, x) ∷ rest) = let h = chain_first o ps (tree.binary (chosen o ps v).0 e x (chosen o ps v).1) rest in omega arith
 
@@ -51,16 +51,16 @@ module _ (d : ℕ) where
   more_high ((t, x) ∷ rest) (inl (inr h)) = omega arith
   more_high ((t, x) ∷ rest) (inr h) = let g = more_high rest h in omega arith
 
-  list_high : (v : Expr × List (Lexeme × Expr)) → Over d (height v.0) ⊎ AnyOf (λ w. ⊥ ⊎ Over d (height w.1)) v.1 → Over d (heights (exprs_of (items v)))
+  pub list_high : (v : Expr × List (Lexeme × Expr)) → Over d (height v.0) ⊎ AnyOf (λ w. ⊥ ⊎ Over d (height w.1)) v.1 → Over d (heights (exprs_of (items v)))
   list_high (x, rest) (inl h) = omega arith
   list_high (x, rest) (inr h) = let g = more_high rest h in omega arith
 
-  index_high : (s : Site) (es : List Expr) → Over d (heights (exprs_of es)) → Over d (height (index_of s es))
+  pub index_high : (s : Site) (es : List Expr) → Over d (heights (exprs_of es)) → Over d (height (index_of s es))
   index_high s [] h = omega arith
   index_high s (e ∷ []) h = omega arith
   index_high s (e ∷ f ∷ es) h = omega arith
 
-  selects_first : (e : Expr) (rest : List (Lexeme × ((Expr × List (Lexeme × Expr)) × Lexeme))) → height e ≤ height (selects e rest)
+  pub selects_first : (e : Expr) (rest : List (Lexeme × ((Expr × List (Lexeme × Expr)) × Lexeme))) → height e ≤ height (selects e rest)
   selects_first e [] = omega arith
   selects_first e ((t, (v, u)) ∷ rest) = let h = selects_first (tree.select e (index_of t.site (items v)) t.site) rest in omega arith
 
@@ -256,21 +256,21 @@ module _ (d : ℕ) where
 
   -- ---- primaries and generators
 
-  in_parens : {P : Type 0} → ⊥ ⊎ (P ⊎ ⊥) → P
+  pub in_parens : {P : Type 0} → ⊥ ⊎ (P ⊎ ⊥) → P
   in_parens (inl h) = absurd h
   in_parens (inr (inl h)) = h
   in_parens (inr (inr h)) = absurd h
 
-  in_both : (a b : ℕ) → Over d a ⊎ (⊥ ⊎ Over d b) → Over d (max a b)
+  pub in_both : (a b : ℕ) → Over d a ⊎ (⊥ ⊎ Over d b) → Over d (max a b)
   in_both a b (inl h) = omega arith
   in_both a b (inr (inl h)) = absurd h
   in_both a b (inr (inr h)) = omega arith
 
-  maybe_list_high : (es : V (opt (listed (ref expression)))) → HH (opt (listed (ref expression))) es → Over d (heights (exprs_of (maybe_items es)))
+  pub maybe_list_high : (es : V (opt (listed (ref expression)))) → HH (opt (listed (ref expression))) es → Over d (heights (exprs_of (maybe_items es)))
   maybe_list_high (inl v) h = list_high v h
   maybe_list_high (inr u) h = absurd h
 
-  gens_high : (gs : List Gen) → AnyOf (λ g. Over d (gen_height g)) gs → Over d (gens_height (gens_of gs))
+  pub gens_high : (gs : List Gen) → AnyOf (λ g. Over d (gen_height g)) gs → Over d (gens_height (gens_of gs))
   gens_high [] h = absurd h
   gens_high (g ∷ gs) (inl h) = omega arith
   gens_high (g ∷ gs) (inr h) = let k = gens_high gs h in omega arith

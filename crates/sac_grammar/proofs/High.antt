@@ -9,7 +9,7 @@ use Rattle.sac_grammar.proofs.Levels.{derives_rule}
 use Rattle.sac_grammar.proofs.Exact.{same_read, stable_read, sound_read, sample, same_front}
 
 module _ {N : Type 0} (Tree : N → Type 0) (first_of : N → List Terminal) where
-  stable_top : (P Q : (k : N) → List Lexeme → Tree k → List Lexeme → Type 0) (S T : (k : N) → List Lexeme → List Lexeme → Type 0) → ((k : N) (ts : List Lexeme) (v : Tree k) (r : List Lexeme) → P k ts v r → Stable (λ xs ys. Q k xs v ys) ts r) → ((k : N) (ts r : List Lexeme) → S k ts r → Stable (T k) ts r) → (s : Shape N) (ts r : List Lexeme) → Tops Tree first_of P S s ts r → Stable (Tops Tree first_of Q T s) ts r
+  pub stable_top : (P Q : (k : N) → List Lexeme → Tree k → List Lexeme → Type 0) (S T : (k : N) → List Lexeme → List Lexeme → Type 0) → ((k : N) (ts : List Lexeme) (v : Tree k) (r : List Lexeme) → P k ts v r → Stable (λ xs ys. Q k xs v ys) ts r) → ((k : N) (ts r : List Lexeme) → S k ts r → Stable (T k) ts r) → (s : Shape N) (ts r : List Lexeme) → Tops Tree first_of P S s ts r → Stable (Tops Tree first_of Q T s) ts r
   stable_top P Q S T D E nothing ts r p = absurd p
   stable_top P Q S T D E (term t) ts r p = absurd p
   stable_top P Q S T D E (ref k) ts r p = E k ts r p
@@ -25,7 +25,7 @@ module _ {N : Type 0} (Tree : N → Type 0) (first_of : N → List Terminal) whe
       (stuck_each (first first_of a) (Runs Tree first_of P a) (Runs Tree first_of Q a) (Tops Tree first_of P S a) (Tops Tree first_of Q T a) (stable_run Tree first_of P Q D a) (stable_top P Q S T D E a) ts p.0 r p.1)
 
 module _ {N : Type 0} (Tree : N → Type 0) (first_of : N → List Terminal) where
-  begun_top : (P : (k : N) → List Lexeme → Tree k → List Lexeme → Type 0) (S : (k : N) → List Lexeme → List Lexeme → Type 0) (R : (k : N) → List Lexeme → Tree k → Type 0) → ((k : N) (ts : List Lexeme) (v : Tree k) (r : List Lexeme) → P k ts v r → Sound (R k) ts v r) → ((k : N) (ts r : List Lexeme) → S k ts r → Begun (R k) ts r) → ((k : N) → (w : List Lexeme) × (v : Tree k) × R k w v) → (s : Shape N) (ts r : List Lexeme) → Tops Tree first_of P S s ts r → Begun (Matches Tree R s) ts r
+  pub begun_top : (P : (k : N) → List Lexeme → Tree k → List Lexeme → Type 0) (S : (k : N) → List Lexeme → List Lexeme → Type 0) (R : (k : N) → List Lexeme → Tree k → Type 0) → ((k : N) (ts : List Lexeme) (v : Tree k) (r : List Lexeme) → P k ts v r → Sound (R k) ts v r) → ((k : N) (ts r : List Lexeme) → S k ts r → Begun (R k) ts r) → ((k : N) → (w : List Lexeme) × (v : Tree k) × R k w v) → (s : Shape N) (ts r : List Lexeme) → Tops Tree first_of P S s ts r → Begun (Matches Tree R s) ts r
   begun_top P S R D E H nothing ts r p = absurd p
   begun_top P S R D E H (term t) ts r p = absurd p
   begun_top P S R D E H (ref k) ts r p = E k ts r p
@@ -52,7 +52,7 @@ high_each fs P Q S H D O ts (v ∷ vs) (w ∷ ws) r q p o =
     inr (high_each fs P Q S H D O o.1.0 vs ws r q (subst (λ l. RunsEach fs P l vs r) one.rest p.1.2) o.1.2)
 
 module _ {N : Type 0} (Tree : N → Type 0) (first_of : N → List Terminal) where
-  high_run : (P Q : (k : N) → List Lexeme → Tree k → List Lexeme → Type 0) (S : (k : N) → List Lexeme → List Lexeme → Type 0) (H : (k : N) → Tree k → Type 0) → ((k : N) (ts : List Lexeme) (v w : Tree k) (r q : List Lexeme) → P k ts v r → Q k ts w q → SameEnd v w r q) → ((k : N) (ts : List Lexeme) (v : Tree k) (r q : List Lexeme) → P k ts v r → S k ts q → H k v) → (s : Shape N) (ts : List Lexeme) (v : Value Tree s) (r q : List Lexeme) → Runs Tree first_of P s ts v r → Tops Tree first_of Q S s ts q → HasHigh Tree first_of H s v
+  pub high_run : (P Q : (k : N) → List Lexeme → Tree k → List Lexeme → Type 0) (S : (k : N) → List Lexeme → List Lexeme → Type 0) (H : (k : N) → Tree k → Type 0) → ((k : N) (ts : List Lexeme) (v w : Tree k) (r q : List Lexeme) → P k ts v r → Q k ts w q → SameEnd v w r q) → ((k : N) (ts : List Lexeme) (v : Tree k) (r q : List Lexeme) → P k ts v r → S k ts q → H k v) → (s : Shape N) (ts : List Lexeme) (v : Value Tree s) (r q : List Lexeme) → Runs Tree first_of P s ts v r → Tops Tree first_of Q S s ts q → HasHigh Tree first_of H s v
   high_run P Q S H D O nothing ts v r q p o = o
   high_run P Q S H D O (term t) ts v r q p o = o
   high_run P Q S H D O (ref k) ts v r q p o = O k ts v r q p o
@@ -90,7 +90,7 @@ module _ {N : Type 0} (Tree : N → Type 0) (first_of : N → List Terminal) (P 
   run_length : (s : Shape N) (ts : List Lexeme) (v : Value Tree s) (r : List Lexeme) → Runs Tree first_of P s ts v r → length r ≤ length ts
   run_length s ts v r p = sound_length (Matches Tree R s) ts v r (sound_run Tree first_of P R L s ts v r p)
 
-  past_run : (s : Shape N) (ts : List Lexeme) (v : Value Tree s) (r q : List Lexeme) → Runs Tree first_of P s ts v r → Tops Tree first_of Q S s ts q → length r ≤ length q
+  pub past_run : (s : Shape N) (ts : List Lexeme) (v : Value Tree s) (r q : List Lexeme) → Runs Tree first_of P s ts v r → Tops Tree first_of Q S s ts q → length r ≤ length q
   past_run nothing ts v r q p o = absurd o
   past_run (term t) ts v r q p o = absurd o
   past_run (ref k) ts v r q p o = O k ts v r q p o
@@ -144,7 +144,7 @@ same_first_self [] = tt
 same_first_self (x ∷ q) = refl
 
 module _ {N : Type 0} (Tree : N → Type 0) (first_of ext_of : N → List Terminal) (rank : N → ℕ) (rule : N → Shape N) (action : (k : N) → Value Tree (rule k) → Tree k) (table : IsPredictive first_of ext_of rank rule) where
-  stable_tall : (gap : ℕ) (k : N) (G : Tree k → Type 0) (ts r : List Lexeme) → Tall Tree first_of rule action gap k G ts r → Stable (Tall Tree first_of rule action gap k G) ts r
+  pub stable_tall : (gap : ℕ) (k : N) (G : Tree k → Type 0) (ts r : List Lexeme) → Tall Tree first_of rule action gap k G ts r → Stable (Tall Tree first_of rule action gap k G) ts r
   stable_tall gap k G ts r t = (t.front, t.split, λ q e. record { front = t.front; split = refl; begun = t.begun; high = λ n s v z f d. t.high n s v z (first_of_same r q s e f) d })
 
   -- a part that is too high makes the whole too high

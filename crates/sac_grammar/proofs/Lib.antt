@@ -5,6 +5,8 @@ pub mod Table
 pub mod High
 pub mod Grows
 pub mod Parsing
+pub mod TallParts
+pub mod Deeper
 pub mod Stops
 pub mod Verdicts
 pub mod Ends

@@ -335,13 +335,13 @@ module _ {N : Type 0} (Tree : N → Type 0) (first_of : N → List Terminal) whe
 
 -- ---- what follows the first token of the rest does not matter
 
-starts_same : (fs : List Terminal) (r q : List Lexeme) → SameFirst r q → starts fs r ≡ starts fs q
+pub starts_same : (fs : List Terminal) (r q : List Lexeme) → SameFirst r q → starts fs r ≡ starts fs q
 starts_same fs [] [] e = refl
 starts_same fs [] (y ∷ q) e = absurd e
 starts_same fs (x ∷ r) [] e = absurd e
 starts_same fs (x ∷ r) (y ∷ q) e = ap (λ z. list_any (λ f. matches f z) fs) e
 
-same_behind : (u r q : List Lexeme) → SameFirst r q → SameFirst (u ++ r) (u ++ q)
+pub same_behind : (u r q : List Lexeme) → SameFirst r q → SameFirst (u ++ r) (u ++ q)
 same_behind [] r q e = e
 same_behind (x ∷ u) r q e = refl
 

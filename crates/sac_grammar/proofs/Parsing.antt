@@ -140,7 +140,7 @@ each_end a ts (v ∷ vs) rest (t, (m, f, e)) s = (t, (m, f, each_end a m vs rest
 pub read_parts : {a : Rule} {ts rest : List Lexeme} {vs : List (V a)} → Parts a ts vs rest → starts (first first_of a) rest ≡ false → Reading (many a) ts vs rest
 read_parts {a} {ts} {rest} {vs} p s = record { run = each_end a ts vs rest p.each s }
 
-each_stop : (a : Rule) (Q : List Lexeme → List Lexeme → Type 0) (ts : List Lexeme) (vs : List (V a)) (rest r : List Lexeme) → ReadEach a ts vs rest → starts (first first_of a) rest ≡ true → Q rest r → SticksAfter (first first_of a) (Runs Tree first_of Found a) Q ts vs r
+pub each_stop : (a : Rule) (Q : List Lexeme → List Lexeme → Type 0) (ts : List Lexeme) (vs : List (V a)) (rest r : List Lexeme) → ReadEach a ts vs rest → starts (first first_of a) rest ≡ true → Q rest r → SticksAfter (first first_of a) (Runs Tree first_of Found a) Q ts vs r
 each_stop a Q ts [] rest r e s q = (subst (λ l. starts (first first_of a) l ≡ true) e s, subst (λ l. Q l r) e q)
 each_stop a Q ts (v ∷ vs) rest r (t, (m, f, e)) s q = (t, (m, f, each_stop a Q m vs rest r e s q))
 

@@ -1,10 +1,13 @@
 -- When a phrase is too high, at a place with so many nodes around it.
-use Rattle.std.specs.Prelude.{ℕ, ◌+◌, ◌<◌, if◌then◌else◌}
+use Rattle.std.specs.Prelude.{ℕ, ◌+◌, ◌<◌, List, [], ◌∷◌, if◌then◌else◌, codes}
+use Rattle.sac_ast.specs.Texts.{Lexeme}
+use Rattle.sac_ast.specs.Shape.{Terminal, text}
 use Rattle.sac_ast.specs.Grammar.{Nonterminal, Tree, rule, program, function, param, type', statement, if_statement, else_branch, block, assign}
 use Rattle.sac_ast.specs.Grammar.{expression, disjunction, conjunction, equality, comparison, sum, product, prefix, postfix, primary, generator}
 use Rattle.sac_ast.specs.Grammar.{bound, index, operation}
 use Rattle.sac_ast.specs.View.{block_of}
 use Rattle.sac_ast.specs.Heights.{height, stmt_height, block_height, gen_height, bound_height, operation_height, function_height}
+use Rattle.sac_grammar.specs.Run.{starts}
 use Rattle.sac_grammar.specs.High.{AnyOf, ends_so}
 
 -- with the nodes around it, above what a function may have in it
@@ -54,3 +57,14 @@ Within d k j = High (depth_in d k j) j
 -- a program and a function end behind every part of them
 abbrev pub gap_of : Nonterminal → ℕ
 gap_of k = if ends_so (rule k) then 1 else 0
+
+-- the words of primary expressions that have an expression or an operation in them
+abbrev pub with_words : List Terminal
+with_words = text (codes "with") ∷ []
+
+abbrev pub pair_words : List Terminal
+pair_words = text (codes "dim") ∷ text (codes "shape") ∷ text (codes "reshape") ∷ text (codes "min") ∷ text (codes "max") ∷ []
+
+-- how high the parts of a primary expression are at least, by its first token
+abbrev pub least_parts : List Lexeme → ℕ
+least_parts ts = if starts with_words ts then 2 else (if starts pair_words ts then 1 else 0)

@@ -1,10 +1,10 @@
 -- What a parser of the language has done: it read a phrase, or it stopped, stuck at a token or where the tree would become too high.
-use Rattle.std.specs.Prelude.{ℕ, zero, suc, ◌≡◌, ◌&&◌, Bool, true, List, [], ◌∷◌}
+use Rattle.std.specs.Prelude.{ℕ, zero, suc, ◌≡◌, ◌≤◌, ◌&&◌, Bool, true, List, [], ◌∷◌, ◌++◌, length}
 use mathlib.Core.Logic.{inl, inr}
 use Rattle.sac_ast.specs.Texts.{Lexeme}
-use Rattle.sac_ast.specs.Shape.{nothing, term, ref, seq, alt, many}
+use Rattle.sac_ast.specs.Shape.{nothing, term, ref, seq, alt, many, Matches, Derives}
 use Rattle.sac_ast.specs.Grammar.{Nonterminal, Tree, rule, action, Rule, V}
-use Rattle.sac_grammar.specs.Run.{starts, first, are_apart, Runs, Sticks, Reads, Fails}
+use Rattle.sac_grammar.specs.Run.{starts, first, are_apart, SameFirst, Runs, RunsIn, Sticks, Reads, Fails}
 use Rattle.sac_grammar.specs.High.{Tops, Tall}
 use Rattle.sac_grammar.specs.Tables.{first_of}
 use Rattle.sac_grammar.specs.Limits.{High, gap_of}
@@ -46,6 +46,26 @@ pub record Halted (P : Stop → Type 0) (checked : Bool) (d : ℕ) (k : Nontermi
 -- the same of a right side, with so many nodes around each phrase in it
 pub record Halts (P : Stop → Type 0) (checked : Bool) (D : Nonterminal → ℕ) (s : Rule) (ts : List Lexeme) : Type 0 where
   pub at : (x : Stop) → P x → StopsIn D s ts x
+  pub only : (r : List Lexeme) → P (high r) → checked ≡ true
+
+-- ---- values that are too high
+
+-- the tokens before the rest begin a part of a phrase, and each value of it that begins with them and the next token has G and does not end before the rest
+pub record TallPart (s : Rule) (G : V s → Type 0) (ts rest : List Lexeme) : Type 0 where
+  pub front : List Lexeme
+  pub split : ts ≡ front ++ rest
+  pub begun : (w : List Lexeme) × (v : V s) × Matches Tree (Derives Tree rule action) s (front ++ w) v
+  pub high :
+      (n : ℕ) (q : List Lexeme) (v : V s) (z : List Lexeme) → SameFirst rest q
+      → Runs Tree first_of (RunsIn Tree first_of rule action n) s (front ++ q) v z → G v × (length z ≤ length q)
+
+abbrev pub StopsSo : (s : Rule) → (V s → Type 0) → List Lexeme → Stop → Type 0
+StopsSo s G ts (stuck r) = Sticks Tree first_of Found Lost s ts r
+StopsSo s G ts (high r) = TallPart s G ts r
+
+-- each stop that P tells is one in a part whose value has G where it is one for the height, and those come only where heights are checked
+pub record HaltsSo (P : Stop → Type 0) (checked : Bool) (s : Rule) (G : V s → Type 0) (ts : List Lexeme) : Type 0 where
+  pub at : (x : Stop) → P x → StopsSo s G ts x
   pub only : (r : List Lexeme) → P (high r) → checked ≡ true
 
 -- ---- one of several alternatives

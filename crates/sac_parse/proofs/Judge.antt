@@ -1,5 +1,5 @@
 -- From where the parser stopped over the tokens of a source to its answer.
-use Rattle.std.proofs.Common.{ℕ, zero, suc, ◌≡◌, ◌<◌, ◌+◌, ◌-◌, Bool, true, List, [], ◌∷◌, ◌++◌, ◌⊎◌, inl, inr, refl, sym, ap, ◌∙◌, subst, append_assoc, append-nil, arith, length, length-append, take, min, Bor, ⊎_elim}
+use Rattle.std.proofs.Common.{ℕ, zero, suc, ◌≡◌, ◌<◌, ◌+◌, ◌-◌, Bool, true, List, [], ◌∷◌, ◌++◌, ◌⊎◌, inl, inr, refl, sym, ap, ◌∙◌, subst, append_assoc, append-nil, arith, length, length-append, take, drop, min, Bor, ⊎_elim}
 use Rattle.sac_lex.specs.declared.token.Token.{Token}
 use Rattle.sac_ast.specs.Texts.{Lexeme, is_end}
 use Rattle.sac_ast.specs.Shape.{DerivesIn}
@@ -12,20 +12,21 @@ use Rattle.sac_grammar.specs.Tables.{first_of, ext_of, rank_of}
 use Rattle.sac_grammar.specs.Parsing.{Found, Lost, TooTall}
 use Rattle.sac_grammar.specs.Verdicts.{IsRead, NoHighBefore}
 use Rattle.sac_grammar.proofs.Table.{table}
-use Rattle.sac_grammar.proofs.Exact.{read_whole, stuck_at, same_front}
+use Rattle.sac_grammar.proofs.Exact.{read_whole, sound_read, stuck_at, same_front}
 use Rattle.sac_grammar.proofs.Verdicts.{stuck_refusal, tall_refusal, behind_refusal, none_high_read}
 use Rattle.sac_grammar.proofs.Ends.{ended}
 use Rattle.sac_refusals.specs.Words.{brackets_at}
 use Rattle.sac_refusals.proofs.Crowded.{crowded_refusal}
 use Rattle.sac_parse.specs.declared.error.ParseError.{ParseError}
-use Rattle.sac_parse.specs.Verdict.{IsRefusalOf, IsRefusalAt, IsReadOf, IsTooHigh}
+use Rattle.sac_parse.specs.declared.error.ParseError.TheVariants.{Refused, Memory}
+use Rattle.sac_parse.specs.Verdict.{IsNamedIn, IsRefusalOf, IsRefusalAt, IsReadOf, IsTooHigh}
 use Rattle.sac_parse.specs.Brackets.{IsWithinBrackets}
 use Rattle.sac_grammar.specs.Parsing.{stuck, high, Halted}
 use Rattle.sac_phrases.specs.declared.halt.Halt.{Halt}
 use Rattle.sac_phrases.specs.declared.halt.Halt.TheVariants.{Stuck, High as TooHigh}
 use Rattle.sac_phrases.specs.Contract.{lexemes_of, StopOf}
 use Rattle.sac_parse.specs.Programs.{IsNotLate}
-use Rattle.sac_parse.proofs.ReadTokens.{last_same, whole_read}
+use Rattle.sac_parse.proofs.ReadTokens.{last_same, take_drop, whole_read}
 
 read_tree : (ts : List Lexeme) (p : ProgramTree) → Found program ts p [] → IsProgram ts p
 read_tree ts p f = read_whole Tree first_of ext_of rank_of rule action table program ts p f
@@ -157,3 +158,19 @@ none_stuck ts rest e is n = n refl (lexemes_of rest.now) (inl (subst (λ g. Stop
 
 pub none_too_high : (ts : List Lexeme) (rest : Bor (List Token)) (e : Halt) → e ≡ TooHigh rest → IsNotLate e true ts → NoHighBefore ts (lexemes_of rest.now)
 none_too_high ts rest e is n = n refl (lexemes_of rest.now) (inr (subst (λ g. StopOf g (high (lexemes_of rest.now))) (sym is) refl))
+
+-- ---- the token that a refusal names is one of those that are read
+
+pub named_at : (read rest u : List Lexeme) → read ≡ u ++ rest → (e : ParseError) → IsRefusalAt read rest e → IsNamedIn read e
+named_at read [] u s e (v, x, split, is) = subst (IsNamedIn read) (sym is) (v, x, [], split, refl)
+named_at read (x ∷ r) u s e is = subst (IsNamedIn read) (sym is) (u, x, r, s, refl)
+
+pub named_lost : (read rest : List Lexeme) → Lost program read rest → (e : ParseError) → IsRefusalAt read rest e → IsNamedIn read e
+named_lost read rest l e is = let s = stuck_at Tree first_of ext_of rank_of rule action table program read rest l in named_at read rest s.0 s.1 e is
+
+pub named_found : (read rest : List Lexeme) (p : ProgramTree) → Found program read p rest → (e : ParseError) → IsRefusalAt read rest e → IsNamedIn read e
+named_found read rest p f e is = let s = sound_read Tree first_of ext_of rank_of rule action table f.levels program read p rest f.run in named_at read rest s.0 s.1 e is
+
+pub named_front : (read again : List Lexeme) (n : ℕ) → again ≡ take n read → (e : ParseError) → IsNamedIn again e → IsNamedIn read e
+named_front read again n is (Refused code site) (u, x, r, split, at) = (u, x, r ++ drop n read, take_drop n read ∙ ap (λ l. l ++ drop n read) (sym is ∙ split) ∙ append_assoc u (x ∷ r) (drop n read), at)
+named_front read again n is Memory m = m

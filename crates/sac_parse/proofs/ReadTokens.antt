@@ -1,5 +1,5 @@
 -- The tokens that are read, as the first ones of a source.
-use Rattle.std.proofs.Common.{ℕ, zero, suc, ◌≡◌, ◌<◌, ◌≤◌, ◌+◌, ◌-◌, Bool, true, false, not, ◌&&◌, cond, List, [], ◌∷◌, ◌++◌, inl, inr, refl, sym, ap, ◌∙◌, subst, append_assoc, append-nil, arith, length, length-append, map, take, drop, min, ⊎_elim}
+use Rattle.std.proofs.Common.{ℕ, zero, suc, ◌≡◌, ◌<◌, ◌≤◌, ◌+◌, ◌-◌, Bool, true, false, not, ◌&&◌, cond, List, [], ◌∷◌, ◌++◌, inl, inr, Err, refl, sym, ap, ◌∙◌, subst, append_assoc, append-nil, arith, length, length-append, map, take, drop, min, ⊎_elim}
 use Rattle.std.proofs.str.Laws.{order}
 use Rattle.sac_lex.specs.Cut as cut
 use Rattle.sac_lex.specs.Cut.{lexeme as cut_lexeme, IsEnded}
@@ -17,8 +17,10 @@ use Rattle.sac_refusals.specs.Words.{brackets_at, bracket_words, is_bracket_word
 use Rattle.sac_phrases.specs.Contract.{lexeme, lexemes_of}
 use Rattle.sac_parse.specs.Tokens.{lexemes}
 use Rattle.sac_parse.specs.Brackets.{IsWithinBrackets}
-use Rattle.sac_parse.specs.Verdict.{IsReadOf}
-use Rattle.sac_parse.proofs.Shallow.{open_more, take_lexemes}
+use Rattle.sac_parse.specs.declared.error.ParseError.{ParseError}
+use Rattle.sac_parse.specs.declared.error.ParseError.TheVariants.{Refused, Memory}
+use Rattle.sac_parse.specs.Verdict.{IsReadOf, IsNamedIn, IsInRoom}
+use Rattle.sac_parse.proofs.Shallow.{open_more, snoc_same, take_lexemes}
 
 -- ---- lists
 
@@ -37,17 +39,6 @@ last_same [] [] x y e = cc
 last_same [] (b ∷ v) x y e = let n = ap length e in let k = length-append v (y ∷ []) in absurd (omega arith)
 last_same (a ∷ u) [] x y e = let n = ap length e in let k = length-append u (x ∷ []) in absurd (omega arith)
 last_same (a ∷ u) (b ∷ v) x y e = let t : u ++ (x ∷ []) ≡ v ++ (y ∷ []) = cc in last_same u v x y t
-
--- of equal lists with one more token each
-pub snoc_same : (u v : List Lexeme) (x y : Lexeme) → u ++ (x ∷ []) ≡ v ++ (y ∷ []) → (u ≡ v) × (x ≡ y)
-snoc_same [] [] x y e = (refl, let h : x ≡ y = cc in h)
-snoc_same [] (b ∷ v) x y e = let n = ap length e in let k = length-append v (y ∷ []) in absurd (omega arith)
-snoc_same (a ∷ u) [] x y e = let n = ap length e in let k = length-append u (x ∷ []) in absurd (omega arith)
-snoc_same (a ∷ u) (b ∷ v) x y e =
-    let h : a ≡ b = cc in
-    let t : u ++ (x ∷ []) ≡ v ++ (y ∷ []) = cc in
-    let s = snoc_same u v x y t in
-    (λ i. h i ∷ s.0 i, s.1)
 
 -- ---- the end token
 
@@ -113,11 +104,11 @@ read_by ts read i lt e few =
     subst (IsRead (lexemes_of ts)) (sym (e ∙ take_lexemes ts (i + 1))) (first_read (lexemes_of ts) i (omega arith) (subst IsShallow (take_lexemes ts i) few))
 
 pub is_read : (ts read : List Token) → IsEnded (map cut_lexeme ts) → IsWithinBrackets ts read → IsReadOf (lexemes_of ts) (lexemes_of read)
-is_read ts read h (inl (e, few)) = record {
+is_read ts read h (inl (e, (few, free))) = record {
   front = subst (λ r. IsRead (lexemes_of ts) (lexemes_of r)) (sym e) (all_read (lexemes_of ts) few);
   last = λ u x l. inr (ended_text ts h u x (ap lexemes_of (sym e) ∙ l));
 }
-is_read ts read h (inr (i, e, (lt, few, (t, split, crowd)))) = record {
+is_read ts read h (inr (i, e, (lt, few, free, (t, split, crowd)))) = record {
   front = read_by ts (lexemes_of read) i lt (ap lexemes_of e) few;
   last = λ u x l.
       let same = snoc_same (lexemes_of (take i ts)) u t x (sym split ∙ ap lexemes_of (sym e) ∙ l) in
@@ -125,8 +116,8 @@ is_read ts read h (inr (i, e, (lt, few, (t, split, crowd)))) = record {
 }
 
 pub read_some : (ts read : List Token) → IsEnded (map cut_lexeme ts) → IsWithinBrackets ts read → 0 < length read
-read_some ts read h (inl (e, few)) = let n = ap length e in let k = ended_some ts h in omega arith
-read_some ts read h (inr (i, e, (lt, few, crowd))) =
+read_some ts read h (inl (e, (few, free))) = let n = ap length e in let k = ended_some ts h in omega arith
+read_some ts read h (inr (i, e, (lt, few, free, crowd))) =
     let n = ap length e in
     let a = lexemes_length (take (i + 1) ts) in
     let b = ap length (take_lexemes ts (i + 1)) in
@@ -158,8 +149,8 @@ end_is_shallow u x e few crowd =
     absurd (omega arith)
 
 pub whole_read : (ts read : List Token) → IsWithinBrackets ts read → (u : List Lexeme) (x : Lexeme) → lexemes_of read ≡ u ++ (x ∷ []) → is_end x.text ≡ true → (read ≡ ts) × IsShallow (lexemes_of ts)
-whole_read ts read (inl w) u x l end = w
-whole_read ts read (inr (i, e, (lt, few, (t, split, crowd)))) u x l end =
+whole_read ts read (inl (e, (few, free))) u x l end = (e, few)
+whole_read ts read (inr (i, e, (lt, few, free, (t, split, crowd)))) u x l end =
     let same = snoc_same (lexemes_of (take i ts)) u t x (sym split ∙ ap lexemes_of (sym e) ∙ l) in
     let k = few (lexemes_of (take i ts)) [] (sym (append-nil (lexemes_of (take i ts)))) in
     absurd (end_is_shallow (lexemes_of (take i ts)) t (subst (λ (y : Lexeme). is_end y.text ≡ true) (sym same.1) end) k crowd)
@@ -194,3 +185,42 @@ no_tokens (t ∷ ts) lt = absurd (omega arith)
 pub some_tokens : (ts : List Token) → 1 ≤ length ts → lexemes_of ts ≡ [] → ⊥
 some_tokens [] le e = absurd (omega arith)
 some_tokens (t ∷ ts) le e = let n = ap length e in absurd (omega arith)
+
+-- ---- where an error stands that names one of the tokens that are read
+
+pub in_room : (ts read : List Token) → IsWithinBrackets ts read → (e : ParseError) → IsNamedIn (lexemes_of read) e → IsInRoom (lexemes_of ts) (Err e)
+in_room ts read w Memory n = tt
+in_room ts read (inl (e, (few, free))) (Refused code site) (a, t, b, split, at) = record {
+  before = a;
+  token = t;
+  behind = b;
+  whole = ap lexemes_of (sym e) ∙ split;
+  at = at;
+  least = λ u w x s crowd. let k = free u w x s in absurd (omega arith);
+}
+in_room ts read (inr (i, e, (lt, few, free, there))) (Refused code site) (a, t, b, split, at) =
+    let all = lexemes_of ts in
+    let cut : lexemes_of read ≡ take (i + 1) all = ap lexemes_of e ∙ take_lexemes ts (i + 1) in
+    let count = lexemes_length ts in
+    record {
+      before = a;
+      token = t;
+      behind = b ++ drop (i + 1) all;
+      whole = take_drop (i + 1) all ∙ ap (λ l. l ++ drop (i + 1) all) (sym cut ∙ split) ∙ append_assoc a (t ∷ b) (drop (i + 1) all);
+      at = at;
+      least = λ u w x s crowd. ⊎_elim
+          (λ (early : length u < i).
+          let m = take_length i all (omega arith) in
+          let l = length-append u (x ∷ []) in
+          let whole : (u ++ (x ∷ [])) ++ w ≡ take i all ++ drop i all = append_assoc u (x ∷ []) w ∙ sym s ∙ take_drop i all in
+          let f = shorter_front (u ++ (x ∷ [])) (take i all) w (drop i all) whole (omega arith) in
+          let k = free u f.0 x (take_lexemes ts i ∙ f.1 ∙ append_assoc u (x ∷ []) f.0) in
+          let r : length a ≤ length u = absurd (omega arith) in
+          r)
+          (λ (late : i ≤ length u).
+          let n = take_length (i + 1) all (omega arith) in
+          let l = ap length (sym cut ∙ split) ∙ length-append a (t ∷ b) in
+          let r : length a ≤ length u = omega arith in
+          r)
+          (order (length u) i);
+    }

@@ -1,5 +1,6 @@
 -- The answer of the parser to a token list.
-use Rattle.std.specs.Prelude.{◌≡◌, ◌<◌, true, List, [], ◌∷◌, ◌++◌, ◌⊎◌, Result, Ok, Err, ⊤}
+use Rattle.std.specs.Prelude.{◌≡◌, ◌<◌, ◌≤◌, true, List, [], ◌∷◌, ◌++◌, ◌⊎◌, Result, Ok, Err, ⊤, length}
+use Rattle.sac_base.specs.declared.site.Site.{Site}
 use Rattle.sac_ast.specs.declared.Program.{Program}
 use Rattle.sac_ast.specs.Texts.{Lexeme, is_end}
 use Rattle.sac_ast.specs.Grammar.{program}
@@ -23,6 +24,26 @@ IsRefusalOf ts Memory = ⊤
 abbrev pub IsParsed : List Lexeme → Result Program ParseError → Type 0
 IsParsed ts (Ok p) = IsTreeOf ts (View.program p)
 IsParsed ts (Err e) = IsRefusalOf ts e
+
+-- the error names one of these tokens
+abbrev pub IsNamedIn : List Lexeme → ParseError → Type 0
+IsNamedIn ts (Refused code site) = (u : List Lexeme) × (x : Lexeme) × (r : List Lexeme) × (ts ≡ u ++ (x ∷ r)) × (site ≡ x.site)
+IsNamedIn ts Memory = ⊤
+
+-- the site is that of a token which is not behind the first one with which more brackets are open or must open than the limit allows
+pub record IsBeforeCrowd (ts : List Lexeme) (site : Site) : Type 0 where
+  pub before : List Lexeme
+  pub token : Lexeme
+  pub behind : List Lexeme
+  pub whole : ts ≡ before ++ (token ∷ behind)
+  pub at : site ≡ token.site
+  pub least : (u w : List Lexeme) (x : Lexeme) → ts ≡ u ++ (x ∷ w) → 200 < brackets_at u x → length before ≤ length u
+
+-- a refusal names such a token
+abbrev pub IsInRoom : List Lexeme → Result Program ParseError → Type 0
+IsInRoom ts (Ok p) = ⊤
+IsInRoom ts (Err (Refused code site)) = IsBeforeCrowd ts site
+IsInRoom ts (Err Memory) = ⊤
 
 -- the refusal of the tokens that are read where the parser is stuck before the rest
 abbrev pub IsRefusalAt : List Lexeme → List Lexeme → ParseError → Type 0

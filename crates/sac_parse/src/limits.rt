@@ -2,10 +2,10 @@
 ghost use Rattle.std.specs.Prelude.{◌≡◌, ◌<◌, ◌≤◌, ◌+◌, ◌∷◌, [], ◌&&◌, MatchOption, length, take, List, codes};
 ghost use Rattle.std.specs.Str.{bytes_eq};
 ghost use Rattle.sac_ast.specs.Texts.{Lexeme};
-ghost use Rattle.sac_ast.specs.Heights.{open_behind, IsShallow};
+ghost use Rattle.sac_ast.specs.Heights.{open_behind};
 ghost use Rattle.sac_phrases.specs.Contract.{lexeme, lexemes_of};
 ghost use Rattle.sac_refusals.specs.Words.{ends_with_fold, opens_next, next_brackets};
-ghost use Rattle.sac_parse.specs.Brackets.{IsFirstCrowded, IsWithinBrackets};
+ghost use Rattle.sac_parse.specs.Brackets.{IsFirstCrowded, IsUncrowded, IsWithinBrackets};
 
 use sac_lex::Token;
 use sac_phrases::cursor;
@@ -94,7 +94,7 @@ fn open_behind(depth: usize, token: &Token) -> usize
 
 /// The first token at which more brackets are open, or must open behind it, than the limit allows.
 pub fn first_crowded(tokens: &[Token]) -> Option<usize>
-    ensures { MatchOption result (IsShallow (lexemes_of tokens.now)) (IsFirstCrowded tokens.now) }
+    ensures { MatchOption result (IsUncrowded (lexemes_of tokens.now)) (IsFirstCrowded tokens.now) }
 {
     let mut depth = 0;
     for (i, token) in tokens.iter().enumerate() {
@@ -111,10 +111,9 @@ pub fn first_crowded(tokens: &[Token]) -> Option<usize>
 pub fn within_brackets<'a>(tokens: &'a [Token<'a>]) -> &'a [Token<'a>]
     ensures { IsWithinBrackets tokens.now result.now }
 {
-    let count = match first_crowded(tokens) {
-        Some(i) => i + 1,
-        None => tokens.len(),
+    let Some(i) = first_crowded(tokens) else {
+        return tokens;
     };
-    let (read, _later) = tokens.split_at(count);
+    let (read, _later) = tokens.split_at(i + 1);
     read
 }

@@ -7,7 +7,7 @@ use Rattle.sac_base.specs.declared.op.Op.{Op}
 use Rattle.sac_base.specs.declared.site.Site.{Site}
 use Rattle.sac_ast.specs.Texts.{Lexeme}
 use Rattle.sac_ast.specs.Shape.{Terminal, text, matches}
-use Rattle.sac_ast.specs.Grammar.{Nonterminal, Tree, Rule, V}
+use Rattle.sac_ast.specs.Grammar.{Nonterminal, Tree, Rule, V, rule}
 use Rattle.sac_grammar.specs.Run.{starts}
 use Rattle.sac_grammar.specs.Parsing.{Found, Reading, Stop, stuck, high, Halted, Halts}
 use Rattle.sac_phrases.specs.declared.halt.Halt.{Halt}
@@ -104,6 +104,11 @@ IsPhraseNear place k view tall ts (Err e) = Halted (StopOf e) place.checked plac
 abbrev pub IsPartAt : {X : Type 0} → Place → (s : Rule) → (X → V s → Type 0) → List Lexeme → Result (X × Bor (List Token)) Halt → Type 0
 IsPartAt place s Means ts (Ok x) = (v : V s) × Reading s ts v (lexemes_of x.1.now) × Means x.0 v
 IsPartAt place s Means ts (Err e) = Halts (StopOf e) place.checked (λ _. place.depth) s ts
+
+-- the right side of a phrase is read, whose value is as Means says; an error is one of the phrase
+abbrev pub IsNodeAt : {X : Type 0} → Place → (k : Nonterminal) → (X → V (rule k) → Type 0) → List Lexeme → Result (X × Bor (List Token)) Halt → Type 0
+IsNodeAt place k Means ts (Ok x) = (v : V (rule k)) × Reading (rule k) ts v (lexemes_of x.1.now) × Means x.0 v
+IsNodeAt place k Means ts (Err e) = Halted (StopOf e) place.checked place.depth k ts
 
 -- the same where no part of it can be too high
 abbrev pub IsLeafAt : {X : Type 0} → (s : Rule) → (X → V s → Type 0) → List Lexeme → Result (X × Bor (List Token)) Halt → Type 0

@@ -10,6 +10,7 @@ ghost use Rattle.sac_ast.specs.Tree as tree;
 ghost use Rattle.sac_ast.specs.Texts.{is_name};
 ghost use Rattle.sac_grammar.specs.Run.{starts};
 ghost use Rattle.sac_grammar.specs.Tables.{first_of};
+ghost use Rattle.sac_grammar.specs.Limits.{least_parts};
 ghost use Rattle.sac_grammar.specs.Parsing.{nth};
 ghost use Rattle.sac_phrases.specs.declared.halt.Halt.TheVariants.{Memory};
 ghost use Rattle.sac_phrases.specs.Contract.{lexeme, lexemes_of, IsPartAt, IsLeafAt};
@@ -40,6 +41,8 @@ const EXPRESSION: [&[u8]; 12] = [
     b"with",
 ];
 
+const PAIRS: [&[u8]; 5] = [b"dim", b"shape", b"reshape", b"min", b"max"];
+
 const STATEMENT: [&[u8]; 4] = [b"if", b"while", b"do", b"for"];
 
 /// Whether an expression begins here.
@@ -56,6 +59,19 @@ pub fn starts_statement(tokens: &[Token]) -> bool
     ensures { result ≡ starts (first_of statement) (lexemes_of tokens.now) }
 {
     cursor::starts_name(tokens) || cursor::starts_with_any(tokens, &STATEMENT)
+}
+
+/// How high the parts of a primary expression are at least, by its first token.
+pub fn least_parts(tokens: &[Token]) -> u32
+    ensures { result ≡ least_parts (lexemes_of tokens.now) }
+{
+    if cursor::starts_with(tokens, b"with") {
+        2
+    } else if cursor::starts_with_any(tokens, &PAIRS) {
+        1
+    } else {
+        0
+    }
 }
 
 /// The name that a token is.

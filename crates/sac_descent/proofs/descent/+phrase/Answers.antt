@@ -14,9 +14,11 @@ use Rattle.sac_phrases.specs.declared.level.Level.{Level}
 use Rattle.sac_phrases.specs.Levels.{IsOperandAt}
 use Rattle.sac_phrases.specs.Parts.{AssignRest, IsPrimaryOf, IsStatementOf, IsAssignedOf}
 use Rattle.sac_phrases.proofs.Steps.{less_three, less_four, less_le, token_read, token_halts, starts_there, memory_halts, memory_halted, operator_halts, operator_found, part_nth, part_last}
-use Rattle.sac_descent.proofs.LevelSteps.{LevelSoFar, level_tall, level_begin, level_low, level_fail, level_memory, level_more, level_stop, level_end, level_high}
+use Rattle.sac_descent.proofs.LevelSteps.{LevelSoFar, level_tall, level_begin, level_low, level_fail, level_memory, level_more, level_end, level_high}
 use Rattle.sac_descent.proofs.ListSteps.{ListRead, PostRead, GensRead, StmtsRead, list_begin, list_next, list_whole, list_halts, post_begin, post_next, post_halts, post_end, post_high, select_tall, gens_begin, gens_next, gens_whole, gens_halts, stmts_begin, stmts_next, stmts_whole, stmts_halts}
 use Rattle.sac_descent.proofs.PhraseSteps.{arguments_some, arguments_none, parens_read, pair_read, variable_read, call_read, builtin_read, reshape_read, extreme_read, array_read, parens_primary, with_read, prefix_postfix, prefix_high, inside, small_depth, room_depth, stop_inside, prefix_stop, prefix_read, plain_read, choice_stop, choice_read, primary_kept}
+use Rattle.sac_grammar.proofs.Deeper.{deeper, call_deeper, builtin_deeper, reshape_deeper, extreme_deeper, literal_deeper, with_deeper}
+use Rattle.sac_descent.proofs.DeepSteps.{low_weaker, node_nth, node_last, parens_same, primary_high, index_stop, level_deep, choice_high}
 use Rattle.sac_descent.proofs.LoopSteps.{dot_read, given_read, maybe_none, maybe_some, genarray_read, modarray_read, fold_read, operation_nth, operation_last, generator_read}
 use Rattle.sac_descent.proofs.StatementSteps.{block_read, body_some, none_read, else_some, else_block, else_if, assignment_read, conditional_read, while_read, do_read, for_read, statement_kept, if_read, else_stop, cond_stop, several_read, replace_read, compound_read, assign_kept}
 use Rattle.sac_descent.proofs.descent.+phrase.Goals as goal
@@ -191,39 +193,42 @@ with_loop-returns-clause-phrase t c = with_read c.args.place _ c.in_ok-generator
 -- ---- alternative
 
 pub alternative-returns-then-starts_number-clause-phrase : goal.alternative-returns-then-starts_number-clause-phrase
-alternative-returns-then-starts_number-clause-phrase t c = part_nth c.args.place 0 (rule primary) (IsPrimaryOf c.args.place) (lexemes_of c.args.tokens.now) c.number.result refl (sym c.starts_number.ensures ∙ c.if-starts_number.true) c.number.ensures.phrase
+alternative-returns-then-starts_number-clause-phrase t c = node_nth c.args.place c.args.place 0 (lexemes_of c.args.tokens.now) c.number.result refl (sym c.starts_number.ensures ∙ c.if-starts_number.true) refl (λ v h. absurd h) c.number.ensures.phrase
 
 pub alternative-returns-then-starts_with-clause-phrase : goal.alternative-returns-then-starts_with-clause-phrase
-alternative-returns-then-starts_with-clause-phrase t c = part_nth c.args.place 1 (rule primary) (IsPrimaryOf c.args.place) (lexemes_of c.args.tokens.now) c.truth_true.result refl (sym c.starts_with.ensures ∙ c.if-starts_with.true) c.truth_true.ensures.phrase
+alternative-returns-then-starts_with-clause-phrase t c = node_nth c.args.place c.args.place 1 (lexemes_of c.args.tokens.now) c.truth_true.result refl (sym c.starts_with.ensures ∙ c.if-starts_with.true) refl (λ v h. absurd h) c.truth_true.ensures.phrase
 
 pub alternative-returns-then-starts_with-2-clause-phrase : goal.alternative-returns-then-starts_with-2-clause-phrase
-alternative-returns-then-starts_with-2-clause-phrase t c = part_nth c.args.place 2 (rule primary) (IsPrimaryOf c.args.place) (lexemes_of c.args.tokens.now) c.truth_false.result refl (sym c.starts_with-else-starts_with.ensures ∙ c.if-starts_with-2.true) c.truth_false.ensures.phrase
+alternative-returns-then-starts_with-2-clause-phrase t c = node_nth c.args.place c.args.place 2 (lexemes_of c.args.tokens.now) c.truth_false.result refl (sym c.starts_with-else-starts_with.ensures ∙ c.if-starts_with-2.true) refl (λ v h. absurd h) c.truth_false.ensures.phrase
 
 pub alternative-returns-then-starts_name-clause-phrase : goal.alternative-returns-then-starts_name-clause-phrase
-alternative-returns-then-starts_name-clause-phrase t c = part_nth c.args.place 3 (rule primary) (IsPrimaryOf c.args.place) (lexemes_of c.args.tokens.now) c.name_or_call.result refl (sym c.starts_name.ensures ∙ c.if-starts_name.true) c.name_or_call.ensures.phrase
+alternative-returns-then-starts_name-clause-phrase t c = node_nth c.args.place c.inside-inner.result 3 (lexemes_of c.args.tokens.now) c.name_or_call.result refl (sym c.starts_name.ensures ∙ c.if-starts_name.true) c.inside-inner.ensures.checked (call_deeper c.args.place.depth c.inside-inner.result.depth (deeper c.args.place.depth c.inside-inner.result.depth c.inside-inner.ensures.depth)) c.name_or_call.ensures.phrase
 
 pub alternative-returns-then-starts_with_any-clause-phrase : goal.alternative-returns-then-starts_with_any-clause-phrase
-alternative-returns-then-starts_with_any-clause-phrase t c = part_nth c.args.place 4 (rule primary) (IsPrimaryOf c.args.place) (lexemes_of c.args.tokens.now) c.builtin.result refl (sym c.starts_with_any.ensures ∙ c.if-starts_with_any.true) c.builtin.ensures.phrase
+alternative-returns-then-starts_with_any-clause-phrase t c = node_nth c.args.place c.inside-inner.result 4 (lexemes_of c.args.tokens.now) c.builtin.result refl (sym c.starts_with_any.ensures ∙ c.if-starts_with_any.true) c.inside-inner.ensures.checked (builtin_deeper c.args.place.depth c.inside-inner.result.depth (deeper c.args.place.depth c.inside-inner.result.depth c.inside-inner.ensures.depth)) c.builtin.ensures.phrase
 
 pub alternative-returns-then-starts_with-3-clause-phrase : goal.alternative-returns-then-starts_with-3-clause-phrase
-alternative-returns-then-starts_with-3-clause-phrase t c = part_nth c.args.place 5 (rule primary) (IsPrimaryOf c.args.place) (lexemes_of c.args.tokens.now) c.reshape.result refl (sym c.starts_with-else-starts_with_any.ensures ∙ c.if-starts_with-3.true) c.reshape.ensures.phrase
+alternative-returns-then-starts_with-3-clause-phrase t c = node_nth c.args.place c.inside-inner.result 5 (lexemes_of c.args.tokens.now) c.reshape.result refl (sym c.starts_with-else-starts_with_any.ensures ∙ c.if-starts_with-3.true) c.inside-inner.ensures.checked (reshape_deeper c.args.place.depth c.inside-inner.result.depth (deeper c.args.place.depth c.inside-inner.result.depth c.inside-inner.ensures.depth)) c.reshape.ensures.phrase
 
 pub alternative-returns-then-starts_with_any-2-clause-phrase : goal.alternative-returns-then-starts_with_any-2-clause-phrase
-alternative-returns-then-starts_with_any-2-clause-phrase t c = part_nth c.args.place 6 (rule primary) (IsPrimaryOf c.args.place) (lexemes_of c.args.tokens.now) c.extreme.result refl (sym c.starts_with_any-else-starts_with-3.ensures ∙ c.if-starts_with_any-2.true) c.extreme.ensures.phrase
+alternative-returns-then-starts_with_any-2-clause-phrase t c = node_nth c.args.place c.inside-inner.result 6 (lexemes_of c.args.tokens.now) c.extreme.result refl (sym c.starts_with_any-else-starts_with-3.ensures ∙ c.if-starts_with_any-2.true) c.inside-inner.ensures.checked (extreme_deeper c.args.place.depth c.inside-inner.result.depth (deeper c.args.place.depth c.inside-inner.result.depth c.inside-inner.ensures.depth)) c.extreme.ensures.phrase
 
 pub alternative-returns-then-starts_with-4-clause-phrase : goal.alternative-returns-then-starts_with-4-clause-phrase
-alternative-returns-then-starts_with-4-clause-phrase t c = part_nth c.args.place 7 (rule primary) (IsPrimaryOf c.args.place) (lexemes_of c.args.tokens.now) c.parens.result refl (sym c.starts_with-else-starts_with_any-2.ensures ∙ c.if-starts_with-4.true) (parens_primary c.args.place (lexemes_of c.args.tokens.now) c.parens.result c.parens.ensures.phrase)
+alternative-returns-then-starts_with-4-clause-phrase t c = node_nth c.args.place c.args.place 7 (lexemes_of c.args.tokens.now) c.parens.result refl (sym c.starts_with-else-starts_with_any-2.ensures ∙ c.if-starts_with-4.true) refl (parens_same c.args.place.depth) (parens_primary c.args.place (lexemes_of c.args.tokens.now) c.parens.result c.parens.ensures.phrase)
 
 pub alternative-returns-then-starts_with-5-clause-phrase : goal.alternative-returns-then-starts_with-5-clause-phrase
-alternative-returns-then-starts_with-5-clause-phrase t c = part_nth c.args.place 8 (rule primary) (IsPrimaryOf c.args.place) (lexemes_of c.args.tokens.now) c.array.result refl (sym c.starts_with-else-starts_with-4.ensures ∙ c.if-starts_with-5.true) c.array.ensures.phrase
+alternative-returns-then-starts_with-5-clause-phrase t c = node_nth c.args.place c.inside-inner.result 8 (lexemes_of c.args.tokens.now) c.array.result refl (sym c.starts_with-else-starts_with-4.ensures ∙ c.if-starts_with-5.true) c.inside-inner.ensures.checked (literal_deeper c.args.place.depth c.inside-inner.result.depth (deeper c.args.place.depth c.inside-inner.result.depth c.inside-inner.ensures.depth)) c.array.ensures.phrase
 
 pub alternative-returns-else-starts_with-5-clause-phrase : goal.alternative-returns-else-starts_with-5-clause-phrase
-alternative-returns-else-starts_with-5-clause-phrase t c = part_last c.args.place 9 (rule primary) (IsPrimaryOf c.args.place) (lexemes_of c.args.tokens.now) c.with_loop.result ((sym c.starts_number.ensures ∙ c.if-starts_number.false), ((sym c.starts_with.ensures ∙ c.if-starts_with.false), ((sym c.starts_with-else-starts_with.ensures ∙ c.if-starts_with-2.false), ((sym c.starts_name.ensures ∙ c.if-starts_name.false), ((sym c.starts_with_any.ensures ∙ c.if-starts_with_any.false), ((sym c.starts_with-else-starts_with_any.ensures ∙ c.if-starts_with-3.false), ((sym c.starts_with_any-else-starts_with-3.ensures ∙ c.if-starts_with_any-2.false), ((sym c.starts_with-else-starts_with_any-2.ensures ∙ c.if-starts_with-4.false), ((sym c.starts_with-else-starts_with-4.ensures ∙ c.if-starts_with-5.false), tt))))))))) c.with_loop.ensures.phrase
+alternative-returns-else-starts_with-5-clause-phrase t c = node_last c.args.place c.inside-inner.result (lexemes_of c.args.tokens.now) c.with_loop.result ((sym c.starts_number.ensures ∙ c.if-starts_number.false), ((sym c.starts_with.ensures ∙ c.if-starts_with.false), ((sym c.starts_with-else-starts_with.ensures ∙ c.if-starts_with-2.false), ((sym c.starts_name.ensures ∙ c.if-starts_name.false), ((sym c.starts_with_any.ensures ∙ c.if-starts_with_any.false), ((sym c.starts_with-else-starts_with_any.ensures ∙ c.if-starts_with-3.false), ((sym c.starts_with_any-else-starts_with-3.ensures ∙ c.if-starts_with_any-2.false), ((sym c.starts_with-else-starts_with_any-2.ensures ∙ c.if-starts_with-4.false), ((sym c.starts_with-else-starts_with-4.ensures ∙ c.if-starts_with-5.false), tt))))))))) c.inside-inner.ensures.checked (with_deeper c.args.place.depth c.inside-inner.result.depth (deeper c.args.place.depth c.inside-inner.result.depth c.inside-inner.ensures.depth)) c.with_loop.ensures.phrase
 
 -- ---- primary
 
 pub primary-returns-in_err-node-clause-phrase : goal.primary-returns-in_err-node-clause-phrase
-primary-returns-in_err-node-clause-phrase t c = let p = err_from_is_err_and c.from_residual.result c.from_residual.ensures.1 in rw (p.1, p.2) (stops c.in_err-node.ensures.phrase)
+primary-returns-in_err-node-clause-phrase t c = let p = err_from_is_err_and c.from_residual.result c.from_residual.ensures.1 in rw (p.1, p.2) c.in_err-node.ensures.phrase
+
+pub primary-returns-then-has_no_room-clause-phrase : goal.primary-returns-then-has_no_room-clause-phrase
+primary-returns-then-has_no_room-clause-phrase t c = primary_high c.args.place c.args.tokens c.least_parts.result c.least_parts.ensures (c.has_no_room.ensures.full c.if-has_no_room.true)
 
 pub primary-returns-clause-phrase : goal.primary-returns-clause-phrase
 primary-returns-clause-phrase t c = primary_kept c.args.place (lexemes_of c.args.tokens.now) c.in_ok-node.node c.in_ok-node.rest.now _ c.kept.result c.in_ok-node.ensures.phrase.1 c.in_ok-node.ensures.phrase.2 c.kept.ensures
@@ -240,7 +245,7 @@ pub postfix-returns-then-has_no_room-clause-phrase : goal.postfix-returns-then-h
 postfix-returns-then-has_no_room-clause-phrase t c = post_high c.args.place (lexemes_of c.args.tokens.now) _ c.loop-open.rest _ _ c.loop-open.invariant.so_far c.in-Some.ensures.token c.loop-open.invariant.tall (c.has_no_room.ensures.full c.if-has_no_room.true)
 
 pub postfix-returns-in_err-index-clause-phrase : goal.postfix-returns-in_err-index-clause-phrase
-postfix-returns-in_err-index-clause-phrase t c = let p = err_from_is_err_and c.from_residual-in_err-index.result c.from_residual-in_err-index.ensures.1 in rw (p.1, p.2) (stops (post_halts _ _ _ _ _ c.loop-open.invariant.so_far c.in-Some.ensures.token (stop_left c.in_err-index.ensures.phrase)))
+postfix-returns-in_err-index-clause-phrase t c = let p = err_from_is_err_and c.from_residual-in_err-index.result c.from_residual-in_err-index.ensures.1 in rw (p.1, p.2) (index_stop c.args.place c.inside.result (lexemes_of c.args.tokens.now) _ _ _ _ c.in_err-index.field-0.0 c.inside.ensures.checked (deeper c.args.place.depth c.inside.result.depth c.inside.ensures.depth) c.loop-open.invariant.so_far c.in-Some.ensures.token c.in_err-index.ensures.phrase)
 
 pub postfix-returns-in_err-_close-clause-phrase : goal.postfix-returns-in_err-_close-clause-phrase
 postfix-returns-in_err-_close-clause-phrase t c = let p = err_from_is_err_and c.from_residual-in_err-_close.result c.from_residual-in_err-_close.ensures.1 in rw (p.1, p.2) (stops (post_halts _ _ _ _ _ c.loop-open.invariant.so_far c.in-Some.ensures.token (stop_right c.in_ok-index.ensures.phrase.1 (token_halts (text (codes "]")) _ _ c.in_err-_close.ensures.token))))
@@ -249,7 +254,7 @@ pub postfix-returns-in_err-array-2-clause-phrase : goal.postfix-returns-in_err-a
 postfix-returns-in_err-array-2-clause-phrase t c = let p = err_from_is_err_and c.from_residual-in_err-array-2.result c.from_residual-in_err-array-2.ensures.1 in rw (p.1, p.2) (memory_halted c.in_err-array-2.field-0.0 c.in_err-array-2.ensures.memory)
 
 pub postfix-loop-open-preserved : goal.postfix-loop-open-preserved
-postfix-loop-open-preserved t c = let trees = c.in_ok-array-2.ensures.tree ∙ ap (λ i. tree.select (View.expr c.loop-open.array.tree) i c.in-Some.open.site) c.index_of.ensures.tree in record { shorter = less_four _ _ _ _ _ c.in_ok-_close.ensures.shorter c.in_ok-index.ensures.shorter c.in-Some.ensures.shorter c.loop-open.invariant.shorter; so_far = subst (λ (e : Expr). PostRead (lexemes_of c.args.tokens.now) e (lexemes_of c.in_ok-_close.after.now)) (sym trees) (post_next (lexemes_of c.args.tokens.now) (View.expr c.loop-open.array.tree) _ (lexeme c.in-Some.open) _ _ _ _ (map View.expr c.in_ok-index.index.tree.items) _ c.loop-open.invariant.so_far c.in-Some.ensures.token c.in_ok-index.ensures.phrase.1 c.in_ok-index.ensures.phrase.2.trees c.in_ok-_close.ensures.token); tall = λ k. select_tall c.args.place c.in-Some.open.site c.loop-open.array c.in_ok-array-2.array c.in_ok-index.index.tree.items _ c.in_ok-index.index.height c.index_of.result.height (View.expr c.index_of.result.tree) _ (c.has_no_room.ensures.room c.if-has_no_room.false k) (c.loop-open.invariant.tall k) c.in_ok-index.ensures.phrase.2.trees (c.in_ok-index.ensures.phrase.2.low k) c.index_of.ensures.one c.index_of.ensures.several c.in_ok-array-2.ensures.height c.index_of.ensures.tree c.in_ok-array-2.ensures.tree }
+postfix-loop-open-preserved t c = let trees = c.in_ok-array-2.ensures.tree ∙ ap (λ i. tree.select (View.expr c.loop-open.array.tree) i c.in-Some.open.site) c.index_of.ensures.tree in record { shorter = less_four _ _ _ _ _ c.in_ok-_close.ensures.shorter c.in_ok-index.ensures.shorter c.in-Some.ensures.shorter c.loop-open.invariant.shorter; so_far = subst (λ (e : Expr). PostRead (lexemes_of c.args.tokens.now) e (lexemes_of c.in_ok-_close.after.now)) (sym trees) (post_next (lexemes_of c.args.tokens.now) (View.expr c.loop-open.array.tree) _ (lexeme c.in-Some.open) _ _ _ _ (map View.expr c.in_ok-index.index.tree.items) _ c.loop-open.invariant.so_far c.in-Some.ensures.token c.in_ok-index.ensures.phrase.1 c.in_ok-index.ensures.phrase.2.trees c.in_ok-_close.ensures.token); tall = λ k. select_tall c.args.place c.in-Some.open.site c.loop-open.array c.in_ok-array-2.array c.in_ok-index.index.tree.items _ c.in_ok-index.index.height c.index_of.result.height (View.expr c.index_of.result.tree) _ (c.has_no_room.ensures.room c.if-has_no_room.false k) (c.loop-open.invariant.tall k) c.in_ok-index.ensures.phrase.2.trees (low_weaker c.args.place c.inside.result c.in_ok-index.index.height _ (inside c.args.place c.inside.result c.inside.ensures.checked c.inside.ensures.depth (λ k. room_depth c.args.place.depth c.loop-open.array.height (c.has_no_room.ensures.room c.if-has_no_room.false k))) c.in_ok-index.ensures.phrase.2.low k) c.index_of.ensures.one c.index_of.ensures.several c.in_ok-array-2.ensures.height c.index_of.ensures.tree c.in_ok-array-2.ensures.tree }
 
 pub postfix-returns-clause-phrase : goal.postfix-returns-clause-phrase
 postfix-returns-clause-phrase t c = post_end c.args.place (lexemes_of c.args.tokens.now) _ _ c.kept.result c.loop-open.invariant.so_far c.in_default.ensures.token c.loop-open.invariant.tall c.kept.ensures
@@ -303,13 +308,13 @@ pub chain-returns-then-has_no_room-clause-phrase : goal.chain-returns-then-has_n
 chain-returns-then-has_no_room-clause-phrase t c = level_high c.args.level c.args.place (lexemes_of c.args.tokens.now) c.loop-op.left c.loop-op.rest c.in-Some.op c.in-Some.site c.in-Some.behind c.loop-op.invariant.so_far c.in-Some.ensures.token c.loop-op.invariant.tall (c.has_no_room.ensures.full c.if-has_no_room.true)
 
 pub chain-returns-in_err-right-clause-phrase : goal.chain-returns-in_err-right-clause-phrase
-chain-returns-in_err-right-clause-phrase t c = let p = err_from_is_err_and c.from_residual-in_err-right.result c.from_residual-in_err-right.ensures.1 in rw (p.1, p.2) (level_stop c.args.level c.args.place (lexemes_of c.args.tokens.now) _ _ c.in-Some.op c.in-Some.site c.in-Some.behind c.in_err-right.field-0.0 c.loop-op.invariant.so_far c.in-Some.ensures.token c.in_err-right.ensures.phrase)
+chain-returns-in_err-right-clause-phrase t c = let p = err_from_is_err_and c.from_residual-in_err-right.result c.from_residual-in_err-right.ensures.1 in rw (p.1, p.2) (level_deep c.args.level c.args.place c.inside.result (lexemes_of c.args.tokens.now) _ _ c.in-Some.op c.in-Some.site c.in-Some.behind c.in_err-right.field-0.0 c.inside.ensures.checked (deeper c.args.place.depth c.inside.result.depth c.inside.ensures.depth) c.loop-op.invariant.so_far c.in-Some.ensures.token c.in_err-right.ensures.phrase)
 
 pub chain-returns-in_err-left-2-clause-phrase : goal.chain-returns-in_err-left-2-clause-phrase
 chain-returns-in_err-left-2-clause-phrase t c = let p = err_from_is_err_and c.from_residual-in_err-left-2.result c.from_residual-in_err-left-2.ensures.1 in rw (p.1, p.2) (level_memory c.args.level c.args.place (lexemes_of c.args.tokens.now) c.in_err-left-2.field-0.0 c.in_err-left-2.ensures.memory)
 
 pub chain-loop-op-preserved : goal.chain-loop-op-preserved
-chain-loop-op-preserved t c = record { shorter = less_three _ _ _ _ c.in_ok-right.ensures.shorter c.in-Some.ensures.shorter c.loop-op.invariant.shorter; so_far = subst (λ (e : Expr). LevelSoFar c.args.level (lexemes_of c.args.tokens.now) e (lexemes_of c.in_ok-right.after.now)) (sym c.in_ok-left-2.ensures.tree) (level_more c.args.level c.args.place (lexemes_of c.args.tokens.now) _ _ c.in-Some.op c.in-Some.site c.in-Some.behind c.in_ok-right.right c.in_ok-right.after c.loop-op.invariant.so_far c.in-Some.ensures.token c.in_ok-right.ensures.phrase); tall = λ k. level_tall c.args.place.depth c.loop-op.left.height c.in_ok-right.right.height c.in_ok-left-2.left.height _ _ c.in-Some.op c.in-Some.site _ (c.has_no_room.ensures.room c.if-has_no_room.false k) (c.loop-op.invariant.tall k) (level_low c.args.level c.args.place (lexemes_of c.in-Some.behind.now) c.in_ok-right.right c.in_ok-right.after c.in_ok-right.ensures.phrase k) c.in_ok-left-2.ensures.height c.in_ok-left-2.ensures.tree }
+chain-loop-op-preserved t c = record { shorter = less_three _ _ _ _ c.in_ok-right.ensures.shorter c.in-Some.ensures.shorter c.loop-op.invariant.shorter; so_far = subst (λ (e : Expr). LevelSoFar c.args.level (lexemes_of c.args.tokens.now) e (lexemes_of c.in_ok-right.after.now)) (sym c.in_ok-left-2.ensures.tree) (level_more c.args.level c.inside.result (lexemes_of c.args.tokens.now) _ _ c.in-Some.op c.in-Some.site c.in-Some.behind c.in_ok-right.right c.in_ok-right.after c.loop-op.invariant.so_far c.in-Some.ensures.token c.in_ok-right.ensures.phrase); tall = λ k. level_tall c.args.place.depth c.loop-op.left.height c.in_ok-right.right.height c.in_ok-left-2.left.height _ _ c.in-Some.op c.in-Some.site _ (c.has_no_room.ensures.room c.if-has_no_room.false k) (c.loop-op.invariant.tall k) (low_weaker c.args.place c.inside.result c.in_ok-right.right.height _ (inside c.args.place c.inside.result c.inside.ensures.checked c.inside.ensures.depth (λ k. room_depth c.args.place.depth c.loop-op.left.height (c.has_no_room.ensures.room c.if-has_no_room.false k))) (level_low c.args.level c.inside.result (lexemes_of c.in-Some.behind.now) c.in_ok-right.right c.in_ok-right.after c.in_ok-right.ensures.phrase) k) c.in_ok-left-2.ensures.height c.in_ok-left-2.ensures.tree }
 
 pub chain-returns-clause-phrase : goal.chain-returns-clause-phrase
 chain-returns-clause-phrase t c = level_end c.args.level c.args.place (lexemes_of c.args.tokens.now) c.loop-op.left c.loop-op.rest.now c.kept.result c.loop-op.invariant.so_far c.in_default.ensures.token c.loop-op.invariant.tall c.kept.ensures
@@ -321,6 +326,9 @@ expression-returns-in_err-cond-clause-phrase t c = let p = err_from_is_err_and c
 
 pub expression-returns-in_default-clause-phrase : goal.expression-returns-in_default-clause-phrase
 expression-returns-in_default-clause-phrase t c = plain_read c.args.place (lexemes_of c.args.tokens.now) _ c.in_ok-cond.cond c.in_ok-cond.ensures.phrase c.in_default.ensures.token
+
+pub expression-returns-then-has_no_room-clause-phrase : goal.expression-returns-then-has_no_room-clause-phrase
+expression-returns-then-has_no_room-clause-phrase t c = choice_high c.args.place (lexemes_of c.args.tokens.now) c.in_ok-cond.cond c.in_ok-cond.rest (lexeme c.in-Some.sign) _ c.in_ok-cond.ensures.phrase c.in-Some.ensures.token (c.has_no_room.ensures.full c.if-has_no_room.true)
 
 pub expression-returns-in_err-yes-clause-phrase : goal.expression-returns-in_err-yes-clause-phrase
 expression-returns-in_err-yes-clause-phrase t c = let p = err_from_is_err_and c.from_residual-in_err-yes.result c.from_residual-in_err-yes.ensures.1 in rw (p.1, p.2) (choice_stop c.in_ok-cond.ensures.phrase.0 c.in-Some.ensures.token (stop_left (stop_inside c.args.place c.inside.result c.in_err-yes.field-0.0 (inside c.args.place c.inside.result c.inside.ensures.checked c.inside.ensures.depth (λ k. small_depth c.args.place.depth c.in_ok-cond.cond.height _ (c.in_ok-cond.ensures.phrase.1 k))) refl c.in_err-yes.ensures.phrase)))
