@@ -22,17 +22,17 @@ loop-place-preserved c =
       | then-index-inlines+in_ok-inline_function w ↦
           let turn = function_turn start old (core_term w.inline_function.new.core) c.args.inlines k (fun_term x) (record { outcome = v.outcome; well = v.well; come = v.come }) w.in_ok-inline_function.ensures.inlined found (alike x.inline c.args.inlines w.if-index-inlines.true) in
           record {
-            outcome = subst (λ (m : Core). SameOutcome start (core_term m)) (sym w.core-is) turn.outcome;
-            well = subst (λ (m : Core). IsWellFormed (core_term m)) (sym w.core-is) turn.well;
-            come = subst (λ (m : Core). ComeTo (core_term m) c.args.inlines (k + 1)) (sym w.core-is) turn.come;
+            outcome = λ f. subst (λ (m : Core). SameOutcome start (core_term m)) (sym w.core-is) (turn.outcome f);
+            well = λ f. subst (λ (m : Core). IsWellFormed (core_term m)) (sym w.core-is) (turn.well f);
+            come = λ f d. subst (λ (m : Core). ComeTo (core_term m) c.args.inlines (k + 1)) (sym w.core-is) (turn.come f d);
             count = ap (λ (m : Core). length m.functions.items) w.core-is ∙ w.in_ok-inline_function.ensures.count ∙ v.count;
           }
       | else-index-inlines w ↦
           let turn = function_passed start old c.args.inlines k (fun_term x) (record { outcome = v.outcome; well = v.well; come = v.come }) found (unlike x.inline c.args.inlines w.if-index-inlines.false) in
           record {
-            outcome = subst (λ (m : Core). SameOutcome start (core_term m)) (sym w.core-is) turn.outcome;
-            well = subst (λ (m : Core). IsWellFormed (core_term m)) (sym w.core-is) turn.well;
-            come = subst (λ (m : Core). ComeTo (core_term m) c.args.inlines (k + 1)) (sym w.core-is) turn.come;
+            outcome = λ f. subst (λ (m : Core). SameOutcome start (core_term m)) (sym w.core-is) (turn.outcome f);
+            well = λ f. subst (λ (m : Core). IsWellFormed (core_term m)) (sym w.core-is) (turn.well f);
+            come = λ f d. subst (λ (m : Core). ComeTo (core_term m) c.args.inlines (k + 1)) (sym w.core-is) (turn.come f d);
             count = ap (λ (m : Core). length m.functions.items) w.core-is ∙ v.count;
           }
     ]

@@ -7,8 +7,8 @@ use Rattle.inline_calls.proofs.functions.inline_functions.Given as goal
 
 abbrev pub invariant-loop-place : goal.invariant-loop-place
 invariant-loop-place l = record {
-  outcome : SameOutcome (core_term l.initial.core) (core_term l.core);
-  well : IsWellFormed (core_term l.core);
-  come : ComeTo (core_term l.core) l.inlines l.place;
+  outcome : IsWellFormed (core_term l.initial.core) → SameOutcome (core_term l.initial.core) (core_term l.core);
+  well : IsWellFormed (core_term l.initial.core) → IsWellFormed (core_term l.core);
+  come : IsWellFormed (core_term l.initial.core) → ComeTo (core_term l.initial.core) l.inlines 0 → ComeTo (core_term l.core) l.inlines l.place;
   count : length l.core.functions.items ≡ length l.initial.core.functions.items;
 }
