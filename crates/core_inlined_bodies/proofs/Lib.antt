@@ -1,7 +1,8 @@
-mod Counts
+pub mod Counts
 mod Running
-mod Names
-mod Scopes
+pub mod Names
+pub mod Scopes
 mod Bases
 mod Left
+pub mod Stepped
 pub mod Whole

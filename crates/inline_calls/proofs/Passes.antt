@@ -66,9 +66,9 @@ itself_there (g ∷ fs) (suc i) f e = ap (λ hs. g ∷ hs) (itself_there fs i f 
 -- ---- a turn of a pass
 
 pub record HasCome (start core : CoreTerm) (inlines : Bool) (place : ℕ) : Type 0 where
-  pub outcome : SameOutcome start core
-  pub well : IsWellFormed core
-  pub come : ComeTo core inlines place
+  pub outcome : IsWellFormed start → SameOutcome start core
+  pub well : IsWellFormed start → IsWellFormed core
+  pub come : IsWellFormed start → ComeTo start inlines 0 → ComeTo core inlines place
 
 next : (n : ℕ) → suc n ≡ n + 1
 next n = omega arith
@@ -76,12 +76,19 @@ next n = omega arith
 pub function_turn : (start old new : CoreTerm) (inlines : Bool) (place : ℕ) (g : FunTerm) → HasCome start old inlines place → FunctionInlined old new place → slice_get old.functions place ≡ Some g → g.is_inline ≡ inlines → HasCome start new inlines (place + 1)
 function_turn start old new inlines place g h step found e =
     let own : step.function.is_inline ≡ inlines = ap (λ (o : Option FunTerm). (unwrap_or o g).is_inline) (sym step.found ∙ found) ∙ e in
-    let w = functions_may_be_inlined old new place step h.well in
-    record { outcome = same_all start old new h.outcome w.0; well = w.1; come = subst (ComeTo new inlines) (next place) (passes_go_on old new place inlines step h.well own h.come) }
+    record {
+      outcome = λ w. same_all start old new (h.outcome w) (functions_may_be_inlined old new place step (h.well w)).0;
+      well = λ w. (functions_may_be_inlined old new place step (h.well w)).1;
+      come = λ w c. subst (ComeTo new inlines) (next place) (passes_go_on old new place inlines step (h.well w) own (h.come w c));
+    }
 
 pub function_passed : (start core : CoreTerm) (inlines : Bool) (place : ℕ) (g : FunTerm) → HasCome start core inlines place → slice_get core.functions place ≡ Some g → (g.is_inline ≡ inlines → ⊥) → HasCome start core inlines (place + 1)
 function_passed start core inlines place g h found e =
-    record { outcome = h.outcome; well = h.well; come = subst (ComeTo core inlines) (next place) (passed_over core inlines place g found e h.come) }
+    record {
+      outcome = h.outcome;
+      well = h.well;
+      come = λ w c. subst (ComeTo core inlines) (next place) (passed_over core inlines place g found e (h.come w c));
+    }
 
 mapped_count : (fs : List CoreFun) → length (map fun_term fs) ≡ length fs
 mapped_count [] = refl
@@ -90,6 +97,11 @@ mapped_count (f ∷ fs) = ap suc (mapped_count fs)
 pub all_through : (core : CoreTerm) (fs : List CoreFun) → core.functions ≡ map fun_term fs → ComeTo core false (length fs) → OnlyLargeLeft core
 all_through core fs e come =
     all_done core (come.1 refl) (subst (DoneBelow core false) (sym (mapped_count fs) ∙ ap length (sym e)) come.0)
+
+-- the pass over the functions that are not inline may begin
+pub goes_on : (core : CoreTerm) (fs : List CoreFun) → core.functions ≡ map fun_term fs → ComeTo core true (length fs) → ComeTo core false 0
+goes_on core fs e come =
+    second_pass core (subst (DoneBelow core true) (sym (mapped_count fs) ∙ ap length (sym e)) come.0)
 
 pub alike : (a b : Bool) → beq a b ≡ true → a ≡ b
 alike true true h = refl

@@ -4,12 +4,13 @@ ghost use Rattle.std.specs.Prelude.{◌≡◌, ℕ, IfOk, IfSome, IfNone, map};
 ghost use Rattle.core_ir.specs.Terms.{FunTerm};
 ghost use Rattle.core_ir.specs.View.{core_term, fun_term, let_term};
 ghost use Rattle.core_inlined_bodies.specs.Inlining.{IsInstance, IsLeft, Fits, TooGreat, grown};
+ghost use Rattle.inline_calls.specs.Measures.{IsSize};
 ghost use Rattle.inline_calls.specs.Bindings.{GivesCall, LetInlined, MayStay};
 
 use crate::place::inlined_bindings;
+use crate::sizes::{Measured, Size, size_of};
 use core_inlined_bodies::Growth;
-use core_ir::{Core, CoreFun, Let, Right, Var, nodes};
-use core_subst::fresh;
+use core_ir::{Core, CoreFun, Let, Right, Var};
 use sac_base::{Memory, Site};
 use std::alloc::Global;
 
@@ -40,45 +41,50 @@ fn instance_of(core: &Core, group: u32) -> Option<&CoreFun>
     }
 }
 
-/// How far a body has grown once a call of the function is inlined, if there is room for it.
-fn grown_with(growth: Growth, function: &CoreFun) -> Option<Growth>
-    ensures fits { IfSome result (λ g. Fits growth (fun_term function.now) × (g ≡ grown growth (fun_term function.now))) }
-    ensures none { IfNone result (TooGreat growth (fun_term function.now)) }
+/// How far a body has grown once a call of a function of this size is inlined, if there is room for it.
+fn grown_with(growth: Growth, size: Size) -> Option<Growth>
+    ensures fits { (f : FunTerm) → IsSize f size → IfSome result (λ g. Fits growth f × (g ≡ grown growth f)) }
+    ensures none { (f : FunTerm) → IsSize f size → IfNone result (TooGreat growth f) }
 {
-    let new = fresh(function)?;
-    let weight = nodes(&function.body)
-        .saturating_add(function.params.len() as u64)
-        .saturating_add(function.results.len() as u64);
-    let count = growth.count.saturating_add(weight);
-    let above = u64::from(new.0);
+    let count = growth.count.saturating_add(size.weight);
     let greatest = growth
         .above
         .saturating_sub(1)
-        .saturating_add(above.saturating_sub(1));
+        .saturating_add(size.above.saturating_sub(1));
     if count > MOST_BINDINGS || greatest >= u64::from(u32::MAX) {
         return None;
     }
     Some(Growth {
         count,
-        above: growth.above + above,
+        above: growth.above + size.above,
     })
+}
+
+/// The size of the only instance of a group.
+fn size_at(work: &Measured<'_>, group: u32, function: &CoreFun) -> Size
+    ensures { (place : ℕ) → IsInstance (core_term work.now.core.now) group place (fun_term function.now) → IsSize (fun_term function.now) result }
+{
+    match work.size_in(group) {
+        Some(size) => size,
+        None => size_of(function),
+    }
 }
 
 /// The bindings that stand in the place of a binding, where that is a call that is inlined.
 pub fn inlined_call(
     alloc: Global,
-    core: &Core,
+    work: &Measured<'_>,
     growth: Growth,
     binding: &Let,
 ) -> Result<Option<Inlined>, Memory>
-    ensures placed { IfOk result (λ o. IfSome o (λ i. LetInlined (core_term core.now) growth (let_term binding.now) (map let_term i.lets.items) i.growth)) }
-    ensures left { IfOk result (λ o. IfNone o (MayStay (core_term core.now) growth (let_term binding.now).right)) }
+    ensures placed { IfOk result (λ o. IfSome o (λ i. LetInlined (core_term work.now.core.now) growth (let_term binding.now) (map let_term i.lets.items) i.growth)) }
+    ensures left { IfOk result (λ o. IfNone o (MayStay (core_term work.now.core.now) growth (let_term binding.now).right)) }
 {
     match &binding.right {
         Right::Call { group, args } => {
             inlined_instance(
                 alloc,
-                core,
+                work,
                 growth,
                 &binding.targets,
                 binding.site,
@@ -93,20 +99,21 @@ pub fn inlined_call(
 /// The same of a call of a group.
 fn inlined_instance(
     alloc: Global,
-    core: &Core,
+    work: &Measured<'_>,
     growth: Growth,
     targets: &[Var],
     site: Site,
     group: u32,
     args: &[Var],
 ) -> Result<Option<Inlined>, Memory>
-    ensures placed { IfOk result (λ o. IfSome o (GivesCall (core_term core.now) growth targets.now site group args.now)) }
-    ensures left { IfOk result (λ o. IfNone o (IsLeft (core_term core.now) growth group)) }
+    ensures placed { IfOk result (λ o. IfSome o (GivesCall (core_term work.now.core.now) growth targets.now site group args.now)) }
+    ensures left { IfOk result (λ o. IfNone o (IsLeft (core_term work.now.core.now) growth group)) }
 {
-    let Some(function) = instance_of(core, group) else {
+    let Some(function) = instance_of(work.core, group) else {
         return Ok(None);
     };
-    let Some(growth_after) = grown_with(growth, function) else {
+    let size = size_at(work, group, function);
+    let Some(growth_after) = grown_with(growth, size) else {
         return Ok(None);
     };
     let Ok(by) = u32::try_from(growth.above) else {

@@ -4,6 +4,7 @@
 mod call;
 mod functions;
 mod place;
+mod sizes;
 mod walk;
 
 pub use functions::inline_all;

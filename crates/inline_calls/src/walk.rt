@@ -7,8 +7,9 @@ ghost use Rattle.core_inlined_bodies.specs.Functions.{Anywhere};
 ghost use Rattle.inline_calls.specs.Bindings.{Pushed, RightWalked, GenInlined, PartInlined};
 
 use crate::call::{Inlined, inlined_call};
+use crate::sizes::Measured;
 use core_inlined_bodies::Growth;
-use core_ir::{Block, Core, CoreGen, CorePart, Let, PartedLoop, Right, Var, WithLoop};
+use core_ir::{Block, CoreGen, CorePart, Let, PartedLoop, Right, Var, WithLoop};
 use sac_base::{Memory, copy_array, copy_type};
 use std::alloc::Global;
 
@@ -16,15 +17,15 @@ use std::alloc::Global;
 #[cycle(inlining)]
 pub fn inline_block(
     alloc: Global,
-    core: &Core,
+    work: &Measured<'_>,
     growth: &mut Growth,
     block: &Block,
 ) -> Result<Block, Memory>
-    ensures { IfOk result (λ b. BlockInlined (core_term core.now) Anywhere growth.old (block_term block.now) (block_term b) growth.new) }
+    ensures { IfOk result (λ b. BlockInlined (core_term work.now.core.now) Anywhere growth.old (block_term block.now) (block_term b) growth.new) }
 {
     let mut lets = Vec::new(alloc);
     for binding in &block.lets {
-        push_binding(alloc, core, growth, binding, &mut lets)?;
+        push_binding(alloc, work, growth, binding, &mut lets)?;
     }
     Ok(Block {
         lets,
@@ -36,14 +37,14 @@ pub fn inline_block(
 #[cycle(inlining)]
 fn push_binding(
     alloc: Global,
-    core: &Core,
+    work: &Measured<'_>,
     growth: &mut Growth,
     binding: &Let,
     lets: &mut Vec<Let>,
 ) -> Result<(), Memory>
-    ensures { OnOk result (Pushed (core_term core.now) growth.old (let_term binding.now) lets.old.items lets.new.items growth.new) }
+    ensures { OnOk result (Pushed (core_term work.now.core.now) growth.old (let_term binding.now) lets.old.items lets.new.items growth.new) }
 {
-    match inlined_call(alloc, core, *growth, binding)? {
+    match inlined_call(alloc, work, *growth, binding)? {
         Some(inlined) => {
             let Inlined {
                 lets: mut inner,
@@ -53,7 +54,7 @@ fn push_binding(
             *growth = after;
         }
         None => {
-            let right = inline_right(alloc, core, growth, &binding.right)?;
+            let right = inline_right(alloc, work, growth, &binding.right)?;
             lets.push(Let {
                 targets: copy_vars(alloc, &binding.targets)?,
                 site: binding.site,
@@ -67,11 +68,11 @@ fn push_binding(
 #[cycle(inlining)]
 fn inline_right(
     alloc: Global,
-    core: &Core,
+    work: &Measured<'_>,
     growth: &mut Growth,
     right: &Right,
 ) -> Result<Right, Memory>
-    ensures { IfOk result (λ r. RightWalked (core_term core.now) growth.old (right_term right.now) (right_term r) growth.new) }
+    ensures { IfOk result (λ r. RightWalked (core_term work.now.core.now) growth.old (right_term right.now) (right_term r) growth.new) }
 {
     match right {
         Right::Const(a) => Ok(Right::Const(copy_array(a)?)),
@@ -86,8 +87,8 @@ fn inline_right(
         Right::Replace(x, y, z) => Ok(Right::Replace(*x, *y, *z)),
         Right::If { cond, yes, no } => Ok(Right::If {
             cond: *cond,
-            yes: inline_block(alloc, core, growth, yes)?,
-            no: inline_block(alloc, core, growth, no)?,
+            yes: inline_block(alloc, work, growth, yes)?,
+            no: inline_block(alloc, work, growth, no)?,
         }),
         Right::Loop {
             first_body,
@@ -100,16 +101,16 @@ fn inline_right(
             first_body: *first_body,
             start: copy_vars(alloc, start)?,
             params: copy_vars(alloc, params)?,
-            test: inline_block(alloc, core, growth, test)?,
-            body: inline_block(alloc, core, growth, body)?,
+            test: inline_block(alloc, work, growth, test)?,
+            body: inline_block(alloc, work, growth, body)?,
             test_site: *test_site,
         }),
         Right::Call { group, args } => Ok(Right::Call {
             group: *group,
             args: copy_vars(alloc, args)?,
         }),
-        Right::With(w) => Ok(Right::With(inline_with(alloc, core, growth, w)?)),
-        Right::Parted(p) => Ok(Right::Parted(inline_parted(alloc, core, growth, p)?)),
+        Right::With(w) => Ok(Right::With(inline_with(alloc, work, growth, w)?)),
+        Right::Parted(p) => Ok(Right::Parted(inline_parted(alloc, work, growth, p)?)),
         Right::Always(kind) => Ok(Right::Always(*kind)),
         Right::Check(x, ty) => Ok(Right::Check(*x, copy_type(ty))),
     }
@@ -118,15 +119,15 @@ fn inline_right(
 #[cycle(inlining)]
 fn inline_with(
     alloc: Global,
-    core: &Core,
+    work: &Measured<'_>,
     growth: &mut Growth,
     with: &WithLoop,
 ) -> Result<WithLoop, Memory>
-    ensures { IfOk result (λ w. RightInlined (core_term core.now) Anywhere growth.old (with_term with.now) (with_term w) growth.new) }
+    ensures { IfOk result (λ w. RightInlined (core_term work.now.core.now) Anywhere growth.old (with_term with.now) (with_term w) growth.new) }
 {
     let mut gens = Vec::new(alloc);
     for generator in &with.gens {
-        gens.push(inline_gen(alloc, core, growth, generator)?)?;
+        gens.push(inline_gen(alloc, work, growth, generator)?)?;
     }
     Ok(WithLoop { gens, op: with.op })
 }
@@ -134,11 +135,11 @@ fn inline_with(
 #[cycle(inlining)]
 fn inline_gen(
     alloc: Global,
-    core: &Core,
+    work: &Measured<'_>,
     growth: &mut Growth,
     generator: &CoreGen,
 ) -> Result<CoreGen, Memory>
-    ensures { IfOk result (λ g. GenInlined (core_term core.now) growth.old (gen_term generator.now) (gen_term g) growth.new) }
+    ensures { IfOk result (λ g. GenInlined (core_term work.now.core.now) growth.old (gen_term generator.now) (gen_term g) growth.new) }
 {
     Ok(CoreGen {
         lower: generator.lower,
@@ -149,7 +150,7 @@ fn inline_gen(
         width: generator.width,
         index: generator.index,
         names: copy_vars(alloc, &generator.names)?,
-        body: inline_block(alloc, core, growth, &generator.body)?,
+        body: inline_block(alloc, work, growth, &generator.body)?,
         site: generator.site,
     })
 }
@@ -157,15 +158,15 @@ fn inline_gen(
 #[cycle(inlining)]
 fn inline_parted(
     alloc: Global,
-    core: &Core,
+    work: &Measured<'_>,
     growth: &mut Growth,
     parted: &PartedLoop,
 ) -> Result<PartedLoop, Memory>
-    ensures { IfOk result (λ p. RightInlined (core_term core.now) Anywhere growth.old (parted_term parted.now) (parted_term p) growth.new) }
+    ensures { IfOk result (λ p. RightInlined (core_term work.now.core.now) Anywhere growth.old (parted_term parted.now) (parted_term p) growth.new) }
 {
     let mut parts = Vec::new(alloc);
     for part in &parted.parts {
-        parts.push(inline_part(alloc, core, growth, part)?)?;
+        parts.push(inline_part(alloc, work, growth, part)?)?;
     }
     let frame = parted.frame.copy(alloc)?;
     let cell = parted.cell.copy();
@@ -181,16 +182,16 @@ fn inline_parted(
 #[cycle(inlining)]
 fn inline_part(
     alloc: Global,
-    core: &Core,
+    work: &Measured<'_>,
     growth: &mut Growth,
     part: &CorePart,
 ) -> Result<CorePart, Memory>
-    ensures { IfOk result (λ p. PartInlined (core_term core.now) growth.old (part_term part.now) (part_term p) growth.new) }
+    ensures { IfOk result (λ p. PartInlined (core_term work.now.core.now) growth.old (part_term part.now) (part_term p) growth.new) }
 {
     Ok(CorePart {
         grid: part.grid.copy(alloc)?,
         index: part.index,
-        body: inline_block(alloc, core, growth, &part.body)?,
+        body: inline_block(alloc, work, growth, &part.body)?,
         site: part.site,
     })
 }

@@ -1,9 +1,11 @@
-use Rattle.std.proofs.Common.{◌+◌, sym, ap, subst, ◌∙◌, length, arith}
+use Rattle.std.proofs.Common.{◌+◌, sym, ap, subst, ◌∙◌, length, arith, Vec, Global}
 use Rattle.core_ir.specs.declared.tree.Core.{Core}
 use Rattle.core_ir.specs.Outcome.{SameOutcome}
 use Rattle.core_ir.specs.View.{core_term, fun_term}
 use Rattle.core_ir.specs.WellFormed.{IsWellFormed}
 use Rattle.core_inlined_bodies.specs.Functions.{ComeTo}
+use Rattle.inline_calls.specs.declared.sizes.Size.{Size}
+use Rattle.inline_calls.specs.Measures.{AreSizes}
 use Rattle.inline_calls.proofs.Passes.{alike, unlike, function_turn, function_passed}
 use Rattle.inline_calls.proofs.Instances.{mapped_at, read_at}
 use Rattle.inline_calls.proofs.functions.inline_functions.Goals as goal
@@ -22,17 +24,19 @@ loop-place-preserved c =
       | then-index-inlines+in_ok-inline_function w ↦
           let turn = function_turn start old (core_term w.inline_function.new.core) c.args.inlines k (fun_term x) (record { outcome = v.outcome; well = v.well; come = v.come }) w.in_ok-inline_function.ensures.inlined found (alike x.inline c.args.inlines w.if-index-inlines.true) in
           record {
-            outcome = subst (λ (m : Core). SameOutcome start (core_term m)) (sym w.core-is) turn.outcome;
-            well = subst (λ (m : Core). IsWellFormed (core_term m)) (sym w.core-is) turn.well;
-            come = subst (λ (m : Core). ComeTo (core_term m) c.args.inlines (k + 1)) (sym w.core-is) turn.come;
+            outcome = λ f. subst (λ (m : Core). SameOutcome start (core_term m)) (sym w.core-is) (turn.outcome f);
+            well = λ f. subst (λ (m : Core). IsWellFormed (core_term m)) (sym w.core-is) (turn.well f);
+            come = λ f d. subst (λ (m : Core). ComeTo (core_term m) c.args.inlines (k + 1)) (sym w.core-is) (turn.come f d);
+            sized = subst (λ (m : Core). AreSizes (core_term m) c.if-index-inlines.sizes.items) (sym w.core-is) (subst (λ (ss : Vec Size Global). AreSizes (core_term w.inline_function.new.core) ss.items) (sym w.sizes-is) w.in_ok-inline_function.ensures.sized);
             count = ap (λ (m : Core). length m.functions.items) w.core-is ∙ w.in_ok-inline_function.ensures.count ∙ v.count;
           }
       | else-index-inlines w ↦
           let turn = function_passed start old c.args.inlines k (fun_term x) (record { outcome = v.outcome; well = v.well; come = v.come }) found (unlike x.inline c.args.inlines w.if-index-inlines.false) in
           record {
-            outcome = subst (λ (m : Core). SameOutcome start (core_term m)) (sym w.core-is) turn.outcome;
-            well = subst (λ (m : Core). IsWellFormed (core_term m)) (sym w.core-is) turn.well;
-            come = subst (λ (m : Core). ComeTo (core_term m) c.args.inlines (k + 1)) (sym w.core-is) turn.come;
+            outcome = λ f. subst (λ (m : Core). SameOutcome start (core_term m)) (sym w.core-is) (turn.outcome f);
+            well = λ f. subst (λ (m : Core). IsWellFormed (core_term m)) (sym w.core-is) (turn.well f);
+            come = λ f d. subst (λ (m : Core). ComeTo (core_term m) c.args.inlines (k + 1)) (sym w.core-is) (turn.come f d);
+            sized = subst (λ (m : Core). AreSizes (core_term m) c.if-index-inlines.sizes.items) (sym w.core-is) (subst (λ (ss : Vec Size Global). AreSizes old ss.items) (sym w.sizes-is) v.sized);
             count = ap (λ (m : Core). length m.functions.items) w.core-is ∙ v.count;
           }
     ]

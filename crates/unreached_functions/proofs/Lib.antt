@@ -1,0 +1,5 @@
+mod Agreeing
+mod Called
+mod Emptied
+mod Numbers
+mod Places
