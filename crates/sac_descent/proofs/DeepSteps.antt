@@ -15,10 +15,11 @@ use Rattle.sac_ast.specs.declared.Expression.{Expression}
 use Rattle.sac_grammar.specs.Run.{starts, first, SameFirst, Runs, RunsIn}
 use Rattle.sac_grammar.specs.Tables.{first_of, ext_of, rank_of}
 use Rattle.sac_grammar.specs.High.{HasHigh}
-use Rattle.sac_grammar.specs.Limits.{Over, High, least_parts}
-use Rattle.sac_grammar.specs.Parsing.{Found, Lost, Reading, Stop, stuck, high, StopsSo, TallPart, Halted, Halts, HaltsSo, nth, inject, is_apart}
+use Rattle.sac_grammar.specs.Limits.{Over, High, gap_of, least_parts}
+use Rattle.sac_grammar.specs.Parsing.{Found, Lost, Reading, Stop, stuck, high, StopsAt, StopsIn, StopsSo, TallPart, Halted, Halts, HaltsSo, nth, inject, is_apart}
 use Rattle.sac_grammar.proofs.Machine.{false_true, starts_same}
-use Rattle.sac_grammar.proofs.High.{tall_before}
+use Rattle.sac_grammar.proofs.High.{tall_before, tall_rule}
+use Rattle.sac_grammar.proofs.Levels.{fails_rule}
 use Rattle.sac_grammar.proofs.Grows.{in_parens, list_high, index_high}
 use Rattle.sac_grammar.proofs.Parsing.{read_nth, read_ref, stop_ref}
 use Rattle.sac_grammar.proofs.Table.{table}
@@ -66,6 +67,14 @@ module _ {P : Stop → Type 0} {checked : Bool} where
   so_last (suc n) (ref k) G ts none h = so_map (λ c w g. (w, refl, g)) h
   so_last (suc n) (seq a b) G ts none h = so_map (λ c w g. (w, refl, g)) h
   so_last (suc n) (many a) G ts none h = so_map (λ c w g. (w, refl, g)) h
+
+  -- a phrase all of whose parts stand one node deeper
+  pub stops_deep : {d e : ℕ} {k : Nonterminal} {ts : List Lexeme} → ((v : V (rule k)) → HasHigh Tree first_of (λ (j : Nonterminal). High e j) (rule k) v → High d k (action k v)) → Halts P checked (λ _. e) (rule k) ts → Halted P checked d k ts
+  stops_deep {d} {e} {k} {ts} grows h = record { at = λ x p. at x (h.at x p); only = h.only }
+    where
+      at : (x : Stop) → StopsIn (λ (j : Nonterminal). e) (rule k) ts x → StopsAt d k ts x
+      at (stuck r) s = fails_rule Tree first_of rule action k ts r s
+      at (high r) s = tall_rule Tree first_of ext_of rank_of rule action table gap_of (λ (j : Nonterminal). High e j) k (High d k) grows ts r s
 
 -- ---- primary expressions
 

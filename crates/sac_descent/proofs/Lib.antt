@@ -6,3 +6,4 @@ pub mod PhraseSteps
 pub mod DeepSteps
 pub mod LoopSteps
 pub mod StatementSteps
+pub mod DeepStatements

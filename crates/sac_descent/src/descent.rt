@@ -1,13 +1,14 @@
 //! Expressions, with-loops and statements, by recursive descent: each function reads one phrase with one token of lookahead.
-ghost use Rattle.std.specs.Prelude.{◌≡◌, ◌<◌, ◌≤◌, ◌∷◌, IfOk, length, codes, true};
+ghost use Rattle.std.specs.Prelude.{◌≡◌, ◌<◌, ◌≤◌, ◌∷◌, IfErr, IfOk, length, codes, true};
 ghost use Rattle.sac_ast.specs.Shape.{ref, seq, many};
 ghost use Rattle.sac_ast.specs.Grammar.{expression, prefix, postfix, primary, generator, bound, operation, statement, if_statement, else_branch};
 ghost use Rattle.sac_ast.specs.Grammar.{block, assign, sum, listed, opt, parens, sign, rule};
 ghost use Rattle.sac_ast.specs.Heights.{height, gen_height, bound_height, operation_height, stmt_height};
 ghost use Rattle.sac_ast.specs.View as view;
 ghost use Rattle.sac_ast.specs.Texts.{is_name};
-ghost use Rattle.sac_grammar.specs.Parsing.{nth};
-ghost use Rattle.sac_phrases.specs.Contract.{lexemes_of, lexeme, IsPhraseAt, IsPhraseNear, IsPartAt, IsNodeAt};
+ghost use Rattle.sac_grammar.specs.Parsing.{Found, nth};
+ghost use Rattle.sac_phrases.specs.Contract.{lexemes_of, lexeme, IsNear, IsPhraseAt, IsPhraseNear, IsPartAt, IsNodeAt};
+ghost use Rattle.sac_descent.specs.Around.{StopsAround};
 ghost use Rattle.sac_phrases.specs.Parts.{IsListOf, IsArguments, IsInParens, IsPair, IsPrimary, IsPrimaryOf, IsGenerators, IsMaybe, IsBlockAt};
 ghost use Rattle.sac_phrases.specs.Parts.{itself, AssignRest, IsOperation, IsBlockOf, IsStatements, IsStatement, IsStatementOf, IsElse, IsAssigned};
 ghost use Rattle.sac_phrases.specs.Parts.{IsAssignedOf, Comma};
@@ -321,7 +322,7 @@ fn generators<'a>(place: Place, tokens: &'a [Token<'a>]) -> Read<'a, Vec<Generat
     let mut height = 0u32;
     let (_read, mut rest) = tokens.split_at(0);
     while cursor::starts_with(rest, b"(") {
-        let (next, after) = generator(place, rest)?;
+        let (next, after) = generator(place.inside(), rest)?;
         height = height.max(next.height);
         found.push(next.tree)?;
         rest = after;
@@ -337,7 +338,9 @@ fn generators<'a>(place: Place, tokens: &'a [Token<'a>]) -> Read<'a, Vec<Generat
 
 #[cycle(phrase)]
 fn generator<'a>(place: Place, tokens: &'a [Token<'a>]) -> Read<'a, Generator>
-    ensures phrase { IsPhraseNear place generator view.generator gen_height (lexemes_of tokens.now) result }
+    ensures phrase { IfOk result (λ x. Found generator (lexemes_of tokens.now) (view.generator x.0.tree) (lexemes_of x.1.now)) }
+    ensures near { IfOk result (λ x. IsNear place x.0.height (gen_height (view.generator x.0.tree))) }
+    ensures halt { IfErr result (StopsAround place (lexemes_of tokens.now)) }
     ensures shorter { IfOk result (λ x. length x.1.now < length tokens.now) }
 {
     let (open, rest) = cursor::expect(tokens, b"(")?;
@@ -462,12 +465,13 @@ fn operation<'a>(place: Place, tokens: &'a [Token<'a>]) -> Read<'a, Operation>
     ensures phrase { IsPhraseNear place operation view.operation operation_height (lexemes_of tokens.now) result }
     ensures shorter { IfOk result (λ x. length x.1.now < length tokens.now) }
 {
+    let inner = place.inside();
     if cursor::starts_with(tokens, b"genarray") {
-        genarray(place, tokens)
+        genarray(inner, tokens)
     } else if cursor::starts_with(tokens, b"modarray") {
-        modarray(place, tokens)
+        modarray(inner, tokens)
     } else {
-        fold(place, tokens)
+        fold(inner, tokens)
     }
 }
 
@@ -600,17 +604,18 @@ fn for_loop<'a>(place: Place, tokens: &'a [Token<'a>]) -> Read<'a, Vec<Statement
 /// A statement, which may be too high for its place by its last node.
 #[cycle(phrase)]
 fn any_statement<'a>(place: Place, tokens: &'a [Token<'a>]) -> Read<'a, Vec<Statement>>
-    ensures phrase { IsPartAt place (rule statement) (IsStatementOf place) (lexemes_of tokens.now) result }
+    ensures phrase { IsNodeAt place statement (IsStatementOf place) (lexemes_of tokens.now) result }
     ensures shorter { IfOk result (λ x. length x.1.now < length tokens.now) }
 {
+    let inner = place.inside();
     if cursor::starts_name(tokens) {
         assignment(place, tokens)
     } else if cursor::starts_with(tokens, b"if") {
         conditional(place, tokens)
     } else if cursor::starts_with(tokens, b"while") {
-        while_loop(place, tokens)
+        while_loop(inner, tokens)
     } else if cursor::starts_with(tokens, b"do") {
-        do_loop(place, tokens)
+        do_loop(inner, tokens)
     } else {
         for_loop(place, tokens)
     }
@@ -621,6 +626,9 @@ fn statement<'a>(place: Place, tokens: &'a [Token<'a>]) -> Read<'a, Vec<Statemen
     ensures phrase { IsBlockAt place statement itself (lexemes_of tokens.now) result }
     ensures shorter { IfOk result (λ x. length x.1.now < length tokens.now) }
 {
+    if place.has_no_room(1) {
+        return Err(Halt::High(tokens));
+    }
     let (node, rest) = any_statement(place, tokens)?;
     place::kept(place, node, rest)
 }
@@ -630,8 +638,12 @@ fn if_statement<'a>(place: Place, tokens: &'a [Token<'a>]) -> Read<'a, Statement
     ensures phrase { IsPhraseAt place if_statement view.stmt stmt_height (lexemes_of tokens.now) result }
     ensures shorter { IfOk result (λ x. length x.1.now < length tokens.now) }
 {
+    if place.has_no_room(1) {
+        return Err(Halt::High(tokens));
+    }
+    let inner = place.inside();
     let (word, rest) = cursor::expect(tokens, b"if")?;
-    let (cond, rest) = parens(place, rest)?;
+    let (cond, rest) = parens(inner, rest)?;
     let (yes, rest) = block(place.inside(), rest)?;
     let (no, rest) = maybe_else(place.inside(), rest)?;
     place::kept(place, node::if_else(cond, yes, no, word.site), rest)
@@ -735,6 +747,6 @@ fn assign<'a>(place: Place, tokens: &'a [Token<'a>]) -> Read<'a, Statement>
     ensures shorter { IfOk result (λ x. length x.1.now < length tokens.now) }
 {
     let (token, rest) = cursor::expect_name(tokens)?;
-    let (node, rest) = assigned(place, token, rest)?;
+    let (node, rest) = assigned(place.inside(), token, rest)?;
     place::kept(place, node, rest)
 }

@@ -2,14 +2,15 @@ use Rattle.std.proofs.Common.{[], ◌∷◌, ◌++◌, refl, sym, ap, ◌∙◌,
 use Rattle.std.proofs.lemmas.Result.{err_from_is_err_and}
 use Rattle.sac_base.specs.declared.op.Op.TheVariants.{Add, Sub, Mul, Div, Rem, Min, Max, And, Or}
 use Rattle.sac_ast.specs.Shape.{text, name}
-use Rattle.sac_ast.specs.Grammar.{rule, sign, primary, statement}
+use Rattle.sac_ast.specs.Grammar.{rule, sign, primary, statement, generator}
 use Rattle.sac_ast.specs.View as View
 use Rattle.sac_ast.specs.Tree as tree
 use Rattle.sac_ast.specs.Tree.{Expr}
 use Rattle.sac_ast.proofs.Views.{generator_is}
 use Rattle.sac_phrases.specs.Heights.{IsAbove}
 use Rattle.sac_grammar.proofs.Parsing.{read_ref, read_then, read_first, read_none, stops, stop_ref, stop_left, stop_right, stop_first, stop_second}
-use Rattle.sac_phrases.specs.Contract.{lexeme, lexemes_of}
+use Rattle.sac_grammar.specs.Parsing.{Halted}
+use Rattle.sac_phrases.specs.Contract.{lexeme, lexemes_of, StopOf}
 use Rattle.sac_phrases.specs.declared.level.Level.{Level}
 use Rattle.sac_phrases.specs.Levels.{IsOperandAt}
 use Rattle.sac_phrases.specs.Parts.{AssignRest, IsPrimaryOf, IsStatementOf, IsAssignedOf}
@@ -18,9 +19,11 @@ use Rattle.sac_descent.proofs.LevelSteps.{LevelSoFar, level_tall, level_begin, l
 use Rattle.sac_descent.proofs.ListSteps.{ListRead, PostRead, GensRead, StmtsRead, list_begin, list_next, list_whole, list_halts, post_begin, post_next, post_halts, post_end, post_high, select_tall, gens_begin, gens_next, gens_whole, gens_halts, stmts_begin, stmts_next, stmts_whole, stmts_halts}
 use Rattle.sac_descent.proofs.PhraseSteps.{arguments_some, arguments_none, parens_read, pair_read, variable_read, call_read, builtin_read, reshape_read, extreme_read, array_read, parens_primary, with_read, prefix_postfix, prefix_high, inside, small_depth, room_depth, stop_inside, prefix_stop, prefix_read, plain_read, choice_stop, choice_read, primary_kept}
 use Rattle.sac_grammar.proofs.Deeper.{deeper, call_deeper, builtin_deeper, reshape_deeper, extreme_deeper, literal_deeper, with_deeper}
-use Rattle.sac_descent.proofs.DeepSteps.{low_weaker, node_nth, node_last, parens_same, primary_high, index_stop, level_deep, choice_high}
-use Rattle.sac_descent.proofs.LoopSteps.{dot_read, given_read, maybe_none, maybe_some, genarray_read, modarray_read, fold_read, operation_nth, operation_last, generator_read}
-use Rattle.sac_descent.proofs.StatementSteps.{block_read, body_some, none_read, else_some, else_block, else_if, assignment_read, conditional_read, while_read, do_read, for_read, statement_kept, if_read, else_stop, cond_stop, several_read, replace_read, compound_read, assign_kept}
+use Rattle.sac_descent.proofs.DeepSteps.{stops_deep, low_weaker, node_nth, node_last, parens_same, primary_high, index_stop, level_deep, choice_high}
+use Rattle.sac_grammar.proofs.Grows.{grows_statement}
+use Rattle.sac_descent.proofs.DeepStatements.{statement_high, if_high, while_deeper, do_deeper, statement_nth, statement_last, cond_halts, parens_weaker, assign_halts, assigned_same}
+use Rattle.sac_descent.proofs.LoopSteps.{generator_deeper, dot_read, given_read, maybe_none, maybe_some, genarray_read, modarray_read, fold_read, operation_nth, operation_last, generator_read}
+use Rattle.sac_descent.proofs.StatementSteps.{block_read, body_some, none_read, else_some, else_block, else_if, assignment_read, conditional_read, while_read, do_read, for_read, statement_kept, if_read, else_stop, several_read, replace_read, compound_read, assign_kept}
 use Rattle.sac_descent.proofs.descent.+phrase.Goals as goal
 
 -- ---- list
@@ -351,60 +354,63 @@ pub generators-loop-place-init : goal.generators-loop-place-init
 generators-loop-place-init t c = record { shorter = omega (arith, ap length c.split_at.ensures.back); so_far = gens_begin c.args.place (lexemes_of c.args.tokens.now) _ _ c.new-found.ensures.items (ap lexemes_of c.split_at.ensures.back) }
 
 pub generators-returns-in_err-next-clause-phrase : goal.generators-returns-in_err-next-clause-phrase
-generators-returns-in_err-next-clause-phrase t c = let p = err_from_is_err_and c.from_residual.result c.from_residual.ensures.1 in rw (p.1, p.2) (gens_halts c.args.place _ _ _ _ c.loop-place.invariant.so_far (sym c.starts_with.ensures ∙ c.loop-place-test.true) c.in_err-next.ensures.phrase)
+generators-returns-in_err-next-clause-phrase t c = let p = err_from_is_err_and c.from_residual.result c.from_residual.ensures.1 in rw (p.1, p.2) (gens_halts c.args.place _ _ _ _ c.loop-place.invariant.so_far (sym c.starts_with.ensures ∙ c.loop-place-test.true) (subst (λ b. Halted (StopOf c.in_err-next.field-0.0) b c.args.place.depth generator (lexemes_of c.loop-place.rest.now)) c.inside.ensures.checked (c.in_err-next.ensures.halt c.args.place.depth (deeper c.args.place.depth c.inside.result.depth c.inside.ensures.depth))))
 
 pub generators-returns-in_err-push-clause-phrase : goal.generators-returns-in_err-push-clause-phrase
 generators-returns-in_err-push-clause-phrase t c = let p = err_from_is_err_and c.from_residual-in_err-push.result c.from_residual-in_err-push.ensures.1 in rw p.1 (memory_halts _ p.2)
 
 pub generators-loop-place-preserved : goal.generators-loop-place-preserved
-generators-loop-place-preserved t c = record { shorter = less_le _ _ _ c.in_ok-next.ensures.shorter c.loop-place.invariant.shorter; so_far = subst (λ n. GensRead c.args.place (lexemes_of c.args.tokens.now) c.push.new.self.items n (lexemes_of c.in_ok-next.after.now)) (sym c.max-height.ensures) (gens_next c.args.place (lexemes_of c.args.tokens.now) c.loop-place.found.items c.loop-place.height _ c.in_ok-next.next c.in_ok-next.after _ c.loop-place.invariant.so_far (sym c.starts_with.ensures ∙ c.loop-place-test.true) c.in_ok-push.ensures.items c.in_ok-next.ensures.phrase) }
+generators-loop-place-preserved t c = record { shorter = less_le _ _ _ c.in_ok-next.ensures.shorter c.loop-place.invariant.shorter; so_far = subst (λ n. GensRead c.args.place (lexemes_of c.args.tokens.now) c.push.new.self.items n (lexemes_of c.in_ok-next.after.now)) (sym c.max-height.ensures) (gens_next c.args.place (lexemes_of c.args.tokens.now) c.loop-place.found.items c.loop-place.height _ c.in_ok-next.next c.in_ok-next.after _ c.loop-place.invariant.so_far (sym c.starts_with.ensures ∙ c.loop-place-test.true) c.in_ok-push.ensures.items (c.in_ok-next.ensures.phrase, λ k. c.in_ok-next.ensures.near (c.inside.ensures.checked ∙ k))) }
 
 pub generators-returns-clause-phrase : goal.generators-returns-clause-phrase
 generators-returns-clause-phrase t c = gens_whole c.args.place _ _ _ c.loop-place.invariant.so_far (sym c.starts_with.ensures ∙ c.loop-place-test.false)
 
 -- ---- generator
 
-pub generator-returns-in_err-open-clause-phrase : goal.generator-returns-in_err-open-clause-phrase
-generator-returns-in_err-open-clause-phrase t c = let p = err_from_is_err_and c.from_residual.result c.from_residual.ensures.1 in rw (p.1, p.2) (stops (stop_left (stop_left (token_halts (text (codes "(")) _ _ c.in_err-open.ensures.token))))
+pub generator-returns-in_err-open-clause-halt : goal.generator-returns-in_err-open-clause-halt
+generator-returns-in_err-open-clause-halt t c = let p = err_from_is_err_and c.from_residual.result c.from_residual.ensures.1 in rw (p.1, p.2) (λ d up. stops_deep (generator_deeper d c.args.place.depth up) (stop_left (stop_left (token_halts (text (codes "(")) _ _ c.in_err-open.ensures.token))))
 
-pub generator-returns-in_err-lower-clause-phrase : goal.generator-returns-in_err-lower-clause-phrase
-generator-returns-in_err-lower-clause-phrase t c = let p = err_from_is_err_and c.from_residual-in_err-lower.result c.from_residual-in_err-lower.ensures.1 in rw (p.1, p.2) (stops (stop_left (stop_right (token_read c.in_ok-open.ensures.token) (stop_left (stop_left (stop_ref c.in_err-lower.ensures.phrase))))))
+pub generator-returns-in_err-lower-clause-halt : goal.generator-returns-in_err-lower-clause-halt
+generator-returns-in_err-lower-clause-halt t c = let p = err_from_is_err_and c.from_residual-in_err-lower.result c.from_residual-in_err-lower.ensures.1 in rw (p.1, p.2) (λ d up. stops_deep (generator_deeper d c.args.place.depth up) (stop_left (stop_right (token_read c.in_ok-open.ensures.token) (stop_left (stop_left (stop_ref c.in_err-lower.ensures.phrase))))))
 
-pub generator-returns-in_err-lower_closed-clause-phrase : goal.generator-returns-in_err-lower_closed-clause-phrase
-generator-returns-in_err-lower_closed-clause-phrase t c = let p = err_from_is_err_and c.from_residual-in_err-lower_closed.result c.from_residual-in_err-lower_closed.ensures.1 in rw (p.1, p.2) (stops (stop_left (stop_right (token_read c.in_ok-open.ensures.token) (stop_left (stop_right (read_ref c.in_ok-lower.ensures.phrase.0) (stop_left (c.in_err-lower_closed.ensures.phrase _ _)))))))
+pub generator-returns-in_err-lower_closed-clause-halt : goal.generator-returns-in_err-lower_closed-clause-halt
+generator-returns-in_err-lower_closed-clause-halt t c = let p = err_from_is_err_and c.from_residual-in_err-lower_closed.result c.from_residual-in_err-lower_closed.ensures.1 in rw (p.1, p.2) (λ d up. stops_deep (generator_deeper d c.args.place.depth up) (stop_left (stop_right (token_read c.in_ok-open.ensures.token) (stop_left (stop_right (read_ref c.in_ok-lower.ensures.phrase.0) (stop_left (c.in_err-lower_closed.ensures.phrase _ _)))))))
 
-pub generator-returns-in_err-index-clause-phrase : goal.generator-returns-in_err-index-clause-phrase
-generator-returns-in_err-index-clause-phrase t c = let p = err_from_is_err_and c.from_residual-in_err-index.result c.from_residual-in_err-index.ensures.1 in rw (p.1, p.2) (stops (stop_left (stop_right (token_read c.in_ok-open.ensures.token) (stop_left (stop_right (read_ref c.in_ok-lower.ensures.phrase.0) (stop_right c.in_ok-lower_closed.ensures.phrase.1 (stop_left (c.in_err-index.ensures.phrase _ _))))))))
+pub generator-returns-in_err-index-clause-halt : goal.generator-returns-in_err-index-clause-halt
+generator-returns-in_err-index-clause-halt t c = let p = err_from_is_err_and c.from_residual-in_err-index.result c.from_residual-in_err-index.ensures.1 in rw (p.1, p.2) (λ d up. stops_deep (generator_deeper d c.args.place.depth up) (stop_left (stop_right (token_read c.in_ok-open.ensures.token) (stop_left (stop_right (read_ref c.in_ok-lower.ensures.phrase.0) (stop_right c.in_ok-lower_closed.ensures.phrase.1 (stop_left (c.in_err-index.ensures.phrase _ _))))))))
 
-pub generator-returns-in_err-upper_closed-clause-phrase : goal.generator-returns-in_err-upper_closed-clause-phrase
-generator-returns-in_err-upper_closed-clause-phrase t c = let p = err_from_is_err_and c.from_residual-in_err-upper_closed.result c.from_residual-in_err-upper_closed.ensures.1 in rw (p.1, p.2) (stops (stop_left (stop_right (token_read c.in_ok-open.ensures.token) (stop_left (stop_right (read_ref c.in_ok-lower.ensures.phrase.0) (stop_right c.in_ok-lower_closed.ensures.phrase.1 (stop_right c.in_ok-index.ensures.phrase.1 (stop_left (c.in_err-upper_closed.ensures.phrase _ _)))))))))
+pub generator-returns-in_err-upper_closed-clause-halt : goal.generator-returns-in_err-upper_closed-clause-halt
+generator-returns-in_err-upper_closed-clause-halt t c = let p = err_from_is_err_and c.from_residual-in_err-upper_closed.result c.from_residual-in_err-upper_closed.ensures.1 in rw (p.1, p.2) (λ d up. stops_deep (generator_deeper d c.args.place.depth up) (stop_left (stop_right (token_read c.in_ok-open.ensures.token) (stop_left (stop_right (read_ref c.in_ok-lower.ensures.phrase.0) (stop_right c.in_ok-lower_closed.ensures.phrase.1 (stop_right c.in_ok-index.ensures.phrase.1 (stop_left (c.in_err-upper_closed.ensures.phrase _ _)))))))))
 
-pub generator-returns-in_err-upper-clause-phrase : goal.generator-returns-in_err-upper-clause-phrase
-generator-returns-in_err-upper-clause-phrase t c = let p = err_from_is_err_and c.from_residual-in_err-upper.result c.from_residual-in_err-upper.ensures.1 in rw (p.1, p.2) (stops (stop_left (stop_right (token_read c.in_ok-open.ensures.token) (stop_left (stop_right (read_ref c.in_ok-lower.ensures.phrase.0) (stop_right c.in_ok-lower_closed.ensures.phrase.1 (stop_right c.in_ok-index.ensures.phrase.1 (stop_right c.in_ok-upper_closed.ensures.phrase.1 (stop_left (stop_ref c.in_err-upper.ensures.phrase))))))))))
+pub generator-returns-in_err-upper-clause-halt : goal.generator-returns-in_err-upper-clause-halt
+generator-returns-in_err-upper-clause-halt t c = let p = err_from_is_err_and c.from_residual-in_err-upper.result c.from_residual-in_err-upper.ensures.1 in rw (p.1, p.2) (λ d up. stops_deep (generator_deeper d c.args.place.depth up) (stop_left (stop_right (token_read c.in_ok-open.ensures.token) (stop_left (stop_right (read_ref c.in_ok-lower.ensures.phrase.0) (stop_right c.in_ok-lower_closed.ensures.phrase.1 (stop_right c.in_ok-index.ensures.phrase.1 (stop_right c.in_ok-upper_closed.ensures.phrase.1 (stop_left (stop_ref c.in_err-upper.ensures.phrase))))))))))
 
-pub generator-returns-in_err-step-clause-phrase : goal.generator-returns-in_err-step-clause-phrase
-generator-returns-in_err-step-clause-phrase t c = let p = err_from_is_err_and c.from_residual-in_err-step.result c.from_residual-in_err-step.ensures.1 in rw (p.1, p.2) (stops (stop_left (stop_right (token_read c.in_ok-open.ensures.token) (stop_left (stop_right (read_ref c.in_ok-lower.ensures.phrase.0) (stop_right c.in_ok-lower_closed.ensures.phrase.1 (stop_right c.in_ok-index.ensures.phrase.1 (stop_right c.in_ok-upper_closed.ensures.phrase.1 (stop_right (read_ref c.in_ok-upper.ensures.phrase.0) (stop_left c.in_err-step.ensures.phrase))))))))))
+pub generator-returns-in_err-step-clause-halt : goal.generator-returns-in_err-step-clause-halt
+generator-returns-in_err-step-clause-halt t c = let p = err_from_is_err_and c.from_residual-in_err-step.result c.from_residual-in_err-step.ensures.1 in rw (p.1, p.2) (λ d up. stops_deep (generator_deeper d c.args.place.depth up) (stop_left (stop_right (token_read c.in_ok-open.ensures.token) (stop_left (stop_right (read_ref c.in_ok-lower.ensures.phrase.0) (stop_right c.in_ok-lower_closed.ensures.phrase.1 (stop_right c.in_ok-index.ensures.phrase.1 (stop_right c.in_ok-upper_closed.ensures.phrase.1 (stop_right (read_ref c.in_ok-upper.ensures.phrase.0) (stop_left c.in_err-step.ensures.phrase))))))))))
 
-pub generator-returns-in_err-width-clause-phrase : goal.generator-returns-in_err-width-clause-phrase
-generator-returns-in_err-width-clause-phrase t c = let p = err_from_is_err_and c.from_residual-in_err-width.result c.from_residual-in_err-width.ensures.1 in rw (p.1, p.2) (stops (stop_left (stop_right (token_read c.in_ok-open.ensures.token) (stop_left (stop_right (read_ref c.in_ok-lower.ensures.phrase.0) (stop_right c.in_ok-lower_closed.ensures.phrase.1 (stop_right c.in_ok-index.ensures.phrase.1 (stop_right c.in_ok-upper_closed.ensures.phrase.1 (stop_right (read_ref c.in_ok-upper.ensures.phrase.0) (stop_right c.in_ok-step.ensures.phrase.1 c.in_err-width.ensures.phrase))))))))))
+pub generator-returns-in_err-width-clause-halt : goal.generator-returns-in_err-width-clause-halt
+generator-returns-in_err-width-clause-halt t c = let p = err_from_is_err_and c.from_residual-in_err-width.result c.from_residual-in_err-width.ensures.1 in rw (p.1, p.2) (λ d up. stops_deep (generator_deeper d c.args.place.depth up) (stop_left (stop_right (token_read c.in_ok-open.ensures.token) (stop_left (stop_right (read_ref c.in_ok-lower.ensures.phrase.0) (stop_right c.in_ok-lower_closed.ensures.phrase.1 (stop_right c.in_ok-index.ensures.phrase.1 (stop_right c.in_ok-upper_closed.ensures.phrase.1 (stop_right (read_ref c.in_ok-upper.ensures.phrase.0) (stop_right c.in_ok-step.ensures.phrase.1 c.in_err-width.ensures.phrase))))))))))
 
-pub generator-returns-in_err-_close-clause-phrase : goal.generator-returns-in_err-_close-clause-phrase
-generator-returns-in_err-_close-clause-phrase t c = let p = err_from_is_err_and c.from_residual-in_err-_close.result c.from_residual-in_err-_close.ensures.1 in rw (p.1, p.2) (stops (stop_left (stop_right (token_read c.in_ok-open.ensures.token) (stop_right (read_then (read_ref c.in_ok-lower.ensures.phrase.0) (read_then c.in_ok-lower_closed.ensures.phrase.1 (read_then c.in_ok-index.ensures.phrase.1 (read_then c.in_ok-upper_closed.ensures.phrase.1 (read_then (read_ref c.in_ok-upper.ensures.phrase.0) (read_then c.in_ok-step.ensures.phrase.1 c.in_ok-width.ensures.phrase.1)))))) (token_halts (text (codes ")")) _ _ c.in_err-_close.ensures.token)))))
+pub generator-returns-in_err-_close-clause-halt : goal.generator-returns-in_err-_close-clause-halt
+generator-returns-in_err-_close-clause-halt t c = let p = err_from_is_err_and c.from_residual-in_err-_close.result c.from_residual-in_err-_close.ensures.1 in rw (p.1, p.2) (λ d up. stops_deep (generator_deeper d c.args.place.depth up) (stop_left (stop_right (token_read c.in_ok-open.ensures.token) (stop_right (read_then (read_ref c.in_ok-lower.ensures.phrase.0) (read_then c.in_ok-lower_closed.ensures.phrase.1 (read_then c.in_ok-index.ensures.phrase.1 (read_then c.in_ok-upper_closed.ensures.phrase.1 (read_then (read_ref c.in_ok-upper.ensures.phrase.0) (read_then c.in_ok-step.ensures.phrase.1 c.in_ok-width.ensures.phrase.1)))))) (token_halts (text (codes ")")) _ _ c.in_err-_close.ensures.token)))))
 
-pub generator-returns-in_err-body-clause-phrase : goal.generator-returns-in_err-body-clause-phrase
-generator-returns-in_err-body-clause-phrase t c = let p = err_from_is_err_and c.from_residual-in_err-body.result c.from_residual-in_err-body.ensures.1 in rw (p.1, p.2) (stops (stop_right (read_then (token_read c.in_ok-open.ensures.token) (read_then (read_then (read_ref c.in_ok-lower.ensures.phrase.0) (read_then c.in_ok-lower_closed.ensures.phrase.1 (read_then c.in_ok-index.ensures.phrase.1 (read_then c.in_ok-upper_closed.ensures.phrase.1 (read_then (read_ref c.in_ok-upper.ensures.phrase.0) (read_then c.in_ok-step.ensures.phrase.1 c.in_ok-width.ensures.phrase.1)))))) (token_read c.in_ok-_close.ensures.token))) (stop_left c.in_err-body.ensures.phrase)))
+pub generator-returns-in_err-body-clause-halt : goal.generator-returns-in_err-body-clause-halt
+generator-returns-in_err-body-clause-halt t c = let p = err_from_is_err_and c.from_residual-in_err-body.result c.from_residual-in_err-body.ensures.1 in rw (p.1, p.2) (λ d up. stops_deep (generator_deeper d c.args.place.depth up) (stop_right (read_then (token_read c.in_ok-open.ensures.token) (read_then (read_then (read_ref c.in_ok-lower.ensures.phrase.0) (read_then c.in_ok-lower_closed.ensures.phrase.1 (read_then c.in_ok-index.ensures.phrase.1 (read_then c.in_ok-upper_closed.ensures.phrase.1 (read_then (read_ref c.in_ok-upper.ensures.phrase.0) (read_then c.in_ok-step.ensures.phrase.1 c.in_ok-width.ensures.phrase.1)))))) (token_read c.in_ok-_close.ensures.token))) (stop_left c.in_err-body.ensures.phrase)))
 
-pub generator-returns-in_err-_colon-clause-phrase : goal.generator-returns-in_err-_colon-clause-phrase
-generator-returns-in_err-_colon-clause-phrase t c = let p = err_from_is_err_and c.from_residual-in_err-_colon.result c.from_residual-in_err-_colon.ensures.1 in rw (p.1, p.2) (stops (stop_right (read_then (token_read c.in_ok-open.ensures.token) (read_then (read_then (read_ref c.in_ok-lower.ensures.phrase.0) (read_then c.in_ok-lower_closed.ensures.phrase.1 (read_then c.in_ok-index.ensures.phrase.1 (read_then c.in_ok-upper_closed.ensures.phrase.1 (read_then (read_ref c.in_ok-upper.ensures.phrase.0) (read_then c.in_ok-step.ensures.phrase.1 c.in_ok-width.ensures.phrase.1)))))) (token_read c.in_ok-_close.ensures.token))) (stop_right c.in_ok-body.ensures.phrase.1 (stop_left (token_halts (text (codes ":")) _ _ c.in_err-_colon.ensures.token)))))
+pub generator-returns-in_err-_colon-clause-halt : goal.generator-returns-in_err-_colon-clause-halt
+generator-returns-in_err-_colon-clause-halt t c = let p = err_from_is_err_and c.from_residual-in_err-_colon.result c.from_residual-in_err-_colon.ensures.1 in rw (p.1, p.2) (λ d up. stops_deep (generator_deeper d c.args.place.depth up) (stop_right (read_then (token_read c.in_ok-open.ensures.token) (read_then (read_then (read_ref c.in_ok-lower.ensures.phrase.0) (read_then c.in_ok-lower_closed.ensures.phrase.1 (read_then c.in_ok-index.ensures.phrase.1 (read_then c.in_ok-upper_closed.ensures.phrase.1 (read_then (read_ref c.in_ok-upper.ensures.phrase.0) (read_then c.in_ok-step.ensures.phrase.1 c.in_ok-width.ensures.phrase.1)))))) (token_read c.in_ok-_close.ensures.token))) (stop_right c.in_ok-body.ensures.phrase.1 (stop_left (token_halts (text (codes ":")) _ _ c.in_err-_colon.ensures.token)))))
 
-pub generator-returns-in_err-cell-clause-phrase : goal.generator-returns-in_err-cell-clause-phrase
-generator-returns-in_err-cell-clause-phrase t c = let p = err_from_is_err_and c.from_residual-in_err-cell.result c.from_residual-in_err-cell.ensures.1 in rw (p.1, p.2) (stops (stop_right (read_then (token_read c.in_ok-open.ensures.token) (read_then (read_then (read_ref c.in_ok-lower.ensures.phrase.0) (read_then c.in_ok-lower_closed.ensures.phrase.1 (read_then c.in_ok-index.ensures.phrase.1 (read_then c.in_ok-upper_closed.ensures.phrase.1 (read_then (read_ref c.in_ok-upper.ensures.phrase.0) (read_then c.in_ok-step.ensures.phrase.1 c.in_ok-width.ensures.phrase.1)))))) (token_read c.in_ok-_close.ensures.token))) (stop_right c.in_ok-body.ensures.phrase.1 (stop_right (token_read c.in_ok-_colon.ensures.token) (stop_left (stop_ref c.in_err-cell.ensures.phrase))))))
+pub generator-returns-in_err-cell-clause-halt : goal.generator-returns-in_err-cell-clause-halt
+generator-returns-in_err-cell-clause-halt t c = let p = err_from_is_err_and c.from_residual-in_err-cell.result c.from_residual-in_err-cell.ensures.1 in rw (p.1, p.2) (λ d up. stops_deep (generator_deeper d c.args.place.depth up) (stop_right (read_then (token_read c.in_ok-open.ensures.token) (read_then (read_then (read_ref c.in_ok-lower.ensures.phrase.0) (read_then c.in_ok-lower_closed.ensures.phrase.1 (read_then c.in_ok-index.ensures.phrase.1 (read_then c.in_ok-upper_closed.ensures.phrase.1 (read_then (read_ref c.in_ok-upper.ensures.phrase.0) (read_then c.in_ok-step.ensures.phrase.1 c.in_ok-width.ensures.phrase.1)))))) (token_read c.in_ok-_close.ensures.token))) (stop_right c.in_ok-body.ensures.phrase.1 (stop_right (token_read c.in_ok-_colon.ensures.token) (stop_left (stop_ref c.in_err-cell.ensures.phrase))))))
 
-pub generator-returns-in_err-_end-clause-phrase : goal.generator-returns-in_err-_end-clause-phrase
-generator-returns-in_err-_end-clause-phrase t c = let p = err_from_is_err_and c.from_residual-in_err-_end.result c.from_residual-in_err-_end.ensures.1 in rw (p.1, p.2) (stops (stop_right (read_then (token_read c.in_ok-open.ensures.token) (read_then (read_then (read_ref c.in_ok-lower.ensures.phrase.0) (read_then c.in_ok-lower_closed.ensures.phrase.1 (read_then c.in_ok-index.ensures.phrase.1 (read_then c.in_ok-upper_closed.ensures.phrase.1 (read_then (read_ref c.in_ok-upper.ensures.phrase.0) (read_then c.in_ok-step.ensures.phrase.1 c.in_ok-width.ensures.phrase.1)))))) (token_read c.in_ok-_close.ensures.token))) (stop_right c.in_ok-body.ensures.phrase.1 (stop_right (token_read c.in_ok-_colon.ensures.token) (stop_right (read_ref c.in_ok-cell.ensures.phrase.0) (token_halts (text (codes ";")) _ _ c.in_err-_end.ensures.token))))))
+pub generator-returns-in_err-_end-clause-halt : goal.generator-returns-in_err-_end-clause-halt
+generator-returns-in_err-_end-clause-halt t c = let p = err_from_is_err_and c.from_residual-in_err-_end.result c.from_residual-in_err-_end.ensures.1 in rw (p.1, p.2) (λ d up. stops_deep (generator_deeper d c.args.place.depth up) (stop_right (read_then (token_read c.in_ok-open.ensures.token) (read_then (read_then (read_ref c.in_ok-lower.ensures.phrase.0) (read_then c.in_ok-lower_closed.ensures.phrase.1 (read_then c.in_ok-index.ensures.phrase.1 (read_then c.in_ok-upper_closed.ensures.phrase.1 (read_then (read_ref c.in_ok-upper.ensures.phrase.0) (read_then c.in_ok-step.ensures.phrase.1 c.in_ok-width.ensures.phrase.1)))))) (token_read c.in_ok-_close.ensures.token))) (stop_right c.in_ok-body.ensures.phrase.1 (stop_right (token_read c.in_ok-_colon.ensures.token) (stop_right (read_ref c.in_ok-cell.ensures.phrase.0) (token_halts (text (codes ";")) _ _ c.in_err-_end.ensures.token))))))
 
 pub generator-returns-clause-phrase : goal.generator-returns-clause-phrase
-generator-returns-clause-phrase t c = let above = subst (λ m. IsAbove c.node_height.result m) (c.max-height.ensures ∙ ap (max c.in_ok-lower.lower.height) (c.max-4.ensures ∙ ap (max c.in_ok-upper.upper.height) (c.max-3.ensures ∙ ap (max c.in_ok-step.step.height) (c.max-2.ensures ∙ ap (max c.in_ok-width.width.height) c.max.ensures)))) c.node_height.ensures in generator_read c.args.place (lexemes_of c.args.tokens.now) _ (lexeme c.in_ok-open.open) _ _ _ c.in_ok-lower.lower c.in_ok-upper.upper c.in_ok-lower_closed.lower_closed c.in_ok-upper_closed.upper_closed c.in_ok-index.index c.in_ok-step.step c.in_ok-width.width c.in_ok-body.body c.in_ok-cell.cell _ _ _ _ _ _ _ c.in_ok-open.ensures.token c.in_ok-lower.ensures.phrase c.in_ok-lower_closed.ensures.phrase.1 c.in_ok-lower_closed.ensures.phrase.2 c.in_ok-index.ensures.phrase.1 c.in_ok-index.ensures.phrase.2 c.in_ok-upper_closed.ensures.phrase.1 c.in_ok-upper_closed.ensures.phrase.2 c.in_ok-upper.ensures.phrase c.in_ok-step.ensures.phrase.1 c.in_ok-step.ensures.phrase.2 c.in_ok-width.ensures.phrase.1 c.in_ok-width.ensures.phrase.2 c.in_ok-_close.ensures.token c.in_ok-body.ensures.phrase.1 c.in_ok-body.ensures.phrase.2 c.in_ok-_colon.ensures.token c.in_ok-cell.ensures.phrase c.in_ok-_end.ensures.token (record { tree = generator_is _; above = above })
+generator-returns-clause-phrase t c = let above = subst (λ m. IsAbove c.node_height.result m) (c.max-height.ensures ∙ ap (max c.in_ok-lower.lower.height) (c.max-4.ensures ∙ ap (max c.in_ok-upper.upper.height) (c.max-3.ensures ∙ ap (max c.in_ok-step.step.height) (c.max-2.ensures ∙ ap (max c.in_ok-width.width.height) c.max.ensures)))) c.node_height.ensures in (generator_read c.args.place (lexemes_of c.args.tokens.now) _ (lexeme c.in_ok-open.open) _ _ _ c.in_ok-lower.lower c.in_ok-upper.upper c.in_ok-lower_closed.lower_closed c.in_ok-upper_closed.upper_closed c.in_ok-index.index c.in_ok-step.step c.in_ok-width.width c.in_ok-body.body c.in_ok-cell.cell _ _ _ _ _ _ _ c.in_ok-open.ensures.token c.in_ok-lower.ensures.phrase c.in_ok-lower_closed.ensures.phrase.1 c.in_ok-lower_closed.ensures.phrase.2 c.in_ok-index.ensures.phrase.1 c.in_ok-index.ensures.phrase.2 c.in_ok-upper_closed.ensures.phrase.1 c.in_ok-upper_closed.ensures.phrase.2 c.in_ok-upper.ensures.phrase c.in_ok-step.ensures.phrase.1 c.in_ok-step.ensures.phrase.2 c.in_ok-width.ensures.phrase.1 c.in_ok-width.ensures.phrase.2 c.in_ok-_close.ensures.token c.in_ok-body.ensures.phrase.1 c.in_ok-body.ensures.phrase.2 c.in_ok-_colon.ensures.token c.in_ok-cell.ensures.phrase c.in_ok-_end.ensures.token (record { tree = generator_is _; above = above })).0
+
+pub generator-returns-clause-near : goal.generator-returns-clause-near
+generator-returns-clause-near t c = let above = subst (λ m. IsAbove c.node_height.result m) (c.max-height.ensures ∙ ap (max c.in_ok-lower.lower.height) (c.max-4.ensures ∙ ap (max c.in_ok-upper.upper.height) (c.max-3.ensures ∙ ap (max c.in_ok-step.step.height) (c.max-2.ensures ∙ ap (max c.in_ok-width.width.height) c.max.ensures)))) c.node_height.ensures in (generator_read c.args.place (lexemes_of c.args.tokens.now) _ (lexeme c.in_ok-open.open) _ _ _ c.in_ok-lower.lower c.in_ok-upper.upper c.in_ok-lower_closed.lower_closed c.in_ok-upper_closed.upper_closed c.in_ok-index.index c.in_ok-step.step c.in_ok-width.width c.in_ok-body.body c.in_ok-cell.cell _ _ _ _ _ _ _ c.in_ok-open.ensures.token c.in_ok-lower.ensures.phrase c.in_ok-lower_closed.ensures.phrase.1 c.in_ok-lower_closed.ensures.phrase.2 c.in_ok-index.ensures.phrase.1 c.in_ok-index.ensures.phrase.2 c.in_ok-upper_closed.ensures.phrase.1 c.in_ok-upper_closed.ensures.phrase.2 c.in_ok-upper.ensures.phrase c.in_ok-step.ensures.phrase.1 c.in_ok-step.ensures.phrase.2 c.in_ok-width.ensures.phrase.1 c.in_ok-width.ensures.phrase.2 c.in_ok-_close.ensures.token c.in_ok-body.ensures.phrase.1 c.in_ok-body.ensures.phrase.2 c.in_ok-_colon.ensures.token c.in_ok-cell.ensures.phrase c.in_ok-_end.ensures.token (record { tree = generator_is _; above = above })).1
 
 -- ---- bound
 
@@ -496,13 +502,13 @@ fold-returns-clause-phrase t c = fold_read c.args.place c.in-Some.op c.in-Some._
 -- ---- operation
 
 pub operation-returns-then-starts_with-clause-phrase : goal.operation-returns-then-starts_with-clause-phrase
-operation-returns-then-starts_with-clause-phrase t c = operation_nth c.args.place 0 (lexemes_of c.args.tokens.now) c.genarray.result refl (sym c.starts_with.ensures ∙ c.if-starts_with.true) c.genarray.ensures.phrase
+operation-returns-then-starts_with-clause-phrase t c = operation_nth c.args.place c.inside-inner.result 0 (lexemes_of c.args.tokens.now) c.genarray.result c.inside-inner.ensures.checked (deeper c.args.place.depth c.inside-inner.result.depth c.inside-inner.ensures.depth) refl (sym c.starts_with.ensures ∙ c.if-starts_with.true) c.genarray.ensures.phrase
 
 pub operation-returns-then-starts_with-2-clause-phrase : goal.operation-returns-then-starts_with-2-clause-phrase
-operation-returns-then-starts_with-2-clause-phrase t c = operation_nth c.args.place 1 (lexemes_of c.args.tokens.now) c.modarray.result refl (sym c.starts_with-else-starts_with.ensures ∙ c.if-starts_with-2.true) c.modarray.ensures.phrase
+operation-returns-then-starts_with-2-clause-phrase t c = operation_nth c.args.place c.inside-inner.result 1 (lexemes_of c.args.tokens.now) c.modarray.result c.inside-inner.ensures.checked (deeper c.args.place.depth c.inside-inner.result.depth c.inside-inner.ensures.depth) refl (sym c.starts_with-else-starts_with.ensures ∙ c.if-starts_with-2.true) c.modarray.ensures.phrase
 
 pub operation-returns-else-starts_with-2-clause-phrase : goal.operation-returns-else-starts_with-2-clause-phrase
-operation-returns-else-starts_with-2-clause-phrase t c = operation_last c.args.place (lexemes_of c.args.tokens.now) c.fold.result (sym c.starts_with.ensures ∙ c.if-starts_with.false) (sym c.starts_with-else-starts_with.ensures ∙ c.if-starts_with-2.false) c.fold.ensures.phrase
+operation-returns-else-starts_with-2-clause-phrase t c = operation_last c.args.place c.inside-inner.result (lexemes_of c.args.tokens.now) c.fold.result c.inside-inner.ensures.checked (deeper c.args.place.depth c.inside-inner.result.depth c.inside-inner.ensures.depth) (sym c.starts_with.ensures ∙ c.if-starts_with.false) (sym c.starts_with-else-starts_with.ensures ∙ c.if-starts_with-2.false) c.fold.ensures.phrase
 
 -- ---- statements
 
@@ -646,44 +652,50 @@ for_loop-returns-clause-phrase t c = for_read c.args.place c.in_ok-start.start c
 -- ---- any_statement
 
 pub any_statement-returns-then-starts_name-clause-phrase : goal.any_statement-returns-then-starts_name-clause-phrase
-any_statement-returns-then-starts_name-clause-phrase t c = part_nth c.args.place 0 (rule statement) (IsStatementOf c.args.place) (lexemes_of c.args.tokens.now) c.assignment.result refl (sym c.starts_name.ensures ∙ c.if-starts_name.true) c.assignment.ensures.phrase
+any_statement-returns-then-starts_name-clause-phrase t c = statement_nth c.args.place c.args.place 0 (lexemes_of c.args.tokens.now) c.assignment.result refl (sym c.starts_name.ensures ∙ c.if-starts_name.true) refl (λ v h. grows_statement c.args.place.depth (inl v) h) c.assignment.ensures.phrase
 
 pub any_statement-returns-then-starts_with-clause-phrase : goal.any_statement-returns-then-starts_with-clause-phrase
-any_statement-returns-then-starts_with-clause-phrase t c = part_nth c.args.place 1 (rule statement) (IsStatementOf c.args.place) (lexemes_of c.args.tokens.now) c.conditional.result refl (sym c.starts_with.ensures ∙ c.if-starts_with.true) c.conditional.ensures.phrase
+any_statement-returns-then-starts_with-clause-phrase t c = statement_nth c.args.place c.args.place 1 (lexemes_of c.args.tokens.now) c.conditional.result refl (sym c.starts_with.ensures ∙ c.if-starts_with.true) refl (λ v h. grows_statement c.args.place.depth (inr (inl v)) h) c.conditional.ensures.phrase
 
 pub any_statement-returns-then-starts_with-2-clause-phrase : goal.any_statement-returns-then-starts_with-2-clause-phrase
-any_statement-returns-then-starts_with-2-clause-phrase t c = part_nth c.args.place 2 (rule statement) (IsStatementOf c.args.place) (lexemes_of c.args.tokens.now) c.while_loop.result refl (sym c.starts_with-else-starts_with.ensures ∙ c.if-starts_with-2.true) c.while_loop.ensures.phrase
+any_statement-returns-then-starts_with-2-clause-phrase t c = statement_nth c.args.place c.inside-inner.result 2 (lexemes_of c.args.tokens.now) c.while_loop.result refl (sym c.starts_with-else-starts_with.ensures ∙ c.if-starts_with-2.true) c.inside-inner.ensures.checked (while_deeper c.args.place.depth c.inside-inner.result.depth (deeper c.args.place.depth c.inside-inner.result.depth c.inside-inner.ensures.depth)) c.while_loop.ensures.phrase
 
 pub any_statement-returns-then-starts_with-3-clause-phrase : goal.any_statement-returns-then-starts_with-3-clause-phrase
-any_statement-returns-then-starts_with-3-clause-phrase t c = part_nth c.args.place 3 (rule statement) (IsStatementOf c.args.place) (lexemes_of c.args.tokens.now) c.do_loop.result refl (sym c.starts_with-else-starts_with-2.ensures ∙ c.if-starts_with-3.true) c.do_loop.ensures.phrase
+any_statement-returns-then-starts_with-3-clause-phrase t c = statement_nth c.args.place c.inside-inner.result 3 (lexemes_of c.args.tokens.now) c.do_loop.result refl (sym c.starts_with-else-starts_with-2.ensures ∙ c.if-starts_with-3.true) c.inside-inner.ensures.checked (do_deeper c.args.place.depth c.inside-inner.result.depth (deeper c.args.place.depth c.inside-inner.result.depth c.inside-inner.ensures.depth)) c.do_loop.ensures.phrase
 
 pub any_statement-returns-else-starts_with-3-clause-phrase : goal.any_statement-returns-else-starts_with-3-clause-phrase
-any_statement-returns-else-starts_with-3-clause-phrase t c = part_last c.args.place 4 (rule statement) (IsStatementOf c.args.place) (lexemes_of c.args.tokens.now) c.for_loop.result ((sym c.starts_name.ensures ∙ c.if-starts_name.false), ((sym c.starts_with.ensures ∙ c.if-starts_with.false), ((sym c.starts_with-else-starts_with.ensures ∙ c.if-starts_with-2.false), ((sym c.starts_with-else-starts_with-2.ensures ∙ c.if-starts_with-3.false), tt)))) c.for_loop.ensures.phrase
+any_statement-returns-else-starts_with-3-clause-phrase t c = statement_last c.args.place c.args.place (lexemes_of c.args.tokens.now) c.for_loop.result ((sym c.starts_name.ensures ∙ c.if-starts_name.false), ((sym c.starts_with.ensures ∙ c.if-starts_with.false), ((sym c.starts_with-else-starts_with.ensures ∙ c.if-starts_with-2.false), ((sym c.starts_with-else-starts_with-2.ensures ∙ c.if-starts_with-3.false), tt)))) refl (λ v h. grows_statement c.args.place.depth (inr (inr (inr (inr v)))) h) c.for_loop.ensures.phrase
 
 -- ---- statement
 
 pub statement-returns-in_err-node-clause-phrase : goal.statement-returns-in_err-node-clause-phrase
-statement-returns-in_err-node-clause-phrase t c = let p = err_from_is_err_and c.from_residual.result c.from_residual.ensures.1 in rw (p.1, p.2) (stops c.in_err-node.ensures.phrase)
+statement-returns-in_err-node-clause-phrase t c = let p = err_from_is_err_and c.from_residual.result c.from_residual.ensures.1 in rw (p.1, p.2) c.in_err-node.ensures.phrase
+
+pub statement-returns-then-has_no_room-clause-phrase : goal.statement-returns-then-has_no_room-clause-phrase
+statement-returns-then-has_no_room-clause-phrase t c = statement_high c.args.place c.args.tokens (c.has_no_room.ensures.full c.if-has_no_room.true)
 
 pub statement-returns-clause-phrase : goal.statement-returns-clause-phrase
 statement-returns-clause-phrase t c = statement_kept c.args.place (lexemes_of c.args.tokens.now) c.in_ok-node.node c.in_ok-node.rest.now _ c.kept.result c.in_ok-node.ensures.phrase.1 c.in_ok-node.ensures.phrase.2 c.kept.ensures
 
 -- ---- if_statement
 
+pub if_statement-returns-then-has_no_room-clause-phrase : goal.if_statement-returns-then-has_no_room-clause-phrase
+if_statement-returns-then-has_no_room-clause-phrase t c = if_high c.args.place c.args.tokens (c.has_no_room.ensures.full c.if-has_no_room.true)
+
 pub if_statement-returns-in_err-word-clause-phrase : goal.if_statement-returns-in_err-word-clause-phrase
 if_statement-returns-in_err-word-clause-phrase t c = let p = err_from_is_err_and c.from_residual.result c.from_residual.ensures.1 in rw (p.1, p.2) (stops (stop_left (token_halts (text (codes "if")) _ _ c.in_err-word.ensures.token)))
 
 pub if_statement-returns-in_err-cond-clause-phrase : goal.if_statement-returns-in_err-cond-clause-phrase
-if_statement-returns-in_err-cond-clause-phrase t c = let p = err_from_is_err_and c.from_residual-in_err-cond.result c.from_residual-in_err-cond.ensures.1 in rw (p.1, p.2) (stops (stop_right (token_read c.in_ok-word.ensures.token) (stop_left (cond_stop c.args.place c.in_err-cond.field-0.0 c.in_err-cond.ensures.phrase))))
+if_statement-returns-in_err-cond-clause-phrase t c = let p = err_from_is_err_and c.from_residual-in_err-cond.result c.from_residual-in_err-cond.ensures.1 in rw (p.1, p.2) (cond_halts c.args.place c.inside-inner.result (lexemes_of c.args.tokens.now) _ _ c.in_err-cond.field-0.0 c.inside-inner.ensures.checked (deeper c.args.place.depth c.inside-inner.result.depth c.inside-inner.ensures.depth) c.in_ok-word.ensures.token c.in_err-cond.ensures.phrase)
 
 pub if_statement-returns-in_err-yes-clause-phrase : goal.if_statement-returns-in_err-yes-clause-phrase
-if_statement-returns-in_err-yes-clause-phrase t c = let p = err_from_is_err_and c.from_residual-in_err-yes.result c.from_residual-in_err-yes.ensures.1 in rw (p.1, p.2) (stops (stop_right (token_read c.in_ok-word.ensures.token) (stop_right c.in_ok-cond.ensures.phrase.1 (stop_left (stop_inside c.args.place c.inside.result c.in_err-yes.field-0.0 (inside c.args.place c.inside.result c.inside.ensures.checked c.inside.ensures.depth (λ k. small_depth c.args.place.depth c.in_ok-cond.cond.height _ (c.in_ok-cond.ensures.phrase.2.low k))) refl c.in_err-yes.ensures.phrase)))))
+if_statement-returns-in_err-yes-clause-phrase t c = let p = err_from_is_err_and c.from_residual-in_err-yes.result c.from_residual-in_err-yes.ensures.1 in rw (p.1, p.2) (stops (stop_right (token_read c.in_ok-word.ensures.token) (stop_right c.in_ok-cond.ensures.phrase.1 (stop_left (stop_inside c.args.place c.inside.result c.in_err-yes.field-0.0 (inside c.args.place c.inside.result c.inside.ensures.checked c.inside.ensures.depth (λ k. room_depth c.args.place.depth 1 (c.has_no_room.ensures.room c.if-has_no_room.false k))) refl c.in_err-yes.ensures.phrase)))))
 
 pub if_statement-returns-in_err-no-clause-phrase : goal.if_statement-returns-in_err-no-clause-phrase
-if_statement-returns-in_err-no-clause-phrase t c = let p = err_from_is_err_and c.from_residual-in_err-no.result c.from_residual-in_err-no.ensures.1 in rw (p.1, p.2) (stops (stop_right (token_read c.in_ok-word.ensures.token) (stop_right c.in_ok-cond.ensures.phrase.1 (stop_right (read_ref c.in_ok-yes.ensures.phrase.0) (else_stop c.args.place c.inside-2.result c.in_err-no.field-0.0 (inside c.args.place c.inside-2.result c.inside-2.ensures.checked c.inside-2.ensures.depth (λ k. small_depth c.args.place.depth c.in_ok-cond.cond.height _ (c.in_ok-cond.ensures.phrase.2.low k))) c.in_err-no.ensures.phrase)))))
+if_statement-returns-in_err-no-clause-phrase t c = let p = err_from_is_err_and c.from_residual-in_err-no.result c.from_residual-in_err-no.ensures.1 in rw (p.1, p.2) (stops (stop_right (token_read c.in_ok-word.ensures.token) (stop_right c.in_ok-cond.ensures.phrase.1 (stop_right (read_ref c.in_ok-yes.ensures.phrase.0) (else_stop c.args.place c.inside-2.result c.in_err-no.field-0.0 (inside c.args.place c.inside-2.result c.inside-2.ensures.checked c.inside-2.ensures.depth (λ k. room_depth c.args.place.depth 1 (c.has_no_room.ensures.room c.if-has_no_room.false k))) c.in_err-no.ensures.phrase)))))
 
 pub if_statement-returns-clause-phrase : goal.if_statement-returns-clause-phrase
-if_statement-returns-clause-phrase t c = if_read c.args.place c.inside.result c.inside-2.result c.in_ok-no.rest.now c.in_ok-cond.cond c.in_ok-yes.yes c.in_ok-no.no c.if_else.result _ _ c.kept.result (inside c.args.place c.inside.result c.inside.ensures.checked c.inside.ensures.depth (λ k. small_depth c.args.place.depth c.in_ok-cond.cond.height _ (c.in_ok-cond.ensures.phrase.2.low k))) (inside c.args.place c.inside-2.result c.inside-2.ensures.checked c.inside-2.ensures.depth (λ k. small_depth c.args.place.depth c.in_ok-cond.cond.height _ (c.in_ok-cond.ensures.phrase.2.low k))) c.in_ok-word.ensures.token c.in_ok-cond.ensures.phrase.1 c.in_ok-cond.ensures.phrase.2 c.in_ok-yes.ensures.phrase c.in_ok-no.ensures.phrase.1 c.in_ok-no.ensures.phrase.2 c.if_else.ensures.tree c.if_else.ensures.height c.kept.ensures
+if_statement-returns-clause-phrase t c = if_read c.args.place c.inside.result c.inside-2.result c.in_ok-no.rest.now c.in_ok-cond.cond c.in_ok-yes.yes c.in_ok-no.no c.if_else.result _ _ c.kept.result (inside c.args.place c.inside.result c.inside.ensures.checked c.inside.ensures.depth (λ k. room_depth c.args.place.depth 1 (c.has_no_room.ensures.room c.if-has_no_room.false k))) (inside c.args.place c.inside-2.result c.inside-2.ensures.checked c.inside-2.ensures.depth (λ k. room_depth c.args.place.depth 1 (c.has_no_room.ensures.room c.if-has_no_room.false k))) c.in_ok-word.ensures.token c.in_ok-cond.ensures.phrase.1 (parens_weaker c.args.place c.inside-inner.result c.in_ok-cond.cond _ (inside c.args.place c.inside-inner.result c.inside-inner.ensures.checked c.inside-inner.ensures.depth (λ k. room_depth c.args.place.depth 1 (c.has_no_room.ensures.room c.if-has_no_room.false k))) c.in_ok-cond.ensures.phrase.2) c.in_ok-yes.ensures.phrase c.in_ok-no.ensures.phrase.1 c.in_ok-no.ensures.phrase.2 c.if_else.ensures.tree c.if_else.ensures.height c.kept.ensures
 
 -- ---- maybe_else
 
@@ -778,7 +790,7 @@ pub assign-returns-in_err-token-clause-phrase : goal.assign-returns-in_err-token
 assign-returns-in_err-token-clause-phrase t c = let p = err_from_is_err_and c.from_residual.result c.from_residual.ensures.1 in rw (p.1, p.2) (stops (stop_left (token_halts name _ _ c.in_err-token.ensures.token)))
 
 pub assign-returns-in_err-node-clause-phrase : goal.assign-returns-in_err-node-clause-phrase
-assign-returns-in_err-node-clause-phrase t c = let p = err_from_is_err_and c.from_residual-in_err-node.result c.from_residual-in_err-node.ensures.1 in rw (p.1, p.2) (stops (stop_right (token_read c.in_ok-token.ensures.token) c.in_err-node.ensures.phrase))
+assign-returns-in_err-node-clause-phrase t c = let p = err_from_is_err_and c.from_residual-in_err-node.result c.from_residual-in_err-node.ensures.1 in rw (p.1, p.2) (assign_halts c.args.place c.inside.result (lexemes_of c.args.tokens.now) _ _ c.in_err-node.field-0.0 c.inside.ensures.checked (deeper c.args.place.depth c.inside.result.depth c.inside.ensures.depth) c.in_ok-token.ensures.token c.in_err-node.ensures.phrase)
 
 pub assign-returns-clause-phrase : goal.assign-returns-clause-phrase
-assign-returns-clause-phrase t c = assign_kept c.args.place (lexeme c.in_ok-token.token) c.in_ok-node.node c.in_ok-node.rest.now _ c.kept.result c.in_ok-token.ensures.token c.in_ok-node.ensures.phrase.1 c.in_ok-node.ensures.phrase.2 c.kept.ensures
+assign-returns-clause-phrase t c = assign_kept c.args.place (lexeme c.in_ok-token.token) c.in_ok-node.node c.in_ok-node.rest.now _ c.kept.result c.in_ok-token.ensures.token c.in_ok-node.ensures.phrase.1 (assigned_same c.args.place c.inside.result (lexeme c.in_ok-token.token) c.in_ok-node.node _ c.inside.ensures.checked c.in_ok-node.ensures.phrase.2) c.kept.ensures
