@@ -1,7 +1,9 @@
-//! Tests of the cores that programs become, by a text with a line for each binding.
+//! Tests of the cores that programs become, by a text with a line for each binding, and of what compiling leaves.
 #![tactic(auto)]
 
 #[cfg(test)]
 mod cores;
+#[cfg(test)]
+mod inlined;
 #[cfg(test)]
 mod text;

@@ -13,6 +13,7 @@ ghost use Rattle.counted_code.specs.Outcome.{whole_run, outcome_of};
 ghost use Rattle.sac_build.specs.Arguments.{AreArrays};
 
 use counted_code::Code;
+use inline_calls::inline_all;
 use ref_counts::count_refs;
 use sac_base::Memory;
 use single_assign::to_core;
@@ -36,7 +37,8 @@ pub struct Compiled {
 ///
 /// # Errors
 ///
-/// `Memory`, also where the program has 2^32 functions or more, or would have as many variables in one of them.
+/// `Memory`, also where the program has 2^32 functions or more, or would have as many variables in one of them, and where more than 1,048,576 bindings
+/// would be put into functions by inlining.
 pub fn compile(alloc: Global, checked: &Checked) -> Result<Compiled, Memory>
     ensures counted { ProgramFormed (tree checked.now.program) → IfOk result (λ c. IsWellCounted (code_program c.code)) }
     ensures prompt { ProgramFormed (tree checked.now.program) → IfOk result (λ c. IsPrompt (code_program c.code)) }
@@ -46,7 +48,8 @@ pub fn compile(alloc: Global, checked: &Checked) -> Result<Compiled, Memory>
     ensures none { IfOk result (λ c. (c.folded ≡ 0) × (c.scalarised ≡ 0)) }
 {
     let core = to_core(alloc, checked)?;
-    let code = count_refs(alloc, core)?;
+    let inlined = inline_all(alloc, core)?;
+    let code = count_refs(alloc, inlined)?;
     Ok(Compiled {
         code,
         folded: 0,
