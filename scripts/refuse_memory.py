@@ -1,8 +1,9 @@
 #!/usr/bin/env python3
-"""refuse_memory.py PROGRAM [EXAMPLE ..]: runs the program on examples with each allocation refused in turn.
+"""refuse_memory.py PROGRAM [NAME ..]: runs the program on small sources and on examples with each allocation refused in turn.
 
 The Nth call of malloc, calloc, realloc, aligned_alloc or posix_memalign fails, for N = 1, 2, .. until a run makes fewer calls. Each run has to end
-with the example's own text and status, or with status 8 and nothing written. Prints a line for each example, and each run that ends otherwise.
+with the source's own text and status, or with status 8 and nothing written. Prints a line for each source, and each run that ends otherwise.
+A NAME is one of SMALL below, or of an example.
 It needs a C compiler and a program that is linked dynamically.
 """
 import os
@@ -14,6 +15,34 @@ import tempfile
 ROOT = pathlib.Path(__file__).resolve().parent.parent
 # The first calls are each refused; of the others as many, evenly spread, as come to about this number of runs.
 EACH, MOST = 300, 300
+
+# One source of each kind: a single value, two loops of which one reads the other, a few cells of an array replaced, a loop in each cell, a fault in a cell.
+SMALL = {
+    "value": ("int main() { return (2 + 3 * 4); }", None),
+    "loop_of_a_loop": ("""int[*] main() {
+  a = with { ([0] <= iv < [16]) : iv[0] * 2; } : genarray([16], 0);
+  b = with { ([0] <= iv < [16]) : a[iv] + 1; } : genarray([16], 0);
+  return (b);
+}
+""", None),
+    "first_cells": ("""int[*] main(int[.] a) {
+  b = with { ([0] <= iv < [4]) : a[iv] + 100; } : modarray(a);
+  return (b);
+}
+""", "int[16]: 0 1 2 3 4 5 6 7 8 9 10 11 12 13 14 15"),
+    "loop_in_each_cell": ("""int[*] main() {
+  return (with { ([0] <= iv < [4]) :
+      with { ([0] <= jv < [5]) : iv[0] * 10 + jv[0]; } : genarray([5], 0);
+    } : genarray([4], [0, 0, 0, 0, 0]));
+}
+""", None),
+    "fault_in_a_cell": ("""int[*] main() {
+  return (with {
+    ([0] <= iv < [4]) { x = 1 / (iv[0] - 1); } : with { } : genarray([0], x);
+  } : genarray([4], []));
+}
+""", None),
+}
 
 SHIM = r"""
 #define _GNU_SOURCE
@@ -110,15 +139,24 @@ def tries(program, made, example, workers):
     return len(numbers), calls, memory, wrong
 
 
+def write_small(folder):
+    for name, (source, given) in SMALL.items():
+        (folder / f"{name}.sac").write_text(source)
+        if given:
+            (folder / f"{name}.in").write_text(given)
+
+
 def main():
     program = os.path.abspath(sys.argv[1])
-    names = sys.argv[2:] or sorted(it.stem for it in (ROOT / "examples").glob("*.sac"))
+    names = sys.argv[2:] or [*SMALL, *sorted(it.stem for it in (ROOT / "examples").glob("*.sac"))]
     lost = 0
-    with tempfile.TemporaryDirectory() as folder:
-        made = shim(pathlib.Path(folder))
+    with tempfile.TemporaryDirectory() as place:
+        folder = pathlib.Path(place)
+        made = shim(folder)
+        write_small(folder)
         for name in names:
             for workers in ("1", "4"):
-                runs, calls, memory, wrong = tries(program, made, ROOT / "examples" / name, workers)
+                runs, calls, memory, wrong = tries(program, made, (folder if name in SMALL else ROOT / "examples") / name, workers)
                 print(f"{name} with {workers}: {calls} allocations, {runs} refused in turn, {memory} of them ended in status 8, {len(wrong)} wrong")
                 for number, status, written in wrong[:5]:
                     print(f"    allocation {number}: status {status}, {written!r}")

@@ -8,9 +8,9 @@ use Rattle.phase_workers.specs.Covered.{EndsIf}
 use Rattle.phase_workers.specs.Homes.{Has, IsBooked, OrNoMemory, WillHave, left_in}
 use Rattle.phase_workers.specs.declared.results.Books.{Books}
 use Rattle.run_eval.specs.Running.{ToldStop}
-use Rattle.run_eval.specs.Tallies.{counted_in}
-use Rattle.run_eval.specs.declared.phase_count.OpenTally.{OpenTally}
-use Rattle.run_eval.specs.declared.phase_count.Totals.{Totals}
+use Rattle.phase_count.specs.Tallies.{counted_in}
+use Rattle.phase_count.specs.declared.OpenTally.{OpenTally}
+use Rattle.phase_count.specs.declared.Totals.{Totals}
 use Rattle.run_eval.specs.declared.state.State.{State}
 use Rattle.sac_base.specs.declared.faults.Fault.{Fault}
 use Rattle.sac_base.specs.declared.stop.Stop.{Stop}

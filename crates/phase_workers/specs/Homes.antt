@@ -6,8 +6,8 @@ use Rattle.wl_core.specs.Machine.{CellValue}
 use Rattle.sac_base.specs.declared.stop.Stop.{Stop}
 use Rattle.sac_base.specs.declared.stop.Stop.TheVariants.{Faulted, Memory}
 use Rattle.phase_team.specs.Endings.{IsArray, IsCombined, IsTallied, one_phase}
-use Rattle.run_eval.specs.Tallies.{counted_in}
-use Rattle.run_eval.specs.declared.phase_count.OpenTally.{OpenTally}
+use Rattle.phase_count.specs.Tallies.{counted_in}
+use Rattle.phase_count.specs.declared.OpenTally.{OpenTally}
 use Rattle.phase_workers.specs.declared.results.Books.{Books}
 
 -- The heap that goes on behind the one that lends has no buffer. So many buffers were taken and given back behind it: their numbers are counted

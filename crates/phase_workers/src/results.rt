@@ -12,7 +12,8 @@ ghost use Rattle.sac_base.specs.Arrays.{size};
 ghost use Rattle.phase_workers.specs.Homes.{Has, WillHave, handed, new_behind};
 
 use buffer_heap::Heap;
-use run_eval::{OpenTally, State};
+use phase_count::OpenTally;
+use run_eval::State;
 use run_store::{Target, claim, settle};
 use run_values::RunValue;
 use sac_base::{Base, Memory, Shape, Stop};

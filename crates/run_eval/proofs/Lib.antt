@@ -14,7 +14,6 @@ pub mod PartFrames
 pub mod PartJobs
 pub mod Sizes
 pub mod Steps
-pub mod Tallying
 pub mod Trees
 pub mod Turns
 pub mod WholeRuns

@@ -29,11 +29,11 @@ use Rattle.run_types.specs.Choosing.{types_of}
 use Rattle.run_types.specs.Reading.{arrays_in}
 use Rattle.run_values.specs.declared.value.RunValue.{RunValue}
 use Rattle.run_values.specs.Shown.{value_of}
-use Rattle.run_eval.specs.Tallies.{OrMemory, counted_in}
+use Rattle.phase_count.specs.Tallies.{counted_in}
 use Rattle.run_eval.specs.declared.state.Context.{Context}
 use Rattle.run_eval.specs.declared.state.State.{State}
 use Rattle.run_eval.specs.declared.trace.Trace.{Trace}
-use Rattle.run_eval.specs.Outcomes.{new_heap, main_in, AreArrays, ArePlaced, TellsCost, TellsTally}
+use Rattle.run_eval.specs.Outcomes.{new_heap, main_in, AreArrays, ArePlaced, OrMemory, TellsCost, TellsTally}
 use Rattle.run_eval.specs.Running.{calls_in, IsAt, Told, ToldStop, Appends}
 
 -- ---- arguments are placed

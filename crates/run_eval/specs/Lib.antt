@@ -2,4 +2,3 @@ pub mod Jobs
 pub mod Loops
 pub mod Outcomes
 pub mod Running
-pub mod Tallies

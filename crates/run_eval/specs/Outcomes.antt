@@ -46,6 +46,12 @@ TellsTally (Ok _) old new cost = (new.phases ≡ (old.phases + cost.phases) % 2 
 TellsTally (Err (Faulted f)) old new cost = (new.phases ≡ (old.phases + cost.phases) % 2 ^ 64) × (new.draws ≡ old.draws)
 TellsTally (Err Memory) old new cost = ⊤
 
+-- the same answer, and this holds, or there is no memory
+abbrev pub OrMemory : {A : Type 0} → Result A Stop → Result A Stop → Type 0 → Type 0
+OrMemory answer (Ok a) holds = (answer ≡ Ok a) × holds
+OrMemory answer (Err (Faulted f)) holds = (answer ≡ Err (Faulted f)) × holds
+OrMemory answer (Err Memory) holds = Unit {0}
+
 -- ---- the parts of a run
 
 -- what the main function does with arguments

@@ -11,7 +11,6 @@ mod folds;
 mod holders;
 mod in_order;
 mod levels;
-mod phase_count;
 mod phases;
 mod program;
 mod state;
@@ -19,7 +18,6 @@ mod trace;
 
 pub use cell_loop::{CellLoop, CellSource, LoopResult};
 pub use in_order::{cell_in_order, run_in_order};
-pub use phase_count::{OpenTally, PhaseCount, Totals};
 pub use phases::{Never, Outside, Phases};
 pub use program::{Plan, run, run_with_phases};
 pub use sac_base::Stop;

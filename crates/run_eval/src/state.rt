@@ -4,9 +4,9 @@ ghost use Rattle.std.specs.Prelude.{◌≡◌};
 ghost use Rattle.counted_code.specs.Counts.{IsWellCounted, IsUnmarked};
 ghost use Rattle.counted_code.specs.View.{code_program};
 
-use crate::phase_count::PhaseCount;
 use core_ir::Var;
 use counted_code::{Code, CodeBlock};
+use phase_count::PhaseCount;
 use run_store::Store;
 use run_values::Frames;
 use sac_base::Site;

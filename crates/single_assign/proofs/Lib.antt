@@ -1,4 +1,5 @@
 pub mod Once
+pub mod Groups
 pub mod Scopes
 pub mod Loops
 pub mod Whole

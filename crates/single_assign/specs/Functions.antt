@@ -1,5 +1,5 @@
 -- What is made of a function in a context.
-use Rattle.std.specs.Prelude.{ℕ, List, map}
+use Rattle.std.specs.Prelude.{ℕ, List, [], ◌∷◌, ◌++◌, map, bytes_eq, if◌then◌else◌}
 use Rattle.sac_base.specs.declared.name.Name.{Name}
 use Rattle.sac_base.specs.declared.types.ArrayType.{ArrayType}
 use Rattle.sac_ast.specs.Bases.{base_in}
@@ -24,3 +24,9 @@ function_of group_of fs f = function_by group_of (base_in fs f) (name_base fs f)
 
 abbrev pub functions_by : (Name → ℕ) → List FunctionTree → List FunctionTree → List FunTerm
 functions_by group_of fs gs = map (function_of group_of fs) gs
+
+-- groups of places, with one more place in the group of a name
+abbrev pub with_place : Name → ℕ → List Name → List (List ℕ) → List (List ℕ)
+with_place x k [] groups = []
+with_place x k (y ∷ names) [] = []
+with_place x k (y ∷ names) (g ∷ groups) = (if bytes_eq x y then g ++ k ∷ [] else g) ∷ with_place x k names groups

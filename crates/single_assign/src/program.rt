@@ -1,6 +1,6 @@
 //! The core of a whole program.
 
-ghost use Rattle.std.specs.Prelude.{◌≡◌, ◌<◌, ◌^◌, ℕ, IfOk, List, OnOk, length, map, position, unwrap_or};
+ghost use Rattle.std.specs.Prelude.{◌≡◌, ◌<◌, ◌^◌, ℕ, IfOk, [], List, OnOk, length, map, position, replicate, unwrap_or};
 ghost use Rattle.sac_ast.specs.Tree.{FunctionTree};
 ghost use Rattle.sac_ast.specs.View.{function, functions as trees, program as tree};
 ghost use Rattle.core_ir.specs.View.{core_term, fun_term};
@@ -9,7 +9,7 @@ ghost use Rattle.value_meaning.specs.Calls.{is_main};
 ghost use Rattle.core_acceptance.specs.Formed.{ProgramFormed};
 ghost use Rattle.core_lowering.specs.Programs.{function_names as names_of_functions, HasOutcomeOf, lowered_program, places_of as places_of_name};
 ghost use Rattle.core_lowering_steps.specs.Functions.{params_declared};
-ghost use Rattle.single_assign.specs.Functions.{function_in, function_of, functions_by, params_made};
+ghost use Rattle.single_assign.specs.Functions.{function_in, function_of, functions_by, params_made, with_place};
 ghost use Rattle.single_assign.specs.Looks.{look, texts};
 ghost use Rattle.single_assign.specs.Views.{built, place_by};
 
@@ -58,7 +58,7 @@ fn lower_program(alloc: Global, program: &Program) -> Result<Core, Memory>
 {
     let names = function_names(alloc, &program.functions)?;
     let functions = lower_functions(alloc, &program.functions, &names)?;
-    let groups = groups(alloc, &program.functions, names.as_slice())?;
+    let groups = groups(alloc, &program.functions, &names)?;
     let main = main_place(program)?;
     Ok(Core {
         functions,
@@ -87,29 +87,47 @@ fn small_place(place: usize) -> Result<u32, Memory>
     }
 }
 
-// The places of a name's instances.
-fn places_of(alloc: Global, functions: &[Function], name: &str) -> Result<Vec<u32>, Memory>
-    ensures { IfOk result (λ v. v.items ≡ places_of_name name.now 0 (trees functions.now)) }
+// The places of each name's instances.
+fn groups(
+    alloc: Global,
+    functions: &[Function],
+    names: &IndexSet<&str>,
+) -> Result<Vec<Vec<u32>>, Memory>
+    ensures { IfOk result (λ v. map (λ g. g.items) v.items ≡ map (λ x. places_of_name x 0 (trees functions.now)) (texts names.now.keys)) }
 {
-    let mut places = Vec::new(alloc);
+    let mut groups = empty_groups(alloc, names.len())?;
     for k in 0..functions.len() {
-        if functions[k].name.as_str() == name {
-            let place = small_place(k)?;
-            places.push(place)?;
-        }
-    }
-    Ok(places)
-}
-
-fn groups(alloc: Global, functions: &[Function], names: &[&str]) -> Result<Vec<Vec<u32>>, Memory>
-    ensures { IfOk result (λ v. map (λ g. g.items) v.items ≡ map (λ x. places_of_name x 0 (trees functions.now)) (texts names.now)) }
-{
-    let mut groups = Vec::new(alloc);
-    for name in names {
-        let places = places_of(alloc, functions, name)?;
-        groups.push(places)?;
+        let place = small_place(k)?;
+        add_place(&mut groups, names, functions[k].name.as_str(), place)?;
     }
     Ok(groups)
+}
+
+fn empty_groups(alloc: Global, count: usize) -> Result<Vec<Vec<u32>>, Memory>
+    ensures { IfOk result (λ v. map (λ g. g.items) v.items ≡ replicate count []) }
+{
+    let mut groups = Vec::new(alloc);
+    for _ in 0..count {
+        groups.push(Vec::new(alloc))?;
+    }
+    Ok(groups)
+}
+
+// Adds a place to the group of a name.
+fn add_place(
+    groups: &mut Vec<Vec<u32>>,
+    names: &IndexSet<&str>,
+    name: &str,
+    place: u32,
+) -> Result<(), Memory>
+    requires { length groups.old.items ≡ length names.now.keys }
+    ensures { OnOk result (map (λ g. g.items) groups.new.items ≡ with_place name.now place (texts names.now.keys) (map (λ g. g.items) groups.old.items)) }
+{
+    let _count = names.len();
+    if let Some(group) = names.get_index_of(name) {
+        groups[group].push(place)?;
+    }
+    Ok(())
 }
 
 // The place of `main`, and 0 where there is none.

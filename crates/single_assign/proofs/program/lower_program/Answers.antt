@@ -13,7 +13,5 @@ returns c =
     let keys = c.in_ok-names.names.keys in
     let names = c.in_ok-names.ensures ∙ ap (λ fs. function_names (functions fs)) c.deref.ensures.value in
     let funs = c.in_ok-functions.ensures ∙ ap (λ fs. functions_by (place_by c.in_ok-names.names) (functions fs) (functions fs)) c.deref-2.ensures.value in
-    let groups = c.in_ok-groups.ensures
-    ∙ ap (λ fs. map (λ x. places_of x 0 (functions fs)) (texts c.as_slice.result.now)) c.deref-3.ensures.value
-    ∙ ap (λ ks. map (λ x. places_of x 0 (functions c.args.program.now.functions.items)) (texts ks)) c.as_slice.ensures.keys in
+    let groups = c.in_ok-groups.ensures ∙ ap (λ fs. map (λ x. places_of x 0 (functions fs)) (texts keys)) c.deref-3.ensures.value in
     program_ends (program c.args.program.now) (map fun_term c.in_ok-functions.functions.items) (map (λ g. g.items) c.in_ok-groups.groups.items) c.in_ok-main.main (texts keys) names funs groups c.in_ok-main.ensures

@@ -1,7 +1,8 @@
-//! The phases of a run so far.
+//! The phases of a run so far, and the tally that their tables are closed into.
+#![tactic(auto)]
 
 ghost use Rattle.std.specs.Prelude.{◌≡◌, ◌+◌, ◌%◌, ◌^◌, IfOk, IfSome, OnOk};
-ghost use Rattle.run_eval.specs.Tallies.{counted_in, one_more};
+ghost use Rattle.phase_count.specs.Tallies.{counted_in, one_more};
 
 use count_table::{Phase, Tally};
 use sac_base::Memory;
@@ -31,7 +32,7 @@ pub struct Totals {
 
 impl Model for PhaseCount {
     ghost use Rattle.std.specs.Prelude.{ℕ};
-    ghost use Rattle.run_eval.specs.Tallies.{IsTallyOf};
+    ghost use Rattle.phase_count.specs.Tallies.{IsTallyOf};
 
     ghost Value = { ℕ };
 

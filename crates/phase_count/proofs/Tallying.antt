@@ -2,7 +2,7 @@
 use Rattle.std.proofs.Common.{◌≡◌, ℕ, ◌+◌, ◌%◌, ◌^◌, ◌<◌, sym, ap, ◌∙◌, arith}
 use Rattle.std.proofs.Math.Nat.{mod-add-mod, add-mod-mod, mod-eq_of_lt}
 use Rattle.count_table.specs.Tallied.{PhaseTotals}
-use Rattle.run_eval.specs.Tallies.{counted_in, one_more}
+use Rattle.phase_count.specs.Tallies.{counted_in, one_more}
 
 next_number : (b n : ℕ) → ((b + n) % 2 ^ 64 + 1) % 2 ^ 64 ≡ (b + (n + 1) % 2 ^ 64) % 2 ^ 64
 next_number b n =

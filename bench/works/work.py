@@ -1,0 +1,111 @@
+"""work.py WAY NAME ROUNDS: the works of this folder, by NumPy (WAY numpy) and by plain loops (WAY plain). 32-bit numbers wrap."""
+import sys
+
+SIDE, WIDE = 1000, 4096
+
+
+def wrapped(number):
+    return (number + 2**31) % 2**32 - 2**31
+
+
+def quotient(a, b):
+    """Towards zero."""
+    return a // b if a >= 0 else -(-a // b)
+
+
+def remainder(a, b):
+    return a % b if a >= 0 else -(-a % b)
+
+
+def start(work):
+    if work == "life":
+        return [1 if (i * 7 + j * 13) % 11 < 4 else 0 for i in range(SIDE) for j in range(SIDE)]
+    return [(i * 7 + j * 13) % 256 for i in range(SIDE) for j in range(SIDE)]
+
+
+# ---- plain loops
+
+def neighbours(a):
+    b = a[:]
+    for i in range(1, SIDE - 1):
+        for at in range(i * SIDE + 1, i * SIDE + SIDE - 1):
+            b[at] = quotient(a[at - SIDE] + a[at + SIDE] + a[at - 1] + a[at + 1], 4)
+    return b
+
+
+def life(a):
+    b = [0] * (SIDE * SIDE)
+    for i in range(1, SIDE - 1):
+        for at in range(i * SIDE + 1, i * SIDE + SIDE - 1):
+            n = (a[at - SIDE - 1] + a[at - SIDE] + a[at - SIDE + 1] + a[at - 1] + a[at + 1]
+                 + a[at + SIDE - 1] + a[at + SIDE] + a[at + SIDE + 1])
+            b[at] = 1 if n == 3 else a[at] if n == 2 else 0
+    return b
+
+
+def border(a):
+    return [remainder(a[at] - a[at - SIDE] if at >= SIDE else a[at], 1000) for at in range(SIDE * SIDE)]
+
+
+def chain(a):
+    b = [x * 3 for x in a]
+    c = [x + 7 for x in b]
+    return [x % 256 for x in c]
+
+
+def by_loops(work, rounds):
+    if work == "indices":
+        a = [0] * (WIDE + 2)
+        for t in range(rounds):
+            a = [i + j + t for i in range(WIDE) for j in range(WIDE)]
+        return a[WIDE + 1]
+    a = first = start(work)
+    steps = {"neighbours": neighbours, "life": life, "border": border, "chain": chain, "plus_one": lambda a: [x + 1 for x in a],
+             "sum": lambda a: [x + y for x, y in zip(first, a)]}
+    for _ in range(rounds):
+        a = steps[work](a)
+    return wrapped(sum(a))
+
+
+# ---- NumPy
+
+def by_numpy(work, rounds):
+    import numpy as np
+    if work == "indices":
+        a, row = np.zeros((2, 2), np.int32), np.arange(WIDE, dtype=np.int32)
+        for t in range(rounds):
+            a = row[:, None] + row[None, :] + np.int32(t)
+        return int(a[1, 1])
+    i, j = np.indices((SIDE, SIDE), dtype=np.int32)
+    a = ((i * 7 + j * 13) % 11 < 4).astype(np.int32) if work == "life" else (i * 7 + j * 13) % 256
+    first = a
+    for _ in range(rounds):
+        if work == "neighbours":
+            b = a.copy()
+            total = a[:-2, 1:-1] + a[2:, 1:-1] + a[1:-1, :-2] + a[1:-1, 2:]
+            b[1:-1, 1:-1] = np.trunc(total / 4).astype(np.int32) if (total < 0).any() else total // 4
+            a = b
+        elif work == "life":
+            n = (a[:-2, :-2] + a[:-2, 1:-1] + a[:-2, 2:] + a[1:-1, :-2] + a[1:-1, 2:] + a[2:, :-2] + a[2:, 1:-1] + a[2:, 2:])
+            b = np.zeros_like(a)
+            b[1:-1, 1:-1] = np.where(n == 3, 1, np.where(n == 2, a[1:-1, 1:-1], 0))
+            a = b
+        elif work == "border":
+            b = a.copy()
+            b[1:] -= a[:-1]
+            a = np.fmod(b, 1000)
+        elif work == "plus_one":
+            a = a + np.int32(1)
+        elif work == "chain":
+            a = (a * 3 + 7) % 256
+        else:
+            a = first + a
+    return wrapped(int(a.sum(dtype=np.int64)))
+
+
+def main():
+    way, work, rounds = sys.argv[1], sys.argv[2], int(sys.argv[3])
+    print((by_numpy if way == "numpy" else by_loops)(work, rounds))
+
+
+main()
