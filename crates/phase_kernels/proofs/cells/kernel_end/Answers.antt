@@ -1,4 +1,5 @@
-use Rattle.std.proofs.Common.{rules, ◌≡◌, ℤ, List, [], length, Some, Ok, Err, sym, ap, subst, ◌∙◌}
+use Rattle.std.proofs.Common.{rules, ◌≡◌, ℤ, List, [], ◌∷◌, w32, length, Some, Ok, Err, sym, ap, subst, ◌∙◌}
+use Rattle.std.proofs.lemmas.Int.{to_z-of_z}
 use Rattle.run_values.specs.Scopes.{current}
 use Rattle.sac_base.specs.WithLoops.{cell_at}
 use Rattle.core_ir.specs.Meaning.{generators}
@@ -12,7 +13,18 @@ use Rattle.phase_kernels.proofs.Ends.{value_told, fault_told, nothing_taken, one
 use Rattle.phase_kernels.proofs.cells.kernel_end.Goals as goal
 
 pub put_one-requires : goal.put_one-requires
-put_one-requires c = ?
+put_one-requires c =
+    let a = c.args in
+    let cells = a.cells.now in
+    let p = cells.plan.now in
+    let e = lent_env cells.heap.now (current cells.frames.now) in
+    let v = c.components-components.result.now in
+    let r = c.put_index.new.registers in
+    let kernel = c.in_ok-kernel.kernel.now in
+    let first_one : HoldsFirst p.ranges.items v c.in_ok-place.place = subst (λ rs. HoldsFirst rs v c.in_ok-place.place) c.deref.ensures.value c.in_ok-place.ensures in
+    let long : length r ≡ 256 = search rules in
+    let rank : length v ≡ kernel.rank = search rules in
+    c.requires.width ∙ one_element (meaning_in cells.context) cells.context.turns a.buffers.now e p.form cells.gens.now a.kernels.now c.requires.kernels p.ranges.items v r c.in_ok-place.place kernel c.in_ok-kernel.ensures first_one long rank c.put_index.ensures
 
 pub returns-in-Ok-run_block-clause-tells : goal.returns-in-Ok-run_block-clause-tells
 returns-in-Ok-run_block-clause-tells c =
@@ -30,10 +42,10 @@ returns-in-Ok-run_block-clause-tells c =
     let first_one : HoldsFirst p.ranges.items v c.in_ok-place.place = subst (λ rs. HoldsFirst rs v c.in_ok-place.place) c.deref.ensures.value c.in_ok-place.ensures in
     let long : length r ≡ 256 = search rules in
     let rank : length v ≡ kernel.rank = search rules in
-    let fits = is_cell calls cells.context.turns a.buffers.now e p.form cells.gens.now a.kernels.now c.requires.kernels p.ranges.items v r c.in_ok-place.place kernel there first_one long rank c.put_index.ensures.index in
+    let fits = is_cell calls cells.context.turns a.buffers.now e p.form cells.gens.now a.kernels.now c.requires.kernels p.ranges.items v r c.in_ok-place.place kernel there first_one long rank c.put_index.ensures in
     subst (λ w. as_cell fill (cell_at p.form (generators calls cells.context.turns (core_of_gens (gens_term cells.gens.now)) e) p.ranges.items w) ≡ Ok (Some c.put_one.new.into)) is
-    (value_told calls cells.context.turns a.buffers.now e p.form cells.gens.now a.kernels.now c.requires.kernels p.ranges.items v r c.in_ok-place.place kernel there first_one long rank c.put_index.ensures.index c.run_block.new.registers c.put_one.new.into fill
-    (rw c.in-Ok-run_block.is at c.run_block.ensures) (c.put_one.ensures ∙ sym (c.element.ensures p.form a.buffers.now fits)))
+    (value_told calls cells.context.turns a.buffers.now e p.form cells.gens.now a.kernels.now c.requires.kernels p.ranges.items v r c.in_ok-place.place kernel there first_one long rank c.put_index.ensures c.run_block.new.registers c.put_one.new.into fill
+    (rw c.in-Ok-run_block.is at c.run_block.ensures) (c.put_one.ensures ∙ ap (λ z. z ∷ []) (to_z-of_z w32 c.element.result (record { sfits = c.element.type_inv })) ∙ sym (c.element.ensures p.form a.buffers.now fits)))
 
 pub returns-in-Ok-run_block-clause-takes : goal.returns-in-Ok-run_block-clause-takes
 returns-in-Ok-run_block-clause-takes c computed =
@@ -50,7 +62,7 @@ returns-in-Ok-run_block-clause-takes c computed =
     let long : length r ≡ 256 = search rules in
     let rank : length v ≡ kernel.rank = search rules in
     subst (λ w. gens_take calls cells.context.turns (spending_in cells.context) (gens_term cells.gens.now) e p.ranges.items w ≡ 0) is
-    (nothing_taken calls cells.context.turns a.buffers.now e p.form cells.gens.now a.kernels.now c.requires.kernels p.ranges.items v r c.in_ok-place.place kernel c.in_ok-kernel.ensures first_one long rank c.put_index.ensures.index (spending_in cells.context))
+    (nothing_taken calls cells.context.turns a.buffers.now e p.form cells.gens.now a.kernels.now c.requires.kernels p.ranges.items v r c.in_ok-place.place kernel c.in_ok-kernel.ensures first_one long rank c.put_index.ensures (spending_in cells.context))
 
 pub returns-in-Err-clause-tells : goal.returns-in-Err-clause-tells
 returns-in-Err-clause-tells c =
@@ -68,5 +80,5 @@ returns-in-Err-clause-tells c =
     let long : length r ≡ 256 = search rules in
     let rank : length v ≡ kernel.rank = search rules in
     subst (λ w. as_cell fill (cell_at p.form (generators calls cells.context.turns (core_of_gens (gens_term cells.gens.now)) e) p.ranges.items w) ≡ Err c.in-Err.fault) is
-    (fault_told calls cells.context.turns a.buffers.now e p.form cells.gens.now a.kernels.now c.requires.kernels p.ranges.items v r c.in_ok-place.place kernel c.in_ok-kernel.ensures first_one long rank c.put_index.ensures.index c.in-Err.fault fill
+    (fault_told calls cells.context.turns a.buffers.now e p.form cells.gens.now a.kernels.now c.requires.kernels p.ranges.items v r c.in_ok-place.place kernel c.in_ok-kernel.ensures first_one long rank c.put_index.ensures c.in-Err.fault fill
     (rw c.in-Err.is at c.run_block.ensures))
