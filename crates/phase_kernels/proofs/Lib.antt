@@ -1,0 +1,6 @@
+mod Ends
+mod Holders
+mod Indices
+mod Making
+pub mod Named
+mod Scopes
