@@ -2,7 +2,6 @@
 use denote.Param.Send.{IsSync, shr_sync, shr_slice_sync, view_sync, sendable}
 use denote.Param.SendFields.{as_row_sync, declared_sync}
 use denote.Hole.{as_row}
-use denote.Struct.Declared as declared
 use denote.Struct.Field.{shr_ref_field, shr_slice_field}
 use Rattle.buffer_heap.specs.contracts.heap.Heap as heap
 use Rattle.buffer_heap.proofs.heap.Heap.TheSendSync as heap_shared
@@ -19,6 +18,8 @@ use Rattle.phase_loop_cells.proofs.copies.Background.TheSendSync as background_s
 use Rattle.phase_loop_cells.specs.contracts.copies.Background as background
 use Rattle.std.specs.contracts.option.Option as option
 use Rattle.phase_loop_cells.specs.contracts.gens.WithCells as cells
+use Rattle.core_ir.specs.contracts.tree.Var as var
+use Rattle.phase_kernels.specs.contracts.cells.KernelCells as kernels
 
 counted_sync : IsSync code.the_row → (l : _) → IsSync (counted.the_row l)
 counted_sync code_sync l = view_sync (inside.the_row l) _ _ _ _ (declared_sync (inside.the_type l) (as_row_sync (shr_ref_field l code.the_row tt) (shr_sync _ _ code.the_row code_sync), tt))
@@ -26,8 +27,8 @@ counted_sync code_sync l = view_sync (inside.the_row l) _ _ _ _ (declared_sync (
 pub context_sync : IsSync code.the_row → (l : _) → IsSync (as_row (context.the_field l))
 context_sync code_sync l = as_row_sync (context.the_field l) (search (sendable, counted_sync code_sync l) depth 14)
 
-pub cells_sync : IsSync code.the_row → IsSync gen.the_row → (l : _) → IsSync (declared.row (cells.the_type l))
-cells_sync code_sync gen_sync l = declared_sync (cells.the_type l) (
+with_sync : IsSync code.the_row → IsSync gen.the_row → (l : _) → IsSync (as_row (cells.the_field l))
+with_sync code_sync gen_sync l = declared_sync (cells.the_type l) (
   context_sync code_sync l,
   (
     as_row_sync (shr_ref_field l heap.the_row tt) (shr_sync _ _ heap.the_row heap_shared.the_sync),
@@ -42,4 +43,10 @@ cells_sync code_sync gen_sync l = declared_sync (cells.the_type l) (
       ),
     ),
   ),
+)
+
+pub cells_sync : IsSync code.the_row → IsSync gen.the_row → (l : _) → IsSync (kernels.the_row l)
+cells_sync code_sync gen_sync l = declared_sync (kernels.the_type l) (
+  with_sync code_sync gen_sync l,
+  (as_row_sync (shr_slice_field l var.the_row tt) (shr_slice_sync _ _ var.the_row (search (sendable))), tt),
 )

@@ -24,6 +24,7 @@ use array_with_loops::Plan;
 use buffer_heap::Heap;
 use core_ir::Var;
 use counted_code::{Code, CodeGen};
+use phase_kernels::KernelCells;
 use phase_loop_cells::{Background, WithCells};
 use phase_team::Gate;
 use run_eval::{Context, State};
@@ -119,57 +120,65 @@ fn array_cells<G: Gate, R: Threads + Sync>(
     if count > MOST || count.checked_mul(background.size) != Some(cells.len()) {
         return Err(Stop::Memory);
     }
-    let with_cells = WithCells {
-        context: *context,
-        heap,
-        frames,
-        gens,
-        plan,
-        background: Some(background),
+    let kernel_cells = KernelCells {
+        cells: WithCells {
+            context: *context,
+            heap,
+            frames,
+            gens,
+            plan,
+            background: Some(background),
+        },
+        live,
     };
-    let end = each_cell(workers, &with_cells, count, background.size, cells, books);
-    let WithCells {
-        context: _,
-        heap: _,
-        frames: _,
-        gens: _,
-        plan: _,
-        background: _,
-    } = with_cells;
+    let end = each_cell(workers, &kernel_cells, count, background.size, cells, books);
+    let KernelCells {
+        cells: WithCells {
+            context: _,
+            heap: _,
+            frames: _,
+            gens: _,
+            plan: _,
+            background: _,
+        },
+        live: _,
+    } = kernel_cells;
     end
 }
 
 fn each_cell<G: Gate, R: Threads + Sync>(
     workers: &Workers<'_, G, R>,
-    with_cells: &WithCells<'_>,
+    kernel_cells: &KernelCells<'_>,
     count: usize,
     width: usize,
     cells: &mut [Cell],
     books: &mut Books,
 ) -> Result<(), Stop>
-    requires positions { (count ≤ 16777216) × (count ≡ length with_cells.now.plan.now.frame) × (width ≡ size with_cells.now.plan.now.form.shape) }
+    requires positions { (count ≤ 16777216) × (count ≡ length kernel_cells.now.cells.plan.now.frame)
+        × (width ≡ size kernel_cells.now.cells.plan.now.form.shape) }
     requires held { (p : ℕ) → p < count
-        → gens_cell with_cells.now.context with_cells.now.heap.now
-        (current with_cells.now.frames.now) with_cells.now.gens.now with_cells.now.plan.now with_cells.now.background p ≢ Ok None }
-    requires lending { IsLending (OpenGens with_cells.now.context with_cells.now.heap.now
-        (current with_cells.now.frames.now) with_cells.now.gens.now) with_cells.now.heap.now }
+        → gens_cell kernel_cells.now.cells.context kernel_cells.now.cells.heap.now
+        (current kernel_cells.now.cells.frames.now) kernel_cells.now.cells.gens.now kernel_cells.now.cells.plan.now
+        kernel_cells.now.cells.background p ≢ Ok None }
+    requires lending { IsLending (OpenGens kernel_cells.now.cells.context kernel_cells.now.cells.heap.now
+        (current kernel_cells.now.cells.frames.now) kernel_cells.now.cells.gens.now) kernel_cells.now.cells.heap.now }
     requires room { length cells.old ≡ count * width }
-    requires home { books.old.home ≡ new_behind with_cells.now.heap.now }
+    requires home { books.old.home ≡ new_behind kernel_cells.now.cells.heap.now }
     ensures booked { IsBooked books.old books.new result }
     ensures computed { ComputesAll
-        (cells_from (gens_cell with_cells.now.context with_cells.now.heap.now
-        (current with_cells.now.frames.now) with_cells.now.gens.now with_cells.now.plan.now with_cells.now.background) 0 count)
-        with_cells.now.heap.now
-        (cost_from (gens_taken with_cells.now.context with_cells.now.heap.now
-        (current with_cells.now.frames.now) with_cells.now.gens.now with_cells.now.plan.now) 0 count)
+        (cells_from (gens_cell kernel_cells.now.cells.context kernel_cells.now.cells.heap.now
+        (current kernel_cells.now.cells.frames.now) kernel_cells.now.cells.gens.now kernel_cells.now.cells.plan.now kernel_cells.now.cells.background) 0 count)
+        kernel_cells.now.cells.heap.now
+        (cost_from (gens_taken kernel_cells.now.cells.context kernel_cells.now.cells.heap.now
+        (current kernel_cells.now.cells.frames.now) kernel_cells.now.cells.gens.now kernel_cells.now.cells.plan.now) 0 count)
         cells.new (left_in books.new.home result) }
 {
     shares::<CodeGen>();
     shares::<Code>();
     compute_array(
         workers,
-        with_cells.context.alloc,
-        with_cells,
+        kernel_cells.cells.context.alloc,
+        kernel_cells,
         count,
         width,
         cells,

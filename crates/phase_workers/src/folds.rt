@@ -28,6 +28,7 @@ use buffer_heap::Heap;
 use core_ir::Var;
 use counted_code::CodeGen;
 use phase_checks::gens_are_counted;
+use phase_kernels::KernelCells;
 use phase_loop_cells::WithCells;
 use phase_team::Gate;
 use run_eval::{CellLoop, CellSource, Context, LoopResult, State, run_in_order};
@@ -174,7 +175,7 @@ fn fold_cells<'a, G: Gate, R: Threads + Sync>(
     plan: &'a Plan,
     op: Op,
     context: Context<'a>,
-    live: &[Var],
+    live: &'a [Var],
     frames: &'a Frames,
     heap: &'a Heap,
     value: &mut [Cell],
@@ -196,50 +197,57 @@ fn fold_cells<'a, G: Gate, R: Threads + Sync>(
     if count > MOST {
         return Err(Stop::Memory);
     }
-    let cells = WithCells {
-        context,
-        heap,
-        frames,
-        gens,
-        plan,
-        background: None,
+    let cells = KernelCells {
+        cells: WithCells {
+            context,
+            heap,
+            frames,
+            gens,
+            plan,
+            background: None,
+        },
+        live,
     };
     let end = each_fold(workers, &cells, count, op, value, books);
-    let WithCells {
-        context: _,
-        heap: _,
-        frames: _,
-        gens: _,
-        plan: _,
-        background: _,
+    let KernelCells {
+        cells: WithCells {
+            context: _,
+            heap: _,
+            frames: _,
+            gens: _,
+            plan: _,
+            background: _,
+        },
+        live: _,
     } = cells;
     end
 }
 
 fn each_fold<G: Gate, R: Threads + Sync>(
     workers: &Workers<'_, G, R>,
-    cells: &WithCells<'_>,
+    cells: &KernelCells<'_>,
     count: usize,
     op: Op,
     value: &mut [Cell],
     books: &mut Books,
 ) -> Result<(), Stop>
-    requires positions { (count ≤ 16777216) × (count ≡ length cells.now.plan.now.frame) }
-    requires op { IsTrue (folds_value cells.now.plan.now.form.base op) }
-    requires lending { IsLending (OpenGens cells.now.context cells.now.heap.now (current cells.now.frames.now) cells.now.gens.now) cells.now.heap.now }
-    requires width { length value.old ≡ size cells.now.plan.now.form.shape }
-    requires home { books.old.home ≡ new_behind cells.now.heap.now }
+    requires positions { (count ≤ 16777216) × (count ≡ length cells.now.cells.plan.now.frame) }
+    requires op { IsTrue (folds_value cells.now.cells.plan.now.form.base op) }
+    requires lending { IsLending (OpenGens cells.now.cells.context cells.now.cells.heap.now
+        (current cells.now.cells.frames.now) cells.now.cells.gens.now) cells.now.cells.heap.now }
+    requires width { length value.old ≡ size cells.now.cells.plan.now.form.shape }
+    requires home { books.old.home ≡ new_behind cells.now.cells.heap.now }
     ensures booked { IsBooked books.old books.new result }
     ensures combined { CombinesAll op
-        (cells_from (gens_cell cells.now.context cells.now.heap.now
-        (current cells.now.frames.now) cells.now.gens.now cells.now.plan.now cells.now.background) 0 count) cells.now.heap.now
-        (cost_from (gens_taken cells.now.context cells.now.heap.now
-        (current cells.now.frames.now) cells.now.gens.now cells.now.plan.now) 0 count) value.old value.new (left_in books.new.home result) }
+        (cells_from (gens_cell cells.now.cells.context cells.now.cells.heap.now
+        (current cells.now.cells.frames.now) cells.now.cells.gens.now cells.now.cells.plan.now cells.now.cells.background) 0 count) cells.now.cells.heap.now
+        (cost_from (gens_taken cells.now.cells.context cells.now.cells.heap.now
+        (current cells.now.cells.frames.now) cells.now.cells.gens.now cells.now.cells.plan.now) 0 count) value.old value.new (left_in books.new.home result) }
 {
-    shown(cells.context.code.get());
-    all_shown(cells.gens);
-    let alloc = cells.context.alloc;
-    let base = cells.plan.form.base;
+    shown(cells.cells.context.code.get());
+    all_shown(cells.cells.gens);
+    let alloc = cells.cells.context.alloc;
+    let base = cells.cells.plan.form.base;
     compute_fold(workers, alloc, cells, count, base, op, value, books)
 }
 
