@@ -77,7 +77,8 @@ pub fn inlined_call(
     growth: Growth,
     binding: &Let,
 ) -> Result<Option<Inlined>, Memory>
-    ensures placed { IfOk result (λ o. IfSome o (λ i. LetInlined (core_term work.now.core.now) growth (let_term binding.now) (map let_term i.lets.items) i.growth)) }
+    ensures placed { IfOk result (λ o. IfSome o (λ i.
+        LetInlined (core_term work.now.core.now) growth (let_term binding.now) (map let_term i.lets.items) i.growth)) }
     ensures left { IfOk result (λ o. IfNone o (MayStay (core_term work.now.core.now) growth (let_term binding.now).right)) }
 {
     match &binding.right {

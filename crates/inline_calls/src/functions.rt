@@ -25,8 +25,8 @@ const MOST_IN_ALL: u64 = 4_194_304;
 /// instance is inline is left in two cases alone: the bindings of both bodies, the instance's parameters and its results are together more than
 /// 65,536, or the greatest numbers of variables of both functions are together at least `u32::MAX`. Groups with several instances are left as they are.
 ///
-/// Functions that `main` does not reach lose their bodies first. An inline function calls inline functions before it alone. So the inline functions are gone through from the first to the last, and then the
-/// others: a body that is put in has no call left that could be inlined.
+/// Functions that `main` does not reach lose their bodies first. An inline function calls inline functions before it alone. So the inline functions are
+/// gone through from the first to the last, and then the others: a body that is put in has no call left that could be inlined.
 ///
 /// # Errors
 ///
