@@ -1,5 +1,5 @@
 -- What is known of variables before a run: the shape of each, and the value of a literal one.
-use Rattle.std.specs.Prelude.{◌≡◌, ℕ, ◌&&◌, ◌||◌, Bool, true, false, cond, eqb, if◌then◌else◌, List, [], ◌∷◌, ◌++◌, map, length, drop, nat_le, pos}
+use Rattle.std.specs.Prelude.{◌≡◌, ℕ, ◌&&◌, ◌||◌, Bool, true, false, cond, eqb, if◌then◌else◌, List, [], ◌∷◌, ◌++◌, map, length, drop, nat_le, nat_lt, pos}
 use Rattle.std.specs.Prelude.{Option, Some, None, Result, Ok, Err, unwrap_or}
 use Rattle.std.specs.List.{list_all}
 use Rattle.sac_base.specs.declared.base.Base.TheVariants.{Int}
@@ -90,9 +90,10 @@ abbrev pub shared_shape : Option (List ℕ) → List (Option (List ℕ)) → Opt
 shared_shape first [] = first
 shared_shape first (s ∷ rest) = shared_shape (one_shape first s) rest
 
+-- no array has more than 8 extents, or one of 2 ^ 31 or more
 abbrev pub row_of : ℕ → Option (List ℕ) → Option (List ℕ)
 row_of n None = None
-row_of n (Some shape) = Some (n ∷ shape)
+row_of n (Some shape) = if nat_lt n 2147483648 && nat_le (length (n ∷ shape)) 8 then Some (n ∷ shape) else None
 
 abbrev pub row_shape : List (Option (List ℕ)) → Option (List ℕ)
 row_shape [] = Some (0 ∷ [])
