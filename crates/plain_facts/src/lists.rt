@@ -5,7 +5,7 @@ ghost use Rattle.core_ir.specs.Outcome.{param_types, param_vars};
 ghost use Rattle.core_ir.specs.View.{fun_term};
 ghost use Rattle.core_facts.specs.Facts.{common_facts as common, note_all, shape_fact};
 ghost use Rattle.core_settled.specs.Called.{shape_of_type};
-ghost use Rattle.sac_base.specs.declared.types.ArrayType.{ArrayType as Type};
+ghost use Rattle.sac_base.specs.declared.types.ArrayType.{ArrayType as TypeOf};
 ghost use Rattle.fact_table.specs.Table.{fact_of, facts_of};
 
 use core_ir::{CoreFun, Var};
@@ -52,7 +52,7 @@ pub fn learn_all(facts: &mut FactTable, xs: &[Var], known: Vec<Known>) -> Result
 /// `Memory`: there is none for a note. Those before it stand.
 pub fn learn_params(function: &CoreFun, facts: &mut FactTable) -> Result<(), Memory>
     ensures noted { OnOk result (facts_of facts.new ≡ note_all (facts_of facts.old) (param_vars (fun_term function.now))
-        (map (λ (ty : Type). shape_fact (shape_of_type ty)) (param_types (fun_term function.now)))) }
+        (map (λ (ty : TypeOf). shape_fact (shape_of_type ty)) (param_types (fun_term function.now)))) }
     ensures behind { drop (length facts.new - length facts.old) facts.new ≡ facts.old }
 {
     for (x, ty) in &function.params {
