@@ -3,14 +3,14 @@
 ghost use Rattle.std.specs.Prelude.{◌≡◌, IfOk, map, slice_get};
 ghost use Rattle.core_ir.specs.View.{core_term, fun_term};
 ghost use Rattle.core_facts.specs.Facts.{shape_fact};
-ghost use Rattle.core_settled.specs.Called.{called, common_shapes, result_shapes, shapes_at};
+ghost use Rattle.core_settled.specs.Called.{called, common_shapes, result_shapes, shape_of_type, shapes_at};
 ghost use Rattle.fact_table.specs.Table.{fact_of};
 ghost use Rattle.plain_facts.specs.Called.{shapes_of};
 
 use core_ir::{Core, CoreFun};
 use fact_table::Known;
 use known_shapes::{one_shape, type_shape};
-use sac_base::{Memory, Shape};
+use sac_base::{ArrayType, Memory, Shape};
 use std::alloc::Global;
 use std::marker::Model;
 
@@ -110,11 +110,18 @@ fn shapes_of_results(
 ) -> Result<Vec<Option<Shape>>, Memory>
     ensures { IfOk result (λ shapes. shapes.items ≡ result_shapes (slice_get (map fun_term functions.now) place)) }
 {
+    match functions.get(place as usize) {
+        Some(function) => type_shapes(alloc, &function.results),
+        None => Ok(Vec::new(alloc)),
+    }
+}
+
+fn type_shapes(alloc: Global, types: &[ArrayType]) -> Result<Vec<Option<Shape>>, Memory>
+    ensures { IfOk result (λ shapes. shapes.items ≡ map shape_of_type types.now) }
+{
     let mut shapes = Vec::new(alloc);
-    if let Some(function) = functions.get(place as usize) {
-        for ty in &function.results {
-            shapes.push(type_shape(&ty.part, &None))?;
-        }
+    for ty in types {
+        shapes.push(type_shape(&ty.part, &None))?;
     }
     Ok(shapes)
 }

@@ -40,7 +40,10 @@ pub fn learn_all(facts: &mut FactTable, xs: &[Var], known: Vec<Known>) -> Result
 {
     let mut rest = known.into_iter();
     for x in xs {
-        facts.learn(*x, rest.next().unwrap_or_else(Known::nothing))?;
+        match rest.next() {
+            Some(known) => facts.learn(*x, known)?,
+            None => facts.learn(*x, Known::nothing())?,
+        }
     }
     Ok(())
 }

@@ -1,8 +1,8 @@
 //! What a table knows of single variables, and the shape of an array literal.
 
-ghost use Rattle.std.specs.Prelude.{◌≡◌, map};
-ghost use Rattle.core_ir.specs.declared.tree.Var.{Var as Variable};
-ghost use Rattle.core_facts.specs.Facts.{row_shape as row, row_of as row_from};
+ghost use Rattle.std.specs.Prelude.{◌≡◌};
+ghost use Rattle.core_ir.specs.Terms.{PlainTerm};
+ghost use Rattle.core_facts.specs.Facts.{plain_shape, row_of as row_from};
 ghost use Rattle.fact_table.specs.Table.{facts_of};
 
 use core_ir::Var;
@@ -13,7 +13,7 @@ use std::alloc::Global;
 
 /// The shape of an array literal of these variables, where all of them have the same.
 pub fn row_shape(alloc: Global, xs: &[Var], facts: &FactTable) -> Option<Shape>
-    ensures { result ≡ row (map (λ (x : Variable). (facts_of facts.now x).shape) xs.now) }
+    ensures { result ≡ plain_shape (PlainTerm.Literal xs.now) (facts_of facts.now) }
 {
     let Some(first) = xs.first() else {
         return Some(Shape::vector(alloc, 0));
