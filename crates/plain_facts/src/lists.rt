@@ -1,9 +1,10 @@
 //! What is known of several variables.
 
-ghost use Rattle.std.specs.Prelude.{◌≡◌, ◌-◌, IfOk, OnOk, drop, length, map};
+ghost use Rattle.std.specs.Prelude.{◌≡◌, ◌-◌, ◌∷◌, IfOk, List, OnOk, drop, length, map};
+ghost use Rattle.core_ir.specs.declared.tree.Var.{Var as Variable};
 ghost use Rattle.core_ir.specs.Outcome.{param_types, param_vars};
 ghost use Rattle.core_ir.specs.View.{fun_term};
-ghost use Rattle.core_facts.specs.Facts.{common_facts as common, note_all, shape_fact};
+ghost use Rattle.core_facts.specs.Facts.{Facts, common_facts as common, note, note_all, shape_fact};
 ghost use Rattle.core_settled.specs.Called.{shape_of_type};
 ghost use Rattle.sac_base.specs.declared.types.ArrayType.{ArrayType as TypeOf};
 ghost use Rattle.fact_table.specs.Table.{fact_of, facts_of};
@@ -13,6 +14,7 @@ use fact_table::{FactTable, Known};
 use known_shapes::{one_shape, type_shape};
 use sac_base::Memory;
 use std::alloc::Global;
+use std::vec::IntoIter;
 
 /// What is known of the results of a conditional, from what is known of those of its two blocks: the shapes that both have.
 ///
@@ -40,12 +42,20 @@ pub fn learn_all(facts: &mut FactTable, xs: &[Var], known: Vec<Known>) -> Result
 {
     let mut rest = known.into_iter();
     for x in xs {
-        match rest.next() {
-            Some(known) => facts.learn(*x, known)?,
-            None => facts.learn(*x, Known::nothing())?,
-        }
+        facts.learn(*x, next_known(&mut rest))?;
     }
     Ok(())
+}
+
+// What is known of the next variable, and nothing behind the last.
+fn next_known(rest: &mut IntoIter<Known>) -> Known
+    ensures { (k : Facts) (x : Variable) (xs : List Variable) → note_all (note k x (fact_of result)) xs (map fact_of rest.new.rest.items)
+        ≡ note_all k (x ∷ xs) (map fact_of rest.old.rest.items) }
+{
+    match rest.next() {
+        Some(known) => known,
+        None => Known::nothing(),
+    }
 }
 
 /// Notes what is known of a function's parameters: the shapes that their types name.
