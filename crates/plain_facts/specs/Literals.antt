@@ -1,5 +1,5 @@
 -- Literal values of right sides, by what is known of their operands.
-use Rattle.std.specs.Prelude.{◌≡◌, Bool, true, false, ◌&&◌, ◌||◌, List, map, Option, Some, None, Vec, Ok}
+use Rattle.std.specs.Prelude.{◌≡◌, true, false, ◌&&◌, ◌||◌, List, map, Option, Some, None, Vec, Ok}
 use Rattle.std.specs.declared.alloc.Global.{Global}
 use Rattle.sac_base.specs.declared.op.Op.{Op}
 use Rattle.sac_base.specs.declared.types.ArrayType.{ArrayType}

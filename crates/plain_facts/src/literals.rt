@@ -80,11 +80,7 @@ fn small_binary(alloc: Global, op: Op, a: &Array, b: &Array) -> Result<Option<Ar
 }
 
 /// The vector of literal scalars, at most 8.
-pub fn vector_literal(
-    alloc: Global,
-    xs: &[Var],
-    facts: &FactTable,
-) -> Result<Option<Array>, Memory>
+pub fn vector_literal(alloc: Global, xs: &[Var], facts: &FactTable) -> Result<Option<Array>, Memory>
     ensures { IfOk result (λ value. value ≡ plain_literal (PlainTerm.Literal xs.now) (facts_of facts.now)) }
 {
     if xs.len() > MOST {
@@ -97,11 +93,7 @@ pub fn vector_literal(
 }
 
 // The values of variables, where all are literal scalars.
-fn scalars_of(
-    alloc: Global,
-    xs: &[Var],
-    facts: &FactTable,
-) -> Result<Option<Vec<Array>>, Memory>
+fn scalars_of(alloc: Global, xs: &[Var], facts: &FactTable) -> Result<Option<Vec<Array>>, Memory>
     ensures { IfOk result (λ found. AreScalars (facts_of facts.now) xs.now found) }
 {
     let mut scalars = Vec::new(alloc);

@@ -5,8 +5,9 @@ ghost use Rattle.core_ir.specs.View.{right_term};
 ghost use Rattle.fact_table.specs.Table.{fact_of, facts_of};
 ghost use Rattle.plain_facts.specs.Rights.{fact_of_right, right_shape, right_literal};
 
-use crate::literals::{checked_literal, combined_literal, copy_literal, negated_literal};
-use crate::literals::{shape_vector, vector_literal};
+use crate::literals::{
+    checked_literal, combined_literal, copy_literal, negated_literal, shape_vector, vector_literal,
+};
 use crate::rows::{known_shape, row_shape};
 use core_ir::Right;
 use fact_table::{FactTable, Known};

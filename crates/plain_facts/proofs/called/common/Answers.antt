@@ -1,4 +1,4 @@
-use Rattle.std.proofs.Common.{◌∙◌, ◌++◌, ◌≤◌, List, ℕ, Option, ap, sym, arith, length, append-nil, min, rules}
+use Rattle.std.proofs.Common.{◌∙◌, ◌++◌, ◌≤◌, List, ℕ, Option, ap, sym, length, append-nil, min, rules}
 use Rattle.plain_facts.proofs.Pairs.{shapes_end}
 use Rattle.plain_facts.proofs.called.common.Goals as goal
 

@@ -1,4 +1,4 @@
-use Rattle.std.proofs.Common.{◌∙◌, ◌++◌, ◌≤◌, List, ap, sym, arith, length, append-nil, map, min, rules}
+use Rattle.std.proofs.Common.{◌∙◌, ◌++◌, ◌≤◌, List, ap, sym, length, append-nil, map, min, rules}
 use Rattle.core_facts.specs.Facts.{Fact}
 use Rattle.fact_table.specs.Table.{fact_of}
 use Rattle.plain_facts.proofs.Pairs.{facts_end}

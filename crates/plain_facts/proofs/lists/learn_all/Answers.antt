@@ -1,4 +1,4 @@
-use Rattle.std.proofs.Common.{rules, ◌≡◌, ◌-◌, ◌∷◌, ◌+◌, ◌<◌, ◌≤◌, ◌∙◌, List, drop, length, map, ap, sym, subst, arith, suc}
+use Rattle.std.proofs.Common.{rules, ◌≡◌, ◌-◌, ◌+◌, ◌<◌, ◌≤◌, ◌∙◌, List, drop, length, map, ap, sym, subst, arith}
 use Rattle.std.proofs.lemmas.List.{drop_more}
 use Rattle.core_ir.specs.declared.tree.Var.{Var}
 use Rattle.core_facts.specs.Facts.{note_all}
