@@ -1,5 +1,5 @@
 -- What is known of variables before a run: the shape of each, and the value of a literal one.
-use Rattle.std.specs.Prelude.{◌≡◌, ℕ, ◌&&◌, ◌||◌, Bool, true, false, cond, eqb, if◌then◌else◌, List, [], ◌∷◌, ◌++◌, map, length, drop, nat_le, pos}
+use Rattle.std.specs.Prelude.{◌≡◌, ℕ, ◌&&◌, ◌||◌, Bool, true, false, cond, eqb, if◌then◌else◌, List, [], ◌∷◌, ◌++◌, map, length, drop, nat_le, nat_lt, pos}
 use Rattle.std.specs.Prelude.{Option, Some, None, Result, Ok, Err, unwrap_or}
 use Rattle.std.specs.List.{list_all}
 use Rattle.sac_base.specs.declared.base.Base.TheVariants.{Int}
@@ -190,9 +190,14 @@ abbrev pub when : Bool → Option ArrayValue → Option ArrayValue
 when true v = v
 when false v = None
 
+-- at most 8 extents that an array may have
+abbrev pub is_shape : List ℕ → Bool
+is_shape s = nat_le (length s) 8 && list_all (λ n. nat_lt n 2147483648) s
+
+-- no array has a known shape that is none, so nothing is literal by it
 abbrev pub shape_value : Option (List ℕ) → Option ArrayValue
 shape_value None = None
-shape_value (Some s) = Some (vector Int (map pos s))
+shape_value (Some s) = if is_shape s then Some (vector Int (map pos s)) else None
 
 abbrev pub plain_literal : PlainTerm → Facts → Option ArrayValue
 plain_literal (PlainTerm.Const a) k = Some a
