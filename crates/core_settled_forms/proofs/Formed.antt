@@ -1,5 +1,5 @@
 -- Facts whose literal values may stand as constants.
-use Rattle.std.proofs.Common.{◌≡◌, ℕ, Bool, true, false, cond, eqb, List, [], ◌∷◌, ◌++◌, map, length, Option, Some, None, refl, sym, ap, subst, ◌∙◌}
+use Rattle.std.proofs.Common.{◌≡◌, ℕ, Bool, true, false, cond, eqb, List, [], ◌∷◌, ◌++◌, map, length, Option, Some, None, refl, sym, subst, ◌∙◌, arith}
 use Rattle.std.specs.Prelude.{zip}
 use Rattle.sac_base.specs.declared.base.Base.{Base}
 use Rattle.sac_base.specs.Arrays.{ArrayValue, IsArray, IsWellTyped}
@@ -40,7 +40,7 @@ formed_one g k x t f h q = λ y v. go y v (eqb x.0 y.0)
 same_formed : (g h : Bases) (k : Facts) → ((y : Var) → base_of g y ≡ base_of h y) → Formed h k → Formed g k
 same_formed g h k same f = λ x v p. let w = f x v p in (w.0, λ t m. w.1 t (sym (same x) ∙ m))
 
-formed_front : (ps g : Bases) (k : Facts) (fs : List Fact) → Formed g k → Distinct (vars ps) → AreFormed fs (map (λ (p : Var × Base). p.1) ps) → Formed (ps ++ g) (note_all k (vars ps) fs)
+pub formed_front : (ps g : Bases) (k : Facts) (fs : List Fact) → Formed g k → Distinct (vars ps) → AreFormed fs (map (λ (p : Var × Base). p.1) ps) → Formed (ps ++ g) (note_all k (vars ps) fs)
 formed_front [] g k fs h d a = h
 formed_front (p ∷ ps) g k [] h d a =
     same_formed (p ∷ (ps ++ g)) (ps ++ (p ∷ g)) (note_all (note k p.0 unknown) (vars ps) []) (λ y. swap ps g p y d.0)
