@@ -1,5 +1,5 @@
 -- The literal value of a right side may stand in its place, as a constant.
-use Rattle.std.proofs.Common.{◌≡◌, ℕ, ◌≤◌, ◌<◌, ◌^◌, Bool, true, false, ◌&&◌, cond, List, [], ◌∷◌, map, length, Option, Some, None, Result, Ok, Err, refl, sym, ap, subst, ◌∙◌, arith, inl, ℤ, pos, All}
+use Rattle.std.proofs.Common.{◌≡◌, ℕ, ◌≤◌, ◌<◌, ◌^◌, Bool, true, false, ◌&&◌, List, [], ◌∷◌, map, length, Option, Some, None, Result, Ok, Err, refl, sym, ap, subst, ◌∙◌, arith, inl, pos, All}
 use Rattle.std.specs.Prelude.{◌||◌, if◌then◌else◌}
 use Rattle.std.proofs.lemmas.Bool.{leb-true}
 use Rattle.std.proofs.lemmas.Int.{ints}
@@ -8,7 +8,7 @@ use Rattle.std.proofs.lemmas.List.Elements.{All-nil, All-cons}
 use Rattle.sac_base.specs.declared.base.Base.{Base}
 use Rattle.sac_base.specs.declared.base.Base.TheVariants.{Int, Bool as Truth}
 use Rattle.sac_base.specs.declared.faults.FaultKind.{FaultKind}
-use Rattle.sac_base.specs.Arrays.{ArrayValue, IsArray, IsCell, IsFull, IsWellTyped, MOST, scalar, size, vector}
+use Rattle.sac_base.specs.Arrays.{ArrayValue, IsCell, IsWellTyped, MOST, scalar, size, vector}
 use Rattle.sac_base.specs.Operators.{unary}
 use Rattle.sac_base.specs.Shapes.{IsShape}
 use Rattle.core_ir.specs.declared.tree.Var.{Var}
@@ -139,16 +139,16 @@ module _ (g : Bases) (k : Facts) (formed : Formed g k) where
   value_stands (PlainTerm.Unary o x) ts v b p =
       let w = whenever (is_negation o && are_literal k (x ∷ [])) (small (plain_value (PlainTerm.Unary o x) (values k))) v p in
       let q = literal_sound (PlainTerm.Unary o x) (without_shapes k) (stand_ins g k) v sound p in
-      by_value (PlainTerm.Unary o x) ts v b tt q (small_shape _ v w.1)
+      by_value (PlainTerm.Unary o x) ts v b tt q (small_shape (plain_value (PlainTerm.Unary o x) (values k)) v w.1)
       (subst IsWellTyped (ok_same (unary o (stand_ins g k x)) v q) (negation_cells o (stand_ins g k x).cells (both_true (is_negation o) (are_literal k (x ∷ [])) w.0).0))
   value_stands (PlainTerm.Binary o x y) ts v b p =
       let w = whenever ((is_sum o && ((k x).constant || (k y).constant)) && are_literal k (x ∷ y ∷ [])) (small (plain_value (PlainTerm.Binary o x y) (values k))) v p in
       let q = literal_sound (PlainTerm.Binary o x y) (without_shapes k) (stand_ins g k) v sound p in
-      by_value (PlainTerm.Binary o x y) ts v b tt q (small_shape _ v w.1) (sum_typed o (stand_ins g k x) (stand_ins g k y) v (both_true (is_sum o) ((k x).constant || (k y).constant) (both_true (is_sum o && ((k x).constant || (k y).constant)) (are_literal k (x ∷ y ∷ [])) w.0).0).0 q)
+      by_value (PlainTerm.Binary o x y) ts v b tt q (small_shape (plain_value (PlainTerm.Binary o x y) (values k)) v w.1) (sum_typed o (stand_ins g k x) (stand_ins g k y) v (both_true (is_sum o) ((k x).constant || (k y).constant) (both_true (is_sum o && ((k x).constant || (k y).constant)) (are_literal k (x ∷ y ∷ [])) w.0).0).0 q)
   value_stands (PlainTerm.Literal xs) ts v b p =
       let w = whenever (are_literal k xs && are_scalars k xs) (small (plain_value (PlainTerm.Literal xs) (values k))) v p in
       let q = literal_sound (PlainTerm.Literal xs) (without_shapes k) (stand_ins g k) v sound ((λ i. when (still_literal k xs i && are_scalars k xs) (small (plain_value (PlainTerm.Literal xs) (values k)))) ∙ p) in
-      by_value (PlainTerm.Literal xs) ts v b tt q (small_shape _ v w.1) (literal_typed (map (stand_ins g k) xs) v (typed_values xs) q)
+      by_value (PlainTerm.Literal xs) ts v b tt q (small_shape (plain_value (PlainTerm.Literal xs) (values k)) v w.1) (literal_typed (map (stand_ins g k) xs) v (typed_values xs) q)
   value_stands (PlainTerm.Dim x) ts v b p = absurd (no_value v p)
   value_stands (PlainTerm.ShapeOf x) ts v b p = let w = shape_stands (k x).shape v p in (w.0.0, w.0.1, b.2 ∙ (λ i. sym w.1 i ∷ []))
   value_stands (PlainTerm.Reshape x y) ts v b p = absurd (no_value v p)
