@@ -191,9 +191,14 @@ abbrev pub when : Bool → Option ArrayValue → Option ArrayValue
 when true v = v
 when false v = None
 
+-- at most 8 extents that an array may have
+abbrev pub is_shape : List ℕ → Bool
+is_shape s = nat_le (length s) 8 && list_all (λ n. nat_lt n 2147483648) s
+
+-- no array has a known shape that is none, so nothing is literal by it
 abbrev pub shape_value : Option (List ℕ) → Option ArrayValue
 shape_value None = None
-shape_value (Some s) = Some (vector Int (map pos s))
+shape_value (Some s) = if is_shape s then Some (vector Int (map pos s)) else None
 
 abbrev pub plain_literal : PlainTerm → Facts → Option ArrayValue
 plain_literal (PlainTerm.Const a) k = Some a
