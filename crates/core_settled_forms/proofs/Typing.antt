@@ -7,7 +7,7 @@ use Rattle.sac_base.specs.Arrays.{ArrayValue}
 use Rattle.core_ir.specs.Binders.{bound_in, bound_in_right, bound_in_gens, bound_in_parts}
 use Rattle.core_ir.specs.Terms.{PlainTerm, BlockTerm, RightTerm, GensTerm, PartsTerm, CoreTerm, Gives, Bind, Plain, NoGens, Gen, NoParts, Part}
 use Rattle.core_ir.specs.WellFormed.{Bases, BlockBases, Distinct, GensBases, GroupBases, PartedFits, PartsBases, PlainBases, RightBases, ints}
-use Rattle.core_facts.specs.Facts.{Fact, Facts, block_facts, common_facts, in_part, note_all, one_shape, parted_shape, plain_fact, plain_literal, right_facts, shape_fact}
+use Rattle.core_facts.specs.Facts.{Fact, Facts, block_facts, common_facts, in_part, known_shape, note_all, one_shape, parted_shape, plain_fact, plain_literal, right_facts, shape_fact}
 use Rattle.core_facts.specs.Settled.{constant_or, settled, settled_right, settled_gens, settled_parts}
 use Rattle.core_facts.proofs.Literals.{no_value, some_same}
 use Rattle.core_bases.proofs.Bound.{distinct_left, distinct_right}
@@ -52,7 +52,7 @@ module _ (called : ℕ → List (Option (List ℕ))) (core next : CoreTerm) (gro
   facts_formed (RightTerm.Loop first start params test body s) g k ts h f = tt
   facts_formed (RightTerm.Call group xs) g k ts h f = shapes_formed (called group) ts
   facts_formed (RightTerm.With o gens) g k ts h f = tt
-  facts_formed (RightTerm.Parted frame t cell o parts) g k ts h f = shapes_formed (Some (parted_shape frame cell o) ∷ []) ts
+  facts_formed (RightTerm.Parted frame t cell o parts) g k ts h f = shapes_formed (known_shape (parted_shape frame cell o) ∷ []) ts
 
   mutual
     pub block_kept : (b : BlockTerm) (g : Bases) (k : Facts) (ts : List Base) → BlockBases core g b ts → Distinct (bound_in b) → Formed g k → BlockBases next g (settled called b k) ts
