@@ -191,9 +191,14 @@ abbrev pub when : Bool → Option ArrayValue → Option ArrayValue
 when true v = v
 when false v = None
 
+-- at most 8 extents that an array may have
+abbrev pub is_shape : List ℕ → Bool
+is_shape s = nat_le (length s) 8 && list_all (λ n. nat_lt n 2147483648) s
+
+-- no array has a known shape that is none, so nothing is literal by it
 abbrev pub shape_value : Option (List ℕ) → Option ArrayValue
 shape_value None = None
-shape_value (Some s) = Some (vector Int (map pos s))
+shape_value (Some s) = if is_shape s then Some (vector Int (map pos s)) else None
 
 abbrev pub plain_literal : PlainTerm → Facts → Option ArrayValue
 plain_literal (PlainTerm.Const a) k = Some a
@@ -223,6 +228,10 @@ abbrev pub parted_shape : List Grid1 → List ℕ → PartedOp → List ℕ
 parted_shape frame cell (parted.Fold o x) = cell
 parted_shape frame cell _ = extents frame ++ cell
 
+-- the shape, if it is one that an array may have
+abbrev pub known_shape : List ℕ → Option (List ℕ)
+known_shape s = if is_shape s then Some s else None
+
 -- what is known in the body of a part: the length of the index
 abbrev pub in_part : Facts → PartHead → Facts
 in_part k h = note k h.index (shape_fact (Some (length h.grid ∷ [])))
@@ -240,7 +249,7 @@ module _ (called : ℕ → List (Option (List ℕ))) where
     right_facts (RightTerm.Loop first start params test body s) k = []
     right_facts (RightTerm.Call g xs) k = map shape_fact (called g)
     right_facts (RightTerm.With o gens) k = []
-    right_facts (RightTerm.Parted frame base cell o parts) k = shape_fact (Some (parted_shape frame cell o)) ∷ []
+    right_facts (RightTerm.Parted frame base cell o parts) k = shape_fact (known_shape (parted_shape frame cell o)) ∷ []
 
   -- results of calls of arrays have these shapes
   abbrev pub CallsFit : CallMeaning → Type 0

@@ -1,3 +1,4 @@
-mod Notes
+pub mod Extents
 mod Groups
+mod Notes
 mod Pairs
