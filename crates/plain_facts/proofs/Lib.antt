@@ -1,4 +1,3 @@
-pub mod Extents
 mod Groups
 mod Notes
 mod Pairs

@@ -3,7 +3,7 @@ use Rattle.std.specs.Prelude.{if◌then◌else◌}
 use Rattle.sac_base.specs.declared.base.Base.TheVariants.{Int}
 use Rattle.sac_base.specs.Arrays.{vector}
 use Rattle.core_facts.specs.Facts.{shape_value}
-use Rattle.plain_facts.proofs.Extents.{is_shape_decides}
+use Rattle.core_facts.proofs.Extents.{is_shape_decides}
 use Rattle.plain_facts.proofs.literals.shape_vector.Goals as goal
 
 pub returns-in_ok-extents-in-Some : goal.returns-in_ok-extents-in-Some
