@@ -8,7 +8,7 @@ use Rattle.sac_base.specs.Parts.{literal, shape_vector}
 use Rattle.core_ir.specs.declared.tree.Var.{Var}
 use Rattle.core_ir.specs.Terms.{PlainTerm}
 use Rattle.core_ir.specs.Meaning.{Env, missing, plain_value}
-use Rattle.core_facts.specs.Facts.{Facts, ShapeIs, ValueIs, AreSound, values, is_some, are_literal, are_scalars, is_small_shape, small, found, when, shape_value, plain_literal}
+use Rattle.core_facts.specs.Facts.{Facts, ShapeIs, ValueIs, AreSound, values, is_some, are_literal, are_scalars, is_small_shape, small, found, when, is_shape, shape_value, plain_literal}
 use Rattle.core_facts.proofs.Shapes.{ok_same}
 
 abbrev value_or : ArrayValue → Option ArrayValue → ArrayValue
@@ -21,11 +21,11 @@ some_same a b p = ap (value_or a) p
 pub no_value : (v : ArrayValue) → ◌≡◌ {A = Option ArrayValue} None (Some v) → ⊥
 no_value v p = cc
 
-both_true : (b c : Bool) → (b && c) ≡ true → (b ≡ true) × (c ≡ true)
+pub both_true : (b c : Bool) → (b && c) ≡ true → (b ≡ true) × (c ≡ true)
 both_true true c h = (refl, h)
 both_true false c h = absurd (cc)
 
-whenever : (b : Bool) (m : Option ArrayValue) (v : ArrayValue) → when b m ≡ Some v → (b ≡ true) × (m ≡ Some v)
+pub whenever : (b : Bool) (m : Option ArrayValue) (v : ArrayValue) → when b m ≡ Some v → (b ≡ true) × (m ≡ Some v)
 whenever true m v p = (refl, p)
 whenever false m v p = absurd (no_value v p)
 
@@ -58,7 +58,11 @@ value_known (Some u) a v h p = h ∙ some_same u v p
 
 by_shape : (o : Option (List ℕ)) (a v : ArrayValue) → ShapeIs o a → shape_value o ≡ Some v → shape_vector a ≡ v
 by_shape None a v h p = absurd (no_value v p)
-by_shape (Some s) a v h p = (λ i. vector Int (map (λ n. pos n) (h i))) ∙ some_same _ v p
+by_shape (Some s) a v h p = go (is_shape s) p
+  where
+    go : (b : Bool) → (if b then Some (vector Int (map (λ n. pos n) s)) else None) ≡ Some v → shape_vector a ≡ v
+    go true q = (λ i. vector Int (map (λ n. pos n) (h i))) ∙ some_same _ v q
+    go false q = absurd (no_value v q)
 
 pub literal_sound : (p : PlainTerm) (k : Facts) (e : Env) (v : ArrayValue) → AreSound k e → plain_literal p k ≡ Some v → plain_value p e ≡ Ok v
 literal_sound (PlainTerm.Const a) k e v h p = λ i. Ok (some_same a v p i)

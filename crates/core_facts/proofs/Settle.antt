@@ -13,12 +13,12 @@ use Rattle.sac_base.specs.WithLoops.{with_value, each}
 use Rattle.core_ir.specs.Terms.{PlainTerm, BlockTerm, RightTerm, GensTerm, PartsTerm, Gives, Bind, Plain, NoGens, Gen, NoParts, Part}
 use Rattle.core_ir.specs.Meaning.{Env, Answer, CallMeaning, bind, bind_all, first, one, repeat, loop_value, plain_value, made_of, neutral_fits, cell_form, generator, operation, with_index, run, right_value, generators, cells}
 use Rattle.core_ir.proofs.Edited.{then_same, SameCells, same_cell_at}
-use Rattle.core_facts.specs.Facts.{Facts, shape_fact, note_all, DescribeAll, AreSound, plain_fact, plain_literal, is_constant, common_facts, parted_shape, block_facts, right_facts, in_part, CallsFit}
+use Rattle.core_facts.specs.Facts.{Facts, shape_fact, note_all, DescribeAll, AreSound, plain_fact, plain_literal, is_constant, common_facts, parted_shape, known_shape, block_facts, right_facts, in_part, CallsFit}
 use Rattle.core_facts.specs.Full.{KeepsFull, FullInside, FullInsideRight, FullInsideGens, FullInsideParts}
 use Rattle.core_facts.specs.Settled.{constant_or, settled, settled_right, settled_gens, settled_parts, IsSettled, IsSettledRight, IsSettledGens, IsSettledParts}
 use Rattle.core_facts.proofs.Shapes.{ok_same, shape_sound}
 use Rattle.core_facts.proofs.Literals.{literal_sound, value_sound, no_value}
-use Rattle.core_facts.proofs.Sound.{noted_one, noted, full_env, all_full, described, common_left, common_right, then_ok, chosen_ok, plain_ok, parted_ok, parted_has, block_sound}
+use Rattle.core_facts.proofs.Sound.{noted_one, noted, full_env, all_full, described, common_left, common_right, then_ok, chosen_ok, plain_ok, parted_ok, parted_has, known_has, block_sound}
 
 -- ---- loops whose parts mean the same where what is carried has a property
 
@@ -120,7 +120,7 @@ module _ (calls : CallMeaning) (turns : ℕ) (called : ℕ → List (Option (Lis
     settled_sound (RightTerm.Parted frame base cell o parts) s k e vs keep w h q =
         let t = parted_ok frame base cell o (cells calls turns parts e) s e vs q in
         let full = subst (DescribeAll []) t.1 (keep s e vs (full_env k e h) q) in
-        subst (DescribeAll (shape_fact (Some (parted_shape frame cell o)) ∷ [])) (sym t.1) (record { shape = parted_has frame base cell o e t.0 t.2 t.3; literal = tt; full = full.0 }, tt)
+        subst (DescribeAll (shape_fact (known_shape (parted_shape frame cell o)) ∷ [])) (sym t.1) (record { shape = known_has (parted_shape frame cell o) (made_of frame base cell o e t.0) (parted_has frame base cell o e t.0 t.2 t.3); literal = tt; full = full.0 }, tt)
 
     pub settled_block : (b : BlockTerm) (k : Facts) (e : Env) (vs : List ArrayValue) → FullInside calls turns b → AreSound k e → run calls turns b e ≡ Ok vs → DescribeAll (block_facts called (settled called b k) k) vs
     settled_block (Gives xs) k e vs w h p = subst (DescribeAll (map k xs)) (ok_same (map e xs) vs p) (described k e xs h)

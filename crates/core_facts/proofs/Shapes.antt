@@ -1,6 +1,6 @@
 -- Shapes of the values of right sides without blocks and calls.
 use Rattle.std.proofs.Common.{◌≡◌, ℕ, suc, Bool, true, false, ◌&&◌, List, [], ◌∷◌, map, length, drop, Option, Some, None, Result, Ok, Err, refl, sym, ap, subst, ◌∙◌, arith, ltb, ℤ, pos, negsuc}
-use Rattle.std.specs.Prelude.{if◌then◌else◌, nat_le}
+use Rattle.std.specs.Prelude.{if◌then◌else◌, nat_le, nat_lt}
 use Rattle.std.proofs.lemmas.List.{length-map}
 use Rattle.std.proofs.lemmas.Slice.Eq.{bytes_eq-Decides}
 use Rattle.sac_base.specs.declared.faults.FaultKind.{FaultKind}
@@ -70,7 +70,11 @@ shared first (s ∷ rest) a h = shared (one_shape first s) rest a (one_left firs
 
 row : (n : ℕ) (m : Option (List ℕ)) (a b : ArrayValue) → ShapeIs m a → b.shape ≡ n ∷ a.shape → ShapeIs (row_of n m) b
 row n None a b h p = tt
-row n (Some s) a b h p = p ∙ (λ i. n ∷ h i)
+row n (Some s) a b h p = go (nat_lt n 2147483648 && nat_le (length (n ∷ s)) 8)
+  where
+    go : (fits : Bool) → ShapeIs (if fits then Some (n ∷ s) else None) b
+    go true = p ∙ (λ i. n ∷ h i)
+    go false = tt
 
 pub check_ok : (b : Bool) (kind : FaultKind) (next : Result ArrayValue FaultKind) (v : ArrayValue) → check b kind next ≡ Ok v → (b ≡ true) × (next ≡ Ok v)
 check_ok true kind next v p = (refl, p)

@@ -14,7 +14,7 @@ use Rattle.core_ir.specs.declared.tree.PartedOp.{PartedOp}
 use Rattle.core_ir.specs.declared.tree.PartedOp.TheVariants as parted
 use Rattle.core_ir.specs.Terms.{PlainTerm, BlockTerm, RightTerm, Gives, Bind, Plain}
 use Rattle.core_ir.specs.Meaning.{Env, Answer, CallMeaning, missing, bind, bind_all, one, plain_value, extents, joined, made_of, cell_form, neutral_fits, parted_value, run, right_value, cells}
-use Rattle.core_facts.specs.Facts.{Fact, Facts, unknown, shape_fact, note, note_all, ShapeIs, Describes, DescribeAll, AreSound, one_shape, plain_fact, common_facts, parted_shape, block_facts, right_facts, CallsFit}
+use Rattle.core_facts.specs.Facts.{Fact, Facts, unknown, shape_fact, note, note_all, ShapeIs, Describes, DescribeAll, AreSound, one_shape, plain_fact, common_facts, is_shape, parted_shape, known_shape, block_facts, right_facts, CallsFit}
 use Rattle.core_facts.specs.Full.{AreFull, KeepsFull, FullInside, FullInsideRight}
 use Rattle.core_facts.proofs.Shapes.{ok_same, no_ok, one_left, one_right, shape_sound}
 use Rattle.core_facts.proofs.Literals.{value_sound}
@@ -112,6 +112,13 @@ parted_has frame base cell parted.Genarray e found n h = refl
 parted_has frame base cell (parted.Modarray x) e found n h = refl
 parted_has frame base cell (parted.Fold o x) e found n h = folded_shape o (cell_form base cell) (e x) found (neutral_shape (e x) (cell_form base cell) n) h
 
+pub known_has : (s : List ℕ) (a : ArrayValue) → a.shape ≡ s → ShapeIs (known_shape s) a
+known_has s a h = go (is_shape s)
+  where
+    go : (fits : Bool) → ShapeIs (if fits then Some s else None) a
+    go true = h
+    go false = tt
+
 module _ (calls : CallMeaning) (turns : ℕ) (called : ℕ → List (Option (List ℕ))) (fit : CallsFit called calls) where
   mutual
     pub block_sound : (b : BlockTerm) (k : Facts) (e : Env) (vs : List ArrayValue) → FullInside calls turns b → AreSound k e → run calls turns b e ≡ Ok vs → DescribeAll (block_facts called b k) vs
@@ -135,4 +142,4 @@ module _ (calls : CallMeaning) (turns : ℕ) (called : ℕ → List (Option (Lis
     right_sound (RightTerm.Parted frame base cell o parts) s k e vs keep w h q =
         let t = parted_ok frame base cell o (cells calls turns parts e) s e vs q in
         let full = subst (DescribeAll []) t.1 (keep s e vs (full_env k e h) q) in
-        subst (DescribeAll (shape_fact (Some (parted_shape frame cell o)) ∷ [])) (sym t.1) (record { shape = parted_has frame base cell o e t.0 t.2 t.3; literal = tt; full = full.0 }, tt)
+        subst (DescribeAll (shape_fact (known_shape (parted_shape frame cell o)) ∷ [])) (sym t.1) (record { shape = known_has (parted_shape frame cell o) (made_of frame base cell o e t.0) (parted_has frame base cell o e t.0 t.2 t.3); literal = tt; full = full.0 }, tt)

@@ -1,5 +1,5 @@
 -- What is known of variables before a run: the shape of each, and the value of a literal one.
-use Rattle.std.specs.Prelude.{◌≡◌, ℕ, ◌&&◌, ◌||◌, Bool, true, false, cond, eqb, if◌then◌else◌, List, [], ◌∷◌, ◌++◌, map, length, drop, nat_le, pos}
+use Rattle.std.specs.Prelude.{◌≡◌, ℕ, ◌&&◌, ◌||◌, Bool, true, false, cond, eqb, if◌then◌else◌, List, [], ◌∷◌, ◌++◌, map, length, drop, nat_le, nat_lt, pos}
 use Rattle.std.specs.Prelude.{Option, Some, None, Result, Ok, Err, unwrap_or}
 use Rattle.std.specs.List.{list_all}
 use Rattle.sac_base.specs.declared.base.Base.TheVariants.{Int}
@@ -90,9 +90,10 @@ abbrev pub shared_shape : Option (List ℕ) → List (Option (List ℕ)) → Opt
 shared_shape first [] = first
 shared_shape first (s ∷ rest) = shared_shape (one_shape first s) rest
 
+-- no array has more than 8 extents, or one of 2 ^ 31 or more
 abbrev pub row_of : ℕ → Option (List ℕ) → Option (List ℕ)
 row_of n None = None
-row_of n (Some shape) = Some (n ∷ shape)
+row_of n (Some shape) = if nat_lt n 2147483648 && nat_le (length (n ∷ shape)) 8 then Some (n ∷ shape) else None
 
 abbrev pub row_shape : List (Option (List ℕ)) → Option (List ℕ)
 row_shape [] = Some (0 ∷ [])
@@ -190,9 +191,14 @@ abbrev pub when : Bool → Option ArrayValue → Option ArrayValue
 when true v = v
 when false v = None
 
+-- at most 8 extents that an array may have
+abbrev pub is_shape : List ℕ → Bool
+is_shape s = nat_le (length s) 8 && list_all (λ n. nat_lt n 2147483648) s
+
+-- no array has a known shape that is none, so nothing is literal by it
 abbrev pub shape_value : Option (List ℕ) → Option ArrayValue
 shape_value None = None
-shape_value (Some s) = Some (vector Int (map pos s))
+shape_value (Some s) = if is_shape s then Some (vector Int (map pos s)) else None
 
 abbrev pub plain_literal : PlainTerm → Facts → Option ArrayValue
 plain_literal (PlainTerm.Const a) k = Some a
@@ -222,6 +228,10 @@ abbrev pub parted_shape : List Grid1 → List ℕ → PartedOp → List ℕ
 parted_shape frame cell (parted.Fold o x) = cell
 parted_shape frame cell _ = extents frame ++ cell
 
+-- the shape, if it is one that an array may have
+abbrev pub known_shape : List ℕ → Option (List ℕ)
+known_shape s = if is_shape s then Some s else None
+
 -- what is known in the body of a part: the length of the index
 abbrev pub in_part : Facts → PartHead → Facts
 in_part k h = note k h.index (shape_fact (Some (length h.grid ∷ [])))
@@ -239,7 +249,7 @@ module _ (called : ℕ → List (Option (List ℕ))) where
     right_facts (RightTerm.Loop first start params test body s) k = []
     right_facts (RightTerm.Call g xs) k = map shape_fact (called g)
     right_facts (RightTerm.With o gens) k = []
-    right_facts (RightTerm.Parted frame base cell o parts) k = shape_fact (Some (parted_shape frame cell o)) ∷ []
+    right_facts (RightTerm.Parted frame base cell o parts) k = shape_fact (known_shape (parted_shape frame cell o)) ∷ []
 
   -- results of calls of arrays have these shapes
   abbrev pub CallsFit : CallMeaning → Type 0
