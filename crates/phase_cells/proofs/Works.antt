@@ -43,10 +43,11 @@ behind_after s r j is lent stands k same none =
     let heap : l.heap ≡ r.heap = ap (λ (q : Lender). q.heap) there.2 in
     left_stands s.own l k j (same ∙ sym heap) none (subst (λ h. IsAsLent h j) (sym heap) lent) (subst (λ o. Stands (record { own = s.own; lent = o }) j) there.1 stands)
 
-pub may_after : {S : Type 0} (ready : S → Type 0) (opens : Heap → Type 0) (lends own : HeapValue) (end : CellEnd) (s : S) (o : Option S) → WentOn end s o → (IsComputed end → ready s × (lends.births ≤ own.births) × ((k : Heap) × StandsBehind lends own k × opens k)) → MayRun ready opens lends own o
-may_after ready opens lends own Value s o went may = subst (MayRun ready opens lends own) (sym went) (may tt)
-may_after ready opens lends own NotHeld s o went may = subst (MayRun ready opens lends own) (sym went) (may tt)
-may_after ready opens lends own (Stopped stop) s o went may = subst (MayRun ready opens lends own) (sym went) tt
+pub may_after : {S : Type 0} (ready : S → Type 0) (opens : Heap → Type 0) (lends own : HeapValue) (end : CellEnd) (s : S) (before after : Option S) → before ≡ Some s → WentOn end before after
+    → (IsComputed end → ready s × (lends.births ≤ own.births) × ((k : Heap) × StandsBehind lends own k × opens k)) → MayRun ready opens lends own after
+may_after ready opens lends own Value s before after there went may = subst (MayRun ready opens lends own) (sym (went ∙ there)) (may tt)
+may_after ready opens lends own NotHeld s before after there went may = subst (MayRun ready opens lends own) (sym (went ∙ there)) (may tt)
+may_after ready opens lends own (Stopped stop) s before after there went may = subst (MayRun ready opens lends own) (sym went) tt
 
 -- ---- counters
 
@@ -125,10 +126,10 @@ opened lends own k s l own_is lent_is same none stands =
     subst (λ h. Stands (record { own = h; lent = s.lent }) k) (sym own_is) (subst (λ o. Stands (record { own = own; lent = o }) k) (sym lent_is) (stands l same none))
 
 -- after a cell that was computed another one may be
-pub may_go_on : {S : Type 0} (ready : S → Type 0) (opens : Heap → Type 0) (lends own own' : HeapValue) (k : Heap) (n : ℕ) (s : Store) (l : LentValue) (before end : CellEnd) (x : S) (o : Option S)
+pub may_go_on : {S : Type 0} (ready : S → Type 0) (opens : Heap → Type 0) (lends own own' : HeapValue) (k : Heap) (n : ℕ) (s : Store) (l : LentValue) (before end : CellEnd) (x : S) (q o : Option S)
     → lender_of s ≡ Some (lender_as l) → l.heap ≡ lends → lends.births ≤ own.births → Stands (record { own = own; lent = Some l }) k
-    → (IsComputed before → ready x) → (IsComputed before → IsLeft opens lends n k s) → (IsComputed end → IsComputed before × (own' ≡ s.own)) → WentOn end x o → MayRun ready opens lends own' o
-may_go_on ready opens lends own own' k n s l before end x o is heap later stands is_ready is_left same went = may_after ready opens lends own' end x o went go
+    → (IsComputed before → ready x) → (IsComputed before → IsLeft opens lends n k s) → (IsComputed end → IsComputed before × (own' ≡ s.own)) → q ≡ Some x → WentOn end q o → MayRun ready opens lends own' o
+may_go_on ready opens lends own own' k n s l before end x q o is heap later stands is_ready is_left same there went = may_after ready opens lends own' end x q o there went go
   where
     go : IsComputed end → ready x × (lends.births ≤ own'.births) × ((j : Heap) × StandsBehind lends own' j × opens j)
     go computed =

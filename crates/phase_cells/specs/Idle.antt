@@ -65,7 +65,7 @@ raise n (suc (suc zero)) = n
 raise n (suc (suc (suc kind))) = 0
 
 -- what is left of a worker's scratch after a cell
-abbrev pub WentOn : {S : Type 0} → CellEnd → S → Option S → Type 0
-WentOn Value s o = o ≡ Some s
-WentOn NotHeld s o = o ≡ Some s
-WentOn (Stopped stop) s o = o ≡ None
+abbrev pub WentOn : {S : Type 0} → CellEnd → Option S → Option S → Type 0
+WentOn Value before after = after ≡ before
+WentOn NotHeld before after = after ≡ before
+WentOn (Stopped stop) before after = after ≡ None

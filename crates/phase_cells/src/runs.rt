@@ -1,5 +1,5 @@
 // What the cells of a loop are, and how one is computed on a store.
-ghost use Rattle.std.specs.Prelude.{◌≡◌, ℕ, ◌<◌, length, IfOk};
+ghost use Rattle.std.specs.Prelude.{◌≡◌, ℕ, ◌<◌, length, IfOk, IfSome};
 ghost use Rattle.buffer_heap.specs.Heaps.{HeapValue};
 ghost use Rattle.phase_cells.specs.Idle.{IsLeft};
 ghost use Rattle.counted_code.specs.Values.{Heap as MachineHeap};
@@ -42,6 +42,24 @@ pub trait CellRuns: Sync {
     /// What a worker begins with.
     fn begin(&self) -> Result<Self::Scratch, Memory>
         ensures { IfOk result (λ scratch. ready self.now scratch) };
+
+    /// Computes the cell of a position without a store into the elements that are given, if it can: such a cell takes no
+    /// buffer. Else the cell is still to be computed.
+    fn run_alone(
+        &self,
+        _scratch: &mut Self::Scratch,
+        _position: usize,
+        _into: &mut [Cell],
+    ) -> Option<CellEnd>
+        requires ready { ready self.now _scratch.old }
+        requires position { _position < positions self.now }
+        requires width { length _into.old ≡ width self.now }
+        ensures tells { IfSome result (Tells (cell self.now _position) _into.new) }
+        ensures takes { IfSome result (λ end. IsComputed end → takes self.now _position ≡ 0) }
+        ensures ready { ready self.now _scratch.new }
+    {
+        None
+    }
 
     /// Computes the cell of a position into the elements that are given.
     fn run(

@@ -70,9 +70,12 @@ impl<'a, C: CellRuns> PhaseCells<Heap> for LentCells<'a, C> {
         position: usize,
         into: &mut [Cell],
     ) -> CellEnd {
-        let Some(mut scratch) = worker.scratch.take() else {
+        let Some(scratch) = &mut worker.scratch else {
             return CellEnd::Stopped(Stop::Memory);
         };
+        if let Some(end) = self.cells.run_alone(scratch, position, into) {
+            return end;
+        }
         let Some(own_seat) = seat.take() else {
             return CellEnd::Stopped(Stop::Memory);
         };
@@ -80,10 +83,10 @@ impl<'a, C: CellRuns> PhaseCells<Heap> for LentCells<'a, C> {
         let own = mem::replace(&mut worker.heap, Heap::new(self.alloc));
         let lent = Lent::new(self.cells.heap(), table, own_seat, holds);
         let mut store = Store::with(own, lent);
-        let end = self.cells.run(&mut scratch, &mut store, position, into);
+        let end = self.cells.run(scratch, &mut store, position, into);
         let (mut heap, back, counts) = store.close();
         let end = left_by(end, &mut heap);
-        worker.scratch = scratch_after(end, scratch);
+        stop_after(end, &mut worker.scratch);
         worker.heap = heap;
         worker.holds = counts;
         *seat = Some(back);
@@ -115,11 +118,11 @@ fn left_by(end: CellEnd, heap: &mut Heap) -> CellEnd
 }
 
 // After a cell that was stopped no other one is computed.
-fn scratch_after<S: Drop>(end: CellEnd, scratch: S) -> Option<S>
-    ensures { WentOn end scratch result }
+fn stop_after<S: Drop>(end: CellEnd, scratch: &mut Option<S>)
+    ensures { WentOn end scratch.old scratch.new }
 {
     match end {
-        CellEnd::Value | CellEnd::NotHeld => Some(scratch),
-        CellEnd::Stopped(_) => None,
+        CellEnd::Value | CellEnd::NotHeld => {}
+        CellEnd::Stopped(_) => *scratch = None,
     }
 }

@@ -1,8 +1,8 @@
 -- Buffers of a heap that lends, by their numbers.
-use Rattle.std.proofs.Common.{◌≡◌, ℕ, zero, suc, Bool, true, false, cond, eqb, List, [], ◌∷◌, ℤ, Option, Some, None, refl, ap, sym, subst, ◌∙◌, arith}
+use Rattle.std.proofs.Common.{◌≡◌, ℕ, zero, suc, Bool, true, false, cond, eqb, List, [], ◌∷◌, ℤ, Option, Some, None, refl, ap, sym, ◌∙◌, arith}
 use Rattle.std.specs.Prelude.{IsSomeAnd, slice_index_or}
 use Rattle.std.proofs.lemmas.Bool.{eqb-true, eq-eqb}
-use Rattle.buffer_heap.specs.Heaps.{Held, HeapValue, In, Out, Content, at, IsLive, IsNamed, content_of}
+use Rattle.buffer_heap.specs.Heaps.{Held, HeapValue, In, at, IsLive, IsNamed, content_of}
 use Rattle.phase_loop_cells.specs.Opened.{named, cells_in}
 
 -- no two buffers have one number
@@ -30,7 +30,8 @@ named_there (Some y ∷ os) (suc b) x single is = further (eqb y.born x.born) re
     further true e rest = absurd (let apart = single 0 (suc b) y x refl is (eqb-true y.born x.born e) in omega (arith, apart))
     further false e rest = rest
 
-some_there : (o : Option Held) (M : Held → Type 0) → IsSomeAnd o M → (x : Held) × (o ≡ Some x) × M x
+-- what is there and has a property
+pub some_there : (o : Option Held) (M : Held → Type 0) → IsSomeAnd o M → (x : Held) × (o ≡ Some x) × M x
 some_there None M alive = elim alive [ ]
 some_there (Some x) M alive = (x, refl, alive)
 

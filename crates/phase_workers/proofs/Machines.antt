@@ -6,39 +6,7 @@ use Rattle.buffer_heap.specs.Heaps.{Content, In, Out, Held, HeapValue, at}
 use Rattle.counted_code.specs.Values.{Buffer, no_buffer, Heap, buffer_at}
 use Rattle.run_store.specs.Stands.{HasContent, Stored, StandsFor}
 use Rattle.phase_loop_cells.specs.Opened.{named}
-
-some_same : (x y : Held) → Some x ≡ Some y → x ≡ y
-some_same x y p = λ i. or_x (p i)
-  where
-    or_x : Option Held → Held
-    or_x None = x
-    or_x (Some z) = z
-
-abbrev IsNone : Option Held → Type 0
-IsNone None = Unit {0}
-IsNone (Some x) = ⊥
-
-no_some : (x : Held) → ◌≡◌ {A = Option Held} None (Some x) → ⊥
-no_some x p = subst IsNone p tt
-
--- no two buffers have one number
-abbrev pub AreSingle : List (Option Held) → Type 0
-AreSingle os = (b c : ℕ) (x y : Held) → slice_index_or os b None ≡ Some x → slice_index_or os c None ≡ Some y → x.born ≡ y.born → b ≡ c
-
-behind_single : (o : Option Held) (os : List (Option Held)) → AreSingle (o ∷ os) → AreSingle os
-behind_single o os single b c x y p q same = let next = single (suc b) (suc c) x y p q same in omega (arith, next)
-
--- a buffer is found by its number
-pub named_there : (os : List (Option Held)) (b : ℕ) (x : Held) → AreSingle os → slice_index_or os b None ≡ Some x → named os x.born ≡ Some x
-named_there [] b x single is = elim (no_some x is) [ ]
-named_there (None ∷ os) zero x single is = elim (no_some x is) [ ]
-named_there (None ∷ os) (suc b) x single is = named_there os b x (behind_single None os single) is
-named_there (Some y ∷ os) zero x single is = λ i. cond (eq-eqb y.born x.born (ap (λ (z : Held). z.born) (some_same y x is)) i) (is i) (named os x.born)
-named_there (Some y ∷ os) (suc b) x single is = further (eqb y.born x.born) refl (named_there os b x (behind_single (Some y) os single) is)
-  where
-    further : (r : Bool) → eqb y.born x.born ≡ r → named os x.born ≡ Some x → cond r (Some y) (named os x.born) ≡ Some x
-    further true e rest = absurd (let apart = single 0 (suc b) y x refl is (eqb-true y.born x.born e) in omega (arith, apart))
-    further false e rest = rest
+use Rattle.phase_kernels.proofs.Named.{AreSingle, named_there}
 
 -- ---- the heap of the machine
 

@@ -30,15 +30,12 @@ use Rattle.phase_loop_laws.specs.Ordered.{StandsAlone, balanced}
 use Rattle.phase_loop_cells.specs.Opened.{GensIn, OpenGens, named, cells_in, lent_array, lent_env, meaning_in, spending_in}
 use Rattle.phase_loop_cells.proofs.Levels.{level}
 use Rattle.phase_workers.specs.Alive.{IsAlive, AreAlive}
-use Rattle.phase_workers.proofs.Machines.{machine_of, named_there, stands_for_machine, AreSingle}
+use Rattle.phase_kernels.proofs.Named.{AreSingle, named_there, some_there}
+use Rattle.phase_workers.proofs.Machines.{machine_of, stands_for_machine}
 
 -- each live buffer of a heap has a reference
 abbrev pub AreReferred : HeapValue → Type 0
 AreReferred h = (b : ℕ) (x : Held) → at h b ≡ Some x → 1 ≤ x.count
-
-some_there : (o : Option Held) (M : Held → Type 0) → IsSomeAnd o M → (x : Held) × (o ≡ Some x) × M x
-some_there None M alive = elim alive [ ]
-some_there (Some x) M alive = (x, refl, alive)
 
 -- ---- values that are alive
 

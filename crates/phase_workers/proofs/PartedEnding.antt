@@ -51,7 +51,8 @@ use Rattle.phase_workers.specs.Alive.{AreAlive}
 use Rattle.phase_workers.specs.Homes.{ComputesAll, handed}
 use Rattle.phase_workers.proofs.Ending.{own_stands}
 use Rattle.phase_workers.proofs.Handing.{handed_stands}
-use Rattle.phase_workers.proofs.Machines.{machine_of, stands_for_machine, AreSingle}
+use Rattle.phase_kernels.proofs.Named.{AreSingle}
+use Rattle.phase_workers.proofs.Machines.{machine_of, stands_for_machine}
 use Rattle.phase_workers.proofs.Openings.{AreReferred, readable_here}
 
 -- ---- cells, in the words of both

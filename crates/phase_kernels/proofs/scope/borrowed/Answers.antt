@@ -1,7 +1,6 @@
 use Rattle.std.proofs.Common.{rules, ◌≡◌, ap, ◌∙◌, sym, map, unsigned_abs}
-use Rattle.buffer_heap.specs.Heaps.{IsLive, IsNamed, content_of}
+use Rattle.buffer_heap.specs.Heaps.{IsLive, IsNamed}
 use Rattle.sac_base.proofs.Extents.{abs_pos}
-use Rattle.phase_loop_cells.specs.Opened.{named, cells_in}
 use Rattle.run_values.specs.Numbers.{numbers}
 use Rattle.phase_kernels.proofs.Named.{cells_named}
 use Rattle.phase_kernels.proofs.scope.borrowed.Goals as goal

@@ -1,4 +1,4 @@
-use Rattle.std.proofs.Common.{rules, ◌≡◌, sym, ap}
+use Rattle.std.proofs.Common.{sym, ap}
 use Rattle.phase_loop_cells.specs.Opened.{lent_array, lent_env}
 use Rattle.run_values.specs.Scopes.{current}
 use Rattle.phase_kernels.proofs.scope.scope_of.Goals as goal

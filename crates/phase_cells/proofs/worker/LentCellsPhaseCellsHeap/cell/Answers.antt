@@ -1,4 +1,4 @@
-use Rattle.std.proofs.Common.{rules, ◌≡◌, ap, ◌∙◌, subst, replicate, length, Some}
+use Rattle.std.proofs.Common.{rules, ◌≡◌, ap, ◌∙◌, subst, replicate, length, Some, refl}
 use Rattle.buffer_heap.specs.Heaps.{HeapValue}
 use Rattle.run_store.specs.Lents.{LentValue, lender_as}
 use Rattle.run_store.specs.Stands.{lender_in, lender_of}
@@ -37,7 +37,7 @@ returns-clause-idle g c =
     record {
       empty = c.left_by-end.ensures.empty;
       none_held = c.close-heap.ensures.holds (lender_as l) lender ∙ ap (λ (h : HeapValue). replicate (length h.places) 0) heap;
-      may_run = may_go_on (g.C.CellRuns.ready self) (g.C.CellRuns.opens self) lends own c.left_by-end.new.heap may.2.0 (g.C.CellRuns.takes self c.args.position) c.run-end.new.store l c.run-end.result c.left_by-end.result c.run-end.new.scratch c.scratch_after.result
+      may_run = may_go_on (g.C.CellRuns.ready self) (g.C.CellRuns.opens self) lends own c.left_by-end.new.heap may.2.0 (g.C.CellRuns.takes self c.args.position) c.run-end.new.store l c.run-end.result c.left_by-end.result c.run-end.new.scratch (Some c.run-end.new.scratch) c.stop_after.new.scratch
           lender heap may.1 (may.2.1 l heap none) c.run-end.ensures.ready (c.run-end.ensures.left may.2.0 stands may.2.2)
-          (λ computed. (let same = c.left_by-end.ensures.same computed in (same.0, same.1 ∙ c.close-heap.ensures.own))) c.scratch_after.ensures;
+          (λ computed. (let same = c.left_by-end.ensures.same computed in (same.0, same.1 ∙ c.close-heap.ensures.own))) refl c.stop_after.ensures;
     }
