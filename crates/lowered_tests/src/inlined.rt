@@ -1,4 +1,6 @@
 use crate::text::core_text;
+use const_shape::propagate;
+use core_ir::Core;
 use counted_code::{Code, CodeBlock, CodeRight, CodeStep};
 use inline_calls::inline_all;
 use sac_build::compile;
@@ -19,11 +21,10 @@ fn accepted(alloc: Global, source: &str) -> Result<Checked, Fail> {
     Ok(check(alloc, program).map_err(|_| "an accepted program")?)
 }
 
-// Whether the core of a source with its calls inlined is this text.
-fn becomes(alloc: Global, source: &str, wanted: &str) -> Result<bool, Fail> {
+// The core of a source with its calls inlined.
+fn inlined(alloc: Global, source: &str) -> Result<Core, Fail> {
     let core = to_core(alloc, &accepted(alloc, source)?)?;
-    let text = core_text(alloc, &inline_all(alloc, core)?)?;
-    Ok(text.as_slice() == wanted.as_bytes())
+    Ok(inline_all(alloc, core)?)
 }
 
 // Whether a step of the block itself is a call.
@@ -50,7 +51,7 @@ const SQUARES: &str =
 
 #[test]
 fn a_call_becomes_checks_and_the_body(rt: HostRuntime) -> Result<(), Fail> {
-    let text = "sq v0
+    let wanted = "sq v0
   v1 = multiply v0 v0
   gives v1
 main
@@ -65,7 +66,31 @@ main
   v4 = add v1 v3
   gives v4
 ";
-    assert!(rt; becomes(rt.alloc(), SQUARES, text)?);
+    let text = core_text(rt.alloc(), &inlined(rt.alloc(), SQUARES)?)?;
+    assert!(rt; text.as_slice() == wanted.as_bytes());
+    Ok(())
+}
+
+#[test]
+fn literal_variables_are_bound_by_constants(rt: HostRuntime) -> Result<(), Fail> {
+    let wanted = "sq v0
+  v1 = multiply v0 v0
+  gives v1
+main
+  v0 = constant 3
+  v5 = constant 3
+  v6 = constant 9
+  v1 = constant 9
+  v2 = constant 4
+  v7 = constant 4
+  v8 = constant 16
+  v3 = constant 16
+  v4 = constant 25
+  gives v4
+";
+    let core = propagate(rt.alloc(), inlined(rt.alloc(), SQUARES)?)?;
+    let text = core_text(rt.alloc(), &core)?;
+    assert!(rt; text.as_slice() == wanted.as_bytes());
     Ok(())
 }
 

@@ -12,6 +12,7 @@ ghost use Rattle.counted_code.specs.Prompt.{IsPrompt};
 ghost use Rattle.counted_code.specs.Outcome.{whole_run, outcome_of};
 ghost use Rattle.sac_build.specs.Arguments.{AreArrays};
 
+use const_shape::propagate;
 use counted_code::Code;
 use inline_calls::inline_all;
 use ref_counts::count_refs;
@@ -49,7 +50,8 @@ pub fn compile(alloc: Global, checked: &Checked) -> Result<Compiled, Memory>
 {
     let core = to_core(alloc, checked)?;
     let inlined = inline_all(alloc, core)?;
-    let code = count_refs(alloc, inlined)?;
+    let settled = propagate(alloc, inlined)?;
+    let code = count_refs(alloc, settled)?;
     Ok(Compiled {
         code,
         folded: 0,

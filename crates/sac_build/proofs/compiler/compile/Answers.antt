@@ -1,14 +1,19 @@
 use Rattle.std.proofs.Common.{◌∙◌, sym}
+use Rattle.sac_build.proofs.Arrays.{all_full}
 use Rattle.sac_build.proofs.compiler.compile.Goals as goal
 
 pub returns-clause-counted : goal.returns-clause-counted
-returns-clause-counted c formed = c.in_ok-code.ensures.counted (c.in_ok-inlined.ensures.well (c.in_ok-core.ensures.well_formed formed))
+returns-clause-counted c formed =
+    c.in_ok-code.ensures.counted (c.in_ok-settled.ensures.well (c.in_ok-inlined.ensures.well (c.in_ok-core.ensures.well_formed formed)))
 
 pub returns-clause-prompt : goal.returns-clause-prompt
-returns-clause-prompt c formed = c.in_ok-code.ensures.prompt (c.in_ok-inlined.ensures.well (c.in_ok-core.ensures.well_formed formed))
+returns-clause-prompt c formed =
+    c.in_ok-code.ensures.prompt (c.in_ok-settled.ensures.well (c.in_ok-inlined.ensures.well (c.in_ok-core.ensures.well_formed formed)))
 
 pub returns-clause-outcome : goal.returns-clause-outcome
 returns-clause-outcome c formed args caps arrays =
     let well = c.in_ok-core.ensures.well_formed formed in
-    c.in_ok-code.ensures.outcome (c.in_ok-inlined.ensures.well well) args caps
+    let inlined = c.in_ok-inlined.ensures.well well in
+    c.in_ok-code.ensures.outcome (c.in_ok-settled.ensures.well inlined) args caps
+    ∙ sym (c.in_ok-settled.ensures.outcome inlined args caps (all_full args arrays))
     ∙ sym (c.in_ok-inlined.ensures.outcome well args caps) ∙ c.in_ok-core.ensures.outcome formed args caps
