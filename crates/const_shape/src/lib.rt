@@ -1,0 +1,11 @@
+//! Literal variables are bound by constants.
+#![tactic(auto)]
+
+mod frame;
+mod known;
+mod notes;
+mod plain;
+mod walk;
+
+pub use known::KnownBlock;
+pub use walk::settle_block;
