@@ -1,2 +1,3 @@
 mod Axes
+mod Bodies
 mod Steps
