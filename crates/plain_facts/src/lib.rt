@@ -10,6 +10,3 @@ mod rows;
 pub use called::CalledShapes;
 pub use lists::{common_facts, learn_all, learn_params};
 pub use right::plain_fact;
-
-#[cfg(test)]
-mod tests;
