@@ -1,8 +1,7 @@
 -- One turn of the loops of the walk, and their ends.
-use Rattle.std.proofs.Common.{◌≡◌, ℕ, zero, suc, ◌+◌, ◌-◌, ◌≤◌, List, [], ◌∷◌, ◌++◌, map, length, Option, refl, sym, ap, ◌∙◌, append_assoc, append-nil, arith}
+use Rattle.std.proofs.Common.{◌≡◌, ℕ, zero, suc, ◌+◌, ◌-◌, List, [], ◌∷◌, ◌++◌, map, length, Option, refl, sym, ap, ◌∙◌, append_assoc, append-nil, arith}
 use Rattle.std.specs.Prelude.{drop, Result, Ok, Err, IfOk}
 use Rattle.std.proofs.lemmas.List.{length-drop}
-use Rattle.core_ir.specs.declared.tree.Var.{Var}
 use Rattle.core_ir.specs.declared.tree.Let.{Let}
 use Rattle.core_ir.specs.declared.tree.CoreGen.{CoreGen}
 use Rattle.core_ir.specs.declared.tree.CorePart.{CorePart}

@@ -58,7 +58,8 @@ fn settle_binding(
     table: &mut FactTable,
 ) -> Result<Let, Memory>
     ensures settled { IfOk result (λ l. let_term l ≡ settled_let (shapes_of called.now) (let_term binding) (facts_of table.old)) }
-    ensures learned { IfOk result (λ l. facts_of table.new ≡ note_all (facts_of table.old) l.targets.items (right_facts (shapes_of called.now) (right_term l.right) (facts_of table.old))) }
+    ensures learned { IfOk result (λ l. facts_of table.new
+        ≡ note_all (facts_of table.old) l.targets.items (right_facts (shapes_of called.now) (right_term l.right) (facts_of table.old))) }
     ensures earlier { OnOk result (drop (length table.new - length table.old) table.new ≡ table.old) }
 {
     let Let {

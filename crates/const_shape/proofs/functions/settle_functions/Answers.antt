@@ -1,6 +1,5 @@
-use Rattle.std.proofs.Common.{◌≡◌, ap, ◌∙◌, map}
-use Rattle.core_ir.specs.View.{core_term, fun_term}
-use Rattle.core_ir.specs.Terms.{CoreTerm, FunTerm}
+use Rattle.std.proofs.Common.{ap, ◌∙◌, map}
+use Rattle.core_ir.specs.View.{core_term}
 use Rattle.const_shape.specs.Settling.{settled_by}
 use Rattle.const_shape.proofs.functions.settle_functions.Goals as goal
 
