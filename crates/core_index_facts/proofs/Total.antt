@@ -142,7 +142,11 @@ same_forms g k e t s a first (y ∷ ys) h ty ab as' all p =
 
 row_known : (n : ℕ) (o : Option (List ℕ)) → may_be_row (row_of n o) ≡ true → (s : List ℕ) × (o ≡ Some s) × (nat_le (length (n ∷ s)) 8 ≡ true) × (nat_le (size (n ∷ s)) MOST ≡ true)
 row_known n None p = not_false _ p
-row_known n (Some s) p = let w = and_both (nat_le (length (n ∷ s)) 8) (nat_le (size (n ∷ s)) MOST) p in (s, refl, w.0, w.1)
+row_known n (Some s) p = go (nat_lt n 2147483648 && nat_le (length (n ∷ s)) 8) p
+  where
+    go : (fits : Bool) → may_be_row (if fits then Some (n ∷ s) else None) ≡ true → (shape : List ℕ) × (◌≡◌ {A = Option (List ℕ)} (Some s) (Some shape)) × (nat_le (length (n ∷ shape)) 8 ≡ true) × (nat_le (size (n ∷ shape)) MOST ≡ true)
+    go true q = let w = and_both (nat_le (length (n ∷ s)) 8) (nat_le (size (n ∷ s)) MOST) q in (s, refl, w.0, w.1)
+    go false q = not_false _ q
 
 literal_total : (g : Bases) (k : Facts) (e : Env) (t : Base) (x : Var) (xs : List Var) → AreSound k e → Typed g e → AllHave g (x ∷ xs) t → may_be_row (row_shape (map (λ y. (k y).shape) (x ∷ xs))) ≡ true → HasValue (literal (map e (x ∷ xs)))
 literal_total g k e t x xs h ty all p =

@@ -24,7 +24,7 @@ use Rattle.core_ir.proofs.Unused.{unused}
 use Rattle.core_ir.proofs.Variables.{same_number, in_front, in_more, in_neither, or_right, or_false}
 use Rattle.core_facts.specs.Facts.{Facts, note_all, right_facts, CallsFit, in_part}
 use Rattle.core_facts.proofs.Shapes.{ok_same}
-use Rattle.core_facts.proofs.Sound.{noted, then_ok}
+use Rattle.core_facts.proofs.Sound.{noted, known_has, then_ok}
 use Rattle.core_bases.specs.Typed.{HaveBases, CallsTyped}
 use Rattle.core_bases.proofs.Bound.{distinct_left, distinct_right, bound_zip}
 use Rattle.core_loops.specs.Indices.{IndexFacts, learn_index, own_index, total_block}
@@ -160,7 +160,7 @@ module _ (core : CoreTerm) (calls : CallMeaning) (turns : ℕ) (typed : CallsTyp
         scoped = at.scoped.2;
         full = at.full.2;
         typed = bound_zip W.bases F (z ∷ []) us (a0 ∷ []) at.typed (refl, tt) at.bases.1.1 (subst (λ bs. HaveBases bs (a0 ∷ [])) (sym at.bases.1.0.3) (refl, tt));
-        sound = noted W.facts F (z ∷ []) (right_facts called R W.facts) (a0 ∷ []) at.sound (record { shape = refl; literal = tt; full = length-replicate (size shape) (pos 0) }, tt);
+        sound = noted W.facts F (z ∷ []) (right_facts called R W.facts) (a0 ∷ []) at.sound (record { shape = known_has shape a0 refl; literal = tt; full = length-replicate (size shape) (pos 0) }, tt);
       } in
       let V = walk core calls turns typed called fit grid v inside long (Gives (z ∷ [])) (t ∷ []) (λ ls n o. total_block called grid (chain ls (Gives (z ∷ []))) n o) (λ l ls n o. refl) nest.after (z ∷ W.seen) (zip (z ∷ []) us ++ W.bases) k2 m2 E0 d (says_others v W.indices F (z ∷ []) (a0 ∷ []) W.says) W.total in (
         F,

@@ -1,0 +1,3 @@
+mod Axes
+mod Bodies
+mod Steps

@@ -1,0 +1,46 @@
+//! Right sides without blocks and calls.
+
+ghost use Rattle.std.specs.Prelude.{◌≡◌, [], ◌∷◌, true, Some, IfOk, map};
+ghost use Rattle.core_ir.specs.Terms.{PlainTerm, Plain};
+ghost use Rattle.core_ir.specs.View.{right_term};
+ghost use Rattle.fact_table.specs.Table.{fact_of, facts_of};
+ghost use Rattle.plain_facts.specs.Rights.{fact_of_right};
+ghost use Rattle.const_shape.specs.Settling.{settled_plain};
+
+use crate::known::KnownRight;
+use core_ir::Right;
+use fact_table::{FactTable, Known};
+use plain_facts::plain_fact;
+use sac_base::{Array, Memory, copy_array};
+use std::alloc::Global;
+
+/// The constant in the place of a literal right side. Any other stays.
+pub fn settle_plain(alloc: Global, right: Right, table: &FactTable) -> Result<KnownRight, Memory>
+    ensures settled { IfOk result (λ new. right_term new.right ≡ settled_plain (right_term right) (facts_of table.now)) }
+    ensures known { IfOk result (λ new. map fact_of new.values.items ≡ fact_of_right (right_term new.right) (facts_of table.now) ∷ []) }
+{
+    let known = plain_fact(alloc, &right, table)?;
+    if known.constant {
+        return KnownRight::of_one(alloc, right, known);
+    }
+    let Known { shape, literal, .. } = known;
+    match literal {
+        Some(value) => constant(alloc, value),
+        None => KnownRight::of_one(alloc, right, Known::of_shape(shape)),
+    }
+}
+
+/// A constant, of which all is known.
+fn constant(alloc: Global, value: Array) -> Result<KnownRight, Memory>
+    ensures right { IfOk result (λ new. right_term new.right ≡ Plain (PlainTerm.Const value)) }
+    ensures known { IfOk result (λ new. map fact_of new.values.items ≡ record { shape = Some value.shape; literal = Some value; constant = true } ∷ []) }
+{
+    let right = Right::Const(copy_array(&value)?);
+    let shape = value.shape().copy();
+    let known = Known {
+        shape: Some(shape),
+        literal: Some(value),
+        constant: true,
+    };
+    KnownRight::of_one(alloc, right, known)
+}
