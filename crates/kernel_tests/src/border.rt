@@ -8,9 +8,9 @@ use sac_base::{Array, Base, Cell, FaultKind, Op, Site};
 use std::alloc::Global;
 use std::test::Fail;
 
-const LOAD: Site = Site { line: 3, col: 7 };
+pub const LOAD: Site = Site { line: 3, col: 7 };
 
-fn bound(alloc: Global, target: u32, right: CodeRight) -> Result<CodeStep, Fail> {
+pub fn bound(alloc: Global, target: u32, right: CodeRight) -> Result<CodeStep, Fail> {
     Ok(CodeStep::Bind(CodeLet {
         targets: vec![in alloc; Var(target)]?,
         site: LOAD,

@@ -4,4 +4,6 @@
 #[cfg(test)]
 mod border;
 #[cfg(test)]
+mod offset;
+#[cfg(test)]
 mod stencil;

@@ -26,7 +26,7 @@ const FOUR: [KernelStep; 14] = [
 ];
 
 // The array of 3 rows of 4 cells, whose cells are squares.
-fn squares(alloc: Global) -> Result<Array, Fail> {
+pub fn squares(alloc: Global) -> Result<Array, Fail> {
     let cells = vec![in alloc; 0, 1, 4, 9, 16, 25, 36, 49, 64, 81, 100, 121]?;
     let flat = Array::vector(alloc, Base::Int, cells);
     let extents = Array::vector(alloc, Base::Int, vec![in alloc; 3, 4]?);
