@@ -1,5 +1,5 @@
 -- Steps of the functions on what stands behind the name of an assignment.
-use Rattle.std.proofs.Common.{ℕ, ◌≡◌, ◌<◌, ◌≤◌, ◌+◌, max, Bool, true, false, List, [], ◌∷◌, inl, inr, Result, Ok, Err, refl, sym, ap, ◌∙◌, subst, codes, arith, Bor}
+use Rattle.std.proofs.Common.{ℕ, ◌≡◌, ◌<◌, ◌+◌, max, true, List, [], ◌∷◌, inl, inr, Result, Ok, Err, refl, sym, ◌∙◌, subst, codes, arith, Bor}
 use Rattle.sac_lex.specs.declared.token.Token.{Token}
 use Rattle.sac_ast.specs.Texts.{Lexeme}
 use Rattle.sac_ast.specs.Shape.{text, name, term, ref, seq, alt, many}

@@ -1,5 +1,5 @@
 -- Steps of statements with parts that stand one node deeper.
-use Rattle.std.proofs.Common.{ℕ, zero, suc, ◌≡◌, ◌<◌, ◌≤◌, ◌+◌, max, true, List, [], ◌∷◌, inl, inr, Result, Ok, Err, refl, sym, ap, ◌∙◌, subst, codes, arith, Bor}
+use Rattle.std.proofs.Common.{ℕ, zero, suc, ◌≡◌, ◌<◌, ◌+◌, true, List, [], ◌∷◌, inl, inr, Result, Ok, Err, refl, sym, ap, ◌∙◌, subst, codes, arith, Bor}
 use Rattle.std.specs.Global.{Vec}
 use Rattle.sac_lex.specs.declared.token.Token.{Token}
 use Rattle.sac_ast.specs.Texts.{Lexeme}

@@ -1,11 +1,11 @@
 -- Steps of phrases with parts that stand one node deeper.
-use Rattle.std.proofs.Common.{ℕ, zero, suc, ◌≡◌, ◌<◌, ◌≤◌, ◌+◌, max, Bool, true, false, List, [], ◌∷◌, ◌++◌, ◌⊎◌, inl, inr, Result, Ok, Err, refl, sym, ap, ◌∙◌, subst, codes, arith, Bor}
+use Rattle.std.proofs.Common.{ℕ, zero, suc, ◌≡◌, ◌<◌, ◌≤◌, ◌+◌, Bool, true, List, ◌∷◌, ◌++◌, inl, inr, Result, Ok, Err, refl, sym, ap, ◌∙◌, subst, codes, arith, Bor}
 use Rattle.sac_lex.specs.declared.token.Token.{Token}
 use Rattle.sac_base.specs.declared.op.Op.{Op}
 use Rattle.sac_base.specs.declared.site.Site.{Site}
 use Rattle.sac_ast.specs.Texts.{Lexeme}
 use Rattle.sac_ast.specs.Shape.{text, nothing, term, ref, seq, alt, many}
-use Rattle.sac_ast.specs.Grammar.{Nonterminal, Tree, Rule, V, rule, action, one_of, chain, selects, index_of, items, sign, listed, opt, parens}
+use Rattle.sac_ast.specs.Grammar.{Nonterminal, Tree, Rule, V, rule, action, one_of, chain, selects, index_of, items, sign, listed, opt}
 use Rattle.sac_ast.specs.Grammar.{expression, disjunction, conjunction, equality, comparison, sum, product, prefix, postfix, primary}
 use Rattle.sac_ast.specs.Heights.{height}
 use Rattle.sac_ast.specs.Tree as tree
@@ -16,7 +16,7 @@ use Rattle.sac_grammar.specs.Run.{starts, first, SameFirst, Runs, RunsIn}
 use Rattle.sac_grammar.specs.Tables.{first_of, ext_of, rank_of}
 use Rattle.sac_grammar.specs.High.{HasHigh}
 use Rattle.sac_grammar.specs.Limits.{Over, High, gap_of, least_parts}
-use Rattle.sac_grammar.specs.Parsing.{Found, Lost, Reading, Stop, stuck, high, StopsAt, StopsIn, StopsSo, TallPart, Halted, Halts, HaltsSo, nth, inject, is_apart}
+use Rattle.sac_grammar.specs.Parsing.{Found, Stop, stuck, high, StopsAt, StopsIn, StopsSo, Halted, Halts, HaltsSo, nth, inject, is_apart}
 use Rattle.sac_grammar.proofs.Machine.{false_true, starts_same}
 use Rattle.sac_grammar.proofs.High.{tall_before, tall_rule}
 use Rattle.sac_grammar.proofs.Levels.{fails_rule}

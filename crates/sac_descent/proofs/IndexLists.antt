@@ -1,5 +1,5 @@
 -- Steps of the function on index lists, whose expressions stand one node deeper from the second one on.
-use Rattle.std.proofs.Common.{ℕ, ◌≡◌, ◌<◌, ◌≤◌, ◌+◌, max, Bool, true, List, [], ◌∷◌, ◌++◌, inl, Ok, refl, sym, ap, ◌∙◌, subst, map, codes, arith, Bor}
+use Rattle.std.proofs.Common.{ℕ, ◌≡◌, ◌<◌, ◌≤◌, ◌+◌, max, Bool, true, List, [], ◌∷◌, ◌++◌, inl, Ok, sym, ap, ◌∙◌, subst, map, codes, arith, Bor}
 use Rattle.sac_lex.specs.declared.token.Token.{Token}
 use Rattle.sac_base.specs.declared.site.Site.{Site}
 use Rattle.sac_ast.specs.Texts.{Lexeme}

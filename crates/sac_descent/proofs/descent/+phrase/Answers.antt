@@ -2,7 +2,7 @@ use Rattle.std.proofs.Common.{[], ◌∷◌, ◌++◌, refl, sym, ap, ◌∙◌,
 use Rattle.std.proofs.lemmas.Result.{err_from_is_err_and}
 use Rattle.sac_base.specs.declared.op.Op.TheVariants.{Add, Sub, Mul, Div, Rem, Min, Max, And, Or}
 use Rattle.sac_ast.specs.Shape.{text, name}
-use Rattle.sac_ast.specs.Grammar.{rule, sign, primary, statement, generator}
+use Rattle.sac_ast.specs.Grammar.{sign, generator}
 use Rattle.sac_ast.specs.Heights.{height, stmt_height}
 use Rattle.sac_ast.specs.View as View
 use Rattle.sac_ast.specs.Tree as tree
@@ -14,8 +14,7 @@ use Rattle.sac_grammar.specs.Parsing.{Halted}
 use Rattle.sac_phrases.specs.Contract.{lexeme, lexemes_of, StopOf}
 use Rattle.sac_phrases.specs.declared.level.Level.{Level}
 use Rattle.sac_phrases.specs.Levels.{IsOperandAt}
-use Rattle.sac_phrases.specs.Parts.{AssignRest, IsPrimaryOf, IsStatementOf, IsAssignedOf}
-use Rattle.sac_phrases.proofs.Steps.{less_three, less_four, less_le, token_read, token_halts, starts_there, memory_halts, memory_halted, operator_halts, operator_found, part_nth, part_last}
+use Rattle.sac_phrases.proofs.Steps.{less_three, less_four, less_le, token_read, token_halts, starts_there, memory_halts, memory_halted, operator_halts, operator_found}
 use Rattle.sac_descent.proofs.LevelSteps.{LevelSoFar, level_tall, level_begin, level_low, level_fail, level_memory, level_more, level_end, level_high}
 use Rattle.sac_descent.proofs.ListSteps.{ListRead, PostRead, GensRead, StmtsRead, list_begin, list_next, list_whole, list_halts, post_begin, post_next, post_halts, post_end, post_high, select_tall, gens_begin, gens_next, gens_whole, gens_halts, stmts_begin, stmts_next, stmts_whole, stmts_halts}
 use Rattle.sac_descent.proofs.PhraseSteps.{arguments_some, arguments_none, parens_read, pair_read, variable_read, call_read, builtin_read, reshape_read, extreme_read, array_read, parens_primary, with_read, prefix_postfix, prefix_high, inside, small_depth, room_depth, stop_inside, prefix_stop, prefix_read, plain_read, choice_stop, choice_read, primary_kept}
