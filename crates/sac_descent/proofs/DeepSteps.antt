@@ -1,11 +1,11 @@
 -- Steps of phrases with parts that stand one node deeper.
-use Rattle.std.proofs.Common.{ℕ, zero, suc, ◌≡◌, ◌<◌, ◌≤◌, ◌+◌, max, Bool, true, false, List, [], ◌∷◌, ◌++◌, ◌⊎◌, inl, inr, Result, Ok, Err, refl, sym, ap, ◌∙◌, subst, codes, arith, Bor}
+use Rattle.std.proofs.Common.{ℕ, zero, suc, ◌≡◌, ◌<◌, ◌≤◌, ◌+◌, Bool, true, List, ◌∷◌, ◌++◌, inl, inr, Result, Ok, Err, refl, sym, ap, ◌∙◌, subst, codes, arith, Bor}
 use Rattle.sac_lex.specs.declared.token.Token.{Token}
 use Rattle.sac_base.specs.declared.op.Op.{Op}
 use Rattle.sac_base.specs.declared.site.Site.{Site}
 use Rattle.sac_ast.specs.Texts.{Lexeme}
 use Rattle.sac_ast.specs.Shape.{text, nothing, term, ref, seq, alt, many}
-use Rattle.sac_ast.specs.Grammar.{Nonterminal, Tree, Rule, V, rule, action, one_of, chain, selects, index_of, items, sign, listed, opt, parens}
+use Rattle.sac_ast.specs.Grammar.{Nonterminal, Tree, Rule, V, rule, action, one_of, chain, selects, index_of, items, sign, listed, opt}
 use Rattle.sac_ast.specs.Grammar.{expression, disjunction, conjunction, equality, comparison, sum, product, prefix, postfix, primary}
 use Rattle.sac_ast.specs.Heights.{height}
 use Rattle.sac_ast.specs.Tree as tree
@@ -15,11 +15,12 @@ use Rattle.sac_ast.specs.declared.Expression.{Expression}
 use Rattle.sac_grammar.specs.Run.{starts, first, SameFirst, Runs, RunsIn}
 use Rattle.sac_grammar.specs.Tables.{first_of, ext_of, rank_of}
 use Rattle.sac_grammar.specs.High.{HasHigh}
-use Rattle.sac_grammar.specs.Limits.{Over, High, least_parts}
-use Rattle.sac_grammar.specs.Parsing.{Found, Lost, Reading, Stop, stuck, high, StopsSo, TallPart, Halted, Halts, HaltsSo, nth, inject, is_apart}
+use Rattle.sac_grammar.specs.Limits.{Over, High, gap_of, least_parts}
+use Rattle.sac_grammar.specs.Parsing.{Found, Stop, stuck, high, StopsAt, StopsIn, StopsSo, Halted, Halts, HaltsSo, nth, inject, is_apart}
 use Rattle.sac_grammar.proofs.Machine.{false_true, starts_same}
-use Rattle.sac_grammar.proofs.High.{tall_before}
-use Rattle.sac_grammar.proofs.Grows.{in_parens, list_high, index_high}
+use Rattle.sac_grammar.proofs.High.{tall_before, tall_rule}
+use Rattle.sac_grammar.proofs.Levels.{fails_rule}
+use Rattle.sac_grammar.proofs.Grows.{in_parens}
 use Rattle.sac_grammar.proofs.Parsing.{read_nth, read_ref, stop_ref}
 use Rattle.sac_grammar.proofs.Table.{table}
 use Rattle.sac_grammar.proofs.TallParts.{HasNext, tall_here, tall_left, tall_right, tall_phrase, so_of, so_map, so_right, so_nth, so_second, so_parts, so_phrase}
@@ -34,6 +35,7 @@ use Rattle.sac_phrases.specs.Contract.{StopOf, lexemes_of, IsLowAt, IsPartAt, Is
 use Rattle.sac_phrases.specs.Levels.{first_operator, more_operators, IsLevelAt, IsOperandAt}
 use Rattle.sac_phrases.specs.Parts.{IsPrimary, IsPrimaryOf}
 use Rattle.sac_phrases.proofs.Steps.{At, TheOperator, NoneBefore, last, into, operator_found, high_halted, token_read, starts_there, part_last}
+use Rattle.sac_descent.specs.Around.{IndexOver}
 use Rattle.sac_descent.proofs.Chains.{Chain, starts_part}
 use Rattle.sac_descent.proofs.LevelSteps.{LevelSoFar, IsNext}
 use Rattle.sac_descent.proofs.ListSteps.{Bracketed, PostRead, selects_append, selects_first}
@@ -58,7 +60,7 @@ module _ {P : Stop → Type 0} {checked : Bool} where
       at (stuck r) s = inl s
       at (high r) t = tall_left t
 
-  so_last : (n : ℕ) (s : Rule) (G : V (last n s) → Type 0) (ts : List Lexeme) → NoneBefore n s ts → HaltsSo P checked (last n s) G ts → HaltsSo P checked s (λ w. (x : V (last n s)) × (w ≡ into n s x) × G x) ts
+  pub so_last : (n : ℕ) (s : Rule) (G : V (last n s) → Type 0) (ts : List Lexeme) → NoneBefore n s ts → HaltsSo P checked (last n s) G ts → HaltsSo P checked s (λ w. (x : V (last n s)) × (w ≡ into n s x) × G x) ts
   so_last zero s G ts none h = so_map (λ c w g. (w, refl, g)) h
   so_last (suc n) (alt a b) G ts none h = so_map (λ c w g. (g.2.0, g.1 ∙ ap inr g.2.1, g.2.2)) (so_second none.0 (so_last n b G ts none.1 h))
   so_last (suc n) nothing G ts none h = so_map (λ c w g. (w, refl, g)) h
@@ -66,6 +68,14 @@ module _ {P : Stop → Type 0} {checked : Bool} where
   so_last (suc n) (ref k) G ts none h = so_map (λ c w g. (w, refl, g)) h
   so_last (suc n) (seq a b) G ts none h = so_map (λ c w g. (w, refl, g)) h
   so_last (suc n) (many a) G ts none h = so_map (λ c w g. (w, refl, g)) h
+
+  -- a phrase all of whose parts stand one node deeper
+  pub stops_deep : {d e : ℕ} {k : Nonterminal} {ts : List Lexeme} → ((v : V (rule k)) → HasHigh Tree first_of (λ (j : Nonterminal). High e j) (rule k) v → High d k (action k v)) → Halts P checked (λ _. e) (rule k) ts → Halted P checked d k ts
+  stops_deep {d} {e} {k} {ts} grows h = record { at = λ x p. at x (h.at x p); only = h.only }
+    where
+      at : (x : Stop) → StopsIn (λ (j : Nonterminal). e) (rule k) ts x → StopsAt d k ts x
+      at (stuck r) s = fails_rule Tree first_of rule action k ts r s
+      at (high r) s = tall_rule Tree first_of ext_of rank_of rule action table gap_of (λ (j : Nonterminal). High e j) k (High d k) grows ts r s
 
 -- ---- primary expressions
 
@@ -103,19 +113,19 @@ primary_high place tokens n is h =
 select_deep : (d e : ℕ) → Deeper d e → (array index whole : Expr) (s : Site) → Over e (height index) → height (tree.select array index s) ≤ height whole → Over d (height whole)
 select_deep d e up array index whole s h g = let k = up (height index) h in omega arith
 
-postfix_deep : (d e : ℕ) → Deeper d e → (vs : List (V Bracketed)) (w : V (rule postfix)) → HasNext Bracketed (λ t. HighAt e (listed (ref expression)) t.1.0) vs w.1 → High d postfix (action postfix w)
+postfix_deep : (d e : ℕ) → Deeper d e → (vs : List (V Bracketed)) (w : V (rule postfix)) → HasNext Bracketed (λ t. IndexOver e t.1.0) vs w.1 → High d postfix (action postfix w)
 postfix_deep d e up vs (x, ws) ((l, (v, r)), us, is, h) =
     let array = selects x vs in
     let index = index_of l.site (items v) in
     let whole = selects array ((l, (v, r)) ∷ us) in
     subst (λ y. Over d (height y)) (sym (ap (selects x) is ∙ selects_append x vs ((l, (v, r)) ∷ us)))
-    (select_deep d e up array index whole l.site (index_high e l.site (items v) (list_high e v h)) (selects_first (tree.select array index l.site) us))
+    (select_deep d e up array index whole l.site (h l.site) (selects_first (tree.select array index l.site) us))
 
 -- an index that is too high
-pub index_stop : (place inner : Place) (ts : List Lexeme) (array : Expr) (rest : List Lexeme) (t : Lexeme) (behind : List Lexeme) (e : Halt) → inner.checked ≡ place.checked → Deeper place.depth inner.depth → PostRead ts array rest → At (text (codes "[")) rest t behind → Halts (StopOf e) inner.checked (λ _. inner.depth) (listed (ref expression)) behind → Halted (StopOf e) place.checked place.depth postfix ts
+pub index_stop : (place inner : Place) (ts : List Lexeme) (array : Expr) (rest : List Lexeme) (t : Lexeme) (behind : List Lexeme) (e : Halt) → inner.checked ≡ place.checked → Deeper place.depth inner.depth → PostRead ts array rest → At (text (codes "[")) rest t behind → HaltsSo (StopOf e) inner.checked (listed (ref expression)) (IndexOver inner.depth) behind → Halted (StopOf e) place.checked place.depth postfix ts
 index_stop place inner ts array rest t behind e c up p open' h =
     so_phrase refl (λ k w g. postfix_deep place.depth inner.depth up p.tail w (g.1.0, g.1.1, g.1.2, g.1.3.1))
-    (so_right p.begins (so_parts p.goes_on (starts_there (text (codes "[")) open') (so_right (token_read open') (so_left (so_of (subst (λ b. Halts (StopOf e) b (λ _. inner.depth) (listed (ref expression)) behind) c h))))))
+    (so_right p.begins (so_parts p.goes_on (starts_there (text (codes "[")) open') (so_right (token_read open') (so_left (subst (λ b. HaltsSo (StopOf e) b (listed (ref expression)) (IndexOver inner.depth) behind) c h)))))
 
 -- ---- operands
 
@@ -126,7 +136,7 @@ chain_high_at : (d e : ℕ) → Deeper d e → (o : List ℕ × Op) (ps : List (
 chain_high_at d e up o ps x ws vs t us is h = subst (λ l. Over d (height (chain o ps x l))) (sym is) (chain_deeper d e up o ps x vs t us h)
 
 -- a phrase with so many nodes around it stops
-operand_so : {P : Stop → Type 0} {checked : Bool} (e : ℕ) (k : Nonterminal) (ts : List Lexeme) → Halted P checked e k ts → HaltsSo P checked (ref k) (HighAt e (ref k)) ts
+pub operand_so : {P : Stop → Type 0} {checked : Bool} (e : ℕ) (k : Nonterminal) (ts : List Lexeme) → Halted P checked e k ts → HaltsSo P checked (ref k) (HighAt e (ref k)) ts
 operand_so {P} {checked} e k ts h = so_of at
   where
     at : Halts P checked (λ (j : Nonterminal). e) (ref k) ts

@@ -4,5 +4,8 @@ pub mod LevelSteps
 pub mod ListSteps
 pub mod PhraseSteps
 pub mod DeepSteps
+pub mod IndexLists
 pub mod LoopSteps
 pub mod StatementSteps
+pub mod DeepStatements
+pub mod Assignments

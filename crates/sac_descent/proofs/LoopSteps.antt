@@ -13,7 +13,7 @@ use Rattle.sac_ast.specs.declared.Generator.{Generator}
 use Rattle.sac_ast.specs.declared.Operation.{Operation}
 use Rattle.sac_ast.specs.Texts.{Lexeme}
 use Rattle.sac_ast.specs.Shape.{text, ref, seq, alt}
-use Rattle.sac_ast.specs.Grammar.{Tree, Rule, V, rule, action, sign, opt, parens, maybe, is_there, body_or_none, expression, sum, generator, bound, index, operation, block}
+use Rattle.sac_ast.specs.Grammar.{Nonterminal, Tree, Rule, V, rule, action, sign, opt, parens, maybe, is_there, body_or_none, expression, sum, generator, bound, index, operation, block}
 use Rattle.sac_ast.specs.Heights.{height, maybe_height, bound_height, block_height, gen_height, operation_height}
 use Rattle.sac_ast.specs.Tree as tree
 use Rattle.sac_ast.specs.Tree.{Expr, BoundTree, MaybeExpr, IndexTree, Block, Gen, OperationTree}
@@ -21,15 +21,20 @@ use Rattle.sac_ast.specs.View as View
 use Rattle.sac_ast.specs.View.{block_of, maybe_of}
 use Rattle.sac_grammar.specs.Run.{starts, first}
 use Rattle.sac_grammar.specs.Tables.{first_of}
-use Rattle.sac_grammar.specs.Parsing.{Found, Reading, nth, is_apart}
-use Rattle.sac_grammar.proofs.Parsing.{read_ref, read_then, read_first, read_second, found, stops}
+use Rattle.sac_grammar.specs.High.{HasHigh}
+use Rattle.sac_grammar.specs.Limits.{High, Over}
+use Rattle.sac_grammar.specs.Parsing.{Found, Reading, Halts, nth, is_apart}
+use Rattle.sac_grammar.proofs.Grows.{no_op}
+use Rattle.sac_grammar.proofs.Deeper.{Deeper}
+use Rattle.sac_grammar.proofs.Parsing.{read_ref, read_then, read_first, read_second, found}
 use Rattle.sac_phrases.specs.declared.halt.Halt.{Halt}
 use Rattle.sac_phrases.specs.declared.place.Place.{Place}
 use Rattle.sac_phrases.specs.declared.place.Measured.{Measured}
 use Rattle.sac_phrases.specs.Heights.{IsAbove}
-use Rattle.sac_phrases.specs.Contract.{lexemes_of, IsLowAt, IsNear, IsKept, IsPhraseAt, IsPhraseNear, IsPartAt, operator_of}
+use Rattle.sac_phrases.specs.Contract.{StopOf, lexemes_of, IsLowAt, IsNear, IsKept, IsPhraseAt, IsPhraseNear, IsPartAt, operator_of}
 use Rattle.sac_phrases.specs.Parts.{IsInParens, IsMaybe, IsOperation, IsOperationOf, IsBlockOf, IsRelation}
 use Rattle.sac_phrases.proofs.Steps.{At, operator_found, token_read, starts_there, kept_phrase, part_nth, part_second}
+use Rattle.sac_descent.proofs.DeepSteps.{stops_deep}
 
 -- ---- bounds
 
@@ -101,16 +106,35 @@ fold_read place {ts} {a} {b} {c} {d} {e} {rest} {w} {l} {k} {r} op site x node t
       },
     )
 
-operation_part : (place : Place) (ts : List Lexeme) (result : Result (Measured Operation × Bor (List Token)) Halt) → IsPartAt place (rule operation) (IsOperationOf place) ts result → IsPhraseNear place operation View.operation operation_height ts result
-operation_part place ts (Ok x) (v, f, m) = (subst (λ (o : OperationTree). Found operation ts o (lexemes_of x.1.now)) (sym m.tree) (found f), λ c. subst (λ (o : OperationTree). (x.0.height ≡ operation_height o) × (operation_height o ≤ 100)) (sym m.tree) (m.low c))
-operation_part place ts (Err e) h = stops h
+operation_deeper : (d e : ℕ) → Deeper d e → (v : V (rule operation)) → HasHigh Tree first_of (λ (j : Nonterminal). High e j) (rule operation) v → High d operation (action operation v)
+operation_deeper d e up (inl (t, (l, ((x, y), r)))) (inl h) = absurd h
+operation_deeper d e up (inl (t, (l, ((x, y), r)))) (inr (inl h)) = absurd h
+operation_deeper d e up (inl (t, (l, ((x, y), r)))) (inr (inr (inl (inl h)))) = let k = up (height x) h in omega arith
+operation_deeper d e up (inl (t, (l, ((x, inl (c, y)), r)))) (inr (inr (inl (inr (inl h))))) = absurd h
+operation_deeper d e up (inl (t, (l, ((x, inl (c, y)), r)))) (inr (inr (inl (inr (inr h))))) = let k = up (height y) h in omega arith
+operation_deeper d e up (inl (t, (l, ((x, inr u), r)))) (inr (inr (inl (inr h)))) = absurd h
+operation_deeper d e up (inl (t, (l, ((x, y), r)))) (inr (inr (inr h))) = absurd h
+operation_deeper d e up (inr (inl (t, (l, (x, r))))) (inl h) = absurd h
+operation_deeper d e up (inr (inl (t, (l, (x, r))))) (inr (inl h)) = absurd h
+operation_deeper d e up (inr (inl (t, (l, (x, r))))) (inr (inr (inl h))) = up (height x) h
+operation_deeper d e up (inr (inl (t, (l, (x, r))))) (inr (inr (inr h))) = absurd h
+operation_deeper d e up (inr (inr (t, (l, ((o, (c, x)), r))))) (inl h) = absurd h
+operation_deeper d e up (inr (inr (t, (l, ((o, (c, x)), r))))) (inr (inl h)) = absurd h
+operation_deeper d e up (inr (inr (t, (l, ((o, (c, x)), r))))) (inr (inr (inl (inl h)))) = no_op (λ (j : Nonterminal). High e j) first_fold folds o h
+operation_deeper d e up (inr (inr (t, (l, ((o, (c, x)), r))))) (inr (inr (inl (inr (inl h))))) = absurd h
+operation_deeper d e up (inr (inr (t, (l, ((o, (c, x)), r))))) (inr (inr (inl (inr (inr h))))) = up (height x) h
+operation_deeper d e up (inr (inr (t, (l, ((o, (c, x)), r))))) (inr (inr (inr h))) = absurd h
 
-pub operation_nth : (place : Place) (n : ℕ) (ts : List Lexeme) (result : Result (Measured Operation × Bor (List Token)) Halt) → is_apart n (rule operation) ≡ true → starts (first first_of (nth n (rule operation))) ts ≡ true → IsPartAt place (nth n (rule operation)) (IsOperation place n) ts result → IsPhraseNear place operation View.operation operation_height ts result
-operation_nth place n ts result apart s h = operation_part place ts result (part_nth place n (rule operation) (IsOperationOf place) ts result apart s h)
+operation_part : (place inner : Place) (ts : List Lexeme) (result : Result (Measured Operation × Bor (List Token)) Halt) → inner.checked ≡ place.checked → Deeper place.depth inner.depth → IsPartAt inner (rule operation) (IsOperationOf inner) ts result → IsPhraseNear place operation View.operation operation_height ts result
+operation_part place inner ts (Ok x) k up (v, f, m) = (subst (λ (o : OperationTree). Found operation ts o (lexemes_of x.1.now)) (sym m.tree) (found f), λ c. subst (λ (o : OperationTree). (x.0.height ≡ operation_height o) × (operation_height o ≤ 100)) (sym m.tree) (m.low (k ∙ c)))
+operation_part place inner ts (Err e) k up h = stops_deep (operation_deeper place.depth inner.depth up) (subst (λ b. Halts (StopOf e) b (λ _. inner.depth) (rule operation) ts) k h)
+
+pub operation_nth : (place inner : Place) (n : ℕ) (ts : List Lexeme) (result : Result (Measured Operation × Bor (List Token)) Halt) → inner.checked ≡ place.checked → Deeper place.depth inner.depth → is_apart n (rule operation) ≡ true → starts (first first_of (nth n (rule operation))) ts ≡ true → IsPartAt inner (nth n (rule operation)) (IsOperation inner n) ts result → IsPhraseNear place operation View.operation operation_height ts result
+operation_nth place inner n ts result k up apart s h = operation_part place inner ts result k up (part_nth inner n (rule operation) (IsOperationOf inner) ts result apart s h)
 
 -- the last alternative, where no other begins
-pub operation_last : (place : Place) (ts : List Lexeme) (result : Result (Measured Operation × Bor (List Token)) Halt) → starts (text (codes "genarray") ∷ []) ts ≡ false → starts (text (codes "modarray") ∷ []) ts ≡ false → IsPartAt place (nth 2 (rule operation)) (IsOperation place 2) ts result → IsPhraseNear place operation View.operation operation_height ts result
-operation_last place ts result s t h = operation_part place ts result (part_second place (nth 0 (rule operation)) (alt (nth 1 (rule operation)) (nth 2 (rule operation))) (IsOperationOf place) ts result s (part_second place (nth 1 (rule operation)) (nth 2 (rule operation)) (λ x v. IsOperationOf place x (inr v)) ts result t h))
+pub operation_last : (place inner : Place) (ts : List Lexeme) (result : Result (Measured Operation × Bor (List Token)) Halt) → inner.checked ≡ place.checked → Deeper place.depth inner.depth → starts (text (codes "genarray") ∷ []) ts ≡ false → starts (text (codes "modarray") ∷ []) ts ≡ false → IsPartAt inner (nth 2 (rule operation)) (IsOperation inner 2) ts result → IsPhraseNear place operation View.operation operation_height ts result
+operation_last place inner ts result k up s t h = operation_part place inner ts result k up (part_second inner (nth 0 (rule operation)) (alt (nth 1 (rule operation)) (nth 2 (rule operation))) (IsOperationOf inner) ts result s (part_second inner (nth 1 (rule operation)) (nth 2 (rule operation)) (λ x v. IsOperationOf inner x (inr v)) ts result t h))
 
 -- ---- generators
 
@@ -155,3 +179,33 @@ generator_read place ts {p} {a} {b} {c} {d} {f} {g} {h} {k} {m} {n} {o} rest l c
       subst (λ (x : Gen). Found generator ts x rest) (sym tree') (found (read_then (read_then (token_read open') (read_then (read_then (read_ref rlow.0) (read_then rlc (read_then ri (read_then ruc (read_then (read_ref rup.0) (read_then rst rw')))))) (token_read close))) (read_then rb (read_then (token_read colon) (read_then (read_ref re.0) (token_read semi)))))),
       λ q. subst (λ (x : Gen). (node.height ≡ gen_height x) × (gen_height x ≤ 100)) (sym tree') (gen_tall node.height low.height up.height st.height w.height body.height e.height (bound_height (View.bound low.tree)) (bound_height (View.bound up.tree)) (maybe_height (maybe vst)) (maybe_height (maybe vw)) (block_height (block_of (body_or_none vb))) (height (View.expr e.tree)) place.depth gen.above (rlow.1 q) (rup.1 q) (mst.low q) (mw.low q) (mb.low q) (re.1 q)),
     )
+
+-- ---- a generator with a part that is too high one node deeper
+
+no_relation : (e : ℕ) (v : V Relation) → HasHigh Tree first_of (λ (j : Nonterminal). High e j) Relation v → ⊥
+no_relation e (inl t) h = h
+no_relation e (inr t) h = h
+
+step_deeper : (e : ℕ) (word : List ℕ) (v : V (Step word)) → HasHigh Tree first_of (λ (j : Nonterminal). High e j) (Step word) v → Over e (maybe_height (maybe v))
+step_deeper e word (inl v) (inl h) = absurd h
+step_deeper e word (inl v) (inr h) = h
+step_deeper e word (inr u) h = absurd h
+
+block_deeper : (e : ℕ) (b : V (opt (ref block))) → HasHigh Tree first_of (λ (j : Nonterminal). High e j) (opt (ref block)) b → Over e (block_height (block_of (body_or_none b)))
+block_deeper e (inl b) h = h
+block_deeper e (inr u) h = absurd h
+
+pub generator_deeper : (d e : ℕ) → Deeper d e → (v : V (rule generator)) → HasHigh Tree first_of (λ (j : Nonterminal). High e j) (rule generator) v → High d generator (action generator v)
+generator_deeper d e up ((l, ((low, (lc, (i, (uc, (ub, (s, w)))))), r)), (b, (c, (x, z)))) (inl (inl h)) = absurd h
+generator_deeper d e up ((l, ((low, (lc, (i, (uc, (ub, (s, w)))))), r)), (b, (c, (x, z)))) (inl (inr (inl (inl h)))) = let k = up (bound_height low) h in omega arith
+generator_deeper d e up ((l, ((low, (lc, (i, (uc, (ub, (s, w)))))), r)), (b, (c, (x, z)))) (inl (inr (inl (inr (inl h))))) = absurd (no_relation e lc h)
+generator_deeper d e up ((l, ((low, (lc, (i, (uc, (ub, (s, w)))))), r)), (b, (c, (x, z)))) (inl (inr (inl (inr (inr (inl h)))))) = absurd h
+generator_deeper d e up ((l, ((low, (lc, (i, (uc, (ub, (s, w)))))), r)), (b, (c, (x, z)))) (inl (inr (inl (inr (inr (inr (inl h))))))) = absurd (no_relation e uc h)
+generator_deeper d e up ((l, ((low, (lc, (i, (uc, (ub, (s, w)))))), r)), (b, (c, (x, z)))) (inl (inr (inl (inr (inr (inr (inr (inl h)))))))) = let k = up (bound_height ub) h in omega arith
+generator_deeper d e up ((l, ((low, (lc, (i, (uc, (ub, (s, w)))))), r)), (b, (c, (x, z)))) (inl (inr (inl (inr (inr (inr (inr (inr (inl h))))))))) = let k = up (maybe_height (maybe s)) (step_deeper e (codes "step") s h) in omega arith
+generator_deeper d e up ((l, ((low, (lc, (i, (uc, (ub, (s, w)))))), r)), (b, (c, (x, z)))) (inl (inr (inl (inr (inr (inr (inr (inr (inr h))))))))) = let k = up (maybe_height (maybe w)) (step_deeper e (codes "width") w h) in omega arith
+generator_deeper d e up ((l, ((low, (lc, (i, (uc, (ub, (s, w)))))), r)), (b, (c, (x, z)))) (inl (inr (inr h))) = absurd h
+generator_deeper d e up ((l, ((low, (lc, (i, (uc, (ub, (s, w)))))), r)), (b, (c, (x, z)))) (inr (inl h)) = let k = up (block_height (block_of (body_or_none b))) (block_deeper e b h) in omega arith
+generator_deeper d e up ((l, ((low, (lc, (i, (uc, (ub, (s, w)))))), r)), (b, (c, (x, z)))) (inr (inr (inl h))) = absurd h
+generator_deeper d e up ((l, ((low, (lc, (i, (uc, (ub, (s, w)))))), r)), (b, (c, (x, z)))) (inr (inr (inr (inl h)))) = let k = up (height x) h in omega arith
+generator_deeper d e up ((l, ((low, (lc, (i, (uc, (ub, (s, w)))))), r)), (b, (c, (x, z)))) (inr (inr (inr (inr h)))) = absurd h

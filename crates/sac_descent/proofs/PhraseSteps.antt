@@ -12,7 +12,7 @@ use Rattle.sac_ast.specs.declared.Expression.{Expression}
 use Rattle.sac_ast.specs.declared.Generator.{Generator}
 use Rattle.sac_ast.specs.declared.Operation.{Operation}
 use Rattle.sac_ast.specs.Texts.{Lexeme}
-use Rattle.sac_ast.specs.Shape.{Terminal, text, name, matches, nothing, ref, seq, alt, many}
+use Rattle.sac_ast.specs.Shape.{Terminal, text, name, nothing, ref, seq, alt, many}
 use Rattle.sac_ast.specs.Grammar.{Nonterminal, Tree, V, rule, action, sign, listed, opt, parens, items, maybe_items, one_of, chosen, target, expression, disjunction, prefix, postfix, primary, generator, operation}
 use Rattle.sac_ast.specs.Heights.{height, heights, gens_height, operation_height}
 use Rattle.sac_ast.specs.Tree as tree

@@ -3,7 +3,6 @@ use Rattle.std.proofs.Common.{ℕ, ◌≡◌, ◌≢◌, ◌<◌, ◌≤◌, ◌
 use Rattle.std.specs.Global.{Vec}
 use Rattle.sac_lex.specs.declared.token.Token.{Token}
 use Rattle.sac_base.specs.declared.op.Op.{Op}
-use Rattle.sac_base.specs.declared.op.Op.TheVariants.{Add}
 use Rattle.sac_base.specs.declared.site.Site.{Site}
 use Rattle.sac_ast.specs.declared.Expression.{Expression}
 use Rattle.sac_ast.specs.declared.Statement.{Statement}
@@ -146,9 +145,6 @@ halts_inside {ts} s place inner e i h = record { at = h.at; only = λ r p. sym i
 
 pub else_stop : {ts : List Lexeme} (place inner : Place) (e : Halt) → IsInside place inner → Halts (StopOf e) inner.checked (λ _. inner.depth) (opt (seq (sign (codes "else")) (ref else_branch))) ts → Halts (StopOf e) place.checked (depth_in place.depth if_statement) (opt (seq (sign (codes "else")) (ref else_branch))) ts
 else_stop {ts} place inner e i h = stop_agree (λ c. ((tt, i.depth c), tt)) (halts_inside (opt (seq (sign (codes "else")) (ref else_branch))) place inner e i h)
-
-pub cond_stop : {ts : List Lexeme} (place : Place) (e : Halt) → Halts (StopOf e) place.checked (λ _. place.depth) (parens (ref expression)) ts → Halts (StopOf e) place.checked (depth_in place.depth if_statement) (parens (ref expression)) ts
-cond_stop {ts} place e h = stop_agree (λ c. (tt, (refl, tt))) h
 
 -- ---- assignments
 

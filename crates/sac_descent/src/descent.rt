@@ -1,16 +1,17 @@
 //! Expressions, with-loops and statements, by recursive descent: each function reads one phrase with one token of lookahead.
-ghost use Rattle.std.specs.Prelude.{◌≡◌, ◌<◌, ◌≤◌, ◌∷◌, IfOk, length, codes, true};
+ghost use Rattle.std.specs.Prelude.{◌≡◌, ◌<◌, ◌≤◌, ◌∷◌, IfErr, IfOk, length, codes, true};
 ghost use Rattle.sac_ast.specs.Shape.{ref, seq, many};
 ghost use Rattle.sac_ast.specs.Grammar.{expression, prefix, postfix, primary, generator, bound, operation, statement, if_statement, else_branch};
 ghost use Rattle.sac_ast.specs.Grammar.{block, assign, sum, listed, opt, parens, sign, rule};
 ghost use Rattle.sac_ast.specs.Heights.{height, gen_height, bound_height, operation_height, stmt_height};
 ghost use Rattle.sac_ast.specs.View as view;
 ghost use Rattle.sac_ast.specs.Texts.{is_name};
-ghost use Rattle.sac_grammar.specs.Parsing.{nth};
-ghost use Rattle.sac_phrases.specs.Contract.{lexemes_of, lexeme, IsPhraseAt, IsPhraseNear, IsPartAt, IsNodeAt};
+ghost use Rattle.sac_grammar.specs.Parsing.{Found, nth};
+ghost use Rattle.sac_phrases.specs.Contract.{lexemes_of, lexeme, IsNear, IsPhraseAt, IsPhraseNear, IsPartAt, IsNodeAt};
+ghost use Rattle.sac_descent.specs.Around.{StopsAround, IsPartSo, IndexOver, ReplaceOver, IsRestAt, ForOver};
 ghost use Rattle.sac_phrases.specs.Parts.{IsListOf, IsArguments, IsInParens, IsPair, IsPrimary, IsPrimaryOf, IsGenerators, IsMaybe, IsBlockAt};
 ghost use Rattle.sac_phrases.specs.Parts.{itself, AssignRest, IsOperation, IsBlockOf, IsStatements, IsStatement, IsStatementOf, IsElse, IsAssigned};
-ghost use Rattle.sac_phrases.specs.Parts.{IsAssignedOf, Comma};
+ghost use Rattle.sac_phrases.specs.Parts.{Comma};
 ghost use Rattle.sac_phrases.specs.Levels.{first_operator, more_operators, IsLevelAt, IsOperandAt};
 
 use sac_ast::{Bound, Builtin, Expression, Generator, Operation, Statement, Target};
@@ -35,6 +36,34 @@ pub fn list<'a>(place: Place, tokens: &'a [Token<'a>]) -> Read<'a, Vec<Expressio
     found.push(first.tree)?;
     while let Some((_comma, behind)) = cursor::accept(rest, b",") {
         let (next, after) = expression(place, behind)?;
+        height = height.max(next.height);
+        found.push(next.tree)?;
+        rest = after;
+    }
+    Ok((
+        Measured {
+            tree: found,
+            height,
+        },
+        rest,
+    ))
+}
+
+/// The expressions of an index. Two and more are the elements of an array, one node deeper.
+#[cycle(phrase)]
+fn indices<'a>(place: Place, tokens: &'a [Token<'a>]) -> Read<'a, Vec<Expression>>
+    ensures phrase { IsPartSo place (listed (ref expression)) (IsListOf place) (IndexOver place.depth) (lexemes_of tokens.now) result }
+    ensures shorter { IfOk result (λ x. length x.1.now < length tokens.now) }
+{
+    let (first, mut rest) = expression(place, tokens)?;
+    let mut height = first.height;
+    let mut found = Vec::new(place.alloc);
+    found.push(first.tree)?;
+    while let Some((_comma, behind)) = cursor::accept(rest, b",") {
+        if place.has_no_room(height) {
+            return Err(Halt::High(rest));
+        }
+        let (next, after) = expression(place.inside(), behind)?;
         height = height.max(next.height);
         found.push(next.tree)?;
         rest = after;
@@ -233,7 +262,7 @@ fn postfix<'a>(place: Place, tokens: &'a [Token<'a>]) -> Read<'a, Expression>
         if place.has_no_room(array.height) {
             return Err(Halt::High(rest));
         }
-        let (index, after) = list(place.inside(), behind)?;
+        let (index, after) = indices(place.inside(), behind)?;
         let (_close, after) = cursor::expect(after, b"]")?;
         array = node::select(place, array, node::index_of(index, open.site), open.site)?;
         rest = after;
@@ -321,7 +350,7 @@ fn generators<'a>(place: Place, tokens: &'a [Token<'a>]) -> Read<'a, Vec<Generat
     let mut height = 0u32;
     let (_read, mut rest) = tokens.split_at(0);
     while cursor::starts_with(rest, b"(") {
-        let (next, after) = generator(place, rest)?;
+        let (next, after) = generator(place.inside(), rest)?;
         height = height.max(next.height);
         found.push(next.tree)?;
         rest = after;
@@ -337,7 +366,9 @@ fn generators<'a>(place: Place, tokens: &'a [Token<'a>]) -> Read<'a, Vec<Generat
 
 #[cycle(phrase)]
 fn generator<'a>(place: Place, tokens: &'a [Token<'a>]) -> Read<'a, Generator>
-    ensures phrase { IsPhraseNear place generator view.generator gen_height (lexemes_of tokens.now) result }
+    ensures phrase { IfOk result (λ x. Found generator (lexemes_of tokens.now) (view.generator x.0.tree) (lexemes_of x.1.now)) }
+    ensures near { IfOk result (λ x. IsNear place x.0.height (gen_height (view.generator x.0.tree))) }
+    ensures halt { IfErr result (StopsAround place (lexemes_of tokens.now)) }
     ensures shorter { IfOk result (λ x. length x.1.now < length tokens.now) }
 {
     let (open, rest) = cursor::expect(tokens, b"(")?;
@@ -462,12 +493,13 @@ fn operation<'a>(place: Place, tokens: &'a [Token<'a>]) -> Read<'a, Operation>
     ensures phrase { IsPhraseNear place operation view.operation operation_height (lexemes_of tokens.now) result }
     ensures shorter { IfOk result (λ x. length x.1.now < length tokens.now) }
 {
+    let inner = place.inside();
     if cursor::starts_with(tokens, b"genarray") {
-        genarray(place, tokens)
+        genarray(inner, tokens)
     } else if cursor::starts_with(tokens, b"modarray") {
-        modarray(place, tokens)
+        modarray(inner, tokens)
     } else {
-        fold(place, tokens)
+        fold(inner, tokens)
     }
 }
 
@@ -576,21 +608,25 @@ fn do_loop<'a>(place: Place, tokens: &'a [Token<'a>]) -> Read<'a, Vec<Statement>
     ))
 }
 
-/// A `for`: its first assignment, and a `while` whose body ends with the last one.
+/// A `for`: its first assignment, and a `while` whose body ends with the last one and needs room for it.
 #[cycle(phrase)]
 fn for_loop<'a>(place: Place, tokens: &'a [Token<'a>]) -> Read<'a, Vec<Statement>>
-    ensures phrase { IsPartAt place (nth 4 (rule statement)) (IsStatement place 4) (lexemes_of tokens.now) result }
+    ensures phrase { IsPartSo place (nth 4 (rule statement)) (IsStatement place 4) (ForOver place.depth) (lexemes_of tokens.now) result }
     ensures shorter { IfOk result (λ x. length x.1.now < length tokens.now) }
 {
     let (word, rest) = cursor::expect(tokens, b"for")?;
+    if place.has_no_room(2) {
+        return Err(Halt::High(tokens));
+    }
+    let inner = place.inside();
     let (_open, rest) = cursor::expect(rest, b"(")?;
     let (start, rest) = assign(place, rest)?;
     let (_end, rest) = cursor::expect(rest, b";")?;
-    let (cond, rest) = expression(place, rest)?;
+    let (cond, rest) = expression(inner, rest)?;
     let (_end, rest) = cursor::expect(rest, b";")?;
-    let (step, rest) = assign(place, rest)?;
+    let (step, rest) = assign(inner, rest)?;
     let (_close, rest) = cursor::expect(rest, b")")?;
-    let (body, rest) = block(place, rest)?;
+    let (body, rest) = block(inner, rest)?;
     Ok((
         leaf::for_loop(place, start, cond, step, body, word.site)?,
         rest,
@@ -600,17 +636,18 @@ fn for_loop<'a>(place: Place, tokens: &'a [Token<'a>]) -> Read<'a, Vec<Statement
 /// A statement, which may be too high for its place by its last node.
 #[cycle(phrase)]
 fn any_statement<'a>(place: Place, tokens: &'a [Token<'a>]) -> Read<'a, Vec<Statement>>
-    ensures phrase { IsPartAt place (rule statement) (IsStatementOf place) (lexemes_of tokens.now) result }
+    ensures phrase { IsNodeAt place statement (IsStatementOf place) (lexemes_of tokens.now) result }
     ensures shorter { IfOk result (λ x. length x.1.now < length tokens.now) }
 {
+    let inner = place.inside();
     if cursor::starts_name(tokens) {
         assignment(place, tokens)
     } else if cursor::starts_with(tokens, b"if") {
         conditional(place, tokens)
     } else if cursor::starts_with(tokens, b"while") {
-        while_loop(place, tokens)
+        while_loop(inner, tokens)
     } else if cursor::starts_with(tokens, b"do") {
-        do_loop(place, tokens)
+        do_loop(inner, tokens)
     } else {
         for_loop(place, tokens)
     }
@@ -621,6 +658,9 @@ fn statement<'a>(place: Place, tokens: &'a [Token<'a>]) -> Read<'a, Vec<Statemen
     ensures phrase { IsBlockAt place statement itself (lexemes_of tokens.now) result }
     ensures shorter { IfOk result (λ x. length x.1.now < length tokens.now) }
 {
+    if place.has_no_room(1) {
+        return Err(Halt::High(tokens));
+    }
     let (node, rest) = any_statement(place, tokens)?;
     place::kept(place, node, rest)
 }
@@ -630,8 +670,12 @@ fn if_statement<'a>(place: Place, tokens: &'a [Token<'a>]) -> Read<'a, Statement
     ensures phrase { IsPhraseAt place if_statement view.stmt stmt_height (lexemes_of tokens.now) result }
     ensures shorter { IfOk result (λ x. length x.1.now < length tokens.now) }
 {
+    if place.has_no_room(1) {
+        return Err(Halt::High(tokens));
+    }
+    let inner = place.inside();
     let (word, rest) = cursor::expect(tokens, b"if")?;
-    let (cond, rest) = parens(place, rest)?;
+    let (cond, rest) = parens(inner, rest)?;
     let (yes, rest) = block(place.inside(), rest)?;
     let (no, rest) = maybe_else(place.inside(), rest)?;
     place::kept(place, node::if_else(cond, yes, no, word.site), rest)
@@ -684,11 +728,11 @@ fn several<'a>(place: Place, token: Token<'a>, tokens: &'a [Token<'a>]) -> Read<
 #[cycle(phrase)]
 fn replacement<'a>(place: Place, token: Token<'a>, tokens: &'a [Token<'a>]) -> Read<'a, Statement>
     requires { is_name token.text.now ≡ true }
-    ensures phrase { IsPartAt place (nth 1 AssignRest) (IsAssigned place (lexeme token.entry) 1) (lexemes_of tokens.now) result }
+    ensures phrase { IsPartSo place (nth 1 AssignRest) (IsAssigned place (lexeme token.entry) 1) (ReplaceOver place.depth) (lexemes_of tokens.now) result }
     ensures shorter { IfOk result (λ x. length x.1.now < length tokens.now) }
 {
     let (open, rest) = cursor::expect(tokens, b"[")?;
-    let (index, rest) = list(place, rest)?;
+    let (index, rest) = indices(place, rest)?;
     let (_close, rest) = cursor::expect(rest, b"]")?;
     let (_sign, rest) = cursor::expect(rest, b"=")?;
     let (value, rest) = expression(place, rest)?;
@@ -715,15 +759,18 @@ fn compound<'a>(place: Place, token: Token<'a>, tokens: &'a [Token<'a>]) -> Read
 #[cycle(phrase)]
 fn assigned<'a>(place: Place, token: Token<'a>, tokens: &'a [Token<'a>]) -> Read<'a, Statement>
     requires { is_name token.text.now ≡ true }
-    ensures phrase { IsPartAt place AssignRest (IsAssignedOf place (lexeme token.entry)) (lexemes_of tokens.now) result }
+    ensures phrase { IsRestAt place (lexeme token.entry) (lexemes_of tokens.now) result }
     ensures shorter { IfOk result (λ x. length x.1.now < length tokens.now) }
 {
+    let inner = place.inside();
     if cursor::starts_with_any(tokens, &leaf::SEVERAL) {
-        several(place, token, tokens)
+        several(inner, token, tokens)
     } else if cursor::starts_with(tokens, b"[") {
-        replacement(place, token, tokens)
+        replacement(inner, token, tokens)
+    } else if place.has_no_room(2) {
+        Err(Halt::High(tokens))
     } else if cursor::starts_with_any(tokens, &leaf::COMPOUND) {
-        compound(place, token, tokens)
+        compound(inner.inside(), token, tokens)
     } else {
         leaf::step(place, token, tokens)
     }

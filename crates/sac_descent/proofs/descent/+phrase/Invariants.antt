@@ -76,6 +76,9 @@ decreases-if_statement l = 64 * length l.tokens.now + 6
 abbrev pub decreases-list : goal.decreases-list
 decreases-list l = 64 * length l.tokens.now + 40
 
+abbrev pub decreases-indices : goal.decreases-indices
+decreases-indices l = 64 * length l.tokens.now + 40
+
 abbrev pub decreases-maybe_block : goal.decreases-maybe_block
 decreases-maybe_block l = 64 * length l.tokens.now + 8
 
@@ -144,6 +147,12 @@ invariant-list-loop-comma l = record { shorter : length l.rest < length l.tokens
 
 abbrev pub decreases-list-loop-comma : goal.decreases-list-loop-comma
 decreases-list-loop-comma l = length l.rest
+
+abbrev pub invariant-indices-loop-comma : goal.invariant-indices-loop-comma
+invariant-indices-loop-comma l = record { shorter : length l.rest < length l.tokens; so_far : ListRead l.place (lexemes_of l.tokens) l.found.items l.height (lexemes_of l.rest) }
+
+abbrev pub decreases-indices-loop-comma : goal.decreases-indices-loop-comma
+decreases-indices-loop-comma l = length l.rest
 
 abbrev pub invariant-postfix-loop-open : goal.invariant-postfix-loop-open
 invariant-postfix-loop-open l = record { shorter : length l.rest < length l.tokens; so_far : PostRead (lexemes_of l.tokens) (View.expr l.array.tree) (lexemes_of l.rest); tall : l.place.checked ≡ true → l.array.height ≡ height (View.expr l.array.tree) }
