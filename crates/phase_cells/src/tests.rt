@@ -11,10 +11,11 @@ use std::alloc::Global;
 use std::test::Fail;
 use std::thread::Threads;
 
-// One element for each of ten positions, which is its number.
+// One element for each of ten positions, which is its number. Those below a limit are computed without a store.
 #[derive(Drop)]
 struct Numbers<'a> {
     lends: &'a Heap,
+    alone: usize,
 }
 
 impl<'a> CellRuns for Numbers<'a> {
@@ -42,6 +43,15 @@ impl<'a> CellRuns for Numbers<'a> {
         Ok(0)
     }
 
+    fn run_alone(&self, scratch: &mut u64, position: usize, into: &mut [Cell]) -> Option<CellEnd> {
+        if position >= self.alone {
+            return None;
+        }
+        *scratch = scratch.wrapping_add(1);
+        into[0] = (position % 1000) as i32;
+        Some(CellEnd::Value)
+    }
+
     fn run(
         &self,
         scratch: &mut u64,
@@ -60,6 +70,7 @@ fn numbered<R: Threads + Sync>(
     rt: &R,
     alloc: Global,
     lends: &Heap,
+    alone: usize,
     workers: u32,
     home: &mut Heap,
     buffer: &mut [Cell],
@@ -68,7 +79,7 @@ fn numbered<R: Threads + Sync>(
     requires lends { lends.now ≡ record { places = []; births = 0; taken = 0; given = 0; reused = 0 } }
     requires room { length buffer.old ≡ 10 }
 {
-    let numbers = Numbers { lends };
+    let numbers = Numbers { lends, alone };
     let cells = LentCells {
         alloc,
         cells: &numbers,
@@ -91,10 +102,18 @@ fn numbered<R: Threads + Sync>(
 #[test]
 fn cells_are_computed_on_lent_buffers(rt: HostRuntime) -> Result<(), Fail> {
     let lends = Heap::new(rt.alloc());
-    for workers in [1, 2, 64] {
+    for (workers, alone) in [(1, 0), (2, 3), (64, 6), (2, 10)] {
         let mut home = Heap::behind(&lends);
         let mut buffer = [7; 10];
-        let end = numbered(&rt, rt.alloc(), &lends, workers, &mut home, &mut buffer);
+        let end = numbered(
+            &rt,
+            rt.alloc(),
+            &lends,
+            alone,
+            workers,
+            &mut home,
+            &mut buffer,
+        );
         assert!(rt; end.is_ok());
         assert_eq!(rt; buffer, [0, 1, 2, 3, 4, 5, 6, 7, 8, 9]);
         assert_eq!(rt; (home.live(), home.births(), home.taken()), (0, 0, 0));

@@ -1,5 +1,5 @@
 -- What a phase has counted behind the heap that lends.
-use Rattle.std.proofs.Common.{◌≡◌, ℕ, zero, suc, ◌+◌, ◌%◌, ◌^◌, List, ℤ, None, Result, Ok, Err, OnOk, refl, sym, ap, ◌∙◌, subst, arith}
+use Rattle.std.proofs.Common.{◌≡◌, ℕ, zero, suc, ◌+◌, ◌%◌, ◌^◌, List, ℤ, None, Result, Ok, Err, OnOk, refl, ap, ◌∙◌, subst, arith}
 use Rattle.buffer_heap.specs.Heaps.{HeapValue, at}
 use Rattle.phase_cells.specs.Idle.{counter, raise}
 use Rattle.run_store.proofs.Opening.{behind_heap}

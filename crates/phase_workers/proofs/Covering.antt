@@ -1,6 +1,6 @@
 -- Parted loops in which each position has a cell.
 use Rattle.std.proofs.Common.{◌≡◌, ℕ, zero, suc, ◌+◌, ◌<◌, Bool, true, false, List, [], ◌∷◌, length, ℤ, Option, Some, None, Result, Ok, Err, refl, ap, ◌∙◌, subst, arith}
-use Rattle.std.specs.Prelude.{is_some, if◌then◌else◌, ◌&&◌}
+use Rattle.std.specs.Prelude.{is_some, if◌then◌else◌}
 use Rattle.buffer_heap.specs.Heaps.{HeapValue}
 use Rattle.core_ir.specs.Meaning.{CallMeaning, Env, bind, first, run, cells, cell_form, cell_at, held}
 use Rattle.counted_code.specs.declared.tree.CodePart.{CodePart}
@@ -12,8 +12,7 @@ use Rattle.sac_base.specs.declared.form.Form.{Form}
 use Rattle.sac_base.specs.declared.site.Site.{Site}
 use Rattle.sac_base.specs.declared.faults.FaultKind.TheVariants.{F6}
 use Rattle.sac_base.specs.Arrays.{ArrayValue, same_form, vector}
-use Rattle.sac_base.specs.declared.grid.Grid1.{Grid1}
-use Rattle.sac_base.specs.Grids.{has_index, has_vector}
+use Rattle.sac_base.specs.Grids.{has_vector}
 use Rattle.sac_base.specs.Operators.{all_of, with_first}
 use Rattle.sac_base.specs.Outcomes.{Ends, and_then, fault}
 use Rattle.wl_core.specs.Machine.{CellValue}

@@ -1,6 +1,6 @@
 -- A heap of the machine that a heap of buffers stands for.
-use Rattle.std.proofs.Common.{◌≡◌, ℕ, zero, suc, ◌+◌, ◌<◌, ◌%◌, ◌^◌, Bool, true, false, cond, eqb, List, [], ◌∷◌, ◌++◌, length, replicate, ℤ, pos, Option, Some, None, refl, ap, ◌∙◌, sym, subst, slice_index_or, arith}
-use Rattle.std.proofs.lemmas.Bool.{eqb-true, eqb-false, eq-eqb}
+use Rattle.std.proofs.Common.{◌≡◌, ℕ, zero, suc, ◌+◌, ◌<◌, ◌%◌, ◌^◌, Bool, true, false, eqb, List, [], ◌∷◌, ◌++◌, length, replicate, ℤ, pos, Option, Some, None, refl, ap, ◌∙◌, sym, subst, slice_index_or, arith}
+use Rattle.std.proofs.lemmas.Bool.{eqb-true, eqb-false}
 use Rattle.std.proofs.lemmas.List.{length_push, get_or_push, get_or_append_left, length-replicate}
 use Rattle.buffer_heap.specs.Heaps.{Content, In, Out, Held, HeapValue, at}
 use Rattle.counted_code.specs.Values.{Buffer, no_buffer, Heap, buffer_at}

@@ -1,4 +1,4 @@
-use Rattle.std.proofs.Common.{◌≡◌, None, subst}
+use Rattle.std.proofs.Common.{None, subst}
 use Rattle.array_with_loops.specs.Plans.{plan_of}
 use Rattle.counted_code.specs.Loops.{job_does}
 use Rattle.run_eval.specs.Running.{IsValue, Told, fold_job, fold_parts_job}

@@ -1,4 +1,4 @@
-use Rattle.std.proofs.Common.{◌+◌, ◌%◌, ◌^◌, true, Ok, refl}
+use Rattle.std.proofs.Common.{true, Ok, refl}
 use Rattle.counted_code.specs.Loops.{count_phase}
 use Rattle.counted_code.specs.Values.{is_small}
 use Rattle.run_eval.proofs.CellPhases.{count_stands}
