@@ -1,11 +1,11 @@
 -- Parts side by side: the last one is cut in two, and the last two are one.
-use Rattle.std.proofs.Common.{◌≡◌, ℕ, suc, ◌+◌, ◌-◌, ◌<◌, ◌≤◌, min, List, [], ◌∷◌, ◌++◌, length, map, refl, sym, ap, ◌∙◌, arith}
+use Rattle.std.proofs.Common.{◌≡◌, ℕ, zero, suc, ◌+◌, ◌-◌, ◌<◌, ◌≤◌, min, List, [], ◌∷◌, ◌++◌, length, map, refl, sym, ap, subst, ◌∙◌, arith}
 use lib.ListN.{length-append}
 use mathlib.Core.List.{append_assoc, append-nil}
 use denote.RattleType.{RattleType}
 use denote.RawPtr.{Ptr}
 use Rattle.std.specs.Ptr.{ptr_add}
-use Rattle.buffer_parts.specs.Spans.{Span, SideBySide, joined, lengths}
+use Rattle.buffer_parts.specs.Spans.{Span, SideBySide, KeepsPlace, KeepPlaces, joined, lengths, start_of}
 
 module _ (R : RattleType) where
   pub side_front : (p : Ptr) (xs ys : List (Span R.Denot)) → SideBySide R p (xs ++ ys) → SideBySide R p xs
@@ -52,3 +52,45 @@ module _ {X : Type 0} where
   pub two_within : (f z : Span X) (xs : List (Span X)) → length f.cells + length z.cells ≤ length (joined ((xs ++ f ∷ []) ++ z ∷ []))
   two_within f z [] = let l = length-append f.cells (z.cells ++ []) in let m = length-append z.cells [] in omega arith
   two_within f z (x ∷ xs) = let l = length-append x.cells (joined ((xs ++ f ∷ []) ++ z ∷ [])) in let m = two_within f z xs in omega arith
+
+-- Parts that keep their places.
+module _ (R : RattleType) where
+  pub side_kept : (p : Ptr) (xs ys : List (Span R.Denot)) → KeepPlaces xs ys → SideBySide R p xs → SideBySide R p ys
+  side_kept p [] [] kept side = tt
+  side_kept p [] (y ∷ ys) kept side = absurd kept
+  side_kept p (x ∷ xs) [] kept side = absurd kept
+  side_kept p (x ∷ xs) (y ∷ ys) kept side =
+      (kept.0.0 ∙ side.0, subst (λ (n : ℕ). SideBySide R (ptr_add R n p) ys) (sym kept.0.1) (side_kept (ptr_add R (length x.cells) p) xs ys kept.1 side.1))
+
+  -- the first of some parts starts where they do
+  pub starts_at : (p : Ptr) (xs : List (Span R.Denot)) → 0 < length xs → SideBySide R p xs → start_of xs ≡ p
+  starts_at p [] none side = absurd (native.Mathlib.Nat.not-suc-le-zero none)
+  starts_at p (x ∷ xs) some side = side.0
+
+module _ {X : Type 0} where
+  pub as_many : (xs ys : List (Span X)) → KeepPlaces xs ys → length ys ≡ length xs
+  as_many [] [] kept = refl
+  as_many [] (y ∷ ys) kept = absurd kept
+  as_many (x ∷ xs) [] kept = absurd kept
+  as_many (x ∷ xs) (y ∷ ys) kept = ap suc (as_many xs ys kept.1)
+
+  pub joined_as_long : (xs ys : List (Span X)) → KeepPlaces xs ys → length (joined ys) ≡ length (joined xs)
+  joined_as_long [] [] kept = refl
+  joined_as_long [] (y ∷ ys) kept = absurd kept
+  joined_as_long (x ∷ xs) [] kept = absurd kept
+  joined_as_long (x ∷ xs) (y ∷ ys) kept =
+      length-append y.cells (joined ys) ∙ (λ i. kept.0.1 i + joined_as_long xs ys kept.1 i) ∙ sym (length-append x.cells (joined xs))
+
+-- there are as many lengths as are counted
+pub lengths_many : (size count n : ℕ) → length (lengths size count n) ≡ count
+lengths_many size zero n = refl
+lengths_many size (suc count) n = ap suc (lengths_many size count (n - size))
+
+module _ {X : Type 0} where
+  pub kept_same : (xs : List (Span X)) → KeepPlaces xs xs
+  kept_same [] = tt
+  kept_same (x ∷ xs) = ((refl, refl), kept_same xs)
+
+  pub kept_last : (z w : Span X) → KeepsPlace z w → (xs : List (Span X)) → KeepPlaces (xs ++ z ∷ []) (xs ++ w ∷ [])
+  kept_last z w kept [] = (kept, tt)
+  kept_last z w kept (x ∷ xs) = ((refl, refl), kept_last z w kept xs)

@@ -1,8 +1,8 @@
 // A slice's cells as one part, for a while.
 ghost use Rattle.std.specs.Prelude.{◌≡◌, ◌*◌, ◌^◌, ◌<◌, length};
 ghost use Rattle.std.specs.Mem.{type_size};
-ghost use Rattle.std.specs.Mem.Slots.{slots_items, slots_ptr, slots_len, IsFull};
-ghost use Rattle.buffer_parts.specs.Spans.{Span, span_of};
+ghost use Rattle.std.specs.Mem.Slots.{slots_items, slots_ptr, IsFull};
+ghost use Rattle.buffer_parts.specs.Spans.{Span, span_of, IsRowOf, KeepsPlace};
 
 use crate::Part;
 use core::slots::{Slots, with_slots};
@@ -14,7 +14,7 @@ fn lent<T, S, F: FnOnce(Part<T>, S) -> (Part<T>, S)>(
 ) -> (Slots<T>, S, ())
     requires full { IsFull row }
     requires callable { (whole : Span T) → whole.cells ≡ slots_items row → length whole.cells * type_size T.row < 2 ^ 63 → F.pre f whole state }
-    ensures { (back : Span T) × F.post f (span_of (slots_ptr row) (slots_items row)) state (back, result.1) × (slots_ptr result.0 ≡ back.start) × (slots_len result.0 ≡ length back.cells) × (slots_items result.0 ≡ back.cells) × IsFull result.0 }
+    ensures { (back : Span T) × F.post f (span_of (slots_ptr row) (slots_items row)) state (back, result.1) × IsRowOf result.0 back }
 {
     let (back, state) = f(Part::of(row), state);
     (back.into_slots(), state, ())
@@ -28,7 +28,7 @@ pub fn lend<T: Copy, S, F: FnOnce(Part<T>, S) -> (Part<T>, S)>(
     f: F,
 )
     requires callable { (whole : Span T) → whole.cells ≡ buffer.old → length whole.cells * type_size T.row < 2 ^ 63 → F.pre f whole state.old }
-    requires returns { (whole : Span T) (out : Span T × S) → whole.cells ≡ buffer.old → F.post f whole state.old out → (out.0.start ≡ whole.start) × (length out.0.cells ≡ length whole.cells) }
+    requires returns { (whole : Span T) (out : Span T × S) → whole.cells ≡ buffer.old → F.post f whole state.old out → KeepsPlace whole out.0 }
     ensures { (whole : Span T) × (back : Span T) × (whole.cells ≡ buffer.old) × F.post f whole state.old (back, state.new) × (buffer.new ≡ back.cells) }
 {
     unsafe { with_slots(buffer, state, f, lent) }
