@@ -3,8 +3,8 @@ ghost use Rattle.std.specs.Prelude.{◌≡◌, ◌*◌, ◌^◌, ◌<◌, ◌≤
 ghost use Rattle.std.specs.Global.{Global};
 ghost use Rattle.std.specs.Int.{div_ceil};
 ghost use Rattle.std.specs.Mem.{type_size};
-ghost use Rattle.buffer_parts.specs.Spans.{Span, IsCut, KeepsPlace, KeepPlaces, joined};
-ghost use Rattle.index_cutter.specs.Chunks.{AreChunks};
+ghost use Rattle.buffer_parts.specs.Spans.{Span, IsCut, KeepsPlace};
+ghost use Rattle.index_cutter.specs.Chunks.{AreChunks, LeavesPlaces, JoinsBack};
 
 use crate::Cuts;
 use buffer_parts::{Part, cut as cut_part, join_all};
@@ -24,9 +24,9 @@ fn in_chunks<T, S, F: FnOnce(Vec<Part<T>>, S) -> (Vec<Part<T>>, S)>(
     requires small { length whole.cells * type_size T.row < 2 ^ 63 }
     requires counted { length whole.cells < 2 ^ 64 }
     requires callable { (parts : Vec (Span T) Global) → IsCut T.row whole size count parts.items → F.pre f parts state }
-    requires returns { (parts : _) (out : _) → IsCut T.row whole size count parts.items → F.post f parts state out → KeepPlaces parts.items out.0.items }
+    requires returns { LeavesPlaces (IsCut T.row whole size count) (λ parts out. F.post f parts state out) }
     ensures place { KeepsPlace whole result.0 }
-    ensures parts { (parts : _) × (back : _) × IsCut T.row whole size count parts.items × F.post f parts state (back, result.1) × (result.0.cells ≡ joined back.items) }
+    ensures parts { JoinsBack (IsCut T.row whole size count) (λ parts back. F.post f parts state (back, result.1)) result.0.cells }
 {
     if count == 0 {
         let (_, state) = f(room, state);
@@ -51,8 +51,8 @@ pub fn lend<T: Copy, S, F: FnOnce(Vec<Part<T>>, S) -> (Vec<Part<T>>, S)>(
     requires count { cuts.now.count ≡ div_ceil cuts.now.positions cuts.now.size }
     requires cells { length buffer.old ≡ cuts.now.positions * cell }
     requires callable { (parts : Vec (Span T) Global) → AreChunks T.row buffer.old cuts.now cell parts.items → F.pre f parts state.old }
-    requires returns { (parts : _) (out : _) → AreChunks T.row buffer.old cuts.now cell parts.items → F.post f parts state.old out → KeepPlaces parts.items out.0.items }
-    ensures ok { OnOk result ((parts : _) × (back : _) × AreChunks T.row buffer.old cuts.now cell parts.items × F.post f parts state.old (back, state.new) × (buffer.new ≡ joined back.items)) }
+    requires returns { LeavesPlaces (AreChunks T.row buffer.old cuts.now cell) (λ parts out. F.post f parts state.old out) }
+    ensures ok { OnOk result (JoinsBack (AreChunks T.row buffer.old cuts.now cell) (λ parts back. F.post f parts state.old (back, state.new)) buffer.new) }
     ensures err { OnErr result ((buffer.new ≡ buffer.old) × (state.new ≡ state.old)) }
 {
     let count = cuts.count as usize;
@@ -67,9 +67,9 @@ pub fn lend<T: Copy, S, F: FnOnce(Vec<Part<T>>, S) -> (Vec<Part<T>>, S)>(
             requires small { length whole.cells * type_size T.row < 2 ^ 63 }
             requires counted { length whole.cells < 2 ^ 64 }
             requires callable { (parts : Vec (Span T) Global) → IsCut T.row whole size count parts.items → F.pre f parts state }
-            requires returns { (parts : _) (out : _) → IsCut T.row whole size count parts.items → F.post f parts state out → KeepPlaces parts.items out.0.items }
+            requires returns { LeavesPlaces (IsCut T.row whole size count) (λ parts out. F.post f parts state out) }
             ensures place { KeepsPlace whole result.0 }
-            ensures parts { (parts : _) × (back : _) × IsCut T.row whole size count parts.items × F.post f parts state (back, result.1) × (result.0.cells ≡ joined back.items) }
+            ensures parts { JoinsBack (IsCut T.row whole size count) (λ parts back. F.post f parts state (back, result.1)) result.0.cells }
         { in_chunks(whole, size, count, room, state, f) },
     );
     Ok(())

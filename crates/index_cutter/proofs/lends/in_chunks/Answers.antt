@@ -1,6 +1,6 @@
-use Rattle.std.proofs.Common.{rules, ◌≡◌, ◌*◌, ◌^◌, ◌<◌, ◌≤◌, length, ℕ, sym, ap, ◌∙◌, subst, arith}
+use Rattle.std.proofs.Common.{◌≡◌, ◌*◌, ◌^◌, ◌<◌, length, ℕ, sym, ap, ◌∙◌, subst, arith}
 use Rattle.std.specs.Mem.{type_size}
-use Rattle.buffer_parts.specs.Spans.{Span, IsCut, KeepPlaces, joined}
+use Rattle.buffer_parts.specs.Spans.{IsCut, KeepPlaces, joined}
 use Rattle.index_cutter.proofs.Chunking.{none_cut, none_back, many_back, start_back, side_back, long_back}
 use Rattle.index_cutter.proofs.lends.in_chunks.Given.{Over}
 use Rattle.index_cutter.proofs.lends.in_chunks.Goals as goal

@@ -1,4 +1,4 @@
-use Rattle.std.proofs.Common.{rules, ◌≡◌, ◌*◌, ◌+◌, ◌<◌, ◌≤◌, ◌^◌, length, min, ℕ, sym, ap, ◌∙◌, subst, arith}
+use Rattle.std.proofs.Common.{rules, ◌≡◌, ◌*◌, ◌<◌, ◌≤◌, ◌^◌, length, min, ℕ, sym, ap, ◌∙◌, subst, arith}
 use Rattle.index_cutter.proofs.Chunking.{enough_chunks, cut_by}
 use Rattle.index_cutter.proofs.lends.lend.Goals as goal
 use denote.Param.{copied}

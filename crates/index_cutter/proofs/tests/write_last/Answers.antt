@@ -1,4 +1,4 @@
-use Rattle.std.proofs.Common.{rules, ◌≡◌, ℤ, List, [], ◌∷◌, ◌++◌, ◌∙◌, ap, sym, subst}
+use Rattle.std.proofs.Common.{rules, ◌≡◌, ℤ, List, [], ◌∷◌, ◌++◌, sym, subst}
 use Rattle.buffer_parts.specs.Spans.{Span, KeepPlaces}
 use Rattle.buffer_parts.proofs.Sides.{kept_same, kept_last}
 use Rattle.index_cutter.proofs.tests.write_last.Goals.{in-Some, in_default}
