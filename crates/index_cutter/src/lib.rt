@@ -3,8 +3,10 @@
 #![tactic(auto)]
 
 mod cuts;
+mod lends;
 
 pub use cuts::{Cuts, cut};
+pub use lends::lend;
 
 #[cfg(test)]
 mod tests;

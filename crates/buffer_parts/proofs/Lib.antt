@@ -1,0 +1,5 @@
+pub mod Words
+pub mod Strips
+pub mod Sending
+pub mod Sides
+pub mod Whole
