@@ -1,5 +1,5 @@
 -- Arrays have as many elements as their shapes say.
-use Rattle.std.proofs.Common.{List, [], ◌∷◌, tt}
+use Rattle.std.proofs.Common.{List, [], ◌∷◌}
 use Rattle.sac_base.specs.Arrays.{ArrayValue}
 use Rattle.core_calls.specs.Arrays.{AllFull}
 use Rattle.sac_build.specs.Arguments.{AreArrays}
