@@ -13,8 +13,10 @@ pub record AreChunks (R : RattleType) (buffer : List R.Denot) (cuts : Cuts) (cel
 
 -- A call that is given such parts, with this outcome, leaves them in their places.
 abbrev pub LeavesPlaces : {T S : Type 0} → (List (Span T) → Type 0) → (Vec (Span T) Global → Vec (Span T) Global × S → Type 0) → Type 0
-LeavesPlaces {T} {S} lent outcome = (parts : Vec (Span T) Global) (out : Vec (Span T) Global × S) → lent parts.items → outcome parts out → KeepPlaces parts.items out.0.items
+LeavesPlaces {T} {S} lent outcome =
+    (parts : Vec (Span T) Global) (out : Vec (Span T) Global × S) → lent parts.items → outcome parts out → KeepPlaces parts.items out.0.items
 
 -- The cells are those that such parts have after a call with this outcome.
 abbrev pub JoinsBack : {T : Type 0} → (List (Span T) → Type 0) → (Vec (Span T) Global → Vec (Span T) Global → Type 0) → List T → Type 0
-JoinsBack {T} lent outcome cells = (parts : Vec (Span T) Global) × (back : Vec (Span T) Global) × lent parts.items × outcome parts back × (cells ≡ joined back.items)
+JoinsBack {T} lent outcome cells =
+    (parts : Vec (Span T) Global) × (back : Vec (Span T) Global) × lent parts.items × outcome parts back × (cells ≡ joined back.items)
