@@ -96,10 +96,10 @@ main
 
 #[test]
 fn main_has_no_call_of_an_inline_function_left(rt: HostRuntime) -> Result<(), Fail> {
-    let compiled = compile(rt.alloc(), &accepted(rt.alloc(), SQUARES)?)?;
+    let compiled = compile(rt.alloc(), &accepted(rt.alloc(), SQUARES)?, &[])?;
     assert!(rt; !main_calls(&compiled.code));
     let plain = "int sq(int x) { return (x * x); } int main() { return (sq(3) + sq(4)); }";
-    let compiled = compile(rt.alloc(), &accepted(rt.alloc(), plain)?)?;
+    let compiled = compile(rt.alloc(), &accepted(rt.alloc(), plain)?, &[])?;
     assert!(rt; main_calls(&compiled.code));
     Ok(())
 }
