@@ -11,9 +11,9 @@ use std::alloc::Global;
 use std::test::Fail;
 use type_check::{Checked, check};
 
-fn accepted(alloc: Global, source: &str) -> Result<Checked, Fail> {
+pub fn accepted(alloc: Global, source: &str) -> Result<Checked, Fail> {
     let source = source.as_bytes();
-    if source.len() > 1000 {
+    if source.len() > 2000 {
         return Err("a short source".into());
     }
     let tokens = lex(alloc, source).map_err(|_| "tokens")?;

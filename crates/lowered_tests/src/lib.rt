@@ -7,3 +7,5 @@ mod cores;
 mod inlined;
 #[cfg(test)]
 mod text;
+#[cfg(test)]
+mod special;
