@@ -17,5 +17,5 @@ returns-clause-outcome c formed args caps arrays forms =
     let special = c.in_ok-special.ensures.well inlined in
     c.in_ok-code.ensures.outcome (c.in_ok-settled.ensures.well special) args caps
     ∙ sym (c.in_ok-settled.ensures.outcome special args caps (all_full args arrays))
-    ∙ sym (c.in_ok-special.ensures.outcome inlined args caps (all_full args arrays) forms)
+    ∙ sym (c.in_ok-special.ensures.outcome inlined args caps forms)
     ∙ sym (c.in_ok-inlined.ensures.outcome well args caps) ∙ c.in_ok-core.ensures.outcome formed args caps
