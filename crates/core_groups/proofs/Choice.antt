@@ -1,15 +1,14 @@
 -- Which instance a call takes.
-use Rattle.std.proofs.Common.{◌≡◌, ℕ, zero, suc, ◌<◌, Bool, true, false, ◌&&◌, ◌||◌, not, List, [], ◌∷◌, ◌++◌, map, length, Option, Some, None, All, refl, sym, ap, subst, ◌∙◌, arith, ◌⊎◌, inl, inr}
+use Rattle.std.proofs.Common.{◌≡◌, ℕ, ◌<◌, Bool, true, false, ◌||◌, not, List, [], ◌∷◌, ◌++◌, map, length, Option, Some, None, All, refl, sym, ap, subst, ◌∙◌, ◌⊎◌, inl, inr}
 use Rattle.std.specs.Prelude.{slice_get, unwrap_or, AllPairs, if◌then◌else◌, option_map}
 use Rattle.std.specs.List.{list_all}
 use Rattle.std.proofs.lemmas.Bool.{false≢true}
-use Rattle.sac_base.specs.declared.types.ArrayType.{ArrayType}
 use Rattle.sac_base.specs.Arrays.{ArrayValue}
 use Rattle.sac_base.specs.Types.{all_have, all_below}
 use Rattle.shape_types.proofs.Inclusion.{and_left, and_right, and_both}
 use Rattle.core_ir.specs.Terms.{FunTerm, CoreTerm}
 use Rattle.core_ir.specs.Outcome.{Instance, param_types, instance_of, instances, is_least, least_among, group_at, chosen}
-use Rattle.core_ir.specs.WellFormed.{IsWellFormed, PlacesShare, MayShareName}
+use Rattle.core_ir.specs.WellFormed.{IsWellFormed, PlacesShare}
 use Rattle.core_calls.specs.Nests.{StandsIn}
 use Rattle.core_groups.specs.Specialised.{IsNarrowed, IsSpecialised}
 use Rattle.core_groups.proofs.Known.{all_below_of, all_have_of, clash}
@@ -193,24 +192,28 @@ module _ (a b : CoreTerm) (well : IsWellFormed a) (s : IsSpecialised a b) where
       | inl w ↦
           let h = member a well group w.0 w.1.0 in
           let k = s.kept w.0 h.0 h.1 in
-          let same : f ≡ h.0 = some_same f h.0 (sym l.there ∙ ap (slice_get b.functions) (sym w.1.1) ∙ k.0) in
-          (h.0, subst (λ n. IsLeast a group args n h.0) (sym k.1 ∙ ap s.of w.1.1) (record {
-            stands = w.1.0;
-            there = h.1;
-            fits = ap (λ (g : FunTerm). all_have (param_types g) args) (sym same) ∙ l.fits;
-            least = λ other g t q fits. ap (λ (x : FunTerm). all_below (param_types x) (param_types g)) (sym same) ∙ l.least (s.at other) g (stands_kept group other t) (s.kept other g q).0 fits;
-          }))
+          let same : f ≡ h.0 = some_same f h.0 (sym l.there ∙ ap (slice_get b.functions) (sym w.1.1) ∙ k.0) in (
+            h.0,
+            subst (λ n. IsLeast a group args n h.0) (sym k.1 ∙ ap s.of w.1.1) (record {
+              stands = w.1.0;
+              there = h.1;
+              fits = ap (λ (g : FunTerm). all_have (param_types g) args) (sym same) ∙ l.fits;
+              least = λ other g t q fits. ap (λ (x : FunTerm). all_below (param_types x) (param_types g)) (sym same) ∙ l.least (s.at other) g (stands_kept group other t) (s.kept other g q).0 fits;
+            }),
+          )
       | inr r ↦
           let w = s.instances group place r in
           let n = w.1.1 in
           let same : f ≡ w.0 = some_same f w.0 (sym l.there ∙ w.1.0) in
-          let inside : all_have (param_types w.0) args ≡ true = ap (λ (g : FunTerm). all_have (param_types g) args) (sym same) ∙ l.fits in
-          (n.function, record {
-            stands = n.stands;
-            there = n.there;
-            fits = all_have_of (param_types w.0) (param_types n.function) args n.inside inside;
-            least = λ other g t q fits. n.least other g t q (all_below_of (param_types w.0) (param_types g) args n.known inside fits);
-          })
+          let inside : all_have (param_types w.0) args ≡ true = ap (λ (g : FunTerm). all_have (param_types g) args) (sym same) ∙ l.fits in (
+            n.function,
+            record {
+              stands = n.stands;
+              there = n.there;
+              fits = all_have_of (param_types w.0) (param_types n.function) args n.inside inside;
+              least = λ other g t q fits. n.least other g t q (all_below_of (param_types w.0) (param_types g) args n.known inside fits);
+            },
+          )
     ]
 
     abbrev Taken : ℕ → Type 0
@@ -241,19 +244,30 @@ module _ (a b : CoreTerm) (well : IsWellFormed a) (s : IsSpecialised a b) where
       | inl w ↦
           let v = s.instances group w.0 w.1.0 in
           let g = w.1.1.0 in
-          let same : v.0 ≡ g = some_same v.0 g (sym v.1.0 ∙ w.1.1.1.0) in
-          (w.0, (g, record {
-            stands = stands_further group place w.0 l.stands w.1.0;
-            there = w.1.1.1.0;
-            fits = w.1.1.1.1;
-            least = λ other k t q fits. all_below_of (param_types g) (param_types k) args (subst (λ (x : FunTerm). Rattle.core_groups.specs.Specialised.all_known (param_types x) ≡ true) same v.1.1.known) w.1.1.1.1 fits;
-          }))
-      | inr none ↦ (s.at place, (h, record {
-          stands = stands_kept group place l.stands;
-          there = (s.kept place h l.there).0;
-          fits = l.fits;
-          least = λ other k t q fits. others other k t q fits none;
-        }))
+          let same : v.0 ≡ g = some_same v.0 g (sym v.1.0 ∙ w.1.1.1.0) in (
+            w.0,
+            (
+              g,
+              record {
+                stands = stands_further group place w.0 l.stands w.1.0;
+                there = w.1.1.1.0;
+                fits = w.1.1.1.1;
+                least = λ other k t q fits. all_below_of (param_types g) (param_types k) args (subst (λ (x : FunTerm). Rattle.core_groups.specs.Specialised.all_known (param_types x) ≡ true) same v.1.1.known) w.1.1.1.1 fits;
+              },
+            ),
+          )
+      | inr none ↦ (
+        s.at place,
+        (
+          h,
+          record {
+            stands = stands_kept group place l.stands;
+            there = (s.kept place h l.there).0;
+            fits = l.fits;
+            least = λ other k t q fits. others other k t q fits none;
+          },
+        ),
+      )
     ]
       where
         others : (other : ℕ) (k : FunTerm) → StandsIn (group_at b group) other → slice_get b.functions other ≡ Some k → all_have (param_types k) args ≡ true → ((n : ℕ) → StandsIn (s.further group) n → Refused n) → all_below (param_types h) (param_types k) ≡ true

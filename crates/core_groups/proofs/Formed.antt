@@ -1,9 +1,8 @@
 -- A core with further instances is well formed.
-use Rattle.std.proofs.Common.{◌≡◌, ℕ, zero, suc, ◌<◌, Bool, true, false, List, [], ◌∷◌, ◌++◌, map, zip, length, Option, Some, None, All, refl, sym, ap, subst, ◌∙◌, arith, ◌⊎◌, inl, inr}
+use Rattle.std.proofs.Common.{◌≡◌, ℕ, ◌<◌, Bool, true, false, List, [], ◌∷◌, ◌++◌, map, zip, length, Some, All, refl, sym, ap, subst, ◌∙◌, inl, inr}
 use Rattle.std.specs.Prelude.{slice_get, AllPairs, Contains}
 use Rattle.std.proofs.lemmas.Bool.{false≢true}
 use Rattle.std.proofs.lemmas.List.{length-map}
-use Rattle.std.proofs.lemmas.List.Elements.{All-contains}
 use Rattle.std.proofs.lemmas.Option.{slice_get_within}
 use Rattle.sac_base.specs.declared.base.Base.{Base}
 use Rattle.sac_base.specs.declared.base.Base.TheVariants.{Int, Bool as Truth}
@@ -16,7 +15,7 @@ use Rattle.core_ir.specs.Terms.{BlockTerm, RightTerm, GensTerm, PartsTerm, FunTe
 use Rattle.core_ir.specs.Outcome.{param_types, param_vars, group_at}
 use Rattle.core_ir.specs.WellFormed.{Bases, GroupBases, BlockBases, RightBases, GensBases, PartsBases, Distinct, IsFunction, MayShareName, PlacesShare, CallsBackward, IsWellFormed, bases, ints, param_bases, calls_in}
 use Rattle.core_calls.specs.Nests.{StandsIn}
-use Rattle.core_groups.specs.Specialised.{IsCopy, IsNarrowed, IsSpecialised, LaterElsewhere}
+use Rattle.core_groups.specs.Specialised.{IsCopy, IsSpecialised, LaterElsewhere}
 use Rattle.core_groups.proofs.Known.{stand_before, all_below_on}
 use Rattle.core_groups.proofs.Lists.{some_same, stands_left, stands_map, mapped_stands, stands_contained, contained_stands, all_by, pairs_append, pairs_map, pairs_weaker, some_within, all_found, all_by_place}
 use Rattle.core_groups.proofs.Choice.{group_is, member, sharing, member_cases}
@@ -96,10 +95,22 @@ module _ (a b : CoreTerm) (well : IsWellFormed a) (s : IsSpecialised a b) where
   group_moved : (g : ℕ) (us vs : List Base) → GroupBases a g us vs → GroupBases b g us vs
   group_moved g us vs h =
       let places = h.0 in
-      let q = h.1.1.1 in
-      (map s.at places ++ s.further g, (s.at h.1.0, (h.1.1.0, (s.groups g places q.0,
-      contained_stands (map s.at places ++ s.further g) (s.at h.1.0) (stands_left (map s.at places) (s.further g) (s.at h.1.0) (stands_map s.at places h.1.0 (stands_contained places h.1.0 q.1))),
-      (s.kept h.1.0 h.1.1.0 q.2).0, q.3, q.4))))
+      let q = h.1.1.1 in (
+        map s.at places ++ s.further g,
+        (
+          s.at h.1.0,
+          (
+            h.1.1.0,
+            (
+              s.groups g places q.0,
+              contained_stands (map s.at places ++ s.further g) (s.at h.1.0) (stands_left (map s.at places) (s.further g) (s.at h.1.0) (stands_map s.at places h.1.0 (stands_contained places h.1.0 q.1))),
+              (s.kept h.1.0 h.1.1.0 q.2).0,
+              q.3,
+              q.4,
+            ),
+          ),
+        ),
+      )
 
   function : (i : ℕ) (g : FunTerm) → slice_get b.functions i ≡ Some g → IsFunction b g
   function i g e =

@@ -17,7 +17,6 @@ use Rattle.core_calls.proofs.Agreeing.{agreeing, weaker, everywhere}
 use Rattle.core_bases.proofs.Backward.{below}
 use Rattle.core_groups.specs.Specialised.{IsCopy, IsSpecialised}
 use Rattle.core_groups.proofs.Choice.{Chosen, decided, down, chosen_same}
-use Rattle.core_groups.proofs.Lists.{some_same}
 
 module _ (a b : CoreTerm) (well : IsWellFormed a) (s : IsSpecialised a b) where
   -- functions mean what their sources mean
@@ -75,8 +74,8 @@ module _ (a b : CoreTerm) (well : IsWellFormed a) (s : IsSpecialised a b) where
         let w = s.source place g e in
         body_same M (run_inline a turns M n) M' (run_inline b turns M' m) (s.of place) place w.0 g w.1.0 e w.1.1 (below a well (s.of place) w.0 w.1.0 (w.1.1.inlines ∙ t)) p
         (λ q h eh th low args site.
-            let before = s.ordered place q (slice_get_within b.functions place g e) (slice_get_within b.functions q h eh) low in
-            inline_same M M' n m p q h eh th (omega (arith, low, lt)) (omega (arith, before, lt')) args site) args site
+        let before = s.ordered place q (slice_get_within b.functions place g e) (slice_get_within b.functions q h eh) low in
+        inline_same M M' n m p q h eh th (omega (arith, low, lt)) (omega (arith, before, lt')) args site) args site
 
     all_below : (group : ℕ) → InlineBelow a (length a.functions) group
     all_below group place f t e i = slice_get_within a.functions place f e

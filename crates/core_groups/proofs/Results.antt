@@ -1,8 +1,7 @@
 -- The known shapes of the results of a group stay, where it has further instances.
-use Rattle.std.proofs.Common.{◌≡◌, ℕ, suc, Bool, true, false, if◌then◌else◌, List, [], ◌∷◌, ◌++◌, map, length, Option, Some, None, refl, sym, ap, subst, ◌∙◌, append_assoc, append-nil, ◌⊎◌, inl, inr}
+use Rattle.std.proofs.Common.{◌≡◌, ℕ, Bool, true, false, if◌then◌else◌, List, [], ◌∷◌, ◌++◌, map, Option, Some, None, refl, sym, ap, subst, ◌∙◌, append_assoc, append-nil, ◌⊎◌, inl, inr}
 use Rattle.std.specs.Prelude.{slice_get, unwrap_or}
 use Rattle.std.proofs.lemmas.Bool.{false≢true}
-use Rattle.sac_base.specs.declared.types.ArrayType.{ArrayType}
 use Rattle.sac_base.specs.Arrays.{same_shape}
 use Rattle.shape_types.proofs.Inclusion.{same-shape, same_itself}
 use Rattle.core_ir.specs.Terms.{FunTerm, CoreTerm}
@@ -13,7 +12,7 @@ use Rattle.core_settled.specs.Called.{shape_of_type, common_shapes, result_shape
 use Rattle.core_calls.specs.Nests.{StandsIn}
 use Rattle.core_groups.specs.Specialised.{IsSpecialised}
 use Rattle.core_groups.proofs.Lists.{none_either}
-use Rattle.core_groups.proofs.Choice.{group_is, group_both, member}
+use Rattle.core_groups.proofs.Choice.{group_both, member}
 
 -- ---- what two known shapes have in common
 
@@ -188,7 +187,7 @@ module _ (a b : CoreTerm) (well : IsWellFormed a) (s : IsSpecialised a b) where
           ap (shapes_at b.functions) (group_both a b well s group places e)
           ∙ as_shared b.functions (map s.at (group_at a group) ++ s.further group)
           ∙ ap shared (map_append (shapes_of b.functions) (map s.at (group_at a group)) (s.further group)
-              ∙ ap (λ xs. xs ++ map (shapes_of b.functions) (s.further group)) (map_through (shapes_of b.functions) (shapes_of a.functions) s.at (group_at a group) own))
+          ∙ ap (λ xs. xs ++ map (shapes_of b.functions) (s.further group)) (map_through (shapes_of b.functions) (shapes_of a.functions) s.at (group_at a group) own))
           ∙ all_once_more (map (shapes_of a.functions) (group_at a group)) (map (shapes_of b.functions) (s.further group))
-              (all_among (shapes_of b.functions) (map (shapes_of a.functions) (group_at a group)) (s.further group) further)
+          (all_among (shapes_of b.functions) (map (shapes_of a.functions) (group_at a group)) (s.further group) further)
           ∙ sym (as_shared a.functions (group_at a group))
