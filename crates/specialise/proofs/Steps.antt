@@ -168,10 +168,10 @@ place_turn keys places new k v p long at same e h i n lt o within = elim (same_o
         apart (suc i) (suc k) f = elim (apart i k (λ e. f (ap suc e))) [ inl l ↦ inl (omega (arith, l)) | inr l ↦ inr (omega (arith, l)) ]
 
 -- what an index of the keys reads
-pub number_at : (keys : List Key) (k : ℕ) (x : Key) → k < length keys → x ≡ get_or keys k x → slice_get (numbers keys) k ≡ Some x.number
-number_at [] k x lt e = absurd (omega (arith, lt))
-number_at (y ∷ keys) zero x lt e = ap (λ (z : Key). Some z.number) (sym e)
-number_at (y ∷ keys) (suc k) x lt e = number_at keys k x (omega (arith, lt)) e
+pub number_at : (keys : List Key) (k : ℕ) (d : Key) → k < length keys → slice_get (numbers keys) k ≡ Some (get_or keys k d).number
+number_at [] k d lt = absurd (omega (arith, lt))
+number_at (y ∷ keys) zero d lt = refl
+number_at (y ∷ keys) (suc k) d lt = number_at keys k d (omega (arith, lt))
 
 -- ---- the least instance
 

@@ -13,7 +13,7 @@ loop-k-preserved c =
     let same : c.in_ok-place.place ≡ c.loop-k.k = search rules in
     record {
       long = ap length c.note_place.ensures ∙ set_long c.loop-k.places.items _ _ ∙ v.long;
-      stand = place_turn keys c.loop-k.places.items c.note_place.new.places.items c.loop-k.k _ c.in_ok-place.place v.long (number_at keys c.loop-k.k c.index-key.result c.loop-k-test.true c.index-key.is) same c.note_place.ensures v.stand;
+      stand = place_turn keys c.loop-k.places.items c.note_place.new.places.items c.loop-k.k _ c.in_ok-place.place v.long (number_at keys c.loop-k.k (record { source = 0; number = 0 }) c.loop-k-test.true) same c.note_place.ensures v.stand;
     }
 
 pub returns : goal.returns
