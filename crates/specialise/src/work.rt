@@ -8,7 +8,8 @@ ghost use Rattle.specialise.specs.Plans.{entries, members, IsPlan, Keeps};
 use crate::plan::Plan;
 use crate::serve::serve_call;
 use core_ir::Core;
-use known_calls::{CalledShapes, KnownCall, known_calls};
+use known_calls::{KnownCall, known_calls};
+use plain_facts::CalledShapes;
 use sac_base::Memory;
 use std::alloc::Global;
 
