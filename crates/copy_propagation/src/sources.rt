@@ -1,6 +1,6 @@
 //! What stands for variables, in a table that the end of a block takes back.
 
-ghost use Rattle.std.specs.Prelude.{◌≡◌, ◌-◌, [], ◌∷◌, length, drop, OnOk, OnErr};
+ghost use Rattle.std.specs.Prelude.{◌≡◌, ◌-◌, [], ◌∷◌, length, drop, unwrap_or, OnOk, OnErr};
 ghost use Rattle.copy_propagation.specs.Table.{source_in};
 
 use crate::slots::{exchange, put_back, reach};
@@ -54,9 +54,19 @@ impl Sources {
     pub fn source(&self, x: Var) -> Var
         ensures { result ≡ source_in self.now x }
     {
+        match self.noted(x) {
+            Some(source) => source,
+            None => x,
+        }
+    }
+
+    // The source that is noted of a variable.
+    fn noted(&self, x: Var) -> Option<Var>
+        ensures { unwrap_or result x ≡ source_in self.now x }
+    {
         match self.slots.get(x.0 as usize) {
-            Some(Some(source)) => *source,
-            _ => x,
+            Some(slot) => *slot,
+            None => None,
         }
     }
 

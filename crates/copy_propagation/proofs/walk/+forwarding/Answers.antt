@@ -23,7 +23,7 @@ pub in_block-loop-binding-preserved : goal.in_block-loop-binding-preserved
 in_block-loop-binding-preserved t c =
     let v = c.loop-binding.invariant in
     let x = c.in-Some.binding in
-    let right = c.in_ok-right.field-0 in
+    let right = c.in_ok-right.right in
     let table = c.loop-binding.sources in
     let now = c.note_copy.new.sources in
     let start = c.args.sources.now in
