@@ -44,6 +44,14 @@ pub also_three : (xs ys zs : List Var) (used mid later whole : Var → Bool) →
 also_three xs ys zs used mid later whole m l w =
     w ∙ ap (also xs) (l ∙ ap (also zs) m ∙ also_two ys zs used) ∙ also_under xs (ys ++ zs) used
 
+-- four lists, one after another
+pub also_all : (ws xs ys zs : List Var) (used one two three four : Var → Bool) → one ≡ also ws used → two ≡ also xs one → three ≡ also ys two → four ≡ also zs three → four ≡ also (ws ++ (xs ++ (ys ++ zs))) used
+also_all ws xs ys zs used one two three four p q r s =
+    s ∙ ap (also zs) (r ∙ ap (also ys) (q ∙ ap (also xs) p))
+    ∙ also_two ys zs (also xs (also ws used))
+    ∙ also_two xs (ys ++ zs) (also ws used)
+    ∙ also_two ws (xs ++ (ys ++ zs)) used
+
 -- ---- the loop over a list
 
 -- when all are inserted

@@ -1,12 +1,13 @@
 -- One turn of the loops of the walk, and their ends.
-use Rattle.std.proofs.Common.{◌≡◌, ℕ, Bool, true, false, ◌&&◌, List, [], ◌∷◌, ◌++◌, map, length, reverse, Option, refl, sym, ap, ◌∙◌, append_assoc, append-nil, arith}
+use Rattle.std.proofs.Common.{◌≡◌, ◌+◌, ◌≤◌, ◌<◌, max, ℕ, Bool, true, false, ◌&&◌, List, [], ◌∷◌, ◌++◌, map, length, reverse, Option, refl, sym, ap, ◌∙◌, append_assoc, append-nil, arith}
 use Rattle.std.specs.Prelude.{if◌then◌else◌}
 use Rattle.std.proofs.lemmas.List.{reverse-append}
 use Rattle.core_ir.specs.declared.tree.Var.{Var}
-use Rattle.core_ir.specs.declared.tree.Let.{Let}
+use denote.Param.Weighed.{most, most-append}
+use Rattle.core_ir.specs.declared.tree.Let.{Let, size-Let}
 use Rattle.core_ir.specs.declared.tree.CoreGen.{CoreGen}
 use Rattle.core_ir.specs.declared.tree.CorePart.{CorePart}
-use Rattle.core_ir.specs.declared.tree.Block.{Block, Block-F, out-Block, roll-Block}
+use Rattle.core_ir.specs.declared.tree.Block.{Block, Block-F, out-Block, roll-Block, size-Block, size_is-Block}
 use Rattle.core_ir.specs.declared.tree.WithLoop.{WithLoop, WithLoop-F, out-WithLoop, roll-WithLoop}
 use Rattle.core_ir.specs.declared.tree.PartedLoop.{PartedLoop, PartedLoop-F, out-PartedLoop, roll-PartedLoop}
 use Rattle.core_ir.specs.declared.tree.Right.TheBlock.{the_data, the_data-1, the_data-2, the_data-3, the_data-4, the_data-5, the_data-6}
@@ -16,79 +17,95 @@ use Rattle.core_ir.specs.View.{block_term, let_term, right_term, gen_term, part_
 use Rattle.core_ir.proofs.Trees.{block_out, block_roll, with_out, with_roll, parted_out, parted_roll}
 use Rattle.core_subst.specs.Names.{used_in, used_in_right, used_in_gens, used_in_parts}
 use Rattle.core_cleaning.specs.Unused.{also, is_unused, never_faults, swept, swept_right, swept_gens, swept_parts}
-use Rattle.unused_bindings.specs.Swept.{swept_let, swept_gen, swept_part}
+use Rattle.unused_bindings.specs.Swept.{swept_let, swept_gen, swept_part, before_one, IsStep}
 use Rattle.unused_bindings.proofs.Sets.{also_none, also_two, also_under}
 
 -- ---- blocks, from their ends
 
--- a binding before a block that is swept
-abbrev pub step : LetTerm → BlockTerm → (Var → Bool) → BlockTerm
-step l c used = if never_faults l.right && is_unused l.targets (also (used_in c) used) then c else Bind l.targets l.site (swept_right l.right (also (used_in c) used)) c
-
 -- bindings before it
 abbrev pub before : List LetTerm → BlockTerm → (Var → Bool) → BlockTerm
 before [] c used = c
-before (l ∷ ls) c used = step l (before ls c used) used
+before (l ∷ ls) c used = before_one l (before ls c used) used
 
 swept_chain : (ls : List LetTerm) (b : BlockTerm) (used : Var → Bool) → swept (chain ls b) used ≡ before ls (swept b used) used
 swept_chain [] b used = refl
-swept_chain (l ∷ ls) b used = ap (λ c. step l c used) (swept_chain ls b used)
+swept_chain (l ∷ ls) b used = ap (λ c. before_one l c used) (swept_chain ls b used)
 
-before_snoc : (ls : List LetTerm) (l : LetTerm) (c : BlockTerm) (used : Var → Bool) → before (ls ++ (l ∷ [])) c used ≡ before ls (step l c used) used
+before_snoc : (ls : List LetTerm) (l : LetTerm) (c : BlockTerm) (used : Var → Bool) → before (ls ++ (l ∷ [])) c used ≡ before ls (before_one l c used) used
 before_snoc [] l c used = refl
-before_snoc (m ∷ ms) l c used = ap (λ z. step m z used) (before_snoc ms l c used)
+before_snoc (m ∷ ms) l c used = ap (λ z. before_one m z used) (before_snoc ms l c used)
 
-map_snoc : {A B : Type 0} (f : A → B) (xs : List A) (x : A) → map f (xs ++ (x ∷ [])) ≡ map f xs ++ (f x ∷ [])
+pub map_snoc : {A B : Type 0} (f : A → B) (xs : List A) (x : A) → map f (xs ++ (x ∷ [])) ≡ map f xs ++ (f x ∷ [])
 map_snoc f [] x = refl
 map_snoc f (y ∷ ys) x = ap (λ l. f y ∷ l) (map_snoc f ys x)
 
+-- a binding goes
+pub goes : (l : LetTerm) (old : List LetTerm) (now : Var → Bool) → (never_faults l.right && is_unused l.targets now) ≡ true → IsStep l old old now now
+goes l old now h = λ end used n.
+    let c = chain (reverse old) end in
+    let g : (never_faults l.right && is_unused l.targets (also (used_in c) used)) ≡ true = (λ i. never_faults l.right && is_unused l.targets (sym n i)) ∙ h in
+    (sym (λ i. if g i then c else Bind l.targets l.site (swept_right l.right (also (used_in c) used)) c), n)
+
+-- a binding stays
+pub stays : (l m : LetTerm) (old new : List LetTerm) (now later : Var → Bool) → (never_faults l.right && is_unused l.targets now) ≡ false → m ≡ swept_let l now → new ≡ old ++ (m ∷ []) → later ≡ also (used_in_right m.right) now → IsStep l old new now later
+stays l m old new now later h k e u = λ end used n.
+    let c = chain (reverse old) end in
+    let g : (never_faults l.right && is_unused l.targets (also (used_in c) used)) ≡ false = (λ i. never_faults l.right && is_unused l.targets (sym n i)) ∙ h in
+    let is : m ≡ swept_let l (also (used_in c) used) = k ∙ ap (swept_let l) n in
+    let front : chain (reverse new) end ≡ Bind m.targets m.site m.right c = λ i. chain ((ap reverse e ∙ reverse-append old (m ∷ [])) i) end in (
+      front ∙ (λ i. Bind (is i).targets (is i).site (is i).right c) ∙ sym (λ i. if g i then c else Bind l.targets l.site (swept_right l.right (also (used_in c) used)) c),
+      u ∙ ap (also (used_in_right m.right)) n ∙ also_under (used_in_right m.right) (used_in c) used ∙ (λ i. also (used_in (sym front i)) used),
+    )
+
 -- the last binding is taken
-one_less : (ls rest : List Let) (x : Let) (c : BlockTerm) (used : Var → Bool) → ls ≡ rest ++ (x ∷ []) → before (map let_term ls) c used ≡ before (map let_term rest) (step (let_term x) c used) used
-one_less ls rest x c used e =
-    (λ i. before (map let_term (e i)) c used) ∙ (λ i. before (map_snoc let_term rest x i) c used) ∙ before_snoc (map let_term rest) (let_term x) c used
+pub let_turn : (ls rest : List Let) (x : Let) (kept kept' : List LetTerm) (end : BlockTerm) (start was is : Var → Bool) (whole : BlockTerm) → before (map let_term ls) (chain (reverse kept) end) start ≡ whole → ls ≡ rest ++ (x ∷ []) → IsStep (let_term x) kept kept' was is → was ≡ also (used_in (chain (reverse kept) end)) start
+    → (before (map let_term rest) (chain (reverse kept') end) start ≡ whole) × (is ≡ also (used_in (chain (reverse kept') end)) start)
+let_turn ls rest x kept kept' end start was is whole p e s n =
+    let w = s end start n in (
+      ap (λ z. before (map let_term rest) z start) w.0
+      ∙ sym (before_snoc (map let_term rest) (let_term x) (chain (reverse kept) end) start)
+      ∙ (λ i. before (sym (map_snoc let_term rest x) i) (chain (reverse kept) end) start)
+      ∙ (λ i. before (map let_term (sym e i)) (chain (reverse kept) end) start)
+      ∙ p,
+      w.1,
+    )
 
--- and goes
-pub gone_turn : (ls rest : List Let) (x : Let) (c : BlockTerm) (start now : Var → Bool) (whole : BlockTerm) → before (map let_term ls) c start ≡ whole → ls ≡ rest ++ (x ∷ []) → now ≡ also (used_in c) start
-    → (never_faults (right_term x.right) && is_unused x.targets.items now) ≡ true → before (map let_term rest) c start ≡ whole
-gone_turn ls rest x c start now whole p e n h =
-    let goes : (never_faults (right_term x.right) && is_unused x.targets.items (also (used_in c) start)) ≡ true = (λ i. never_faults (right_term x.right) && is_unused x.targets.items (sym n i)) ∙ h in
-    let here : step (let_term x) c start ≡ c = λ i. if goes i then c else Bind x.targets.items x.site (swept_right (right_term x.right) (also (used_in c) start)) c in
-    ap (λ z. before (map let_term rest) z start) (sym here) ∙ sym (one_less ls rest x c start e) ∙ p
-
--- or stays
-pub kept_turn : (ls rest kept kept' : List Let) (x y : Let) (end : BlockTerm) (start now : Var → Bool) (whole : BlockTerm) → before (map let_term ls) (chain (map let_term (reverse kept)) end) start ≡ whole → ls ≡ rest ++ (x ∷ []) → kept' ≡ kept ++ (y ∷ [])
-    → now ≡ also (used_in (chain (map let_term (reverse kept)) end)) start → (never_faults (right_term x.right) && is_unused x.targets.items now) ≡ false → let_term y ≡ swept_let (let_term x) now → before (map let_term rest) (chain (map let_term (reverse kept')) end) start ≡ whole
-kept_turn ls rest kept kept' x y end start now whole p e k n h new =
-    let c = chain (map let_term (reverse kept)) end in
-    let stays : (never_faults (right_term x.right) && is_unused x.targets.items (also (used_in c) start)) ≡ false = (λ i. never_faults (right_term x.right) && is_unused x.targets.items (sym n i)) ∙ h in
-    let is : let_term y ≡ swept_let (let_term x) (also (used_in c) start) = new ∙ ap (swept_let (let_term x)) n in
-    let here : step (let_term x) c start ≡ Bind y.targets.items y.site (right_term y.right) c =
-    (λ i. if stays i then c else Bind x.targets.items x.site (swept_right (right_term x.right) (also (used_in c) start)) c) ∙ sym (λ i. Bind (is i).targets (is i).site (is i).right c) in
-    (λ i. before (map let_term rest) (chain (map let_term ((ap reverse k ∙ reverse-append kept (y ∷ [])) i)) end) start)
-    ∙ ap (λ z. before (map let_term rest) z start) (sym here)
-    ∙ sym (one_less ls rest x c start e)
-    ∙ p
-
-pub kept_used : (kept kept' : List Let) (y : Let) (end : BlockTerm) (start now later : Var → Bool) → kept' ≡ kept ++ (y ∷ []) → now ≡ also (used_in (chain (map let_term (reverse kept)) end)) start → later ≡ also (used_in_right (right_term y.right)) now
-    → later ≡ also (used_in (chain (map let_term (reverse kept')) end)) start
-kept_used kept kept' y end start now later k n l =
-    l ∙ ap (also (used_in_right (right_term y.right))) n ∙ also_under (used_in_right (right_term y.right)) (used_in (chain (map let_term (reverse kept)) end)) start
-    ∙ (λ i. also (used_in (chain (map let_term (sym (ap reverse k ∙ reverse-append kept (y ∷ [])) i)) end)) start)
+map_reverse : {A B : Type 0} (f : A → B) (xs : List A) → map f (reverse xs) ≡ reverse (map f xs)
+map_reverse f [] = refl
+map_reverse f (x ∷ xs) = ap (map f) (reverse_onto' x xs) ∙ map_snoc f (reverse xs) x ∙ (λ i. map_reverse f xs i ++ (f x ∷ [])) ∙ sym (reverse_onto' (f x) (map f xs))
+  where
+    reverse_onto' : {C : Type 0} (y : C) (ys : List C) → reverse (y ∷ ys) ≡ reverse ys ++ (y ∷ [])
+    reverse_onto' y ys = reverse-append (y ∷ []) ys
 
 -- after the last turn
-pub block_end : (start : Var → Bool) (rest lets kept : List Let) (x : Block-F the_data the_data-1 the_data-2 the_data-3 the_data-4 the_data-5 the_data-6) (b : Block) → before (map let_term rest) (chain (map let_term (reverse kept)) (Gives x.results.items)) start ≡ before (map let_term lets) (Gives x.results.items) start → rest ≡ [] → lets ≡ (out-Block b).lets.items → x.lets.items ≡ reverse kept → x.results.items ≡ (out-Block b).results.items
+pub block_end : (start : Var → Bool) (rest lets kept : List Let) (x : Block-F the_data the_data-1 the_data-2 the_data-3 the_data-4 the_data-5 the_data-6) (b : Block) → before (map let_term rest) (chain (reverse (map let_term kept)) (Gives x.results.items)) start ≡ before (map let_term lets) (Gives x.results.items) start → rest ≡ [] → lets ≡ (out-Block b).lets.items → x.lets.items ≡ reverse kept → x.results.items ≡ (out-Block b).results.items
     → block_term (roll-Block x) ≡ swept (block_term b) start
 block_end start rest lets kept x b p r e k q =
     block_roll x
     ∙ (λ i. chain (map let_term (k i)) (Gives x.results.items))
-    ∙ (λ i. before (map let_term (sym r i)) (chain (map let_term (reverse kept)) (Gives x.results.items)) start)
+    ∙ (λ i. chain (map_reverse let_term kept i) (Gives x.results.items))
+    ∙ (λ i. before (map let_term (sym r i)) (chain (reverse (map let_term kept)) (Gives x.results.items)) start)
     ∙ p
     ∙ (λ i. before (map let_term (e i)) (Gives (q i)) start)
     ∙ sym (swept_chain (map let_term (out-Block b).lets.items) (Gives (out-Block b).results.items) start)
     ∙ ap (λ z. swept z start) (sym (block_out b))
 
-pub block_used : (start now : Var → Bool) (kept : List Let) (x : Block-F the_data the_data-1 the_data-2 the_data-3 the_data-4 the_data-5 the_data-6) → now ≡ also (used_in (chain (map let_term (reverse kept)) (Gives x.results.items))) start → x.lets.items ≡ reverse kept → now ≡ also (used_in (block_term (roll-Block x))) start
-block_used start now kept x n k = n ∙ (λ i. also (used_in (chain (map let_term (sym k i)) (Gives x.results.items))) start) ∙ (λ i. also (used_in (sym (block_roll x) i)) start)
+pub block_used : (start now : Var → Bool) (kept : List Let) (x : Block-F the_data the_data-1 the_data-2 the_data-3 the_data-4 the_data-5 the_data-6) → now ≡ also (used_in (chain (reverse (map let_term kept)) (Gives x.results.items))) start → x.lets.items ≡ reverse kept → now ≡ also (used_in (block_term (roll-Block x))) start
+block_used start now kept x n k = n ∙ (λ i. also (used_in (chain (sym (map_reverse let_term kept) i) (Gives x.results.items))) start) ∙ (λ i. also (used_in (chain (map let_term (sym k i)) (Gives x.results.items))) start) ∙ (λ i. also (used_in (sym (block_roll x) i)) start)
+
+-- ---- depths
+
+pub block_deeper : (b : Block) → most size-Let (out-Block b).lets.items < size-Block b
+block_deeper b = let e : size-Block b ≡ max (most size-Let (out-Block b).lets.items) 0 + 1 = size_is-Block b in omega (arith, e)
+
+last_of : (xs ys : List Let) (x : Let) → xs ≡ ys ++ (x ∷ []) → most size-Let xs ≡ max (most size-Let ys) (max (size-Let x) 0)
+last_of xs ys x e = ap (most size-Let) e ∙ most-append size-Let ys (x ∷ [])
+
+pub last_low : (xs ys : List Let) (x : Let) → xs ≡ ys ++ (x ∷ []) → size-Let x ≤ most size-Let xs
+last_low xs ys x e = let w = last_of xs ys x e in omega (arith, w)
+
+pub rest_low : (xs ys : List Let) (x : Let) → xs ≡ ys ++ (x ∷ []) → most size-Let ys ≤ most size-Let xs
+rest_low xs ys x e = let w = last_of xs ys x e in omega (arith, w)
 
 -- ---- lists of generators and parts
 

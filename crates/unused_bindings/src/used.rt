@@ -1,12 +1,11 @@
 //! Variables that are used behind a place, as the set of their numbers.
 
-ghost use Rattle.std.specs.Prelude.{◌≡◌, ◌&&◌, OnOk, option_to_list};
-ghost use Rattle.core_ir.specs.Scopes.{head_uses};
-ghost use Rattle.core_ir.specs.View.{gen_term, let_term};
+ghost use Rattle.std.specs.Prelude.{◌≡◌, ◌&&◌, ◌++◌, OnOk, option_to_list};
+ghost use Rattle.core_ir.specs.View.{let_term, right_term};
 ghost use Rattle.core_cleaning.specs.Unused.{also, is_unused, never_faults};
 ghost use Rattle.unused_bindings.specs.Swept.{used_of};
 
-use core_ir::{CoreGen, Let, Right, Var};
+use core_ir::{Let, Right, Var};
 use sac_base::Memory;
 use std::collections::BTreeSet;
 
@@ -21,13 +20,20 @@ pub fn add_all(used: &mut BTreeSet<u32>, vars: &[Var]) -> Result<(), Memory>
 }
 
 /// The operands of a generator are used too.
-pub fn add_head(used: &mut BTreeSet<u32>, generator: &CoreGen) -> Result<(), Memory>
-    ensures { OnOk result (used_of used.new ≡ also (head_uses (gen_term generator.now).head) (used_of used.old)) }
+pub fn add_head(
+    used: &mut BTreeSet<u32>,
+    lower: Option<Var>,
+    upper: Option<Var>,
+    step: Option<Var>,
+    width: Option<Var>,
+) -> Result<(), Memory>
+    ensures { OnOk result (used_of used.new
+        ≡ also (option_to_list lower ++ (option_to_list upper ++ (option_to_list step ++ option_to_list width))) (used_of used.old)) }
 {
-    add_option(used, generator.lower)?;
-    add_option(used, generator.upper)?;
-    add_option(used, generator.step)?;
-    add_option(used, generator.width)
+    add_option(used, lower)?;
+    add_option(used, upper)?;
+    add_option(used, step)?;
+    add_option(used, width)
 }
 
 fn add_option(used: &mut BTreeSet<u32>, var: Option<Var>) -> Result<(), Memory>
@@ -47,7 +53,7 @@ pub fn may_go(binding: &Let, used: &BTreeSet<u32>) -> bool
 }
 
 fn never_fails(right: &Right) -> bool
-    ensures { result ≡ never_faults (Rattle.core_ir.specs.View.right_term right.now) }
+    ensures { result ≡ never_faults (right_term right.now) }
 {
     matches!(
         right,

@@ -1,11 +1,11 @@
 //! One walk over a block, from its end.
 
-ghost use Rattle.std.specs.Prelude.{◌≡◌, IfOk};
+ghost use Rattle.std.specs.Prelude.{◌≡◌, IfOk, OnOk, map};
 ghost use Rattle.core_ir.specs.Scopes.{head_uses};
 ghost use Rattle.core_ir.specs.View.{block_term, let_term, right_term, with_term, gen_term, parted_term, part_term};
 ghost use Rattle.core_subst.specs.Names.{used_in, used_in_right};
 ghost use Rattle.core_cleaning.specs.Unused.{also, swept, swept_right};
-ghost use Rattle.unused_bindings.specs.Swept.{used_of, swept_let, swept_gen, swept_part};
+ghost use Rattle.unused_bindings.specs.Swept.{used_of, IsStep, swept_gen, swept_part};
 
 use crate::used::{add_all, add_head, may_go};
 use core_ir::{Block, CoreGen, CorePart, Let, PartedLoop, Right, WithLoop};
@@ -24,9 +24,7 @@ pub fn in_block(alloc: Global, block: Block, used: &mut BTreeSet<u32>) -> Result
     let mut kept = Vec::new(alloc);
     add_all(used, &results)?;
     while let Some(binding) = lets.pop() {
-        if !may_go(&binding, used) {
-            kept.push(in_binding(alloc, binding, used)?)?;
-        }
+        in_binding(alloc, binding, used, &mut kept)?;
     }
     kept.reverse();
     Ok(Block {
@@ -35,22 +33,31 @@ pub fn in_block(alloc: Global, block: Block, used: &mut BTreeSet<u32>) -> Result
     })
 }
 
+/// Puts a binding behind those that are kept, the latest in the block first, unless it may go.
 #[cycle(sweeping)]
-fn in_binding(alloc: Global, binding: Let, used: &mut BTreeSet<u32>) -> Result<Let, Memory>
-    ensures swept { IfOk result (λ l. let_term l ≡ swept_let (let_term binding) (used_of used.old)) }
-    ensures used { IfOk result (λ l. used_of used.new ≡ also (used_in_right (right_term l.right)) (used_of used.old)) }
+fn in_binding(
+    alloc: Global,
+    binding: Let,
+    used: &mut BTreeSet<u32>,
+    kept: &mut Vec<Let>,
+) -> Result<(), Memory>
+    ensures { OnOk result (IsStep (let_term binding) (map let_term kept.old.items) (map let_term kept.new.items) (used_of used.old) (used_of used.new)) }
 {
+    if may_go(&binding, used) {
+        return Ok(());
+    }
     let Let {
         targets,
         site,
         right,
     } = binding;
     let right = in_right(alloc, right, used)?;
-    Ok(Let {
+    kept.push(Let {
         targets,
         site,
         right,
-    })
+    })?;
+    Ok(())
 }
 
 #[cycle(sweeping)]
@@ -127,7 +134,8 @@ fn in_gen(alloc: Global, generator: CoreGen, used: &mut BTreeSet<u32>) -> Result
         site,
     } = generator;
     let body = in_block(alloc, body, used)?;
-    let swept = CoreGen {
+    add_head(used, lower, upper, step, width)?;
+    Ok(CoreGen {
         lower,
         lower_closed,
         upper,
@@ -138,9 +146,7 @@ fn in_gen(alloc: Global, generator: CoreGen, used: &mut BTreeSet<u32>) -> Result
         names,
         body,
         site,
-    };
-    add_head(used, &swept)?;
-    Ok(swept)
+    })
 }
 
 #[cycle(sweeping)]

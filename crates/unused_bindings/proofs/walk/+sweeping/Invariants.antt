@@ -1,4 +1,6 @@
-use Rattle.std.proofs.Common.{◌≡◌, ◌++◌, map, reverse}
+use Rattle.std.proofs.Common.{◌≡◌, ◌≤◌, ◌++◌, map, reverse}
+use denote.Param.Weighed.{most}
+use Rattle.core_ir.specs.declared.tree.Let.{size-Let}
 use Rattle.core_ir.specs.Terms.{Gives, chain, gens_of, parts_of}
 use Rattle.core_ir.specs.View.{let_term, gen_term, part_term}
 use Rattle.core_subst.specs.Names.{used_in, used_in_gens, used_in_parts}
@@ -9,8 +11,9 @@ use Rattle.unused_bindings.proofs.walk.+sweeping.Given as goal
 
 abbrev pub invariant-in_block-loop-binding : goal.invariant-in_block-loop-binding
 invariant-in_block-loop-binding l = record {
-  bindings : before (map let_term l.lets.items) (chain (map let_term (reverse l.kept.items)) (Gives l.results.items)) (used_of l.fn.used) ≡ before (map let_term l.initial.lets.items) (Gives l.results.items) (used_of l.fn.used);
-  used : used_of l.used ≡ also (used_in (chain (map let_term (reverse l.kept.items)) (Gives l.results.items))) (used_of l.fn.used);
+  bindings : before (map let_term l.lets.items) (chain (reverse (map let_term l.kept.items)) (Gives l.results.items)) (used_of l.fn.used) ≡ before (map let_term l.initial.lets.items) (Gives l.results.items) (used_of l.fn.used);
+  used : used_of l.used ≡ also (used_in (chain (reverse (map let_term l.kept.items)) (Gives l.results.items))) (used_of l.fn.used);
+  low : most size-Let l.lets.items ≤ most size-Let l.initial.lets.items;
 }
 
 abbrev pub invariant-in_with-loop-generator : goal.invariant-in_with-loop-generator
