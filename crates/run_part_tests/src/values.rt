@@ -1,6 +1,6 @@
-use super::*;
 use buffer_heap::Heap;
 use core_ir::Var;
+use run_values::{Few, Frames, RunValue, short_binary, short_unary, small_value};
 use sac_base::{Base, Cell, FaultKind, Memory, Op, Shape};
 use std::test::Fail;
 

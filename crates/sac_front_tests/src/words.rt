@@ -1,4 +1,4 @@
-use super::*;
+use sac_words::{Input, Mode, WordsError, read_words};
 use std::test::Fail;
 
 #[test]

@@ -1,7 +1,7 @@
-use super::*;
 use buffer_heap::Heap;
 use core_ir::Var;
 use counted_code::{Code, CodeBlock, CodeFun};
+use run_types::{all_have, choose, shape_of, value_has};
 use run_values::{Few, RunValue};
 use sac_base::{ArrayType, Base, Name, Part, Site};
 use std::alloc::Global;

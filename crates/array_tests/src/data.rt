@@ -1,6 +1,6 @@
 ghost use Rattle.std.specs.Prelude.{◌≤◌};
 
-use super::*;
+use data_text::{DataCode, DataError, generate, print_array, print_summary, read_arrays};
 use sac_base::{Array, ArrayType, Base, Part, Shape};
 use std::alloc::Global;
 use std::test::Fail;

@@ -1,4 +1,4 @@
-use super::*;
+use array_ops::{ArrayError, binary, dim, literal, replace, reshape, select, shape_vector, unary};
 use sac_base::{Array, Base, Cell, FaultKind, Op};
 use std::alloc::Global;
 use std::test::Fail;

@@ -1,6 +1,6 @@
-use super::*;
 use sac_ast::{Expression, Function, Program};
 use sac_base::{ArrayType, Base, Name, Op, Part, Shape, Site};
+use sac_print::print_program;
 use std::alloc::Global;
 use std::test::Fail;
 

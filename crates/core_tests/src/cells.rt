@@ -1,10 +1,10 @@
 //! Cells that are recognised, and cells that are not.
 
-use super::*;
 use core_ir::{CoreOp, PartedOp, Var};
 use counted_code::{
     Code, CodeBlock, CodeGen, CodeLet, CodePart, CodeParted, CodeRight, CodeStep, CodeWith,
 };
+use phase_checks::{gens_are_counted, parts_are_counted};
 use sac_base::{Base, Grid, Memory, Op, Shape, Site};
 use std::alloc::Global;
 use std::test::Fail;
