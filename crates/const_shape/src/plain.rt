@@ -20,10 +20,10 @@ pub fn settle_plain(alloc: Global, right: Right, table: &FactTable) -> Result<Kn
     ensures settled { IfOk result (λ new. right_term new.right ≡ settled_plain (right_term right) (facts_of table.now)) }
     ensures known { IfOk result (λ new. map fact_of new.values.items ≡ fact_of_right (right_term new.right) (facts_of table.now) ∷ []) }
 {
-    let KnownRight { right, values } = settle_literal(alloc, right, table)?;
+    let known = settle_literal(alloc, right, table)?;
     Ok(KnownRight {
-        right: uncheck(right, table),
-        values,
+        right: uncheck(known.right, table),
+        values: known.values,
     })
 }
 
