@@ -93,7 +93,8 @@ main
 
 #[test]
 fn checks_copies_and_unused_bindings_go(rt: HostRuntime) -> Result<(), Fail> {
-    let source = "inline int first(int[3] a) { rank = dim(a); return (a[0]); } int main(int[3] x) { return (first(x)); }";
+    let source =
+        "inline int first(int[3] a) { rank = dim(a); return (a[0]); } int main(int[3] x) { return (first(x)); }";
     let wanted = "first v0
   v2 = constant 0
   v3 = select v0 v2

@@ -279,9 +279,13 @@ module _ (core new : CoreTerm) (es : List Entry) (gs : List (List ℕ)) (main : 
           let w = mapped_stands at h.further place (subst (λ ns. StandsIn (map at ns) place) (further_is group places e) t) in
           let n = h.narrowed w.0 w.1.0 in
           let p = placed w.0 n.0 n.1.0 in
-          let g = retyped p.function (n.0).types in
-          (g, (ap (slice_get new.functions) (sym w.1.1) ∙ p.new_there,
-          subst (λ m. IsNarrowed core group m (param_types g)) (sym p.of_is ∙ ap of w.1.1) (subst (IsNarrowed core group (n.0).source) (sym p.types) n.1.1)))
+          let g = retyped p.function (n.0).types in (
+            g,
+            (
+              ap (slice_get new.functions) (sym w.1.1) ∙ p.new_there,
+              subst (λ m. IsNarrowed core group m (param_types g)) (sym p.of_is ∙ ap of w.1.1) (subst (IsNarrowed core group (n.0).source) (sym p.types) n.1.1),
+            ),
+          )
 
   apart : (group : ℕ) → AllPairs (Specialised.LaterElsewhere new.functions) (further group)
   apart group = go (slice_get core.groups group) refl
@@ -293,13 +297,13 @@ module _ (core new : CoreTerm) (es : List Entry) (gs : List (List ℕ)) (main : 
           subst (λ ns. AllPairs (Specialised.LaterElsewhere new.functions) (map at ns)) (sym (further_is group places e))
           (pairs_map (LaterElsewhere es) (Specialised.LaterElsewhere new.functions) at h.further
           (λ m n s t r f g ef eg.
-              let u = h.narrowed m s in
-              let w = h.narrowed n t in
-              let p = placed m u.0 u.1.0 in
-              let q = placed n w.0 w.1.0 in
-              let first : param_types f ≡ (u.0).types = ap param_types (some_same f (retyped p.function (u.0).types) (sym ef ∙ p.new_there)) ∙ p.types in
-              let second : param_types g ≡ (w.0).types = ap param_types (some_same g (retyped q.function (w.0).types) (sym eg ∙ q.new_there)) ∙ q.types in
-              (λ i. all_below (second i) (first i)) ∙ r u.0 w.0 u.1.0 w.1.0) h.apart)
+          let u = h.narrowed m s in
+          let w = h.narrowed n t in
+          let p = placed m u.0 u.1.0 in
+          let q = placed n w.0 w.1.0 in
+          let first : param_types f ≡ (u.0).types = ap param_types (some_same f (retyped p.function (u.0).types) (sym ef ∙ p.new_there)) ∙ p.types in
+          let second : param_types g ≡ (w.0).types = ap param_types (some_same g (retyped q.function (w.0).types) (sym eg ∙ q.new_there)) ∙ q.types in
+          (λ i. all_below (second i) (first i)) ∙ r u.0 w.0 u.1.0 w.1.0) h.apart)
 
   pub specialised : (e : Entry) → slice_get es main ≡ Some e → e.source ≡ core.main → length new.functions < 2 ^ 32 → IsSpecialised core new
   specialised e ee same few =

@@ -118,9 +118,9 @@ module _ (core : CoreTerm) (well : IsWellFormed core) (es : List Entry) (gs : Li
         let h = plan.groups g places q in
         pairs_weaker (LaterElsewhere es) (LaterElsewhere more) h.further
         (λ m n s t r d e ed ee.
-            let u = h.narrowed m s in
-            let w = h.narrowed n t in
-            (λ i. all_below (sym (entry_is n w.0 e w.1.0 ee) i).types (sym (entry_is m u.0 d u.1.0 ed) i).types) ∙ r u.0 w.0 u.1.0 w.1.0) h.apart
+        let u = h.narrowed m s in
+        let w = h.narrowed n t in
+        (λ i. all_below (sym (entry_is n w.0 e w.1.0 ee) i).types (sym (entry_is m u.0 d u.1.0 ed) i).types) ∙ r u.0 w.0 u.1.0 w.1.0) h.apart
 
     kept_narrowed : (g : ℕ) (places : List ℕ) (q : slice_get core.groups g ≡ Some places) (n : ℕ) → StandsIn (plan.groups g places q).further n → (e : Entry) × ((slice_get more n ≡ Some e) × IsNarrowed core g e.source e.types)
     kept_narrowed g places q n s =
@@ -136,18 +136,18 @@ module _ (core : CoreTerm) (well : IsWellFormed core) (es : List Entry) (gs : Li
         let types : types_at es m ≡ (w.0).types = ap types_in w.1.0 in
         (λ i. all_below (sym second i).types (sym first i).types)
         ∙ false_by (all_below (exact forms) (w.0).types) (λ h.
-            no_same m (stands_right own (plan.groups group own there).further m s)
-            (ap (λ ts. all_below ts (exact forms)) types ∙ known_turned (exact forms) (w.0).types (exact_known forms) w.1.1.known h)
-            (ap (all_below (exact forms)) types ∙ h))
+        no_same m (stands_right own (plan.groups group own there).further m s)
+        (ap (λ ts. all_below ts (exact forms)) types ∙ known_turned (exact forms) (w.0).types (exact_known forms) w.1.1.known h)
+        (ap (all_below (exact forms)) types ∙ h))
 
     groups : (g : ℕ) (places : List ℕ) → slice_get core.groups g ≡ Some places → HasFurther core more (joined gs group (length es)) g places
     groups g places q = elim (same_or g group) [
       | inr other ↦ record {
-          further = (plan.groups g places q).further;
-          all = joined_other gs group g (length es) other ∙ (plan.groups g places q).all;
-          narrowed = kept_narrowed g places q;
-          apart = weaker g places q;
-        }
+        further = (plan.groups g places q).further;
+        all = joined_other gs group g (length es) other ∙ (plan.groups g places q).all;
+        narrowed = kept_narrowed g places q;
+        apart = weaker g places q;
+      }
       | inl same ↦
           subst (λ k. HasFurther core more (joined gs group (length es)) k places) (sym same)
           (subst (HasFurther core more (joined gs group (length es)) group) (some_same own places (sym there ∙ ap (slice_get core.groups) (sym same) ∙ q)) (record {
@@ -209,9 +209,9 @@ with_entry core es gs x plan is = record {
         apart =
             pairs_weaker (LaterElsewhere es) (LaterElsewhere (es ++ (x ∷ []))) h.further
             (λ m n s t r d e ed ee.
-                let u = h.narrowed m s in
-                let w = h.narrowed n t in
-                (λ i. all_below (some_same e w.0 (sym ee ∙ still es x n w.0 w.1.0) i).types (some_same d u.0 (sym ed ∙ still es x m u.0 u.1.0) i).types) ∙ r u.0 w.0 u.1.0 w.1.0) h.apart;
+            let u = h.narrowed m s in
+            let w = h.narrowed n t in
+            (λ i. all_below (some_same e w.0 (sym ee ∙ still es x n w.0 w.1.0) i).types (some_same d u.0 (sym ed ∙ still es x m u.0 u.1.0) i).types) ∙ r u.0 w.0 u.1.0 w.1.0) h.apart;
       };
 }
 
