@@ -14,6 +14,3 @@ pub use operations::{
     binary_at, condition_at, copy_all, literal_at, placed, results_of, select_at, unary_of,
 };
 pub use parts::{condition, dim, replace, reshape, select, shape_vector};
-
-#[cfg(test)]
-mod tests;

@@ -6,3 +6,4 @@ pub mod CellSteps
 pub mod JoinSteps
 pub mod Holders
 pub mod GridSteps
+pub mod RowSteps

@@ -1,5 +1,5 @@
 -- What the evaluator keeps of a range's components: their bounds come from elements of arrays.
-use Rattle.std.specs.Prelude.{ℕ, ℤ, ◌≤ℤ◌, pos, negsuc, Bool, true, not, ◌&&◌, ◌||◌, int_le, int_lt, List, ◌∷◌}
+use Rattle.std.specs.Prelude.{ℕ, ℤ, ◌≤ℤ◌, ◌+ℤ◌, pos, negsuc, Bool, true, not, ◌&&◌, ◌||◌, int_le, int_lt, List, [], ◌∷◌}
 use Rattle.std.specs.List.{list_all}
 use Rattle.sac_base.specs.WithLoops.{Axis, Range, holds_at, span_of, numbers_from}
 
@@ -28,3 +28,9 @@ axis_within n a = list_all (λ v. not (holds_at a v) || (int_le (pos 0) v && int
 abbrev pub axes_within : List ℕ → Range → Bool
 axes_within (n ∷ ns) (a ∷ as') = axis_within n a && axes_within ns as'
 axes_within _ _ = true
+
+-- an index vector further by so many along the last axis
+abbrev pub moved_last : ℕ → List ℤ → List ℤ
+moved_last n [] = []
+moved_last n (v ∷ []) = (v +ℤ pos n) ∷ []
+moved_last n (v ∷ w ∷ vs) = v ∷ moved_last n (w ∷ vs)

@@ -1,6 +1,6 @@
 //! The indices of a with-loop's frame.
 
-ghost use Rattle.std.specs.Prelude.{◌≡◌, ◌≤◌, ◌<◌, [], length, slice_index_or, List, ℤ, IfOk, IfSome, OnOk, is_some, nat_le, All, FitsSigned, false};
+ghost use Rattle.std.specs.Prelude.{◌≡◌, ◌≤◌, ◌<◌, [], length, slice_index_or, List, ℕ, ℤ, ◌+◌, IfOk, IfSome, OnOk, is_some, nat_le, All, FitsSigned, false};
 ghost use Rattle.std.specs.Prelude.{true, map, pos};
 ghost use mir.Syntax.{w32};
 ghost use Rattle.sac_base.specs.Arrays.{size, MOST};
@@ -9,7 +9,7 @@ ghost use Rattle.sac_base.specs.Grids.{has_vector, members};
 ghost use Rattle.sac_base.specs.WithLoops.{box, box_size, shape_spans, span_of, is_empty_box};
 ghost use Rattle.array_with_loops.specs.Frames.{joined_frame, frame_with, joined_next, IsSomeBox};
 ghost use Rattle.array_with_loops.specs.GridFrames.{box_range, grid_extents};
-ghost use Rattle.array_with_loops.specs.Ranges.{IsBound};
+ghost use Rattle.array_with_loops.specs.Ranges.{IsBound, moved_last};
 
 use crate::ranges::Range;
 use sac_base::{Grid, MOST_ELEMENTS, Memory, Shape, elements};
@@ -177,14 +177,32 @@ impl Frame {
     {
         into.components.clear();
         let extents = self.extents.extents();
-        let mut weight = self.count;
-        let mut rest = place;
+        // A frame has at most 2^24 indices, and a division of 32 bits is several times cheaper.
+        let mut weight = self.count as u32;
+        let mut rest = place as u32;
         for k in 0..self.low.len() {
-            weight /= extents[k].unsigned_abs() as usize;
+            weight /= extents[k].unsigned_abs();
             into.components.push(self.low[k] + (rest / weight) as i32)?;
             rest %= weight;
         }
         Ok(())
+    }
+
+    /// For how many places from one on, to the end of its row, the index differs in the last component alone, which is one more
+    /// from place to place.
+    pub fn row_left(&self, place: usize) -> usize
+        requires { place < length self.now }
+        ensures some { 1 ≤ result }
+        ensures inside { place + result ≤ length self.now }
+        ensures along { (j : ℕ) (d e : List ℤ) → j < result → slice_index_or self.now (place + j) d ≡ moved_last j (slice_index_or self.now place e) }
+    {
+        let extents = self.extents.extents();
+        let rank = self.low.len();
+        if rank == 0 {
+            return 1;
+        }
+        let extent = extents[rank - 1].unsigned_abs();
+        (extent - place as u32 % extent) as usize
     }
 }
 

@@ -12,4 +12,4 @@ pub use bounds::Bounds;
 pub use finish::{add_cell, cell_size, combine, fits_form};
 pub use frames::{Frame, IndexVector};
 pub use plans::{Evaluated, Plan, fold_plan, genarray_plan, modarray_plan};
-pub use ranges::{Axis, Range};
+pub use ranges::{Axis, Range, Run};

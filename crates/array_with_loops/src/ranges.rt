@@ -1,10 +1,10 @@
 //! Which indices a generator holds.
 
-ghost use Rattle.std.specs.Prelude.{◌≡◌, ◌<◌, ◌≤◌, ◌%◌, ℕ, ◌-ℤ◌, pos, true, false, int_le, int_lt, List, [], ◌∷◌, length, All, Some, None, Ok, IfOk};
-ghost use Rattle.std.specs.Prelude.{IfSome, IfNone, map, unsigned_abs};
+ghost use Rattle.std.specs.Prelude.{◌≡◌, ◌<◌, ◌≤◌, ◌+◌, ◌%◌, nat_lt, ℕ, ◌-ℤ◌, pos, true, false, int_le, int_lt, List, [], ◌∷◌, length, All, Some, None, Ok, IfOk};
+ghost use Rattle.std.specs.Prelude.{IfSome, IfNone, map, unsigned_abs, ◌+ℤ◌};
 ghost use Rattle.sac_base.specs.WithLoops.{holds_at, holds as holds_all, axes as axes_of, lies_in, members, is_empty_box, joined_axis, joined_range, span_of};
 ghost use Rattle.std.specs.List.{list_all};
-ghost use Rattle.array_with_loops.specs.Ranges.{IsAxis, IsBound, IsStep, is_empty_axis, axis_within, axes_within};
+ghost use Rattle.array_with_loops.specs.Ranges.{IsAxis, IsBound, IsStep, is_empty_axis, axis_within, axes_within, moved_last};
 ghost use Rattle.sac_base.specs.Shapes.{IsExtent};
 
 use sac_base::{Memory, Shape};
@@ -73,9 +73,30 @@ impl Axis {
         ensures { result ≡ holds_at self.now v }
     {
         match self.offset(v) {
-            Some(offset) => offset % u64::from(self.step) < u64::from(self.width),
+            Some(offset) => is_held(offset, self.step, self.width),
             None => false,
         }
+    }
+
+    // Whether the component holds a number, and for how many numbers from it on, of at most so many, that stays so.
+    fn run_from(&self, v: i32, most: usize) -> Run
+        requires { 1 ≤ most }
+        ensures some { 1 ≤ result.count }
+        ensures most { result.count ≤ most }
+        ensures same { (j : ℕ) → j < result.count → holds_at self.now (v +ℤ pos j) ≡ result.held }
+    {
+        let v = i64::from(v);
+        if v >= self.upper {
+            return Run::of(false, most);
+        }
+        if v < self.lower {
+            return Run::of(false, most.min((self.lower - v) as usize));
+        }
+        let most = most.min((self.upper - v) as usize);
+        if self.step <= self.width {
+            return Run::of(true, most);
+        }
+        run_of((v - self.lower) as u64, self.step, self.width, most)
     }
 
     /// Whether it has no number.
@@ -119,6 +140,47 @@ impl Axis {
             step: self.step,
             width: self.width,
         }
+    }
+}
+
+/// How a range stands to the indices along a row from one on: whether it holds them, and of how many that is said.
+#[derive(Drop, Clone, Copy)]
+pub struct Run {
+    pub held: bool,
+    pub count: usize,
+}
+
+impl Run {
+    fn of(held: bool, count: usize) -> Run
+        ensures held { result.held ≡ held }
+        ensures count { result.count ≡ count }
+    {
+        Run { held, count }
+    }
+}
+
+// Whether the remainder of an offset by the step is below the width.
+fn is_held(offset: u64, step: u32, width: u32) -> bool
+    requires { 1 ≤ step }
+    ensures { result ≡ nat_lt (offset % step) width }
+{
+    step <= width || offset % u64::from(step) < u64::from(width)
+}
+
+// For how many offsets, of at most so many, the remainder by the step stays below the width, or above it.
+fn run_of(offset: u64, step: u32, width: u32, most: usize) -> Run
+    requires width { 1 ≤ width }
+    requires step { width < step }
+    requires most { 1 ≤ most }
+    ensures some { 1 ≤ result.count }
+    ensures most { result.count ≤ most }
+    ensures same { (j : ℕ) → j < result.count → nat_lt ((offset + j) % step) width ≡ result.held }
+{
+    let over = offset % u64::from(step);
+    if over < u64::from(width) {
+        Run::of(true, most.min((u64::from(width) - over) as usize))
+    } else {
+        Run::of(false, most.min((u64::from(step) - over) as usize))
     }
 }
 
@@ -210,6 +272,28 @@ impl Range {
             }
         }
         true
+    }
+
+    /// Whether an index vector is a member, and for how many vectors from it on along the last axis, of at most so many, that stays so.
+    pub fn run_from(&self, index: &[i32], most: usize) -> Run
+        requires { 1 ≤ most }
+        ensures some { 1 ≤ result.count }
+        ensures most { result.count ≤ most }
+        ensures same { (j : ℕ) → j < result.count → holds_all self.now (moved_last j index.now) ≡ result.held }
+    {
+        if index.len() != self.axes.len() {
+            return Run::of(false, most);
+        }
+        if index.is_empty() {
+            return Run::of(true, most);
+        }
+        let last = index.len() - 1;
+        for k in 0..last {
+            if !self.axes[k].holds(index[k]) {
+                return Run::of(false, most);
+            }
+        }
+        self.axes[last].run_from(index[last], most)
     }
 
     /// An equal range.

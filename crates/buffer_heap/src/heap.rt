@@ -421,6 +421,3 @@ impl Heap {
         Ok(BufferId { place: end, born })
     }
 }
-
-#[cfg(test)]
-mod tests;

@@ -19,6 +19,3 @@ pub use fill::generate;
 pub use law::{printed_is_read, read_is_spelled};
 pub use print::{print_array, print_summary};
 pub use text::read_arrays;
-
-#[cfg(test)]
-mod tests;

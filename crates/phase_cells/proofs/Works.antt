@@ -140,3 +140,10 @@ may_go_on ready opens lends own own' k n s l before end x q o is heap later stan
           subst (λ (h : HeapValue). lends.births ≤ h.births) (sym own_is) (still_later own l s n opens lends k later stands left),
           (left.after, subst (λ h. StandsBehind lends h left.after) (sym own_is) (subst (λ h. StandsBehind h s.own left.after) heap behind), left.opens_again),
         )
+
+-- a cell that takes no buffer counts nothing
+pub none_raised : (n kind : ℕ) → n ≡ 0 → raise n kind ≡ 0
+none_raised n zero none = none
+none_raised n (suc zero) none = none
+none_raised n (suc (suc zero)) none = none
+none_raised n (suc (suc (suc kind))) none = refl

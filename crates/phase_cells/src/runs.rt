@@ -1,11 +1,11 @@
 // What the cells of a loop are, and how one is computed on a store.
-ghost use Rattle.std.specs.Prelude.{◌≡◌, ℕ, ◌<◌, length, IfOk, IfSome};
+ghost use Rattle.std.specs.Prelude.{◌≡◌, ℕ, ◌+◌, ◌*◌, ◌<◌, ◌≤◌, length, IfOk, IfSome, Ok, Some};
 ghost use Rattle.buffer_heap.specs.Heaps.{HeapValue};
 ghost use Rattle.phase_cells.specs.Idle.{IsLeft};
 ghost use Rattle.counted_code.specs.Values.{Heap as MachineHeap};
 ghost use Rattle.run_store.specs.Stands.{Stands, lender_of};
 ghost use Rattle.wl_core.specs.Machine.{CellValue};
-ghost use Rattle.phase_team.specs.Segments.{IsComputed, Tells};
+ghost use Rattle.phase_team.specs.Segments.{IsComputed, Tells, row_at};
 
 use buffer_heap::Heap;
 use phase_team::CellEnd;
@@ -59,6 +59,26 @@ pub trait CellRuns: Sync {
         ensures ready { ready self.now _scratch.new }
     {
         None
+    }
+
+    /// Computes the cells of positions from one on without a store, one after another into the front of the elements that are
+    /// given, as far as that is cheaper than one by one. Each has a value and takes no buffer. Answers how many it has computed.
+    fn run_together(
+        &self,
+        _scratch: &mut Self::Scratch,
+        _start: usize,
+        _count: usize,
+        _rows: &mut [Cell],
+    ) -> usize
+        requires ready { ready self.now _scratch.old }
+        requires within { _start + _count ≤ positions self.now }
+        requires room { length _rows.old ≡ _count * width self.now }
+        ensures most { result ≤ _count }
+        ensures tells { (j : ℕ) → j < result → cell self.now (_start + j) ≡ Ok (Some (row_at (width self.now) j _rows.new)) }
+        ensures takes { (j : ℕ) → j < result → takes self.now (_start + j) ≡ 0 }
+        ensures ready { ready self.now _scratch.new }
+    {
+        0
     }
 
     /// Computes the cell of a position into the elements that are given.

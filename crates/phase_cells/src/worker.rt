@@ -93,6 +93,19 @@ impl<'a, C: CellRuns> PhaseCells<Heap> for LentCells<'a, C> {
         end
     }
 
+    fn stretch(
+        &self,
+        worker: &mut CellWorker<C::Scratch>,
+        start: usize,
+        count: usize,
+        rows: &mut [Cell],
+    ) -> usize {
+        match &mut worker.scratch {
+            Some(scratch) => self.cells.run_together(scratch, start, count, rows),
+            None => 0,
+        }
+    }
+
     fn finish(&self, worker: CellWorker<C::Scratch>, home: &mut Heap) -> Result<(), Memory> {
         home.follow(&worker.heap, self.cells.heap())?;
         home.absorb(worker.heap);

@@ -7,6 +7,3 @@ mod reads;
 mod walk;
 
 pub use walk::{gens_are_counted, parts_are_counted};
-
-#[cfg(test)]
-mod tests;

@@ -4,6 +4,7 @@
 mod cells;
 mod kernels;
 mod scope;
+mod stretch;
 
 pub use cells::{KernelCells, KernelScratch};
 pub use kernels::{CellKernel, cell_kernels};

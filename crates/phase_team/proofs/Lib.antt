@@ -6,3 +6,4 @@ pub mod Verdicts
 pub mod Wholes
 pub mod Runs
 pub mod Ramps
+pub mod Stored

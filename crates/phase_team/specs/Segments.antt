@@ -1,5 +1,5 @@
 -- What workers make of the cells of positions that follow one another.
-use Rattle.std.specs.Prelude.{◌≡◌, ℕ, zero, suc, ◌+◌, ◌*◌, ◌%◌, ◌^◌, ◌≤◌, ℤ, List, [], ◌∷◌, length, take, All, Bool, cond, Option, Some, None, Result, Ok, Err}
+use Rattle.std.specs.Prelude.{◌≡◌, ℕ, zero, suc, ◌+◌, ◌*◌, ◌%◌, ◌^◌, ◌≤◌, ℤ, List, [], ◌∷◌, length, take, drop, All, Bool, true, cond, Option, Some, None, Result, Ok, Err}
 use Rattle.std.specs.Int.{div_ceil}
 use Rattle.sac_base.specs.Verdict.{each, present, joined, combined}
 use Rattle.sac_base.specs.declared.op.Op.{Op}
@@ -34,6 +34,10 @@ abbrev pub cost_from : (ℕ → ℕ) → ℕ → ℕ → ℕ
 cost_from cost start zero = 0
 cost_from cost start (suc n) = cost start + cost_from cost (suc start) n
 
+-- the elements of the cell at a place, where those of cells stand one after another
+abbrev pub row_at : ℕ → ℕ → List ℤ → List ℤ
+row_at width place rows = take width (drop (place * width) rows)
+
 -- two counts of a kind are the same, those of kind 0 exactly and all others modulo 2^64
 abbrev pub Same : ℕ → ℕ → ℕ → Type 0
 Same zero a b = a ≡ b
@@ -66,6 +70,11 @@ abbrev pub Ran : Job → ℕ → List CellValue → List ℤ → Result Bool Sto
 Ran job width cells rows (Ok held) = (values : List (Option (List ℤ))) × (each cells ≡ Ok values) × Holds job width values held rows × HaveWidth width values
 Ran job width cells rows (Err (Faulted fault)) = each cells ≡ Err fault
 Ran job width cells rows (Err Memory) = Unit {0}
+
+-- the first cells were stored, at least one and at most n, or the first that did not come to a value stopped all n
+abbrev pub StoredNext : ℕ → (ℕ → CellValue) → ℕ → ℕ → List ℤ → Result ℕ Stop → Type 0
+StoredNext width cell start n rows (Ok k) = (1 ≤ k) × (k ≤ n) × Ran Store width (cells_from cell start k) (take (k * width) rows) (Ok true)
+StoredNext width cell start n rows (Err stop) = Ran Store width (cells_from cell start n) rows (Err stop)
 
 -- the cells that are held, which have so many elements, were combined in order
 abbrev pub Gathered : Op → ℕ → List CellValue → List ℤ → Result Bool Stop → Type 0

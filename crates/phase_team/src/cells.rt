@@ -1,8 +1,8 @@
 // What the cells of a phase are, and how a worker computes them.
-ghost use Rattle.std.specs.Prelude.{◌≡◌, ℕ, ◌+◌, ◌<◌, length, IfOk, OnOk};
+ghost use Rattle.std.specs.Prelude.{◌≡◌, ℕ, ◌+◌, ◌*◌, ◌<◌, ◌≤◌, length, IfOk, OnOk, Ok, Some};
 ghost use Rattle.wl_core.specs.Machine.{CellValue};
 ghost use Rattle.phase_team.specs.Crews.{IsFresh};
-ghost use Rattle.phase_team.specs.Segments.{IsComputed, Same, Tells};
+ghost use Rattle.phase_team.specs.Segments.{IsComputed, Same, Tells, row_at};
 
 use count_table::{Phase, WorkerSeat};
 use sac_base::{Cell, Memory, Stop};
@@ -74,6 +74,28 @@ pub trait PhaseCells<H>: Sync {
         ensures seat { seat.new ≡ seat.old }
         ensures spent { IsComputed result → (kind : ℕ)
             → Same kind (spent self.now worker.new kind) (spent self.now worker.old kind + cost self.now kind position) };
+
+    /// Computes the cells of positions from one on, one after another into the front of the elements that are given, as far as
+    /// that is cheaper than one by one. Each has a value and counts nothing. Answers how many it has computed, at most `count`:
+    /// after 0 the next one is still to be computed by itself.
+    fn stretch(
+        &self,
+        _worker: &mut Self::Worker,
+        _start: usize,
+        _count: usize,
+        _rows: &mut [Cell],
+    ) -> usize
+        requires idle { idle self.now _worker.old }
+        requires within { _start + _count ≤ positions self.now }
+        requires room { length _rows.old ≡ _count * width self.now }
+        ensures most { result ≤ _count }
+        ensures tells { (j : ℕ) → j < result → cell self.now (_start + j) ≡ Ok (Some (row_at (width self.now) j _rows.new)) }
+        ensures free { (j kind : ℕ) → j < result → cost self.now kind (_start + j) ≡ 0 }
+        ensures idle { idle self.now _worker.new }
+        ensures spent { (kind : ℕ) → spent self.now _worker.new kind ≡ spent self.now _worker.old kind }
+    {
+        0
+    }
 
     /// Hands a context back.
     ///

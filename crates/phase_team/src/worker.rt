@@ -2,7 +2,7 @@
 ghost use Rattle.std.specs.Prelude.{◌≡◌, ℕ, ◌+◌, ◌*◌, ◌<◌, ◌≤◌, length, take, IfOk};
 ghost use Rattle.wl_core.specs.declared.setup.Job.TheVariants.{Write as Store};
 ghost use Rattle.wl_core.specs.Machine.{combine, both};
-ghost use Rattle.phase_team.specs.Segments.{cells_from, value_if, ChunkRoom, Costs, Gathered, Ran};
+ghost use Rattle.phase_team.specs.Segments.{cells_from, value_if, ChunkRoom, Costs, Gathered, Ran, StoredNext};
 ghost use Rattle.phase_team.specs.Crews.{Suits, IsFresh};
 
 use crate::cells::{CellEnd, PhaseCells};
@@ -44,6 +44,40 @@ pub(crate) fn combine_held(
     true
 }
 
+// Writes the next cells one after another, at least one of them, or up to the first that stops. Answers how many.
+fn fill_next<H, C: PhaseCells<H>>(
+    cells: &C,
+    table: &Phase<()>,
+    seat: &mut Option<WorkerSeat<()>>,
+    worker: &mut C::Worker,
+    share: Share,
+    start: usize,
+    count: usize,
+    rows: &mut [Cell],
+) -> Result<usize, Stop>
+    requires suits { Suits (C.cell cells.now) (C.positions cells.now) (C.width cells.now) (C.shared cells.now) table.now.buffers share start count }
+    requires job { share.job ≡ Store }
+    requires seat { IsFresh table.now seat.old }
+    requires worker { C.idle cells.now worker.old }
+    requires some { 1 ≤ count }
+    requires room { length rows.old ≡ count * share.width }
+    ensures stored { StoredNext share.width (C.cell cells.now) start count rows.new result }
+    ensures worker { C.idle cells.now worker.new }
+    ensures spent { IfOk result (λ n. Costs (C.cost cells.now) start n (C.spent cells.now worker.old) (C.spent cells.now worker.new)) }
+    ensures seat { seat.new ≡ seat.old }
+{
+    let together = cells.stretch(worker, start, count, rows);
+    if together > 0 {
+        return Ok(together);
+    }
+    let into = &mut rows[0..share.width];
+    match cells.cell(worker, table, seat, start, into) {
+        CellEnd::Value => Ok(1),
+        CellEnd::NotHeld => unreachable!(),
+        CellEnd::Stopped(stop) => Err(stop),
+    }
+}
+
 // Writes cells one after another, up to the first that stops.
 fn fill<H, C: PhaseCells<H>>(
     cells: &C,
@@ -65,13 +99,21 @@ fn fill<H, C: PhaseCells<H>>(
     ensures spent { IfOk result (λ _. Costs (C.cost cells.now) start count (C.spent cells.now worker.old) (C.spent cells.now worker.new)) }
     ensures seat { seat.new ≡ seat.old }
 {
-    for i in 0..count {
-        let at = i * share.width;
-        let into = &mut rows[at..at + share.width];
-        match cells.cell(worker, table, seat, start + i, into) {
-            CellEnd::Value => {}
-            CellEnd::NotHeld => unreachable!(),
-            CellEnd::Stopped(stop) => return Err(stop),
+    let mut done = 0;
+    while done < count {
+        let rest = &mut rows[done * share.width..];
+        match fill_next(
+            cells,
+            table,
+            seat,
+            worker,
+            share,
+            start + done,
+            count - done,
+            rest,
+        ) {
+            Ok(more) => done += more,
+            Err(stop) => return Err(stop),
         }
     }
     Ok(true)

@@ -6,6 +6,3 @@ mod values;
 
 pub use calls::{all_fit, choose};
 pub use values::{all_have, shape_of, value_has};
-
-#[cfg(test)]
-mod tests;

@@ -10,6 +10,3 @@ pub use few::Few;
 pub use frames::Frames;
 pub use operators::{short_binary, short_unary};
 pub use value::{RunValue, small_value};
-
-#[cfg(test)]
-mod tests;

@@ -1,7 +1,11 @@
-//! Tests of the crates that read, accept and plainly run a source, from its text on.
+//! Tests of the crates that read the words and a source, accept it, print it, and plainly run it.
 #![tactic(auto)]
 
 #[cfg(test)]
 mod check;
 #[cfg(test)]
 mod parse;
+#[cfg(test)]
+mod print;
+#[cfg(test)]
+mod words;

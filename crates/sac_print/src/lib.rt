@@ -8,6 +8,3 @@ mod texts;
 mod tree;
 
 pub use program::print_program;
-
-#[cfg(test)]
-mod tests;

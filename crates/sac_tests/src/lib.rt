@@ -1,5 +1,7 @@
-//! Tests of whole runs by several workers.
+//! Tests of whole runs.
 #![tactic(auto)]
 
+#[cfg(test)]
+mod statuses;
 #[cfg(test)]
 mod tests;

@@ -7,6 +7,3 @@ mod read;
 
 pub use options::{Input, Mode, Options, WordsError};
 pub use read::read_words;
-
-#[cfg(test)]
-mod tests;

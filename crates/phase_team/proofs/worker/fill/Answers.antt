@@ -1,58 +1,37 @@
-use Rattle.std.proofs.Common.{◌≡◌, ℕ, ◌+◌, ◌-◌, ◌*◌, ◌≤◌, [], length, take, refl, ap, sym, subst, ◌∙◌, arith, rules}
-use Rattle.std.proofs.lemmas.List.{take_all}
+use Rattle.std.proofs.Common.{◌≡◌, ℕ, ◌+◌, ◌-◌, ◌*◌, ◌≤◌, length, take, ap, ◌∙◌, subst, arith, rules}
 use borrow.Rule.Slice.PartMut.{put_mid}
-use Rattle.sac_base.specs.Verdict.{each}
-use Rattle.wl_core.specs.declared.setup.Job.TheVariants.{Write as Store}
-use Rattle.phase_team.specs.declared.cells.CellEnd.{CellEnd}
-use Rattle.phase_team.specs.Segments.{cells_from, Costs, Tells}
-use Rattle.phase_team.proofs.Steps.{stored_more, stops_here, costs_more, costs_none, row_written}
-use Rattle.phase_team.proofs.Sequences.{widths_none}
-use Rattle.wl_core.proofs.Buffers.{later_row}
+use Rattle.std.proofs.Math.Nat.{add-mul}
+use Rattle.phase_team.proofs.Stored.{costs_both, part_written, room_left, rows_fit, stops_behind, stored_both}
 use Rattle.phase_team.proofs.worker.fill.Goals as goal
 
-pub loop-i-init : goal.loop-i-init
-loop-i-init g c = record {
-  stored = ([], refl, (let z : 0 * c.args.share.width ≡ 0 = omega arith in ap (λ (n : ℕ). take n c.args.rows.now) z), widths_none c.args.share.width);
-  worker = c.requires.worker;
-  spent = costs_none (g.C.PhaseCells.cost c.args.cells.now) c.args.start (g.C.PhaseCells.spent c.args.cells.now c.args.worker.now) (g.C.PhaseCells.spent c.args.cells.now c.args.worker.now) (λ kind. refl);
-  seat = refl;
-}
+pub fill_next-requires-clause-room : goal.fill_next-requires-clause-room
+fill_next-requires-clause-room g c = λ κs outlives.
+    let long : length c.loop-done.rows ≡ c.args.count * c.args.share.width = search rules in
+    room_left c.loop-done.done c.args.count c.args.share.width c.loop-done.rows c.loop-done.invariant.most long
 
-pub returns-in-Stopped-clause-ran : goal.returns-in-Stopped-clause-ran
-returns-in-Stopped-clause-ran g c =
-    let cell = g.C.PhaseCells.cell c.args.cells.now in
-    let stored = c.loop-i.invariant.stored in
-    stops_here cell c.args.start c.loop-i.i stored.0 stored.1 Store c.args.share.width c.args.count c.cell.new.into (put_mid (c.loop-i.i * c.args.share.width) ((c.loop-i.i * c.args.share.width + c.args.share.width) - c.loop-i.i * c.args.share.width) c.loop-i.rows c.cell.new.into) c.in-Stopped.stop c.loop-i-test.true
-    (subst (λ (e : CellEnd). Tells (cell (c.args.start + c.loop-i.i)) c.cell.new.into e) c.in-Stopped.is c.cell.ensures.tells)
-
-pub loop-i-preserved : goal.loop-i-preserved
-loop-i-preserved g c =
+pub loop-done-preserved : goal.loop-done-preserved
+loop-done-preserved g c =
     let cell = g.C.PhaseCells.cell c.args.cells.now in
     let cost = g.C.PhaseCells.cost c.args.cells.now in
     let spent = g.C.PhaseCells.spent c.args.cells.now in
-    let i : ℕ = c.loop-i.i in
+    let i : ℕ = c.loop-done.done in
+    let k : ℕ = c.in-Ok.more in
     let w : ℕ = c.args.share.width in
-    let stored = c.loop-i.invariant.stored in
-    let room : i * w + w ≤ c.args.count * w = later_row i c.args.count w c.loop-i-test.true in
-    let long : length c.loop-i.rows ≡ c.args.count * w = search rules in
-    let len : length c.cell.new.into ≡ w = search rules in
+    let long : length c.loop-done.rows ≡ c.args.count * c.args.share.width = search rules in
+    let next = c.in-Ok.ensures.stored in
+    let len : length c.fill_next.new.rows ≡ (c.args.count - c.loop-done.done) * c.args.share.width = c.fill_next.auto.rows ∙ room_left i c.args.count w c.loop-done.rows c.loop-done.invariant.most long in
+    let fits = rows_fit i c.args.count w c.loop-done.invariant.most in
+    let written = part_written (i * w) (k * w) (length c.loop-done.rows - i * w) c.loop-done.rows c.fill_next.new.rows (omega arith) (let f = rows_fit k (c.args.count - i) w next.1 in omega arith) in
     record {
-      stored = stored_more cell c.args.start i stored.0 stored.1 w c.cell.new.into (take (i * w) c.loop-i.rows) _ c.in-Value.ensures.tells len stored.2 stored.3 (row_written i _ w c.loop-i.rows c.cell.new.into (omega arith) len);
-      worker = c.cell.ensures.idle;
-      spent = costs_more cost c.args.start i (spent c.args.worker.now) (spent c.loop-i.worker) (spent c.cell.new.worker) c.loop-i.invariant.spent (c.in-Value.ensures.spent tt);
-      seat = c.cell.ensures.seat ∙ c.loop-i.invariant.seat;
+      most = omega (arith, next.1, c.loop-done.invariant.most);
+      stored = stored_both cell c.args.start i k w (take (i * w) c.loop-done.rows) (take (k * w) c.fill_next.new.rows) _ c.loop-done.invariant.stored next.2
+          (ap (λ (n : ℕ). take n (put_mid (i * w) (length c.loop-done.rows - i * w) c.loop-done.rows c.fill_next.new.rows)) (add-mul i k w) ∙ written);
+      worker = c.fill_next.ensures.worker;
+      spent = costs_both cost c.args.start i k (spent c.args.worker.now) (spent c.loop-done.worker) (spent c.fill_next.new.worker) c.loop-done.invariant.spent c.in-Ok.ensures.spent;
+      seat = c.fill_next.ensures.seat ∙ c.loop-done.invariant.seat;
     }
 
-pub returns-clause-ran : goal.returns-clause-ran
-returns-clause-ran g c =
+pub returns-in-Err-clause-ran : goal.returns-in-Err-clause-ran
+returns-in-Err-clause-ran g c =
     let cell = g.C.PhaseCells.cell c.args.cells.now in
-    let stored = c.loop-i.invariant.stored in
-    let end : c.loop-i.i ≡ c.args.count = omega arith in
-    let long : length c.loop-i.rows ≡ c.args.count * c.args.share.width = search rules in
-    let all : c.args.count * c.args.share.width ≡ c.loop-i.i * c.args.share.width = ap (λ (n : ℕ). n * c.args.share.width) (sym end) in
-    (stored.0, ap (λ (n : ℕ). each (cells_from cell c.args.start n)) (sym end) ∙ stored.1, sym (take_all (c.loop-i.i * c.args.share.width) c.loop-i.rows (omega arith)) ∙ stored.2, stored.3)
-
-pub returns-clause-spent : goal.returns-clause-spent
-returns-clause-spent g c =
-    let end : c.loop-i.i ≡ c.args.count = omega arith in
-    subst (λ (n : ℕ). Costs (g.C.PhaseCells.cost c.args.cells.now) c.args.start n (g.C.PhaseCells.spent c.args.cells.now c.args.worker.now) (g.C.PhaseCells.spent c.args.cells.now c.loop-i.worker)) end c.loop-i.invariant.spent
+    stops_behind cell c.args.start c.loop-done.done c.args.count c.args.share.width (take (c.loop-done.done * c.args.share.width) c.loop-done.rows) c.fill_next.new.rows (put_mid (c.loop-done.done * c.args.share.width) (length c.loop-done.rows - c.loop-done.done * c.args.share.width) c.loop-done.rows c.fill_next.new.rows) c.in-Err.stop c.loop-done.invariant.most c.loop-done.invariant.stored c.in-Err.ensures.stored
