@@ -66,7 +66,15 @@ fn is_total(alloc: Global, lo: i64, hi: i64, rights: Vec<Right>) -> Result<bool,
     facts.learn(ROW, Known::of_shape(Some(Shape::vector(alloc, 10))))?;
     facts.learn(NUMBER, Known::of_shape(Some(Shape::empty(alloc))))?;
     let mut indices = IndexTable::new(alloc);
-    let found = body_results(alloc, INDEX, &grid, &body, &called, &mut facts, &mut indices)?;
+    let found = body_results(
+        alloc,
+        INDEX,
+        &grid,
+        &body,
+        &called,
+        &mut facts,
+        &mut indices,
+    )?;
     Ok(found.is_some())
 }
 
@@ -140,12 +148,36 @@ fn selections_at_the_index(rt: HostRuntime) {
 fn operators_and_built_ins(rt: HostRuntime) {
     let alloc: Global = rt.alloc();
     let by = |cells: &[Cell]| vector(alloc, cells).expect(&rt, "memory");
-    assert!(rt; matches!(two(alloc, by(&[2]), Right::Binary(Op::Div, NUMBER, Var(FIRST))), Ok(true)));
-    assert!(rt; matches!(two(alloc, by(&[1, 0]), Right::Binary(Op::Rem, NUMBER, Var(FIRST))), Ok(false)));
-    assert!(rt; matches!(two(alloc, by(&[2]), Right::Binary(Op::Div, Var(FIRST), NUMBER)), Ok(false)));
+    assert!(rt;
+        matches!(
+            two(alloc, by(&[2]), Right::Binary(Op::Div, NUMBER, Var(FIRST))),
+            Ok(true)
+        )
+    );
+    assert!(rt;
+        matches!(
+            two(
+                alloc,
+                by(&[1, 0]),
+                Right::Binary(Op::Rem, NUMBER, Var(FIRST))
+            ),
+            Ok(false)
+        )
+    );
+    assert!(rt;
+        matches!(
+            two(alloc, by(&[2]), Right::Binary(Op::Div, Var(FIRST), NUMBER)),
+            Ok(false)
+        )
+    );
     assert!(rt; matches!(one(alloc, Right::Binary(Op::Add, ROW, NUMBER)), Ok(true)));
     assert!(rt; matches!(one(alloc, Right::Binary(Op::Add, ROW, INDEX)), Ok(false)));
-    assert!(rt; matches!(one(alloc, Right::Binary(Op::Add, UNKNOWN, NUMBER)), Ok(false)));
+    assert!(rt;
+        matches!(
+            one(alloc, Right::Binary(Op::Add, UNKNOWN, NUMBER)),
+            Ok(false)
+        )
+    );
     assert!(rt; matches!(one(alloc, Right::Unary(Op::Neg, ROW)), Ok(true)));
     assert!(rt; matches!(one(alloc, Right::Dim(UNKNOWN)), Ok(false)));
     assert!(rt; matches!(one(alloc, Right::ShapeOf(ROW)), Ok(true)));
