@@ -347,13 +347,15 @@ module _ (core : CoreTerm) where
     pub block_kept : (b : BlockTerm) (scope : List Var) (f : Var → Var) (g : Bases) (ts : List Base) → Keeps scope f → SameBases f g → Scoped scope b → BlockBases core g b ts → BlockBases core g (forwarded b f) ts
     block_kept (Gives xs) scope f g ts k w h b = bases_mapped f g w xs ts b
     block_kept (Bind xs s r rest) scope f g ts k w h b =
-        let o = source (forwarded_right r f) in
-        (b.0, (
-          right_kept r scope f g b.0 k w h.0 b.1.0,
-          b.1.1,
-          block_kept rest (xs ++ scope) (behind xs o f) (zip xs b.0 ++ g) ts (keeps_behind xs o scope f (source_scoped r scope f h.0 k) k)
-              (bases_behind xs o scope f g b.0 (λ x p. (source_scoped r scope f h.0 k x p, source_base core r f g b.0 w b.1.0 x p)) h.1 k w) h.2 b.1.2,
-        ))
+        let o = source (forwarded_right r f) in (
+          b.0,
+          (
+            right_kept r scope f g b.0 k w h.0 b.1.0,
+            b.1.1,
+            block_kept rest (xs ++ scope) (behind xs o f) (zip xs b.0 ++ g) ts (keeps_behind xs o scope f (source_scoped r scope f h.0 k) k)
+                (bases_behind xs o scope f g b.0 (λ x p. (source_scoped r scope f h.0 k x p, source_base core r f g b.0 w b.1.0 x p)) h.1 k w) h.2 b.1.2,
+          ),
+        )
 
     right_kept : (r : RightTerm) (scope : List Var) (f : Var → Var) (g : Bases) (ts : List Base) → Keeps scope f → SameBases f g → ScopedRight scope r → RightBases core g r ts → RightBases core g (forwarded_right r f) ts
     right_kept (Plain p) scope f g ts k w h b = plain_based f g w p ts b

@@ -452,11 +452,14 @@ module _ (core : CoreTerm) where
         either_based t c (Bind xs s (swept_right r behind) c) g new ts u
         (λ m v. block_kept b used (zip xs h.0 ++ g) new ts h.1.2
         (has_without xs h.0 (used_in c) g new (λ y p. unused_by xs (used_in c) used y (both_true (never_faults r) (is_unused xs behind) m).1 p) v))
-        (λ v. (h.0, (
-          right_kept r behind g new h.0 h.1.0 (has_left (used_in_right (swept_right r behind)) (used_in c) g new v),
-          h.1.1,
-          block_kept b used (zip xs h.0 ++ g) (zip xs h.0 ++ new) ts h.1.2 (has_below (zip xs h.0) g new (used_in c) (has_right (used_in_right (swept_right r behind)) (used_in c) g new v)),
-        )))
+        (λ v. (
+          h.0,
+          (
+            right_kept r behind g new h.0 h.1.0 (has_left (used_in_right (swept_right r behind)) (used_in c) g new v),
+            h.1.1,
+            block_kept b used (zip xs h.0 ++ g) (zip xs h.0 ++ new) ts h.1.2 (has_below (zip xs h.0) g new (used_in c) (has_right (used_in_right (swept_right r behind)) (used_in c) g new v)),
+          ),
+        ))
 
     right_kept : (r : RightTerm) (used : Var → Bool) (g new : Bases) (ts : List Base) → RightBases core g r ts → Has (used_in_right (swept_right r used)) g new → RightBases core new (swept_right r used) ts
     right_kept (Plain p) used g new ts h u = plain_kept g new p ts (each_has (plain_uses p) g new u) h
@@ -479,12 +482,14 @@ module _ (core : CoreTerm) where
         )
     right_kept (RightTerm.Call group xs) used g new ts h u = (h.0, (bases_kept g new xs h.0 (each_has xs g new u) h.1.0, h.1.1))
     right_kept (RightTerm.With o gens) used g new ts h u =
-        let us = used_in_gens (swept_gens gens used) in
-        (h.0, (
-          operation_kept g new o h.0 (each_has (op_uses o) g new (has_left (op_uses o) us g new u)) h.1.0,
-          gens_kept gens used g new h.0 h.1.1 (has_right (op_uses o) us g new u),
-          h.1.2,
-        ))
+        let us = used_in_gens (swept_gens gens used) in (
+          h.0,
+          (
+            operation_kept g new o h.0 (each_has (op_uses o) g new (has_left (op_uses o) us g new u)) h.1.0,
+            gens_kept gens used g new h.0 h.1.1 (has_right (op_uses o) us g new u),
+            h.1.2,
+          ),
+        )
     right_kept (RightTerm.Parted frame t cell o parts) used g new ts h u =
         let us = used_in_parts (swept_parts parts used) in (
           parted_kept g new o t (each_has (parted_uses o) g new (has_left (parted_uses o) us g new u)) h.0,

@@ -63,10 +63,10 @@ pub let_turn : (ls rest : List Let) (x : Let) (kept kept' : List LetTerm) (end :
 let_turn ls rest x kept kept' end start was is whole p e s n =
     let w = s end start n in (
       ap (λ z. before (map let_term rest) z start) w.0
-      ∙ sym (before_snoc (map let_term rest) (let_term x) (chain (reverse kept) end) start)
-      ∙ (λ i. before (sym (map_snoc let_term rest x) i) (chain (reverse kept) end) start)
-      ∙ (λ i. before (map let_term (sym e i)) (chain (reverse kept) end) start)
-      ∙ p,
+          ∙ sym (before_snoc (map let_term rest) (let_term x) (chain (reverse kept) end) start)
+          ∙ (λ i. before (sym (map_snoc let_term rest x) i) (chain (reverse kept) end) start)
+          ∙ (λ i. before (map let_term (sym e i)) (chain (reverse kept) end) start)
+          ∙ p,
       w.1,
     )
 

@@ -150,7 +150,11 @@ fn in_gen(alloc: Global, generator: CoreGen, used: &mut BTreeSet<u32>) -> Result
 }
 
 #[cycle(sweeping)]
-fn in_parted(alloc: Global, parted: PartedLoop, used: &mut BTreeSet<u32>) -> Result<PartedLoop, Memory>
+fn in_parted(
+    alloc: Global,
+    parted: PartedLoop,
+    used: &mut BTreeSet<u32>,
+) -> Result<PartedLoop, Memory>
     ensures swept { IfOk result (λ p. parted_term p ≡ swept_right (parted_term parted) (used_of used.old)) }
     ensures used { IfOk result (λ p. used_of used.new ≡ also (used_in_right (parted_term p)) (used_of used.old)) }
 {
