@@ -102,12 +102,7 @@ fn may_be_row(shape: &Option<Shape>) -> bool
 }
 
 /// Whether a selection is in range at each member of the grid.
-fn in_range(
-    grid: &Grid,
-    shape: &Option<Shape>,
-    index: &Relation,
-    literal: &Option<Array>,
-) -> bool
+fn in_range(grid: &Grid, shape: &Option<Shape>, index: &Relation, literal: &Option<Array>) -> bool
     ensures { result ≡ is_in_range grid.now shape.now (index_of index.now) literal.now }
 {
     let Some(shape) = shape else {

@@ -129,7 +129,14 @@ fn pass_binding(
     match total_values(alloc, &binding.right, called, grid, facts, indices)? {
         Some(values) => {
             let axes = grid.axes().len();
-            learn_relation(alloc, &binding.targets, &binding.right, axes, facts, indices)?;
+            learn_relation(
+                alloc,
+                &binding.targets,
+                &binding.right,
+                axes,
+                facts,
+                indices,
+            )?;
             learn_all(facts, &binding.targets, values)?;
             Ok(true)
         }
@@ -218,7 +225,10 @@ pub fn body_results(
     let facts_before = facts.mark();
     let indices_before = indices.mark();
     let axes = grid.axes().len();
-    facts.learn(index, Known::of_shape(Some(Shape::vector(alloc, axes as i32))))?;
+    facts.learn(
+        index,
+        Known::of_shape(Some(Shape::vector(alloc, axes as i32))),
+    )?;
     indices.learn(index, Relation::Plus(zeros(alloc, axes)?))?;
     let found = total_results(alloc, body, called, grid, facts, indices)?;
     facts.undo(facts_before);

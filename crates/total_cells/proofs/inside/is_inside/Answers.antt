@@ -11,8 +11,8 @@ returns-then-has_members c =
     let cs = c.args.numbers.now in
     let members : HaveMembers g = subst HaveMembers c.axes-axes.ensures.axes (c.has_members.ensures.some c.if-has_members.true) in
     let inside : IsTrue b ↔ AreInside g (map pos c.args.shape.now) cs =
-        subst (λ (zs : List ℤ). IsTrue b ↔ AreInside g zs cs) c.extents-extents.ensures.value
-        (subst (λ (h : List Grid1). IsTrue b ↔ AreInside h c.extents-extents.result.now cs) c.axes-axes.ensures.axes c.are_inside.ensures) in
+    subst (λ (zs : List ℤ). IsTrue b ↔ AreInside g zs cs) c.extents-extents.ensures.value
+    (subst (λ (h : List Grid1). IsTrue b ↔ AreInside h c.extents-extents.result.now cs) c.axes-axes.ensures.axes c.are_inside.ensures) in
     inside_is b g c.args.shape.now cs c.extents-extents.ensures.shape members inside
 
 pub returns-else-has_members : goal.returns-else-has_members

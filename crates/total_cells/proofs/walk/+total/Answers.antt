@@ -81,7 +81,7 @@ total_values-returns-in_default-3-clause-known t c =
     let r = ap right_term c.in-If.is in
     let off = is_unknown _ _ (ap seen (sym none) ∙ c.in_ok-second-in-If.ensures.known) in
     let second : total_block called grid (block_term c.in-If.no) k m ≡ false =
-        (λ i. total_block called grid (block_term c.in-If.no) (facts_of (sym c.in_ok-first-in-If.ensures.facts i)) (indices_of (sym c.in_ok-first-in-If.ensures.indices i))) ∙ off in
+    (λ i. total_block called grid (block_term c.in-If.no) (facts_of (sym c.in_ok-first-in-If.ensures.facts i)) (indices_of (sym c.in_ok-first-in-If.ensures.indices i))) ∙ off in
     choice_unknown (is_scalar_shape (k c.in-If.cond).shape) (total_block called grid (block_term c.in-If.yes) k m) (total_block called grid (block_term c.in-If.no) k m) _ second
     ∙ (λ i. known_if (total_right called grid (sym r i) k m) (right_facts called (sym r i) k))
 
