@@ -85,7 +85,11 @@ pub fn note_call(
 }
 
 /// The shapes of variables, if all of them are known.
-fn shapes_known(alloc: Global, vars: &[Var], table: &FactTable) -> Result<Option<Vec<Shape>>, Memory>
+fn shapes_known(
+    alloc: Global,
+    vars: &[Var],
+    table: &FactTable,
+) -> Result<Option<Vec<Shape>>, Memory>
     ensures { IfOk result (λ shapes. AreShapes (shapes_in (facts_of table.now) vars.now) shapes) }
 {
     let mut shapes = Vec::new(alloc);

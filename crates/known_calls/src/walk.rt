@@ -59,7 +59,10 @@ fn find_in_right(
             common_facts(alloc, &yes, &no)
         }
         Right::Loop {
-            params, test, body, ..
+            params,
+            test,
+            body,
+            ..
         } => {
             let outer = table.mark();
             forget(alloc, table, params)?;

@@ -1,5 +1,5 @@
 -- The core that a plan tells has its instances.
-use Rattle.std.proofs.Common.{◌≡◌, ℕ, zero, suc, ◌^◌, ◌<◌, ◌≤◌, false, List, [], ◌∷◌, ◌++◌, map, zip, drop, length, get_or, Option, Some, None, All, refl, sym, ap, subst, ◌∙◌, arith, ◌⊎◌, inl, inr}
+use Rattle.std.proofs.Common.{◌≡◌, ℕ, zero, suc, ◌^◌, ◌+◌, ◌<◌, ◌≤◌, false, List, [], ◌∷◌, ◌++◌, map, zip, drop, length, get_or, Option, Some, None, All, refl, sym, ap, subst, ◌∙◌, arith, ◌⊎◌, inl, inr}
 use Rattle.std.specs.Prelude.{slice_get, unwrap_or, option_map, AllPairs}
 use Rattle.std.proofs.lemmas.List.{length-map}
 use Rattle.std.proofs.lemmas.Option.{slice_get-map, slice_get_within, get_or_from_slice_get, slice_get-get_or}
@@ -279,9 +279,13 @@ module _ (core new : CoreTerm) (es : List Entry) (gs : List (List ℕ)) (main : 
           let w = mapped_stands at h.further place (subst (λ ns. StandsIn (map at ns) place) (further_is group places e) t) in
           let n = h.narrowed w.0 w.1.0 in
           let p = placed w.0 n.0 n.1.0 in
-          let g = retyped p.function (n.0).types in
-          (g, (ap (slice_get new.functions) (sym w.1.1) ∙ p.new_there,
-          subst (λ m. IsNarrowed core group m (param_types g)) (sym p.of_is ∙ ap of w.1.1) (subst (IsNarrowed core group (n.0).source) (sym p.types) n.1.1)))
+          let g = retyped p.function (n.0).types in (
+            g,
+            (
+              ap (slice_get new.functions) (sym w.1.1) ∙ p.new_there,
+              subst (λ m. IsNarrowed core group m (param_types g)) (sym p.of_is ∙ ap of w.1.1) (subst (IsNarrowed core group (n.0).source) (sym p.types) n.1.1),
+            ),
+          )
 
   apart : (group : ℕ) → AllPairs (Specialised.LaterElsewhere new.functions) (further group)
   apart group = go (slice_get core.groups group) refl
@@ -293,13 +297,13 @@ module _ (core new : CoreTerm) (es : List Entry) (gs : List (List ℕ)) (main : 
           subst (λ ns. AllPairs (Specialised.LaterElsewhere new.functions) (map at ns)) (sym (further_is group places e))
           (pairs_map (LaterElsewhere es) (Specialised.LaterElsewhere new.functions) at h.further
           (λ m n s t r f g ef eg.
-              let u = h.narrowed m s in
-              let w = h.narrowed n t in
-              let p = placed m u.0 u.1.0 in
-              let q = placed n w.0 w.1.0 in
-              let first : param_types f ≡ (u.0).types = ap param_types (some_same f (retyped p.function (u.0).types) (sym ef ∙ p.new_there)) ∙ p.types in
-              let second : param_types g ≡ (w.0).types = ap param_types (some_same g (retyped q.function (w.0).types) (sym eg ∙ q.new_there)) ∙ q.types in
-              (λ i. all_below (second i) (first i)) ∙ r u.0 w.0 u.1.0 w.1.0) h.apart)
+          let u = h.narrowed m s in
+          let w = h.narrowed n t in
+          let p = placed m u.0 u.1.0 in
+          let q = placed n w.0 w.1.0 in
+          let first : param_types f ≡ (u.0).types = ap param_types (some_same f (retyped p.function (u.0).types) (sym ef ∙ p.new_there)) ∙ p.types in
+          let second : param_types g ≡ (w.0).types = ap param_types (some_same g (retyped q.function (w.0).types) (sym eg ∙ q.new_there)) ∙ q.types in
+          (λ i. all_below (second i) (first i)) ∙ r u.0 w.0 u.1.0 w.1.0) h.apart)
 
   pub specialised : (e : Entry) → slice_get es main ≡ Some e → e.source ≡ core.main → length new.functions < 2 ^ 32 → IsSpecialised core new
   specialised e ee same few =
@@ -326,3 +330,15 @@ module _ (core new : CoreTerm) (es : List Entry) (gs : List (List ℕ)) (main : 
       let p = placed main e ee in
       let here : at main ≡ new.main = ap (λ o. unwrap_or o 0) (sym built.main_is) in
       ap param_types (some_same g (retyped p.function e.types) (sym eg ∙ ap (slice_get new.functions) (sym here) ∙ p.new_there)) ∙ p.types
+
+  -- each group has its own instances, and at most 16 more
+  pub few_added : (group : ℕ) (places ms : List ℕ) → slice_get core.groups group ≡ Some places → slice_get new.groups group ≡ Some ms → length ms ≤ length places + 16
+  few_added group places ms e q =
+      let h = plan.groups group places e in
+      let same : ms ≡ map at places ++ further group = some_same ms (map at places ++ further group) (sym q ∙ groups group places e) in
+      let long : length ms ≡ length (map at places) + length (map at h.further) = ap length same ∙ joined_long (map at places) (further group) ∙ ap (λ ns. length (map at places) + length (map at ns)) (further_is group places e) in
+      omega (arith, long, length-map places at, length-map h.further at, h.few)
+    where
+      joined_long : (xs ys : List ℕ) → length (xs ++ ys) ≡ length xs + length ys
+      joined_long [] ys = let r : length ys ≡ 0 + length ys = omega arith in r
+      joined_long (x ∷ xs) ys = let r = joined_long xs ys in let g : suc (length (xs ++ ys)) ≡ suc (length xs) + length ys = omega (arith, r) in g

@@ -64,7 +64,7 @@ known_turned (c ∷ cs) (t ∷ ts) k m h =
     let b = and_left (below c t) (all_below cs ts) h in
     and_both (below t c) (all_below ts cs)
     (and_both (same_base t.base c.base) (part_below t.part c.part) (sym (base_turned c.base t.base) ∙ and_left (same_base c.base t.base) (part_below c.part t.part) b)
-        (part_turned c.part t.part (and_left (is_known c.part) (all_known cs) k) (and_left (is_known t.part) (all_known ts) m) (and_right (same_base c.base t.base) (part_below c.part t.part) b)))
+    (part_turned c.part t.part (and_left (is_known c.part) (all_known cs) k) (and_left (is_known t.part) (all_known ts) m) (and_right (same_base c.base t.base) (part_below c.part t.part) b)))
     (known_turned cs ts (and_right (is_known c.part) (all_known cs) k) (and_right (is_known t.part) (all_known ts) m) (and_right (below c t) (all_below cs ts) h))
 
 or_left : (b c : Bool) → b ≡ true → (b || c) ≡ true

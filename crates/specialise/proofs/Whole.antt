@@ -18,10 +18,10 @@ use Rattle.core_groups.proofs.Outcomes.{outcomes}
 use Rattle.specialise.specs.Plans.{Entry, owns, retyped, IsEntry, IsPlan, Keeps}
 use Rattle.specialise.specs.Tables.{types_in, types_at, exact}
 use Rattle.specialise.specs.Orders.{numbers, IsBuilt}
-use Rattle.specialise.specs.Mains.{MainPlanned, AreExact, MainTakes}
+use Rattle.specialise.specs.Mains.{MainPlanned, FewAdded, AreExact, MainTakes}
 use Rattle.specialise.proofs.Forms.{exact_below, exact_known, below_bases}
 use Rattle.specialise.proofs.Planning.{first_plan, with_entry, last_at}
-use Rattle.specialise.proofs.Built.{specialised, main_types}
+use Rattle.specialise.proofs.Built.{specialised, main_types, few_added}
 
 have_forms : (types : List ArrayType) (args : List ArrayValue) → all_have types args ≡ all_have_forms types (map form_of args)
 have_forms [] [] = refl
@@ -55,34 +55,36 @@ pub main_planned : (core : CoreTerm) → IsWellFormed core → (forms : List For
     → MainPlanned core.main forms es old more main → IsPlan core more gs × MainIs core forms more main
 main_planned core well forms es more gs old main e g o h = elim h [
   | inl a ↦
-      let below : all_below (exact forms) (param_types f) ≡ true = ap (all_below (exact forms)) (sym types) ∙ a.fits in
-      (subst (λ xs. IsPlan core xs gs) (sym a.entries) (with_entry core es gs new plan (record { function = f; there = well.main.1.0; bases = below_bases (exact forms) (param_types f) below })),
-      record {
-        entry = new;
-        function = f;
-        found = (λ i. slice_get (a.entries i) (a.is i)) ∙ last_at es new;
-        source = refl;
-        there = well.main.1.0;
-        takes = sym (exact_below (param_types f) forms) ∙ below ∙ sym (sym (exact_below (exact forms) forms) ∙ exact_itself forms);
-        exact_types = λ q. record { contain = sym (exact_below (exact forms) forms) ∙ exact_itself forms; alone = exact_itself forms };
-      })
-  | inr s ↦
-      (subst (λ xs. IsPlan core xs gs) (sym s.entries) plan,
-      record {
-        entry = own;
-        function = f;
-        found = (λ i. slice_get (s.entries i) ((s.is ∙ o) i)) ∙ plan.own core.main f well.main.1.0;
-        source = refl;
-        there = well.main.1.0;
-        takes = refl;
-        exact_types = λ q. record {
-          contain = q;
-          alone = elim s.reason [
-            | inl n ↦ absurd (false≢true (sym n ∙ ap (all_below (exact forms)) types ∙ exact_below (param_types f) forms ∙ q))
-            | inr y ↦ ap (λ ts. all_below ts (exact forms)) (sym types) ∙ y
-          ];
-        };
-      })
+      let below : all_below (exact forms) (param_types f) ≡ true = ap (all_below (exact forms)) (sym types) ∙ a.fits in (
+        subst (λ xs. IsPlan core xs gs) (sym a.entries) (with_entry core es gs new plan (record { function = f; there = well.main.1.0; bases = below_bases (exact forms) (param_types f) below })),
+        record {
+          entry = new;
+          function = f;
+          found = (λ i. slice_get (a.entries i) (a.is i)) ∙ last_at es new;
+          source = refl;
+          there = well.main.1.0;
+          takes = sym (exact_below (param_types f) forms) ∙ below ∙ sym (sym (exact_below (exact forms) forms) ∙ exact_itself forms);
+          exact_types = λ q. record { contain = sym (exact_below (exact forms) forms) ∙ exact_itself forms; alone = exact_itself forms };
+        },
+      )
+  | inr s ↦ (
+    subst (λ xs. IsPlan core xs gs) (sym s.entries) plan,
+    record {
+      entry = own;
+      function = f;
+      found = (λ i. slice_get (s.entries i) ((s.is ∙ o) i)) ∙ plan.own core.main f well.main.1.0;
+      source = refl;
+      there = well.main.1.0;
+      takes = refl;
+      exact_types = λ q. record {
+        contain = q;
+        alone = elim s.reason [
+          | inl n ↦ absurd (false≢true (sym n ∙ ap (all_below (exact forms)) types ∙ exact_below (param_types f) forms ∙ q))
+          | inr y ↦ ap (λ ts. all_below ts (exact forms)) (sym types) ∙ y
+        ];
+      };
+    },
+  )
 ]
   where
     f : FunTerm
@@ -130,10 +132,13 @@ module _ (core new : CoreTerm) (well : IsWellFormed core) (forms : List Form) (e
   same_outcome args caps h =
       outcomes core new well is_specialised args caps
       (λ f g ef eg.
-          have_forms (param_types f) args ∙ ap (all_have_forms (param_types f)) h
-          ∙ ap (λ (x : FunTerm). all_have_forms (param_types x) forms) (some_same f m.function (sym ef ∙ m.there))
-          ∙ m.takes ∙ ap (λ ts. all_have_forms ts forms) (sym (types_of_main g eg))
-          ∙ sym (have_forms (param_types g) args ∙ ap (all_have_forms (param_types g)) h))
+      have_forms (param_types f) args ∙ ap (all_have_forms (param_types f)) h
+      ∙ ap (λ (x : FunTerm). all_have_forms (param_types x) forms) (some_same f m.function (sym ef ∙ m.there))
+      ∙ m.takes ∙ ap (λ ts. all_have_forms ts forms) (sym (types_of_main g eg))
+      ∙ sym (have_forms (param_types g) args ∙ ap (all_have_forms (param_types g)) h))
+
+  pub added : FewAdded core new
+  added = few_added core new es gs main plan built
 
   pub main_takes : MainTakes core new forms
   main_takes f g ef eg q =
