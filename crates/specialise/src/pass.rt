@@ -40,7 +40,8 @@ pub fn specialise(alloc: Global, core: Core, forms: &[Form]) -> Result<Core, Mem
 
 /// Plans the instance of main for arguments of these forms, if it takes them and others.
 fn plan_main(alloc: Global, core: &Core, plan: &mut Plan, forms: &[Form]) -> Result<(), Memory>
-    ensures planned { OnOk result (MainPlanned (core_term core.now).main forms.now (entries plan.old.items.items) plan.old.main (entries plan.new.items.items) plan.new.main) }
+    ensures planned { OnOk result (MainPlanned (core_term core.now).main forms.now (entries plan.old.items.items) plan.old.main
+        (entries plan.new.items.items) plan.new.main) }
     ensures groups { OnOk result (plan.new.groups ≡ plan.old.groups) }
 {
     let types = item_types(alloc, &plan.items, core.main)?;
