@@ -59,7 +59,8 @@ pub record IsSpecialised (a b : CoreTerm) : Type 0 where
   pub ordered : (i j : ℕ) → i < length b.functions → j < length b.functions → of j < of i → j < i
   pub count : length b.groups ≡ length a.groups
   pub groups : (group : ℕ) (places : List ℕ) → slice_get a.groups group ≡ Some places → slice_get b.groups group ≡ Some (map at places ++ further group)
-  pub instances : (group place : ℕ) → StandsIn (further group) place → (g : FunTerm) × ((slice_get b.functions place ≡ Some g) × IsNarrowed a group (of place) (param_types g))
+  pub instances : (group place : ℕ) → StandsIn (further group) place →
+      (g : FunTerm) × ((slice_get b.functions place ≡ Some g) × IsNarrowed a group (of place) (param_types g))
   pub apart : (group : ℕ) → AllPairs (LaterElsewhere b.functions) (further group)
   pub main : (g : FunTerm) × ((slice_get b.functions b.main ≡ Some g) × (of b.main ≡ a.main))
   pub few : length b.functions < 2 ^ 32

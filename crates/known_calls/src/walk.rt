@@ -48,7 +48,8 @@ fn find_in_right(
     table: &mut FactTable,
     calls: &mut Vec<KnownCall>,
 ) -> Result<Vec<Known>, Memory>
-    ensures calls { OnOk result (told calls.new.items ≡ told calls.old.items ++ known_right (shapes_of called.now) (right_term right.now) (facts_of table.old)) }
+    ensures calls { OnOk result (told calls.new.items
+        ≡ told calls.old.items ++ known_right (shapes_of called.now) (right_term right.now) (facts_of table.old)) }
     ensures known { IfOk result (λ known. map fact_of known.items ≡ right_facts (shapes_of called.now) (right_term right.now) (facts_of table.old)) }
     ensures table { OnOk result (table.new ≡ table.old) }
 {
@@ -109,7 +110,8 @@ fn find_in_gen(
     table: &mut FactTable,
     calls: &mut Vec<KnownCall>,
 ) -> Result<(), Memory>
-    ensures calls { OnOk result (told calls.new.items ≡ told calls.old.items ++ known_gen (shapes_of called.now) (gen_term generator.now) (facts_of table.old)) }
+    ensures calls { OnOk result (told calls.new.items
+        ≡ told calls.old.items ++ known_gen (shapes_of called.now) (gen_term generator.now) (facts_of table.old)) }
     ensures table { OnOk result (table.new ≡ table.old) }
 {
     let outer = table.mark();
@@ -127,7 +129,8 @@ fn find_in_parted(
     table: &mut FactTable,
     calls: &mut Vec<KnownCall>,
 ) -> Result<Vec<Known>, Memory>
-    ensures calls { OnOk result (told calls.new.items ≡ told calls.old.items ++ known_right (shapes_of called.now) (parted_term parted.now) (facts_of table.old)) }
+    ensures calls { OnOk result (told calls.new.items
+        ≡ told calls.old.items ++ known_right (shapes_of called.now) (parted_term parted.now) (facts_of table.old)) }
     ensures known { IfOk result (λ known. map fact_of known.items ≡ right_facts (shapes_of called.now) (parted_term parted.now) (facts_of table.old)) }
     ensures table { OnOk result (table.new ≡ table.old) }
 {

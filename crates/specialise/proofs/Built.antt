@@ -1,5 +1,5 @@
 -- The core that a plan tells has its instances.
-use Rattle.std.proofs.Common.{◌≡◌, ℕ, zero, suc, ◌^◌, ◌<◌, ◌≤◌, false, List, [], ◌∷◌, ◌++◌, map, zip, drop, length, get_or, Option, Some, None, All, refl, sym, ap, subst, ◌∙◌, arith, ◌⊎◌, inl, inr}
+use Rattle.std.proofs.Common.{◌≡◌, ℕ, zero, suc, ◌^◌, ◌+◌, ◌<◌, ◌≤◌, false, List, [], ◌∷◌, ◌++◌, map, zip, drop, length, get_or, Option, Some, None, All, refl, sym, ap, subst, ◌∙◌, arith, ◌⊎◌, inl, inr}
 use Rattle.std.specs.Prelude.{slice_get, unwrap_or, option_map, AllPairs}
 use Rattle.std.proofs.lemmas.List.{length-map}
 use Rattle.std.proofs.lemmas.Option.{slice_get-map, slice_get_within, get_or_from_slice_get, slice_get-get_or}
@@ -330,3 +330,15 @@ module _ (core new : CoreTerm) (es : List Entry) (gs : List (List ℕ)) (main : 
       let p = placed main e ee in
       let here : at main ≡ new.main = ap (λ o. unwrap_or o 0) (sym built.main_is) in
       ap param_types (some_same g (retyped p.function e.types) (sym eg ∙ ap (slice_get new.functions) (sym here) ∙ p.new_there)) ∙ p.types
+
+  -- each group has its own instances, and at most 16 more
+  pub few_added : (group : ℕ) (places ms : List ℕ) → slice_get core.groups group ≡ Some places → slice_get new.groups group ≡ Some ms → length ms ≤ length places + 16
+  few_added group places ms e q =
+      let h = plan.groups group places e in
+      let same : ms ≡ map at places ++ further group = some_same ms (map at places ++ further group) (sym q ∙ groups group places e) in
+      let long : length ms ≡ length (map at places) + length (map at h.further) = ap length same ∙ joined_long (map at places) (further group) ∙ ap (λ ns. length (map at places) + length (map at ns)) (further_is group places e) in
+      omega (arith, long, length-map places at, length-map h.further at, h.few)
+    where
+      joined_long : (xs ys : List ℕ) → length (xs ++ ys) ≡ length xs + length ys
+      joined_long [] ys = let r : length ys ≡ 0 + length ys = omega arith in r
+      joined_long (x ∷ xs) ys = let r = joined_long xs ys in let g : suc (length (xs ++ ys)) ≡ suc (length xs) + length ys = omega (arith, r) in g

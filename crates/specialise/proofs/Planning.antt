@@ -1,7 +1,9 @@
 -- A plan stays one, where an instance is put into a group.
-use Rattle.std.proofs.Common.{◌≡◌, ℕ, zero, suc, ◌<◌, Bool, true, false, ◌&&◌, not, List, [], ◌∷◌, ◌++◌, map, length, Option, Some, None, refl, sym, ap, subst, ◌∙◌, ◌+◌, append_assoc, append-nil, arith, ◌⊎◌, inl, inr}
-use Rattle.std.specs.Prelude.{slice_get, unwrap_or, AllPairs, nat_lt}
+use Rattle.std.proofs.Common.{◌≡◌, ℕ, zero, suc, ◌<◌, ◌≤◌, Bool, true, false, ◌&&◌, not, List, [], ◌∷◌, ◌++◌, map, length, Option, Some, None, refl, sym, ap, subst, ◌∙◌, ◌+◌, append_assoc, append-nil, arith, ◌⊎◌, inl, inr}
+use Rattle.std.specs.Prelude.{slice_get, unwrap_or, AllPairs, nat_lt, if◌then◌else◌}
 use Rattle.std.proofs.lemmas.Bool.{false≢true}
+use Rattle.std.proofs.lemmas.Bool.Decides.{nat_tests}
+use Rattle.shape_types.proofs.Inclusion.{and_right}
 use Rattle.std.proofs.lemmas.Option.{slice_get_within}
 use Rattle.sac_base.specs.declared.form.Form.{Form}
 use Rattle.sac_base.specs.declared.types.ArrayType.{ArrayType}
@@ -10,7 +12,7 @@ use Rattle.core_ir.specs.Outcome.{param_types, group_at}
 use Rattle.core_ir.specs.Terms.{FunTerm, CoreTerm}
 use Rattle.core_ir.specs.WellFormed.{IsWellFormed, bases as bases_of}
 use Rattle.core_calls.specs.Nests.{StandsIn}
-use Rattle.core_groups.specs.Specialised.{IsNarrowed}
+use Rattle.core_groups.specs.Specialised.{all_known, IsNarrowed}
 use Rattle.core_groups.proofs.Lists.{some_same, none_some, stands_left, stands_right, stands_cases, pairs_append, pairs_weaker}
 use Rattle.core_groups.proofs.Choice.{group_is, group_there, member}
 use Rattle.specialise.specs.Plans.{Entry, owns, joined, IsEntry, LaterElsewhere, HasFurther, IsPlan, Keeps}
@@ -64,6 +66,32 @@ none_same lists types h e = false≢true (sym (ap (λ b. not b && nat_lt (known_
 false_by : (b : Bool) → (b ≡ true → ⊥) → b ≡ false
 false_by true h = absurd (h refl)
 false_by false h = refl
+
+below_sixteen : (n : ℕ) → nat_lt n 16 ≡ true → n < 16
+below_sixteen n h = grind (arith, nat_tests)
+
+one_more_long : (ns : List ℕ) (n most : ℕ) → length ns < most → length (ns ++ (n ∷ [])) ≤ most
+one_more_long [] n most h = omega (arith, h)
+one_more_long (m ∷ ns) n zero h = absurd (omega (arith, h))
+one_more_long (m ∷ ns) n (suc most) h = let q = one_more_long ns n most (omega (arith, h)) in omega (arith, q)
+
+counted_on : (types : List ArrayType) (lists : List (List ArrayType)) → known_count lists ≤ known_count (types ∷ lists)
+counted_on types lists = go (all_known types) refl
+  where
+    go : (b : Bool) → all_known types ≡ b → known_count lists ≤ (if all_known types then suc (known_count lists) else known_count lists)
+    go true e = subst (λ x. known_count lists ≤ (if x then suc (known_count lists) else known_count lists)) (sym e) (omega arith)
+    go false e = subst (λ x. known_count lists ≤ (if x then suc (known_count lists) else known_count lists)) (sym e) (omega arith)
+
+-- further instances have known shapes, so there are at most as many of them
+known_more : (es : List Entry) (own further : List ℕ) → ((n : ℕ) → StandsIn further n → all_known (types_at es n) ≡ true) → length further ≤ known_count (map (types_at es) (own ++ further))
+known_more es [] [] h = omega arith
+known_more es [] (n ∷ ns) h =
+    let rest = known_more es [] ns (λ m s. h m (inr s)) in
+    subst (λ x. suc (length ns) ≤ (if x then suc (known_count (map (types_at es) ns)) else known_count (map (types_at es) ns))) (sym (h n (inl refl))) (omega (arith, rest))
+known_more es (m ∷ own) further h =
+    let rest = known_more es own further h in
+    let on = counted_on (types_at es m) (map (types_at es) (own ++ further)) in
+    omega (arith, rest, on)
 
 module _ (core : CoreTerm) (well : IsWellFormed core) (es : List Entry) (gs : List (List ℕ)) (plan : IsPlan core es gs) (group : ℕ) (own : List ℕ) (there : slice_get core.groups group ≡ Some own) (forms : List Form) where
   abbrev among : HasFurther core es gs group own
@@ -127,6 +155,14 @@ module _ (core : CoreTerm) (well : IsWellFormed core) (es : List Entry) (gs : Li
         let w = (plan.groups g places q).narrowed n s in
         (w.0, (still es (record { source = source; types = exact forms }) n w.0 w.1.0, w.1.1))
 
+    fewer : length (plan.groups group own there).further < 16
+    fewer =
+        let h = plan.groups group own there in
+        let known = known_more es own h.further (λ n s. let w = h.narrowed n s in ap all_known (ap types_in w.1.0) ∙ w.1.1.known) in
+        let low = below_sixteen (known_count (types_within es gs group)) (and_right (not (has_same (types_within es gs group) (exact forms))) (nat_lt (known_count (types_within es gs group)) 16) wanted) in
+        let same : known_count (types_within es gs group) ≡ known_count (map (types_at es) (own ++ h.further)) = ap known_count within in
+        omega (arith, known, low, same)
+
     cross : (m n : ℕ) → StandsIn (plan.groups group own there).further m → StandsIn (length es ∷ []) n → LaterElsewhere more m n
     cross m n s t d e ed ee =
         let w = (plan.groups group own there).narrowed m s in
@@ -147,6 +183,7 @@ module _ (core : CoreTerm) (well : IsWellFormed core) (es : List Entry) (gs : Li
         all = joined_other gs group g (length es) other ∙ (plan.groups g places q).all;
         narrowed = kept_narrowed g places q;
         apart = weaker g places q;
+        few = (plan.groups g places q).few;
       }
       | inl same ↦
           subst (λ k. HasFurther core more (joined gs group (length es)) k places) (sym same)
@@ -160,6 +197,7 @@ module _ (core : CoreTerm) (well : IsWellFormed core) (es : List Entry) (gs : Li
             apart =
                 pairs_append (LaterElsewhere more) (plan.groups group own there).further (length es ∷ []) (weaker group own there)
                 (λ i j d l m. absurd (omega (arith, l, m))) cross;
+            few = one_more_long (plan.groups group own there).further (length es) 16 fewer;
           }))
     ]
 
@@ -206,6 +244,7 @@ with_entry core es gs x plan is = record {
         further = h.further;
         all = h.all;
         narrowed = λ n s. let w = h.narrowed n s in (w.0, (still es x n w.0 w.1.0, w.1.1));
+        few = h.few;
         apart =
             pairs_weaker (LaterElsewhere es) (LaterElsewhere (es ++ (x ∷ []))) h.further
             (λ m n s t r d e ed ee.
@@ -244,5 +283,6 @@ first_plan core es gs e g = record {
     all = ap (λ xs. slice_get xs group) g ∙ q ∙ ap Some (sym (append-nil places));
     narrowed = λ n s. absurd s;
     apart = λ i j d l m. absurd (omega (arith, m));
+    few = omega arith;
   };
 }

@@ -18,10 +18,10 @@ use Rattle.core_groups.proofs.Outcomes.{outcomes}
 use Rattle.specialise.specs.Plans.{Entry, owns, retyped, IsEntry, IsPlan, Keeps}
 use Rattle.specialise.specs.Tables.{types_in, types_at, exact}
 use Rattle.specialise.specs.Orders.{numbers, IsBuilt}
-use Rattle.specialise.specs.Mains.{MainPlanned, AreExact, MainTakes}
+use Rattle.specialise.specs.Mains.{MainPlanned, FewAdded, AreExact, MainTakes}
 use Rattle.specialise.proofs.Forms.{exact_below, exact_known, below_bases}
 use Rattle.specialise.proofs.Planning.{first_plan, with_entry, last_at}
-use Rattle.specialise.proofs.Built.{specialised, main_types}
+use Rattle.specialise.proofs.Built.{specialised, main_types, few_added}
 
 have_forms : (types : List ArrayType) (args : List ArrayValue) → all_have types args ≡ all_have_forms types (map form_of args)
 have_forms [] [] = refl
@@ -136,6 +136,9 @@ module _ (core new : CoreTerm) (well : IsWellFormed core) (forms : List Form) (e
       ∙ ap (λ (x : FunTerm). all_have_forms (param_types x) forms) (some_same f m.function (sym ef ∙ m.there))
       ∙ m.takes ∙ ap (λ ts. all_have_forms ts forms) (sym (types_of_main g eg))
       ∙ sym (have_forms (param_types g) args ∙ ap (all_have_forms (param_types g)) h))
+
+  pub added : FewAdded core new
+  added = few_added core new es gs main plan built
 
   pub main_takes : MainTakes core new forms
   main_takes f g ef eg q =

@@ -1,5 +1,5 @@
 -- The instance of main.
-use Rattle.std.specs.Prelude.{◌≡◌, ℕ, ◌⊎◌, true, false, List, [], ◌∷◌, ◌++◌, length, Some, slice_get}
+use Rattle.std.specs.Prelude.{◌≡◌, ◌≤◌, ◌+◌, ℕ, ◌⊎◌, true, false, List, [], ◌∷◌, ◌++◌, length, Some, slice_get}
 use Rattle.sac_base.specs.declared.form.Form.{Form}
 use Rattle.sac_base.specs.declared.types.ArrayType.{ArrayType}
 use Rattle.sac_base.specs.Types.{all_have_forms, all_below}
@@ -22,6 +22,12 @@ pub record MainStays (source : ℕ) (forms : List Form) (es more : List Entry) (
 
 abbrev pub MainPlanned : ℕ → List Form → List Entry → ℕ → List Entry → ℕ → Type 0
 MainPlanned source forms es old more main = MainAdded source forms es more main ⊎ MainStays source forms es more old main
+
+-- each group has its own instances, and at most 16 more
+abbrev pub FewAdded : CoreTerm → CoreTerm → Type 0
+FewAdded core new =
+    (group : ℕ) (places members : List ℕ) → slice_get core.groups group ≡ Some places → slice_get new.groups group ≡ Some members →
+    length members ≤ length places + 16
 
 -- types that contain arrays of these forms, and no others
 pub record AreExact (types : List ArrayType) (forms : List Form) : Type 0 where

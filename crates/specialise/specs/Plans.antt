@@ -1,5 +1,5 @@
 -- Which instances the new core has.
-use Rattle.std.specs.Prelude.{◌≡◌, ℕ, zero, suc, false, List, [], ◌∷◌, ◌++◌, map, zip, length, AllPairs, Option, Some, None, slice_get, option_map}
+use Rattle.std.specs.Prelude.{◌≡◌, ◌≤◌, ℕ, zero, suc, false, List, [], ◌∷◌, ◌++◌, map, zip, length, AllPairs, Option, Some, None, slice_get, option_map}
 use Rattle.std.specs.declared.alloc.Global.{Global}
 use Rattle.std.specs.Prelude.{Vec}
 use Rattle.sac_base.specs.declared.types.ArrayType.{ArrayType}
@@ -65,6 +65,7 @@ pub record HasFurther (core : CoreTerm) (es : List Entry) (gs : List (List ℕ))
   pub all : slice_get gs group ≡ Some (places ++ further)
   pub narrowed : (n : ℕ) → StandsIn further n → (e : Entry) × ((slice_get es n ≡ Some e) × IsNarrowed core group e.source e.types)
   pub apart : AllPairs (LaterElsewhere es) further
+  pub few : length further ≤ 16
 
 -- The entries begin with the core's functions, and the members of each group with its own.
 pub record IsPlan (core : CoreTerm) (es : List Entry) (gs : List (List ℕ)) : Type 0 where

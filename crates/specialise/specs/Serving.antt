@@ -1,5 +1,6 @@
 -- What a plan becomes for a call.
-use Rattle.std.specs.Prelude.{◌≡◌, ℕ, ◌&&◌, ◌⊎◌, ◌≤◌, not, nat_lt, true, false, Bool, List, [], ◌∷◌, ◌++◌, map, length, Option, Some, None, slice_get, unwrap_or}
+use Rattle.std.specs.Prelude.{◌≡◌, ℕ, ◌&&◌, ◌⊎◌, ◌≤◌, not, nat_lt, true, false, Bool}
+use Rattle.std.specs.Prelude.{List, [], ◌∷◌, ◌++◌, map, length, Option, Some, None, slice_get, unwrap_or}
 use Rattle.sac_base.specs.declared.form.Form.{Form}
 use Rattle.sac_base.specs.declared.types.ArrayType.{ArrayType}
 use Rattle.sac_base.specs.Types.{all_have_forms, all_below, all_compatible}
@@ -33,7 +34,8 @@ SourceFound es own forms None = all_compatible (map (types_at es) own) ≡ true 
 SourceFound es own forms (Some place) = IsSource es own forms place
 
 -- an instance was put into a group
-pub record IsServed (own : List ℕ) (group : ℕ) (forms : List Form) (es : List Entry) (gs : List (List ℕ)) (more : List Entry) (others : List (List ℕ)) : Type 0 where
+pub record IsServed (own : List ℕ) (group : ℕ) (forms : List Form) (es : List Entry) (gs : List (List ℕ))
+    (more : List Entry) (others : List (List ℕ)) : Type 0 where
   pub source : ℕ
   pub is : IsSource es own forms source
   pub wanted : wants_more (types_within es gs group) (exact forms) ≡ true
@@ -41,7 +43,8 @@ pub record IsServed (own : List ℕ) (group : ℕ) (forms : List Form) (es : Lis
   pub groups : others ≡ joined gs group (length es)
 
 -- nothing was done, as nothing was wanted
-pub record IsLeft (own : List ℕ) (group : ℕ) (forms : List Form) (es : List Entry) (gs : List (List ℕ)) (more : List Entry) (others : List (List ℕ)) : Type 0 where
+pub record IsLeft (own : List ℕ) (group : ℕ) (forms : List Form) (es : List Entry) (gs : List (List ℕ))
+    (more : List Entry) (others : List (List ℕ)) : Type 0 where
   pub reason : (all_compatible (map (types_at es) own) ≡ true → NoSource es own forms) ⊎ (wants_more (types_within es gs group) (exact forms) ≡ false)
   pub entries : more ≡ es
   pub groups : others ≡ gs

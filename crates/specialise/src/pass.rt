@@ -7,7 +7,7 @@ ghost use Rattle.core_ir.specs.Outcome.{outcome};
 ghost use Rattle.core_ir.specs.View.{core_term};
 ghost use Rattle.core_ir.specs.WellFormed.{IsWellFormed};
 ghost use Rattle.specialise.specs.Plans.{entries, members};
-ghost use Rattle.specialise.specs.Mains.{MainPlanned, MainTakes};
+ghost use Rattle.specialise.specs.Mains.{MainPlanned, MainTakes, FewAdded};
 
 use crate::building::build;
 use crate::plan::{Item, Plan, add, plan_of};
@@ -20,7 +20,7 @@ use std::alloc::Global;
 /// Makes instances of functions for the known shapes of calls' arguments, and one of main for the forms of the program's arguments, where it takes them.
 ///
 /// Of a well-formed core the result is well formed and has the same outcome on all arguments of these forms, under all limits. Where main takes them, it
-/// takes them alone in the result.
+/// takes them alone in the result. At most 16 instances are added to a group.
 ///
 /// # Errors
 ///
@@ -29,6 +29,7 @@ pub fn specialise(alloc: Global, core: Core, forms: &[Form]) -> Result<Core, Mem
     ensures outcome { IsWellFormed (core_term core) → (args : List ArrayValue) (caps : Caps) → map form_of args ≡ forms.now
         → IfOk result (λ new. outcome (core_term core) args caps ≡ outcome (core_term new) args caps) }
     ensures well { IsWellFormed (core_term core) → IfOk result (λ new. IsWellFormed (core_term new)) }
+    ensures added { IsWellFormed (core_term core) → IfOk result (λ new. FewAdded (core_term core) (core_term new)) }
     ensures main { IsWellFormed (core_term core) → IfOk result (λ new. MainTakes (core_term core) (core_term new) forms.now) }
 {
     let mut plan = plan_of(alloc, &core)?;
@@ -39,7 +40,8 @@ pub fn specialise(alloc: Global, core: Core, forms: &[Form]) -> Result<Core, Mem
 
 /// Plans the instance of main for arguments of these forms, if it takes them and others.
 fn plan_main(alloc: Global, core: &Core, plan: &mut Plan, forms: &[Form]) -> Result<(), Memory>
-    ensures planned { OnOk result (MainPlanned (core_term core.now).main forms.now (entries plan.old.items.items) plan.old.main (entries plan.new.items.items) plan.new.main) }
+    ensures planned { OnOk result (MainPlanned (core_term core.now).main forms.now (entries plan.old.items.items) plan.old.main
+        (entries plan.new.items.items) plan.new.main) }
     ensures groups { OnOk result (plan.new.groups ≡ plan.old.groups) }
 {
     let types = item_types(alloc, &plan.items, core.main)?;
