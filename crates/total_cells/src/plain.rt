@@ -3,7 +3,8 @@
 ghost use Rattle.std.specs.Prelude.{◌≡◌, [], ◌∷◌, IfOk};
 ghost use Rattle.std.specs.List.{list_all};
 ghost use Rattle.core_ir.specs.View.{right_term};
-ghost use Rattle.core_loops.specs.Indices.{at_literal as literal_is_index, in_range as is_in_range, is_division as divides, may_be_row as row_fits, no_zero as none_is_zero};
+ghost use Rattle.core_loops.specs.Indices.{at_literal as literal_is_index, in_range as is_in_range};
+ghost use Rattle.core_loops.specs.Indices.{is_division as divides, may_be_row as row_fits, no_zero as none_is_zero};
 ghost use Rattle.fact_table.specs.Table.{fact_of, facts_of};
 ghost use Rattle.index_table.specs.Table.{index_of, indices_of};
 ghost use Rattle.plain_facts.specs.Rights.{fact_of_right};

@@ -216,7 +216,8 @@ pub fn body_results(
     indices: &mut IndexTable,
 ) -> Result<Option<Vec<Known>>, Memory>
     ensures known { IfOk result (λ found. seen found
-        ≡ known_if (total_block (shapes_of called.now) grid.now (block_term body.now) (note (facts_of facts.old) index (shape_fact (Some (length grid.now ∷ []))))
+        ≡ known_if (total_block (shapes_of called.now) grid.now (block_term body.now)
+        (note (facts_of facts.old) index (shape_fact (Some (length grid.now ∷ []))))
         (note_index (indices_of indices.old) index (Plus (replicate (length grid.now) (pos 0)))))
         (block_facts (shapes_of called.now) (block_term body.now) (note (facts_of facts.old) index (shape_fact (Some (length grid.now ∷ [])))))) }
     ensures facts { OnOk result (facts.new ≡ facts.old) }
