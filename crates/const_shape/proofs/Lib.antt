@@ -1,3 +1,4 @@
 mod Axes
-mod Bodies
+mod Checks
+mod Cleaned
 mod Steps

@@ -14,7 +14,7 @@ use Rattle.core_ir.specs.View.{block_term, let_term, right_term, gen_term, part_
 use Rattle.core_ir.proofs.Trees.{block_out, block_roll, with_out, with_roll, parted_out, parted_roll}
 use Rattle.sac_base.specs.declared.memory.Memory.{Memory}
 use Rattle.core_facts.specs.Facts.{Fact, Facts, shape_fact, note_all, parted_shape, known_shape, right_facts, block_facts}
-use Rattle.core_facts.specs.Settled.{settled, settled_right, settled_gens, settled_parts}
+use Rattle.core_cleaning.specs.Checks.{simplified, simplified_right, simplified_gens, simplified_parts}
 use Rattle.fact_table.specs.Notes.{Note}
 use Rattle.fact_table.specs.Table.{fact_of}
 use Rattle.const_shape.specs.declared.known.KnownRight.{KnownRight}
@@ -56,11 +56,11 @@ module _ (called : ℕ → List (Option (List ℕ))) (k : Facts) where
   parts_settled [] = []
   parts_settled (p ∷ ps) = settled_part called (part_term p) k ∷ parts_settled ps
 
-  gens_done : (gs : List CoreGen) → gens_of (gens_settled gs) ≡ settled_gens called (gens_of (map gen_term gs)) k
+  gens_done : (gs : List CoreGen) → gens_of (gens_settled gs) ≡ simplified_gens called (gens_of (map gen_term gs)) k
   gens_done [] = refl
   gens_done (g ∷ gs) = let s = settled_gen called (gen_term g) k in ap (Gen s.head s.body) (gens_done gs)
 
-  parts_done : (ps : List CorePart) → parts_of (parts_settled ps) ≡ settled_parts called (parts_of (map part_term ps)) k
+  parts_done : (ps : List CorePart) → parts_of (parts_settled ps) ≡ simplified_parts called (parts_of (map part_term ps)) k
   parts_done [] = refl
   parts_done (p ∷ ps) = let s = settled_part called (part_term p) k in ap (Part s.head s.body) (parts_done ps)
 
@@ -76,25 +76,25 @@ chain_snoc (m ∷ ms) l end = ap (Bind m.targets m.site m.right) (chain_snoc ms 
 module _ (called : ℕ → List (Option (List ℕ))) (k k' : Facts) (before rest : List Let) (x y : Let)
     (first : before ≡ x ∷ rest) (new : let_term y ≡ settled_let called (let_term x) k)
     (learned : k' ≡ note_all k y.targets.items (right_facts called (right_term y.right) k)) where
-  after : k' ≡ note_all k x.targets.items (right_facts called (settled_right called (right_term x.right) k) k)
+  after : k' ≡ note_all k x.targets.items (right_facts called (simplified_right called (right_term x.right) k) k)
   after = learned ∙ (λ i. note_all k (new i).targets (right_facts called (new i).right k))
 
-  pub let_turn : (ls ls' : List Let) (end whole : BlockTerm) → chain (map let_term ls) (settled called (chain (map let_term before) end) k) ≡ whole → ls' ≡ ls ++ (y ∷ [])
-      → chain (map let_term ls') (settled called (chain (map let_term rest) end) k') ≡ whole
+  pub let_turn : (ls ls' : List Let) (end whole : BlockTerm) → chain (map let_term ls) (simplified called (chain (map let_term before) end) k) ≡ whole → ls' ≡ ls ++ (y ∷ [])
+      → chain (map let_term ls') (simplified called (chain (map let_term rest) end) k') ≡ whole
   let_turn ls ls' end whole p l =
-      let inner = note_all k x.targets.items (right_facts called (settled_right called (right_term x.right) k) k) in
-      (λ i. chain (map let_term (l i)) (settled called (chain (map let_term rest) end) (after i)))
-      ∙ ap (λ z. chain z (settled called (chain (map let_term rest) end) inner)) (map_snoc let_term ls y)
+      let inner = note_all k x.targets.items (right_facts called (simplified_right called (right_term x.right) k) k) in
+      (λ i. chain (map let_term (l i)) (simplified called (chain (map let_term rest) end) (after i)))
+      ∙ ap (λ z. chain z (simplified called (chain (map let_term rest) end) inner)) (map_snoc let_term ls y)
       ∙ chain_snoc (map let_term ls) (let_term y) _
-      ∙ (λ i. chain (map let_term ls) (Bind (new i).targets (new i).site (new i).right (settled called (chain (map let_term rest) end) inner)))
-      ∙ (λ i. chain (map let_term ls) (settled called (chain (map let_term (sym first i)) end) k))
+      ∙ (λ i. chain (map let_term ls) (Bind (new i).targets (new i).site (new i).right (simplified called (chain (map let_term rest) end) inner)))
+      ∙ (λ i. chain (map let_term ls) (simplified called (chain (map let_term (sym first i)) end) k))
       ∙ p
 
-  pub known_turn : (end : BlockTerm) (whole : List Fact) → block_facts called (settled called (chain (map let_term before) end) k) k ≡ whole
-      → block_facts called (settled called (chain (map let_term rest) end) k') k' ≡ whole
+  pub known_turn : (end : BlockTerm) (whole : List Fact) → block_facts called (simplified called (chain (map let_term before) end) k) k ≡ whole
+      → block_facts called (simplified called (chain (map let_term rest) end) k') k' ≡ whole
   known_turn end whole p =
-      (λ i. block_facts called (settled called (chain (map let_term rest) end) (after i)) (after i))
-      ∙ (λ i. block_facts called (settled called (chain (map let_term (sym first i)) end) k) k)
+      (λ i. block_facts called (simplified called (chain (map let_term rest) end) (after i)) (after i))
+      ∙ (λ i. block_facts called (simplified called (chain (map let_term (sym first i)) end) k) k)
       ∙ p
 
 -- an item more is settled
@@ -124,41 +124,41 @@ none_left len [] p q = refl
 none_left len (x ∷ xs) p q = absurd (omega arith)
 
 -- after the last turn
-pub block_end : (called : ℕ → List (Option (List ℕ))) (k k' : Facts) (rest before : List Let) (x : Block-F the_data the_data-1 the_data-2 the_data-3 the_data-4 the_data-5 the_data-6) (b : Block) → ((end : BlockTerm) → chain (map let_term x.lets.items) (settled called (chain (map let_term rest) end) k') ≡ settled called (chain (map let_term before) end) k) → rest ≡ [] → before ≡ (out-Block b).lets.items → x.results.items ≡ (out-Block b).results.items
-    → block_term (roll-Block x) ≡ settled called (block_term b) k
+pub block_end : (called : ℕ → List (Option (List ℕ))) (k k' : Facts) (rest before : List Let) (x : Block-F the_data the_data-1 the_data-2 the_data-3 the_data-4 the_data-5 the_data-6) (b : Block) → ((end : BlockTerm) → chain (map let_term x.lets.items) (simplified called (chain (map let_term rest) end) k') ≡ simplified called (chain (map let_term before) end) k) → rest ≡ [] → before ≡ (out-Block b).lets.items → x.results.items ≡ (out-Block b).results.items
+    → block_term (roll-Block x) ≡ simplified called (block_term b) k
 block_end called k k' rest before x b p r e q =
     block_roll x
-    ∙ (λ i. chain (map let_term x.lets.items) (settled called (chain (map let_term (sym r i)) (Gives x.results.items)) k'))
+    ∙ (λ i. chain (map let_term x.lets.items) (simplified called (chain (map let_term (sym r i)) (Gives x.results.items)) k'))
     ∙ p (Gives x.results.items)
-    ∙ (λ i. settled called (chain (map let_term (e i)) (Gives (q i))) k)
-    ∙ ap (λ z. settled called z k) (sym (block_out b))
+    ∙ (λ i. simplified called (chain (map let_term (e i)) (Gives (q i))) k)
+    ∙ ap (λ z. simplified called z k) (sym (block_out b))
 
-pub known_end : (called : ℕ → List (Option (List ℕ))) (k k' : Facts) (rest before : List Let) (new : BlockTerm) (b : Block) (known : List Fact) → ((end : BlockTerm) → block_facts called (settled called (chain (map let_term rest) end) k') k' ≡ block_facts called (settled called (chain (map let_term before) end) k) k) → rest ≡ [] → before ≡ (out-Block b).lets.items → known ≡ map k' (out-Block b).results.items → new ≡ settled called (block_term b) k
+pub known_end : (called : ℕ → List (Option (List ℕ))) (k k' : Facts) (rest before : List Let) (new : BlockTerm) (b : Block) (known : List Fact) → ((end : BlockTerm) → block_facts called (simplified called (chain (map let_term rest) end) k') k' ≡ block_facts called (simplified called (chain (map let_term before) end) k) k) → rest ≡ [] → before ≡ (out-Block b).lets.items → known ≡ map k' (out-Block b).results.items → new ≡ simplified called (block_term b) k
     → known ≡ block_facts called new k
 known_end called k k' rest before new b known p r e q n =
     let rs = (out-Block b).results.items in
     q
-    ∙ (λ i. block_facts called (settled called (chain (map let_term (sym r i)) (Gives rs)) k') k')
+    ∙ (λ i. block_facts called (simplified called (chain (map let_term (sym r i)) (Gives rs)) k') k')
     ∙ p (Gives rs)
-    ∙ (λ i. block_facts called (settled called (chain (map let_term (e i)) (Gives rs)) k) k)
-    ∙ ap (λ z. block_facts called (settled called z k) k) (sym (block_out b))
+    ∙ (λ i. block_facts called (simplified called (chain (map let_term (e i)) (Gives rs)) k) k)
+    ∙ ap (λ z. block_facts called (simplified called z k) k) (sym (block_out b))
     ∙ ap (λ z. block_facts called z k) (sym n)
 
 pub with_end : (called : ℕ → List (Option (List ℕ))) (k : Facts) (rest before : List CoreGen) (x : WithLoop-F the_data the_data-1 the_data-2 the_data-3 the_data-4 the_data-5 the_data-6) (w : WithLoop) → map gen_term x.gens.items ++ gens_settled called k rest ≡ gens_settled called k before → rest ≡ [] → before ≡ (out-WithLoop w).gens.items → x.op ≡ (out-WithLoop w).op
-    → with_term (roll-WithLoop x) ≡ settled_right called (with_term w) k
+    → with_term (roll-WithLoop x) ≡ simplified_right called (with_term w) k
 with_end called k rest before x w p r e q =
     with_roll x
     ∙ (λ i. RightTerm.With (q i) (gens_of ((sym (append-nil _) ∙ (λ j. map gen_term x.gens.items ++ gens_settled called k (sym r j)) ∙ p ∙ ap (gens_settled called k) e) i)))
     ∙ ap (RightTerm.With (out-WithLoop w).op) (gens_done called k (out-WithLoop w).gens.items)
-    ∙ ap (λ z. settled_right called z k) (sym (with_out w))
+    ∙ ap (λ z. simplified_right called z k) (sym (with_out w))
 
 parted_end : (called : ℕ → List (Option (List ℕ))) (k : Facts) (rest before : List CorePart) (x : PartedLoop-F the_data the_data-1 the_data-2 the_data-3 the_data-4 the_data-5 the_data-6) (w : PartedLoop) → map part_term x.parts.items ++ parts_settled called k rest ≡ parts_settled called k before → rest ≡ [] → before ≡ (out-PartedLoop w).parts.items → x.op ≡ (out-PartedLoop w).op → x.frame ≡ (out-PartedLoop w).frame → x.base ≡ (out-PartedLoop w).base → x.cell ≡ (out-PartedLoop w).cell
-    → parted_term (roll-PartedLoop x) ≡ settled_right called (parted_term w) k
+    → parted_term (roll-PartedLoop x) ≡ simplified_right called (parted_term w) k
 parted_end called k rest before x w p r e q frame base cell =
     parted_roll x
     ∙ (λ i. RightTerm.Parted (frame i) (base i) (cell i) (q i) (parts_of ((sym (append-nil _) ∙ (λ j. map part_term x.parts.items ++ parts_settled called k (sym r j)) ∙ p ∙ ap (parts_settled called k) e) i)))
     ∙ ap (RightTerm.Parted (out-PartedLoop w).frame (out-PartedLoop w).base (out-PartedLoop w).cell (out-PartedLoop w).op) (parts_done called k (out-PartedLoop w).parts.items)
-    ∙ ap (λ z. settled_right called z k) (sym (parted_out w))
+    ∙ ap (λ z. simplified_right called z k) (sym (parted_out w))
 
 -- where nothing was learned nothing goes
 pub none_gone : (a : List Note) → drop (length a - length a) a ≡ a
@@ -171,6 +171,6 @@ parted_known called k (Ok new) x known p q e = q ∙ ap (λ f. f ∷ []) e ∙ a
 parted_known called k (Err m) x known p q e = tt
 
 pub parted_settled : (called : ℕ → List (Option (List ℕ))) (k : Facts) (r : Result KnownRight Memory) (rest before : List CorePart) (x : PartedLoop-F the_data the_data-1 the_data-2 the_data-3 the_data-4 the_data-5 the_data-6) (w : PartedLoop) → IfOk r (λ (new : KnownRight). right_term new.right ≡ parted_term (roll-PartedLoop x)) → map part_term x.parts.items ++ parts_settled called k rest ≡ parts_settled called k before → rest ≡ [] → before ≡ (out-PartedLoop w).parts.items → x.op ≡ (out-PartedLoop w).op → x.frame ≡ (out-PartedLoop w).frame → x.base ≡ (out-PartedLoop w).base → x.cell ≡ (out-PartedLoop w).cell
-    → IfOk r (λ (new : KnownRight). right_term new.right ≡ settled_right called (parted_term w) k)
+    → IfOk r (λ (new : KnownRight). right_term new.right ≡ simplified_right called (parted_term w) k)
 parted_settled called k (Ok new) rest before x w h p r e q frame base cell = h ∙ parted_end called k rest before x w p r e q frame base cell
 parted_settled called k (Err m) rest before x w h p r e q frame base cell = tt

@@ -6,19 +6,23 @@ ghost use Rattle.core_ir.specs.WellFormed.{IsWellFormed};
 ghost use Rattle.core_ir.specs.Terms.{FunTerm};
 ghost use Rattle.core_facts.specs.Settled.{IsSettled};
 ghost use Rattle.core_calls.specs.Arrays.{SameOutcomeOnArrays};
-ghost use Rattle.core_settled.specs.Called.{called as called_in, params_facts, settled_core};
+ghost use Rattle.core_settled.specs.Called.{called as called_in, params_facts};
+ghost use Rattle.core_cleaning.specs.Checks.{simplified_core};
 ghost use Rattle.plain_facts.specs.Called.{shapes_of};
+ghost use Rattle.const_shape.specs.Cleaned.{cleaned};
 ghost use Rattle.const_shape.specs.Settling.{settled_by};
 
 use crate::walk::settle_block;
+use copy_propagation::propagate_copies;
 use core_ir::{Core, CoreFun};
 use fact_table::FactTable;
 use plain_facts::{CalledShapes, learn_params};
 use sac_base::Memory;
 use std::alloc::Global;
+use unused_bindings::remove_unused;
 
 /// Binds each literal variable of a core by a constant: one whose value is known before the run, from the constants and the known shapes that it comes
-/// from.
+/// from. Checks that cannot fail and copies go, their sources are used in their place, and bindings that are then not used and never fault go.
 ///
 /// Of a well-formed core the result is well formed and has the same outcome on arrays, under all limits. In each function of the result, by what is
 /// known in it of its parameters and of the results of calls, each literal variable is bound by a constant.
@@ -31,11 +35,21 @@ pub fn propagate(alloc: Global, core: Core) -> Result<Core, Memory>
     ensures well { IsWellFormed (core_term core) → IfOk result (λ new. IsWellFormed (core_term new)) }
     ensures settled { IfOk result (λ new. All (λ (f : FunTerm). IsSettled (called_in (core_term new)) f.body (params_facts f)) (core_term new).functions) }
 {
-    settle_functions(alloc, core)
+    clean(alloc, core)
+}
+
+// Settled at the end once more, so that no literal variable is left without a constant, whatever the two passes between leave.
+fn clean(alloc: Global, core: Core) -> Result<Core, Memory>
+    ensures { IfOk result (λ new. core_term new ≡ cleaned (core_term core)) }
+{
+    let settled = settle_functions(alloc, core)?;
+    let forwarded = propagate_copies(alloc, settled)?;
+    let swept = remove_unused(alloc, forwarded)?;
+    settle_functions(alloc, swept)
 }
 
 fn settle_functions(alloc: Global, core: Core) -> Result<Core, Memory>
-    ensures { IfOk result (λ new. core_term new ≡ settled_core (core_term core)) }
+    ensures { IfOk result (λ new. core_term new ≡ simplified_core (core_term core)) }
 {
     let called = CalledShapes::of_core(alloc, &core)?;
     let Core {

@@ -1,9 +1,9 @@
-//! One walk over a block that binds each literal variable by a constant.
+//! One walk over a block that binds each literal variable by a constant, and makes copies of checks that cannot fail.
 
 ghost use Rattle.std.specs.Prelude.{◌≡◌, ◌-◌, IfOk, OnOk, map, drop, length};
 ghost use Rattle.core_ir.specs.View.{block_term, let_term, right_term, with_term, gen_term, parted_term, part_term};
 ghost use Rattle.core_facts.specs.Facts.{note_all, block_facts, right_facts};
-ghost use Rattle.core_facts.specs.Settled.{settled, settled_right};
+ghost use Rattle.core_cleaning.specs.Checks.{simplified, simplified_right};
 ghost use Rattle.fact_table.specs.Table.{fact_of, facts_of};
 ghost use Rattle.plain_facts.specs.Called.{shapes_of};
 ghost use Rattle.const_shape.specs.Settling.{settled_let, settled_gen, settled_part};
@@ -18,7 +18,7 @@ use plain_facts::{CalledShapes, common_facts, learn_all};
 use sac_base::Memory;
 use std::alloc::Global;
 
-/// Binds each literal variable of a block by a constant.
+/// Binds each literal variable of a block by a constant, and makes a copy of each other check that cannot fail.
 ///
 /// Of a variable that stands in the table its note counts. The table is left as it was.
 #[cycle(settling)]
@@ -28,7 +28,7 @@ pub fn settle_block(
     called: &CalledShapes,
     table: &mut FactTable,
 ) -> Result<KnownBlock, Memory>
-    ensures settled { IfOk result (λ new. block_term new.block ≡ settled (shapes_of called.now) (block_term block) (facts_of table.old)) }
+    ensures settled { IfOk result (λ new. block_term new.block ≡ simplified (shapes_of called.now) (block_term block) (facts_of table.old)) }
     ensures known { IfOk result (λ new. map fact_of new.results.items ≡ block_facts (shapes_of called.now) (block_term new.block) (facts_of table.old)) }
     ensures table { OnOk result (table.new ≡ table.old) }
 {
@@ -83,7 +83,7 @@ fn settle_right(
     called: &CalledShapes,
     table: &mut FactTable,
 ) -> Result<KnownRight, Memory>
-    ensures settled { IfOk result (λ new. right_term new.right ≡ settled_right (shapes_of called.now) (right_term right) (facts_of table.old)) }
+    ensures settled { IfOk result (λ new. right_term new.right ≡ simplified_right (shapes_of called.now) (right_term right) (facts_of table.old)) }
     ensures known { IfOk result (λ new. map fact_of new.values.items ≡ right_facts (shapes_of called.now) (right_term new.right) (facts_of table.old)) }
     ensures table { OnOk result (table.new ≡ table.old) }
 {
@@ -146,7 +146,7 @@ fn settle_with(
     called: &CalledShapes,
     table: &mut FactTable,
 ) -> Result<WithLoop, Memory>
-    ensures settled { IfOk result (λ w. with_term w ≡ settled_right (shapes_of called.now) (with_term with) (facts_of table.old)) }
+    ensures settled { IfOk result (λ w. with_term w ≡ simplified_right (shapes_of called.now) (with_term with) (facts_of table.old)) }
     ensures table { OnOk result (table.new ≡ table.old) }
 {
     let WithLoop { gens, op } = with;
@@ -192,7 +192,7 @@ fn settle_parted(
     called: &CalledShapes,
     table: &mut FactTable,
 ) -> Result<KnownRight, Memory>
-    ensures settled { IfOk result (λ new. right_term new.right ≡ settled_right (shapes_of called.now) (parted_term parted) (facts_of table.old)) }
+    ensures settled { IfOk result (λ new. right_term new.right ≡ simplified_right (shapes_of called.now) (parted_term parted) (facts_of table.old)) }
     ensures known { IfOk result (λ new. map fact_of new.values.items ≡ right_facts (shapes_of called.now) (right_term new.right) (facts_of table.old)) }
     ensures table { OnOk result (table.new ≡ table.old) }
 {

@@ -11,9 +11,9 @@ use std::alloc::Global;
 use std::test::Fail;
 use type_check::{Checked, check};
 
-fn accepted(alloc: Global, source: &str) -> Result<Checked, Fail> {
+pub fn accepted(alloc: Global, source: &str) -> Result<Checked, Fail> {
     let source = source.as_bytes();
-    if source.len() > 1000 {
+    if source.len() > 2000 {
         return Err("a short source".into());
     }
     let tokens = lex(alloc, source).map_err(|_| "tokens")?;
@@ -71,35 +71,50 @@ main
     Ok(())
 }
 
+// The text of a core with its calls inlined, its literal variables bound by constants, and nothing in it that is not needed.
+fn cleaned(alloc: Global, source: &str) -> Result<Vec<u8>, Fail> {
+    let core = propagate(alloc, inlined(alloc, source)?)?;
+    Ok(core_text(alloc, &core)?)
+}
+
 #[test]
 fn literal_variables_are_bound_by_constants(rt: HostRuntime) -> Result<(), Fail> {
     let wanted = "sq v0
   v1 = multiply v0 v0
   gives v1
 main
-  v0 = constant 3
-  v5 = constant 3
-  v6 = constant 9
-  v1 = constant 9
-  v2 = constant 4
-  v7 = constant 4
-  v8 = constant 16
-  v3 = constant 16
   v4 = constant 25
   gives v4
 ";
-    let core = propagate(rt.alloc(), inlined(rt.alloc(), SQUARES)?)?;
-    let text = core_text(rt.alloc(), &core)?;
+    let text = cleaned(rt.alloc(), SQUARES)?;
+    assert!(rt; text.as_slice() == wanted.as_bytes());
+    Ok(())
+}
+
+#[test]
+fn checks_copies_and_unused_bindings_go(rt: HostRuntime) -> Result<(), Fail> {
+    let source =
+        "inline int first(int[3] a) { rank = dim(a); return (a[0]); } int main(int[3] x) { return (first(x)); }";
+    let wanted = "first v0
+  v2 = constant 0
+  v3 = select v0 v2
+  gives v3
+main v0
+  v4 = constant 0
+  v5 = select v0 v4
+  gives v5
+";
+    let text = cleaned(rt.alloc(), source)?;
     assert!(rt; text.as_slice() == wanted.as_bytes());
     Ok(())
 }
 
 #[test]
 fn main_has_no_call_of_an_inline_function_left(rt: HostRuntime) -> Result<(), Fail> {
-    let compiled = compile(rt.alloc(), &accepted(rt.alloc(), SQUARES)?)?;
+    let compiled = compile(rt.alloc(), &accepted(rt.alloc(), SQUARES)?, &[])?;
     assert!(rt; !main_calls(&compiled.code));
     let plain = "int sq(int x) { return (x * x); } int main() { return (sq(3) + sq(4)); }";
-    let compiled = compile(rt.alloc(), &accepted(rt.alloc(), plain)?)?;
+    let compiled = compile(rt.alloc(), &accepted(rt.alloc(), plain)?, &[])?;
     assert!(rt; main_calls(&compiled.code));
     Ok(())
 }

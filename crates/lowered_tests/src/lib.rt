@@ -6,4 +6,6 @@ mod cores;
 #[cfg(test)]
 mod inlined;
 #[cfg(test)]
+mod special;
+#[cfg(test)]
 mod text;

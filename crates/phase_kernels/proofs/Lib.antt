@@ -2,6 +2,7 @@ mod Along
 mod Ends
 mod Holders
 mod Indices
+mod Lanes
 mod Making
 pub mod Named
 mod Scopes

@@ -1,7 +1,7 @@
 //! From an accepted program over its core to counted code.
 
-ghost use Rattle.std.specs.Prelude.{◌≡◌, List, IfOk};
-ghost use Rattle.sac_base.specs.Arrays.{ArrayValue};
+ghost use Rattle.std.specs.Prelude.{◌≡◌, List, IfOk, map};
+ghost use Rattle.sac_base.specs.Arrays.{ArrayValue, form_of};
 ghost use Rattle.sac_base.specs.declared.faults.Caps.{Caps};
 ghost use Rattle.sac_ast.specs.View.{program as tree};
 ghost use Rattle.value_meaning.specs.Calls.{outcome};
@@ -16,8 +16,9 @@ use const_shape::propagate;
 use counted_code::Code;
 use inline_calls::inline_all;
 use ref_counts::count_refs;
-use sac_base::Memory;
+use sac_base::{Form, Memory};
 use single_assign::to_core;
+use specialise::specialise;
 use std::alloc::Global;
 use type_check::Checked;
 
@@ -31,26 +32,27 @@ pub struct Compiled {
     pub scalarised: u64,
 }
 
-/// Compiles an accepted program.
+/// Compiles an accepted program for arguments of these forms.
 ///
 /// No loop in the code is marked. Where the program has the form that the grammar gives, the code is well counted and prompt, and on all arguments
-/// that are arrays and under all limits its outcome on the machine is that of the program, faults and their sites included.
+/// that are arrays of these forms and under all limits its outcome on the machine is that of the program, faults and their sites included.
 ///
 /// # Errors
 ///
 /// `Memory`, also where the program has 2^32 functions or more, or would have as many variables in one of them, and where more than 4,194,304 bindings
 /// would be put into functions by inlining.
-pub fn compile(alloc: Global, checked: &Checked) -> Result<Compiled, Memory>
+pub fn compile(alloc: Global, checked: &Checked, forms: &[Form]) -> Result<Compiled, Memory>
     ensures counted { ProgramFormed (tree checked.now.program) → IfOk result (λ c. IsWellCounted (code_program c.code)) }
     ensures prompt { ProgramFormed (tree checked.now.program) → IfOk result (λ c. IsPrompt (code_program c.code)) }
     ensures unmarked { IfOk result (λ c. IsUnmarked (code_program c.code)) }
-    ensures outcome { ProgramFormed (tree checked.now.program) → (args : List ArrayValue) (caps : Caps) → AreArrays args
+    ensures outcome { ProgramFormed (tree checked.now.program) → (args : List ArrayValue) (caps : Caps) → AreArrays args → map form_of args ≡ forms.now
         → IfOk result (λ c. outcome_of (whole_run (code_program c.code) args caps) ≡ outcome (tree checked.now.program) args caps) }
     ensures none { IfOk result (λ c. (c.folded ≡ 0) × (c.scalarised ≡ 0)) }
 {
     let core = to_core(alloc, checked)?;
     let inlined = inline_all(alloc, core)?;
-    let settled = propagate(alloc, inlined)?;
+    let special = specialise(alloc, inlined, forms)?;
+    let settled = propagate(alloc, special)?;
     let code = count_refs(alloc, settled)?;
     Ok(Compiled {
         code,

@@ -1,9 +1,9 @@
 -- What a run leaves in the trace and in the heap, over plain values.
-use Rattle.std.proofs.Common.{◌≡◌, ◌≤◌, ℕ, zero, suc, List, [], Option, Some, None, Result, Ok, Err, IfOk, length, refl, sym, ap, subst, ◌∙◌}
+use Rattle.std.proofs.Common.{◌≡◌, ◌≤◌, ℕ, zero, suc, List, [], Option, Some, None, Result, Ok, Err, IfOk, length, map, refl, sym, ap, subst, ◌∙◌}
 use Rattle.std.proofs.lemmas.Result.{IfOk-weaker}
 use Rattle.std.specs.Prelude.{Vec}
 use Rattle.std.specs.declared.alloc.Global.{Global}
-use Rattle.sac_base.specs.Arrays.{ArrayValue}
+use Rattle.sac_base.specs.Arrays.{ArrayValue, form_of}
 use Rattle.sac_base.specs.Outcomes.{Ends}
 use Rattle.sac_base.specs.declared.faults.Caps.{Caps}
 use Rattle.sac_base.specs.declared.memory.Memory.{Memory as NoMemory}
@@ -63,7 +63,7 @@ after_results ended t cost m is h = subst (λ o. IfOk o (λ results. HasCost t c
 
 -- whatever ended the run but want of memory
 pub run_traced : (p : ProgramTree) (args : List ArrayValue) (caps : Caps) (code : Code) (r : Result (Vec ArrayValue Global) Stop) (before : PhaseTotals) (t : Trace) (h : HeapValue) (folded scalarised : ℕ)
-    → AreArrays args → IsCodeFor p (code_program code) → TellsItems r (outcome_of (whole_run (code_program code) args caps)) → TellsCost r t (cost_of (whole_run (code_program code) args caps))
+    → AreArrays args → IsCodeFor p (map form_of args) (code_program code) → TellsItems r (outcome_of (whole_run (code_program code) args caps)) → TellsCost r t (cost_of (whole_run (code_program code) args caps))
     → TellsTally r before t.tally (cost_of (whole_run (code_program code) args caps)) → HasCounters t h → folded ≡ 0 → scalarised ≡ 0 → HasEnded r
     → IsRunTraced p args caps before (record t { code = Some code; folded = folded; scalarised = scalarised }) h
 run_traced p args caps code (Ok v) before t h folded scalarised arrays sound tells cost tally counters f s other = record {
@@ -72,7 +72,7 @@ run_traced p args caps code (Ok v) before t h folded scalarised arrays sound tel
   sound = sound;
   folded = f;
   scalarised = s;
-  cost = after_results (outcome p args caps) t (cost_of (whole_run (code_program code) args caps)) (Ok v.items) (sym tells ∙ sound.outcome args caps arrays) cost;
+  cost = after_results (outcome p args caps) t (cost_of (whole_run (code_program code) args caps)) (Ok v.items) (sym tells ∙ sound.outcome args caps arrays refl) cost;
   phases = cost.3;
   tally = tally;
   counters = counters;
@@ -83,7 +83,7 @@ run_traced p args caps code (Err (stop.Faulted e)) before t h folded scalarised 
   sound = sound;
   folded = f;
   scalarised = s;
-  cost = after_results (outcome p args caps) t (cost_of (whole_run (code_program code) args caps)) (Err e) (sym tells ∙ sound.outcome args caps arrays) tt;
+  cost = after_results (outcome p args caps) t (cost_of (whole_run (code_program code) args caps)) (Err e) (sym tells ∙ sound.outcome args caps arrays refl) tt;
   phases = cost;
   tally = tally;
   counters = counters;

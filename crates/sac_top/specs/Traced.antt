@@ -1,6 +1,7 @@
 -- What a run leaves in the trace and in the heap.
-use Rattle.std.specs.Prelude.{◌≡◌, ◌+◌, ◌%◌, ◌^◌, ℕ, ⊤, List, Option, Some, None, Result, Ok, IfOk}
-use Rattle.sac_base.specs.Arrays.{ArrayValue}
+use Rattle.std.specs.Prelude.{◌≡◌, ◌+◌, ◌%◌, ◌^◌, ℕ, ⊤, List, map, Option, Some, None, Result, Ok, IfOk}
+use Rattle.sac_base.specs.Arrays.{ArrayValue, form_of}
+use Rattle.sac_base.specs.declared.form.Form.{Form}
 use Rattle.sac_base.specs.declared.faults.Caps.{Caps}
 use Rattle.sac_io.specs.Files.{Contents}
 use Rattle.sac_io.specs.Sink.{with_more}
@@ -42,13 +43,13 @@ IsRunStatus Faulted = ⊤
 IsRunStatus Limit = ⊤
 IsRunStatus _ = ⊥
 
--- Code for a program: it is well counted and prompt, no loop in it is marked, and on all arguments that are arrays and under all limits its outcome
--- on the machine is that of the program.
-pub record IsCodeFor (p : ProgramTree) (code : CodeProgram) : Type 0 where
+-- Code for a program and arguments of these forms: it is well counted and prompt, no loop in it is marked, and on all arguments that are arrays of
+-- these forms and under all limits its outcome on the machine is that of the program.
+pub record IsCodeFor (p : ProgramTree) (forms : List Form) (code : CodeProgram) : Type 0 where
   pub counted : IsWellCounted code
   pub prompt : IsPrompt code
   pub unmarked : IsUnmarked code
-  pub outcome : (args : List ArrayValue) (caps : Caps) → AreArrays args → outcome_of (whole_run code args caps) ≡ outcome p args caps
+  pub outcome : (args : List ArrayValue) (caps : Caps) → AreArrays args → map form_of args ≡ forms → outcome_of (whole_run code args caps) ≡ outcome p args caps
 
 -- the trace's four numbers of a run are the cost
 abbrev pub HasCost : Trace → Cost → Type 0
@@ -63,7 +64,7 @@ HasRisen before after phases = (after.phases ≡ (before.phases + phases) % 2 ^ 
 pub record IsRunTraced (p : ProgramTree) (args : List ArrayValue) (caps : Caps) (before : PhaseTotals) (trace : Trace) (heap : HeapValue) : Type 0 where
   pub code : Code
   pub kept : trace.code ≡ Some code
-  pub sound : IsCodeFor p (code_program code)
+  pub sound : IsCodeFor p (map form_of args) (code_program code)
   pub folded : trace.folded ≡ 0
   pub scalarised : trace.scalarised ≡ 0
   pub cost : IfOk (outcome p args caps) (λ results. HasCost trace (cost_of (whole_run (code_program code) args caps)))

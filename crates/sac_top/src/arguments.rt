@@ -5,13 +5,14 @@ ghost use Rattle.sac_ast.specs.View.{program as tree};
 ghost use Rattle.data_text.specs.Texts.{text_value};
 ghost use Rattle.data_text.specs.Generated.{generated_all};
 ghost use Rattle.data_text.specs.Found.{Tells};
+ghost use Rattle.sac_base.specs.Arrays.{form_of};
 ghost use Rattle.sac_build.specs.Arguments.{AreArrays};
 ghost use Rattle.sac_due.specs.Input.{main_types, main_bases};
 ghost use Rattle.sac_top.specs.Steps.{HasBases};
 
 use data_text::{DataError, generate, read_arrays};
 use sac_ast::{Param, Program};
-use sac_base::{Array, ArrayType, Memory, copy_type};
+use sac_base::{Array, ArrayType, Form, Memory, copy_type};
 use std::alloc::Global;
 use type_check::Checked;
 
@@ -56,4 +57,15 @@ pub fn generate_arguments(alloc: Global, program: &Program, n: u32) -> Result<Ve
 {
     let types = main_types(alloc, program)?;
     generate(alloc, &types, n)
+}
+
+/// The forms of arguments.
+pub fn forms_of(alloc: Global, args: &[Array]) -> Result<Vec<Form>, Memory>
+    ensures { IfOk result (λ forms. forms.items ≡ map form_of args.now) }
+{
+    let mut forms = Vec::new(alloc);
+    for array in args {
+        forms.push(array.form())?;
+    }
+    Ok(forms)
 }

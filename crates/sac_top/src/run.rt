@@ -17,7 +17,7 @@ ghost use Rattle.sac_top.specs.Traced.{numbers_of, IsRunTraced, IsGivenTraced, I
 ghost use Rattle.sac_top.specs.Steps.{ends_of, HasEnded, file_of, file_in, IsFileAnswer, IsRunAnswer, IsProgramAnswer};
 ghost use Rattle.sac_top.specs.Sessions.{asked_of, program_of, IsReady, IsLeft, EndsWith, EndsSo, TellsRun};
 
-use crate::arguments::{generate_arguments, read_arguments};
+use crate::arguments::{forms_of, generate_arguments, read_arguments};
 use crate::line::{Answer, answer_line, refused_data};
 use crate::results::answer_outcome;
 use crate::session::{Job, Session};
@@ -58,7 +58,8 @@ impl<'a, G: Gate, R: Threads + Sync> Session<'a, G, R> {
             self.old.trace.now.tally self.new.trace.now self.new.heap.now) }
         ensures left { IsLeft self.old self.new }
     {
-        let compiled = compile(self.alloc, job.checked)?;
+        let forms = forms_of(self.alloc, &args)?;
+        let compiled = compile(self.alloc, job.checked, &forms)?;
         let plan = Plan {
             workers: job.options.workers,
             chunk: job.options.chunk,

@@ -6,21 +6,22 @@ use Rattle.core_ir.specs.View.{core_term}
 use Rattle.core_ir.specs.WellFormed.{IsWellFormed}
 use Rattle.core_facts.specs.Settled.{IsSettled}
 use Rattle.core_calls.specs.Arrays.{SameOutcomeOnArrays}
-use Rattle.core_settled.specs.Called.{called, params_facts, settled_core}
-use Rattle.core_settled_forms.proofs.Cores.{well_formed, same_outcome, no_other_literal}
+use Rattle.core_settled.specs.Called.{called, params_facts}
+use Rattle.const_shape.specs.Cleaned.{cleaned}
+use Rattle.const_shape.proofs.Cleaned.{cleaned_well, cleaned_outcome, cleaned_settled}
 use Rattle.const_shape.proofs.functions.propagate.Goals as goal
 
 pub returns-clause-outcome : goal.returns-clause-outcome
 returns-clause-outcome c well =
     let old = core_term c.args.core in
-    IfOk-weaker c.settle_functions.result (λ (new : Core). core_term new ≡ settled_core old) (λ (new : Core). SameOutcomeOnArrays old (core_term new))
-    (λ new p. subst (SameOutcomeOnArrays old) (sym p) (same_outcome old well)) c.settle_functions.ensures
+    IfOk-weaker c.clean.result (λ (new : Core). core_term new ≡ cleaned old) (λ (new : Core). SameOutcomeOnArrays old (core_term new))
+    (λ new p. subst (SameOutcomeOnArrays old) (sym p) (cleaned_outcome old well)) c.clean.ensures
 
 pub returns-clause-well : goal.returns-clause-well
 returns-clause-well c well =
     let old = core_term c.args.core in
-    IfOk-weaker c.settle_functions.result (λ (new : Core). core_term new ≡ settled_core old) (λ (new : Core). IsWellFormed (core_term new))
-    (λ new p. subst IsWellFormed (sym p) (well_formed old well)) c.settle_functions.ensures
+    IfOk-weaker c.clean.result (λ (new : Core). core_term new ≡ cleaned old) (λ (new : Core). IsWellFormed (core_term new))
+    (λ new p. subst IsWellFormed (sym p) (cleaned_well old well)) c.clean.ensures
 
 abbrev AllSettled : CoreTerm → Type 0
 AllSettled core = All (λ (f : FunTerm). IsSettled (called core) f.body (params_facts f)) core.functions
@@ -28,5 +29,5 @@ AllSettled core = All (λ (f : FunTerm). IsSettled (called core) f.body (params_
 pub returns-clause-settled : goal.returns-clause-settled
 returns-clause-settled c =
     let old = core_term c.args.core in
-    IfOk-weaker c.settle_functions.result (λ (new : Core). core_term new ≡ settled_core old) (λ (new : Core). AllSettled (core_term new))
-    (λ new p. subst AllSettled (sym p) (no_other_literal old)) c.settle_functions.ensures
+    IfOk-weaker c.clean.result (λ (new : Core). core_term new ≡ cleaned old) (λ (new : Core). AllSettled (core_term new))
+    (λ new p. subst AllSettled (sym p) (cleaned_settled old)) c.clean.ensures

@@ -5,7 +5,7 @@ use Rattle.core_ir.specs.declared.tree.PartedLoop.{out-PartedLoop}
 use Rattle.core_ir.specs.Terms.{chain}
 use Rattle.core_ir.specs.View.{let_term}
 use Rattle.core_facts.specs.Facts.{shape_fact}
-use Rattle.core_facts.specs.Settled.{settled}
+use Rattle.core_cleaning.specs.Checks.{simplified}
 use Rattle.fact_table.specs.Table.{facts_of}
 use Rattle.plain_facts.specs.Called.{shapes_of}
 use Rattle.const_shape.proofs.Steps.{earlier_on, none_gone, let_turn, known_turn, none_left, block_end, known_end, with_end, parted_settled, parted_known}
@@ -15,7 +15,7 @@ pub settle_block-loop-binding-init : goal.settle_block-loop-binding-init
 settle_block-loop-binding-init t c =
     let table = c.args.table.now in
     record {
-      bindings = λ end. ap (λ (ls : List Let). chain (map let_term ls) (settled (shapes_of c.args.called.now) (chain (map let_term c.into_iter-binding-iterator.result.rest.items) end) (facts_of table))) c.new-settled.ensures.items;
+      bindings = λ end. ap (λ (ls : List Let). chain (map let_term ls) (simplified (shapes_of c.args.called.now) (chain (map let_term c.into_iter-binding-iterator.result.rest.items) end) (facts_of table))) c.new-settled.ensures.items;
       facts = λ end. refl;
       earlier = ap (λ n. drop (length table - n) table) c.mark-before.ensures ∙ none_gone table;
     }

@@ -3,7 +3,7 @@ use Rattle.std.specs.Prelude.{drop}
 use Rattle.core_ir.specs.Terms.{BlockTerm, chain}
 use Rattle.core_ir.specs.View.{let_term, gen_term, part_term}
 use Rattle.core_facts.specs.Facts.{block_facts}
-use Rattle.core_facts.specs.Settled.{settled}
+use Rattle.core_cleaning.specs.Checks.{simplified}
 use Rattle.fact_table.specs.Table.{facts_of}
 use Rattle.plain_facts.specs.Called.{shapes_of}
 use Rattle.const_shape.proofs.Steps.{gens_settled, parts_settled}
@@ -11,8 +11,8 @@ use Rattle.const_shape.proofs.walk.+settling.Given as goal
 
 abbrev pub invariant-settle_block-loop-binding : goal.invariant-settle_block-loop-binding
 invariant-settle_block-loop-binding l = record {
-  bindings : (end : BlockTerm) → chain (map let_term l.settled.items) (settled (shapes_of l.called) (chain (map let_term l.binding-iterator.rest.items) end) (facts_of l.table)) ≡ settled (shapes_of l.called) (chain (map let_term l.initial.binding-iterator.rest.items) end) (facts_of l.initial.table);
-  facts : (end : BlockTerm) → block_facts (shapes_of l.called) (settled (shapes_of l.called) (chain (map let_term l.binding-iterator.rest.items) end) (facts_of l.table)) (facts_of l.table) ≡ block_facts (shapes_of l.called) (settled (shapes_of l.called) (chain (map let_term l.initial.binding-iterator.rest.items) end) (facts_of l.initial.table)) (facts_of l.initial.table);
+  bindings : (end : BlockTerm) → chain (map let_term l.settled.items) (simplified (shapes_of l.called) (chain (map let_term l.binding-iterator.rest.items) end) (facts_of l.table)) ≡ simplified (shapes_of l.called) (chain (map let_term l.initial.binding-iterator.rest.items) end) (facts_of l.initial.table);
+  facts : (end : BlockTerm) → block_facts (shapes_of l.called) (simplified (shapes_of l.called) (chain (map let_term l.binding-iterator.rest.items) end) (facts_of l.table)) (facts_of l.table) ≡ block_facts (shapes_of l.called) (simplified (shapes_of l.called) (chain (map let_term l.initial.binding-iterator.rest.items) end) (facts_of l.initial.table)) (facts_of l.initial.table);
   earlier : drop (length l.table - l.before) l.table ≡ l.initial.table;
 }
 

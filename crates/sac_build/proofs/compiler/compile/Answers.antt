@@ -4,16 +4,18 @@ use Rattle.sac_build.proofs.compiler.compile.Goals as goal
 
 pub returns-clause-counted : goal.returns-clause-counted
 returns-clause-counted c formed =
-    c.in_ok-code.ensures.counted (c.in_ok-settled.ensures.well (c.in_ok-inlined.ensures.well (c.in_ok-core.ensures.well_formed formed)))
+    c.in_ok-code.ensures.counted (c.in_ok-settled.ensures.well (c.in_ok-special.ensures.well (c.in_ok-inlined.ensures.well (c.in_ok-core.ensures.well_formed formed))))
 
 pub returns-clause-prompt : goal.returns-clause-prompt
 returns-clause-prompt c formed =
-    c.in_ok-code.ensures.prompt (c.in_ok-settled.ensures.well (c.in_ok-inlined.ensures.well (c.in_ok-core.ensures.well_formed formed)))
+    c.in_ok-code.ensures.prompt (c.in_ok-settled.ensures.well (c.in_ok-special.ensures.well (c.in_ok-inlined.ensures.well (c.in_ok-core.ensures.well_formed formed))))
 
 pub returns-clause-outcome : goal.returns-clause-outcome
-returns-clause-outcome c formed args caps arrays =
+returns-clause-outcome c formed args caps arrays forms =
     let well = c.in_ok-core.ensures.well_formed formed in
     let inlined = c.in_ok-inlined.ensures.well well in
-    c.in_ok-code.ensures.outcome (c.in_ok-settled.ensures.well inlined) args caps
-    ∙ sym (c.in_ok-settled.ensures.outcome inlined args caps (all_full args arrays))
+    let special = c.in_ok-special.ensures.well inlined in
+    c.in_ok-code.ensures.outcome (c.in_ok-settled.ensures.well special) args caps
+    ∙ sym (c.in_ok-settled.ensures.outcome special args caps (all_full args arrays))
+    ∙ sym (c.in_ok-special.ensures.outcome inlined args caps forms)
     ∙ sym (c.in_ok-inlined.ensures.outcome well args caps) ∙ c.in_ok-core.ensures.outcome formed args caps

@@ -1,3 +1,4 @@
+use Rattle.std.proofs.Common.{sym, ◌∙◌}
 use Rattle.std.proofs.lemmas.Result.{IfOk-weaker}
 use Rattle.core_source_laws.proofs.Cores.{source_formed}
 use Rattle.sac_top.proofs.Tracing.{stays, run_traced, ends_with}
@@ -12,7 +13,7 @@ run-result-requires-clause-counted g c κs within = c.in_ok-compiled.ensures.cou
 pub returns-clause-outcome : goal.returns-clause-outcome
 returns-clause-outcome g c =
     let formed = source_formed c.requires.ready.read.0 _ c.requires.ready.read.1 in
-    ends_with c.outcome_told.result _ _ (c.in_ok-compiled.ensures.outcome formed _ _ c.requires.arrays)
+    ends_with c.outcome_told.result _ _ (c.in_ok-compiled.ensures.outcome formed _ _ c.requires.arrays (sym c.in_ok-forms.ensures))
     (c.outcome_told.ensures.outcome _ c.run-result.ensures.outcome)
 
 pub returns-clause-traced : goal.returns-clause-traced
@@ -23,7 +24,7 @@ returns-clause-traced g c =
       counted = c.in_ok-compiled.ensures.counted formed;
       prompt = c.in_ok-compiled.ensures.prompt formed;
       unmarked = c.in_ok-compiled.ensures.unmarked;
-      outcome = c.in_ok-compiled.ensures.outcome formed;
+      outcome = λ args caps arrays same. c.in_ok-compiled.ensures.outcome formed args caps arrays (same ∙ sym c.in_ok-forms.ensures);
     })
     c.run-result.ensures.outcome c.run-result.ensures.cost c.run-result.ensures.tally c.run-result.ensures.counters c.in_ok-compiled.ensures.none.0 c.in_ok-compiled.ensures.none.1 ended)
     c.outcome_told.ensures.ended

@@ -1,0 +1,3 @@
+mod SlotFacts
+mod NoteFacts
+mod Steps

@@ -1,0 +1,21 @@
+use Rattle.std.proofs.Common.{◌≡◌, sym, subst}
+use Rattle.std.proofs.lemmas.Result.{IfOk-weaker}
+use Rattle.core_ir.specs.declared.tree.Core.{Core}
+use Rattle.core_ir.specs.View.{core_term}
+use Rattle.core_ir.specs.WellFormed.{IsWellFormed}
+use Rattle.core_calls.specs.Arrays.{SameOutcomeOnArrays}
+use Rattle.core_cleaning.specs.Copies.{forwarded_core}
+use Rattle.core_cleaning.proofs.Laws.{forwarded_well, forwarded_outcome}
+use Rattle.copy_propagation.proofs.functions.propagate_copies.Goals as goal
+
+pub returns-clause-outcome : goal.returns-clause-outcome
+returns-clause-outcome c well =
+    let old = core_term c.args.core in
+    IfOk-weaker c.in_core.result (λ (new : Core). core_term new ≡ forwarded_core old) (λ (new : Core). SameOutcomeOnArrays old (core_term new))
+    (λ new p. subst (SameOutcomeOnArrays old) (sym p) (forwarded_outcome old well)) c.in_core.ensures
+
+pub returns-clause-well : goal.returns-clause-well
+returns-clause-well c well =
+    let old = core_term c.args.core in
+    IfOk-weaker c.in_core.result (λ (new : Core). core_term new ≡ forwarded_core old) (λ (new : Core). IsWellFormed (core_term new))
+    (λ new p. subst IsWellFormed (sym p) (forwarded_well old well)) c.in_core.ensures

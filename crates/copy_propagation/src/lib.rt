@@ -1,0 +1,10 @@
+//! Copy propagation: sources are used in the place of copies.
+#![tactic(auto)]
+
+mod functions;
+mod operands;
+mod slots;
+mod sources;
+mod walk;
+
+pub use functions::propagate_copies;

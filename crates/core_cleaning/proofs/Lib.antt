@@ -1,0 +1,9 @@
+pub mod Bodies
+pub mod Places
+pub mod Checks
+pub mod Simplified
+pub mod Lists
+pub mod Copies
+pub mod Unused
+pub mod Functions
+pub mod Laws

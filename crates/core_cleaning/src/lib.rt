@@ -1,0 +1,26 @@
+//! Laws: checks that cannot fail are copies, uses of copies are uses of their sources, and unused bindings that never fault go.
+#![tactic(auto)]
+
+ghost use Rattle.core_cleaning.specs.Checks.{simplified_core};
+ghost use Rattle.core_cleaning.specs.Copies.{forwarded_core};
+ghost use Rattle.core_cleaning.specs.Laws.{StaysWellFormed, KeepsTheOutcome, SimplifiedHasNoOtherLiteral};
+ghost use Rattle.core_cleaning.specs.Unused.{swept_core};
+
+/// Law: literal variables may be bound by constants, and checks that cannot fail may be copies.
+pub fn checks_become_copies()
+    ensures well { StaysWellFormed simplified_core }
+    ensures outcome { KeepsTheOutcome simplified_core }
+    ensures settled { SimplifiedHasNoOtherLiteral }
+{}
+
+/// Law: sources may be used in the place of copies.
+pub fn sources_stand_for_copies()
+    ensures well { StaysWellFormed forwarded_core }
+    ensures outcome { KeepsTheOutcome forwarded_core }
+{}
+
+/// Law: bindings that are not used and never fault may go.
+pub fn unused_bindings_go()
+    ensures well { StaysWellFormed swept_core }
+    ensures outcome { KeepsTheOutcome swept_core }
+{}

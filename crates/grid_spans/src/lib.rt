@@ -1,0 +1,6 @@
+//! The least and the greatest member of a grid on one axis.
+#![tactic(auto)]
+
+mod span;
+
+pub use span::{Span, span_of};

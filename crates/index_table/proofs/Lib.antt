@@ -1,0 +1,3 @@
+mod NoteFacts
+mod NumberFacts
+mod SlotFacts

@@ -1,0 +1,9 @@
+//! The calls in a function whose arguments have known shapes.
+#![tactic(auto)]
+
+mod calls;
+mod frame;
+mod notes;
+mod walk;
+
+pub use calls::{KnownCall, known_calls};

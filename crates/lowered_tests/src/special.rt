@@ -1,0 +1,39 @@
+use crate::inlined::accepted;
+use counted_code::CodeFun;
+use sac_base::Part;
+use sac_build::compile;
+use std::test::Fail;
+
+// A function of a vector, and calls of it with literal vectors of each length from 1 to 17.
+const LENGTHS: &str = "int f(int[.] a) { return (shape(a)[0] + a[0]); }
+int main() {
+  s = f([1]) + f([1, 1]) + f([1, 1, 1]) + f([1, 1, 1, 1]) + f([1, 1, 1, 1, 1]) + f([1, 1, 1, 1, 1, 1]);
+  s = s + f([1, 1, 1, 1, 1, 1, 1]) + f([1, 1, 1, 1, 1, 1, 1, 1]) + f([1, 1, 1, 1, 1, 1, 1, 1, 1]);
+  s = s + f([1, 1, 1, 1, 1, 1, 1, 1, 1, 1]) + f([1, 1, 1, 1, 1, 1, 1, 1, 1, 1, 1]);
+  s = s + f([1, 1, 1, 1, 1, 1, 1, 1, 1, 1, 1, 1]) + f([1, 1, 1, 1, 1, 1, 1, 1, 1, 1, 1, 1, 1]);
+  s = s + f([1, 1, 1, 1, 1, 1, 1, 1, 1, 1, 1, 1, 1, 1]) + f([1, 1, 1, 1, 1, 1, 1, 1, 1, 1, 1, 1, 1, 1, 1]);
+  s = s + f([1, 1, 1, 1, 1, 1, 1, 1, 1, 1, 1, 1, 1, 1, 1, 1]);
+  s = s + f([1, 1, 1, 1, 1, 1, 1, 1, 1, 1, 1, 1, 1, 1, 1, 1, 1]);
+  return (s);
+}";
+
+// Whether a function has parameters, and a known shape for the first.
+fn has_known_shape(function: &CodeFun) -> bool {
+    match function.params.first() {
+        Some((_, ty)) => matches!(ty.part, Part::Known(_)),
+        None => false,
+    }
+}
+
+#[test]
+fn at_most_sixteen_instances_of_a_function_are_made(rt: HostRuntime) -> Result<(), Fail> {
+    let compiled = compile(rt.alloc(), &accepted(rt.alloc(), LENGTHS)?, &[])?;
+    let mut instances = 0u64;
+    for function in &compiled.code.functions {
+        if has_known_shape(function) {
+            instances = instances.wrapping_add(1);
+        }
+    }
+    assert_eq!(rt; instances, 16);
+    Ok(())
+}

@@ -1,0 +1,5 @@
+pub mod Plans
+pub mod Tables
+pub mod Orders
+pub mod Serving
+pub mod Mains

@@ -1,0 +1,4 @@
+mod InsideFacts
+mod NoteFacts
+mod RightFacts
+mod WalkFacts

@@ -1,0 +1,82 @@
+//! All functions of a core.
+
+ghost use Rattle.std.specs.Prelude.{◌≡◌, IfOk, map};
+ghost use Rattle.core_ir.specs.View.{core_term, fun_term};
+ghost use Rattle.core_ir.specs.WellFormed.{IsWellFormed};
+ghost use Rattle.core_calls.specs.Arrays.{SameOutcomeOnArrays};
+ghost use Rattle.core_cleaning.specs.Unused.{swept_core};
+ghost use Rattle.unused_bindings.specs.Swept.{swept_function};
+
+use crate::walk::in_block;
+use core_ir::{Core, CoreFun};
+use sac_base::Memory;
+use std::alloc::Global;
+use std::collections::BTreeSet;
+
+/// Takes out of each function of a core the bindings that are not used and never fault: constants, copies, operators of one operand, `Dim` and `ShapeOf`.
+/// What only such bindings use is not used either.
+///
+/// The new core is exactly the one that `core_cleaning` defines. Of a well-formed core it is well formed and has the same outcome on arrays, under all
+/// limits.
+///
+/// # Errors
+///
+/// `Memory`: there is none for the set of what is used, or for a list.
+pub fn remove_unused(alloc: Global, core: Core) -> Result<Core, Memory>
+    ensures term { IfOk result (λ new. core_term new ≡ swept_core (core_term core)) }
+    ensures outcome { IsWellFormed (core_term core) → IfOk result (λ new. SameOutcomeOnArrays (core_term core) (core_term new)) }
+    ensures well { IsWellFormed (core_term core) → IfOk result (λ new. IsWellFormed (core_term new)) }
+{
+    in_core(alloc, core)
+}
+
+fn in_core(alloc: Global, core: Core) -> Result<Core, Memory>
+    ensures { IfOk result (λ new. core_term new ≡ swept_core (core_term core)) }
+{
+    let Core {
+        functions,
+        groups,
+        main,
+    } = core;
+    let functions = in_functions(alloc, functions)?;
+    Ok(Core {
+        functions,
+        groups,
+        main,
+    })
+}
+
+fn in_functions(alloc: Global, functions: Vec<CoreFun>) -> Result<Vec<CoreFun>, Memory>
+    ensures { IfOk result (λ new. map fun_term new.items ≡ map swept_function (map fun_term functions.items)) }
+{
+    let mut swept = Vec::new(alloc);
+    for function in functions {
+        swept.push(in_function(alloc, function)?)?;
+    }
+    Ok(swept)
+}
+
+fn in_function(alloc: Global, function: CoreFun) -> Result<CoreFun, Memory>
+    ensures { IfOk result (λ new. fun_term new ≡ swept_function (fun_term function)) }
+{
+    let mut used = BTreeSet::new(alloc);
+    let CoreFun {
+        name,
+        site,
+        params,
+        results,
+        inline,
+        body,
+        ends,
+    } = function;
+    let body = in_block(alloc, body, &mut used)?;
+    Ok(CoreFun {
+        name,
+        site,
+        params,
+        results,
+        inline,
+        body,
+        ends,
+    })
+}
