@@ -23,7 +23,11 @@ fn number(alloc: Global, value: Cell) -> Result<Right, Memory> {
     Ok(Right::Const(Array::scalar(alloc, Base::Int, value)?))
 }
 
+/// A vector of at most 8 numbers.
 fn vector(alloc: Global, values: &[Cell]) -> Result<Right, Memory> {
+    if values.len() > 8 {
+        return Err(Memory);
+    }
     let cells = Vec::from_slice(alloc, values)?;
     Ok(Right::Const(Array::vector(alloc, Base::Int, cells)))
 }
