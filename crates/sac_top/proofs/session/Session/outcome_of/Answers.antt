@@ -1,5 +1,6 @@
-use Rattle.std.proofs.Common.{sym, ◌∙◌}
+use Rattle.std.proofs.Common.{sym, ap, map, ◌∙◌}
 use Rattle.std.proofs.lemmas.Result.{IfOk-weaker}
+use Rattle.sac_base.specs.Arrays.{form_of}
 use Rattle.core_source_laws.proofs.Cores.{source_formed}
 use Rattle.sac_top.proofs.Tracing.{stays, run_traced, ends_with}
 use Rattle.sac_top.proofs.session.Session.outcome_of.Goals as goal
@@ -13,18 +14,20 @@ run-result-requires-clause-counted g c κs within = c.in_ok-compiled.ensures.cou
 pub returns-clause-outcome : goal.returns-clause-outcome
 returns-clause-outcome g c =
     let formed = source_formed c.requires.ready.read.0 _ c.requires.ready.read.1 in
-    ends_with c.outcome_told.result _ _ (c.in_ok-compiled.ensures.outcome formed _ _ c.requires.arrays (sym c.in_ok-forms.ensures))
+    let forms = ap (map form_of) (sym c.deref.ensures.value) ∙ sym c.in_ok-forms.ensures ∙ sym c.deref-2.ensures.value in
+    ends_with c.outcome_told.result _ _ (c.in_ok-compiled.ensures.outcome formed _ _ c.requires.arrays forms)
     (c.outcome_told.ensures.outcome _ c.run-result.ensures.outcome)
 
 pub returns-clause-traced : goal.returns-clause-traced
 returns-clause-traced g c =
     let formed = source_formed c.requires.ready.read.0 _ c.requires.ready.read.1 in
+    let forms = ap (map form_of) (sym c.deref.ensures.value) ∙ sym c.in_ok-forms.ensures ∙ sym c.deref-2.ensures.value in
     IfOk-weaker c.outcome_told.result _ _ (λ o ended. run_traced _ _ _ _ c.run-result.result _ _ _ _ _ c.requires.arrays
     (record {
       counted = c.in_ok-compiled.ensures.counted formed;
       prompt = c.in_ok-compiled.ensures.prompt formed;
       unmarked = c.in_ok-compiled.ensures.unmarked;
-      outcome = λ args caps arrays same. c.in_ok-compiled.ensures.outcome formed args caps arrays (same ∙ sym c.in_ok-forms.ensures);
+      outcome = λ args caps arrays same. c.in_ok-compiled.ensures.outcome formed args caps arrays (same ∙ forms);
     })
     c.run-result.ensures.outcome c.run-result.ensures.cost c.run-result.ensures.tally c.run-result.ensures.counters c.in_ok-compiled.ensures.none.0 c.in_ok-compiled.ensures.none.1 ended)
     c.outcome_told.ensures.ended
