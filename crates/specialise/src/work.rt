@@ -65,7 +65,36 @@ fn calls_in(
         return Ok(Vec::new(alloc));
     };
     match core.functions.get(item.source as usize) {
-        Some(source) => known_calls(alloc, source, &item.types, called),
+        Some(source) => of_small_groups(
+            alloc,
+            core,
+            known_calls(alloc, source, &item.types, called)?,
+        ),
         None => Ok(Vec::new(alloc)),
+    }
+}
+
+/// The most instances of its own that a group has whose calls are served: a call is tried with each of them.
+const FEW: usize = 8;
+
+/// The calls of groups with few instances.
+fn of_small_groups(
+    alloc: Global,
+    core: &Core,
+    calls: Vec<KnownCall>,
+) -> Result<Vec<KnownCall>, Memory> {
+    let mut small = Vec::new(alloc);
+    for call in calls {
+        if is_small(core, call.group) {
+            small.push(call)?;
+        }
+    }
+    Ok(small)
+}
+
+fn is_small(core: &Core, group: u32) -> bool {
+    match core.groups.get(group as usize) {
+        Some(own) => own.len() <= FEW,
+        None => false,
     }
 }
