@@ -1,4 +1,3 @@
-mod Axes
 mod Checks
 mod Cleaned
 mod Steps

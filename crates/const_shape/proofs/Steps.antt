@@ -1,7 +1,6 @@
 -- One turn of the loops of the walk, and their ends.
 use Rattle.std.proofs.Common.{◌≡◌, ℕ, zero, suc, ◌+◌, ◌-◌, List, [], ◌∷◌, ◌++◌, map, length, Option, refl, sym, ap, ◌∙◌, append_assoc, append-nil, arith}
 use Rattle.std.specs.Prelude.{drop, Result, Ok, Err, IfOk}
-use Rattle.std.proofs.lemmas.List.{length-drop}
 use Rattle.core_ir.specs.declared.tree.Let.{Let}
 use Rattle.core_ir.specs.declared.tree.CoreGen.{CoreGen}
 use Rattle.core_ir.specs.declared.tree.CorePart.{CorePart}
@@ -19,31 +18,6 @@ use Rattle.fact_table.specs.Notes.{Note}
 use Rattle.fact_table.specs.Table.{fact_of}
 use Rattle.const_shape.specs.declared.known.KnownRight.{KnownRight}
 use Rattle.const_shape.specs.Settling.{settled_let, settled_gen, settled_part}
-
--- ---- notes that go
-
-drop_nothing : {A : Type 0} (k : ℕ) → ◌≡◌ {A = List A} (drop k []) []
-drop_nothing zero = refl
-drop_nothing (suc k) = refl
-
-drop_twice : {A : Type 0} (m n : ℕ) (xs : List A) → drop m (drop n xs) ≡ drop (n + m) xs
-drop_twice m zero xs = ap (λ j. drop j xs) (let e : m ≡ 0 + m = omega arith in e)
-drop_twice m (suc n) [] = drop_nothing m ∙ sym (drop_nothing (suc n + m))
-drop_twice m (suc n) (x ∷ xs) = drop_twice m n xs ∙ ap (λ j. drop j (x ∷ xs)) (let e : suc (n + m) ≡ suc n + m = omega arith in e)
-
--- what two learn one after the other goes at once
-pub earlier_on : (a b c : List Note) → drop (length b - length a) b ≡ a → drop (length c - length b) c ≡ b → drop (length c - length a) c ≡ a
-earlier_on a b c p q =
-    let la = sym (length-drop (length b - length a) b) ∙ ap length p in
-    let lb = sym (length-drop (length c - length b) c) ∙ ap length q in
-    let sum : length c - length a ≡ (length c - length b) + (length b - length a) = omega (arith, la, lb) in
-    ap (λ n. drop n c) sum ∙ sym (drop_twice (length b - length a) (length c - length b) c) ∙ ap (drop (length b - length a)) q ∙ p
-
-pub one_earlier : (n : Note) (a b c : List Note) → b ≡ n ∷ a → drop (length c - length b) c ≡ b → drop (length c - length a) c ≡ a
-one_earlier n a b c e q = earlier_on a b c (ap (λ l. drop (length l - length a) l) e ∙ first) q
-  where
-    first : drop (length (n ∷ a) - length a) (n ∷ a) ≡ a
-    first = let one : suc (length a) - length a ≡ 1 = omega arith in ap (λ m. drop m (n ∷ a)) one
 
 -- ---- lists of generators and parts
 
@@ -159,10 +133,6 @@ parted_end called k rest before x w p r e q frame base cell =
     ∙ (λ i. RightTerm.Parted (frame i) (base i) (cell i) (q i) (parts_of ((sym (append-nil _) ∙ (λ j. map part_term x.parts.items ++ parts_settled called k (sym r j)) ∙ p ∙ ap (parts_settled called k) e) i)))
     ∙ ap (RightTerm.Parted (out-PartedLoop w).frame (out-PartedLoop w).base (out-PartedLoop w).cell (out-PartedLoop w).op) (parts_done called k (out-PartedLoop w).parts.items)
     ∙ ap (λ z. simplified_right called z k) (sym (parted_out w))
-
--- where nothing was learned nothing goes
-pub none_gone : (a : List Note) → drop (length a - length a) a ≡ a
-none_gone a = let e : length a - length a ≡ 0 = omega arith in ap (λ n. drop n a) e
 
 -- what is known of a parted loop
 pub parted_known : (called : ℕ → List (Option (List ℕ))) (k : Facts) (r : Result KnownRight Memory) (x : PartedLoop-F the_data the_data-1 the_data-2 the_data-3 the_data-4 the_data-5 the_data-6) (known : Fact) → IfOk r (λ (new : KnownRight). right_term new.right ≡ parted_term (roll-PartedLoop x)) → IfOk r (λ (new : KnownRight). map fact_of new.values.items ≡ known ∷ []) → known ≡ shape_fact (known_shape (parted_shape x.frame x.cell x.op))

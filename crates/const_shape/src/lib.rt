@@ -1,10 +1,8 @@
 //! Literal variables are bound by constants.
 #![tactic(auto)]
 
-mod frame;
 mod functions;
 mod known;
-mod notes;
 mod plain;
 mod walk;
 

@@ -8,13 +8,14 @@ ghost use Rattle.fact_table.specs.Table.{fact_of, facts_of};
 ghost use Rattle.plain_facts.specs.Called.{shapes_of};
 ghost use Rattle.const_shape.specs.Settling.{settled_let, settled_gen, settled_part};
 
-use crate::frame::parted_shape;
 use crate::known::{KnownBlock, KnownRight};
-use crate::notes::{forget, forget_index, known_of, learn_index};
 use crate::plain::settle_plain;
 use core_ir::{Block, CoreGen, CorePart, Let, PartedLoop, Right, WithLoop};
 use fact_table::{FactTable, Known};
-use plain_facts::{CalledShapes, common_facts, learn_all};
+use plain_facts::{
+    CalledShapes, common_facts, forget, forget_index, known_of, learn_all, learn_index,
+    parted_shape,
+};
 use sac_base::Memory;
 use std::alloc::Global;
 

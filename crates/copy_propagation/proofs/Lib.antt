@@ -1,3 +1,2 @@
-mod SlotFacts
 mod NoteFacts
 mod Steps

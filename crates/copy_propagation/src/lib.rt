@@ -3,7 +3,6 @@
 
 mod functions;
 mod operands;
-mod slots;
 mod sources;
 mod walk;
 

@@ -1,2 +1,1 @@
-mod SlotFacts
 mod NoteFacts

@@ -1,90 +1,31 @@
--- Notes, as slots and a trail hold them.
-use Rattle.std.proofs.Common.{◌≡◌, ℕ, suc, ◌-◌, ◌<◌, ◌≤◌, Bool, true, false, cond, eqb, List, [], ◌∷◌, ◌++◌, length, reverse, refl, ap, ◌∙◌, sym, subst, arith}
+-- The facts of notes as the table below keeps them.
+use Rattle.std.proofs.Common.{◌≡◌, ℕ, zero, suc, ◌-◌, Bool, true, false, cond, eqb, List, [], ◌∷◌, map, length, Option, refl, ap, ◌∙◌}
 use Rattle.std.specs.Prelude.{drop}
-use Rattle.std.proofs.lemmas.Bool.{eqb-true, eq-eqb}
-use Rattle.std.proofs.lemmas.List.{reverse-append, length-reverse}
 use Rattle.core_ir.specs.declared.tree.Var.{Var}
-use Rattle.core_facts.specs.Facts.{Fact, Facts, note}
+use Rattle.core_facts.specs.Facts.{Fact}
+use Rattle.scoped_table.specs.Notes as scoped
+use Rattle.scoped_table.specs.Notes.{noted}
 use Rattle.fact_table.specs.declared.known.Known.{Known}
-use Rattle.fact_table.specs.declared.table.Hidden.{Hidden}
 use Rattle.fact_table.specs.Notes.{Note}
-use Rattle.fact_table.specs.Table.{fact_of, facts_of, notes, Rests}
+use Rattle.fact_table.specs.Table.{facts_of, fact_or_none, fact_note}
 
-same_var : (x y : Var) → x.0 ≡ y.0 → x ≡ y
-same_var x y p = λ i. record { 0 = p i }
+chosen : (same : Bool) (value rest : Option Known) (facts : Fact) → fact_or_none rest ≡ facts → fact_or_none (cond same value rest) ≡ cond same (fact_or_none value) facts
+chosen true value rest facts e = refl
+chosen false value rest facts e = e
 
--- the latest note of a variable is what stands in its slot
-pub held : (n : ℕ) (k : Facts) (rest : List Hidden) → Rests n k rest → (x : Var) → k x ≡ facts_of (notes k rest) x
-held n k [] r x = r x
-held n k (h ∷ rest) r x = go (held n (note k h.variable (fact_of h.known)) rest r.1 x) (eqb h.variable.0 x.0) refl
-  where
-    go : note k h.variable (fact_of h.known) x ≡ facts_of (notes (note k h.variable (fact_of h.known)) rest) x → (same : Bool) → eqb h.variable.0 x.0 ≡ same → k x ≡ cond same (k h.variable) (facts_of (notes (note k h.variable (fact_of h.known)) rest) x)
-    go behind true e = ap k (same_var x h.variable (sym (eqb-true h.variable.0 x.0 e)))
-    go behind false e = ap (λ t. cond t (fact_of h.known) (k x)) (sym e) ∙ behind
+-- the latest note of a variable is its fact
+pub found : (ns : List (scoped.Note Known)) (x : Var) → fact_or_none (noted ns x) ≡ facts_of (map fact_note ns) x
+found [] x = refl
+found (n ∷ ns) x = chosen (eqb n.variable.0 x.0) n.value (noted ns x) (facts_of (map fact_note ns) x) (found ns x)
 
-pub found : (n : ℕ) (k : Facts) (us : List Hidden) (v : List Note) → Rests n k (reverse us) → notes k (reverse us) ≡ v → (x : Var) → k x ≡ facts_of v x
-found n k us v r view x = held n k (reverse us) r x ∙ ap (λ (ns : List Note). facts_of ns x) view
+pub count : (ns : List (scoped.Note Known)) → length ns ≡ length (map fact_note ns)
+count [] = refl
+count (n ∷ ns) = ap suc (count ns)
 
--- as many notes as the trail is long
-as_many : (k : Facts) (rest : List Hidden) → length rest ≡ length (notes k rest)
-as_many k [] = refl
-as_many k (h ∷ rest) = ap suc (as_many (note k h.variable (fact_of h.known)) rest)
+dropped : (k : ℕ) (ns : List (scoped.Note Known)) → map fact_note (drop k ns) ≡ drop k (map fact_note ns)
+dropped zero ns = refl
+dropped (suc k) [] = refl
+dropped (suc k) (n ∷ ns) = dropped k ns
 
-pub counted : (k : Facts) (us : List Hidden) (v : List Note) → notes k (reverse us) ≡ v → length us ≡ length v
-counted k us v view = sym (length-reverse us) ∙ as_many k (reverse us) ∙ ap length view
-
--- more slots
-pub further : (n m : ℕ) (k : Facts) (rest : List Hidden) → n ≤ m → Rests n k rest → Rests m k rest
-further n m k [] le r = r
-further n m k (h ∷ rest) le r = (let low = r.0 in omega (arith, le, low), further n m (note k h.variable (fact_of h.known)) rest le r.1)
-
-latest : (us ts : List Hidden) (h : Hidden) → us ≡ ts ++ h ∷ [] → reverse us ≡ h ∷ reverse ts
-latest us ts h is = ap reverse is ∙ reverse-append ts (h ∷ [])
-
--- ---- one note more
-
-restored : (k : Facts) (x : Var) (f : Fact) → note (note k x f) x (k x) ≡ k
-restored k x f = λ j y. go y (eqb x.0 y.0) refl j
-  where
-    go : (y : Var) (same : Bool) → eqb x.0 y.0 ≡ same → cond same (k x) (cond same f (k y)) ≡ k y
-    go y true e = ap k (same_var x y (eqb-true x.0 y.0 e))
-    go y false e = refl
-
--- a slot gets a fact, and what stood there is hidden
-module _ (k reached now : Facts) (x : Var) (f : Fact) (hidden : Known) (same : reached ≡ k) (put : now ≡ note reached x f) (hid : fact_of hidden ≡ reached x) where
-  -- and back again
-  pub back : (again : Facts) → again ≡ note now x (fact_of hidden) → again ≡ k
-  back again e = e ∙ (λ i. note (put i) x (hid i)) ∙ restored reached x f ∙ same
-
-  seen : now x ≡ f
-  seen = ap (λ (g : Facts). g x) put ∙ ap (λ t. cond t f (reached x)) (eq-eqb x.0 x.0 refl)
-
-  pub learned : (us ts : List Hidden) (v : List Note) → us ≡ ts ++ record { variable = x; known = hidden } ∷ [] → notes k (reverse ts) ≡ v → notes now (reverse us) ≡ record { variable = x; fact = f } ∷ v
-  learned us ts v is view =
-      ap (notes now) (latest us ts (record { variable = x; known = hidden }) is)
-      ∙ (λ i. record { variable = x; fact = seen i } ∷ notes (back (note now x (fact_of hidden)) refl i) (reverse ts))
-      ∙ ap (λ (ns : List Note). record { variable = x; fact = f } ∷ ns) view
-
-  pub rests_learned : (n m : ℕ) (us ts : List Hidden) → us ≡ ts ++ record { variable = x; known = hidden } ∷ [] → n ≤ m → x.0 < m → Rests n k (reverse ts) → Rests m now (reverse us)
-  rests_learned n m us ts is le there r =
-      subst (Rests m now) (sym (latest us ts (record { variable = x; known = hidden }) is))
-      (there, subst (λ (g : Facts). Rests m g (reverse ts)) (sym (back (note now x (fact_of hidden)) refl)) (further n m k (reverse ts) le r))
-
--- the slots are as before, but perhaps more
-pub rests_kept : (n m : ℕ) (k again : Facts) (us ts : List Hidden) → again ≡ k → us ≡ ts → n ≤ m → Rests n k (reverse ts) → Rests m again (reverse us)
-rests_kept n m k again us ts e is le r =
-    subst (λ (g : Facts). Rests m g (reverse us)) (sym e) (subst (λ (rs : List Hidden). Rests m k (reverse rs)) (sym is) (further n m k (reverse ts) le r))
-
-pub kept : (k again : Facts) (us ts : List Hidden) (v : List Note) → again ≡ k → us ≡ ts → notes k (reverse ts) ≡ v → notes again (reverse us) ≡ v
-kept k again us ts v e is view = (λ i. notes (e i) (reverse (is i))) ∙ view
-
--- ---- all notes behind a mark go
-
-none_below : (n : ℕ) → n < 0 → ⊥
-none_below n less = omega (arith, less)
-
-pub one_gone : (xs : List Note) (m : ℕ) → m < length xs → drop (length (drop 1 xs) - m) (drop 1 xs) ≡ drop (length xs - m) xs
-one_gone [] m less = elim (none_below m less) [ ]
-one_gone (x ∷ xs) m less =
-    let e : suc (length xs - m) ≡ suc (length xs) - m = omega (arith, less) in
-    ap (λ n. drop n (x ∷ xs)) e
+pub undone : (mark : ℕ) (old : List (scoped.Note Known)) → map fact_note (drop (length old - mark) old) ≡ drop (length (map fact_note old) - mark) (map fact_note old)
+undone mark old = dropped (length old - mark) old ∙ ap (λ n. drop (n - mark) (map fact_note old)) (count old)

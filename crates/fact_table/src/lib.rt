@@ -2,7 +2,6 @@
 #![tactic(auto)]
 
 mod known;
-mod slots;
 mod table;
 
 pub use known::Known;

@@ -1,3 +1,2 @@
 mod NoteFacts
 mod NumberFacts
-mod SlotFacts

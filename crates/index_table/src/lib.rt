@@ -4,7 +4,6 @@
 mod numbers;
 mod relation;
 mod relations;
-mod slots;
 mod table;
 
 pub use relation::Relation;

@@ -1,47 +1,37 @@
 //! The table.
 
 ghost use Rattle.std.specs.Prelude.{◌≡◌, ◌-◌, [], ◌∷◌, length, drop, OnOk, OnErr};
-ghost use Rattle.core_loops.specs.Indices.{IndexFact};
 ghost use Rattle.index_table.specs.Table.{index_of, indices_of};
 
 use crate::relation::Relation;
-use crate::slots::{exchange, put_back, reach};
 use core_ir::Var;
 use sac_base::Memory;
+use scoped_table::ScopedTable;
 use std::alloc::Global;
 use std::marker::Model;
 
-// A variable, and what its slot held before.
-#[derive(Drop)]
-struct Hidden {
-    variable: Var,
-    relation: Relation,
-}
-
 /// What variables are beside the index of a part: a list of notes, the latest first, of which the first one of a variable counts.
 ///
-/// Each variable has a slot at its number, so a look-up takes the same time however many there are.
+/// A look-up takes the same time however many variables there are.
 #[derive(Drop)]
 pub struct IndexTable {
-    slots: Vec<Relation>,
-    // what the notes hide, the latest last
-    trail: Vec<Hidden>,
-    // of a variable that has no slot
+    notes: ScopedTable<Relation>,
+    // of a variable without a note
     nothing: Relation,
 }
 
 impl Model for IndexTable {
-    ghost use Rattle.std.specs.Prelude.{◌≡◌, List, length, reverse};
+    ghost use Rattle.std.specs.Prelude.{◌≡◌, List, map};
     ghost use Rattle.core_loops.specs.Indices.{Other};
     ghost use Rattle.index_table.specs.Notes.{Note};
 
     ghost Value = { List Note };
 
-    ghost use Rattle.index_table.specs.Table.{index_of, indices_in, notes, Rests};
+    ghost use Rattle.index_table.specs.Table.{index_of, index_note};
 
-    ghost view = { λ t. notes (indices_in t.slots.items) (reverse t.trail.items) };
+    ghost view = { λ t. map index_note t.notes };
 
-    ghost invariant = { λ t. (index_of t.nothing ≡ Other) × Rests (length t.slots.items) (indices_in t.slots.items) (reverse t.trail.items) };
+    ghost invariant = { λ t. index_of t.nothing ≡ Other };
 }
 
 impl IndexTable {
@@ -50,8 +40,7 @@ impl IndexTable {
         ensures { result ≡ [] }
     {
         IndexTable {
-            slots: Vec::new(alloc),
-            trail: Vec::new(alloc),
+            notes: ScopedTable::new(alloc),
             nothing: Relation::Other,
         }
     }
@@ -60,7 +49,7 @@ impl IndexTable {
     pub fn at(&self, x: Var) -> &Relation
         ensures { index_of result.now ≡ indices_of self.now x }
     {
-        match self.slots.get(x.0 as usize) {
+        match self.notes.get(x) {
             Some(relation) => relation,
             None => &self.nothing,
         }
@@ -70,7 +59,7 @@ impl IndexTable {
     pub fn mark(&self) -> usize
         ensures { result ≡ length self.now }
     {
-        self.trail.len()
+        self.notes.mark()
     }
 
     /// Notes what a variable is from here on.
@@ -82,36 +71,13 @@ impl IndexTable {
         ensures learned { OnOk result (self.new ≡ record { variable = x; fact = index_of relation } ∷ self.old) }
         ensures unchanged { OnErr result (self.new ≡ self.old) }
     {
-        reach(&mut self.slots, x)?;
-        let hidden = exchange(&mut self.slots, x, relation);
-        match self.trail.push(Hidden {
-            variable: x,
-            relation: hidden,
-        }) {
-            Ok(()) => Ok(()),
-            Err(failed) => {
-                put_back(&mut self.slots, x, failed.value.relation);
-                Err(Memory)
-            }
-        }
+        self.notes.note(x, relation)
     }
 
     /// Takes back what was noted since there were so many notes, in time of how many that are.
     pub fn undo(&mut self, mark: usize)
         ensures { self.new ≡ drop (length self.old - mark) self.old }
     {
-        while self.mark() > mark {
-            self.undo_last();
-        }
-    }
-
-    // Takes back the last note, if there is one.
-    fn undo_last(&mut self)
-        ensures { self.new ≡ drop 1 self.old }
-    {
-        match self.trail.pop() {
-            Some(hidden) => put_back(&mut self.slots, hidden.variable, hidden.relation),
-            None => {}
-        }
+        self.notes.undo(mark);
     }
 }

@@ -1,3 +1,1 @@
-pub mod Axes
-pub mod Steps
 pub mod Finding

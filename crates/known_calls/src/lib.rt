@@ -2,8 +2,6 @@
 #![tactic(auto)]
 
 mod calls;
-mod frame;
-mod notes;
 mod walk;
 
 pub use calls::{KnownCall, known_calls};

@@ -9,11 +9,12 @@ ghost use Rattle.known_calls.specs.Known.{known_in, known_right};
 ghost use Rattle.known_calls.specs.Told.{told, known_gen, known_part};
 
 use crate::calls::{KnownCall, note_call};
-use crate::frame::parted_shape;
-use crate::notes::{forget, forget_index, known_of, learn_index};
 use core_ir::{Block, CoreGen, CorePart, PartedLoop, Right, WithLoop};
 use fact_table::{FactTable, Known};
-use plain_facts::{CalledShapes, common_facts, learn_all, plain_fact};
+use plain_facts::{
+    CalledShapes, common_facts, forget, forget_index, known_of, learn_all, learn_index,
+    parted_shape, plain_fact,
+};
 use sac_base::Memory;
 use std::alloc::Global;
 

@@ -1,3 +1,4 @@
+mod Axes
 mod Groups
 mod Notes
 mod Pairs

@@ -1,4 +1,3 @@
 mod InsideFacts
-mod NoteFacts
 mod RightFacts
 mod WalkFacts

@@ -14,7 +14,7 @@ use crate::plain::plain_values;
 use core_ir::{Block, Let, Right, Var};
 use fact_table::{FactTable, Known};
 use index_table::{IndexTable, Relation, learn_relation};
-use plain_facts::{CalledShapes, common_facts, learn_all};
+use plain_facts::{CalledShapes, common_facts, known_of, learn_all};
 use sac_base::{Grid, Memory, Shape};
 use std::alloc::Global;
 
@@ -185,17 +185,6 @@ fn is_scalar(shape: &Option<Shape>) -> bool
         Some(shape) => shape.rank() == 0,
         None => false,
     }
-}
-
-/// What is known of variables.
-fn known_of(alloc: Global, table: &FactTable, vars: &[Var]) -> Result<Vec<Known>, Memory>
-    ensures { IfOk result (λ known. map fact_of known.items ≡ map (facts_of table.now) vars.now) }
-{
-    let mut known = Vec::new(alloc);
-    for var in vars {
-        known.push(table.fact(*var).copy()?)?;
-    }
-    Ok(known)
 }
 
 /// What is known of the results of a part's body, where it never faults: its index is a member of the grid, a vector of as many numbers as the grid has

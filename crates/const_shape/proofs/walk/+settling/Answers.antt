@@ -8,7 +8,8 @@ use Rattle.core_facts.specs.Facts.{shape_fact}
 use Rattle.core_cleaning.specs.Checks.{simplified}
 use Rattle.fact_table.specs.Table.{facts_of}
 use Rattle.plain_facts.specs.Called.{shapes_of}
-use Rattle.const_shape.proofs.Steps.{earlier_on, none_gone, let_turn, known_turn, none_left, block_end, known_end, with_end, parted_settled, parted_known}
+use Rattle.scoped_table.proofs.Marks.{earlier_on, none_gone}
+use Rattle.const_shape.proofs.Steps.{let_turn, known_turn, none_left, block_end, known_end, with_end, parted_settled, parted_known}
 use Rattle.const_shape.proofs.walk.+settling.Goals as goal
 
 pub settle_block-loop-binding-init : goal.settle_block-loop-binding-init

@@ -1,20 +1,17 @@
-use Rattle.std.proofs.Common.{rules, ◌≡◌, ◌≤◌, length, ap, ◌∙◌, sym, slice_index_or}
-use Rattle.fact_table.specs.Table.{fact_of, facts_in, nothing}
-use Rattle.fact_table.proofs.SlotFacts.{past}
+use Rattle.std.proofs.Common.{rules, ◌≡◌, Some, None, ap, ◌∙◌, sym}
+use Rattle.scoped_table.specs.Notes.{noted}
+use Rattle.fact_table.specs.Table.{fact_or_none, facts_of}
 use Rattle.fact_table.proofs.NoteFacts.{found}
 use Rattle.fact_table.proofs.table.FactTable.fact.Goals as goal
 
 pub returns-in-Some : goal.returns-in-Some
 returns-in-Some c =
     let t = c.self.inside in
-    let here : c.in-Some.known.now ≡ slice_index_or t.slots.items c.args.x.0 nothing = search rules in
-    ap fact_of here
-    ∙ found (length t.slots.items) (facts_in t.slots.items) t.trail.items c.args.self.now c.self.invariant.1 c.self.view_is c.args.x
+    let here : Some c.in-Some.known.now ≡ noted t.notes c.args.x = search rules in
+    ap fact_or_none here ∙ found t.notes c.args.x ∙ ap (λ ns. facts_of ns c.args.x) c.self.view_is
 
 pub returns-in-None : goal.returns-in-None
 returns-in-None c =
     let t = c.self.inside in
-    let beyond : length t.slots.items ≤ c.args.x.0 = search rules in
-    c.self.invariant.0
-    ∙ sym (past t.slots.items c.args.x beyond)
-    ∙ found (length t.slots.items) (facts_in t.slots.items) t.trail.items c.args.self.now c.self.invariant.1 c.self.view_is c.args.x
+    let here : None ≡ noted t.notes c.args.x = search rules in
+    c.self.invariant ∙ ap fact_or_none here ∙ found t.notes c.args.x ∙ ap (λ ns. facts_of ns c.args.x) c.self.view_is

@@ -1,13 +1,11 @@
-use Rattle.std.proofs.Common.{rules, ◌-◌, ◌<◌, List, length, ap, ◌∙◌, arith}
+use Rattle.std.proofs.Common.{◌≡◌, ◌-◌, length, ap, ◌∙◌}
 use Rattle.std.specs.Prelude.{drop}
-use Rattle.std.proofs.lemmas.Bool.Decides.{nat_tests}
-use Rattle.index_table.specs.Notes.{Note}
-use Rattle.index_table.proofs.NoteFacts.{one_gone}
+use Rattle.index_table.specs.Table.{index_note}
+use Rattle.std.specs.Prelude.{map}
+use Rattle.index_table.proofs.NoteFacts.{undone}
 use Rattle.index_table.proofs.table.IndexTable.undo.Goals as goal
 
-pub loop-self-preserved : goal.loop-self-preserved
-loop-self-preserved c =
-    let more : c.args.mark < length c.loop-self.self = first_of (search rules, grind (arith, nat_tests, c.mark.ensures, c.loop-self-test.true)) in
-    ap (λ (ns : List Note). drop (length ns - c.args.mark) ns) c.undo_last.ensures
-    ∙ one_gone c.loop-self.self c.args.mark more
-    ∙ c.loop-self.invariant
+pub returns : goal.returns
+returns c =
+    let t = c.self.inside in
+    ap (map index_note) c.undo.ensures ∙ undone c.args.mark t.notes ∙ ap (λ ns. drop (length ns - c.args.mark) ns) c.self.view_is

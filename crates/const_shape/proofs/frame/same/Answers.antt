@@ -1,6 +1,0 @@
-use Rattle.std.proofs.Common.{Some, ap, sym, ◌∙◌}
-use Rattle.const_shape.proofs.Axes.{known_is}
-use Rattle.const_shape.proofs.frame.same.Goals as goal
-
-pub returns : goal.returns
-returns c = ap Some c.copy.ensures ∙ sym (known_is c.args.shape.now c.extents.ensures.shape)

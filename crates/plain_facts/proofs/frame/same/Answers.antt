@@ -1,0 +1,6 @@
+use Rattle.std.proofs.Common.{Some, ap, sym, ◌∙◌}
+use Rattle.plain_facts.proofs.Axes.{known_is}
+use Rattle.plain_facts.proofs.frame.same.Goals as goal
+
+pub returns : goal.returns
+returns c = ap Some c.copy.ensures ∙ sym (known_is c.args.shape.now c.extents.ensures.shape)

@@ -1,0 +1,3 @@
+pub mod Marks
+mod SlotFacts
+mod NoteFacts
