@@ -7,7 +7,7 @@ use Rattle.std.proofs.lemmas.Slice.Eq.{bytes_eq-Decides}
 use Rattle.sac_base.specs.declared.name.Name.{Name}
 use Rattle.sac_ast.specs.Tree.{FunctionTree}
 use Rattle.core_lowering.specs.Programs.{place_in, places_of}
-use Rattle.single_assign.specs.Looks.{texts}
+use Rattle.core_scopes.specs.Looks.{texts}
 use Rattle.single_assign.specs.Functions.{with_place}
 
 -- each group, and behind it the places of its name in the functions that are left

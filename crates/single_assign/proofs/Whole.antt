@@ -18,10 +18,10 @@ use Rattle.core_lowering_steps.specs.Looks.{Look, unbound}
 use Rattle.core_lowering_steps.specs.Building.{Built, MadeList, MadeScope, make_block, make_all}
 use Rattle.core_lowering_steps.specs.Functions.{MadeParams, params_declared, function_by}
 use Rattle.core_lowering_steps.proofs.Whole.{function_is}
-use Rattle.single_assign.specs.Looks.{texts}
+use Rattle.core_scopes.specs.Looks.{texts}
 use Rattle.single_assign.specs.Views.{made_list, made_scope}
 use Rattle.single_assign.specs.Functions.{functions_by, params_made}
-use Rattle.single_assign.proofs.Once.{among, once_but, once_kept, inserted, names_left}
+use Rattle.core_scopes.proofs.Once.{among, once_but, once_kept, inserted, names_left}
 
 -- ---- functions
 

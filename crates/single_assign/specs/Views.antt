@@ -1,4 +1,4 @@
--- What the builders, scopes and contexts of the code stand for, and what is made in them.
+-- What the contexts of the code stand for, and what is made in them.
 use Rattle.std.specs.Prelude.{ℕ, List, map, Option}
 use Rattle.std.specs.Borrow.{Bor}
 use Rattle.indexmap.specs.IndexSet.{IndexSet}
@@ -19,19 +19,10 @@ use Rattle.core_lowering_steps.specs.Building.{Built, Made, MadeList, MadeOption
 use Rattle.core_lowering_steps.specs.Building.{MadeGiven, make, make_all, make_maybe, make_bound, make_gen, make_gens, make_operation, make_stmt}
 use Rattle.core_lowering_steps.specs.Building.{make_block, make_starts}
 use Rattle.core_lowering_steps.specs.Parts.{make_default, make_inside, make_cell, make_turn, make_if, make_while, make_do}
-use Rattle.single_assign.specs.declared.builder.Builder.{Builder}
 use Rattle.single_assign.specs.declared.context.Context.{Context}
 use Rattle.single_assign.specs.declared.lower.Given.{Given}
 use Rattle.single_assign.specs.declared.lower.Making.{Making}
-use Rattle.single_assign.specs.Looks.{texts}
-
-abbrev pub built : Builder → Built
-built b = record { lets = map let_term b.lets.items; next = b.next }
-
--- ---- a state, and what was made on the way to it
-
-abbrev pub made : Built → Var → Made
-made s x = record { state = s; result = x }
+use Rattle.core_scopes.specs.Looks.{texts}
 
 abbrev pub made_list : Built → List Var → MadeList
 made_list s xs = record { state = s; results = xs }
@@ -41,9 +32,6 @@ made_option s x = record { state = s; result = x }
 
 abbrev pub made_scope : Built → Look → MadeScope
 made_scope s scope = record { state = s; scope = scope }
-
-abbrev pub made_names : Built → List Var → Look → MadeNames
-made_names s xs scope = record { state = s; results = xs; scope = scope }
 
 abbrev pub made_block : Built → BlockTerm → MadeBlock
 made_block s b = record { state = s; block = b }

@@ -8,17 +8,18 @@ ghost use Rattle.core_ir.specs.Terms.{Plain, PlainTerm, RightTerm, gens_of};
 ghost use Rattle.core_ir.specs.View.{block_term, gen_term, right_term};
 ghost use Rattle.core_lowering.specs.Lowering.{built_in as built_in_value};
 ghost use Rattle.core_lowering_steps.specs.Building.{block_giving, block_of, bound_at, first_var, given_bound, index_declared, start_at, use_at};
-ghost use Rattle.single_assign.specs.Looks.{look, texts};
-ghost use Rattle.single_assign.specs.Views.{built, made, made_list, made_option, made_scope, made_names, made_block, made_gen, made_gens};
+ghost use Rattle.core_scopes.specs.Looks.{look, texts};
+ghost use Rattle.core_scopes.specs.Built.{built, made, made_names};
+ghost use Rattle.single_assign.specs.Views.{made_list, made_option, made_scope, made_block, made_gen, made_gens};
 ghost use Rattle.single_assign.specs.Views.{made_operation, make_in, make_all_in, make_maybe_in, make_bound_in, make_gen_in, make_gens_in};
 ghost use Rattle.single_assign.specs.Views.{make_operation_in, make_stmt_in, make_block_in, make_inside_in, make_cell_in, make_default_in};
 ghost use Rattle.single_assign.specs.Views.{make_starts_in, make_if_in, make_turn_in, make_while_in, make_do_in, made_given, name_base_in};
 
-use crate::builder::Builder;
 use crate::context::Context;
-use crate::names::{known, known_in_both, names_of, once_bound, once_bound_in_either};
-use crate::scope::Scope;
 use core_ir::{Block, CoreGen, CoreOp, Right, Var, WithLoop};
+use core_scopes::{
+    Builder, Scope, known, known_in_both, names_of, once_bound, once_bound_in_either,
+};
 use sac_ast::{Bound, Builtin, Expression, Generator, Index, Operation, Statement, Target};
 use sac_base::{Array, Base, Cell, FaultKind, Memory, Name, Site};
 

@@ -1,3 +1,2 @@
-pub mod Walks
 pub mod Same
 pub mod Whole

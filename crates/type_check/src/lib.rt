@@ -3,7 +3,6 @@
 
 mod checked;
 mod program;
-mod walk;
 
 pub use check_rules::code::CheckCode;
 pub use checked::Checked;

@@ -11,7 +11,6 @@ ghost use Rattle.check_rules.specs.Walk.{in_function as function_first};
 ghost use Rattle.type_check.specs.Refusals.{IsRefusal};
 
 use crate::checked::Checked;
-use crate::walk::{block, expressions};
 use check_rules::bound::Bound;
 use check_rules::calls::Place;
 use check_rules::clashes::stands_beside;
@@ -21,6 +20,7 @@ use check_rules::judged::JudgedAll;
 use check_rules::listing::listed;
 use check_rules::targets::{bind_params, push_params, repeated_params};
 use check_rules::violation::{Violation, earlier, unless};
+use check_walk::{block, expressions};
 use indexmap::IndexMap;
 use sac_ast::{Function, Param, Program, may_be};
 use sac_base::{ArrayType, Base, Memory, Site};

@@ -1,6 +1,6 @@
 use Rattle.std.proofs.Common.{sym, ◌∙◌, Bor, List, ℕ}
 use Rattle.std.specs.Prelude.{bytes_eq, position}
-use Rattle.single_assign.proofs.Once.{place_found, place_missed}
+use Rattle.core_scopes.proofs.Once.{place_found, place_missed}
 use Rattle.single_assign.proofs.context.place_of.Goals as goal
 
 pub returns-in-Some : goal.returns-in-Some

@@ -11,9 +11,10 @@ use Rattle.core_lowering_steps.specs.Building.{bound_at}
 use Rattle.core_lowering_steps.specs.Parts.{after_gens}
 use Rattle.core_lowering_steps.proofs.Arms.{with_arm, assign_call_arm, assign_arm, generator_arm, genarray_arm}
 use Rattle.core_lowering_steps.proofs.Steps.{gens_step, gens_end}
-use Rattle.single_assign.specs.Looks.{look, texts}
-use Rattle.single_assign.specs.Views.{built, made, made_scope, made_gen, group_in, base_of_in, name_base_in, make_in, make_all_in, make_gen_in, make_gens_in, make_operation_in, make_stmt_in}
-use Rattle.single_assign.proofs.Scopes.{on_ok_then}
+use Rattle.core_scopes.specs.Looks.{look, texts}
+use Rattle.core_scopes.specs.Built.{built, made}
+use Rattle.single_assign.specs.Views.{made_scope, made_gen, group_in, base_of_in, name_base_in, make_in, make_all_in, make_gen_in, make_gens_in, make_operation_in, make_stmt_in}
+use Rattle.core_scopes.proofs.Scopes.{on_ok_then}
 use Rattle.single_assign.proofs.Loops.{gen_roll, not_call, terms_next}
 use Rattle.single_assign.proofs.lower.+lowering.Goals as goal
 

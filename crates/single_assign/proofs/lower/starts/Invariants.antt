@@ -1,7 +1,8 @@
 use Rattle.std.proofs.Common.{◌≡◌, drop}
 use Rattle.core_lowering_steps.specs.Parts.{after_list}
-use Rattle.single_assign.specs.Looks.{look, texts}
-use Rattle.single_assign.specs.Views.{built, make_starts_in}
+use Rattle.core_scopes.specs.Looks.{look, texts}
+use Rattle.core_scopes.specs.Built.{built}
+use Rattle.single_assign.specs.Views.{make_starts_in}
 use Rattle.single_assign.proofs.lower.starts.Given as goal
 
 abbrev pub invariant-loop-name : goal.invariant-loop-name

@@ -1,7 +1,7 @@
 use Rattle.std.proofs.Common.{ℕ, sym, ◌∙◌, Vec, Global, map}
 use Rattle.std.proofs.lemmas.List.{length-map}
 use Rattle.single_assign.proofs.Groups.{none_more, put_in}
-use Rattle.single_assign.proofs.Once.{place_found, place_missed}
+use Rattle.core_scopes.proofs.Once.{place_found, place_missed}
 use Rattle.single_assign.proofs.program.add_place.Goals as goal
 
 pub returns-in_ok-push : goal.returns-in_ok-push

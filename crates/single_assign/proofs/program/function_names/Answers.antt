@@ -1,7 +1,7 @@
 use Rattle.std.proofs.Common.{rules, ◌<◌, ◌+◌, ◌++◌, ◌∷◌, sym, ap, ◌∙◌, length, drop}
 use Rattle.sac_ast.specs.View.{functions}
-use Rattle.single_assign.specs.Looks.{texts}
-use Rattle.single_assign.proofs.Once.{among, once_but, once_start, names_left}
+use Rattle.core_scopes.specs.Looks.{texts}
+use Rattle.core_scopes.proofs.Once.{among, once_but, once_start, names_left}
 use Rattle.single_assign.proofs.Whole.{insert_once, names_next}
 use Rattle.single_assign.proofs.program.function_names.Goals as goal
 

@@ -1,8 +1,8 @@
 use Rattle.std.proofs.Common.{◌≡◌, ◌++◌, drop}
 use Rattle.sac_ast.specs.View.{functions}
 use Rattle.core_lowering.specs.Programs.{function_names}
-use Rattle.single_assign.specs.Looks.{texts}
-use Rattle.single_assign.proofs.Once.{among, once_but, names_left}
+use Rattle.core_scopes.specs.Looks.{texts}
+use Rattle.core_scopes.proofs.Once.{among, once_but, names_left}
 use Rattle.single_assign.proofs.program.function_names.Given as goal
 
 abbrev pub invariant-loop-f : goal.invariant-loop-f

@@ -1,7 +1,7 @@
 use Rattle.std.proofs.Common.{rules, drop_of_length-le, get_or, ◌≡◌, ◌<◌, ◌+◌, sym, ap, ◌∙◌, length, drop, map, replicate, Vec, Global, ℕ, suc, [], arith}
 use Rattle.std.proofs.lemmas.List.{drop_more, length-map, length-replicate}
 use Rattle.sac_ast.specs.View.{function, functions}
-use Rattle.single_assign.specs.Looks.{texts}
+use Rattle.core_scopes.specs.Looks.{texts}
 use Rattle.single_assign.specs.Functions.{with_place}
 use Rattle.single_assign.proofs.Groups.{as_many, joined, joined_first, joined_last, joined_next}
 use Rattle.single_assign.proofs.program.groups.Goals as goal

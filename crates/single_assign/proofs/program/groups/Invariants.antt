@@ -1,7 +1,7 @@
 use Rattle.std.proofs.Common.{◌≡◌, drop, map, length}
 use Rattle.sac_ast.specs.View.{functions}
 use Rattle.core_lowering.specs.Programs.{places_of}
-use Rattle.single_assign.specs.Looks.{texts}
+use Rattle.core_scopes.specs.Looks.{texts}
 use Rattle.single_assign.proofs.Groups.{joined}
 use Rattle.single_assign.proofs.program.groups.Given as goal
 

@@ -2,8 +2,9 @@ use Rattle.std.proofs.Common.{ap, ◌∙◌}
 use Rattle.sac_ast.specs.View.{function, block, exprs}
 use Rattle.core_ir.specs.View.{block_term}
 use Rattle.core_lowering_steps.specs.Functions.{params_declared}
-use Rattle.single_assign.specs.Looks.{look}
-use Rattle.single_assign.specs.Views.{built, group_in, base_of_in, name_base_in, make_block_in, make_all_in}
+use Rattle.core_scopes.specs.Looks.{look}
+use Rattle.core_scopes.specs.Built.{built}
+use Rattle.single_assign.specs.Views.{group_in, base_of_in, name_base_in, make_block_in, make_all_in}
 use Rattle.single_assign.proofs.Whole.{function_ends}
 use Rattle.single_assign.proofs.program.lower_function.Goals as goal
 

@@ -1,8 +1,8 @@
 use Rattle.std.proofs.Common.{◌≡◌, drop}
-use Rattle.single_assign.specs.Looks.{look}
+use Rattle.core_scopes.specs.Looks.{look}
 use Rattle.core_lowering_steps.specs.Functions.{params_declared}
 use Rattle.core_lowering_steps.specs.Parts.{after_params}
-use Rattle.single_assign.specs.Views.{built}
+use Rattle.core_scopes.specs.Built.{built}
 use Rattle.single_assign.proofs.program.lower_params.Given as goal
 
 abbrev pub invariant-loop-param : goal.invariant-loop-param

@@ -3,7 +3,7 @@ use Rattle.sac_ast.specs.View.{functions, program}
 use Rattle.core_lowering.specs.Programs.{function_names, places_of}
 use Rattle.core_ir.specs.View.{fun_term}
 use Rattle.single_assign.specs.Functions.{functions_by}
-use Rattle.single_assign.specs.Looks.{texts}
+use Rattle.core_scopes.specs.Looks.{texts}
 use Rattle.single_assign.specs.Views.{place_by}
 use Rattle.single_assign.proofs.Whole.{program_ends}
 use Rattle.single_assign.proofs.program.lower_program.Goals as goal

@@ -1,0 +1,220 @@
+use Rattle.std.proofs.Common.{rules, ◌≡◌, ℕ, ◌<◌, ◌+◌, ◌++◌, List, Bor, sym, ap, ◌∙◌, subst, length, take, drop}
+use Rattle.std.specs.Prelude.{IfOk, OnOk}
+use Rattle.sac_ast.specs.Tree
+use Rattle.sac_ast.specs.View.{expr, exprs, stmt, block, generators}
+use Rattle.sac_ast.proofs.Views.{expr_call, expr_choice, stmt_assign, stmt_replace, stmt_if}
+use Rattle.check_rules.specs.Accepted.{with_names, target_names, bound_after, bound_behind}
+use Rattle.check_rules.specs.First.{earlier}
+use Rattle.check_rules.specs.Places.{place}
+use Rattle.check_rules.specs.Tables.{among, has, with_common, entered}
+use Rattle.check_rules.specs.Walk.{in_value, in_values, in_generators, in_statement, in_block, in_targets, bound_by_both}
+use Rattle.check_rules.proofs.Places.{kept_twice}
+use Rattle.check_walk.proofs.Walks.{values_first, values_bases, values_known, generators_first, generators_cells, generators_known, block_first, block_known, block_names, choice_from, called_first, called_known, plain_first, plain_known, replaced_from, both_bound}
+use Rattle.check_walk.proofs.walk.+walk.Goals as goal
+
+pub expressions-loop-e-preserved : goal.expressions-loop-e-preserved
+expressions-loop-e-preserved t c =
+    let p = place c.args.here.now in
+    let es = c.args.es.now in
+    let k = c.loop-e.e-index in
+    let e = c.e-item.result in
+    let below : k < length es = search rules in
+    let told = c.in_ok-one.ensures in
+    let b = among c.loop-e.bound.trail.items in
+    let b' = among c.expression.new.bound.trail.items in
+    let n = entered c.loop-e.known in
+    let n' = entered c.expression.new.known in
+    let same : b' ≡ b = ap among told.kept in
+    record {
+      first = ap (λ r. earlier r (in_values p (exprs (drop (k + 1) es)) b' n').first) c.earlier-first.ensures
+          ∙ values_first p es k e below c.e-item.is b b' n n' same told.known c.loop-e.first c.in_ok-one.one.first told.first ∙ c.loop-e.invariant.first;
+      bases = ap (λ bs. bs ++ (in_values p (exprs (drop (k + 1) es)) b' n').bases) c.in_ok-push.ensures.items
+          ∙ values_bases p es k e below c.e-item.is b b' n n' same told.known c.loop-e.bases.items c.in_ok-one.one.base told.base ∙ c.loop-e.invariant.bases;
+      known = values_known p es k e below c.e-item.is b b' n n' same told.known ∙ c.loop-e.invariant.known;
+      kept = told.kept ∙ c.loop-e.invariant.kept;
+    }
+
+pub generators-loop-g-preserved : goal.generators-loop-g-preserved
+generators-loop-g-preserved t c =
+    let p = place c.args.here.now in
+    let gs = c.args.gs.now in
+    let folds = c.args.folds in
+    let k = c.loop-g.g-index in
+    let g = c.g-item.result in
+    let below : k < length gs = search rules in
+    let told = c.in_ok-one.ensures in
+    let b = among c.loop-g.bound.trail.items in
+    let b' = among c.generator.new.bound.trail.items in
+    let n = entered c.loop-g.known in
+    let n' = entered c.generator.new.known in
+    let same : b' ≡ b = ap among told.kept in
+    record {
+      first = ap (λ r. earlier r (in_generators p (generators (drop (k + 1) gs)) folds b' n').first) c.earlier-first.ensures
+          ∙ generators_first p gs folds k g below c.g-item.is b b' n n' same told.known c.loop-g.first c.in_ok-one.one.first told.first ∙ c.loop-g.invariant.first;
+      cells = ap (λ cs. cs ++ (in_generators p (generators (drop (k + 1) gs)) folds b' n').cells) c.in_ok-push.ensures.items
+          ∙ generators_cells p gs folds k g below c.g-item.is b b' n n' same told.known c.loop-g.cells.items c.in_ok-one.one.cell told.cell ∙ c.loop-g.invariant.cells;
+      known = generators_known p gs folds k g below c.g-item.is b b' n n' same told.known ∙ c.loop-g.invariant.known;
+      kept = told.kept ∙ c.loop-g.invariant.kept;
+    }
+
+pub block-loop-s-preserved : goal.block-loop-s-preserved
+block-loop-s-preserved t c =
+    let p = place c.args.here.now in
+    let ss = c.args.ss.now in
+    let k = c.loop-s.s-index in
+    let s = c.s-item.result in
+    let below : k < length ss = search rules in
+    let told = c.in_ok-one.ensures in
+    let b = among c.loop-s.bound.trail.items in
+    let b' = among c.statement.new.bound.trail.items in
+    let n = entered c.loop-s.known in
+    let n' = entered c.statement.new.known in
+    record {
+      first = ap (λ r. earlier r (in_block p (block (drop (k + 1) ss)) b' n').first) c.earlier-first.ensures
+          ∙ block_first p ss k s below c.s-item.is b b' n n' told.names told.known c.loop-s.first c.in_ok-one.one told.first ∙ c.loop-s.invariant.first;
+      known = block_known p ss k s below c.s-item.is b b' n n' told.names told.known ∙ c.loop-s.invariant.known;
+      names = block_names p ss k s below c.s-item.is b b' n n' told.names told.known ∙ c.loop-s.invariant.names;
+      kept = kept_twice c.args.bound.now.trail.items c.loop-s.bound.trail.items c.statement.new.bound.trail.items c.loop-s.invariant.kept told.kept;
+    }
+
+pub expression-returns-in_ok-second-in-Choice-clause-base : goal.expression-returns-in_ok-second-in-Choice-clause-base
+expression-returns-in_ok-second-in-Choice-clause-base t c =
+    let p = place c.args.here.now in
+    let i = c.in-Choice in
+    let b = among c.args.bound.now.trail.items in
+    let n = entered c.args.known.now in
+    let one = c.in_ok-test-in-Choice in
+    let two = c.in_ok-first-in-Choice in
+    let three = c.in_ok-second-in-Choice in
+    let b1 = among c.expression-in-Choice.new.bound.trail.items in
+    let b2 = among c.expression-in-Choice-2.new.bound.trail.items in
+    let n1 = entered c.expression-in-Choice.new.known in
+    let n2 = entered c.expression-in-Choice-2.new.known in
+    let tree = (λ j. Tree.choice (expr (c.deref-in-Choice.ensures j)) (expr (c.deref-in-Choice-2.ensures j)) (expr (c.deref-in-Choice-3.ensures j)) i.site) ∙ sym (ap expr i.is ∙ expr_choice i.c i.e i.f i.site) in
+    c.choice.ensures.base
+    ∙ choice_from p (expr c.deref-in-Choice.result.now) (expr c.deref-in-Choice-2.result.now) (expr c.deref-in-Choice-3.result.now) i.site b b1 b2 n n1 n2
+    one.test.first two.first.first three.second.first one.test.base two.first.base three.second.base
+    one.ensures.first one.ensures.base one.ensures.known (ap among one.ensures.kept)
+    two.ensures.first two.ensures.base two.ensures.known (ap among two.ensures.kept)
+    three.ensures.first three.ensures.base
+    ∙ ap (λ e. (in_value p e b n).base) tree
+
+pub assign-returns-in_ok-push_targets-in-Call-clause-first : goal.assign-returns-in_ok-push_targets-in-Call-clause-first
+assign-returns-in_ok-push_targets-in-Call-clause-first t c =
+    let p = place c.args.here.now in
+    let i = c.in-Call in
+    let targets = c.args.targets.now in
+    let b = among c.args.bound.now.trail.items in
+    let n = entered c.args.known.now in
+    let n1 = entered c.expressions.new.known in
+    let told = c.in_ok-args-in-Call.ensures in
+    let args = c.in_ok-args-in-Call.args in
+    let called = c.in_ok-called-in-Call.called in
+    let fits = c.in_ok-fits-in-Call.fits in
+    let result = c.in_ok-called-in-Call.ensures in
+    let tree = ap (λ es. Tree.call i.name (exprs es) i.site) c.deref.ensures.value ∙ sym (ap expr i.is ∙ expr_call i.name i.es i.site) in
+    c.earlier-in-Call.ensures ∙ ap (λ r. earlier r fits) c.earlier.ensures
+    ∙ called_first p targets i.name (exprs c.deref.result.now) i.site b n n1 args.first called.first c.in_ok-twice-in-Call.twice fits args.bases.items called.bases.items
+    told.first told.bases told.known result.bases result.first c.in_ok-twice-in-Call.ensures
+    (c.in_ok-fits-in-Call.ensures.first ∙ ap (λ bs. (in_targets targets bs n1).first) c.deref-in-Call.ensures.value)
+    ∙ ap (λ e. (in_statement p (Tree.assign targets e) b n).first) tree
+
+pub assign-returns-in_ok-push_targets-in-Call-clause-known : goal.assign-returns-in_ok-push_targets-in-Call-clause-known
+assign-returns-in_ok-push_targets-in-Call-clause-known t c =
+    let p = place c.args.here.now in
+    let i = c.in-Call in
+    let targets = c.args.targets.now in
+    let b = among c.args.bound.now.trail.items in
+    let n = entered c.args.known.now in
+    let n1 = entered c.expressions.new.known in
+    let told = c.in_ok-args-in-Call.ensures in
+    let args = c.in_ok-args-in-Call.args in
+    let called = c.in_ok-called-in-Call.called in
+    let fits = c.in_ok-fits-in-Call.fits in
+    let result = c.in_ok-called-in-Call.ensures in
+    let tree = ap (λ es. Tree.call i.name (exprs es) i.site) c.deref.ensures.value ∙ sym (ap expr i.is ∙ expr_call i.name i.es i.site) in
+    called_known p targets i.name (exprs c.deref.result.now) i.site b n n1 args.first called.first c.in_ok-twice-in-Call.twice fits args.bases.items called.bases.items
+    told.first told.bases told.known result.bases (entered c.bind_targets.new.known)
+    (c.in_ok-fits-in-Call.ensures.known ∙ ap (λ bs. (in_targets targets bs n1).known) c.deref-in-Call.ensures.value)
+    ∙ ap (λ e. (in_statement p (Tree.assign targets e) b n).known) tree
+
+pub assign-returns-in_ok-push_targets-in_default : goal.assign-returns-in_ok-push_targets-in_default
+assign-returns-in_ok-push_targets-in_default t c =
+    let p = place c.args.here.now in
+    let targets = c.args.targets.now in
+    let e = c.args.e.now in
+    let start = c.args.bound.now.trail.items in
+    let b = among start in
+    let n = entered c.args.known.now in
+    let n1 = entered c.expression.new.known in
+    let told = c.in_ok-value-in_default.ensures in
+    let value = c.in_ok-value-in_default.value in
+    let twice = c.in_ok-twice-in_default.twice in
+    let fits = c.in_ok-fits-in_default.fits in
+    let pushed = c.in_ok-push_targets-in_default.ensures in
+    record {
+      first = c.earlier-in_default-2.ensures ∙ ap (λ r. earlier r fits) (c.earlier-in_default.ensures ∙ ap (λ r. earlier r twice) c.earlier-own.ensures)
+          ∙ plain_first p targets e c.in_default.not-Call b n n1 value.base told.base told.known c.several_targets.result value.first twice fits
+          c.several_targets.ensures told.first c.in_ok-twice-in_default.ensures c.in_ok-fits-in_default.ensures.first;
+      known = plain_known p targets e c.in_default.not-Call b n n1 value.base told.base told.known (entered c.bind_targets-in_default.new.known) c.in_ok-fits-in_default.ensures.known;
+      names = pushed.names ∙ ap (λ ts. with_names (target_names targets) (among ts)) told.kept;
+      kept = subst (λ (ts : List (Bor (List ℕ))). take (length ts) c.push_targets-in_default.new.bound.trail.items ≡ ts) told.kept pushed.kept;
+    }
+
+pub branches-returns-clause-names : goal.branches-returns-clause-names
+branches-returns-clause-names t c =
+    let start = c.args.bound.now.trail.items in
+    let mark = c.mark-mark.result in
+    let one = c.block.new.bound.trail.items in
+    let other = c.block-2.new.bound.trail.items in
+    let first = has c.in_ok-first.first in
+    let second = has c.in_ok-second.second in
+    let front = ap (λ k. take k one) c.mark-mark.ensures ∙ c.in_ok-one.ensures.kept in
+    let back : c.leave.new.self.trail.items ≡ start = c.leave.ensures ∙ front in
+    let again = ap (λ k. take k other) c.mark-mark.ensures ∙ subst (λ (ts : List (Bor (List ℕ))). take (length ts) other ≡ ts) back c.in_ok-other.ensures.kept in
+    c.in_ok-push_common.ensures.names
+    ∙ ap (λ ts. with_common first second (among ts)) (c.leave-2.ensures ∙ again)
+    ∙ both_bound start one other mark (block c.args.yes.now) (block c.args.no.now) first second front again c.in_ok-first.ensures c.in_ok-second.ensures c.in_ok-one.ensures.names
+    (c.in_ok-other.ensures.names ∙ ap (λ ts. bound_behind (block c.args.no.now) (among ts)) back)
+
+pub statement-returns-in-Assign-clause-first : goal.statement-returns-in-Assign-clause-first
+statement-returns-in-Assign-clause-first t c =
+    let p = place c.args.here.now in
+    let i = c.in-Assign in
+    let b = among c.args.bound.now.trail.items in
+    let n = entered c.args.known.now in
+    let tree = ap (λ ts. Tree.assign ts (expr i.value)) c.deref.ensures.value ∙ sym (ap stmt i.is ∙ stmt_assign i.targets i.value) in
+    subst (λ (s : Tree.Stmt). IfOk c.assign.result (λ r. r ≡ (in_statement p s b n).first)) tree c.assign.ensures.first
+
+pub statement-returns-in-Assign-clause-known : goal.statement-returns-in-Assign-clause-known
+statement-returns-in-Assign-clause-known t c =
+    let p = place c.args.here.now in
+    let i = c.in-Assign in
+    let b = among c.args.bound.now.trail.items in
+    let n = entered c.args.known.now in
+    let tree = ap (λ ts. Tree.assign ts (expr i.value)) c.deref.ensures.value ∙ sym (ap stmt i.is ∙ stmt_assign i.targets i.value) in
+    subst (λ (s : Tree.Stmt). OnOk c.assign.result (entered c.assign.new.known ≡ (in_statement p s b n).known)) tree c.assign.ensures.known
+
+pub statement-returns-in_ok-push-in-Replace-clause-first : goal.statement-returns-in_ok-push-in-Replace-clause-first
+statement-returns-in_ok-push-in-Replace-clause-first t c =
+    let p = place c.args.here.now in
+    let i = c.in-Replace in
+    let b = among c.args.bound.now.trail.items in
+    let n = entered c.args.known.now in
+    let at = c.in_ok-place-in-Replace in
+    let to = c.in_ok-value-in-Replace in
+    c.replacement.ensures
+    ∙ replaced_from p i.target i.bracket (expr i.index) (expr i.e) b (among c.expression.new.bound.trail.items) n (entered c.expression.new.known) (entered c.expression-in-Replace.new.known) (entered c.bind.new.known)
+    c.use_rules-own.result at.place.first to.value.first at.place.base to.value.base c.base_of-own_base.result c.use_rules-own.ensures
+    at.ensures.first at.ensures.base at.ensures.known (ap among at.ensures.kept)
+    to.ensures.first to.ensures.base to.ensures.known
+    c.in_ok-bind-in-Replace.ensures c.base_of-own_base.ensures
+    ∙ ap (λ s. (in_statement p s b n).first) (sym (ap stmt i.is ∙ stmt_replace i.target i.bracket i.index i.e))
+
+pub statement-returns-in_ok-blocks-in-If-clause-names : goal.statement-returns-in_ok-blocks-in-If-clause-names
+statement-returns-in_ok-blocks-in-If-clause-names t c =
+    let i = c.in-If in
+    let b = among c.args.bound.now.trail.items in
+    c.in_ok-blocks-in-If.ensures.names
+    ∙ (λ j. bound_by_both (block (c.deref-in-If.ensures.value j)) (block (c.deref-in-If-2.ensures.value j)) (among (c.in_ok-test-in-If.ensures.kept j)))
+    ∙ ap (λ s. bound_after s b) (sym (ap stmt i.is ∙ stmt_if i.cond i.yes i.no i.site))

@@ -1,5 +1,0 @@
-use Rattle.core_ir.proofs.Trees.{block_roll}
-use Rattle.single_assign.proofs.builder.Builder.finish.Goals as goal
-
-pub returns : goal.returns
-returns c = block_roll (record { lets = c.args.self.lets; results = c.args.results })

@@ -1,7 +1,0 @@
-use Rattle.std.proofs.Common.{◌≡◌, ◌++◌, drop}
-use Rattle.value_meaning.specs.Meaning.{names}
-use Rattle.single_assign.specs.Looks.{texts}
-use Rattle.single_assign.proofs.names.add_targets.Given as goal
-
-abbrev pub invariant-loop-target : goal.invariant-loop-target
-invariant-loop-target l = texts l.names.items ++ names (drop l.target-index l.targets) ≡ texts l.initial.names.items ++ names l.targets

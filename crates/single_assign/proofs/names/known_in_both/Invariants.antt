@@ -1,8 +1,0 @@
-use Rattle.std.proofs.Common.{◌≡◌, ◌++◌, drop}
-use Rattle.core_lowering_steps.specs.Building.{bound_in_both}
-use Rattle.single_assign.specs.Looks.{look, texts}
-use Rattle.single_assign.proofs.names.known_in_both.Given as goal
-
-abbrev pub invariant-loop-name : goal.invariant-loop-name
-invariant-loop-name l =
-    texts l.known.items ++ bound_in_both (look l.first) (look l.second) (texts (drop l.name-index l.names)) ≡ bound_in_both (look l.first) (look l.second) (texts l.names)
