@@ -3,7 +3,7 @@
 
 Compares crates.txt, the sources, docs/ARCHITECTURE.md and the READMEs, and prints what differs. Status 1 where something does.
 
-- A crate uses what crates.txt lists for it, no more: each use is named in one of its files.
+- A crate uses what crates.txt lists for it, no more: each use is named in one of its files, or in an edit that calls it.
 - The table of docs/ARCHITECTURE.md has each crate once, below all that it stands on, and its second column lists what it
   stands on: the crates that it uses, without those that stand below another one of them.
 - Each crate has a README.md, and README.md names no crate that is not there.
@@ -40,7 +40,7 @@ def sources(crate):
     for folder, _, files in os.walk(os.path.join(TOP, "crates", crate)):
         if "/out/" in folder + "/":
             continue
-        said += [text_of(os.path.join(folder, file)) for file in files if file.endswith((".rt", ".antt"))]
+        said += [text_of(os.path.join(folder, file)) for file in files if file.endswith((".rt", ".antt", ".edit"))]
     return "\n".join(said)
 
 

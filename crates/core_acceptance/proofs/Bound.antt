@@ -12,7 +12,7 @@ use Rattle.sac_ast.specs.Tree.{IndexTree, named, parts, Expr, Exprs, no_exprs, e
 use Rattle.sac_ast.specs.Bases.{may_be, may_match, operand_base, operands_fit, agree, all_known, first_named}
 use Rattle.check_rules.specs.Accepted.{Names, Known, Place, Findings, unless, call_rules, numbers_fit, some_takes, stands_earlier, use_rules, builtin_rules, cell_rules, first_cell, is_fold, several_targets, repeated_targets, bind, base_of}
 use Rattle.check_rules.specs.Accepted as a
-use Rattle.value_meaning.specs.Meaning.{names}
+use Rattle.source_meaning.specs.Meaning.{names}
 use Rattle.core_lowering.specs.Definite.{AtMostOne, IsDefinite, AreDefinite, MaybeDefinite, BoundDefinite, GenDefinite, GensDefinite, OperationDefinite, StmtDefinite, BlockDefinite}
 use Rattle.core_lowering.specs.Definite as d
 use Rattle.core_lowering.specs.Programs.{count_in, result_count}

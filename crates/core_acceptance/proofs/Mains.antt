@@ -7,7 +7,7 @@ use Rattle.sac_ast.specs.Tree.{FunctionTree, ProgramTree}
 use Rattle.core_ir.specs.Terms.{FunTerm}
 use Rattle.check_rules.specs.Accepted.{unless, is_named, main_name, main_count, main_rules, in_functions, IsAccepted}
 use Rattle.check_rules.specs.declared.violation.Violation.{Violation}
-use Rattle.value_meaning.specs.Calls.{is_main}
+use Rattle.source_meaning.specs.Calls.{is_main}
 use Rattle.core_lowering.specs.Programs.{lowered_function, lowered_program}
 use Rattle.core_lowering.proofs.Chosen.{position_at}
 use Rattle.core_acceptance.specs.Stands.{MainStands}

@@ -17,7 +17,7 @@ use Rattle.sac_ast.specs.Tree.{FunctionTree, ProgramTree}
 use Rattle.sac_ast.specs.Bases.{first_named, same_bases, bases_of_params, all_known}
 use Rattle.check_rules.specs.Accepted.{Place, unless, is_named, is_inline, count_named, numbers_fit, some_takes, stands_earlier, call_rules, main_name, main_count, main_rules, may_stand_together, same_truth, base_list, param_types, values_fit, repeated_params, clash_rules, in_function, in_functions, names_in, known_params, none_known, IsAccepted}
 use Rattle.check_rules.specs.Accepted as a
-use Rattle.value_meaning.specs.Calls.{is_main}
+use Rattle.source_meaning.specs.Calls.{is_main}
 use Rattle.core_lowering.specs.Lowering.{has_name}
 use Rattle.core_lowering.specs.Standing.{CallsInFunction, all_names, MayStandTogether, StandsBefore, IsStanding}
 use Rattle.core_lowering.proofs.Scopes.{same_name}

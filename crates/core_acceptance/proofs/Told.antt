@@ -15,7 +15,7 @@ use Rattle.sac_ast.specs.declared.Param.{Param}
 use Rattle.sac_ast.specs.Tree.{IndexTree, named, parts}
 use Rattle.sac_ast.specs.Bases.{Bases, base_bound, base_of_name, may_be, may_match, first_base, with_bases, index_bases, bound_params}
 use Rattle.check_rules.specs.Accepted.{Names, Known, with_names, unless, target_names, index_targets, param_names, bound_first, bind, base_first, base_of, later_bases, in_targets, in_index_names, known_params, repeated}
-use Rattle.value_meaning.specs.Meaning.{or_int}
+use Rattle.source_meaning.specs.Meaning.{or_int}
 use Rattle.core_lowering.specs.Typed.{TargetsTyped, IntTargets, ParamsTyped}
 use Rattle.core_lowering.proofs.Scopes.{same_name}
 use Rattle.core_acceptance.proofs.Clean.{nil2, holds}

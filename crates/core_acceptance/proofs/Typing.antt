@@ -14,7 +14,7 @@ use Rattle.sac_ast.specs.Bases.{Bases, where_holds, may_be, may_match, operand_b
 use Rattle.sac_ast.specs.Bases as b
 use Rattle.check_rules.specs.Accepted.{Names, Known, Place, Finding, Passage, base_first, target_names, unless, with_names, index_targets, index_names, bound_after, bound_behind, base_of, bind, use_rules, cell_rules, first_cell, is_fold, is_clean, several_targets, repeated_targets, in_call, in_targets, in_index_names}
 use Rattle.check_rules.specs.Accepted as a
-use Rattle.value_meaning.specs.Meaning.{default_base, or_int}
+use Rattle.source_meaning.specs.Meaning.{default_base, or_int}
 use Rattle.core_lowering.specs.Definite as d
 use Rattle.core_lowering.specs.Typed.{InstanceBases, FirstTyped, IntTargets, IsTyped, LiteralTyped, AllTyped, AreTyped, MaybeTyped, BoundTyped, GensTyped, OperationTyped, StmtTyped, BlockTyped}
 use Rattle.core_acceptance.specs.Formed.{IsFormed, AreFormed, MaybeFormed, BoundFormed, GensFormed, OperationFormed, StmtFormed, BlockFormed}

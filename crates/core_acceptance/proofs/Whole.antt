@@ -15,7 +15,7 @@ use Rattle.check_rules.specs.Accepted as a
 use Rattle.core_lowering.specs.Definite.{AreDefinite}
 use Rattle.core_lowering.specs.Programs.{count_in, result_count, IsDefiniteFunction, AreDefiniteFunctions, IsDefiniteProgram}
 use Rattle.core_lowering.proofs.Chosen.{position_step}
-use Rattle.value_meaning.specs.Calls.{is_main}
+use Rattle.source_meaning.specs.Calls.{is_main}
 use Rattle.core_acceptance.specs.Formed.{FunctionFormed, FunctionsFormed, ProgramFormed}
 use Rattle.core_acceptance.proofs.Clean.{nil2, nil3, nil5, holds, both}
 use Rattle.core_acceptance.proofs.Bound.{behind_same, definite_block, definite_all}

@@ -8,7 +8,7 @@ use Rattle.sac_ast.specs.Tree
 use Rattle.core_ir.specs.declared.tree.Var.{Var}
 use Rattle.core_ir.specs.Terms.{LetTerm, RightTerm, Gives, Plain, PlainTerm, chain}
 use Rattle.core_ir.specs.WellFormed.{calls_in, calls_in_right, calls_in_gens}
-use Rattle.value_meaning.specs.Meaning.{names, default_base}
+use Rattle.source_meaning.specs.Meaning.{names, default_base}
 use Rattle.core_lowering.specs.Lowering.{Scope, var_in, numbered, variables_from, pushed, vars_in, once, names_bound, merged, carried, binding, used, built_in, index_scope, after_index, start_of, starts, lowered, lowered_all, lowered_maybe, lowered_bound, lowered_gen, lowered_gens, lowered_operation, lowered_stmt, lowered_block}
 use Rattle.core_lowering.specs.Standing.{CallsIn, CallsInAll, CallsInMaybe, CallsInBound, CallsInGen, CallsInGens, CallsInOperation, CallsInStmt, CallsInBlock}
 

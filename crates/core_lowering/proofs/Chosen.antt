@@ -13,8 +13,8 @@ use Rattle.sac_ast.specs.Tree.{FunctionTree, ProgramTree}
 use Rattle.core_ir.specs.declared.tree.Var.{Var}
 use Rattle.core_ir.specs.Outcome.{Instance, instance_of, instances, least_among, group_at}
 use Rattle.core_ir.specs.Outcome as core
-use Rattle.value_meaning.specs.Calls.{param_types, fits}
-use Rattle.value_meaning.specs.Calls as source
+use Rattle.source_meaning.specs.Calls.{param_types, fits}
+use Rattle.source_meaning.specs.Calls as source
 use Rattle.core_lowering.specs.Lowering.{has_name}
 use Rattle.core_lowering.specs.Programs.{function_names, place_in, group_of, places_of, groups_of, lowered_params, lowered_function, lowered_program}
 use Rattle.core_lowering.specs.Standing.{all_names}

@@ -9,7 +9,7 @@ use Rattle.sac_ast.specs.Tree.{IndexTree, named, parts, Expr, Exprs, no_exprs, e
 use Rattle.sac_ast.specs.Tree
 use Rattle.core_ir.specs.declared.tree.Var.{Var}
 use Rattle.core_ir.specs.Terms.{LetTerm, RightTerm}
-use Rattle.value_meaning.specs.Meaning.{names, default_base}
+use Rattle.source_meaning.specs.Meaning.{names, default_base}
 use Rattle.core_lowering.specs.Lowering.{Scope, var_in, numbered, pushed, has_name, once, bound_names, names_bound, is_known, merged, carried, Lowered, LoweredList, LoweredOption, LoweredBlock, ended, used, index_scope, after_index, first_bound, start_of, starts, lowered, lowered_all, lowered_maybe, lowered_bound, lowered_gen, lowered_gens, lowered_operation, lowered_stmt, lowered_block}
 use Rattle.core_lowering.specs.Definite.{Names, with_names, bound_after, bound_behind, AtMostOne, StmtDefinite, BlockDefinite}
 use Rattle.core_lowering.proofs.Scopes.{Below, below_more, below_with, below_pushed, AllBelow, OptionBelow, or_none, has_neither, has_more, listed_once, never_listed, carried_none, merged_has, merged_none, push_kept, push_known, push_knows}

@@ -16,7 +16,7 @@ use Rattle.sac_ast.specs.Tree
 use Rattle.core_ir.specs.declared.tree.Var.{Var}
 use Rattle.core_ir.specs.Terms.{PlainTerm, BlockTerm, LetTerm, RightTerm, CoreTerm, GenHead, Plain, Gives, Bind, chain}
 use Rattle.core_ir.specs.WellFormed.{Bases, base_of, HasBase, HasBases, AllHave, OptionHas, ints, LiteralBase, PlainBases, OperationBase, GroupBases, BlockBases, RightBases, GensBases}
-use Rattle.value_meaning.specs.Meaning.{names, default_base}
+use Rattle.source_meaning.specs.Meaning.{names, default_base}
 use Rattle.core_lowering.specs.Lowering.{Scope, var_in, numbered, variables_from, pushed, or_first, vars_in, has_name, once, names_bound, is_known, merged, carried, used, built_in, index_scope, index_names, after_index, first_bound, start_of, starts, lowered, lowered_all, lowered_maybe, lowered_bound, lowered_gen, lowered_gens, lowered_operation, lowered_stmt, lowered_block}
 use Rattle.core_lowering.specs.Definite.{Names, with_names, index_targets, bound_after, bound_behind, IsDefinite, AreDefinite, MaybeDefinite, BoundDefinite, GenDefinite, GensDefinite, OperationDefinite, StmtDefinite, BlockDefinite}
 use Rattle.core_lowering.specs.Typed.{BuiltinBase, TargetsTyped, FirstTyped, IntTargets, IsTyped, LiteralTyped, AllTyped, AreTyped, MaybeTyped, BoundTyped, GenTyped, GensTyped, OperationTyped, StmtTyped, BlockTyped}

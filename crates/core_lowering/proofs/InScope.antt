@@ -20,7 +20,7 @@ use Rattle.core_ir.specs.Terms.{PlainTerm, BlockTerm, LetTerm, RightTerm, GenHea
 use Rattle.core_ir.specs.Binders.{is_in, NoneIn}
 use Rattle.core_ir.specs.Scopes.{AllIn, plain_uses, op_uses, head_uses, Scoped, ScopedRight, ScopedGens}
 use Rattle.core_ir.proofs.Variables.{in_more, in_front}
-use Rattle.value_meaning.specs.Meaning.{names, default_base}
+use Rattle.source_meaning.specs.Meaning.{names, default_base}
 use Rattle.core_lowering.specs.Lowering.{Scope, var_in, numbered, variables_from, pushed, or_first, vars_in, has_name, once, names_bound, is_known, merged, carried, used, built_in, index_scope, index_names, after_index, first_bound, start_of, starts, lowered, lowered_all, lowered_maybe, lowered_bound, lowered_gen, lowered_gens, lowered_operation, lowered_stmt, lowered_block}
 use Rattle.core_lowering.proofs.Scopes.{Below, below_more, below_pushed, push_known, push_knows}
 use Rattle.core_lowering.proofs.Fresh.{used_grown, start_grown, starts_grown, index_below, grows, grows_all, grows_maybe, grows_bound, grows_gen, grows_gens, grows_operation, grows_stmt, grows_block}

@@ -7,7 +7,7 @@ use Rattle.sac_base.specs.Outcomes.{Ends, and_then, fault, choose}
 use Rattle.sac_base.specs.Outcomes
 use Rattle.sac_base.specs.Parts.{condition}
 use Rattle.core_ir.specs.Meaning as core
-use Rattle.value_meaning.specs.Meaning as source
+use Rattle.source_meaning.specs.Meaning as source
 use Rattle.core_lowering.proofs.Runs.{and_then_assoc}
 
 -- after a choice

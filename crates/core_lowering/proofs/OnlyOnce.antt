@@ -16,7 +16,7 @@ use Rattle.core_ir.specs.Terms.{PlainTerm, LetTerm, RightTerm, Gives, Plain, cha
 use Rattle.core_ir.specs.Binders.{is_in, bound_in, bound_in_right, bound_in_gens}
 use Rattle.core_ir.specs.WellFormed.{Distinct}
 use Rattle.core_ir.proofs.Variables.{same_number, or_false, in_more}
-use Rattle.value_meaning.specs.Meaning.{names, default_base}
+use Rattle.source_meaning.specs.Meaning.{names, default_base}
 use Rattle.core_lowering.specs.Lowering.{Scope, var_in, numbered, variables_from, pushed, vars_in, once, names_bound, merged, carried, binding, used, built_in, index_scope, index_names, after_index, start_of, starts, lowered, lowered_all, lowered_maybe, lowered_bound, lowered_gen, lowered_gens, lowered_operation, lowered_stmt, lowered_block}
 use Rattle.core_lowering.proofs.Scopes.{Below, below_more, below_pushed}
 use Rattle.core_lowering.proofs.Fresh.{used_grown, start_grown, starts_grown, index_below, grows, grows_all, grows_maybe, grows_bound, grows_gen, grows_gens, grows_operation, grows_stmt, grows_block}

@@ -22,8 +22,8 @@ use Rattle.core_ir.specs.declared.tree.Var.{Var}
 use Rattle.core_ir.specs.Terms.{PlainTerm, Plain, Gives, chain}
 use Rattle.core_ir.specs.Meaning as core
 use Rattle.core_ir.specs.Meaning.{Env, bind, bind_all, one, first, missing, plain_value, run}
-use Rattle.value_meaning.specs.Meaning as source
-use Rattle.value_meaning.specs.Meaning.{names, default_base, default_or}
+use Rattle.source_meaning.specs.Meaning as source
+use Rattle.source_meaning.specs.Meaning.{names, default_base, default_or}
 use Rattle.core_lowering.specs.Lowering.{Scope, var_in, numbered, variables_from, pushed, or_first, vars_in, has_name, once, bound_names, names_bound, is_known, merged, carried, binding, used, built_in, index_scope, index_names, after_index, first_bound, start_of, starts, lowered, lowered_all, lowered_maybe, lowered_bound, lowered_gen, lowered_gens, lowered_operation, lowered_stmt, lowered_block}
 use Rattle.core_lowering.specs.Definite.{Names, with_names, index_targets, bound_after, bound_behind, HasName, AtMostOne, IsDefinite, AreDefinite, MaybeDefinite, BoundDefinite, GenDefinite, GensDefinite, OperationDefinite, StmtDefinite, BlockDefinite}
 use Rattle.core_lowering.proofs.Runs.{and_then_assoc, and_then_ok, run_lets, run_chain, run_more}

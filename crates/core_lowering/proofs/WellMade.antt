@@ -9,7 +9,7 @@ use Rattle.sac_ast.specs.Tree.{FunctionTree, ProgramTree}
 use Rattle.sac_ast.specs.Bases.{base_in}
 use Rattle.core_ir.specs.Terms.{FunTerm}
 use Rattle.core_ir.specs.WellFormed.{bases, calls_in, MayShareName, PlacesShare, CallsBackward, IsWellFormed}
-use Rattle.value_meaning.specs.Calls.{param_names, is_main}
+use Rattle.source_meaning.specs.Calls.{param_names, is_main}
 use Rattle.core_lowering.specs.Lowering.{has_name, pushed, lowered_block, lowered_all}
 use Rattle.core_lowering.specs.Programs.{group_of, groups_of, function_names, place_in, places_of, lowered_params, name_base, lowered_function, lowered_program, IsDefiniteProgram}
 use Rattle.core_lowering.specs.Standing.{CallsInFunction, all_names, MayStandTogether, StandsBefore, IsStanding}

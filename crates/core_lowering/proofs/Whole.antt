@@ -19,9 +19,9 @@ use Rattle.core_ir.specs.Terms.{FunTerm, Gives, chain}
 use Rattle.core_ir.specs.Meaning.{Answer, run, bind_all, no_variables}
 use Rattle.core_ir.specs.Meaning
 use Rattle.core_ir.specs.Outcome as core
-use Rattle.value_meaning.specs.Calls.{param_types, param_names, is_main, fits, results_in}
-use Rattle.value_meaning.specs.Calls as source
-use Rattle.value_meaning.specs.Meaning as meaning
+use Rattle.source_meaning.specs.Calls.{param_types, param_names, is_main, fits, results_in}
+use Rattle.source_meaning.specs.Calls as source
+use Rattle.source_meaning.specs.Meaning as meaning
 use Rattle.core_lowering.specs.Lowering.{variables_from, pushed, lowered_block, lowered_all}
 use Rattle.core_lowering.specs.Definite.{with_names, bound_behind}
 use Rattle.core_lowering.specs.Programs.{group_of, lowered_params, name_base, lowered_function, lowered_program, no_names, result_count, IsDefiniteFunction, AreDefiniteFunctions, IsDefiniteProgram, HasOutcomeOf}

@@ -11,7 +11,7 @@ use Rattle.sac_ast.specs.Bases.{base_in, bases_of_params}
 use Rattle.core_ir.specs.declared.tree.Var.{Var}
 use Rattle.core_ir.specs.Terms.{Gives}
 use Rattle.core_ir.specs.WellFormed.{Bases, bases, param_bases, GroupBases, BlockBases, IsFunction}
-use Rattle.value_meaning.specs.Calls.{param_names, param_types}
+use Rattle.source_meaning.specs.Calls.{param_names, param_types}
 use Rattle.core_lowering.specs.Lowering.{numbered, variables_from, pushed, has_name, lowered_block, lowered_all}
 use Rattle.core_lowering.specs.Definite.{with_names, bound_behind}
 use Rattle.core_lowering.specs.Programs.{group_of, groups_of, function_names, places_of, lowered_params, name_base, lowered_function, lowered_program, no_names, result_count, IsDefiniteFunction, AreDefiniteFunctions, IsDefiniteProgram}

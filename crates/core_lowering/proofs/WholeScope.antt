@@ -8,7 +8,7 @@ use Rattle.core_ir.specs.Binders.{bound_in}
 use Rattle.core_ir.specs.Outcome.{param_vars}
 use Rattle.core_ir.specs.Scopes.{Scoped}
 use Rattle.core_ir.specs.WellFormed.{Distinct}
-use Rattle.value_meaning.specs.Calls.{param_names}
+use Rattle.source_meaning.specs.Calls.{param_names}
 use Rattle.core_lowering.specs.Lowering.{variables_from, pushed, lowered_block, lowered_all}
 use Rattle.core_lowering.specs.Programs.{group_of, name_base, lowered_function}
 use Rattle.core_lowering.proofs.Scopes.{Below, below_pushed}

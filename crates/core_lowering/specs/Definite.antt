@@ -6,7 +6,7 @@ use Rattle.sac_ast.specs.Tree.{IndexTree, named, parts, Expr, Exprs, no_exprs, e
 use Rattle.sac_ast.specs.Tree.{BoundTree, dot, at, Gen, gen, Gens, no_gens, gen_and, OperationTree, number, truth, variable, choice, call, builtin}
 use Rattle.sac_ast.specs.Tree.{with_loop, assign, if_else, while_do, do_while, genarray, modarray}
 use Rattle.sac_ast.specs.Tree
-use Rattle.value_meaning.specs.Meaning.{names}
+use Rattle.source_meaning.specs.Meaning.{names}
 use Rattle.core_lowering.specs.Lowering.{has_name}
 
 -- ---- names that are bound on every path

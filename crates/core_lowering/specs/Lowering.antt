@@ -23,7 +23,7 @@ use Rattle.core_ir.specs.declared.tree.CoreOp.TheVariants as making
 use Rattle.core_ir.specs.Terms.{PlainTerm, BlockTerm, RightTerm, GensTerm, GenHead, LetTerm, Gives, Plain, NoGens, chain}
 use Rattle.core_ir.specs.Terms
 use Rattle.core_ir.specs.Meaning.{missing}
-use Rattle.value_meaning.specs.Meaning.{names, default_base}
+use Rattle.source_meaning.specs.Meaning.{names, default_base}
 
 -- ---- scopes
 

@@ -12,9 +12,9 @@ use Rattle.sac_ast.specs.Bases.{base_in, known_in, base_of_name, first_named}
 use Rattle.core_ir.specs.declared.tree.Var.{Var}
 use Rattle.core_ir.specs.Terms.{FunTerm, CoreTerm, Gives, chain}
 use Rattle.core_ir.specs.Outcome as core
-use Rattle.value_meaning.specs.Meaning.{or_int}
-use Rattle.value_meaning.specs.Calls.{param_names, is_main}
-use Rattle.value_meaning.specs.Calls as source
+use Rattle.source_meaning.specs.Meaning.{or_int}
+use Rattle.source_meaning.specs.Calls.{param_names, is_main}
+use Rattle.source_meaning.specs.Calls as source
 use Rattle.core_lowering.specs.Lowering.{numbered, pushed, once, lowered_block, lowered_all}
 use Rattle.core_lowering.specs.Definite.{Names, with_names, bound_behind, BlockDefinite, AreDefinite}
 

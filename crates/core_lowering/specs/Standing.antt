@@ -8,7 +8,7 @@ use Rattle.sac_ast.specs.Tree.{with_loop, assign, if_else, while_do, do_while, g
 use Rattle.sac_ast.specs.Tree
 use Rattle.sac_ast.specs.Bases.{bases_of_params}
 use Rattle.core_ir.specs.WellFormed.{bases}
-use Rattle.value_meaning.specs.Calls.{param_types, is_main}
+use Rattle.source_meaning.specs.Calls.{param_types, is_main}
 use Rattle.core_lowering.specs.Lowering.{has_name}
 
 -- what holds of the name of each call in a phrase

@@ -16,7 +16,7 @@ use Rattle.sac_ast.specs.Tree
 use Rattle.sac_ast.specs.Bases.{base_in, bases_of_params}
 use Rattle.sac_ast.specs.declared.Param.{Param}
 use Rattle.core_ir.specs.WellFormed.{UnaryBase, BinaryBase, bases}
-use Rattle.value_meaning.specs.Meaning.{default_base}
+use Rattle.source_meaning.specs.Meaning.{default_base}
 use Rattle.core_lowering.specs.Definite.{index_targets}
 use Rattle.core_lowering.specs.Programs.{name_base}
 

@@ -12,7 +12,7 @@ use Rattle.core_ir.specs.declared.tree.Var.{Var}
 use Rattle.core_ir.specs.declared.tree.CoreOp.TheVariants as making
 use Rattle.core_ir.specs.Terms.{PlainTerm, BlockTerm, RightTerm, LetTerm, Gives, Plain, chain}
 use Rattle.core_ir.specs.Terms
-use Rattle.value_meaning.specs.Meaning.{names, default_base}
+use Rattle.source_meaning.specs.Meaning.{names, default_base}
 use Rattle.core_lowering.specs.Lowering.{Scope, var_in, numbered, variables_from, pushed, vars_in, once, names_bound, merged, carried, Lowered, LoweredBlock, binding, built_in, used, start_of, starts, index_scope, index_names, after_index, first_bound, lowered, lowered_all, lowered_maybe, lowered_bound, lowered_gen, lowered_gens, lowered_operation, lowered_stmt, lowered_block}
 use Rattle.core_lowering_steps.specs.Looks.{Look, with_var, with_vars, vars_of}
 use Rattle.core_lowering_steps.specs.Behind.{behind, anew, made_of, list_of, option_of, scope_of, gen_of, gens_of, operation_of}

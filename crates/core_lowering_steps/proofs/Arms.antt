@@ -13,7 +13,7 @@ use Rattle.sac_ast.specs.Tree
 use Rattle.core_ir.specs.declared.tree.Var.{Var}
 use Rattle.core_ir.specs.declared.tree.CoreOp.TheVariants as making
 use Rattle.core_ir.specs.Terms.{PlainTerm, RightTerm, Plain}
-use Rattle.value_meaning.specs.Meaning.{names, default_base}
+use Rattle.source_meaning.specs.Meaning.{names, default_base}
 use Rattle.core_lowering.specs.Lowering.{once, names_bound, built_in}
 use Rattle.core_lowering_steps.specs.Looks.{Look, with_var, vars_of}
 use Rattle.core_lowering_steps.specs.Building.{Built, Made, MadeList, MadeOption, MadeScope, MadeNames, MadeBlock, MadeGen, MadeGens, MadeOperation, MadeGiven, with_let, bound_at, fresh_at, nested, use_at, declared, given_bound, index_declared, first_var, block_of, block_giving, bound_in, bound_in_both, make_starts, make, make_all, make_maybe, make_bound, make_gen, make_gens, make_operation, make_stmt, make_block}

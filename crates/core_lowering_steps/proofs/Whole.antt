@@ -6,7 +6,7 @@ use Rattle.sac_ast.specs.declared.Param.{Param}
 use Rattle.sac_ast.specs.Tree.{Expr, FunctionTree}
 use Rattle.sac_ast.specs.Bases.{base_in}
 use Rattle.core_ir.specs.Terms.{FunTerm, Gives, chain}
-use Rattle.value_meaning.specs.Calls.{param_names}
+use Rattle.source_meaning.specs.Calls.{param_names}
 use Rattle.core_lowering.specs.Lowering.{Scope, var_in, numbered, pushed, lowered_block}
 use Rattle.core_lowering.specs.Programs.{group_of, name_base, lowered_params, lowered_function}
 use Rattle.core_lowering_steps.specs.Building.{Built, MadeList, make_block, make_all}

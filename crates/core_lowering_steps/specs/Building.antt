@@ -17,7 +17,7 @@ use Rattle.core_ir.specs.declared.tree.CoreOp.TheVariants as making
 use Rattle.core_ir.specs.Terms.{PlainTerm, BlockTerm, RightTerm, GenTerm, GensTerm, LetTerm, Gives, Plain, NoGens, chain}
 use Rattle.core_ir.specs.Terms
 use Rattle.core_ir.specs.Meaning.{missing}
-use Rattle.value_meaning.specs.Meaning.{names, default_base}
+use Rattle.source_meaning.specs.Meaning.{names, default_base}
 use Rattle.core_lowering.specs.Lowering.{numbered, once, names_bound, binding, built_in}
 use Rattle.core_lowering_steps.specs.Looks.{Look, with_var, vars_of}
 

@@ -7,7 +7,7 @@ use Rattle.sac_ast.specs.declared.Param.{Param}
 use Rattle.sac_ast.specs.Tree.{Expr, FunctionTree}
 use Rattle.core_ir.specs.declared.tree.Var.{Var}
 use Rattle.core_ir.specs.Terms.{FunTerm, Gives, chain}
-use Rattle.value_meaning.specs.Calls.{param_names}
+use Rattle.source_meaning.specs.Calls.{param_names}
 use Rattle.core_lowering.specs.Lowering.{numbered, pushed, lowered_block, lowered_all}
 use Rattle.core_lowering.specs.Programs.{lowered_params}
 use Rattle.core_lowering_steps.specs.Looks.{Look, unbound, with_var}

@@ -1,4 +1,4 @@
 mod Axes
 mod Groups
-mod Notes
+mod ParamFacts
 mod Pairs

@@ -4,7 +4,7 @@ ghost use Rattle.std.specs.Prelude.{◌≡◌, List, IfOk, map};
 ghost use Rattle.sac_base.specs.Arrays.{ArrayValue, form_of};
 ghost use Rattle.sac_base.specs.declared.faults.Caps.{Caps};
 ghost use Rattle.sac_ast.specs.View.{program as tree};
-ghost use Rattle.value_meaning.specs.Calls.{outcome};
+ghost use Rattle.source_meaning.specs.Calls.{outcome};
 ghost use Rattle.core_acceptance.specs.Formed.{ProgramFormed};
 ghost use Rattle.counted_code.specs.View.{code_program};
 ghost use Rattle.counted_code.specs.Counts.{IsWellCounted, IsUnmarked};

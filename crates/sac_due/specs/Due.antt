@@ -4,7 +4,7 @@ use Rattle.sac_base.specs.Arrays.{ArrayValue}
 use Rattle.sac_base.specs.Outcomes.{Ends}
 use Rattle.sac_ast.specs.Tree.{ProgramTree}
 use Rattle.sac_print.specs.Canonical.{canonical}
-use Rattle.value_meaning.specs.Calls.{outcome}
+use Rattle.source_meaning.specs.Calls.{outcome}
 use Rattle.data_text.specs.Texts.{Refusal}
 use Rattle.data_text.specs.Printed.{array_line, summary_line}
 use Rattle.sac_words.specs.declared.options.Mode.TheVariants.{Run, Check, Print}

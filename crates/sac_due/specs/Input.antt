@@ -4,7 +4,7 @@ use Rattle.sac_base.specs.declared.base.Base.{Base}
 use Rattle.sac_base.specs.declared.types.ArrayType.{ArrayType}
 use Rattle.sac_base.specs.Arrays.{ArrayValue}
 use Rattle.sac_ast.specs.Tree.{FunctionTree, ProgramTree}
-use Rattle.value_meaning.specs.Calls.{is_main, param_types}
+use Rattle.source_meaning.specs.Calls.{is_main, param_types}
 use Rattle.data_text.specs.Texts.{Refusal, text_value}
 use Rattle.data_text.specs.Generated.{generated_all}
 use Rattle.sac_words.specs.Meaning.{Origin, file, generated}

@@ -10,7 +10,7 @@ use Rattle.sac_base.specs.declared.memory.Memory.{Memory as NoMemory}
 use Rattle.sac_base.specs.declared.outcome.Outcome.{Outcome}
 use Rattle.sac_io.specs.Files.{Contents, Holds}
 use Rattle.sac_ast.specs.Tree.{ProgramTree}
-use Rattle.value_meaning.specs.Calls.{outcome}
+use Rattle.source_meaning.specs.Calls.{outcome}
 use Rattle.data_text.specs.Texts.{Refusal}
 use Rattle.buffer_heap.specs.Heaps.{HeapValue, at}
 use Rattle.count_table.specs.Tallied.{PhaseTotals}

@@ -6,7 +6,7 @@ use Rattle.sac_base.specs.declared.faults.Caps.{Caps}
 use Rattle.sac_io.specs.Files.{Contents}
 use Rattle.sac_io.specs.Sink.{with_more}
 use Rattle.sac_ast.specs.Tree.{ProgramTree}
-use Rattle.value_meaning.specs.Calls.{outcome}
+use Rattle.source_meaning.specs.Calls.{outcome}
 use Rattle.data_text.specs.Texts.{Refusal}
 use Rattle.buffer_heap.specs.Heaps.{HeapValue}
 use Rattle.count_table.specs.Tallied.{PhaseTotals}

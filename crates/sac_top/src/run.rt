@@ -3,7 +3,7 @@ ghost use Rattle.std.specs.Prelude.{◌≡◌, ◌+◌, ◌%◌, ◌^◌, ◌≤
 ghost use Rattle.sac_base.specs.Arrays.{ArrayValue};
 ghost use Rattle.sac_base.specs.Outcomes.{Ends};
 ghost use Rattle.sac_io.specs.Count.{Rose};
-ghost use Rattle.value_meaning.specs.Calls.{outcome};
+ghost use Rattle.source_meaning.specs.Calls.{outcome};
 ghost use Rattle.data_text.specs.Texts.{Refusal, text_value};
 ghost use Rattle.data_text.specs.Generated.{generated_all};
 ghost use Rattle.data_text.specs.Found.{Tells};

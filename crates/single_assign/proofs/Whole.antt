@@ -11,7 +11,7 @@ use Rattle.sac_ast.specs.Tree.{Expr, FunctionTree, ProgramTree}
 use Rattle.sac_ast.specs.View.{functions}
 use Rattle.core_ir.specs.declared.tree.Var.{Var}
 use Rattle.core_ir.specs.Terms.{BlockTerm, FunTerm, CoreTerm, Gives, chain}
-use Rattle.value_meaning.specs.Calls.{is_main}
+use Rattle.source_meaning.specs.Calls.{is_main}
 use Rattle.core_lowering.specs.Programs.{function_names, lowered_program, place_in, places_of}
 use Rattle.core_lowering_steps.specs.Behind.{anew}
 use Rattle.core_lowering_steps.specs.Looks.{Look, unbound}

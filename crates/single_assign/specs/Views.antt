@@ -12,7 +12,7 @@ use Rattle.core_ir.specs.declared.tree.Var.{Var}
 use Rattle.core_ir.specs.declared.tree.CoreGen.{CoreGen}
 use Rattle.core_ir.specs.Terms.{BlockTerm, GenTerm, gens_of}
 use Rattle.core_ir.specs.View.{let_term, gen_term, right_term}
-use Rattle.value_meaning.specs.Meaning.{or_int}
+use Rattle.source_meaning.specs.Meaning.{or_int}
 use Rattle.core_lowering.specs.Programs.{place_in}
 use Rattle.core_lowering_steps.specs.Looks.{Look}
 use Rattle.core_lowering_steps.specs.Building.{Built, Made, MadeList, MadeOption, MadeScope, MadeNames, MadeBlock, MadeGen, MadeGens, MadeOperation}

@@ -2,7 +2,7 @@
 
 ghost use Rattle.std.specs.Prelude.{◌≡◌, IfOk};
 ghost use Rattle.sac_ast.specs.View.{generators};
-ghost use Rattle.value_meaning.specs.Meaning.{default_base as default_base_value, or_int as or_int_value};
+ghost use Rattle.source_meaning.specs.Meaning.{default_base as default_base_value, or_int as or_int_value};
 ghost use Rattle.single_assign.specs.Views.{base_of_in, group_in, name_base_in, place_by};
 
 use check_rules::functions::Functions;

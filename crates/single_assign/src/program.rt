@@ -5,7 +5,7 @@ ghost use Rattle.sac_ast.specs.Tree.{FunctionTree};
 ghost use Rattle.sac_ast.specs.View.{function, functions as trees, program as tree};
 ghost use Rattle.core_ir.specs.View.{core_term, fun_term};
 ghost use Rattle.core_ir.specs.WellFormed.{IsWellFormed};
-ghost use Rattle.value_meaning.specs.Calls.{is_main};
+ghost use Rattle.source_meaning.specs.Calls.{is_main};
 ghost use Rattle.core_acceptance.specs.Formed.{ProgramFormed};
 ghost use Rattle.core_lowering.specs.Programs.{function_names as names_of_functions, HasOutcomeOf, lowered_program, places_of as places_of_name};
 ghost use Rattle.core_lowering_steps.specs.Functions.{params_declared};

@@ -10,22 +10,23 @@ use Rattle.sac_ast.specs.declared.Function.{Function}
 use Rattle.sac_ast.specs.Tree.{Expr, FunctionTree}
 use Rattle.sac_ast.specs.View.{functions, function}
 use Rattle.sac_ast.specs.View.{block, exprs}
-use Rattle.value_meaning.specs.declared.environment.Binding.{Binding}
-use Rattle.value_meaning.specs.declared.environment.Environment.{Environment, roll-Environment, fold-roll-Environment}
+use Rattle.source_meaning.specs.declared.environment.Binding.{Binding}
+use Rattle.source_meaning.specs.declared.environment.Environment.{Environment, roll-Environment, fold-roll-Environment}
 use Rattle.value_meaning.specs.declared.evaluate.Context.{Context}
-use Rattle.value_meaning.specs.Environments.{env_of, env_step, env_of_bindings, over}
-use Rattle.value_meaning.specs.Evaluation.{block_in, meanings_in, function_in, names_of_params, types_of_params, meaning_in, cell_in, main_at}
+use Rattle.source_meaning.specs.Environments.{env_of, env_step, env_of_bindings, over}
+use Rattle.source_meaning.specs.Parameters.{names_of_params, types_of_params}
+use Rattle.value_meaning.specs.Evaluation.{block_in, meanings_in, function_in, meaning_in, cell_in, main_at}
 use Rattle.sac_base.specs.Types.{all_have}
 use Rattle.sac_base.specs.Outcomes.{Ends, Env, fault, and_then, no_variables, with_variables}
 use Rattle.array_ops.proofs.Steps.{value_then}
-use Rattle.value_meaning.specs.Calls.{RunMeaning, body_of, call_by, run_chosen, run_inline, run_deeper, results_in, call_at, outcome_of}
+use Rattle.source_meaning.specs.Calls.{RunMeaning, body_of, call_by, run_chosen, run_inline, run_deeper, results_in, call_at, outcome_of}
 use Rattle.sac_ast.specs.Bases.{base_in}
 use Rattle.sac_ast.specs.View.{expr, index_view}
 use Rattle.sac_ast.specs.declared.Generator.{Generator}
 use Rattle.sac_base.specs.declared.faults.Caps.{Caps}
 use Rattle.std.specs.Prelude.{ℤ}
 use Rattle.std.specs.Borrow.{Bor}
-use Rattle.value_meaning.specs.Meaning.{with_index}
+use Rattle.source_meaning.specs.Meaning.{with_index}
 
 pub length-functions : (fs : List Function) → length (functions fs) ≡ length fs
 length-functions [] = refl

@@ -16,7 +16,7 @@ use Rattle.sac_ast.specs.Tree
 use Rattle.sac_ast.specs.View.{expr, exprs}
 use Rattle.value_meaning.specs.declared.evaluate.Context.{Context}
 use Rattle.sac_base.specs.Outcomes.{Ends, Env, and_then, with_variables}
-use Rattle.value_meaning.specs.Meaning.{names}
+use Rattle.source_meaning.specs.Meaning.{names}
 use Rattle.value_meaning.specs.Evaluation.{meaning_in, meanings_in, statement_in}
 
 -- ---- expressions from left to right

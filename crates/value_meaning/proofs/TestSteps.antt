@@ -5,7 +5,7 @@ use Rattle.sac_base.specs.declared.faults.Fault.{Fault}
 use Rattle.sac_base.specs.declared.faults.FaultKind.TheVariants.{F9}
 use Rattle.sac_base.specs.Arrays.{ArrayValue}
 use Rattle.sac_base.specs.Outcomes.{Ends, Env, and_then, fault}
-use Rattle.value_meaning.specs.Meaning.{repeat}
+use Rattle.source_meaning.specs.Meaning.{repeat}
 use Rattle.array_ops.proofs.Steps.{said, test_fault, test_true, test_false}
 
 module _ (site test_site : Site) (test : Env → Ends ArrayValue) (body : Env → Ends Env) where

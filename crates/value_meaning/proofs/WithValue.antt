@@ -17,7 +17,7 @@ use Rattle.sac_ast.specs.View
 use Rattle.sac_ast.proofs.Views.{generator_is}
 use Rattle.value_meaning.specs.declared.evaluate.Context.{Context}
 use Rattle.value_meaning.specs.Evaluation.{meaning_in, cell_in}
-use Rattle.value_meaning.specs.Meaning.{name_count}
+use Rattle.source_meaning.specs.Meaning.{name_count}
 use Rattle.value_meaning.specs.WithSource.{generator_in, bound_in, maybe_in, bounds_in, generators_in, operation_in, generator_of, cells_in}
 use Rattle.array_with_loops.proofs.EachSteps.{each_length}
 

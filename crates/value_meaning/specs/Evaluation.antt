@@ -1,14 +1,11 @@
 -- The meaning as the evaluator computes it: in the function that runs, with the levels and turns that are left.
-use Rattle.std.specs.Prelude.{ℕ, ℤ, Bool, List, Option, Ok, map, slice_get}
+use Rattle.std.specs.Prelude.{ℕ, ℤ, Bool, List, Option, Ok, slice_get}
 use Rattle.sac_base.specs.declared.site.Site.{Site}
 use Rattle.sac_base.specs.declared.base.Base.{Base}
 use Rattle.sac_base.specs.declared.faults.Caps.{Caps}
-use Rattle.sac_base.specs.declared.name.Name.{Name}
-use Rattle.sac_base.specs.declared.types.ArrayType.{ArrayType}
 use Rattle.sac_base.specs.Arrays.{ArrayValue}
 use Rattle.sac_base.specs.Outcomes.{Ends, Env, and_then, choose, with_variables, no_variables}
 use Rattle.sac_base.specs.Parts.{condition}
-use Rattle.sac_ast.specs.declared.Param.{Param}
 use Rattle.sac_ast.specs.declared.Function.{Function}
 use Rattle.sac_ast.specs.declared.Generator.{Generator}
 use Rattle.sac_ast.specs.Tree.{Expr, Exprs, Stmt, Block}
@@ -16,8 +13,9 @@ use Rattle.sac_ast.specs.View.{functions, function, expr, index_view}
 use Rattle.sac_ast.specs.View
 use Rattle.sac_ast.specs.Bases.{base_in}
 use Rattle.value_meaning.specs.declared.evaluate.Context.{Context}
-use Rattle.value_meaning.specs.Meaning.{CallMeaning, meaning, meanings, statement, block, repeat, with_index}
-use Rattle.value_meaning.specs.Calls.{call_by, run_chosen, run_inline, run_deeper, results_in, outcome_of}
+use Rattle.source_meaning.specs.Parameters.{names_of_params}
+use Rattle.source_meaning.specs.Meaning.{CallMeaning, meaning, meanings, statement, block, repeat, with_index}
+use Rattle.source_meaning.specs.Calls.{call_by, run_chosen, run_inline, run_deeper, results_in, outcome_of}
 
 -- what calls mean in a function that runs
 abbrev pub calls_in : Context → CallMeaning
@@ -48,12 +46,6 @@ repeat_in context left site test_site test body =
 -- what a test says; one that is no scalar is a fault
 abbrev pub test_in : Context → Expr → Site → Env → Ends Bool
 test_in context test site env = and_then (meaning_in context test env) (λ c. choose site (condition c) (Ok Bool.true) (Ok Bool.false))
-
-abbrev pub names_of_params : List Param → List Name
-names_of_params params = map (λ (p : Param). p.name) params
-
-abbrev pub types_of_params : List Param → List ArrayType
-types_of_params params = map (λ (p : Param). p.ty) params
 
 -- what the function at a place gives
 abbrev pub run_chosen_in : Context → ℕ → List ArrayValue → Site → Ends (List ArrayValue)

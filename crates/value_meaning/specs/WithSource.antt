@@ -11,7 +11,7 @@ use Rattle.sac_ast.specs.View.{index_view}
 use Rattle.sac_ast.specs.View
 use Rattle.value_meaning.specs.declared.evaluate.Context.{Context}
 use Rattle.value_meaning.specs.Evaluation.{bases_in, calls_in, cell_in}
-use Rattle.value_meaning.specs.Meaning.{name_count, generator, generators, operation, default_base, bound, maybe}
+use Rattle.source_meaning.specs.Meaning.{name_count, generator, generators, operation, default_base, bound, maybe}
 
 abbrev pub bound_in : Context → BoundTree → Env → Ends (Option ArrayValue)
 bound_in context = bound context.turns (bases_in context) (calls_in context)

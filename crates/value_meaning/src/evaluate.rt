@@ -5,24 +5,18 @@ ghost use Rattle.sac_base.specs.Arrays.{size};
 ghost use Rattle.sac_ast.specs.Tree;
 ghost use Rattle.sac_ast.specs.View;
 ghost use Rattle.sac_ast.specs.View.{expr, exprs, stmt, block};
-ghost use Rattle.value_meaning.specs.Environments.{env_of};
+ghost use Rattle.source_meaning.specs.Environments.{env_of};
 ghost use Rattle.value_meaning.specs.Evaluation.{meaning_in, meanings_in, statement_in, block_in, repeat_in, calls_in, run_chosen_in, function_in};
 ghost use Rattle.value_meaning.specs.Evaluation.{cell_in, test_in};
-ghost use Rattle.value_meaning.specs.Meaning.{call_with};
+ghost use Rattle.source_meaning.specs.Meaning.{call_with};
 ghost use Rattle.sac_base.specs.Outcomes.{and_then};
 ghost use Rattle.array_with_loops.specs.Cells.{IsArrayPlan, array_from};
 ghost use Rattle.array_with_loops.specs.Plans.{operation_of, plan_of};
 ghost use Rattle.array_ops.specs.Tells.{Tells, TellsItems, TellsEnv, TellsAs};
 ghost use Rattle.sac_base.specs.WithLoops.{each, combined};
-ghost use Rattle.value_meaning.specs.Meaning.{name_count as name_count_value};
+ghost use Rattle.source_meaning.specs.Meaning.{name_count as name_count_value};
 ghost use Rattle.value_meaning.specs.WithSource.{bounds_in, bound_in, maybe_in, operation_in, held_in, checked_in, cells_in};
 
-use crate::arrays::{built_in_at, replace_at, value_of};
-use crate::calls::{
-    assign_all, assign_one, bind_index, bind_params, choose_instance, first_result_of,
-};
-use crate::defaults::default_or_zero;
-use crate::environment::{Environment, assign, lookup};
 use array_ops::{binary_at, condition_at, literal_at, results_of, select_at, unary_of};
 use array_with_loops::{
     Bounds, Evaluated, IndexVector, Plan, Range, add_cell, cell_size, combine, fits_form,
@@ -30,6 +24,10 @@ use array_with_loops::{
 };
 use sac_ast::{Bound, Expression, Function, Generator, Index, Operation, Statement, Target};
 use sac_base::{Array, Base, FaultKind, Form, Memory, Name, Op, Site, Stop, fault};
+use source_meaning::{
+    Environment, assign, assign_all, assign_one, bind_index, bind_params, built_in_at,
+    choose_instance, default_or_zero, first_result_of, lookup, replace_at, value_of,
+};
 use std::alloc::Global;
 
 /// The function that runs, and how far it may go on.

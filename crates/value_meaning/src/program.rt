@@ -3,15 +3,15 @@
 ghost use Rattle.std.specs.Prelude.{◌≡◌, ◌<◌, ◌++◌, IfOk, length};
 ghost use Rattle.sac_base.specs.declared.site.Site.{Site as Place};
 ghost use Rattle.sac_ast.specs.View.{program};
-ghost use Rattle.value_meaning.specs.Calls.{outcome};
+ghost use Rattle.source_meaning.specs.Calls.{outcome};
 ghost use Rattle.value_meaning.specs.Evaluation.{main_at};
 ghost use Rattle.array_ops.specs.Tells.{TellsItems, IsOutcome};
 
-use crate::calls::all_fit;
 use crate::evaluate::{Context, run_function};
 use array_ops::copy_all;
 use sac_ast::{Function, Program};
 use sac_base::{Array, Caps, FaultKind, Memory, Outcome, Stop, fault};
+use source_meaning::all_fit;
 use std::alloc::Global;
 
 /// Runs a program on arguments, and gives what its meaning is: the results of `main`, or the first fault.

@@ -1,5 +1,5 @@
 use Rattle.std.proofs.Common.{◌≡◌, ◌++◌, drop}
-use Rattle.value_meaning.specs.Meaning.{names}
+use Rattle.source_meaning.specs.Meaning.{names}
 use Rattle.core_scopes.specs.Looks.{texts}
 use Rattle.core_scopes.proofs.names.add_targets.Given as goal
 

@@ -3,7 +3,7 @@ use Rattle.sac_base.specs.declared.types.ArrayType.{ArrayType}
 use Rattle.core_ir.specs.declared.tree.Var.{Var}
 use Rattle.core_facts.specs.Facts.{note_all}
 use Rattle.fact_table.specs.Table.{facts_of}
-use Rattle.plain_facts.proofs.Notes.{types_facts}
+use Rattle.plain_facts.proofs.ParamFacts.{types_facts}
 use Rattle.plain_facts.proofs.lists.learn_params.Given as goal
 
 abbrev pub invariant-loop-x : goal.invariant-loop-x

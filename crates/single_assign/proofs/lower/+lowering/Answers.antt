@@ -5,7 +5,7 @@ use Rattle.sac_ast.specs.View.{expr, exprs, generator, generators, operation, st
 use Rattle.sac_ast.proofs.Views.{expr_call, expr_with, stmt_assign, generator_is, operation_genarray}
 use Rattle.sac_ast.proofs.Lists.{generators-drop}
 use Rattle.core_ir.specs.View.{gen_term}
-use Rattle.value_meaning.specs.Meaning.{default_base}
+use Rattle.source_meaning.specs.Meaning.{default_base}
 use Rattle.std.proofs.lemmas.List.{drop_all}
 use Rattle.core_lowering_steps.specs.Building.{bound_at}
 use Rattle.core_lowering_steps.specs.Parts.{after_gens}

@@ -7,16 +7,17 @@ use Rattle.sac_ast.specs.Tree
 use Rattle.sac_ast.proofs.Views.{stmt_assign, stmt_while, stmt_do, stmt_if, stmt_replace, expr_call, expr_binary, expr_select, expr_choice}
 use Rattle.value_meaning.proofs.TestSteps.{turn_test_fault, turn_ends, turn_over, turn_goes}
 use Rattle.array_ops.proofs.Steps.{said, test_fault, test_true, test_false}
-use Rattle.value_meaning.specs.Environments.{env_of}
-use Rattle.value_meaning.specs.Evaluation.{meaning_in, meanings_in, statement_in, block_in, repeat_in, calls_in, function_in, names_of_params}
+use Rattle.source_meaning.specs.Environments.{env_of}
+use Rattle.source_meaning.specs.Parameters.{names_of_params}
+use Rattle.value_meaning.specs.Evaluation.{meaning_in, meanings_in, statement_in, block_in, repeat_in, calls_in, function_in}
 use Rattle.array_ops.specs.Tells.{Tells, TellsItems, TellsEnv}
 use Rattle.sac_base.specs.Outcomes.{first_result, with_variables}
-use Rattle.value_meaning.specs.Meaning.{call_with, names, with_index}
-use Rattle.value_meaning.specs.Calls.{run_deeper, run_inline, results_in}
+use Rattle.source_meaning.specs.Meaning.{call_with, names, with_index}
+use Rattle.source_meaning.specs.Calls.{run_deeper, run_inline, results_in}
 use Rattle.sac_ast.specs.Bases.{base_in}
 use Rattle.sac_ast.specs.View.{functions, function, index_view}
 use Rattle.value_meaning.proofs.CallSteps.{function_at, length-functions, runs_inline, runs_deeper, too_deep, no_bindings, no_inner_bindings, cell_steps, same_value, function_steps}
-use Rattle.value_meaning.specs.declared.environment.Environment.{roll-Environment}
+use Rattle.source_meaning.specs.declared.environment.Environment.{roll-Environment}
 use Rattle.value_meaning.proofs.Measures.{rank_falls, rank_falls_inline, body_below}
 use Rattle.value_meaning.proofs.Steps.{values_step, assign_plain, not_call}
 use Rattle.array_ops.proofs.Steps.{same_stop, fault_then, value_then, then_same}

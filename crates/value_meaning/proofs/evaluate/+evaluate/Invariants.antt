@@ -6,7 +6,7 @@ use Rattle.sac_ast.specs.declared.Generator.{size-Generator}
 use Rattle.sac_ast.specs.declared.Bound.{size-Bound}
 use Rattle.sac_ast.specs.declared.Operation.{size-Operation}
 use Rattle.sac_base.specs.Outcomes.{and_then}
-use Rattle.value_meaning.specs.Environments.{env_of}
+use Rattle.source_meaning.specs.Environments.{env_of}
 use Rattle.value_meaning.specs.Evaluation.{meanings_in, block_in, repeat_in}
 use Rattle.std.proofs.Common.{length}
 use Rattle.std.specs.Prelude.{fold}

@@ -2,7 +2,8 @@ use Rattle.std.proofs.Common.{◌≡◌, refl, true, ap, sym, ◌∙◌, subst, 
 use Rattle.sac_base.specs.Types.{all_have}
 use Rattle.sac_ast.specs.View.{function}
 use Rattle.sac_ast.specs.declared.Function.{Function}
-use Rattle.value_meaning.specs.Evaluation.{main_at, types_of_params}
+use Rattle.source_meaning.specs.Parameters.{types_of_params}
+use Rattle.value_meaning.specs.Evaluation.{main_at}
 use Rattle.array_ops.specs.Tells.{TellsItems}
 use Rattle.value_meaning.proofs.CallSteps.{function_at, main_steps}
 use Rattle.value_meaning.proofs.program.run_main.Goals as goal

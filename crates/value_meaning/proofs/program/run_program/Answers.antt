@@ -1,7 +1,7 @@
 use Rattle.std.proofs.Common.{ap, sym, ◌∙◌, subst}
 use Rattle.sac_ast.specs.View.{functions}
 use Rattle.sac_ast.specs.Bases.{base_in}
-use Rattle.value_meaning.specs.Calls.{main_of, outcome_of}
+use Rattle.source_meaning.specs.Calls.{main_of, outcome_of}
 use Rattle.value_meaning.specs.Evaluation.{main_at}
 use Rattle.array_ops.specs.Tells.{TellsItems}
 use Rattle.value_meaning.proofs.program.run_program.Goals as goal

@@ -1,0 +1,5 @@
+pub mod Meaning
+pub mod Calls
+pub mod Environments
+pub mod Parameters
+pub mod Rows
