@@ -138,7 +138,7 @@ neighbours = plus (plus (plus (plus (plus (plus (plus (a_at (less i (num 1)) (le
 abbrev life : FunctionTree
 life = function false (codes "life") (param (codes "a") (ints (Rank 2)) ∷ []) (ints (Rank 2)) no_stmts
     (with_in (gen (at (vec (1 ∷ 1 ∷ []))) true (parts (target (codes "i") ∷ target (codes "j") ∷ [])) (at (less (builtin Shape (exprs (var (codes
-        "a") ∷ [])) s) (num 1))) false left_out left_out
+    "a") ∷ [])) s) (num 1))) false left_out left_out
     (stmts (set (codes "n") neighbours ∷ []))
     (choice (binary Eq (var (codes "n")) (num 3) s) (num 1) (choice (binary Eq (var (codes "n")) (num 2) s) (a_at i j) (num 0) s) s) s ∷ [])
     (genarray (builtin Shape (exprs (var (codes "a") ∷ [])) s) (given (num 0)) s))
@@ -159,7 +159,7 @@ do_counting n = main_of [] (stmts (set (codes "i") (num 0) ∷ do_while (stmts (
 abbrev counts_down : Bool → ℕ → List FunctionTree
 counts_down inline n = function inline (codes "f") (param (codes "n") (ints (Known [])) ∷ []) (ints (Known [])) no_stmts
     (choice (binary Eq (var (codes "n")) (num 0) s) (num 0) (plus (num 1) (call (codes "f") (exprs (less (var (codes "n")) (num 1) ∷ [])) (site 1
-        41))) s)
+    41))) s)
     ∷ main_of [] no_stmts (call (codes "f") (exprs (num n ∷ [])) (site 2 22)) ∷ []
 
 -- int f(int x), int f(int[.] x) and int f(int[*] x): the most specific instance is taken
@@ -189,7 +189,7 @@ pub record WorkedPrograms : Type 0 where
   -- with { ([0] <= iv < [10] step [4] width [2]) : iv[0]; } : genarray([10], -1)
   pub last_period_is_cut : gives (with_in (gen (at (vec (0 ∷ []))) true (named (target iv)) (at (vec (10 ∷ []))) false (given (vec (4 ∷ [])))
       (given (vec (2 ∷ []))) no_stmts iv0 s ∷ []) (genarray (vec (10 ∷ [])) (given (minus (num 1))) s))
-    ≡ ok (pos 0 ∷ pos 1 ∷ negsuc 0 ∷ negsuc 0 ∷ pos 4 ∷ pos 5 ∷ negsuc 0 ∷ negsuc 0 ∷ pos 8 ∷ pos 9 ∷ [])
+      ≡ ok (pos 0 ∷ pos 1 ∷ negsuc 0 ∷ negsuc 0 ∷ pos 4 ∷ pos 5 ∷ negsuc 0 ∷ negsuc 0 ∷ pos 8 ∷ pos 9 ∷ [])
   -- with { } : genarray([0], 7), and the same with []
   pub no_index : gives (with_in [] (genarray (vec (0 ∷ [])) (given (num 7)) s)) ≡ ok []
   pub one_index : gives (with_in [] (genarray (lit []) (given (num 7)) s)) ≡ one (pos 7)
@@ -198,8 +198,7 @@ pub record WorkedPrograms : Type 0 where
   -- with { ([3] <= iv < [3]) : iv[0]; } : fold(+, 5), and the same from 0 to 4
   pub empty_fold : gives (with_in (over 3 3 s iv0 ∷ []) (Tree.fold Add (num 5) s)) ≡ one (pos 5)
   pub neutral_once : gives (with_in (over 0 4 s iv0 ∷ []) (Tree.fold Add (num 5) s)) ≡ one (pos 11)
-  -- the frame of a fold goes from the least lower to the greatest upper bound: with { ([6] <= iv < [8]) : iv[0]; ([1] <= iv < [3]) : 10 * iv[0]; }
-      : fold(+, 0)
+  -- the frame of a fold goes from the least lower to the greatest upper bound: with { ([6] <= iv < [8]) : iv[0]; ([1] <= iv < [3]) : 10 * iv[0]; } : fold(+, 0)
   pub fold_of_two : gives (with_in (over 6 8 s iv0 ∷ over 1 3 s (binary Mul (num 10) iv0 s) ∷ []) (Tree.fold Add (num 0) s)) ≡ one (pos 43)
   -- int[*] main() { return (with { ([0] <= iv < [16]) : 10 / (iv[0] - 2); } : genarray([16], 0)); }
   pub least_fault : gives (with_in (over 0 16 s (binary Div (num 10) (binary Sub iv0 (num 2) s) (site 1 56)) ∷ []) (genarray (vec (16 ∷ [])) (given
@@ -218,26 +217,26 @@ pub record WorkedPrograms : Type 0 where
   -- a fault of a cell that no one selects is kept
   pub unselected_fault : run (main_of [] (stmts (set (codes "a") (with_in (over 0 16 s (binary Div (num 100) (binary Sub iv0 (num 15) s) (site 2
       39)) ∷ []) (genarray (vec (16 ∷ [])) (given (num 0)) s))
-    ∷ set (codes "b") (with_in (over 0 10 s (select (var (codes "a")) (var iv) s) ∷ []) (genarray (vec (10 ∷ [])) (given (num 0)) s)) ∷ [])) (var
-        (codes "b")) ∷ []) []
-    ≡ fault F2 (site 2 39)
+      ∷ set (codes "b") (with_in (over 0 10 s (select (var (codes "a")) (var iv) s) ∷ []) (genarray (vec (10 ∷ [])) (given (num 0)) s)) ∷ [])) (var
+      (codes "b")) ∷ []) []
+      ≡ fault F2 (site 2 39)
   -- a nest: iv[0] * 10 + jv[0] over [2] and [3]
   pub nest : gives (with_in (over 0 2 s (with_in (gen (at (vec (0 ∷ []))) true (named (target (codes "jv"))) (at (vec (3 ∷ []))) false left_out
       left_out no_stmts (binary Add (binary Mul iv0 (num 10) s) (select (var (codes "jv")) (num 0) s) s) s ∷ []) (genarray (vec (3 ∷ [])) (given
       (num 0)) s)) ∷ []) (genarray (vec (2 ∷ [])) (given (vec (0 ∷ 0 ∷ 0 ∷ []))) s))
-    ≡ Ok (record { base = Int; shape = 2 ∷ 3 ∷ []; cells = pos 0 ∷ pos 1 ∷ pos 2 ∷ pos 10 ∷ pos 11 ∷ pos 12 ∷ [] } ∷ [])
+      ≡ Ok (record { base = Int; shape = 2 ∷ 3 ∷ []; cells = pos 0 ∷ pos 1 ∷ pos 2 ∷ pos 10 ∷ pos 11 ∷ pos 12 ∷ [] } ∷ [])
   -- the block of an outer generator faults though the inner frame is empty: ([0] <= iv < [4]) { x = 1 / (iv[0] - 1); } : with { } : genarray([0], x);
   pub empty_inner_frame : gives (with_in (gen (at (vec (0 ∷ []))) true (named (target iv)) (at (vec (4 ∷ []))) false left_out left_out (stmts (set
       (codes "x") (binary Div (num 1) (binary Sub iv0 (num 1) s) (site 3 31)) ∷ [])) (with_in [] (genarray (vec (0 ∷ [])) (given (var (codes "x")))
       s)) s ∷ []) (genarray (vec (4 ∷ [])) (given (lit [])) s)) ≡ fault F2 (site 3 31)
   pub blinker : run (life ∷ main_of (param (codes "a") (ints (Rank 2)) ∷ []) (stmts (set (codes "a") (call (codes "life") (exprs (var (codes "a") ∷
       [])) s) ∷ [])) (var (codes "a")) ∷ [])
-    (board (0 ∷ 0 ∷ 0 ∷ 0 ∷ 0 ∷ 0 ∷ 0 ∷ 1 ∷ 0 ∷ 0 ∷ 0 ∷ 0 ∷ 1 ∷ 0 ∷ 0 ∷ 0 ∷ 0 ∷ 1 ∷ 0 ∷ 0 ∷ 0 ∷ 0 ∷ 0 ∷ 0 ∷ 0 ∷ []) ∷ [])
-    ≡ Ok (board (0 ∷ 0 ∷ 0 ∷ 0 ∷ 0 ∷ 0 ∷ 0 ∷ 0 ∷ 0 ∷ 0 ∷ 0 ∷ 1 ∷ 1 ∷ 1 ∷ 0 ∷ 0 ∷ 0 ∷ 0 ∷ 0 ∷ 0 ∷ 0 ∷ 0 ∷ 0 ∷ 0 ∷ 0 ∷ []) ∷ [])
+      (board (0 ∷ 0 ∷ 0 ∷ 0 ∷ 0 ∷ 0 ∷ 0 ∷ 1 ∷ 0 ∷ 0 ∷ 0 ∷ 0 ∷ 1 ∷ 0 ∷ 0 ∷ 0 ∷ 0 ∷ 1 ∷ 0 ∷ 0 ∷ 0 ∷ 0 ∷ 0 ∷ 0 ∷ 0 ∷ []) ∷ [])
+      ≡ Ok (board (0 ∷ 0 ∷ 0 ∷ 0 ∷ 0 ∷ 0 ∷ 0 ∷ 0 ∷ 0 ∷ 0 ∷ 0 ∷ 1 ∷ 1 ∷ 1 ∷ 0 ∷ 0 ∷ 0 ∷ 0 ∷ 0 ∷ 0 ∷ 0 ∷ 0 ∷ 0 ∷ 0 ∷ 0 ∷ []) ∷ [])
   -- with { ([1] <= iv < [3]) : a[iv] + 100; } : modarray(a), on [0, 1, 2, 3]
   pub some_cells_anew : run (main_of (param (codes "a") (ints (Rank 1)) ∷ []) no_stmts (with_in (over 1 3 s (plus (select (var (codes "a")) (var
       iv) s) (num 100)) ∷ []) (modarray (var (codes "a")) s)) ∷ []) (vector Int (pos 0 ∷ pos 1 ∷ pos 2 ∷ pos 3 ∷ []) ∷ [])
-    ≡ ok (pos 0 ∷ pos 101 ∷ pos 102 ∷ pos 3 ∷ [])
+      ≡ ok (pos 0 ∷ pos 101 ∷ pos 102 ∷ pos 3 ∷ [])
   -- int[*] main() { return (with { } : genarray([-1], 0)); }, and genarray([5000, 5000], 0)
   pub negative_extent : gives (with_in [] (genarray (lit (minus (num 1) ∷ [])) (given (num 0)) (site 1 36))) ≡ fault F4 (site 1 36)
   pub too_many_elements : gives (with_in [] (genarray (vec (5000 ∷ 5000 ∷ [])) (given (num 0)) (site 1 36))) ≡ fault F8 (site 1 36)
