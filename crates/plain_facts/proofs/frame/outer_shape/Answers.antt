@@ -3,8 +3,8 @@ use Rattle.std.specs.Prelude.{unsigned_abs}
 use Rattle.std.proofs.lemmas.Int.{to_z-of_z}
 use Rattle.sac_base.specs.Shapes.{IsExtent}
 use Rattle.sac_base.specs.WithLoops.{distance}
-use Rattle.const_shape.proofs.Axes.{joined_is}
-use Rattle.const_shape.proofs.frame.outer_shape.Goals as goal
+use Rattle.plain_facts.proofs.Axes.{joined_is}
+use Rattle.plain_facts.proofs.frame.outer_shape.Goals as goal
 
 pub returns-in-Some : goal.returns-in-Some
 returns-in-Some c =
