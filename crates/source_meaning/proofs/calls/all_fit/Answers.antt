@@ -1,7 +1,7 @@
 use Rattle.std.proofs.Common.{sym, ◌∙◌}
 use Rattle.std.proofs.lemmas.List.{length-map}
 use Rattle.sac_ast.specs.declared.Param.{Param}
-use Rattle.source_meaning.specs.Evaluation.{types_of_params}
+use Rattle.source_meaning.specs.Parameters.{types_of_params}
 use Rattle.array_ops.proofs.TypeLists.{have_length}
 use Rattle.source_meaning.proofs.calls.all_fit.Goals as goal
 
