@@ -227,14 +227,14 @@ same_carries : (scope : List Var) → Carries itself scope scope
 same_carries scope x y h m = (λ i. is_in (sym (same_number x y h) i) scope) ∙ m
 
 made_scoped :
-    (v : Var) (gens : GensTerm) (h : PartHead) (b : BlockTerm) (scope : List Var) → Made v gens h b → is_in v scope ≡ true → ScopedGens scope gens →
+    (axes : ℕ) (v : Var) (gens : GensTerm) (h : PartHead) (b : BlockTerm) (scope : List Var) → Made axes v gens h b → is_in v scope ≡ true → ScopedGens scope gens →
     Distinct (bound_in b) → Away (bound_in b) (h.index ∷ scope) → Scoped (h.index ∷ scope) b
-made_scoped v gens h b scope (inl c) at s d w =
+made_scoped axes v gens h b scope (inl c) at s d w =
     named_scoped (under itself c.head.index h.index) h.index 0 c.head.names c.body b ((c.head.index ∷ c.head.names) ++ scope) (c.head.index ∷ scope) (h.index ∷ scope) c.named
     (carries_one itself scope scope c.head.index h.index (same_carries scope)) (names.itself h.index scope)
     (λ a m. sym (flipped_in a (c.head.index ∷ c.head.names) scope) ∙ m) (gen_scoped gens c.place c.head c.body scope c.stands s) d w
-made_scoped v gens h b scope (inr (inl e)) at s d w = subst (Scoped (h.index ∷ scope)) (sym e.0) (behind_first v h.index scope at, tt)
-made_scoped v gens h b scope (inr (inr e)) at s d w =
+made_scoped axes v gens h b scope (inr (inl e)) at s d w = subst (Scoped (h.index ∷ scope)) (sym e.0) (behind_first v h.index scope at, tt)
+made_scoped axes v gens h b scope (inr (inr e)) at s d w =
     let z = e.0 in
     let q = e.1.1 in
     subst (Scoped (h.index ∷ scope)) (sym q.0) (
@@ -244,14 +244,14 @@ made_scoped v gens h b scope (inr (inr e)) at s d w =
     )
 
 pub parts_scoped :
-    (v : Var) (gens : GensTerm) (parts : PartsTerm) (scope : List Var) → MadeParts v gens parts → is_in v scope ≡ true → ScopedGens scope gens →
+    (axes : ℕ) (v : Var) (gens : GensTerm) (parts : PartsTerm) (scope : List Var) → MadeParts axes v gens parts → is_in v scope ≡ true → ScopedGens scope gens →
     Distinct (bound_in_parts parts) → Away (bound_in_parts parts) scope → ScopedParts scope parts
-parts_scoped v gens NoParts scope h at s d w = tt
-parts_scoped v gens (Part x b rest) scope h at s d w =
+parts_scoped axes v gens NoParts scope h at s d w = tt
+parts_scoped axes v gens (Part x b rest) scope h at s d w =
     let own = x.index ∷ [] in
     let more = bound_in b ++ bound_in_parts rest in
     let dr = distinct_right own more d in (
       w x.index (names.itself x.index more),
-      made_scoped v gens x b scope h.0 at s (distinct_left (bound_in b) (bound_in_parts rest) dr) (away_left (bound_in b) (bound_in_parts rest) (own ++ scope) (away_below own more scope d w)),
-      parts_scoped v gens rest scope h.1 at s (distinct_right (bound_in b) (bound_in_parts rest) dr) (away_right (bound_in b) (bound_in_parts rest) scope (away_right own more scope w)),
+      made_scoped axes v gens x b scope h.0 at s (distinct_left (bound_in b) (bound_in_parts rest) dr) (away_left (bound_in b) (bound_in_parts rest) (own ++ scope) (away_below own more scope d w)),
+      parts_scoped axes v gens rest scope h.1 at s (distinct_right (bound_in b) (bound_in_parts rest) dr) (away_right (bound_in b) (bound_in_parts rest) scope (away_right own more scope w)),
     )

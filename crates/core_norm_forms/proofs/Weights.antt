@@ -56,25 +56,25 @@ named_weight S i j (x ∷ xs) body b h =
     let q = h.1.1.1.1.1 in
     ap weight q.0 ∙ nothing_more (weight h.1.1.1.1.0) ∙ named_weight (under S x h.1.0) i (suc j) xs body h.1.1.1.1.0 q.4
 
-made_weight : (v : Var) (gens : GensTerm) (h : PartHead) (b : BlockTerm) → Made v gens h b → weight b ≤ weight_gens gens
-made_weight v gens h b (inl c) =
+made_weight : (axes : ℕ) (v : Var) (gens : GensTerm) (h : PartHead) (b : BlockTerm) → Made axes v gens h b → weight b ≤ weight_gens gens
+made_weight axes v gens h b (inl c) =
     subst (λ (k : ℕ). k ≤ weight_gens gens) (sym (named_weight _ h.index 0 c.head.names c.body b c.named)) (gen_weight gens c.place c.head c.body c.stands)
-made_weight v gens h b (inr (inl d)) = subst (λ (k : ℕ). k ≤ weight_gens gens) (sym (ap weight d.0)) (omega arith)
-made_weight v gens h b (inr (inr d)) = subst (λ (k : ℕ). k ≤ weight_gens gens) (sym (ap weight d.1.1.0)) (omega arith)
+made_weight axes v gens h b (inr (inl d)) = subst (λ (k : ℕ). k ≤ weight_gens gens) (sym (ap weight d.0)) (omega arith)
+made_weight axes v gens h b (inr (inr d)) = subst (λ (k : ℕ). k ≤ weight_gens gens) (sym (ap weight d.1.1.0)) (omega arith)
 
 add_one : (a b n w : ℕ) → a ≤ w → b ≤ n * w → a + b ≤ suc n * w
 add_one a b n w p q = subst (λ (k : ℕ). a + b ≤ k) (sym (suc-mul n w)) (omega (arith, p, q))
 
-parts_weight : (v : Var) (gens : GensTerm) (parts : PartsTerm) → MadeParts v gens parts → weight_parts parts ≤ count_parts parts * weight_gens gens
-parts_weight v gens NoParts h = omega arith
-parts_weight v gens (Part x b rest) h =
-    add_one (weight b) (weight_parts rest) (count_parts rest) (weight_gens gens) (made_weight v gens x b h.0) (parts_weight v gens rest h.1)
+parts_weight : (axes : ℕ) (v : Var) (gens : GensTerm) (parts : PartsTerm) → MadeParts axes v gens parts → weight_parts parts ≤ count_parts parts * weight_gens gens
+parts_weight axes v gens NoParts h = omega arith
+parts_weight axes v gens (Part x b rest) h =
+    add_one (weight b) (weight_parts rest) (count_parts rest) (weight_gens gens) (made_weight axes v gens x b h.0) (parts_weight axes v gens rest h.1)
 
 below_with : (a n w : ℕ) → a ≤ n * w → n ≤ 64 → a < 1 + 65 * w
 below_with a n w p q = let r : n * w ≤ 64 * w = mul-le-mul_right w q in omega (arith, p, r)
 
-pub parted_weight : (v : Var) (gens : GensTerm) (parts : PartsTerm) → MadeParts v gens parts → count_parts parts ≤ 64 → weight_parts parts < 1 + 65 * weight_gens gens
-parted_weight v gens parts h few = below_with (weight_parts parts) (count_parts parts) (weight_gens gens) (parts_weight v gens parts h) few
+pub parted_weight : (axes : ℕ) (v : Var) (gens : GensTerm) (parts : PartsTerm) → MadeParts axes v gens parts → count_parts parts ≤ 64 → weight_parts parts < 1 + 65 * weight_gens gens
+parted_weight axes v gens parts h few = below_with (weight_parts parts) (count_parts parts) (weight_gens gens) (parts_weight axes v gens parts h) few
 
 -- ---- a place in a block
 
