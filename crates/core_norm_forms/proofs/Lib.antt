@@ -1,0 +1,12 @@
+pub mod Made
+pub mod Weights
+pub mod Scopes
+pub mod Typing
+pub mod Tables
+pub mod Below
+pub mod Walking
+pub mod Reach
+pub mod Copies
+pub mod Calls
+pub mod Places
+pub mod Laws
