@@ -10,3 +10,5 @@ pub mod Copies
 pub mod Calls
 pub mod Places
 pub mod Laws
+pub mod Stepped
+pub mod Whole
