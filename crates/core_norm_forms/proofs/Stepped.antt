@@ -214,10 +214,10 @@ module _ (first low high : ℕ) (m : BaseTable) (a : CoreTerm) (n : ℕ) (f : Fu
           (λ i. cond (w.0 i) (Some p.1.base) (base_of (map (λ (p : Var × ArrayType). (p.0, p.1.base)) ps) y))
           ∙ go ps (λ z l. (or_false (eqb p.0.0 z.0) (is_in z (map (λ (p : Var × ArrayType). p.0) ps)) (h z l)).1) y k
 
-  based : (e : BlockBases next (param_bases f) c (bases f.results)) × OldBases next first t c (param_bases f) (bases f.results) e
+  pub based : (e : BlockBases next (param_bases f) c (bases f.results)) × OldBases next first t c (param_bases f) (bases f.results) e
   based =
       bases_kept Facts (fact_ways (called a)) (FreshHere first low high t) first low t a next (group_moved a n f c state.found)
-      (λ k b c h g ts d w v l q o. place_bases first low high t k b c h a next (group_moved a n f c state.found) state.rise g ts d w v l q o)
+      (λ k x y h g ts d w v l q o. place_bases first low high t k x y h a next (group_moved a n f c state.found) state.rise g ts d w v l q o)
       edited (param_bases f) (bases f.results) state.agreeing state.params state.follows low_params bound_fresh body_once
 
   pub function_after : IsFunction next own
@@ -283,6 +283,7 @@ module _ (first low high : ℕ) (m : BaseTable) (a : CoreTerm) (n : ℕ) (f : Fu
   further x y z p q = omega arith
 
   pub state_after : State first high m next n own
+  unfolding based function_after
   state_after =
       let k = has_table next own function_after in record {
         well = well_after;
