@@ -50,23 +50,23 @@ module _ (f : Var → Var) where
 -- ---- links
 
 -- all of the first list are in the second
-abbrev Inside : List Var → List Var → Type 0
+abbrev pub Inside : List Var → List Var → Type 0
 Inside xs all = (y : Var) → is_in y xs ≡ true → is_in y all ≡ true
 
-inside_left : (xs ys all : List Var) → Inside (xs ++ ys) all → Inside xs all
+pub inside_left : (xs ys all : List Var) → Inside (xs ++ ys) all → Inside xs all
 inside_left xs ys all h = λ y p. h y (in_left y xs ys p)
 
-inside_right : (xs ys all : List Var) → Inside (xs ++ ys) all → Inside ys all
+pub inside_right : (xs ys all : List Var) → Inside (xs ++ ys) all → Inside ys all
 inside_right xs ys all h = λ y p. h y (in_right y xs ys p)
 
-inside_both : (xs ys all : List Var) → Inside xs all → Inside ys all → Inside (xs ++ ys) all
+pub inside_both : (xs ys all : List Var) → Inside xs all → Inside ys all → Inside (xs ++ ys) all
 inside_both xs ys all h k = λ y p. go y (is_in y xs) refl (sym (in_more y xs ys) ∙ p)
   where
     go : (y : Var) (b : Bool) → is_in y xs ≡ b → (is_in y xs || is_in y ys) ≡ true → is_in y all ≡ true
     go y true e p = h y e
     go y false e p = k y (sym (λ i. e i || is_in y ys) ∙ p)
 
-turned : (a x : Var) (xs scope : List Var) → is_in a (x ∷ (xs ++ scope)) ≡ is_in a (xs ++ (x ∷ scope))
+pub turned : (a x : Var) (xs scope : List Var) → is_in a (x ∷ (xs ++ scope)) ≡ is_in a (xs ++ (x ∷ scope))
 turned a x xs scope = (λ i. eqb x.0 a.0 || in_more a xs scope i) ∙ shuffle (eqb x.0 a.0) (is_in a xs) (is_in a scope) ∙ sym (in_more a xs (x ∷ scope))
   where
     shuffle : (p q r : Bool) → (p || (q || r)) ≡ (q || (p || r))
@@ -76,10 +76,10 @@ turned a x xs scope = (λ i. eqb x.0 a.0 || in_more a xs scope i) ∙ shuffle (e
 
 module _ (f : Var → Var) (all : List Var) (apart : (x y : Var) → is_in x all ≡ true → is_in y all ≡ true → eqb (f x).0 (f y).0 ≡ eqb x.0 y.0) where
   -- each variable in scope is linked with the one that stands for it
-  abbrev Links : Link → List Var → Type 0
+  abbrev pub Links : Link → List Var → Type 0
   Links S scope = (x : Var) → is_in x scope ≡ true → S x (f x) ≡ true
 
-  links_one : (S : Link) (scope : List Var) (x : Var) → is_in x all ≡ true → Inside scope all → Links S scope → Links (under S x (f x)) (x ∷ scope)
+  pub links_one : (S : Link) (scope : List Var) (x : Var) → is_in x all ≡ true → Inside scope all → Links S scope → Links (under S x (f x)) (x ∷ scope)
   links_one S scope x at inside k z h = go (eqb x.0 z.0) refl h
     where
       go : (b : Bool) → eqb x.0 z.0 ≡ b → (b || is_in z scope) ≡ true → (if eqb x.0 z.0 then eqb (f x).0 (f z).0 else (not (eqb (f x).0 (f z).0) && S z (f z))) ≡ true

@@ -59,7 +59,7 @@ is_below n y p q = omega arith
 pub fresh_from : (n : ℕ) (xs : List Var) → All (λ (x : Var). x.0 < n) xs → Fresh xs n
 fresh_from n xs h y l = not_in y xs (λ m. is_below n y.0 (all_member (λ (x : Var). x.0 < n) xs y h m) l)
 
-all_by : (n : ℕ) (xs : List Var) → ((y : Var) → is_in y xs ≡ true → y.0 < n) → All (λ (x : Var). x.0 < n) xs
+pub all_by : (n : ℕ) (xs : List Var) → ((y : Var) → is_in y xs ≡ true → y.0 < n) → All (λ (x : Var). x.0 < n) xs
 all_by n [] f = All-nil (λ (x : Var). x.0 < n)
 all_by n (x ∷ xs) f = All-cons (λ (x : Var). x.0 < n) x xs (f x (itself x xs)) (all_by n xs (λ y h. f y (behind_first y x xs h)))
 

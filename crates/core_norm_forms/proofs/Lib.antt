@@ -12,3 +12,5 @@ pub mod Places
 pub mod Laws
 pub mod Stepped
 pub mod Whole
+pub mod Placing
+pub mod Named

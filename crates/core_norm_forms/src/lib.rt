@@ -2,6 +2,7 @@
 #![tactic(auto)]
 
 ghost use Rattle.core_norm_forms.specs.Laws.{RenamedWeightsStay, WeightsFall, BindersStayDistinct, CopiesAreRenamed, CopiesAreAlike};
+ghost use Rattle.core_norm_forms.specs.Laws.{CopiesAreNamed, OrderIsFresh};
 ghost use Rattle.core_norm_forms.specs.Laws.{WalksKeep, NumbersStayBelow, StepsGoOn};
 
 /// Law: where one with-loop of a block becomes a parted loop, its weight falls; a block with other variables has the same weight.
@@ -15,10 +16,13 @@ pub fn replaced_parts_are_distinct()
     ensures { BindersStayDistinct }
 {}
 
-/// Law: a block in which other variables stand for all of its own, kept apart, is a copy of the block.
+/// Law: a block in which other variables stand for all of its own, kept apart, is a copy of the block; above it components of an index stand for
+/// names. Variables that are numbered one after another are distinct.
 pub fn copies_are_renamed()
     ensures renamed { CopiesAreRenamed }
     ensures alike { CopiesAreAlike }
+    ensures named { CopiesAreNamed }
+    ensures fresh { OrderIsFresh }
 {}
 
 /// Law: a core in one function of which with-loops became parted loops, one after another and with new variables, has the same outcome on arrays, is
