@@ -1,5 +1,5 @@
 -- Tables that have the bases of the variables below a number.
-use Rattle.std.proofs.Common.{◌≡◌, ℕ, ◌<◌, ◌≤◌, true, List, [], ◌∷◌, ◌++◌, map, Option, Some, refl, sym, ap, subst, ◌∙◌, ◌⊎◌, inl, inr, arith}
+use Rattle.std.proofs.Common.{◌≡◌, ℕ, ◌<◌, ◌≤◌, true, List, [], ◌∷◌, ◌++◌, map, refl, sym, subst, ◌∙◌, ◌⊎◌, inl, inr, arith}
 use Rattle.std.specs.Prelude.{zip}
 use Rattle.std.proofs.lemmas.Bool.{cases_lt}
 use Rattle.sac_base.specs.declared.base.Base.{Base}
@@ -7,7 +7,7 @@ use Rattle.sac_base.specs.declared.base.Base.TheVariants.{Int, Bool as Truth}
 use Rattle.core_ir.specs.declared.tree.Var.{Var}
 use Rattle.core_ir.specs.Binders.{is_in, bound_in, bound_in_right, bound_in_gens, bound_in_parts}
 use Rattle.core_ir.specs.Terms.{BlockTerm, RightTerm, GensTerm, PartsTerm, CoreTerm, Gives, Bind, Plain, NoGens, Gen, NoParts, Part}
-use Rattle.core_ir.specs.WellFormed.{Bases, base_of, ints, GroupBases, BlockBases, RightBases, GensBases, PartsBases}
+use Rattle.core_ir.specs.WellFormed.{Bases, ints, GroupBases, BlockBases, RightBases, GensBases, PartsBases}
 use Rattle.core_norm_steps.specs.Step.{BaseTable, Within, AllNumbers, Follows, FollowsRight, FollowsGens, FollowsParts}
 use Rattle.core_inlined_bodies.proofs.Names.{in_left, itself, behind_first}
 use Rattle.core_norm_forms.proofs.Scopes.{in_right}

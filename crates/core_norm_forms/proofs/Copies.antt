@@ -1,5 +1,5 @@
 -- A block with other variables is a copy of the block where they are kept apart.
-use Rattle.std.proofs.Common.{◌≡◌, ℕ, suc, Bool, true, false, not, ◌&&◌, ◌||◌, eqb, List, [], ◌∷◌, ◌++◌, map, length, Option, Some, None, refl, sym, ap, subst, ◌∙◌}
+use Rattle.std.proofs.Common.{◌≡◌, suc, Bool, true, false, not, ◌&&◌, ◌||◌, eqb, List, [], ◌∷◌, ◌++◌, map, length, Option, Some, None, refl, sym, ap, ◌∙◌}
 use Rattle.std.specs.Prelude.{if◌then◌else◌, option_map, option_to_list}
 use Rattle.std.proofs.lemmas.Bool.{eq-eqb}
 use Rattle.core_ir.specs.declared.tree.Var.{Var}
@@ -15,7 +15,7 @@ use Rattle.core_ir.specs.Terms.{PlainTerm, BlockTerm, RightTerm, GensTerm, Parts
 use Rattle.core_ir.proofs.Variables.{in_more, same_number}
 use Rattle.core_subst.specs.Substitution.{plain_with, core_op_with, parted_op_with}
 use Rattle.core_copy.specs.Mapped.{mapped, mapped_right, mapped_gens, mapped_parts, mapped_gen_head}
-use Rattle.core_inlined_bodies.proofs.Names.{in_left, itself, behind_first, in_either}
+use Rattle.core_inlined_bodies.proofs.Names.{in_left, itself, behind_first}
 use Rattle.core_norm_forms.specs.Alike.{Alike, AlikeRight, AlikeGens, AlikeParts}
 use Rattle.core_norm_forms.proofs.Scopes.{in_right}
 

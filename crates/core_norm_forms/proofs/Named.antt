@@ -1,5 +1,5 @@
 -- Numbers in order are distinct, and components of an index stand for names above a copy.
-use Rattle.std.proofs.Common.{◌≡◌, ℕ, zero, suc, ◌+◌, ◌<◌, ◌≤◌, Bool, true, false, ◌||◌, eqb, List, [], ◌∷◌, ◌++◌, map, length, All, Option, Some, None, refl, sym, ap, subst, ◌∙◌, arith}
+use Rattle.std.proofs.Common.{◌≡◌, ℕ, suc, ◌+◌, ◌<◌, ◌≤◌, Bool, true, false, ◌||◌, eqb, List, [], ◌∷◌, ◌++◌, map, length, All, Option, Some, None, refl, sym, ap, ◌∙◌, arith}
 use Rattle.std.proofs.lemmas.Bool.{eqb-true, eq-eqb}
 use Rattle.std.proofs.lemmas.List.Elements.{All-nil, All-cons}
 use Rattle.core_ir.specs.declared.tree.Var.{Var}
@@ -187,15 +187,29 @@ module _ (f : Var → Var) (s : Site) (index : Var) (all : List Var) (apart : (x
   named_copy S j (x ∷ xs) [] scope k p q own away l d alone = absurd (omega (arith, l))
   named_copy S j (x ∷ xs) (c ∷ cs) scope k p q own away l d alone =
       let at = p x (Rattle.core_inlined_bodies.proofs.Names.itself x xs) in
-      let first = Rattle.core_inlined_bodies.proofs.Names.itself c cs in
-      (c, (f x, (s, (s, (components s i (suc j) f xs cs (mapped f body), (
-        refl,
-        alone c index first there,
-        apart x index at there ∙ away x (Rattle.core_inlined_bodies.proofs.Names.itself x xs),
-        unused c (λ z h. alone c z first h) (suc j) xs cs d.0,
-        named_copy (under S x (f x)) (suc j) xs cs (x ∷ scope) (links_one f all apart S scope x at q k) (λ y h. p y (behind_first y x xs h))
-            (inside_both (x ∷ []) scope all (λ y m. p y (in_left y (x ∷ []) xs m)) q) own (λ z h. away z (behind_first z x xs h)) (omega (arith, l)) d.1 (λ b z h m. alone b z (behind_first b c cs h) m),
-      ))))))
+      let first = Rattle.core_inlined_bodies.proofs.Names.itself c cs in (
+        c,
+        (
+          f x,
+          (
+            s,
+            (
+              s,
+              (
+                components s i (suc j) f xs cs (mapped f body),
+                (
+                  refl,
+                  alone c index first there,
+                  apart x index at there ∙ away x (Rattle.core_inlined_bodies.proofs.Names.itself x xs),
+                  unused c (λ z h. alone c z first h) (suc j) xs cs d.0,
+                  named_copy (under S x (f x)) (suc j) xs cs (x ∷ scope) (links_one f all apart S scope x at q k) (λ y h. p y (behind_first y x xs h))
+                      (inside_both (x ∷ []) scope all (λ y m. p y (in_left y (x ∷ []) xs m)) q) own (λ z h. away z (behind_first z x xs h)) (omega (arith, l)) d.1 (λ b z h m. alone b z (behind_first b c cs h) m),
+                ),
+              ),
+            ),
+          ),
+        ),
+      )
 
 named_alike : (f : Var → Var) (s : Site) (i : Var) (j : ℕ) (xs cs : List Var) (body : BlockTerm) → length cs ≡ length xs → NamedAlike xs body (components s i j f xs cs (mapped f body))
 named_alike f s i j [] cs body l = alike f body

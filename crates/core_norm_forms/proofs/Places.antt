@@ -1,5 +1,5 @@
 -- What holds at the place where a with-loop becomes a parted loop with new variables.
-use Rattle.std.proofs.Common.{◌≡◌, ℕ, zero, suc, ◌+◌, ◌*◌, ◌<◌, ◌≤◌, Bool, true, false, ◌||◌, eqb, List, [], ◌∷◌, ◌++◌, length, All, Option, Some, None, refl, sym, ap, subst, ◌∙◌, ◌⊎◌, inl, inr, arith}
+use Rattle.std.proofs.Common.{◌≡◌, ℕ, ◌+◌, ◌*◌, ◌<◌, ◌≤◌, Bool, true, false, ◌||◌, eqb, List, [], ◌∷◌, ◌++◌, length, All, Some, refl, sym, subst, ◌∙◌, inr, arith}
 use Rattle.std.specs.Prelude.{zip}
 use Rattle.std.proofs.lemmas.List.Elements.{All-head, All-tail}
 use Rattle.sac_base.specs.declared.base.Base.{Base}
@@ -11,11 +11,11 @@ use Rattle.core_ir.specs.declared.tree.CoreOp.TheVariants as making
 use Rattle.core_ir.specs.declared.tree.PartedOp.{PartedOp}
 use Rattle.core_ir.specs.declared.tree.PartedOp.TheVariants as parted
 use Rattle.core_ir.specs.Binders.{is_in, bound_in, bound_in_right, bound_in_gens, bound_in_parts}
-use Rattle.core_ir.specs.Scopes.{AllIn, Scoped, ScopedRight, ScopedGens, op_uses, parted_uses}
+use Rattle.core_ir.specs.Scopes.{AllIn, Scoped, ScopedRight, op_uses, parted_uses}
 use Rattle.core_ir.specs.Terms.{BlockTerm, RightTerm, GensTerm, PartsTerm, CoreTerm, Bind, With}
-use Rattle.core_ir.specs.WellFormed.{Bases, base_of, OperationBase, PartedBase, PartedFits, part_grids, GroupBases, BlockBases, RightBases, PartsBases, Distinct}
+use Rattle.core_ir.specs.WellFormed.{Bases, base_of, OperationBase, PartedBase, PartedFits, part_grids, GroupBases, BlockBases, RightBases, Distinct}
 use Rattle.core_ir.proofs.Variables.{same_number}
-use Rattle.core_calls.specs.Nests.{CallsAll, CallsAllRight, CallsAllGens}
+use Rattle.core_calls.specs.Nests.{CallsAll, CallsAllRight}
 use Rattle.core_facts.specs.Facts.{Facts}
 use Rattle.core_loops.specs.Loops.{weight, weight_right, weight_gens}
 use Rattle.core_norm_steps.specs.Step.{BaseTable, Within, Follows, WithParted}
@@ -23,7 +23,7 @@ use Rattle.core_inlined_bodies.proofs.Names.{Names, same, both, distinct_left, d
 use Rattle.core_inlined_bodies.proofs.Names as names
 use Rattle.core_norm_forms.specs.Alike.{LabelledAlike}
 use Rattle.core_norm_forms.specs.Fresh.{FreshHere, FrameFits, IsBetween, base_var, count_parts, labels_of, parts_of}
-use Rattle.core_norm_forms.proofs.Below.{AllOld, olds, OldBases, OldRight, moved, all_new_right}
+use Rattle.core_norm_forms.proofs.Below.{olds, OldBases, moved, all_new_right}
 use Rattle.core_norm_forms.proofs.Calls.{parts_calls}
 use Rattle.core_norm_forms.proofs.Made.{MadeParts, made_genarray, made_modarray, made_fold}
 use Rattle.core_norm_forms.proofs.Scopes.{parts_scoped}

@@ -1,8 +1,7 @@
 -- Steps of a rule that asks what is in scope where it is used.
-use Rattle.std.proofs.Common.{◌≡◌, ℕ, zero, suc, ◌+◌, ◌<◌, ◌≤◌, true, List, [], ◌∷◌, ◌++◌, length, All, Option, refl, sym, subst, ◌∙◌, ◌⊎◌, inl, inr, arith}
-use Rattle.std.proofs.lemmas.List.Elements.{All-append}
+use Rattle.std.proofs.Common.{ℕ, ◌<◌, ◌≤◌, List, [], ◌∷◌, ◌++◌, Option, arith, All}
 use Rattle.core_ir.specs.declared.tree.Var.{Var}
-use Rattle.core_ir.specs.Binders.{is_in, bound_in, bound_in_right, bound_in_gens, bound_in_parts}
+use Rattle.core_ir.specs.Binders.{bound_in, bound_in_right, bound_in_gens, bound_in_parts}
 use Rattle.core_ir.specs.Edits.{Edited, EditedRight, EditedGens, EditedParts, here, later, inside, in_then, in_else, in_test, in_body, in_gens, in_parts, this_gen, later_gen, this_part, later_part}
 use Rattle.core_ir.specs.Scopes.{Scoped, ScopedRight, ScopedGens, ScopedParts}
 use Rattle.core_ir.specs.Terms.{BlockTerm, RightTerm, GensTerm, PartsTerm}
@@ -10,7 +9,7 @@ use Rattle.core_ir.specs.WellFormed.{Distinct}
 use Rattle.core_facts.specs.Facts.{Facts}
 use Rattle.core_loops.specs.Steps.{fact_ways}
 use Rattle.core_norm_steps.specs.Step.{BaseTable}
-use Rattle.core_inlined_bodies.proofs.Names.{Names, Fresh, fresh_both, fresh_left, fresh_right, fresh_below, fresh_more, distinct_left, distinct_right, not_in}
+use Rattle.core_inlined_bodies.proofs.Names.{Fresh, fresh_both, fresh_left, fresh_right, fresh_below, fresh_more, distinct_left, distinct_right}
 use Rattle.core_norm_forms.specs.Copied.{IsPlaced}
 use Rattle.core_norm_forms.specs.Fresh.{FreshHere}
 use Rattle.core_norm_forms.specs.Walks.{Steps, done, step, BlockWalk}
@@ -103,3 +102,15 @@ module _ (calls : ℕ → List (Option (List ℕ))) (first : ℕ) (m : BaseTable
   walk_placed (step h rest) scope p =
       let g = step_placed h scope p in
       step g (walk_placed rest scope (place_kept g scope p))
+
+-- a walk of such steps themselves
+pub still_placed :
+    (calls : ℕ → List (Option (List ℕ))) (first : ℕ) (m : BaseTable) (k : Facts) (count low high : ℕ) (b c : BlockTerm) → BlockWalk calls first m k count low high b c → (scope : List Var) → IsPlaced low scope b → IsPlaced high scope c
+still_placed calls first m k count low high b c walk scope p = go walk p
+  where
+    further : (low high : ℕ) (xs : List Var) → low ≤ high → All (λ (x : Var). x.0 < low) xs → All (λ (x : Var). x.0 < high) xs
+    further low high xs l h = all_by high xs (λ y q. fresh_below xs high y (fresh_more xs low high l (fresh_from low xs h)) q)
+
+    go : {count low high : ℕ} {b c : BlockTerm} → BlockWalk calls first m k count low high b c → IsPlaced low scope b → IsPlaced high scope c
+    go (done {low = low} {high = high} {a = b} l) p = record { scoped = p.scoped; once = p.once; scope_below = further low high scope l p.scope_below; bound_below = further low high (bound_in b) l p.bound_below }
+    go (step h rest) p = go rest (place_kept calls first m (λ low high. FreshHere first low high m) (λ low high k b c h scope p. h) h scope p)

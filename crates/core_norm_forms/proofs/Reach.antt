@@ -1,12 +1,12 @@
 -- All variables of a scoped block are below a number where those in scope and those that it binds are.
-use Rattle.std.proofs.Common.{◌≡◌, ℕ, suc, ◌<◌, ◌≤◌, true, List, [], ◌∷◌, ◌++◌, Option, Some, None, refl, sym, ◌∙◌, arith}
+use Rattle.std.proofs.Common.{ℕ, suc, ◌≤◌, List, [], ◌∷◌, ◌++◌, Option, Some, None, arith}
 use Rattle.std.specs.Prelude.{max, option_to_list}
 use Rattle.core_ir.specs.declared.tree.Var.{Var}
-use Rattle.core_ir.specs.Binders.{is_in, bound_in, bound_in_right, bound_in_gens, bound_in_parts}
+use Rattle.core_ir.specs.Binders.{bound_in, bound_in_right, bound_in_gens, bound_in_parts}
 use Rattle.core_ir.specs.Scopes.{AllIn, Scoped, ScopedRight, ScopedGens, ScopedParts, plain_uses, op_uses, parted_uses, head_uses}
 use Rattle.core_ir.specs.Terms.{BlockTerm, RightTerm, GensTerm, PartsTerm, GenHead, Gives, Bind, Plain, NoGens, Gen, NoParts, Part}
 use Rattle.core_subst.specs.Names.{above_all, above_option, above_head, above, above_right, above_gens, above_parts}
-use Rattle.core_inlined_bodies.proofs.Names.{Fresh, fresh_both, fresh_left, fresh_right, fresh_below, itself, behind_first}
+use Rattle.core_inlined_bodies.proofs.Names.{Fresh, fresh_both, fresh_left, fresh_right, fresh_below, itself}
 
 most : (a b n : ℕ) → a ≤ n → b ≤ n → max a b ≤ n
 most a b n p q = omega arith

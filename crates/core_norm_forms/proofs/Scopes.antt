@@ -1,14 +1,12 @@
 -- Copies are scoped, and so are blocks in which a with-loop became a parted loop with new variables.
-use Rattle.std.proofs.Common.{◌≡◌, ℕ, zero, suc, ◌<◌, ◌≤◌, Bool, true, false, not, ◌&&◌, ◌||◌, eqb, List, [], ◌∷◌, ◌++◌, Option, Some, None, refl, sym, ap, subst, ◌∙◌, ◌⊎◌, inl, inr, arith}
+use Rattle.std.proofs.Common.{◌≡◌, ℕ, zero, suc, Bool, true, false, not, ◌&&◌, ◌||◌, eqb, List, [], ◌∷◌, ◌++◌, Option, Some, None, refl, sym, subst, ◌∙◌, inl, inr}
 use Rattle.std.specs.Prelude.{if◌then◌else◌, option_to_list}
-use Rattle.std.proofs.lemmas.Bool.{eqb-true, eq-eqb}
-use Rattle.sac_base.specs.declared.site.Site.{Site}
 use Rattle.core_ir.specs.declared.tree.Var.{Var}
 use Rattle.core_ir.specs.declared.tree.CoreOp.{CoreOp}
 use Rattle.core_ir.specs.declared.tree.CoreOp.TheVariants as making
 use Rattle.core_ir.specs.declared.tree.PartedOp.{PartedOp}
 use Rattle.core_ir.specs.declared.tree.PartedOp.TheVariants as parted
-use Rattle.core_ir.specs.Binders.{is_in, NoneIn, bound_in, bound_in_right, bound_in_gens, bound_in_parts}
+use Rattle.core_ir.specs.Binders.{is_in, bound_in, bound_in_right, bound_in_gens, bound_in_parts}
 use Rattle.core_ir.specs.Renaming.{Link, Linked, LinkedOption, Renamed, RenamedRight, RenamedGens, RenamedParts, RenamedPlain, RenamedCoreOp, RenamedPartedOp, under, under_all}
 use Rattle.core_ir.specs.Scopes.{AllIn, Scoped, ScopedRight, ScopedGens, ScopedParts, plain_uses, op_uses, parted_uses, head_uses}
 use Rattle.core_ir.specs.Terms.{PlainTerm, BlockTerm, RightTerm, GensTerm, PartsTerm, GenHead, PartHead, Gives, Bind, Plain, NoGens, Gen, NoParts, Part}
@@ -18,7 +16,7 @@ use Rattle.core_loops.specs.Steps.{itself}
 use Rattle.core_norm_steps.specs.Genarray.{GenAt, NamedBody}
 use Rattle.core_inlined_bodies.proofs.Names.{clash, in_none, in_left, behind_first, none_by, distinct_left, distinct_right, distinct_apart}
 use Rattle.core_inlined_bodies.proofs.Names as names
-use Rattle.core_norm_forms.proofs.Made.{Copied, Default, OldCell, Made, MadeParts}
+use Rattle.core_norm_forms.proofs.Made.{Made, MadeParts}
 
 -- none of the first list is in the second
 abbrev pub Away : List Var → List Var → Type 0

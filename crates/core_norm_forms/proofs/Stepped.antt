@@ -1,7 +1,6 @@
 -- One normalising step with new variables: the core is well formed, lighter, and has a table of bases that keeps the old ones.
-use Rattle.std.proofs.Common.{◌≡◌, ℕ, zero, suc, ◌+◌, ◌<◌, ◌≤◌, ◌^◌, true, List, [], ◌∷◌, ◌++◌, map, Option, Some, refl, sym, ap, subst, ◌∙◌, ◌⊎◌, inl, inr, arith}
+use Rattle.std.proofs.Common.{◌≡◌, ℕ, zero, suc, ◌+◌, ◌<◌, ◌≤◌, true, List, [], ◌∷◌, ◌++◌, map, Option, Some, refl, sym, ap, subst, ◌∙◌, ◌⊎◌, inl, inr, arith}
 use Rattle.std.specs.Prelude.{cond, eqb, max, slice_get, unwrap_or}
-use Rattle.sac_base.specs.declared.base.Base.{Base}
 use Rattle.sac_base.specs.declared.site.Site.{Site}
 use Rattle.sac_base.specs.declared.types.ArrayType.{ArrayType}
 use Rattle.core_ir.specs.declared.tree.Var.{Var}
@@ -14,7 +13,6 @@ use Rattle.core_ir.specs.Terms.{BlockTerm, RightTerm, GensTerm, PartsTerm, FunTe
 use Rattle.core_ir.specs.WellFormed.{base_of, bases, param_bases, BlockBases, Distinct, IsFunction, IsWellFormed}
 use Rattle.core_ir.proofs.Variables.{or_false}
 use Rattle.core_bases.proofs.Backward.{below}
-use Rattle.core_calls.specs.Arrays.{SameOutcomeOnArrays}
 use Rattle.core_calls.specs.Nests.{CallsAll, InlineBelow, CallsBelow}
 use Rattle.core_calls.specs.Replaced.{replaced_at}
 use Rattle.core_calls.proofs.Agreeing.{weaker}

@@ -1,7 +1,7 @@
 -- In copies bases agree, and so they do in the parts of a loop that stands for a with-loop.
-use Rattle.std.proofs.Common.{◌≡◌, ℕ, zero, suc, ◌+◌, ◌<◌, ◌≤◌, ◌^◌, Bool, true, false, not, ◌&&◌, cond, eqb, List, [], ◌∷◌, ◌++◌, length, All, Option, Some, None, refl, sym, ap, subst, ◌∙◌, ◌⊎◌, inl, inr, arith}
+use Rattle.std.proofs.Common.{◌≡◌, ℕ, zero, suc, ◌+◌, ◌<◌, ◌≤◌, ◌^◌, Bool, true, false, not, ◌&&◌, cond, eqb, List, [], ◌∷◌, ◌++◌, length, Option, Some, None, refl, sym, subst, ◌∙◌, inl, inr, arith}
 use Rattle.std.specs.Prelude.{if◌then◌else◌, zip, pos}
-use Rattle.std.proofs.lemmas.Bool.{eqb-true, eq-eqb}
+use Rattle.std.proofs.lemmas.Bool.{eq-eqb}
 use Rattle.std.proofs.lemmas.Int.{ints}
 use Rattle.std.proofs.lemmas.List.Elements.{All-nil, All-cons}
 use Rattle.sac_base.specs.declared.base.Base.{Base}
@@ -21,14 +21,14 @@ use Rattle.core_ir.specs.Renaming.{Link, Linked, LinkedOption, Renamed, RenamedR
 use Rattle.core_ir.specs.Terms.{PlainTerm, BlockTerm, RightTerm, GensTerm, PartsTerm, GenHead, PartHead, CoreTerm, Gives, Bind, Plain, NoGens, Gen, NoParts, Part}
 use Rattle.core_ir.specs.WellFormed.{Bases, base_of, HasBase, HasBases, AllHave, OptionHas, LiteralBase, PlainBases, UnaryBase, BinaryBase, OperationBase, PartedBase, PartedFits, part_grids, GroupBases, BlockBases, RightBases, GensBases, PartsBases, Distinct}
 use Rattle.core_ir.specs.WellFormed as forms
-use Rattle.core_ir.proofs.Variables.{or_false, same_number}
-use Rattle.core_bases.proofs.Bound.{vars, swap, firsts, some_base}
+use Rattle.core_ir.proofs.Variables.{same_number}
+use Rattle.core_bases.proofs.Bound.{swap, firsts}
 use Rattle.core_loops.specs.Steps.{itself}
 use Rattle.core_norm_steps.specs.Genarray.{GenAt, NamedBody}
 use Rattle.core_inlined_bodies.proofs.Names.{clash, not_in, distinct_left, distinct_right}
 use Rattle.core_inlined_bodies.proofs.Names as names
 use Rattle.core_norm_forms.specs.Alike.{Alike, AlikeRight, AlikeGens, AlikeParts, NamedAlike}
-use Rattle.core_norm_forms.proofs.Made.{Copied, Default, OldCell, Made, MadeParts}
+use Rattle.core_norm_forms.proofs.Made.{Made, MadeParts}
 use Rattle.core_norm_forms.proofs.Scopes.{in_right}
 
 -- ---- what a link gives
@@ -53,7 +53,7 @@ gives_all S g wider (x ∷ xs) (y ∷ ys) (u ∷ us) p q d e k a b t h m =
     let ly : length ys ≡ length us = omega (arith, q) in
     swap (zip ys us) wider (y, u) b ((λ i. is_in y (firsts ys us ly i)) ∙ e.0)
     ∙ gives_all (under S x y) ((x, u) ∷ g) ((y, u) ∷ wider) xs ys us lx ly d.1 e.1 (gives_one S g wider x y u k) a b t h
-      (sym (swap (zip xs us) g (x, u) a ((λ i. is_in x (firsts xs us lx i)) ∙ d.0)) ∙ m)
+    (sym (swap (zip xs us) g (x, u) a ((λ i. is_in x (firsts xs us lx i)) ∙ d.0)) ∙ m)
 gives_all S g wider (x ∷ xs) (y ∷ ys) [] p q d e k a b t h m = absurd (omega (arith, p))
 gives_all S g wider [] (y ∷ ys) us p q d e k a b t h m = clash false h refl
 gives_all S g wider (x ∷ xs) [] us p q d e k a b t h m = clash false h refl

@@ -1,22 +1,20 @@
 -- What holds where one place of a block is changed, if it holds at the place.
-use Rattle.std.proofs.Common.{◌≡◌, ℕ, ◌<◌, ◌≤◌, true, List, [], ◌∷◌, ◌++◌, map, Option, Some, refl, sym, ap, subst, ◌∙◌, ◌⊎◌, inl, inr, arith}
+use Rattle.std.proofs.Common.{◌≡◌, ℕ, ◌≤◌, List, [], ◌∷◌, ◌++◌, refl, ap, subst, arith}
 use Rattle.std.specs.Prelude.{zip}
 use Rattle.sac_base.specs.declared.base.Base.{Base}
 use Rattle.sac_base.specs.declared.base.Base.TheVariants.{Int, Bool as Truth}
 use Rattle.sac_base.specs.declared.grid.Grid1.{Grid1}
 use Rattle.core_ir.specs.declared.tree.Var.{Var}
-use Rattle.core_ir.specs.declared.tree.PartedOp.{PartedOp}
-use Rattle.core_ir.specs.Binders.{is_in, bound_in, bound_in_right, bound_in_gens, bound_in_parts}
+use Rattle.core_ir.specs.Binders.{bound_in, bound_in_right, bound_in_gens, bound_in_parts}
 use Rattle.core_ir.specs.Edits.{Ways, Edited, EditedRight, EditedGens, EditedParts, here, later, inside, in_then, in_else, in_test, in_body, in_gens, in_parts, this_gen, later_gen, this_part, later_part}
 use Rattle.core_ir.specs.Scopes.{Scoped, ScopedRight, ScopedGens, ScopedParts}
-use Rattle.core_ir.specs.Terms.{BlockTerm, RightTerm, GensTerm, PartsTerm, CoreTerm, Gives, Bind, Plain, NoGens, Gen, NoParts, Part}
-use Rattle.core_ir.specs.WellFormed.{Bases, base_of, ints, part_grids, PartedFits, GroupBases, BlockBases, RightBases, GensBases, PartsBases, Distinct}
+use Rattle.core_ir.specs.Terms.{BlockTerm, RightTerm, GensTerm, PartsTerm, CoreTerm}
+use Rattle.core_ir.specs.WellFormed.{Bases, ints, part_grids, PartedFits, GroupBases, BlockBases, RightBases, GensBases, PartsBases, Distinct}
 use Rattle.core_calls.specs.Nests.{CallsAll, CallsAllRight, CallsAllGens, CallsAllParts}
-use Rattle.core_norm_steps.specs.Step.{BaseTable, Within, AllNumbers, Follows, FollowsRight, FollowsGens, FollowsParts}
-
+use Rattle.core_norm_steps.specs.Step.{BaseTable, Within, Follows, FollowsRight, FollowsGens, FollowsParts}
 use Rattle.core_inlined_bodies.proofs.Names.{Names, same, both, distinct_left, distinct_right, Fresh, fresh_both, fresh_left, fresh_right}
 use Rattle.core_norm_forms.proofs.Tables.{Low, low_zip, low_ints, within_zip, within_ints, within_one}
-use Rattle.core_norm_forms.proofs.Below.{AllOld, olds, old_numbers, OldBases, OldRight, OldGens, OldParts, moved, moved_right, moved_gens, moved_parts}
+use Rattle.core_norm_forms.proofs.Below.{olds, old_numbers, OldBases, OldRight, OldGens, OldParts, moved, moved_right, moved_gens, moved_parts}
 
 module _ (Facts : Type 0) (ways : Ways Facts) (Rule : Facts → BlockTerm → BlockTerm → Type 0) where
   -- ---- another rule

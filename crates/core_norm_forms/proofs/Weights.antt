@@ -1,7 +1,6 @@
 -- A copy weighs as much as what it is a copy of, and a parted loop with few parts is lighter than its with-loop.
-use Rattle.std.proofs.Common.{◌≡◌, ℕ, zero, suc, ◌+◌, ◌*◌, ◌<◌, ◌≤◌, List, [], ◌∷◌, refl, sym, ap, subst, ◌∙◌, ◌⊎◌, inl, inr, arith}
+use Rattle.std.proofs.Common.{◌≡◌, ℕ, zero, suc, ◌+◌, ◌*◌, ◌<◌, ◌≤◌, List, [], ◌∷◌, refl, sym, ap, subst, ◌∙◌, inl, inr, arith}
 use Rattle.std.proofs.Math.Nat.{suc-mul, mul-le-mul_right}
-use Rattle.sac_base.specs.declared.site.Site.{Site}
 use Rattle.core_ir.specs.declared.tree.Var.{Var}
 use Rattle.core_ir.specs.Edits.{Ways, Edited, EditedRight, EditedGens, EditedParts, here, later, inside, in_then, in_else, in_test, in_body, in_gens, in_parts, this_gen, later_gen, this_part, later_part}
 use Rattle.core_ir.specs.Renaming.{Link, Renamed, RenamedRight, RenamedGens, RenamedParts, under, under_all}
@@ -9,7 +8,7 @@ use Rattle.core_ir.specs.Terms.{BlockTerm, RightTerm, GensTerm, PartsTerm, GenHe
 use Rattle.core_loops.specs.Loops.{weight, weight_right, weight_gens, weight_parts}
 use Rattle.core_norm_steps.specs.Genarray.{GenAt, NamedBody}
 use Rattle.core_norm_forms.specs.Fresh.{count_parts}
-use Rattle.core_norm_forms.proofs.Made.{Copied, Default, OldCell, Made, MadeParts}
+use Rattle.core_norm_forms.proofs.Made.{Made, MadeParts}
 
 mutual
   pub weights : (S : Link) (b c : BlockTerm) → Renamed S b c → weight c ≡ weight b

@@ -1,7 +1,6 @@
 -- Many steps in one function of a core.
 use Rattle.std.proofs.Common.{◌≡◌, ℕ, zero, suc, ◌+◌, ◌<◌, ◌≤◌, List, [], ◌∷◌, Option, Some, refl, sym, ap, subst, ◌∙◌, arith}
 use Rattle.std.specs.Prelude.{slice_get, unwrap_or}
-use Rattle.core_ir.specs.declared.tree.Var.{Var}
 use Rattle.core_ir.specs.Edits.{Edited}
 use Rattle.core_ir.specs.Terms.{BlockTerm, FunTerm, CoreTerm}
 use Rattle.core_ir.specs.WellFormed.{IsWellFormed}
@@ -11,11 +10,11 @@ use Rattle.core_facts.specs.Facts.{Facts}
 use Rattle.core_loops.specs.Steps.{fact_ways}
 use Rattle.core_settled.specs.Called.{called, params_facts}
 use Rattle.core_subst.specs.Names.{above_function}
-use Rattle.core_norm_steps.specs.Step.{BaseTable, NormStep}
+use Rattle.core_norm_steps.specs.Step.{BaseTable}
 use Rattle.core_norm_steps.proofs.Whole.{norm_outcome}
 use Rattle.core_inlined_bodies.proofs.Stepped.{stepped}
 use Rattle.core_norm_forms.specs.Fresh.{FreshHere}
-use Rattle.core_norm_forms.specs.Walks.{Steps, done, step, BlockWalk, FunctionWalk, NormSteps, no_step, one_more, core_weight}
+use Rattle.core_norm_forms.specs.Walks.{done, step, BlockWalk, FunctionWalk, NormSteps, no_step, one_more, core_weight}
 use Rattle.core_norm_forms.proofs.Stepped.{State, well_after, norm_step, weight_after, called_after, state_after}
 
 -- ---- one function twice

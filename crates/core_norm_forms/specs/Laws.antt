@@ -1,5 +1,5 @@
 -- The statements of the laws.
-use Rattle.std.specs.Prelude.{◌≡◌, ℕ, suc, ◌+◌, ◌<◌, ◌≤◌, true, false, List, ◌∷◌, ◌++◌, length, All, eqb, Option}
+use Rattle.std.specs.Prelude.{◌≡◌, ℕ, ◌+◌, ◌<◌, ◌≤◌, true, false, List, ◌∷◌, ◌++◌, length, All, eqb, Option}
 use Rattle.sac_base.specs.declared.site.Site.{Site}
 use Rattle.core_ir.specs.declared.tree.Var.{Var}
 use Rattle.core_ir.specs.Binders.{is_in, bound_in}
@@ -18,9 +18,9 @@ use Rattle.core_norm_steps.specs.Step.{BaseTable}
 use Rattle.core_norm_steps.specs.Genarray.{NamedBody}
 use Rattle.core_loops.specs.Steps.{itself}
 use Rattle.core_norm_forms.specs.Alike.{Alike, NamedAlike}
-use Rattle.core_norm_forms.specs.Copied.{AreFrom, components}
+use Rattle.core_norm_forms.specs.Copied.{AreFrom, IsPlaced, components}
 use Rattle.core_norm_forms.specs.Fresh.{FreshHere, IsBetween}
-use Rattle.core_norm_forms.specs.Walks.{FunctionWalk, NormSteps, core_weight}
+use Rattle.core_norm_forms.specs.Walks.{BlockWalk, FunctionWalk, NormSteps, core_weight}
 
 -- a block with other variables has the same weight
 abbrev pub RenamedWeightsStay : Type 0
@@ -38,6 +38,12 @@ BindersStayDistinct =
     (calls : ℕ → List (Option (List ℕ))) (first low high : ℕ) (m : BaseTable) (k : Facts) (b c : BlockTerm) →
     Edited Facts (fact_ways calls) (FreshHere first low high m) k b c → Distinct (bound_in b) → All (λ (x : Var). x.0 < low) (bound_in b) →
     Distinct (bound_in c) × All (λ (x : Var). x.0 < high) (bound_in c)
+
+-- a block at its place is so after a walk
+abbrev pub BlocksStayPlaced : Type 0
+BlocksStayPlaced =
+    (calls : ℕ → List (Option (List ℕ))) (first : ℕ) (m : BaseTable) (k : Facts) (count low high : ℕ) (b c : BlockTerm) →
+    BlockWalk calls first m k count low high b c → (scope : List Var) → IsPlaced low scope b → IsPlaced high scope c
 
 -- a block in which f x stands for each variable x is a copy of the block: f keeps apart the variables in scope and those that the block binds
 abbrev pub CopiesAreRenamed : Type 0

@@ -1,7 +1,7 @@
 //! Laws: a core in which with-loops became parted loops is well formed, and lighter.
 #![tactic(auto)]
 
-ghost use Rattle.core_norm_forms.specs.Laws.{RenamedWeightsStay, WeightsFall, BindersStayDistinct, CopiesAreRenamed, CopiesAreAlike};
+ghost use Rattle.core_norm_forms.specs.Laws.{RenamedWeightsStay, WeightsFall, BindersStayDistinct, BlocksStayPlaced, CopiesAreRenamed, CopiesAreAlike};
 ghost use Rattle.core_norm_forms.specs.Laws.{CopiesAreNamed, OrderIsFresh};
 ghost use Rattle.core_norm_forms.specs.Laws.{WalksKeep, NumbersStayBelow, StepsGoOn};
 
@@ -11,9 +11,11 @@ pub fn weight_falls()
     ensures stays { RenamedWeightsStay }
 {}
 
-/// Law: where one with-loop of a block becomes a parted loop with new variables, the block still binds each variable once.
+/// Law: where one with-loop of a block becomes a parted loop with new variables, the block still binds each variable once, and is
+/// scoped.
 pub fn replaced_parts_are_distinct()
-    ensures { BindersStayDistinct }
+    ensures distinct { BindersStayDistinct }
+    ensures placed { BlocksStayPlaced }
 {}
 
 /// Law: a block in which other variables stand for all of its own, kept apart, is a copy of the block; above it components of an index stand for

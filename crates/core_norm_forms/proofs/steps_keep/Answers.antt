@@ -1,4 +1,3 @@
-use Rattle.core_norm_forms.proofs.Placing.{walk_placed}
 use Rattle.core_norm_forms.proofs.Whole.{go_on, numbers_below, walks_keep}
 use Rattle.core_norm_forms.proofs.steps_keep.Goals as goal
 
