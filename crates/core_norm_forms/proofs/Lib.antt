@@ -14,3 +14,4 @@ pub mod Stepped
 pub mod Whole
 pub mod Placing
 pub mod Named
+pub mod Grids

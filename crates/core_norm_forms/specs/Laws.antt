@@ -1,13 +1,15 @@
 -- The statements of the laws.
-use Rattle.std.specs.Prelude.{◌≡◌, ℕ, ◌+◌, ◌<◌, ◌≤◌, true, false, List, ◌∷◌, ◌++◌, length, All, eqb, Option}
+use Rattle.std.specs.Prelude.{◌≡◌, ℕ, ◌+◌, ◌<◌, ◌≤◌, true, false, List, ◌∷◌, ◌++◌, length, All, eqb, Option, Bool, filter, map}
+use Rattle.sac_base.specs.declared.grid.Grid1.{Grid1}
 use Rattle.sac_base.specs.declared.site.Site.{Site}
+use Rattle.sac_base.specs.Grids.{SplitsVectors, has_vector}
 use Rattle.core_ir.specs.declared.tree.Var.{Var}
 use Rattle.core_ir.specs.Binders.{is_in, bound_in}
 use Rattle.core_ir.specs.Edits.{Edited}
 use Rattle.core_ir.specs.Renaming.{Link, Renamed, under}
 use Rattle.core_ir.specs.Scopes.{Scoped}
 use Rattle.core_ir.specs.Terms.{BlockTerm, CoreTerm}
-use Rattle.core_ir.specs.WellFormed.{Distinct, IsWellFormed}
+use Rattle.core_ir.specs.WellFormed.{Covered, Distinct, Fit, IsWellFormed}
 use Rattle.core_calls.specs.Arrays.{SameOutcomeOnArrays}
 use Rattle.core_copy.specs.Mapped.{mapped}
 use Rattle.core_facts.specs.Facts.{Facts}
@@ -86,3 +88,14 @@ CopiesAreNamed =
     ((c x : Var) → is_in c cs ≡ true → is_in x (bound_in body ++ ((index ∷ xs) ++ outer)) ≡ true → eqb c.0 (f x).0 ≡ false) →
     NamedBody (under itself index (f index)) (f index) 0 xs body (components s (f index) 0 f xs cs (mapped f body))
     × NamedAlike xs body (components s (f index) 0 f xs cs (mapped f body))
+
+-- grids into which a frame is split fit it and cover it
+abbrev pub SplitsFit : Type 0
+SplitsFit = (frame : List Grid1) (grids : List (List Grid1)) → SplitsVectors grids (has_vector frame) → Fit frame grids × Covered frame grids
+
+-- and some of them fit it
+abbrev pub SomeFit : Type 0
+SomeFit =
+    (frame : List Grid1) (labels : List (List Grid1 × Option ℕ)) (keep : List Grid1 × Option ℕ → Bool) →
+    SplitsVectors (map (λ (p : List Grid1 × Option ℕ). p.0) labels) (has_vector frame) →
+    Fit frame (map (λ (p : List Grid1 × Option ℕ). p.0) (filter keep labels))

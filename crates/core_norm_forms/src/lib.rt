@@ -3,7 +3,7 @@
 
 ghost use Rattle.core_norm_forms.specs.Laws.{RenamedWeightsStay, WeightsFall, BindersStayDistinct, BlocksStayPlaced, CopiesAreRenamed, CopiesAreAlike};
 ghost use Rattle.core_norm_forms.specs.Laws.{CopiesAreNamed, OrderIsFresh};
-ghost use Rattle.core_norm_forms.specs.Laws.{WalksKeep, NumbersStayBelow, StepsGoOn};
+ghost use Rattle.core_norm_forms.specs.Laws.{WalksKeep, NumbersStayBelow, StepsGoOn, SplitsFit, SomeFit};
 
 /// Law: where one with-loop of a block becomes a parted loop, its weight falls; a block with other variables has the same weight.
 pub fn weight_falls()
@@ -33,4 +33,10 @@ pub fn steps_keep()
     ensures keep { WalksKeep }
     ensures below { NumbersStayBelow }
     ensures on { StepsGoOn }
+{}
+
+/// Law: grids into which a frame is split fit it and cover it, and some of them fit it.
+pub fn splits_fit()
+    ensures all { SplitsFit }
+    ensures some { SomeFit }
 {}
