@@ -1,19 +1,14 @@
 -- The cells that a part owns are lent as a slice, and the part follows it.
-use Rattle.atomic_table.proofs.Names.{◌≡◌, ℕ, ◌*◌, ◌^◌, ◌<◌, List, [], ◌∷◌, length, sym, refl, ap, subst, ◌∙◌, arith, w64, a_type, named, Val, vint, vptr, vstruct, vcons, vnil, inst_fn, SProp, ent, sep, Lft, Share, Fml, fsep, ftrue, flft, ‵, raw, ◌⊛◌, some, given, later, ◌$◌, ◌∵◌, !, qed, by, move, keep, drop, split, split3, join, fsplit, fsplit3, fjoin, fpack, pick, learn, group, use1, rewrite, await, suffices, of_opd, no_more, and_then, returns, enter, first, blocks, exec, sets_last, env, at_ret, alloc_all, pass_all, free_all, look_at, get, sets, is, agg, tables, yes, no, RattleType, owns, types_at, plain, Ptr, block_ptr, ptr_val, block_of, count_of, at_block, InBlock, nothing, opens, peeks, Is, shows, load, through, fld, stop, look_in, sub, whole, layouts, Stays, stay_dropped, walk_of, Goes-dropped, Goes-spent_ref, ends_at, fact, heard, RefMutOf, usize, RawPtr, uint_vals, uint_Tells, mut_vals, mut_Tells, cell_at, full_share, mem, follows, ◌⊑◌, Logic, sem, Ura, done}
+use Rattle.atomic_table.proofs.Names.{◌≡◌, ℕ, ◌*◌, ◌^◌, ◌<◌, List, [], ◌∷◌, length, sym, refl, ap, subst, ◌∙◌, arith, w64, a_type, named, Val, vint, vptr, inst_fn, ent, sep, Lft, Share, Fml, fsep, ftrue, flft, ‵, raw, ◌⊛◌, some, given, later, ◌$◌, ◌∵◌, !, qed, move, keep, drop, split, split3, join, fsplit, fsplit3, fjoin, fpack, pick, learn, group, use1, rewrite, await, suffices, of_opd, no_more, and_then, returns, enter, first, blocks, exec, sets_last, env, at_ret, alloc_all, pass_all, free_all, look_at, get, sets, is, agg, tables, yes, no, owns, types_at, plain, Ptr, block_ptr, ptr_val, block_of, count_of, at_block, InBlock, nothing, opens, peeks, Is, shows, load, through, fld, stop, look_in, sub, whole, layouts, Stays, stay_dropped, walk_of, Goes-dropped, Goes-spent_ref, ends_at, fact, heard, RefMutOf, usize, uint_vals, uint_Tells, mut_vals, mut_Tells, cell_at, full_share, mem, follows, ◌⊑◌, Logic, sem, Ura, done}
 use lib.ListN.{drop as drop_list}
 use lib.Seq.{take_at as take_front}
-use mir.Syntax.{ty_ptr}
-use mir.Val.{has_ty, WT}
 use base.Fml.{GName}
-use denote.RawPtr.{null_ptr}
-use Rattle.std.proofs.Common.{T}
 use types.Kit.{frame}
 use types.SemTy.{cells}
 use denote.Array.{Array}
 use denote.FollowSlice.{lends_Elements}
 use denote.Memory.{part_of}
 use denote.Slice.{MutSlice, Room, slice_val}
-use denote.Ref.{MutBor}
 use denote.Triple.Walked.{says}
 use Rattle.std.specs.List.{refill}
 use Rattle.atomic_table.proofs.Walks.{proved}
