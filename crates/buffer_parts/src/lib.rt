@@ -6,6 +6,7 @@ mod cuts;
 mod lends;
 mod part;
 mod raw;
+mod slices;
 
 pub use cuts::{cut, join_all};
 pub use lends::lend;

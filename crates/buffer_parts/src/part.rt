@@ -12,8 +12,8 @@ use std::marker::Model;
 /// `PartWriter`. They are lent by a slice, so dropping a part frees nothing; it only can't be joined any more.
 #[derive(Drop)]
 pub struct Part<T> {
-    raw: RawPart<T>,
-    len: usize,
+    pub(crate) raw: RawPart<T>,
+    pub(crate) len: usize,
 }
 
 impl<T> Model for Part<T> {

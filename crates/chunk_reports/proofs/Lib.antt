@@ -1,0 +1,3 @@
+pub mod Sorting
+pub mod Ascending
+pub mod Totals
