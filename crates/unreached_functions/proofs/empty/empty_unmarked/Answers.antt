@@ -36,7 +36,7 @@ loop-place-preserved c =
             closed = λ h. subst (λ (m : Core). IsClosed (core_term m) groups functions) (sym w.core-is) (turn.closed h);
             well = λ h. subst (λ (m : Core). IsWellFormed (core_term m)) (sym w.core-is) (turn.well h);
             outside = subst (λ (m : Core). SameOutside start (core_term m)) (sym w.core-is)
-            (outside_through start old (core_term w.empty_function.new.core) v.outside (outside_emptied old (core_term w.empty_function.new.core) c.loop-place.place w.in_ok-empty_function.ensures.emptied));
+                (outside_through start old (core_term w.empty_function.new.core) v.outside (outside_emptied old (core_term w.empty_function.new.core) c.loop-place.place w.in_ok-empty_function.ensures.emptied));
             count = ap (λ (m : Core). length m.functions.items) w.core-is ∙ w.in_ok-empty_function.ensures.count ∙ v.count;
           }
       | else-not-is_marked w ↦
