@@ -31,7 +31,8 @@ pub fn serve_call(
     ensures grown { OnOk result (Grows (entries plan.old.items.items) (members plan.old.groups.items)
         (entries plan.new.items.items) (members plan.new.groups.items)) }
     ensures served { IsWellFormed (core_term core.now) → IsPlan (core_term core.now) (entries plan.old.items.items) (members plan.old.groups.items)
-        → OnOk result (CallPlanned (core_term core.now) (entries plan.new.items.items) (members plan.new.groups.items) (call.now.group, call.now.shapes.items)) }
+        → OnOk result (CallPlanned (core_term core.now) (entries plan.new.items.items) (members plan.new.groups.items)
+        (call.now.group, call.now.shapes.items)) }
     ensures main { OnOk result (plan.new.main ≡ plan.old.main) }
 {
     if !has_room(plan, call.group) {
