@@ -1,6 +1,7 @@
 //! All functions of a core.
 
 ghost use Rattle.std.specs.Prelude.{◌≡◌, All, IfOk, map};
+ghost use Rattle.core_ir.specs.Outcome.{SameOutside};
 ghost use Rattle.core_ir.specs.View.{core_term, fun_term};
 ghost use Rattle.core_ir.specs.WellFormed.{IsWellFormed};
 ghost use Rattle.core_ir.specs.Terms.{FunTerm};
@@ -24,14 +25,16 @@ use unused_bindings::remove_unused;
 /// Binds each literal variable of a core by a constant: one whose value is known before the run, from the constants and the known shapes that it comes
 /// from. Checks that cannot fail and copies go, their sources are used in their place, and bindings that are then not used and never fault go.
 ///
-/// Of a well-formed core the result is well formed and has the same outcome on arrays, under all limits. In each function of the result, by what is
-/// known in it of its parameters and of the results of calls, each literal variable is bound by a constant.
+/// The groups, main, and the types of all functions stay. Of a well-formed core the result is well formed and has the same outcome on arrays, under all
+/// limits. In each function of the result, by what is known in it of its parameters and of the results of calls, each literal variable is bound by a
+/// constant.
 ///
 /// # Errors
 ///
 /// `Memory`: there is none for a constant, for what is known of a variable, or for a list.
 pub fn propagate(alloc: Global, core: Core) -> Result<Core, Memory>
     ensures outcome { IsWellFormed (core_term core) → IfOk result (λ new. SameOutcomeOnArrays (core_term core) (core_term new)) }
+    ensures outside { IfOk result (λ new. SameOutside (core_term core) (core_term new)) }
     ensures well { IsWellFormed (core_term core) → IfOk result (λ new. IsWellFormed (core_term new)) }
     ensures settled { IfOk result (λ new. All (λ (f : FunTerm). IsSettled (called_in (core_term new)) f.body (params_facts f)) (core_term new).functions) }
 {

@@ -5,12 +5,13 @@ use Rattle.std.proofs.Math.Bool.{beq}
 use Rattle.std.proofs.lemmas.Bool.{cases_lt}
 use Rattle.std.proofs.lemmas.Option.{slice_get_within}
 use Rattle.core_ir.specs.declared.tree.CoreFun.{CoreFun}
-use Rattle.core_ir.specs.Outcome.{SameOutcome}
+use Rattle.core_ir.specs.Outcome.{SameOutcome, SameOutside}
 use Rattle.core_ir.specs.Terms.{FunTerm, CoreTerm}
 use Rattle.core_ir.specs.View.{fun_term}
 use Rattle.core_ir.specs.WellFormed.{IsWellFormed}
 use Rattle.core_calls.specs.Replaced.{replaced_at}
 use Rattle.core_inlined_bodies.proofs.Whole.{functions_may_be_inlined, passes_go_on}
+use Rattle.unreached_functions.proofs.Outside.{outside_replaced}
 use Rattle.core_inlined_bodies.specs.Functions.{FunctionInlined, LeavesLarge, DoneBelow, ComeTo, OnlyLargeLeft}
 
 no_place : (n : ℕ) → n < 0 → ⊥
@@ -44,6 +45,10 @@ all_done core p q place f e = go f.is_inline refl
 
 pub same_all : (a b c : CoreTerm) → SameOutcome a b → SameOutcome b c → SameOutcome a c
 same_all a b c p q args caps = p args caps ∙ q args caps
+
+-- inlining in one function changes nothing outside
+pub outside_inlined : (a b : CoreTerm) (place : ℕ) → FunctionInlined a b place → SameOutside a b
+outside_inlined a b place s = outside_replaced a b place s.function s.body s.found s.changed
 
 -- ---- the function at a place
 

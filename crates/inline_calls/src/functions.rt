@@ -1,7 +1,7 @@
 //! Inlining in all functions of a core.
 
 ghost use Rattle.std.specs.Prelude.{◌≡◌, ◌<◌, ℕ, Bool, true, IfOk, OnOk, length};
-ghost use Rattle.core_ir.specs.Outcome.{SameOutcome};
+ghost use Rattle.core_ir.specs.Outcome.{SameOutcome, SameOutside};
 ghost use Rattle.core_ir.specs.View.{core_term};
 ghost use Rattle.core_ir.specs.WellFormed.{IsWellFormed};
 ghost use Rattle.inline_calls.specs.Measures.{AreSizes};
@@ -21,9 +21,10 @@ const MOST_IN_ALL: u64 = 4_194_304;
 
 /// Inlines calls of inline functions: each becomes checks of the arguments, the function's body with other variables, and checks of its results.
 ///
-/// Of a well-formed core the result is well formed and has the same outcome on all arguments and under all limits. A call of a group whose only
-/// instance is inline is left in two cases alone: the bindings of both bodies, the instance's parameters and its results are together more than
-/// 65,536, or the greatest numbers of variables of both functions are together at least `u32::MAX`. Groups with several instances are left as they are.
+/// The groups, main, and the types of all functions stay. Of a well-formed core the result is well formed and has the same outcome on all arguments and
+/// under all limits. A call of a group whose only instance is inline is left in two cases alone: the bindings of both bodies, the instance's parameters
+/// and its results are together more than 65,536, or the greatest numbers of variables of both functions are together at least `u32::MAX`. Groups with
+/// several instances are left as they are.
 ///
 /// Functions that `main` does not reach lose their bodies first. An inline function calls inline functions before it alone. So the inline functions are
 /// gone through from the first to the last, and then the others: a body that is put in has no call left that could be inlined.
@@ -33,6 +34,7 @@ const MOST_IN_ALL: u64 = 4_194_304;
 /// `Memory`, also where more than 4,194,304 bindings would be put into all functions together.
 pub fn inline_all(alloc: Global, core: Core) -> Result<Core, Memory>
     ensures outcome { IsWellFormed (core_term core) → IfOk result (λ c. SameOutcome (core_term core) (core_term c)) }
+    ensures outside { IfOk result (λ c. SameOutside (core_term core) (core_term c)) }
     ensures well { IsWellFormed (core_term core) → IfOk result (λ c. IsWellFormed (core_term c)) }
     ensures left { IsWellFormed (core_term core) → IfOk result (λ c. OnlyLargeLeft (core_term c)) }
 {
@@ -55,6 +57,7 @@ fn inline_functions(
     requires { AreSizes (core_term core.old) sizes.old.items }
     ensures sized { OnOk result (AreSizes (core_term core.new) sizes.new.items) }
     ensures outcome { IsWellFormed (core_term core.old) → OnOk result (SameOutcome (core_term core.old) (core_term core.new)) }
+    ensures outside { OnOk result (SameOutside (core_term core.old) (core_term core.new)) }
     ensures well { IsWellFormed (core_term core.old) → OnOk result (IsWellFormed (core_term core.new)) }
     ensures come { IsWellFormed (core_term core.old) → ComeTo (core_term core.old) inlines 0
         → OnOk result (ComeTo (core_term core.new) inlines (length core.new.functions.items)) }

@@ -11,6 +11,7 @@ ghost use Rattle.counted_code.specs.Counts.{IsWellCounted, IsUnmarked};
 ghost use Rattle.counted_code.specs.Prompt.{IsPrompt};
 ghost use Rattle.counted_code.specs.Outcome.{whole_run, outcome_of};
 ghost use Rattle.sac_build.specs.Arguments.{AreArrays};
+ghost use Rattle.sac_build.specs.Mains.{MainTakesForms};
 
 use const_shape::propagate;
 use counted_code::Code;
@@ -35,7 +36,8 @@ pub struct Compiled {
 /// Compiles an accepted program for arguments of these forms.
 ///
 /// No loop in the code is marked. Where the program has the form that the grammar gives, the code is well counted and prompt, and on all arguments
-/// that are arrays of these forms and under all limits its outcome on the machine is that of the program, faults and their sites included.
+/// that are arrays of these forms and under all limits its outcome on the machine is that of the program, faults and their sites included. Where the
+/// types of the program's main contain these forms, main of the code takes arrays of these forms alone.
 ///
 /// # Errors
 ///
@@ -47,6 +49,7 @@ pub fn compile(alloc: Global, checked: &Checked, forms: &[Form]) -> Result<Compi
     ensures unmarked { IfOk result (λ c. IsUnmarked (code_program c.code)) }
     ensures outcome { ProgramFormed (tree checked.now.program) → (args : List ArrayValue) (caps : Caps) → AreArrays args → map form_of args ≡ forms.now
         → IfOk result (λ c. outcome_of (whole_run (code_program c.code) args caps) ≡ outcome (tree checked.now.program) args caps) }
+    ensures main { ProgramFormed (tree checked.now.program) → IfOk result (λ c. MainTakesForms (tree checked.now.program) forms.now (code_program c.code)) }
     ensures none { IfOk result (λ c. (c.folded ≡ 0) × (c.scalarised ≡ 0)) }
 {
     let core = to_core(alloc, checked)?;

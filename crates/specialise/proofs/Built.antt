@@ -99,7 +99,7 @@ module _ (core new : CoreTerm) (es : List Entry) (gs : List (List ℕ)) (main : 
   abbrev of : ℕ → ℕ
   of place = source_of es (slice_get order place)
 
-  abbrev at : ℕ → ℕ
+  abbrev pub at : ℕ → ℕ
   at n = unwrap_or (slice_get built.places n) 0
 
   -- ---- places of entries
@@ -251,23 +251,24 @@ module _ (core new : CoreTerm) (es : List Entry) (gs : List (List ℕ)) (main : 
   count =
       sym (length-map new.groups (map (λ (n : ℕ). Some n))) ∙ ap length built.groups ∙ length-map gs (map (slice_get built.places)) ∙ plan.count
 
-  groups : (group : ℕ) (places : List ℕ) → slice_get core.groups group ≡ Some places → slice_get new.groups group ≡ Some (map at places ++ further group)
-  groups group places e = go (slice_get new.groups group) refl
+  -- the members of a group, own and further ones
+  pub members_new : (group : ℕ) (places : List ℕ) (e : slice_get core.groups group ≡ Some places) → slice_get new.groups group ≡ Some (map at (places ++ (plan.groups group places e).further))
+  members_new group places e = go (slice_get new.groups group) refl
     where
-      h : HasFurther core es gs group places
-      h = plan.groups group places e
-
       whole : option_map (map (λ (n : ℕ). Some n)) (slice_get new.groups group) ≡ Some (map (slice_get built.places) (places ++ (plan.groups group places e).further))
       whole =
           sym (slice_get-map (map (λ (n : ℕ). Some n)) new.groups group) ∙ ap (λ xs. slice_get xs group) built.groups
           ∙ slice_get-map (map (slice_get built.places)) gs group ∙ ap (option_map (map (slice_get built.places))) (plan.groups group places e).all
 
-      go : (o : Option (List ℕ)) → slice_get new.groups group ≡ o → slice_get new.groups group ≡ Some (map at places ++ further group)
+      go : (o : Option (List ℕ)) → slice_get new.groups group ≡ o → slice_get new.groups group ≡ Some (map at (places ++ (plan.groups group places e).further))
       go None q = absurd (none_some _ (sym (ap (option_map (map (λ (n : ℕ). Some n))) q) ∙ whole))
       go (Some ms) q =
-          q ∙ ap Some (read ms (places ++ (plan.groups group places e).further) built.places (some_same _ _ (sym (ap (option_map (map (λ (n : ℕ). Some n))) q) ∙ whole))
-          ∙ map_apart at places (plan.groups group places e).further
-          ∙ ap (λ ns. map at places ++ map at ns) (sym (further_is group places e)))
+          q ∙ ap Some (read ms (places ++ (plan.groups group places e).further) built.places (some_same _ _ (sym (ap (option_map (map (λ (n : ℕ). Some n))) q) ∙ whole)))
+
+  groups : (group : ℕ) (places : List ℕ) → slice_get core.groups group ≡ Some places → slice_get new.groups group ≡ Some (map at places ++ further group)
+  groups group places e =
+      members_new group places e
+      ∙ ap Some (map_apart at places (plan.groups group places e).further ∙ ap (λ ns. map at places ++ map at ns) (sym (further_is group places e)))
 
   instances : (group place : ℕ) → StandsIn (further group) place → (g : FunTerm) × ((slice_get new.functions place ≡ Some g) × IsNarrowed core group (of place) (param_types g))
   instances group place t = go (slice_get core.groups group) refl
@@ -342,3 +343,32 @@ module _ (core new : CoreTerm) (es : List Entry) (gs : List (List ℕ)) (main : 
       joined_long : (xs ys : List ℕ) → length (xs ++ ys) ≡ length xs + length ys
       joined_long [] ys = let r : length ys ≡ 0 + length ys = omega arith in r
       joined_long (x ∷ xs) ys = let r = joined_long xs ys in let g : suc (length (xs ++ ys)) ≡ suc (length xs) + length ys = omega (arith, r) in g
+
+  -- where an entry stands
+  pub entry_there : (n : ℕ) (e : Entry) → slice_get es n ≡ Some e → (g : FunTerm) × ((slice_get new.functions (at n) ≡ Some g) × (param_types g ≡ e.types))
+  entry_there n e h = let p = placed n e h in (retyped p.function e.types, (p.new_there, p.types))
+
+  -- the entry of which a function was made, and the function of the first core
+  pub record FromEntry (g : FunTerm) : Type 0 where
+    pub number : ℕ
+    pub entry : Entry
+    pub function : FunTerm
+    pub found : slice_get es number ≡ Some entry
+    pub there : slice_get core.functions (entry).source ≡ Some function
+    pub vars : param_vars g ≡ param_vars function
+    pub types : param_types g ≡ (entry).types
+    pub body : g.body ≡ (function).body
+
+  pub from_entry : (place : ℕ) (g : FunTerm) → slice_get new.functions place ≡ Some g → FromEntry g
+  from_entry place g q =
+      let t = told place g q in
+      record {
+        number = t.number;
+        entry = t.entry;
+        function = t.function;
+        found = t.entry_at;
+        there = t.there;
+        vars = sym (ap param_vars t.is) ∙ zip_first (param_vars t.function) (t.entry).types (equally_long t.function (t.entry).types t.same);
+        types = sym (ap param_types t.is) ∙ new_types t.function (t.entry).types t.same;
+        body = sym (ap (λ (h : FunTerm). h.body) t.is);
+      }

@@ -39,6 +39,19 @@ exact_below [] (form ∷ forms) = refl
 exact_below (ty ∷ types) [] = refl
 exact_below (ty ∷ types) (form ∷ forms) = λ i. (base_turned form.base ty.base i && has_shape ty.part form.shape) && exact_below types forms i
 
+pub exact_itself : (forms : List Form) → all_below (exact forms) (exact forms) ≡ true
+exact_itself forms = exact_below (exact forms) forms ∙ contain forms
+  where
+    same : (t : Base) → same_base t t ≡ true
+    same Int = refl
+    same Truth = refl
+
+    contain : (forms : List Form) → all_have_forms (exact forms) forms ≡ true
+    contain [] = refl
+    contain (form ∷ forms) =
+        and_both (same_base form.base form.base && same_shape form.shape form.shape) (all_have_forms (exact forms) forms)
+        (and_both (same_base form.base form.base) (same_shape form.shape form.shape) (same form.base) (same_itself form.shape)) (contain forms)
+
 pub below_bases : (cs ts : List ArrayType) → all_below cs ts ≡ true → bases ts ≡ bases cs
 below_bases [] [] h = refl
 below_bases [] (t ∷ ts) h = absurd (false≢true h)

@@ -19,26 +19,18 @@ use Rattle.specialise.specs.Plans.{Entry, owns, retyped, IsEntry, IsPlan, Keeps}
 use Rattle.specialise.specs.Tables.{types_in, types_at, exact}
 use Rattle.specialise.specs.Orders.{numbers, IsBuilt}
 use Rattle.specialise.specs.Mains.{MainPlanned, FewAdded, AreExact, MainTakes}
-use Rattle.specialise.proofs.Forms.{exact_below, exact_known, below_bases}
+use Rattle.specialise.proofs.Forms.{exact_below, exact_itself, exact_known, below_bases}
 use Rattle.specialise.proofs.Planning.{first_plan, with_entry, last_at}
+use Rattle.specialise.specs.Progress.{AllPlanned}
+use Rattle.specialise.specs.Served.{CallsServed}
 use Rattle.specialise.proofs.Built.{specialised, main_types, few_added}
+use Rattle.specialise.proofs.Served.{calls_served}
 
 have_forms : (types : List ArrayType) (args : List ArrayValue) → all_have types args ≡ all_have_forms types (map form_of args)
 have_forms [] [] = refl
 have_forms [] (a ∷ args) = refl
 have_forms (ty ∷ types) [] = refl
 have_forms (ty ∷ types) (a ∷ args) = ap (λ b. has ty a && b) (have_forms types args)
-
-exact_itself : (forms : List Form) → all_below (exact forms) (exact forms) ≡ true
-exact_itself forms = exact_below (exact forms) forms ∙ contain forms
-  where
-    contain : (forms : List Form) → all_have_forms (exact forms) forms ≡ true
-    contain [] = refl
-    contain (form ∷ forms) = Rattle.shape_types.proofs.Inclusion.and_both _ _ (Rattle.shape_types.proofs.Inclusion.and_both _ _ (same form.base) (Rattle.shape_types.proofs.Inclusion.same_itself form.shape)) (contain forms)
-      where
-        same : (t : Rattle.sac_base.specs.declared.base.Base.Base) → Rattle.sac_base.specs.Arrays.same_base t t ≡ true
-        same Rattle.sac_base.specs.declared.base.Base.TheVariants.Int = refl
-        same Rattle.sac_base.specs.declared.base.Base.TheVariants.Bool = refl
 
 -- main's entry
 pub record MainIs (core : CoreTerm) (forms : List Form) (es : List Entry) (main : ℕ) : Type 0 where
@@ -144,3 +136,6 @@ module _ (core new : CoreTerm) (well : IsWellFormed core) (forms : List Form) (e
   main_takes f g ef eg q =
       subst (λ ts. AreExact ts forms) (sym (types_of_main g eg))
       (m.exact_types (ap (λ (x : FunTerm). all_have_forms (param_types x) forms) (some_same m.function f (sym m.there ∙ ef)) ∙ q))
+
+  pub served : AllPlanned core es gs → CallsServed new
+  served done = calls_served core new well es gs main plan built is_specialised done

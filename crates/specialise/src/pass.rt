@@ -8,6 +8,7 @@ ghost use Rattle.core_ir.specs.View.{core_term};
 ghost use Rattle.core_ir.specs.WellFormed.{IsWellFormed};
 ghost use Rattle.specialise.specs.Plans.{entries, members};
 ghost use Rattle.specialise.specs.Mains.{MainPlanned, MainTakes, FewAdded};
+ghost use Rattle.specialise.specs.Served.{CallsServed};
 
 use crate::building::build;
 use crate::plan::{Item, Plan, add, plan_of};
@@ -20,7 +21,8 @@ use std::alloc::Global;
 /// Makes instances of functions for the known shapes of calls' arguments, and one of main for the forms of the program's arguments, where it takes them.
 ///
 /// Of a well-formed core the result is well formed and has the same outcome on all arguments of these forms, under all limits. Where main takes them, it
-/// takes them alone in the result. At most 16 instances are added to a group.
+/// takes them alone in the result. At most 16 instances are added to a group. In the result each call in a function whose arguments have known shapes that
+/// some instance fits has in its group an instance for just these shapes, or the group has at least 16 instances with known shapes for all parameters.
 ///
 /// # Errors
 ///
@@ -30,6 +32,7 @@ pub fn specialise(alloc: Global, core: Core, forms: &[Form]) -> Result<Core, Mem
         → IfOk result (λ new. outcome (core_term core) args caps ≡ outcome (core_term new) args caps) }
     ensures well { IsWellFormed (core_term core) → IfOk result (λ new. IsWellFormed (core_term new)) }
     ensures added { IsWellFormed (core_term core) → IfOk result (λ new. FewAdded (core_term core) (core_term new)) }
+    ensures served { IsWellFormed (core_term core) → IfOk result (λ new. CallsServed (core_term new)) }
     ensures main { IsWellFormed (core_term core) → IfOk result (λ new. MainTakes (core_term core) (core_term new) forms.now) }
 {
     let mut plan = plan_of(alloc, &core)?;

@@ -1,13 +1,15 @@
 //! The instances that a call needs.
 
-ghost use Rattle.std.specs.Prelude.{◌≡◌, [], IfOk, OnOk, slice_get, unwrap_or};
+ghost use Rattle.std.specs.Prelude.{◌≡◌, [], IfOk, OnOk, slice_get, unwrap_or, nat_lt};
 ghost use Rattle.core_ir.specs.View.{core_term};
 ghost use Rattle.core_ir.specs.WellFormed.{IsWellFormed};
-ghost use Rattle.specialise.specs.Plans.{entries, members, IsPlan, Keeps};
+ghost use Rattle.specialise.specs.Plans.{entries, members, IsPlan};
+ghost use Rattle.specialise.specs.Progress.{Grows, ServesPlace, CallPlanned};
 ghost use Rattle.specialise.specs.Serving.{Serves, SourceFound, wants_more, types_within};
+ghost use Rattle.specialise.specs.Tables.{known_count as count_known};
 
 use crate::plan::{Item, Plan, add, join};
-use crate::tables::{exact_types, forms_of, has_same, item_types, known_count, table_of};
+use crate::tables::{exact_types, forms_at, has_same, known_count, table_of};
 use core_ir::Core;
 use known_calls::KnownCall;
 use sac_base::{ArrayType, Form, Memory};
@@ -17,7 +19,7 @@ use std::alloc::Global;
 /// The most instances with known shapes that further ones are made for.
 pub const MOST: usize = 16;
 
-/// Plans the instances that a call with arguments of known shapes needs: one for the bases of each instance of the group.
+/// Plans the instances that a call with arguments of known shapes needs: one for the bases of each own instance that has arrays of these shapes.
 pub fn serve_call(
     alloc: Global,
     core: &Core,
@@ -26,16 +28,39 @@ pub fn serve_call(
 ) -> Result<(), Memory>
     ensures planned { IsWellFormed (core_term core.now) → IsPlan (core_term core.now) (entries plan.old.items.items) (members plan.old.groups.items)
         → OnOk result (IsPlan (core_term core.now) (entries plan.new.items.items) (members plan.new.groups.items)) }
-    ensures kept { OnOk result (Keeps (entries plan.old.items.items) (entries plan.new.items.items)) }
+    ensures grown { OnOk result (Grows (entries plan.old.items.items) (members plan.old.groups.items)
+        (entries plan.new.items.items) (members plan.new.groups.items)) }
+    ensures served { IsWellFormed (core_term core.now) → IsPlan (core_term core.now) (entries plan.old.items.items) (members plan.old.groups.items)
+        → OnOk result (CallPlanned (core_term core.now) (entries plan.new.items.items) (members plan.new.groups.items)
+        (call.now.group, call.now.shapes.items)) }
     ensures main { OnOk result (plan.new.main ≡ plan.old.main) }
 {
+    if !has_room(plan, call.group) {
+        return Ok(());
+    }
     let own = members_of(&core.groups, call.group);
     for place in own {
-        let types = item_types(alloc, &plan.items, *place)?;
-        let forms = forms_of(alloc, &types, &call.shapes)?;
-        serve_forms(alloc, own, plan, call.group, &forms)?;
+        serve_place(alloc, own, plan, call, *place)?;
     }
     Ok(())
+}
+
+/// Plans the instance that a call needs with the bases of an own instance, if that has arrays of these shapes.
+fn serve_place(
+    alloc: Global,
+    own: &[u32],
+    plan: &mut Plan,
+    call: &KnownCall,
+    place: u32,
+) -> Result<(), Memory>
+    ensures served { OnOk result (ServesPlace own.now call.now.group call.now.shapes.items place (entries plan.old.items.items)
+        (members plan.old.groups.items) (entries plan.new.items.items) (members plan.new.groups.items)) }
+    ensures main { OnOk result (plan.new.main ≡ plan.old.main) }
+{
+    match forms_at(alloc, &plan.items, place, &call.shapes)? {
+        Some(forms) => serve_forms(alloc, own, plan, call.group, &forms),
+        None => Ok(()),
+    }
 }
 
 /// Plans the instance for arguments of these forms, if there is none yet, and not 16 with known shapes.
@@ -50,14 +75,14 @@ pub fn serve_forms(
         (entries plan.new.items.items) (members plan.new.groups.items)) }
     ensures main { OnOk result (plan.new.main ≡ plan.old.main) }
 {
-    let Some(source) = source_of(alloc, own, &plan.items, forms)? else {
-        return Ok(());
-    };
     let types = exact_types(alloc, forms)?;
-    let is_wanted = wants(alloc, plan, group, &types)?;
+    let is_wanted = wants(plan, group, &types);
     if !is_wanted {
         return Ok(());
     }
+    let Some(source) = source_of(alloc, own, &plan.items, forms)? else {
+        return Ok(());
+    };
     let number = add(plan, Item { source, types })?;
     join(&mut plan.groups, group, number)
 }
@@ -80,11 +105,17 @@ fn source_of(
 }
 
 /// Whether a group has no instance for these types, and less than 16 with known shapes.
-fn wants(alloc: Global, plan: &Plan, group: u32, types: &[ArrayType]) -> Result<bool, Memory>
-    ensures { IfOk result (λ b. b ≡ wants_more (types_within (entries plan.now.items.items) (members plan.now.groups.items) group) types.now) }
+fn wants(plan: &Plan, group: u32, types: &[ArrayType]) -> bool
+    ensures { result ≡ wants_more (types_within (entries plan.now.items.items) (members plan.now.groups.items) group) types.now }
 {
-    let table = table_of(alloc, &plan.items, members_of(&plan.groups, group))?;
-    Ok(!has_same(&table, types) && known_count(&table) < MOST)
+    !has_same(&plan.items, members_of(&plan.groups, group), types) && has_room(plan, group)
+}
+
+/// Whether a group has less than 16 instances with known shapes.
+fn has_room(plan: &Plan, group: u32) -> bool
+    ensures { result ≡ nat_lt (count_known (types_within (entries plan.now.items.items) (members plan.now.groups.items) group)) 16 }
+{
+    known_count(&plan.items, members_of(&plan.groups, group)) < MOST
 }
 
 /// The members of a group. One that is not there has none.

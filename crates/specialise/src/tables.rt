@@ -3,18 +3,19 @@
 ghost use Rattle.std.specs.Prelude.{◌≡◌, map, IfOk};
 ghost use Rattle.sac_base.specs.Types.{all_below as are_all_below};
 ghost use Rattle.core_groups.specs.Specialised.{all_known};
-ghost use Rattle.shape_types.specs.Instances.{types_of};
+ghost use Rattle.shape_types.specs.Instances.{types_of as types_in};
 ghost use Rattle.specialise.specs.Plans.{entries};
 ghost use Rattle.specialise.specs.Tables.{types_at, exact, are_same as same_types, has_same as has_same_types, known_count as count_known, forms_by};
+ghost use Rattle.specialise.specs.Progress.{fit, FormsFound};
 
 use crate::plan::Item;
-use sac_base::{ArrayType, Form, Memory, Part, Shape, copy_type};
+use sac_base::{ArrayType, Form, Memory, Part, Shape, copy_type, part_has};
 use shape_types::{Instance, below};
 use std::alloc::Global;
 
 /// The types of items.
 pub fn table_of(alloc: Global, items: &[Item], members: &[u32]) -> Result<Vec<Instance>, Memory>
-    ensures { IfOk result (λ table. types_of table.items ≡ map (types_at (entries items.now)) members.now) }
+    ensures { IfOk result (λ table. types_in table.items ≡ map (types_at (entries items.now)) members.now) }
 {
     let mut table = Vec::new(alloc);
     for member in members {
@@ -28,9 +29,16 @@ pub fn table_of(alloc: Global, items: &[Item], members: &[u32]) -> Result<Vec<In
 pub fn item_types(alloc: Global, items: &[Item], number: u32) -> Result<Vec<ArrayType>, Memory>
     ensures { IfOk result (λ types. types.items ≡ types_at (entries items.now) number) }
 {
+    copy_types(alloc, types_of(items, number))
+}
+
+/// The types of an item, where they stand.
+pub fn types_of(items: &[Item], number: u32) -> &[ArrayType]
+    ensures { result.now ≡ types_at (entries items.now) number }
+{
     match items.get(number as usize) {
-        Some(item) => copy_types(alloc, &item.types),
-        None => Ok(Vec::new(alloc)),
+        Some(item) => &item.types,
+        None => &[],
     }
 }
 
@@ -60,7 +68,7 @@ pub fn exact_types(alloc: Global, forms: &[Form]) -> Result<Vec<ArrayType>, Memo
 }
 
 /// The forms of arrays of known shapes, with the bases of types.
-pub fn forms_of(alloc: Global, types: &[ArrayType], shapes: &[Shape]) -> Result<Vec<Form>, Memory>
+fn forms_of(alloc: Global, types: &[ArrayType], shapes: &[Shape]) -> Result<Vec<Form>, Memory>
     ensures { IfOk result (λ forms. forms.items ≡ forms_by types.now shapes.now) }
 {
     let mut forms = Vec::new(alloc);
@@ -73,12 +81,43 @@ pub fn forms_of(alloc: Global, types: &[ArrayType], shapes: &[Shape]) -> Result<
     Ok(forms)
 }
 
-/// Whether an instance takes the same arrays as these types.
-pub fn has_same(table: &[Instance], types: &[ArrayType]) -> bool
-    ensures { result ≡ has_same_types (types_of table.now) types.now }
+/// The forms of arrays of known shapes, with the bases of an item's types, if these contain such arrays.
+pub fn forms_at(
+    alloc: Global,
+    items: &[Item],
+    number: u32,
+    shapes: &[Shape],
+) -> Result<Option<Vec<Form>>, Memory>
+    ensures { IfOk result (λ forms. FormsFound (types_at (entries items.now) number) shapes.now forms) }
 {
-    for k in 0..table.len() {
-        if are_same(&table[k].params, types) {
+    let types = types_of(items, number);
+    if !fits(types, shapes) {
+        return Ok(None);
+    }
+    Ok(Some(forms_of(alloc, types, shapes)?))
+}
+
+/// Whether types of so many parameters contain arrays of these shapes.
+fn fits(types: &[ArrayType], shapes: &[Shape]) -> bool
+    ensures { result ≡ fit types.now shapes.now }
+{
+    if types.len() != shapes.len() {
+        return false;
+    }
+    for k in 0..types.len() {
+        if !part_has(&types[k].part, &shapes[k]) {
+            return false;
+        }
+    }
+    true
+}
+
+/// Whether an instance among these takes the same arrays as the types.
+pub fn has_same(items: &[Item], members: &[u32], types: &[ArrayType]) -> bool
+    ensures { result ≡ has_same_types (map (types_at (entries items.now)) members.now) types.now }
+{
+    for k in 0..members.len() {
+        if are_same(types_of(items, members[k]), types) {
             return true;
         }
     }
@@ -106,13 +145,13 @@ pub fn all_below(types: &[ArrayType], others: &[ArrayType]) -> bool
     true
 }
 
-/// How many instances have known shapes alone.
-pub fn known_count(table: &[Instance]) -> usize
-    ensures { result ≡ count_known (types_of table.now) }
+/// How many of these instances have known shapes alone.
+pub fn known_count(items: &[Item], members: &[u32]) -> usize
+    ensures { result ≡ count_known (map (types_at (entries items.now)) members.now) }
 {
     let mut count = 0;
-    for k in 0..table.len() {
-        if are_known(&table[k].params) {
+    for k in 0..members.len() {
+        if are_known(types_of(items, members[k])) {
             count += 1;
         }
     }

@@ -1,9 +1,12 @@
 //! All functions of the new core, one after another: each is gone through once.
 
-ghost use Rattle.std.specs.Prelude.{◌≡◌, ◌<◌, ◌^◌, length, OnOk};
+ghost use Rattle.std.specs.Prelude.{◌≡◌, ◌<◌, ◌^◌, length, IfOk, OnOk};
 ghost use Rattle.core_ir.specs.View.{core_term};
 ghost use Rattle.core_ir.specs.WellFormed.{IsWellFormed};
-ghost use Rattle.specialise.specs.Plans.{entries, members, IsPlan, Keeps};
+ghost use Rattle.core_settled.specs.Called.{called as called_in};
+ghost use Rattle.plain_facts.specs.Called.{shapes_of};
+ghost use Rattle.specialise.specs.Plans.{entries, members, IsPlan};
+ghost use Rattle.specialise.specs.Progress.{Grows, EntryPlannedAt, AllPlanned, AreCallsAt};
 
 use crate::plan::Plan;
 use crate::serve::serve_call;
@@ -19,7 +22,10 @@ use std::alloc::Global;
 pub fn serve_all(alloc: Global, core: &Core, plan: &mut Plan) -> Result<(), Memory>
     ensures planned { IsWellFormed (core_term core.now) → IsPlan (core_term core.now) (entries plan.old.items.items) (members plan.old.groups.items)
         → OnOk result (IsPlan (core_term core.now) (entries plan.new.items.items) (members plan.new.groups.items)) }
-    ensures kept { OnOk result (Keeps (entries plan.old.items.items) (entries plan.new.items.items)) }
+    ensures grown { OnOk result (Grows (entries plan.old.items.items) (members plan.old.groups.items)
+        (entries plan.new.items.items) (members plan.new.groups.items)) }
+    ensures served { IsWellFormed (core_term core.now) → IsPlan (core_term core.now) (entries plan.old.items.items) (members plan.old.groups.items)
+        → OnOk result (AllPlanned (core_term core.now) (entries plan.new.items.items) (members plan.new.groups.items)) }
     ensures main { OnOk result (plan.new.main ≡ plan.old.main) }
     ensures few { OnOk result (length plan.new.items.items < 2 ^ 32) }
 {
@@ -41,9 +47,14 @@ fn serve_item(
     plan: &mut Plan,
     number: usize,
 ) -> Result<(), Memory>
+    requires { shapes_of called.now ≡ called_in (core_term core.now) }
     ensures planned { IsWellFormed (core_term core.now) → IsPlan (core_term core.now) (entries plan.old.items.items) (members plan.old.groups.items)
         → OnOk result (IsPlan (core_term core.now) (entries plan.new.items.items) (members plan.new.groups.items)) }
-    ensures kept { OnOk result (Keeps (entries plan.old.items.items) (entries plan.new.items.items)) }
+    ensures grown { OnOk result (Grows (entries plan.old.items.items) (members plan.old.groups.items)
+        (entries plan.new.items.items) (members plan.new.groups.items)) }
+    ensures served { IsWellFormed (core_term core.now) → IsPlan (core_term core.now) (entries plan.old.items.items) (members plan.old.groups.items)
+        → OnOk result (EntryPlannedAt (core_term core.now) (entries plan.old.items.items) number (entries plan.new.items.items)
+        (members plan.new.groups.items)) }
     ensures main { OnOk result (plan.new.main ≡ plan.old.main) }
 {
     let calls = calls_in(alloc, core, called, plan, number)?;
@@ -60,41 +71,14 @@ fn calls_in(
     called: &CalledShapes,
     plan: &Plan,
     number: usize,
-) -> Result<Vec<KnownCall>, Memory> {
+) -> Result<Vec<KnownCall>, Memory>
+    ensures { IfOk result (λ calls. AreCallsAt (core_term core.now) (shapes_of called.now) (entries plan.now.items.items) number calls.items) }
+{
     let Some(item) = plan.items.get(number) else {
         return Ok(Vec::new(alloc));
     };
     match core.functions.get(item.source as usize) {
-        Some(source) => of_small_groups(
-            alloc,
-            core,
-            known_calls(alloc, source, &item.types, called)?,
-        ),
+        Some(source) => known_calls(alloc, source, &item.types, called),
         None => Ok(Vec::new(alloc)),
-    }
-}
-
-/// The most instances of its own that a group has whose calls are served: a call is tried with each of them.
-const FEW: usize = 8;
-
-/// The calls of groups with few instances.
-fn of_small_groups(
-    alloc: Global,
-    core: &Core,
-    calls: Vec<KnownCall>,
-) -> Result<Vec<KnownCall>, Memory> {
-    let mut small = Vec::new(alloc);
-    for call in calls {
-        if is_small(core, call.group) {
-            small.push(call)?;
-        }
-    }
-    Ok(small)
-}
-
-fn is_small(core: &Core, group: u32) -> bool {
-    match core.groups.get(group as usize) {
-        Some(own) => own.len() <= FEW,
-        None => false,
     }
 }

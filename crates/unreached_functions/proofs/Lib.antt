@@ -2,4 +2,5 @@ mod Agreeing
 mod Called
 mod Emptied
 mod Numbers
+pub mod Outside
 mod Places

@@ -2,7 +2,7 @@
 
 ghost use Rattle.std.specs.Prelude.{◌≡◌, ◌<◌, ◌⊎◌, IfOk, IfSome, OnOk, length};
 ghost use Rattle.sac_base.specs.declared.faults.FaultKind.TheVariants.{F10};
-ghost use Rattle.core_ir.specs.Outcome.{SameOutcome};
+ghost use Rattle.core_ir.specs.Outcome.{SameOutcome, SameOutside};
 ghost use Rattle.core_ir.specs.Terms.{Gives, Bind, Plain, Always};
 ghost use Rattle.core_ir.specs.View.{core_term, block_term, let_term};
 ghost use Rattle.core_ir.specs.WellFormed.{IsWellFormed};
@@ -16,11 +16,12 @@ use sac_base::{FaultKind, Memory, Site};
 use std::alloc::Global;
 
 /// Takes the bodies of functions that `main` does not reach over calls: a body that calls nothing stands in their place. Their places, their names and
-/// their types stay.
+/// their types stay, as the groups and main do.
 ///
 /// The result has the same outcome on all arguments and under all limits, and is well formed where the core is.
 pub fn empty_unreached(alloc: Global, core: Core) -> Result<Core, Memory>
     ensures outcome { IfOk result (λ c. SameOutcome (core_term core) (core_term c)) }
+    ensures outside { IfOk result (λ c. SameOutside (core_term core) (core_term c)) }
     ensures well { IsWellFormed (core_term core) → IfOk result (λ c. IsWellFormed (core_term c)) }
 {
     let marks = marks_of(alloc, &core)?;
@@ -36,6 +37,7 @@ pub fn empty_unreached(alloc: Global, core: Core) -> Result<Core, Memory>
 fn empty_unmarked(alloc: Global, core: &mut Core, marks: &Marks) -> Result<(), Memory>
     ensures outcome { IsClosed (core_term core.old) marks.now.groups.items marks.now.functions.items
         → OnOk result (SameOutcome (core_term core.old) (core_term core.new)) }
+    ensures outside { OnOk result (SameOutside (core_term core.old) (core_term core.new)) }
     ensures well { IsWellFormed (core_term core.old) → OnOk result (IsWellFormed (core_term core.new)) }
 {
     for place in 0..core.functions.len() {

@@ -1,5 +1,6 @@
 use Rattle.std.proofs.Common.{refl}
 use Rattle.core_ir.specs.View.{core_term}
+use Rattle.unreached_functions.proofs.Outside.{outside_through}
 use Rattle.inline_calls.proofs.Passes.{same_all, first_pass, goes_on, all_through}
 use Rattle.inline_calls.proofs.functions.inline_all.Goals as goal
 
@@ -10,6 +11,13 @@ returns-clause-outcome c formed =
     same_all (core_term c.args.core) start (core_term c.inline_functions-2.new.core) c.in_ok-core.ensures.outcome
     (same_all start (core_term c.inline_functions.new.core) (core_term c.inline_functions-2.new.core)
     (c.in_ok-inline_functions.ensures.outcome well) (c.in_ok-inline_functions-2.ensures.outcome (c.in_ok-inline_functions.ensures.well well)))
+
+pub returns-clause-outside : goal.returns-clause-outside
+returns-clause-outside c =
+    let start = core_term c.in_ok-core.core in
+    outside_through (core_term c.args.core) start (core_term c.inline_functions-2.new.core) c.in_ok-core.ensures.outside
+    (outside_through start (core_term c.inline_functions.new.core) (core_term c.inline_functions-2.new.core)
+    c.in_ok-inline_functions.ensures.outside c.in_ok-inline_functions-2.ensures.outside)
 
 pub returns-clause-well : goal.returns-clause-well
 returns-clause-well c formed = c.in_ok-inline_functions-2.ensures.well (c.in_ok-inline_functions.ensures.well (c.in_ok-core.ensures.well formed))

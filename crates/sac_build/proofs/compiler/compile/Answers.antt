@@ -1,5 +1,9 @@
 use Rattle.std.proofs.Common.{◌∙◌, sym}
+use Rattle.core_ir.specs.View.{core_term}
+use Rattle.counted_code.specs.View.{code_program}
+use Rattle.sac_ast.specs.View.{program as tree}
 use Rattle.sac_build.proofs.Arrays.{all_full}
+use Rattle.sac_build.proofs.Mains.{main_takes_forms}
 use Rattle.sac_build.proofs.compiler.compile.Goals as goal
 
 pub returns-clause-counted : goal.returns-clause-counted
@@ -19,3 +23,10 @@ returns-clause-outcome c formed args caps arrays forms =
     ∙ sym (c.in_ok-settled.ensures.outcome special args caps (all_full args arrays))
     ∙ sym (c.in_ok-special.ensures.outcome inlined args caps forms)
     ∙ sym (c.in_ok-inlined.ensures.outcome well args caps) ∙ c.in_ok-core.ensures.outcome formed args caps
+
+pub returns-clause-main : goal.returns-clause-main
+returns-clause-main c formed =
+    let inlined = c.in_ok-inlined.ensures.well (c.in_ok-core.ensures.well_formed formed) in
+    main_takes_forms (tree c.args.checked.now.program) c.args.forms.now (core_term c.in_ok-core.core) (core_term c.in_ok-inlined.inlined) (core_term c.in_ok-special.special)
+    (core_term c.in_ok-settled.settled) (code_program c.in_ok-code.code) c.in_ok-core.ensures.lowered c.in_ok-inlined.ensures.outside (c.in_ok-special.ensures.well inlined)
+    (c.in_ok-special.ensures.main inlined) c.in_ok-settled.ensures.outside c.in_ok-code.ensures.same

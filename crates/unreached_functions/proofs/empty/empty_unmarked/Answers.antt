@@ -1,14 +1,24 @@
-use Rattle.std.proofs.Common.{false, sym, ap, subst, ◌∙◌, length}
+use Rattle.std.proofs.Common.{false, refl, sym, ap, subst, ◌∙◌, length}
 use Rattle.std.specs.Prelude.{slice_get, unwrap_or}
 use Rattle.core_ir.specs.declared.tree.Core.{Core}
-use Rattle.core_ir.specs.Outcome.{SameOutcome}
+use Rattle.core_ir.specs.Outcome.{SameOutcome, SameOutside}
 use Rattle.core_ir.specs.View.{core_term}
 use Rattle.core_ir.specs.WellFormed.{IsWellFormed}
 use Rattle.unreached_functions.specs.Closed.{IsClosed}
 use Rattle.unreached_functions.proofs.Places.{unmarked}
 use Rattle.unreached_functions.proofs.Emptied.{lost_more}
+use Rattle.unreached_functions.proofs.Outside.{outside_itself, outside_through, outside_emptied}
 use Rattle.unreached_functions.proofs.empty.empty_unmarked.Goals as goal
 use Rattle.unreached_functions.proofs.empty.empty_unmarked.Goals.{then-not-is_marked+in_ok-empty_function, else-not-is_marked}
+
+pub loop-place-init : goal.loop-place-init
+loop-place-init c = record {
+  outcome = λ h args caps. refl;
+  closed = λ h. h;
+  well = λ h. h;
+  outside = outside_itself (core_term c.args.core.now);
+  count = refl;
+}
 
 pub loop-place-preserved : goal.loop-place-preserved
 loop-place-preserved c =
@@ -25,6 +35,8 @@ loop-place-preserved c =
             outcome = λ h. subst (λ (m : Core). SameOutcome start (core_term m)) (sym w.core-is) (turn.outcome h);
             closed = λ h. subst (λ (m : Core). IsClosed (core_term m) groups functions) (sym w.core-is) (turn.closed h);
             well = λ h. subst (λ (m : Core). IsWellFormed (core_term m)) (sym w.core-is) (turn.well h);
+            outside = subst (λ (m : Core). SameOutside start (core_term m)) (sym w.core-is)
+                (outside_through start old (core_term w.empty_function.new.core) v.outside (outside_emptied old (core_term w.empty_function.new.core) c.loop-place.place w.in_ok-empty_function.ensures.emptied));
             count = ap (λ (m : Core). length m.functions.items) w.core-is ∙ w.in_ok-empty_function.ensures.count ∙ v.count;
           }
       | else-not-is_marked w ↦
@@ -32,6 +44,7 @@ loop-place-preserved c =
             outcome = λ h. subst (λ (m : Core). SameOutcome start (core_term m)) (sym w.core-is) (v.outcome h);
             closed = λ h. subst (λ (m : Core). IsClosed (core_term m) groups functions) (sym w.core-is) (v.closed h);
             well = λ h. subst (λ (m : Core). IsWellFormed (core_term m)) (sym w.core-is) (v.well h);
+            outside = subst (λ (m : Core). SameOutside start (core_term m)) (sym w.core-is) v.outside;
             count = ap (λ (m : Core). length m.functions.items) w.core-is ∙ v.count;
           }
     ]

@@ -1,7 +1,10 @@
-use Rattle.std.proofs.Common.{sym, ap, map, ◌∙◌}
+use Rattle.std.proofs.Common.{sym, ap, map, subst, ◌∙◌}
 use Rattle.std.proofs.lemmas.Result.{IfOk-weaker}
 use Rattle.sac_base.specs.Arrays.{form_of}
+use Rattle.counted_code.specs.View.{code_program}
 use Rattle.core_source_laws.proofs.Cores.{source_formed}
+use Rattle.sac_build.specs.Mains.{MainTakesForms}
+use Rattle.sac_top.specs.Sessions.{program_of}
 use Rattle.sac_top.proofs.Tracing.{stays, run_traced, ends_with}
 use Rattle.sac_top.proofs.session.Session.outcome_of.Goals as goal
 
@@ -28,6 +31,7 @@ returns-clause-traced g c =
       prompt = c.in_ok-compiled.ensures.prompt formed;
       unmarked = c.in_ok-compiled.ensures.unmarked;
       outcome = λ args caps arrays same. c.in_ok-compiled.ensures.outcome formed args caps arrays (same ∙ forms);
+      main = subst (λ fs. MainTakesForms (program_of c.args.job.now) fs (code_program c.in_ok-compiled.compiled.code)) (sym forms) (c.in_ok-compiled.ensures.main formed);
     })
     c.run-result.ensures.outcome c.run-result.ensures.cost c.run-result.ensures.tally c.run-result.ensures.counters c.in_ok-compiled.ensures.none.0 c.in_ok-compiled.ensures.none.1 ended)
     c.outcome_told.ensures.ended
