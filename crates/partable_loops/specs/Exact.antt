@@ -13,8 +13,8 @@ use Rattle.core_loops.specs.Loops.{IsPartable}
 abbrev pub axis_of : Grid1 → Axis
 axis_of g = record { lower = g.lo; upper = g.hi; step = g.step; width = g.width }
 
-abbrev pub range_of : List Grid1 → Range
-range_of g = map axis_of g
+abbrev pub grid_range : List Grid1 → Range
+grid_range g = map axis_of g
 
 -- all numbers of a span
 abbrev pub spanned : Span → Axis
@@ -33,8 +33,8 @@ frame_spans (making.Fold f x) p = fold_frame (filter (λ r. not (is_empty_box r)
 
 pub record IsExactlyPartable (k : Facts) (above : ℕ) (s : Site) (op : CoreOp) (gens : GensTerm) : Type 0 where
   pub partable : IsPartable k above s op gens
-  pub spans : range_of partable.frame ≡ map spanned (frame_spans op partable.planned)
-  pub cut : map range_of partable.grids ≡ partable.planned.ranges
+  pub spans : grid_range partable.frame ≡ map spanned (frame_spans op partable.planned)
+  pub cut : map grid_range partable.grids ≡ partable.planned.ranges
 
 -- how many generators there are
 abbrev pub generator_count : GensTerm → ℕ

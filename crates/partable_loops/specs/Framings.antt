@@ -3,7 +3,6 @@ use Rattle.std.specs.Prelude.{◌≡◌, ◌⊎◌, ℕ, ◌++◌, List, [], ◌
 use Rattle.sac_base.specs.declared.base.Base.{Base}
 use Rattle.sac_base.specs.declared.grid.Grid1.{Grid1}
 use Rattle.sac_base.specs.declared.site.Site.{Site}
-use Rattle.sac_base.specs.Outcomes.{Ends}
 use Rattle.sac_base.specs.WithLoops.{Bounds, Operation, Plan, Span, box, plan}
 use Rattle.core_ir.specs.declared.tree.CoreOp.{CoreOp}
 use Rattle.core_ir.specs.declared.tree.CoreOp.TheVariants as making
@@ -12,11 +11,11 @@ use Rattle.core_ir.specs.Terms.{GensTerm}
 use Rattle.core_facts.specs.Facts.{Facts}
 use Rattle.core_loops.specs.Loops.{AllLiteral, KnownOperation}
 use Rattle.partable_loops.specs.declared.framing.Framed.{Framed}
-use Rattle.partable_loops.specs.Exact.{range_of, spanned, frame_spans}
+use Rattle.partable_loops.specs.Exact.{grid_range, spanned, frame_spans}
 
 -- a frame without an index
 abbrev pub IsVoid : List Grid1 → Type 0
-IsVoid frame = range_of frame ≡ spanned (record { low = pos 0; extent = 0 }) ∷ []
+IsVoid frame = grid_range frame ≡ spanned (record { low = pos 0; extent = 0 }) ∷ []
 
 -- an array has the frame's extents, and those of a cell
 abbrev pub IsWhole : CoreOp → Plan → Framed → Type 0
@@ -25,11 +24,12 @@ IsWhole (making.Modarray x) p f = p.shape ≡ extents f.frame ++ f.cell
 IsWhole (making.Fold o x) p f = Unit {0}
 
 -- There is a plan, and this is its frame, its grids and its cell.
-pub record FramesPlan (base : Base) (op : CoreOp) (answer : Ends Plan) (f : Framed) : Type 0 where
+pub record FramesPlan (base : Base) (op : CoreOp) (bounds : List Bounds) (operation : Operation) (f : Framed) : Type 0 where
   pub planned : Plan
-  pub valid : answer ≡ Ok planned
-  pub cut : map range_of f.grids.items ≡ planned.ranges
-  pub spans : range_of f.frame ≡ map spanned (frame_spans op planned)
+  pub valid : plan bounds operation ≡ Ok planned
+  pub count : length planned.ranges ≡ length bounds
+  pub cut : map grid_range f.grids.items ≡ planned.ranges
+  pub spans : grid_range f.frame ≡ map spanned (frame_spans op planned)
   pub indices : planned.indices ≡ box (frame_spans op planned)
   pub form : planned.form ≡ record { base = base; shape = f.cell }
   pub ranks : All (λ g. length g ≡ length f.frame) f.grids.items ⊎ IsVoid f.frame
@@ -45,7 +45,7 @@ HasKnown k (making.Fold o x) p f = (k x).shape ≡ Some f.cell
 pub record FramesKnown (k : Facts) (s : Site) (op : CoreOp) (base : Base) (bounds : List Bounds) (f : Framed) : Type 0 where
   pub operation : Operation
   pub known : KnownOperation k s base op operation
-  pub frames : FramesPlan base op (plan bounds operation) f
+  pub frames : FramesPlan base op bounds operation f
   pub shape : HasKnown k op frames.planned f
 
 -- some bounds are literal

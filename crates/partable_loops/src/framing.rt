@@ -10,7 +10,7 @@ ghost use Rattle.core_ir.specs.declared.tree.Var.{Var as Variable};
 ghost use Rattle.core_ir.specs.declared.tree.CoreOp.TheVariants.{Genarray, Modarray, Fold};
 ghost use Rattle.core_ir.specs.Meaning.{cell_form};
 ghost use Rattle.fact_table.specs.Table.{facts_of};
-ghost use Rattle.partable_loops.specs.Exact.{range_of, spanned};
+ghost use Rattle.partable_loops.specs.Exact.{grid_range, spanned};
 ghost use Rattle.partable_loops.specs.Framings.{FramesPlan, FramesKnown, HasPlan};
 ghost use Rattle.partable_loops.specs.Refused.{Decides, refusal_of};
 
@@ -35,7 +35,7 @@ pub struct Framed {
 }
 
 /// The frame of a with-loop with these bounds, if the shapes that tell it are known and there is no fault before its cells.
-pub fn framed(
+pub fn frame_of(
     alloc: Global,
     table: &FactTable,
     op: CoreOp,
@@ -90,7 +90,7 @@ fn genarray_frame(
     cell: &Shape,
 ) -> Result<Framed, Unplanned>
     ensures { Decides result
-        (λ f. (s : Site) (base : Base) (x y : Variable) → FramesPlan base (Genarray x y) (plan bounds.now (genarray shape.now (cell_form base cell.now) s)) f)
+        (λ f. (s : Site) (base : Base) (x y : Variable) → FramesPlan base (Genarray x y) bounds.now (genarray shape.now (cell_form base cell.now) s) f)
         ((s : Site) × ((base : Base) × ((planned : Plan) × (plan bounds.now (genarray shape.now (cell_form base cell.now) s) ≡ Ok planned)))) }
 {
     let Some(front) = shape_of(alloc, shape) else {
@@ -118,7 +118,7 @@ fn modarray_frame(
     shape: &Shape,
 ) -> Result<Framed, Unplanned>
     ensures { Decides result
-        (λ f. (s : Site) (base : Base) (x : Variable) → FramesPlan base (Modarray x) (plan bounds.now (modarray (cell_form base shape.now) s)) f)
+        (λ f. (s : Site) (base : Base) (x : Variable) → FramesPlan base (Modarray x) bounds.now (modarray (cell_form base shape.now) s) f)
         ((s : Site) × ((base : Base) × ((planned : Plan) × (plan bounds.now (modarray (cell_form base shape.now) s) ≡ Ok planned)))) }
 {
     let rank = shape.rank();
@@ -139,7 +139,7 @@ fn modarray_frame(
 
 fn fold_frame(alloc: Global, bounds: &[Bounds], cell: &Shape) -> Result<Framed, Unplanned>
     ensures { Decides result
-        (λ f. (s : Site) (base : Base) (o : Op) (x : Variable) → FramesPlan base (Fold o x) (plan bounds.now (fold_by o (cell_form base cell.now) s)) f)
+        (λ f. (s : Site) (base : Base) (o : Op) (x : Variable) → FramesPlan base (Fold o x) bounds.now (fold_by o (cell_form base cell.now) s) f)
         ((s : Site) × ((base : Base) × ((o : Op) × ((planned : Plan) × (plan bounds.now (fold_by o (cell_form base cell.now) s) ≡ Ok planned))))) }
 {
     let n = index_length(bounds, 0);

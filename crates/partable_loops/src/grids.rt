@@ -2,7 +2,7 @@
 
 ghost use Rattle.std.specs.Prelude.{◌≡◌, ◌≤◌, IfOk, map, length, All, pos, false, [], ◌∷◌};
 ghost use Rattle.sac_base.specs.WithLoops.{is_empty_box, shape_spans, span_of};
-ghost use Rattle.partable_loops.specs.Exact.{axis_of, range_of, spanned};
+ghost use Rattle.partable_loops.specs.Exact.{axis_of, grid_range, spanned};
 ghost use Rattle.partable_loops.specs.Framings.{IsVoid};
 
 use array_with_loops::{Axis, Range};
@@ -12,7 +12,7 @@ use std::alloc::Global;
 /// The members of each range.
 pub fn grids_of(alloc: Global, ranges: &[Range]) -> Result<Vec<Grid>, Memory>
     requires { All (λ r. length r ≤ 8) ranges.now }
-    ensures { IfOk result (λ grids. map range_of grids.items ≡ ranges.now) }
+    ensures { IfOk result (λ grids. map grid_range grids.items ≡ ranges.now) }
 {
     let mut grids = Vec::new(alloc);
     for range in ranges {
@@ -23,7 +23,7 @@ pub fn grids_of(alloc: Global, ranges: &[Range]) -> Result<Vec<Grid>, Memory>
 
 fn grid_of(alloc: Global, range: &Range) -> Result<Grid, Memory>
     requires { length range.now ≤ 8 }
-    ensures { IfOk result (λ grid. range_of grid ≡ range.now) }
+    ensures { IfOk result (λ grid. grid_range grid ≡ range.now) }
 {
     let mut axes = Vec::new(alloc);
     for axis in range.axes() {
@@ -36,7 +36,7 @@ fn grid_of(alloc: Global, range: &Range) -> Result<Grid, Memory>
 pub fn grid_of_box(alloc: Global, range: &Range) -> Result<Grid, Memory>
     requires some { is_empty_box range.now ≡ false }
     requires rank { length range.now ≤ 8 }
-    ensures { IfOk result (λ grid. range_of grid ≡ map spanned (map span_of range.now)) }
+    ensures { IfOk result (λ grid. grid_range grid ≡ map spanned (map span_of range.now)) }
 {
     let mut axes = Vec::new(alloc);
     for axis in range.axes() {
@@ -59,7 +59,7 @@ fn without_gaps(axis: &Axis) -> Grid1
 
 /// All indices of a shape.
 pub fn grid_of_shape(alloc: Global, shape: &Shape) -> Result<Grid, Memory>
-    ensures { IfOk result (λ grid. range_of grid ≡ map spanned (shape_spans shape.now)) }
+    ensures { IfOk result (λ grid. grid_range grid ≡ map spanned (shape_spans shape.now)) }
 {
     let mut axes = Vec::new(alloc);
     for extent in shape.extents() {

@@ -9,7 +9,7 @@ ghost use Rattle.partable_loops.specs.Planned.{PlanFits, needed_parts};
 ghost use Rattle.partable_loops.specs.Refused.{Decides};
 
 use crate::cuts::{cut, held};
-use crate::framing::framed;
+use crate::framing::frame_of;
 use crate::literals::literal_bounds;
 use crate::refusal::Unplanned;
 use crate::room::has_room;
@@ -68,7 +68,7 @@ fn planned(
         ((s : Site) × IsExactlyPartable (facts_of table.now) above s op (gens_of (map gen_term gens.now))) }
 {
     let bounds = literal_bounds(alloc, table, gens)?;
-    let framed = framed(alloc, table, op, &bounds)?;
+    let framed = frame_of(alloc, table, op, &bounds)?;
     let parts = cut(alloc, &framed.frame, &framed.grids)?;
     if !has_room(above, gens) {
         return Err(Unplanned::NotPartable);
