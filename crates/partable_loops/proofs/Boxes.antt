@@ -67,6 +67,18 @@ not_below : (a b : Bool) → (a || b) ≡ false → (a ≡ false) × (b ≡ fals
 not_below true b e = absurd (true≢false e)
 not_below false b e = (refl, e)
 
+up : (l u : ℤ) (n : ℕ) → u -ℤ l ≡ pos n → u ≡ l +ℤ pos n
+up (pos l) (pos u) n e = omega (arith, ints)
+up (pos l) (negsuc u) n e = omega (arith, ints)
+up (negsuc l) (pos u) n e = omega (arith, ints)
+up (negsuc l) (negsuc u) n e = omega (arith, ints)
+
+not_down : (l u : ℤ) (n : ℕ) → l <ℤ u → u -ℤ l ≡ negsuc n → ⊥
+not_down (pos l) (pos u) n h e = omega (arith, ints)
+not_down (pos l) (negsuc u) n h e = omega (arith, ints)
+not_down (negsuc l) (pos u) n h e = omega (arith, ints)
+not_down (negsuc l) (negsuc u) n h e = omega (arith, ints)
+
 up_to : (l u : ℤ) → not (int_lt l u) ≡ false → u ≡ l +ℤ pos (distance (u -ℤ l))
 up_to l u e = by (u -ℤ l) refl
   where
@@ -78,8 +90,8 @@ up_to l u e = by (u -ℤ l) refl
         go false f x = absurd (true≢false x)
 
     by : (d : ℤ) → u -ℤ l ≡ d → u ≡ l +ℤ pos (distance d)
-    by (pos n) f = omega (arith, ints)
-    by (negsuc n) f = absurd (omega (arith, ints))
+    by (pos n) f = up l u n f
+    by (negsuc n) f = absurd (not_down l u n below f)
 
 -- the same bounds, without gaps
 abbrev pub filled_axis : Axis → Axis
@@ -114,3 +126,13 @@ void_vector [] v e = cc
 void_vector (a ∷ b ∷ g) v e = cc
 void_vector (a ∷ []) [] e = refl
 void_vector (a ∷ []) (x ∷ v) e = ap (λ t. t && has_vector [] v) (no_number a x (void_axis a [] e).1)
+
+-- ---- extents of a shape
+
+-- from 0 to below an extent
+abbrev pub axis_to : ℤ → Axis
+axis_to n = record { lower = pos 0; upper = n; step = pos 1; width = pos 1 }
+
+pub shape_axes : (ns : List ℕ) → map axis_to (map pos ns) ≡ map spanned (shape_spans ns)
+shape_axes [] = refl
+shape_axes (n ∷ ns) = let up : pos n ≡ pos 0 +ℤ pos n = omega (arith, ints) in λ i. axis_to (up i) ∷ shape_axes ns i

@@ -131,8 +131,10 @@ pub record ModarrayHas (bs : List Bounds) (shape : List ℕ) : Type 0 where
 pub modarray_has : (bs : List Bounds) (base : Base) (shape : List ℕ) (s : Site) (p : Plan) → plan bs (WithLoops.modarray (cell_form base shape) s) ≡ Ok p → ModarrayHas bs shape
 modarray_has bs base shape s p e = by (nat_le (size ns) MOST) refl (each (range_of n (length shape) (Some ns) ns) bs) refl e
   where
+    n : ℕ
     n = index_length bs (length shape)
 
+    ns : List ℕ
     ns = take n shape
 
     by : (a : Bool) → nat_le (size ns) MOST ≡ a → (m : Ends (List Range)) → each (range_of n (length shape) (Some ns) ns) bs ≡ m
@@ -183,8 +185,10 @@ modarray_frames bs shape rs f small found long cut spans is s base x = record {
   whole = sym (take-append-drop n shape) ∙ (λ i. sym (extents_are f.frame (shape_spans ns) spans ∙ shape_extents ns) i ++ sym cell i);
 }
   where
+    n : ℕ
     n = index_length bs (length shape)
 
+    ns : List ℕ
     ns = take n shape
 
     cell : f.cell ≡ drop n shape
@@ -235,6 +239,7 @@ solid_lengths : (rs : List Range) (n : ℕ) → All (λ (r : Range). length r �
 solid_lengths [] n h = h
 solid_lengths (r ∷ rs) n h = by (not (is_empty_box r)) refl
   where
+    rest : All (λ (r : Range). length r ≡ n) (solid rs)
     rest = solid_lengths rs n (All-tail (λ (r : Range). length r ≡ n) r rs h)
 
     by : (b : Bool) → not (is_empty_box r) ≡ b → All (λ (r : Range). length r ≡ n) (solid (r ∷ rs))

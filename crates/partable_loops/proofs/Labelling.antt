@@ -65,6 +65,7 @@ held_times grids [] v e h = refl
 held_times grids ((g, Some n) ∷ ps) v e h = ap (λ m. cond (has_vector g v) (suc m) m) (held_times grids ps v e h.1)
 held_times grids ((g, None) ∷ ps) v e h = by (has_vector g v) refl
   where
+    rest : times (kept ps) v ≡ times ps v
     rest = held_times grids ps v e h.1
 
     by : (t : Bool) → has_vector g v ≡ t → times (kept ps) v ≡ times ((g, None) ∷ ps) v
@@ -77,6 +78,7 @@ free_any grids [] v e h = refl
 free_any grids ((g, None) ∷ ps) v e h = free_any grids ps v e h.1
 free_any grids ((g, Some n) ∷ ps) v e h = by (has_vector g v) refl
   where
+    rest : list_any (λ (p : Label). has_vector p.0 v) (kept ps) ≡ false
     rest = free_any grids ps v e h.1
 
     by : (t : Bool) → has_vector g v ≡ t → (has_vector g v || list_any (λ (p : Label). has_vector p.0 v) (kept ps)) ≡ false

@@ -61,8 +61,7 @@ same_grids (g ∷ gs) (h ∷ hs) e =
 -- ---- members
 
 index_held : (g : Grid1) (x : ℤ) → has_index g x ≡ holds_at (axis_of g) x
-unfolding has_index
-unfolding within
+unfolding has_index within
 index_held g x = and_assoc (int_le g.lo x) (int_lt x g.hi) (int_lt (int_rem_euclid (x -ℤ g.lo) g.step) g.width)
 
 pub vector_held : (g : List Grid1) (v : List ℤ) → has_vector g v ≡ holds (grid_range g) v
