@@ -1,6 +1,6 @@
 -- A frame of spans: its axes have no gaps, its members are the box of the spans, and its extents are theirs.
 use Rattle.std.proofs.Common.{◌≡◌, ◌≤◌, ℕ, zero, suc, ◌+◌, List, [], ◌∷◌, ◌++◌, map, length, All, Bool, true, false, not, ◌||◌, refl, sym, ap, subst, ◌∙◌, arith, true≢false, Some, None, Option, inl, inr, ℤ, pos, negsuc, ◌+ℤ◌, ◌-ℤ◌, ◌≤ℤ◌, ◌<ℤ◌}
-use Rattle.std.specs.Prelude.{int_lt, int_le, ◌&&◌}
+use Rattle.std.specs.Prelude.{int_lt, int_le, ◌&&◌, IfOk, Result, Ok, Err}
 use Rattle.std.proofs.lemmas.Int.{ints}
 use Rattle.std.proofs.lemmas.List.Elements.{All-cons, All-nil}
 use Rattle.sac_base.specs.declared.grid.Grid1.{Grid1}
@@ -8,6 +8,7 @@ use Rattle.sac_base.specs.Grids.{has_index, has_vector, members}
 use Rattle.sac_base.proofs.GridFacts.{has_facts}
 use Rattle.sac_base.specs.Parts.{Part, part_at, further}
 use Rattle.sac_base.specs.WithLoops.{Axis, Range, Span, box, distance, holds, is_empty_box, shape_spans, span_of}
+use Rattle.array_with_loops.specs.Frames.{frame_with, joined_frame}
 use Rattle.array_with_loops.specs.GridFrames.{box_range}
 use Rattle.array_with_loops.proofs.GridSteps.{members_box}
 use Rattle.core_ir.specs.Meaning.{extents}
@@ -136,3 +137,15 @@ axis_to n = record { lower = pos 0; upper = n; step = pos 1; width = pos 1 }
 pub shape_axes : (ns : List ℕ) → map axis_to (map pos ns) ≡ map spanned (shape_spans ns)
 shape_axes [] = refl
 shape_axes (n ∷ ns) = let up : pos n ≡ pos 0 +ℤ pos n = omega (arith, ints) in λ i. axis_to (up i) ∷ shape_axes ns i
+
+-- ---- the box of all ranges
+
+pub some_box : {E : Type 0} (ranges : List Range) (range : Range) (result : Result (List Grid1) E) → frame_with (Some range) [] ≡ joined_frame ranges
+    → IfOk result (λ grid. grid_range grid ≡ map spanned (map span_of range)) → IfOk result (λ grid. grid_range grid ≡ map spanned (joined_frame ranges))
+some_box ranges range (Ok grid) e h = h ∙ ap (map spanned) e
+some_box ranges range (Err error) e h = tt
+
+pub no_box : {E : Type 0} (ranges : List Range) (result : Result (List Grid1) E) → frame_with None [] ≡ joined_frame ranges → IfOk result IsVoid
+    → IfOk result (λ grid. grid_range grid ≡ map spanned (joined_frame ranges))
+no_box ranges (Ok grid) e h = h ∙ ap (map spanned) e
+no_box ranges (Err error) e h = tt
