@@ -10,11 +10,11 @@ use Rattle.sac_base.specs.declared.faults.FaultKind.TheVariants.{F4, F5, F8}
 use Rattle.sac_base.specs.declared.grid.Grid1.{Grid1}
 use Rattle.sac_base.specs.declared.op.Op.{Op}
 use Rattle.sac_base.specs.declared.site.Site.{Site}
-use Rattle.sac_base.specs.Arrays.{ArrayValue, size, MOST}
+use Rattle.sac_base.specs.Arrays.{ArrayValue, form_of, size, MOST}
 use Rattle.sac_base.specs.Operators.{all_of, with_first}
 use Rattle.sac_base.specs.Outcomes.{Ends, and_then, fault}
 use Rattle.sac_base.specs.Parts.{shape_of_numbers, vector_of}
-use Rattle.sac_base.specs.WithLoops.{Bounds, Plan, Range, Span, box, box_size, each, fold_frame, fold_plan, form_of, genarray_plan, index_length, is_empty_box, joined_axis, joined_range, modarray_plan, names_fit, plan, range_from, range_of, lower_of, upper_of, step_of, shape_spans, span_of, within_frame}
+use Rattle.sac_base.specs.WithLoops.{Bounds, Plan, Range, Span, box, box_size, each, fold_frame, fold_plan, genarray_plan, index_length, is_empty_box, joined_axis, joined_range, modarray_plan, names_fit, plan, range_from, range_of, lower_of, upper_of, step_of, shape_spans, span_of, within_frame}
 use Rattle.sac_base.specs.WithLoops
 use Rattle.array_with_loops.proofs.EachSteps.{each_length}
 use Rattle.core_ir.specs.declared.tree.Var.{Var}

@@ -2,11 +2,13 @@
 use Rattle.std.proofs.Common.{◌≡◌, ◌≤◌, ◌⊎◌, ℕ, zero, suc, ◌+◌, ◌*◌, ◌<◌, max, List, [], ◌∷◌, map, filter, length, cond, Bool, true, false, ◌||◌, refl, sym, ap, subst, ◌∙◌, arith, true≢false, Some, None, Option, inl, inr, ℤ, pos, ◌≤ℤ◌, ◌<ℤ◌}
 use Rattle.std.specs.Prelude.{is_some, IsTrue, All, count_by, nat_lt, not}
 use Rattle.std.specs.List.{list_any, position, position_or_len}
+use Rattle.std.proofs.lemmas.Bool.Decides.{nat_tests}
 use Rattle.std.proofs.lemmas.Int.{ints}
 use Rattle.std.proofs.lemmas.List.Elements.{All-head, All-tail}
 use Rattle.sac_base.specs.declared.grid.Grid1.{Grid1}
 use Rattle.sac_base.specs.Grids.{has_vector, times_vector, SplitsVectors}
 use Rattle.grid_sets.specs.Segments.{at_end}
+use Rattle.grid_sets.proofs.Keeping.{count_cons}
 use Rattle.generator_sets.specs.Counts.{IsCanonicalCount, no_axes, and_axis}
 use Rattle.generator_sets.specs.Unions.{NamesFirst}
 use Rattle.generator_sets.proofs.CountFacts.{one_canonical}
@@ -35,13 +37,20 @@ is_void frame grids n e (inr void) h = void
 
 -- ---- without the grids of no generator
 
+next_below : (k n : ℕ) → nat_lt (1 + k) (suc n) ≡ nat_lt k n
+next_below k n = by (nat_lt k n) refl
+  where
+    by : (t : Bool) → nat_lt k n ≡ t → nat_lt (1 + k) (suc n) ≡ t
+    by true e = grind (arith, nat_tests)
+    by false e = grind (arith, nat_tests)
+
 found_below : {A : Type 0} (p : A → Bool) (xs : List A) → nat_lt (position_or_len p xs) (length xs) ≡ list_any p xs
 found_below p [] = refl
 found_below p (x ∷ xs) = by (found_below p xs) (p x)
   where
     by : nat_lt (position_or_len p xs) (length xs) ≡ list_any p xs → (b : Bool) → nat_lt (cond (not b) (1 + position_or_len p xs) 0) (suc (length xs)) ≡ (b || list_any p xs)
     by rest true = refl
-    by rest false = rest
+    by rest false = next_below (position_or_len p xs) (length xs) ∙ rest
 
 position_is : {A : Type 0} (p : A → Bool) (xs : List A) → position p xs ≡ cond (list_any p xs) (Some (position_or_len p xs)) None
 position_is p xs = ap (λ t. cond t (Some (position_or_len p xs)) None) (found_below p xs)
@@ -65,15 +74,25 @@ kept_first grids ((g, Some n) ∷ ps) h = (h.0, kept_first grids ps h.1)
 abbrev times : List Label → List ℤ → ℕ
 times labels v = times_vector (map (λ (p : Label). p.0) labels) v
 
+zero_more : (n : ℕ) → 0 + n ≡ n
+zero_more n = omega arith
+
+times_cons : (p : Label) (ps : List Label) (v : List ℤ) → times (p ∷ ps) v ≡ cond (has_vector p.0 v) 1 0 + times ps v
+times_cons p ps v = count_cons (λ g. has_vector g v) p.0 (map (λ (p : Label). p.0) ps)
+
 -- a vector that some generator has is in no grid that is dropped
 held_times : (grids : List (List Grid1)) (labels : List Label) (v : List ℤ) → list_any (λ g. has_vector g v) grids ≡ true → NameFirst grids labels → times (kept labels) v ≡ times labels v
 held_times grids [] v e h = refl
-held_times grids ((g, Some n) ∷ ps) v e h = ap (λ m. cond (has_vector g v) (suc m) m) (held_times grids ps v e h.1)
+held_times grids ((g, Some n) ∷ ps) v e h =
+    times_cons (g, Some n) (kept ps) v ∙ ap (λ m. cond (has_vector g v) 1 0 + m) (held_times grids ps v e h.1) ∙ sym (times_cons (g, Some n) ps v)
 held_times grids ((g, None) ∷ ps) v e h = by (held_times grids ps v e h.1) (has_vector g v) refl
   where
     by : times (kept ps) v ≡ times ps v → (t : Bool) → has_vector g v ≡ t → times (kept ps) v ≡ times ((g, None) ∷ ps) v
     by rest true f = absurd (true≢false (sym (some_found (λ g. has_vector g v) grids e) ∙ ap is_some (sym (h.0 v f))))
-    by rest false f = rest ∙ ap (λ t. cond t (suc (times ps v)) (times ps v)) (sym f)
+    by rest false f =
+        let none : cond (has_vector g v) 1 0 ≡ 0 = ap (λ t. cond t 1 0) f in
+        let one = times_cons (g, None) ps v in
+        rest ∙ sym (one ∙ ap (λ m. m + times ps v) none ∙ zero_more (times ps v))
 
 -- a vector that none has is in no grid that is kept
 free_any : (grids : List (List Grid1)) (labels : List Label) (v : List ℤ) → list_any (λ g. has_vector g v) grids ≡ false → NameFirst grids labels → list_any (λ (p : Label). has_vector p.0 v) (kept labels) ≡ false

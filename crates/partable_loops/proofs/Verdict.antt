@@ -76,7 +76,7 @@ pub record Cut (frame : List Grid1) (grids : List (List Grid1)) (parts : List La
 
 module _ (k : Facts) (above : ℕ) (s : Site) (base : Base) (gens : GensTerm) (bs : List Bounds) (f : Framed) (parts : List Label) (literal : AllLiteral k gens bs)
     (cut : Cut f.frame f.grids.items parts) (numbers : above ≤ 2 ^ 31 + 1) (room : RoomInGens gens) where
-  partable : (op : CoreOp) → FramesKnown k s op base bs f → IsPartable k above s op gens
+  abbrev partable : (op : CoreOp) → FramesKnown k s op base bs f → IsPartable k above s op gens
   partable op known =
       let counted = some_canonical f.grids.items 0 f.frame in
       let fits = cut.due counted.0 counted.1.0 counted.1.1 in
@@ -102,7 +102,7 @@ module _ (k : Facts) (above : ℕ) (s : Site) (base : Base) (gens : GensTerm) (b
         room = room;
       }
 
-  plan_is : (op : CoreOp) (plan : PartPlan) → FramesKnown k s op base bs f → plan.frame ≡ f.frame → plan.cell ≡ f.cell → NameFirst f.grids.items plan.parts.items
+  abbrev plan_is : (op : CoreOp) (plan : PartPlan) → FramesKnown k s op base bs f → plan.frame ≡ f.frame → plan.cell ≡ f.cell → NameFirst f.grids.items plan.parts.items
       → IsPlan k above s op gens base plan
   plan_is op plan known frame cell first = record {
     exact = record { partable = partable op known; spans = known.frames.spans; cut = known.frames.cut };

@@ -41,7 +41,8 @@ pub fn frame_of(
     op: CoreOp,
     bounds: &[Bounds],
 ) -> Result<Framed, Unplanned>
-    ensures { Decides result (λ f. (s : Site) (base : Base) → FramesKnown (facts_of table.now) s op base bounds.now f) (HasPlan (facts_of table.now) op bounds.now) }
+    ensures { Decides result (λ f. (s : Site) (base : Base) → FramesKnown (facts_of table.now) s op base bounds.now f)
+        (HasPlan (facts_of table.now) op bounds.now) }
 {
     match op {
         CoreOp::Genarray { shape, default } => {
@@ -90,7 +91,8 @@ fn genarray_frame(
     cell: &Shape,
 ) -> Result<Framed, Unplanned>
     ensures { Decides result
-        (λ f. (f.cell ≡ cell.now) × ((s : Site) (base : Base) (x y : Variable) → FramesPlan base (Genarray x y) bounds.now (genarray shape.now (cell_form base cell.now) s) f))
+        (λ f. (f.cell ≡ cell.now) × ((s : Site) (base : Base) (x y : Variable) →
+            FramesPlan base (Genarray x y) bounds.now (genarray shape.now (cell_form base cell.now) s) f))
         ((s : Site) × ((base : Base) × ((planned : Plan) × (plan bounds.now (genarray shape.now (cell_form base cell.now) s) ≡ Ok planned)))) }
 {
     let Some(front) = shape_of(alloc, shape) else {
@@ -118,7 +120,8 @@ fn modarray_frame(
     shape: &Shape,
 ) -> Result<Framed, Unplanned>
     ensures { Decides result
-        (λ f. (shape.now ≡ extents f.frame ++ f.cell) × ((s : Site) (base : Base) (x : Variable) → FramesPlan base (Modarray x) bounds.now (modarray (cell_form base shape.now) s) f))
+        (λ f. (shape.now ≡ extents f.frame ++ f.cell) × ((s : Site) (base : Base) (x : Variable) →
+            FramesPlan base (Modarray x) bounds.now (modarray (cell_form base shape.now) s) f))
         ((s : Site) × ((base : Base) × ((planned : Plan) × (plan bounds.now (modarray (cell_form base shape.now) s) ≡ Ok planned)))) }
 {
     let rank = shape.rank();
@@ -139,7 +142,8 @@ fn modarray_frame(
 
 fn fold_frame(alloc: Global, bounds: &[Bounds], cell: &Shape) -> Result<Framed, Unplanned>
     ensures { Decides result
-        (λ f. (f.cell ≡ cell.now) × ((s : Site) (base : Base) (o : Op) (x : Variable) → FramesPlan base (Fold o x) bounds.now (fold_by o (cell_form base cell.now) s) f))
+        (λ f. (f.cell ≡ cell.now) × ((s : Site) (base : Base) (o : Op) (x : Variable) →
+            FramesPlan base (Fold o x) bounds.now (fold_by o (cell_form base cell.now) s) f))
         ((s : Site) × ((base : Base) × ((o : Op) × ((planned : Plan) × (plan bounds.now (fold_by o (cell_form base cell.now) s) ≡ Ok planned))))) }
 {
     let n = index_length(bounds, 0);

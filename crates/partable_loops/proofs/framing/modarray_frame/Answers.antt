@@ -3,6 +3,7 @@ use Rattle.std.specs.Prelude.{is_some}
 use Rattle.sac_base.specs.Arrays.{size, MOST}
 use Rattle.sac_base.specs.WithLoops.{Range, each, index_length, range_of, shape_spans}
 use Rattle.array_with_loops.proofs.CellSteps.{some_small}
+use Rattle.partable_loops.specs.declared.framing.Framed.{Framed}
 use Rattle.partable_loops.specs.Exact.{spanned}
 use Rattle.partable_loops.proofs.Framers.{modarray_frames, modarray_whole}
 use Rattle.partable_loops.proofs.framing.modarray_frame.Goals as goal
@@ -19,7 +20,7 @@ returns-in-Ok c =
     let spans = c.in_ok-grid_of_shape-in-Ok.ensures ∙ ap (λ s. map spanned (shape_spans s)) front in
     let cell : c.rest.result ≡ drop (min (index_length bs (length shape)) (length shape)) shape =
     c.rest.ensures ∙ ap (λ m. drop m shape) (c.min.ensures ∙ (λ i. min (n i) (rank i))) in
-    let f = record { grids = c.in_ok-grids_of-in-Ok.field-0; frame = c.in_ok-grid_of_shape-in-Ok.field-0; cell = c.rest.result } in
+    let f : Framed = record { grids = c.in_ok-grids_of-in-Ok.field-0; frame = c.in_ok-grid_of_shape-in-Ok.field-0; cell = c.rest.result } in
     (modarray_whole shape (index_length bs (length shape)) f spans cell,
       modarray_frames bs shape rs f
       (subst (λ s. size s ≤ MOST) front (some_small _ _ _ c.elements.ensures some))
