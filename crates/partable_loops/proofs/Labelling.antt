@@ -44,12 +44,15 @@ next_below k n = by (nat_lt k n) refl
     by true e = grind (arith, nat_tests)
     by false e = grind (arith, nat_tests)
 
+first_below : (n : ℕ) → nat_lt 0 (suc n) ≡ true
+first_below n = grind (arith, nat_tests)
+
 found_below : {A : Type 0} (p : A → Bool) (xs : List A) → nat_lt (position_or_len p xs) (length xs) ≡ list_any p xs
 found_below p [] = refl
 found_below p (x ∷ xs) = by (found_below p xs) (p x)
   where
     by : nat_lt (position_or_len p xs) (length xs) ≡ list_any p xs → (b : Bool) → nat_lt (cond (not b) (1 + position_or_len p xs) 0) (suc (length xs)) ≡ (b || list_any p xs)
-    by rest true = refl
+    by rest true = first_below (length xs)
     by rest false = next_below (position_or_len p xs) (length xs) ∙ rest
 
 position_is : {A : Type 0} (p : A → Bool) (xs : List A) → position p xs ≡ cond (list_any p xs) (Some (position_or_len p xs)) None
