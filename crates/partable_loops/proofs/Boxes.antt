@@ -1,20 +1,19 @@
 -- A frame of spans: its axes have no gaps, its members are the box of the spans, and its extents are theirs.
-use Rattle.std.proofs.Common.{◌≡◌, ◌≤◌, ℕ, zero, suc, ◌+◌, List, [], ◌∷◌, ◌++◌, map, length, All, Bool, true, false, not, ◌||◌, refl, sym, ap, subst, ◌∙◌, arith, true≢false, Some, None, Option, inl, inr, ℤ, pos, negsuc, ◌+ℤ◌, ◌-ℤ◌, ◌≤ℤ◌, ◌<ℤ◌}
-use Rattle.std.specs.Prelude.{int_lt, int_le, ◌&&◌, IfOk, Result, Ok, Err}
+use Rattle.std.proofs.Common.{◌≡◌, ℕ, List, [], ◌∷◌, map, All, Bool, true, false, not, ◌||◌, refl, ap, ◌∙◌, arith, true≢false, Some, None, inl, inr, ℤ, pos, negsuc, ◌+ℤ◌, ◌-ℤ◌, ◌≤ℤ◌, ◌<ℤ◌}
+use Rattle.std.specs.Prelude.{int_lt, ◌&&◌, IfOk, Result, Ok, Err}
 use Rattle.std.proofs.lemmas.Int.{ints}
 use Rattle.std.proofs.lemmas.List.Elements.{All-cons, All-nil}
 use Rattle.sac_base.specs.declared.grid.Grid1.{Grid1}
 use Rattle.sac_base.specs.Grids.{has_index, has_vector, members}
 use Rattle.sac_base.proofs.GridFacts.{has_facts}
-use Rattle.sac_base.specs.Parts.{Part, part_at, further}
-use Rattle.sac_base.specs.WithLoops.{Axis, Range, Span, box, distance, holds, is_empty_box, shape_spans, span_of}
+use Rattle.sac_base.specs.WithLoops.{Axis, Range, Span, box, distance, is_empty_box, shape_spans, span_of}
 use Rattle.array_with_loops.specs.Frames.{frame_with, joined_frame}
 use Rattle.array_with_loops.specs.GridFrames.{box_range}
 use Rattle.array_with_loops.proofs.GridSteps.{members_box}
 use Rattle.core_ir.specs.Meaning.{extents}
 use Rattle.partable_loops.specs.Exact.{axis_of, grid_range, spanned}
 use Rattle.partable_loops.specs.Framings.{IsVoid}
-use Rattle.partable_loops.proofs.Numbers.{same_head, same_tail, vector_held}
+use Rattle.partable_loops.proofs.Numbers.{same_head, same_tail}
 
 -- ---- without gaps
 

@@ -1,5 +1,5 @@
 -- When an array or a fold has a plan, and what it is.
-use Rattle.std.proofs.Common.{◌≡◌, ◌≤◌, ◌⊎◌, ℕ, zero, suc, ◌+◌, ◌-◌, min, List, [], ◌∷◌, ◌++◌, map, take, drop, length, filter, All, Bool, true, false, not, ◌&&◌, refl, sym, ap, subst, ◌∙◌, arith, true≢false, Some, None, Option, Ok, Err, inl, inr, ℤ, pos}
+use Rattle.std.proofs.Common.{◌≡◌, ◌≤◌, ◌⊎◌, ℕ, zero, suc, ◌+◌, ◌-◌, min, List, [], ◌∷◌, ◌++◌, map, take, drop, length, filter, All, Bool, true, false, not, ◌&&◌, refl, sym, ap, subst, ◌∙◌, arith, Some, None, Option, Ok, Err, inl, inr, pos}
 use Rattle.std.specs.Prelude.{nat_le, is_some, IsSome, ◌↔◌, fold, if◌then◌else◌}
 use Rattle.std.proofs.lemmas.Bool.Decides.{nat_tests}
 use Rattle.std.proofs.lemmas.List.{drop_min, length-append, length-drop, length-map, take-append-drop, take_min}
@@ -11,7 +11,7 @@ use Rattle.sac_base.specs.declared.grid.Grid1.{Grid1}
 use Rattle.sac_base.specs.declared.op.Op.{Op}
 use Rattle.sac_base.specs.declared.site.Site.{Site}
 use Rattle.sac_base.specs.Arrays.{ArrayValue, form_of, size, MOST}
-use Rattle.sac_base.specs.Operators.{all_of, with_first}
+use Rattle.sac_base.specs.Operators.{all_of}
 use Rattle.sac_base.specs.Outcomes.{Ends, and_then, fault}
 use Rattle.sac_base.specs.Parts.{shape_of_numbers, vector_of}
 use Rattle.sac_base.specs.WithLoops.{Bounds, Plan, Range, Span, box, box_size, each, fold_frame, fold_plan, genarray_plan, index_length, is_empty_box, joined_axis, joined_range, modarray_plan, names_fit, plan, range_from, range_of, lower_of, upper_of, step_of, shape_spans, span_of, within_frame}
@@ -21,7 +21,7 @@ use Rattle.core_ir.specs.declared.tree.Var.{Var}
 use Rattle.core_ir.specs.declared.tree.CoreOp.TheVariants as making
 use Rattle.core_ir.specs.Meaning.{cell_form, extents}
 use Rattle.partable_loops.specs.declared.framing.Framed.{Framed}
-use Rattle.partable_loops.specs.Exact.{front, frame_spans, grid_range, spanned}
+use Rattle.partable_loops.specs.Exact.{front, grid_range, spanned}
 use Rattle.partable_loops.specs.Framings.{FramesPlan, IsVoid}
 use Rattle.partable_loops.proofs.Boxes.{extents_are, shape_extents}
 

@@ -1,9 +1,8 @@
 -- Grids with the first generators that have their members.
-use Rattle.std.proofs.Common.{◌≡◌, ◌≤◌, ◌⊎◌, ℕ, zero, suc, ◌+◌, ◌*◌, ◌<◌, max, List, [], ◌∷◌, map, filter, length, cond, Bool, true, false, ◌||◌, refl, sym, ap, subst, ◌∙◌, arith, true≢false, Some, None, Option, inl, inr, ℤ, pos, ◌≤ℤ◌, ◌<ℤ◌}
-use Rattle.std.specs.Prelude.{is_some, IsTrue, All, count_by, nat_lt, not}
+use Rattle.std.proofs.Common.{◌≡◌, ◌≤◌, ◌⊎◌, ℕ, suc, ◌+◌, ◌*◌, max, List, [], ◌∷◌, map, filter, length, cond, Bool, true, false, ◌||◌, refl, sym, ap, subst, ◌∙◌, arith, true≢false, Some, None, inl, inr, ℤ}
+use Rattle.std.specs.Prelude.{is_some, IsTrue, All, nat_lt, not}
 use Rattle.std.specs.List.{list_any, position, position_or_len}
 use Rattle.std.proofs.lemmas.Bool.Decides.{nat_tests}
-use Rattle.std.proofs.lemmas.Int.{ints}
 use Rattle.std.proofs.lemmas.List.Elements.{All-head, All-tail}
 use Rattle.sac_base.specs.declared.grid.Grid1.{Grid1}
 use Rattle.sac_base.specs.Grids.{has_vector, times_vector, SplitsVectors}

@@ -1,5 +1,5 @@
 -- Grids of the same numbers are the same, and have the members of their ranges.
-use Rattle.std.proofs.Common.{◌≡◌, ℕ, List, [], ◌∷◌, map, length, get_or, drop, Bool, true, false, ◌&&◌, refl, sym, ap, subst, ◌∙◌, ℤ, pos, ◌+ℤ◌, ◌-ℤ◌, ◌≤ℤ◌}
+use Rattle.std.proofs.Common.{◌≡◌, List, [], ◌∷◌, map, get_or, drop, ◌&&◌, refl, ap, subst, ◌∙◌, ℤ, pos, ◌≤ℤ◌}
 use Rattle.std.proofs.Math.Dec.{T_prop}
 use Rattle.sac_base.specs.declared.grid.Grid1.{Grid1}
 use Rattle.sac_base.specs.Grids.{has_index, has_vector, within}

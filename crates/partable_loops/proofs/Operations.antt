@@ -30,7 +30,7 @@ module _ (k : Facts) (op : CoreOp) (bs : List Bounds) (r : Result Framed Unplann
 
   pub genarray_known : (x y : Var) (shape : ArrayValue) (cell : List ℕ) → op ≡ making.Genarray x y → (k x).literal ≡ Some shape → (k y).shape ≡ Some cell
       → Decides r (λ f. (f.cell ≡ cell) × ((s : Site) (base : Base) (x y : Var) → FramesPlan base (making.Genarray x y) bs (WithLoops.genarray shape (cell_form base cell) s) f))
-        ((s : Site) × ((base : Base) × ((planned : Plan) × (plan bs (WithLoops.genarray shape (cell_form base cell) s) ≡ Ok planned))))
+      ((s : Site) × ((base : Base) × ((planned : Plan) × (plan bs (WithLoops.genarray shape (cell_form base cell) s) ≡ Ok planned))))
       → Known op
   genarray_known x y shape cell e literal known h =
       subst Known (sym e) (decides_more r
@@ -49,7 +49,7 @@ module _ (k : Facts) (op : CoreOp) (bs : List Bounds) (r : Result Framed Unplann
 
   pub modarray_known : (x : Var) (shape : List ℕ) → op ≡ making.Modarray x → (k x).shape ≡ Some shape
       → Decides r (λ f. (shape ≡ extents f.frame ++ f.cell) × ((s : Site) (base : Base) (x : Var) → FramesPlan base (making.Modarray x) bs (WithLoops.modarray (cell_form base shape) s) f))
-        ((s : Site) × ((base : Base) × ((planned : Plan) × (plan bs (WithLoops.modarray (cell_form base shape) s) ≡ Ok planned))))
+      ((s : Site) × ((base : Base) × ((planned : Plan) × (plan bs (WithLoops.modarray (cell_form base shape) s) ≡ Ok planned))))
       → Known op
   modarray_known x shape e known h =
       subst Known (sym e) (decides_more r
@@ -68,7 +68,7 @@ module _ (k : Facts) (op : CoreOp) (bs : List Bounds) (r : Result Framed Unplann
 
   pub fold_known : (o : Op) (x : Var) (cell : List ℕ) → op ≡ making.Fold o x → (k x).shape ≡ Some cell
       → Decides r (λ f. (f.cell ≡ cell) × ((s : Site) (base : Base) (o : Op) (x : Var) → FramesPlan base (making.Fold o x) bs (WithLoops.fold_by o (cell_form base cell) s) f))
-        ((s : Site) × ((base : Base) × ((o : Op) × ((planned : Plan) × (plan bs (WithLoops.fold_by o (cell_form base cell) s) ≡ Ok planned)))))
+      ((s : Site) × ((base : Base) × ((o : Op) × ((planned : Plan) × (plan bs (WithLoops.fold_by o (cell_form base cell) s) ≡ Ok planned)))))
       → Known op
   fold_known o x cell e known h =
       subst Known (sym e) (decides_more r

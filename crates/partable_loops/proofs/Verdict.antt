@@ -1,5 +1,5 @@
 -- The points of a partable with-loop, put together, and each refuted alone.
-use Rattle.std.proofs.Common.{◌≡◌, ◌≤◌, ◌+◌, ◌*◌, ◌^◌, ◌<◌, ℕ, suc, List, [], ◌∷◌, ◌++◌, map, length, Bool, true, false, ◌&&◌, refl, sym, ap, subst, ◌∙◌, arith, true≢false, Some, None, Option, Ok, ℤ, pos, negsuc, ◌+ℤ◌}
+use Rattle.std.proofs.Common.{◌≡◌, ◌≤◌, ◌+◌, ◌*◌, ◌^◌, ℕ, suc, List, [], ◌∷◌, ◌++◌, map, length, Bool, true, false, ◌&&◌, refl, sym, ap, subst, ◌∙◌, arith, true≢false, Some, None, ℤ, pos, negsuc, ◌+ℤ◌}
 use Rattle.std.specs.Prelude.{int_lt, int_le, nat_lt, if◌then◌else◌}
 use Rattle.std.proofs.lemmas.Int.{ints}
 use Rattle.std.proofs.lemmas.Bool.Decides.{nat_tests}
@@ -9,8 +9,7 @@ use Rattle.sac_base.specs.declared.site.Site.{Site}
 use Rattle.sac_base.specs.Arrays.{size}
 use Rattle.sac_base.specs.Grids.{has_vector}
 use Rattle.sac_base.specs.Parts.{Part, part_at, further}
-use Rattle.sac_base.specs.WithLoops.{Bounds, Operation, Plan, holds, holds_at, plan, shape_spans}
-use Rattle.core_ir.specs.declared.tree.Var.{Var}
+use Rattle.sac_base.specs.WithLoops.{Bounds, Plan, holds, holds_at, plan, shape_spans}
 use Rattle.core_ir.specs.declared.tree.CoreOp.{CoreOp}
 use Rattle.core_ir.specs.declared.tree.CoreOp.TheVariants as making
 use Rattle.core_ir.specs.Meaning.{extents}
@@ -52,9 +51,10 @@ old_part (n ∷ ns) cell (pos i ∷ v) e =
     let parts = both_true (holds_at (spanned (record { low = pos 0; extent = n })) (pos i)) (holds (map spanned (shape_spans ns)) v) e in
     let upper = both_true (int_le (pos 0) (pos i)) (int_lt (pos i) (pos 0 +ℤ pos n)) (both_true (int_le (pos 0) (pos i) && int_lt (pos i) (pos 0 +ℤ pos n)) _ parts.0).0 in
     let inner = old_part ns cell v parts.1 in
-    let q = inner.0 in
-    (record { start = i * size (ns ++ cell) + q.start; shape = q.shape },
-      (ap (λ t. if t then further i (ns ++ cell) (part_at (ns ++ cell) v) else None) (below_end i n upper.1) ∙ ap (further i (ns ++ cell)) inner.1.0, inner.1.1))
+    let q = inner.0 in (
+      record { start = i * size (ns ++ cell) + q.start; shape = q.shape },
+      (ap (λ t. if t then further i (ns ++ cell) (part_at (ns ++ cell) v) else None) (below_end i n upper.1) ∙ ap (further i (ns ++ cell)) inner.1.0, inner.1.1),
+    )
 
 pub old_cells : (frame : List Grid1) (ns cell : List ℕ) → grid_range frame ≡ map spanned (shape_spans ns)
     → (v : List ℤ) → has_vector frame v ≡ true → (q : Part) × ((part_at (ns ++ cell) v ≡ Some q) × (q.shape ≡ cell))

@@ -92,7 +92,7 @@ fn genarray_frame(
 ) -> Result<Framed, Unplanned>
     ensures { Decides result
         (λ f. (f.cell ≡ cell.now) × ((s : Site) (base : Base) (x y : Variable) →
-            FramesPlan base (Genarray x y) bounds.now (genarray shape.now (cell_form base cell.now) s) f))
+        FramesPlan base (Genarray x y) bounds.now (genarray shape.now (cell_form base cell.now) s) f))
         ((s : Site) × ((base : Base) × ((planned : Plan) × (plan bounds.now (genarray shape.now (cell_form base cell.now) s) ≡ Ok planned)))) }
 {
     let Some(front) = shape_of(alloc, shape) else {
@@ -114,14 +114,10 @@ fn genarray_frame(
     }
 }
 
-fn modarray_frame(
-    alloc: Global,
-    bounds: &[Bounds],
-    shape: &Shape,
-) -> Result<Framed, Unplanned>
+fn modarray_frame(alloc: Global, bounds: &[Bounds], shape: &Shape) -> Result<Framed, Unplanned>
     ensures { Decides result
         (λ f. (shape.now ≡ extents f.frame ++ f.cell) × ((s : Site) (base : Base) (x : Variable) →
-            FramesPlan base (Modarray x) bounds.now (modarray (cell_form base shape.now) s) f))
+        FramesPlan base (Modarray x) bounds.now (modarray (cell_form base shape.now) s) f))
         ((s : Site) × ((base : Base) × ((planned : Plan) × (plan bounds.now (modarray (cell_form base shape.now) s) ≡ Ok planned)))) }
 {
     let rank = shape.rank();
@@ -143,7 +139,7 @@ fn modarray_frame(
 fn fold_frame(alloc: Global, bounds: &[Bounds], cell: &Shape) -> Result<Framed, Unplanned>
     ensures { Decides result
         (λ f. (f.cell ≡ cell.now) × ((s : Site) (base : Base) (o : Op) (x : Variable) →
-            FramesPlan base (Fold o x) bounds.now (fold_by o (cell_form base cell.now) s) f))
+        FramesPlan base (Fold o x) bounds.now (fold_by o (cell_form base cell.now) s) f))
         ((s : Site) × ((base : Base) × ((o : Op) × ((planned : Plan) × (plan bounds.now (fold_by o (cell_form base cell.now) s) ≡ Ok planned))))) }
 {
     let n = index_length(bounds, 0);

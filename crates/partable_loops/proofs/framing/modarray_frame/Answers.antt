@@ -1,4 +1,4 @@
-use Rattle.std.proofs.Common.{◌≡◌, ◌≤◌, ◌∙◌, ap, sym, subst, rules, length, true, All, List, Some, take, drop, min, map}
+use Rattle.std.proofs.Common.{◌≡◌, ◌≤◌, ◌∙◌, ap, sym, subst, rules, length, true, All, Some, take, drop, min, map}
 use Rattle.std.specs.Prelude.{is_some}
 use Rattle.sac_base.specs.Arrays.{size, MOST}
 use Rattle.sac_base.specs.WithLoops.{Range, each, index_length, range_of, shape_spans}
@@ -20,12 +20,13 @@ returns-in-Ok c =
     let spans = c.in_ok-grid_of_shape-in-Ok.ensures ∙ ap (λ s. map spanned (shape_spans s)) front in
     let cell : c.rest.result ≡ drop (min (index_length bs (length shape)) (length shape)) shape =
     c.rest.ensures ∙ ap (λ m. drop m shape) (c.min.ensures ∙ (λ i. min (n i) (rank i))) in
-    let f : Framed = record { grids = c.in_ok-grids_of-in-Ok.field-0; frame = c.in_ok-grid_of_shape-in-Ok.field-0; cell = c.rest.result } in
-    (modarray_whole shape (index_length bs (length shape)) f spans cell,
+    let f : Framed = record { grids = c.in_ok-grids_of-in-Ok.field-0; frame = c.in_ok-grid_of_shape-in-Ok.field-0; cell = c.rest.result } in (
+      modarray_whole shape (index_length bs (length shape)) f spans cell,
       modarray_frames bs shape rs f
-      (subst (λ s. size s ≤ MOST) front (some_small _ _ _ c.elements.ensures some))
-      ((λ i. each (range_of (sym n i) (sym rank i) (Some (sym front i)) (sym front i)) bs) ∙ c.in-Ok.ensures.told)
-      (subst (λ m. All (λ (r : Range). length r ≡ m) rs) n c.in-Ok.ensures.lengths)
-      (c.in_ok-grids_of-in-Ok.ensures ∙ c.deref.ensures.value)
-      spans
-      cell)
+          (subst (λ s. size s ≤ MOST) front (some_small _ _ _ c.elements.ensures some))
+          ((λ i. each (range_of (sym n i) (sym rank i) (Some (sym front i)) (sym front i)) bs) ∙ c.in-Ok.ensures.told)
+          (subst (λ m. All (λ (r : Range). length r ≡ m) rs) n c.in-Ok.ensures.lengths)
+          (c.in_ok-grids_of-in-Ok.ensures ∙ c.deref.ensures.value)
+          spans
+          cell,
+    )
