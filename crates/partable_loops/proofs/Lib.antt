@@ -1,0 +1,8 @@
+pub mod Numbers
+pub mod Sameness
+pub mod Boxes
+pub mod Labelling
+pub mod Framers
+pub mod Operations
+pub mod Verdict
+pub mod Bodies
