@@ -7,7 +7,7 @@ use Rattle.sac_base.specs.declared.types.ArrayType.{ArrayType}
 use Rattle.sac_base.specs.Types.{all_have_forms}
 use Rattle.sac_ast.specs.declared.Param.{Param}
 use Rattle.sac_ast.specs.Tree.{FunctionTree, ProgramTree}
-use Rattle.value_meaning.specs.Calls as source
+use Rattle.source_meaning.specs.Calls as source
 use Rattle.core_ir.specs.declared.tree.Var.{Var}
 use Rattle.core_ir.specs.Outcome.{param_types, SameHeads, SameOutside}
 use Rattle.core_ir.specs.Terms.{FunTerm, CoreTerm}

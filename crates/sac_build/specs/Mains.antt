@@ -3,7 +3,7 @@ use Rattle.std.specs.Prelude.{◌≡◌, List, true, Some, slice_get, position}
 use Rattle.sac_base.specs.declared.form.Form.{Form}
 use Rattle.sac_base.specs.Types.{all_have_forms}
 use Rattle.sac_ast.specs.Tree.{FunctionTree, ProgramTree}
-use Rattle.value_meaning.specs.Calls as source
+use Rattle.source_meaning.specs.Calls as source
 use Rattle.core_ir.specs.Outcome.{param_types}
 use Rattle.counted_code.specs.Terms.{CodeFunTerm, CodeProgram, core_of_fun}
 use Rattle.specialise.specs.Mains.{AreExact}
