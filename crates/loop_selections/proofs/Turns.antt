@@ -1,5 +1,5 @@
 -- One binding of the walk more, and its ends.
-use Rattle.std.specs.Prelude.{unwrap_or, Vec, ℤ}
+use Rattle.std.specs.Prelude.{unwrap_or, Vec, ℤ, Result, Ok, Err}
 use Rattle.std.specs.Option.{is_some}
 use Rattle.std.specs.declared.alloc.Global.{Global}
 use Rattle.std.proofs.Common.{◌≡◌, ℕ, Bool, true, false, ◌&&◌, List, [], ◌∷◌, ◌++◌, map, length, Option, Some, None, refl, sym, ap, ◌∙◌, append_assoc, append-nil}
@@ -90,13 +90,13 @@ is_unknown false gs e = refl
 
 -- ---- conditionals
 
-pub choice_unknown : (s a b : Bool) (fs : List Fact) → b ≡ false → None ≡ known_if (s && a && b) fs
+pub choice_unknown : (s a b : Bool) (fs : List Fact) → b ≡ false → None ≡ known_if (s && (a && b)) fs
 choice_unknown true true b fs e = λ i. known_if (sym e i) fs
 choice_unknown true false b fs e = refl
 choice_unknown false a b fs e = refl
 
-pub choice_known : (s a b : Bool) (fs gs : List Fact) → s ≡ true → a ≡ true → b ≡ true → gs ≡ fs → Some gs ≡ known_if (s && a && b) fs
-choice_known s a b fs gs p q r e = (λ i. known_if (sym p i && sym q i && sym r i) (e i))
+pub choice_known : (s a b : Bool) (fs gs : List Fact) → s ≡ true → a ≡ true → b ≡ true → gs ≡ fs → Some gs ≡ known_if (s && (a && b)) fs
+choice_known s a b fs gs p q r e = (λ i. known_if (sym p i && (sym q i && sym r i)) (e i))
 
 -- whether there is an answer
 pub some_is : (o : Option (Vec Known Global)) (b : Bool) (fs : List Fact) → seen o ≡ known_if b fs → is_some o ≡ b
@@ -107,8 +107,8 @@ some_is (Some v) false fs e = absurd (let q : ◌≡◌ {A = Option (List Fact)}
 
 -- ---- two blocks, one after the other
 
-pub two_found : (f0 f1 f2 xs ys : List (Option (List ℤ))) → f1 ≡ f0 ++ xs → f2 ≡ f1 ++ ys → f2 ≡ f0 ++ (xs ++ ys)
-two_found f0 f1 f2 xs ys p q = q ∙ ap (λ f. f ++ ys) p ∙ append_assoc f0 xs ys
+pub two_found : {f1 f2 zs : List (Option (List ℤ))} (f0 xs ys : List (Option (List ℤ))) → f1 ≡ f0 ++ xs → f2 ≡ f1 ++ zs → zs ≡ ys → f2 ≡ f0 ++ (xs ++ ys)
+two_found f0 xs ys p q e = q ∙ (λ i. p i ++ e i) ∙ append_assoc f0 xs ys
 
 -- of a loop's parameters no relation is known
 pub loop_learns : (n : ℕ) (m : IndexFacts) (xs : List Var) (first : Bool) (start params : List Var) (test body : BlockTerm) (s : Rattle.sac_base.specs.declared.site.Site.Site) (k : Facts)
@@ -116,3 +116,16 @@ pub loop_learns : (n : ℕ) (m : IndexFacts) (xs : List Var) (first : Bool) (sta
 loop_learns n m [] first start params test body s k = refl
 loop_learns n m (x ∷ []) first start params test body s k = refl
 loop_learns n m (x ∷ y ∷ ys) first start params test body s k = refl
+
+-- ---- answers
+
+abbrev ok_value : {E : Type 0} → Result Bool E → Bool
+ok_value (Ok b) = b
+ok_value (Err e) = false
+
+pub ok_is : {E : Type 0} (a b : Bool) → ◌≡◌ {A = Result Bool E} (Ok a) (Ok b) → a ≡ b
+ok_is a b e = ap ok_value e
+
+pub both_is : (a b : Bool) → (a && b) ≡ true → (a ≡ true) × (b ≡ true)
+both_is true b p = (refl, p)
+both_is false b p = absurd (let q : ◌≡◌ {A = Bool} false true = p in cc)

@@ -24,7 +24,7 @@ use sac_base::Memory;
 use std::alloc::Global;
 
 /// What is looked for: selections from a producer, in the body of a part of so many axes.
-#[derive(Clone, Copy, Debug)]
+#[derive(Clone, Copy)]
 pub struct Sought {
     pub producer: Var,
     pub axes: usize,

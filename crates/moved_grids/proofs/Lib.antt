@@ -1,1 +1,2 @@
+mod Overflows
 mod WithinFacts

@@ -56,35 +56,30 @@ dense a x s l h = elim (has_facts a x a.wide) [
   | inr n ↦ absurd (elim n.0 [ inl k ↦ omega (arith, ints, l, h) | inr k ↦ omega (arith, ints, l, h) ])
 ]
 
-pub axis_is : (b : Bool) (g f : Grid1) (c least greatest : ℤ) → IsSpan g least greatest → f.step ≡ pos 1 → b ≡ (has_index f (least +ℤ c) && has_index f (greatest +ℤ c)) → IsTrue b ↔ IsAxisWithin g c f
-axis_is b g f c least greatest s step e = (there, back)
-  where
-    there : IsTrue b → IsAxisWithin g c f
-    there t x h =
-        let w = parts (has_index f (least +ℤ c)) (has_index f (greatest +ℤ c)) (sym e ∙ t) in
-        let low = bounds f (least +ℤ c) w.0 in
-        let high = bounds f (greatest +ℤ c) w.1 in
-        let below = s.0.below x h in
-        let above = s.1.above x h in
-        dense f (x +ℤ c) step (omega (arith, ints, low.0, below)) (omega (arith, ints, high.1, above))
-    back : IsAxisWithin g c f → IsTrue b
-    back h = e ∙ both (has_index f (least +ℤ c)) (has_index f (greatest +ℤ c)) (h least s.0.member) (h greatest s.1.member)
-
-pub none_within : (g f : Grid1) (c : ℤ) → ((x : ℤ) → has_index g x ≡ false) → IsAxisWithin g c f
-none_within g f c h = λ x k. absurd (never (has_index g x) k (h x))
+pub axis_is : (b : Bool) (g f : Grid1) (c least greatest : ℤ) → IsSpan g least greatest → (b ≡ true → (f.lo ≤ℤ (least +ℤ c)) × ((greatest +ℤ c) <ℤ f.hi)) → (f.lo ≤ℤ (least +ℤ c) → (greatest +ℤ c) <ℤ f.hi → b ≡ true)
+    → IsTrue b ↔ IsAxisWithin g c f
+axis_is b g f c least greatest s there back = (
+  λ t x h. let e = there t in let low = s.0.below x h in let high = s.1.above x h in (omega (arith, ints, e.0, low), omega (arith, ints, e.1, high)),
+  λ h. back (h least s.0.member).0 (h greatest s.1.member).1,
+)
 
 -- ---- all axes
 
-all_in : (gs fs : List Grid1) (cs : List ℤ) → AreWithin gs cs fs → IsWithin gs cs fs
-all_in [] [] cs b [] h = refl
-all_in [] [] cs b (x ∷ v) h = absurd (never false h refl)
-all_in [] (f ∷ fs) cs b v h = absurd b
-all_in (g ∷ gs) [] cs b v h = absurd b
-all_in (g ∷ gs) (f ∷ fs) cs b [] h = absurd (never false h refl)
-all_in (g ∷ gs) (f ∷ fs) cs b (x ∷ v) h =
+abbrev IsDense : Grid1 → Type 0
+IsDense axis = axis.step ≡ pos 1
+
+all_in : (gs fs : List Grid1) (cs : List ℤ) → All IsDense fs → AreWithin gs cs fs → IsWithin gs cs fs
+all_in [] [] cs d b [] h = refl
+all_in [] [] cs d b (x ∷ v) h = absurd (never false h refl)
+all_in [] (f ∷ fs) cs d b v h = absurd b
+all_in (g ∷ gs) [] cs d b v h = absurd b
+all_in (g ∷ gs) (f ∷ fs) cs d b [] h = absurd (never false h refl)
+all_in (g ∷ gs) (f ∷ fs) cs d b (x ∷ v) h =
     let w = parts (has_index g x) (has_vector gs v) h in
+    let at = b.0 x w.0 in
     ap (has_vector (f ∷ fs)) (by_moved x v cs)
-    ∙ both (has_index f (x +ℤ number_at_first cs)) (has_vector fs (moved v (numbers_behind cs))) (b.0 x w.0) (all_in gs fs (numbers_behind cs) b.1 v w.1)
+    ∙ both (has_index f (x +ℤ number_at_first cs)) (has_vector fs (moved v (numbers_behind cs))) (dense f (x +ℤ number_at_first cs) (All-head IsDense f fs d) at.0 at.1)
+    (all_in gs fs (numbers_behind cs) (All-tail IsDense f fs d) b.1 v w.1)
 
 some_vector : (gs : List Grid1) → HaveMembers gs → (v : List ℤ) × (has_vector gs v ≡ true)
 some_vector [] m = ([], refl)
@@ -92,20 +87,20 @@ some_vector (g ∷ gs) m = let s = some_vector gs m.1 in (m.0.0 ∷ s.0, both (h
 
 from_all : (gs fs : List Grid1) (cs : List ℤ) → HaveMembers gs → IsWithin gs cs fs → AreWithin gs cs fs
 from_all [] [] cs m all = tt
-from_all [] (f ∷ fs) cs m all = never false (sym (ap (has_vector (f ∷ fs)) refl) ∙ all [] refl) refl
+from_all [] (f ∷ fs) cs m all = never false (all [] refl) refl
 from_all (g ∷ gs) [] cs m all =
     let t = some_vector gs m.1 in
     never false (sym (ap (has_vector []) (by_moved m.0.0 t.0 cs)) ∙ all (m.0.0 ∷ t.0) (both (has_index g m.0.0) (has_vector gs t.0) m.0.1 t.1)) refl
 from_all (g ∷ gs) (f ∷ fs) cs m all =
-    (λ x h. let s = some_vector gs m.1 in (at x s.0 h s.1).0, from_all gs fs (numbers_behind cs) m.1 (λ v h. (at m.0.0 v m.0.1 h).1))
+    (λ x h. let s = some_vector gs m.1 in bounds f (x +ℤ number_at_first cs) (at x s.0 h s.1).0, from_all gs fs (numbers_behind cs) m.1 (λ v h. (at m.0.0 v m.0.1 h).1))
   where
     at : (x : ℤ) (v : List ℤ) → has_index g x ≡ true → has_vector gs v ≡ true → (has_index f (x +ℤ number_at_first cs) ≡ true) × (has_vector fs (moved v (numbers_behind cs)) ≡ true)
     at x v h k =
         parts (has_index f (x +ℤ number_at_first cs)) (has_vector fs (moved v (numbers_behind cs)))
         (sym (ap (has_vector (f ∷ fs)) (by_moved x v cs)) ∙ all (x ∷ v) (both (has_index g x) (has_vector gs v) h k))
 
-pub within_is : (b : Bool) (g f : List Grid1) (cs : List ℤ) → HaveMembers g → (IsTrue b ↔ AreWithin g cs f) → IsTrue b ↔ IsWithin g cs f
-within_is b g f cs m d = (λ t. all_in g f cs (d.0 t), λ h. d.1 (from_all g f cs m h))
+pub within_is : (b : Bool) (g f : List Grid1) (cs : List ℤ) → All IsDense f → HaveMembers g → (IsTrue b ↔ AreWithin g cs f) → IsTrue b ↔ IsWithin g cs f
+within_is b g f cs d m e = (λ t. all_in g f cs d (e.0 t), λ h. e.1 (from_all g f cs m h))
 
 pub nowhere_is : (g f : List Grid1) (cs : List ℤ) → ((v : List ℤ) → has_vector g v ≡ false) → IsTrue true ↔ IsWithin g cs f
 nowhere_is g f cs h = (λ t v k. absurd (never (has_vector g v) k (h v)), λ w. refl)

@@ -1,5 +1,5 @@
 -- Grids that are moved, inside of a frame.
-use Rattle.std.specs.Prelude.{◌≡◌, true, List, [], ◌∷◌, ℤ, pos, ◌+ℤ◌}
+use Rattle.std.specs.Prelude.{◌≡◌, true, List, [], ◌∷◌, ℤ, pos, ◌+ℤ◌, ◌≤ℤ◌, ◌<ℤ◌}
 use Rattle.sac_base.specs.declared.grid.Grid1.{Grid1}
 use Rattle.sac_base.specs.Grids.{has_index, has_vector}
 use Rattle.generator_sets.specs.Pieces.{moved}
@@ -17,8 +17,9 @@ abbrev pub HaveMembers : List Grid1 → Type 0
 HaveMembers [] = Unit {0}
 HaveMembers (g ∷ gs) = HasMember g × HaveMembers gs
 
+-- all members, with a number added, lie between the bounds of a range
 abbrev pub IsAxisWithin : Grid1 → ℤ → Grid1 → Type 0
-IsAxisWithin g c f = (x : ℤ) → has_index g x ≡ true → has_index f (x +ℤ c) ≡ true
+IsAxisWithin g c f = (x : ℤ) → has_index g x ≡ true → (f.lo ≤ℤ (x +ℤ c)) × ((x +ℤ c) <ℤ f.hi)
 
 -- where there is no number, nothing is added
 abbrev pub number_at_first : List ℤ → ℤ

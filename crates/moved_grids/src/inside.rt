@@ -1,6 +1,6 @@
 //! Whether a moved grid lies inside of a frame.
 
-ghost use Rattle.std.specs.Prelude.{◌≡◌, ◌↔◌, ◌+ℤ◌, pos, IsTrue, List, ℤ, true, false};
+ghost use Rattle.std.specs.Prelude.{◌≡◌, ◌↔◌, ◌+ℤ◌, ◌≤ℤ◌, ◌<ℤ◌, pos, IsTrue, List, ℤ, true, false};
 ghost use Rattle.std.specs.List.{All};
 ghost use Rattle.sac_base.specs.Grids.{has_index, has_vector};
 ghost use Rattle.moved_grids.specs.Within.{number_at_first, numbers_behind, HasMember, HaveMembers, IsAxisWithin, AreWithin, IsWithin};
@@ -42,9 +42,9 @@ fn has_member(axis: &Grid1) -> bool
     span_of(axis).is_some()
 }
 
-/// Whether each axis lies in the range at its place, with the number at its place added, and there are as many ranges.
+/// Whether each axis lies between the bounds of the range at its place, with the number at its place added, and there are as many ranges.
 fn are_within(axes: &[Grid1], numbers: &[i32], ranges: &[Grid1]) -> bool
-    ensures { All (λ axis. axis.step ≡ pos 1) ranges.now → IsTrue result ↔ AreWithin axes.now numbers.now ranges.now }
+    ensures { IsTrue result ↔ AreWithin axes.now numbers.now ranges.now }
 {
     match axes.split_first() {
         None => ranges.is_empty(),
@@ -76,23 +76,46 @@ fn other_numbers(numbers: &[i32]) -> &[i32]
     }
 }
 
-/// Whether all members of an axis, with a number added, lie in a range of step 1.
+/// Whether all members of an axis, with a number added, lie between the bounds of a range.
 fn is_axis_within(axis: &Grid1, number: i32, range: &Grid1) -> bool
-    ensures { range.now.step ≡ pos 1 → IsTrue result ↔ IsAxisWithin axis.now number range.now }
+    ensures { IsTrue result ↔ IsAxisWithin axis.now number range.now }
 {
     match span_of(axis) {
         None => true,
-        Some(span) => has_moved(range, span.least, number) && has_moved(range, span.greatest, number),
+        Some(span) => {
+            is_from(range.lo, span.least, number) && is_below(span.greatest, number, range.hi)
+        }
     }
 }
 
-/// Whether a range has a number with another added.
-fn has_moved(range: &Grid1, member: i64, number: i32) -> bool
-    ensures { result ≡ has_index range.now (member +ℤ number) }
+/// Whether a number with another added is not below a bound. A sum without room lies beyond all bounds.
+fn is_from(bound: i64, member: i64, number: i32) -> bool
+    ensures { IsTrue result ↔ (bound ≤ℤ (member +ℤ number)) }
 {
-    let _range = *range;
     match member.checked_add(i64::from(number)) {
-        Some(sum) => range.has(sum),
-        None => false,
+        Some(sum) => bound <= sum,
+        None => is_positive(number),
     }
+}
+
+/// Whether a number with another added is below a bound.
+fn is_below(member: i64, number: i32, bound: i64) -> bool
+    ensures { IsTrue result ↔ ((member +ℤ number) <ℤ bound) }
+{
+    match member.checked_add(i64::from(number)) {
+        Some(sum) => sum < bound,
+        None => is_negative(number),
+    }
+}
+
+fn is_positive(number: i32) -> bool
+    ensures { IsTrue result ↔ (pos 0 <ℤ number) }
+{
+    0 < number
+}
+
+fn is_negative(number: i32) -> bool
+    ensures { IsTrue result ↔ (number <ℤ pos 0) }
+{
+    number < 0
 }

@@ -35,7 +35,7 @@ even_more k (g ∷ gs) f r even rest = elim (cases_lt k (length g)) [
   | inr past ↦
       let none : axis_grids k (g ∷ gs) ≡ axis_grids k gs = ap (λ o. option_to_list o ++ axis_grids k gs) (slice_get_past g k past) in
       All-cons (λ g. AxesUniform (drop k g) (f ∷ r)) g gs
-      (subst (λ l. AxesUniform l (f ∷ r)) (sym (drop_all g k past)) tt)
+      (subst (λ l. AxesUniform l (f ∷ r)) (sym (drop_all k g past)) tt)
       (even_more k gs f r (subst (λ l. IsUniform l f) none even) (All-tail (λ g. AxesUniform (drop (suc k) g) r) g gs rest))
 ]
 

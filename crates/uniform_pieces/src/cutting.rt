@@ -1,4 +1,4 @@
-ghost use Rattle.std.specs.Prelude.{◌≡◌, ℕ, ◌*◌, ◌<◌, ◌≤◌, ◌^◌, ◌≢◌, ◌∷◌, [], min, length, IfOk, Err};
+ghost use Rattle.std.specs.Prelude.{◌≡◌, ℕ, ◌*◌, ◌<◌, ◌≤◌, ◌^◌, ◌≢◌, ◌∷◌, [], ◌++◌, min, length, IfOk, OnOk, Err, option_to_list, slice_get};
 ghost use Rattle.std.specs.List.{All};
 ghost use Rattle.sac_base.specs.Grids.{within, Splits, SplitsVectors};
 ghost use Rattle.grid_sets.specs.Segments.{IsUniform, IsAxisCount, HasRuns};
@@ -20,11 +20,19 @@ fn axis_of(alloc: Global, generators: &[Grid], axis: usize) -> Result<Vec<Grid1>
 {
     let mut grids = Vec::new(alloc);
     for generator in generators {
-        if let Some(grid) = generator.axes().get(axis) {
-            grids.push(*grid)?;
-        }
+        push_axis(&mut grids, generator, axis)?;
     }
     Ok(grids)
+}
+
+/// Appends the generator's grid of an axis, if it has this axis.
+fn push_axis(grids: &mut Vec<Grid1>, generator: &Grid, axis: usize) -> Result<(), Memory>
+    ensures { OnOk result (grids.new.items ≡ grids.old.items ++ option_to_list (slice_get generator.now axis)) }
+{
+    if let Some(grid) = generator.axes().get(axis) {
+        grids.push(*grid)?;
+    }
+    Ok(())
 }
 
 /// An axis of the frame as runs of neighbours that belong to the same generators.

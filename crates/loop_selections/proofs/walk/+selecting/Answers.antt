@@ -1,8 +1,9 @@
-use Rattle.std.proofs.Common.{rules, refl, sym, ap, ◌≡◌, ◌∙◌, ◌+◌, ◌-◌, ◌&&◌, true, false, Bool, List, ◌∷◌, ◌++◌, drop, length, map, arith, Ok, None}
+use Rattle.std.proofs.Common.{rules, refl, sym, ap, ◌≡◌, ◌∙◌, ◌+◌, ◌-◌, ◌&&◌, true, false, Bool, List, [], ◌∷◌, ◌++◌, drop, length, map, arith, Ok, None}
 use Rattle.core_ir.specs.declared.tree.Let.{Let}
 use Rattle.core_ir.specs.Terms.{BlockTerm}
 use Rattle.core_ir.specs.View.{block_term, right_term}
 use Rattle.core_facts.specs.Facts.{common_facts, note_all, block_facts, right_facts}
+use Rattle.core_loops.specs.Indices.{learn_index, note_others}
 use Rattle.core_loops.specs.Pairs.{offsets, offsets_right}
 use Rattle.core_uses.specs.Tests.{none_is}
 use Rattle.fact_table.specs.Table.{fact_of, facts_of}
@@ -10,11 +11,12 @@ use Rattle.index_table.specs.Table.{indices_of}
 use Rattle.plain_facts.specs.Called.{shapes_of}
 use Rattle.std.specs.Option.{is_some}
 use Rattle.std.proofs.lemmas.List.{drop_more}
-use Rattle.loop_selections.specs.Selecting.{is_selecting, is_selecting_right}
+use Rattle.loop_selections.specs.Selecting.{is_selecting, is_selecting_right, turns_select}
 use Rattle.loop_selections.specs.Told.{known_if, seen, told}
 use Rattle.loop_selections.proofs.Notes.{earlier_on, none_gone}
-use Rattle.loop_selections.proofs.Turns.{select_turn, known_turn, found_turn, block_values, block_found, passed_some, two_found, some_is, loop_learns, is_known, is_unknown, choice_known, choice_unknown}
+use Rattle.loop_selections.proofs.Turns.{select_turn, known_turn, found_turn, block_values, block_found, passed_some, two_found, some_is, loop_learns, is_known, is_unknown, choice_known, choice_unknown, ok_is, both_is}
 use Rattle.loop_selections.proofs.walk.+selecting.Goals as goal
+use Rattle.loop_selections.proofs.walk.+selecting.Goals.{in_turns-then-is_some, in_turns-else-is_some}
 
 pub pass_bindings-loop-binding-init : goal.pass_bindings-loop-binding-init
 pass_bindings-loop-binding-init t c = record {
@@ -110,11 +112,47 @@ right_values-returns-in_ok-common_facts-in-If-clause-found t c some =
     let two = c.in_ok-second-in-If.ensures.found (ap is_some c.in-Some-2.is) in
     let facts = c.in_ok-first-in-If.ensures.facts in
     let indices = c.in_ok-first-in-If.ensures.indices in
-    two_found _ _ _ _ _ one (two ∙ (λ i. _ ++ offsets called p n (block_term c.in-If.no) (facts_of (facts i)) (indices_of (indices i))))
+    two_found (told c.args.found.now.items) (offsets called p n (block_term c.in-If.yes) k m) (offsets called p n (block_term c.in-If.no) k m) one two
+    (λ i. offsets called p n (block_term c.in-If.no) (facts_of (facts i)) (indices_of (indices i)))
     ∙ (λ i. told c.args.found.now.items ++ offsets_right called p n (sym r i) k m)
 
 pub in_turns-returns-clause-selects : goal.in_turns-returns-clause-selects
-in_turns-returns-clause-selects t c = ?
+in_turns-returns-clause-selects t c =
+    let p = c.args.sought.producer in
+    let first = some_is _ _ _ c.in_ok-tested.ensures.known in
+    let other = some_is _ _ _ c.in_ok-turned.ensures.known in
+    let both : c.if-is_some.result ≡ (is_some c.in_ok-tested.tested && is_some c.in_ok-turned.turned) = elim c.if-is_some.branch [
+      | in_turns-then-is_some w ↦ w.result-is ∙ w.is_some-then-is_some.ensures ∙ (λ i. sym (sym c.is_some.ensures ∙ w.if-is_some.true) i && is_some c.in_ok-turned.turned)
+      | in_turns-else-is_some w ↦ w.result-is ∙ w.if-is_some.false ∙ (λ i. sym (sym c.is_some.ensures ∙ w.if-is_some.false) i && is_some c.in_ok-turned.turned)
+    ] in
+    both ∙ (λ i. first i && other i) ∙ (λ i. turns_select p (sym (ap right_term c.in-Loop.is) i))
 
 pub in_turns-returns-clause-found : goal.in_turns-returns-clause-found
-in_turns-returns-clause-found t c = ?
+in_turns-returns-clause-found t c passed =
+    let called = shapes_of c.args.called.now in
+    let p = c.args.sought.producer in
+    let n = c.args.sought.axes in
+    let k = facts_of c.args.facts.now in
+    let m = indices_of c.args.indices.now in
+    let ps = c.in-Loop.params.items in
+    let test = block_term c.in-Loop.test in
+    let body = block_term c.in-Loop.body in
+    let f0 = told c.args.found.now.items in
+    let r = ap right_term c.in-Loop.is in
+    let both : c.if-is_some.result ≡ (is_some c.in_ok-tested.tested && is_some c.in_ok-turned.turned) = elim c.if-is_some.branch [
+      | in_turns-then-is_some w ↦ w.result-is ∙ w.is_some-then-is_some.ensures ∙ (λ i. sym (sym c.is_some.ensures ∙ w.if-is_some.true) i && is_some c.in_ok-turned.turned)
+      | in_turns-else-is_some w ↦ w.result-is ∙ w.if-is_some.false ∙ (λ i. sym (sym c.is_some.ensures ∙ w.if-is_some.false) i && is_some c.in_ok-turned.turned)
+    ] in
+    let some = both_is (is_some c.in_ok-tested.tested) (is_some c.in_ok-turned.turned) (sym both ∙ ok_is c.if-is_some.result true passed) in
+    let facts : facts_of c.learn_all.new.facts ≡ note_all k ps [] =
+    c.in_ok-learn_all.ensures.noted ∙ (λ i. note_all k (c.deref-2.ensures.value i) (map fact_of (c.new.ensures.items i))) in
+    let indices : indices_of c.learn_relation.new.indices ≡ note_others m ps =
+    c.in_ok-learn_relation.ensures.learned
+    ∙ (λ i. learn_index n m (c.deref.ensures.value i) (r i) k)
+    ∙ loop_learns n m ps c.in-Loop.first_body c.in-Loop.start.items ps test body c.in-Loop.test_site k in
+    let one = c.in_ok-tested.ensures.found some.0 in
+    let two = c.in_ok-turned.ensures.found some.1 in
+    two_found f0 (offsets called p n test (note_all k ps []) (note_others m ps)) (offsets called p n body (note_all k ps []) (note_others m ps))
+    (one ∙ (λ i. f0 ++ offsets called p n test (facts i) (indices i))) two
+    (λ i. offsets called p n body ((ap facts_of c.in_ok-tested.ensures.facts ∙ facts) i) ((ap indices_of c.in_ok-tested.ensures.indices ∙ indices) i))
+    ∙ (λ i. f0 ++ offsets_right called p n (sym r i) k m)

@@ -14,10 +14,10 @@ returns-then-has_members c =
     let b = c.are_within.result in
     let cs = c.args.offset.now in
     let members : HaveMembers g = subst HaveMembers c.axes-axes.ensures.axes (c.has_members.ensures.some c.if-has_members.true) in
-    let inside : All (λ (axis : Grid1). axis.step ≡ pos 1) f → IsTrue b ↔ AreWithin g cs f =
-    subst (λ (h : List Grid1). All (λ (axis : Grid1). axis.step ≡ pos 1) h → IsTrue b ↔ AreWithin g cs h) c.axes-ranges.ensures.axes
-    (subst (λ (h : List Grid1). All (λ (axis : Grid1). axis.step ≡ pos 1) c.axes-ranges.result.now → IsTrue b ↔ AreWithin h cs c.axes-ranges.result.now) c.axes-axes.ensures.axes c.are_within.ensures) in
-    within_is b g f cs members (inside c.requires)
+    let inside : IsTrue b ↔ AreWithin g cs f =
+    subst (λ (h : List Grid1). IsTrue b ↔ AreWithin g cs h) c.axes-ranges.ensures.axes
+    (subst (λ (h : List Grid1). IsTrue b ↔ AreWithin h cs c.axes-ranges.result.now) c.axes-axes.ensures.axes c.are_within.ensures) in
+    within_is b g f cs c.requires members inside
 
 pub returns-else-has_members : goal.returns-else-has_members
 returns-else-has_members c =
