@@ -1,9 +1,8 @@
 -- The test decides whether a block only selects.
-use Rattle.std.proofs.Common.{◌≡◌, ◌↔◌, IsTrue, ℕ, suc, ◌+◌, ◌*◌, Bool, true, false, ◌&&◌, List, [], ◌∷◌, refl, sym, ap, ◌∙◌, arith}
+use Rattle.std.proofs.Common.{◌≡◌, ◌↔◌, IsTrue, ℕ, suc, ◌+◌, ◌*◌, Bool, true, false, ◌&&◌, [], ◌∷◌, refl, ◌∙◌, arith}
 use Rattle.core_ir.specs.declared.tree.Var.{Var}
 use Rattle.core_ir.specs.Terms.{PlainTerm, BlockTerm, RightTerm, Gives, Bind, Plain}
 use Rattle.core_ir.specs.Scopes.{plain_uses}
-use Rattle.core_ir.specs.Uses.{AvoidsAll}
 use Rattle.core_loops.specs.Loops.{weight, weight_right, weight_gens, parted_in, parted_in_right, parted_in_parts}
 use Rattle.core_loops.specs.Pairs.{Selects, SelectsRight, OnlySelected}
 use Rattle.core_uses.specs.Tests.{none_is}

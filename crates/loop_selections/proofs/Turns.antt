@@ -2,14 +2,14 @@
 use Rattle.std.specs.Prelude.{unwrap_or, Vec, ℤ, Result, Ok, Err}
 use Rattle.std.specs.Option.{is_some}
 use Rattle.std.specs.declared.alloc.Global.{Global}
-use Rattle.std.proofs.Common.{◌≡◌, ℕ, Bool, true, false, ◌&&◌, List, [], ◌∷◌, ◌++◌, map, length, Option, Some, None, refl, sym, ap, ◌∙◌, append_assoc, append-nil}
+use Rattle.std.proofs.Common.{◌≡◌, ℕ, Bool, true, false, ◌&&◌, List, [], ◌∷◌, ◌++◌, map, Option, Some, None, refl, sym, ap, ◌∙◌, append_assoc, append-nil}
 use Rattle.core_ir.specs.declared.tree.Let.{Let}
 use Rattle.core_ir.specs.declared.tree.Var.{Var}
 use Rattle.core_ir.specs.declared.tree.Block.{Block, out-Block}
 use Rattle.core_ir.specs.Terms.{BlockTerm, RightTerm, Gives, chain}
 use Rattle.core_ir.specs.View.{block_term, let_term, right_term}
 use Rattle.core_ir.proofs.Trees.{block_out}
-use Rattle.core_facts.specs.Facts.{Fact, Facts, note_all, right_facts, block_facts, common_facts}
+use Rattle.core_facts.specs.Facts.{Fact, Facts, note_all, right_facts, block_facts}
 use Rattle.core_loops.specs.Indices.{IndexFacts, learn_index, note_others}
 use Rattle.core_loops.specs.Pairs.{offsets, offsets_right}
 use Rattle.core_uses.specs.Tests.{none_is}

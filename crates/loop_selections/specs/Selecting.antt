@@ -1,5 +1,5 @@
 -- Whether a block without with-loops and parted loops uses a variable in selections from it alone, as a test.
-use Rattle.std.specs.Prelude.{Bool, true, false, ◌&&◌, List, [], ◌∷◌, ℤ, Option}
+use Rattle.std.specs.Prelude.{Bool, false, ◌&&◌, List, [], ◌∷◌, ℤ, Option}
 use Rattle.core_ir.specs.declared.tree.Var.{Var}
 use Rattle.core_ir.specs.Terms.{PlainTerm, BlockTerm, RightTerm, Gives, Bind, Plain}
 use Rattle.core_ir.specs.Scopes.{plain_uses}

@@ -1,5 +1,5 @@
 -- Offsets of selections as the code holds them, and what is known of the values of what only selects.
-use Rattle.std.specs.Prelude.{ℕ, Bool, true, false, List, map, ℤ, Option, Some, None, Vec}
+use Rattle.std.specs.Prelude.{Bool, true, false, List, map, ℤ, Option, Some, None, Vec}
 use Rattle.std.specs.declared.alloc.Global.{Global}
 use Rattle.core_facts.specs.Facts.{Fact}
 use Rattle.fact_table.specs.declared.known.Known.{Known}

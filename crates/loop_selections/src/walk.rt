@@ -202,7 +202,10 @@ fn in_turns(
     ensures indices { OnOk result (indices.new ≡ indices.old) }
 {
     let Right::Loop {
-        params, test, body, ..
+        params,
+        test,
+        body,
+        ..
     } = right
     else {
         return Ok(false);

@@ -29,10 +29,13 @@ fn axis_of(alloc: Global, generators: &[Grid], axis: usize) -> Result<Vec<Grid1>
 fn push_axis(grids: &mut Vec<Grid1>, generator: &Grid, axis: usize) -> Result<(), Memory>
     ensures { OnOk result (grids.new.items ≡ grids.old.items ++ option_to_list (slice_get generator.now axis)) }
 {
-    if let Some(grid) = generator.axes().get(axis) {
-        grids.push(*grid)?;
+    match generator.axes().get(axis) {
+        Some(grid) => {
+            grids.push(*grid)?;
+            Ok(())
+        }
+        None => Ok(()),
     }
-    Ok(())
 }
 
 /// An axis of the frame as runs of neighbours that belong to the same generators.

@@ -1,6 +1,5 @@
-use Rattle.std.proofs.Common.{rules, refl, sym, ap, ◌≡◌, ◌∙◌, ◌+◌, ◌-◌, ◌&&◌, true, false, Bool, List, [], ◌∷◌, ◌++◌, drop, length, map, arith, Ok, None}
+use Rattle.std.proofs.Common.{rules, refl, sym, ap, ◌≡◌, ◌∙◌, ◌+◌, ◌&&◌, true, [], ◌∷◌, ◌++◌, drop, map, Ok, None}
 use Rattle.core_ir.specs.declared.tree.Let.{Let}
-use Rattle.core_ir.specs.Terms.{BlockTerm}
 use Rattle.core_ir.specs.View.{block_term, right_term}
 use Rattle.core_facts.specs.Facts.{common_facts, note_all, block_facts, right_facts}
 use Rattle.core_loops.specs.Indices.{learn_index, note_others}
