@@ -1,6 +1,6 @@
 //! One walk over a body that finds the selections from a producer.
 
-ghost use Rattle.std.specs.Prelude.{◌≡◌, ◌-◌, ◌&&◌, ◌++◌, ◌∷◌, [], Some, None, Ok, true, IfOk, OnOk, IfSome, replicate, pos, map, drop, length, List, ℤ};
+ghost use Rattle.std.specs.Prelude.{◌≡◌, ◌-◌, ◌&&◌, ◌++◌, Ok, true, IfOk, OnOk, map, drop, length};
 ghost use Rattle.std.specs.Option.{is_some};
 ghost use Rattle.core_ir.specs.Terms.{BlockTerm, chain};
 ghost use Rattle.core_ir.specs.View.{block_term, let_term, right_term};
