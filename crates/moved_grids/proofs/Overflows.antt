@@ -19,12 +19,14 @@ no_room m n r fm fn e over f =
 
 -- such a sum is not below a bound exactly where a number above 0 is added
 pub over_from : (t : Bool) (b m n : ℤ) → FitsSigned w64 b → FitsSigned w64 m → (FitsSigned w64 (m +ℤ n) → ⊥) → (IsTrue t ↔ (pos 0 <ℤ n)) → IsTrue t ↔ (b ≤ℤ (m +ℤ n))
-over_from t b m n fb fm over p =
-    (λ h. let n_above = p.0 h in by_lt_z (m +ℤ n) b (λ l. absurd (over (fit (m +ℤ n) m b fm fb (omega (arith, ints, n_above)) (omega (arith, ints, l))))) (λ g. g),
-     λ g. p.1 (by_lt_z (pos 0) n (λ l. l) (λ l. absurd (over (fit (m +ℤ n) b m fb fm g (omega (arith, ints, l)))))))
+over_from t b m n fb fm over p = (
+  λ h. let n_above = p.0 h in by_lt_z (m +ℤ n) b (λ l. absurd (over (fit (m +ℤ n) m b fm fb (omega (arith, ints, n_above)) (omega (arith, ints, l))))) (λ g. g),
+  λ g. p.1 (by_lt_z (pos 0) n (λ l. l) (λ l. absurd (over (fit (m +ℤ n) b m fb fm g (omega (arith, ints, l)))))),
+)
 
 -- and below it exactly where a number below 0 is
 pub over_below : (t : Bool) (b m n : ℤ) → FitsSigned w64 b → FitsSigned w64 m → (FitsSigned w64 (m +ℤ n) → ⊥) → (IsTrue t ↔ (n <ℤ pos 0)) → IsTrue t ↔ ((m +ℤ n) <ℤ b)
-over_below t b m n fb fm over p =
-    (λ h. let n_below = p.0 h in by_lt_z (m +ℤ n) b (λ l. l) (λ g. absurd (over (fit (m +ℤ n) b m fb fm g (omega (arith, ints, n_below))))),
-     λ l. p.1 (by_lt_z n (pos 0) (λ k. k) (λ g. absurd (over (fit (m +ℤ n) m b fm fb (omega (arith, ints, g)) (omega (arith, ints, l)))))))
+over_below t b m n fb fm over p = (
+  λ h. let n_below = p.0 h in by_lt_z (m +ℤ n) b (λ l. l) (λ g. absurd (over (fit (m +ℤ n) b m fb fm g (omega (arith, ints, n_below))))),
+  λ l. p.1 (by_lt_z n (pos 0) (λ k. k) (λ g. absurd (over (fit (m +ℤ n) m b fm fb (omega (arith, ints, g)) (omega (arith, ints, l)))))),
+)
