@@ -1,0 +1,2 @@
+mod Overflows
+mod WithinFacts
