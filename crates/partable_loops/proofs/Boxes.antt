@@ -11,7 +11,7 @@ use Rattle.array_with_loops.specs.Frames.{frame_with, joined_frame}
 use Rattle.array_with_loops.specs.GridFrames.{box_range}
 use Rattle.array_with_loops.proofs.GridSteps.{members_box}
 use Rattle.core_ir.specs.Meaning.{extents}
-use Rattle.partable_loops.specs.Exact.{axis_of, grid_range, spanned}
+use Rattle.core_loops.specs.Loops.{axis_of, grid_range, spanned}
 use Rattle.partable_loops.specs.Framings.{IsVoid}
 use Rattle.partable_loops.proofs.Numbers.{same_head, same_tail}
 

@@ -21,7 +21,7 @@ use Rattle.core_ir.specs.declared.tree.Var.{Var}
 use Rattle.core_ir.specs.declared.tree.CoreOp.TheVariants as making
 use Rattle.core_ir.specs.Meaning.{cell_form, extents}
 use Rattle.partable_loops.specs.declared.framing.Framed.{Framed}
-use Rattle.partable_loops.specs.Exact.{front, grid_range, spanned}
+use Rattle.core_loops.specs.Loops.{front, grid_range, spanned}
 use Rattle.partable_loops.specs.Framings.{FramesPlan, IsVoid}
 use Rattle.partable_loops.proofs.Boxes.{extents_are, shape_extents}
 

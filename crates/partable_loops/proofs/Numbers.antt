@@ -5,7 +5,7 @@ use Rattle.sac_base.specs.declared.grid.Grid1.{Grid1}
 use Rattle.sac_base.specs.Grids.{has_index, has_vector, within}
 use Rattle.sac_base.specs.WithLoops.{Axis, Range, holds, holds_at}
 use Rattle.core_loops.specs.Loops.{SameSets}
-use Rattle.partable_loops.specs.Exact.{axis_of, grid_range}
+use Rattle.core_loops.specs.Loops.{axis_of, grid_range}
 
 -- ---- lists
 

@@ -17,12 +17,12 @@ use Rattle.core_ir.specs.Terms.{GensTerm, NoGens, Gen}
 use Rattle.core_facts.specs.Facts.{Facts}
 use Rattle.core_facts.proofs.Shapes.{ok_same}
 use Rattle.core_norm.specs.Norm.{NameFirst}
-use Rattle.core_loops.specs.Loops.{AllLiteral, IsPartable, RoomInGens}
+use Rattle.core_loops.specs.Loops.{AllLiteral, IsPartable, RoomInGens, front, frame_spans, grid_range, spanned}
 use Rattle.generator_sets.specs.Counts.{IsCanonicalCount}
 use Rattle.generator_sets.proofs.CountFacts.{some_canonical}
 use Rattle.partable_loops.specs.declared.framing.Framed.{Framed}
 use Rattle.partable_loops.specs.declared.planning.PartPlan.{PartPlan}
-use Rattle.partable_loops.specs.Exact.{IsExactlyPartable, front, frame_spans, generator_count, grid_range, spanned}
+use Rattle.partable_loops.specs.Counted.{generator_count}
 use Rattle.partable_loops.specs.Framings.{FramesKnown, HasPlan}
 use Rattle.partable_loops.specs.Refused.{Refutes}
 use Rattle.partable_loops.specs.declared.refusal.Unplanned.{Unplanned}
@@ -89,9 +89,11 @@ module _ (k : Facts) (above : ℕ) (s : Site) (base : Base) (gens : GensTerm) (b
         planned = known.frames.planned;
         valid = known.frames.valid;
         frame = f.frame;
+        spans = known.frames.spans;
         dense = is_dense f.frame (frame_spans op known.frames.planned) known.frames.spans;
         indices = known.frames.indices ∙ sym (members_are f.frame (frame_spans op known.frames.planned) known.frames.spans);
         grids = f.grids.items;
+        cut = known.frames.cut;
         ranges = sets_are f.grids.items known.frames.planned.ranges known.frames.cut;
         greatest = counted.0;
         count = counted.1.0;
@@ -105,7 +107,7 @@ module _ (k : Facts) (above : ℕ) (s : Site) (base : Base) (gens : GensTerm) (b
   abbrev plan_is : (op : CoreOp) (plan : PartPlan) → FramesKnown k s op base bs f → plan.frame ≡ f.frame → plan.cell ≡ f.cell → NameFirst f.grids.items plan.parts.items
       → IsPlan k above s op gens base plan
   plan_is op plan known frame cell first = record {
-    exact = record { partable = partable op known; spans = known.frames.spans; cut = known.frames.cut };
+    partable = partable op known;
     base_is = refl;
     frame_is = sym frame;
     form = known.frames.form ∙ (λ i. record { base = base; shape = sym cell i });
@@ -148,11 +150,11 @@ refutes_more Memory P Q f h = tt
 
 module _ (k : Facts) (above : ℕ) (op : CoreOp) (gens : GensTerm) where
   abbrev IsExact : Type 0
-  IsExact = (s : Site) × IsExactlyPartable k above s op gens
+  IsExact = (s : Site) × IsPartable k above s op gens
 
   has_plan : (bs : List Bounds) → AllLiteral k gens bs → IsExact → HasPlan k op bs
   has_plan bs literal e =
-      let t = e.1.partable in
+      let t = e.1 in
       (e.0, (t.base, (t.operation, (t.planned, (t.known, ap (λ b. plan b t.operation) (all_same k gens bs t.bounds literal t.literal) ∙ t.valid)))))
 
   pub refutes_plan : (e : Unplanned) (bs : List Bounds) → AllLiteral k gens bs → Refutes e (HasPlan k op bs) → Refutes e IsExact
@@ -163,7 +165,7 @@ module _ (k : Facts) (above : ℕ) (op : CoreOp) (gens : GensTerm) where
       → ((greatest count : ℕ) → IsCanonicalCount f.grids.items 0 f.frame greatest count → Refutes e ((greatest ≤ 4096) × (count ≤ 64))) → Refutes e IsExact
   refutes_count Memory bs f literal known h = tt
   refutes_count NotPartable bs f literal known h = λ e.
-      let t = e.1.partable in
+      let t = e.1 in
       let here = known e.0 t.base in
       let bounds : t.bounds ≡ bs = all_same k gens t.bounds bs t.literal literal in
       let operation : t.operation ≡ here.operation = operation_same k e.0 t.base op t.operation here.operation t.known here.known in

@@ -11,7 +11,7 @@ use Rattle.core_ir.specs.Terms.{GensTerm}
 use Rattle.core_facts.specs.Facts.{Facts}
 use Rattle.core_loops.specs.Loops.{AllLiteral, KnownOperation}
 use Rattle.partable_loops.specs.declared.framing.Framed.{Framed}
-use Rattle.partable_loops.specs.Exact.{grid_range, spanned, frame_spans}
+use Rattle.core_loops.specs.Loops.{grid_range, spanned, frame_spans}
 
 -- a frame without an index
 abbrev pub IsVoid : List Grid1 → Type 0

@@ -1,4 +1,4 @@
 pub mod Refused
-pub mod Exact
+pub mod Counted
 pub mod Framings
 pub mod Planned

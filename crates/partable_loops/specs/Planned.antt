@@ -15,7 +15,8 @@ use Rattle.core_ir.specs.Terms.{GensTerm}
 use Rattle.core_facts.specs.Facts.{Facts}
 use Rattle.core_norm.specs.Norm.{NameFirst}
 use Rattle.partable_loops.specs.declared.planning.PartPlan.{PartPlan}
-use Rattle.partable_loops.specs.Exact.{IsExactlyPartable, generator_count}
+use Rattle.core_loops.specs.Loops.{IsPartable}
+use Rattle.partable_loops.specs.Counted.{generator_count}
 
 -- a grid of a plan, with the first generator that has its members
 abbrev pub Label : Type 0
@@ -29,12 +30,12 @@ needed_parts (making.Fold o x) labels = filter (λ (p : Label). is_some p.1) lab
 
 -- Of each operation. The base is that of the default, the array or the neutral value.
 pub record IsPlan (k : Facts) (above : ℕ) (s : Site) (op : CoreOp) (gens : GensTerm) (base : Base) (plan : PartPlan) : Type 0 where
-  pub exact : IsExactlyPartable k above s op gens
-  pub base_is : exact.partable.base ≡ base
-  pub frame_is : exact.partable.frame ≡ plan.frame
-  pub form : exact.partable.planned.form ≡ record { base = exact.partable.base; shape = plan.cell }
-  pub count : length exact.partable.planned.ranges ≡ generator_count gens
-  pub first : NameFirst exact.partable.grids plan.parts.items
+  pub partable : IsPartable k above s op gens
+  pub base_is : partable.base ≡ base
+  pub frame_is : partable.frame ≡ plan.frame
+  pub form : partable.planned.form ≡ record { base = partable.base; shape = plan.cell }
+  pub count : length partable.planned.ranges ≡ generator_count gens
+  pub first : NameFirst partable.grids plan.parts.items
 
 -- each vector of the frame is in one grid
 abbrev pub Covers : List Grid1 → List Label → Type 0
@@ -48,22 +49,22 @@ CoversHeld frame grids labels = (v : List ℤ) → has_vector frame v ≡ true �
 pub record IsGenarrayPlan (k : Facts) (above : ℕ) (s : Site) (shape default : Var) (gens : GensTerm) (base : Base) (plan : PartPlan) : Type 0 where
   pub plan_is : IsPlan k above s (making.Genarray shape default) gens base plan
   pub known : (k default).shape ≡ Some plan.cell
-  pub whole : plan_is.exact.partable.planned.shape ≡ extents plan_is.exact.partable.frame ++ plan.cell
-  pub cover : Covers plan_is.exact.partable.frame plan.parts.items
+  pub whole : plan_is.partable.planned.shape ≡ extents plan_is.partable.frame ++ plan.cell
+  pub cover : Covers plan_is.partable.frame plan.parts.items
 
 pub record IsModarrayPlan (k : Facts) (above : ℕ) (s : Site) (array : Var) (gens : GensTerm) (base : Base) (plan : PartPlan) : Type 0 where
   pub plan_is : IsPlan k above s (making.Modarray array) gens base plan
   pub shape : List ℕ
   pub known : (k array).shape ≡ Some shape
-  pub whole : plan_is.exact.partable.planned.shape ≡ extents plan_is.exact.partable.frame ++ plan.cell
+  pub whole : plan_is.partable.planned.shape ≡ extents plan_is.partable.frame ++ plan.cell
   -- each index of the frame has an old cell
-  pub old : (v : List ℤ) → has_vector plan_is.exact.partable.frame v ≡ true → (q : ArrayPart) × ((part_at shape v ≡ Some q) × (q.shape ≡ plan.cell))
-  pub cover : Covers plan_is.exact.partable.frame plan.parts.items
+  pub old : (v : List ℤ) → has_vector plan_is.partable.frame v ≡ true → (q : ArrayPart) × ((part_at shape v ≡ Some q) × (q.shape ≡ plan.cell))
+  pub cover : Covers plan_is.partable.frame plan.parts.items
 
 pub record IsFoldPlan (k : Facts) (above : ℕ) (s : Site) (o : Op) (neutral : Var) (gens : GensTerm) (base : Base) (plan : PartPlan) : Type 0 where
   pub plan_is : IsPlan k above s (making.Fold o neutral) gens base plan
   pub known : (k neutral).shape ≡ Some plan.cell
-  pub cover : CoversHeld plan_is.exact.partable.frame plan_is.exact.partable.grids plan.parts.items
+  pub cover : CoversHeld plan_is.partable.frame plan_is.partable.grids plan.parts.items
 
 -- the plan of a with-loop
 abbrev pub PlanFits : Facts → ℕ → Site → CoreOp → GensTerm → Base → PartPlan → Type 0

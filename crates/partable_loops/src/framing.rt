@@ -10,7 +10,7 @@ ghost use Rattle.core_ir.specs.declared.tree.Var.{Var as Variable};
 ghost use Rattle.core_ir.specs.declared.tree.CoreOp.TheVariants.{Genarray, Modarray, Fold};
 ghost use Rattle.core_ir.specs.Meaning.{cell_form, extents};
 ghost use Rattle.fact_table.specs.Table.{facts_of};
-ghost use Rattle.partable_loops.specs.Exact.{grid_range, spanned};
+ghost use Rattle.core_loops.specs.Loops.{grid_range, spanned};
 ghost use Rattle.partable_loops.specs.Framings.{FramesPlan, FramesKnown, HasPlan};
 ghost use Rattle.partable_loops.specs.Refused.{Decides, refusal_of};
 

@@ -3,7 +3,7 @@
 ghost use Rattle.std.specs.Prelude.{◌≡◌, ◌≤◌, IfOk, map, length, All, pos, false, [], ◌∷◌};
 ghost use Rattle.sac_base.specs.WithLoops.{is_empty_box, shape_spans, span_of};
 ghost use Rattle.array_with_loops.specs.Frames.{joined_frame};
-ghost use Rattle.partable_loops.specs.Exact.{axis_of, grid_range, spanned};
+ghost use Rattle.core_loops.specs.Loops.{axis_of, grid_range, spanned};
 ghost use Rattle.partable_loops.specs.Framings.{IsVoid};
 
 use array_with_loops::{Axis, Range, joined_range};

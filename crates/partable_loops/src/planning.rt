@@ -4,7 +4,7 @@ ghost use Rattle.sac_base.specs.declared.site.Site.{Site};
 ghost use Rattle.core_ir.specs.Terms.{gens_of};
 ghost use Rattle.core_ir.specs.View.{gen_term};
 ghost use Rattle.fact_table.specs.Table.{facts_of};
-ghost use Rattle.partable_loops.specs.Exact.{IsExactlyPartable};
+ghost use Rattle.core_loops.specs.Loops.{IsPartable};
 ghost use Rattle.partable_loops.specs.Planned.{PlanFits, needed_parts};
 ghost use Rattle.partable_loops.specs.Refused.{Decides};
 
@@ -47,7 +47,7 @@ pub fn part_plan(
     ensures planned { IfOk result (λ found. IfSome found (λ plan. (s : Site) (base : Base) →
         PlanFits (facts_of table.now) above s op (gens_of (map gen_term gens.now)) base plan)) }
     ensures refused { IfOk result (λ found. IfNone found ((s : Site) →
-        IsExactlyPartable (facts_of table.now) above s op (gens_of (map gen_term gens.now)) → ⊥)) }
+        IsPartable (facts_of table.now) above s op (gens_of (map gen_term gens.now)) → ⊥)) }
 {
     match planned(alloc, table, above, op, gens) {
         Ok(plan) => Ok(Some(plan)),
@@ -65,7 +65,7 @@ fn planned(
 ) -> Result<PartPlan, Unplanned>
     ensures { Decides result
         (λ plan. (s : Site) (base : Base) → PlanFits (facts_of table.now) above s op (gens_of (map gen_term gens.now)) base plan)
-        ((s : Site) × IsExactlyPartable (facts_of table.now) above s op (gens_of (map gen_term gens.now))) }
+        ((s : Site) × IsPartable (facts_of table.now) above s op (gens_of (map gen_term gens.now))) }
 {
     let bounds = literal_bounds(alloc, table, gens)?;
     let framed = frame_of(alloc, table, op, &bounds)?;

@@ -4,7 +4,7 @@ use Rattle.sac_base.specs.Arrays.{MOST}
 use Rattle.sac_base.specs.WithLoops.{box_size, each, range_of}
 use Rattle.array_with_loops.specs.Frames.{joined_frame}
 use Rattle.partable_loops.specs.declared.framing.Framed.{Framed}
-use Rattle.partable_loops.specs.Exact.{spanned}
+use Rattle.core_loops.specs.Loops.{spanned}
 use Rattle.partable_loops.proofs.Framers.{fold_frames, passed}
 use Rattle.partable_loops.proofs.framing.fold_frame.Goals as goal
 

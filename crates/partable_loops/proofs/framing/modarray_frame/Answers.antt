@@ -4,7 +4,7 @@ use Rattle.sac_base.specs.Arrays.{size, MOST}
 use Rattle.sac_base.specs.WithLoops.{Range, each, index_length, range_of, shape_spans}
 use Rattle.array_with_loops.proofs.CellSteps.{some_small}
 use Rattle.partable_loops.specs.declared.framing.Framed.{Framed}
-use Rattle.partable_loops.specs.Exact.{spanned}
+use Rattle.core_loops.specs.Loops.{spanned}
 use Rattle.partable_loops.proofs.Framers.{modarray_frames, modarray_whole}
 use Rattle.partable_loops.proofs.framing.modarray_frame.Goals as goal
 

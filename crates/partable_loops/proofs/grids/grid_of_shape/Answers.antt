@@ -1,6 +1,6 @@
 use Rattle.std.proofs.Common.{map, ap, ◌∙◌}
 use Rattle.std.proofs.lemmas.List.{take_all}
-use Rattle.partable_loops.specs.Exact.{grid_range}
+use Rattle.core_loops.specs.Loops.{grid_range}
 use Rattle.partable_loops.proofs.Boxes.{axis_to, shape_axes}
 use Rattle.partable_loops.proofs.grids.grid_of_shape.Goals as goal
 

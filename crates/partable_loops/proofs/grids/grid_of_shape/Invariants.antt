@@ -1,5 +1,5 @@
 use Rattle.std.proofs.Common.{◌≡◌, take, map, length}
-use Rattle.partable_loops.specs.Exact.{axis_of}
+use Rattle.core_loops.specs.Loops.{axis_of}
 use Rattle.partable_loops.proofs.Boxes.{axis_to}
 use Rattle.partable_loops.proofs.grids.grid_of_shape.Given as goal
 

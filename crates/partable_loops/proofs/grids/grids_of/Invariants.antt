@@ -1,5 +1,5 @@
 use Rattle.std.proofs.Common.{◌≡◌, take, map}
-use Rattle.partable_loops.specs.Exact.{grid_range}
+use Rattle.core_loops.specs.Loops.{grid_range}
 use Rattle.partable_loops.proofs.grids.grids_of.Given as goal
 
 abbrev pub invariant-loop-range : goal.invariant-loop-range

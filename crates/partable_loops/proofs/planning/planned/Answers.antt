@@ -7,7 +7,7 @@ use Rattle.core_loops.specs.Loops.{AllLiteral}
 use Rattle.core_norm.specs.Norm.{NameFirst}
 use Rattle.fact_table.specs.Table.{facts_of}
 use Rattle.generator_sets.specs.Counts.{IsCanonicalCount}
-use Rattle.partable_loops.specs.Exact.{frame_spans}
+use Rattle.core_loops.specs.Loops.{frame_spans}
 use Rattle.partable_loops.specs.Framings.{IsVoid}
 use Rattle.partable_loops.proofs.Boxes.{is_dense}
 use Rattle.partable_loops.proofs.Verdict.{plan_fits, refutes_count, refutes_plan}
