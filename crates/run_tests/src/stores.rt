@@ -77,74 +77,93 @@ fn lent_buffers_are_held_by_the_table(rt: HostRuntime) -> Result<(), Fail> {
     Ok(())
 }
 
+// Whether an array and a copy of it, which is released again, are read as they were placed, and so many buffers are left then.
+fn is_read_back(alloc: Global, extents: &[Cell], count: i32, live: u64) -> Result<bool, Fail> {
+    let mut store = Store::of(Heap::new(alloc));
+    let array = counting(alloc, extents, count)?;
+    let copied = place_array(alloc, &mut store, &array)?;
+    let value = place_own(&mut store, array)?;
+    let read = read_array(alloc, &store, value)?;
+    let wanted = read_array(alloc, &store, copied)?;
+    release(&mut store, copied)?;
+    Ok(
+        read.shape().extents() == extents
+            && read.cells() == wanted.cells()
+            && store.own.live() == live,
+    )
+}
+
 #[test]
 fn placed_arrays_are_read_as_they_were(rt: HostRuntime) -> Result<(), Fail> {
-    let alloc = rt.alloc();
-    let mut store = Store::of(Heap::new(alloc));
     let cases: [(&[Cell], i32, u64); 4] = [
         (&[], 1, 0),
         (&[8], 8, 0),
         (&[9], 9, 1),
-        (&[3, 2], 6, 2),
+        (&[3, 2], 6, 1),
     ];
     for (extents, count, live) in cases {
-        let array = counting(alloc, extents, count)?;
-        let copied = place_array(alloc, &mut store, &array)?;
-        let value = place_own(&mut store, array)?;
-        let read = read_array(alloc, &store, value)?;
-        let wanted = read_array(alloc, &store, copied)?;
-        release(&mut store, copied)?;
-        assert_eq!(rt; read.shape().extents(), extents);
-        assert_eq!(rt; read.cells(), wanted.cells());
-        assert_eq!(rt; store.own.live(), live);
+        assert!(rt; is_read_back(rt.alloc(), extents, count, live)?);
     }
     Ok(())
+}
+
+// The part of an array of 3 rows and 4 columns at an index, or nothing where it is outside of the array. The array's buffer
+// is then the one that is left.
+fn selected(alloc: Global, index: &[Cell]) -> Result<Option<Array>, Fail> {
+    let mut store = Store::of(Heap::new(alloc));
+    let array = place_own(&mut store, counting(alloc, &[3, 4], 12)?)?;
+    let index = RunValue::Short(Base::Int, few(index)?);
+    let part = select_value(alloc, &mut store, array, index, HERE);
+    if store.own.live() != 1 {
+        return Err(Fail::from("one buffer"));
+    }
+    match part {
+        Ok(value) => Ok(Some(read_array(alloc, &store, value)?)),
+        Err(Stop::Faulted(fault)) if fault.kind == FaultKind::F1 => Ok(None),
+        Err(_) => Err(Fail::from("another fault")),
+    }
 }
 
 #[test]
 fn parts_are_selected(rt: HostRuntime) -> Result<(), Fail> {
-    let alloc = rt.alloc();
-    let mut store = Store::of(Heap::new(alloc));
-    let array = place_own(&mut store, counting(alloc, &[3, 4], 12)?)?;
-    let cases: [(&[Cell], Option<&[Cell]>); 5] = [
-        (&[1, 2], Some(&[6])),
-        (&[2], Some(&[8, 9, 10, 11])),
-        (&[3, 0], None),
-        (&[0, -1], None),
-        (&[0, 0, 0], None),
-    ];
-    for (index, wanted) in cases {
-        let index = RunValue::Short(Base::Int, few(index)?);
-        match (select_value(alloc, &mut store, array, index, HERE), wanted) {
-            (Ok(value), Some(cells)) => {
-                assert_eq!(rt; read_array(alloc, &store, value)?.cells(), cells)
-            }
-            (Err(Stop::Faulted(fault)), None) => assert!(rt; fault.kind == FaultKind::F1),
-            _ => assert!(rt; false),
-        }
+    let cases: [(&[Cell], &[Cell]); 2] = [(&[1, 2], &[6]), (&[2], &[8, 9, 10, 11])];
+    for (index, cells) in cases {
+        let part = selected(rt.alloc(), index)?.ok_or("a part")?;
+        assert_eq!(rt; part.cells(), cells);
     }
-    assert_eq!(rt; store.own.live(), 1);
+    let outside: [&[Cell]; 3] = [&[3, 0], &[0, -1], &[0, 0, 0]];
+    for index in outside {
+        assert!(rt; selected(rt.alloc(), index)?.is_none());
+    }
     Ok(())
+}
+
+// Whether a result of these extents whose first cell is written is read so, and as it is copied into other cells.
+fn is_made(alloc: Global, extents: &[Cell], live: u64) -> Result<bool, Fail> {
+    let mut store = Store::of(Heap::new(alloc));
+    let shape = Shape::from_extents(alloc, extents).ok_or("a shape")?;
+    let mut target = claim(alloc, &mut store, &shape)?;
+    write(&store, &mut target.cells, 0, &RunValue::Word(Base::Int, 7))?;
+    let refused = overwrite(&mut target.cells, 9, &[1]).is_err();
+    let mut copy = Vec::new(alloc);
+    copy.resize(target.cells.len(), 0)?;
+    let value = settle(&mut store, target, Base::Int, &shape)?;
+    copy_into(&store, &mut copy, &value)?;
+    let read = read_array(alloc, &store, value)?;
+    Ok(
+        refused
+            && read.cells().first() == Some(&7)
+            && copy.first() == Some(&7)
+            && fits(&read.form(), &value)
+            && store.own.live() == live,
+    )
 }
 
 #[test]
 fn results_are_made(rt: HostRuntime) -> Result<(), Fail> {
-    let alloc = rt.alloc();
-    let mut store = Store::of(Heap::new(alloc));
     let cases: [(&[Cell], u64); 3] = [(&[], 0), (&[8], 0), (&[9], 1)];
     for (extents, live) in cases {
-        let shape = Shape::from_extents(alloc, extents).ok_or("a shape")?;
-        let mut target = claim(alloc, &mut store, &shape)?;
-        write(&store, &mut target.cells, 0, &RunValue::Word(Base::Int, 7))?;
-        assert!(rt; overwrite(&mut target.cells, 9, &[1]).is_err());
-        let mut copy = Vec::new(alloc);
-        copy.resize(target.cells.len(), 0)?;
-        let value = settle(&mut store, target, Base::Int, &shape)?;
-        copy_into(&store, &mut copy, &value)?;
-        let read = read_array(alloc, &store, value)?;
-        assert_eq!(rt; (read.cells().first(), copy.first()), (Some(&7), Some(&7)));
-        assert!(rt; fits(&read.form(), &value));
-        assert_eq!(rt; store.own.live(), live);
+        assert!(rt; is_made(rt.alloc(), extents, live)?);
     }
     Ok(())
 }

@@ -1,6 +1,7 @@
 //! The lines of a table of cases.
 
 /// What a line asks for.
+#[derive(Clone, Copy)]
 pub enum Directive<'a> {
     /// Begins a case, with the words behind the program's name.
     Words(&'a str),
@@ -16,6 +17,12 @@ pub enum Directive<'a> {
     Bytes(&'a str),
     /// Runs the case with each of these numbers of workers.
     Run(&'a str),
+    /// Runs the case with each of these numbers of workers, and says how many phases there were.
+    Phases(&'a str),
+    /// Runs the case with two workers, of which each chunk waits for the other one.
+    Meet,
+    /// Runs the case over files of which one fetch fails, and a sink of which one call fails.
+    Devices(u64, u64),
     /// Runs the case over sinks that take one byte a call, of which the first call fails, then the second, and so on.
     Sinks(u64),
     /// Runs the case over files of which the first fetch fails, then the second, and so on.
@@ -34,6 +41,7 @@ impl<'a> Directive<'a> {
                 "source" => Directive::Source,
                 "input" => Directive::Input,
                 "line" => Directive::Line(""),
+                "meet" => Directive::Meet,
                 _ => Directive::Unknown,
             };
         };
@@ -42,6 +50,11 @@ impl<'a> Directive<'a> {
             "line" => Directive::Line(rest),
             "bytes" => Directive::Bytes(rest),
             "run" => Directive::Run(rest),
+            "phases" => Directive::Phases(rest),
+            "devices" => match rest.split_once(' ') {
+                Some((fetch, call)) => Directive::Devices(number(fetch), number(call)),
+                None => Directive::Unknown,
+            },
             "sinks" => Directive::Sinks(number(rest)),
             "files" => Directive::Files(number(rest)),
             "fronts" => Directive::Fronts(number(rest)),

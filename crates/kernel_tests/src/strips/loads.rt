@@ -1,4 +1,4 @@
-use crate::common::{HERE, RESULT, line, row, vector};
+use super::common::{HERE, RESULT, line, row, vector};
 use kernel_buffers::Buffer;
 use kernel_tree::KernelStep;
 use sac_base::Cell;

@@ -1,4 +1,4 @@
-use crate::common::{HERE, RESULT, line, row, vector};
+use super::common::{HERE, RESULT, line, row, vector};
 use kernel_buffers::Buffer;
 use kernel_tree::{KernelBlock, KernelPart, KernelStep};
 use std::alloc::Global;
