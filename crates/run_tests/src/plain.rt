@@ -10,12 +10,17 @@ use std::test::Fail;
 
 const HERE: Site = Site { line: 1, col: 1 };
 
+// Binds a variable. What is bound behind it is no matter of its callers.
+fn bind(frames: &mut Frames, x: u32, value: RunValue) -> Result<(), Memory> {
+    frames.bind(Var(x), value)
+}
+
 // The variable 1 is 7, the variable 2 is `[4, 5]`, and the variable 0 is not bound.
 fn bound(alloc: Global) -> Result<Frames, Fail> {
     let pair = Few::from_slice(&[4, 5]).ok_or("a short list")?;
     let mut frames = Frames::new(alloc);
-    frames.bind(Var(1), RunValue::Word(Base::Int, 7))?;
-    frames.bind(Var(2), RunValue::Short(Base::Int, pair))?;
+    bind(&mut frames, 1, RunValue::Word(Base::Int, 7))?;
+    bind(&mut frames, 2, RunValue::Short(Base::Int, pair))?;
     Ok(frames)
 }
 
@@ -57,16 +62,30 @@ fn gives(
     })
 }
 
+fn difference(alloc: Global) -> Result<bool, Fail> {
+    let right = CodeRight::Binary(Op::Sub, Var(1), Var(2));
+    gives(alloc, &right, &[2], &[3, 2], 0)
+}
+
+fn rows(alloc: Global) -> Result<bool, Fail> {
+    let right = CodeRight::Literal(Vec::from_slice(alloc, &[Var(2), Var(2)])?);
+    gives(alloc, &right, &[2, 2], &[4, 5, 4, 5], 1)
+}
+
+fn extents(alloc: Global) -> Result<bool, Fail> {
+    let right = CodeRight::ShapeOf(Var(2));
+    gives(alloc, &right, &[1], &[2], 0)
+}
+
+fn replaced(alloc: Global) -> Result<bool, Fail> {
+    let right = CodeRight::Replace(Var(2), Var(0), Var(1));
+    gives(alloc, &right, &[2], &[7, 5], 0)
+}
+
 #[test]
 fn right_sides_give_their_values(rt: HostRuntime) -> Result<(), Fail> {
     let alloc = rt.alloc();
-    let difference = CodeRight::Binary(Op::Sub, Var(1), Var(2));
-    assert!(rt; gives(alloc, &difference, &[2], &[3, 2], 0)?);
-    let rows = CodeRight::Literal(Vec::from_slice(alloc, &[Var(2), Var(2)])?);
-    assert!(rt; gives(alloc, &rows, &[2, 2], &[4, 5, 4, 5], 1)?);
-    assert!(rt; gives(alloc, &CodeRight::ShapeOf(Var(2)), &[1], &[2], 0)?);
-    let replaced = CodeRight::Replace(Var(2), Var(0), Var(1));
-    assert!(rt; gives(alloc, &replaced, &[2], &[7, 5], 0)?);
+    assert!(rt; difference(alloc)? && rows(alloc)? && extents(alloc)? && replaced(alloc)?);
     Ok(())
 }
 

@@ -5,7 +5,7 @@ use run_store::{
     read_array, release, select_value, settle, write,
 };
 use run_values::{Few, RunValue};
-use sac_base::{Array, Base, Cell, FaultKind, Shape, Site, Stop};
+use sac_base::{Array, Base, Cell, FaultKind, Memory, Shape, Site, Stop};
 use std::alloc::Global;
 use std::test::Fail;
 
@@ -32,16 +32,37 @@ fn few(cells: &[Cell]) -> Result<Few, Fail> {
     Ok(Few::from_slice(cells).ok_or("a short list")?)
 }
 
+// Calls of a store, of whose facts a test needs none.
+fn placed(
+    alloc: Global,
+    store: &mut Store<'_>,
+    extents: &[Cell],
+    count: i32,
+) -> Result<RunValue, Fail> {
+    Ok(place_own(store, counting(alloc, extents, count)?)?)
+}
+
+fn kept(store: &mut Store<'_>, value: RunValue) -> bool {
+    keep(store, value).is_ok()
+}
+
+fn released(store: &mut Store<'_>, value: RunValue) -> bool {
+    release(store, value).is_ok()
+}
+
+fn read(alloc: Global, store: &Store<'_>, value: RunValue) -> Result<Array, Memory> {
+    read_array(alloc, store, value)
+}
+
 #[test]
 fn references_are_counted(rt: HostRuntime) -> Result<(), Fail> {
     let mut store = Store::of(Heap::new(rt.alloc()));
-    let value = place_own(&mut store, counting(rt.alloc(), &[2, 5], 10)?)?;
-    keep(&mut store, value)?;
-    release(&mut store, value)?;
+    let value = placed(rt.alloc(), &mut store, &[2, 5], 10)?;
+    assert!(rt; kept(&mut store, value) && released(&mut store, value));
     assert_eq!(rt; store.own.live(), 1);
-    release(&mut store, value)?;
+    assert!(rt; released(&mut store, value));
     assert_eq!(rt; store.own.live(), 0);
-    assert!(rt; release(&mut store, value).is_err() && keep(&mut store, value).is_err());
+    assert!(rt; !released(&mut store, value) && !kept(&mut store, value));
     Ok(())
 }
 
@@ -77,18 +98,27 @@ fn lent_buffers_are_held_by_the_table(rt: HostRuntime) -> Result<(), Fail> {
     Ok(())
 }
 
-// Whether an array and a copy of it, which is released again, are read as they were placed, and so many buffers are left then.
+// A copy of an array.
+fn copied(
+    alloc: Global,
+    store: &mut Store<'_>,
+    extents: &[Cell],
+    count: i32,
+) -> Result<RunValue, Fail> {
+    Ok(place_array(alloc, store, &counting(alloc, extents, count)?)?)
+}
+
+// Whether an array and a copy of it, which is then released, are read as they were placed, and so many buffers are left.
 fn is_read_back(alloc: Global, extents: &[Cell], count: i32, live: u64) -> Result<bool, Fail> {
     let mut store = Store::of(Heap::new(alloc));
-    let array = counting(alloc, extents, count)?;
-    let copied = place_array(alloc, &mut store, &array)?;
-    let value = place_own(&mut store, array)?;
-    let read = read_array(alloc, &store, value)?;
-    let wanted = read_array(alloc, &store, copied)?;
-    release(&mut store, copied)?;
+    let copy = copied(alloc, &mut store, extents, count)?;
+    let value = placed(alloc, &mut store, extents, count)?;
+    let found = read(alloc, &store, value)?;
+    let wanted = read(alloc, &store, copy)?;
     Ok(
-        read.shape().extents() == extents
-            && read.cells() == wanted.cells()
+        released(&mut store, copy)
+            && found.shape().extents() == extents
+            && found.cells() == wanted.cells()
             && store.own.live() == live,
     )
 }
@@ -107,20 +137,32 @@ fn placed_arrays_are_read_as_they_were(rt: HostRuntime) -> Result<(), Fail> {
     Ok(())
 }
 
-// The part of an array of 3 rows and 4 columns at an index, or nothing where it is outside of the array. The array's buffer
-// is then the one that is left.
+// The value at an index of an array, or nothing where it is outside of the array.
+fn part(
+    alloc: Global,
+    store: &mut Store<'_>,
+    array: RunValue,
+    index: &[Cell],
+) -> Result<Option<RunValue>, Fail> {
+    let index = RunValue::Short(Base::Int, few(index)?);
+    match select_value(alloc, store, array, index, HERE) {
+        Ok(value) => Ok(Some(value)),
+        Err(Stop::Faulted(fault)) if fault.kind == FaultKind::F1 => Ok(None),
+        Err(_) => Err(Fail::from("another fault")),
+    }
+}
+
+// The part of an array of 3 rows and 4 columns at an index. The array's buffer is then the one that is left.
 fn selected(alloc: Global, index: &[Cell]) -> Result<Option<Array>, Fail> {
     let mut store = Store::of(Heap::new(alloc));
-    let array = place_own(&mut store, counting(alloc, &[3, 4], 12)?)?;
-    let index = RunValue::Short(Base::Int, few(index)?);
-    let part = select_value(alloc, &mut store, array, index, HERE);
+    let array = placed(alloc, &mut store, &[3, 4], 12)?;
+    let found = part(alloc, &mut store, array, index)?;
     if store.own.live() != 1 {
         return Err(Fail::from("one buffer"));
     }
-    match part {
-        Ok(value) => Ok(Some(read_array(alloc, &store, value)?)),
-        Err(Stop::Faulted(fault)) if fault.kind == FaultKind::F1 => Ok(None),
-        Err(_) => Err(Fail::from("another fault")),
+    match found {
+        Some(value) => Ok(Some(read(alloc, &store, value)?)),
+        None => Ok(None),
     }
 }
 
@@ -138,32 +180,47 @@ fn parts_are_selected(rt: HostRuntime) -> Result<(), Fail> {
     Ok(())
 }
 
-// Whether a result of these extents whose first cell is written is read so, and as it is copied into other cells.
-fn is_made(alloc: Global, extents: &[Cell], live: u64) -> Result<bool, Fail> {
+// A result of a shape, of which the first cell is written.
+fn made(alloc: Global, store: &mut Store<'_>, shape: &Shape) -> Result<RunValue, Memory> {
+    let mut target = claim(alloc, store, shape)?;
+    write(store, &mut target.cells, 0, &RunValue::Word(Base::Int, 7))?;
+    settle(store, target, Base::Int, shape)
+}
+
+// Whether a value of so many cells is copied into other cells, of which the first is then 7.
+fn is_copied(
+    alloc: Global,
+    store: &Store<'_>,
+    value: &RunValue,
+    count: u8,
+) -> Result<bool, Memory> {
+    let mut copy = Vec::new(alloc);
+    copy.resize(usize::from(count), 0)?;
+    copy_into(store, &mut copy, value)?;
+    Ok(copy.first() == Some(&7))
+}
+
+// Whether a result of so many cells is read as it was made, and as it is copied into other cells.
+fn is_made(alloc: Global, extents: &[Cell], count: u8, live: u64) -> Result<bool, Fail> {
     let mut store = Store::of(Heap::new(alloc));
     let shape = Shape::from_extents(alloc, extents).ok_or("a shape")?;
-    let mut target = claim(alloc, &mut store, &shape)?;
-    write(&store, &mut target.cells, 0, &RunValue::Word(Base::Int, 7))?;
-    let refused = overwrite(&mut target.cells, 9, &[1]).is_err();
-    let mut copy = Vec::new(alloc);
-    copy.resize(target.cells.len(), 0)?;
-    let value = settle(&mut store, target, Base::Int, &shape)?;
-    copy_into(&store, &mut copy, &value)?;
-    let read = read_array(alloc, &store, value)?;
+    let value = made(alloc, &mut store, &shape)?;
+    let found = read(alloc, &store, value)?;
     Ok(
-        refused
-            && read.cells().first() == Some(&7)
-            && copy.first() == Some(&7)
-            && fits(&read.form(), &value)
+        is_copied(alloc, &store, &value, count)?
+            && found.cells().first() == Some(&7)
+            && fits(&found.form(), &value)
             && store.own.live() == live,
     )
 }
 
 #[test]
 fn results_are_made(rt: HostRuntime) -> Result<(), Fail> {
-    let cases: [(&[Cell], u64); 3] = [(&[], 0), (&[8], 0), (&[9], 1)];
-    for (extents, live) in cases {
-        assert!(rt; is_made(rt.alloc(), extents, live)?);
+    let cases: [(&[Cell], u8, u64); 3] = [(&[], 1, 0), (&[8], 8, 0), (&[9], 9, 1)];
+    for (extents, count, live) in cases {
+        assert!(rt; is_made(rt.alloc(), extents, count, live)?);
     }
+    let mut cells = [0; 9];
+    assert!(rt; overwrite(&mut cells, 9, &[1]).is_err());
     Ok(())
 }

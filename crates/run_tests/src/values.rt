@@ -96,29 +96,43 @@ fn word(frames: &Frames, x: u32) -> Result<Option<Cell>, Memory> {
     frames.get(Var(x)).as_word()
 }
 
+// The steps on variables, of which a test needs no fact.
+fn bind(frames: &mut Frames, x: u32, n: Cell) -> Result<(), Memory> {
+    frames.bind(Var(x), RunValue::Word(Base::Int, n))
+}
+
+fn enter(frames: &mut Frames) -> Result<(), Memory> {
+    frames.enter()
+}
+
+fn enter_call(frames: &mut Frames) -> Result<(), Memory> {
+    frames.enter_call()
+}
+
+fn leave(frames: &mut Frames) {
+    frames.leave();
+}
+
+type Words = (Result<Option<Cell>, Memory>, Result<Option<Cell>, Memory>);
+
+fn words(frames: &Frames) -> Words {
+    (word(frames, 1), word(frames, 3))
+}
+
 #[test]
 fn what_a_scope_binds_ends_with_it(rt: HostRuntime) -> Result<(), Fail> {
     let mut frames = Frames::new(rt.alloc());
-    frames.bind(Var(3), RunValue::Word(Base::Int, 30))?;
-    frames.enter()?;
-    frames.bind(Var(1), RunValue::Word(Base::Int, 10))?;
-    assert_eq!(rt;
-        (word(&frames, 1), word(&frames, 3)),
-        (Ok(Some(10)), Ok(Some(30)))
-    );
-    frames.enter_call()?;
+    bind(&mut frames, 3, 30)?;
+    enter(&mut frames)?;
+    bind(&mut frames, 1, 10)?;
+    assert_eq!(rt; words(&frames), (Ok(Some(10)), Ok(Some(30))));
+    enter_call(&mut frames)?;
     assert_eq!(rt; word(&frames, 3), Ok(Some(0)));
-    frames.bind(Var(3), RunValue::Word(Base::Int, 33))?;
+    bind(&mut frames, 3, 33)?;
     assert_eq!(rt; word(&frames, 3), Ok(Some(33)));
-    frames.leave();
-    assert_eq!(rt;
-        (word(&frames, 1), word(&frames, 3)),
-        (Ok(Some(10)), Ok(Some(30)))
-    );
-    frames.leave();
-    assert_eq!(rt;
-        (word(&frames, 1), word(&frames, 3)),
-        (Ok(Some(0)), Ok(Some(30)))
-    );
+    leave(&mut frames);
+    assert_eq!(rt; words(&frames), (Ok(Some(10)), Ok(Some(30))));
+    leave(&mut frames);
+    assert_eq!(rt; words(&frames), (Ok(Some(0)), Ok(Some(30))));
     Ok(())
 }
