@@ -11,21 +11,29 @@ use std::test::Fail;
 
 const HERE: Site = Site { line: 1, col: 1 };
 
+// Some numbers as a vector.
+fn vector(alloc: Global, cells: &[Cell]) -> Result<Array, Fail> {
+    if cells.len() > 100 {
+        return Err("a short vector".into());
+    }
+    Ok(Array::vector(alloc, Base::Int, Vec::from_slice(alloc, cells)?))
+}
+
+fn reshaped(alloc: Global, extents: &Array, flat: &Array) -> Result<Array, Fail> {
+    Ok(
+        array_ops::reshape(alloc, extents, flat)
+            .ok()
+            .ok_or("as many cells as the extents say")?,
+    )
+}
+
 // The array of these extents whose cells are 0, 1, 2 and so on.
 fn counting(alloc: Global, extents: &[Cell], count: i32) -> Result<Array, Fail> {
-    let shape = Shape::from_extents(alloc, extents).ok_or("a shape")?;
     let mut cells = Vec::new(alloc);
     for k in 0..count {
         cells.push(k)?;
     }
-    (cells.len() < 100).then_some(()).ok_or("a short array")?;
-    let vector = Array::vector(alloc, Base::Int, Vec::from_slice(alloc, shape.extents())?);
-    let flat = Array::vector(alloc, Base::Int, cells);
-    Ok(
-        array_ops::reshape(alloc, &vector, &flat)
-            .ok()
-            .ok_or("as many cells as the extents say")?,
-    )
+    reshaped(alloc, &vector(alloc, extents)?, &vector(alloc, &cells)?)
 }
 
 fn few(cells: &[Cell]) -> Result<Few, Fail> {
