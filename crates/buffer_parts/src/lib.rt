@@ -10,6 +10,3 @@ mod raw;
 pub use cuts::{cut, join_all};
 pub use lends::lend;
 pub use part::{Part, PartWriter};
-
-#[cfg(test)]
-mod tests;

@@ -1,11 +1,15 @@
-//! Tests of what is done with words and a source before a run: sources are accepted, printed and plainly run, and become cores, of
-//! which a text has a line for each binding.
+//! Tests of what is done with words and a source before a run: files are fetched, sources are cut into tokens, accepted, printed and
+//! plainly run, and become cores, of which a text has a line for each binding.
 #![tactic(auto)]
 
 #[cfg(test)]
 mod check;
 #[cfg(test)]
 mod cores;
+#[cfg(test)]
+mod devices;
+#[cfg(test)]
+mod files;
 #[cfg(test)]
 mod inlined;
 #[cfg(test)]
@@ -16,5 +20,7 @@ mod print;
 mod special;
 #[cfg(test)]
 mod text;
+#[cfg(test)]
+mod tokens;
 #[cfg(test)]
 mod words;

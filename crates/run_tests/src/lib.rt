@@ -1,12 +1,17 @@
-//! Tests of arrays, of their texts, of the layers below the evaluator of counted code, and of runs of the evaluator.
+//! Tests of operators and types, of arrays, of their texts, of the layers below the evaluator of counted code, and of runs of the
+//! evaluator.
 #![tactic(auto)]
 
+#[cfg(test)]
+mod base;
 #[cfg(test)]
 mod data;
 #[cfg(test)]
 mod heaps;
 #[cfg(test)]
 mod operators;
+#[cfg(test)]
+mod orders;
 #[cfg(test)]
 mod plain;
 #[cfg(test)]

@@ -1,6 +1,6 @@
 ghost use Rattle.std.specs.Prelude.{◌≡◌, ◌*◌, ◌^◌, ◌<◌, ◌≤◌, length};
 
-use crate::{Part, lend};
+use buffer_parts::{Part, lend};
 use std::test::Fail;
 
 fn sends<T: Send + Drop>(_value: T) {}

@@ -1,5 +1,5 @@
 use Rattle.wl_core.specs.Reading.{IsReached}
-use Rattle.wl_core.proofs.tests.refuse.Given as goal
+use Rattle.phase_tests.proofs.machine.refuse.Given as goal
 
 abbrev pub invariant-done : goal.invariant-done
 invariant-done g l = IsReached l.setup l.state

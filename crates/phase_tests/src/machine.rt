@@ -1,8 +1,10 @@
-use super::*;
 use sac_base::{Base, Cell, Fault, FaultKind, Op, Site};
 use std::alloc::Global;
 use std::process::Abort;
 use std::test::Fail;
+use wl_core::{
+    CellResult, Event, Job, Refused, Setup, Verdict, finished, is_setup, open_state, outcome, step,
+};
 
 // The fault of a position.
 fn fault_of(position: u32) -> Fault {

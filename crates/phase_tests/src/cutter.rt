@@ -1,7 +1,7 @@
 ghost use Rattle.buffer_parts.specs.Spans.{KeepsPlace, KeepPlaces};
 
-use super::*;
 use buffer_parts::Part;
+use index_cutter::{Cuts, cut, lend};
 
 #[test]
 fn positions_are_cut(rt: HostRuntime) {

@@ -1,5 +1,5 @@
-use super::*;
 use sac_io::{FetchError, Fetched, Files, Sink};
+use sac_real::{DiskFiles, Out};
 use std::fs;
 use std::test::Fail;
 

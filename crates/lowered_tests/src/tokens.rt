@@ -1,5 +1,5 @@
-use super::*;
 use sac_base::Site;
+use sac_lex::{LexCode, LexError, TokenKind, lex};
 use std::test::Fail;
 
 type Refusal = (LexCode, u32, u32);

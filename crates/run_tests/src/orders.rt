@@ -1,5 +1,5 @@
-use super::*;
 use sac_base::{ArrayType, Base, Form, Part, Shape};
+use shape_types::{Instance, below, join, meet, pick};
 use std::alloc::Global;
 use std::test::Fail;
 

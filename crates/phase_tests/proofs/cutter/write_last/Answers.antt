@@ -1,8 +1,8 @@
 use Rattle.std.proofs.Common.{rules, ◌≡◌, ℤ, List, [], ◌∷◌, ◌++◌, sym, subst}
 use Rattle.buffer_parts.specs.Spans.{Span, KeepPlaces}
 use Rattle.buffer_parts.proofs.Sides.{kept_same, kept_last}
-use Rattle.index_cutter.proofs.tests.write_last.Goals.{in-Some, in_default}
-use Rattle.index_cutter.proofs.tests.write_last.Goals as goal
+use Rattle.phase_tests.proofs.cutter.write_last.Goals.{in-Some, in_default}
+use Rattle.phase_tests.proofs.cutter.write_last.Goals as goal
 
 pub returns : goal.returns
 returns c =
