@@ -11,6 +11,3 @@ mod slices;
 pub use cuts::{cut, join_all};
 pub use lends::lend;
 pub use part::{Part, PartWriter};
-
-#[cfg(test)]
-mod tests;

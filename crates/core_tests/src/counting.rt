@@ -50,9 +50,16 @@ fn binding(alloc: Global, target: u32, right: Right) -> Result<Let, Memory> {
     })
 }
 
-fn number(alloc: Global, target: u32, n: i32) -> Result<Let, Memory> {
-    binding(
+// Appends a binding, of which what is appended next needs no fact.
+fn bind(alloc: Global, lets: &mut Vec<Let>, target: u32, right: Right) -> Result<(), Memory> {
+    lets.push(binding(alloc, target, right)?)?;
+    Ok(())
+}
+
+fn number(alloc: Global, lets: &mut Vec<Let>, target: u32, n: i32) -> Result<(), Memory> {
+    bind(
         alloc,
+        lets,
         target,
         Right::Const(Array::scalar(alloc, Base::Int, n)?),
     )
@@ -69,7 +76,7 @@ fn block(alloc: Global, lets: Vec<Let>, given: u32) -> Result<Block, Memory> {
 /// A block with one binding.
 fn small(alloc: Global, target: u32, right: Right) -> Result<Block, Memory> {
     let mut lets = Vec::new(alloc);
-    lets.push(binding(alloc, target, right)?)?;
+    bind(alloc, &mut lets, target, right)?;
     block(alloc, lets, target)
 }
 
@@ -128,21 +135,36 @@ fn with_loop(alloc: Global, index: u32, body: Block) -> Result<Right, Memory> {
     }))
 }
 
-/// An array of 16 numbers, and one with 1 more at each place.
-fn two_arrays(alloc: Global) -> Result<Block, Memory> {
-    let mut first = Vec::new(alloc);
-    first.push(number(alloc, 6, 0)?)?;
-    first.push(binding(alloc, 7, Right::Select(Var(5), Var(6)))?)?;
-    let first = block(alloc, first, 7)?;
-    let mut second = Vec::new(alloc);
-    second.push(binding(alloc, 12, Right::Select(Var(4), Var(11)))?)?;
-    second.push(binding(alloc, 14, Right::Binary(Op::Add, Var(12), Var(1)))?)?;
-    let second = block(alloc, second, 14)?;
+/// The first component of the index.
+fn first_cell(alloc: Global) -> Result<Block, Memory> {
     let mut lets = Vec::new(alloc);
-    lets.push(binding(alloc, 2, Right::Literal(vars(alloc, &[0])?))?)?;
-    lets.push(binding(alloc, 3, Right::Literal(vars(alloc, &[1])?))?)?;
-    lets.push(binding(alloc, 4, with_loop(alloc, 5, first)?)?)?;
-    lets.push(binding(alloc, 10, with_loop(alloc, 11, second)?)?)?;
+    number(alloc, &mut lets, 6, 0)?;
+    bind(alloc, &mut lets, 7, Right::Select(Var(5), Var(6)))?;
+    block(alloc, lets, 7)
+}
+
+/// The first array at the index, and the second parameter more.
+fn second_cell(alloc: Global) -> Result<Block, Memory> {
+    let mut lets = Vec::new(alloc);
+    bind(alloc, &mut lets, 12, Right::Select(Var(4), Var(11)))?;
+    let sum = Right::Binary(Op::Add, Var(12), Var(1));
+    bind(alloc, &mut lets, 14, sum)?;
+    block(alloc, lets, 14)
+}
+
+fn literal(alloc: Global, lets: &mut Vec<Let>, target: u32, part: u32) -> Result<(), Memory> {
+    bind(alloc, lets, target, Right::Literal(vars(alloc, &[part])?))
+}
+
+/// An array of the indices, and one with the second parameter more at each place.
+fn two_arrays(alloc: Global) -> Result<Block, Memory> {
+    let mut lets = Vec::new(alloc);
+    literal(alloc, &mut lets, 2, 0)?;
+    literal(alloc, &mut lets, 3, 1)?;
+    let first = with_loop(alloc, 5, first_cell(alloc)?)?;
+    bind(alloc, &mut lets, 4, first)?;
+    let second = with_loop(alloc, 11, second_cell(alloc)?)?;
+    bind(alloc, &mut lets, 10, second)?;
     block(alloc, lets, 10)
 }
 
@@ -222,16 +244,25 @@ fn a_loop_hands_its_parameters_on(rt: HostRuntime) -> Result<(), Fail> {
     Ok(())
 }
 
+fn call(alloc: Global, lets: &mut Vec<Let>, target: u32, args: &[u32]) -> Result<(), Memory> {
+    let args = vars(alloc, args)?;
+    bind(alloc, lets, target, Right::Call { group: 0, args })
+}
+
+/// A call with its first argument twice, a call, and a sum that uses its argument again.
+fn two_calls(alloc: Global) -> Result<Block, Memory> {
+    let mut lets = Vec::new(alloc);
+    call(alloc, &mut lets, 2, &[0, 0])?;
+    call(alloc, &mut lets, 3, &[1])?;
+    let sum = Right::Binary(Op::Add, Var(3), Var(1));
+    bind(alloc, &mut lets, 4, sum)?;
+    block(alloc, lets, 4)
+}
+
 #[test]
 fn a_call_that_hands_on_twice_needs_a_keep(rt: HostRuntime) -> Result<(), Fail> {
     let alloc = rt.alloc();
-    let mut lets = Vec::new(alloc);
-    let args = vars(alloc, &[0, 0])?;
-    lets.push(binding(alloc, 2, Right::Call { group: 0, args })?)?;
-    let args = vars(alloc, &[1])?;
-    lets.push(binding(alloc, 3, Right::Call { group: 0, args })?)?;
-    lets.push(binding(alloc, 4, Right::Binary(Op::Add, Var(3), Var(1)))?)?;
-    let main = counted_main(alloc, block(alloc, lets, 4)?)?.ok_or("a function")?;
+    let main = counted_main(alloc, two_calls(alloc)?)?.ok_or("a function")?;
     let wanted = [
         Keep(0),
         Bind(2),

@@ -1,6 +1,8 @@
-//! Tests of the core, of its passes, of the cells that workers may run, and of sets of indices.
+//! Tests of the core, of its passes, of the cells that workers may run, of bodies that never fault, and of sets of indices.
 #![tactic(auto)]
 
+#[cfg(test)]
+mod bodies;
 #[cfg(test)]
 mod cells;
 #[cfg(test)]

@@ -26,6 +26,12 @@ fn binding(alloc: Global, target: u32, right: Right) -> Result<Let, Memory> {
     })
 }
 
+// Appends a binding, of which what is appended next needs no fact.
+fn bind(alloc: Global, lets: &mut Vec<Let>, target: u32, right: Right) -> Result<(), Memory> {
+    lets.push(binding(alloc, target, right)?)?;
+    Ok(())
+}
+
 /// A block with one binding.
 fn small(alloc: Global, target: u32, right: Right) -> Result<Block, Memory> {
     let mut lets = Vec::new(alloc);
@@ -106,19 +112,29 @@ fn parted_loop(alloc: Global) -> Result<Right, Memory> {
     }))
 }
 
-/// A block of seven bindings, with one binding more in each of their six blocks.
-fn sample(alloc: Global) -> Result<Block, Memory> {
+/// Two numbers, and an operator on them and another variable.
+fn numbers(alloc: Global, lets: &mut Vec<Let>) -> Result<(), Memory> {
     let cells: [Cell; 2] = [7, 8];
     let array = Array::vector(alloc, Base::Int, Vec::from_slice(alloc, &cells)?);
-    let mut lets = Vec::new(alloc);
-    lets.push(binding(alloc, 1, Right::Const(array))?)?;
-    lets.push(binding(alloc, 2, Right::Binary(Op::Sub, Var(1), Var(0)))?)?;
-    lets.push(binding(alloc, 5, conditional(alloc)?)?)?;
-    lets.push(binding(alloc, 9, repetition(alloc)?)?)?;
-    lets.push(binding(alloc, 13, with_loop(alloc)?)?)?;
-    lets.push(binding(alloc, 16, parted_loop(alloc)?)?)?;
+    bind(alloc, lets, 1, Right::Const(array))?;
+    bind(alloc, lets, 2, Right::Binary(Op::Sub, Var(1), Var(0)))
+}
+
+/// A call of two arguments.
+fn call(alloc: Global) -> Result<Right, Memory> {
     let args = vars(alloc, &[16, 13])?;
-    lets.push(binding(alloc, 17, Right::Call { group: 0, args })?)?;
+    Ok(Right::Call { group: 0, args })
+}
+
+/// A block of seven bindings, with one binding more in each of their six blocks.
+fn sample(alloc: Global) -> Result<Block, Memory> {
+    let mut lets = Vec::new(alloc);
+    numbers(alloc, &mut lets)?;
+    bind(alloc, &mut lets, 5, conditional(alloc)?)?;
+    bind(alloc, &mut lets, 9, repetition(alloc)?)?;
+    bind(alloc, &mut lets, 13, with_loop(alloc)?)?;
+    bind(alloc, &mut lets, 16, parted_loop(alloc)?)?;
+    bind(alloc, &mut lets, 17, call(alloc)?)?;
     Ok(Block {
         lets,
         results: vars(alloc, &[17])?,

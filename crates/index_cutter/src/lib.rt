@@ -7,6 +7,3 @@ mod lends;
 
 pub use cuts::{Cuts, cut};
 pub use lends::lend;
-
-#[cfg(test)]
-mod tests;

@@ -7,3 +7,5 @@ mod border;
 mod offset;
 #[cfg(test)]
 mod stencil;
+#[cfg(test)]
+mod strips;

@@ -1,11 +1,26 @@
-//! Tests of the cores that programs become, by a text with a line for each binding, and of what compiling leaves.
+//! Tests of what is done with words and a source before a run: files are fetched, sources are cut into tokens, accepted, printed and
+//! plainly run, and become cores, of which a text has a line for each binding.
 #![tactic(auto)]
 
 #[cfg(test)]
+mod check;
+#[cfg(test)]
 mod cores;
 #[cfg(test)]
+mod devices;
+#[cfg(test)]
+mod files;
+#[cfg(test)]
 mod inlined;
+#[cfg(test)]
+mod parse;
+#[cfg(test)]
+mod print;
 #[cfg(test)]
 mod special;
 #[cfg(test)]
 mod text;
+#[cfg(test)]
+mod tokens;
+#[cfg(test)]
+mod words;

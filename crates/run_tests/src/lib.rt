@@ -1,5 +1,24 @@
-//! Tests of whole runs.
+//! Tests of operators and types, of arrays, of their texts, of the layers below the evaluator of counted code, and of runs of the
+//! evaluator.
 #![tactic(auto)]
 
 #[cfg(test)]
+mod base;
+#[cfg(test)]
+mod data;
+#[cfg(test)]
+mod heaps;
+#[cfg(test)]
+mod operators;
+#[cfg(test)]
+mod orders;
+#[cfg(test)]
+mod plain;
+#[cfg(test)]
+mod stores;
+#[cfg(test)]
 mod tests;
+#[cfg(test)]
+mod types;
+#[cfg(test)]
+mod values;

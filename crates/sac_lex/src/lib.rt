@@ -15,6 +15,3 @@ pub use laws::one_reading;
 pub use lexer::lex;
 pub use token::{LexCode, LexError, Token, TokenKind};
 pub use tokens::Tokens;
-
-#[cfg(test)]
-mod tests;

@@ -6,6 +6,3 @@ mod out;
 
 pub use disk::DiskFiles;
 pub use out::Out;
-
-#[cfg(test)]
-mod tests;

@@ -1,16 +1,26 @@
-//! Runs the rows of standard input, each with one worker and with four, and prints what each run prints, and its exit status.
+//! Runs the rows and the cases of standard input, and prints what each run prints, and its exit status.
+//!
+//! A row is run with one worker and with four. Behind a line `#cases` each line is a directive of a case, a word and what it takes:
+//! devices that fail at each of their calls, texts that are cut short, limits at their edges, and phases. Behind a line `#rows`
+//! there are rows again. `README.md` lists the lines of both.
 #![tactic(auto)]
 
+mod case;
+mod directive;
+mod meeting;
 mod plain;
 mod row;
+mod runs;
 mod wanting;
 
+use case::Case;
+use directive::Directive;
 use row::Row;
 use std::alloc::Global;
 use std::process::ExitCode;
 use std::thread::Threads;
 
-// Takes a line of the table. Behind a row's last line it is run.
+// Takes a line of a row. Behind a row's last line it is run.
 fn take_line<R: Threads + Sync + Print>(
     rt: &R,
     alloc: Global,
@@ -26,14 +36,101 @@ fn take_line<R: Threads + Sync + Print>(
     }
 }
 
+// Does what a directive that runs a case asks for.
+fn run_case<R: Threads + Sync + Print>(
+    rt: &R,
+    alloc: Global,
+    case: &Case,
+    directive: &Directive<'_>,
+) -> Option<()> {
+    match directive {
+        Directive::Run(workers) => runs::with_workers(rt, alloc, case, workers),
+        Directive::Phases(workers) => runs::of_phases(rt, alloc, case, workers),
+        Directive::Meet => runs::of_meeting(rt, alloc, case),
+        Directive::Devices(fetch, call) => {
+            runs::with_failing_devices(rt, alloc, case, *fetch, *call)
+        }
+        Directive::Sinks(count) => runs::with_failing_sinks(rt, alloc, case, *count),
+        Directive::Files(count) => runs::with_failing_files(rt, alloc, case, *count),
+        Directive::Fronts(count) => runs::of_fronts(rt, alloc, case, *count),
+        _ => None,
+    }
+}
+
+// Does what a line of a case asks for.
+fn follow<R: Threads + Sync + Print>(
+    rt: &R,
+    alloc: Global,
+    case: &mut Case,
+    line: &str,
+) -> Option<()> {
+    let directive = Directive::of(line);
+    match directive {
+        Directive::Words(words) => *case = Case::new(alloc, words)?,
+        Directive::Source => case.fills_input = false,
+        Directive::Input => case.fills_input = true,
+        Directive::Line(text) => {
+            case.push(text.as_bytes())?;
+            case.push(b"\n")?;
+        }
+        Directive::Text(count, text) => {
+            for _ in 0..count {
+                case.push(text.as_bytes())?;
+            }
+        }
+        Directive::Bytes(numbers) => {
+            for number in numbers.split_whitespace() {
+                case.push(&[number.parse::<u8>().ok()?])?;
+            }
+        }
+        _ => run_case(rt, alloc, case, &directive)?,
+    }
+    Some(())
+}
+
+/// The row and the case that are read, and whether lines belong to the case.
+#[derive(Drop)]
+struct Tables {
+    row: Row,
+    case: Case,
+    in_cases: bool,
+}
+
+// Takes a line of either table.
+fn take<R: Threads + Sync + Print>(
+    rt: &R,
+    alloc: Global,
+    tables: &mut Tables,
+    line: &str,
+) -> Option<()> {
+    if line == "#cases" {
+        tables.in_cases = true;
+        Some(())
+    } else if line == "#rows" {
+        tables.in_cases = false;
+        Some(())
+    } else if tables.in_cases {
+        follow(rt, alloc, &mut tables.case, line)
+    } else {
+        take_line(rt, alloc, &mut tables.row, line)
+    }
+}
+
 fn main(rt: HostRuntime) -> ExitCode {
     let alloc = rt.alloc();
-    let mut row = Row::new(alloc);
+    let Some(case) = Case::new(alloc, "") else {
+        return ExitCode::from(1);
+    };
+    let mut tables = Tables {
+        row: Row::new(alloc),
+        case,
+        in_cases: false,
+    };
     for line in rt.lines(alloc) {
         let Ok(line) = line else {
             return ExitCode::from(1);
         };
-        if take_line(&rt, alloc, &mut row, line.as_str()).is_none() {
+        if take(&rt, alloc, &mut tables, line.as_str()).is_none() {
             return ExitCode::from(1);
         }
     }

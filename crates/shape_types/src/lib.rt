@@ -6,6 +6,3 @@ mod order;
 
 pub use choice::{Instance, pick};
 pub use order::{below, join, meet};
-
-#[cfg(test)]
-mod tests;

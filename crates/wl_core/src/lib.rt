@@ -25,6 +25,3 @@ pub use limits::{MOST_CHUNKS, MOST_HOLDS, MOST_WORKERS};
 pub use setup::{CellResult, Job, Setup};
 pub use state::{State, open_state};
 pub use validity::is_setup;
-
-#[cfg(test)]
-mod tests;

@@ -1,0 +1,6 @@
+//! Strips: the cells of short rows, and rows that are refused.
+
+mod branches;
+mod common;
+mod loads;
+mod quotients;

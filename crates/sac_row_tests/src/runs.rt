@@ -1,0 +1,200 @@
+//! Runs of a case, and what they print.
+
+use crate::case::Case;
+use crate::meeting::Meeting;
+use buffer_heap::Heap;
+use run_eval::Trace;
+use sac_io::{MemFiles, MemSink, write_all};
+use sac_real::Out;
+use sac_top::{Gate, NoGate, sac};
+use std::alloc::Global;
+use std::thread::Threads;
+
+/// More bytes than any text of these cases has.
+const ROOM: u64 = 1_000_000;
+
+// What a run leaves: its exit status, how many buffers its heap holds, and how many phases its tally counts.
+#[derive(Clone, Copy)]
+struct Ran {
+    status: u8,
+    live: u64,
+    phases: u64,
+}
+
+// Runs the words over files and a sink.
+fn run_behind<G: Gate, R: Threads + Sync>(
+    rt: &R,
+    alloc: Global,
+    words: &str,
+    workers: &str,
+    files: &mut MemFiles,
+    sink: &mut MemSink,
+    gate: &G,
+) -> Option<Ran> {
+    let mut all: Vec<&str> = Vec::new(alloc);
+    all.push("sac").ok()?;
+    for word in words.split_whitespace() {
+        all.push(word).ok()?;
+    }
+    all.push("--workers").ok()?;
+    all.push(workers).ok()?;
+    let mut heap = Heap::new(alloc);
+    let mut trace = Trace::new();
+    let status = sac(rt, alloc, &all, files, sink, &mut heap, gate, &mut trace);
+    Some(Ran {
+        status: status.code(),
+        live: heap.live(),
+        phases: trace.tally.phases(),
+    })
+}
+
+// The same without a gate.
+fn run<R: Threads + Sync>(
+    rt: &R,
+    alloc: Global,
+    words: &str,
+    workers: &str,
+    files: &mut MemFiles,
+    sink: &mut MemSink,
+) -> Option<Ran> {
+    run_behind(rt, alloc, words, workers, files, sink, &NoGate)
+}
+
+// Prints what a sink took, and ends its last line.
+fn show_text<R: Print>(rt: &R, sink: &MemSink) -> Option<()> {
+    let mut out = Out::new(rt);
+    let text = sink.bytes();
+    write_all(&mut out, text).ok()?;
+    if text.last() != Some(&b'\n') {
+        println!(rt;).ok()?;
+    }
+    Some(())
+}
+
+// Prints what a sink took, and on a line of its own the status and the number of buffers that are left.
+fn show<R: Print>(rt: &R, sink: &MemSink, ran: &Ran) -> Option<()> {
+    show_text(rt, sink)?;
+    let (status, live) = (ran.status, ran.live);
+    println!(rt; "status {status}, buffers {live}").ok()
+}
+
+// The same with the number of phases.
+fn show_phases<R: Print>(rt: &R, sink: &MemSink, ran: &Ran) -> Option<()> {
+    show_text(rt, sink)?;
+    let (status, live, phases) = (ran.status, ran.live, ran.phases);
+    println!(rt; "status {status}, buffers {live}, phases {phases}").ok()
+}
+
+/// Runs the case with each of these numbers of workers.
+pub fn with_workers<R: Threads + Sync + Print>(
+    rt: &R,
+    alloc: Global,
+    case: &Case,
+    workers: &str,
+) -> Option<()> {
+    for count in workers.split_whitespace() {
+        let mut files = case.files(alloc, Vec::new(alloc))?;
+        let mut sink = MemSink::new(alloc, ROOM, Vec::new(alloc));
+        let ran = run(rt, alloc, case.words.as_str(), count, &mut files, &mut sink)?;
+        show(rt, &sink, &ran)?;
+    }
+    Some(())
+}
+
+/// Runs the case with each of these numbers of workers, and prints how many phases there were.
+pub fn of_phases<R: Threads + Sync + Print>(
+    rt: &R,
+    alloc: Global,
+    case: &Case,
+    workers: &str,
+) -> Option<()> {
+    for count in workers.split_whitespace() {
+        let mut files = case.files(alloc, Vec::new(alloc))?;
+        let mut sink = MemSink::new(alloc, ROOM, Vec::new(alloc));
+        let ran = run(rt, alloc, case.words.as_str(), count, &mut files, &mut sink)?;
+        show_phases(rt, &sink, &ran)?;
+    }
+    Some(())
+}
+
+/// Runs the case with two workers, of which each chunk waits for the other one, and prints how many met.
+pub fn of_meeting<R: Threads + Sync + Print>(rt: &R, alloc: Global, case: &Case) -> Option<()> {
+    let mut files = case.files(alloc, Vec::new(alloc))?;
+    let mut sink = MemSink::new(alloc, ROOM, Vec::new(alloc));
+    let gate = Meeting::new();
+    let words = case.words.as_str();
+    let ran = run_behind(rt, alloc, words, "2", &mut files, &mut sink, &gate)?;
+    show_phases(rt, &sink, &ran)?;
+    let met = gate.met();
+    println!(rt; "met {met}").ok()
+}
+
+/// Runs the case over files of which this fetch fails, and a sink of 8 bytes a call, of which this call fails.
+pub fn with_failing_devices<R: Threads + Sync + Print>(
+    rt: &R,
+    alloc: Global,
+    case: &Case,
+    fetch: u64,
+    call: u64,
+) -> Option<()> {
+    let mut files = case.files(alloc, only(alloc, fetch)?)?;
+    let mut sink = MemSink::new(alloc, 8, only(alloc, call)?);
+    let ran = run(rt, alloc, case.words.as_str(), "1", &mut files, &mut sink)?;
+    show(rt, &sink, &ran)
+}
+
+// A list of one number.
+fn only(alloc: Global, number: u64) -> Option<Vec<u64>> {
+    let mut numbers = Vec::new(alloc);
+    numbers.push(number).ok()?;
+    Some(numbers)
+}
+
+/// Runs the case over sinks of one byte a call, of which call 1 fails, then call 2, up to `count`.
+pub fn with_failing_sinks<R: Threads + Sync + Print>(
+    rt: &R,
+    alloc: Global,
+    case: &Case,
+    count: u64,
+) -> Option<()> {
+    for call in 0..count {
+        let mut files = case.files(alloc, Vec::new(alloc))?;
+        let mut sink = MemSink::new(alloc, 1, only(alloc, call + 1)?);
+        let ran = run(rt, alloc, case.words.as_str(), "1", &mut files, &mut sink)?;
+        show(rt, &sink, &ran)?;
+    }
+    Some(())
+}
+
+/// Runs the case over files of which fetch 1 fails, then fetch 2, up to `count`.
+pub fn with_failing_files<R: Threads + Sync + Print>(
+    rt: &R,
+    alloc: Global,
+    case: &Case,
+    count: u64,
+) -> Option<()> {
+    for call in 0..count {
+        let mut files = case.files(alloc, only(alloc, call + 1)?)?;
+        let mut sink = MemSink::new(alloc, ROOM, Vec::new(alloc));
+        let ran = run(rt, alloc, case.words.as_str(), "1", &mut files, &mut sink)?;
+        show(rt, &sink, &ran)?;
+    }
+    Some(())
+}
+
+/// Runs the case with each front of fewer than `count` bytes of the text that was filled last, and prints the statuses, a digit each.
+pub fn of_fronts<R: Threads + Sync + Print>(
+    rt: &R,
+    alloc: Global,
+    case: &Case,
+    count: u64,
+) -> Option<()> {
+    for bytes in 0..count {
+        let mut files = case.cut_files(alloc, bytes as usize)?;
+        let mut sink = MemSink::new(alloc, ROOM, Vec::new(alloc));
+        let ran = run(rt, alloc, case.words.as_str(), "1", &mut files, &mut sink)?;
+        let status = ran.status;
+        print!(rt; "{status}").ok()?;
+    }
+    println!(rt;).ok()
+}

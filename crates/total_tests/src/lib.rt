@@ -1,5 +1,0 @@
-//! Tests of which bodies of parts never fault.
-#![tactic(auto)]
-
-#[cfg(test)]
-mod bodies;
