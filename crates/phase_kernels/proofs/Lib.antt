@@ -1,9 +1,5 @@
-mod Along
-mod Ends
-mod Holders
-mod Indices
-mod Lanes
-mod Making
+mod GenCells
 pub mod Named
-mod Scopes
-mod Stretches
+mod PartCells
+mod Ranges
+mod Rows

@@ -19,7 +19,7 @@ use Rattle.phase_loop_cells.specs.contracts.copies.Background as background
 use Rattle.std.specs.contracts.option.Option as option
 use Rattle.phase_loop_cells.specs.contracts.gens.WithCells as cells
 use Rattle.core_ir.specs.contracts.tree.Var as var
-use Rattle.phase_kernels.specs.contracts.cells.KernelCells as kernels
+use Rattle.phase_kernels.specs.contracts.gens.KernelCells as kernels
 
 counted_sync : IsSync code.the_row → (l : _) → IsSync (counted.the_row l)
 counted_sync code_sync l = view_sync (inside.the_row l) _ _ _ _ (declared_sync (inside.the_type l) (as_row_sync (shr_ref_field l code.the_row tt) (shr_sync _ _ code.the_row code_sync), tt))
