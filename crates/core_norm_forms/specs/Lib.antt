@@ -1,0 +1,4 @@
+pub mod Alike
+pub mod Fresh
+pub mod Walks
+pub mod Laws

@@ -1,0 +1,30 @@
+//! Laws: a core in which with-loops became parted loops is well formed, and lighter.
+#![tactic(auto)]
+
+ghost use Rattle.core_norm_forms.specs.Laws.{RenamedWeightsStay, WeightsFall, BindersStayDistinct, CopiesAreRenamed, CopiesAreAlike};
+ghost use Rattle.core_norm_forms.specs.Laws.{WalksKeep, NumbersStayBelow, StepsGoOn};
+
+/// Law: where one with-loop of a block becomes a parted loop, its weight falls; a block with other variables has the same weight.
+pub fn weight_falls()
+    ensures falls { WeightsFall }
+    ensures stays { RenamedWeightsStay }
+{}
+
+/// Law: where one with-loop of a block becomes a parted loop with new variables, the block still binds each variable once.
+pub fn replaced_parts_are_distinct()
+    ensures { BindersStayDistinct }
+{}
+
+/// Law: a block in which other variables stand for all of its own, kept apart, is a copy of the block.
+pub fn copies_are_renamed()
+    ensures renamed { CopiesAreRenamed }
+    ensures alike { CopiesAreAlike }
+{}
+
+/// Law: a core in one function of which with-loops became parted loops, one after another and with new variables, has the same outcome on arrays, is
+/// well formed and lighter, and came by as many normalising steps.
+pub fn steps_keep()
+    ensures keep { WalksKeep }
+    ensures below { NumbersStayBelow }
+    ensures on { StepsGoOn }
+{}
