@@ -1,0 +1,3 @@
+pub mod Numbering
+pub mod Making
+pub mod Replacing
