@@ -1,5 +1,8 @@
 //! The bases of a function's variables.
 
+ghost use Rattle.std.specs.Prelude.{◌≡◌};
+ghost use Rattle.with_norm.specs.Based.{bases_in};
+
 use core_ir::{Block, Core, CoreFun, CoreOp, Right, Var, WithLoop};
 use sac_base::{Base, Memory, result_base, same_base};
 use std::alloc::Global;
@@ -111,7 +114,9 @@ impl BaseTable {
     }
 
     /// The base of a variable.
-    pub fn of(&self, x: Var) -> Base {
+    pub fn of(&self, x: Var) -> Base
+        ensures { result ≡ bases_in self.now x }
+    {
         match self.slots.get(x.0 as usize) {
             Some(base) => *base,
             None => Base::Int,
@@ -143,7 +148,9 @@ impl BaseTable {
 }
 
 /// The variable whose base a with-loop's result has.
-pub fn base_var(op: CoreOp) -> Var {
+pub fn base_var(op: CoreOp) -> Var
+    ensures { result ≡ Rattle.core_norm_forms.specs.Fresh.base_var op }
+{
     match op {
         CoreOp::Genarray { default, .. } => default,
         CoreOp::Modarray { array } => array,

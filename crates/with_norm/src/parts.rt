@@ -10,7 +10,7 @@ ghost use Rattle.with_norm.specs.Making.{default_part as default_of, gap_part as
 use crate::binders::bound_in;
 use crate::copying::copy_block;
 use crate::names::{Names, Progress};
-use core_ir::{Block, CoreGen, CoreOp, CorePart, Let, PartedOp, Right, Var, WithLoop};
+use core_ir::{Block, CoreGen, CoreOp, CorePart, Let, PartedOp, Right, Var};
 use sac_base::{Array, Base, Grid, Memory, Site};
 use std::alloc::Global;
 
@@ -24,20 +24,21 @@ use std::alloc::Global;
 /// `Memory`: there is none for the parts, or the numbers of variables have more than 32 bits.
 pub fn parts_of(
     alloc: Global,
-    with: &WithLoop,
+    op: CoreOp,
     site: Site,
+    gens: &[CoreGen],
     grids: Vec<(Grid, Option<u64>)>,
     progress: &mut Progress,
 ) -> Result<Vec<CorePart>, Memory>
-    ensures parts { IfOk result (λ ps. map part_term ps.items ≡ made_parts with.now.op site (map gen_term with.now.gens.items) grids.items progress.old.next) }
+    ensures parts { IfOk result (λ ps. map part_term ps.items ≡ made_parts op site (map gen_term gens.now) grids.items progress.old.next) }
     ensures next { OnOk result (progress.new ≡ record progress.old {
       next = progress.old.next
-          + binds_of (made_parts with.now.op site (map gen_term with.now.gens.items) grids.items progress.old.next);
+          + binds_of (made_parts op site (map gen_term gens.now) grids.items progress.old.next);
     }) }
 {
     let mut parts = Vec::new(alloc);
     for (grid, label) in grids {
-        if let Some(part) = part_of(alloc, with, site, grid, label, progress)? {
+        if let Some(part) = part_of(alloc, op, site, gens, grid, label, progress)? {
             parts.push(part)?;
         }
     }
@@ -47,21 +48,22 @@ pub fn parts_of(
 /// The part of a grid, if it has one.
 fn part_of(
     alloc: Global,
-    with: &WithLoop,
+    op: CoreOp,
     site: Site,
+    gens: &[CoreGen],
     grid: Grid,
     label: Option<u64>,
     progress: &mut Progress,
 ) -> Result<Option<CorePart>, Memory>
-    ensures part { IfOk result (λ p. option_map part_term p ≡ label_part with.now.op site (map gen_term with.now.gens.items) grid label progress.old.next) }
+    ensures part { IfOk result (λ p. option_map part_term p ≡ label_part op site (map gen_term gens.now) grid label progress.old.next) }
     ensures next { OnOk result (progress.new ≡ record progress.old {
       next = progress.old.next
-          + binds_of (option_to_list (label_part with.now.op site (map gen_term with.now.gens.items) grid label progress.old.next));
+          + binds_of (option_to_list (label_part op site (map gen_term gens.now) grid label progress.old.next));
     }) }
 {
     match label {
-        None => gap_part(alloc, with.op, site, grid, progress),
-        Some(number) => match with.gens.get(number as usize) {
+        None => gap_part(alloc, op, site, grid, progress),
+        Some(number) => match gens.get(number as usize) {
             Some(generator) => Ok(Some(generator_part(alloc, generator, grid, progress)?)),
             None => Ok(None),
         },

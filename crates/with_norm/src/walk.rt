@@ -1,10 +1,14 @@
 //! One walk over a block in which each partable with-loop becomes a parted loop, inner ones first.
 
-ghost use Rattle.std.specs.Prelude.{◌≡◌, ◌-◌, IfOk, OnOk, map, drop, length};
-ghost use Rattle.core_ir.specs.View.{block_term, let_term, right_term, with_term, gen_term, parted_term, part_term};
-ghost use Rattle.core_facts.specs.Facts.{note_all, block_facts, right_facts};
+ghost use Rattle.std.specs.Prelude.{◌≡◌, ◌-◌, [], IfOk, OnOk, map, drop, length};
+ghost use Rattle.sac_base.specs.declared.site.Site.{Site as SiteOf};
+ghost use Rattle.core_ir.specs.Terms.{With, gens_of};
+ghost use Rattle.core_ir.specs.View.{block_term, let_term, right_term, gen_term, parted_term, part_term};
+ghost use Rattle.core_facts.specs.Facts.{note_all, block_facts, right_facts, unknown};
 ghost use Rattle.fact_table.specs.Table.{fact_of, facts_of};
 ghost use Rattle.plain_facts.specs.Called.{shapes_of};
+ghost use Rattle.with_norm.specs.Based.{bases_in};
+ghost use Rattle.with_norm.specs.Replacing.{BlockWalked, RightWalked, LetWalked, GensWalked, GenWalked, PartWalked};
 
 use crate::bases::{BaseTable, base_var};
 use crate::frame::parted_shape;
@@ -12,7 +16,7 @@ use crate::known::{KnownBlock, KnownRight};
 use crate::names::Progress;
 use crate::notes::{forget, forget_index, known_of, learn_index};
 use crate::parts::{parted_op, parts_of};
-use core_ir::{Block, CoreGen, CorePart, Let, PartedLoop, Right, WithLoop};
+use core_ir::{Block, CoreGen, CoreOp, CorePart, Let, PartedLoop, Right, WithLoop};
 use fact_table::{FactTable, Known};
 use partable_loops::{PartPlan, part_plan};
 use plain_facts::{CalledShapes, common_facts, learn_all, plain_fact};
@@ -20,6 +24,7 @@ use sac_base::{Memory, Site};
 use std::alloc::Global;
 
 /// What a walk over a function reads.
+#[derive(Clone, Copy)]
 pub struct Given<'a> {
     /// The known shapes of the results of calls.
     pub called: &'a CalledShapes,
@@ -39,7 +44,12 @@ pub fn norm_block(
     given: &Given<'_>,
     table: &mut FactTable,
     progress: &mut Progress,
-) -> Result<KnownBlock, Memory> {
+) -> Result<KnownBlock, Memory>
+    ensures walked { IfOk result (λ new. BlockWalked (shapes_of given.now.called.now) (bases_in given.now.bases.now) given.now.first (facts_of table.old)
+        progress.old progress.new (block_term block) (block_term new.block)) }
+    ensures known { IfOk result (λ new. map fact_of new.results.items ≡ block_facts (shapes_of given.now.called.now) (block_term new.block) (facts_of table.old)) }
+    ensures table { OnOk result (table.new ≡ table.old) }
+{
     let Block { lets, results } = block;
     let before = table.mark();
     let mut normal = Vec::new(alloc);
@@ -65,7 +75,14 @@ fn norm_binding(
     given: &Given<'_>,
     table: &mut FactTable,
     progress: &mut Progress,
-) -> Result<Let, Memory> {
+) -> Result<Let, Memory>
+    ensures walked { IfOk result (λ new. LetWalked (shapes_of given.now.called.now) (bases_in given.now.bases.now) given.now.first (facts_of table.old)
+        progress.old progress.new (let_term binding) (let_term new)) }
+    ensures learned { IfOk result (λ l. facts_of table.new
+        ≡ note_all (facts_of table.old) l.targets.items (right_facts (shapes_of given.now.called.now) (right_term l.right) (facts_of table.old))) }
+    ensures same { IfOk result (λ l. l.targets.items ≡ binding.targets.items) }
+    ensures earlier { OnOk result (drop (length table.new - length table.old) table.new ≡ table.old) }
+{
     let Let {
         targets,
         site,
@@ -88,7 +105,12 @@ fn norm_right(
     given: &Given<'_>,
     table: &mut FactTable,
     progress: &mut Progress,
-) -> Result<KnownRight, Memory> {
+) -> Result<KnownRight, Memory>
+    ensures walked { IfOk result (λ new. RightWalked (shapes_of given.now.called.now) (bases_in given.now.bases.now) given.now.first (facts_of table.old)
+        progress.old progress.new site (right_term right) (right_term new.right)) }
+    ensures known { IfOk result (λ new. map fact_of new.values.items ≡ right_facts (shapes_of given.now.called.now) (right_term new.right) (facts_of table.old)) }
+    ensures table { OnOk result (table.new ≡ table.old) }
+{
     match right {
         Right::If { cond, yes, no } => {
             let yes = norm_block(alloc, yes, given, table, progress)?;
@@ -133,8 +155,8 @@ fn norm_right(
             values: given.called.facts(alloc, group)?,
         }),
         Right::With(w) => {
-            let inner = norm_gens(alloc, w, given, table, progress)?;
-            norm_with(alloc, inner, site, given, table, progress)
+            let WithLoop { gens, op } = w;
+            norm_with(alloc, op, gens, site, given, table, progress)
         }
         Right::Parted(p) => norm_parted(alloc, p, given, table, progress),
         plain => {
@@ -144,21 +166,44 @@ fn norm_right(
     }
 }
 
-/// The bodies of the generators.
+/// The with-loops in the bodies of the generators, and then the with-loop itself.
 #[cycle(norming)]
-fn norm_gens(
+fn norm_with(
     alloc: Global,
-    with: WithLoop,
+    op: CoreOp,
+    gens: Vec<CoreGen>,
+    site: Site,
     given: &Given<'_>,
     table: &mut FactTable,
     progress: &mut Progress,
-) -> Result<WithLoop, Memory> {
-    let WithLoop { gens, op } = with;
+) -> Result<KnownRight, Memory>
+    ensures walked { IfOk result (λ new. RightWalked (shapes_of given.now.called.now) (bases_in given.now.bases.now) given.now.first (facts_of table.old)
+        progress.old progress.new site (With op (gens_of (map gen_term gens.items))) (right_term new.right)) }
+    ensures known { IfOk result (λ new. map fact_of new.values.items ≡ right_facts (shapes_of given.now.called.now) (right_term new.right) (facts_of table.old)) }
+    ensures table { OnOk result (table.new ≡ table.old) }
+{
+    let gens = norm_gens(alloc, gens, given, table, progress)?;
+    replace_with(alloc, op, gens, site, given, table, progress)
+}
+
+/// The with-loops in the bodies of generators.
+#[cycle(norming)]
+fn norm_gens(
+    alloc: Global,
+    gens: Vec<CoreGen>,
+    given: &Given<'_>,
+    table: &mut FactTable,
+    progress: &mut Progress,
+) -> Result<Vec<CoreGen>, Memory>
+    ensures walked { IfOk result (λ new. GensWalked (shapes_of given.now.called.now) (bases_in given.now.bases.now) given.now.first (facts_of table.old)
+        progress.old progress.new (gens_of (map gen_term gens.items)) (gens_of (map gen_term new.items))) }
+    ensures table { OnOk result (table.new ≡ table.old) }
+{
     let mut normal = Vec::new(alloc);
     for generator in gens {
         normal.push(norm_gen(alloc, generator, given, table, progress)?)?;
     }
-    Ok(WithLoop { gens: normal, op })
+    Ok(normal)
 }
 
 #[cycle(norming)]
@@ -168,7 +213,11 @@ fn norm_gen(
     given: &Given<'_>,
     table: &mut FactTable,
     progress: &mut Progress,
-) -> Result<CoreGen, Memory> {
+) -> Result<CoreGen, Memory>
+    ensures walked { IfOk result (λ new. GenWalked (shapes_of given.now.called.now) (bases_in given.now.bases.now) given.now.first (facts_of table.old)
+        progress.old progress.new (gen_term generator) (gen_term new)) }
+    ensures table { OnOk result (table.new ≡ table.old) }
+{
     let outer = table.mark();
     forget_index(alloc, table, generator.index, &generator.names)?;
     let body = norm_block(alloc, generator.body, given, table, progress)?;
@@ -187,47 +236,56 @@ fn norm_gen(
     })
 }
 
-/// The with-loop itself, if it is partable.
-fn norm_with(
+/// The with-loop itself, if it is partable and stood in the function where the walk began.
+fn replace_with(
     alloc: Global,
-    with: WithLoop,
+    op: CoreOp,
+    gens: Vec<CoreGen>,
     site: Site,
     given: &Given<'_>,
     table: &FactTable,
     progress: &mut Progress,
-) -> Result<KnownRight, Memory> {
-    let base = base_var(with.op);
+) -> Result<KnownRight, Memory>
+    ensures walked { IfOk result (λ new. RightWalked (shapes_of given.now.called.now) (bases_in given.now.bases.now) given.now.first (facts_of table.now)
+        progress.old progress.new site (With op (gens_of (map gen_term gens.items))) (right_term new.right)) }
+    ensures known { IfOk result (λ new. map fact_of new.values.items ≡ right_facts (shapes_of given.now.called.now) (right_term new.right) (facts_of table.now)) }
+{
+    let base = base_var(op);
     if u64::from(base.0) >= given.first {
-        return unchanged(alloc, with);
+        return unchanged(alloc, op, gens);
     }
-    match part_plan(alloc, table, progress.next, site, with.op, &with.gens)? {
-        None => unchanged(alloc, with),
-        Some(plan) => {
-            let PartPlan { frame, cell, parts } = plan;
-            let parts = parts_of(alloc, &with, site, parts, progress)?;
-            progress.count()?;
-            known_parted(
-                alloc,
-                PartedLoop {
-                    frame,
-                    base: given.bases.of(base),
-                    cell,
-                    op: parted_op(with.op),
-                    parts,
-                },
-            )
-        }
-    }
+    let Some(plan) = part_plan(alloc, table, progress.next, site, op, &gens)? else {
+        return unchanged(alloc, op, gens);
+    };
+    let PartPlan { frame, cell, parts } = plan;
+    let parts = parts_of(alloc, op, site, &gens, parts, progress)?;
+    progress.count()?;
+    known_parted(
+        alloc,
+        PartedLoop {
+            frame,
+            base: given.bases.of(base),
+            cell,
+            op: parted_op(op),
+            parts,
+        },
+    )
 }
 
-fn unchanged(alloc: Global, with: WithLoop) -> Result<KnownRight, Memory> {
+fn unchanged(alloc: Global, op: CoreOp, gens: Vec<CoreGen>) -> Result<KnownRight, Memory>
+    ensures right { IfOk result (λ new. right_term new.right ≡ With op (gens_of (map gen_term gens.items))) }
+    ensures known { IfOk result (λ new. new.values.items ≡ []) }
+{
     Ok(KnownRight {
-        right: Right::With(with),
+        right: Right::With(WithLoop { gens, op }),
         values: Vec::new(alloc),
     })
 }
 
-fn known_parted(alloc: Global, parted: PartedLoop) -> Result<KnownRight, Memory> {
+fn known_parted(alloc: Global, parted: PartedLoop) -> Result<KnownRight, Memory>
+    ensures right { IfOk result (λ new. right_term new.right ≡ parted_term parted) }
+    ensures known { IfOk result (λ new. map fact_of new.values.items ≡ right_facts (λ _. []) (parted_term parted) (λ _. unknown)) }
+{
     let shape = parted_shape(alloc, &parted.frame, &parted.cell, parted.op);
     KnownRight::of_one(alloc, Right::Parted(parted), Known::of_shape(shape))
 }
@@ -239,7 +297,12 @@ fn norm_parted(
     given: &Given<'_>,
     table: &mut FactTable,
     progress: &mut Progress,
-) -> Result<KnownRight, Memory> {
+) -> Result<KnownRight, Memory>
+    ensures walked { IfOk result (λ new. (s : SiteOf) → RightWalked (shapes_of given.now.called.now) (bases_in given.now.bases.now) given.now.first (facts_of table.old)
+        progress.old progress.new s (parted_term parted) (right_term new.right)) }
+    ensures known { IfOk result (λ new. map fact_of new.values.items ≡ right_facts (shapes_of given.now.called.now) (right_term new.right) (facts_of table.old)) }
+    ensures table { OnOk result (table.new ≡ table.old) }
+{
     let PartedLoop {
         frame,
         base,
@@ -270,7 +333,11 @@ fn norm_part(
     given: &Given<'_>,
     table: &mut FactTable,
     progress: &mut Progress,
-) -> Result<CorePart, Memory> {
+) -> Result<CorePart, Memory>
+    ensures walked { IfOk result (λ new. PartWalked (shapes_of given.now.called.now) (bases_in given.now.bases.now) given.now.first (facts_of table.old)
+        progress.old progress.new (part_term part) (part_term new)) }
+    ensures table { OnOk result (table.new ≡ table.old) }
+{
     let outer = table.mark();
     learn_index(alloc, table, part.index, &part.grid)?;
     let body = norm_block(alloc, part.body, given, table, progress)?;
