@@ -157,7 +157,14 @@ fn generator_part(
     let index = progress.take()?;
     let mut names = Names::new(alloc);
     names.set(generator.index, index)?;
-    let mut lets = components(alloc, generator, index, &mut names, progress)?;
+    let mut lets = components(
+        alloc,
+        generator.site,
+        &generator.names,
+        index,
+        &mut names,
+        progress,
+    )?;
     names.set_all(&bound_in(alloc, &generator.body)?, progress)?;
     let Block {
         lets: mut copied,
@@ -175,27 +182,28 @@ fn generator_part(
 /// The bindings of the components of an index that have names.
 fn components(
     alloc: Global,
-    generator: &CoreGen,
+    site: Site,
+    components: &[Var],
     index: Var,
     names: &mut Names,
     progress: &mut Progress,
 ) -> Result<Vec<Let>, Memory>
-    ensures lets { IfOk result (λ ls. map let_term ls.items ≡ component_lets generator.now.site index 0 generator.now.names.items progress.old.next) }
-    ensures names { OnOk result ((z : Variable) → named_in names.new z ≡ component_names (named_in names.old) generator.now.names.items progress.old.next z) }
+    ensures lets { IfOk result (λ ls. map let_term ls.items ≡ component_lets site index 0 components.now progress.old.next) }
+    ensures names { OnOk result ((z : Variable) → named_in names.new z ≡ component_names (named_in names.old) components.now progress.old.next z) }
     ensures next { OnOk result (progress.new ≡ record progress.old {
       next = progress.old.next
-          + (length generator.now.names.items + length generator.now.names.items);
+          + (length components.now + length components.now);
     }) }
 {
     let mut lets = Vec::new(alloc);
     let mut place = 0i32;
-    for name in &generator.names {
+    for name in components {
         let constant = progress.take()?;
         let component = progress.take()?;
         let number = Right::Const(Array::scalar(alloc, Base::Int, place)?);
-        lets.push(binding(alloc, constant, generator.site, number)?)?;
+        lets.push(binding(alloc, constant, site, number)?)?;
         let selection = Right::Select(index, constant);
-        lets.push(binding(alloc, component, generator.site, selection)?)?;
+        lets.push(binding(alloc, component, site, selection)?)?;
         names.set(*name, component)?;
         place = match place.checked_add(1) {
             Some(next) => next,
