@@ -81,6 +81,7 @@ impl Bounds {
         requires { IsTrue bounded → n ≤ most → length frame.now ≡ n }
         ensures told { Tells result (range_of n most (frame_if bounded frame.now) frame.now self.now) }
         ensures rank { IfOk result (λ r. length r ≤ 8) }
+        ensures length { IfOk result (λ r. length r ≡ n) }
     {
         if n > Shape::MOST || n > most || !self.has_names(n) {
             return Err(fault(FaultKind::F5, self.site));

@@ -206,8 +206,8 @@ impl Frame {
     }
 }
 
-// The least box that holds the boxes of all ranges that are not empty, if there are any.
-fn joined_range(alloc: Global, ranges: &[Range]) -> Result<Option<Range>, Memory>
+/// The least box that holds the boxes of all ranges that are not empty, if there are any.
+pub fn joined_range(alloc: Global, ranges: &[Range]) -> Result<Option<Range>, Memory>
     requires { All (λ r. length r ≤ 8) ranges.now }
     ensures frame { IfOk result (λ o. frame_with o [] ≡ joined_frame ranges.now) }
     ensures some { IfOk result (λ o. IfSome o IsSomeBox) }

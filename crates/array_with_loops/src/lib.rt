@@ -10,6 +10,8 @@ mod ranges;
 
 pub use bounds::Bounds;
 pub use finish::{add_cell, cell_size, combine, fits_form};
-pub use frames::{Frame, IndexVector};
-pub use plans::{Evaluated, Plan, fold_plan, genarray_plan, modarray_plan};
+pub use frames::{Frame, IndexVector, joined_range};
+pub use plans::{
+    Evaluated, Plan, fold_plan, genarray_plan, index_length, modarray_plan, ranges_of,
+};
 pub use ranges::{Axis, Range, Run};

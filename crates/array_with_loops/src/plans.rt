@@ -141,8 +141,8 @@ fn shape_of(alloc: Global, array: &Array) -> Option<Shape>
     Shape::from_extents(alloc, array.cells())
 }
 
-// The length of the index: that of the first part that is given.
-fn index_length(bounds: &[Bounds], otherwise: usize) -> usize
+/// The length of the index: that of the first part that is given.
+pub fn index_length(bounds: &[Bounds], otherwise: usize) -> usize
     ensures { result ≡ index_length_value bounds.now otherwise }
 {
     for g in bounds {
@@ -153,8 +153,9 @@ fn index_length(bounds: &[Bounds], otherwise: usize) -> usize
     otherwise
 }
 
-// The range of each generator, or the fault of the first that is bad.
-fn ranges_of(
+/// The range of each generator, whose index has `n` components, or the fault of the first that is bad. Where the loop is bounded, all members are
+/// to lie in the frame.
+pub fn ranges_of(
     alloc: Global,
     bounds: &[Bounds],
     n: usize,
@@ -165,6 +166,7 @@ fn ranges_of(
     requires { IsTrue bounded → n ≤ most → length frame.now ≡ n }
     ensures told { TellsItems result (each (range_of n most (frame_if bounded frame.now) frame.now) bounds.now) }
     ensures ranks { IfOk result (λ v. All (λ r. length r ≤ 8) v.items) }
+    ensures lengths { IfOk result (λ v. All (λ r. length r ≡ n) v.items) }
 {
     let mut ranges = Vec::new(alloc);
     for g in bounds {

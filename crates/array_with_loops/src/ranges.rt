@@ -7,7 +7,7 @@ ghost use Rattle.std.specs.List.{list_all};
 ghost use Rattle.array_with_loops.specs.Ranges.{IsAxis, IsBound, IsStep, is_empty_axis, axis_within, axes_within, moved_last};
 ghost use Rattle.sac_base.specs.Shapes.{IsExtent};
 
-use sac_base::{Memory, Shape};
+use sac_base::{Grid1, Memory, Shape};
 use std::alloc::Global;
 use std::marker::Model;
 
@@ -50,6 +50,21 @@ impl Axis {
             0
         } else {
             (self.upper - self.lower) as u64
+        }
+    }
+
+    /// The axis of a grid with the same bounds, step and width.
+    pub fn grid_axis(&self) -> Grid1
+        ensures lo { result.lo ≡ self.now.lower }
+        ensures hi { result.hi ≡ self.now.upper }
+        ensures step { result.step ≡ self.now.step }
+        ensures width { result.width ≡ self.now.width }
+    {
+        Grid1 {
+            lo: self.lower,
+            hi: self.upper,
+            step: i64::from(self.step),
+            width: i64::from(self.width),
         }
     }
 

@@ -1,5 +1,5 @@
 -- Partable with-loops whose frame and grids are those that the bounds give, number by number.
-use Rattle.std.specs.Prelude.{◌≡◌, ℕ, ◌-◌, List, [], ◌∷◌, map, filter, not, length, take, pos, ◌+ℤ◌}
+use Rattle.std.specs.Prelude.{◌≡◌, ℕ, suc, ◌-◌, List, map, filter, not, length, take, pos, ◌+ℤ◌}
 use Rattle.sac_base.specs.declared.grid.Grid1.{Grid1}
 use Rattle.sac_base.specs.declared.site.Site.{Site}
 use Rattle.sac_base.specs.WithLoops.{Axis, Plan, Range, Span, fold_frame, is_empty_box, shape_spans}
@@ -13,10 +13,14 @@ use Rattle.core_loops.specs.Loops.{IsPartable}
 abbrev pub axis_of : Grid1 → Axis
 axis_of g = record { lower = g.lo; upper = g.hi; step = g.step; width = g.width }
 
-abbrev pub range_of : List Grid1 → Range
-range_of g = map axis_of g
+abbrev pub grid_range : List Grid1 → Range
+grid_range g = map axis_of g
 
--- the front of a shape, so that what is left is a cell
+-- all numbers of a span
+abbrev pub spanned : Span → Axis
+spanned s = record { lower = s.low; upper = s.low +ℤ pos s.extent; step = pos 1; width = pos 1 }
+
+-- the front of a shape, behind which a cell's shape is left
 abbrev pub front : List ℕ → List ℕ → List ℕ
 front shape cell = take (length shape - length cell) shape
 
@@ -27,18 +31,12 @@ frame_spans (making.Genarray x y) p = shape_spans (front p.shape p.form.shape)
 frame_spans (making.Modarray x) p = shape_spans (front p.shape p.form.shape)
 frame_spans (making.Fold f x) p = fold_frame (filter (λ r. not (is_empty_box r)) p.ranges)
 
--- axes from the first number of a span to its end
-abbrev pub AreSpans : List Grid1 → List Span → Type 0
-AreSpans [] [] = Unit {0}
-AreSpans (g ∷ gs) (s ∷ ss) = (g.lo ≡ s.low) × (g.hi ≡ s.low +ℤ pos s.extent) × AreSpans gs ss
-AreSpans _ _ = ⊥
-
 pub record IsExactlyPartable (k : Facts) (above : ℕ) (s : Site) (op : CoreOp) (gens : GensTerm) : Type 0 where
   pub partable : IsPartable k above s op gens
-  pub spans : AreSpans partable.frame (frame_spans op partable.planned)
-  pub cut : map range_of partable.grids ≡ partable.planned.ranges
+  pub spans : grid_range partable.frame ≡ map spanned (frame_spans op partable.planned)
+  pub cut : map grid_range partable.grids ≡ partable.planned.ranges
 
 -- how many generators there are
 abbrev pub generator_count : GensTerm → ℕ
 generator_count NoGens = 0
-generator_count (Gen h b rest) = Rattle.std.specs.Prelude.suc (generator_count rest)
+generator_count (Gen h b rest) = suc (generator_count rest)

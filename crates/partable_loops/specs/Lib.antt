@@ -1,3 +1,4 @@
 pub mod Refused
 pub mod Exact
+pub mod Framings
 pub mod Planned

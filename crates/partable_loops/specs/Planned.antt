@@ -1,6 +1,6 @@
 -- What a plan says of the with-loop.
 use Rattle.std.specs.List.{list_any}
-use Rattle.std.specs.Prelude.{◌≡◌, ◌⊎◌, ℕ, true, false, List, ◌++◌, map, length, ℤ, Option, Some}
+use Rattle.std.specs.Prelude.{◌≡◌, ◌⊎◌, ℕ, true, false, List, ◌++◌, map, filter, is_some, length, ℤ, Option, Some}
 use Rattle.sac_base.specs.declared.base.Base.{Base}
 use Rattle.sac_base.specs.declared.grid.Grid1.{Grid1}
 use Rattle.sac_base.specs.declared.op.Op.{Op}
@@ -18,11 +18,14 @@ use Rattle.partable_loops.specs.declared.planning.PartPlan.{PartPlan}
 use Rattle.partable_loops.specs.Exact.{IsExactlyPartable, generator_count}
 
 -- a grid of a plan, with the first generator that has its members
-abbrev pub Labels : Type 0
-Labels = List (List Grid1 × Option ℕ)
+abbrev pub Label : Type 0
+Label = List Grid1 × Option ℕ
 
-abbrev pub grids_in : Labels → List (List Grid1)
-grids_in labels = map (λ (p : List Grid1 × Option ℕ). p.0) labels
+-- a fold has no cell where no generator holds
+abbrev pub needed_parts : CoreOp → List Label → List Label
+needed_parts (making.Genarray x y) labels = labels
+needed_parts (making.Modarray x) labels = labels
+needed_parts (making.Fold o x) labels = filter (λ (p : Label). is_some p.1) labels
 
 -- Of each operation. The base is that of the default, the array or the neutral value.
 pub record IsPlan (k : Facts) (above : ℕ) (s : Site) (op : CoreOp) (gens : GensTerm) (base : Base) (plan : PartPlan) : Type 0 where
@@ -34,13 +37,13 @@ pub record IsPlan (k : Facts) (above : ℕ) (s : Site) (op : CoreOp) (gens : Gen
   pub first : NameFirst exact.partable.grids plan.parts.items
 
 -- each vector of the frame is in one grid
-abbrev pub Covers : List Grid1 → Labels → Type 0
-Covers frame labels = (v : List ℤ) → has_vector frame v ≡ true → times_vector (grids_in labels) v ≡ 1
+abbrev pub Covers : List Grid1 → List Label → Type 0
+Covers frame labels = (v : List ℤ) → has_vector frame v ≡ true → times_vector (map (λ (p : Label). p.0) labels) v ≡ 1
 
 -- each vector of the frame is in one grid, or in none and in no generator
-abbrev pub CoversHeld : List Grid1 → List (List Grid1) → Labels → Type 0
-CoversHeld frame grids labels = (v : List ℤ) → has_vector frame v ≡ true → (times_vector (grids_in labels) v ≡ 1) ⊎
-    ((list_any (λ g. has_vector g v) grids ≡ false) × (list_any (λ (p : List Grid1 × Option ℕ). has_vector p.0 v) labels ≡ false))
+abbrev pub CoversHeld : List Grid1 → List (List Grid1) → List Label → Type 0
+CoversHeld frame grids labels = (v : List ℤ) → has_vector frame v ≡ true → (times_vector (map (λ (p : Label). p.0) labels) v ≡ 1) ⊎
+    ((list_any (λ g. has_vector g v) grids ≡ false) × (list_any (λ (p : Label). has_vector p.0 v) labels ≡ false))
 
 pub record IsGenarrayPlan (k : Facts) (above : ℕ) (s : Site) (shape default : Var) (gens : GensTerm) (base : Base) (plan : PartPlan) : Type 0 where
   pub plan_is : IsPlan k above s (making.Genarray shape default) gens base plan

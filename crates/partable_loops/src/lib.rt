@@ -3,6 +3,7 @@
 
 mod cuts;
 mod framing;
+mod grids;
 mod literals;
 mod planning;
 mod refusal;

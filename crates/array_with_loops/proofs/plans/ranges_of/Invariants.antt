@@ -9,4 +9,5 @@ invariant-loop-g l = record {
   told : and_then (each (range_of l.n l.most (frame_if l.bounded l.frame) l.frame) (drop l.g-index l.bounds)) (λ rest. Ok (l.ranges.items ++ rest))
       ≡ each (range_of l.n l.most (frame_if l.bounded l.frame) l.frame) l.bounds;
   ranks : All (λ r. length r ≤ 8) l.ranges.items;
+  lengths : All (λ r. length r ≡ l.n) l.ranges.items;
 }

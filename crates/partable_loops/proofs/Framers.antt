@@ -1,0 +1,268 @@
+-- When an array or a fold has a plan, and what it is.
+use Rattle.std.proofs.Common.{◌≡◌, ◌≤◌, ◌⊎◌, ℕ, zero, suc, ◌+◌, ◌-◌, min, List, [], ◌∷◌, ◌++◌, map, take, drop, length, filter, All, Bool, true, false, not, ◌&&◌, refl, sym, ap, subst, ◌∙◌, arith, true≢false, Some, None, Option, Ok, Err, inl, inr, ℤ, pos}
+use Rattle.std.specs.Prelude.{nat_le, fold, if◌then◌else◌}
+use Rattle.std.proofs.lemmas.Bool.Decides.{nat_tests}
+use Rattle.std.proofs.lemmas.List.{drop_min, length-append, length-drop, length-map, take-append-drop, take_min}
+use Rattle.std.proofs.lemmas.List.Elements.{All-cons, All-nil, All-head, All-tail}
+use Rattle.std.proofs.Math.Seq.{take-append_seam}
+use Rattle.sac_base.specs.declared.base.Base.{Base}
+use Rattle.sac_base.specs.declared.faults.FaultKind.TheVariants.{F4, F5, F8}
+use Rattle.sac_base.specs.declared.grid.Grid1.{Grid1}
+use Rattle.sac_base.specs.declared.op.Op.{Op}
+use Rattle.sac_base.specs.declared.site.Site.{Site}
+use Rattle.sac_base.specs.Arrays.{ArrayValue, size, MOST}
+use Rattle.sac_base.specs.Operators.{all_of, with_first}
+use Rattle.sac_base.specs.Outcomes.{Ends, and_then, fault}
+use Rattle.sac_base.specs.Parts.{shape_of_numbers, vector_of}
+use Rattle.sac_base.specs.WithLoops.{Bounds, Plan, Range, Span, box, box_size, each, fold_frame, fold_plan, form_of, genarray_plan, index_length, is_empty_box, joined_axis, joined_range, modarray_plan, names_fit, plan, range_from, range_of, lower_of, upper_of, step_of, shape_spans, span_of, within_frame}
+use Rattle.sac_base.specs.WithLoops
+use Rattle.array_with_loops.proofs.EachSteps.{each_length}
+use Rattle.core_ir.specs.declared.tree.Var.{Var}
+use Rattle.core_ir.specs.declared.tree.CoreOp.TheVariants as making
+use Rattle.core_ir.specs.Meaning.{cell_form, extents}
+use Rattle.partable_loops.specs.declared.framing.Framed.{Framed}
+use Rattle.partable_loops.specs.Exact.{front, frame_spans, grid_range, spanned}
+use Rattle.partable_loops.specs.Framings.{FramesPlan, IsVoid}
+use Rattle.partable_loops.proofs.Boxes.{extents_are, shape_extents}
+
+-- ---- tests
+
+passes : (a b : ℕ) → a ≤ b → nat_le a b ≡ true
+passes a b h = grind (arith, nat_tests)
+
+passed : (a b : ℕ) → nat_le a b ≡ true → a ≤ b
+passed a b e = grind (arith, nat_tests)
+
+-- ---- lengths
+
+length_spans : (g : List Grid1) (ss : List Span) → grid_range g ≡ map spanned ss → length g ≡ length ss
+length_spans g ss e = sym (length-map g _) ∙ ap length e ∙ length-map ss _
+
+lengths_are : (gs : List (List Grid1)) (rs : List Range) (n : ℕ) → map grid_range gs ≡ rs → All (λ (r : Range). length r ≡ n) rs → All (λ (g : List Grid1). length g ≡ n) gs
+lengths_are gs rs n e h = by gs (subst (All (λ (r : Range). length r ≡ n)) (sym e) h)
+  where
+    by : (gs : List (List Grid1)) → All (λ (r : Range). length r ≡ n) (map grid_range gs) → All (λ (g : List Grid1). length g ≡ n) gs
+    by [] h = All-nil (λ (g : List Grid1). length g ≡ n)
+    by (g ∷ gs) h =
+        All-cons (λ (g : List Grid1). length g ≡ n) g gs (sym (length-map g _) ∙ All-head (λ (r : Range). length r ≡ n) (grid_range g) (map grid_range gs) h)
+        (by gs (All-tail (λ (r : Range). length r ≡ n) (grid_range g) (map grid_range gs) h))
+
+-- ---- the front of a shape
+
+front_joined : (ns cell : List ℕ) → front (ns ++ cell) cell ≡ ns
+front_joined ns cell = ap (λ k. take k (ns ++ cell)) back ∙ take-append_seam ns cell
+  where
+    back : length (ns ++ cell) - length cell ≡ length ns
+    back = let all = length-append ns cell in omega arith
+
+front_taken : (ns : List ℕ) (n : ℕ) → front ns (drop n ns) ≡ take n ns
+front_taken ns n = ap (λ k. take k ns) back ∙ take_min n ns
+  where
+    back : length ns - length (drop n ns) ≡ min n (length ns)
+    back = let rest = length-drop n ns in omega arith
+
+-- ---- a genarray
+
+pub record GenarrayHas (bs : List Bounds) (m : Option (List ℕ)) (cell : List ℕ) : Type 0 where
+  pub extents : List ℕ
+  pub given : m ≡ Some extents
+  pub short : length (extents ++ cell) ≤ 8
+  pub small : size extents ≤ MOST
+  pub whole : size (extents ++ cell) ≤ MOST
+  pub ranges : List Range
+  pub found : each (range_of (length extents) 8 (Some extents) extents) bs ≡ Ok ranges
+
+pub genarray_has : (bs : List Bounds) (m : Option (List ℕ)) (base : Base) (cell : List ℕ) (s : Site) (p : Plan) → genarray_plan bs m (cell_form base cell) s ≡ Ok p → GenarrayHas bs m cell
+genarray_has bs None base cell s p e = cc
+genarray_has bs (Some ns) base cell s p e = by (nat_le (length (ns ++ cell)) 8) refl (nat_le (size ns) MOST) refl (nat_le (size (ns ++ cell)) MOST) refl (each (range_of (length ns) 8 (Some ns) ns) bs) refl e
+  where
+    by : (a : Bool) → nat_le (length (ns ++ cell)) 8 ≡ a → (b : Bool) → nat_le (size ns) MOST ≡ b → (c : Bool) → nat_le (size (ns ++ cell)) MOST ≡ c
+        → (m : Ends (List Range)) → each (range_of (length ns) 8 (Some ns) ns) bs ≡ m
+        → (if a then (if b && c then
+            and_then m (λ ranges. Ok (record { ranges = ranges; indices = box (shape_spans ns); form = form_of (cell_form base cell); shape = ns ++ cell }))
+            else fault F8 s) else fault F4 s) ≡ Ok p → GenarrayHas bs (Some ns) cell
+    by false t b u c v m f q = cc
+    by true t false u c v m f q = cc
+    by true t true u false v m f q = cc
+    by true t true u true v (Err z) f q = cc
+    by true t true u true v (Ok rs) f q = record {
+      extents = ns;
+      given = refl;
+      short = passed _ _ t;
+      small = passed _ _ u;
+      whole = passed _ _ v;
+      ranges = rs;
+      found = f;
+    }
+
+genarray_is : (bs : List Bounds) (ns cell : List ℕ) (base : Base) (s : Site) (rs : List Range) → length (ns ++ cell) ≤ 8 → size ns ≤ MOST → size (ns ++ cell) ≤ MOST
+    → each (range_of (length ns) 8 (Some ns) ns) bs ≡ Ok rs
+    → genarray_plan bs (Some ns) (cell_form base cell) s ≡ Ok (record { ranges = rs; indices = box (shape_spans ns); form = record { base = base; shape = cell }; shape = ns ++ cell })
+genarray_is bs ns cell base s rs short small whole found = λ i.
+    if passes (length (ns ++ cell)) 8 short i then (if passes (size ns) MOST small i && passes (size (ns ++ cell)) MOST whole i then
+    and_then (found i) (λ ranges. Ok (record { ranges = ranges; indices = box (shape_spans ns); form = form_of (cell_form base cell); shape = ns ++ cell }))
+    else fault F8 s) else fault F4 s
+
+-- what the code makes of it
+pub genarray_frames : (bs : List Bounds) (shape : ArrayValue) (ns cell : List ℕ) (rs : List Range) (f : Framed)
+    → shape_of_numbers (vector_of shape) ≡ Some ns → length (ns ++ cell) ≤ 8 → size ns ≤ MOST → size (ns ++ cell) ≤ MOST
+    → each (range_of (length ns) 8 (Some ns) ns) bs ≡ Ok rs → All (λ (r : Range). length r ≡ length ns) rs
+    → map grid_range f.grids.items ≡ rs → grid_range f.frame ≡ map spanned (shape_spans ns) → f.cell ≡ cell
+    → (s : Site) (base : Base) (x y : Var) → FramesPlan base (making.Genarray x y) bs (WithLoops.genarray shape (cell_form base cell) s) f
+genarray_frames bs shape ns cell rs f given short small whole found long cut spans is s base x y = record {
+  planned = record { ranges = rs; indices = box (shape_spans ns); form = record { base = base; shape = cell }; shape = ns ++ cell };
+  valid = ap (λ m. genarray_plan bs m (cell_form base cell) s) given ∙ genarray_is bs ns cell base s rs short small whole found;
+  cut = cut;
+  count = each_length _ bs rs found;
+  spans = spans ∙ ap (λ ms. map spanned (shape_spans ms)) (sym (front_joined ns cell));
+  indices = ap (λ ms. box (shape_spans ms)) (sym (front_joined ns cell));
+  form = λ i. record { base = base; shape = sym is i };
+  ranks = inl (subst (λ n. All (λ (g : List Grid1). length g ≡ n) f.grids.items) (sym (length_spans f.frame (shape_spans ns) spans ∙ length-map ns _)) (lengths_are f.grids.items rs (length ns) cut long));
+  whole = λ i. sym (extents_are f.frame (shape_spans ns) spans ∙ shape_extents ns) i ++ sym is i;
+}
+
+-- ---- a modarray
+
+pub record ModarrayHas (bs : List Bounds) (shape : List ℕ) : Type 0 where
+  pub small : size (take (index_length bs (length shape)) shape) ≤ MOST
+  pub ranges : List Range
+  pub found : each (range_of (index_length bs (length shape)) (length shape) (Some (take (index_length bs (length shape)) shape)) (take (index_length bs (length shape)) shape)) bs ≡ Ok ranges
+
+pub modarray_has : (bs : List Bounds) (base : Base) (shape : List ℕ) (s : Site) (p : Plan) → plan bs (WithLoops.modarray (cell_form base shape) s) ≡ Ok p → ModarrayHas bs shape
+modarray_has bs base shape s p e = by (nat_le (size ns) MOST) refl (each (range_of n (length shape) (Some ns) ns) bs) refl e
+  where
+    n = index_length bs (length shape)
+
+    ns = take n shape
+
+    by : (a : Bool) → nat_le (size ns) MOST ≡ a → (m : Ends (List Range)) → each (range_of n (length shape) (Some ns) ns) bs ≡ m
+        → and_then m (λ ranges. if a then Ok (record { ranges = ranges; indices = box (shape_spans ns); form = record { base = base; shape = drop n shape }; shape = shape }) else fault F8 s) ≡ Ok p
+        → ModarrayHas bs shape
+    by a t (Err z) f q = cc
+    by false t (Ok rs) f q = cc
+    by true t (Ok rs) f q = record { small = passed _ _ t; ranges = rs; found = f }
+
+-- an index is at most as long as the shape, where there is a generator
+range_fits : (n most : ℕ) (fr : Option (List ℕ)) (dots : List ℕ) (g : Bounds) (r : Range) → range_of n most fr dots g ≡ Ok r → n ≤ most
+range_fits n most fr dots g r e = by (nat_le n 8) (nat_le n most) refl e
+  where
+    by : (a b : Bool) → nat_le n most ≡ b
+        → (if a && b && names_fit n g.names then within_frame fr g.site (range_from (lower_of n g) (upper_of n dots g) (step_of n g.step) (step_of n g.width)) else fault F5 g.site) ≡ Ok r → n ≤ most
+    by false b t q = cc
+    by true false t q = cc
+    by true true t q = passed n most t
+
+each_fits : (n most : ℕ) (fr : Option (List ℕ)) (dots : List ℕ) (bs : List Bounds) (rs : List Range) → each (range_of n most fr dots) bs ≡ Ok rs → (rs ≡ []) ⊎ (n ≤ most)
+each_fits n most fr dots [] [] e = inl refl
+each_fits n most fr dots [] (r ∷ rs) e = cc
+each_fits n most fr dots (b ∷ bs) rs e = by (range_of n most fr dots b) refl e
+  where
+    by : (m : Ends Range) → range_of n most fr dots b ≡ m → all_of (m ∷ map (range_of n most fr dots) bs) ≡ Ok rs → (rs ≡ []) ⊎ (n ≤ most)
+    by (Err z) f q = cc
+    by (Ok r) f q = inr (range_fits n most fr dots b r f)
+
+taken_length : (n : ℕ) (ns : List ℕ) → n ≤ length ns → length (take n ns) ≡ n
+taken_length n ns h = let all = ap length (take-append-drop n ns) in let two = length-append (take n ns) (drop n ns) in let rest = length-drop n ns in omega arith
+
+pub modarray_frames : (bs : List Bounds) (shape : List ℕ) (rs : List Range) (f : Framed)
+    → size (take (index_length bs (length shape)) shape) ≤ MOST
+    → each (range_of (index_length bs (length shape)) (length shape) (Some (take (index_length bs (length shape)) shape)) (take (index_length bs (length shape)) shape)) bs ≡ Ok rs
+    → All (λ (r : Range). length r ≡ index_length bs (length shape)) rs
+    → map grid_range f.grids.items ≡ rs → grid_range f.frame ≡ map spanned (shape_spans (take (index_length bs (length shape)) shape))
+    → f.cell ≡ drop (min (index_length bs (length shape)) (length shape)) shape
+    → (s : Site) (base : Base) (x : Var) → FramesPlan base (making.Modarray x) bs (WithLoops.modarray (cell_form base shape) s) f
+modarray_frames bs shape rs f small found long cut spans is s base x = record {
+  planned = record { ranges = rs; indices = box (shape_spans ns); form = record { base = base; shape = drop n shape }; shape = shape };
+  valid = λ i. and_then (found i) (λ ranges. if passes (size ns) MOST small i then Ok (record { ranges = ranges; indices = box (shape_spans ns); form = record { base = base; shape = drop n shape }; shape = shape }) else fault F8 s);
+  cut = cut;
+  count = each_length _ bs rs found;
+  spans = spans ∙ ap (λ ms. map spanned (shape_spans ms)) (sym (front_taken shape n));
+  indices = ap (λ ms. box (shape_spans ms)) (sym (front_taken shape n));
+  form = λ i. record { base = base; shape = sym cell i };
+  ranks = inl (by (each_fits n (length shape) (Some ns) ns bs rs found));
+  whole = sym (take-append-drop n shape) ∙ (λ i. sym (extents_are f.frame (shape_spans ns) spans ∙ shape_extents ns) i ++ sym cell i);
+}
+  where
+    n = index_length bs (length shape)
+
+    ns = take n shape
+
+    cell : f.cell ≡ drop n shape
+    cell = is ∙ drop_min n shape
+
+    by : (rs ≡ []) ⊎ (n ≤ length shape) → All (λ (g : List Grid1). length g ≡ length f.frame) f.grids.items
+    by (inl none) = lengths_are f.grids.items [] (length f.frame) (cut ∙ none) (All-nil (λ (r : Range). length r ≡ length f.frame))
+    by (inr fits) = subst (λ m. All (λ (g : List Grid1). length g ≡ m) f.grids.items) (sym (length_spans f.frame (shape_spans ns) spans ∙ length-map ns _ ∙ taken_length n shape fits)) (lengths_are f.grids.items rs n cut long)
+
+-- ---- a fold
+
+-- the ranges that count
+abbrev pub solid : List Range → List Range
+solid rs = filter (λ r. not (is_empty_box r)) rs
+
+pub record FoldHas (bs : List Bounds) : Type 0 where
+  pub ranges : List Range
+  pub found : each (range_of (index_length bs 0) 8 None []) bs ≡ Ok ranges
+  pub small : box_size (fold_frame (solid ranges)) ≤ MOST
+
+pub fold_has : (bs : List Bounds) (o : Op) (base : Base) (cell : List ℕ) (s : Site) (p : Plan) → plan bs (WithLoops.fold_by o (cell_form base cell) s) ≡ Ok p → FoldHas bs
+fold_has bs o base cell s p e = by (each (range_of (index_length bs 0) 8 None []) bs) refl e
+  where
+    tested : (rs : List Range) → each (range_of (index_length bs 0) 8 None []) bs ≡ Ok rs → (a : Bool) → nat_le (box_size (fold_frame (solid rs))) MOST ≡ a
+        → (if a then Ok (record { ranges = rs; indices = box (fold_frame (solid rs)); form = form_of (cell_form base cell); shape = cell }) else fault F8 s) ≡ Ok p → FoldHas bs
+    tested rs f false t q = cc
+    tested rs f true t q = record { ranges = rs; found = f; small = passed _ _ t }
+
+    by : (m : Ends (List Range)) → each (range_of (index_length bs 0) 8 None []) bs ≡ m
+        → and_then m (λ ranges. if nat_le (box_size (fold_frame (solid ranges))) MOST
+            then Ok (record { ranges = ranges; indices = box (fold_frame (solid ranges)); form = form_of (cell_form base cell); shape = cell }) else fault F8 s) ≡ Ok p
+        → FoldHas bs
+    by (Err z) f q = cc
+    by (Ok rs) f q = tested rs f (nat_le (box_size (fold_frame (solid rs))) MOST) refl q
+
+joined_length : (a b : Range) (n : ℕ) → length a ≡ n → length b ≡ n → length (joined_range a b) ≡ n
+joined_length [] [] n h j = h
+joined_length [] (b ∷ bs) n h j = absurd (omega (arith, h, j))
+joined_length (a ∷ as') [] n h j = absurd (omega (arith, h, j))
+joined_length (a ∷ as') (b ∷ bs) zero h j = absurd (omega (arith, h))
+joined_length (a ∷ as') (b ∷ bs) (suc n) h j = ap suc (joined_length as' bs n (omega (arith, h)) (omega (arith, j)))
+
+all_joined : (r : Range) (rs : List Range) (n : ℕ) → length r ≡ n → All (λ (r : Range). length r ≡ n) rs → length (fold joined_range r rs) ≡ n
+all_joined r [] n h j = h
+all_joined r (q ∷ rs) n h j = all_joined (joined_range r q) rs n (joined_length r q n h (All-head (λ (r : Range). length r ≡ n) q rs j)) (All-tail (λ (r : Range). length r ≡ n) q rs j)
+
+solid_lengths : (rs : List Range) (n : ℕ) → All (λ (r : Range). length r ≡ n) rs → All (λ (r : Range). length r ≡ n) (solid rs)
+solid_lengths [] n h = h
+solid_lengths (r ∷ rs) n h = by (not (is_empty_box r)) refl
+  where
+    rest = solid_lengths rs n (All-tail (λ (r : Range). length r ≡ n) r rs h)
+
+    by : (b : Bool) → not (is_empty_box r) ≡ b → All (λ (r : Range). length r ≡ n) (solid (r ∷ rs))
+    by true e = subst (λ t. All (λ (r : Range). length r ≡ n) (if t then r ∷ solid rs else solid rs)) (sym e) (All-cons (λ (r : Range). length r ≡ n) r (solid rs) (All-head (λ (r : Range). length r ≡ n) r rs h) rest)
+    by false e = subst (λ t. All (λ (r : Range). length r ≡ n) (if t then r ∷ solid rs else solid rs)) (sym e) rest
+
+frame_length : (rs : List Range) (n : ℕ) → All (λ (r : Range). length r ≡ n) rs → (fold_frame rs ≡ record { low = pos 0; extent = 0 } ∷ []) ⊎ (length (fold_frame rs) ≡ n)
+frame_length [] n h = inl refl
+frame_length (r ∷ rs) n h = inr (length-map (fold joined_range r rs) _ ∙ all_joined r rs n (All-head (λ (r : Range). length r ≡ n) r rs h) (All-tail (λ (r : Range). length r ≡ n) r rs h))
+
+pub fold_frames : (bs : List Bounds) (cell : List ℕ) (rs : List Range) (f : Framed) (n : ℕ)
+    → each (range_of (index_length bs 0) 8 None []) bs ≡ Ok rs → All (λ (r : Range). length r ≡ n) rs → box_size (fold_frame (solid rs)) ≤ MOST
+    → map grid_range f.grids.items ≡ rs → grid_range f.frame ≡ map spanned (fold_frame (solid rs)) → f.cell ≡ cell
+    → (s : Site) (base : Base) (o : Op) (x : Var) → FramesPlan base (making.Fold o x) bs (WithLoops.fold_by o (cell_form base cell) s) f
+fold_frames bs cell rs f n found long small cut spans is s base o x = record {
+  planned = record { ranges = rs; indices = box (fold_frame (solid rs)); form = record { base = base; shape = cell }; shape = cell };
+  valid = ap (λ m. and_then m (λ ranges. if nat_le (box_size (fold_frame (solid ranges))) MOST
+      then Ok (record { ranges = ranges; indices = box (fold_frame (solid ranges)); form = form_of (cell_form base cell); shape = cell }) else fault F8 s)) found
+      ∙ (λ i. if passes (box_size (fold_frame (solid rs))) MOST small i then Ok (record { ranges = rs; indices = box (fold_frame (solid rs)); form = form_of (cell_form base cell); shape = cell }) else fault F8 s);
+  cut = cut;
+  count = each_length _ bs rs found;
+  spans = spans;
+  indices = refl;
+  form = λ i. record { base = base; shape = sym is i };
+  ranks = by (frame_length (solid rs) n (solid_lengths rs n long));
+  whole = tt;
+}
+  where
+    by : (fold_frame (solid rs) ≡ record { low = pos 0; extent = 0 } ∷ []) ⊎ (length (fold_frame (solid rs)) ≡ n) → All (λ (g : List Grid1). length g ≡ length f.frame) f.grids.items ⊎ IsVoid f.frame
+    by (inl none) = inr (spans ∙ ap (map spanned) none)
+    by (inr same) = inl (subst (λ m. All (λ (g : List Grid1). length g ≡ m) f.grids.items) (sym (length_spans f.frame (fold_frame (solid rs)) spans ∙ same)) (lengths_are f.grids.items rs n cut long))

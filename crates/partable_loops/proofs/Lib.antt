@@ -1,0 +1,7 @@
+pub mod Numbers
+pub mod Sameness
+pub mod Boxes
+pub mod Labelling
+pub mod Framers
+pub mod Verdict
+pub mod Bodies

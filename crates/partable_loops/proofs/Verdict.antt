@@ -1,0 +1,167 @@
+-- The points of a partable with-loop, put together, and each refuted alone.
+use Rattle.std.proofs.Common.{◌≡◌, ◌≤◌, ◌+◌, ◌*◌, ◌^◌, ◌<◌, ℕ, suc, List, [], ◌∷◌, ◌++◌, map, length, Bool, true, false, ◌&&◌, refl, sym, ap, subst, ◌∙◌, arith, true≢false, Some, None, Option, Ok, ℤ, pos, negsuc, ◌+ℤ◌}
+use Rattle.std.specs.Prelude.{int_lt, int_le, nat_lt, if◌then◌else◌}
+use Rattle.std.proofs.lemmas.Int.{ints}
+use Rattle.std.proofs.lemmas.Bool.Decides.{nat_tests}
+use Rattle.sac_base.specs.declared.base.Base.{Base}
+use Rattle.sac_base.specs.declared.grid.Grid1.{Grid1}
+use Rattle.sac_base.specs.declared.site.Site.{Site}
+use Rattle.sac_base.specs.Arrays.{size}
+use Rattle.sac_base.specs.Grids.{has_vector}
+use Rattle.sac_base.specs.Parts.{Part, part_at, further}
+use Rattle.sac_base.specs.WithLoops.{Bounds, Operation, Plan, holds, holds_at, plan, shape_spans}
+use Rattle.core_ir.specs.declared.tree.Var.{Var}
+use Rattle.core_ir.specs.declared.tree.CoreOp.{CoreOp}
+use Rattle.core_ir.specs.declared.tree.CoreOp.TheVariants as making
+use Rattle.core_ir.specs.Meaning.{extents}
+use Rattle.core_ir.specs.Terms.{GensTerm, NoGens, Gen}
+use Rattle.core_facts.specs.Facts.{Facts}
+use Rattle.core_facts.proofs.Shapes.{ok_same}
+use Rattle.core_norm.specs.Norm.{NameFirst}
+use Rattle.core_loops.specs.Loops.{AllLiteral, IsPartable, RoomInGens}
+use Rattle.generator_sets.specs.Counts.{IsCanonicalCount}
+use Rattle.generator_sets.proofs.CountFacts.{some_canonical}
+use Rattle.partable_loops.specs.declared.framing.Framed.{Framed}
+use Rattle.partable_loops.specs.declared.planning.PartPlan.{PartPlan}
+use Rattle.partable_loops.specs.Exact.{IsExactlyPartable, front, frame_spans, generator_count, grid_range, spanned}
+use Rattle.partable_loops.specs.Framings.{FramesKnown, HasBounds, HasPlan}
+use Rattle.partable_loops.specs.Planned.{Covers, Label, IsPlan, PlanFits, needed_parts}
+use Rattle.partable_loops.proofs.Numbers.{same_grid, same_grids, sets_are, vector_held}
+use Rattle.partable_loops.proofs.Sameness.{all_same, operation_same}
+use Rattle.partable_loops.proofs.Boxes.{extents_are, is_dense, members_are, shape_extents}
+use Rattle.partable_loops.proofs.Labelling.{held_covers, kept_first}
+
+-- ---- old cells
+
+both_true : (a b : Bool) → (a && b) ≡ true → (a ≡ true) × (b ≡ true)
+both_true true b e = (refl, e)
+both_true false b e = absurd (true≢false (sym e))
+
+below_end : (i n : ℕ) → int_lt (pos i) (pos 0 +ℤ pos n) ≡ true → nat_lt i n ≡ true
+below_end i n e = grind (arith, ints, nat_tests)
+
+old_part : (ns cell : List ℕ) (v : List ℤ) → holds (map spanned (shape_spans ns)) v ≡ true → (q : Part) × ((part_at (ns ++ cell) v ≡ Some q) × (q.shape ≡ cell))
+old_part [] cell [] e = (record { start = 0; shape = cell }, (refl, refl))
+old_part [] cell (x ∷ v) e = absurd (true≢false (sym e))
+old_part (n ∷ ns) cell [] e = absurd (true≢false (sym e))
+old_part (n ∷ ns) cell (negsuc i ∷ v) e = absurd (true≢false (sym e))
+old_part (n ∷ ns) cell (pos i ∷ v) e =
+    let parts = both_true (holds_at (spanned (record { low = pos 0; extent = n })) (pos i)) (holds (map spanned (shape_spans ns)) v) e in
+    let upper = both_true (int_lt (pos i) (pos 0 +ℤ pos n)) _ (both_true (int_le (pos 0) (pos i)) _ parts.0).1 in
+    let inner = old_part ns cell v parts.1 in
+    let q = inner.0 in
+    (record { start = i * size (ns ++ cell) + q.start; shape = q.shape },
+      (ap (λ t. if t then further i (ns ++ cell) (part_at (ns ++ cell) v) else None) (below_end i n upper.0) ∙ ap (further i (ns ++ cell)) inner.1.0, inner.1.1))
+
+pub old_cells : (frame : List Grid1) (ns cell : List ℕ) → grid_range frame ≡ map spanned (shape_spans ns)
+    → (v : List ℤ) → has_vector frame v ≡ true → (q : Part) × ((part_at (ns ++ cell) v ≡ Some q) × (q.shape ≡ cell))
+old_cells frame ns cell e v h = old_part ns cell v (sym (vector_held frame v ∙ ap (λ r. holds r v) e) ∙ h)
+
+-- ---- all points hold
+
+bounds_count : (k : Facts) (gens : GensTerm) (bs : List Bounds) → AllLiteral k gens bs → length bs ≡ generator_count gens
+bounds_count k NoGens [] h = refl
+bounds_count k NoGens (b ∷ bs) h = absurd h
+bounds_count k (Gen g body rest) [] h = absurd h
+bounds_count k (Gen g body rest) (b ∷ bs) h = ap suc (bounds_count k rest bs h.1)
+
+-- what the cut of a frame says
+pub record Cut (frame : List Grid1) (grids : List (List Grid1)) (parts : List Label) : Type 0 where
+  pub due : (greatest count : ℕ) → IsCanonicalCount grids 0 frame greatest count → (greatest ≤ 4096) × (count ≤ 64)
+  pub cover : Covers frame parts
+  pub first : NameFirst grids parts
+
+module _ (k : Facts) (above : ℕ) (s : Site) (base : Base) (gens : GensTerm) (bs : List Bounds) (f : Framed) (parts : List Label) (literal : AllLiteral k gens bs)
+    (cut : Cut f.frame f.grids.items parts) (numbers : above ≤ 2 ^ 31 + 1) (room : RoomInGens gens) where
+  partable : (op : CoreOp) → FramesKnown k s op base bs f → IsPartable k above s op gens
+  partable op known =
+      let counted = some_canonical f.grids.items 0 f.frame in
+      let fits = cut.due counted.0 counted.1.0 counted.1.1 in
+      record {
+        base = base;
+        bounds = bs;
+        literal = literal;
+        operation = known.operation;
+        known = known.known;
+        planned = known.frames.planned;
+        valid = known.frames.valid;
+        frame = f.frame;
+        dense = is_dense f.frame (frame_spans op known.frames.planned) known.frames.spans;
+        indices = known.frames.indices ∙ sym (members_are f.frame (frame_spans op known.frames.planned) known.frames.spans);
+        grids = f.grids.items;
+        ranges = sets_are f.grids.items known.frames.planned.ranges known.frames.cut;
+        greatest = counted.0;
+        count = counted.1.0;
+        counted = counted.1.1;
+        fine = fits.0;
+        few = fits.1;
+        numbers = numbers;
+        room = room;
+      }
+
+  plan_is : (op : CoreOp) (plan : PartPlan) → FramesKnown k s op base bs f → plan.frame ≡ f.frame → plan.cell ≡ f.cell → NameFirst f.grids.items plan.parts.items
+      → IsPlan k above s op gens base plan
+  plan_is op plan known frame cell first = record {
+    exact = record { partable = partable op known; spans = known.frames.spans; cut = known.frames.cut };
+    base_is = refl;
+    frame_is = sym frame;
+    form = known.frames.form ∙ (λ i. record { base = base; shape = sym cell i });
+    count = known.frames.count ∙ bounds_count k gens bs literal;
+    first = first;
+  }
+
+  pub plan_fits : (op : CoreOp) (plan : PartPlan) → FramesKnown k s op base bs f → plan.frame ≡ f.frame → plan.cell ≡ f.cell → plan.parts.items ≡ needed_parts op parts
+      → PlanFits k above s op gens base plan
+  plan_fits (making.Genarray x y) plan known frame cell all = record {
+    plan_is = plan_is (making.Genarray x y) plan known frame cell (subst (NameFirst f.grids.items) (sym all) cut.first);
+    known = known.shape ∙ ap (λ c. Some c) (sym cell);
+    whole = known.frames.whole ∙ ap (λ c. extents f.frame ++ c) (sym cell);
+    cover = subst (Covers f.frame) (sym all) cut.cover;
+  }
+  plan_fits (making.Modarray x) plan known frame cell all =
+      let p = known.frames.planned in
+      let ns = front p.shape p.form.shape in
+      let whole : p.shape ≡ extents f.frame ++ plan.cell = known.frames.whole ∙ ap (λ c. extents f.frame ++ c) (sym cell) in
+      let is : ns ++ plan.cell ≡ p.shape = ap (λ ms. ms ++ plan.cell) (sym (extents_are f.frame (shape_spans ns) known.frames.spans ∙ shape_extents ns)) ∙ sym whole in
+      record {
+        plan_is = plan_is (making.Modarray x) plan known frame cell (subst (NameFirst f.grids.items) (sym all) cut.first);
+        shape = p.shape;
+        known = known.shape;
+        whole = whole;
+        old = λ v h. subst (λ t. (q : Part) × ((part_at t v ≡ Some q) × (q.shape ≡ plan.cell))) is (old_cells f.frame ns plan.cell known.frames.spans v h);
+        cover = subst (Covers f.frame) (sym all) cut.cover;
+      }
+  plan_fits (making.Fold o x) plan known frame cell all = record {
+    plan_is = plan_is (making.Fold o x) plan known frame cell (subst (NameFirst f.grids.items) (sym all) (kept_first f.grids.items parts cut.first));
+    known = known.shape ∙ ap (λ c. Some c) (sym cell);
+    cover = subst (λ labels. Rattle.partable_loops.specs.Planned.CoversHeld f.frame f.grids.items labels) (sym all) (held_covers f.frame f.grids.items parts cut.cover cut.first);
+  }
+
+-- ---- a point fails
+
+module _ (k : Facts) (above : ℕ) (op : CoreOp) (gens : GensTerm) where
+  abbrev pub IsExact : Type 0
+  IsExact = (s : Site) × IsExactlyPartable k above s op gens
+
+  pub no_bounds : (HasBounds k gens → ⊥) → IsExact → ⊥
+  no_bounds h e = h (e.1.partable.bounds, e.1.partable.literal)
+
+  pub no_room : (((above ≤ 2 ^ 31 + 1) × RoomInGens gens) → ⊥) → IsExact → ⊥
+  no_room h e = h (e.1.partable.numbers, e.1.partable.room)
+
+  pub no_plan : (bs : List Bounds) → AllLiteral k gens bs → (HasPlan k op bs → ⊥) → IsExact → ⊥
+  no_plan bs literal h e =
+      let t = e.1.partable in
+      h (e.0, (t.base, (t.operation, (t.planned, (t.known, ap (λ b. plan b t.operation) (all_same k gens bs t.bounds literal t.literal) ∙ t.valid)))))
+
+  pub no_cut : (bs : List Bounds) (f : Framed) → AllLiteral k gens bs → ((s : Site) (base : Base) → FramesKnown k s op base bs f)
+      → ((greatest count : ℕ) → IsCanonicalCount f.grids.items 0 f.frame greatest count → ((greatest ≤ 4096) × (count ≤ 64)) → ⊥) → IsExact → ⊥
+  no_cut bs f literal known h e =
+      let t = e.1.partable in
+      let here = known e.0 t.base in
+      let bounds : t.bounds ≡ bs = all_same k gens t.bounds bs t.literal literal in
+      let operation : t.operation ≡ here.operation = operation_same k e.0 t.base op t.operation here.operation t.known here.known in
+      let planned : t.planned ≡ here.frames.planned = ok_same t.planned here.frames.planned (sym t.valid ∙ (λ i. plan (bounds i) (operation i)) ∙ here.frames.valid) in
+      let frame : t.frame ≡ f.frame = same_grid t.frame f.frame (e.1.spans ∙ ap (λ p. map spanned (frame_spans op p)) planned ∙ sym here.frames.spans) in
+      let grids : t.grids ≡ f.grids.items = same_grids t.grids f.grids.items (e.1.cut ∙ ap (λ (p : Plan). p.ranges) planned ∙ sym here.frames.cut) in
+      h t.greatest t.count (subst (λ g. IsCanonicalCount g 0 f.frame t.greatest t.count) grids (subst (λ g. IsCanonicalCount t.grids 0 g t.greatest t.count) frame t.counted)) (t.fine, t.few)
