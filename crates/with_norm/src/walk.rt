@@ -254,7 +254,7 @@ fn replace_with(
     if u64::from(base.0) >= given.first {
         return unchanged(alloc, op, gens);
     }
-    let Some(plan) = part_plan(alloc, table, progress.next, site, op, &gens)? else {
+    let Some(plan) = part_plan(alloc, table, progress.next, op, &gens)? else {
         return unchanged(alloc, op, gens);
     };
     let PartPlan { frame, cell, parts } = plan;
