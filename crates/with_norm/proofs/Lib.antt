@@ -1,1 +1,5 @@
+mod Axes
+mod Made
 mod Naming
+mod Noting
+mod Walking
