@@ -1,10 +1,14 @@
 -- Walks that replace with-loops: within a larger term, one after another, and those that replace none.
 use Rattle.std.proofs.Common.{◌≡◌, ℕ, suc, ◌+◌, ◌≤◌, List, [], ◌∷◌, ◌++◌, map, Option, refl, sym, ap, subst, ◌∙◌, arith}
 use Rattle.sac_base.specs.declared.base.Base.{Base}
+use Rattle.sac_base.specs.declared.base.Base.TheVariants.{Int}
+use Rattle.sac_base.specs.declared.grid.Grid1.{Grid1}
 use Rattle.sac_base.specs.declared.site.Site.{Site}
 use Rattle.core_ir.specs.declared.tree.Var.{Var}
 use Rattle.core_ir.specs.declared.tree.CoreOp.{CoreOp}
 use Rattle.core_ir.specs.declared.tree.CoreOp.TheVariants as making
+use Rattle.core_ir.specs.declared.tree.PartedOp.{PartedOp}
+use Rattle.core_ir.specs.declared.tree.PartedOp.TheVariants as parted
 use Rattle.core_ir.specs.declared.tree.Let.{Let}
 use Rattle.core_ir.specs.declared.tree.CoreGen.{CoreGen}
 use Rattle.core_ir.specs.declared.tree.CorePart.{CorePart}
@@ -18,7 +22,7 @@ use Rattle.core_facts.specs.Facts.{Fact, Facts, note_all, block_facts, right_fac
 use Rattle.core_loops.specs.Steps.{fact_ways, facts_after}
 use Rattle.with_norm.proofs.Noting.{map_snoc, chain_snoc}
 use Rattle.with_norm.specs.declared.names.Progress.{Progress}
-use Rattle.with_norm.specs.Replacing.{ReplacedHere, IsLeft, EachWith, EachWithRight, EachWithGens, EachWithParts, Walked, stays, goes, BlockWalked, RightWalked, LetWalked, GensWalked, GenWalked, PartWalked}
+use Rattle.with_norm.specs.Replacing.{ReplacedAt, ReplacedHere, IsLeft, EachWith, EachWithRight, EachWithGens, EachWithParts, Walked, stays, goes, BlockWalked, RightWalked, LetWalked, GensWalked, GenWalked, PartWalked, WithWalked}
 
 abbrev right_in : RightTerm → BlockTerm → RightTerm
 right_in r (Gives xs) = r
@@ -170,14 +174,14 @@ module _ (called : ℕ → List (Option (List ℕ))) (bases : Var → Base) (fir
 
   -- ---- a with-loop, its generators first
 
-  pub with_walked : (k : Facts) (p q r : Progress) (s : Site) (op : CoreOp) (g h : GensTerm) (t : RightTerm) → GensWalked called bases first k p q g h → RightWalked called bases first k q r s (With op h) t → RightWalked called bases first k p r s (With op g) t
+  pub with_walked : (k : Facts) (p q r : Progress) (s : Site) (op : CoreOp) (g h : GensTerm) (t : RightTerm) → GensWalked called bases first k p q g h → WithWalked called bases first k q r s op h t → RightWalked called bases first k p r s (With op g) t
   with_walked k p q r s op g h t u v = record {
     walked = λ xs rest. join (u.walked xs s op rest) (v.walked xs rest);
     none = λ e.
       let one = u.walked [] s op (Gives []) in
       let w = both {p} {q} {r} (rises one) (rises (v.walked [] (Gives []))) e in
       let same = still one w.0 in
-      let left = (v.none w.1).0 in
+      let left = v.none w.1 in
       let gens : With op g ≡ With op h = ap (right_in (With op g)) same.1 in
       (λ small exact. left_of (sym gens) (sym same.0) left small exact, u.none w.0);
   }
@@ -273,4 +277,59 @@ module _ (called : ℕ → List (Option (List ℕ))) (bases : Var → Base) (fir
       subst (λ (t : GensTerm). Walked called bases first k p q (Bind xs s (With op (gens_of (map gen_term all))) end) (Bind xs s (With op t) end))
       ((λ i. gens_before (map gen_term done) (gens_of (map gen_term (r i)))) ∙ gens_ended (map gen_term done)) (v.walked xs s op end);
     none = λ e. v.none e (subst (λ (ls : List CoreGen). EachWithGens called (IsLeft first p.next) (gens_of (map gen_term ls)) k) (sym r) tt);
+  }
+
+  pub record PartsGoing (k : Facts) (p : Progress) (all : List CorePart) (q : Progress) (done rest : List CorePart) : Type 0 where
+    pub walked : (xs : List Var) (s : Site) (frame : List Grid1) (base : Base) (cell : List ℕ) (op : PartedOp) (end : BlockTerm) → Walked called bases first k p q (Bind xs s (Parted frame base cell op (parts_of (map part_term all))) end) (Bind xs s (Parted frame base cell op (parts_before (map part_term done) (parts_of (map part_term rest)))) end)
+    pub none : q.replaced ≡ p.replaced → EachWithParts called (IsLeft first p.next) (parts_of (map part_term rest)) k → EachWithParts called (IsLeft first p.next) (parts_of (map part_term all)) k
+
+  pub parts_on : (k : Facts) (p : Progress) (all : List CorePart) (q r : Progress) (done done' before rest : List CorePart) (x y : CorePart) → PartsGoing k p all q done before → before ≡ x ∷ rest → done' ≡ done ++ (y ∷ []) → PartWalked called bases first k q r (part_term x) (part_term y) → PartsGoing k p all r done' rest
+  parts_on k p all q r done done' before rest x y v b d u = record {
+    walked = λ xs s frame base cell op end.
+      subst (λ (t : PartsTerm). Walked called bases first k p r (Bind xs s (Parted frame base cell op (parts_of (map part_term all))) end) (Bind xs s (Parted frame base cell op t) end))
+      (sym ((λ i. parts_before (map part_term (d i)) (parts_of (map part_term rest))) ∙ ap (λ z. parts_before z (parts_of (map part_term rest))) (map_snoc part_term done y) ∙ parts_snoc (map part_term done) (part_term y) (parts_of (map part_term rest))))
+      (join (subst (λ (ls : List CorePart). Walked called bases first k p q (Bind xs s (Parted frame base cell op (parts_of (map part_term all))) end) (Bind xs s (Parted frame base cell op (parts_before (map part_term done) (parts_of (map part_term ls)))) end)) b (v.walked xs s frame base cell op end))
+      (part_walked (map part_term done) k q r (part_term x) (part_term y) (parts_of (map part_term rest)) u xs s frame base cell op end));
+    none = λ e h.
+      let one = v.walked [] no_site [] Int [] parted.Genarray (Gives []) in
+      let w = both {p} {q} {r} (rises one) (rises u.body.walked) e in
+      let same = (still one w.0).0 in
+      v.none w.0 (subst (λ (ls : List CorePart). EachWithParts called (IsLeft first p.next) (parts_of (map part_term ls)) k) (sym b)
+      (subst (λ (m : Progress). EachWith called (IsLeft first m.next) (part_term x).body (in_part k (part_term x).head)) (sym same) (u.body.none w.1), h));
+  }
+
+  pub parts_done : (k : Facts) (p q : Progress) (s : Site) (all done rest : List CorePart) (frame : List Grid1) (base : Base) (cell : List ℕ) (op : PartedOp) → PartsGoing k p all q done rest → rest ≡ [] → RightWalked called bases first k p q s (Parted frame base cell op (parts_of (map part_term all))) (Parted frame base cell op (parts_of (map part_term done)))
+  parts_done k p q s all done rest frame base cell op v r = record {
+    walked = λ xs end.
+      subst (λ (t : PartsTerm). Walked called bases first k p q (Bind xs s (Parted frame base cell op (parts_of (map part_term all))) end) (Bind xs s (Parted frame base cell op t) end))
+      ((λ i. parts_before (map part_term done) (parts_of (map part_term (r i)))) ∙ parts_ended (map part_term done)) (v.walked xs s frame base cell op end);
+    none = λ e. v.none e (subst (λ (ls : List CorePart). EachWithParts called (IsLeft first p.next) (parts_of (map part_term ls)) k) (sym r) tt);
+  }
+
+  pub gens_first : (k : Facts) (p : Progress) (all done : List CoreGen) → done ≡ [] → GensGoing k p all p done all
+  gens_first k p all done e = record {
+    walked = λ xs s op end. subst (λ (ls : List CoreGen). Walked called bases first k p p (Bind xs s (With op (gens_of (map gen_term all))) end) (Bind xs s (With op (gens_before (map gen_term ls) (gens_of (map gen_term all)))) end)) (sym e) stays;
+    none = λ _ h. h;
+  }
+
+  pub parts_first : (k : Facts) (p : Progress) (all done : List CorePart) → done ≡ [] → PartsGoing k p all p done all
+  parts_first k p all done e = record {
+    walked = λ xs s frame base cell op end. subst (λ (ls : List CorePart). Walked called bases first k p p (Bind xs s (Parted frame base cell op (parts_of (map part_term all))) end) (Bind xs s (Parted frame base cell op (parts_before (map part_term ls) (parts_of (map part_term all)))) end)) (sym e) stays;
+    none = λ _ h. h;
+  }
+
+  -- ---- the with-loop itself
+
+  -- a with-loop that stays
+  pub left_walked : (k : Facts) (p : Progress) (s : Site) (op : CoreOp) (gens : GensTerm) (t : RightTerm) → t ≡ With op gens → IsLeft first p.next k s op gens → WithWalked called bases first k p p s op gens t
+  left_walked k p s op gens t e l = record {
+    walked = λ xs rest. subst (λ (r : RightTerm). Walked called bases first k p p (Bind xs s (With op gens) rest) (Bind xs s r rest)) (sym e) stays;
+    none = λ _. l;
+  }
+
+  -- one that becomes a parted loop
+  pub replaced_walked : (k : Facts) (p q : Progress) (s : Site) (op : CoreOp) (gens : List GenTerm) (t : RightTerm) → ReplacedAt bases first p q k s op gens t → WithWalked called bases first k p q s op (gens_of gens) t
+  replaced_walked k p q s op gens t at = record {
+    walked = λ xs rest. goes (here (record { targets = xs; site = s; op = op; gens = gens; right = t; rest = rest; at = at; before = refl; now = refl })) stays;
+    none = λ e. let more = ap (λ (r : Progress). r.replaced) at.after in absurd (omega (arith, more, e));
   }

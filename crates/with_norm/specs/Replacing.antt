@@ -92,6 +92,11 @@ module _ (called : ℕ → List (Option (List ℕ))) (bases : Var → Base) (fir
     pub walked : (xs : List Var) (s : Site) (op : CoreOp) (rest : BlockTerm) → Walked k p q (Bind xs s (With op g) rest) (Bind xs s (With op h) rest)
     pub none : q.replaced ≡ p.replaced → EachWithGens called (IsLeft first p.next) g k
 
+  -- a with-loop whose generators have been walked through
+  pub record WithWalked (k : Facts) (p q : Progress) (s : Site) (op : CoreOp) (gens : GensTerm) (t : RightTerm) : Type 0 where
+    pub walked : (xs : List Var) (rest : BlockTerm) → Walked k p q (Bind xs s (With op gens) rest) (Bind xs s t rest)
+    pub none : q.replaced ≡ p.replaced → IsLeft first p.next k s op gens
+
   -- the body of a generator alone, and that of a part
   pub record GenWalked (k : Facts) (p q : Progress) (g h : GenTerm) : Type 0 where
     pub head : h.head ≡ g.head

@@ -1,6 +1,7 @@
 //! The bases of a function's variables.
 
 ghost use Rattle.std.specs.Prelude.{◌≡◌};
+ghost use Rattle.core_norm_forms.specs.Fresh.{base_var as based_on};
 ghost use Rattle.with_norm.specs.Based.{bases_in};
 
 use core_ir::{Block, Core, CoreFun, CoreOp, Right, Var, WithLoop};
@@ -149,7 +150,7 @@ impl BaseTable {
 
 /// The variable whose base a with-loop's result has.
 pub fn base_var(op: CoreOp) -> Var
-    ensures { result ≡ Rattle.core_norm_forms.specs.Fresh.base_var op }
+    ensures { result ≡ based_on op }
 {
     match op {
         CoreOp::Genarray { default, .. } => default,

@@ -8,7 +8,7 @@ ghost use Rattle.core_facts.specs.Facts.{note_all, block_facts, right_facts, unk
 ghost use Rattle.fact_table.specs.Table.{fact_of, facts_of};
 ghost use Rattle.plain_facts.specs.Called.{shapes_of};
 ghost use Rattle.with_norm.specs.Based.{bases_in};
-ghost use Rattle.with_norm.specs.Replacing.{BlockWalked, RightWalked, LetWalked, GensWalked, GenWalked, PartWalked};
+ghost use Rattle.with_norm.specs.Replacing.{BlockWalked, RightWalked, LetWalked, GensWalked, GenWalked, PartWalked, WithWalked};
 
 use crate::bases::{BaseTable, base_var};
 use crate::frame::parted_shape;
@@ -246,8 +246,8 @@ fn replace_with(
     table: &FactTable,
     progress: &mut Progress,
 ) -> Result<KnownRight, Memory>
-    ensures walked { IfOk result (λ new. RightWalked (shapes_of given.now.called.now) (bases_in given.now.bases.now) given.now.first (facts_of table.now)
-        progress.old progress.new site (With op (gens_of (map gen_term gens.items))) (right_term new.right)) }
+    ensures walked { IfOk result (λ new. WithWalked (shapes_of given.now.called.now) (bases_in given.now.bases.now) given.now.first (facts_of table.now)
+        progress.old progress.new site op (gens_of (map gen_term gens.items)) (right_term new.right)) }
     ensures known { IfOk result (λ new. map fact_of new.values.items ≡ right_facts (shapes_of given.now.called.now) (right_term new.right) (facts_of table.now)) }
 {
     let base = base_var(op);
