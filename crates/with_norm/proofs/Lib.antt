@@ -2,4 +2,5 @@ mod Axes
 mod Made
 mod Naming
 mod Noting
+mod Parts
 mod Walking
