@@ -2,5 +2,5 @@ mod Axes
 mod Made
 mod Naming
 mod Noting
-mod Parts
+mod Shown
 mod Walking

@@ -1,7 +1,7 @@
 use Rattle.std.proofs.Common.{refl, map}
 use Rattle.core_ir.specs.Terms.{Gives, chain}
 use Rattle.core_ir.specs.View.{let_term}
-use Rattle.with_norm.proofs.Parts.{plain_part}
+use Rattle.with_norm.proofs.Shown.{plain_part}
 use Rattle.with_norm.proofs.parts.default_part.Goals as goal
 
 pub returns-clause-part : goal.returns-clause-part

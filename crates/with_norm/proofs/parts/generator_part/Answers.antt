@@ -4,7 +4,7 @@ use Rattle.core_subst.specs.Names.{variable}
 use Rattle.with_norm.specs.declared.names.Progress.{Progress}
 use Rattle.with_norm.specs.Numbering.{named_in, numbered}
 use Rattle.with_norm.specs.Making.{binds_of, component_lets, component_names, generator_part, part_body}
-use Rattle.with_norm.proofs.Parts.{body_made, generator_binds, gen_out, gen_site, part_roll}
+use Rattle.with_norm.proofs.Shown.{body_made, generator_binds, gen_out, gen_site, part_roll}
 use Rattle.with_norm.proofs.parts.generator_part.Goals as goal
 
 pub returns-clause-part : goal.returns-clause-part

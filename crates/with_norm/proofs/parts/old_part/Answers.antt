@@ -2,7 +2,7 @@ use Rattle.std.proofs.Common.{refl, map, ap, ◌∙◌, [], ◌∷◌, ◌++◌}
 use Rattle.core_ir.specs.Terms.{PlainTerm, Gives, Bind, Plain, chain}
 use Rattle.core_ir.specs.View.{let_term}
 use Rattle.core_subst.specs.Names.{variable}
-use Rattle.with_norm.proofs.Parts.{plain_part}
+use Rattle.with_norm.proofs.Shown.{plain_part}
 use Rattle.with_norm.proofs.parts.old_part.Goals as goal
 
 pub returns-clause-part : goal.returns-clause-part

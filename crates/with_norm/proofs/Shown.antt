@@ -86,7 +86,7 @@ generator_binds g grid n m bound e f =
     let ns = g.names.items in
     let h = numbered (component_names (named (λ x. x) g.index (variable n)) ns (suc n)) (bound_in (block_term g.body)) (suc n + (length ns + length ns)) in
     let one = components_bind g.site (variable n) 0 (suc n) ns (mapped h (block_term g.body)) in
-    let two : length (bound_in (mapped h (block_term g.body))) ≡ length (bound_in (block_term g.body)) = ap length (bound_mapped h (block_term g.body)) ∙ length-map h (bound_in (block_term g.body)) in
+    let two : length (bound_in (mapped h (block_term g.body))) ≡ length (bound_in (block_term g.body)) = ap length (bound_mapped h (block_term g.body)) ∙ length-map (bound_in (block_term g.body)) h in
     let three = ap length (append-nil (bound_in (chain (component_lets g.site (variable n) 0 ns (suc n)) (mapped h (block_term g.body))))) in
     let four = ap length e in
     omega (arith, f, one, two, three, four)
