@@ -1,19 +1,19 @@
 -- A frame of spans: its axes have no gaps, its members are the box of the spans, and its extents are theirs.
-use Rattle.std.proofs.Common.{◌≡◌, ◌≤◌, ℕ, zero, suc, ◌+◌, List, [], ◌∷◌, ◌++◌, map, length, All, Bool, true, false, not, ◌||◌, refl, sym, ap, subst, ◌∙◌, arith, true≢false, Some, None, Option, inl, inr, ℤ, pos, negsuc, ◌+ℤ◌, ◌-ℤ◌, ◌≤ℤ◌, ◌<ℤ◌}
-use Rattle.std.specs.Prelude.{int_lt, int_le, ◌&&◌}
+use Rattle.std.proofs.Common.{◌≡◌, ℕ, List, [], ◌∷◌, map, All, Bool, true, false, not, ◌||◌, refl, ap, ◌∙◌, arith, true≢false, Some, None, inl, inr, ℤ, pos, negsuc, ◌+ℤ◌, ◌-ℤ◌, ◌≤ℤ◌, ◌<ℤ◌}
+use Rattle.std.specs.Prelude.{int_lt, ◌&&◌, IfOk, Result, Ok, Err}
 use Rattle.std.proofs.lemmas.Int.{ints}
 use Rattle.std.proofs.lemmas.List.Elements.{All-cons, All-nil}
 use Rattle.sac_base.specs.declared.grid.Grid1.{Grid1}
 use Rattle.sac_base.specs.Grids.{has_index, has_vector, members}
 use Rattle.sac_base.proofs.GridFacts.{has_facts}
-use Rattle.sac_base.specs.Parts.{Part, part_at, further}
-use Rattle.sac_base.specs.WithLoops.{Axis, Range, Span, box, distance, holds, is_empty_box, shape_spans, span_of}
+use Rattle.sac_base.specs.WithLoops.{Axis, Range, Span, box, distance, is_empty_box, shape_spans, span_of}
+use Rattle.array_with_loops.specs.Frames.{frame_with, joined_frame}
 use Rattle.array_with_loops.specs.GridFrames.{box_range}
 use Rattle.array_with_loops.proofs.GridSteps.{members_box}
 use Rattle.core_ir.specs.Meaning.{extents}
 use Rattle.partable_loops.specs.Exact.{axis_of, grid_range, spanned}
 use Rattle.partable_loops.specs.Framings.{IsVoid}
-use Rattle.partable_loops.proofs.Numbers.{same_head, same_tail, vector_held}
+use Rattle.partable_loops.proofs.Numbers.{same_head, same_tail}
 
 -- ---- without gaps
 
@@ -67,6 +67,18 @@ not_below : (a b : Bool) → (a || b) ≡ false → (a ≡ false) × (b ≡ fals
 not_below true b e = absurd (true≢false e)
 not_below false b e = (refl, e)
 
+up : (l u : ℤ) (n : ℕ) → u -ℤ l ≡ pos n → u ≡ l +ℤ pos n
+up (pos l) (pos u) n e = omega (arith, ints)
+up (pos l) (negsuc u) n e = omega (arith, ints)
+up (negsuc l) (pos u) n e = omega (arith, ints)
+up (negsuc l) (negsuc u) n e = omega (arith, ints)
+
+not_down : (l u : ℤ) (n : ℕ) → l <ℤ u → u -ℤ l ≡ negsuc n → ⊥
+not_down (pos l) (pos u) n h e = omega (arith, ints)
+not_down (pos l) (negsuc u) n h e = omega (arith, ints)
+not_down (negsuc l) (pos u) n h e = omega (arith, ints)
+not_down (negsuc l) (negsuc u) n h e = omega (arith, ints)
+
 up_to : (l u : ℤ) → not (int_lt l u) ≡ false → u ≡ l +ℤ pos (distance (u -ℤ l))
 up_to l u e = by (u -ℤ l) refl
   where
@@ -78,8 +90,8 @@ up_to l u e = by (u -ℤ l) refl
         go false f x = absurd (true≢false x)
 
     by : (d : ℤ) → u -ℤ l ≡ d → u ≡ l +ℤ pos (distance d)
-    by (pos n) f = omega (arith, ints)
-    by (negsuc n) f = absurd (omega (arith, ints))
+    by (pos n) f = up l u n f
+    by (negsuc n) f = absurd (not_down l u n below f)
 
 -- the same bounds, without gaps
 abbrev pub filled_axis : Axis → Axis
@@ -114,3 +126,25 @@ void_vector [] v e = cc
 void_vector (a ∷ b ∷ g) v e = cc
 void_vector (a ∷ []) [] e = refl
 void_vector (a ∷ []) (x ∷ v) e = ap (λ t. t && has_vector [] v) (no_number a x (void_axis a [] e).1)
+
+-- ---- extents of a shape
+
+-- from 0 to below an extent
+abbrev pub axis_to : ℤ → Axis
+axis_to n = record { lower = pos 0; upper = n; step = pos 1; width = pos 1 }
+
+pub shape_axes : (ns : List ℕ) → map axis_to (map pos ns) ≡ map spanned (shape_spans ns)
+shape_axes [] = refl
+shape_axes (n ∷ ns) = let up : pos n ≡ pos 0 +ℤ pos n = omega (arith, ints) in λ i. axis_to (up i) ∷ shape_axes ns i
+
+-- ---- the box of all ranges
+
+pub some_box : {E : Type 0} (ranges : List Range) (range : Range) (result : Result (List Grid1) E) → frame_with (Some range) [] ≡ joined_frame ranges
+    → IfOk result (λ grid. grid_range grid ≡ map spanned (map span_of range)) → IfOk result (λ grid. grid_range grid ≡ map spanned (joined_frame ranges))
+some_box ranges range (Ok grid) e h = h ∙ ap (map spanned) e
+some_box ranges range (Err error) e h = tt
+
+pub no_box : {E : Type 0} (ranges : List Range) (result : Result (List Grid1) E) → frame_with None [] ≡ joined_frame ranges → IfOk result IsVoid
+    → IfOk result (λ grid. grid_range grid ≡ map spanned (joined_frame ranges))
+no_box ranges (Ok grid) e h = h ∙ ap (map spanned) e
+no_box ranges (Err error) e h = tt

@@ -1,6 +1,6 @@
 -- When an array or a fold has a plan, and what it is.
-use Rattle.std.proofs.Common.{◌≡◌, ◌≤◌, ◌⊎◌, ℕ, zero, suc, ◌+◌, ◌-◌, min, List, [], ◌∷◌, ◌++◌, map, take, drop, length, filter, All, Bool, true, false, not, ◌&&◌, refl, sym, ap, subst, ◌∙◌, arith, true≢false, Some, None, Option, Ok, Err, inl, inr, ℤ, pos}
-use Rattle.std.specs.Prelude.{nat_le, fold, if◌then◌else◌}
+use Rattle.std.proofs.Common.{◌≡◌, ◌≤◌, ◌⊎◌, ℕ, zero, suc, ◌+◌, ◌-◌, min, List, [], ◌∷◌, ◌++◌, map, take, drop, length, filter, All, Bool, true, false, not, ◌&&◌, refl, sym, ap, subst, ◌∙◌, arith, Some, None, Option, Ok, Err, inl, inr, pos}
+use Rattle.std.specs.Prelude.{nat_le, is_some, IsSome, ◌↔◌, fold, if◌then◌else◌}
 use Rattle.std.proofs.lemmas.Bool.Decides.{nat_tests}
 use Rattle.std.proofs.lemmas.List.{drop_min, length-append, length-drop, length-map, take-append-drop, take_min}
 use Rattle.std.proofs.lemmas.List.Elements.{All-cons, All-nil, All-head, All-tail}
@@ -10,18 +10,18 @@ use Rattle.sac_base.specs.declared.faults.FaultKind.TheVariants.{F4, F5, F8}
 use Rattle.sac_base.specs.declared.grid.Grid1.{Grid1}
 use Rattle.sac_base.specs.declared.op.Op.{Op}
 use Rattle.sac_base.specs.declared.site.Site.{Site}
-use Rattle.sac_base.specs.Arrays.{ArrayValue, size, MOST}
-use Rattle.sac_base.specs.Operators.{all_of, with_first}
+use Rattle.sac_base.specs.Arrays.{ArrayValue, form_of, size, MOST}
+use Rattle.sac_base.specs.Operators.{all_of}
 use Rattle.sac_base.specs.Outcomes.{Ends, and_then, fault}
 use Rattle.sac_base.specs.Parts.{shape_of_numbers, vector_of}
-use Rattle.sac_base.specs.WithLoops.{Bounds, Plan, Range, Span, box, box_size, each, fold_frame, fold_plan, form_of, genarray_plan, index_length, is_empty_box, joined_axis, joined_range, modarray_plan, names_fit, plan, range_from, range_of, lower_of, upper_of, step_of, shape_spans, span_of, within_frame}
+use Rattle.sac_base.specs.WithLoops.{Bounds, Plan, Range, Span, box, box_size, each, fold_frame, fold_plan, genarray_plan, index_length, is_empty_box, joined_axis, joined_range, modarray_plan, names_fit, plan, range_from, range_of, lower_of, upper_of, step_of, shape_spans, span_of, within_frame}
 use Rattle.sac_base.specs.WithLoops
 use Rattle.array_with_loops.proofs.EachSteps.{each_length}
 use Rattle.core_ir.specs.declared.tree.Var.{Var}
 use Rattle.core_ir.specs.declared.tree.CoreOp.TheVariants as making
 use Rattle.core_ir.specs.Meaning.{cell_form, extents}
 use Rattle.partable_loops.specs.declared.framing.Framed.{Framed}
-use Rattle.partable_loops.specs.Exact.{front, frame_spans, grid_range, spanned}
+use Rattle.partable_loops.specs.Exact.{front, grid_range, spanned}
 use Rattle.partable_loops.specs.Framings.{FramesPlan, IsVoid}
 use Rattle.partable_loops.proofs.Boxes.{extents_are, shape_extents}
 
@@ -30,8 +30,11 @@ use Rattle.partable_loops.proofs.Boxes.{extents_are, shape_extents}
 passes : (a b : ℕ) → a ≤ b → nat_le a b ≡ true
 passes a b h = grind (arith, nat_tests)
 
-passed : (a b : ℕ) → nat_le a b ≡ true → a ≤ b
+pub passed : (a b : ℕ) → nat_le a b ≡ true → a ≤ b
 passed a b e = grind (arith, nat_tests)
+
+pub joined_short : (ns cell : List ℕ) (o : Option (List ℕ)) (whole : List ℕ) → o ≡ Some whole → IsSome o ↔ (length ns + length cell ≤ 8) → length (ns ++ cell) ≤ 8
+joined_short ns cell o whole e fits = let both = fits.0 (ap is_some e) in let all = length-append ns cell in omega arith
 
 -- ---- lengths
 
@@ -63,38 +66,6 @@ front_taken ns n = ap (λ k. take k ns) back ∙ take_min n ns
 
 -- ---- a genarray
 
-pub record GenarrayHas (bs : List Bounds) (m : Option (List ℕ)) (cell : List ℕ) : Type 0 where
-  pub extents : List ℕ
-  pub given : m ≡ Some extents
-  pub short : length (extents ++ cell) ≤ 8
-  pub small : size extents ≤ MOST
-  pub whole : size (extents ++ cell) ≤ MOST
-  pub ranges : List Range
-  pub found : each (range_of (length extents) 8 (Some extents) extents) bs ≡ Ok ranges
-
-pub genarray_has : (bs : List Bounds) (m : Option (List ℕ)) (base : Base) (cell : List ℕ) (s : Site) (p : Plan) → genarray_plan bs m (cell_form base cell) s ≡ Ok p → GenarrayHas bs m cell
-genarray_has bs None base cell s p e = cc
-genarray_has bs (Some ns) base cell s p e = by (nat_le (length (ns ++ cell)) 8) refl (nat_le (size ns) MOST) refl (nat_le (size (ns ++ cell)) MOST) refl (each (range_of (length ns) 8 (Some ns) ns) bs) refl e
-  where
-    by : (a : Bool) → nat_le (length (ns ++ cell)) 8 ≡ a → (b : Bool) → nat_le (size ns) MOST ≡ b → (c : Bool) → nat_le (size (ns ++ cell)) MOST ≡ c
-        → (m : Ends (List Range)) → each (range_of (length ns) 8 (Some ns) ns) bs ≡ m
-        → (if a then (if b && c then
-            and_then m (λ ranges. Ok (record { ranges = ranges; indices = box (shape_spans ns); form = form_of (cell_form base cell); shape = ns ++ cell }))
-            else fault F8 s) else fault F4 s) ≡ Ok p → GenarrayHas bs (Some ns) cell
-    by false t b u c v m f q = cc
-    by true t false u c v m f q = cc
-    by true t true u false v m f q = cc
-    by true t true u true v (Err z) f q = cc
-    by true t true u true v (Ok rs) f q = record {
-      extents = ns;
-      given = refl;
-      short = passed _ _ t;
-      small = passed _ _ u;
-      whole = passed _ _ v;
-      ranges = rs;
-      found = f;
-    }
-
 genarray_is : (bs : List Bounds) (ns cell : List ℕ) (base : Base) (s : Site) (rs : List Range) → length (ns ++ cell) ≤ 8 → size ns ≤ MOST → size (ns ++ cell) ≤ MOST
     → each (range_of (length ns) 8 (Some ns) ns) bs ≡ Ok rs
     → genarray_plan bs (Some ns) (cell_form base cell) s ≡ Ok (record { ranges = rs; indices = box (shape_spans ns); form = record { base = base; shape = cell }; shape = ns ++ cell })
@@ -123,25 +94,6 @@ genarray_frames bs shape ns cell rs f given short small whole found long cut spa
 
 -- ---- a modarray
 
-pub record ModarrayHas (bs : List Bounds) (shape : List ℕ) : Type 0 where
-  pub small : size (take (index_length bs (length shape)) shape) ≤ MOST
-  pub ranges : List Range
-  pub found : each (range_of (index_length bs (length shape)) (length shape) (Some (take (index_length bs (length shape)) shape)) (take (index_length bs (length shape)) shape)) bs ≡ Ok ranges
-
-pub modarray_has : (bs : List Bounds) (base : Base) (shape : List ℕ) (s : Site) (p : Plan) → plan bs (WithLoops.modarray (cell_form base shape) s) ≡ Ok p → ModarrayHas bs shape
-modarray_has bs base shape s p e = by (nat_le (size ns) MOST) refl (each (range_of n (length shape) (Some ns) ns) bs) refl e
-  where
-    n = index_length bs (length shape)
-
-    ns = take n shape
-
-    by : (a : Bool) → nat_le (size ns) MOST ≡ a → (m : Ends (List Range)) → each (range_of n (length shape) (Some ns) ns) bs ≡ m
-        → and_then m (λ ranges. if a then Ok (record { ranges = ranges; indices = box (shape_spans ns); form = record { base = base; shape = drop n shape }; shape = shape }) else fault F8 s) ≡ Ok p
-        → ModarrayHas bs shape
-    by a t (Err z) f q = cc
-    by false t (Ok rs) f q = cc
-    by true t (Ok rs) f q = record { small = passed _ _ t; ranges = rs; found = f }
-
 -- an index is at most as long as the shape, where there is a generator
 range_fits : (n most : ℕ) (fr : Option (List ℕ)) (dots : List ℕ) (g : Bounds) (r : Range) → range_of n most fr dots g ≡ Ok r → n ≤ most
 range_fits n most fr dots g r e = by (nat_le n 8) (nat_le n most) refl e
@@ -164,6 +116,13 @@ each_fits n most fr dots (b ∷ bs) rs e = by (range_of n most fr dots b) refl e
 taken_length : (n : ℕ) (ns : List ℕ) → n ≤ length ns → length (take n ns) ≡ n
 taken_length n ns h = let all = ap length (take-append-drop n ns) in let two = length-append (take n ns) (drop n ns) in let rest = length-drop n ns in omega arith
 
+pub modarray_whole : (shape : List ℕ) (n : ℕ) (f : Framed) → grid_range f.frame ≡ map spanned (shape_spans (take n shape)) → f.cell ≡ drop (min n (length shape)) shape
+    → shape ≡ extents f.frame ++ f.cell
+modarray_whole shape n f spans is =
+    let front : extents f.frame ≡ take n shape = extents_are f.frame (shape_spans (take n shape)) spans ∙ shape_extents (take n shape) in
+    let cell : f.cell ≡ drop n shape = is ∙ drop_min n shape in
+    sym (take-append-drop n shape) ∙ (λ i. sym front i ++ sym cell i)
+
 pub modarray_frames : (bs : List Bounds) (shape : List ℕ) (rs : List Range) (f : Framed)
     → size (take (index_length bs (length shape)) shape) ≤ MOST
     → each (range_of (index_length bs (length shape)) (length shape) (Some (take (index_length bs (length shape)) shape)) (take (index_length bs (length shape)) shape)) bs ≡ Ok rs
@@ -180,11 +139,13 @@ modarray_frames bs shape rs f small found long cut spans is s base x = record {
   indices = ap (λ ms. box (shape_spans ms)) (sym (front_taken shape n));
   form = λ i. record { base = base; shape = sym cell i };
   ranks = inl (by (each_fits n (length shape) (Some ns) ns bs rs found));
-  whole = sym (take-append-drop n shape) ∙ (λ i. sym (extents_are f.frame (shape_spans ns) spans ∙ shape_extents ns) i ++ sym cell i);
+  whole = modarray_whole shape n f spans is;
 }
   where
+    n : ℕ
     n = index_length bs (length shape)
 
+    ns : List ℕ
     ns = take n shape
 
     cell : f.cell ≡ drop n shape
@@ -200,26 +161,6 @@ modarray_frames bs shape rs f small found long cut spans is s base x = record {
 abbrev pub solid : List Range → List Range
 solid rs = filter (λ r. not (is_empty_box r)) rs
 
-pub record FoldHas (bs : List Bounds) : Type 0 where
-  pub ranges : List Range
-  pub found : each (range_of (index_length bs 0) 8 None []) bs ≡ Ok ranges
-  pub small : box_size (fold_frame (solid ranges)) ≤ MOST
-
-pub fold_has : (bs : List Bounds) (o : Op) (base : Base) (cell : List ℕ) (s : Site) (p : Plan) → plan bs (WithLoops.fold_by o (cell_form base cell) s) ≡ Ok p → FoldHas bs
-fold_has bs o base cell s p e = by (each (range_of (index_length bs 0) 8 None []) bs) refl e
-  where
-    tested : (rs : List Range) → each (range_of (index_length bs 0) 8 None []) bs ≡ Ok rs → (a : Bool) → nat_le (box_size (fold_frame (solid rs))) MOST ≡ a
-        → (if a then Ok (record { ranges = rs; indices = box (fold_frame (solid rs)); form = form_of (cell_form base cell); shape = cell }) else fault F8 s) ≡ Ok p → FoldHas bs
-    tested rs f false t q = cc
-    tested rs f true t q = record { ranges = rs; found = f; small = passed _ _ t }
-
-    by : (m : Ends (List Range)) → each (range_of (index_length bs 0) 8 None []) bs ≡ m
-        → and_then m (λ ranges. if nat_le (box_size (fold_frame (solid ranges))) MOST
-            then Ok (record { ranges = ranges; indices = box (fold_frame (solid ranges)); form = form_of (cell_form base cell); shape = cell }) else fault F8 s) ≡ Ok p
-        → FoldHas bs
-    by (Err z) f q = cc
-    by (Ok rs) f q = tested rs f (nat_le (box_size (fold_frame (solid rs))) MOST) refl q
-
 joined_length : (a b : Range) (n : ℕ) → length a ≡ n → length b ≡ n → length (joined_range a b) ≡ n
 joined_length [] [] n h j = h
 joined_length [] (b ∷ bs) n h j = absurd (omega (arith, h, j))
@@ -233,13 +174,11 @@ all_joined r (q ∷ rs) n h j = all_joined (joined_range r q) rs n (joined_lengt
 
 solid_lengths : (rs : List Range) (n : ℕ) → All (λ (r : Range). length r ≡ n) rs → All (λ (r : Range). length r ≡ n) (solid rs)
 solid_lengths [] n h = h
-solid_lengths (r ∷ rs) n h = by (not (is_empty_box r)) refl
+solid_lengths (r ∷ rs) n h = by (solid_lengths rs n (All-tail (λ (r : Range). length r ≡ n) r rs h)) (not (is_empty_box r)) refl
   where
-    rest = solid_lengths rs n (All-tail (λ (r : Range). length r ≡ n) r rs h)
-
-    by : (b : Bool) → not (is_empty_box r) ≡ b → All (λ (r : Range). length r ≡ n) (solid (r ∷ rs))
-    by true e = subst (λ t. All (λ (r : Range). length r ≡ n) (if t then r ∷ solid rs else solid rs)) (sym e) (All-cons (λ (r : Range). length r ≡ n) r (solid rs) (All-head (λ (r : Range). length r ≡ n) r rs h) rest)
-    by false e = subst (λ t. All (λ (r : Range). length r ≡ n) (if t then r ∷ solid rs else solid rs)) (sym e) rest
+    by : All (λ (r : Range). length r ≡ n) (solid rs) → (b : Bool) → not (is_empty_box r) ≡ b → All (λ (r : Range). length r ≡ n) (solid (r ∷ rs))
+    by rest true e = subst (λ t. All (λ (r : Range). length r ≡ n) (if t then r ∷ solid rs else solid rs)) (sym e) (All-cons (λ (r : Range). length r ≡ n) r (solid rs) (All-head (λ (r : Range). length r ≡ n) r rs h) rest)
+    by rest false e = subst (λ t. All (λ (r : Range). length r ≡ n) (if t then r ∷ solid rs else solid rs)) (sym e) rest
 
 frame_length : (rs : List Range) (n : ℕ) → All (λ (r : Range). length r ≡ n) rs → (fold_frame rs ≡ record { low = pos 0; extent = 0 } ∷ []) ⊎ (length (fold_frame rs) ≡ n)
 frame_length [] n h = inl refl

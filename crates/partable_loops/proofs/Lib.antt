@@ -3,5 +3,6 @@ pub mod Sameness
 pub mod Boxes
 pub mod Labelling
 pub mod Framers
+pub mod Operations
 pub mod Verdict
 pub mod Bodies

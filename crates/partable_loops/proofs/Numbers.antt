@@ -1,8 +1,5 @@
 -- Grids of the same numbers are the same, and have the members of their ranges.
-use Rattle.std.proofs.Common.{◌≡◌, ℕ, List, [], ◌∷◌, map, length, get_or, drop, Bool, true, false, ◌&&◌, refl, sym, ap, subst, ◌∙◌, ℤ, pos, ◌+ℤ◌, ◌-ℤ◌, ◌≤ℤ◌}
-use Rattle.std.specs.Prelude.{int_le, int_lt}
-use Rattle.std.specs.Int.{int_rem_euclid}
-use Rattle.std.proofs.Math.Bool.{and_assoc}
+use Rattle.std.proofs.Common.{◌≡◌, List, [], ◌∷◌, map, get_or, drop, ◌&&◌, refl, ap, subst, ◌∙◌, ℤ, pos, ◌≤ℤ◌}
 use Rattle.std.proofs.Math.Dec.{T_prop}
 use Rattle.sac_base.specs.declared.grid.Grid1.{Grid1}
 use Rattle.sac_base.specs.Grids.{has_index, has_vector, within}
@@ -61,9 +58,8 @@ same_grids (g ∷ gs) (h ∷ hs) e =
 -- ---- members
 
 index_held : (g : Grid1) (x : ℤ) → has_index g x ≡ holds_at (axis_of g) x
-unfolding has_index
-unfolding within
-index_held g x = and_assoc (int_le g.lo x) (int_lt x g.hi) (int_lt (int_rem_euclid (x -ℤ g.lo) g.step) g.width)
+unfolding has_index within
+index_held g x = refl
 
 pub vector_held : (g : List Grid1) (v : List ℤ) → has_vector g v ≡ holds (grid_range g) v
 vector_held [] [] = refl

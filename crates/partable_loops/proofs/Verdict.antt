@@ -1,5 +1,5 @@
 -- The points of a partable with-loop, put together, and each refuted alone.
-use Rattle.std.proofs.Common.{◌≡◌, ◌≤◌, ◌+◌, ◌*◌, ◌^◌, ◌<◌, ℕ, suc, List, [], ◌∷◌, ◌++◌, map, length, Bool, true, false, ◌&&◌, refl, sym, ap, subst, ◌∙◌, arith, true≢false, Some, None, Option, Ok, ℤ, pos, negsuc, ◌+ℤ◌}
+use Rattle.std.proofs.Common.{◌≡◌, ◌≤◌, ◌+◌, ◌*◌, ◌^◌, ℕ, suc, List, [], ◌∷◌, ◌++◌, map, length, Bool, true, false, ◌&&◌, refl, sym, ap, subst, ◌∙◌, arith, true≢false, Some, None, ℤ, pos, negsuc, ◌+ℤ◌}
 use Rattle.std.specs.Prelude.{int_lt, int_le, nat_lt, if◌then◌else◌}
 use Rattle.std.proofs.lemmas.Int.{ints}
 use Rattle.std.proofs.lemmas.Bool.Decides.{nat_tests}
@@ -9,8 +9,7 @@ use Rattle.sac_base.specs.declared.site.Site.{Site}
 use Rattle.sac_base.specs.Arrays.{size}
 use Rattle.sac_base.specs.Grids.{has_vector}
 use Rattle.sac_base.specs.Parts.{Part, part_at, further}
-use Rattle.sac_base.specs.WithLoops.{Bounds, Operation, Plan, holds, holds_at, plan, shape_spans}
-use Rattle.core_ir.specs.declared.tree.Var.{Var}
+use Rattle.sac_base.specs.WithLoops.{Bounds, Plan, holds, holds_at, plan, shape_spans}
 use Rattle.core_ir.specs.declared.tree.CoreOp.{CoreOp}
 use Rattle.core_ir.specs.declared.tree.CoreOp.TheVariants as making
 use Rattle.core_ir.specs.Meaning.{extents}
@@ -24,7 +23,10 @@ use Rattle.generator_sets.proofs.CountFacts.{some_canonical}
 use Rattle.partable_loops.specs.declared.framing.Framed.{Framed}
 use Rattle.partable_loops.specs.declared.planning.PartPlan.{PartPlan}
 use Rattle.partable_loops.specs.Exact.{IsExactlyPartable, front, frame_spans, generator_count, grid_range, spanned}
-use Rattle.partable_loops.specs.Framings.{FramesKnown, HasBounds, HasPlan}
+use Rattle.partable_loops.specs.Framings.{FramesKnown, HasPlan}
+use Rattle.partable_loops.specs.Refused.{Refutes}
+use Rattle.partable_loops.specs.declared.refusal.Unplanned.{Unplanned}
+use Rattle.partable_loops.specs.declared.refusal.Unplanned.TheVariants.{NotPartable, Memory}
 use Rattle.partable_loops.specs.Planned.{Covers, Label, IsPlan, PlanFits, needed_parts}
 use Rattle.partable_loops.proofs.Numbers.{same_grid, same_grids, sets_are, vector_held}
 use Rattle.partable_loops.proofs.Sameness.{all_same, operation_same}
@@ -47,11 +49,12 @@ old_part (n ∷ ns) cell [] e = absurd (true≢false (sym e))
 old_part (n ∷ ns) cell (negsuc i ∷ v) e = absurd (true≢false (sym e))
 old_part (n ∷ ns) cell (pos i ∷ v) e =
     let parts = both_true (holds_at (spanned (record { low = pos 0; extent = n })) (pos i)) (holds (map spanned (shape_spans ns)) v) e in
-    let upper = both_true (int_lt (pos i) (pos 0 +ℤ pos n)) _ (both_true (int_le (pos 0) (pos i)) _ parts.0).1 in
+    let upper = both_true (int_le (pos 0) (pos i)) (int_lt (pos i) (pos 0 +ℤ pos n)) (both_true (int_le (pos 0) (pos i) && int_lt (pos i) (pos 0 +ℤ pos n)) _ parts.0).0 in
     let inner = old_part ns cell v parts.1 in
-    let q = inner.0 in
-    (record { start = i * size (ns ++ cell) + q.start; shape = q.shape },
-      (ap (λ t. if t then further i (ns ++ cell) (part_at (ns ++ cell) v) else None) (below_end i n upper.0) ∙ ap (further i (ns ++ cell)) inner.1.0, inner.1.1))
+    let q = inner.0 in (
+      record { start = i * size (ns ++ cell) + q.start; shape = q.shape },
+      (ap (λ t. if t then further i (ns ++ cell) (part_at (ns ++ cell) v) else None) (below_end i n upper.1) ∙ ap (further i (ns ++ cell)) inner.1.0, inner.1.1),
+    )
 
 pub old_cells : (frame : List Grid1) (ns cell : List ℕ) → grid_range frame ≡ map spanned (shape_spans ns)
     → (v : List ℤ) → has_vector frame v ≡ true → (q : Part) × ((part_at (ns ++ cell) v ≡ Some q) × (q.shape ≡ cell))
@@ -73,7 +76,7 @@ pub record Cut (frame : List Grid1) (grids : List (List Grid1)) (parts : List La
 
 module _ (k : Facts) (above : ℕ) (s : Site) (base : Base) (gens : GensTerm) (bs : List Bounds) (f : Framed) (parts : List Label) (literal : AllLiteral k gens bs)
     (cut : Cut f.frame f.grids.items parts) (numbers : above ≤ 2 ^ 31 + 1) (room : RoomInGens gens) where
-  partable : (op : CoreOp) → FramesKnown k s op base bs f → IsPartable k above s op gens
+  abbrev partable : (op : CoreOp) → FramesKnown k s op base bs f → IsPartable k above s op gens
   partable op known =
       let counted = some_canonical f.grids.items 0 f.frame in
       let fits = cut.due counted.0 counted.1.0 counted.1.1 in
@@ -99,7 +102,7 @@ module _ (k : Facts) (above : ℕ) (s : Site) (base : Base) (gens : GensTerm) (b
         room = room;
       }
 
-  plan_is : (op : CoreOp) (plan : PartPlan) → FramesKnown k s op base bs f → plan.frame ≡ f.frame → plan.cell ≡ f.cell → NameFirst f.grids.items plan.parts.items
+  abbrev plan_is : (op : CoreOp) (plan : PartPlan) → FramesKnown k s op base bs f → plan.frame ≡ f.frame → plan.cell ≡ f.cell → NameFirst f.grids.items plan.parts.items
       → IsPlan k above s op gens base plan
   plan_is op plan known frame cell first = record {
     exact = record { partable = partable op known; spans = known.frames.spans; cut = known.frames.cut };
@@ -139,24 +142,27 @@ module _ (k : Facts) (above : ℕ) (s : Site) (base : Base) (gens : GensTerm) (b
 
 -- ---- a point fails
 
+refutes_more : (e : Unplanned) (P Q : Type 0) → (Q → P) → Refutes e P → Refutes e Q
+refutes_more NotPartable P Q f h = λ q. h (f q)
+refutes_more Memory P Q f h = tt
+
 module _ (k : Facts) (above : ℕ) (op : CoreOp) (gens : GensTerm) where
-  abbrev pub IsExact : Type 0
+  abbrev IsExact : Type 0
   IsExact = (s : Site) × IsExactlyPartable k above s op gens
 
-  pub no_bounds : (HasBounds k gens → ⊥) → IsExact → ⊥
-  no_bounds h e = h (e.1.partable.bounds, e.1.partable.literal)
-
-  pub no_room : (((above ≤ 2 ^ 31 + 1) × RoomInGens gens) → ⊥) → IsExact → ⊥
-  no_room h e = h (e.1.partable.numbers, e.1.partable.room)
-
-  pub no_plan : (bs : List Bounds) → AllLiteral k gens bs → (HasPlan k op bs → ⊥) → IsExact → ⊥
-  no_plan bs literal h e =
+  has_plan : (bs : List Bounds) → AllLiteral k gens bs → IsExact → HasPlan k op bs
+  has_plan bs literal e =
       let t = e.1.partable in
-      h (e.0, (t.base, (t.operation, (t.planned, (t.known, ap (λ b. plan b t.operation) (all_same k gens bs t.bounds literal t.literal) ∙ t.valid)))))
+      (e.0, (t.base, (t.operation, (t.planned, (t.known, ap (λ b. plan b t.operation) (all_same k gens bs t.bounds literal t.literal) ∙ t.valid)))))
 
-  pub no_cut : (bs : List Bounds) (f : Framed) → AllLiteral k gens bs → ((s : Site) (base : Base) → FramesKnown k s op base bs f)
-      → ((greatest count : ℕ) → IsCanonicalCount f.grids.items 0 f.frame greatest count → ((greatest ≤ 4096) × (count ≤ 64)) → ⊥) → IsExact → ⊥
-  no_cut bs f literal known h e =
+  pub refutes_plan : (e : Unplanned) (bs : List Bounds) → AllLiteral k gens bs → Refutes e (HasPlan k op bs) → Refutes e IsExact
+  refutes_plan e bs literal h = refutes_more e (HasPlan k op bs) IsExact (has_plan bs literal) h
+
+  -- the count of a partable with-loop is that of the frame and the grids that are found
+  pub refutes_count : (e : Unplanned) (bs : List Bounds) (f : Framed) → AllLiteral k gens bs → ((s : Site) (base : Base) → FramesKnown k s op base bs f)
+      → ((greatest count : ℕ) → IsCanonicalCount f.grids.items 0 f.frame greatest count → Refutes e ((greatest ≤ 4096) × (count ≤ 64))) → Refutes e IsExact
+  refutes_count Memory bs f literal known h = tt
+  refutes_count NotPartable bs f literal known h = λ e.
       let t = e.1.partable in
       let here = known e.0 t.base in
       let bounds : t.bounds ≡ bs = all_same k gens t.bounds bs t.literal literal in

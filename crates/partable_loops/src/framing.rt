@@ -1,6 +1,6 @@
 //! The frame, the grids and the cell of a with-loop.
 
-ghost use Rattle.std.specs.Prelude.{◌≡◌, ◌≤◌, Some, Ok, IfOk, List, ℕ, map, length, All, pos};
+ghost use Rattle.std.specs.Prelude.{◌≡◌, ◌≤◌, ◌++◌, Some, Ok, IfOk, List, ℕ, map, length, All, pos};
 ghost use Rattle.sac_base.specs.declared.base.Base.{Base};
 ghost use Rattle.sac_base.specs.declared.op.Op.{Op};
 ghost use Rattle.sac_base.specs.declared.site.Site.{Site};
@@ -8,16 +8,16 @@ ghost use Rattle.sac_base.specs.Parts.{shape_of_numbers, vector_of};
 ghost use Rattle.sac_base.specs.WithLoops.{Plan, plan, genarray, modarray, fold_by, shape_spans};
 ghost use Rattle.core_ir.specs.declared.tree.Var.{Var as Variable};
 ghost use Rattle.core_ir.specs.declared.tree.CoreOp.TheVariants.{Genarray, Modarray, Fold};
-ghost use Rattle.core_ir.specs.Meaning.{cell_form};
+ghost use Rattle.core_ir.specs.Meaning.{cell_form, extents};
 ghost use Rattle.fact_table.specs.Table.{facts_of};
 ghost use Rattle.partable_loops.specs.Exact.{grid_range, spanned};
 ghost use Rattle.partable_loops.specs.Framings.{FramesPlan, FramesKnown, HasPlan};
 ghost use Rattle.partable_loops.specs.Refused.{Decides, refusal_of};
 
-use crate::grids::{grid_of_box, grid_of_shape, grids_of, no_index};
+use crate::grids::{grid_of_ranges, grid_of_shape, grids_of};
 use crate::literals::literal;
 use crate::refusal::Unplanned;
-use array_with_loops::{Bounds, Frame, index_length, joined_range, ranges_of};
+use array_with_loops::{Bounds, Frame, index_length, ranges_of};
 use core_ir::{CoreOp, Var};
 use fact_table::FactTable;
 use sac_base::{Array, Grid, Shape, Stop, elements};
@@ -41,7 +41,8 @@ pub fn frame_of(
     op: CoreOp,
     bounds: &[Bounds],
 ) -> Result<Framed, Unplanned>
-    ensures { Decides result (λ f. (s : Site) (base : Base) → FramesKnown (facts_of table.now) s op base bounds.now f) (HasPlan (facts_of table.now) op bounds.now) }
+    ensures { Decides result (λ f. (s : Site) (base : Base) → FramesKnown (facts_of table.now) s op base bounds.now f)
+        (HasPlan (facts_of table.now) op bounds.now) }
 {
     match op {
         CoreOp::Genarray { shape, default } => {
@@ -90,7 +91,8 @@ fn genarray_frame(
     cell: &Shape,
 ) -> Result<Framed, Unplanned>
     ensures { Decides result
-        (λ f. (s : Site) (base : Base) (x y : Variable) → FramesPlan base (Genarray x y) bounds.now (genarray shape.now (cell_form base cell.now) s) f)
+        (λ f. (f.cell ≡ cell.now) × ((s : Site) (base : Base) (x y : Variable) →
+        FramesPlan base (Genarray x y) bounds.now (genarray shape.now (cell_form base cell.now) s) f))
         ((s : Site) × ((base : Base) × ((planned : Plan) × (plan bounds.now (genarray shape.now (cell_form base cell.now) s) ≡ Ok planned)))) }
 {
     let Some(front) = shape_of(alloc, shape) else {
@@ -112,13 +114,10 @@ fn genarray_frame(
     }
 }
 
-fn modarray_frame(
-    alloc: Global,
-    bounds: &[Bounds],
-    shape: &Shape,
-) -> Result<Framed, Unplanned>
+fn modarray_frame(alloc: Global, bounds: &[Bounds], shape: &Shape) -> Result<Framed, Unplanned>
     ensures { Decides result
-        (λ f. (s : Site) (base : Base) (x : Variable) → FramesPlan base (Modarray x) bounds.now (modarray (cell_form base shape.now) s) f)
+        (λ f. (shape.now ≡ extents f.frame ++ f.cell) × ((s : Site) (base : Base) (x : Variable) →
+        FramesPlan base (Modarray x) bounds.now (modarray (cell_form base shape.now) s) f))
         ((s : Site) × ((base : Base) × ((planned : Plan) × (plan bounds.now (modarray (cell_form base shape.now) s) ≡ Ok planned)))) }
 {
     let rank = shape.rank();
@@ -139,7 +138,8 @@ fn modarray_frame(
 
 fn fold_frame(alloc: Global, bounds: &[Bounds], cell: &Shape) -> Result<Framed, Unplanned>
     ensures { Decides result
-        (λ f. (s : Site) (base : Base) (o : Op) (x : Variable) → FramesPlan base (Fold o x) bounds.now (fold_by o (cell_form base cell.now) s) f)
+        (λ f. (f.cell ≡ cell.now) × ((s : Site) (base : Base) (o : Op) (x : Variable) →
+        FramesPlan base (Fold o x) bounds.now (fold_by o (cell_form base cell.now) s) f))
         ((s : Site) × ((base : Base) × ((o : Op) × ((planned : Plan) × (plan bounds.now (fold_by o (cell_form base cell.now) s) ≡ Ok planned))))) }
 {
     let n = index_length(bounds, 0);
@@ -148,13 +148,9 @@ fn fold_frame(alloc: Global, bounds: &[Bounds], cell: &Shape) -> Result<Framed, 
             if Frame::of_ranges(alloc, &ranges)?.is_none() {
                 return Err(Unplanned::NotPartable);
             }
-            let frame = match joined_range(alloc, &ranges)? {
-                Some(range) => grid_of_box(alloc, &range)?,
-                None => no_index(alloc)?,
-            };
             Ok(Framed {
                 grids: grids_of(alloc, &ranges)?,
-                frame,
+                frame: grid_of_ranges(alloc, &ranges)?,
                 cell: cell.copy(),
             })
         }

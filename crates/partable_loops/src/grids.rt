@@ -2,10 +2,11 @@
 
 ghost use Rattle.std.specs.Prelude.{◌≡◌, ◌≤◌, IfOk, map, length, All, pos, false, [], ◌∷◌};
 ghost use Rattle.sac_base.specs.WithLoops.{is_empty_box, shape_spans, span_of};
+ghost use Rattle.array_with_loops.specs.Frames.{joined_frame};
 ghost use Rattle.partable_loops.specs.Exact.{axis_of, grid_range, spanned};
 ghost use Rattle.partable_loops.specs.Framings.{IsVoid};
 
-use array_with_loops::{Axis, Range};
+use array_with_loops::{Axis, Range, joined_range};
 use sac_base::{Grid, Grid1, Memory, Shape};
 use std::alloc::Global;
 
@@ -32,8 +33,20 @@ fn grid_of(alloc: Global, range: &Range) -> Result<Grid, Memory>
     Ok(Grid::new(axes))
 }
 
+/// All vectors of the least box that holds the boxes of all ranges that are not empty.
+#[tactic(auto, using(crate::proofs::Boxes::some_box, crate::proofs::Boxes::no_box))]
+pub fn grid_of_ranges(alloc: Global, ranges: &[Range]) -> Result<Grid, Memory>
+    requires { All (λ r. length r ≤ 8) ranges.now }
+    ensures { IfOk result (λ grid. grid_range grid ≡ map spanned (joined_frame ranges.now)) }
+{
+    match joined_range(alloc, ranges)? {
+        Some(range) => grid_of_box(alloc, &range),
+        None => no_index(alloc),
+    }
+}
+
 /// All vectors of a box.
-pub fn grid_of_box(alloc: Global, range: &Range) -> Result<Grid, Memory>
+fn grid_of_box(alloc: Global, range: &Range) -> Result<Grid, Memory>
     requires some { is_empty_box range.now ≡ false }
     requires rank { length range.now ≤ 8 }
     ensures { IfOk result (λ grid. grid_range grid ≡ map spanned (map span_of range.now)) }
@@ -81,7 +94,7 @@ fn axis_below(extent: i32) -> Grid1
 }
 
 /// One axis without a number.
-pub fn no_index(alloc: Global) -> Result<Grid, Memory>
+fn no_index(alloc: Global) -> Result<Grid, Memory>
     ensures { IfOk result IsVoid }
 {
     let mut axes = Vec::new(alloc);

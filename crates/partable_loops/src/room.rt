@@ -51,7 +51,10 @@ fn binders_right(right: &Right) -> u64
     match right {
         Right::If { yes, no, .. } => binders(yes).saturating_add(binders(no)),
         Right::Loop {
-            params, test, body, ..
+            params,
+            test,
+            body,
+            ..
         } => (params.len() as u64)
             .saturating_add(binders(test))
             .saturating_add(binders(body)),
