@@ -1,4 +1,5 @@
 pub mod Alike
 pub mod Fresh
+pub mod Copied
 pub mod Walks
 pub mod Laws

@@ -1,0 +1,17 @@
+pub mod Made
+pub mod Weights
+pub mod Scopes
+pub mod Typing
+pub mod Tables
+pub mod Below
+pub mod Walking
+pub mod Reach
+pub mod Copies
+pub mod Calls
+pub mod Places
+pub mod Laws
+pub mod Stepped
+pub mod Whole
+pub mod Placing
+pub mod Named
+pub mod Grids
