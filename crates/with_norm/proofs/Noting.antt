@@ -46,4 +46,3 @@ none_left len (x ∷ xs) p q = absurd (omega arith)
 -- where nothing was learned nothing goes
 pub none_gone : (a : List Note) → drop (length a - length a) a ≡ a
 none_gone a = let e : length a - length a ≡ 0 = omega arith in ap (λ n. drop n a) e
-

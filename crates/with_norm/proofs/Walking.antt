@@ -36,7 +36,6 @@ abbrev pub parts_before : List PartTerm → PartsTerm → PartsTerm
 parts_before [] rest = rest
 parts_before (g ∷ gs) rest = Part g.head g.body (parts_before gs rest)
 
-
 pub gens_ended : (gs : List GenTerm) → gens_before gs NoGens ≡ gens_of gs
 gens_ended [] = refl
 gens_ended (g ∷ gs) = ap (Gen g.head g.body) (gens_ended gs)
@@ -133,18 +132,18 @@ module _ (called : ℕ → List (Option (List ℕ))) (bases : Var → Base) (fir
   if_walked k p q r s x a b c d u v = record {
     walked = λ xs rest. join (lift (λ t. Bind xs s (RightTerm.If x t b) rest) (λ _ _ _ _ w. inside (in_then w)) u.walked) (lift (λ t. Bind xs s (RightTerm.If x c t) rest) (λ _ _ _ _ w. inside (in_else w)) v.walked);
     none = λ e.
-      let w = both {p} {q} {r} (rises u.walked) (rises v.walked) e in
-      let same = (still u.walked w.0).0 in
-      (u.none w.0, subst (λ (t : Progress). EachWith called (IsLeft first t.next) b k) (sym same) (v.none w.1));
+        let w = both {p} {q} {r} (rises u.walked) (rises v.walked) e in
+        let same = (still u.walked w.0).0 in
+        (u.none w.0, subst (λ (t : Progress). EachWith called (IsLeft first t.next) b k) (sym same) (v.none w.1));
   }
 
   pub loop_walked : (k : Facts) (p q r : Progress) (s : Site) (f : _) (xs ys : List Var) (t : Site) (a b c d : BlockTerm) → BlockWalked called bases first (note_all k ys []) p q a c → BlockWalked called bases first (note_all k ys []) q r b d → RightWalked called bases first k p r s (RightTerm.Loop f xs ys a b t) (RightTerm.Loop f xs ys c d t)
   loop_walked k p q r s f xs ys t a b c d u v = record {
     walked = λ zs rest. join (lift (λ m. Bind zs s (RightTerm.Loop f xs ys m b t) rest) (λ _ _ _ _ w. inside (in_test w)) u.walked) (lift (λ m. Bind zs s (RightTerm.Loop f xs ys c m t) rest) (λ _ _ _ _ w. inside (in_body w)) v.walked);
     none = λ e.
-      let w = both {p} {q} {r} (rises u.walked) (rises v.walked) e in
-      let same = (still u.walked w.0).0 in
-      (u.none w.0, subst (λ (m : Progress). EachWith called (IsLeft first m.next) b (note_all k ys [])) (sym same) (v.none w.1));
+        let w = both {p} {q} {r} (rises u.walked) (rises v.walked) e in
+        let same = (still u.walked w.0).0 in
+        (u.none w.0, subst (λ (m : Progress). EachWith called (IsLeft first m.next) b (note_all k ys [])) (sym same) (v.none w.1));
   }
 
   pub right_stays : (k : Facts) (p : Progress) (s : Site) (r : RightTerm) → EachWithRight called (IsLeft first p.next) s r k → RightWalked called bases first k p p s r r
@@ -178,12 +177,12 @@ module _ (called : ℕ → List (Option (List ℕ))) (bases : Var → Base) (fir
   with_walked k p q r s op g h t u v = record {
     walked = λ xs rest. join (u.walked xs s op rest) (v.walked xs rest);
     none = λ e.
-      let one = u.walked [] s op (Gives []) in
-      let w = both {p} {q} {r} (rises one) (rises (v.walked [] (Gives []))) e in
-      let same = still one w.0 in
-      let left = v.none w.1 in
-      let gens : With op g ≡ With op h = ap (right_in (With op g)) same.1 in
-      (λ small exact. left_of (sym gens) (sym same.0) left small exact, u.none w.0);
+        let one = u.walked [] s op (Gives []) in
+        let w = both {p} {q} {r} (rises one) (rises (v.walked [] (Gives []))) e in
+        let same = still one w.0 in
+        let left = v.none w.1 in
+        let gens : With op g ≡ With op h = ap (right_in (With op g)) same.1 in
+        (λ small exact. left_of (sym gens) (sym same.0) left small exact, u.none w.0);
   }
     where
       gens_in : GensTerm → RightTerm → GensTerm
@@ -215,23 +214,24 @@ module _ (called : ℕ → List (Option (List ℕ))) (bases : Var → Base) (fir
   pub going_on : (k : Facts) (p : Progress) (all : List Let) (now after : Facts) (q r : Progress) (done done' before rest : List Let) (x y : Let) → Going k p all now q done before → before ≡ x ∷ rest → done' ≡ done ++ (y ∷ []) → LetWalked called bases first now q r (let_term x) (let_term y) → after ≡ note_all now y.targets.items (right_facts called (right_term y.right) now) → Going k p all after r done' rest
   going_on k p all now after q r done done' before rest x y v b d u learned = record {
     walked = λ end.
-      subst (λ (t : BlockTerm). Walked called bases first k p r (chain (map let_term all) end) t)
-      (sym ((λ i. chain (map let_term (d i)) (chain (map let_term rest) end)) ∙ ap (λ z. chain z (chain (map let_term rest) end)) (map_snoc let_term done y) ∙ chain_snoc (map let_term done) (let_term y) (chain (map let_term rest) end)))
-      (let_turn (map let_term done) k now p q r (let_term x) (let_term y) (chain (map let_term rest) end) (chain (map let_term all) end) v.known
-      (subst (λ (ls : List Let). Walked called bases first k p q (chain (map let_term all) end) (chain (map let_term done) (chain (map let_term ls) end))) b (v.walked end)) u);
+        subst (λ (t : BlockTerm). Walked called bases first k p r (chain (map let_term all) end) t)
+        (sym ((λ i. chain (map let_term (d i)) (chain (map let_term rest) end)) ∙ ap (λ z. chain z (chain (map let_term rest) end)) (map_snoc let_term done y) ∙ chain_snoc (map let_term done) (let_term y) (chain (map let_term rest) end)))
+        (let_turn (map let_term done) k now p q r (let_term x) (let_term y) (chain (map let_term rest) end) (chain (map let_term all) end) v.known
+        (subst (λ (ls : List Let). Walked called bases first k p q (chain (map let_term all) end) (chain (map let_term done) (chain (map let_term ls) end))) b (v.walked end)) u);
     known =
-      learned ∙ (λ i. note_all (v.known i) y.targets.items (right_facts called (right_term y.right) (v.known i))) ∙ sym (after_snoc called (map let_term done) (let_term y) k)
-      ∙ ap (λ ls. facts_after called ls k) (sym (map_snoc let_term done y)) ∙ (λ i. facts_after called (map let_term (sym d i)) k);
+        learned ∙ (λ i. note_all (v.known i) y.targets.items (right_facts called (right_term y.right) (v.known i))) ∙ sym (after_snoc called (map let_term done) (let_term y) k)
+        ∙ ap (λ ls. facts_after called ls k) (sym (map_snoc let_term done y)) ∙ (λ i. facts_after called (map let_term (sym d i)) k);
     none = λ e end h.
-      let w = both {p} {q} {r} (rises (v.walked end)) (rises (u.walked (Gives []))) e in
-      let same = (still (v.walked end) w.0).0 in
-      let equal = (still (u.walked (Gives [])) w.1).1 in
-      let right : right_term x.right ≡ right_term y.right = ap (right_in (right_term x.right)) equal in
-      let targets : x.targets.items ≡ y.targets.items = ap (targets_in x.targets.items) equal in
-      let facts : after ≡ note_all now x.targets.items (right_facts called (right_term x.right) now) = learned ∙ (λ i. note_all now (sym targets i) (right_facts called (sym right i) now)) in
-      v.none w.0 end (subst (λ (ls : List Let). EachWith called (IsLeft first p.next) (chain (map let_term ls) end) now) (sym b)
-      (subst (λ (m : Progress). EachWithRight called (IsLeft first m.next) x.site (right_term x.right) now) (sym same) (u.none w.1),
-      subst (λ (f : Facts). EachWith called (IsLeft first p.next) (chain (map let_term rest) end) f) facts h));
+        let w = both {p} {q} {r} (rises (v.walked end)) (rises (u.walked (Gives []))) e in
+        let same = (still (v.walked end) w.0).0 in
+        let equal = (still (u.walked (Gives [])) w.1).1 in
+        let right : right_term x.right ≡ right_term y.right = ap (right_in (right_term x.right)) equal in
+        let targets : x.targets.items ≡ y.targets.items = ap (targets_in x.targets.items) equal in
+        let facts : after ≡ note_all now x.targets.items (right_facts called (right_term x.right) now) = learned ∙ (λ i. note_all now (sym targets i) (right_facts called (sym right i) now)) in
+        v.none w.0 end (subst (λ (ls : List Let). EachWith called (IsLeft first p.next) (chain (map let_term ls) end) now) (sym b) (
+          subst (λ (m : Progress). EachWithRight called (IsLeft first m.next) x.site (right_term x.right) now) (sym same) (u.none w.1),
+          subst (λ (f : Facts). EachWith called (IsLeft first p.next) (chain (map let_term rest) end) f) facts h,
+        ));
   }
 
   pub block_walked : (k : Facts) (p q : Progress) (all done rest : List Let) (now : Facts) (x : Block-F the_data the_data-1 the_data-2 the_data-3 the_data-4 the_data-5 the_data-6) (b : Block) → Going k p all now q done rest → rest ≡ [] → all ≡ (out-Block b).lets.items → x.lets.items ≡ done → x.results.items ≡ (out-Block b).results.items → BlockWalked called bases first k p q (block_term b) (block_term (roll-Block x))
@@ -259,23 +259,23 @@ module _ (called : ℕ → List (Option (List ℕ))) (bases : Var → Base) (fir
   pub gens_on : (k : Facts) (p : Progress) (all : List CoreGen) (q r : Progress) (done done' before rest : List CoreGen) (x y : CoreGen) → GensGoing k p all q done before → before ≡ x ∷ rest → done' ≡ done ++ (y ∷ []) → GenWalked called bases first k q r (gen_term x) (gen_term y) → GensGoing k p all r done' rest
   gens_on k p all q r done done' before rest x y v b d u = record {
     walked = λ xs s op end.
-      subst (λ (t : GensTerm). Walked called bases first k p r (Bind xs s (With op (gens_of (map gen_term all))) end) (Bind xs s (With op t) end))
-      (sym ((λ i. gens_before (map gen_term (d i)) (gens_of (map gen_term rest))) ∙ ap (λ z. gens_before z (gens_of (map gen_term rest))) (map_snoc gen_term done y) ∙ gens_snoc (map gen_term done) (gen_term y) (gens_of (map gen_term rest))))
-      (join (subst (λ (ls : List CoreGen). Walked called bases first k p q (Bind xs s (With op (gens_of (map gen_term all))) end) (Bind xs s (With op (gens_before (map gen_term done) (gens_of (map gen_term ls)))) end)) b (v.walked xs s op end))
-      (gen_walked (map gen_term done) k q r (gen_term x) (gen_term y) (gens_of (map gen_term rest)) u xs s op end));
+        subst (λ (t : GensTerm). Walked called bases first k p r (Bind xs s (With op (gens_of (map gen_term all))) end) (Bind xs s (With op t) end))
+        (sym ((λ i. gens_before (map gen_term (d i)) (gens_of (map gen_term rest))) ∙ ap (λ z. gens_before z (gens_of (map gen_term rest))) (map_snoc gen_term done y) ∙ gens_snoc (map gen_term done) (gen_term y) (gens_of (map gen_term rest))))
+        (join (subst (λ (ls : List CoreGen). Walked called bases first k p q (Bind xs s (With op (gens_of (map gen_term all))) end) (Bind xs s (With op (gens_before (map gen_term done) (gens_of (map gen_term ls)))) end)) b (v.walked xs s op end))
+        (gen_walked (map gen_term done) k q r (gen_term x) (gen_term y) (gens_of (map gen_term rest)) u xs s op end));
     none = λ e h.
-      let one = v.walked [] no_site (making.Modarray no_var) (Gives []) in
-      let w = both {p} {q} {r} (rises one) (rises u.body.walked) e in
-      let same = (still one w.0).0 in
-      v.none w.0 (subst (λ (ls : List CoreGen). EachWithGens called (IsLeft first p.next) (gens_of (map gen_term ls)) k) (sym b)
-      (subst (λ (m : Progress). EachWith called (IsLeft first m.next) (gen_term x).body (note_all k ((gen_term x).head.index ∷ (gen_term x).head.names) [])) (sym same) (u.body.none w.1), h));
+        let one = v.walked [] no_site (making.Modarray no_var) (Gives []) in
+        let w = both {p} {q} {r} (rises one) (rises u.body.walked) e in
+        let same = (still one w.0).0 in
+        v.none w.0 (subst (λ (ls : List CoreGen). EachWithGens called (IsLeft first p.next) (gens_of (map gen_term ls)) k) (sym b)
+        (subst (λ (m : Progress). EachWith called (IsLeft first m.next) (gen_term x).body (note_all k ((gen_term x).head.index ∷ (gen_term x).head.names) [])) (sym same) (u.body.none w.1), h));
   }
 
   pub gens_done : (k : Facts) (p q : Progress) (all done rest : List CoreGen) → GensGoing k p all q done rest → rest ≡ [] → GensWalked called bases first k p q (gens_of (map gen_term all)) (gens_of (map gen_term done))
   gens_done k p q all done rest v r = record {
     walked = λ xs s op end.
-      subst (λ (t : GensTerm). Walked called bases first k p q (Bind xs s (With op (gens_of (map gen_term all))) end) (Bind xs s (With op t) end))
-      ((λ i. gens_before (map gen_term done) (gens_of (map gen_term (r i)))) ∙ gens_ended (map gen_term done)) (v.walked xs s op end);
+        subst (λ (t : GensTerm). Walked called bases first k p q (Bind xs s (With op (gens_of (map gen_term all))) end) (Bind xs s (With op t) end))
+        ((λ i. gens_before (map gen_term done) (gens_of (map gen_term (r i)))) ∙ gens_ended (map gen_term done)) (v.walked xs s op end);
     none = λ e. v.none e (subst (λ (ls : List CoreGen). EachWithGens called (IsLeft first p.next) (gens_of (map gen_term ls)) k) (sym r) tt);
   }
 
@@ -286,23 +286,23 @@ module _ (called : ℕ → List (Option (List ℕ))) (bases : Var → Base) (fir
   pub parts_on : (k : Facts) (p : Progress) (all : List CorePart) (q r : Progress) (done done' before rest : List CorePart) (x y : CorePart) → PartsGoing k p all q done before → before ≡ x ∷ rest → done' ≡ done ++ (y ∷ []) → PartWalked called bases first k q r (part_term x) (part_term y) → PartsGoing k p all r done' rest
   parts_on k p all q r done done' before rest x y v b d u = record {
     walked = λ xs s frame base cell op end.
-      subst (λ (t : PartsTerm). Walked called bases first k p r (Bind xs s (Parted frame base cell op (parts_of (map part_term all))) end) (Bind xs s (Parted frame base cell op t) end))
-      (sym ((λ i. parts_before (map part_term (d i)) (parts_of (map part_term rest))) ∙ ap (λ z. parts_before z (parts_of (map part_term rest))) (map_snoc part_term done y) ∙ parts_snoc (map part_term done) (part_term y) (parts_of (map part_term rest))))
-      (join (subst (λ (ls : List CorePart). Walked called bases first k p q (Bind xs s (Parted frame base cell op (parts_of (map part_term all))) end) (Bind xs s (Parted frame base cell op (parts_before (map part_term done) (parts_of (map part_term ls)))) end)) b (v.walked xs s frame base cell op end))
-      (part_walked (map part_term done) k q r (part_term x) (part_term y) (parts_of (map part_term rest)) u xs s frame base cell op end));
+        subst (λ (t : PartsTerm). Walked called bases first k p r (Bind xs s (Parted frame base cell op (parts_of (map part_term all))) end) (Bind xs s (Parted frame base cell op t) end))
+        (sym ((λ i. parts_before (map part_term (d i)) (parts_of (map part_term rest))) ∙ ap (λ z. parts_before z (parts_of (map part_term rest))) (map_snoc part_term done y) ∙ parts_snoc (map part_term done) (part_term y) (parts_of (map part_term rest))))
+        (join (subst (λ (ls : List CorePart). Walked called bases first k p q (Bind xs s (Parted frame base cell op (parts_of (map part_term all))) end) (Bind xs s (Parted frame base cell op (parts_before (map part_term done) (parts_of (map part_term ls)))) end)) b (v.walked xs s frame base cell op end))
+        (part_walked (map part_term done) k q r (part_term x) (part_term y) (parts_of (map part_term rest)) u xs s frame base cell op end));
     none = λ e h.
-      let one = v.walked [] no_site [] Int [] parted.Genarray (Gives []) in
-      let w = both {p} {q} {r} (rises one) (rises u.body.walked) e in
-      let same = (still one w.0).0 in
-      v.none w.0 (subst (λ (ls : List CorePart). EachWithParts called (IsLeft first p.next) (parts_of (map part_term ls)) k) (sym b)
-      (subst (λ (m : Progress). EachWith called (IsLeft first m.next) (part_term x).body (in_part k (part_term x).head)) (sym same) (u.body.none w.1), h));
+        let one = v.walked [] no_site [] Int [] parted.Genarray (Gives []) in
+        let w = both {p} {q} {r} (rises one) (rises u.body.walked) e in
+        let same = (still one w.0).0 in
+        v.none w.0 (subst (λ (ls : List CorePart). EachWithParts called (IsLeft first p.next) (parts_of (map part_term ls)) k) (sym b)
+        (subst (λ (m : Progress). EachWith called (IsLeft first m.next) (part_term x).body (in_part k (part_term x).head)) (sym same) (u.body.none w.1), h));
   }
 
   pub parts_done : (k : Facts) (p q : Progress) (s : Site) (all done rest : List CorePart) (frame : List Grid1) (base : Base) (cell : List ℕ) (op : PartedOp) → PartsGoing k p all q done rest → rest ≡ [] → RightWalked called bases first k p q s (Parted frame base cell op (parts_of (map part_term all))) (Parted frame base cell op (parts_of (map part_term done)))
   parts_done k p q s all done rest frame base cell op v r = record {
     walked = λ xs end.
-      subst (λ (t : PartsTerm). Walked called bases first k p q (Bind xs s (Parted frame base cell op (parts_of (map part_term all))) end) (Bind xs s (Parted frame base cell op t) end))
-      ((λ i. parts_before (map part_term done) (parts_of (map part_term (r i)))) ∙ parts_ended (map part_term done)) (v.walked xs s frame base cell op end);
+        subst (λ (t : PartsTerm). Walked called bases first k p q (Bind xs s (Parted frame base cell op (parts_of (map part_term all))) end) (Bind xs s (Parted frame base cell op t) end))
+        ((λ i. parts_before (map part_term done) (parts_of (map part_term (r i)))) ∙ parts_ended (map part_term done)) (v.walked xs s frame base cell op end);
     none = λ e. v.none e (subst (λ (ls : List CorePart). EachWithParts called (IsLeft first p.next) (parts_of (map part_term ls)) k) (sym r) tt);
   }
 

@@ -11,7 +11,7 @@ pub add_block-loop-binding-preserved : goal.add_block-loop-binding-preserved
 add_block-loop-binding-preserved t c =
     let x = c.binding-item.result in
     turned lets_bound (λ y. y.targets.items ++ bound_in_right (right_term y.right)) c.deref-binding-items.result.now c.loop-binding.binding-index x c.loop-binding.bound.items c.add_right.new.bound.items _ let_binds (omega arith) c.binding-item.is c.loop-binding.invariant
-        (in_two c.loop-binding.bound.items c.add.new.bound.items c.add_right.new.bound.items x.targets.items (bound_in_right (right_term x.right)) (c.in_ok-add.ensures ∙ ap (λ l. c.loop-binding.bound.items ++ l) c.deref.ensures.value) c.in_ok-add_right.ensures)
+    (in_two c.loop-binding.bound.items c.add.new.bound.items c.add_right.new.bound.items x.targets.items (bound_in_right (right_term x.right)) (c.in_ok-add.ensures ∙ ap (λ l. c.loop-binding.bound.items ++ l) c.deref.ensures.value) c.in_ok-add_right.ensures)
 
 pub add_block-returns : goal.add_block-returns
 add_block-returns t c =

@@ -8,8 +8,8 @@ use Rattle.with_norm.proofs.parts.components.Given as goal
 abbrev pub invariant-loop-name : goal.invariant-loop-name
 invariant-loop-name l =
     (map let_term l.lets.items ++ component_lets l.site l.index l.name-index (drop l.name-index l.components) l.progress.next
-        ≡ component_lets l.site l.index 0 l.components l.initial.progress.next)
+    ≡ component_lets l.site l.index 0 l.components l.initial.progress.next)
     × ((z : Variable) → component_names (named_in l.names) (drop l.name-index l.components) l.progress.next z
-        ≡ component_names (named_in l.initial.names) l.components l.initial.progress.next z)
+    ≡ component_names (named_in l.initial.names) l.components l.initial.progress.next z)
     × (l.progress ≡ record l.initial.progress { next = l.initial.progress.next + (l.name-index + l.name-index) })
     × (l.place ≡ pos l.name-index)

@@ -7,11 +7,12 @@ pub loop-x-preserved : goal.loop-x-preserved
 loop-x-preserved c =
     let xs = c.args.xs.now in
     let p = c.loop-x.progress in
-    let taken = c.in_ok-y.ensures.next in
-    (λ z. ap (λ q. numbered (named_in c.set.new.self) (drop (c.loop-x.x-index + 1) xs) q.next z) taken
-    ∙ numbered_turn xs c.loop-x.x-index p.next _ c.in_ok-y.y (named_in c.loop-x.self) (named_in c.set.new.self) (λ w. numbered (named_in c.args.self.now) xs c.args.progress.now.next w)
-        (omega arith) c.in_ok-y.ensures.var c.in_ok-set.ensures c.loop-x.invariant.0 z,
-    counted_turn p c.args.progress.now c.take.new.self c.loop-x.x-index c.loop-x.invariant.1 taken)
+    let taken = c.in_ok-y.ensures.next in (
+      λ z. ap (λ q. numbered (named_in c.set.new.self) (drop (c.loop-x.x-index + 1) xs) q.next z) taken
+          ∙ numbered_turn xs c.loop-x.x-index p.next _ c.in_ok-y.y (named_in c.loop-x.self) (named_in c.set.new.self) (λ w. numbered (named_in c.args.self.now) xs c.args.progress.now.next w)
+          (omega arith) c.in_ok-y.ensures.var c.in_ok-set.ensures c.loop-x.invariant.0 z,
+      counted_turn p c.args.progress.now c.take.new.self c.loop-x.x-index c.loop-x.invariant.1 taken,
+    )
 
 pub returns-clause-named : goal.returns-clause-named
 returns-clause-named c =
