@@ -1,5 +1,5 @@
 -- A buffer that is cut into the cells of chunks.
-use Rattle.std.specs.Prelude.{◌≡◌, ℕ, ◌*◌, List, Vec}
+use Rattle.std.specs.Prelude.{◌≡◌, ℕ, ◌*◌, ℤ, List, Option, Vec}
 use Rattle.std.specs.Global.{Global}
 use denote.RattleType.{RattleType}
 use Rattle.index_cutter.specs.declared.cuts.Cuts.{Cuts}
@@ -20,3 +20,7 @@ LeavesPlaces {T} {S} lent outcome =
 abbrev pub JoinsBack : {T : Type 0} → (List (Span T) → Type 0) → (Vec (Span T) Global → Vec (Span T) Global → Type 0) → List T → Type 0
 JoinsBack {T} lent outcome cells =
     (parts : Vec (Span T) Global) × (back : Vec (Span T) Global) × lent parts.items × outcome parts back × (cells ≡ joined back.items)
+
+-- What a phase's table has for a chunk: the part of a buffer that it fills. A fold has none.
+abbrev pub ChunkPart : Type 0
+ChunkPart = Option (Span ℤ)

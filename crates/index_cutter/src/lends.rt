@@ -8,8 +8,11 @@ ghost use Rattle.index_cutter.specs.Chunks.{AreChunks, LeavesPlaces, JoinsBack};
 
 use crate::Cuts;
 use buffer_parts::{Part, cut as cut_part, join_all};
-use sac_base::Memory;
+use sac_base::{Cell, Memory};
 use std::alloc::Global;
+
+/// What a phase's table has for a chunk: the part of a result's buffer that the chunk fills. A fold has none.
+pub type ChunkPart = Option<Part<Cell>>;
 
 fn in_chunks<T, S, F: FnOnce(Vec<Part<T>>, S) -> (Vec<Part<T>>, S)>(
     whole: Part<T>,

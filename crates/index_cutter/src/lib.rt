@@ -6,7 +6,7 @@ mod cuts;
 mod lends;
 
 pub use cuts::{Cuts, cut};
-pub use lends::lend;
+pub use lends::{ChunkPart, lend};
 
 #[cfg(test)]
 mod tests;

@@ -8,6 +8,7 @@ ghost use Rattle.phase_team.specs.Segments.{IsComputed, Tells};
 use crate::runs::CellRuns;
 use buffer_heap::Heap;
 use count_table::{Phase, WorkerSeat};
+use index_cutter::ChunkPart;
 use phase_team::{CellEnd, PhaseCells};
 use run_store::{Lent, Store};
 use sac_base::{Cell, Memory, Stop};
@@ -65,8 +66,8 @@ impl<'a, C: CellRuns> PhaseCells<Heap> for LentCells<'a, C> {
     fn cell(
         &self,
         worker: &mut CellWorker<C::Scratch>,
-        table: &Phase<()>,
-        seat: &mut Option<WorkerSeat<()>>,
+        table: &Phase<ChunkPart>,
+        seat: &mut Option<WorkerSeat<ChunkPart>>,
         position: usize,
         into: &mut [Cell],
     ) -> CellEnd {

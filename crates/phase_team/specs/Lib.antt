@@ -1,5 +1,7 @@
 pub mod Segments
 pub mod Crews
+pub mod Chunks
+pub mod Reports
 pub mod Endings
 pub mod Samples
 pub mod Schedules

@@ -5,6 +5,7 @@ ghost use Rattle.phase_team.specs.Crews.{IsFresh};
 ghost use Rattle.phase_team.specs.Segments.{IsComputed, Same, Tells, row_at};
 
 use count_table::{Phase, WorkerSeat};
+use index_cutter::ChunkPart;
 use sac_base::{Cell, Memory, Stop};
 
 /// What a computed cell came to.
@@ -59,8 +60,8 @@ pub trait PhaseCells<H>: Sync {
     fn cell(
         &self,
         worker: &mut Self::Worker,
-        table: &Phase<()>,
-        seat: &mut Option<WorkerSeat<()>>,
+        table: &Phase<ChunkPart>,
+        seat: &mut Option<WorkerSeat<ChunkPart>>,
         position: usize,
         into: &mut [Cell],
     ) -> CellEnd

@@ -6,17 +6,19 @@
 #![tactic(auto)]
 
 mod cells;
-mod crew;
+// mod crew;
+mod draws;
 mod gates;
 mod law;
-mod phases;
+// mod phases;
 mod share;
+mod turns;
 mod worker;
 
 pub use cells::{CellEnd, PhaseCells};
 pub use gates::{Gate, NoGate};
 pub use law::{answers_are_verdicts, each_schedule_is_a_run};
-pub use phases::{array_phase, fold_phase};
+// pub use phases::{array_phase, fold_phase};
 
 #[cfg(test)]
 mod tests;

@@ -3,6 +3,7 @@ ghost use Rattle.phase_team.specs.Samples.{ramp_cell, all_but_first};
 
 use crate::{CellEnd, Gate, NoGate, PhaseCells, array_phase, fold_phase};
 use count_table::{Phase, Tally, WorkerSeat};
+use index_cutter::ChunkPart;
 use sac_base::{Base, Cell, Fault, FaultKind, Memory, Op, Site, Stop};
 use std::alloc::Global;
 use std::sync::atomic::{AtomicU64, Ordering};
@@ -56,8 +57,8 @@ impl PhaseCells<u64> for Ramp {
     fn cell(
         &self,
         worker: &mut u64,
-        table: &Phase<()>,
-        seat: &mut Option<WorkerSeat<()>>,
+        table: &Phase<ChunkPart>,
+        seat: &mut Option<WorkerSeat<ChunkPart>>,
         position: usize,
         into: &mut [Cell],
     ) -> CellEnd {

@@ -2,13 +2,14 @@
 ghost use Rattle.std.specs.Prelude.{◌≡◌, ℕ, ◌+◌, ◌*◌, ◌<◌, ◌≤◌, length, take, IfOk};
 ghost use Rattle.wl_core.specs.declared.setup.Job.TheVariants.{Write as Store};
 ghost use Rattle.wl_core.specs.Machine.{combine, both};
-ghost use Rattle.phase_team.specs.Segments.{cells_from, value_if, ChunkRoom, Costs, Gathered, Ran, StoredNext};
+ghost use Rattle.phase_team.specs.Segments.{cells_from, value_if, Costs, Gathered, Ran, StoredNext};
+ghost use Rattle.phase_team.specs.Chunks.{HasTwoRows, IsDone, IsPartial, PartFits};
 ghost use Rattle.phase_team.specs.Crews.{Suits, IsFresh};
 
 use crate::cells::{CellEnd, PhaseCells};
-use crate::gates::Gate;
 use crate::share::{Share, Stretch};
 use count_table::{Phase, WorkerSeat};
+use index_cutter::ChunkPart;
 use sac_base::{Cell, Op, Stop, apply2};
 use wl_core::Job;
 
@@ -47,8 +48,8 @@ pub(crate) fn combine_held(
 // Writes the next cells one after another, at least one of them, or up to the first that stops. Answers how many.
 fn fill_next<H, C: PhaseCells<H>>(
     cells: &C,
-    table: &Phase<()>,
-    seat: &mut Option<WorkerSeat<()>>,
+    table: &Phase<ChunkPart>,
+    seat: &mut Option<WorkerSeat<ChunkPart>>,
     worker: &mut C::Worker,
     share: Share,
     start: usize,
@@ -81,8 +82,8 @@ fn fill_next<H, C: PhaseCells<H>>(
 // Writes cells one after another, up to the first that stops.
 fn fill<H, C: PhaseCells<H>>(
     cells: &C,
-    table: &Phase<()>,
-    seat: &mut Option<WorkerSeat<()>>,
+    table: &Phase<ChunkPart>,
+    seat: &mut Option<WorkerSeat<ChunkPart>>,
     worker: &mut C::Worker,
     share: Share,
     start: usize,
@@ -122,8 +123,8 @@ fn fill<H, C: PhaseCells<H>>(
 // Combines cells one after another into the first row, up to the first that stops.
 fn gather<H, C: PhaseCells<H>>(
     cells: &C,
-    table: &Phase<()>,
-    seat: &mut Option<WorkerSeat<()>>,
+    table: &Phase<ChunkPart>,
+    seat: &mut Option<WorkerSeat<ChunkPart>>,
     worker: &mut C::Worker,
     share: Share,
     op: Op,
@@ -155,8 +156,8 @@ fn gather<H, C: PhaseCells<H>>(
 // The same in rows of which the first is the value's and the second is spare.
 fn gather_rows<H, C: PhaseCells<H>>(
     cells: &C,
-    table: &Phase<()>,
-    seat: &mut Option<WorkerSeat<()>>,
+    table: &Phase<ChunkPart>,
+    seat: &mut Option<WorkerSeat<ChunkPart>>,
     worker: &mut C::Worker,
     share: Share,
     op: Op,
@@ -179,32 +180,79 @@ fn gather_rows<H, C: PhaseCells<H>>(
     )
 }
 
-/// Computes the cells of one chunk, up to the first that stops.
-pub(crate) fn work<H, C: PhaseCells<H>, G: Gate>(
+// Computes the cells of one chunk into its part, up to the first that stops.
+fn fill_part<H, C: PhaseCells<H>>(
     cells: &C,
-    gate: &G,
-    table: &Phase<()>,
-    seat: &mut Option<WorkerSeat<()>>,
+    table: &Phase<ChunkPart>,
+    seat: &mut Option<WorkerSeat<ChunkPart>>,
     worker: &mut C::Worker,
     share: Share,
-    from: Stretch,
-    count: usize,
-    rows: &mut [Cell],
-) -> Result<bool, Stop>
-    requires suits { Suits (C.cell cells.now) (C.positions cells.now) (C.width cells.now) (C.shared cells.now) table.now.buffers share from.start count }
+    stretch: Stretch,
+    part: ChunkPart,
+) -> (ChunkPart, Result<bool, Stop>)
+    requires suits { Suits (C.cell cells.now) (C.positions cells.now) (C.width cells.now) (C.shared cells.now)
+        table.now.buffers share stretch.start stretch.count }
+    requires job { share.job ≡ Store }
     requires seat { IsFresh table.now seat.old }
     requires worker { C.idle cells.now worker.old }
-    requires room { ChunkRoom share.job share.width count (length rows.old) }
-    ensures ran { Ran share.job share.width (cells_from (C.cell cells.now) from.start count) rows.new result }
+    requires part { PartFits Store (stretch.count * share.width) part }
+    ensures done { IsDone Store share.width (cells_from (C.cell cells.now) stretch.start stretch.count) part result.0 result.1 }
     ensures worker { C.idle cells.now worker.new }
-    ensures spent { IfOk result (λ _. Costs (C.cost cells.now) from.start count (C.spent cells.now worker.old) (C.spent cells.now worker.new)) }
+    ensures spent { IfOk result.1 (λ _. Costs (C.cost cells.now) stretch.start stretch.count (C.spent cells.now worker.old) (C.spent cells.now worker.new)) }
     ensures seat { seat.new ≡ seat.old }
 {
-    gate.chunk_begins(from.chunk, from.chunk as u64);
+    let Some(mut own) = part else { unreachable!() };
+    let end = fill(
+        cells,
+        table,
+        seat,
+        worker,
+        share,
+        stretch.start,
+        stretch.count,
+        own.as_mut_slice(),
+    );
+    (Some(own), end)
+}
+
+/// Computes the cells of one chunk, up to the first that stops: into its part, or combined into the first of two rows.
+pub(crate) fn run_chunk<H, C: PhaseCells<H>>(
+    cells: &C,
+    table: &Phase<ChunkPart>,
+    seat: &mut Option<WorkerSeat<ChunkPart>>,
+    worker: &mut C::Worker,
+    share: Share,
+    stretch: Stretch,
+    part: ChunkPart,
+    rows: &mut [Cell],
+) -> (ChunkPart, Result<bool, Stop>)
+    requires suits { Suits (C.cell cells.now) (C.positions cells.now) (C.width cells.now) (C.shared cells.now)
+        table.now.buffers share stretch.start stretch.count }
+    requires seat { IsFresh table.now seat.old }
+    requires worker { C.idle cells.now worker.old }
+    requires part { PartFits share.job (stretch.count * share.width) part }
+    requires rows { HasTwoRows share.job share.width (length rows.old) }
+    ensures done { IsDone share.job share.width (cells_from (C.cell cells.now) stretch.start stretch.count) part result.0 result.1 }
+    ensures combined { IfOk result.1 (λ held. IsPartial share.job share.width (cells_from (C.cell cells.now) stretch.start stretch.count) held rows.new) }
+    ensures worker { C.idle cells.now worker.new }
+    ensures spent { IfOk result.1 (λ _. Costs (C.cost cells.now) stretch.start stretch.count (C.spent cells.now worker.old) (C.spent cells.now worker.new)) }
+    ensures seat { seat.new ≡ seat.old }
+{
     match share.job {
-        Job::Write => fill(cells, table, seat, worker, share, from.start, count, rows),
-        Job::Fold(_, op) => gather_rows(
-            cells, table, seat, worker, share, op, from.start, count, rows,
-        ),
+        Job::Write => fill_part(cells, table, seat, worker, share, stretch, part),
+        Job::Fold(_, op) => {
+            let end = gather_rows(
+                cells,
+                table,
+                seat,
+                worker,
+                share,
+                op,
+                stretch.start,
+                stretch.count,
+                rows,
+            );
+            (part, end)
+        }
     }
 }

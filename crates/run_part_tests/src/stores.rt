@@ -51,7 +51,7 @@ fn lent_buffers_are_held_by_the_table(rt: HostRuntime) -> Result<(), Fail> {
     let mut main = Store::of(Heap::new(alloc));
     let value = place_own(&mut main, counting(alloc, &[2, 5], 10)?)?;
     let mut counts = lent_counts(alloc, &main.own)?;
-    let (table, mut frame) = Phase::open(alloc, &counts, 0)?;
+    let (table, mut frame) = Phase::open_parts(alloc, &counts, Vec::new(alloc))?;
     let seat = table.seat(&mut frame);
     let holds = vec![in alloc; 0; main.own.places()]?;
     let lent = Lent::new(&main.own, &table, seat, holds);

@@ -2,22 +2,23 @@
 use Rattle.std.specs.Prelude.{◌≡◌, ℕ, ◌+◌, ◌-◌, List, [], ◌∷◌, length, slice_index_or, slice_set, Option, cond, nat_eq, map}
 use Rattle.buffer_heap.specs.Heaps.{Held, HeapValue, count_of}
 use Rattle.count_table.specs.Seats.{PhaseId, WorkerState}
+use Rattle.index_cutter.specs.Chunks.{ChunkPart}
 use Rattle.count_table.specs.Views.{times, without}
 
 -- the heap that lends, the seat, and how often it holds the buffer at each place
 pub record LentValue : Type 0 where
   pub heap : HeapValue
-  pub seat : WorkerState (Unit {0})
+  pub seat : WorkerState ChunkPart
   pub holds : List ℕ
 
-abbrev pub lent_value : HeapValue → WorkerState (Unit {0}) → List ℕ → LentValue
+abbrev pub lent_value : HeapValue → WorkerState ChunkPart → List ℕ → LentValue
 lent_value heap seat holds = record { heap = heap; seat = seat; holds = holds }
 
 abbrev pub holds_at : LentValue → ℕ → ℕ
 holds_at l b = slice_index_or l.holds b 0
 
 -- the seat is one of the phase, which has a count for each place, and the holds are the seat's
-pub record IsCounted (heap : HeapValue) (phase : PhaseId (Unit {0})) (seat : WorkerState (Unit {0})) (holds : List ℕ) (all : ℕ) : Type 0 where
+pub record IsCounted (heap : HeapValue) (phase : PhaseId ChunkPart) (seat : WorkerState ChunkPart) (holds : List ℕ) (all : ℕ) : Type 0 where
   pub phase_is : seat.phase ≡ phase
   pub places : phase.buffers ≡ length heap.places
   pub each : length holds ≡ length heap.places
@@ -36,7 +37,7 @@ held_once_less l b =
 -- the heap that lends and the seat as it was when it held nothing
 pub record Lender : Type 0 where
   pub heap : HeapValue
-  pub seat : WorkerState (Unit {0})
+  pub seat : WorkerState ChunkPart
 
 abbrev pub lender_as : LentValue → Lender
 lender_as l = record { heap = l.heap; seat = record l.seat { holds = [] } }

@@ -7,6 +7,7 @@ ghost use Rattle.run_store.specs.Lents.{held_once_more, held_once_less, holds_at
 
 use buffer_heap::{BufferId, Heap};
 use count_table::{Phase, WorkerSeat};
+use index_cutter::ChunkPart;
 use sac_base::{Cell, MOST_REFERENCES, Memory};
 use std::alloc::Global;
 use std::marker::Model;
@@ -34,8 +35,8 @@ pub fn lent_counts(alloc: Global, heap: &Heap) -> Result<Vec<u64>, Memory>
 #[derive(Drop)]
 pub struct Lent<'a> {
     heap: &'a Heap,
-    table: &'a Phase<()>,
-    seat: WorkerSeat<()>,
+    table: &'a Phase<ChunkPart>,
+    seat: WorkerSeat<ChunkPart>,
     // how often the seat holds the buffer at each place, and how many holds it has in all
     holds: Vec<u64>,
     all: u64,
@@ -55,8 +56,8 @@ impl<'a> Lent<'a> {
     /// The buffers of a heap, none of which the seat holds so far.
     pub fn new(
         heap: &'a Heap,
-        table: &'a Phase<()>,
-        seat: WorkerSeat<()>,
+        table: &'a Phase<ChunkPart>,
+        seat: WorkerSeat<ChunkPart>,
         holds: Vec<u64>,
     ) -> Lent<'a>
         requires seat { (seat.phase ≡ table.now) × (seat.holds ≡ []) }
@@ -169,7 +170,7 @@ impl<'a> Lent<'a> {
     }
 
     /// The seat and the list of its holds, of which there are none.
-    pub fn into_parts(self) -> (WorkerSeat<()>, Vec<u64>)
+    pub fn into_parts(self) -> (WorkerSeat<ChunkPart>, Vec<u64>)
         requires { (b : ℕ) → holds_at self b ≡ 0 }
         ensures seat { result.0 ≡ (lender_as self.entry).seat }
         ensures holds { result.1.items ≡ replicate (length self.entry.heap.places) 0 }

@@ -7,6 +7,7 @@ ghost use Rattle.run_store.specs.Stands.{lender_of};
 use crate::lent::Lent;
 use buffer_heap::Heap;
 use count_table::WorkerSeat;
+use index_cutter::ChunkPart;
 
 /// The buffers that a thread works with: those of its own heap and, where it works for another thread, those that are lent
 /// to it.
@@ -37,7 +38,7 @@ impl<'a> Store<'a> {
     }
 
     /// The own heap, and the seat and the list of its holds, which it has given up.
-    pub fn close(self) -> (Heap, WorkerSeat<()>, Vec<u64>)
+    pub fn close(self) -> (Heap, WorkerSeat<ChunkPart>, Vec<u64>)
         requires { (l : Lender) × (lender_of self ≡ Some l) }
         ensures own { result.0 ≡ self.entry.own }
         ensures seat { (l : Lender) → lender_of self.entry ≡ Some l → result.1 ≡ l.seat }
@@ -54,7 +55,7 @@ impl<'a> Store<'a> {
     }
 }
 
-fn close_lent(mut lent: Lent<'_>) -> (WorkerSeat<()>, Vec<u64>)
+fn close_lent(mut lent: Lent<'_>) -> (WorkerSeat<ChunkPart>, Vec<u64>)
     ensures seat { result.0 ≡ (lender_as lent.entry).seat }
     ensures holds { result.1.items ≡ replicate (length lent.entry.heap.places) 0 }
 {

@@ -1,0 +1,50 @@
+-- What workers tell of the chunks that they drew.
+use Rattle.std.specs.Prelude.{◌≡◌, ℕ, ◌+◌, ◌*◌, ◌<◌, ℤ, List, [], ◌∷◌, take, slice_get, All, MatchOption, IsOk, Bool, Option, None, Some}
+use Rattle.index_cutter.specs.Chunks.{ChunkPart}
+use Rattle.sac_base.specs.Verdict.{each}
+use Rattle.sac_base.specs.declared.op.Op.{Op}
+use Rattle.wl_core.specs.declared.setup.Job.{Job}
+use Rattle.wl_core.specs.declared.setup.Job.TheVariants.{Write as Store, Fold}
+use Rattle.wl_core.specs.Machine.{CellValue, combine, both}
+use Rattle.phase_team.specs.declared.share.Share.{Share}
+use Rattle.phase_team.specs.declared.turns.Report.{Report}
+use Rattle.phase_team.specs.Segments.{cost_from, value_if, Same}
+use Rattle.phase_team.specs.Chunks.{cells_of, count_of, partial_of, IsDone, PartFits}
+
+-- each chunk has a position, and its part is as long as its positions ask
+abbrev pub PartsFit : Share → List ChunkPart → Type 0
+PartsFit share parts = (c : ℕ) (part : ChunkPart) → slice_get parts c ≡ Some part → (c * share.size < share.positions) × PartFits share.job (count_of share c * share.width) part
+
+-- a report is one of a chunk that the phase has
+abbrev pub IsReport : (ℕ → CellValue) → Share → List ChunkPart → Report → Type 0
+IsReport cell share parts r = MatchOption (slice_get parts r.chunk) ⊥ (λ part. IsDone share.job share.width (cells_of cell share r.chunk) part r.part r.end)
+
+abbrev pub AreDone : (ℕ → CellValue) → Share → List ChunkPart → List Report → Type 0
+AreDone cell share parts [] = Unit {0}
+AreDone cell share parts (r ∷ rs) = IsReport cell share parts r × AreDone cell share parts rs
+
+-- no cell of these chunks faults, and memory was not wanting
+abbrev pub AllOk : List Report → Type 0
+AllOk [] = Unit {0}
+AllOk (r ∷ rs) = IsOk r.end × AllOk rs
+
+-- what the cells of these chunks cost together
+abbrev pub cost_of : (ℕ → ℕ) → Share → List Report → ℕ
+cost_of cost share [] = 0
+cost_of cost share (r ∷ rs) = cost_from cost (r.chunk * share.size) (count_of share r.chunk) + cost_of cost share rs
+
+abbrev pub CostOf : (ℕ → ℕ → ℕ) → Share → List Report → (ℕ → ℕ) → (ℕ → ℕ) → Type 0
+CostOf cost share rs before after = (kind : ℕ) → Same kind (after kind) (before kind + cost_of (cost kind) share rs)
+
+-- the values of these chunks, combined
+abbrev pub gathered : Op → (ℕ → CellValue) → Share → List Report → Option (List ℤ)
+gathered op cell share [] = None
+gathered op cell share (r ∷ rs) = both (combine op) (partial_of op (each (cells_of cell share r.chunk))) (gathered op cell share rs)
+
+-- the first row of a fold has them
+abbrev pub Combine : Job → (ℕ → CellValue) → Share → List Report → Bool → List ℤ → Type 0
+Combine Store cell share rs held rows = Unit {0}
+Combine (Fold base op) cell share rs held rows = value_if held (take share.width rows) ≡ gathered op cell share rs
+
+abbrev pub AreCombined : (ℕ → CellValue) → Share → List Report → Bool → List ℤ → Type 0
+AreCombined cell share rs held rows = Combine share.job cell share rs held rows
