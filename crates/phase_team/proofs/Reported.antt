@@ -1,9 +1,11 @@
 -- One report more.
-use Rattle.std.proofs.Common.{◌≡◌, ℕ, ◌+◌, ◌*◌, Bool, ℤ, List, [], ◌∷◌, ◌++◌, take, Option, None, Some, refl, sym, ap, ◌∙◌, arith}
-use Rattle.std.specs.Prelude.{IsOk}
+use Rattle.std.proofs.Common.{◌≡◌, ℕ, ◌+◌, ◌*◌, Bool, true, ℤ, List, [], ◌∷◌, ◌++◌, take, Option, None, Some, Result, Ok, Err, IfOk, refl, sym, ap, subst, ◌∙◌, arith}
+use Rattle.std.specs.Prelude.{IsOk, MatchOption, is_ok, slice_get}
 use Rattle.index_cutter.specs.Chunks.{ChunkPart}
 use Rattle.sac_base.specs.Verdict.{each, fold_op}
 use Rattle.sac_base.specs.declared.op.Op.{Op}
+use Rattle.sac_base.specs.declared.stop.Stop.{Stop}
+use Rattle.sac_base.specs.declared.stop.Stop.TheVariants.{Memory}
 use Rattle.wl_core.specs.declared.setup.Job.{Job}
 use Rattle.wl_core.specs.declared.setup.Job.TheVariants.{Write as Store, Fold}
 use Rattle.wl_core.specs.Combining.{IsFoldable}
@@ -11,8 +13,8 @@ use Rattle.wl_core.specs.Machine.{CellValue, TakesBase, combine, both}
 use Rattle.wl_core.proofs.FoldLaws.{foldable, elementwise-foldable}
 use Rattle.phase_team.specs.declared.share.Share.{Share}
 use Rattle.phase_team.specs.declared.turns.Report.{Report}
-use Rattle.phase_team.specs.Chunks.{cells_of, count_of, partial_of, IsMore}
-use Rattle.phase_team.specs.Reports.{AllOk, AreDone, Combine, CostOf, IsReport, cost_of, gathered}
+use Rattle.phase_team.specs.Chunks.{cells_of, count_of, partial_of, IsDone, IsMore, PartFits}
+use Rattle.phase_team.specs.Reports.{AllOk, AreCombined, AreDone, Combine, CostOf, IsReport, cost_of, gathered}
 use Rattle.phase_team.specs.Segments.{cost_from, value_if, Costs, Same}
 use Rattle.phase_team.proofs.Sequences.{both-none, same_of, same_sum, same_then}
 
@@ -63,3 +65,54 @@ combine_push Store takes cell share rs r held more before after sofar next = tt
 combine_push (Fold base op) takes cell share rs r held more before after sofar next =
     let laws = elementwise-foldable (fold_op op) (foldable base op takes) in
     next ∙ ap (λ (o : Option (List ℤ)). both (combine op) o (partial_of op (each (cells_of cell share r.chunk)))) sofar ∙ sym (gathered_push op laws cell share rs r)
+
+-- ---- one chunk's report
+
+pub report_is : (cell : ℕ → CellValue) (share : Share) (parts : List ChunkPart) (r : Report) (chunk : ℕ) (part : ChunkPart) → r.chunk ≡ chunk → slice_get parts chunk ≡ Some part
+    → IsDone share.job share.width (cells_of cell share chunk) part r.part r.end → IsReport cell share parts r
+report_is cell share parts r chunk part own at done =
+    let there : slice_get parts r.chunk ≡ Some part = ap (slice_get parts) own ∙ at in
+    subst (λ (o : Option ChunkPart). MatchOption o ⊥ (λ p. IsDone share.job share.width (cells_of cell share r.chunk) p r.part r.end)) (sym there)
+    (subst (λ (n : ℕ). IsDone share.job share.width (cells_of cell share n) part r.part r.end) (sym own) done)
+
+-- a part that was handed back as it was
+kept_part : (job : Job) (width n : ℕ) (cells : List CellValue) (part : ChunkPart) → PartFits job n part → IsDone job width cells part part (Err Memory)
+kept_part Store width n cells None fits = absurd fits
+kept_part Store width n cells (Some p) fits = ((refl, refl), tt)
+kept_part (Fold base op) width n cells None fits = tt
+kept_part (Fold base op) width n cells (Some p) fits = absurd fits
+
+pub handed_report : (cell : ℕ → CellValue) (share : Share) (parts : List ChunkPart) (r : Report) (chunk n : ℕ) (part : ChunkPart) → r.chunk ≡ chunk → r.part ≡ part → r.end ≡ Err Memory → slice_get parts chunk ≡ Some part
+    → PartFits share.job n part → IsReport cell share parts r
+handed_report cell share parts r chunk n part own same end at fits =
+    report_is cell share parts r chunk part own at
+    (subst (λ (p : ChunkPart). IsDone share.job share.width (cells_of cell share chunk) part p r.end) (sym same)
+    (subst (λ (e : Result Bool Stop). IsDone share.job share.width (cells_of cell share chunk) part part e) (sym end) (kept_part share.job share.width n (cells_of cell share chunk) part fits)))
+
+-- ---- ends
+
+err_not_ok : (r : Result Bool Stop) → IsOk r → (stop : Stop) → r ≡ Err stop → ⊥
+err_not_ok r is stop e = let no : IsOk {T = Bool} {E = Stop} (Err stop) = subst (λ (s : Result Bool Stop). IsOk s) e is in absurd (cc)
+
+of_ok : (r : Result Bool Stop) (P : Type 0) → IsOk r → IfOk r (λ held. P) → P
+of_ok (Ok held) P is h = h
+of_ok (Err stop) P is h = absurd (err_not_ok (Err stop) is stop refl)
+
+pub is_ok_true : (r : Result Bool Stop) → IsOk r → is_ok r ≡ true
+is_ok_true (Ok held) is = refl
+is_ok_true (Err stop) is = absurd (err_not_ok (Err stop) is stop refl)
+
+pub not_ok : (r : Result Bool Stop) → r ≡ Err Memory → IsOk r → ⊥
+not_ok r e is = err_not_ok r is Memory e
+
+pub costs_if : (cost : ℕ → ℕ → ℕ) (share : Share) (rs : List Report) (r : Report) (chunk : ℕ) (a b c : ℕ → ℕ) → r.chunk ≡ chunk → IsOk r.end → CostOf cost share rs a b
+    → IfOk r.end (λ held. Costs cost (chunk * share.size) (count_of share chunk) b c) → CostOf cost share (rs ++ r ∷ []) a c
+costs_if cost share rs r chunk a b c own is before next =
+    costs_push cost share rs r a b c before
+    (subst (λ (n : ℕ). Costs cost (n * share.size) (count_of share n) b c) (sym own) (of_ok r.end (Costs cost (chunk * share.size) (count_of share chunk) b c) is next))
+
+pub combined_if : (cell : ℕ → CellValue) (share : Share) → TakesBase share.job → (rs : List Report) (r : Report) (chunk : ℕ) (held more : Bool) (before after : List ℤ) → r.chunk ≡ chunk → IsOk r.end
+    → AreCombined cell share rs held before → IfOk r.end (λ h. IsMore share.job share.width (cells_of cell share chunk) held before more after) → AreCombined cell share (rs ++ r ∷ []) more after
+combined_if cell share base rs r chunk held more before after own is sofar next =
+    combine_push share.job base cell share rs r held more before after sofar
+    (subst (λ (n : ℕ). IsMore share.job share.width (cells_of cell share n) held before more after) (sym own) (of_ok r.end (IsMore share.job share.width (cells_of cell share chunk) held before more after) is next))
