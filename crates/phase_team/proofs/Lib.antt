@@ -7,3 +7,4 @@ pub mod Ramps
 pub mod Stored
 pub mod Bounds
 pub mod Reported
+pub mod Settling

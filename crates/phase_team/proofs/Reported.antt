@@ -116,3 +116,37 @@ pub combined_if : (cell : ℕ → CellValue) (share : Share) → TakesBase share
 combined_if cell share base rs r chunk held more before after own is sofar next =
     combine_push share.job base cell share rs r held more before after sofar
     (subst (λ (n : ℕ). IsMore share.job share.width (cells_of cell share n) held before more after) (sym own) (of_ok r.end (IsMore share.job share.width (cells_of cell share chunk) held before more after) is next))
+
+-- ---- the reports of two sides
+
+pub done_both : (cell : ℕ → CellValue) (share : Share) (parts : List ChunkPart) (rs qs : List Report) → AreDone cell share parts rs → AreDone cell share parts qs → AreDone cell share parts (rs ++ qs)
+done_both cell share parts [] qs all others = others
+done_both cell share parts (r ∷ rs) qs all others = (all.0, done_both cell share parts rs qs all.1 others)
+
+pub ok_both : (rs qs : List Report) → AllOk (rs ++ qs) → AllOk rs × AllOk qs
+ok_both [] qs all = (tt, all)
+ok_both (r ∷ rs) qs all = let rest = ok_both rs qs all.1 in ((all.0, rest.0), rest.1)
+
+cost_both : (cost : ℕ → ℕ) (share : Share) (rs qs : List Report) → cost_of cost share (rs ++ qs) ≡ cost_of cost share rs + cost_of cost share qs
+cost_both cost share [] qs = let n : ℕ = cost_of cost share qs in let e : n ≡ 0 + n = omega arith in e
+cost_both cost share (r ∷ rs) qs = let ih = cost_both cost share rs qs in omega arith
+
+-- a context that began with nothing was handed back, behind what others have counted
+pub costs_both : (cost : ℕ → ℕ → ℕ) (share : Share) (rs qs : List Report) (h h' k w w' : ℕ → ℕ) → CostOf cost share rs h h' → CostOf cost share qs w w' → ((kind : ℕ) → w kind ≡ 0)
+    → ((kind : ℕ) → Same kind (k kind) (h' kind + w' kind)) → CostOf cost share (rs ++ qs) h k
+costs_both cost share rs qs h h' k w w' others mine none back kind =
+    let a : ℕ = cost_of (cost kind) share rs in
+    let b : ℕ = cost_of (cost kind) share qs in
+    let z = none kind in
+    let both = cost_both (cost kind) share rs qs in
+    let s : Same kind (h' kind + w' kind) ((h kind + a) + (w kind + b)) = same_sum kind (h' kind) (h kind + a) (w' kind) (w kind + b) (others kind) (mine kind) in
+    let e : (h kind + a) + (w kind + b) ≡ h kind + cost_of (cost kind) share (rs ++ qs) = omega arith in
+    same_then kind (k kind) (h' kind + w' kind) (h kind + cost_of (cost kind) share (rs ++ qs)) (back kind)
+    (same_then kind (h' kind + w' kind) ((h kind + a) + (w kind + b)) (h kind + cost_of (cost kind) share (rs ++ qs)) s (same_of kind ((h kind + a) + (w kind + b)) (h kind + cost_of (cost kind) share (rs ++ qs)) e))
+
+pub gathered_both : (op : Op) → IsFoldable (combine op) → (cell : ℕ → CellValue) (share : Share) (rs qs : List Report) → gathered op cell share (rs ++ qs) ≡ both (combine op) (gathered op cell share rs) (gathered op cell share qs)
+gathered_both op laws cell share [] qs = refl
+gathered_both op laws cell share (r ∷ rs) qs =
+    let first = partial_of op (each (cells_of cell share r.chunk)) in
+    ap (λ (o : Option (List ℤ)). both (combine op) first o) (gathered_both op laws cell share rs qs)
+    ∙ sym (both-assoc (combine op) laws first (gathered op cell share rs) (gathered op cell share qs))

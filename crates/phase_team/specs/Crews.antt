@@ -1,5 +1,5 @@
 -- What the workers of a phase begin with, and what they leave.
-use Rattle.std.specs.Prelude.{◌≡◌, ℕ, ◌+◌, ◌<◌, ◌≤◌, Bool, List, [], Option, None, Some, Ok}
+use Rattle.std.specs.Prelude.{◌≡◌, ℕ, ◌+◌, ◌-◌, ◌<◌, ◌≤◌, Bool, List, [], Option, None, Some, Ok}
 use Rattle.count_table.specs.Seats.{PhaseId, WorkerState, FrameState}
 use Rattle.index_cutter.specs.Chunks.{ChunkPart}
 use Rattle.wl_core.specs.Machine.{CellValue, IsFold, TakesBase}
@@ -34,6 +34,21 @@ IsGoing over (Some seat) = seat.ended ≡ over
 abbrev pub drawn_by : Option (WorkerState ChunkPart) → List ℕ
 drawn_by None = []
 drawn_by (Some seat) = seat.drawn
+
+-- a seat came back that had drawn until no chunk was left
+pub record IsSettled (before after : FrameState ChunkPart) : Type 0 where
+  pub phase : after.phase ≡ before.phase
+  pub opening : after.opening ≡ before.opening
+  pub made : after.made ≡ before.made
+  pub out : after.out ≡ before.out - 1
+  pub ended : after.nones ≡ before.nones + 1
+
+-- every seat that was made has come back, and one at least had drawn until no chunk was left
+pub record IsRun (before after : FrameState ChunkPart) : Type 0 where
+  pub phase : after.phase ≡ before.phase
+  pub opening : after.opening ≡ before.opening
+  pub out : after.out ≡ before.out
+  pub ended : before.nones < after.nones
 
 -- every seat has come back, and none has drawn a chunk
 pub record IsBack (before after : FrameState ChunkPart) : Type 0 where

@@ -1,6 +1,9 @@
 -- What workers tell of the chunks that they drew.
-use Rattle.std.specs.Prelude.{◌≡◌, ℕ, ◌+◌, ◌*◌, ◌<◌, ℤ, List, [], ◌∷◌, take, slice_get, All, MatchOption, IsOk, Bool, Option, None, Some}
+use Rattle.std.specs.Prelude.{◌≡◌, ℕ, ◌+◌, ◌*◌, ◌<◌, ◌≤◌, ◌++◌, ℤ, List, [], ◌∷◌, map, Vec, vec_capacity, Result, IfOk, take, slice_get, All, MatchOption, IsOk, Bool, Option, None, Some}
+use Rattle.std.specs.Global.{Global}
+use Rattle.count_table.specs.Seats.{FrameState}
 use Rattle.index_cutter.specs.Chunks.{ChunkPart}
+use Rattle.sac_base.specs.declared.memory.Memory.{Memory}
 use Rattle.sac_base.specs.Verdict.{each}
 use Rattle.sac_base.specs.declared.op.Op.{Op}
 use Rattle.wl_core.specs.declared.setup.Job.{Job}
@@ -48,3 +51,23 @@ Combine (Fold base op) cell share rs held rows = value_if held (take share.width
 
 abbrev pub AreCombined : (ℕ → CellValue) → Share → List Report → Bool → List ℤ → Type 0
 AreCombined cell share rs held rows = Combine share.job cell share rs held rows
+
+-- the reports are those of the chunks that the seats had drawn which came back
+abbrev pub AreFrames : List Report → FrameState ChunkPart → Type 0
+AreFrames rs frame = map (λ (r : Report). r.chunk) rs ≡ map (λ (p : ℕ × ℕ). p.0) frame.drawn
+
+-- lists for reports, each empty and with room for so many
+abbrev pub AreRooms : ℕ → List (Vec Report Global) → Type 0
+AreRooms n [] = Unit {0}
+AreRooms n (v ∷ vs) = (v.items ≡ []) × (n ≤ vec_capacity v) × AreRooms n vs
+
+-- so many workers have three rows each
+abbrev pub HasRowsFor : Job → ℕ → ℕ → ℕ → Type 0
+HasRowsFor Store width workers len = Unit {0}
+HasRowsFor (Fold base op) width workers len = len ≡ workers * (width + (width + width))
+
+-- More reports came behind those that were there. Where none of them stopped, this is what their cells cost, and the first row of a fold has their values
+-- combined
+abbrev pub Grew : (ℕ → CellValue) → (ℕ → ℕ → ℕ) → Share → List Report → List Report → (ℕ → ℕ) → (ℕ → ℕ) → List ℤ → Result Bool Memory → Type 0
+Grew cell cost share old new before after rows result =
+    (more : List Report) × (new ≡ old ++ more) × IfOk result (λ held. AllOk more → CostOf cost share more before after × AreCombined cell share more held rows)

@@ -11,6 +11,7 @@ mod draws;
 mod gates;
 mod law;
 // mod phases;
+mod settles;
 mod share;
 mod turns;
 mod worker;

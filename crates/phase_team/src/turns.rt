@@ -1,5 +1,5 @@
 // One worker, which draws chunks until none is left.
-ghost use Rattle.std.specs.Prelude.{◌≡◌, ℕ, ◌+◌, ◌-◌, ◌*◌, ◌<◌, ◌≤◌, [], ◌∷◌, ◌++◌, min, map, length, take, slice_get, All, IfOk, IsOk, false, true, Some, Err, vec_capacity};
+ghost use Rattle.std.specs.Prelude.{◌≡◌, ℕ, ◌+◌, ◌-◌, ◌*◌, ◌<◌, ◌≤◌, [], ◌∷◌, ◌++◌, min, map, length, take, slice_get, All, IfOk, IsOk, false, true, Some, Err, vec_capacity, vec_len};
 ghost use Rattle.sac_base.specs.declared.stop.Stop.TheVariants.{Memory};
 ghost use Rattle.phase_team.specs.Segments.{Costs};
 ghost use Rattle.phase_team.specs.Chunks.{cells_of, count_of, HasThreeRows, IsDone, IsMore, PartFits};
@@ -115,5 +115,16 @@ fn handed_back(drawn: Drawn) -> Report
         chunk,
         part,
         end: Err(Stop::Memory),
+    }
+}
+
+/// Puts a worker's reports behind those that are there.
+pub(crate) fn gather_reports(reports: &mut Vec<Report>, mine: Vec<Report>)
+    requires { vec_len reports.old + length mine.items ≤ vec_capacity reports.old }
+    ensures items { reports.new.items ≡ reports.old.items ++ mine.items }
+    ensures capacity { vec_capacity reports.new ≡ vec_capacity reports.old }
+{
+    for report in mine {
+        reports.push_reserved(report);
     }
 }
