@@ -1,21 +1,11 @@
 -- A seat that came back to the frame's.
-use Rattle.std.proofs.Common.{◌≡◌, ℕ, ◌+◌, ◌-◌, Bool, true, cond, List, ◌++◌, map, Option, None, Some, refl, sym, ap, ◌∙◌}
+use Rattle.std.proofs.Common.{◌≡◌, ℕ, List, ◌++◌, map, sym, ap, ◌∙◌}
 use Rattle.std.proofs.lemmas.List.{map-append}
 use Rattle.count_table.specs.Seats.{WorkerState, FrameState, left}
 use Rattle.count_table.proofs.Totals.{firsts}
 use Rattle.index_cutter.specs.Chunks.{ChunkPart}
-use Rattle.phase_team.specs.Crews.{IsSettled}
 use Rattle.phase_team.specs.Reports.{AreFrames}
 use Rattle.phase_team.specs.declared.turns.Report.{Report}
-
-pub settled : (before after : FrameState ChunkPart) (w : WorkerState ChunkPart) → after ≡ left before w → w.ended ≡ true → IsSettled before after
-settled before after w is over = record {
-  phase = ap (λ (f : FrameState ChunkPart). f.phase) is;
-  opening = ap (λ (f : FrameState ChunkPart). f.opening) is;
-  made = ap (λ (f : FrameState ChunkPart). f.made) is;
-  out = ap (λ (f : FrameState ChunkPart). f.out) is;
-  ended = ap (λ (f : FrameState ChunkPart). f.nones) is ∙ ap (λ (b : Bool). before.nones + cond {A = ℕ} b 1 0) over;
-}
 
 pub frames : (before after : FrameState ChunkPart) (w : WorkerState ChunkPart) (rs mine all : List Report) → after ≡ left before w → map (λ (r : Report). r.chunk) mine ≡ w.drawn → AreFrames rs before → all ≡ rs ++ mine
     → AreFrames all after
