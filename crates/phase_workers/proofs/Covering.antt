@@ -59,6 +59,10 @@ module _ (calls : CallMeaning) (turns : ℕ) (ρ : Env) (form : ArrayValue) (v :
 
 -- ---- cells that must be there
 
+-- a cell that is there stays
+pub some_there : (r : CellValue) (es : List ℤ) → r ≡ Ok (Some es) → must_be_there r ≡ Ok (Some es)
+some_there r es is = ap must_be_there is
+
 pub never_none : (r : CellValue) → must_be_there r ≡ Ok None → ⊥
 never_none (Ok None) e = err_not_ok no_cell None e
 never_none (Ok (Some es)) e = some_not_none es e

@@ -1,7 +1,7 @@
 -- The cells of a parted loop may be shared among threads.
 use denote.Hole.{as_row}
 use denote.Ref.{NamedLft}
-use denote.Param.Send.{IsSync, shr_sync, shr_slice_sync}
+use denote.Param.Send.{IsSync, shr_sync, shr_slice_sync, sendable}
 use denote.Param.SendFields.{as_row_sync, declared_sync}
 use denote.Struct.Field.{shr_ref_field, shr_slice_field}
 use Rattle.buffer_heap.specs.contracts.heap.Heap as heap
@@ -15,11 +15,13 @@ use Rattle.sac_base.proofs.form.Form.TheSendSync as form_shared
 use Rattle.array_with_loops.specs.contracts.frames.Frame as frame
 use Rattle.array_with_loops.proofs.frames.Frame.TheSendSync as frame_shared
 use Rattle.phase_loop_cells.specs.contracts.parts.PartCells as cells
+use Rattle.phase_kernels.specs.contracts.parts.KernelParts as kernels
+use Rattle.core_ir.specs.contracts.tree.Var as var
 use Rattle.phase_workers.specs.contracts.covered.CoveredCells as covered
 use Rattle.phase_workers.proofs.Shared.{context_sync}
 
 module _ (code_sync : IsSync code.the_row) (part_sync : IsSync part.the_row) where
-  pub cells_sync : (κ : NamedLft) → IsSync (as_row (cells.the_field κ))
+  cells_sync : (κ : NamedLft) → IsSync (as_row (cells.the_field κ))
   cells_sync κ = declared_sync (cells.the_type κ) (
     context_sync code_sync κ,
     (
@@ -37,5 +39,11 @@ module _ (code_sync : IsSync code.the_row) (part_sync : IsSync part.the_row) whe
     ),
   )
 
+  pub kernels_sync : (κ : NamedLft) → IsSync (as_row (kernels.the_field κ))
+  kernels_sync κ = declared_sync (kernels.the_type κ) (
+    cells_sync κ,
+    (as_row_sync (shr_slice_field κ var.the_row tt) (shr_slice_sync _ _ var.the_row (search (sendable))), tt),
+  )
+
   pub covered_sync : (κ : NamedLft) → IsSync (covered.the_row κ)
-  covered_sync κ = declared_sync (covered.the_type κ) (cells_sync κ, tt)
+  covered_sync κ = declared_sync (covered.the_type κ) (kernels_sync κ, tt)

@@ -1,8 +1,10 @@
 //! Parted loops in which each position has a cell.
 
-ghost use Rattle.std.specs.Prelude.{◌≡◌, ℕ, ℤ, List, IfOk, IsTrue, is_some, length, true};
+ghost use Rattle.std.specs.Prelude.{◌≡◌, ℕ, ℤ, List, IfOk, IfSome, IsTrue, is_some, length, map, true};
+ghost use Rattle.kernel_rows.specs.Kernels.{AreCellKernels};
+ghost use Rattle.phase_kernels.specs.Bodies.{AreRanges, part_body};
 ghost use Rattle.phase_loop_cells.specs.Cells.{parts_cell, parts_taken};
-ghost use Rattle.phase_loop_cells.specs.Opened.{OpenParts};
+ghost use Rattle.phase_loop_cells.specs.Opened.{OpenParts, lent_env};
 ghost use Rattle.phase_workers.specs.Covered.{AreCovered, EndsIf, must_be_there};
 ghost use Rattle.run_eval.specs.Loops.{part_held};
 ghost use Rattle.run_values.specs.Scopes.{current};
@@ -14,7 +16,7 @@ use array_with_loops::{Frame, IndexVector};
 use buffer_heap::Heap;
 use counted_code::CodePart;
 use phase_cells::CellRuns;
-use phase_loop_cells::{CellScratch, PartCells};
+use phase_kernels::{KernelParts, KernelScratch};
 use phase_team::CellEnd;
 use run_store::Store;
 use sac_base::{Cell, Memory, Stop};
@@ -22,38 +24,63 @@ use std::alloc::Global;
 
 /// The cells of a parted loop, where a position without one counts as want of memory.
 pub struct CoveredCells<'a> {
-    pub cells: PartCells<'a>,
+    pub cells: KernelParts<'a>,
 }
 
 impl<'a> CellRuns for CoveredCells<'a> {
-    type Scratch = CellScratch;
+    type Scratch = KernelScratch<'a>;
 
     ghost cell = { λ s p. must_be_there
-        (parts_cell s.cells.context s.cells.heap.now (current s.cells.frames.now) s.cells.parts.now s.cells.form.now s.cells.frame.now p) };
+        (parts_cell s.cells.cells.context s.cells.cells.heap.now (current s.cells.cells.frames.now) s.cells.cells.parts.now s.cells.cells.form.now
+        s.cells.cells.frame.now p) };
 
-    ghost takes = { λ s p. parts_taken s.cells.context s.cells.heap.now (current s.cells.frames.now) s.cells.parts.now s.cells.frame.now p };
+    ghost takes = { λ s p. parts_taken s.cells.cells.context s.cells.cells.heap.now (current s.cells.cells.frames.now) s.cells.cells.parts.now
+        s.cells.cells.frame.now p };
 
-    ghost positions = { λ s. length s.cells.frame.now };
+    ghost positions = { λ s. length s.cells.cells.frame.now };
 
-    ghost width = { λ s. size s.cells.form.now.shape };
+    ghost width = { λ s. size s.cells.cells.form.now.shape };
 
-    ghost lends = { λ s. s.cells.heap.now };
+    ghost lends = { λ s. s.cells.cells.heap.now };
 
-    ghost opens = { λ s k. OpenParts s.cells.context s.cells.heap.now (current s.cells.frames.now) s.cells.parts.now k };
+    ghost opens = { λ s k. OpenParts s.cells.cells.context s.cells.cells.heap.now (current s.cells.cells.frames.now) s.cells.cells.parts.now k };
 
-    ghost ready = { λ s scratch. current scratch.frames ≡ current s.cells.frames.now };
+    ghost ready = { λ s scratch. IfSome scratch.cells (λ cells. current cells.frames ≡ current s.cells.cells.frames.now)
+        × AreRanges scratch.ranges.items s.cells.cells.parts.now
+        × AreCellKernels scratch.buffers.items (lent_env s.cells.cells.heap.now (current s.cells.cells.frames.now)) s.cells.cells.form.now
+        (map part_body s.cells.cells.parts.now) scratch.kernels.items };
 
     fn heap(&self) -> &Heap {
         self.cells.heap()
     }
 
-    fn begin(&self) -> Result<CellScratch, Memory> {
+    fn begin(&self) -> Result<KernelScratch<'a>, Memory> {
         self.cells.begin()
+    }
+
+    fn run_alone(
+        &self,
+        scratch: &mut KernelScratch<'a>,
+        position: usize,
+        into: &mut [Cell],
+    ) -> Option<CellEnd> {
+        let end = self.cells.run_alone(scratch, position, into)?;
+        Some(covered(end))
+    }
+
+    fn run_together(
+        &self,
+        scratch: &mut KernelScratch<'a>,
+        start: usize,
+        count: usize,
+        rows: &mut [Cell],
+    ) -> usize {
+        self.cells.run_together(scratch, start, count, rows)
     }
 
     fn run(
         &self,
-        scratch: &mut CellScratch,
+        scratch: &mut KernelScratch<'a>,
         store: &mut Store<'_>,
         position: usize,
         into: &mut [Cell],

@@ -28,6 +28,7 @@ use buffer_heap::Heap;
 use core_ir::Var;
 use counted_code::{Code, CodePart};
 use phase_checks::parts_are_counted;
+use phase_kernels::KernelParts;
 use phase_loop_cells::PartCells;
 use phase_team::Gate;
 use run_eval::{CellLoop, CellSource, Context, LoopResult, State, run_in_order};
@@ -189,50 +190,57 @@ fn fold_part_cells<G: Gate, R: Threads + Sync>(
     if count > MOST {
         return Err(Stop::Memory);
     }
-    let cells = PartCells {
-        context: *context,
-        heap,
-        frames,
-        parts,
-        form,
-        frame,
+    let cells = KernelParts {
+        cells: PartCells {
+            context: *context,
+            heap,
+            frames,
+            parts,
+            form,
+            frame,
+        },
+        live,
     };
     let end = each_part_fold(workers, &cells, count, op, value, books);
-    let PartCells {
-        context: _,
-        heap: _,
-        frames: _,
-        parts: _,
-        form: _,
-        frame: _,
+    let KernelParts {
+        cells: PartCells {
+            context: _,
+            heap: _,
+            frames: _,
+            parts: _,
+            form: _,
+            frame: _,
+        },
+        live: _,
     } = cells;
     end
 }
 
 fn each_part_fold<G: Gate, R: Threads + Sync>(
     workers: &Workers<'_, G, R>,
-    cells: &PartCells<'_>,
+    cells: &KernelParts<'_>,
     count: usize,
     op: Op,
     value: &mut [Cell],
     books: &mut Books,
 ) -> Result<(), Stop>
-    requires positions { (count ≤ 16777216) × (count ≡ length cells.now.frame.now) }
-    requires op { IsTrue (folds_value cells.now.form.now.base op) }
-    requires lending { IsLending (OpenParts cells.now.context cells.now.heap.now (current cells.now.frames.now) cells.now.parts.now) cells.now.heap.now }
-    requires width { length value.old ≡ size cells.now.form.now.shape }
-    requires home { books.old.home ≡ new_behind cells.now.heap.now }
+    requires positions { (count ≤ 16777216) × (count ≡ length cells.now.cells.frame.now) }
+    requires op { IsTrue (folds_value cells.now.cells.form.now.base op) }
+    requires lending { IsLending (OpenParts cells.now.cells.context cells.now.cells.heap.now
+        (current cells.now.cells.frames.now) cells.now.cells.parts.now) cells.now.cells.heap.now }
+    requires width { length value.old ≡ size cells.now.cells.form.now.shape }
+    requires home { books.old.home ≡ new_behind cells.now.cells.heap.now }
     ensures booked { IsBooked books.old books.new result }
     ensures combined { CombinesAll op
-        (cells_from (parts_cell cells.now.context cells.now.heap.now
-        (current cells.now.frames.now) cells.now.parts.now cells.now.form.now cells.now.frame.now) 0 count) cells.now.heap.now
-        (cost_from (parts_taken cells.now.context cells.now.heap.now
-        (current cells.now.frames.now) cells.now.parts.now cells.now.frame.now) 0 count) value.old value.new (left_in books.new.home result) }
+        (cells_from (parts_cell cells.now.cells.context cells.now.cells.heap.now
+        (current cells.now.cells.frames.now) cells.now.cells.parts.now cells.now.cells.form.now cells.now.cells.frame.now) 0 count) cells.now.cells.heap.now
+        (cost_from (parts_taken cells.now.cells.context cells.now.cells.heap.now
+        (current cells.now.cells.frames.now) cells.now.cells.parts.now cells.now.cells.frame.now) 0 count) value.old value.new (left_in books.new.home result) }
 {
     shares::<CodePart>();
     shares::<Code>();
-    let alloc = cells.context.alloc;
-    let base = cells.form.base;
+    let alloc = cells.cells.context.alloc;
+    let base = cells.cells.form.base;
     compute_fold(workers, alloc, cells, count, base, op, value, books)
 }
 

@@ -27,6 +27,7 @@ use buffer_heap::Heap;
 use core_ir::Var;
 use counted_code::{Code, CodePart};
 use phase_checks::parts_are_counted;
+use phase_kernels::KernelParts;
 use phase_loop_cells::PartCells;
 use phase_team::Gate;
 use run_eval::{CellLoop, CellSource, Context, LoopResult, State, run_in_order};
@@ -169,24 +170,30 @@ fn part_cells<G: Gate, R: Threads + Sync>(
         return Err(Stop::Memory);
     }
     let covered = CoveredCells {
-        cells: PartCells {
-            context: *context,
-            heap,
-            frames,
-            parts,
-            form,
-            frame,
+        cells: KernelParts {
+            cells: PartCells {
+                context: *context,
+                heap,
+                frames,
+                parts,
+                form,
+                frame,
+            },
+            live,
         },
     };
     let end = each_cell(workers, &covered, count, width, cells, books);
     let CoveredCells {
-        cells: PartCells {
-            context: _,
-            heap: _,
-            frames: _,
-            parts: _,
-            form: _,
-            frame: _,
+        cells: KernelParts {
+            cells: PartCells {
+                context: _,
+                heap: _,
+                frames: _,
+                parts: _,
+                form: _,
+                frame: _,
+            },
+            live: _,
         },
     } = covered;
     believed(end, context.alloc, parts, frame)
@@ -200,26 +207,28 @@ fn each_cell<G: Gate, R: Threads + Sync>(
     into: &mut [Cell],
     books: &mut Books,
 ) -> Result<(), Stop>
-    requires positions { (count ≤ 16777216) × (count ≡ length covered.now.cells.frame.now) × (width ≡ size covered.now.cells.form.now.shape) }
-    requires lending { IsLending (OpenParts covered.now.cells.context covered.now.cells.heap.now
-        (current covered.now.cells.frames.now) covered.now.cells.parts.now) covered.now.cells.heap.now }
+    requires positions { (count ≤ 16777216) × (count ≡ length covered.now.cells.cells.frame.now)
+        × (width ≡ size covered.now.cells.cells.form.now.shape) }
+    requires lending { IsLending (OpenParts covered.now.cells.cells.context covered.now.cells.cells.heap.now
+        (current covered.now.cells.cells.frames.now) covered.now.cells.cells.parts.now) covered.now.cells.cells.heap.now }
     requires room { length into.old ≡ count * width }
-    requires home { books.old.home ≡ new_behind covered.now.cells.heap.now }
+    requires home { books.old.home ≡ new_behind covered.now.cells.cells.heap.now }
     ensures booked { IsBooked books.old books.new result }
     ensures computed { ComputesAll
         (cells_from (λ p. must_be_there
-        (parts_cell covered.now.cells.context covered.now.cells.heap.now
-        (current covered.now.cells.frames.now) covered.now.cells.parts.now covered.now.cells.form.now covered.now.cells.frame.now p)) 0 count)
-        covered.now.cells.heap.now
-        (cost_from (parts_taken covered.now.cells.context covered.now.cells.heap.now
-        (current covered.now.cells.frames.now) covered.now.cells.parts.now covered.now.cells.frame.now) 0 count)
+        (parts_cell covered.now.cells.cells.context covered.now.cells.cells.heap.now
+        (current covered.now.cells.cells.frames.now) covered.now.cells.cells.parts.now covered.now.cells.cells.form.now
+        covered.now.cells.cells.frame.now p)) 0 count)
+        covered.now.cells.cells.heap.now
+        (cost_from (parts_taken covered.now.cells.cells.context covered.now.cells.cells.heap.now
+        (current covered.now.cells.cells.frames.now) covered.now.cells.cells.parts.now covered.now.cells.cells.frame.now) 0 count)
         into.new (left_in books.new.home result) }
 {
     shares::<CodePart>();
     shares::<Code>();
     compute_array(
         workers,
-        covered.cells.context.alloc,
+        covered.cells.cells.context.alloc,
         covered,
         count,
         width,
