@@ -1,6 +1,6 @@
 -- Pairs of parted loops that can be folded, and loops that can be merged with the ones in their cells.
 use Rattle.std.specs.Prelude.{◌≡◌, ◌⊎◌, ℕ, suc, ◌+◌, ◌*◌, ◌&&◌, ◌^◌, ◌<◌, ◌≤◌, max, true, false, Bool, cond, eqb, List, [], ◌∷◌, ◌++◌, map, length}
-use Rattle.std.specs.Prelude.{All, ℤ, pos, Option, Some}
+use Rattle.std.specs.Prelude.{All, ℤ, pos, ◌-ℤ◌, Option, Some}
 use Rattle.std.specs.List.{list_all}
 use Rattle.sac_base.specs.declared.base.Base.{Base}
 use Rattle.sac_base.specs.declared.grid.Grid1.{Grid1}
@@ -15,10 +15,11 @@ use Rattle.core_ir.specs.Uses.{AvoidsAll, Avoids, AvoidsRight}
 use Rattle.core_ir.specs.Counts.{bindings}
 use Rattle.core_ir.specs.Meaning.{extents}
 use Rattle.core_facts.specs.Facts.{Facts, Fact, note_all, right_facts, block_facts, in_part}
-use Rattle.generator_sets.specs.Pieces.{moved, in_box}
+use Rattle.generator_sets.specs.Pieces.{moved}
 use Rattle.generator_sets.specs.Counts.{IsCanonicalCount}
 use Rattle.core_loops.specs.Indices.{IndexFacts, own_index, note_others, learn_index, offset_of, is_scalar_shape, total_block, total_right}
-use Rattle.core_loops.specs.Loops.{binders, FEW, weight, parted_in}
+use Rattle.sac_base.specs.WithLoops.{Range}
+use Rattle.core_loops.specs.Loops.{binders, FEW, grid_range, weight, parted_in}
 
 -- ---- selections from a producer
 
@@ -93,20 +94,18 @@ grids_of (Part h b rest) = h.grid ∷ grids_of rest
 
 -- ---- the consumer
 
--- the grid moved by minus c: its vectors are those that c moves into the grid
-abbrev pub IsMovedBack : List ℤ → List Grid1 → List Grid1 → Type 0
-IsMovedBack c g h = (v : List ℤ) → has_vector h v ≡ has_vector g (moved v c)
+-- The grid moved by minus c, and the box of a grid, axis by axis: a canonical count depends on bounds and steps, and not on the members alone.
+abbrev pub moved_back : List ℤ → List Grid1 → List Grid1
+moved_back (c ∷ cs) (g ∷ gs) = record g { lo = g.lo -ℤ c; hi = g.hi -ℤ c } ∷ moved_back cs gs
+moved_back _ gs = gs
 
-abbrev pub AreMovedBack : List ℤ → List (List Grid1) → List (List Grid1) → Type 0
-AreMovedBack c [] [] = Unit {0}
-AreMovedBack c (g ∷ gs) (h ∷ hs) = IsMovedBack c g h × AreMovedBack c gs hs
-AreMovedBack c _ _ = ⊥
+abbrev pub box_range : List Grid1 → Range
+box_range grid = map (λ (g : Grid1). record { lower = g.lo; upper = g.hi; step = pos 1; width = pos 1 }) grid
 
 -- the moved grids of each offset, one list after another
-abbrev pub MovedGrids : List (List ℤ) → List (List Grid1) → List (List Grid1) → Type 0
-MovedGrids [] gs hs = hs ≡ []
-MovedGrids (c ∷ cs) gs hs = (first : List (List Grid1)) ×
-    ((rest : List (List Grid1)) × ((hs ≡ first ++ rest) × AreMovedBack c gs first × MovedGrids cs gs rest))
+abbrev pub all_moved_back : List (List ℤ) → List (List Grid1) → List (List Grid1)
+all_moved_back [] grids = []
+all_moved_back (c ∷ cs) grids = map (moved_back c) grids ++ all_moved_back cs grids
 
 -- what a part of the consumer must be
 pub record PartFolds (called : ℕ → List (Option (List ℕ))) (k : Facts) (p : Producer) (h : PartHead) (b : BlockTerm) (selected count : ℕ) : Type 0 where
@@ -123,12 +122,9 @@ pub record PartFolds (called : ℕ → List (Option (List ℕ))) (k : Facts) (p 
   pub room : binders b + selected * most_binders p.parts ≤ FEW
   -- the box of the part's grid, cut by the grid and the moved ones
   pub frame : List Grid1
-  pub dense : All (λ (axis : Grid1). axis.step ≡ pos 1) frame
-  pub box : (v : List ℤ) → has_vector frame v ≡ in_box h.grid v
-  pub grids : List (List Grid1)
-  pub moved_grids : MovedGrids at (grids_of p.parts) grids
+  pub box : grid_range frame ≡ box_range h.grid
   pub greatest : ℕ
-  pub counted : IsCanonicalCount (h.grid ∷ grids) 0 frame greatest count
+  pub counted : IsCanonicalCount (h.grid ∷ all_moved_back at (grids_of p.parts)) 0 frame greatest count
   pub fine : greatest ≤ 4096
 
 abbrev pub PartsFold : (ℕ → List (Option (List ℕ))) → Facts → Producer → PartsTerm → ℕ → ℕ → Type 0
