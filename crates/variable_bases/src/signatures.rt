@@ -1,0 +1,101 @@
+//! The bases that the functions of a core take and give.
+
+ghost use Rattle.std.specs.Prelude.{◌≡◌, map, IfOk, OnSome, true, List, Contains};
+ghost use Rattle.sac_base.specs.declared.base.Base.{Base as BaseOf};
+ghost use Rattle.core_ir.specs.View.{core_term, fun_term};
+ghost use Rattle.variable_bases.specs.Instances.{HasInstances, Instance, Gives, signatures_at};
+ghost use Rattle.variable_bases.specs.Table.{may_have};
+
+use crate::table::BaseTable;
+use core_ir::{Core, CoreFun, Var};
+use sac_base::{Base, Memory, same_base};
+use std::alloc::Global;
+
+/// The bases that an instance takes and gives.
+#[derive(Drop)]
+pub struct Signature {
+    pub takes: Vec<Base>,
+    pub gives: Vec<Base>,
+}
+
+/// For each group the bases that its instances take and give.
+#[derive(Drop)]
+pub struct Signatures {
+    pub groups: Vec<Vec<Signature>>,
+}
+
+impl Signatures {
+    /// Those of a core.
+    ///
+    /// # Errors
+    ///
+    /// `Memory`: there is none for them.
+    pub fn of_core(alloc: Global, core: &Core) -> Result<Signatures, Memory>
+        ensures { IfOk result (λ signatures. HasInstances signatures (core_term core.now)) }
+    {
+        let mut groups = Vec::new(alloc);
+        for places in &core.groups {
+            groups.push(group_signatures(alloc, &core.functions, places)?)?;
+        }
+        Ok(Signatures { groups })
+    }
+
+    /// What each instance of a group gives that may take the variables.
+    pub fn given(&self, group: u32, args: &[Var], table: &BaseTable) -> Option<&[Base]>
+        ensures { OnSome result (λ gives. (takes given : List BaseOf) → Instance self.now group takes given → may_have table.now args.now takes ≡ true → given ≡ gives.now) }
+    {
+        let signatures = self.groups.get(group as usize)?;
+        let first = signatures.iter().find(|signature| table.may_have(args, &signature.takes))?;
+        if all_give(signatures, args, table, &first.gives) {
+            Some(&first.gives)
+        } else {
+            None
+        }
+    }
+}
+
+/// Whether each instance that may take the variables gives these.
+fn all_give(signatures: &[Signature], args: &[Var], table: &BaseTable, gives: &[Base]) -> bool {
+    signatures.iter().all(|signature| {
+        !table.may_have(args, &signature.takes) || same_bases(&signature.gives, gives)
+    })
+}
+
+fn same_bases(a: &[Base], b: &[Base]) -> bool {
+    if a.len() != b.len() {
+        return false;
+    }
+    for k in 0..a.len().min(b.len()) {
+        if !same_base(a[k], b[k]) {
+            return false;
+        }
+    }
+    true
+}
+
+fn group_signatures(
+    alloc: Global,
+    functions: &[CoreFun],
+    places: &[u32],
+) -> Result<Vec<Signature>, Memory>
+{
+    let mut signatures = Vec::new(alloc);
+    for place in places {
+        if let Some(function) = functions.get(*place as usize) {
+            signatures.push(signature_of(alloc, function)?)?;
+        }
+    }
+    Ok(signatures)
+}
+
+fn signature_of(alloc: Global, function: &CoreFun) -> Result<Signature, Memory> {
+    let mut takes = Vec::new(alloc);
+    for (_, ty) in &function.params {
+        takes.push(ty.base)?;
+    }
+    let mut gives = Vec::new(alloc);
+    for ty in &function.results {
+        gives.push(ty.base)?;
+    }
+    Ok(Signature { takes, gives })
+}
