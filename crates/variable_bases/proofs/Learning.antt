@@ -1,0 +1,109 @@
+-- What a table learns, binding after binding.
+use Rattle.std.proofs.Common.{◌≡◌, ℕ, suc, ◌+◌, ◌<◌, ◌≤◌, Bool, true, false, cond, eqb, List, [], ◌∷◌, ◌++◌, map, drop, length, get_or, Some, refl, sym, ap, subst, ◌∙◌, arith}
+use Rattle.std.specs.Prelude.{zip}
+use Rattle.std.proofs.lemmas.List.{drop_more, at_drop_all}
+use Rattle.sac_base.specs.declared.base.Base.{Base}
+use Rattle.sac_base.specs.declared.base.Base.TheVariants.{Int, Bool as Truth}
+use Rattle.sac_base.specs.declared.grid.Grid1.{Grid1}
+use Rattle.sac_base.specs.declared.site.Site.{Site}
+use Rattle.core_ir.specs.declared.tree.Var.{Var}
+use Rattle.core_ir.specs.declared.tree.CoreOp.{CoreOp}
+use Rattle.core_ir.specs.declared.tree.CoreOp.TheVariants as making
+use Rattle.core_ir.specs.declared.tree.PartedOp.{PartedOp}
+use Rattle.core_ir.specs.Terms.{BlockTerm, RightTerm, GensTerm, PartsTerm, GenTerm, PartTerm, Gives, Bind, NoGens, Gen, NoParts, Part}
+use Rattle.core_ir.specs.WellFormed.{Bases, OperationBase, HasBase, ints}
+use Rattle.core_norm_steps.specs.Step.{Within}
+use Rattle.core_norm_steps.specs.Step.{BaseTable as AllBases}
+use Rattle.variable_bases.specs.declared.signatures.Signatures.{Signatures}
+use Rattle.variable_bases.specs.declared.table.BaseTable.{BaseTable}
+use Rattle.variable_bases.specs.Instances.{Instance}
+use Rattle.variable_bases.specs.Learned.{Notes, Takes, Numbers, source, TellsRight, LearnsBlock, LearnsRight, LearnsGens, LearnsGen, LearnsParts, LearnsPart}
+use Rattle.variable_bases.specs.Table.{may_have}
+use Rattle.variable_bases.proofs.Within.{within_one, within_zip, within_ints, have_all, results, ends}
+use Rattle.variable_bases.proofs.Told.{may}
+
+module _ (s : Signatures) where
+  -- ---- one after another
+
+  pub bind_learned :
+      (t u v : BaseTable) (xs : List Var) (site : Site) (r : RightTerm) (b : BlockTerm) → LearnsRight s t u xs r → LearnsBlock s u v b →
+      LearnsBlock s t v (Bind xs site r b)
+  bind_learned t u v xs site r b one rest core has m g ts d w f old =
+      rest core has m (zip xs d.0 ++ g) ts d.1.2 (within_zip m g xs d.0 w f.0) f.2 (one core has m g d.0 d.1.0 w f.1 (sym f.0) old)
+
+  pub gen_learned :
+      (t u v : BaseTable) (x : GenTerm) (rest : GensTerm) → LearnsGen s t u x → LearnsGens s u v rest → LearnsGens s t v (Gen x.head x.body rest)
+  gen_learned t u v x rest one more core has m g b d w f old = more core has m g b d.5 w f.2 (one core has m g b d.4 w f.0 f.1 old)
+
+  pub part_learned :
+      (t u v : BaseTable) (x : PartTerm) (rest : PartsTerm) → LearnsPart s t u x → LearnsParts s u v rest → LearnsParts s t v (Part x.head x.body rest)
+  part_learned t u v x rest one more core has m g b d w f old = more core has m g b d.1 w f.2 (one core has m g b d.0 w (f.0, tt) f.1 old)
+
+  pub body_learned : (t u v : BaseTable) (x : GenTerm) → Numbers (x.head.index ∷ x.head.names) t u → LearnsBlock s u v x.body → LearnsGen s t v x
+  body_learned t u v x numbers body core has m g b d w are f old =
+      body core has m (ints (x.head.index ∷ x.head.names) ++ g) (b ∷ []) d (within_ints m g (x.head.index ∷ x.head.names) w are) f (numbers m are old)
+
+  pub cells_learned : (t u v : BaseTable) (x : PartTerm) → Numbers (x.head.index ∷ []) t u → LearnsBlock s u v x.body → LearnsPart s t v x
+  cells_learned t u v x numbers body core has m g b d w are f old =
+      body core has m ((x.head.index, Int) ∷ g) (b ∷ []) d (within_one m g x.head.index Int w are.0) f (numbers m are old)
+
+  -- ---- right sides
+
+  pub if_learned :
+      (t u v x y : BaseTable) (targets : List Var) (c : Var) (a b : BlockTerm) → LearnsBlock s t u a → LearnsBlock s u v b → Takes targets (results a) v x →
+      Takes targets (results b) x y → LearnsRight s t y targets (RightTerm.If c a b)
+  if_learned t u v x y targets c a b one two from_a from_b core has m g ts d w f e old =
+      from_b m (e ∙ sym (ends core m b g ts d.2 w f.1)) (from_a m (e ∙ sym (ends core m a g ts d.1 w f.0)) (two core has m g ts d.2 w f.1 (one core has m g ts d.1 w f.0 old)))
+
+  pub loop_learned :
+      (t u v x y : BaseTable) (targets : List Var) (first : Bool) (start params : List Var) (test body : BlockTerm) (site : Site) → Takes params start t u →
+      LearnsBlock s u v test → LearnsBlock s v x body → Takes targets start x y → LearnsRight s t y targets (RightTerm.Loop first start params test body site)
+  loop_learned t u v x y targets first start params test body site begin one two leave core has m g ts d w f e old =
+      let is = have_all m g start ts w d.0 in
+      let inner = within_zip m g params ts w f.0 in
+      leave m (e ∙ sym is) (two core has m (zip params ts ++ g) ts d.3 inner f.2 (one core has m (zip params ts ++ g) (Truth ∷ []) d.2 inner f.1 (begin m (sym f.0 ∙ sym is) old)))
+
+  pub call_learned :
+      (t u : BaseTable) (targets : List Var) (group : ℕ) (args : List Var) (gives : List Base) →
+      ((takes given : List Base) → Instance s group takes given → may_have t args takes ≡ true → given ≡ gives) → Notes targets gives t u →
+      LearnsRight s t u targets (RightTerm.Call group args)
+  call_learned t u targets group args gives all note core has m g ts d w f e old =
+      note m (e ∙ all d.0 ts (has group d.0 ts d.1.1) (may t m args d.0 old (have_all m g args d.0 w d.1.0))) old
+
+  pub nothing_learned : (t : BaseTable) (targets : List Var) (r : RightTerm) → LearnsRight s t t targets r
+  nothing_learned t targets r core has m g ts d w f e old = old
+
+  operation : (m : AllBases) (g : Bases) (o : CoreOp) (b : Base) → Within m g → OperationBase g o b → b ≡ m (source o)
+  operation m g (making.Genarray x y) b w h = w y b h.1
+  operation m g (making.Modarray x) b w h = w x b h
+  operation m g (making.Fold o x) b w h = w x b h.0
+
+  pub with_learned :
+      (t u v : BaseTable) (targets : List Var) (o : CoreOp) (gens : GensTerm) → LearnsGens s t u gens → Takes targets (source o ∷ []) u v →
+      LearnsRight s t v targets (RightTerm.With o gens)
+  with_learned t u v targets o gens one take core has m g ts d w f e old =
+      take m (e ∙ d.1.2 ∙ (λ i. operation m g o d.0 w d.1.0 i ∷ [])) (one core has m g d.0 d.1.1 w f old)
+
+  pub parted_learned :
+      (t u v : BaseTable) (targets : List Var) (frame : List Grid1) (b : Base) (cell : List ℕ) (o : PartedOp) (parts : PartsTerm) → LearnsParts s t u parts →
+      Notes targets (b ∷ []) u v → LearnsRight s t v targets (RightTerm.Parted frame b cell o parts)
+  parted_learned t u v targets frame b cell o parts one note core has m g ts d w f e old = note m (e ∙ d.3) (one core has m g b d.1 w f old)
+
+  pub right_learned : (t u : BaseTable) (targets : List Var) (r : RightTerm) (b : Base) → TellsRight t r b → Notes targets (b ∷ []) t u → LearnsRight s t u targets r
+  right_learned t u targets r b tells note core has m g ts d w f e old = note m (e ∙ tells core m g ts d w old) old
+
+-- ---- a loop over elements: whatever the rest teaches, the elements so far do so with it
+
+module _ {A : Type 0} (Learns : List A → BaseTable → BaseTable → Type 0) (One : A → BaseTable → BaseTable → Type 0) where
+  abbrev pub Carried : List A → ℕ → BaseTable → BaseTable → Type 0
+  Carried items i start here = (after : BaseTable) → Learns (drop i items) here after → Learns items start after
+
+  pub turned :
+      ((x : A) (xs : List A) (t u v : BaseTable) → One x t u → Learns xs u v → Learns (x ∷ xs) t v) → (items : List A) (i : ℕ) (x : A) (start t u : BaseTable) →
+      i < length items → x ≡ get_or items i x → Carried items i start t → One x t u → Carried items (i + 1) start u
+  turned step items i x start t u less is so_far one after rest =
+      so_far after (subst (λ xs. Learns xs t after) (sym (drop_more items i x less)) (subst (λ y. Learns (y ∷ drop (i + 1) items) t after) is (step x (drop (i + 1) items) t u after one rest)))
+
+  pub ended : (items all : List A) (i : ℕ) (start t : BaseTable) → Learns [] t t → length items ≤ i → items ≡ all → Carried items i start t → Learns all start t
+  ended items all i start t none over same so_far =
+      subst (λ xs. Learns xs start t) same (so_far t (subst (λ xs. Learns xs t t) (sym (at_drop_all (λ (xs : List A). xs) items i over)) none))
