@@ -12,8 +12,8 @@ use Rattle.core_ir.specs.declared.tree.CoreOp.TheVariants as making
 use Rattle.core_ir.specs.declared.tree.PartedOp.{PartedOp}
 use Rattle.core_ir.specs.Terms.{BlockTerm, RightTerm, GensTerm, PartsTerm, GenTerm, PartTerm, Gives, Bind, NoGens, Gen, NoParts, Part}
 use Rattle.core_ir.specs.WellFormed.{Bases, OperationBase, HasBase, ints}
-use Rattle.core_norm_steps.specs.Step.{Within}
-use Rattle.core_norm_steps.specs.Step.{BaseTable as AllBases}
+use Rattle.variable_bases.specs.Step.{Within}
+use Rattle.variable_bases.specs.Step.{BaseTable as AllBases}
 use Rattle.variable_bases.specs.declared.signatures.Signatures.{Signatures}
 use Rattle.variable_bases.specs.declared.table.BaseTable.{BaseTable}
 use Rattle.variable_bases.specs.Instances.{Instance}
@@ -39,9 +39,10 @@ module _ (s : Signatures) where
       (t u v : BaseTable) (x : PartTerm) (rest : PartsTerm) → LearnsPart s t u x → LearnsParts s u v rest → LearnsParts s t v (Part x.head x.body rest)
   part_learned t u v x rest one more core has m g b d w f old = more core has m g b d.1 w f.2 (one core has m g b d.0 w (f.0, tt) f.1 old)
 
-  pub body_learned : (t u v : BaseTable) (x : GenTerm) → Numbers (x.head.index ∷ x.head.names) t u → LearnsBlock s u v x.body → LearnsGen s t v x
-  body_learned t u v x numbers body core has m g b d w are f old =
-      body core has m (ints (x.head.index ∷ x.head.names) ++ g) (b ∷ []) d (within_ints m g (x.head.index ∷ x.head.names) w are) f (numbers m are old)
+  pub body_learned :
+      (t u v w : BaseTable) (x : GenTerm) → Numbers (x.head.index ∷ []) t u → Numbers x.head.names u v → LearnsBlock s v w x.body → LearnsGen s t w x
+  body_learned t u v w x index names body core has m g b d in_scope are f old =
+      body core has m (ints (x.head.index ∷ x.head.names) ++ g) (b ∷ []) d (within_ints m g (x.head.index ∷ x.head.names) in_scope are) f (names m are.1 (index m (are.0, tt) old))
 
   pub cells_learned : (t u v : BaseTable) (x : PartTerm) → Numbers (x.head.index ∷ []) t u → LearnsBlock s u v x.body → LearnsPart s t v x
   cells_learned t u v x numbers body core has m g b d w are f old =

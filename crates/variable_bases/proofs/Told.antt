@@ -5,8 +5,8 @@ use Rattle.sac_base.specs.declared.base.Base.TheVariants.{Int, Bool as Truth}
 use Rattle.sac_base.specs.Arrays.{same_base}
 use Rattle.core_ir.specs.declared.tree.Var.{Var}
 use Rattle.core_ir.specs.WellFormed.{Bases, HasBase}
-use Rattle.core_norm_steps.specs.Step.{Within}
-use Rattle.core_norm_steps.specs.Step.{BaseTable as AllBases}
+use Rattle.variable_bases.specs.Step.{Within}
+use Rattle.variable_bases.specs.Step.{BaseTable as AllBases}
 use Rattle.variable_bases.specs.declared.table.BaseTable.{BaseTable}
 use Rattle.variable_bases.specs.Table.{base_in, Tells, may_be, may_have}
 

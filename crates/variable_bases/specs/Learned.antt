@@ -1,14 +1,15 @@
 -- What a table learns of the bindings of a term: a table whose bases are those of the variables stays one.
 use Rattle.std.specs.Prelude.{◌≡◌, cond, eqb, List, ◌∷◌, [], ◌++◌, map, Some}
 use Rattle.sac_base.specs.declared.base.Base.{Base}
+use Rattle.sac_base.specs.declared.types.ArrayType.{ArrayType}
 use Rattle.core_ir.specs.declared.tree.Var.{Var}
 use Rattle.core_ir.specs.declared.tree.CoreOp.{CoreOp}
 use Rattle.core_ir.specs.declared.tree.CoreOp.TheVariants as making
-use Rattle.core_ir.specs.Terms.{BlockTerm, RightTerm, GensTerm, PartsTerm, GenTerm, PartTerm, CoreTerm}
-use Rattle.core_ir.specs.WellFormed.{Bases, LiteralBase, BlockBases, RightBases, GensBases, PartsBases, ints}
+use Rattle.core_ir.specs.Terms.{BlockTerm, RightTerm, GensTerm, PartsTerm, GenTerm, PartTerm, CoreTerm, NoGens, NoParts}
+use Rattle.core_ir.specs.WellFormed.{Bases, base_of, LiteralBase, BlockBases, RightBases, GensBases, PartsBases, ints}
 use Rattle.sac_base.specs.declared.base.Base.TheVariants.{Int}
-use Rattle.core_norm_steps.specs.Step.{Within, AllNumbers, Follows, FollowsRight, FollowsGens, FollowsParts}
-use Rattle.core_norm_steps.specs.Step.{BaseTable as AllBases}
+use Rattle.variable_bases.specs.Step.{Within, AllNumbers, Follows, FollowsRight, FollowsGens, FollowsParts}
+use Rattle.variable_bases.specs.Step.{BaseTable as AllBases}
 use Rattle.variable_bases.specs.declared.signatures.Signatures.{Signatures}
 use Rattle.variable_bases.specs.declared.table.BaseTable.{BaseTable}
 use Rattle.variable_bases.specs.Instances.{HasInstances}
@@ -19,6 +20,10 @@ use Rattle.variable_bases.specs.Table.{base_in, Tells}
 -- one variable has this base
 abbrev pub Noted : Var → Base → BaseTable → BaseTable → Type 0
 Noted x t before after = (y : Var) → base_in after y ≡ cond (eqb x.0 y.0) (Some t) (base_in before y)
+
+-- the bases of parameters, of which the first with a number counts
+abbrev pub HasParams : List (Var × ArrayType) → BaseTable → Type 0
+HasParams ps table = (y : Var) → base_in table y ≡ base_of (map (λ (p : Var × ArrayType). (p.0, p.1.base)) ps) y
 
 -- variables that have these bases
 abbrev pub Notes : List Var → List Base → BaseTable → BaseTable → Type 0
@@ -33,6 +38,14 @@ abbrev pub Numbers : List Var → BaseTable → BaseTable → Type 0
 Numbers xs before after = (m : AllBases) → AllNumbers m xs → Tells before m → Tells after m
 
 -- ---- terms
+
+abbrev pub gens_in : RightTerm → GensTerm
+gens_in (RightTerm.With o gens) = gens
+gens_in _ = NoGens
+
+abbrev pub parts_in : RightTerm → PartsTerm
+parts_in (RightTerm.Parted frame t cell o parts) = parts
+parts_in _ = NoParts
 
 -- the variable whose base the result of a with-loop has
 abbrev pub source : CoreOp → Var

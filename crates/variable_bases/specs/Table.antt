@@ -1,20 +1,19 @@
 -- What a table says of the bases of variables.
-use Rattle.std.specs.Prelude.{◌≡◌, ◌&&◌, Bool, true, false, List, [], ◌∷◌, Option, Some, None}
+use Rattle.std.specs.Prelude.{◌≡◌, ◌&&◌, Bool, true, false, List, [], ◌∷◌, Option, Some, None, slice_index_or}
 use Rattle.sac_base.specs.declared.base.Base.{Base}
 use Rattle.sac_base.specs.Arrays.{same_base}
 use Rattle.core_ir.specs.declared.tree.Var.{Var}
 use Rattle.core_ir.specs.Terms.{FunTerm, CoreTerm}
 use Rattle.core_ir.specs.WellFormed.{BlockBases, bases, param_bases}
-use Rattle.core_norm_steps.specs.Step.{Within, Follows}
-use Rattle.core_norm_steps.specs.Step.{BaseTable as AllBases}
-use Rattle.scoped_table.specs.Notes.{noted}
+use Rattle.variable_bases.specs.Step.{Within, Follows}
+use Rattle.variable_bases.specs.Step.{BaseTable as AllBases}
 use Rattle.variable_bases.specs.declared.signatures.Signatures.{Signatures}
 use Rattle.variable_bases.specs.declared.table.BaseTable.{BaseTable}
 use Rattle.variable_bases.specs.Instances.{HasInstances}
 
 -- the base of a variable, where the table has one
 abbrev pub base_in : BaseTable → Var → Option Base
-base_in table x = noted table.notes x
+base_in table x = slice_index_or table.slots.items x.0 None
 
 -- each base that the table has is the variable's
 abbrev pub Tells : BaseTable → AllBases → Type 0

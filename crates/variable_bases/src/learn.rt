@@ -1,9 +1,8 @@
 //! What the bindings of a block tell of the bases of its variables.
 
-ghost use Rattle.std.specs.Prelude.{◌≡◌, OnOk, map};
+ghost use Rattle.std.specs.Prelude.{◌≡◌, OnOk, IfSome};
 ghost use Rattle.core_ir.specs.View.{block_term, right_term, with_term, gen_term, parted_term, part_term};
-ghost use Rattle.core_ir.specs.Terms.{gens_of, parts_of, Gen, Part, NoGens, NoParts};
-ghost use Rattle.variable_bases.specs.Learned.{LearnsBlock, LearnsRight, LearnsGens, LearnsParts};
+ghost use Rattle.variable_bases.specs.Learned.{LearnsBlock, LearnsRight, LearnsGens, LearnsGen, LearnsParts, LearnsPart, TellsRight, TellsLiteral, source as source_of, gens_in, parts_in};
 
 use crate::signatures::Signatures;
 use crate::table::BaseTable;
@@ -74,7 +73,9 @@ fn learn_right(
 }
 
 /// The variable whose base the result of a with-loop has.
-fn source(op: CoreOp) -> Var {
+fn source(op: CoreOp) -> Var
+    ensures { result ≡ source_of op }
+{
     match op {
         CoreOp::Genarray { default, .. } => default,
         CoreOp::Modarray { array } => array,
@@ -87,7 +88,9 @@ fn learn_with(
     with: &WithLoop,
     signatures: &Signatures,
     table: &mut BaseTable,
-) -> Result<(), Memory> {
+) -> Result<(), Memory>
+    ensures { OnOk result (LearnsGens signatures.now table.old table.new (gens_in (with_term with.now))) }
+{
     for generator in &with.gens {
         learn_generator(generator, signatures, table)?;
     }
@@ -99,11 +102,11 @@ fn learn_generator(
     generator: &CoreGen,
     signatures: &Signatures,
     table: &mut BaseTable,
-) -> Result<(), Memory> {
-    table.note(generator.index, Base::Int)?;
-    for name in &generator.names {
-        table.note(*name, Base::Int)?;
-    }
+) -> Result<(), Memory>
+    ensures { OnOk result (LearnsGen signatures.now table.old table.new (gen_term generator.now)) }
+{
+    table.note_numbers(&[generator.index])?;
+    table.note_numbers(&generator.names)?;
     learn_block(&generator.body, signatures, table)
 }
 
@@ -112,39 +115,58 @@ fn learn_parted(
     parted: &PartedLoop,
     signatures: &Signatures,
     table: &mut BaseTable,
-) -> Result<(), Memory> {
+) -> Result<(), Memory>
+    ensures { OnOk result (LearnsParts signatures.now table.old table.new (parts_in (parted_term parted.now))) }
+{
     for part in &parted.parts {
-        table.note(part.index, Base::Int)?;
-        learn_block(&part.body, signatures, table)?;
+        learn_part(part, signatures, table)?;
     }
     Ok(())
 }
 
+#[cycle(learning)]
+fn learn_part(
+    part: &CorePart,
+    signatures: &Signatures,
+    table: &mut BaseTable,
+) -> Result<(), Memory>
+    ensures { OnOk result (LearnsPart signatures.now table.old table.new (part_term part.now)) }
+{
+    table.note_numbers(&[part.index])?;
+    learn_block(&part.body, signatures, table)
+}
+
 /// The base that a right side without blocks and calls gives, if it can be told.
-fn plain_base(right: &Right, table: &BaseTable) -> Option<Base> {
+fn plain_base(right: &Right, table: &BaseTable) -> Option<Base>
+    ensures { IfSome result (λ base. TellsRight table.now (right_term right.now) base) }
+{
     match right {
         Right::Const(array) => Some(array.base()),
-        Right::Copy(x) | Right::Reshape(_, x) | Right::Select(x, _) => table.of(*x),
-        Right::Replace(array, _, part) => either(table.of(*array), table.of(*part)),
-        Right::Unary(op, _) | Right::Binary(op, _, _) => Some(result_base(*op)),
+        Right::Copy(x) => table.of(*x),
+        Right::Reshape(_, array) => table.of(*array),
+        Right::Select(array, _) => table.of(*array),
+        Right::Replace(array, _, _) => table.of(*array),
+        Right::Unary(op, _) => Some(result_base(*op)),
+        Right::Binary(op, _, _) => Some(result_base(*op)),
         Right::Literal(xs) => literal_base(xs, table),
-        Right::Dim(_) | Right::ShapeOf(_) => Some(Base::Int),
+        Right::Dim(_) => Some(Base::Int),
+        Right::ShapeOf(_) => Some(Base::Int),
         Right::Check(_, ty) => Some(ty.base),
         _ => None,
     }
 }
 
 /// The base of the elements of a literal. An empty one is of numbers.
-fn literal_base(xs: &[Var], table: &BaseTable) -> Option<Base> {
+fn literal_base(xs: &[Var], table: &BaseTable) -> Option<Base>
+    ensures { IfSome result (λ base. TellsLiteral table.now xs.now base) }
+{
     if xs.is_empty() {
         return Some(Base::Int);
     }
-    xs.iter().find_map(|x| table.of(*x))
-}
-
-fn either(one: Option<Base>, other: Option<Base>) -> Option<Base> {
-    match one {
-        Some(base) => Some(base),
-        None => other,
+    for x in xs {
+        if let Some(base) = table.of(*x) {
+            return Some(base);
+        }
     }
+    None
 }

@@ -1,14 +1,16 @@
 //! The bases that the functions of a core take and give.
 
-ghost use Rattle.std.specs.Prelude.{◌≡◌, map, IfOk, OnSome, true, List, Contains};
+ghost use Rattle.std.specs.Prelude.{◌≡◌, map, IfOk, IfSome, true, List, Contains};
 ghost use Rattle.sac_base.specs.declared.base.Base.{Base as BaseOf};
+ghost use Rattle.core_ir.specs.Outcome.{param_types};
 ghost use Rattle.core_ir.specs.View.{core_term, fun_term};
-ghost use Rattle.variable_bases.specs.Instances.{HasInstances, Instance, Gives, signatures_at};
+ghost use Rattle.core_ir.specs.WellFormed.{bases};
+ghost use Rattle.variable_bases.specs.Instances.{HasInstances, HasPlaces, HasSignature, Instance};
 ghost use Rattle.variable_bases.specs.Table.{may_have};
 
 use crate::table::BaseTable;
 use core_ir::{Core, CoreFun, Var};
-use sac_base::{Base, Memory, same_base};
+use sac_base::{ArrayType, Base, Memory, same_base};
 use std::alloc::Global;
 
 /// The bases that an instance takes and gives.
@@ -42,7 +44,8 @@ impl Signatures {
 
     /// What each instance of a group gives that may take the variables.
     pub fn given(&self, group: u32, args: &[Var], table: &BaseTable) -> Option<&[Base]>
-        ensures { OnSome result (λ gives. (takes given : List BaseOf) → Instance self.now group takes given → may_have table.now args.now takes ≡ true → given ≡ gives.now) }
+        ensures { IfSome result (λ gives. (takes given : List BaseOf) → Instance self.now group takes given
+            → may_have table.now args.now takes ≡ true → given ≡ gives.now) }
     {
         let signatures = self.groups.get(group as usize)?;
         let first = signatures.iter().find(|signature| table.may_have(args, &signature.takes))?;
@@ -55,13 +58,18 @@ impl Signatures {
 }
 
 /// Whether each instance that may take the variables gives these.
-fn all_give(signatures: &[Signature], args: &[Var], table: &BaseTable, gives: &[Base]) -> bool {
+fn all_give(signatures: &[Signature], args: &[Var], table: &BaseTable, gives: &[Base]) -> bool
+    ensures { result ≡ true → (takes given : List BaseOf) → HasSignature signatures.now takes given → may_have table.now args.now takes ≡ true
+        → given ≡ gives.now }
+{
     signatures.iter().all(|signature| {
         !table.may_have(args, &signature.takes) || same_bases(&signature.gives, gives)
     })
 }
 
-fn same_bases(a: &[Base], b: &[Base]) -> bool {
+fn same_bases(a: &[Base], b: &[Base]) -> bool
+    ensures { result ≡ true → a.now ≡ b.now }
+{
     if a.len() != b.len() {
         return false;
     }
@@ -78,6 +86,7 @@ fn group_signatures(
     functions: &[CoreFun],
     places: &[u32],
 ) -> Result<Vec<Signature>, Memory>
+    ensures { IfOk result (λ signatures. HasPlaces (map fun_term functions.now) places.now signatures.items) }
 {
     let mut signatures = Vec::new(alloc);
     for place in places {
@@ -88,14 +97,32 @@ fn group_signatures(
     Ok(signatures)
 }
 
-fn signature_of(alloc: Global, function: &CoreFun) -> Result<Signature, Memory> {
-    let mut takes = Vec::new(alloc);
-    for (_, ty) in &function.params {
-        takes.push(ty.base)?;
+fn signature_of(alloc: Global, function: &CoreFun) -> Result<Signature, Memory>
+    ensures takes { IfOk result (λ one. one.takes.items ≡ bases (param_types (fun_term function.now))) }
+    ensures gives { IfOk result (λ one. one.gives.items ≡ bases (fun_term function.now).results) }
+{
+    Ok(Signature {
+        takes: taken(alloc, &function.params)?,
+        gives: given(alloc, &function.results)?,
+    })
+}
+
+fn taken(alloc: Global, params: &[(Var, ArrayType)]) -> Result<Vec<Base>, Memory>
+    ensures { IfOk result (λ taken. taken.items ≡ bases (map (λ p. p.1) params.now)) }
+{
+    let mut taken = Vec::new(alloc);
+    for (_, ty) in params {
+        taken.push(ty.base)?;
     }
-    let mut gives = Vec::new(alloc);
-    for ty in &function.results {
-        gives.push(ty.base)?;
+    Ok(taken)
+}
+
+fn given(alloc: Global, types: &[ArrayType]) -> Result<Vec<Base>, Memory>
+    ensures { IfOk result (λ given. given.items ≡ bases types.now) }
+{
+    let mut given = Vec::new(alloc);
+    for ty in types {
+        given.push(ty.base)?;
     }
-    Ok(Signature { takes, gives })
+    Ok(given)
 }

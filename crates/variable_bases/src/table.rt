@@ -2,14 +2,13 @@
 
 ghost use Rattle.std.specs.Prelude.{◌≡◌, [], ◌∷◌, IfOk, OnOk};
 ghost use Rattle.core_ir.specs.View.{fun_term};
-ghost use Rattle.variable_bases.specs.Learned.{Notes, Takes};
+ghost use Rattle.variable_bases.specs.Learned.{HasParams, Noted, Notes, Takes, Numbers};
 ghost use Rattle.variable_bases.specs.Table.{base_in, may_be, may_have as may_have_bases, TellsOf};
 
 use crate::learn::learn_block;
 use crate::signatures::Signatures;
 use core_ir::{CoreFun, Var};
 use sac_base::{ArrayType, Base, Memory, same_base};
-use scoped_table::ScopedTable;
 use std::alloc::Global;
 
 /// The bases of a function's variables, so far as they can be told.
@@ -17,7 +16,8 @@ use std::alloc::Global;
 /// A variable that always faults has no base, nor has one that comes from such variables alone.
 #[derive(Drop)]
 pub struct BaseTable {
-    pub notes: ScopedTable<Base>,
+    // by the variable's number
+    slots: Vec<Option<Base>>,
 }
 
 impl BaseTable {
@@ -33,13 +33,24 @@ impl BaseTable {
     ) -> Result<BaseTable, Memory>
         ensures { IfOk result (λ table. TellsOf (fun_term function.now) signatures.now table) }
     {
+        let mut table = BaseTable::of_params(alloc, &function.params)?;
+        learn_block(&function.body, signatures, &mut table)?;
+        Ok(table)
+    }
+
+    // Of two parameters with one number the first counts, so the last is noted first.
+    fn of_params(alloc: Global, params: &[(Var, ArrayType)]) -> Result<BaseTable, Memory>
+        ensures { IfOk result (λ table. HasParams params.now table) }
+    {
         let mut table = BaseTable {
-            notes: ScopedTable::new(alloc),
+            slots: Vec::new(alloc),
         };
-        for (x, ty) in &function.params {
+        let mut left = params.len();
+        while left > 0 {
+            left -= 1;
+            let (x, ty) = &params[left];
             table.note(*x, ty.base)?;
         }
-        learn_block(&function.body, signatures, &mut table)?;
         Ok(table)
     }
 
@@ -47,13 +58,30 @@ impl BaseTable {
     pub fn of(&self, x: Var) -> Option<Base>
         ensures { result ≡ base_in self.now x }
     {
-        self.notes.get(x).copied()
+        match self.slots.get(x.0 as usize) {
+            Some(base) => *base,
+            None => None,
+        }
     }
 
     pub fn note(&mut self, x: Var, base: Base) -> Result<(), Memory>
-        ensures { OnOk result (Notes (x ∷ []) (base ∷ []) self.old self.new) }
+        ensures { OnOk result (Noted x base self.old self.new) }
     {
-        self.notes.note(x, base)
+        let place = x.0 as usize;
+        if self.slots.len() <= place {
+            self.slots.resize(place + 1, None)?;
+        }
+        self.slots[place] = Some(base);
+        Ok(())
+    }
+
+    pub fn note_numbers(&mut self, xs: &[Var]) -> Result<(), Memory>
+        ensures { OnOk result (Numbers xs.now self.old self.new) }
+    {
+        for x in xs {
+            self.note(*x, Base::Int)?;
+        }
+        Ok(())
     }
 
     pub fn note_each(&mut self, xs: &[Var], bases: &[Base]) -> Result<(), Memory>
