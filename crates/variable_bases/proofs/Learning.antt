@@ -10,15 +10,18 @@ use Rattle.core_ir.specs.declared.tree.Var.{Var}
 use Rattle.core_ir.specs.declared.tree.CoreOp.{CoreOp}
 use Rattle.core_ir.specs.declared.tree.CoreOp.TheVariants as making
 use Rattle.core_ir.specs.declared.tree.PartedOp.{PartedOp}
-use Rattle.core_ir.specs.Terms.{BlockTerm, RightTerm, GensTerm, PartsTerm, GenTerm, PartTerm, Gives, Bind, NoGens, Gen, NoParts, Part}
+use Rattle.core_ir.specs.declared.tree.Let.{Let}
+use Rattle.core_ir.specs.declared.tree.CoreGen.{CoreGen}
+use Rattle.core_ir.specs.declared.tree.CorePart.{CorePart}
+use Rattle.core_ir.specs.View.{let_term, right_term, gen_term, part_term}
+use Rattle.core_ir.specs.Terms.{BlockTerm, RightTerm, GensTerm, PartsTerm, GenTerm, PartTerm, Gives, Bind, NoGens, Gen, NoParts, Part, chain, gens_of, parts_of}
 use Rattle.core_ir.specs.WellFormed.{Bases, OperationBase, HasBase, ints}
 use Rattle.variable_bases.specs.Step.{Within}
 use Rattle.variable_bases.specs.Step.{BaseTable as AllBases}
 use Rattle.variable_bases.specs.declared.signatures.Signatures.{Signatures}
 use Rattle.variable_bases.specs.declared.table.BaseTable.{BaseTable}
-use Rattle.variable_bases.specs.Instances.{Instance}
 use Rattle.variable_bases.specs.Learned.{Notes, Takes, Numbers, source, TellsRight, LearnsBlock, LearnsRight, LearnsGens, LearnsGen, LearnsParts, LearnsPart}
-use Rattle.variable_bases.specs.Table.{may_have}
+use Rattle.variable_bases.specs.Table.{GroupGives}
 use Rattle.variable_bases.proofs.Within.{within_one, within_zip, within_ints, have_all, results, ends}
 use Rattle.variable_bases.proofs.Told.{may}
 
@@ -66,7 +69,7 @@ module _ (s : Signatures) where
 
   pub call_learned :
       (t u : BaseTable) (targets : List Var) (group : ℕ) (args : List Var) (gives : List Base) →
-      ((takes given : List Base) → Instance s group takes given → may_have t args takes ≡ true → given ≡ gives) → Notes targets gives t u →
+      GroupGives s group args t gives → Notes targets gives t u →
       LearnsRight s t u targets (RightTerm.Call group args)
   call_learned t u targets group args gives all note core has m g ts d w f e old =
       note m (e ∙ all d.0 ts (has group d.0 ts d.1.1) (may t m args d.0 old (have_all m g args d.0 w d.1.0))) old
@@ -95,16 +98,55 @@ module _ (s : Signatures) where
 
 -- ---- a loop over elements: whatever the rest teaches, the elements so far do so with it
 
-module _ {A : Type 0} (Learns : List A → BaseTable → BaseTable → Type 0) (One : A → BaseTable → BaseTable → Type 0) where
-  abbrev pub Carried : List A → ℕ → BaseTable → BaseTable → Type 0
-  Carried items i start here = (after : BaseTable) → Learns (drop i items) here after → Learns items start after
+abbrev pub Carried : {A : Type 0} → (List A → BaseTable → BaseTable → Type 0) → List A → ℕ → BaseTable → BaseTable → Type 0
+Carried Learns items i start here = (after : BaseTable) → Learns (drop i items) here after → Learns items start after
 
+module _ {A : Type 0} (Learns : List A → BaseTable → BaseTable → Type 0) where
   pub turned :
-      ((x : A) (xs : List A) (t u v : BaseTable) → One x t u → Learns xs u v → Learns (x ∷ xs) t v) → (items : List A) (i : ℕ) (x : A) (start t u : BaseTable) →
-      i < length items → x ≡ get_or items i x → Carried items i start t → One x t u → Carried items (i + 1) start u
-  turned step items i x start t u less is so_far one after rest =
+      (One : A → BaseTable → BaseTable → Type 0) → ((x : A) (xs : List A) (t u v : BaseTable) → One x t u → Learns xs u v → Learns (x ∷ xs) t v) →
+      (items : List A) (i : ℕ) (x : A) (start t u : BaseTable) → i < length items → x ≡ get_or items i x → Carried Learns items i start t → One x t u →
+      Carried Learns items (i + 1) start u
+  turned One step items i x start t u less is so_far one after rest =
       so_far after (subst (λ xs. Learns xs t after) (sym (drop_more items i x less)) (subst (λ y. Learns (y ∷ drop (i + 1) items) t after) is (step x (drop (i + 1) items) t u after one rest)))
 
-  pub ended : (items all : List A) (i : ℕ) (start t : BaseTable) → Learns [] t t → length items ≤ i → items ≡ all → Carried items i start t → Learns all start t
+  pub ended : (items all : List A) (i : ℕ) (start t : BaseTable) → Learns [] t t → length items ≤ i → items ≡ all → Carried Learns items i start t → Learns all start t
   ended items all i start t none over same so_far =
       subst (λ xs. Learns xs start t) same (so_far t (subst (λ xs. Learns xs t t) (sym (at_drop_all (λ (xs : List A). xs) items i over)) none))
+
+-- the rest of a block, of generators and of parts
+module _ (s : Signatures) where
+  abbrev pub Lets : List Var → List Let → BaseTable → BaseTable → Type 0
+  Lets results ls t u = LearnsBlock s t u (chain (map let_term ls) (Gives results))
+
+  abbrev pub Gens : List CoreGen → BaseTable → BaseTable → Type 0
+  Gens gs t u = LearnsGens s t u (gens_of (map gen_term gs))
+
+  abbrev pub Parts : List CorePart → BaseTable → BaseTable → Type 0
+  Parts ps t u = LearnsParts s t u (parts_of (map part_term ps))
+
+  pub lets_none : (results : List Var) (t : BaseTable) → Lets results [] t t
+  lets_none results t core has m g ts d w f old = old
+
+  pub gens_none : (t : BaseTable) → Gens [] t t
+  gens_none t core has m g b d w f old = old
+
+  pub parts_none : (t : BaseTable) → Parts [] t t
+  parts_none t core has m g b d w f old = old
+
+  abbrev pub OneLet : Let → BaseTable → BaseTable → Type 0
+  OneLet l t u = LearnsRight s t u l.targets.items (right_term l.right)
+
+  abbrev pub OneGen : CoreGen → BaseTable → BaseTable → Type 0
+  OneGen x t u = LearnsGen s t u (gen_term x)
+
+  abbrev pub OnePart : CorePart → BaseTable → BaseTable → Type 0
+  OnePart x t u = LearnsPart s t u (part_term x)
+
+  pub next_let : (results : List Var) (l : Let) (ls : List Let) (t u v : BaseTable) → OneLet l t u → Lets results ls u v → Lets results (l ∷ ls) t v
+  next_let results l ls t u v = bind_learned s t u v l.targets.items l.site (right_term l.right) (chain (map let_term ls) (Gives results))
+
+  pub next_gen : (x : CoreGen) (xs : List CoreGen) (t u v : BaseTable) → OneGen x t u → Gens xs u v → Gens (x ∷ xs) t v
+  next_gen x xs t u v = gen_learned s t u v (gen_term x) (gens_of (map gen_term xs))
+
+  pub next_part : (x : CorePart) (xs : List CorePart) (t u v : BaseTable) → OnePart x t u → Parts xs u v → Parts (x ∷ xs) t v
+  next_part x xs t u v = part_learned s t u v (part_term x) (parts_of (map part_term xs))

@@ -1,3 +1,5 @@
 mod Learning
+mod Notes
+mod Signatures
 mod Told
 mod Within

@@ -1,5 +1,5 @@
 -- The bases that the instances of a group take and give.
-use Rattle.std.specs.Prelude.{◌≡◌, ℕ, List, Contains, Some, Vec, slice_get}
+use Rattle.std.specs.Prelude.{◌≡◌, ℕ, List, map, Contains, Some, slice_get}
 use Rattle.sac_base.specs.declared.base.Base.{Base}
 use Rattle.core_ir.specs.Outcome.{param_types}
 use Rattle.core_ir.specs.Terms.{FunTerm, CoreTerm}
@@ -15,7 +15,8 @@ HasSignature signatures takes gives =
 -- some instance of the group takes and gives these
 abbrev pub Instance : Signatures → ℕ → List Base → List Base → Type 0
 Instance signatures group takes gives =
-    (instances : Vec Signature) × ((slice_get signatures.groups.items group ≡ Some instances) × HasSignature instances.items takes gives)
+    (instances : List Signature) ×
+    ((slice_get (map (λ g. g.items) signatures.groups.items) group ≡ Some instances) × HasSignature instances takes gives)
 
 -- those of all instances of a core
 abbrev pub HasInstances : Signatures → CoreTerm → Type 0
@@ -27,3 +28,9 @@ abbrev pub HasPlaces : List FunTerm → List ℕ → List Signature → Type 0
 HasPlaces fs places signatures =
     (place : ℕ) (f : FunTerm) → Contains places place → slice_get fs place ≡ Some f →
     HasSignature signatures (bases (param_types f)) (bases f.results)
+
+-- and one place more
+abbrev pub AddsPlace : List FunTerm → ℕ → List Signature → List Signature → Type 0
+AddsPlace fs place before after =
+    ((takes gives : List Base) → HasSignature before takes gives → HasSignature after takes gives)
+    × ((f : FunTerm) → slice_get fs place ≡ Some f → HasSignature after (bases (param_types f)) (bases f.results))

@@ -1,5 +1,5 @@
 -- What a table says of the bases of variables.
-use Rattle.std.specs.Prelude.{◌≡◌, ◌&&◌, Bool, true, false, List, [], ◌∷◌, Option, Some, None, slice_index_or}
+use Rattle.std.specs.Prelude.{◌≡◌, ◌&&◌, Bool, true, false, ℕ, List, [], ◌∷◌, Option, Some, None, slice_index_or}
 use Rattle.sac_base.specs.declared.base.Base.{Base}
 use Rattle.sac_base.specs.Arrays.{same_base}
 use Rattle.core_ir.specs.declared.tree.Var.{Var}
@@ -7,9 +7,10 @@ use Rattle.core_ir.specs.Terms.{FunTerm, CoreTerm}
 use Rattle.core_ir.specs.WellFormed.{BlockBases, bases, param_bases}
 use Rattle.variable_bases.specs.Step.{Within, Follows}
 use Rattle.variable_bases.specs.Step.{BaseTable as AllBases}
+use Rattle.variable_bases.specs.declared.signatures.Signature.{Signature}
 use Rattle.variable_bases.specs.declared.signatures.Signatures.{Signatures}
 use Rattle.variable_bases.specs.declared.table.BaseTable.{BaseTable}
-use Rattle.variable_bases.specs.Instances.{HasInstances}
+use Rattle.variable_bases.specs.Instances.{HasInstances, HasSignature, Instance}
 
 -- the base of a variable, where the table has one
 abbrev pub base_in : BaseTable → Var → Option Base
@@ -38,3 +39,13 @@ abbrev pub may_have : BaseTable → List Var → List Base → Bool
 may_have table [] [] = true
 may_have table (x ∷ xs) (t ∷ ts) = may_be (base_in table x) t && may_have table xs ts
 may_have table _ _ = false
+
+-- each of these that may take the variables gives these bases
+abbrev pub AllGive : List Signature → List Var → BaseTable → List Base → Type 0
+AllGive signatures args table gives =
+    (takes given : List Base) → HasSignature signatures takes given → may_have table args takes ≡ true → given ≡ gives
+
+-- and so does each instance of a group
+abbrev pub GroupGives : Signatures → ℕ → List Var → BaseTable → List Base → Type 0
+GroupGives signatures group args table gives =
+    (takes given : List Base) → Instance signatures group takes given → may_have table args takes ≡ true → given ≡ gives

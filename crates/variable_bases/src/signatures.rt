@@ -1,12 +1,11 @@
 //! The bases that the functions of a core take and give.
 
-ghost use Rattle.std.specs.Prelude.{◌≡◌, map, IfOk, IfSome, true, List, Contains};
-ghost use Rattle.sac_base.specs.declared.base.Base.{Base as BaseOf};
+ghost use Rattle.std.specs.Prelude.{◌≡◌, map, IfOk, IfSome, OnOk, true};
 ghost use Rattle.core_ir.specs.Outcome.{param_types};
 ghost use Rattle.core_ir.specs.View.{core_term, fun_term};
 ghost use Rattle.core_ir.specs.WellFormed.{bases};
-ghost use Rattle.variable_bases.specs.Instances.{HasInstances, HasPlaces, HasSignature, Instance};
-ghost use Rattle.variable_bases.specs.Table.{may_have};
+ghost use Rattle.variable_bases.specs.Instances.{HasInstances, HasPlaces, AddsPlace};
+ghost use Rattle.variable_bases.specs.Table.{AllGive, GroupGives};
 
 use crate::table::BaseTable;
 use core_ir::{Core, CoreFun, Var};
@@ -44,8 +43,7 @@ impl Signatures {
 
     /// What each instance of a group gives that may take the variables.
     pub fn given(&self, group: u32, args: &[Var], table: &BaseTable) -> Option<&[Base]>
-        ensures { IfSome result (λ gives. (takes given : List BaseOf) → Instance self.now group takes given
-            → may_have table.now args.now takes ≡ true → given ≡ gives.now) }
+        ensures { IfSome result (λ gives. GroupGives self.now group args.now table.now gives.now) }
     {
         let signatures = self.groups.get(group as usize)?;
         let first = signatures.iter().find(|signature| table.may_have(args, &signature.takes))?;
@@ -59,12 +57,14 @@ impl Signatures {
 
 /// Whether each instance that may take the variables gives these.
 fn all_give(signatures: &[Signature], args: &[Var], table: &BaseTable, gives: &[Base]) -> bool
-    ensures { result ≡ true → (takes given : List BaseOf) → HasSignature signatures.now takes given → may_have table.now args.now takes ≡ true
-        → given ≡ gives.now }
+    ensures { result ≡ true → AllGive signatures.now args.now table.now gives.now }
 {
-    signatures.iter().all(|signature| {
-        !table.may_have(args, &signature.takes) || same_bases(&signature.gives, gives)
-    })
+    for signature in signatures {
+        if table.may_have(args, &signature.takes) && !same_bases(&signature.gives, gives) {
+            return false;
+        }
+    }
+    true
 }
 
 fn same_bases(a: &[Base], b: &[Base]) -> bool
@@ -90,11 +90,23 @@ fn group_signatures(
 {
     let mut signatures = Vec::new(alloc);
     for place in places {
-        if let Some(function) = functions.get(*place as usize) {
-            signatures.push(signature_of(alloc, function)?)?;
-        }
+        add_signature(alloc, functions, *place, &mut signatures)?;
     }
     Ok(signatures)
+}
+
+fn add_signature(
+    alloc: Global,
+    functions: &[CoreFun],
+    place: u32,
+    signatures: &mut Vec<Signature>,
+) -> Result<(), Memory>
+    ensures { OnOk result (AddsPlace (map fun_term functions.now) place signatures.old.items signatures.new.items) }
+{
+    if let Some(function) = functions.get(place as usize) {
+        signatures.push(signature_of(alloc, function)?)?;
+    }
+    Ok(())
 }
 
 fn signature_of(alloc: Global, function: &CoreFun) -> Result<Signature, Memory>
