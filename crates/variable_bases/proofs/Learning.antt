@@ -11,18 +11,22 @@ use Rattle.core_ir.specs.declared.tree.CoreOp.{CoreOp}
 use Rattle.core_ir.specs.declared.tree.CoreOp.TheVariants as making
 use Rattle.core_ir.specs.declared.tree.PartedOp.{PartedOp}
 use Rattle.core_ir.specs.declared.tree.Let.{Let}
-use Rattle.core_ir.specs.declared.tree.CoreGen.{CoreGen}
-use Rattle.core_ir.specs.declared.tree.CorePart.{CorePart}
-use Rattle.core_ir.specs.View.{let_term, right_term, gen_term, part_term}
+use Rattle.core_ir.specs.declared.tree.Block.{Block, out-Block}
+use Rattle.core_ir.specs.declared.tree.CoreGen.{CoreGen, CoreGen', out-CoreGen}
+use Rattle.core_ir.specs.declared.tree.CorePart.{CorePart, CorePart', out-CorePart}
+use Rattle.core_ir.specs.declared.tree.WithLoop.{WithLoop, out-WithLoop}
+use Rattle.core_ir.specs.declared.tree.PartedLoop.{PartedLoop, out-PartedLoop}
+use Rattle.core_ir.specs.View.{block_term, let_term, right_term, with_term, gen_term, parted_term, part_term}
+use Rattle.core_ir.proofs.Trees.{block_out, with_out, parted_out}
 use Rattle.core_ir.specs.Terms.{BlockTerm, RightTerm, GensTerm, PartsTerm, GenTerm, PartTerm, Gives, Bind, NoGens, Gen, NoParts, Part, chain, gens_of, parts_of}
 use Rattle.core_ir.specs.WellFormed.{Bases, OperationBase, HasBase, ints}
 use Rattle.variable_bases.specs.Step.{Within}
 use Rattle.variable_bases.specs.Step.{BaseTable as AllBases}
 use Rattle.variable_bases.specs.declared.signatures.Signatures.{Signatures}
 use Rattle.variable_bases.specs.declared.table.BaseTable.{BaseTable}
-use Rattle.variable_bases.specs.Learned.{Notes, Takes, Numbers, source, TellsRight, LearnsBlock, LearnsRight, LearnsGens, LearnsGen, LearnsParts, LearnsPart}
+use Rattle.variable_bases.specs.Learned.{Notes, Takes, Numbers, source, gens_in, parts_in, TellsRight, LearnsBlock, LearnsRight, LearnsGens, LearnsGen, LearnsParts, LearnsPart}
 use Rattle.variable_bases.specs.Table.{GroupGives}
-use Rattle.variable_bases.proofs.Within.{within_one, within_zip, within_ints, have_all, results, ends}
+use Rattle.variable_bases.proofs.Within.{within_one, within_zip, within_ints, have_all, results, results_chain, ends}
 use Rattle.variable_bases.proofs.Told.{may}
 
 module _ (s : Signatures) where
@@ -95,6 +99,42 @@ module _ (s : Signatures) where
 
   pub right_learned : (t u : BaseTable) (targets : List Var) (r : RightTerm) (b : Base) → TellsRight t r b → Notes targets (b ∷ []) t u → LearnsRight s t u targets r
   right_learned t u targets r b tells note core has m g ts d w f e old = note m (e ∙ tells core m g ts d w old) old
+
+-- ---- the trees of the code
+
+block_results : (b : Block) → results (block_term b) ≡ (out-Block b).results.items
+block_results b = ap results (block_out b) ∙ results_chain (map let_term (out-Block b).lets.items) (out-Block b).results.items
+
+pub takes_results :
+    (targets xs : List Var) (b : Block) (t u : BaseTable) → xs ≡ (out-Block b).results.items → Takes targets xs t u → Takes targets (results (block_term b)) t u
+takes_results targets xs b t u is takes = subst (λ ys. Takes targets ys t u) (is ∙ sym (block_results b)) takes
+
+module _ (s : Signatures) where
+  pub whole_with :
+      (w : WithLoop) (t u v : BaseTable) (targets : List Var) → LearnsGens s t u (gens_in (with_term w)) → Takes targets (source (out-WithLoop w).op ∷ []) u v →
+      LearnsRight s t v targets (with_term w)
+  whole_with w t u v targets gens take =
+      let x = out-WithLoop w in
+      subst (λ r. LearnsRight s t v targets r) (sym (with_out w)) (with_learned s t u v targets x.op (gens_of (map gen_term x.gens.items)) (subst (λ r. LearnsGens s t u (gens_in r)) (with_out w) gens) take)
+
+  pub whole_parted :
+      (p : PartedLoop) (t u v : BaseTable) (targets : List Var) → LearnsParts s t u (parts_in (parted_term p)) → Notes targets ((out-PartedLoop p).base ∷ []) u v →
+      LearnsRight s t v targets (parted_term p)
+  whole_parted p t u v targets parts note =
+      let x = out-PartedLoop p in
+      subst (λ r. LearnsRight s t v targets r) (sym (parted_out p)) (parted_learned s t u v targets x.frame x.base x.cell x.op (parts_of (map part_term x.parts.items)) (subst (λ r. LearnsParts s t u (parts_in r)) (parted_out p) parts) note)
+
+  pub whole_gen :
+      (g : CoreGen) (t u v w : BaseTable) (names : List Var) → Numbers ((out-CoreGen g).index ∷ []) t u → names ≡ (out-CoreGen g).names.items → Numbers names u v →
+      LearnsBlock s v w (block_term (out-CoreGen g).body) → LearnsGen s t w (gen_term g)
+  unfolding out-CoreGen denote.Hole.Carrier.out
+  whole_gen (CoreGen' a b c d e f i xs k l) t u v w names index is named body =
+      body_learned s t u v w (gen_term (CoreGen' a b c d e f i xs k l)) index (subst (λ ys. Numbers ys u v) is named) body
+
+  pub whole_part :
+      (p : CorePart) (t u v : BaseTable) → Numbers ((out-CorePart p).index ∷ []) t u → LearnsBlock s u v (block_term (out-CorePart p).body) → LearnsPart s t v (part_term p)
+  unfolding out-CorePart denote.Hole.Carrier.out
+  whole_part (CorePart' a i k l) t u v index body = cells_learned s t u v (part_term (CorePart' a i k l)) index body
 
 -- ---- a loop over elements: whatever the rest teaches, the elements so far do so with it
 

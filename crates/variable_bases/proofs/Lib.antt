@@ -1,5 +1,5 @@
 mod Learning
 mod Notes
-mod Signatures
+mod Groups
 mod Told
 mod Within

@@ -44,11 +44,11 @@ pub other_lengths : (t : BaseTable) (xs : List Var) (us : List Base) → (length
 other_lengths t [] [] n = absurd (n refl)
 other_lengths t [] (u ∷ us) n = refl
 other_lengths t (x ∷ xs) [] n = refl
-other_lengths t (x ∷ xs) (u ∷ us) n = go (may_be (base_in t x) u)
+other_lengths t (x ∷ xs) (u ∷ us) n = go (may_be (base_in t x) u) (other_lengths t xs us (λ e. n (ap suc e)))
   where
-    go : (b : Bool) → false ≡ (b && may_have t xs us)
-    go false = refl
-    go true = other_lengths t xs us (λ e. n (ap suc e))
+    go : (b : Bool) → false ≡ may_have t xs us → false ≡ (b && may_have t xs us)
+    go false h = refl
+    go true h = h
 
 -- ---- literals
 
@@ -64,68 +64,6 @@ literal_has g (x ∷ xs) u h less = h
 pub literal_told : (t : BaseTable) (xs : List Var) (k : ℕ) (d : Var) (v : Base) → k < length xs → base_in t (get_or xs k d) ≡ Some v → TellsLiteral t xs v
 literal_told t xs k d v less has m g u h w tells = told t m g (get_or xs k d) u v w tells (have_at g xs u k d (literal_has g xs u h (omega (arith, less))) less) has
 
--- ---- right sides
-
-pub copy_told : (t : BaseTable) (x : Var) (o : Option Base) → o ≡ base_in t x → IfSome o (λ b. TellsRight t (Plain (PlainTerm.Copy x)) b)
-copy_told t x None e = tt
-copy_told t x (Some v) e core m g ts d w tells = d.2 ∙ (λ i. told t m g x d.0 v w tells d.1 (sym e) i ∷ [])
-
-pub reshape_told : (t : BaseTable) (x y : Var) (o : Option Base) → o ≡ base_in t y → IfSome o (λ b. TellsRight t (Plain (PlainTerm.Reshape x y)) b)
-reshape_told t x y None e = tt
-reshape_told t x y (Some v) e core m g ts d w tells = d.3 ∙ (λ i. told t m g y d.0 v w tells d.2 (sym e) i ∷ [])
-
-pub select_told : (t : BaseTable) (x y : Var) (o : Option Base) → o ≡ base_in t x → IfSome o (λ b. TellsRight t (Plain (PlainTerm.Select x y)) b)
-select_told t x y None e = tt
-select_told t x y (Some v) e core m g ts d w tells = d.3 ∙ (λ i. told t m g x d.0 v w tells d.1 (sym e) i ∷ [])
-
-pub replace_told : (t : BaseTable) (x y z : Var) (o : Option Base) → o ≡ base_in t x → IfSome o (λ b. TellsRight t (Plain (PlainTerm.Replace x y z)) b)
-replace_told t x y z None e = tt
-replace_told t x y z (Some v) e core m g ts d w tells = d.4 ∙ (λ i. told t m g x d.0 v w tells d.1 (sym e) i ∷ [])
-
 pub literal_right : (t : BaseTable) (xs : List Var) (o : Option Base) → IfSome o (λ b. TellsLiteral t xs b) → IfSome o (λ b. TellsRight t (Plain (PlainTerm.Literal xs)) b)
 literal_right t xs None h = tt
-literal_right t xs (Some v) h core m g ts d w tells = d.2 ∙ (λ i. h m g d.0 d.1 w tells i ∷ [])
-
-of_one : (o : Op) (u t : Base) → UnaryBase o u t → t ≡ result_base o
-of_one op.Neg u t h = h.1
-of_one op.Not u t h = h.1
-of_one op.Add u t h = absurd h
-of_one op.Sub u t h = absurd h
-of_one op.Mul u t h = absurd h
-of_one op.Div u t h = absurd h
-of_one op.Rem u t h = absurd h
-of_one op.Eq u t h = absurd h
-of_one op.Ne u t h = absurd h
-of_one op.Lt u t h = absurd h
-of_one op.Le u t h = absurd h
-of_one op.Gt u t h = absurd h
-of_one op.Ge u t h = absurd h
-of_one op.And u t h = absurd h
-of_one op.Or u t h = absurd h
-of_one op.Min u t h = absurd h
-of_one op.Max u t h = absurd h
-
-of_two : (o : Op) (u t : Base) → BinaryBase o u t → t ≡ result_base o
-of_two op.Neg u t h = absurd h
-of_two op.Not u t h = absurd h
-of_two op.Eq u t h = h
-of_two op.Ne u t h = h
-of_two op.Lt u t h = h.1
-of_two op.Le u t h = h.1
-of_two op.Gt u t h = h.1
-of_two op.Ge u t h = h.1
-of_two op.And u t h = h.1
-of_two op.Or u t h = h.1
-of_two op.Add u t h = h.1
-of_two op.Sub u t h = h.1
-of_two op.Mul u t h = h.1
-of_two op.Div u t h = h.1
-of_two op.Rem u t h = h.1
-of_two op.Min u t h = h.1
-of_two op.Max u t h = h.1
-
-pub unary_told : (t : BaseTable) (o : Op) (x : Var) (v : Base) → v ≡ result_base o → TellsRight t (Plain (PlainTerm.Unary o x)) v
-unary_told t o x v e core m g ts d w tells = d.1.3 ∙ (λ i. (of_one o d.0 d.1.0 d.1.2 ∙ sym e) i ∷ [])
-
-pub binary_told : (t : BaseTable) (o : Op) (x y : Var) (v : Base) → v ≡ result_base o → TellsRight t (Plain (PlainTerm.Binary o x y)) v
-binary_told t o x y v e core m g ts d w tells = d.1.4 ∙ (λ i. (of_two o d.0 d.1.0 d.1.3 ∙ sym e) i ∷ [])
+literal_right t xs (Some v) h = λ core m g ts d w tells. d.2 ∙ (λ i. h m g d.0 d.1 w tells i ∷ [])

@@ -22,7 +22,7 @@ use Rattle.variable_bases.specs.Table.{may_have, AllGive}
 -- ---- one more signature
 
 pub more : (ss : List Signature) (one : Signature) (takes gives : List Base) → HasSignature ss takes gives → HasSignature (ss ++ one ∷ []) takes gives
-more ss one takes gives h = (h.0, (Contains-append_left ss (one ∷ []) h.0 h.1, h.2, h.3))
+more ss one takes gives h = (h.0, (Contains-append_left ss (one ∷ []) h.0 h.1.0, h.1.1, h.1.2))
 
 pub place_added :
     (fs : List CoreFun) (place : ℕ) (f : CoreFun) (one : Signature) (ss : List Signature) → slice_get fs place ≡ Some f →
@@ -90,8 +90,9 @@ GiveSoFar ss i args table gives = (k : ℕ) → k < i → (d : Signature) → ma
 
 pub all_gave : (ss : List Signature) (i : ℕ) (args : List Var) (table : BaseTable) (gives : List Base) → length ss ≤ i → GiveSoFar ss i args table gives → AllGive ss args table gives
 all_gave ss i args table gives over so_far takes given h may =
-    sym h.3 ∙ ap (λ (x : Signature). x.gives.items) (sym h.1.2)
-    ∙ so_far h.1.0 (omega (arith, h.1.1, over)) h.0 (ap (λ (x : Signature). may_have table args x.takes.items) h.1.2 ∙ ap (λ ts. may_have table args ts) h.2 ∙ may)
+    let at = h.1.0 in
+    sym h.1.2 ∙ ap (λ (x : Signature). x.gives.items) (sym at.2)
+    ∙ so_far at.0 (omega (arith, at.1, over)) h.0 (ap (λ (x : Signature). may_have table args x.takes.items) at.2 ∙ ap (λ ts. may_have table args ts) h.1.1 ∙ may)
 
 pub next_gives :
     (ss : List Signature) (i : ℕ) (one : Signature) (args : List Var) (table : BaseTable) (gives : List Base) → i < length ss → one ≡ get_or ss i one →
@@ -101,3 +102,10 @@ next_gives ss i one args table gives less is this so_far k low d = go (eqb k i) 
     go : (b : Bool) → eqb k i ≡ b → may_have table args (get_or ss k d).takes.items ≡ true → (get_or ss k d).gives.items ≡ gives
     go true e = subst (λ (x : Signature). may_have table args x.takes.items ≡ true → x.gives.items ≡ gives) (sym (ap (λ j. get_or ss j d) (eqb-true k i e) ∙ get_or_default ss i d one less ∙ sym is)) this
     go false e = so_far k (let other : k ≢ i = λ same. absurd (let z : true ≡ false = sym (eq-eqb k i same) ∙ e in cc) in omega (arith, low, other)) d
+
+pub group_gives :
+    (groups : List (List Signature)) (group : ℕ) (ss : List Signature) (args : List Var) (table : BaseTable) (gives : List Base) → slice_get groups group ≡ Some ss →
+    AllGive ss args table gives → (takes given : List Base) → (instances : List Signature) × ((slice_get groups group ≡ Some instances) × HasSignature instances takes given) →
+    may_have table args takes ≡ true → given ≡ gives
+group_gives groups group ss args table gives at all takes given h =
+    all takes given (subst (λ xs. HasSignature xs takes given) (ap (λ o. unwrap_or o ss) (sym h.1.0 ∙ at)) h.1.1)
