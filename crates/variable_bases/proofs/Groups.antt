@@ -11,9 +11,9 @@ use Rattle.sac_base.specs.declared.base.Base.{Base}
 use Rattle.core_ir.specs.declared.tree.Var.{Var}
 use Rattle.core_ir.specs.declared.tree.CoreFun.{CoreFun}
 use Rattle.core_ir.specs.Outcome.{param_types}
-use Rattle.core_ir.specs.Terms.{FunTerm}
+use Rattle.core_ir.specs.Terms.{FunTerm, CoreTerm}
 use Rattle.core_ir.specs.View.{fun_term}
-use Rattle.core_ir.specs.WellFormed.{bases}
+use Rattle.core_ir.specs.WellFormed.{GroupBases, bases}
 use Rattle.variable_bases.specs.declared.signatures.Signature.{Signature}
 use Rattle.variable_bases.specs.declared.table.BaseTable.{BaseTable}
 use Rattle.variable_bases.specs.Instances.{HasSignature, HasPlaces, AddsPlace}
@@ -27,9 +27,11 @@ more ss one takes gives h = (h.0, (Contains-append_left ss (one ∷ []) h.0 h.1.
 pub place_added :
     (fs : List CoreFun) (place : ℕ) (f : CoreFun) (one : Signature) (ss : List Signature) → slice_get fs place ≡ Some f →
     one.takes.items ≡ bases (param_types (fun_term f)) → one.gives.items ≡ bases (fun_term f).results → AddsPlace (map fun_term fs) place ss (ss ++ one ∷ [])
-place_added fs place f one ss found takes gives =
-    (more ss one, λ g at. let same : fun_term f ≡ g = ap (λ o. unwrap_or o g) (sym (slice_get-map fun_term fs place ∙ ap (option_map fun_term) found) ∙ at) in
-        subst (λ (h : FunTerm). HasSignature (ss ++ one ∷ []) (bases (param_types h)) (bases h.results)) same (one, (Contains-push ss one, takes, gives)))
+place_added fs place f one ss found takes gives = (
+  more ss one,
+  λ g at. let same : fun_term f ≡ g = ap (λ o. unwrap_or o g) (sym (slice_get-map fun_term fs place ∙ ap (option_map fun_term) found) ∙ at) in
+      subst (λ (h : FunTerm). HasSignature (ss ++ one ∷ []) (bases (param_types h)) (bases h.results)) same (one, (Contains-push ss one, takes, gives)),
+)
 
 pub place_missing : (fs : List CoreFun) (place : ℕ) (ss : List Signature) → slice_get fs place ≡ None → AddsPlace (map fun_term fs) place ss ss
 place_missing fs place ss none =
@@ -109,3 +111,25 @@ pub group_gives :
     may_have table args takes ≡ true → given ≡ gives
 group_gives groups group ss args table gives at all takes given h =
     all takes given (subst (λ xs. HasSignature xs takes given) (ap (λ o. unwrap_or o ss) (sym h.1.0 ∙ at)) h.1.1)
+
+-- ---- look-ups
+
+pub found_at : {A : Type 0} (xs : List A) (i : ℕ) (x : A) → i < length xs → x ≡ get_or xs i x → slice_get xs i ≡ Some x
+found_at [] i x less is = absurd (omega (arith, less))
+found_at (y ∷ ys) zero x less is = ap Some (sym is)
+found_at (y ∷ ys) (suc i) x less is = found_at ys i x (omega (arith, less)) is
+
+pub mapped_at : {A B : Type 0} (f : A → B) (xs : List A) (i : ℕ) (x : A) → i < length xs → x ≡ get_or xs i x → f x ≡ get_or (map f xs) i (f x)
+mapped_at f [] i x less is = refl
+mapped_at f (y ∷ ys) zero x less is = ap f is
+mapped_at f (y ∷ ys) (suc i) x less is = mapped_at f ys i x (omega (arith, less)) is
+
+pub found_mapped : {A B : Type 0} (f : A → B) (xs : List A) (i : ℕ) (x : A) → i < length xs → x ≡ get_or xs i x → slice_get (map f xs) i ≡ Some (f x)
+found_mapped f xs i x less is = slice_get-map f xs i ∙ ap (option_map f) (found_at xs i x less is)
+
+pub has_instances :
+    (core : CoreTerm) (ss : List (List Signature)) → AllPlaces core.functions core.groups ss → (group : ℕ) (takes gives : List Base) → GroupBases core group takes gives →
+    (instances : List Signature) × ((slice_get ss group ≡ Some instances) × HasSignature instances takes gives)
+has_instances core ss all group takes gives (places, (place, (f, (at, one, found, is_taken, is_given)))) =
+    let h = group_found core.functions core.groups ss all group places at in
+    (h.0, (h.1.0, subst (λ us. HasSignature h.0 us gives) is_taken (subst (λ us. HasSignature h.0 (bases (param_types f)) us) is_given (h.1.1 place f one found))))

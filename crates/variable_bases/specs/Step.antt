@@ -42,4 +42,3 @@ module _ (core : CoreTerm) (m : BaseTable) where
     pub FollowsParts : (r : PartsTerm) (g : Bases) (t : Base) → PartsBases core g r t → Type 0
     FollowsParts NoParts g t d = Unit {0}
     FollowsParts (Part h b rest) g t d = (Int ≡ m h.index) × Follows b ((h.index, Int) ∷ g) (t ∷ []) d.0 × FollowsParts rest g t d.1
-

@@ -84,11 +84,7 @@ fn source(op: CoreOp) -> Var
 }
 
 #[cycle(learning)]
-fn learn_with(
-    with: &WithLoop,
-    signatures: &Signatures,
-    table: &mut BaseTable,
-) -> Result<(), Memory>
+fn learn_with(with: &WithLoop, signatures: &Signatures, table: &mut BaseTable) -> Result<(), Memory>
     ensures { OnOk result (LearnsGens signatures.now table.old table.new (gens_in (with_term with.now))) }
 {
     for generator in &with.gens {
@@ -125,11 +121,7 @@ fn learn_parted(
 }
 
 #[cycle(learning)]
-fn learn_part(
-    part: &CorePart,
-    signatures: &Signatures,
-    table: &mut BaseTable,
-) -> Result<(), Memory>
+fn learn_part(part: &CorePart, signatures: &Signatures, table: &mut BaseTable) -> Result<(), Memory>
     ensures { OnOk result (LearnsPart signatures.now table.old table.new (part_term part.now)) }
 {
     table.note_numbers(&[part.index])?;

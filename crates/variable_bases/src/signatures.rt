@@ -46,7 +46,9 @@ impl Signatures {
         ensures { IfSome result (λ gives. GroupGives self.now group args.now table.now gives.now) }
     {
         let signatures = self.groups.get(group as usize)?;
-        let first = signatures.iter().find(|signature| table.may_have(args, &signature.takes))?;
+        let first = signatures
+            .iter()
+            .find(|signature| table.may_have(args, &signature.takes))?;
         if all_give(signatures, args, table, &first.gives) {
             Some(&first.gives)
         } else {

@@ -84,10 +84,10 @@ learn_right-returns-in_ok-take_each-in-If t c =
     let between = c.take_each.new.self in
     let after = c.take_each-in-If.new.self in
     let learned = λ (no_taken : Takes xs c.deref-in-If.result.now between after).
-        Learning.if_learned s c.args.table.now c.learn_block.new.table before between after xs c.in-If.cond (block_term c.in-If.yes) (block_term c.in-If.no)
-        c.in_ok-learn_block-in-If.ensures c.in_ok-learn_block-in-If-2.ensures
-        (Learning.takes_results xs c.deref.result.now c.in-If.yes before between c.deref.ensures.value c.in_ok-take_each-in-If.ensures)
-        (Learning.takes_results xs c.deref-in-If.result.now c.in-If.no between after c.deref-in-If.ensures.value no_taken) in
+    Learning.if_learned s c.args.table.now c.learn_block.new.table before between after xs c.in-If.cond (block_term c.in-If.yes) (block_term c.in-If.no)
+    c.in_ok-learn_block-in-If.ensures c.in_ok-learn_block-in-If-2.ensures
+    (Learning.takes_results xs c.deref.result.now c.in-If.yes before between c.deref.ensures.value c.in_ok-take_each-in-If.ensures)
+    (Learning.takes_results xs c.deref-in-If.result.now c.in-If.no between after c.deref-in-If.ensures.value no_taken) in
     subst (λ (r : Right). OnOk c.take_each-in-If.result (LearnsRight s c.args.table.now after xs (right_term r))) (sym c.in-If.is)
     (on_ok_weaker c.take_each-in-If.result learned c.take_each-in-If.ensures)
 
@@ -97,13 +97,13 @@ learn_right-returns-in_ok-learn_block-in-Loop-2 t c =
     let xs = c.args.targets.now in
     let l = c.in-Loop in
     let begin : Takes l.params.items l.start.items c.args.table.now c.take_each-in-Loop.new.self =
-        subst (λ ys. Takes l.params.items ys c.args.table.now c.take_each-in-Loop.new.self) c.deref-in-Loop-2.ensures.value
-        (subst (λ ys. Takes ys c.deref-in-Loop-2.result.now c.args.table.now c.take_each-in-Loop.new.self) c.deref-in-Loop.ensures.value c.in_ok-take_each-in-Loop.ensures) in
+    subst (λ ys. Takes l.params.items ys c.args.table.now c.take_each-in-Loop.new.self) c.deref-in-Loop-2.ensures.value
+    (subst (λ ys. Takes ys c.deref-in-Loop-2.result.now c.args.table.now c.take_each-in-Loop.new.self) c.deref-in-Loop.ensures.value c.in_ok-take_each-in-Loop.ensures) in
     let after = c.take_each-in-Loop-2.new.self in
     let before = c.learn_block-in-Loop-2.new.table in
     let learned = λ (leave : Takes xs c.deref-in-Loop-3.result.now before after).
-        Learning.loop_learned s c.args.table.now c.take_each-in-Loop.new.self c.learn_block-in-Loop.new.table before after xs l.first_body l.start.items l.params.items (block_term l.test) (block_term l.body) l.test_site
-        begin c.in_ok-learn_block-in-Loop.ensures c.in_ok-learn_block-in-Loop-2.ensures (subst (λ ys. Takes xs ys before after) c.deref-in-Loop-3.ensures.value leave) in
+    Learning.loop_learned s c.args.table.now c.take_each-in-Loop.new.self c.learn_block-in-Loop.new.table before after xs l.first_body l.start.items l.params.items (block_term l.test) (block_term l.body) l.test_site
+    begin c.in_ok-learn_block-in-Loop.ensures c.in_ok-learn_block-in-Loop-2.ensures (subst (λ ys. Takes xs ys before after) c.deref-in-Loop-3.ensures.value leave) in
     subst (λ (r : Right). OnOk c.take_each-in-Loop-2.result (LearnsRight s c.args.table.now after xs (right_term r))) (sym l.is)
     (on_ok_weaker c.take_each-in-Loop-2.result learned c.take_each-in-Loop-2.ensures)
 
@@ -114,7 +114,7 @@ learn_right-returns-in-Some t c =
     let gives = c.in-Some.gives.now in
     let after = c.note_each.new.self in
     let all : GroupGives s c.in-Call.group c.in-Call.args.items c.args.table.now gives =
-        subst (λ ys. GroupGives s c.in-Call.group ys c.args.table.now gives) c.deref-in-Call.ensures.value c.in-Some.ensures in
+    subst (λ ys. GroupGives s c.in-Call.group ys c.args.table.now gives) c.deref-in-Call.ensures.value c.in-Some.ensures in
     subst (λ (r : Right). OnOk c.note_each.result (LearnsRight s c.args.table.now after xs (right_term r))) (sym c.in-Call.is)
     (on_ok_weaker c.note_each.result (Learning.call_learned s c.args.table.now after xs c.in-Call.group c.in-Call.args.items gives all) c.note_each.ensures)
 
@@ -126,7 +126,7 @@ learn_right-returns-in_ok-learn_with-in-With t c =
     let before = c.learn_with.new.table in
     let after = c.take_each-in-With.new.self in
     let learned = λ (take : Takes xs (c.source.result ∷ []) before after).
-        Learning.whole_with s w c.args.table.now before after xs c.in_ok-learn_with-in-With.ensures (subst (λ (y : Var). Takes xs (y ∷ []) before after) c.source.ensures take) in
+    Learning.whole_with s w c.args.table.now before after xs c.in_ok-learn_with-in-With.ensures (subst (λ (y : Var). Takes xs (y ∷ []) before after) c.source.ensures take) in
     subst (λ (r : Right). OnOk c.take_each-in-With.result (LearnsRight s c.args.table.now after xs (right_term r))) (sym c.in-With.is)
     (on_ok_weaker c.take_each-in-With.result learned c.take_each-in-With.ensures)
 
