@@ -1,5 +1,5 @@
 -- What a table learns, binding after binding.
-use Rattle.std.proofs.Common.{◌≡◌, ℕ, suc, ◌+◌, ◌<◌, ◌≤◌, Bool, true, false, cond, eqb, List, [], ◌∷◌, ◌++◌, map, drop, length, get_or, Some, refl, sym, ap, subst, ◌∙◌, arith}
+use Rattle.std.proofs.Common.{◌≡◌, ℕ, ◌+◌, ◌<◌, ◌≤◌, Bool, List, [], ◌∷◌, ◌++◌, map, drop, length, get_or, sym, ap, subst, ◌∙◌}
 use Rattle.std.specs.Prelude.{zip}
 use Rattle.std.proofs.lemmas.List.{drop_more, at_drop_all}
 use Rattle.sac_base.specs.declared.base.Base.{Base}
@@ -18,8 +18,8 @@ use Rattle.core_ir.specs.declared.tree.WithLoop.{WithLoop, out-WithLoop}
 use Rattle.core_ir.specs.declared.tree.PartedLoop.{PartedLoop, out-PartedLoop}
 use Rattle.core_ir.specs.View.{block_term, let_term, right_term, with_term, gen_term, parted_term, part_term}
 use Rattle.core_ir.proofs.Trees.{block_out, with_out, parted_out}
-use Rattle.core_ir.specs.Terms.{BlockTerm, RightTerm, GensTerm, PartsTerm, GenTerm, PartTerm, Gives, Bind, NoGens, Gen, NoParts, Part, chain, gens_of, parts_of}
-use Rattle.core_ir.specs.WellFormed.{Bases, OperationBase, HasBase, ints}
+use Rattle.core_ir.specs.Terms.{BlockTerm, RightTerm, GensTerm, PartsTerm, GenTerm, PartTerm, Gives, Bind, Gen, Part, chain, gens_of, parts_of}
+use Rattle.core_ir.specs.WellFormed.{Bases, OperationBase, ints}
 use Rattle.variable_bases.specs.Step.{Within}
 use Rattle.variable_bases.specs.Step.{BaseTable as AllBases}
 use Rattle.variable_bases.specs.declared.signatures.Signatures.{Signatures}

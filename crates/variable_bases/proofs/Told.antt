@@ -1,15 +1,12 @@
 -- What a table tells of the operands of right sides.
-use Rattle.std.proofs.Common.{◌≡◌, ℕ, zero, suc, ◌<◌, Bool, true, false, ◌&&◌, cond, eqb, List, [], ◌∷◌, map, length, get_or, Option, Some, None, refl, sym, ap, ◌∙◌, arith}
+use Rattle.std.proofs.Common.{◌≡◌, ℕ, zero, suc, ◌<◌, Bool, true, false, ◌&&◌, List, [], ◌∷◌, map, length, get_or, Option, Some, None, refl, sym, ap, ◌∙◌, arith}
 use Rattle.sac_base.specs.declared.base.Base.{Base}
 use Rattle.sac_base.specs.declared.base.Base.TheVariants.{Int, Bool as Truth}
 use Rattle.sac_base.specs.Arrays.{same_base}
 use Rattle.core_ir.specs.declared.tree.Var.{Var}
 use Rattle.std.specs.Prelude.{IfSome}
-use Rattle.sac_base.specs.declared.op.Op.{Op}
-use Rattle.sac_base.specs.declared.op.Op.TheVariants as op
-use Rattle.sac_base.specs.Operators.{result_base}
 use Rattle.core_ir.specs.Terms.{PlainTerm, Plain}
-use Rattle.core_ir.specs.WellFormed.{Bases, HasBase, AllHave, LiteralBase, UnaryBase, BinaryBase}
+use Rattle.core_ir.specs.WellFormed.{Bases, HasBase, AllHave, LiteralBase}
 use Rattle.variable_bases.specs.Learned.{TellsLiteral, TellsRight}
 use Rattle.variable_bases.specs.Step.{Within}
 use Rattle.variable_bases.specs.Step.{BaseTable as AllBases}

@@ -7,7 +7,7 @@ use Rattle.core_ir.specs.declared.tree.Var.{Var}
 use Rattle.core_ir.specs.declared.tree.WithLoop.{out-WithLoop}
 use Rattle.core_ir.specs.declared.tree.PartedLoop.{out-PartedLoop}
 use Rattle.core_ir.specs.Terms.{BlockTerm, RightTerm}
-use Rattle.core_ir.specs.View.{block_term, right_term, gen_term, part_term}
+use Rattle.core_ir.specs.View.{block_term, right_term}
 use Rattle.core_ir.proofs.Trees.{block_out, with_out, parted_out}
 use Rattle.variable_bases.specs.Learned.{Takes, LearnsBlock, LearnsRight, LearnsGens, LearnsParts, gens_in, parts_in}
 use Rattle.variable_bases.specs.Table.{GroupGives}

@@ -1,4 +1,3 @@
-use Rattle.std.proofs.Common.{arith}
 use Rattle.variable_bases.proofs.Notes.{number_noted}
 use Rattle.variable_bases.proofs.table.BaseTable.note_numbers.Goals as goal
 
