@@ -1,0 +1,5 @@
+pub mod Rows
+pub mod Uses
+pub mod Candidates
+pub mod Marked
+pub mod Left
