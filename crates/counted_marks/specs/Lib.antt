@@ -1,0 +1,4 @@
+pub mod Bases
+pub mod Known
+pub mod Marks
+pub mod Marking
