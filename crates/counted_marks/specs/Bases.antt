@@ -1,8 +1,9 @@
 -- The bases of variables before a run.
-use Rattle.std.specs.Prelude.{ℕ, cond, eqb, List, [], ◌∷◌, map, Option, Some, None, slice_get}
+use Rattle.std.specs.Prelude.{ℕ, if◌then◌else◌, cond, eqb, List, [], ◌∷◌, map, Option, Some, None, slice_get}
 use Rattle.sac_base.specs.declared.base.Base.{Base}
-use Rattle.sac_base.specs.declared.base.Base.TheVariants.{Int, Bool as Truth}
+use Rattle.sac_base.specs.declared.base.Base.TheVariants.{Int}
 use Rattle.sac_base.specs.declared.types.ArrayType.{ArrayType}
+use Rattle.sac_base.specs.Arrays.{same_base}
 use Rattle.sac_base.specs.Operators.{result_base}
 use Rattle.core_ir.specs.declared.tree.Var.{Var}
 use Rattle.core_ir.specs.declared.tree.CoreOp.{CoreOp}
@@ -81,13 +82,8 @@ module _ (typed : ℕ → List (Option Base)) where
 
 -- ---- functions
 
-abbrev pub same_base : Base → Base → Option Base
-same_base Int Int = Some Int
-same_base Truth Truth = Some Truth
-same_base _ _ = None
-
 abbrev pub both_bases : Option Base → Option Base → Option Base
-both_bases (Some s) (Some t) = same_base s t
+both_bases (Some s) (Some t) = if same_base s t then Some s else None
 both_bases _ _ = None
 
 abbrev pub common_bases : List (Option Base) → List (Option Base) → List (Option Base)

@@ -1,9 +1,8 @@
 -- Each loop that has a candidate is marked with the one of the least number, in the place of its release.
 use Rattle.std.specs.Prelude.{◌&&◌, not, Bool, true, false, cond, eqb, if◌then◌else◌, nat_lt, ℕ, List, [], ◌∷◌, map, Option, Some, None}
 use Rattle.sac_base.specs.declared.base.Base.{Base}
-use Rattle.sac_base.specs.declared.base.Base.TheVariants.{Int, Bool as Truth}
 use Rattle.sac_base.specs.declared.grid.Grid1.{Grid1}
-use Rattle.sac_base.specs.Arrays.{same_shape}
+use Rattle.sac_base.specs.Arrays.{same_base, same_shape}
 use Rattle.core_ir.specs.declared.tree.Var.{Var}
 use Rattle.core_ir.specs.declared.tree.PartedOp.{PartedOp}
 use Rattle.core_ir.specs.Meaning.{extents}
@@ -19,9 +18,8 @@ use Rattle.counted_marks.specs.Marks.{own_parts, releases_next}
 -- ---- candidates, as a test
 
 abbrev pub is_base : Base → Option Base → Bool
-is_base Int (Some Int) = true
-is_base Truth (Some Truth) = true
-is_base _ _ = false
+is_base t None = false
+is_base t (Some u) = same_base u t
 
 abbrev pub is_known_shape : List ℕ → Option (List ℕ) → Bool
 is_known_shape shape (Some s) = same_shape s shape

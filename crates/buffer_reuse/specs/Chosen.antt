@@ -1,0 +1,17 @@
+-- What a loop takes over, by the steps behind it.
+use Rattle.std.specs.Prelude.{◌≡◌, ◌&&◌, ℕ, Bool, List}
+use Rattle.sac_base.specs.declared.base.Base.{Base}
+use Rattle.core_ir.specs.declared.tree.Var.{Var}
+use Rattle.core_uses.specs.Tests.{none_is}
+use Rattle.counted_code.specs.Terms.{CodeTerm, Giving}
+use Rattle.counted_marks.specs.Known.{Known}
+use Rattle.counted_marks.specs.Marking.{is_base, is_known_shape}
+use Rattle.counted_marks.specs.Marks.{releases_next}
+
+-- the end of a block
+abbrev pub Ends : CodeTerm → Type 0
+Ends t = (xs : List Var) × (t ≡ Giving xs)
+
+-- an array that was there before the loop, has this base and shape, and ends behind it
+abbrev pub fits : Known → List Var → Base → List ℕ → CodeTerm → Var → Bool
+fits k targets base shape rest v = none_is v targets && (releases_next v rest && (is_base base (k.bases v) && is_known_shape shape (k.facts v).shape))
