@@ -6,7 +6,7 @@ use Rattle.core_uses.specs.Tests.{none_is}
 use Rattle.counted_code.specs.Terms.{CodeTerm, Giving}
 use Rattle.counted_marks.specs.Known.{Known}
 use Rattle.counted_marks.specs.Marking.{is_base, is_known_shape}
-use Rattle.counted_marks.specs.Marks.{releases_next}
+use Rattle.mark_places.specs.Places.{releases_next}
 
 -- the end of a block
 abbrev pub Ends : CodeTerm → Type 0

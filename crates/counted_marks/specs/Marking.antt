@@ -12,8 +12,9 @@ use Rattle.counted_code.specs.Terms.{CodeTerm, CodeRightTerm, CodeGensTerm, Code
 use Rattle.counted_code.specs.Terms.{Releasing, PlainCode, IfCode, LoopCode, CallCode, WithCode, PartedCode, NoCodeGens, GenCode, NoCodeParts}
 use Rattle.counted_code.specs.Terms.{PartCode, core_of_right, core_of_fun, core_of_code}
 use Rattle.counted_code.specs.Values.{is_small}
+use Rattle.mark_places.specs.Places.{releases_next, without_release}
 use Rattle.counted_marks.specs.Known.{Given, Known, learned, in_loop, in_gen, in_part, at_start, given}
-use Rattle.counted_marks.specs.Marks.{own_parts, releases_next}
+use Rattle.counted_marks.specs.Marks.{own_parts}
 
 -- ---- candidates, as a test
 
@@ -63,17 +64,16 @@ with_mark (Some v) (PartedCode f b c op parts reuse) = PartedCode f b c op parts
 with_mark _ r = r
 
 -- without the release before the next binding
-abbrev pub without_release : Option Var → CodeTerm → CodeTerm
-without_release (Some v) (Releasing x b) = cond (eqb v.0 x.0) b (Releasing x (without_release (Some v) b))
-without_release (Some v) (Keeping x b) = Keeping x (without_release (Some v) b)
-without_release _ t = t
+abbrev pub released_by : Option Var → CodeTerm → CodeTerm
+released_by None t = t
+released_by (Some v) t = without_release v t
 
 module _ (g : Given) where
   abbrev mutual
     pub marking : CodeTerm → Known → CodeTerm
     marking (Giving xs) k = Giving xs
     marking (Binding xs s r b) k =
-        Binding xs s (with_mark (choice g k xs r b) (marking_right r k)) (without_release (choice g k xs r b) (marking b (learned g k xs (core_of_right r))))
+        Binding xs s (with_mark (choice g k xs r b) (marking_right r k)) (released_by (choice g k xs r b) (marking b (learned g k xs (core_of_right r))))
     marking (Keeping x b) k = Keeping x (marking b k)
     marking (Releasing x b) k = Releasing x (marking b k)
 

@@ -19,6 +19,7 @@ use Rattle.counted_code.specs.Terms.{CodeTerm, CodeRightTerm, CodeGensTerm, Code
 use Rattle.counted_code.specs.Terms.{Releasing, PlainCode, IfCode, LoopCode, CallCode, WithCode, PartedCode, NoCodeGens, GenCode, NoCodeParts}
 use Rattle.counted_code.specs.Terms.{PartCode, core_of_right, core_of_fun, core_of_code}
 use Rattle.counted_code.specs.Values.{is_small}
+use Rattle.mark_places.specs.Places.{releases_next}
 use Rattle.counted_marks.specs.Known.{Given, Known, learned, in_loop, in_gen, in_part, at_start, given}
 
 -- ---- uses of an array in a loop's cells
@@ -79,17 +80,12 @@ pub record MayReuse (g : Given) (k : Known) (frame : List Grid1) (base : Base) (
   pub shape : (k.facts v).shape ≡ Some (extents frame)
   pub own : own_parts g.shapes v parts k.facts ≡ true
 
--- before the next binding the block releases v, and does not keep it before
-abbrev pub releases_next : Var → CodeTerm → Bool
-releases_next v (Releasing x b) = cond (eqb v.0 x.0) true (releases_next v b)
-releases_next v (Keeping x b) = cond (eqb v.0 x.0) false (releases_next v b)
-releases_next v _ = false
-
 -- A loop that binds these variables and an array that it may take over, before the rest of the block. The array was there before the loop.
 pub record IsCandidate (g : Given) (k : Known) (targets : List Var) (frame : List Grid1) (base : Base) (cell : List ℕ) (op : PartedOp) (parts : CodePartsTerm)
     (rest : CodeTerm) (v : Var) : Type 0 where
   pub before : is_in v targets ≡ false
   pub may : MayReuse g k frame base cell op parts v
+  -- the block releases it before its next binding
   pub released : releases_next v rest ≡ true
 
 -- ---- well-marked code

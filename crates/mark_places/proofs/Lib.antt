@@ -1,0 +1,5 @@
+pub mod Cores
+pub mod Counts
+pub mod Orders
+pub mod Programs
+pub mod Prompts
