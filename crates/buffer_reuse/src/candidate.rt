@@ -1,16 +1,14 @@
 //! The array that a loop takes over.
 
-ghost use Rattle.std.specs.Prelude.{◌≡◌, IfOk, OnOk, map, None};
-ghost use Rattle.core_ir.specs.Meaning.{extents as extents_of};
+ghost use Rattle.std.specs.Prelude.{◌≡◌, IfOk, OnOk};
 ghost use Rattle.counted_code.specs.Terms.{CodeTerm};
 ghost use Rattle.counted_code.specs.Values.{is_small as is_small_shape};
 ghost use Rattle.counted_code.specs.View.{steps_before, code_parted_term};
-ghost use Rattle.counted_marks.specs.Marking.{is_base as base_is, is_known_shape, lesser as lesser_of, makes_buffer as makes_of};
-ghost use Rattle.counted_marks.specs.Marks.{releases_next as next_released};
-ghost use Rattle.fact_table.specs.Table.{facts_of};
-ghost use Rattle.plain_facts.specs.Called.{shapes_of};
-ghost use Rattle.buffer_reuse.specs.Tables.{bases_of};
-ghost use Rattle.buffer_reuse.specs.Chosen.{Ends, chosen, holds_at, Frames};
+ghost use Rattle.counted_marks.specs.Marking.{choice, is_base as base_is, is_known_shape, lesser as lesser_of};
+ghost use Rattle.mark_places.specs.Places.{releases_next as next_released};
+ghost use Rattle.buffer_reuse.specs.Calls.{given_by};
+ghost use Rattle.buffer_reuse.specs.Chosen.{buffer_of, fits as fits_of, Ends};
+ghost use Rattle.buffer_reuse.specs.Tables.{known_by};
 
 use crate::bases::{BaseTable, base_at};
 use crate::calls::Calls;
@@ -40,7 +38,7 @@ pub fn choose(
     bases: &BaseTable,
 ) -> Result<Option<Var>, Memory>
     ensures chosen { IfOk result (λ found. (end : CodeTerm) → Ends end
-        → found ≡ chosen calls.now (facts_of facts.old) (bases_of bases.now) targets.now (code_parted_term parted.now) (steps_before steps.now end)) }
+        → found ≡ choice (given_by calls.now) (known_by facts.old bases.now) targets.now (code_parted_term parted.now) (steps_before steps.now end)) }
     ensures facts { OnOk result (facts.new ≡ facts.old) }
 {
     let Some(shape) = buffer_shape(alloc, parted) else {
@@ -64,7 +62,9 @@ pub fn choose(
 }
 
 /// The shape of a loop's result, where the loop is not marked, and makes an array of scalar cells that has a buffer.
-fn buffer_shape(alloc: Global, parted: &CodeParted) -> Option<Shape> {
+fn buffer_shape(alloc: Global, parted: &CodeParted) -> Option<Shape>
+    ensures { result ≡ buffer_of (code_parted_term parted.now) }
+{
     if parted.reuse.is_some() || parted.cell.rank() != 0 {
         return None;
     }
@@ -97,11 +97,14 @@ fn fits(
     steps: &[CodeStep],
     facts: &FactTable,
     bases: &BaseTable,
-) -> bool {
+) -> bool
+    ensures { (end : CodeTerm) → Ends end → result
+        ≡ fits_of (known_by facts.now bases.now) targets.now base shape.now (steps_before steps.now end) x }
+{
     avoids_all(x, targets)
+        && releases_next(x, steps)
         && is_base(base, base_at(bases, x))
         && is_shape(shape, &facts.fact(x).shape)
-        && releases_next(x, steps)
 }
 
 fn is_base(base: Base, known: Option<Base>) -> bool

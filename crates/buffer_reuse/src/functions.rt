@@ -1,10 +1,20 @@
 //! Functions and programs.
 
-ghost use Rattle.std.specs.Prelude.{◌≡◌, IfOk, OnOk, map};
-ghost use Rattle.counted_code.specs.Terms.{core_of_fun};
+ghost use Rattle.std.specs.Prelude.{◌≡◌, IfOk, OnOk, Some, map};
+ghost use Rattle.counted_code.specs.Counts.{IsUnmarked, IsWellCounted};
+ghost use Rattle.counted_code.specs.Prompt.{IsPrompt};
+ghost use Rattle.counted_code.specs.Terms.{core_of_code, core_of_fun};
 ghost use Rattle.counted_code.specs.View.{code_fun_term, code_program};
 ghost use Rattle.counted_marks.specs.Marking.{marking_code, marking_fun};
+ghost use Rattle.counted_marks.specs.Marks.{HasNoneLeft, IsWellMarked};
+ghost use Rattle.core_ir.specs.declared.tree.Var.{Var as Variable};
+ghost use Rattle.core_facts.specs.Facts.{note_all, shape_fact};
+ghost use Rattle.core_settled.specs.Called.{shape_of_type};
+ghost use Rattle.counted_marks.specs.Bases.{note_bases};
+ghost use Rattle.fact_table.specs.Table.{facts_of};
+ghost use Rattle.sac_base.specs.declared.types.ArrayType.{ArrayType as TypeOf};
 ghost use Rattle.buffer_reuse.specs.Calls.{given_by};
+ghost use Rattle.buffer_reuse.specs.Tables.{bases_of};
 
 use crate::bases::{BaseTable, learn_bases};
 use crate::calls::{Calls, calls_of};
@@ -28,6 +38,17 @@ use std::alloc::Global;
 /// `Memory`: there is none for the program.
 pub fn mark_reuse(alloc: Global, code: Code) -> Result<Code, Memory>
     ensures marked { IfOk result (λ marked. code_program marked ≡ marking_code (code_program code)) }
+    ensures counted { IsWellCounted (code_program code) → IfOk result (λ marked. IsWellCounted (code_program marked)) }
+    ensures prompt { IsPrompt (code_program code) → IfOk result (λ marked. IsPrompt (code_program marked)) }
+    ensures well { IsUnmarked (code_program code) → IfOk result (λ marked. IsWellMarked (code_program marked)) }
+    ensures none_left { IsUnmarked (code_program code) → IfOk result (λ marked. HasNoneLeft (code_program marked)) }
+    ensures same { IfOk result (λ marked. core_of_code (code_program marked) ≡ core_of_code (code_program code)) }
+{
+    mark_code(alloc, code)
+}
+
+fn mark_code(alloc: Global, code: Code) -> Result<Code, Memory>
+    ensures { IfOk result (λ marked. code_program marked ≡ marking_code (code_program code)) }
 {
     let calls = calls_of(alloc, &code)?;
     let Code {
@@ -88,7 +109,12 @@ fn learn_params(
     params: &[(Var, ArrayType)],
     facts: &mut FactTable,
     bases: &mut BaseTable,
-) -> Result<(), Memory> {
+) -> Result<(), Memory>
+    ensures facts { OnOk result (facts_of facts.new ≡ note_all (facts_of facts.old) (map (λ (p : Variable × TypeOf). p.0) params.now)
+        (map (λ (p : Variable × TypeOf). shape_fact (shape_of_type p.1)) params.now)) }
+    ensures bases { OnOk result (bases_of bases.new ≡ note_bases (bases_of bases.old) (map (λ (p : Variable × TypeOf). p.0) params.now)
+        (map (λ (p : Variable × TypeOf). Some p.1.base) params.now)) }
+{
     for (x, ty) in params {
         facts.learn(*x, Known::of_shape(type_shape(&ty.part, &None)))?;
         bases.note(*x, Some(ty.base))?;

@@ -1,15 +1,15 @@
 //! One walk over a block that sets marks in the place of releases.
 
-ghost use Rattle.std.specs.Prelude.{◌≡◌, ◌-◌, IfOk, OnOk, None, List, map, drop, length};
-ghost use Rattle.core_ir.specs.declared.tree.Var.{Var as Variable};
-ghost use Rattle.core_facts.specs.Facts.{block_facts, right_facts};
-ghost use Rattle.counted_code.specs.Terms.{core_of, core_of_right, Binding, CodeTerm};
+ghost use Rattle.std.specs.Prelude.{◌≡◌, ◌-◌, [], ◌∷◌, IfOk, OnOk, map, drop, length};
+ghost use Rattle.core_facts.specs.Facts.{block_facts, common_facts as common_of, right_facts};
+ghost use Rattle.counted_code.specs.Terms.{core_of, core_of_right, Binding, CodeTerm, Releasing};
 ghost use Rattle.counted_code.specs.View.{code_term, code_right_term, code_with_term, code_parted_term, steps_before};
-ghost use Rattle.counted_marks.specs.Bases.{block_bases, right_bases};
+ghost use Rattle.counted_marks.specs.Bases.{block_bases, either_bases as either_of, right_bases};
 ghost use Rattle.counted_marks.specs.Known.{learned};
-ghost use Rattle.counted_marks.specs.Marking.{choice, marking, marking_right, with_mark};
+ghost use Rattle.counted_marks.specs.Marking.{choice, marking, marking_right, released_by, with_mark};
 ghost use Rattle.fact_table.specs.Table.{fact_of};
 ghost use Rattle.buffer_reuse.specs.Calls.{given_by};
+ghost use Rattle.buffer_reuse.specs.Chosen.{Ends};
 ghost use Rattle.buffer_reuse.specs.Pieces.{code_gen_term, code_part_term, marking_gen, marking_part};
 ghost use Rattle.buffer_reuse.specs.Tables.{known_by};
 
@@ -107,7 +107,10 @@ fn pass_release(
     x: Var,
     taken: Option<Var>,
     steps: &mut Vec<CodeStep>,
-) -> Result<Option<Var>, Memory> {
+) -> Result<Option<Var>, Memory>
+    ensures { IfOk result (λ later. (rest : CodeTerm)
+        → steps_before steps.new.items (released_by later rest) ≡ steps_before steps.old.items (released_by taken (Releasing x rest))) }
+{
     match taken {
         Some(v) if v.0 == x.0 => Ok(None),
         _ => {
@@ -127,7 +130,17 @@ fn mark_binding(
     facts: &mut FactTable,
     bases: &mut BaseTable,
     steps: &mut Vec<CodeStep>,
-) -> Result<Option<Var>, Memory> {
+) -> Result<Option<Var>, Memory>
+    ensures marked { IfOk result (λ taken. (later : CodeTerm) → steps_before steps.new.items later
+        ≡ steps_before steps.old.items (Binding binding.now.targets.items binding.now.site
+        (with_mark taken (marking_right (given_by calls.now) (code_right_term binding.now.right) (known_by facts.old bases.old))) later)) }
+    ensures chosen { IfOk result (λ taken. (end : CodeTerm) → Ends end → taken ≡ choice (given_by calls.now) (known_by facts.old bases.old)
+        binding.now.targets.items (code_right_term binding.now.right) (steps_before rest.now end)) }
+    ensures learned { OnOk result (known_by facts.new bases.new ≡ learned (given_by calls.now) (known_by facts.old bases.old) binding.now.targets.items
+        (core_of_right (code_right_term binding.now.right))) }
+    ensures facts { OnOk result (drop (length facts.new - length facts.old) facts.new ≡ facts.old) }
+    ensures bases { OnOk result (drop (length bases.new - length bases.old) bases.new ≡ bases.old) }
+{
     let taken = match &binding.right {
         CodeRight::Parted(parted) => {
             choose(alloc, &binding.targets, parted, rest, calls, facts, bases)?
@@ -217,7 +230,10 @@ fn mark_right(
 }
 
 /// What is known of one value.
-fn one_value(alloc: Global, known: Known, base: Option<Base>) -> Result<Values, Memory> {
+fn one_value(alloc: Global, known: Known, base: Option<Base>) -> Result<Values, Memory>
+    ensures known { IfOk result (λ values. map fact_of values.known.items ≡ fact_of known ∷ []) }
+    ensures typed { IfOk result (λ values. values.bases.items ≡ base ∷ []) }
+{
     let mut all = Vec::new(alloc);
     all.push(known)?;
     Ok(Values {
@@ -226,14 +242,20 @@ fn one_value(alloc: Global, known: Known, base: Option<Base>) -> Result<Values, 
     })
 }
 
-fn one_base(alloc: Global, base: Option<Base>) -> Result<Vec<Option<Base>>, Memory> {
+fn one_base(alloc: Global, base: Option<Base>) -> Result<Vec<Option<Base>>, Memory>
+    ensures { IfOk result (λ bases. bases.items ≡ base ∷ []) }
+{
     let mut all = Vec::new(alloc);
     all.push(base)?;
     Ok(all)
 }
 
 /// What is known of the results of a conditional, from what is known of those of its two blocks.
-fn either_values(alloc: Global, a: &Values, b: &Values) -> Result<Values, Memory> {
+fn either_values(alloc: Global, a: &Values, b: &Values) -> Result<Values, Memory>
+    ensures known { IfOk result (λ values. map fact_of values.known.items
+        ≡ common_of (map fact_of a.now.known.items) (map fact_of b.now.known.items)) }
+    ensures typed { IfOk result (λ values. values.bases.items ≡ either_of a.now.bases.items b.now.bases.items) }
+{
     Ok(Values {
         known: common_facts(alloc, &a.known, &b.known)?,
         bases: either_bases(alloc, &a.bases, &b.bases)?,
@@ -248,7 +270,16 @@ fn mark_loop(
     calls: &Calls,
     facts: &mut FactTable,
     bases: &mut BaseTable,
-) -> Result<MarkedRight, Memory> {
+) -> Result<MarkedRight, Memory>
+    ensures marked { IfOk result (λ r. code_right_term r.right
+        ≡ marking_right (given_by calls.now) (code_right_term right.now) (known_by facts.old bases.old)) }
+    ensures known { IfOk result (λ r. map fact_of r.values.known.items
+        ≡ right_facts (given_by calls.now).shapes (core_of_right (code_right_term right.now)) (known_by facts.old bases.old).facts) }
+    ensures typed { IfOk result (λ r. r.values.bases.items
+        ≡ right_bases (given_by calls.now).bases (core_of_right (code_right_term right.now)) (known_by facts.old bases.old).bases) }
+    ensures facts { OnOk result (facts.new ≡ facts.old) }
+    ensures bases { OnOk result (bases.new ≡ bases.old) }
+{
     let CodeRight::Loop {
         first_body,
         start,

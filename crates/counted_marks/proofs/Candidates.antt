@@ -11,6 +11,7 @@ use Rattle.core_ir.specs.declared.tree.PartedOp.{PartedOp}
 use Rattle.core_ir.specs.declared.tree.PartedOp.TheVariants as parted
 use Rattle.core_ir.specs.Binders.{is_in}
 use Rattle.core_ir.specs.Meaning.{extents}
+use Rattle.core_facts.specs.Facts.{is_shape}
 use Rattle.core_loops.specs.Pairs.{Makes}
 use Rattle.core_uses.specs.Tests.{none_is}
 use Rattle.counted_code.specs.Loops.{parted_folds}
@@ -85,11 +86,13 @@ module _ (g : Given) (k : Known) (frame : List Grid1) (base : Base) (cell : List
       let made = and_left (makes_buffer frame cell op) (is_base base (k.bases v) && (is_known_shape (extents frame) (k.facts v).shape && own_parts g.shapes v parts k.facts)) p in
       let fits = and_right (makes_buffer frame cell op) (is_base base (k.bases v) && (is_known_shape (extents frame) (k.facts v).shape && own_parts g.shapes v parts k.facts)) p in
       let formed = and_right (is_base base (k.bases v)) (is_known_shape (extents frame) (k.facts v).shape && own_parts g.shapes v parts k.facts) fits in
-      let large = and_right (not (parted_folds op)) (same_shape cell [] && not (is_small (extents frame))) made in
+      let large = and_right (not (parted_folds op)) (same_shape cell [] && (is_shape (extents frame) && not (is_small (extents frame)))) made in
+      let sized = and_right (same_shape cell []) (is_shape (extents frame) && not (is_small (extents frame))) large in
       record {
-        makes = makes_is op (and_left (not (parted_folds op)) (same_shape cell [] && not (is_small (extents frame))) made);
-        scalars = (bytes_eq-Decides cell []).0 (and_left (same_shape cell []) (not (is_small (extents frame))) large);
-        buffer = not_true (is_small (extents frame)) (and_right (same_shape cell []) (not (is_small (extents frame))) large);
+        makes = makes_is op (and_left (not (parted_folds op)) (same_shape cell [] && (is_shape (extents frame) && not (is_small (extents frame)))) made);
+        scalars = (bytes_eq-Decides cell []).0 (and_left (same_shape cell []) (is_shape (extents frame) && not (is_small (extents frame))) large);
+        array = and_left (is_shape (extents frame)) (not (is_small (extents frame))) sized;
+        buffer = not_true (is_small (extents frame)) (and_right (is_shape (extents frame)) (not (is_small (extents frame))) sized);
         base = base_is base (k.bases v) (and_left (is_base base (k.bases v)) (is_known_shape (extents frame) (k.facts v).shape && own_parts g.shapes v parts k.facts) fits);
         shape = shape_is (extents frame) (k.facts v).shape (and_left (is_known_shape (extents frame) (k.facts v).shape) (own_parts g.shapes v parts k.facts) formed);
         own = and_right (is_known_shape (extents frame) (k.facts v).shape) (own_parts g.shapes v parts k.facts) formed;
@@ -103,8 +106,9 @@ module _ (g : Given) (k : Known) (frame : List Grid1) (base : Base) (cell : List
   is_may : MayReuse g k frame base cell op parts v → may_reuse g k frame base cell op parts v ≡ true
   is_may m =
       both_true (makes_buffer frame cell op) (is_base base (k.bases v) && (is_known_shape (extents frame) (k.facts v).shape && own_parts g.shapes v parts k.facts))
-      (both_true (not (parted_folds op)) (same_shape cell [] && not (is_small (extents frame))) (is_made op m.makes)
-      (both_true (same_shape cell []) (not (is_small (extents frame))) ((bytes_eq-Decides cell []).1 m.scalars) (not_false (is_small (extents frame)) m.buffer)))
+      (both_true (not (parted_folds op)) (same_shape cell [] && (is_shape (extents frame) && not (is_small (extents frame)))) (is_made op m.makes)
+      (both_true (same_shape cell []) (is_shape (extents frame) && not (is_small (extents frame))) ((bytes_eq-Decides cell []).1 m.scalars)
+      (both_true (is_shape (extents frame)) (not (is_small (extents frame))) m.array (not_false (is_small (extents frame)) m.buffer))))
       (both_true (is_base base (k.bases v)) (is_known_shape (extents frame) (k.facts v).shape && own_parts g.shapes v parts k.facts) (ap (is_base base) m.base ∙ base_itself base)
       (both_true (is_known_shape (extents frame) (k.facts v).shape) (own_parts g.shapes v parts k.facts) (ap (is_known_shape (extents frame)) m.shape ∙ (bytes_eq-Decides (extents frame) (extents frame)).1 refl) m.own))
 

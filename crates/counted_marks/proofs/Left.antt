@@ -54,10 +54,10 @@ module _ (g : Given) where
   module _ (k : Known) (xs : List Var) (f : List Grid1) (t : Base) (l : List ℕ) (o : PartedOp) (ps : CodePartsTerm) where
     -- the parts may be marked
     may_still : (v : Var) → MayReuse g k f t l o ps v → MayReuse g k f t l o (marking_parts g ps k) v
-    may_still v m = record { makes = m.makes; scalars = m.scalars; buffer = m.buffer; base = m.base; shape = m.shape; own = own_parts_same g.shapes v (parts_marked g ps k) k.facts ∙ m.own }
+    may_still v m = record { makes = m.makes; scalars = m.scalars; array = m.array; buffer = m.buffer; base = m.base; shape = m.shape; own = own_parts_same g.shapes v (parts_marked g ps k) k.facts ∙ m.own }
 
     may_before : (v : Var) → MayReuse g k f t l o (marking_parts g ps k) v → MayReuse g k f t l o ps v
-    may_before v m = record { makes = m.makes; scalars = m.scalars; buffer = m.buffer; base = m.base; shape = m.shape; own = sym (own_parts_same g.shapes v (parts_marked g ps k) k.facts) ∙ m.own }
+    may_before v m = record { makes = m.makes; scalars = m.scalars; array = m.array; buffer = m.buffer; base = m.base; shape = m.shape; own = sym (own_parts_same g.shapes v (parts_marked g ps k) k.facts) ∙ m.own }
 
     loop_well : (rest : CodeTerm) → WellMarkedParts g (marking_parts g ps k) k → (z : Option Var) → choice g k xs (PartedCode f t l o ps None) rest ≡ z → WellMarkedRight g (with_mark z (PartedCode f t l o (marking_parts g ps k) None)) k xs
     loop_well rest w None e = w

@@ -6,6 +6,7 @@ use Rattle.sac_base.specs.Arrays.{same_base, same_shape}
 use Rattle.core_ir.specs.declared.tree.Var.{Var}
 use Rattle.core_ir.specs.declared.tree.PartedOp.{PartedOp}
 use Rattle.core_ir.specs.Meaning.{extents}
+use Rattle.core_facts.specs.Facts.{is_shape}
 use Rattle.counted_code.specs.Loops.{parted_folds}
 use Rattle.core_uses.specs.Tests.{none_is}
 use Rattle.counted_code.specs.Terms.{CodeTerm, CodeRightTerm, CodeGensTerm, CodePartsTerm, CodeFunTerm, CodeProgram, Giving, Binding, Keeping}
@@ -27,7 +28,7 @@ is_known_shape shape (Some s) = same_shape s shape
 is_known_shape shape None = false
 
 abbrev pub makes_buffer : List Grid1 → List ℕ → PartedOp → Bool
-makes_buffer frame cell op = not (parted_folds op) && (same_shape cell [] && not (is_small (extents frame)))
+makes_buffer frame cell op = not (parted_folds op) && (same_shape cell [] && (is_shape (extents frame) && not (is_small (extents frame))))
 
 abbrev pub may_reuse : Given → Known → List Grid1 → Base → List ℕ → PartedOp → CodePartsTerm → Var → Bool
 may_reuse g k frame base cell op parts v =

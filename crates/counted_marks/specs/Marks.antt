@@ -10,7 +10,7 @@ use Rattle.core_ir.specs.Binders.{is_in}
 use Rattle.core_ir.specs.Meaning.{extents}
 use Rattle.core_ir.specs.Scopes.{plain_uses, op_uses, parted_uses}
 use Rattle.core_ir.specs.Terms.{PlainTerm}
-use Rattle.core_facts.specs.Facts.{Facts, note_all, right_facts}
+use Rattle.core_facts.specs.Facts.{Facts, note_all, right_facts, is_shape}
 use Rattle.core_facts.specs.Facts
 use Rattle.core_loops.specs.Indices.{IndexFact, IndexFacts, Plus, Other, own_index, note_index, note_others, learn_index}
 use Rattle.core_loops.specs.Pairs.{Makes}
@@ -75,6 +75,7 @@ own_parts called v (PartCode h b rest) k =
 pub record MayReuse (g : Given) (k : Known) (frame : List Grid1) (base : Base) (cell : List ℕ) (op : PartedOp) (parts : CodePartsTerm) (v : Var) : Type 0 where
   pub makes : Makes op
   pub scalars : cell ≡ []
+  pub array : is_shape (extents frame) ≡ true
   pub buffer : is_small (extents frame) ≡ false
   pub base : k.bases v ≡ Some base
   pub shape : (k.facts v).shape ≡ Some (extents frame)
