@@ -41,7 +41,7 @@ base_is t (Some u) p = ap Some (is_same u t p)
 
 shape_is : (s : List ℕ) (o : Option (List ℕ)) → is_known_shape s o ≡ true → o ≡ Some s
 shape_is s None p = elim (true≢false (sym p)) [ ]
-shape_is s (Some u) p = ap Some (bytes_eq-Decides u s).0 p
+shape_is s (Some u) p = ap Some ((bytes_eq-Decides u s).0 p)
 
 makes_is : (o : PartedOp) → not (parted_folds o) ≡ true → Makes o
 makes_is parted.Genarray p = tt
@@ -93,7 +93,7 @@ module _ (g : Given) (k : Known) (frame : List Grid1) (base : Base) (cell : List
         scalars = (bytes_eq-Decides cell []).0 (and_left (same_shape cell []) (is_shape (extents frame) && not (is_small (extents frame))) large);
         array = and_left (is_shape (extents frame)) (not (is_small (extents frame))) sized;
         buffer = not_true (is_small (extents frame)) (and_right (is_shape (extents frame)) (not (is_small (extents frame))) sized);
-        base = base_is base (k.bases v) (and_left (is_base base (k.bases v)) (is_known_shape (extents frame) (k.facts v).shape && own_parts g.shapes v parts k.facts) fits);
+        typed = base_is base (k.bases v) (and_left (is_base base (k.bases v)) (is_known_shape (extents frame) (k.facts v).shape && own_parts g.shapes v parts k.facts) fits);
         shape = shape_is (extents frame) (k.facts v).shape (and_left (is_known_shape (extents frame) (k.facts v).shape) (own_parts g.shapes v parts k.facts) formed);
         own = and_right (is_known_shape (extents frame) (k.facts v).shape) (own_parts g.shapes v parts k.facts) formed;
       }
@@ -109,7 +109,7 @@ module _ (g : Given) (k : Known) (frame : List Grid1) (base : Base) (cell : List
       (both_true (not (parted_folds op)) (same_shape cell [] && (is_shape (extents frame) && not (is_small (extents frame)))) (is_made op m.makes)
       (both_true (same_shape cell []) (is_shape (extents frame) && not (is_small (extents frame))) ((bytes_eq-Decides cell []).1 m.scalars)
       (both_true (is_shape (extents frame)) (not (is_small (extents frame))) m.array (not_false (is_small (extents frame)) m.buffer))))
-      (both_true (is_base base (k.bases v)) (is_known_shape (extents frame) (k.facts v).shape && own_parts g.shapes v parts k.facts) (ap (is_base base) m.base ∙ base_itself base)
+      (both_true (is_base base (k.bases v)) (is_known_shape (extents frame) (k.facts v).shape && own_parts g.shapes v parts k.facts) (ap (is_base base) m.typed ∙ base_itself base)
       (both_true (is_known_shape (extents frame) (k.facts v).shape) (own_parts g.shapes v parts k.facts) (ap (is_known_shape (extents frame)) m.shape ∙ (bytes_eq-Decides (extents frame) (extents frame)).1 refl) m.own))
 
   module _ (targets : List Var) (rest : CodeTerm) where
@@ -159,41 +159,38 @@ module _ (holds : Var → Bool) where
 
   still_found : (xs : List Var) (o : Option Var) → Found o → Found (least holds o xs)
   still_found [] o f = f
-  still_found (x ∷ xs) o f = go (holds x)
+  still_found (x ∷ xs) o f = still_found xs (if holds x then lesser x o else o) (more (holds x))
     where
       more : (b : Bool) → Found (if b then lesser x o else o)
       more true = lesser_found x o
       more false = f
 
-      go : (b : Bool) → Found (least holds (if b then lesser x o else o) xs)
-      go b = still_found xs (if b then lesser x o else o) (more b)
-
   -- where none is found it holds of none
   pub none_holds : (xs : List Var) (o : Option Var) → least holds o xs ≡ None → (v : Var) → is_in v xs ≡ true → holds v ≡ false
   none_holds [] o e v i = elim (true≢false (sym i)) [ ]
-  none_holds (x ∷ xs) o e v i = go (holds x) refl e (eqb x.0 v.0) refl i
+  none_holds (x ∷ xs) o e v i = go (holds x) refl e (λ f j. none_holds xs o f v j) (eqb x.0 v.0) refl i
     where
-      go : (b : Bool) → holds x ≡ b → least holds (if b then lesser x o else o) xs ≡ None → (same : Bool) → eqb x.0 v.0 ≡ same → (same || is_in v xs) ≡ true → holds v ≡ false
-      go true h f same s j = elim (subst Found f (still_found xs (lesser x o) (lesser_found x o))) [ ]
-      go false h f true s j = subst (λ z. holds z ≡ false) (same_var x v s) h
-      go false h f false s j = none_holds xs o f v j
+      go : (b : Bool) → holds x ≡ b → least holds (if b then lesser x o else o) xs ≡ None → (least holds o xs ≡ None → is_in v xs ≡ true → holds v ≡ false) → (same : Bool) → eqb x.0 v.0 ≡ same → (same || is_in v xs) ≡ true → holds v ≡ false
+      go true h f rest same s j = elim (subst Found f (still_found xs (lesser x o) (lesser_found x o))) [ ]
+      go false h f rest true s j = subst (λ z. holds z ≡ false) (same_var x v s) h
+      go false h f rest false s j = rest f j
 
   -- what is found was there before, or it holds of it
   pub found_holds : (xs : List Var) (o : Option Var) → ((v : Var) → o ≡ Some v → holds v ≡ true) → (v : Var) → least holds o xs ≡ Some v → holds v ≡ true
   found_holds [] o was v e = was v e
-  found_holds (x ∷ xs) o was v e = go (holds x) refl e
+  found_holds (x ∷ xs) o was v e = found_holds xs (if holds x then lesser x o else o) (more (holds x) refl) v e
     where
       some : (u w : Var) → Some u ≡ Some w → u ≡ w
       some u w p = ap (λ (q : Option Var). unwrap_or q u) p
 
+      less : (y u : Var) → (Some y ≡ Some u → holds u ≡ true) → holds x ≡ true → (b : Bool) → (if b then Some x else Some y) ≡ Some u → holds u ≡ true
+      less y u was h true q = subst (λ z. holds z ≡ true) (some x u q) h
+      less y u was h false q = was q
+
       first : (o : Option Var) → ((u : Var) → o ≡ Some u → holds u ≡ true) → holds x ≡ true → (u : Var) → lesser x o ≡ Some u → holds u ≡ true
       first None was h u p = subst (λ z. holds z ≡ true) (some x u p) h
-      first (Some y) was h u p = less (nat_lt x.0 y.0) p
-        where
-          less : (b : Bool) → (if b then Some x else Some y) ≡ Some u → holds u ≡ true
-          less true q = subst (λ z. holds z ≡ true) (some x u q) h
-          less false q = was u q
+      first (Some y) was h u p = less y u (was u) h (nat_lt x.0 y.0) p
 
-      go : (b : Bool) → holds x ≡ b → least holds (if b then lesser x o else o) xs ≡ Some v → holds v ≡ true
-      go true h f = found_holds xs (lesser x o) (first o was h) v f
-      go false h f = found_holds xs o was v f
+      more : (b : Bool) → holds x ≡ b → (u : Var) → (if b then lesser x o else o) ≡ Some u → holds u ≡ true
+      more true h u p = first o was h u p
+      more false h u p = was u p

@@ -54,10 +54,10 @@ module _ (g : Given) where
   module _ (k : Known) (xs : List Var) (f : List Grid1) (t : Base) (l : List ℕ) (o : PartedOp) (ps : CodePartsTerm) where
     -- the parts may be marked
     may_still : (v : Var) → MayReuse g k f t l o ps v → MayReuse g k f t l o (marking_parts g ps k) v
-    may_still v m = record { makes = m.makes; scalars = m.scalars; array = m.array; buffer = m.buffer; base = m.base; shape = m.shape; own = own_parts_same g.shapes v (parts_marked g ps k) k.facts ∙ m.own }
+    may_still v m = record { makes = m.makes; scalars = m.scalars; array = m.array; buffer = m.buffer; typed = m.typed; shape = m.shape; own = own_parts_same g.shapes v (parts_marked g ps k) k.facts ∙ m.own }
 
     may_before : (v : Var) → MayReuse g k f t l o (marking_parts g ps k) v → MayReuse g k f t l o ps v
-    may_before v m = record { makes = m.makes; scalars = m.scalars; array = m.array; buffer = m.buffer; base = m.base; shape = m.shape; own = sym (own_parts_same g.shapes v (parts_marked g ps k) k.facts) ∙ m.own }
+    may_before v m = record { makes = m.makes; scalars = m.scalars; array = m.array; buffer = m.buffer; typed = m.typed; shape = m.shape; own = sym (own_parts_same g.shapes v (parts_marked g ps k) k.facts) ∙ m.own }
 
     loop_well : (rest : CodeTerm) → WellMarkedParts g (marking_parts g ps k) k → (z : Option Var) → choice g k xs (PartedCode f t l o ps None) rest ≡ z → WellMarkedRight g (with_mark z (PartedCode f t l o (marking_parts g ps k) None)) k xs
     loop_well rest w None e = w
@@ -77,10 +77,10 @@ module _ (g : Given) where
 
   -- what is known after a right side is known after it with its marks
   well_after : (xs : List Var) (r : CodeRightTerm) (k : Known) (c : CodeTerm) → WellMarked g c (learned g k xs (core_of_right r)) → WellMarked g c (learned g k xs (core_of_right (marking_right g r k)))
-  well_after xs r k c w = subst (λ (u : RightTerm). WellMarked g c (learned g k xs u)) (sym (right_same (right_marked r k))) w
+  well_after xs r k c w = subst (λ (u : RightTerm). WellMarked g c (learned g k xs u)) (sym (right_same (right_marked g r k))) w
 
   left_after : (xs : List Var) (r : CodeRightTerm) (k : Known) (c : CodeTerm) → NoneLeft g c (learned g k xs (core_of_right r)) → NoneLeft g c (learned g k xs (core_of_right (marking_right g r k)))
-  left_after xs r k c w = subst (λ (u : RightTerm). NoneLeft g c (learned g k xs u)) (sym (right_same (right_marked r k))) w
+  left_after xs r k c w = subst (λ (u : RightTerm). NoneLeft g c (learned g k xs u)) (sym (right_same (right_marked g r k))) w
 
   no_mark : (v : Var) → Some v ≡ None → ⊥
   no_mark v p = true≢false (ap is_there p)
@@ -103,7 +103,7 @@ module _ (g : Given) where
       go (Some v) e = (loop_well k xs f t l o ps b w (Some v) e, well_without (Some v) c (learned g k xs (RightTerm.Parted f t l o (core_of_parts (marking_parts g ps k)))) (well_after xs (PartedCode f t l o ps None) k c n))
 
   -- the blocks in a right side
-  Inside : CodeRightTerm → Known → Type 0
+  abbrev Inside : CodeRightTerm → Known → Type 0
   Inside (PlainCode p) k = Unit {0}
   Inside (IfCode x a b) k = NoneLeft g (marking g a k) k × NoneLeft g (marking g b k) k
   Inside (LoopCode first start params test body s) k = NoneLeft g (marking g test (in_loop k params start)) (in_loop k params start) × NoneLeft g (marking g body (in_loop k params start)) (in_loop k params start)

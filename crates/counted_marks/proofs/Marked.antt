@@ -33,7 +33,7 @@ bind_marked g k xs s (LoopCode first start params test body z) b q c m n = bindi
 bind_marked g k xs s (CallCode group ys) b q c m n = binding m n
 bind_marked g k xs s (WithCode o gens) b q c m n = binding m n
 bind_marked g k xs s (PartedCode f t l o ps (Some w)) b q c m n = binding m n
-bind_marked g k xs s (PartedCode f t l o ps None) b (PartedCode f t l o qs None) c (parts m) n = go (choice g k xs (PartedCode f t l o ps None) b) refl
+bind_marked g k xs s (PartedCode f t l o ps None) b q c (parts {qs = qs} m) n = go (choice g k xs (PartedCode f t l o ps None) b) refl
   where
     go : (z : Option Var) → choice g k xs (PartedCode f t l o ps None) b ≡ z → Marked (Binding xs s (PartedCode f t l o ps None) b) (Binding xs s (with_mark z (PartedCode f t l o qs None)) (released_by z c))
     go None e = binding (parts m) n

@@ -77,7 +77,7 @@ pub record MayReuse (g : Given) (k : Known) (frame : List Grid1) (base : Base) (
   pub scalars : cell ≡ []
   pub array : is_shape (extents frame) ≡ true
   pub buffer : is_small (extents frame) ≡ false
-  pub base : k.bases v ≡ Some base
+  pub typed : k.bases v ≡ Some base
   pub shape : (k.facts v).shape ≡ Some (extents frame)
   pub own : own_parts g.shapes v parts k.facts ≡ true
 
