@@ -1,0 +1,2 @@
+mod BaseNotes
+mod Plains

@@ -103,7 +103,12 @@ pub fn plain_base(right: &CodeRight, table: &BaseTable) -> Option<Base>
         CodeRight::Literal(xs) => literal_base(xs, table),
         CodeRight::Dim(_) | CodeRight::ShapeOf(_) => Some(Base::Int),
         CodeRight::Check(_, ty) => Some(ty.base),
-        _ => None,
+        CodeRight::Always(_)
+        | CodeRight::If { .. }
+        | CodeRight::Loop { .. }
+        | CodeRight::Call { .. }
+        | CodeRight::With(_)
+        | CodeRight::Parted(_) => None,
     }
 }
 

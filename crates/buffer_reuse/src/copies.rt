@@ -35,7 +35,11 @@ pub fn core_right(alloc: Global, right: &CodeRight) -> Result<Right, Memory>
         CodeRight::Replace(x, y, z) => Ok(Right::Replace(*x, *y, *z)),
         CodeRight::Check(x, ty) => Ok(Right::Check(*x, copy_type(ty))),
         CodeRight::Always(kind) => Ok(Right::Always(*kind)),
-        _ => Ok(Right::Always(FaultKind::F7)),
+        CodeRight::If { .. }
+        | CodeRight::Loop { .. }
+        | CodeRight::Call { .. }
+        | CodeRight::With(_)
+        | CodeRight::Parted(_) => Ok(Right::Always(FaultKind::F7)),
     }
 }
 
@@ -56,6 +60,10 @@ pub fn copy_plain(alloc: Global, right: &CodeRight) -> Result<CodeRight, Memory>
         CodeRight::Replace(x, y, z) => Ok(CodeRight::Replace(*x, *y, *z)),
         CodeRight::Check(x, ty) => Ok(CodeRight::Check(*x, copy_type(ty))),
         CodeRight::Always(kind) => Ok(CodeRight::Always(*kind)),
-        _ => Ok(CodeRight::Always(FaultKind::F7)),
+        CodeRight::If { .. }
+        | CodeRight::Loop { .. }
+        | CodeRight::Call { .. }
+        | CodeRight::With(_)
+        | CodeRight::Parted(_) => Ok(CodeRight::Always(FaultKind::F7)),
     }
 }
