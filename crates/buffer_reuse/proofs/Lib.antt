@@ -1,2 +1,4 @@
 mod BaseNotes
+mod OwnTurns
 mod Plains
+mod Trees

@@ -4,7 +4,7 @@ ghost use Rattle.std.specs.Prelude.{◌≡◌, ◌-◌, IfOk, OnOk, map, drop, l
 ghost use Rattle.core_ir.specs.Terms.{Plain};
 ghost use Rattle.counted_code.specs.Terms.{core_of_right};
 ghost use Rattle.counted_code.specs.View.{code_right_term};
-ghost use Rattle.counted_marks.specs.Bases.{either_bases as either_of, literal_base as base_of_literal, note_bases, note_ints, op_base};
+ghost use Rattle.counted_marks.specs.Bases.{either_base as base_of_either, either_bases as either_of, literal_base as base_of_literal, note_bases, note_ints, op_base};
 ghost use Rattle.buffer_reuse.specs.Plain.{base_of_right};
 ghost use Rattle.buffer_reuse.specs.Tables.{bases_of};
 
@@ -81,7 +81,7 @@ pub fn either_bases(
 }
 
 fn either_base(a: Option<Base>, b: Option<Base>) -> Option<Base>
-    ensures { result ≡ Rattle.counted_marks.specs.Bases.either_base a b }
+    ensures { result ≡ base_of_either a b }
 {
     match a {
         Some(base) => Some(base),

@@ -1,11 +1,13 @@
 //! Whether the cells of a loop use an array in selections at their own index alone.
 
-ghost use Rattle.std.specs.Prelude.{◌≡◌, ◌-◌, ◌&&◌, Ok, true, false, IfOk, OnOk, map, drop, length};
+ghost use Rattle.std.specs.List.{list_all};
+ghost use Rattle.std.specs.Ordering.{int_eq};
+ghost use Rattle.std.specs.Prelude.{◌≡◌, ◌-◌, ◌&&◌, ◌∷◌, [], Ok, Some, true, IfOk, OnOk, map, drop, length, option_to_list, pos, replicate};
 ghost use Rattle.core_facts.specs.Facts.{block_facts, note_all, right_facts};
-ghost use Rattle.core_loops.specs.Indices.{learn_index};
+ghost use Rattle.core_loops.specs.Indices.{learn_index as learned_index, note_others};
 ghost use Rattle.core_uses.specs.Tests.{none_is, head_avoided};
 ghost use Rattle.counted_code.specs.Terms.{CodeTerm, core_of, core_of_right};
-ghost use Rattle.counted_code.specs.View.{code_term, steps_before, code_right_term, code_with_term, code_parted_term, code_parts_term};
+ghost use Rattle.counted_code.specs.View.{code_term, step_term, steps_before, code_right_term, code_with_term, code_parted_term, code_parts_term};
 ghost use Rattle.counted_marks.specs.Marks.{is_own_index, own_only, own_right, own_parts as own_in_parts};
 ghost use Rattle.fact_table.specs.Table.{fact_of, facts_of};
 ghost use Rattle.index_table.specs.Table.{index_of, indices_of};
@@ -83,7 +85,7 @@ fn own_part_only(
 }
 
 fn zeros(alloc: Global, count: usize) -> Result<Vec<i32>, Memory>
-    ensures { IfOk result (λ numbers. numbers.items ≡ Rattle.std.specs.Prelude.replicate count (Rattle.std.specs.Prelude.pos 0)) }
+    ensures { IfOk result (λ numbers. numbers.items ≡ replicate count (pos 0)) }
 {
     let mut numbers = Vec::new(alloc);
     numbers.resize(count, 0)?;
@@ -171,10 +173,10 @@ fn pass_step(
     indices: &mut IndexTable,
 ) -> Result<bool, Memory>
     ensures own { IfOk result (λ passed. (end : CodeTerm)
-        → own_only (shapes_of called.now) sought.array sought.axes (Rattle.counted_code.specs.View.step_term step.now end) (facts_of facts.old) (indices_of indices.old)
+        → own_only (shapes_of called.now) sought.array sought.axes (step_term step.now end) (facts_of facts.old) (indices_of indices.old)
         ≡ (passed && own_only (shapes_of called.now) sought.array sought.axes end (facts_of facts.new) (indices_of indices.new))) }
     ensures known { result ≡ Ok true → (end : CodeTerm)
-        → block_facts (shapes_of called.now) (core_of (Rattle.counted_code.specs.View.step_term step.now end)) (facts_of facts.old)
+        → block_facts (shapes_of called.now) (core_of (step_term step.now end)) (facts_of facts.old)
         ≡ block_facts (shapes_of called.now) (core_of end) (facts_of facts.new) }
     ensures facts { OnOk result (drop (length facts.new - length facts.old) facts.new ≡ facts.old) }
     ensures indices { OnOk result (drop (length indices.new - length indices.old) indices.new ≡ indices.old) }
@@ -201,7 +203,7 @@ fn pass_binding(
     ensures known { result ≡ Ok true → facts_of facts.new ≡ note_all (facts_of facts.old) binding.now.targets.items
         (right_facts (shapes_of called.now) (core_of_right (code_right_term binding.now.right)) (facts_of facts.old)) }
     ensures beside { result ≡ Ok true → indices_of indices.new
-        ≡ learn_index sought.axes (indices_of indices.old) binding.now.targets.items (core_of_right (code_right_term binding.now.right)) (facts_of facts.old) }
+        ≡ learned_index sought.axes (indices_of indices.old) binding.now.targets.items (core_of_right (code_right_term binding.now.right)) (facts_of facts.old) }
     ensures facts { OnOk result (drop (length facts.new - length facts.old) facts.new ≡ facts.old) }
     ensures indices { OnOk result (drop (length indices.new - length indices.old) indices.new ≡ indices.old) }
 {
@@ -282,7 +284,7 @@ fn own_values(
 
 /// What is known of one value.
 fn one(alloc: Global, known: Known) -> Result<Option<Vec<Known>>, Memory>
-    ensures { IfOk result (λ all. seen all ≡ Rattle.std.specs.Prelude.Some (fact_of known Rattle.std.specs.Prelude.∷ Rattle.std.specs.Prelude.[])) }
+    ensures { IfOk result (λ all. seen all ≡ Some (fact_of known ∷ [])) }
 {
     let mut all = Vec::new(alloc);
     all.push(known)?;
@@ -317,7 +319,7 @@ fn is_own(relation: &Relation) -> bool
 }
 
 fn are_zero(numbers: &[i32]) -> bool
-    ensures { result ≡ Rattle.std.specs.List.list_all (λ z. Rattle.std.specs.Ordering.int_eq z (Rattle.std.specs.Prelude.pos 0)) numbers.now }
+    ensures { result ≡ list_all (λ z. int_eq z (pos 0)) numbers.now }
 {
     for number in numbers {
         if *number != 0 {
@@ -364,7 +366,7 @@ fn in_turns(
 
 /// No variable of these has a relation to the index.
 fn forget_relations(indices: &mut IndexTable, vars: &[Var]) -> Result<(), Memory>
-    ensures forgotten { OnOk result (indices_of indices.new ≡ Rattle.core_loops.specs.Indices.note_others (indices_of indices.old) vars.now) }
+    ensures forgotten { OnOk result (indices_of indices.new ≡ note_others (indices_of indices.old) vars.now) }
     ensures behind { drop (length indices.new - length indices.old) indices.new ≡ indices.old }
 {
     for var in vars {
@@ -434,7 +436,7 @@ fn avoids_head(x: Var, generator: &CodeGen) -> bool
 }
 
 fn avoids_option(x: Var, other: &Option<Var>) -> bool
-    ensures { result ≡ none_is x (Rattle.std.specs.Prelude.option_to_list other.now) }
+    ensures { result ≡ none_is x (option_to_list other.now) }
 {
     match other {
         Some(y) => avoids_all(x, &[*y]),

@@ -148,12 +148,17 @@ fn mark_binding(
         _ => None,
     };
     let marked = mark_right(alloc, &binding.right, taken, calls, facts, bases)?;
-    learn_all(facts, &binding.targets, marked.values.known)?;
-    learn_bases(bases, &binding.targets, &marked.values.bases)?;
+    let MarkedRight { right, values } = marked;
+    let Values {
+        known,
+        bases: typed,
+    } = values;
+    learn_all(facts, &binding.targets, known)?;
+    learn_bases(bases, &binding.targets, &typed)?;
     steps.push(CodeStep::Bind(CodeLet {
         targets: copy_vars(alloc, &binding.targets)?,
         site: binding.site,
-        right: marked.right,
+        right,
     }))?;
     Ok(taken)
 }
