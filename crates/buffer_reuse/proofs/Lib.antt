@@ -1,4 +1,7 @@
 mod BaseNotes
+mod Groups
+mod OwnEnds
 mod OwnTurns
+mod Pairs
 mod Plains
 mod Trees

@@ -1,10 +1,11 @@
 //! The bases of variables, in a table that the end of a block takes back.
 
-ghost use Rattle.std.specs.Prelude.{◌≡◌, ◌-◌, IfOk, OnOk, map, drop, length};
-ghost use Rattle.core_ir.specs.Terms.{Plain};
+ghost use Rattle.std.specs.Prelude.{◌≡◌, ◌+◌, ◌-◌, ◌∷◌, IfOk, List, OnOk, map, drop, length};
 ghost use Rattle.counted_code.specs.Terms.{core_of_right};
 ghost use Rattle.counted_code.specs.View.{code_right_term};
-ghost use Rattle.counted_marks.specs.Bases.{either_base as base_of_either, either_bases as either_of, literal_base as base_of_literal, note_bases, note_ints, op_base};
+ghost use Rattle.counted_marks.specs.Bases.{BaseFacts, note_base, note_bases, note_ints, op_base};
+ghost use Rattle.counted_marks.specs.Bases.{either_base as base_of_either, either_bases as either_of, literal_base as base_of_literal};
+ghost use Rattle.core_ir.specs.declared.tree.Var.{Var as Variable};
 ghost use Rattle.buffer_reuse.specs.Plain.{base_of_right};
 ghost use Rattle.buffer_reuse.specs.Tables.{bases_of};
 
@@ -48,10 +49,20 @@ pub fn learn_bases(
     ensures behind { drop (length table.new - length table.old) table.new ≡ table.old }
 {
     for k in 0..vars.len() {
-        let base = if k < bases.len() { bases[k] } else { None };
-        table.note(vars[k], base)?;
+        table.note(vars[k], nth_base(bases, k))?;
     }
     Ok(())
+}
+
+/// The base at a place, and none behind the last.
+fn nth_base(bases: &[Option<Base>], k: usize) -> Option<Base>
+    ensures { (g : BaseFacts) (x : Variable) (xs : List Variable) → note_bases (note_base g x result) xs (drop (k + 1) bases.now)
+        ≡ note_bases g (x ∷ xs) (drop k bases.now) }
+{
+    match bases.get(k) {
+        Some(base) => *base,
+        None => None,
+    }
 }
 
 /// Notes that each of the variables is of numbers.
