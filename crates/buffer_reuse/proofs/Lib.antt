@@ -1,4 +1,5 @@
 mod BaseNotes
+mod Called
 mod Groups
 mod OwnEnds
 mod OwnTurns

@@ -7,7 +7,7 @@ ghost use Rattle.counted_code.specs.Terms.{core_of_code};
 ghost use Rattle.counted_code.specs.View.{code_program, code_fun_term};
 ghost use Rattle.counted_marks.specs.Bases.{bases_at, both_bases as both_of, common_bases, result_bases, typed};
 ghost use Rattle.plain_facts.specs.Called.{shapes_of};
-ghost use Rattle.buffer_reuse.specs.Calls.{bases_in, bases_of_types, same_groups, same_results};
+ghost use Rattle.buffer_reuse.specs.Calls.{bases_in, bases_of_types, results_of, same_groups, same_results};
 
 use core_ir::{Block, Core, CoreFun};
 use counted_code::{Code, CodeFun};
@@ -155,7 +155,7 @@ pub fn calls_of(alloc: Global, code: &Code) -> Result<Calls, Memory>
 /// A core with the same groups, whose functions have the same results and do nothing.
 fn without_bodies(alloc: Global, code: &Code) -> Result<Core, Memory>
     ensures groups { IfOk result (λ core. same_groups core ≡ (code_program code.now).groups) }
-    ensures results { IfOk result (λ core. same_results core ≡ map (λ f. f.results) (code_program code.now).functions) }
+    ensures results { IfOk result (λ core. same_results core ≡ results_of code.now) }
 {
     let mut functions = Vec::new(alloc);
     for function in &code.functions {
