@@ -10,6 +10,7 @@ const SITE: Site = Site { line: 1, col: 1 };
 
 /// Two parameters of one form.
 const FIRST: Var = Var(0);
+
 const SECOND: Var = Var(1);
 /// The index of the loop's part.
 const INDEX: u32 = 10;
@@ -188,7 +189,13 @@ fn alone(alloc: Global, extent: i32, right: Right) -> Result<Vec<Step>, Memory> 
 #[test]
 fn a_loop_takes_over_an_array_that_ends_in_it(rt: HostRuntime) -> Result<(), Fail> {
     let alloc = rt.alloc();
-    let right = parted(alloc, 16, Base::Int, PartedOp::Genarray, cell(alloc, Op::Sub)?)?;
+    let right = parted(
+        alloc,
+        16,
+        Base::Int,
+        PartedOp::Genarray,
+        cell(alloc, Op::Sub)?,
+    )?;
     prove!(alone(alloc, 16, right)?.as_slice() == [Release(1), Taking(2, 0)].as_slice());
     Ok(())
 }
@@ -205,7 +212,13 @@ fn the_least_of_two_arrays_is_taken_over(rt: HostRuntime) -> Result<(), Fail> {
 #[test]
 fn an_array_that_is_used_later_is_not_taken_over(rt: HostRuntime) -> Result<(), Fail> {
     let alloc = rt.alloc();
-    let right = parted(alloc, 16, Base::Int, PartedOp::Genarray, cell(alloc, Op::Sub)?)?;
+    let right = parted(
+        alloc,
+        16,
+        Base::Int,
+        PartedOp::Genarray,
+        cell(alloc, Op::Sub)?,
+    )?;
     let mut lets = Vec::new(alloc);
     bind(alloc, &mut lets, 2, right)?;
     bind(alloc, &mut lets, 3, Right::Binary(Op::Add, Var(2), FIRST))?;
@@ -219,9 +232,21 @@ fn an_array_that_is_used_later_is_not_taken_over(rt: HostRuntime) -> Result<(), 
 #[test]
 fn a_neighbour_is_not_taken_over(rt: HostRuntime) -> Result<(), Fail> {
     let alloc = rt.alloc();
-    let itself = parted(alloc, 16, Base::Int, PartedOp::Genarray, neighbour(alloc, 0)?)?;
+    let itself = parted(
+        alloc,
+        16,
+        Base::Int,
+        PartedOp::Genarray,
+        neighbour(alloc, 0)?,
+    )?;
     prove!(alone(alloc, 16, itself)?.as_slice() == [Release(1), Taking(2, 0)].as_slice());
-    let next = parted(alloc, 16, Base::Int, PartedOp::Genarray, neighbour(alloc, 1)?)?;
+    let next = parted(
+        alloc,
+        16,
+        Base::Int,
+        PartedOp::Genarray,
+        neighbour(alloc, 1)?,
+    )?;
     prove!(alone(alloc, 16, next)?.as_slice() == [Release(1), Bind(2), Release(0)].as_slice());
     Ok(())
 }
@@ -230,9 +255,21 @@ fn a_neighbour_is_not_taken_over(rt: HostRuntime) -> Result<(), Fail> {
 fn an_array_of_another_form_is_not_taken_over(rt: HostRuntime) -> Result<(), Fail> {
     let alloc = rt.alloc();
     let wanted = [Release(1), Bind(2), Release(0)];
-    let truths = parted(alloc, 16, Base::Bool, PartedOp::Genarray, cell(alloc, Op::Lt)?)?;
+    let truths = parted(
+        alloc,
+        16,
+        Base::Bool,
+        PartedOp::Genarray,
+        cell(alloc, Op::Lt)?,
+    )?;
     prove!(alone(alloc, 16, truths)?.as_slice() == wanted.as_slice());
-    let fewer = parted(alloc, 15, Base::Int, PartedOp::Genarray, cell(alloc, Op::Sub)?)?;
+    let fewer = parted(
+        alloc,
+        15,
+        Base::Int,
+        PartedOp::Genarray,
+        cell(alloc, Op::Sub)?,
+    )?;
     prove!(alone(alloc, 16, fewer)?.as_slice() == wanted.as_slice());
     Ok(())
 }
@@ -240,7 +277,13 @@ fn an_array_of_another_form_is_not_taken_over(rt: HostRuntime) -> Result<(), Fai
 #[test]
 fn a_short_vector_is_not_taken_over(rt: HostRuntime) -> Result<(), Fail> {
     let alloc = rt.alloc();
-    let right = parted(alloc, 8, Base::Int, PartedOp::Genarray, cell(alloc, Op::Sub)?)?;
+    let right = parted(
+        alloc,
+        8,
+        Base::Int,
+        PartedOp::Genarray,
+        cell(alloc, Op::Sub)?,
+    )?;
     prove!(alone(alloc, 8, right)?.as_slice() == [Release(1), Bind(2), Release(0)].as_slice());
     Ok(())
 }
