@@ -1,5 +1,5 @@
 -- The laws of whole cores.
-use Rattle.std.proofs.Common.{◌≡◌, List, ◌++◌, sym, refl, subst}
+use Rattle.std.proofs.Common.{List, ◌++◌, sym, refl, subst}
 use Rattle.core_ir.specs.Binders.{bound_in}
 use Rattle.core_ir.specs.Meaning.{no_variables, bind_all}
 use Rattle.core_ir.specs.Outcome.{param_vars}

@@ -4,7 +4,6 @@ use Rattle.std.specs.Prelude.{if◌then◌else◌, option_to_list, zip}
 use Rattle.sac_base.specs.declared.base.Base.{Base}
 use Rattle.sac_base.specs.declared.base.Base.TheVariants.{Int, Bool as Truth}
 use Rattle.sac_base.specs.declared.faults.FaultKind.TheVariants.{F6}
-use Rattle.sac_base.specs.declared.grid.Grid1.{Grid1}
 use Rattle.sac_base.specs.declared.site.Site.{Site}
 use Rattle.sac_base.specs.Arrays.{ArrayValue, scalar, vector}
 use Rattle.sac_base.specs.Grids.{members}
@@ -20,23 +19,23 @@ use Rattle.core_ir.specs.declared.tree.PartedOp.TheVariants as parted
 use Rattle.core_ir.specs.Binders.{is_in, NoneIn, bound_in, bound_in_right, bound_in_gens, bound_in_parts}
 use Rattle.core_ir.specs.Meaning.{Env, CallMeaning, bind, bind_all, first, loop_value, one, made_of, neutral_fits, cell_form, cell_at, generator, operation, with_index, run, right_value, generators, cells}
 use Rattle.core_ir.specs.Scopes.{AllIn, Scoped, ScopedRight, ScopedGens, ScopedParts, head_uses, op_uses, parted_uses, plain_uses}
-use Rattle.core_ir.specs.Terms.{PlainTerm, BlockTerm, RightTerm, GensTerm, PartsTerm, GenHead, CoreTerm, Gives, Bind, Plain, NoGens, Gen, NoParts, Part}
+use Rattle.core_ir.specs.Terms.{PlainTerm, BlockTerm, RightTerm, GensTerm, PartsTerm, CoreTerm, Gives, Bind, Plain, NoGens, Gen, NoParts, Part}
 use Rattle.core_ir.specs.Uses.{AvoidsAll, Avoids, AvoidsRight, AvoidsGens, AvoidsParts}
 use Rattle.core_ir.specs.WellFormed.{AllHave, Bases, BlockBases, GensBases, HasBases, LiteralBase, OperationBase, OptionHas, PartedBase, PartedFits, PartsBases, PlainBases, RightBases, base_of, calls_in, calls_in_right, calls_in_gens, calls_in_parts, ints, part_grids}
 use Rattle.core_ir.proofs.Edited.{then_same, SameCells, same_cell_at}
 use Rattle.core_ir.proofs.Unused.{drop_unused}
 use Rattle.core_ir.proofs.Variables.{in_front, in_more, in_neither, or_false, or_right}
 use Rattle.core_subst.specs.Names.{used_in, used_in_right, used_in_gens, used_in_parts}
-use Rattle.core_facts.specs.Facts.{Facts, AreSound, CallsFit, DescribeAll, block_facts, in_part, note_all, right_facts, shape_fact}
+use Rattle.core_facts.specs.Facts.{Facts, CallsFit, DescribeAll, block_facts, in_part, note_all, right_facts, shape_fact}
 use Rattle.core_facts.proofs.Settle.{has_length, loop_same, scalars_full, vector_full}
 use Rattle.core_facts.proofs.Sound.{all_full, block_sound, described, noted, noted_one}
-use Rattle.core_bases.specs.Typed.{CallsTyped, HaveBases, Typed}
+use Rattle.core_bases.specs.Typed.{CallsTyped, HaveBases}
 use Rattle.core_bases.proofs.Bound.{bound_index, bound_zip, distinct_left, distinct_right, typed_one, values_typed}
 use Rattle.core_bases.proofs.Whole.{block_typed}
 use Rattle.core_index_facts.proofs.Total.{plain_total}
 use Rattle.core_cleaning.proofs.Places.{At, RightAt, GensAt, PartsAt, right_at, after_bind}
 use Rattle.core_cleaning.specs.Unused.{never_faults, is_total, no_indices, goes, is_unused, also, nothing_used, swept, swept_right, swept_gens, swept_parts}
-use Rattle.core_cleaning.proofs.Lists.{clash, itself, behind_first, in_left, turned, zip_elsewhere, ints_elsewhere, Sub, all_of, joined, behind_all}
+use Rattle.core_cleaning.proofs.Lists.{clash, itself, behind_first, in_left, turned, zip_elsewhere, Sub, all_of, joined, behind_all}
 
 -- ---- what it says that a binding goes
 
@@ -172,7 +171,7 @@ module _ (core : CoreTerm) (calls : CallMeaning) (turns : ℕ) (typed : CallsTyp
         let behind = also (used_in c) nothing_used in
         let here = right_at core calls turns typed called fit xs s r b g ts k e a in
         let rest = then_same (right_value calls turns r s e) (λ vs. run calls turns c (bind_all e xs vs)) (λ vs. run calls turns b (bind_all e xs vs))
-            (λ vs q. block_same b (zip xs a.bases.0 ++ g) ts n (bind_all e xs vs) (after_bind core calls turns typed called fit xs s r b g ts k e vs a q)) in
+        (λ vs q. block_same b (zip xs a.bases.0 ++ g) ts n (bind_all e xs vs) (after_bind core calls turns typed called fit xs s r b g ts k e vs a q)) in
         either_same calls turns (goes r k && is_unused xs behind) c (Bind xs s (swept_right called r k) c) e (run calls turns (Bind xs s r b) e)
         (λ h. let w = both_true (goes r k) (is_unused xs behind) h in gone calls turns xs s r c e (gone_value core calls turns r s g a.bases.0 k e w.0 here) w.1 ∙ rest)
         ((λ i. and_then (right_same r s g a.bases.0 k e here i) (λ vs. run calls turns c (bind_all e xs vs))) ∙ rest)
@@ -420,7 +419,7 @@ mutual
   scoped_kept_gens called (Gen j b rest) k scope new h w u =
       let xs = j.index ∷ j.names in
       let c = used_in (swept called b (note_all k (j.index ∷ j.names) [])) in
-            let us = used_in_gens (swept_gens called rest k) in
+      let us = used_in_gens (swept_gens called rest k) in
       let v = serves_right (head_uses j) (c ++ us) scope new u in (
         all_served (head_uses j) scope new (serves_left (head_uses j) (c ++ us) scope new u) h.0,
         none_within xs new scope w h.1,
@@ -432,7 +431,7 @@ mutual
   scoped_kept_parts called NoParts k scope new h w u = tt
   scoped_kept_parts called (Part j b rest) k scope new h w u =
       let c = used_in (swept called b (in_part k j)) in
-            let us = used_in_parts (swept_parts called rest k) in (
+      let us = used_in_parts (swept_parts called rest k) in (
         not_within j.index new scope w h.0,
         scoped_kept called b (in_part k j) (j.index ∷ scope) (j.index ∷ new) h.1 (within_below (j.index ∷ []) new scope w) (serves_below (j.index ∷ []) c scope new (serves_left c us scope new u)),
         scoped_kept_parts called rest k scope new h.2 w (serves_right c us scope new u),
@@ -586,7 +585,7 @@ module _ (core : CoreTerm) where
     gens_kept called (Gen j b rest) k g new t h u =
         let xs = j.index ∷ j.names in
         let c = used_in (swept called b (note_all k (j.index ∷ j.names) [])) in
-                let us = used_in_gens (swept_gens called rest k) in
+        let us = used_in_gens (swept_gens called rest k) in
         let v = has_right (head_uses j) (c ++ us) g new u in
         let low = option_to_list j.lower in
         let up = option_to_list j.upper in
@@ -607,7 +606,7 @@ module _ (core : CoreTerm) where
     parts_kept called NoParts k g new t h u = tt
     parts_kept called (Part j b rest) k g new t h u =
         let c = used_in (swept called b (in_part k j)) in
-                let us = used_in_parts (swept_parts called rest k) in (
+        let us = used_in_parts (swept_parts called rest k) in (
           block_kept called b (in_part k j) ((j.index, Int) ∷ g) ((j.index, Int) ∷ new) (t ∷ []) h.0 (has_below ((j.index, Int) ∷ []) g new c (has_left c us g new u)),
           parts_kept called rest k g new t h.1 (has_right c us g new u),
         )

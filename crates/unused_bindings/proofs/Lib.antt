@@ -1,2 +1,1 @@
 mod Sets
-mod Steps
