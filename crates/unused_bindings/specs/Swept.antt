@@ -9,7 +9,7 @@ use Rattle.core_facts.specs.Facts.{Facts, is_some, note_all, in_part}
 use Rattle.core_loops.specs.Indices.{Other, is_division, no_zero, may_be_row, in_range}
 use Rattle.core_settled.specs.Called.{params_facts}
 use Rattle.core_subst.specs.Names.{used_in}
-use Rattle.core_cleaning.specs.Unused.{also, is_unused, never_faults, nothing_used, swept, swept_right}
+use Rattle.core_cleaning.specs.Unused.{also, goes, is_unused, never_faults, nothing_used, swept, swept_right}
 
 -- the variables whose numbers are in the set
 abbrev pub used_of : BTreeSet ℕ → Var → Bool
@@ -35,6 +35,10 @@ module _ (called : ℕ → List (Option (List ℕ))) where
 
   abbrev pub swept_function : FunTerm → FunTerm
   swept_function f = record f { body = swept called f.body (params_facts f) }
+
+-- a binding with other blocks in it, and whether it may go where it is not used
+abbrev pub passed_of : (ℕ → List (Option (List ℕ))) → LetTerm → Facts → LetTerm × Bool
+passed_of called l k = (record l { right = swept_right called l.right k }, goes l.right k)
 
 -- bindings with a test each, whether they may go where they are not used, before a block: those that are used or may not go
 abbrev pub kept_before : List (LetTerm × Bool) → BlockTerm → BlockTerm

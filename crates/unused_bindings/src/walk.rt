@@ -1,14 +1,16 @@
 //! One walk over a block: what is known forward, what is used from the end.
 
-ghost use Rattle.std.specs.Prelude.{◌≡◌, ◌-◌, IfOk, OnOk, map, drop, length};
+ghost use Rattle.std.specs.Prelude.{◌≡◌, ◌-◌, ◌++◌, [], ◌∷◌, IfOk, OnOk, map, drop, length};
 ghost use Rattle.core_ir.specs.Scopes.{head_uses};
 ghost use Rattle.core_ir.specs.View.{block_term, let_term, right_term, with_term, gen_term, parted_term, part_term};
 ghost use Rattle.core_facts.specs.Facts.{note_all, block_facts, right_facts};
 ghost use Rattle.core_subst.specs.Names.{used_in, used_in_right};
-ghost use Rattle.core_cleaning.specs.Unused.{swept, swept_right};
+ghost use Rattle.core_cleaning.specs.Unused.{goes, swept, swept_right};
 ghost use Rattle.fact_table.specs.Table.{fact_of, facts_of};
 ghost use Rattle.plain_facts.specs.Called.{shapes_of};
-ghost use Rattle.unused_bindings.specs.Swept.{used_of, among, swept_gen, swept_part};
+ghost use Rattle.plain_facts.specs.Rights.{fact_of_right, right_shape};
+ghost use Rattle.unused_bindings.specs.Swept.{used_of, among, goes_shaped, passed_of, swept_gen, swept_part};
+ghost use Rattle.unused_bindings.specs.Passed.{passed_term};
 
 use crate::total::has_value;
 use crate::used::{add_all, add_head, are_unused, united};
@@ -97,7 +99,13 @@ fn pass_binding(
     binding: Let,
     called: &CalledShapes,
     table: &mut FactTable,
-) -> Result<Passed, Memory> {
+) -> Result<Passed, Memory>
+    ensures passed { IfOk result (λ p. passed_term p ≡ passed_of (shapes_of called.now) (let_term binding) (facts_of table.old)) }
+    ensures used { IfOk result (λ p. used_of p.used ≡ among (used_in_right (right_term p.binding.right))) }
+    ensures learned { OnOk result (facts_of table.new
+        ≡ note_all (facts_of table.old) (let_term binding).targets (right_facts (shapes_of called.now) (let_term binding).right (facts_of table.old))) }
+    ensures earlier { OnOk result (drop (length table.new - length table.old) table.new ≡ table.old) }
+{
     let Let {
         targets,
         site,
@@ -131,6 +139,7 @@ fn in_right(
     ensures swept { IfOk result (λ new. right_term new.right ≡ swept_right (shapes_of called.now) (right_term right) (facts_of table.old)) }
     ensures used { IfOk result (λ new. used_of new.used ≡ among (used_in_right (right_term new.right))) }
     ensures known { IfOk result (λ new. map fact_of new.values.items ≡ right_facts (shapes_of called.now) (right_term right) (facts_of table.old)) }
+    ensures total { IfOk result (λ new. new.total ≡ goes (right_term right) (facts_of table.old)) }
     ensures table { OnOk result (table.new ≡ table.old) }
 {
     match right {
@@ -182,28 +191,29 @@ fn in_right(
         }
         Right::With(w) => in_with(alloc, w, called, table),
         Right::Parted(p) => in_parted(alloc, p, called, table),
-        simple => in_simple(alloc, simple, called, table),
+        Right::Call { group, args } => {
+            let mut used = BTreeSet::new(alloc);
+            add_all(&mut used, &args)?;
+            Ok(SweptRight {
+                right: Right::Call { group, args },
+                used,
+                values: called.facts(alloc, group)?,
+                total: false,
+            })
+        }
+        plain => in_plain(alloc, plain, table),
     }
 }
 
-/// A right side without blocks.
-fn in_simple(
-    alloc: Global,
-    right: Right,
-    called: &CalledShapes,
-    table: &FactTable,
-) -> Result<SweptRight, Memory> {
+/// A right side without blocks and calls.
+fn in_plain(alloc: Global, right: Right, table: &FactTable) -> Result<SweptRight, Memory>
+    ensures right { IfOk result (λ new. right_term new.right ≡ right_term right) }
+    ensures known { IfOk result (λ new. map fact_of new.values.items ≡ fact_of_right (right_term right) (facts_of table.now) ∷ []) }
+    ensures total { IfOk result (λ new. new.total
+        ≡ goes_shaped (right_shape (right_term right) (facts_of table.now)) (right_term right) (facts_of table.now)) }
+{
     let mut used = BTreeSet::new(alloc);
     add_all(&mut used, right.operands().as_slice())?;
-    if let Right::Call { group, .. } = &right {
-        let values = called.facts(alloc, *group)?;
-        return Ok(SweptRight {
-            right,
-            used,
-            values,
-            total: false,
-        });
-    }
     let known = plain_fact(alloc, &right, table)?;
     let total = has_value(&right, &known.shape, table);
     let mut values = Vec::new(alloc);
@@ -222,7 +232,13 @@ fn in_with(
     with: WithLoop,
     called: &CalledShapes,
     table: &mut FactTable,
-) -> Result<SweptRight, Memory> {
+) -> Result<SweptRight, Memory>
+    ensures swept { IfOk result (λ new. right_term new.right ≡ swept_right (shapes_of called.now) (with_term with) (facts_of table.old)) }
+    ensures used { IfOk result (λ new. used_of new.used ≡ among (used_in_right (right_term new.right))) }
+    ensures known { IfOk result (λ new. map fact_of new.values.items ≡ right_facts (shapes_of called.now) (with_term with) (facts_of table.old)) }
+    ensures total { IfOk result (λ new. new.total ≡ goes (with_term with) (facts_of table.old)) }
+    ensures table { OnOk result (table.new ≡ table.old) }
+{
     let WithLoop { gens, op } = with;
     let mut used = BTreeSet::new(alloc);
     add_all(&mut used, op.operands().as_slice())?;
@@ -246,7 +262,11 @@ fn in_gen(
     generator: CoreGen,
     called: &CalledShapes,
     table: &mut FactTable,
-) -> Result<(CoreGen, BTreeSet<u32>), Memory> {
+) -> Result<(CoreGen, BTreeSet<u32>), Memory>
+    ensures swept { IfOk result (λ new. gen_term new.0 ≡ swept_gen (shapes_of called.now) (gen_term generator) (facts_of table.old)) }
+    ensures used { IfOk result (λ new. used_of new.1 ≡ among (head_uses (gen_term new.0).head ++ used_in (gen_term new.0).body)) }
+    ensures table { OnOk result (table.new ≡ table.old) }
+{
     let CoreGen {
         lower,
         lower_closed,
@@ -286,7 +306,13 @@ fn in_parted(
     parted: PartedLoop,
     called: &CalledShapes,
     table: &mut FactTable,
-) -> Result<SweptRight, Memory> {
+) -> Result<SweptRight, Memory>
+    ensures swept { IfOk result (λ new. right_term new.right ≡ swept_right (shapes_of called.now) (parted_term parted) (facts_of table.old)) }
+    ensures used { IfOk result (λ new. used_of new.used ≡ among (used_in_right (right_term new.right))) }
+    ensures known { IfOk result (λ new. map fact_of new.values.items ≡ right_facts (shapes_of called.now) (parted_term parted) (facts_of table.old)) }
+    ensures total { IfOk result (λ new. new.total ≡ goes (parted_term parted) (facts_of table.old)) }
+    ensures table { OnOk result (table.new ≡ table.old) }
+{
     let PartedLoop {
         frame,
         base,
@@ -324,7 +350,11 @@ fn in_part(
     part: CorePart,
     called: &CalledShapes,
     table: &mut FactTable,
-) -> Result<(CorePart, BTreeSet<u32>), Memory> {
+) -> Result<(CorePart, BTreeSet<u32>), Memory>
+    ensures swept { IfOk result (λ new. part_term new.0 ≡ swept_part (shapes_of called.now) (part_term part) (facts_of table.old)) }
+    ensures used { IfOk result (λ new. used_of new.1 ≡ among (used_in (part_term new.0).body)) }
+    ensures table { OnOk result (table.new ≡ table.old) }
+{
     let outer = table.mark();
     learn_index(alloc, table, part.index, &part.grid)?;
     let body = in_block(alloc, part.body, called, table)?;
