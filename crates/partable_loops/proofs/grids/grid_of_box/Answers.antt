@@ -4,8 +4,11 @@ use Rattle.core_loops.specs.Loops.{grid_range}
 use Rattle.partable_loops.proofs.Boxes.{filled_axis, box_spanned}
 use Rattle.partable_loops.proofs.grids.grid_of_box.Goals as goal
 
-pub returns : goal.returns
-returns c =
+pub loop-axis-preserved : goal.loop-axis-preserved
+loop-axis-preserved c = ?
+
+pub returns-clause-spans : goal.returns-clause-spans
+returns-clause-spans c =
     let items = c.axes-axis-items.result.now in
     ap grid_range c.new.ensures ∙ c.loop-axis.invariant.made
     ∙ ap (map filled_axis) (take_all c.loop-axis.axis-index items c.loop-axis-test.false ∙ c.axes-axis-items.ensures.value)

@@ -1,0 +1,6 @@
+mod Axes
+mod Made
+mod Naming
+mod Noting
+mod Shown
+mod Walking

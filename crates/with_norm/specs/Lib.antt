@@ -1,0 +1,4 @@
+pub mod Based
+pub mod Numbering
+pub mod Making
+pub mod Replacing
