@@ -76,3 +76,9 @@ abbrev pub parted_op : CoreOp → PartedOp
 parted_op (making.Genarray shape default) = parted.Genarray
 parted_op (making.Modarray array) = parted.Modarray array
 parted_op (making.Fold o neutral) = parted.Fold o neutral
+
+-- the variable whose base the loop's result has
+abbrev pub base_var : CoreOp → Var
+base_var (making.Genarray shape default) = default
+base_var (making.Modarray array) = array
+base_var (making.Fold o neutral) = neutral

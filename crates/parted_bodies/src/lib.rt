@@ -7,4 +7,4 @@ mod names;
 mod parts;
 
 pub use names::Progress;
-pub use parts::{parted_op, parts_of};
+pub use parts::{base_var, parted_op, parts_of};

@@ -242,3 +242,14 @@ pub fn parted_op(op: CoreOp) -> PartedOp
         CoreOp::Fold { op, neutral } => PartedOp::Fold { op, neutral },
     }
 }
+
+/// The variable whose base a with-loop's result has.
+pub fn base_var(op: CoreOp) -> Var
+    ensures { result ≡ Rattle.parted_bodies.specs.Making.base_var op }
+{
+    match op {
+        CoreOp::Genarray { default, .. } => default,
+        CoreOp::Modarray { array } => array,
+        CoreOp::Fold { neutral, .. } => neutral,
+    }
+}

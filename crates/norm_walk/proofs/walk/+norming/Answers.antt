@@ -2,10 +2,10 @@ use Rattle.std.proofs.Common.{◌-◌, ◌∙◌, ap, refl, sym, map, length, Li
 use Rattle.std.specs.Prelude.{drop}
 use Rattle.fact_table.specs.Table.{facts_of}
 use Rattle.plain_facts.specs.Called.{shapes_of}
-use Rattle.with_norm.specs.Based.{bases_in}
-use Rattle.with_norm.proofs.Noting.{earlier_on, none_gone, none_left}
-use Rattle.with_norm.proofs.Walking.{going_first, going_on, block_walked, block_known}
-use Rattle.with_norm.proofs.walk.+norming.Goals as goal
+use Rattle.norm_walk.specs.Based.{bases_in}
+use Rattle.norm_walk.proofs.Noting.{earlier_on, none_gone, none_left}
+use Rattle.norm_walk.proofs.Walking.{going_first, going_on, block_walked, block_known}
+use Rattle.norm_walk.proofs.walk.+norming.Goals as goal
 
 pub norm_block-loop-binding-init : goal.norm_block-loop-binding-init
 norm_block-loop-binding-init t c =

@@ -1,10 +1,10 @@
 //! The bases of a function's variables.
 
 ghost use Rattle.std.specs.Prelude.{◌≡◌};
-ghost use Rattle.core_norm_forms.specs.Fresh.{base_var as based_on};
-ghost use Rattle.with_norm.specs.Based.{bases_in};
+ghost use Rattle.norm_walk.specs.Based.{bases_in};
 
-use core_ir::{Block, Core, CoreFun, CoreOp, Right, Var, WithLoop};
+use core_ir::{Block, Core, CoreFun, Right, Var, WithLoop};
+use parted_bodies::base_var;
 use sac_base::{Base, Memory, result_base, same_base};
 use std::alloc::Global;
 
@@ -145,17 +145,6 @@ impl BaseTable {
             bases.push(self.of(*x))?;
         }
         Ok(bases)
-    }
-}
-
-/// The variable whose base a with-loop's result has.
-pub fn base_var(op: CoreOp) -> Var
-    ensures { result ≡ based_on op }
-{
-    match op {
-        CoreOp::Genarray { default, .. } => default,
-        CoreOp::Modarray { array } => array,
-        CoreOp::Fold { neutral, .. } => neutral,
     }
 }
 

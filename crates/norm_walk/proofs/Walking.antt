@@ -20,9 +20,9 @@ use Rattle.core_ir.specs.Edits.{Edited, EditedRight, EditedGens, EditedParts, he
 use Rattle.core_ir.specs.Terms.{BlockTerm, RightTerm, GensTerm, PartsTerm, LetTerm, GenTerm, PartTerm, GenHead, PartHead, Gives, Bind, Plain, With, Parted, NoGens, Gen, NoParts, Part, chain, gens_of, parts_of}
 use Rattle.core_facts.specs.Facts.{Fact, Facts, note_all, block_facts, right_facts, in_part}
 use Rattle.core_loops.specs.Steps.{fact_ways, facts_after}
-use Rattle.with_norm.proofs.Noting.{map_snoc, chain_snoc}
+use Rattle.norm_walk.proofs.Noting.{map_snoc, chain_snoc}
 use Rattle.parted_bodies.specs.declared.names.Progress.{Progress}
-use Rattle.with_norm.specs.Replacing.{ReplacedAt, ReplacedHere, IsLeft, EachWith, EachWithRight, EachWithGens, EachWithParts, Walked, stays, goes, BlockWalked, RightWalked, LetWalked, GensWalked, GenWalked, PartWalked, WithWalked}
+use Rattle.norm_walk.specs.Replacing.{ReplacedAt, ReplacedHere, IsLeft, EachWith, EachWithRight, EachWithGens, EachWithParts, Walked, stays, goes, BlockWalked, RightWalked, LetWalked, GensWalked, GenWalked, PartWalked, WithWalked}
 
 abbrev right_in : RightTerm → BlockTerm → RightTerm
 right_in r (Gives xs) = r

@@ -7,19 +7,19 @@ ghost use Rattle.core_ir.specs.View.{block_term, let_term, right_term, gen_term,
 ghost use Rattle.core_facts.specs.Facts.{note_all, block_facts, right_facts, unknown};
 ghost use Rattle.fact_table.specs.Table.{fact_of, facts_of};
 ghost use Rattle.plain_facts.specs.Called.{shapes_of};
-ghost use Rattle.with_norm.specs.Based.{bases_in};
-ghost use Rattle.with_norm.specs.Replacing.{BlockWalked, RightWalked, LetWalked, GensWalked, GenWalked, PartWalked, WithWalked};
+ghost use Rattle.norm_walk.specs.Based.{bases_in};
+ghost use Rattle.norm_walk.specs.Replacing.{BlockWalked, RightWalked, LetWalked, GensWalked, GenWalked, PartWalked, WithWalked};
 
-use crate::bases::{BaseTable, base_var};
-use crate::frame::parted_shape;
+use crate::bases::BaseTable;
 use crate::known::{KnownBlock, KnownRight};
-use crate::names::Progress;
-use crate::notes::{forget, forget_index, known_of, learn_index};
-use crate::parts::{parted_op, parts_of};
 use core_ir::{Block, CoreGen, CoreOp, CorePart, Let, PartedLoop, Right, WithLoop};
 use fact_table::{FactTable, Known};
 use partable_loops::{PartPlan, part_plan};
-use plain_facts::{CalledShapes, common_facts, learn_all, plain_fact};
+use parted_bodies::{Progress, base_var, parted_op, parts_of};
+use plain_facts::{
+    CalledShapes, common_facts, forget, forget_index, known_of, learn_all, learn_index,
+    parted_shape, plain_fact,
+};
 use sac_base::{Memory, Site};
 use std::alloc::Global;
 

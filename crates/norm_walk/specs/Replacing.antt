@@ -8,18 +8,16 @@ use Rattle.core_ir.specs.Edits.{Edited}
 use Rattle.core_ir.specs.Terms.{BlockTerm, RightTerm, GensTerm, PartsTerm, LetTerm, GenTerm, PartTerm, Gives, Bind, Plain, With, Parted, NoGens, Gen, NoParts, Part, gens_of, parts_of}
 use Rattle.core_facts.specs.Facts.{Facts, note_all, right_facts, in_part}
 use Rattle.core_loops.specs.Steps.{fact_ways}
-use Rattle.core_norm_forms.specs.Fresh.{base_var}
-use Rattle.partable_loops.specs.Exact.{IsExactlyPartable}
-use Rattle.partable_loops.specs.Planned.{PlanFits}
+use Rattle.partable_loops.specs.Planned.{IsPlannable, PlanFits}
 use Rattle.partable_loops.specs.declared.planning.PartPlan.{PartPlan}
 use Rattle.parted_bodies.specs.declared.names.Progress.{Progress}
-use Rattle.parted_bodies.specs.Making.{binds_of, made_parts, parted_op}
+use Rattle.parted_bodies.specs.Making.{base_var, binds_of, made_parts, parted_op}
 
 -- ---- one with-loop
 
--- a with-loop of which nothing is left to say: its base is not known, or it is not partable
+-- a with-loop of which nothing is left to do: its base is not known, or it cannot become a parted loop
 abbrev pub IsLeft : ℕ → ℕ → Facts → Site → CoreOp → GensTerm → Type 0
-IsLeft first above k s op gens = (base_var op).0 < first → IsExactlyPartable k above s op gens → ⊥
+IsLeft first above k s op gens = (base_var op).0 < first → IsPlannable k above s op gens → ⊥
 
 module _ (bases : Var → Base) (first : ℕ) where
   -- the parted loop of a plan, whose variables have the next numbers

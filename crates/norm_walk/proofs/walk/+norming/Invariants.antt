@@ -2,9 +2,9 @@ use Rattle.std.proofs.Common.{◌≡◌, ◌-◌, length}
 use Rattle.std.specs.Prelude.{drop}
 use Rattle.fact_table.specs.Table.{facts_of}
 use Rattle.plain_facts.specs.Called.{shapes_of}
-use Rattle.with_norm.specs.Based.{bases_in}
-use Rattle.with_norm.proofs.Walking.{Going, GensGoing, PartsGoing}
-use Rattle.with_norm.proofs.walk.+norming.Given as goal
+use Rattle.norm_walk.specs.Based.{bases_in}
+use Rattle.norm_walk.proofs.Walking.{Going, GensGoing, PartsGoing}
+use Rattle.norm_walk.proofs.walk.+norming.Given as goal
 
 abbrev pub invariant-norm_block-loop-binding : goal.invariant-norm_block-loop-binding
 invariant-norm_block-loop-binding l = record {

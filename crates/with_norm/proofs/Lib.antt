@@ -1,6 +1,0 @@
-mod Axes
-mod Made
-mod Naming
-mod Noting
-mod Shown
-mod Walking

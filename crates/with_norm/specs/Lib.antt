@@ -1,4 +1,0 @@
-pub mod Based
-pub mod Numbering
-pub mod Making
-pub mod Replacing
