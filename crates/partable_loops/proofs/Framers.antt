@@ -24,9 +24,11 @@ use Rattle.core_ir.specs.Meaning.{cell_form, extents}
 use Rattle.core_ir.specs.WellFormed.{IsResultFrame}
 use Rattle.partable_loops.specs.declared.framing.Framed.{Framed}
 use Rattle.core_loops.specs.Loops.{front, grid_range, spanned}
-use Rattle.partable_loops.specs.Framings.{FramesPlan, IsVoid, IsWordAxis}
+use Rattle.partable_loops.specs.Framings.{FramesPlan, IsVoid, IsWordAxis, NamesFitGrids}
 use Rattle.partable_loops.proofs.Boxes.{extents_are, shape_extents}
+use Rattle.core_facts.proofs.Shapes.{ok_same}
 use Rattle.partable_loops.proofs.Frames.{shape_frame, shape_result, span_frame}
+use Rattle.partable_loops.proofs.Numbers.{same_head, same_tail}
 
 -- ---- tests
 
@@ -67,6 +69,39 @@ front_taken ns n = ap (λ k. take k ns) back ∙ take_min n ns
     back : length ns - length (drop n ns) ≡ min n (length ns)
     back = let rest = length-drop n ns in omega arith
 
+-- ---- names
+
+name_of : (n most : ℕ) (fr : Option (List ℕ)) (dots : List ℕ) (g : Bounds) (r : Range) → range_of n most fr dots g ≡ Ok r → names_fit n g.names ≡ true
+name_of n most fr dots g r e = by (nat_le n 8) (nat_le n most) (names_fit n g.names) refl e
+  where
+    by : (a b c : Bool) → names_fit n g.names ≡ c
+        → (if a && b && c then within_frame fr g.site (range_from (lower_of n g) (upper_of n dots g) (step_of n g.step) (step_of n g.width)) else fault F5 g.site) ≡ Ok r → names_fit n g.names ≡ true
+    by false b c t q = cc
+    by true false c t q = cc
+    by true true false t q = cc
+    by true true true t q = t
+
+all_names : (n most : ℕ) (fr : Option (List ℕ)) (dots : List ℕ) (bs : List Bounds) (rs : List Range) (gs : List (List Grid1)) → each (range_of n most fr dots) bs ≡ Ok rs → map grid_range gs ≡ rs → All (λ (r : Range). length r ≡ n) rs → NamesFitGrids bs gs
+all_names n most fr dots [] [] [] e c l = tt
+all_names n most fr dots [] [] (g ∷ gs) e c l = cc
+all_names n most fr dots [] (r ∷ rs) gs e c l = cc
+all_names n most fr dots (b ∷ bs) rs gs e c l = by (range_of n most fr dots b) refl e
+  where
+    by : (m : Ends Range) → range_of n most fr dots b ≡ m → all_of (m ∷ map (range_of n most fr dots) bs) ≡ Ok rs → NamesFitGrids (b ∷ bs) gs
+    by (Err z) f q = cc
+    by (Ok r) f q = on (all_of (map (range_of n most fr dots) bs)) refl q
+      where
+        on : (m : Ends (List Range)) → all_of (map (range_of n most fr dots) bs) ≡ m → and_then m (λ rest. Ok (r ∷ rest)) ≡ Ok rs → NamesFitGrids (b ∷ bs) gs
+        on (Err z) p q = cc
+        on (Ok rest) p q = at gs (c ∙ sym (ok_same (r ∷ rest) rs q)) (subst (All (λ (r : Range). length r ≡ n)) (sym (ok_same (r ∷ rest) rs q)) l)
+          where
+            at : (gs : List (List Grid1)) → map grid_range gs ≡ r ∷ rest → All (λ (r : Range). length r ≡ n) (r ∷ rest) → NamesFitGrids (b ∷ bs) gs
+            at [] w l = cc
+            at (g ∷ gs) w l =
+                let long : length g ≡ n = sym (length-map g _) ∙ ap length (same_head (grid_range g) r (map grid_range gs) rest w) ∙ All-head (λ (r : Range). length r ≡ n) r rest l in
+                ((λ i. names_fit (long i) b.names) ∙ name_of n most fr dots b r f,
+                all_names n most fr dots bs rest gs p (same_tail (grid_range g) r (map grid_range gs) rest w) (All-tail (λ (r : Range). length r ≡ n) r rest l))
+
 -- ---- a genarray
 
 genarray_is : (bs : List Bounds) (ns cell : List ℕ) (base : Base) (s : Site) (rs : List Range) → length (ns ++ cell) ≤ 8 → size ns ≤ MOST → size (ns ++ cell) ≤ MOST
@@ -95,6 +130,7 @@ genarray_frames bs shape ns cell rs f given short small whole found long cut spa
   whole = λ i. sym (extents_are f.frame (shape_spans ns) spans ∙ shape_extents ns) i ++ sym is i;
   frame = shape_frame f.frame ns spans front_shape small;
   result = subst (IsResultFrame f.frame) (sym is) (shape_result f.frame ns cell spans front_shape whole_shape whole);
+  names = all_names (length ns) 8 (Some ns) ns bs rs f.grids.items found cut long;
 }
 
 -- ---- a modarray
@@ -147,6 +183,7 @@ modarray_frames bs shape rs f small found long cut spans is front_shape whole_sh
   whole = modarray_whole shape n f spans is;
   frame = shape_frame f.frame ns spans front_shape small;
   result = shape_result f.frame ns f.cell spans front_shape (subst IsShape both whole_shape) (subst (λ m. size m ≤ MOST) both most);
+  names = all_names n (length shape) (Some ns) ns bs rs f.grids.items found cut long;
 }
   where
     n : ℕ
@@ -196,9 +233,9 @@ frame_length (r ∷ rs) n h = inr (length-map (fold joined_range r rs) _ ∙ all
 
 pub fold_frames : (bs : List Bounds) (cell : List ℕ) (rs : List Range) (f : Framed) (n : ℕ)
     → each (range_of (index_length bs 0) 8 None []) bs ≡ Ok rs → All (λ (r : Range). length r ≡ n) rs → box_size (fold_frame (solid rs)) ≤ MOST
-    → map grid_range f.grids.items ≡ rs → grid_range f.frame ≡ map spanned (fold_frame (solid rs)) → f.cell ≡ cell → All IsWordAxis f.frame → length f.frame ≤ 8
+    → map grid_range f.grids.items ≡ rs → grid_range f.frame ≡ map spanned (fold_frame (solid rs)) → f.cell ≡ cell → All IsWordAxis f.frame → length f.frame ≤ 8 → index_length bs 0 ≡ n
     → (s : Site) (base : Base) (o : Op) (x : Var) → FramesPlan base (making.Fold o x) bs (WithLoops.fold_by o (cell_form base cell) s) f
-fold_frames bs cell rs f n found long small cut spans is words few s base o x = record {
+fold_frames bs cell rs f n found long small cut spans is words few is_n s base o x = record {
   planned = record { ranges = rs; indices = box (fold_frame (solid rs)); form = record { base = base; shape = cell }; shape = cell };
   valid = ap (λ m. and_then m (λ ranges. if nat_le (box_size (fold_frame (solid ranges))) MOST
       then Ok (record { ranges = ranges; indices = box (fold_frame (solid ranges)); form = form_of (cell_form base cell); shape = cell }) else fault F8 s)) found
@@ -212,6 +249,7 @@ fold_frames bs cell rs f n found long small cut spans is words few s base o x = 
   whole = tt;
   frame = span_frame f.frame (fold_frame (solid rs)) spans few words small;
   result = tt;
+  names = all_names n 8 None [] bs rs f.grids.items (subst (λ m. each (range_of m 8 None []) bs ≡ Ok rs) is_n found) cut long;
 }
   where
     by : (fold_frame (solid rs) ≡ record { low = pos 0; extent = 0 } ∷ []) ⊎ (length (fold_frame (solid rs)) ≡ n) → All (λ (g : List Grid1). length g ≡ length f.frame) f.grids.items ⊎ IsVoid f.frame

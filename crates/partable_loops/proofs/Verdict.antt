@@ -1,18 +1,21 @@
 -- The points of a partable with-loop, put together, and each refuted alone.
-use Rattle.std.proofs.Common.{◌≡◌, ◌≤◌, ◌+◌, ◌*◌, ◌^◌, ℕ, suc, List, [], ◌∷◌, ◌++◌, map, length, Bool, true, false, ◌&&◌, refl, sym, ap, subst, ◌∙◌, arith, true≢false, Some, None, ℤ, pos, negsuc, ◌+ℤ◌}
+use Rattle.std.proofs.Common.{◌≡◌, ◌≤◌, ◌⊎◌, inl, inr, All, ◌+◌, ◌*◌, ◌^◌, ℕ, suc, List, [], ◌∷◌, ◌++◌, map, length, Bool, true, false, ◌&&◌, refl, sym, ap, subst, ◌∙◌, arith, true≢false, Some, None, ℤ, pos, negsuc, ◌+ℤ◌}
 use Rattle.std.specs.Prelude.{int_lt, int_le, nat_lt, if◌then◌else◌}
 use Rattle.std.proofs.lemmas.Int.{ints}
+use Rattle.std.proofs.lemmas.Bool.{eqb-true}
 use Rattle.std.proofs.lemmas.Bool.Decides.{nat_tests}
+use Rattle.std.proofs.lemmas.List.Elements.{All-head, All-tail}
 use Rattle.sac_base.specs.declared.base.Base.{Base}
 use Rattle.sac_base.specs.declared.grid.Grid1.{Grid1}
 use Rattle.sac_base.specs.declared.site.Site.{Site}
 use Rattle.sac_base.specs.Arrays.{size}
 use Rattle.sac_base.specs.Grids.{SplitsVectors, has_vector}
 use Rattle.sac_base.specs.Parts.{Part, part_at, further}
-use Rattle.sac_base.specs.WithLoops.{Bounds, Plan, holds, holds_at, plan, shape_spans}
+use Rattle.sac_base.specs.WithLoops.{Bounds, Plan, holds, holds_at, names_fit, plan, shape_spans}
+use Rattle.core_ir.specs.declared.tree.Var.{Var}
 use Rattle.core_ir.specs.declared.tree.CoreOp.{CoreOp}
 use Rattle.core_ir.specs.declared.tree.CoreOp.TheVariants as making
-use Rattle.core_ir.specs.Meaning.{extents}
+use Rattle.core_ir.specs.Meaning.{extents, name_count}
 use Rattle.core_ir.specs.Terms.{GensTerm, NoGens, Gen}
 use Rattle.core_ir.specs.WellFormed.{IsFrame}
 use Rattle.core_facts.specs.Facts.{Facts}
@@ -24,11 +27,11 @@ use Rattle.generator_sets.proofs.CountFacts.{some_canonical}
 use Rattle.partable_loops.specs.declared.framing.Framed.{Framed}
 use Rattle.partable_loops.specs.declared.planning.PartPlan.{PartPlan}
 use Rattle.partable_loops.specs.Counted.{generator_count}
-use Rattle.partable_loops.specs.Framings.{FramesKnown, HasPlan, IsResult}
+use Rattle.partable_loops.specs.Framings.{FramesKnown, HasPlan, IsResult, NamesFitGrids}
 use Rattle.partable_loops.specs.Refused.{Refutes}
 use Rattle.partable_loops.specs.declared.refusal.Unplanned.{Unplanned}
 use Rattle.partable_loops.specs.declared.refusal.Unplanned.TheVariants.{NotPartable, Memory}
-use Rattle.partable_loops.specs.Planned.{Covers, Label, IsPlan, IsPlannable, PlanFits, needed_parts}
+use Rattle.partable_loops.specs.Planned.{AllNamed, Covers, Label, IsPlan, IsPlannable, PlanFits, needed_parts}
 use Rattle.partable_loops.proofs.Numbers.{same_grid, same_grids, sets_are, vector_held}
 use Rattle.partable_loops.proofs.Sameness.{all_same, operation_same}
 use Rattle.partable_loops.proofs.Boxes.{extents_are, is_dense, members_are, shape_extents}
@@ -69,11 +72,26 @@ bounds_count k NoGens (b ∷ bs) h = absurd h
 bounds_count k (Gen g body rest) [] h = absurd h
 bounds_count k (Gen g body rest) (b ∷ bs) h = ap suc (bounds_count k rest bs h.1)
 
+-- names that fit the grids fit the frame
+no_names : (n : ℕ) (names : List Var) → names_fit n (name_count names) ≡ true → (names ≡ []) ⊎ (length names ≡ n)
+no_names n [] e = inl refl
+no_names n (x ∷ xs) e = inr (eqb-true (length (x ∷ xs)) n e)
+
+names_are : (k : Facts) (gens : GensTerm) (bs : List Bounds) (gs : List (List Grid1)) (n : ℕ) → AllLiteral k gens bs → NamesFitGrids bs gs → All (λ (g : List Grid1). length g ≡ n) gs → AllNamed n gens
+names_are k NoGens [] gs n h w l = tt
+names_are k NoGens (b ∷ bs) gs n h w l = absurd h
+names_are k (Gen j body rest) [] gs n h w l = absurd h
+names_are k (Gen j body rest) (b ∷ bs) [] n h w l = absurd w
+names_are k (Gen j body rest) (b ∷ bs) (g ∷ gs) n h w l =
+    (no_names n j.names ((λ i. names_fit (sym (All-head (λ (g : List Grid1). length g ≡ n) g gs l) i) (sym h.0.names i)) ∙ w.0),
+    names_are k rest bs gs n h.1 w.1 (All-tail (λ (g : List Grid1). length g ≡ n) g gs l))
+
 -- what the cut of a frame says
 pub record Cut (frame : List Grid1) (grids : List (List Grid1)) (parts : List Label) : Type 0 where
   pub due : (greatest count : ℕ) → IsCanonicalCount grids 0 frame greatest count → (greatest ≤ 4096) × (count ≤ 64)
   pub splits : SplitsVectors (map (λ (p : Label). p.0) parts) (has_vector frame)
   pub few : length parts ≤ 64
+  pub same : All (λ (g : List Grid1). length g ≡ length frame) grids ⊎ (parts ≡ [])
   pub first : NameFirst grids parts
 
 module _ (k : Facts) (above : ℕ) (s : Site) (base : Base) (gens : GensTerm) (bs : List Bounds) (f : Framed) (parts : List Label) (literal : AllLiteral k gens bs)
@@ -106,6 +124,10 @@ module _ (k : Facts) (above : ℕ) (s : Site) (base : Base) (gens : GensTerm) (b
         room = room;
       }
 
+  named : (n : ℕ) → All (λ (g : List Grid1). length g ≡ n) f.grids.items ⊎ (parts ≡ []) → NamesFitGrids bs f.grids.items → AllNamed n gens ⊎ (parts ≡ [])
+  named n (inl l) w = inl (names_are k gens bs f.grids.items n literal w l)
+  named n (inr e) w = inr e
+
   abbrev plan_is : (op : CoreOp) (plan : PartPlan) → FramesKnown k s op base bs f → plan.frame ≡ f.frame → plan.cell ≡ f.cell → NameFirst f.grids.items plan.parts.items
       → plan.parts.items ≡ needed_parts op parts → IsPlan k above s op gens base plan
   plan_is op plan known frame cell first all = record {
@@ -121,6 +143,7 @@ module _ (k : Facts) (above : ℕ) (s : Site) (base : Base) (gens : GensTerm) (b
     splits = subst (λ g. SplitsVectors (map (λ (p : Label). p.0) parts) (has_vector g)) (sym frame) cut.splits;
     few = cut.few;
     needed = all;
+    names = named (length plan.frame) (subst (λ (g : List Grid1). All (λ (h : List Grid1). length h ≡ length g) f.grids.items ⊎ (parts ≡ [])) (sym frame) cut.same) known.frames.names;
   }
 
   pub plan_fits : (op : CoreOp) (plan : PartPlan) → FramesKnown k s op base bs f → plan.frame ≡ f.frame → plan.cell ≡ f.cell → plan.parts.items ≡ needed_parts op parts

@@ -1,10 +1,10 @@
 -- What is known of a with-loop before its cells.
-use Rattle.std.specs.Prelude.{◌≡◌, ◌⊎◌, ◌++◌, ◌≤◌, ◌≤ℤ◌, ℕ, List, [], ◌∷◌, All, map, length, pos, negsuc, Ok, Some}
+use Rattle.std.specs.Prelude.{◌≡◌, ◌⊎◌, ◌++◌, ◌≤◌, ◌≤ℤ◌, ℕ, true, List, [], ◌∷◌, All, map, length, pos, negsuc, Ok, Some}
 use Rattle.sac_base.specs.declared.base.Base.{Base}
 use Rattle.sac_base.specs.declared.grid.Grid1.{Grid1}
 use Rattle.sac_base.specs.declared.site.Site.{Site}
 use Rattle.sac_base.specs.Arrays.{size, MOST}
-use Rattle.sac_base.specs.WithLoops.{Bounds, Operation, Plan, box, plan}
+use Rattle.sac_base.specs.WithLoops.{Bounds, Operation, Plan, box, names_fit, plan}
 use Rattle.core_ir.specs.declared.tree.Var.{Var}
 use Rattle.core_ir.specs.declared.tree.CoreOp.{CoreOp}
 use Rattle.core_ir.specs.declared.tree.CoreOp.TheVariants as making
@@ -43,6 +43,12 @@ MayStand k (making.Genarray x y) = Unit {0}
 MayStand k (making.Modarray x) = (shape : List ℕ) × (((k x).shape ≡ Some shape) × (size shape ≤ MOST))
 MayStand k (making.Fold o x) = Unit {0}
 
+-- the names of each generator are as many as the axes of its grid
+abbrev pub NamesFitGrids : List Bounds → List (List Grid1) → Type 0
+NamesFitGrids [] [] = Unit {0}
+NamesFitGrids (b ∷ bs) (g ∷ gs) = (names_fit (length g) b.names ≡ true) × NamesFitGrids bs gs
+NamesFitGrids _ _ = ⊥
+
 -- There is a plan, and this is its frame, its grids and its cell.
 pub record FramesPlan (base : Base) (op : CoreOp) (bounds : List Bounds) (operation : Operation) (f : Framed) : Type 0 where
   pub planned : Plan
@@ -56,6 +62,7 @@ pub record FramesPlan (base : Base) (op : CoreOp) (bounds : List Bounds) (operat
   pub whole : IsWhole op planned f
   pub frame : IsFrame f.frame
   pub result : IsResult op f.frame f.cell
+  pub names : NamesFitGrids bounds f.grids.items
 
 -- the shape that is known
 abbrev pub HasKnown : Facts → CoreOp → Plan → Framed → Type 0

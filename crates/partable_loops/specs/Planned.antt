@@ -1,6 +1,6 @@
 -- What a plan says of the with-loop.
 use Rattle.std.specs.List.{list_any}
-use Rattle.std.specs.Prelude.{◌≡◌, ◌⊎◌, ◌≤◌, ℕ, true, false, List, ◌++◌, map, filter, is_some, length, ℤ, Option, Some}
+use Rattle.std.specs.Prelude.{◌≡◌, ◌⊎◌, ◌≤◌, ℕ, true, false, List, [], ◌++◌, map, filter, is_some, length, ℤ, Option, Some}
 use Rattle.sac_base.specs.declared.base.Base.{Base}
 use Rattle.sac_base.specs.declared.grid.Grid1.{Grid1}
 use Rattle.sac_base.specs.declared.op.Op.{Op}
@@ -11,7 +11,7 @@ use Rattle.core_ir.specs.declared.tree.Var.{Var}
 use Rattle.core_ir.specs.declared.tree.CoreOp.{CoreOp}
 use Rattle.core_ir.specs.declared.tree.CoreOp.TheVariants as making
 use Rattle.core_ir.specs.Meaning.{extents}
-use Rattle.core_ir.specs.Terms.{GensTerm}
+use Rattle.core_ir.specs.Terms.{GensTerm, NoGens, Gen}
 use Rattle.core_ir.specs.WellFormed.{IsFrame}
 use Rattle.core_facts.specs.Facts.{Facts}
 use Rattle.core_norm.specs.Norm.{NameFirst}
@@ -29,6 +29,11 @@ abbrev pub needed_parts : CoreOp → List Label → List Label
 needed_parts (making.Genarray x y) labels = labels
 needed_parts (making.Modarray x) labels = labels
 needed_parts (making.Fold o x) labels = filter (λ (p : Label). is_some p.1) labels
+
+-- each generator has no names, or as many as this
+abbrev pub AllNamed : ℕ → GensTerm → Type 0
+AllNamed n NoGens = Unit {0}
+AllNamed n (Gen h b rest) = ((h.names ≡ []) ⊎ (length h.names ≡ n)) × AllNamed n rest
 
 -- a with-loop that can become a parted loop: a partable one whose array may be
 abbrev pub IsPlannable : Facts → ℕ → Site → CoreOp → GensTerm → Type 0
@@ -49,6 +54,7 @@ pub record IsPlan (k : Facts) (above : ℕ) (s : Site) (op : CoreOp) (gens : Gen
   pub splits : SplitsVectors (map (λ (p : Label). p.0) labels) (has_vector plan.frame)
   pub few : length labels ≤ 64
   pub needed : plan.parts.items ≡ needed_parts op labels
+  pub names : AllNamed (length plan.frame) gens ⊎ (labels ≡ [])
 
 -- each vector of the frame is in one grid
 abbrev pub Covers : List Grid1 → List Label → Type 0

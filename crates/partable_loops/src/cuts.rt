@@ -1,6 +1,6 @@
 //! A frame, cut into grids by generators.
 
-ghost use Rattle.std.specs.Prelude.{◌≡◌, ◌≤◌, ◌⊎◌, ◌↔◌, IsTrue, IfOk, ℕ, pos, length, map, filter, is_some, Option};
+ghost use Rattle.std.specs.Prelude.{◌≡◌, ◌≤◌, ◌⊎◌, ◌↔◌, IsTrue, IfOk, ℕ, pos, [], length, map, filter, is_some, Option};
 ghost use Rattle.std.specs.List.{All};
 ghost use Rattle.sac_base.specs.Grids.{SplitsVectors, has_vector};
 ghost use Rattle.core_norm.specs.Norm.{NameFirst};
@@ -27,6 +27,7 @@ pub fn cut(
         → Decides result (λ _. (greatest ≤ 4096) × (count ≤ 64)) ((greatest ≤ 4096) × (count ≤ 64)) }
     ensures splits { IfOk result (λ parts. SplitsVectors (map (λ (p : Label). p.0) parts.items) (has_vector frame.now)) }
     ensures few { IfOk result (λ parts. length parts.items ≤ 64) }
+    ensures same { IfOk result (λ parts. All (λ g. length g ≡ length frame.now) generators.now ⊎ (parts.items ≡ [])) }
     ensures first { IfOk result (λ parts. NameFirst generators.now parts.items) }
 {
     if !have_axes(generators, frame.axes().len()) {

@@ -3,7 +3,8 @@ use Rattle.std.specs.Prelude.{drop}
 use Rattle.fact_table.specs.Table.{facts_of}
 use Rattle.plain_facts.specs.Called.{shapes_of}
 use Rattle.norm_walk.specs.Based.{bases_in}
-use Rattle.norm_walk.proofs.Noting.{earlier_on, none_gone, none_left}
+use Rattle.scoped_table.proofs.Marks.{earlier_on, none_gone}
+use Rattle.norm_walk.proofs.Noting.{none_left}
 use Rattle.norm_walk.proofs.Walking.{going_first, going_on, block_walked, block_known}
 use Rattle.norm_walk.proofs.walk.+norming.Goals as goal
 

@@ -1,4 +1,4 @@
-use Rattle.std.proofs.Common.{length, ap}
+use Rattle.std.proofs.Common.{length, ap, inr}
 use Rattle.partable_loops.proofs.Labelling.{is_void, named_first, void_count, void_splits}
 use Rattle.partable_loops.proofs.cuts.cut.Goals as goal
 
@@ -14,3 +14,6 @@ returns-then-not-have_axes-clause-splits c =
 
 pub returns-in-Ok-clause-first : goal.returns-in-Ok-clause-first
 returns-in-Ok-clause-first c = named_first c.args.generators.now c.in-Ok.parts.parts.items c.in-Ok.ensures.first
+
+pub returns-then-not-have_axes-clause-same : goal.returns-then-not-have_axes-clause-same
+returns-then-not-have_axes-clause-same c = inr c.new.ensures.items

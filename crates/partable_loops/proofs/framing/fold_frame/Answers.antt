@@ -23,5 +23,6 @@ returns-in-Ok c =
           (c.in_ok-grid_of_ranges-in-Ok.ensures.spans ∙ ap (λ r. map spanned (joined_frame r)) c.deref-in-Ok-2.ensures.value)
           c.copy.ensures
           c.in_ok-grid_of_ranges-in-Ok.ensures.words
-          c.in_ok-grid_of_ranges-in-Ok.ensures.rank,
+          c.in_ok-grid_of_ranges-in-Ok.ensures.rank
+          (sym c.index_length-n.ensures),
     )
