@@ -11,7 +11,7 @@ use Rattle.sac_base.specs.declared.grid.Grid1.{Grid1}
 use Rattle.sac_base.specs.declared.op.Op.{Op}
 use Rattle.sac_base.specs.declared.site.Site.{Site}
 use Rattle.sac_base.specs.Arrays.{ArrayValue, form_of, size, MOST}
-use Rattle.sac_base.specs.Operators.{all_of}
+use Rattle.sac_base.specs.Operators.{all_of, with_first}
 use Rattle.sac_base.specs.Outcomes.{Ends, and_then, fault}
 use Rattle.sac_base.specs.Parts.{shape_of_numbers, vector_of}
 use Rattle.sac_base.specs.Shapes.{IsShape}
@@ -91,7 +91,7 @@ all_names n most fr dots (b ∷ bs) rs gs e c l = by (range_of n most fr dots b)
     by (Err z) f q = cc
     by (Ok r) f q = on (all_of (map (range_of n most fr dots) bs)) refl q
       where
-        on : (m : Ends (List Range)) → all_of (map (range_of n most fr dots) bs) ≡ m → and_then m (λ rest. Ok (r ∷ rest)) ≡ Ok rs → NamesFitGrids (b ∷ bs) gs
+        on : (m : Ends (List Range)) → all_of (map (range_of n most fr dots) bs) ≡ m → with_first r m ≡ Ok rs → NamesFitGrids (b ∷ bs) gs
         on (Err z) p q = cc
         on (Ok rest) p q = at gs (c ∙ sym (ok_same (r ∷ rest) rs q)) (subst (All (λ (r : Range). length r ≡ n)) (sym (ok_same (r ∷ rest) rs q)) l)
           where
