@@ -71,7 +71,7 @@ no_var = record { 0 = 0 }
 no_site : Site
 no_site = record { line = 0; col = 0 }
 
-module _ (called : ℕ → List (Option (List ℕ))) (bases : Var → Base) (first : ℕ) where
+module _ (called : ℕ → List (Option (List ℕ))) (bases : Var → Option Base) (first : ℕ) where
   abbrev pub Changed : Progress → Progress → Facts → BlockTerm → BlockTerm → Type 0
   Changed p q = Edited Facts (fact_ways called) (ReplacedHere bases first p q)
 
@@ -92,7 +92,7 @@ module _ (called : ℕ → List (Option (List ℕ))) (bases : Var → Base) (fir
   -- ---- how many
 
   mutual
-    one_more : {p q : Progress} {k : Facts} {b c : BlockTerm} → Changed p q k b c → q.replaced ≡ suc p.replaced
+    pub one_more : {p q : Progress} {k : Facts} {b c : BlockTerm} → Changed p q k b c → q.replaced ≡ suc p.replaced
     one_more (here h) = ap (λ (r : Progress). r.replaced) h.at.after
     one_more (later s) = one_more s
     one_more (inside s) = one_more_right s
@@ -134,7 +134,7 @@ module _ (called : ℕ → List (Option (List ℕ))) (bases : Var → Base) (fir
     none = λ e.
         let w = both {p} {q} {r} (rises u.walked) (rises v.walked) e in
         let same = (still u.walked w.0).0 in
-        (u.none w.0, subst (λ (t : Progress). EachWith called (IsLeft first t.next) b k) (sym same) (v.none w.1));
+        (u.none w.0, subst (λ (t : Progress). EachWith called (IsLeft bases first t.next) b k) (sym same) (v.none w.1));
   }
 
   pub loop_walked : (k : Facts) (p q r : Progress) (s : Site) (f : _) (xs ys : List Var) (t : Site) (a b c d : BlockTerm) → BlockWalked called bases first (note_all k ys []) p q a c → BlockWalked called bases first (note_all k ys []) q r b d → RightWalked called bases first k p r s (RightTerm.Loop f xs ys a b t) (RightTerm.Loop f xs ys c d t)
@@ -143,10 +143,10 @@ module _ (called : ℕ → List (Option (List ℕ))) (bases : Var → Base) (fir
     none = λ e.
         let w = both {p} {q} {r} (rises u.walked) (rises v.walked) e in
         let same = (still u.walked w.0).0 in
-        (u.none w.0, subst (λ (m : Progress). EachWith called (IsLeft first m.next) b (note_all k ys [])) (sym same) (v.none w.1));
+        (u.none w.0, subst (λ (m : Progress). EachWith called (IsLeft bases first m.next) b (note_all k ys [])) (sym same) (v.none w.1));
   }
 
-  pub right_stays : (k : Facts) (p : Progress) (s : Site) (r : RightTerm) → EachWithRight called (IsLeft first p.next) s r k → RightWalked called bases first k p p s r r
+  pub right_stays : (k : Facts) (p : Progress) (s : Site) (r : RightTerm) → EachWithRight called (IsLeft bases first p.next) s r k → RightWalked called bases first k p p s r r
   right_stays k p s r h = record { walked = λ xs rest. stays; none = λ e. h }
 
   -- ---- generators and parts
@@ -189,8 +189,8 @@ module _ (called : ℕ → List (Option (List ℕ))) (bases : Var → Base) (fir
       gens_in d (With o x) = x
       gens_in d _ = d
 
-      left_of : With op h ≡ With op g → q ≡ p → IsLeft first q.next k s op h → IsLeft first p.next k s op g
-      left_of e f l = subst (λ (m : Progress). IsLeft first m.next k s op g) f (subst (λ (x : GensTerm). IsLeft first q.next k s op x) (ap (gens_in h) e) l)
+      left_of : With op h ≡ With op g → q ≡ p → IsLeft bases first q.next k s op h → IsLeft bases first p.next k s op g
+      left_of e f l = subst (λ (m : Progress). IsLeft bases first m.next k s op g) f (subst (λ (x : GensTerm). IsLeft bases first q.next k s op x) (ap (gens_in h) e) l)
 
   -- ---- a binding more
 
@@ -202,7 +202,7 @@ module _ (called : ℕ → List (Option (List ℕ))) (bases : Var → Base) (fir
   pub record Going (k : Facts) (p : Progress) (all : List Let) (now : Facts) (q : Progress) (done rest : List Let) : Type 0 where
     pub walked : (end : BlockTerm) → Walked called bases first k p q (chain (map let_term all) end) (chain (map let_term done) (chain (map let_term rest) end))
     pub known : now ≡ facts_after called (map let_term done) k
-    pub none : q.replaced ≡ p.replaced → (end : BlockTerm) → EachWith called (IsLeft first p.next) (chain (map let_term rest) end) now → EachWith called (IsLeft first p.next) (chain (map let_term all) end) k
+    pub none : q.replaced ≡ p.replaced → (end : BlockTerm) → EachWith called (IsLeft bases first p.next) (chain (map let_term rest) end) now → EachWith called (IsLeft bases first p.next) (chain (map let_term all) end) k
 
   pub going_first : (k : Facts) (p : Progress) (all done : List Let) → done ≡ [] → Going k p all k p done all
   going_first k p all done e = record {
@@ -228,9 +228,9 @@ module _ (called : ℕ → List (Option (List ℕ))) (bases : Var → Base) (fir
         let right : right_term x.right ≡ right_term y.right = ap (right_in (right_term x.right)) equal in
         let targets : x.targets.items ≡ y.targets.items = ap (targets_in x.targets.items) equal in
         let facts : after ≡ note_all now x.targets.items (right_facts called (right_term x.right) now) = learned ∙ (λ i. note_all now (sym targets i) (right_facts called (sym right i) now)) in
-        v.none w.0 end (subst (λ (ls : List Let). EachWith called (IsLeft first p.next) (chain (map let_term ls) end) now) (sym b) (
-          subst (λ (m : Progress). EachWithRight called (IsLeft first m.next) x.site (right_term x.right) now) (sym same) (u.none w.1),
-          subst (λ (f : Facts). EachWith called (IsLeft first p.next) (chain (map let_term rest) end) f) facts h,
+        v.none w.0 end (subst (λ (ls : List Let). EachWith called (IsLeft bases first p.next) (chain (map let_term ls) end) now) (sym b) (
+          subst (λ (m : Progress). EachWithRight called (IsLeft bases first m.next) x.site (right_term x.right) now) (sym same) (u.none w.1),
+          subst (λ (f : Facts). EachWith called (IsLeft bases first p.next) (chain (map let_term rest) end) f) facts h,
         ));
   }
 
@@ -242,7 +242,7 @@ module _ (called : ℕ → List (Option (List ℕ))) (bases : Var → Base) (fir
       (λ i. chain (map let_term (sym d i)) (chain (map let_term (r i)) (Gives (sym e i)))) ∙ sym (block_roll x) in
       record {
         walked = subst (λ (t : BlockTerm). Walked called bases first k p q t (block_term (roll-Block x))) old (subst (λ (t : BlockTerm). Walked called bases first k p q (chain (map let_term all) (Gives rs)) t) new (v.walked (Gives rs)));
-        none = λ z. subst (λ (t : BlockTerm). EachWith called (IsLeft first p.next) t k) old (v.none z (Gives rs) (subst (λ (ls : List Let). EachWith called (IsLeft first p.next) (chain (map let_term ls) (Gives rs)) now) (sym r) tt));
+        none = λ z. subst (λ (t : BlockTerm). EachWith called (IsLeft bases first p.next) t k) old (v.none z (Gives rs) (subst (λ (ls : List Let). EachWith called (IsLeft bases first p.next) (chain (map let_term ls) (Gives rs)) now) (sym r) tt));
       }
 
   pub block_known : (k : Facts) (p q : Progress) (all done rest : List Let) (now : Facts) (x : Block-F the_data the_data-1 the_data-2 the_data-3 the_data-4 the_data-5 the_data-6) (known : List Fact) → Going k p all now q done rest → x.lets.items ≡ done → known ≡ map now x.results.items → known ≡ block_facts called (block_term (roll-Block x)) k
@@ -254,7 +254,7 @@ module _ (called : ℕ → List (Option (List ℕ))) (bases : Var → Base) (fir
 
   pub record GensGoing (k : Facts) (p : Progress) (all : List CoreGen) (q : Progress) (done rest : List CoreGen) : Type 0 where
     pub walked : (xs : List Var) (s : Site) (op : CoreOp) (end : BlockTerm) → Walked called bases first k p q (Bind xs s (With op (gens_of (map gen_term all))) end) (Bind xs s (With op (gens_before (map gen_term done) (gens_of (map gen_term rest)))) end)
-    pub none : q.replaced ≡ p.replaced → EachWithGens called (IsLeft first p.next) (gens_of (map gen_term rest)) k → EachWithGens called (IsLeft first p.next) (gens_of (map gen_term all)) k
+    pub none : q.replaced ≡ p.replaced → EachWithGens called (IsLeft bases first p.next) (gens_of (map gen_term rest)) k → EachWithGens called (IsLeft bases first p.next) (gens_of (map gen_term all)) k
 
   pub gens_on : (k : Facts) (p : Progress) (all : List CoreGen) (q r : Progress) (done done' before rest : List CoreGen) (x y : CoreGen) → GensGoing k p all q done before → before ≡ x ∷ rest → done' ≡ done ++ (y ∷ []) → GenWalked called bases first k q r (gen_term x) (gen_term y) → GensGoing k p all r done' rest
   gens_on k p all q r done done' before rest x y v b d u = record {
@@ -267,8 +267,8 @@ module _ (called : ℕ → List (Option (List ℕ))) (bases : Var → Base) (fir
         let one = v.walked [] no_site (making.Modarray no_var) (Gives []) in
         let w = both {p} {q} {r} (rises one) (rises u.body.walked) e in
         let same = (still one w.0).0 in
-        v.none w.0 (subst (λ (ls : List CoreGen). EachWithGens called (IsLeft first p.next) (gens_of (map gen_term ls)) k) (sym b)
-        (subst (λ (m : Progress). EachWith called (IsLeft first m.next) (gen_term x).body (note_all k ((gen_term x).head.index ∷ (gen_term x).head.names) [])) (sym same) (u.body.none w.1), h));
+        v.none w.0 (subst (λ (ls : List CoreGen). EachWithGens called (IsLeft bases first p.next) (gens_of (map gen_term ls)) k) (sym b)
+        (subst (λ (m : Progress). EachWith called (IsLeft bases first m.next) (gen_term x).body (note_all k ((gen_term x).head.index ∷ (gen_term x).head.names) [])) (sym same) (u.body.none w.1), h));
   }
 
   pub gens_done : (k : Facts) (p q : Progress) (all done rest : List CoreGen) → GensGoing k p all q done rest → rest ≡ [] → GensWalked called bases first k p q (gens_of (map gen_term all)) (gens_of (map gen_term done))
@@ -276,12 +276,12 @@ module _ (called : ℕ → List (Option (List ℕ))) (bases : Var → Base) (fir
     walked = λ xs s op end.
         subst (λ (t : GensTerm). Walked called bases first k p q (Bind xs s (With op (gens_of (map gen_term all))) end) (Bind xs s (With op t) end))
         ((λ i. gens_before (map gen_term done) (gens_of (map gen_term (r i)))) ∙ gens_ended (map gen_term done)) (v.walked xs s op end);
-    none = λ e. v.none e (subst (λ (ls : List CoreGen). EachWithGens called (IsLeft first p.next) (gens_of (map gen_term ls)) k) (sym r) tt);
+    none = λ e. v.none e (subst (λ (ls : List CoreGen). EachWithGens called (IsLeft bases first p.next) (gens_of (map gen_term ls)) k) (sym r) tt);
   }
 
   pub record PartsGoing (k : Facts) (p : Progress) (all : List CorePart) (q : Progress) (done rest : List CorePart) : Type 0 where
     pub walked : (xs : List Var) (s : Site) (frame : List Grid1) (base : Base) (cell : List ℕ) (op : PartedOp) (end : BlockTerm) → Walked called bases first k p q (Bind xs s (Parted frame base cell op (parts_of (map part_term all))) end) (Bind xs s (Parted frame base cell op (parts_before (map part_term done) (parts_of (map part_term rest)))) end)
-    pub none : q.replaced ≡ p.replaced → EachWithParts called (IsLeft first p.next) (parts_of (map part_term rest)) k → EachWithParts called (IsLeft first p.next) (parts_of (map part_term all)) k
+    pub none : q.replaced ≡ p.replaced → EachWithParts called (IsLeft bases first p.next) (parts_of (map part_term rest)) k → EachWithParts called (IsLeft bases first p.next) (parts_of (map part_term all)) k
 
   pub parts_on : (k : Facts) (p : Progress) (all : List CorePart) (q r : Progress) (done done' before rest : List CorePart) (x y : CorePart) → PartsGoing k p all q done before → before ≡ x ∷ rest → done' ≡ done ++ (y ∷ []) → PartWalked called bases first k q r (part_term x) (part_term y) → PartsGoing k p all r done' rest
   parts_on k p all q r done done' before rest x y v b d u = record {
@@ -294,8 +294,8 @@ module _ (called : ℕ → List (Option (List ℕ))) (bases : Var → Base) (fir
         let one = v.walked [] no_site [] Int [] parted.Genarray (Gives []) in
         let w = both {p} {q} {r} (rises one) (rises u.body.walked) e in
         let same = (still one w.0).0 in
-        v.none w.0 (subst (λ (ls : List CorePart). EachWithParts called (IsLeft first p.next) (parts_of (map part_term ls)) k) (sym b)
-        (subst (λ (m : Progress). EachWith called (IsLeft first m.next) (part_term x).body (in_part k (part_term x).head)) (sym same) (u.body.none w.1), h));
+        v.none w.0 (subst (λ (ls : List CorePart). EachWithParts called (IsLeft bases first p.next) (parts_of (map part_term ls)) k) (sym b)
+        (subst (λ (m : Progress). EachWith called (IsLeft bases first m.next) (part_term x).body (in_part k (part_term x).head)) (sym same) (u.body.none w.1), h));
   }
 
   pub parts_done : (k : Facts) (p q : Progress) (s : Site) (all done rest : List CorePart) (frame : List Grid1) (base : Base) (cell : List ℕ) (op : PartedOp) → PartsGoing k p all q done rest → rest ≡ [] → RightWalked called bases first k p q s (Parted frame base cell op (parts_of (map part_term all))) (Parted frame base cell op (parts_of (map part_term done)))
@@ -303,7 +303,7 @@ module _ (called : ℕ → List (Option (List ℕ))) (bases : Var → Base) (fir
     walked = λ xs end.
         subst (λ (t : PartsTerm). Walked called bases first k p q (Bind xs s (Parted frame base cell op (parts_of (map part_term all))) end) (Bind xs s (Parted frame base cell op t) end))
         ((λ i. parts_before (map part_term done) (parts_of (map part_term (r i)))) ∙ parts_ended (map part_term done)) (v.walked xs s frame base cell op end);
-    none = λ e. v.none e (subst (λ (ls : List CorePart). EachWithParts called (IsLeft first p.next) (parts_of (map part_term ls)) k) (sym r) tt);
+    none = λ e. v.none e (subst (λ (ls : List CorePart). EachWithParts called (IsLeft bases first p.next) (parts_of (map part_term ls)) k) (sym r) tt);
   }
 
   pub gens_first : (k : Facts) (p : Progress) (all done : List CoreGen) → done ≡ [] → GensGoing k p all p done all
@@ -321,7 +321,7 @@ module _ (called : ℕ → List (Option (List ℕ))) (bases : Var → Base) (fir
   -- ---- the with-loop itself
 
   -- a with-loop that stays
-  pub left_walked : (k : Facts) (p : Progress) (s : Site) (op : CoreOp) (gens : GensTerm) (t : RightTerm) → t ≡ With op gens → IsLeft first p.next k s op gens → WithWalked called bases first k p p s op gens t
+  pub left_walked : (k : Facts) (p : Progress) (s : Site) (op : CoreOp) (gens : GensTerm) (t : RightTerm) → t ≡ With op gens → IsLeft bases first p.next k s op gens → WithWalked called bases first k p p s op gens t
   left_walked k p s op gens t e l = record {
     walked = λ xs rest. subst (λ (r : RightTerm). Walked called bases first k p p (Bind xs s (With op gens) rest) (Bind xs s r rest)) (sym e) stays;
     none = λ _. l;

@@ -1,5 +1,5 @@
 -- With-loops that become parted loops on one walk over a block.
-use Rattle.std.specs.Prelude.{◌≡◌, ℕ, suc, ◌+◌, ◌<◌, List, [], ◌∷◌, Option}
+use Rattle.std.specs.Prelude.{◌≡◌, ℕ, suc, ◌+◌, ◌<◌, List, [], ◌∷◌, Option, Some}
 use Rattle.sac_base.specs.declared.base.Base.{Base}
 use Rattle.sac_base.specs.declared.site.Site.{Site}
 use Rattle.core_ir.specs.declared.tree.Var.{Var}
@@ -16,16 +16,19 @@ use Rattle.parted_bodies.specs.Making.{base_var, binds_of, made_parts, parted_op
 -- ---- one with-loop
 
 -- a with-loop of which nothing is left to do: its base is not known, or it cannot become a parted loop
-abbrev pub IsLeft : ℕ → ℕ → Facts → Site → CoreOp → GensTerm → Type 0
-IsLeft first above k s op gens = (base_var op).0 < first → IsPlannable k above s op gens → ⊥
+abbrev pub IsLeft : (Var → Option Base) → ℕ → ℕ → Facts → Site → CoreOp → GensTerm → Type 0
+IsLeft bases first above k s op gens =
+    (base : Base) → bases (base_var op) ≡ Some base → (base_var op).0 < first → IsPlannable k above s op gens → ⊥
 
-module _ (bases : Var → Base) (first : ℕ) where
+module _ (bases : Var → Option Base) (first : ℕ) where
   -- the parted loop of a plan, whose variables have the next numbers
   pub record ReplacedAt (p q : Progress) (k : Facts) (s : Site) (op : CoreOp) (gens : List GenTerm) (right : RightTerm) : Type 0 where
     pub plan : PartPlan
     pub fits : (base : Base) → PlanFits k p.next s op (gens_of gens) base plan
-    pub known : (base_var op).0 < first
-    pub made : right ≡ Parted plan.frame (bases (base_var op)) plan.cell (parted_op op) (parts_of (made_parts op s gens plan.parts.items p.next))
+    pub base : Base
+    pub known : bases (base_var op) ≡ Some base
+    pub old : (base_var op).0 < first
+    pub made : right ≡ Parted plan.frame base plan.cell (parted_op op) (parts_of (made_parts op s gens plan.parts.items p.next))
     pub after : q ≡ record { next = p.next + binds_of (made_parts op s gens plan.parts.items p.next); replaced = suc p.replaced }
 
   pub record ReplacedHere (p q : Progress) (k : Facts) (b c : BlockTerm) : Type 0 where
@@ -66,7 +69,7 @@ module _ (called : ℕ → List (Option (List ℕ))) (P : Facts → Site → Cor
 
 -- ---- a walk
 
-module _ (called : ℕ → List (Option (List ℕ))) (bases : Var → Base) (first : ℕ) where
+module _ (called : ℕ → List (Option (List ℕ))) (bases : Var → Option Base) (first : ℕ) where
   -- with-loops were replaced one after another
   pub data Walked : Facts → Progress → Progress → BlockTerm → BlockTerm → Type 0 where
     stays : {k : Facts} {p : Progress} {b : BlockTerm} → Walked k p p b b
@@ -76,24 +79,24 @@ module _ (called : ℕ → List (Option (List ℕ))) (bases : Var → Base) (fir
   -- a walk that replaced none leaves none
   pub record BlockWalked (k : Facts) (p q : Progress) (b c : BlockTerm) : Type 0 where
     pub walked : Walked k p q b c
-    pub none : q.replaced ≡ p.replaced → EachWith called (IsLeft first p.next) b k
+    pub none : q.replaced ≡ p.replaced → EachWith called (IsLeft bases first p.next) b k
 
   pub record RightWalked (k : Facts) (p q : Progress) (s : Site) (r t : RightTerm) : Type 0 where
     pub walked : (xs : List Var) (rest : BlockTerm) → Walked k p q (Bind xs s r rest) (Bind xs s t rest)
-    pub none : q.replaced ≡ p.replaced → EachWithRight called (IsLeft first p.next) s r k
+    pub none : q.replaced ≡ p.replaced → EachWithRight called (IsLeft bases first p.next) s r k
 
   pub record LetWalked (k : Facts) (p q : Progress) (l m : LetTerm) : Type 0 where
     pub walked : (rest : BlockTerm) → Walked k p q (Bind l.targets l.site l.right rest) (Bind m.targets m.site m.right rest)
-    pub none : q.replaced ≡ p.replaced → EachWithRight called (IsLeft first p.next) l.site l.right k
+    pub none : q.replaced ≡ p.replaced → EachWithRight called (IsLeft bases first p.next) l.site l.right k
 
   pub record GensWalked (k : Facts) (p q : Progress) (g h : GensTerm) : Type 0 where
     pub walked : (xs : List Var) (s : Site) (op : CoreOp) (rest : BlockTerm) → Walked k p q (Bind xs s (With op g) rest) (Bind xs s (With op h) rest)
-    pub none : q.replaced ≡ p.replaced → EachWithGens called (IsLeft first p.next) g k
+    pub none : q.replaced ≡ p.replaced → EachWithGens called (IsLeft bases first p.next) g k
 
   -- a with-loop whose generators have been walked through
   pub record WithWalked (k : Facts) (p q : Progress) (s : Site) (op : CoreOp) (gens : GensTerm) (t : RightTerm) : Type 0 where
     pub walked : (xs : List Var) (rest : BlockTerm) → Walked k p q (Bind xs s (With op gens) rest) (Bind xs s t rest)
-    pub none : q.replaced ≡ p.replaced → IsLeft first p.next k s op gens
+    pub none : q.replaced ≡ p.replaced → IsLeft bases first p.next k s op gens
 
   -- the body of a generator alone, and that of a part
   pub record GenWalked (k : Facts) (p q : Progress) (g h : GenTerm) : Type 0 where

@@ -5,6 +5,6 @@ mod bases;
 mod known;
 mod walk;
 
-pub use bases::{BaseTable, Signatures};
+pub use bases::BaseTable;
 pub use known::KnownBlock;
 pub use walk::{Given, norm_block};

@@ -7,7 +7,7 @@ ghost use Rattle.core_ir.specs.View.{block_term, let_term, right_term, gen_term,
 ghost use Rattle.core_facts.specs.Facts.{note_all, block_facts, right_facts, unknown};
 ghost use Rattle.fact_table.specs.Table.{fact_of, facts_of};
 ghost use Rattle.plain_facts.specs.Called.{shapes_of};
-ghost use Rattle.norm_walk.specs.Based.{bases_in};
+ghost use Rattle.norm_walk.specs.Based.{base_in};
 ghost use Rattle.norm_walk.specs.Replacing.{BlockWalked, RightWalked, LetWalked, GensWalked, GenWalked, PartWalked, WithWalked};
 
 use crate::bases::BaseTable;
@@ -45,7 +45,7 @@ pub fn norm_block(
     table: &mut FactTable,
     progress: &mut Progress,
 ) -> Result<KnownBlock, Memory>
-    ensures walked { IfOk result (λ new. BlockWalked (shapes_of given.now.called.now) (bases_in given.now.bases.now) given.now.first (facts_of table.old)
+    ensures walked { IfOk result (λ new. BlockWalked (shapes_of given.now.called.now) (base_in given.now.bases.now) given.now.first (facts_of table.old)
         progress.old progress.new (block_term block) (block_term new.block)) }
     ensures known { IfOk result (λ new. map fact_of new.results.items ≡ block_facts (shapes_of given.now.called.now) (block_term new.block) (facts_of table.old)) }
     ensures table { OnOk result (table.new ≡ table.old) }
@@ -76,7 +76,7 @@ fn norm_binding(
     table: &mut FactTable,
     progress: &mut Progress,
 ) -> Result<Let, Memory>
-    ensures walked { IfOk result (λ new. LetWalked (shapes_of given.now.called.now) (bases_in given.now.bases.now) given.now.first (facts_of table.old)
+    ensures walked { IfOk result (λ new. LetWalked (shapes_of given.now.called.now) (base_in given.now.bases.now) given.now.first (facts_of table.old)
         progress.old progress.new (let_term binding) (let_term new)) }
     ensures learned { IfOk result (λ l. facts_of table.new
         ≡ note_all (facts_of table.old) l.targets.items (right_facts (shapes_of given.now.called.now) (right_term l.right) (facts_of table.old))) }
@@ -106,7 +106,7 @@ fn norm_right(
     table: &mut FactTable,
     progress: &mut Progress,
 ) -> Result<KnownRight, Memory>
-    ensures walked { IfOk result (λ new. RightWalked (shapes_of given.now.called.now) (bases_in given.now.bases.now) given.now.first (facts_of table.old)
+    ensures walked { IfOk result (λ new. RightWalked (shapes_of given.now.called.now) (base_in given.now.bases.now) given.now.first (facts_of table.old)
         progress.old progress.new site (right_term right) (right_term new.right)) }
     ensures known { IfOk result (λ new. map fact_of new.values.items ≡ right_facts (shapes_of given.now.called.now) (right_term new.right) (facts_of table.old)) }
     ensures table { OnOk result (table.new ≡ table.old) }
@@ -177,7 +177,7 @@ fn norm_with(
     table: &mut FactTable,
     progress: &mut Progress,
 ) -> Result<KnownRight, Memory>
-    ensures walked { IfOk result (λ new. RightWalked (shapes_of given.now.called.now) (bases_in given.now.bases.now) given.now.first (facts_of table.old)
+    ensures walked { IfOk result (λ new. RightWalked (shapes_of given.now.called.now) (base_in given.now.bases.now) given.now.first (facts_of table.old)
         progress.old progress.new site (With op (gens_of (map gen_term gens.items))) (right_term new.right)) }
     ensures known { IfOk result (λ new. map fact_of new.values.items ≡ right_facts (shapes_of given.now.called.now) (right_term new.right) (facts_of table.old)) }
     ensures table { OnOk result (table.new ≡ table.old) }
@@ -195,7 +195,7 @@ fn norm_gens(
     table: &mut FactTable,
     progress: &mut Progress,
 ) -> Result<Vec<CoreGen>, Memory>
-    ensures walked { IfOk result (λ new. GensWalked (shapes_of given.now.called.now) (bases_in given.now.bases.now) given.now.first (facts_of table.old)
+    ensures walked { IfOk result (λ new. GensWalked (shapes_of given.now.called.now) (base_in given.now.bases.now) given.now.first (facts_of table.old)
         progress.old progress.new (gens_of (map gen_term gens.items)) (gens_of (map gen_term new.items))) }
     ensures table { OnOk result (table.new ≡ table.old) }
 {
@@ -214,7 +214,7 @@ fn norm_gen(
     table: &mut FactTable,
     progress: &mut Progress,
 ) -> Result<CoreGen, Memory>
-    ensures walked { IfOk result (λ new. GenWalked (shapes_of given.now.called.now) (bases_in given.now.bases.now) given.now.first (facts_of table.old)
+    ensures walked { IfOk result (λ new. GenWalked (shapes_of given.now.called.now) (base_in given.now.bases.now) given.now.first (facts_of table.old)
         progress.old progress.new (gen_term generator) (gen_term new)) }
     ensures table { OnOk result (table.new ≡ table.old) }
 {
@@ -236,7 +236,7 @@ fn norm_gen(
     })
 }
 
-/// The with-loop itself, if it is partable and stood in the function where the walk began.
+/// The with-loop itself, if it can become a parted loop and its base is that of a variable of the function where the walk began.
 fn replace_with(
     alloc: Global,
     op: CoreOp,
@@ -246,12 +246,15 @@ fn replace_with(
     table: &FactTable,
     progress: &mut Progress,
 ) -> Result<KnownRight, Memory>
-    ensures walked { IfOk result (λ new. WithWalked (shapes_of given.now.called.now) (bases_in given.now.bases.now) given.now.first (facts_of table.now)
+    ensures walked { IfOk result (λ new. WithWalked (shapes_of given.now.called.now) (base_in given.now.bases.now) given.now.first (facts_of table.now)
         progress.old progress.new site op (gens_of (map gen_term gens.items)) (right_term new.right)) }
     ensures known { IfOk result (λ new. map fact_of new.values.items ≡ right_facts (shapes_of given.now.called.now) (right_term new.right) (facts_of table.now)) }
 {
-    let base = base_var(op);
-    if u64::from(base.0) >= given.first {
+    let source = base_var(op);
+    let Some(base) = given.bases.of(source) else {
+        return unchanged(alloc, op, gens);
+    };
+    if u64::from(source.0) >= given.first {
         return unchanged(alloc, op, gens);
     }
     let Some(plan) = part_plan(alloc, table, progress.next, op, &gens)? else {
@@ -264,7 +267,7 @@ fn replace_with(
         alloc,
         PartedLoop {
             frame,
-            base: given.bases.of(base),
+            base,
             cell,
             op: parted_op(op),
             parts,
@@ -298,7 +301,7 @@ fn norm_parted(
     table: &mut FactTable,
     progress: &mut Progress,
 ) -> Result<KnownRight, Memory>
-    ensures walked { IfOk result (λ new. (s : SiteOf) → RightWalked (shapes_of given.now.called.now) (bases_in given.now.bases.now) given.now.first (facts_of table.old)
+    ensures walked { IfOk result (λ new. (s : SiteOf) → RightWalked (shapes_of given.now.called.now) (base_in given.now.bases.now) given.now.first (facts_of table.old)
         progress.old progress.new s (parted_term parted) (right_term new.right)) }
     ensures known { IfOk result (λ new. map fact_of new.values.items ≡ right_facts (shapes_of given.now.called.now) (right_term new.right) (facts_of table.old)) }
     ensures table { OnOk result (table.new ≡ table.old) }
@@ -334,7 +337,7 @@ fn norm_part(
     table: &mut FactTable,
     progress: &mut Progress,
 ) -> Result<CorePart, Memory>
-    ensures walked { IfOk result (λ new. PartWalked (shapes_of given.now.called.now) (bases_in given.now.bases.now) given.now.first (facts_of table.old)
+    ensures walked { IfOk result (λ new. PartWalked (shapes_of given.now.called.now) (base_in given.now.bases.now) given.now.first (facts_of table.old)
         progress.old progress.new (part_term part) (part_term new)) }
     ensures table { OnOk result (table.new ≡ table.old) }
 {
