@@ -1,0 +1,5 @@
+mod Numbered
+mod Copied
+mod Parts
+mod Fits
+mod Walks
