@@ -3,3 +3,4 @@ mod Copied
 mod Parts
 mod Fits
 mod Walks
+mod Rounds
