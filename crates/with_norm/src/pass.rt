@@ -111,7 +111,7 @@ fn norm_function(
     let bases = BaseTable::of_function(alloc, &function, signatures)?;
     let mut table = FactTable::new(alloc);
     learn_params(&function, &mut table)?;
-    let first = above(&function);
+    let first = above(&function)?;
     let given = Given {
         called,
         bases: &bases,
@@ -143,12 +143,12 @@ fn norm_function(
     Ok((function, progress.replaced))
 }
 
-/// One more than the greatest number of a variable of a function, or 2^32 where it has no variable more.
-fn above(function: &CoreFun) -> u64
-    ensures { above_function (fun_term function.now) ≤ result }
+/// One more than the greatest number of a variable of a function.
+fn above(function: &CoreFun) -> Result<u64, Memory>
+    ensures { IfOk result (λ number. number ≡ above_function (fun_term function.now)) }
 {
     match fresh(function) {
-        Some(var) => u64::from(var.0),
-        None => 1 << 32,
+        Some(var) => Ok(u64::from(var.0)),
+        None => Err(Memory),
     }
 }
