@@ -75,6 +75,12 @@ module _ (called : ℕ → List (Option (List ℕ))) (bases : Var → Option Bas
   abbrev pub Changed : Progress → Progress → Facts → BlockTerm → BlockTerm → Type 0
   Changed p q = Edited Facts (fact_ways called) (ReplacedHere bases first p q)
 
+  up_one : (p q r : ℕ) → q ≡ suc p → q ≤ r → p ≤ r
+  up_one p q r a b = omega (arith, a, b)
+
+  not_still : (p q r : ℕ) → q ≡ suc p → q ≤ r → r ≡ p → ⊥
+  not_still p q r a b e = omega (arith, a, b, e)
+
   -- ---- within a larger term
 
   pub lift : {k m : Facts} {p q : Progress} {b c : BlockTerm} (C : BlockTerm → BlockTerm) → ((u v : Progress) (x y : BlockTerm) → Changed u v m x y → Changed u v k (C x) (C y)) → Walked called bases first m p q b c → Walked called bases first k p q (C b) (C c)
@@ -91,48 +97,49 @@ module _ (called : ℕ → List (Option (List ℕ))) (bases : Var → Option Bas
 
   -- ---- how many
 
-  mutual
-    pub one_more : {p q : Progress} {k : Facts} {b c : BlockTerm} → Changed p q k b c → q.replaced ≡ suc p.replaced
-    one_more (here h) = ap (λ (r : Progress). r.replaced) h.at.after
-    one_more (later s) = one_more s
-    one_more (inside s) = one_more_right s
+  module _ (p q : Progress) where
+    mutual
+      pub one_more : {k : Facts} {b c : BlockTerm} → Edited Facts (fact_ways called) (ReplacedHere bases first p q) k b c → q.replaced ≡ suc p.replaced
+      one_more (here h) = ap (λ (r : Progress). r.replaced) h.at.after
+      one_more (later s) = one_more s
+      one_more (inside s) = one_more_right s
 
-    one_more_right : {p q : Progress} {k : Facts} {b c : RightTerm} → EditedRight Facts (fact_ways called) (ReplacedHere bases first p q) k b c → q.replaced ≡ suc p.replaced
-    one_more_right (in_then s) = one_more s
-    one_more_right (in_else s) = one_more s
-    one_more_right (in_test s) = one_more s
-    one_more_right (in_body s) = one_more s
-    one_more_right (in_gens s) = one_more_gens s
-    one_more_right (in_parts s) = one_more_parts s
+      one_more_right : {k : Facts} {b c : RightTerm} → EditedRight Facts (fact_ways called) (ReplacedHere bases first p q) k b c → q.replaced ≡ suc p.replaced
+      one_more_right (in_then s) = one_more s
+      one_more_right (in_else s) = one_more s
+      one_more_right (in_test s) = one_more s
+      one_more_right (in_body s) = one_more s
+      one_more_right (in_gens s) = one_more_gens s
+      one_more_right (in_parts s) = one_more_parts s
 
-    one_more_gens : {p q : Progress} {k : Facts} {b c : GensTerm} → EditedGens Facts (fact_ways called) (ReplacedHere bases first p q) k b c → q.replaced ≡ suc p.replaced
-    one_more_gens (this_gen s) = one_more s
-    one_more_gens (later_gen s) = one_more_gens s
+      one_more_gens : {k : Facts} {b c : GensTerm} → EditedGens Facts (fact_ways called) (ReplacedHere bases first p q) k b c → q.replaced ≡ suc p.replaced
+      one_more_gens (this_gen s) = one_more s
+      one_more_gens (later_gen s) = one_more_gens s
 
-    one_more_parts : {p q : Progress} {k : Facts} {b c : PartsTerm} → EditedParts Facts (fact_ways called) (ReplacedHere bases first p q) k b c → q.replaced ≡ suc p.replaced
-    one_more_parts (this_part s) = one_more s
-    one_more_parts (later_part s) = one_more_parts s
+      one_more_parts : {k : Facts} {b c : PartsTerm} → EditedParts Facts (fact_ways called) (ReplacedHere bases first p q) k b c → q.replaced ≡ suc p.replaced
+      one_more_parts (this_part s) = one_more s
+      one_more_parts (later_part s) = one_more_parts s
 
   pub rises : {k : Facts} {p q : Progress} {b c : BlockTerm} → Walked called bases first k p q b c → p.replaced ≤ q.replaced
   rises stays = omega arith
-  rises (goes s w) = let a = one_more s in let b = rises w in omega (arith, a, b)
+  rises (goes {p = p} {q = q} {r = r} s w) = up_one p.replaced q.replaced r.replaced (one_more p q s) (rises w)
 
   -- a walk that replaced none changed nothing
   pub still : {k : Facts} {p q : Progress} {b c : BlockTerm} → Walked called bases first k p q b c → q.replaced ≡ p.replaced → (p ≡ q) × (b ≡ c)
   still stays e = (refl, refl)
-  still (goes s w) e = let a = one_more s in let b = rises w in absurd (omega (arith, a, b, e))
+  still (goes {p = p} {q = q} {r = r} s w) e = absurd (not_still p.replaced q.replaced r.replaced (one_more p q s) (rises w) e)
 
   -- ---- terms of terms
 
   -- two walks, the second behind the first, of which both replaced none
-  both : {p q r : Progress} → p.replaced ≤ q.replaced → q.replaced ≤ r.replaced → r.replaced ≡ p.replaced → (q.replaced ≡ p.replaced) × (r.replaced ≡ q.replaced)
-  both a b e = (omega (arith, a, b, e), omega (arith, a, b, e))
+  both : (p q r : ℕ) → p ≤ q → q ≤ r → r ≡ p → (q ≡ p) × (r ≡ q)
+  both p q r a b e = (omega (arith, a, b, e), omega (arith, a, b, e))
 
   pub if_walked : (k : Facts) (p q r : Progress) (s : Site) (x : Var) (a b c d : BlockTerm) → BlockWalked called bases first k p q a c → BlockWalked called bases first k q r b d → RightWalked called bases first k p r s (RightTerm.If x a b) (RightTerm.If x c d)
   if_walked k p q r s x a b c d u v = record {
     walked = λ xs rest. join (lift (λ t. Bind xs s (RightTerm.If x t b) rest) (λ _ _ _ _ w. inside (in_then w)) u.walked) (lift (λ t. Bind xs s (RightTerm.If x c t) rest) (λ _ _ _ _ w. inside (in_else w)) v.walked);
     none = λ e.
-        let w = both {p} {q} {r} (rises u.walked) (rises v.walked) e in
+        let w = both p.replaced q.replaced r.replaced (rises u.walked) (rises v.walked) e in
         let same = (still u.walked w.0).0 in
         (u.none w.0, subst (λ (t : Progress). EachWith called (IsLeft bases first t.next) b k) (sym same) (v.none w.1));
   }
@@ -141,7 +148,7 @@ module _ (called : ℕ → List (Option (List ℕ))) (bases : Var → Option Bas
   loop_walked k p q r s f xs ys t a b c d u v = record {
     walked = λ zs rest. join (lift (λ m. Bind zs s (RightTerm.Loop f xs ys m b t) rest) (λ _ _ _ _ w. inside (in_test w)) u.walked) (lift (λ m. Bind zs s (RightTerm.Loop f xs ys c m t) rest) (λ _ _ _ _ w. inside (in_body w)) v.walked);
     none = λ e.
-        let w = both {p} {q} {r} (rises u.walked) (rises v.walked) e in
+        let w = both p.replaced q.replaced r.replaced (rises u.walked) (rises v.walked) e in
         let same = (still u.walked w.0).0 in
         (u.none w.0, subst (λ (m : Progress). EachWith called (IsLeft bases first m.next) b (note_all k ys [])) (sym same) (v.none w.1));
   }
@@ -178,7 +185,7 @@ module _ (called : ℕ → List (Option (List ℕ))) (bases : Var → Option Bas
     walked = λ xs rest. join (u.walked xs s op rest) (v.walked xs rest);
     none = λ e.
         let one = u.walked [] s op (Gives []) in
-        let w = both {p} {q} {r} (rises one) (rises (v.walked [] (Gives []))) e in
+        let w = both p.replaced q.replaced r.replaced (rises one) (rises (v.walked [] (Gives []))) e in
         let same = still one w.0 in
         let left = v.none w.1 in
         let gens : With op g ≡ With op h = ap (right_in (With op g)) same.1 in
@@ -222,7 +229,7 @@ module _ (called : ℕ → List (Option (List ℕ))) (bases : Var → Option Bas
         learned ∙ (λ i. note_all (v.known i) y.targets.items (right_facts called (right_term y.right) (v.known i))) ∙ sym (after_snoc called (map let_term done) (let_term y) k)
         ∙ ap (λ ls. facts_after called ls k) (sym (map_snoc let_term done y)) ∙ (λ i. facts_after called (map let_term (sym d i)) k);
     none = λ e end h.
-        let w = both {p} {q} {r} (rises (v.walked end)) (rises (u.walked (Gives []))) e in
+        let w = both p.replaced q.replaced r.replaced (rises (v.walked end)) (rises (u.walked (Gives []))) e in
         let same = (still (v.walked end) w.0).0 in
         let equal = (still (u.walked (Gives [])) w.1).1 in
         let right : right_term x.right ≡ right_term y.right = ap (right_in (right_term x.right)) equal in
@@ -265,7 +272,7 @@ module _ (called : ℕ → List (Option (List ℕ))) (bases : Var → Option Bas
         (gen_walked (map gen_term done) k q r (gen_term x) (gen_term y) (gens_of (map gen_term rest)) u xs s op end));
     none = λ e h.
         let one = v.walked [] no_site (making.Modarray no_var) (Gives []) in
-        let w = both {p} {q} {r} (rises one) (rises u.body.walked) e in
+        let w = both p.replaced q.replaced r.replaced (rises one) (rises u.body.walked) e in
         let same = (still one w.0).0 in
         v.none w.0 (subst (λ (ls : List CoreGen). EachWithGens called (IsLeft bases first p.next) (gens_of (map gen_term ls)) k) (sym b)
         (subst (λ (m : Progress). EachWith called (IsLeft bases first m.next) (gen_term x).body (note_all k ((gen_term x).head.index ∷ (gen_term x).head.names) [])) (sym same) (u.body.none w.1), h));
@@ -292,7 +299,7 @@ module _ (called : ℕ → List (Option (List ℕ))) (bases : Var → Option Bas
         (part_walked (map part_term done) k q r (part_term x) (part_term y) (parts_of (map part_term rest)) u xs s frame base cell op end));
     none = λ e h.
         let one = v.walked [] no_site [] Int [] parted.Genarray (Gives []) in
-        let w = both {p} {q} {r} (rises one) (rises u.body.walked) e in
+        let w = both p.replaced q.replaced r.replaced (rises one) (rises u.body.walked) e in
         let same = (still one w.0).0 in
         v.none w.0 (subst (λ (ls : List CorePart). EachWithParts called (IsLeft bases first p.next) (parts_of (map part_term ls)) k) (sym b)
         (subst (λ (m : Progress). EachWith called (IsLeft bases first m.next) (part_term x).body (in_part k (part_term x).head)) (sym same) (u.body.none w.1), h));

@@ -36,7 +36,7 @@ pub record GenPlace (scope : List Var) (gens : GensTerm) (m : ℕ) (g : GenTerm)
   pub once : Distinct ((g.head.index ∷ g.head.names) ++ bound_in g.body)
 
 pub gen_place : (gens : List GenTerm) (m : ℕ) (g : GenTerm) (scope : List Var) → slice_get gens m ≡ Some g → ScopedGens scope (gens_of gens) → Distinct (bound_in_gens (gens_of gens)) → GenPlace scope (gens_of gens) m g
-gen_place [] m g scope e s d = cc
+gen_place [] m g scope e s d = absurd (let q : ◌≡◌ {A = Option GenTerm} None (Some g) = e in cc)
 gen_place (x ∷ gens) zero g scope e s d =
     let own : x ≡ g = ap (λ o. unwrap_or o x) e in
     let names = x.head.index ∷ x.head.names in
@@ -68,55 +68,73 @@ or_later : {P : Type 0} (a b : Bool) → (a || b) ≡ true → (a ≡ true → P
 or_later true b e f g = f refl
 or_later false b e f g = g e
 
-two_less : (n c : ℕ) → suc (suc n) ≤ c → suc n < c
-two_less n c p = omega (arith, p)
+less_two : (n c : ℕ) → suc (suc n) ≤ c → n ≤ c
+less_two n c p = omega (arith, p)
+
+below_two : (n c k : ℕ) → c < suc (suc n) + (k + k) → c < n + (suc k + suc k)
+below_two n c k p = omega (arith, p)
 
 constants_from : (xs : List Var) (n : ℕ) (c : Var) → is_in c (constants xs n) ≡ true → n ≤ c.0
 constants_from [] n c h = clash false h refl
 constants_from (x ∷ xs) n c h =
-    or_later (eqb n c.0) (is_in c (constants xs (suc (suc n)))) h (λ e. let p = ap (λ (v : Var). v.0) (same_number (variable n) c e) in omega (arith, p))
-    (λ r. let p = constants_from xs (suc (suc n)) c r in omega (arith, p))
+    or_later (eqb n c.0) (is_in c (constants xs (suc (suc n)))) h (λ e. let p : n ≡ c.0 = ap (λ (v : Var). v.0) (same_number (variable n) c e) in omega (arith, p))
+    (λ r. less_two n c.0 (constants_from xs (suc (suc n)) c r))
 
 constants_below : (xs : List Var) (n : ℕ) (c : Var) → is_in c (constants xs n) ≡ true → c.0 < n + (length xs + length xs)
 constants_below [] n c h = clash false h refl
 constants_below (x ∷ xs) n c h =
-    or_later (eqb n c.0) (is_in c (constants xs (suc (suc n)))) h (λ e. let p = ap (λ (v : Var). v.0) (same_number (variable n) c e) in omega (arith, p))
-    (λ r. let p = constants_below xs (suc (suc n)) c r in omega (arith, p))
+    or_later (eqb n c.0) (is_in c (constants xs (suc (suc n)))) h (λ e. let p : n ≡ c.0 = ap (λ (v : Var). v.0) (same_number (variable n) c e) in omega (arith, p))
+    (λ r. below_two n c.0 (length xs) (constants_below xs (suc (suc n)) c r))
 
-no_less : (n c : ℕ) → suc (suc n) ≤ n → ⊥
-no_less n c p = omega (arith, p)
+no_less : (n : ℕ) → suc (suc n) ≤ n → ⊥
+no_less n p = omega (arith, p)
 
 constants_once : (xs : List Var) (n : ℕ) → Distinct (constants xs n)
 constants_once [] n = tt
 constants_once (x ∷ xs) n = (absent (is_in (variable n) (constants xs (suc (suc n)))) refl, constants_once xs (suc (suc n)))
   where
     absent : (t : Bool) → is_in (variable n) (constants xs (suc (suc n))) ≡ t → is_in (variable n) (constants xs (suc (suc n))) ≡ false
-    absent true e = absurd (no_less n n (constants_from xs (suc (suc n)) (variable n) e))
+    absent true e = absurd (no_less n (constants_from xs (suc (suc n)) (variable n) e))
     absent false e = e
+
+at_next : (n v : ℕ) → v ≡ suc n → n < v
+at_next n v p = omega (arith, p)
+
+past_two : (n v : ℕ) → suc (suc n) < v → n < v
+past_two n v p = omega (arith, p)
 
 -- the variable of a component is none of a constant
 component_from : (f : Var → Var) (xs : List Var) (n : ℕ) (x : Var) → AreComponents f xs n → is_in x xs ≡ true → n < (f x).0
 component_from f [] n x c h = clash false h refl
 component_from f (y ∷ xs) n x c h =
-    or_later (eqb y.0 x.0) (is_in x xs) h (λ e. let p = ap (λ (v : Var). v.0) (ap f (sym (same_number y x e)) ∙ c.0) in omega (arith, p))
-    (λ r. let p = component_from f xs (suc (suc n)) x c.1 r in omega (arith, p))
+    or_later (eqb y.0 x.0) (is_in x xs) h (λ e. at_next n (f x).0 (ap (λ (v : Var). v.0) (ap f (sym (same_number y x e)) ∙ c.0)))
+    (λ r. past_two n (f x).0 (component_from f xs (suc (suc n)) x c.1 r))
 
-apart_if : (m n : ℕ) → (m ≡ n → ⊥) → eqb m n ≡ false
+pub apart_if : (m n : ℕ) → (m ≡ n → ⊥) → eqb m n ≡ false
 apart_if m n f = go (eqb m n) refl
   where
     go : (t : Bool) → eqb m n ≡ t → eqb m n ≡ false
     go true e = absurd (f (Rattle.std.proofs.lemmas.Bool.eqb-true m n e))
     go false e = e
 
+first_first : (n c v : ℕ) → n ≡ c → v ≡ suc n → c ≡ v → ⊥
+first_first n c v p q e = omega (arith, p, q, e)
+
+first_late : (n c v : ℕ) → n ≡ c → suc (suc n) < v → c ≡ v → ⊥
+first_late n c v p q e = omega (arith, p, q, e)
+
+late_first : (n c v : ℕ) → suc (suc n) ≤ c → v ≡ suc n → c ≡ v → ⊥
+late_first n c v p q e = omega (arith, p, q, e)
+
 constant_apart : (f : Var → Var) (xs : List Var) (n : ℕ) (c x : Var) → AreComponents f xs n → is_in c (constants xs n) ≡ true → is_in x xs ≡ true → c.0 ≡ (f x).0 → ⊥
 constant_apart f [] n c x a h k e = clash false h refl
 constant_apart f (y ∷ xs) n c x a h k e =
     or_later (eqb n c.0) (is_in c (constants xs (suc (suc n)))) h
-    (λ p. let here = ap (λ (v : Var). v.0) (same_number (variable n) c p) in
-        or_later (eqb y.0 x.0) (is_in x xs) k (λ q. let one = ap (λ (v : Var). v.0) (ap f (sym (same_number y x q)) ∙ a.0) in omega (arith, here, one, e))
-        (λ q. let more = component_from f xs (suc (suc n)) x a.1 q in omega (arith, here, more, e)))
-    (λ p. let late = constants_from xs (suc (suc n)) c p in
-        or_later (eqb y.0 x.0) (is_in x xs) k (λ q. let one = ap (λ (v : Var). v.0) (ap f (sym (same_number y x q)) ∙ a.0) in omega (arith, late, one, e))
+    (λ p. or_later (eqb y.0 x.0) (is_in x xs) k
+        (λ q. first_first n c.0 (f x).0 (ap (λ (v : Var). v.0) (same_number (variable n) c p)) (ap (λ (v : Var). v.0) (ap f (sym (same_number y x q)) ∙ a.0)) e)
+        (λ q. first_late n c.0 (f x).0 (ap (λ (v : Var). v.0) (same_number (variable n) c p)) (component_from f xs (suc (suc n)) x a.1 q) e))
+    (λ p. or_later (eqb y.0 x.0) (is_in x xs) k
+        (λ q. late_first n c.0 (f x).0 (constants_from xs (suc (suc n)) c p) (ap (λ (v : Var). v.0) (ap f (sym (same_number y x q)) ∙ a.0)) e)
         (λ q. constant_apart f xs (suc (suc n)) c x a.1 p q e))
 
 -- the bindings of the components
@@ -128,6 +146,21 @@ lets_are s i j f (x ∷ xs) n b c = λ k.
 lets_order : (s : Site) (i : Var) (j : ℕ) (xs : List Var) (n : ℕ) (b : BlockTerm) → AreFrom (n + (length xs + length xs)) (bound_in b) → AreFrom n (bound_in (chain (component_lets s i j xs n) b))
 lets_order s i j [] n b h = subst (λ m. AreFrom m (bound_in b)) (omega arith) h
 lets_order s i j (x ∷ xs) n b h = (refl, (refl, lets_order s i (suc j) xs (suc (suc n)) b (subst (λ m. AreFrom m (bound_in b)) (omega arith) h)))
+
+at_least : (k v : ℕ) → v ≡ k → k ≤ v
+at_least k v p = omega (arith, p)
+
+at_more : (k v : ℕ) → suc k ≤ v → k ≤ v
+at_more k v p = omega (arith, p)
+
+over_top : (t c v : ℕ) → t ≤ v → c < t → c ≡ v → ⊥
+over_top t c v p q e = omega (arith, p, q, e)
+
+over_index : (n c v : ℕ) → suc n ≤ c → v ≡ n → c ≡ v → ⊥
+over_index n c v p q e = omega (arith, p, q, e)
+
+over_scope : (n c v y low : ℕ) → suc n ≤ c → v ≡ y → y < low → low ≤ n → c ≡ v → ⊥
+over_scope n c v y low p q r s e = omega (arith, p, q, r, s, e)
 
 -- ---- the copy
 
@@ -179,10 +212,7 @@ module _ (scope : List Var) (low : ℕ) (below : All (λ (x : Var). x.0 < low) s
   outer_good = record { apart = λ a b p q. refl; below = in_scope }
 
   index_good : Good (named (λ x. x) index (variable n)) (And index (In scope)) (suc n)
-  index_good = named_good (λ x. x) (In scope) low n index outer_good high (λ a s. out (eqb index.0 a.0) refl a s)
-    where
-      out : (t : Bool) (e : t ≡ t) (a : Var) → In scope a → eqb index.0 a.0 ≡ false
-      out t e a s = apart_if index.0 a.0 (λ p. clash (is_in index scope) ((λ i. is_in (record { 0 = p i }) scope) ∙ s) at.none.0)
+  index_good = named_good (λ x. x) (In scope) low n index outer_good high (λ a s. apart_if index.0 a.0 (λ p. clash (is_in index scope) ((λ i. is_in (record { 0 = p i }) scope) ∙ s) at.none.0))
 
   names_off : (a : Var) → is_in a names ≡ true → And index (In scope) a → ⊥
   names_off a h (inl e) = clash (is_in index names) ((λ i. is_in (same_number index a e i) names) ∙ h) names_once.0
@@ -251,8 +281,8 @@ module _ (scope : List Var) (low : ℕ) (below : All (λ (x : Var). x.0 < low) s
       or_later (eqb y.0 x.0) (is_in x xs) p
       (λ e. let one : numbered h (y ∷ xs) k x ≡ variable k =
           (λ i. numbered h (y ∷ xs) k (sym (same_number y x e) i)) ∙ numbered_off xs (named h y (variable k)) (suc k) y d.0 ∙ named_at h y (variable k) y (Rattle.std.proofs.lemmas.Bool.eq-eqb y.0 y.0 refl) in
-          let p = ap (λ (v : Var). v.0) one in omega (arith, p))
-      (λ r. let more = bound_from xs (named h y (variable k)) (suc k) x d.1 r in omega (arith, more))
+          at_least k (numbered h (y ∷ xs) k x).0 (ap (λ (v : Var). v.0) one))
+      (λ r. at_more k (numbered h (y ∷ xs) k x).0 (bound_from xs (named h y (variable k)) (suc k) x d.1 r))
 
   alone : (c x : Var) → is_in c (constants names (suc n)) ≡ true → is_in x (bound ++ ((index ∷ names) ++ scope)) ≡ true → eqb c.0 (f x).0 ≡ false
   alone c x p q = apart_if c.0 (f x).0 (by (split x q))
@@ -264,10 +294,10 @@ module _ (scope : List Var) (low : ℕ) (below : All (λ (x : Var). x.0 < low) s
       early = constants_below names (suc n) c p
 
       by : Those bound (Those names (And index (In scope))) x → c.0 ≡ (f x).0 → ⊥
-      by (inl h) e = let l = bound_from bound (named_copy g n) top x bound_once h in let k = early in omega (arith, l, k, e)
+      by (inl h) e = over_top top c.0 (f x).0 (bound_from bound (named_copy g n) top x bound_once h) early e
       by (inr (inl h)) e = constant_apart f names (suc n) c x components_are p h e
-      by (inr (inr (inl h))) e = let l = late in let is = ap (λ (v : Var). v.0) (ap f (sym (same_number index x h)) ∙ index_is) in omega (arith, l, is, e)
-      by (inr (inr (inr h))) e = let l = late in let is = ap (λ (v : Var). v.0) (outer_stays x h) in let s = in_scope x h in omega (arith, l, is, s, e, high)
+      by (inr (inr (inl h))) e = over_index n c.0 (f x).0 late (ap (λ (v : Var). v.0) (ap f (sym (same_number index x h)) ∙ index_is)) e
+      by (inr (inr (inr h))) e = over_scope n c.0 (f x).0 x.0 low late (ap (λ (v : Var). v.0) (outer_stays x h)) (in_scope x h) high e
 
   pub copy_is : NamedBody (under loops.itself index (variable n)) (variable n) 0 names g.body (part_body g (variable n) (suc n)) × NamedAlike names g.body (part_body g (variable n) (suc n))
   copy_is =

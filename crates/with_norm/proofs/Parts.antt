@@ -48,20 +48,20 @@ made_kept op s gens [] n = refl
 made_kept op s gens ((grid, None) ∷ ps) n =
     let first = option_to_list (label_part op s gens grid None n) in
     ap (λ rest. first ++ rest) (made_kept op s gens ps (n + binds_of first))
-made_kept op s gens ((grid, Some m) ∷ ps) n = by (slice_get gens m) refl
+made_kept op s gens ((grid, Some m) ∷ ps) n = by (λ k. made_kept op s gens ps k) (slice_get gens m) refl
   where
     part : Option GenTerm → Option PartTerm
     part o = option_map (λ g. generator_part g grid n) o
 
-    by : (o : Option GenTerm) → slice_get gens m ≡ o → made_parts op s gens ((grid, Some m) ∷ ps) n ≡ made_parts op s gens (kept gens ((grid, Some m) ∷ ps)) n
-    by None e =
+    by : ((k : ℕ) → made_parts op s gens ps k ≡ made_parts op s gens (kept gens ps) k) → (o : Option GenTerm) → slice_get gens m ≡ o → made_parts op s gens ((grid, Some m) ∷ ps) n ≡ made_parts op s gens (kept gens ((grid, Some m) ∷ ps)) n
+    by rec None e =
         (λ i. option_to_list (part (e i)) ++ made_parts op s gens ps (n + binds_of (option_to_list (part (e i)))))
         ∙ (λ i. made_parts op s gens ps (more_zero n i))
-        ∙ made_kept op s gens ps n
+        ∙ rec n
         ∙ (λ i. made_parts op s gens (cond (is_some (sym e i)) ((grid, Some m) ∷ kept gens ps) (kept gens ps)) n)
-    by (Some g) e =
+    by rec (Some g) e =
         let first = option_to_list (part (slice_get gens m)) in
-        ap (λ rest. first ++ rest) (made_kept op s gens ps (n + binds_of first))
+        ap (λ rest. first ++ rest) (rec (n + binds_of first))
         ∙ (λ i. made_parts op s gens (cond (is_some (sym e i)) ((grid, Some m) ∷ kept gens ps) (kept gens ps)) n)
 
 -- ---- no vector is lost
@@ -74,7 +74,7 @@ slice_some (g ∷ gens) (suc m) h = slice_some gens m (omega (arith, h))
 less_of : (a b : ℕ) → nat_lt a b ≡ true → a < b
 less_of a b e = grind (arith, nat_tests)
 
-some_number : (m : ℕ) → Option ℕ → ℕ
+abbrev some_number : (m : ℕ) → Option ℕ → ℕ
 some_number m None = m
 some_number m (Some n) = n
 
@@ -110,25 +110,25 @@ module _ (grids : List (List Grid1)) (gens : List GenTerm) (same : length grids 
   kept_times [] v h = refl
   kept_times ((grid, None) ∷ ps) v h =
       times_cons (grid, None) (kept gens ps) v ∙ ap (λ m. cond (has_vector grid v) 1 0 + m) (kept_times ps v h.1) ∙ sym (times_cons (grid, None) ps v)
-  kept_times ((grid, Some m) ∷ ps) v h = by (slice_get gens m) refl
+  kept_times ((grid, Some m) ∷ ps) v h = by (kept_times ps v h.1) (slice_get gens m) refl
     where
-      by : (o : Option GenTerm) → slice_get gens m ≡ o → times (kept gens ((grid, Some m) ∷ ps)) v ≡ times ((grid, Some m) ∷ ps) v
-      by None e =
+      by : times (kept gens ps) v ≡ times ps v → (o : Option GenTerm) → slice_get gens m ≡ o → times (kept gens ((grid, Some m) ∷ ps)) v ≡ times ((grid, Some m) ∷ ps) v
+      by rec None e =
           (λ i. times (cond (is_some (e i)) ((grid, Some m) ∷ kept gens ps) (kept gens ps)) v)
-          ∙ kept_times ps v h.1
+          ∙ rec
           ∙ sym (times_cons (grid, Some m) ps v ∙ ap (λ t. cond t 1 0 + times ps v) (none_there grid m v e (h.0 v)) ∙ zero_more (times ps v))
-      by (Some g) e =
+      by rec (Some g) e =
           (λ i. times (cond (is_some (e i)) ((grid, Some m) ∷ kept gens ps) (kept gens ps)) v)
-          ∙ times_cons (grid, Some m) (kept gens ps) v ∙ ap (λ k. cond (has_vector grid v) 1 0 + k) (kept_times ps v h.1) ∙ sym (times_cons (grid, Some m) ps v)
+          ∙ times_cons (grid, Some m) (kept gens ps) v ∙ ap (λ k. cond (has_vector grid v) 1 0 + k) rec ∙ sym (times_cons (grid, Some m) ps v)
 
   pub kept_names : (ps : List Label) → NameFirst grids ps → NameFirst grids (kept gens ps)
   kept_names [] h = tt
   kept_names ((grid, None) ∷ ps) h = (h.0, kept_names ps h.1)
-  kept_names ((grid, Some m) ∷ ps) h = by (slice_get gens m) refl
+  kept_names ((grid, Some m) ∷ ps) h = by (kept_names ps h.1) (slice_get gens m) refl
     where
-      by : (o : Option GenTerm) → slice_get gens m ≡ o → NameFirst grids (kept gens ((grid, Some m) ∷ ps))
-      by None e = subst (λ t. NameFirst grids (cond t ((grid, Some m) ∷ kept gens ps) (kept gens ps))) (ap is_some (sym e)) (kept_names ps h.1)
-      by (Some g) e = subst (λ t. NameFirst grids (cond t ((grid, Some m) ∷ kept gens ps) (kept gens ps))) (ap is_some (sym e)) (h.0, kept_names ps h.1)
+      by : NameFirst grids (kept gens ps) → (o : Option GenTerm) → slice_get gens m ≡ o → NameFirst grids (kept gens ((grid, Some m) ∷ ps))
+      by rec None e = subst (λ t. NameFirst grids (cond t ((grid, Some m) ∷ kept gens ps) (kept gens ps))) (ap is_some (sym e)) rec
+      by rec (Some g) e = subst (λ t. NameFirst grids (cond t ((grid, Some m) ∷ kept gens ps) (kept gens ps))) (ap is_some (sym e)) (h.0, rec)
 
 either_false : (a b : Bool) → (a || b) ≡ false → (a ≡ false) × (b ≡ false)
 either_false true b e = Rattle.core_inlined_bodies.proofs.Names.clash true refl e
@@ -136,14 +136,13 @@ either_false false b e = (refl, e)
 
 pub kept_any : (gens : List GenTerm) (ps : List Label) (v : List ℤ) → list_any (λ (p : Label). has_vector p.0 v) ps ≡ false → list_any (λ (p : Label). has_vector p.0 v) (kept gens ps) ≡ false
 kept_any gens [] v h = refl
-kept_any gens (p ∷ ps) v h = by (stands gens p) refl
+kept_any gens (p ∷ ps) v h =
+    let w = either_false (has_vector p.0 v) (list_any (λ (p : Label). has_vector p.0 v) ps) h in
+    by w.0 (kept_any gens ps v w.1) (stands gens p) refl
   where
-    w : (has_vector p.0 v ≡ false) × (list_any (λ (p : Label). has_vector p.0 v) ps ≡ false)
-    w = either_false (has_vector p.0 v) (list_any (λ (p : Label). has_vector p.0 v) ps) h
-
-    by : (t : Bool) → stands gens p ≡ t → list_any (λ (p : Label). has_vector p.0 v) (kept gens (p ∷ ps)) ≡ false
-    by true e = (λ i. list_any (λ (p : Label). has_vector p.0 v) (cond (e i) (p ∷ kept gens ps) (kept gens ps))) ∙ (λ i. w.0 i || kept_any gens ps v w.1 i)
-    by false e = (λ i. list_any (λ (p : Label). has_vector p.0 v) (cond (e i) (p ∷ kept gens ps) (kept gens ps))) ∙ kept_any gens ps v w.1
+    by : has_vector p.0 v ≡ false → list_any (λ (p : Label). has_vector p.0 v) (kept gens ps) ≡ false → (t : Bool) → stands gens p ≡ t → list_any (λ (p : Label). has_vector p.0 v) (kept gens (p ∷ ps)) ≡ false
+    by one rec true e = (λ i. list_any (λ (p : Label). has_vector p.0 v) (cond (e i) (p ∷ kept gens ps) (kept gens ps))) ∙ (λ i. one i || rec i)
+    by one rec false e = (λ i. list_any (λ (p : Label). has_vector p.0 v) (cond (e i) (p ∷ kept gens ps) (kept gens ps))) ∙ rec
 
 -- ---- how many
 
@@ -155,11 +154,11 @@ more_most a b h = omega (arith, h)
 
 pub filter_most : (p : Label → Bool) (ps : List Label) → length (filter p ps) ≤ length ps
 filter_most p [] = omega arith
-filter_most p (x ∷ ps) = by (p x)
+filter_most p (x ∷ ps) = by (filter_most p ps) (p x)
   where
-    by : (t : Bool) → length (cond t (x ∷ filter p ps) (filter p ps)) ≤ suc (length ps)
-    by true = suc_most (length (filter p ps)) (length ps) (filter_most p ps)
-    by false = more_most (length (filter p ps)) (length ps) (filter_most p ps)
+    by : length (filter p ps) ≤ length ps → (t : Bool) → length (cond t (x ∷ filter p ps) (filter p ps)) ≤ suc (length ps)
+    by rec true = suc_most (length (filter p ps)) (length ps) rec
+    by rec false = more_most (length (filter p ps)) (length ps) rec
 
 pub made_count : (op : CoreOp) (s : Site) (gens : List GenTerm) (ps : List Label) (n : ℕ) → count_parts (parts_of (made_parts op s gens ps n)) ≤ length ps
 made_count op s gens [] n = omega arith
@@ -203,7 +202,7 @@ module _ (scope : List Var) (op : CoreOp) (s : Site) (gens : List GenTerm) (scop
 -- ---- parts with their labels
 
 pub names_at : (axes : ℕ) (gens : List GenTerm) (m : ℕ) (g : GenTerm) → slice_get gens m ≡ Some g → AllNamed axes (gens_of gens) → (g.head.names ≡ []) ⊎ (length g.head.names ≡ axes)
-names_at axes [] m g e h = cc
+names_at axes [] m g e h = absurd (let q : ◌≡◌ {A = Option GenTerm} None (Some g) = e in cc)
 names_at axes (x ∷ gens) zero g e h =
     let own : x ≡ g = ap (λ o. Rattle.std.specs.Prelude.unwrap_or o x) e in
     subst (λ (y : GenTerm). (y.head.names ≡ []) ⊎ (length y.head.names ≡ axes)) own h.0
@@ -243,7 +242,7 @@ module _ (scope : List Var) (low : ℕ) (below : All (λ (x : Var). x.0 < low) s
     genarray_made ((grid, None) ∷ ps) n high =
         let rest = genarray_made ps (n + 1) (up_to low n 1 high) in
         ((refl, (refl, apart_if n default.0 (above_var low n default.0 small high)), rest.0), rest.1)
-    genarray_made ((grid, Some m) ∷ ps) n high = by (slice_get gens m) refl
+    genarray_made ((grid, Some m) ∷ ps) n high = by (λ k up. genarray_made ps k up) (slice_get gens m) refl
       where
         op : CoreOp
         op = making.Genarray shape default
@@ -251,11 +250,11 @@ module _ (scope : List Var) (low : ℕ) (below : All (λ (x : Var). x.0 < low) s
         here : List Label → Type 0
         here ks = Genarray ks (parts_of (made_parts op s gens ks n))
 
-        by : (o : Option GenTerm) → slice_get gens m ≡ o → here (kept gens ((grid, Some m) ∷ ps))
-        by None e = subst (λ t. here (cond t ((grid, Some m) ∷ kept gens ps) (kept gens ps))) (ap is_some (sym e)) (genarray_made ps n high)
-        by (Some g) e =
+        by : ((k : ℕ) → low ≤ k → Genarray (kept gens ps) (parts_of (made_parts (making.Genarray shape default) s gens (kept gens ps) k))) → (o : Option GenTerm) → slice_get gens m ≡ o → here (kept gens ((grid, Some m) ∷ ps))
+        by rec None e = subst (λ t. here (cond t ((grid, Some m) ∷ kept gens ps) (kept gens ps))) (ap is_some (sym e)) (rec n high)
+        by rec (Some g) e =
             let first = generator_part g grid n in
-            let rest = genarray_made ps (n + binds_of (first ∷ [])) (up_to low n (binds_of (first ∷ [])) high) in
+            let rest = rec (n + binds_of (first ∷ [])) (up_to low n (binds_of (first ∷ [])) high) in
             let copy = copied m g n grid e high in
             subst (λ t. here (cond t ((grid, Some m) ∷ kept gens ps) (kept gens ps))) (ap is_some (sym e))
             (subst (λ (o : Option GenTerm). Genarray ((grid, Some m) ∷ kept gens ps) (parts_of (option_to_list (option_map (λ x. generator_part x grid n) o) ++ made_parts op s gens (kept gens ps) (n + binds_of (option_to_list (option_map (λ x. generator_part x grid n) o)))))) (sym e)
@@ -270,7 +269,7 @@ module _ (scope : List Var) (low : ℕ) (below : All (λ (x : Var). x.0 < low) s
     modarray_made ((grid, None) ∷ ps) n high =
         let rest = modarray_made ps (n + 2) (up_to low n 2 high) in
         ((refl, (variable (suc n), (s, (refl, apart_if n array.0 (above_var low n array.0 small high)))), rest.0), rest.1)
-    modarray_made ((grid, Some m) ∷ ps) n high = by (slice_get gens m) refl
+    modarray_made ((grid, Some m) ∷ ps) n high = by (λ k up. modarray_made ps k up) (slice_get gens m) refl
       where
         op : CoreOp
         op = making.Modarray array
@@ -278,11 +277,11 @@ module _ (scope : List Var) (low : ℕ) (below : All (λ (x : Var). x.0 < low) s
         here : List Label → Type 0
         here ks = Modarray ks (parts_of (made_parts op s gens ks n))
 
-        by : (o : Option GenTerm) → slice_get gens m ≡ o → here (kept gens ((grid, Some m) ∷ ps))
-        by None e = subst (λ t. here (cond t ((grid, Some m) ∷ kept gens ps) (kept gens ps))) (ap is_some (sym e)) (modarray_made ps n high)
-        by (Some g) e =
+        by : ((k : ℕ) → low ≤ k → Modarray (kept gens ps) (parts_of (made_parts (making.Modarray array) s gens (kept gens ps) k))) → (o : Option GenTerm) → slice_get gens m ≡ o → here (kept gens ((grid, Some m) ∷ ps))
+        by rec None e = subst (λ t. here (cond t ((grid, Some m) ∷ kept gens ps) (kept gens ps))) (ap is_some (sym e)) (rec n high)
+        by rec (Some g) e =
             let first = generator_part g grid n in
-            let rest = modarray_made ps (n + binds_of (first ∷ [])) (up_to low n (binds_of (first ∷ [])) high) in
+            let rest = rec (n + binds_of (first ∷ [])) (up_to low n (binds_of (first ∷ [])) high) in
             let copy = copied m g n grid e high in
             subst (λ t. here (cond t ((grid, Some m) ∷ kept gens ps) (kept gens ps))) (ap is_some (sym e))
             (subst (λ (o : Option GenTerm). Modarray ((grid, Some m) ∷ kept gens ps) (parts_of (option_to_list (option_map (λ x. generator_part x grid n) o) ++ made_parts op s gens (kept gens ps) (n + binds_of (option_to_list (option_map (λ x. generator_part x grid n) o)))))) (sym e)
@@ -298,7 +297,7 @@ module _ (scope : List Var) (low : ℕ) (below : All (λ (x : Var). x.0 < low) s
     pub fold_made : (ps : List Label) (n : ℕ) → low ≤ n → Fold (kept gens (held ps)) (parts_of (made_parts (making.Fold o neutral) s gens (kept gens (held ps)) n))
     fold_made [] n high = (tt, tt)
     fold_made ((grid, None) ∷ ps) n high = fold_made ps n high
-    fold_made ((grid, Some m) ∷ ps) n high = by (slice_get gens m) refl
+    fold_made ((grid, Some m) ∷ ps) n high = by (λ k up. fold_made ps k up) (slice_get gens m) refl
       where
         op : CoreOp
         op = making.Fold o neutral
@@ -306,11 +305,11 @@ module _ (scope : List Var) (low : ℕ) (below : All (λ (x : Var). x.0 < low) s
         here : List Label → Type 0
         here ks = Fold ks (parts_of (made_parts op s gens ks n))
 
-        by : (x : Option GenTerm) → slice_get gens m ≡ x → here (kept gens ((grid, Some m) ∷ held ps))
-        by None e = subst (λ t. here (cond t ((grid, Some m) ∷ kept gens (held ps)) (kept gens (held ps)))) (ap is_some (sym e)) (fold_made ps n high)
-        by (Some g) e =
+        by : ((k : ℕ) → low ≤ k → Fold (kept gens (held ps)) (parts_of (made_parts (making.Fold o neutral) s gens (kept gens (held ps)) k))) → (x : Option GenTerm) → slice_get gens m ≡ x → here (kept gens ((grid, Some m) ∷ held ps))
+        by rec None e = subst (λ t. here (cond t ((grid, Some m) ∷ kept gens (held ps)) (kept gens (held ps)))) (ap is_some (sym e)) (rec n high)
+        by rec (Some g) e =
             let first = generator_part g grid n in
-            let rest = fold_made ps (n + binds_of (first ∷ [])) (up_to low n (binds_of (first ∷ [])) high) in
+            let rest = rec (n + binds_of (first ∷ [])) (up_to low n (binds_of (first ∷ [])) high) in
             let copy = copied m g n grid e high in
             subst (λ t. here (cond t ((grid, Some m) ∷ kept gens (held ps)) (kept gens (held ps)))) (ap is_some (sym e))
             (subst (λ (x : Option GenTerm). Fold ((grid, Some m) ∷ kept gens (held ps)) (parts_of (option_to_list (option_map (λ y. generator_part y grid n) x) ++ made_parts op s gens (kept gens (held ps)) (n + binds_of (option_to_list (option_map (λ y. generator_part y grid n) x)))))) (sym e)

@@ -28,15 +28,18 @@ module _ (called : ℕ → List (Option (List ℕ))) (m : BaseTable) (first : �
   itself : (n : ℕ) → n ≤ n
   itself n = omega arith
 
+  none : (n : ℕ) → n ≡ 0 + n
+  none n = omega arith
+
   counts : (p q r n : ℕ) → q ≡ suc p → r ≡ n + q → r ≡ suc n + p
   counts p q r n e f = omega (arith, e, f)
 
   steps_of : {k : Facts} {p r : Progress} {b d : BlockTerm} → Walked called bases first k p r b d → (n : ℕ) × ((r.replaced ≡ n + p.replaced) × Going k n p.next r.next b d)
-  steps_of (stays {p = p}) = (0, (refl, done (itself p.next)))
+  steps_of (stays {p = p}) = (0, (none p.replaced, done (itself p.next)))
   steps_of (goes {k = k} {p = p} {q = q} {r = r} {b = b} {c = c} s w) =
       let rest = steps_of w in
       let one = by_other Facts (fact_ways called) (ReplacedHere bases first p q) (Rule p.next q.next) (λ k b c h. (p, (q, (refl, refl, h)))) s in
-      (suc rest.0, (counts p.replaced q.replaced r.replaced rest.0 (one_more called bases first s) rest.1.0, step one rest.1.1))
+      (suc rest.0, (counts p.replaced q.replaced r.replaced rest.0 (one_more called bases first p q s) rest.1.0, step one rest.1.1))
 
   make : (low high : ℕ) (k : Facts) (b c : BlockTerm) → Rule low high k b c → (scope : List Var) → IsPlaced low scope b → FreshHere first low high m k b c
   make low high k b c h scope placed =
