@@ -1,0 +1,5 @@
+mod Learning
+mod Notes
+mod Groups
+mod Told
+mod Within

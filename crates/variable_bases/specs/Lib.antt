@@ -1,0 +1,4 @@
+pub mod Instances
+pub mod Learned
+pub mod Table
+pub mod Step
