@@ -7,10 +7,9 @@ ghost use Rattle.core_ir.specs.View.{block_term, let_term, right_term, gen_term,
 ghost use Rattle.core_facts.specs.Facts.{note_all, block_facts, right_facts, unknown};
 ghost use Rattle.fact_table.specs.Table.{fact_of, facts_of};
 ghost use Rattle.plain_facts.specs.Called.{shapes_of};
-ghost use Rattle.norm_walk.specs.Based.{base_in};
+ghost use Rattle.variable_bases.specs.Table.{base_in};
 ghost use Rattle.norm_walk.specs.Replacing.{BlockWalked, RightWalked, LetWalked, GensWalked, GenWalked, PartWalked, WithWalked};
 
-use crate::bases::BaseTable;
 use crate::known::{KnownBlock, KnownRight};
 use core_ir::{Block, CoreGen, CoreOp, CorePart, Let, PartedLoop, Right, WithLoop};
 use fact_table::{FactTable, Known};
@@ -22,6 +21,7 @@ use plain_facts::{
 };
 use sac_base::{Memory, Site};
 use std::alloc::Global;
+use variable_bases::BaseTable;
 
 /// What a walk over a function reads.
 #[derive(Clone, Copy)]

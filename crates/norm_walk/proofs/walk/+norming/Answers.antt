@@ -2,7 +2,7 @@ use Rattle.std.proofs.Common.{◌-◌, ◌∙◌, ap, refl, sym, map, length, Li
 use Rattle.std.specs.Prelude.{drop}
 use Rattle.fact_table.specs.Table.{facts_of}
 use Rattle.plain_facts.specs.Called.{shapes_of}
-use Rattle.norm_walk.specs.Based.{base_in}
+use Rattle.variable_bases.specs.Table.{base_in}
 use Rattle.scoped_table.proofs.Marks.{earlier_on, none_gone}
 use Rattle.norm_walk.proofs.Noting.{none_left}
 use Rattle.norm_walk.proofs.Walking.{going_first, going_on, block_walked, block_known}

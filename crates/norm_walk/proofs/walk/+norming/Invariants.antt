@@ -2,7 +2,7 @@ use Rattle.std.proofs.Common.{◌≡◌, ◌-◌, length}
 use Rattle.std.specs.Prelude.{drop}
 use Rattle.fact_table.specs.Table.{facts_of}
 use Rattle.plain_facts.specs.Called.{shapes_of}
-use Rattle.norm_walk.specs.Based.{base_in}
+use Rattle.variable_bases.specs.Table.{base_in}
 use Rattle.norm_walk.proofs.Walking.{Going, GensGoing, PartsGoing}
 use Rattle.norm_walk.proofs.walk.+norming.Given as goal
 
