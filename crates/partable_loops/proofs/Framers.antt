@@ -85,22 +85,26 @@ all_names : (n most : ℕ) (fr : Option (List ℕ)) (dots : List ℕ) (bs : List
 all_names n most fr dots [] [] [] e c l = tt
 all_names n most fr dots [] [] (g ∷ gs) e c l = cc
 all_names n most fr dots [] (r ∷ rs) gs e c l = cc
-all_names n most fr dots (b ∷ bs) rs gs e c l = by (range_of n most fr dots b) refl e
+all_names n most fr dots (b ∷ bs) rs gs e c l = by (λ rest hs p w k. all_names n most fr dots bs rest hs p w k) (range_of n most fr dots b) refl e
   where
-    by : (m : Ends Range) → range_of n most fr dots b ≡ m → all_of (m ∷ map (range_of n most fr dots) bs) ≡ Ok rs → NamesFitGrids (b ∷ bs) gs
-    by (Err z) f q = cc
-    by (Ok r) f q = on (all_of (map (range_of n most fr dots) bs)) refl q
-      where
-        on : (m : Ends (List Range)) → all_of (map (range_of n most fr dots) bs) ≡ m → with_first r m ≡ Ok rs → NamesFitGrids (b ∷ bs) gs
-        on (Err z) p q = cc
-        on (Ok rest) p q = at gs (c ∙ sym (ok_same (r ∷ rest) rs q)) (subst (All (λ (r : Range). length r ≡ n)) (sym (ok_same (r ∷ rest) rs q)) l)
-          where
-            at : (gs : List (List Grid1)) → map grid_range gs ≡ r ∷ rest → All (λ (r : Range). length r ≡ n) (r ∷ rest) → NamesFitGrids (b ∷ bs) gs
-            at [] w l = cc
-            at (g ∷ gs) w l =
-                let long : length g ≡ n = sym (length-map g _) ∙ ap length (same_head (grid_range g) r (map grid_range gs) rest w) ∙ All-head (λ (r : Range). length r ≡ n) r rest l in
-                ((λ i. names_fit (long i) b.names) ∙ name_of n most fr dots b r f,
-                all_names n most fr dots bs rest gs p (same_tail (grid_range g) r (map grid_range gs) rest w) (All-tail (λ (r : Range). length r ≡ n) r rest l))
+    at : ((rest : List Range) (hs : List (List Grid1)) → each (range_of n most fr dots) bs ≡ Ok rest → map grid_range hs ≡ rest → All (λ (r : Range). length r ≡ n) rest → NamesFitGrids bs hs) →
+        (r : Range) (rest : List Range) → range_of n most fr dots b ≡ Ok r → each (range_of n most fr dots) bs ≡ Ok rest → (hs : List (List Grid1)) → map grid_range hs ≡ r ∷ rest → All (λ (r : Range). length r ≡ n) (r ∷ rest) → NamesFitGrids (b ∷ bs) hs
+    at rec r rest f p [] w k = cc
+    at rec r rest f p (g ∷ hs) w k =
+        let long : length g ≡ n = sym (length-map g _) ∙ ap length (same_head (grid_range g) r (map grid_range hs) rest w) ∙ All-head (λ (r : Range). length r ≡ n) r rest k in (
+          (λ i. names_fit (long i) b.names) ∙ name_of n most fr dots b r f,
+          rec rest hs p (same_tail (grid_range g) r (map grid_range hs) rest w) (All-tail (λ (r : Range). length r ≡ n) r rest k),
+        )
+
+    on : ((rest : List Range) (hs : List (List Grid1)) → each (range_of n most fr dots) bs ≡ Ok rest → map grid_range hs ≡ rest → All (λ (r : Range). length r ≡ n) rest → NamesFitGrids bs hs) →
+        (r : Range) → range_of n most fr dots b ≡ Ok r → (m : Ends (List Range)) → each (range_of n most fr dots) bs ≡ m → with_first r m ≡ Ok rs → NamesFitGrids (b ∷ bs) gs
+    on rec r f (Err z) p q = cc
+    on rec r f (Ok rest) p q = at rec r rest f p gs (c ∙ sym (ok_same (r ∷ rest) rs q)) (subst (All (λ (r : Range). length r ≡ n)) (sym (ok_same (r ∷ rest) rs q)) l)
+
+    by : ((rest : List Range) (hs : List (List Grid1)) → each (range_of n most fr dots) bs ≡ Ok rest → map grid_range hs ≡ rest → All (λ (r : Range). length r ≡ n) rest → NamesFitGrids bs hs) →
+        (m : Ends Range) → range_of n most fr dots b ≡ m → all_of (m ∷ map (range_of n most fr dots) bs) ≡ Ok rs → NamesFitGrids (b ∷ bs) gs
+    by rec (Err z) f q = cc
+    by rec (Ok r) f q = on rec r f (each (range_of n most fr dots) bs) refl q
 
 -- ---- a genarray
 

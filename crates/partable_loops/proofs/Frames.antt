@@ -1,7 +1,7 @@
 -- Frames of a core: few axes without gaps, whose numbers have 32 bits.
-use Rattle.std.proofs.Common.{◌≡◌, ◌≤◌, ◌<◌, ◌^◌, ℕ, List, [], ◌∷◌, ◌++◌, map, length, All, FitsSigned, w32, Bool, true, false, ◌&&◌, refl, sym, ap, subst, ◌∙◌, arith, true≢false, inl, inr, ℤ, pos, negsuc, ◌+ℤ◌, ◌≤ℤ◌, ◌<ℤ◌}
+use Rattle.std.proofs.Common.{◌≡◌, ◌≤◌, ◌<◌, ◌^◌, ◌+◌, ℕ, zero, suc, take, get_or, List, [], ◌∷◌, ◌++◌, map, length, All, FitsSigned, w32, Bool, true, false, ◌&&◌, refl, sym, ap, subst, ◌∙◌, arith, true≢false, inl, inr, ℤ, pos, negsuc, ◌+ℤ◌, ◌≤ℤ◌, ◌<ℤ◌}
 use Rattle.std.proofs.lemmas.Int.{ints}
-use Rattle.std.proofs.lemmas.List.{length-map}
+use Rattle.std.proofs.lemmas.List.{length-append, length-map, map-append}
 use Rattle.std.proofs.lemmas.List.Elements.{All-cons, All-nil, All-head, All-tail, All-append}
 use Rattle.sac_base.specs.declared.grid.Grid1.{Grid1}
 use Rattle.sac_base.specs.Arrays.{size, MOST}
@@ -14,7 +14,7 @@ use Rattle.core_ir.specs.Meaning.{extents}
 use Rattle.core_ir.specs.WellFormed.{IsFrame, IsResultFrame}
 use Rattle.core_loops.specs.Loops.{axis_of, grid_range, spanned}
 use Rattle.partable_loops.specs.Framings.{IsWordAxis}
-use Rattle.partable_loops.proofs.Boxes.{extents_are, is_dense, shape_extents}
+use Rattle.partable_loops.proofs.Boxes.{extents_are, filled_axis, is_dense, shape_extents}
 use Rattle.partable_loops.proofs.Numbers.{same_head, same_tail}
 
 -- ---- numbers of 32 bits
@@ -44,6 +44,20 @@ words (a ∷ g) h (x ∷ v) e =
 -- one axis more
 pub words_more : (g h : List Grid1) (a : Grid1) → All IsWordAxis g → h ≡ g ++ (a ∷ []) → IsWordAxis a → All IsWordAxis h
 words_more g h a w e one = subst (All IsWordAxis) (sym e) (All-append IsWordAxis g (a ∷ []) w (All-cons IsWordAxis a [] one (All-nil IsWordAxis)))
+
+take_more : (items : List Axis) (i : ℕ) (a d : Axis) → i < length items → a ≡ get_or items i d → take (suc i) items ≡ take i items ++ (a ∷ [])
+take_more [] i a d h e = absurd (omega (arith, h))
+take_more (x ∷ items) zero a d h e = λ k. sym e k ∷ []
+take_more (x ∷ items) (suc i) a d h e = ap (λ l. x ∷ l) (take_more items i a d (omega (arith, h)) e)
+
+pub axes_more : (g h : List Grid1) (items : List Axis) (i : ℕ) (a : Grid1) (x : Axis) → i < length items → x ≡ get_or items i x → map axis_of g ≡ map filled_axis (take i items) → h ≡ g ++ (a ∷ []) → axis_of a ≡ filled_axis x → map axis_of h ≡ map filled_axis (take (i + 1) items)
+axes_more g h items i a x l is made e one =
+    let next : suc i ≡ i + 1 = omega arith in
+    ap (map axis_of) e ∙ map-append axis_of g (a ∷ []) ∙ (λ k. made k ++ (one k ∷ [])) ∙ sym (map-append filled_axis (take i items) (x ∷ []))
+    ∙ ap (map filled_axis) (sym (take_more items i x x l is)) ∙ (λ k. map filled_axis (take (next k) items))
+
+pub one_longer : (g h : List Grid1) (i : ℕ) (a : Grid1) → length g ≡ i → h ≡ g ++ (a ∷ []) → length h ≡ i + 1
+one_longer g h i a l e = ap length e ∙ length-append g (a ∷ []) ∙ ap (λ n. n + 1) l
 
 -- an axis with the bounds of a range's component
 pub word_axis : (a : Axis) (g : Grid1) → IsAxis a → g.lo ≡ a.lower → g.hi ≡ a.upper → IsWordAxis g

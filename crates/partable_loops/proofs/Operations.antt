@@ -64,8 +64,19 @@ module _ (k : Facts) (op : CoreOp) (bs : List Bounds) (r : Result Framed Unplann
         frames = p.1 s base x;
         shape = known ∙ ap (λ c. Some c) (p.0 ∙ sym (p.1 s base x).whole);
       })
-      (λ q. (q.0, (q.1.0, (q.1.1.1.0, (ap (plan bs) (operation_same k q.0 q.1.0 (making.Modarray x) _ q.1.1.0 (shape, (known, refl)) q.1.1.1.1.0) ∙ q.1.1.1.1.1,
-      subst (λ m. size m ≤ MOST) (ap (λ o. unwrap_or o shape) (sym q.1.1.1.1.2.1.0 ∙ known)) q.1.1.1.1.2.1.1)))))
+      (λ q. (
+        q.0,
+        (
+          q.1.0,
+          (
+            q.1.1.1.0,
+            (
+              ap (plan bs) (operation_same k q.0 q.1.0 (making.Modarray x) _ q.1.1.0 (shape, (known, refl)) q.1.1.1.1.0) ∙ q.1.1.1.1.1,
+              subst (λ m. size m ≤ MOST) (ap (λ o. unwrap_or o shape) (sym q.1.1.1.1.2.1.0 ∙ known)) q.1.1.1.1.2.1.1,
+            ),
+          ),
+        ),
+      ))
       h)
 
   pub fold_known : (o : Op) (x : Var) (cell : List ℕ) → op ≡ making.Fold o x → (k x).shape ≡ Some cell

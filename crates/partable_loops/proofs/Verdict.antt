@@ -82,9 +82,10 @@ names_are k NoGens [] gs n h w l = tt
 names_are k NoGens (b ∷ bs) gs n h w l = absurd h
 names_are k (Gen j body rest) [] gs n h w l = absurd h
 names_are k (Gen j body rest) (b ∷ bs) [] n h w l = absurd w
-names_are k (Gen j body rest) (b ∷ bs) (g ∷ gs) n h w l =
-    (no_names n j.names ((λ i. names_fit (sym (All-head (λ (g : List Grid1). length g ≡ n) g gs l) i) (sym h.0.names i)) ∙ w.0),
-    names_are k rest bs gs n h.1 w.1 (All-tail (λ (g : List Grid1). length g ≡ n) g gs l))
+names_are k (Gen j body rest) (b ∷ bs) (g ∷ gs) n h w l = (
+  no_names n j.names ((λ i. names_fit (sym (All-head (λ (g : List Grid1). length g ≡ n) g gs l) i) (sym h.0.names i)) ∙ w.0),
+  names_are k rest bs gs n h.1 w.1 (All-tail (λ (g : List Grid1). length g ≡ n) g gs l),
+)
 
 -- what the cut of a frame says
 pub record Cut (frame : List Grid1) (grids : List (List Grid1)) (parts : List Label) : Type 0 where
