@@ -20,8 +20,8 @@ use Rattle.core_ir.specs.View.{block_term, let_term, right_term, with_term, gen_
 use Rattle.core_ir.proofs.Trees.{block_out, with_out, parted_out}
 use Rattle.core_ir.specs.Terms.{BlockTerm, RightTerm, GensTerm, PartsTerm, GenTerm, PartTerm, Gives, Bind, Gen, Part, chain, gens_of, parts_of}
 use Rattle.core_ir.specs.WellFormed.{Bases, OperationBase, ints}
-use Rattle.variable_bases.specs.Step.{Within}
-use Rattle.variable_bases.specs.Step.{BaseTable as AllBases}
+use Rattle.core_norm_steps.specs.Step.{Within}
+use Rattle.core_norm_steps.specs.Step.{BaseTable as AllBases}
 use Rattle.variable_bases.specs.declared.signatures.Signatures.{Signatures}
 use Rattle.variable_bases.specs.declared.table.BaseTable.{BaseTable}
 use Rattle.variable_bases.specs.Learned.{Notes, Takes, Numbers, source, gens_in, parts_in, TellsRight, LearnsBlock, LearnsRight, LearnsGens, LearnsGen, LearnsParts, LearnsPart}

@@ -8,8 +8,8 @@ use Rattle.std.specs.Prelude.{IfSome}
 use Rattle.core_ir.specs.Terms.{PlainTerm, Plain}
 use Rattle.core_ir.specs.WellFormed.{Bases, HasBase, AllHave, LiteralBase}
 use Rattle.variable_bases.specs.Learned.{TellsLiteral, TellsRight}
-use Rattle.variable_bases.specs.Step.{Within}
-use Rattle.variable_bases.specs.Step.{BaseTable as AllBases}
+use Rattle.core_norm_steps.specs.Step.{Within}
+use Rattle.core_norm_steps.specs.Step.{BaseTable as AllBases}
 use Rattle.variable_bases.specs.declared.table.BaseTable.{BaseTable}
 use Rattle.variable_bases.specs.Table.{base_in, Tells, may_be, may_have}
 

@@ -7,7 +7,7 @@ use Rattle.core_ir.specs.declared.tree.Var.{Var}
 use Rattle.core_ir.specs.Terms.{BlockTerm, LetTerm, CoreTerm, Gives, Bind, chain}
 use Rattle.core_ir.specs.WellFormed.{Bases, base_of, HasBases, BlockBases, ints}
 use Rattle.core_ir.proofs.Variables.{same_number}
-use Rattle.variable_bases.specs.Step.{BaseTable, Within, AllNumbers, Follows}
+use Rattle.core_norm_steps.specs.Step.{BaseTable, Within, AllNumbers, Follows}
 
 pub within_one : (m : BaseTable) (g : Bases) (x : Var) (u : Base) → Within m g → u ≡ m x → Within m ((x, u) ∷ g)
 within_one m g x u w e y t p = go (eqb x.0 y.0) refl

@@ -1,4 +1,3 @@
 pub mod Instances
 pub mod Learned
 pub mod Table
-pub mod Step

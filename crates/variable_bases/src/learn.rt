@@ -2,7 +2,8 @@
 
 ghost use Rattle.std.specs.Prelude.{◌≡◌, OnOk, IfSome};
 ghost use Rattle.core_ir.specs.View.{block_term, right_term, with_term, gen_term, parted_term, part_term};
-ghost use Rattle.variable_bases.specs.Learned.{LearnsBlock, LearnsRight, LearnsGens, LearnsGen, LearnsParts, LearnsPart, TellsRight, TellsLiteral, source as source_of, gens_in, parts_in};
+ghost use Rattle.variable_bases.specs.Learned.{LearnsBlock, LearnsRight, LearnsGens, LearnsGen, LearnsParts, LearnsPart};
+ghost use Rattle.variable_bases.specs.Learned.{TellsRight, TellsLiteral, source as source_of, gens_in, parts_in};
 
 use crate::signatures::Signatures;
 use crate::table::BaseTable;

@@ -14,15 +14,15 @@ use std::alloc::Global;
 
 /// The bases that an instance takes and gives.
 #[derive(Drop)]
-pub struct Signature {
-    pub takes: Vec<Base>,
-    pub gives: Vec<Base>,
+struct Signature {
+    takes: Vec<Base>,
+    gives: Vec<Base>,
 }
 
 /// For each group the bases that its instances take and give.
 #[derive(Drop)]
 pub struct Signatures {
-    pub groups: Vec<Vec<Signature>>,
+    groups: Vec<Vec<Signature>>,
 }
 
 impl Signatures {
@@ -41,8 +41,8 @@ impl Signatures {
         Ok(Signatures { groups })
     }
 
-    /// What each instance of a group gives that may take the variables.
-    pub fn given(&self, group: u32, args: &[Var], table: &BaseTable) -> Option<&[Base]>
+    /// What each instance of a group gives that may take the variables, if there is one and all give the same.
+    pub(crate) fn given(&self, group: u32, args: &[Var], table: &BaseTable) -> Option<&[Base]>
         ensures { IfSome result (λ gives. GroupGives self.now group args.now table.now gives.now) }
     {
         let signatures = self.groups.get(group as usize)?;

@@ -64,7 +64,7 @@ impl BaseTable {
         }
     }
 
-    pub fn note(&mut self, x: Var, base: Base) -> Result<(), Memory>
+    fn note(&mut self, x: Var, base: Base) -> Result<(), Memory>
         ensures { OnOk result (Noted x base self.old self.new) }
     {
         let place = x.0 as usize;
@@ -75,7 +75,7 @@ impl BaseTable {
         Ok(())
     }
 
-    pub fn note_numbers(&mut self, xs: &[Var]) -> Result<(), Memory>
+    pub(crate) fn note_numbers(&mut self, xs: &[Var]) -> Result<(), Memory>
         ensures { OnOk result (Numbers xs.now self.old self.new) }
     {
         for x in xs {
@@ -84,7 +84,7 @@ impl BaseTable {
         Ok(())
     }
 
-    pub fn note_each(&mut self, xs: &[Var], bases: &[Base]) -> Result<(), Memory>
+    pub(crate) fn note_each(&mut self, xs: &[Var], bases: &[Base]) -> Result<(), Memory>
         ensures { OnOk result (Notes xs.now bases.now self.old self.new) }
     {
         for k in 0..xs.len().min(bases.len()) {
@@ -93,7 +93,7 @@ impl BaseTable {
         Ok(())
     }
 
-    pub fn take_each(&mut self, xs: &[Var], sources: &[Var]) -> Result<(), Memory>
+    pub(crate) fn take_each(&mut self, xs: &[Var], sources: &[Var]) -> Result<(), Memory>
         ensures { OnOk result (Takes xs.now sources.now self.old self.new) }
     {
         for k in 0..xs.len().min(sources.len()) {
@@ -105,7 +105,7 @@ impl BaseTable {
     }
 
     /// Whether the variables may have these bases.
-    pub fn may_have(&self, xs: &[Var], bases: &[Base]) -> bool
+    pub(crate) fn may_have(&self, xs: &[Var], bases: &[Base]) -> bool
         ensures { result ≡ may_have_bases self.now xs.now bases.now }
     {
         if xs.len() != bases.len() {
