@@ -91,7 +91,7 @@ module _ (calls : ℕ → List (Option (List ℕ))) (signatures : Signatures) wh
       let is : IsFunction a f = all_at (IsFunction a) a.functions n f well.functions found in
       let table = has_table a f is in
       let m = table.0 in
-      let tells = h.tells a has m table.1.0 is.agreeing table.1.1 in
+      let tells = h.tells a has m table.1 is.agreeing table.2 in
       let own = fresh_more (own_vars f) (above_function f) h.first h.above (own_fresh f) in
       let params = fresh_left (param_vars f) (bound_in f.body) h.first own in
       let bound = fresh_right (param_vars f) (bound_in f.body) h.first own in
@@ -108,9 +108,9 @@ module _ (calls : ℕ → List (Option (List ℕ))) (signatures : Signatures) wh
         body = h.body;
         found = found;
         table = m;
-        params = table.1.0;
+        params = table.1;
         agreeing = is.agreeing;
-        follows = table.1.1;
+        follows = table.2;
         low = h.first;
         high = h.last;
         below = h.above;
@@ -123,6 +123,9 @@ module _ (calls : ℕ → List (Option (List ℕ))) (signatures : Signatures) wh
   sum_is : (m k n c d : ℕ) → k ≡ c + n → m ≡ d + k → m ≡ (c + d) + n
   sum_is m k n c d p q = omega (arith, p, q)
 
+  none_more : (n : ℕ) → n ≡ 0 + n
+  none_more n = omega arith
+
   -- ---- all functions
 
   functions_kept :
@@ -130,7 +133,7 @@ module _ (calls : ℕ → List (Option (List ℕ))) (signatures : Signatures) wh
       AllNormed calls signatures n fs gs m → (count : ℕ) × ((m ≡ count + n) × Kept a (record a { functions = done ++ gs }) count)
   functions_kept a done [] [] n m e same has well h =
       let stays : a ≡ record a { functions = done ++ [] } = λ i. record a { functions = e i } in
-      (0, (h, subst (λ (x : CoreTerm). Kept a x 0) stays (kept_itself a well)))
+      (0, (h ∙ none_more n, subst (λ (x : CoreTerm). Kept a x 0) stays (kept_itself a well)))
   functions_kept a done [] (g ∷ gs) n m e same has well h = absurd h
   functions_kept a done (f ∷ fs) [] n m e same has well h = absurd h
   functions_kept a done (f ∷ fs) (g ∷ gs) n m e same has well h =
