@@ -1,5 +1,5 @@
 -- Frames of a core: few axes without gaps, whose numbers have 32 bits.
-use Rattle.std.proofs.Common.{◌≡◌, ◌≤◌, ◌<◌, ◌^◌, ◌+◌, ℕ, zero, suc, take, get_or, List, [], ◌∷◌, ◌++◌, map, length, All, FitsSigned, w32, Bool, true, false, ◌&&◌, refl, sym, ap, subst, ◌∙◌, arith, true≢false, inl, inr, ℤ, pos, negsuc, ◌+ℤ◌, ◌≤ℤ◌, ◌<ℤ◌}
+use Rattle.std.proofs.Common.{◌≡◌, ◌≤◌, ◌<◌, ◌^◌, ◌+◌, ℕ, zero, suc, take, get_or, List, [], ◌∷◌, ◌++◌, map, length, All, FitsSigned, w32, Bool, true, false, ◌&&◌, refl, sym, ap, subst, ◌∙◌, arith, true≢false, inl, inr, ℤ, pos, negsuc, ◌≤ℤ◌, ◌<ℤ◌}
 use Rattle.std.proofs.lemmas.Int.{ints}
 use Rattle.std.proofs.lemmas.List.{length-append, length-map, map-append}
 use Rattle.std.proofs.lemmas.List.Elements.{All-cons, All-nil, All-head, All-tail, All-append}
@@ -7,7 +7,7 @@ use Rattle.sac_base.specs.declared.grid.Grid1.{Grid1}
 use Rattle.sac_base.specs.Arrays.{size, MOST}
 use Rattle.sac_base.specs.Grids.{has_index, has_vector}
 use Rattle.sac_base.specs.Shapes.{IsExtent, IsShape}
-use Rattle.sac_base.specs.WithLoops.{Axis, Range, Span, box_size, shape_spans}
+use Rattle.sac_base.specs.WithLoops.{Axis, Span, box_size, shape_spans}
 use Rattle.sac_base.proofs.GridFacts.{has_facts}
 use Rattle.array_with_loops.specs.Ranges.{IsAxis}
 use Rattle.core_ir.specs.Meaning.{extents}

@@ -1,6 +1,5 @@
 -- The parts that are made of a with-loop, whose variables have the numbers from n on.
 use Rattle.std.specs.Prelude.{ℕ, suc, ◌+◌, List, [], ◌∷◌, ◌++◌, length, pos, Option, Some, None, option_map, option_to_list, slice_get}
-use Rattle.sac_base.specs.declared.base.Base.{Base}
 use Rattle.sac_base.specs.declared.base.Base.TheVariants.{Int}
 use Rattle.sac_base.specs.declared.grid.Grid1.{Grid1}
 use Rattle.sac_base.specs.declared.site.Site.{Site}
@@ -11,7 +10,7 @@ use Rattle.core_ir.specs.declared.tree.CoreOp.TheVariants as making
 use Rattle.core_ir.specs.declared.tree.PartedOp.{PartedOp}
 use Rattle.core_ir.specs.declared.tree.PartedOp.TheVariants as parted
 use Rattle.core_ir.specs.Binders.{bound_in, bound_in_parts}
-use Rattle.core_ir.specs.Terms.{PlainTerm, BlockTerm, RightTerm, LetTerm, GenTerm, PartTerm, Gives, Bind, Plain, Parted, chain, parts_of}
+use Rattle.core_ir.specs.Terms.{PlainTerm, BlockTerm, LetTerm, GenTerm, PartTerm, Gives, Bind, Plain, chain, parts_of}
 use Rattle.core_copy.specs.Mapped.{mapped}
 use Rattle.core_subst.specs.Names.{variable}
 use Rattle.parted_bodies.specs.Numbering.{named, numbered}

@@ -131,11 +131,11 @@ constant_apart f [] n c x a h k e = clash false h refl
 constant_apart f (y ∷ xs) n c x a h k e =
     or_later (eqb n c.0) (is_in c (constants xs (suc (suc n)))) h
     (λ p. or_later (eqb y.0 x.0) (is_in x xs) k
-        (λ q. first_first n c.0 (f x).0 (ap (λ (v : Var). v.0) (same_number (variable n) c p)) (ap (λ (v : Var). v.0) (ap f (sym (same_number y x q)) ∙ a.0)) e)
-        (λ q. first_late n c.0 (f x).0 (ap (λ (v : Var). v.0) (same_number (variable n) c p)) (component_from f xs (suc (suc n)) x a.1 q) e))
+    (λ q. first_first n c.0 (f x).0 (ap (λ (v : Var). v.0) (same_number (variable n) c p)) (ap (λ (v : Var). v.0) (ap f (sym (same_number y x q)) ∙ a.0)) e)
+    (λ q. first_late n c.0 (f x).0 (ap (λ (v : Var). v.0) (same_number (variable n) c p)) (component_from f xs (suc (suc n)) x a.1 q) e))
     (λ p. or_later (eqb y.0 x.0) (is_in x xs) k
-        (λ q. late_first n c.0 (f x).0 (constants_from xs (suc (suc n)) c p) (ap (λ (v : Var). v.0) (ap f (sym (same_number y x q)) ∙ a.0)) e)
-        (λ q. constant_apart f xs (suc (suc n)) c x a.1 p q e))
+    (λ q. late_first n c.0 (f x).0 (constants_from xs (suc (suc n)) c p) (ap (λ (v : Var). v.0) (ap f (sym (same_number y x q)) ∙ a.0)) e)
+    (λ q. constant_apart f xs (suc (suc n)) c x a.1 p q e))
 
 -- the bindings of the components
 lets_are : (s : Site) (i : Var) (j : ℕ) (f : Var → Var) (xs : List Var) (n : ℕ) (b : BlockTerm) → AreComponents f xs n → chain (component_lets s i j xs n) b ≡ components s i j f xs (constants xs n) b
@@ -280,8 +280,8 @@ module _ (scope : List Var) (low : ℕ) (below : All (λ (x : Var). x.0 < low) s
   bound_from (y ∷ xs) h k x d p =
       or_later (eqb y.0 x.0) (is_in x xs) p
       (λ e. let one : numbered h (y ∷ xs) k x ≡ variable k =
-          (λ i. numbered h (y ∷ xs) k (sym (same_number y x e) i)) ∙ numbered_off xs (named h y (variable k)) (suc k) y d.0 ∙ named_at h y (variable k) y (Rattle.std.proofs.lemmas.Bool.eq-eqb y.0 y.0 refl) in
-          at_least k (numbered h (y ∷ xs) k x).0 (ap (λ (v : Var). v.0) one))
+      (λ i. numbered h (y ∷ xs) k (sym (same_number y x e) i)) ∙ numbered_off xs (named h y (variable k)) (suc k) y d.0 ∙ named_at h y (variable k) y (Rattle.std.proofs.lemmas.Bool.eq-eqb y.0 y.0 refl) in
+      at_least k (numbered h (y ∷ xs) k x).0 (ap (λ (v : Var). v.0) one))
       (λ r. at_more k (numbered h (y ∷ xs) k x).0 (bound_from xs (named h y (variable k)) (suc k) x d.1 r))
 
   alone : (c x : Var) → is_in c (constants names (suc n)) ≡ true → is_in x (bound ++ ((index ∷ names) ++ scope)) ≡ true → eqb c.0 (f x).0 ≡ false
@@ -303,6 +303,6 @@ module _ (scope : List Var) (low : ℕ) (below : All (λ (x : Var). x.0 < low) s
   copy_is =
       let made = copies_named f g.head.site index names (constants names (suc n)) scope g.body at.scoped apart names_once (constants_count names (suc n)) (constants_once names (suc n)) outer_stays alone in
       let at_index = subst (λ (v : Var). NamedBody (under loops.itself index v) v 0 names g.body (components g.head.site v 0 f names (constants names (suc n)) (mapped f g.body))
-          × NamedAlike names g.body (components g.head.site v 0 f names (constants names (suc n)) (mapped f g.body))) index_is made in
+      × NamedAlike names g.body (components g.head.site v 0 f names (constants names (suc n)) (mapped f g.body))) index_is made in
       subst (λ (b : BlockTerm). NamedBody (under loops.itself index (variable n)) (variable n) 0 names g.body b × NamedAlike names g.body b)
       (sym (lets_are g.head.site (variable n) 0 f names (suc n) (mapped f g.body) components_are)) at_index

@@ -189,9 +189,9 @@ module _ (m : BaseTable) (first : ℕ) (bases : Var → Option Base) (tells : (x
       let ks = all_left op at before after in
       let new = new_parts op at before after in
       let made = by_names op at before after is (λ ps. LabelledParts y (length at.plan.frame) (gens_of gens) (kept gens ps) (parts_of (made_parts op s gens (kept gens ps) low)) × LabelledAlike (gens_of gens) (kept gens ps) (parts_of (made_parts op s gens (kept gens ps) low)))
-          (tt, tt)
-          (λ named. genarray_made scope low placed.scope_below s gens scoped.1 once (length at.plan.frame) named x y (small op at before after y scoped.0.1.0) at.plan.parts.items low (itself_le low))
-          (λ e. is.needed ∙ e) in
+      (tt, tt)
+      (λ named. genarray_made scope low placed.scope_below s gens scoped.1 once (length at.plan.frame) named x y (small op at before after y scoped.0.1.0) at.plan.parts.items low (itself_le low))
+      (λ e. is.needed ∙ e) in
       let split = splits op at before after is is.needed in
       let apart = between op at before after is in
       record {
@@ -246,9 +246,9 @@ module _ (m : BaseTable) (first : ℕ) (bases : Var → Option Base) (tells : (x
       let ks = all_left op at before after in
       let new = new_parts op at before after in
       let made = by_names op at before after is (λ ps. OldLabelled x (length at.plan.frame) (gens_of gens) (kept gens ps) (parts_of (made_parts op s gens (kept gens ps) low)) × LabelledAlike (gens_of gens) (kept gens ps) (parts_of (made_parts op s gens (kept gens ps) low)))
-          (tt, tt)
-          (λ named. modarray_made scope low placed.scope_below s gens scoped.1 once (length at.plan.frame) named x (small op at before after x scoped.0.0) at.plan.parts.items low (itself_le low))
-          (λ e. is.needed ∙ e) in
+      (tt, tt)
+      (λ named. modarray_made scope low placed.scope_below s gens scoped.1 once (length at.plan.frame) named x (small op at before after x scoped.0.0) at.plan.parts.items low (itself_le low))
+      (λ e. is.needed ∙ e) in
       let split = splits op at before after is is.needed in
       let apart = between op at before after is in
       record {
@@ -305,13 +305,13 @@ module _ (m : BaseTable) (first : ℕ) (bases : Var → Option Base) (tells : (x
       let ks = all_left op at before after in
       let new = new_parts op at before after in
       let made = by_names op at before after is (λ ps. FoldLabelled (length at.plan.frame) (gens_of gens) (kept gens ps) (parts_of (made_parts op s gens (kept gens ps) low)) × LabelledAlike (gens_of gens) (kept gens ps) (parts_of (made_parts op s gens (kept gens ps) low)))
-          (tt, tt)
-          (λ named. subst (λ (ps : List Label). FoldLabelled (length at.plan.frame) (gens_of gens) (kept gens ps) (parts_of (made_parts op s gens (kept gens ps) low)) × LabelledAlike (gens_of gens) (kept gens ps) (parts_of (made_parts op s gens (kept gens ps) low)))
-              (sym is.needed) (fold_made scope low placed.scope_below s gens scoped.1 once (length at.plan.frame) named o x is.labels low (itself_le low)))
-          (λ e. is.needed ∙ ap held e) in
+      (tt, tt)
+      (λ named. subst (λ (ps : List Label). FoldLabelled (length at.plan.frame) (gens_of gens) (kept gens ps) (parts_of (made_parts op s gens (kept gens ps) low)) × LabelledAlike (gens_of gens) (kept gens ps) (parts_of (made_parts op s gens (kept gens ps) low)))
+      (sym is.needed) (fold_made scope low placed.scope_below s gens scoped.1 once (length at.plan.frame) named o x is.labels low (itself_le low)))
+      (λ e. is.needed ∙ ap held e) in
       let apart = between op at before after is in
       let fit = subst (λ (ps : List Label). Fit at.plan.frame (grids_of (kept gens ps))) (sym is.needed)
-          (subst (λ (ps : List Label). Fit at.plan.frame (grids_of ps)) (kept_held gens is.labels) (some_fit at.plan.frame is.labels (stays gens) is.splits)) in
+      (subst (λ (ps : List Label). Fit at.plan.frame (grids_of ps)) (kept_held gens is.labels) (some_fit at.plan.frame is.labels (stays gens) is.splits)) in
       record {
         step = record {
           targets = targets;

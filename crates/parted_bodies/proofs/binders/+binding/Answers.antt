@@ -1,4 +1,4 @@
-use Rattle.std.proofs.Common.{◌≡◌, refl, sym, ap, ◌∙◌, [], ◌∷◌, ◌++◌, arith}
+use Rattle.std.proofs.Common.{refl, sym, ap, ◌∙◌, [], ◌∷◌, ◌++◌, arith}
 use Rattle.core_ir.specs.declared.tree.Block.{out-Block}
 use Rattle.core_ir.specs.declared.tree.WithLoop.{out-WithLoop}
 use Rattle.core_ir.specs.declared.tree.PartedLoop.{out-PartedLoop}

@@ -1,4 +1,4 @@
-use Rattle.std.proofs.Common.{◌≡◌, arith, map, refl, ◌∙◌}
+use Rattle.std.proofs.Common.{arith, map, refl, ◌∙◌}
 use Rattle.core_ir.specs.View.{let_term, gen_term, part_term}
 use Rattle.core_copy.specs.Mapped.{mapped_let, mapped_gen, mapped_part}
 use Rattle.parted_bodies.specs.Numbering.{named_in}

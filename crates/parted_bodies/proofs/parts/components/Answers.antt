@@ -1,6 +1,6 @@
-use Rattle.std.proofs.Common.{rules, ◌≡◌, ◌+◌, sym, ap, ◌∙◌, arith}
+use Rattle.std.proofs.Common.{rules, ap, ◌∙◌, arith}
 use Rattle.parted_bodies.specs.Numbering.{named_in}
-use Rattle.parted_bodies.specs.Making.{component_lets, component_names}
+use Rattle.parted_bodies.specs.Making.{component_names}
 use Rattle.parted_bodies.proofs.Made.{component_turn, names_turn, progress_turn, next_next}
 use Rattle.parted_bodies.proofs.parts.components.Goals as goal
 

@@ -1,4 +1,4 @@
-use Rattle.std.proofs.Common.{◌≡◌, ◌+◌, drop, sym, ap, ◌∙◌, arith}
+use Rattle.std.proofs.Common.{◌+◌, drop, ap, ◌∙◌, arith}
 use Rattle.parted_bodies.specs.Numbering.{named_in, numbered}
 use Rattle.parted_bodies.proofs.Naming.{numbered_turn, numbered_done, counted_done, counted_turn}
 use Rattle.parted_bodies.proofs.names.Names.set_all.Goals as goal
