@@ -1,6 +1,0 @@
-mod Numbered
-mod Copied
-mod Parts
-mod Fits
-mod Walks
-mod Rounds
