@@ -11,19 +11,24 @@ use Rattle.sac_base.specs.declared.grid.Grid1.{Grid1}
 use Rattle.sac_base.specs.declared.op.Op.{Op}
 use Rattle.sac_base.specs.declared.site.Site.{Site}
 use Rattle.sac_base.specs.Arrays.{ArrayValue, form_of, size, MOST}
-use Rattle.sac_base.specs.Operators.{all_of}
+use Rattle.sac_base.specs.Operators.{all_of, with_first}
 use Rattle.sac_base.specs.Outcomes.{Ends, and_then, fault}
 use Rattle.sac_base.specs.Parts.{shape_of_numbers, vector_of}
+use Rattle.sac_base.specs.Shapes.{IsShape}
 use Rattle.sac_base.specs.WithLoops.{Bounds, Plan, Range, Span, box, box_size, each, fold_frame, fold_plan, genarray_plan, index_length, is_empty_box, joined_axis, joined_range, modarray_plan, names_fit, plan, range_from, range_of, lower_of, upper_of, step_of, shape_spans, span_of, within_frame}
 use Rattle.sac_base.specs.WithLoops
 use Rattle.array_with_loops.proofs.EachSteps.{each_length}
 use Rattle.core_ir.specs.declared.tree.Var.{Var}
 use Rattle.core_ir.specs.declared.tree.CoreOp.TheVariants as making
 use Rattle.core_ir.specs.Meaning.{cell_form, extents}
+use Rattle.core_ir.specs.WellFormed.{IsResultFrame}
 use Rattle.partable_loops.specs.declared.framing.Framed.{Framed}
 use Rattle.core_loops.specs.Loops.{front, grid_range, spanned}
-use Rattle.partable_loops.specs.Framings.{FramesPlan, IsVoid}
+use Rattle.partable_loops.specs.Framings.{FramesPlan, IsVoid, IsWordAxis, NamesFitGrids}
 use Rattle.partable_loops.proofs.Boxes.{extents_are, shape_extents}
+use Rattle.core_facts.proofs.Shapes.{ok_same}
+use Rattle.partable_loops.proofs.Frames.{shape_frame, shape_result, span_frame}
+use Rattle.partable_loops.proofs.Numbers.{same_head, same_tail}
 
 -- ---- tests
 
@@ -64,6 +69,43 @@ front_taken ns n = ap (λ k. take k ns) back ∙ take_min n ns
     back : length ns - length (drop n ns) ≡ min n (length ns)
     back = let rest = length-drop n ns in omega arith
 
+-- ---- names
+
+name_of : (n most : ℕ) (fr : Option (List ℕ)) (dots : List ℕ) (g : Bounds) (r : Range) → range_of n most fr dots g ≡ Ok r → names_fit n g.names ≡ true
+name_of n most fr dots g r e = by (nat_le n 8) (nat_le n most) (names_fit n g.names) refl e
+  where
+    by : (a b c : Bool) → names_fit n g.names ≡ c
+        → (if a && b && c then within_frame fr g.site (range_from (lower_of n g) (upper_of n dots g) (step_of n g.step) (step_of n g.width)) else fault F5 g.site) ≡ Ok r → names_fit n g.names ≡ true
+    by false b c t q = cc
+    by true false c t q = cc
+    by true true false t q = cc
+    by true true true t q = t
+
+all_names : (n most : ℕ) (fr : Option (List ℕ)) (dots : List ℕ) (bs : List Bounds) (rs : List Range) (gs : List (List Grid1)) → each (range_of n most fr dots) bs ≡ Ok rs → map grid_range gs ≡ rs → All (λ (r : Range). length r ≡ n) rs → NamesFitGrids bs gs
+all_names n most fr dots [] [] [] e c l = tt
+all_names n most fr dots [] [] (g ∷ gs) e c l = cc
+all_names n most fr dots [] (r ∷ rs) gs e c l = cc
+all_names n most fr dots (b ∷ bs) rs gs e c l = by (λ rest hs p w k. all_names n most fr dots bs rest hs p w k) (range_of n most fr dots b) refl e
+  where
+    at : ((rest : List Range) (hs : List (List Grid1)) → each (range_of n most fr dots) bs ≡ Ok rest → map grid_range hs ≡ rest → All (λ (r : Range). length r ≡ n) rest → NamesFitGrids bs hs) →
+        (r : Range) (rest : List Range) → range_of n most fr dots b ≡ Ok r → each (range_of n most fr dots) bs ≡ Ok rest → (hs : List (List Grid1)) → map grid_range hs ≡ r ∷ rest → All (λ (r : Range). length r ≡ n) (r ∷ rest) → NamesFitGrids (b ∷ bs) hs
+    at rec r rest f p [] w k = cc
+    at rec r rest f p (g ∷ hs) w k =
+        let long : length g ≡ n = sym (length-map g _) ∙ ap length (same_head (grid_range g) r (map grid_range hs) rest w) ∙ All-head (λ (r : Range). length r ≡ n) r rest k in (
+          (λ i. names_fit (long i) b.names) ∙ name_of n most fr dots b r f,
+          rec rest hs p (same_tail (grid_range g) r (map grid_range hs) rest w) (All-tail (λ (r : Range). length r ≡ n) r rest k),
+        )
+
+    on : ((rest : List Range) (hs : List (List Grid1)) → each (range_of n most fr dots) bs ≡ Ok rest → map grid_range hs ≡ rest → All (λ (r : Range). length r ≡ n) rest → NamesFitGrids bs hs) →
+        (r : Range) → range_of n most fr dots b ≡ Ok r → (m : Ends (List Range)) → each (range_of n most fr dots) bs ≡ m → with_first r m ≡ Ok rs → NamesFitGrids (b ∷ bs) gs
+    on rec r f (Err z) p q = cc
+    on rec r f (Ok rest) p q = at rec r rest f p gs (c ∙ sym (ok_same (r ∷ rest) rs q)) (subst (All (λ (r : Range). length r ≡ n)) (sym (ok_same (r ∷ rest) rs q)) l)
+
+    by : ((rest : List Range) (hs : List (List Grid1)) → each (range_of n most fr dots) bs ≡ Ok rest → map grid_range hs ≡ rest → All (λ (r : Range). length r ≡ n) rest → NamesFitGrids bs hs) →
+        (m : Ends Range) → range_of n most fr dots b ≡ m → all_of (m ∷ map (range_of n most fr dots) bs) ≡ Ok rs → NamesFitGrids (b ∷ bs) gs
+    by rec (Err z) f q = cc
+    by rec (Ok r) f q = on rec r f (each (range_of n most fr dots) bs) refl q
+
 -- ---- a genarray
 
 genarray_is : (bs : List Bounds) (ns cell : List ℕ) (base : Base) (s : Site) (rs : List Range) → length (ns ++ cell) ≤ 8 → size ns ≤ MOST → size (ns ++ cell) ≤ MOST
@@ -78,9 +120,9 @@ genarray_is bs ns cell base s rs short small whole found = λ i.
 pub genarray_frames : (bs : List Bounds) (shape : ArrayValue) (ns cell : List ℕ) (rs : List Range) (f : Framed)
     → shape_of_numbers (vector_of shape) ≡ Some ns → length (ns ++ cell) ≤ 8 → size ns ≤ MOST → size (ns ++ cell) ≤ MOST
     → each (range_of (length ns) 8 (Some ns) ns) bs ≡ Ok rs → All (λ (r : Range). length r ≡ length ns) rs
-    → map grid_range f.grids.items ≡ rs → grid_range f.frame ≡ map spanned (shape_spans ns) → f.cell ≡ cell
+    → map grid_range f.grids.items ≡ rs → grid_range f.frame ≡ map spanned (shape_spans ns) → f.cell ≡ cell → IsShape ns → IsShape (ns ++ cell)
     → (s : Site) (base : Base) (x y : Var) → FramesPlan base (making.Genarray x y) bs (WithLoops.genarray shape (cell_form base cell) s) f
-genarray_frames bs shape ns cell rs f given short small whole found long cut spans is s base x y = record {
+genarray_frames bs shape ns cell rs f given short small whole found long cut spans is front_shape whole_shape s base x y = record {
   planned = record { ranges = rs; indices = box (shape_spans ns); form = record { base = base; shape = cell }; shape = ns ++ cell };
   valid = ap (λ m. genarray_plan bs m (cell_form base cell) s) given ∙ genarray_is bs ns cell base s rs short small whole found;
   cut = cut;
@@ -90,6 +132,9 @@ genarray_frames bs shape ns cell rs f given short small whole found long cut spa
   form = λ i. record { base = base; shape = sym is i };
   ranks = inl (subst (λ n. All (λ (g : List Grid1). length g ≡ n) f.grids.items) (sym (length_spans f.frame (shape_spans ns) spans ∙ length-map ns _)) (lengths_are f.grids.items rs (length ns) cut long));
   whole = λ i. sym (extents_are f.frame (shape_spans ns) spans ∙ shape_extents ns) i ++ sym is i;
+  frame = shape_frame f.frame ns spans front_shape small;
+  result = subst (IsResultFrame f.frame) (sym is) (shape_result f.frame ns cell spans front_shape whole_shape whole);
+  names = all_names (length ns) 8 (Some ns) ns bs rs f.grids.items found cut long;
 }
 
 -- ---- a modarray
@@ -128,9 +173,9 @@ pub modarray_frames : (bs : List Bounds) (shape : List ℕ) (rs : List Range) (f
     → each (range_of (index_length bs (length shape)) (length shape) (Some (take (index_length bs (length shape)) shape)) (take (index_length bs (length shape)) shape)) bs ≡ Ok rs
     → All (λ (r : Range). length r ≡ index_length bs (length shape)) rs
     → map grid_range f.grids.items ≡ rs → grid_range f.frame ≡ map spanned (shape_spans (take (index_length bs (length shape)) shape))
-    → f.cell ≡ drop (min (index_length bs (length shape)) (length shape)) shape
+    → f.cell ≡ drop (min (index_length bs (length shape)) (length shape)) shape → IsShape (take (index_length bs (length shape)) shape) → IsShape shape → size shape ≤ MOST
     → (s : Site) (base : Base) (x : Var) → FramesPlan base (making.Modarray x) bs (WithLoops.modarray (cell_form base shape) s) f
-modarray_frames bs shape rs f small found long cut spans is s base x = record {
+modarray_frames bs shape rs f small found long cut spans is front_shape whole_shape most s base x = record {
   planned = record { ranges = rs; indices = box (shape_spans ns); form = record { base = base; shape = drop n shape }; shape = shape };
   valid = λ i. and_then (found i) (λ ranges. if passes (size ns) MOST small i then Ok (record { ranges = ranges; indices = box (shape_spans ns); form = record { base = base; shape = drop n shape }; shape = shape }) else fault F8 s);
   cut = cut;
@@ -140,6 +185,9 @@ modarray_frames bs shape rs f small found long cut spans is s base x = record {
   form = λ i. record { base = base; shape = sym cell i };
   ranks = inl (by (each_fits n (length shape) (Some ns) ns bs rs found));
   whole = modarray_whole shape n f spans is;
+  frame = shape_frame f.frame ns spans front_shape small;
+  result = shape_result f.frame ns f.cell spans front_shape (subst IsShape both whole_shape) (subst (λ m. size m ≤ MOST) both most);
+  names = all_names n (length shape) (Some ns) ns bs rs f.grids.items found cut long;
 }
   where
     n : ℕ
@@ -150,6 +198,9 @@ modarray_frames bs shape rs f small found long cut spans is s base x = record {
 
     cell : f.cell ≡ drop n shape
     cell = is ∙ drop_min n shape
+
+    both : shape ≡ ns ++ f.cell
+    both = sym (take-append-drop n shape) ∙ ap (λ c. ns ++ c) (sym cell)
 
     by : (rs ≡ []) ⊎ (n ≤ length shape) → All (λ (g : List Grid1). length g ≡ length f.frame) f.grids.items
     by (inl none) = lengths_are f.grids.items [] (length f.frame) (cut ∙ none) (All-nil (λ (r : Range). length r ≡ length f.frame))
@@ -186,9 +237,9 @@ frame_length (r ∷ rs) n h = inr (length-map (fold joined_range r rs) _ ∙ all
 
 pub fold_frames : (bs : List Bounds) (cell : List ℕ) (rs : List Range) (f : Framed) (n : ℕ)
     → each (range_of (index_length bs 0) 8 None []) bs ≡ Ok rs → All (λ (r : Range). length r ≡ n) rs → box_size (fold_frame (solid rs)) ≤ MOST
-    → map grid_range f.grids.items ≡ rs → grid_range f.frame ≡ map spanned (fold_frame (solid rs)) → f.cell ≡ cell
+    → map grid_range f.grids.items ≡ rs → grid_range f.frame ≡ map spanned (fold_frame (solid rs)) → f.cell ≡ cell → All IsWordAxis f.frame → length f.frame ≤ 8 → index_length bs 0 ≡ n
     → (s : Site) (base : Base) (o : Op) (x : Var) → FramesPlan base (making.Fold o x) bs (WithLoops.fold_by o (cell_form base cell) s) f
-fold_frames bs cell rs f n found long small cut spans is s base o x = record {
+fold_frames bs cell rs f n found long small cut spans is words few is_n s base o x = record {
   planned = record { ranges = rs; indices = box (fold_frame (solid rs)); form = record { base = base; shape = cell }; shape = cell };
   valid = ap (λ m. and_then m (λ ranges. if nat_le (box_size (fold_frame (solid ranges))) MOST
       then Ok (record { ranges = ranges; indices = box (fold_frame (solid ranges)); form = form_of (cell_form base cell); shape = cell }) else fault F8 s)) found
@@ -200,6 +251,9 @@ fold_frames bs cell rs f n found long small cut spans is s base o x = record {
   form = λ i. record { base = base; shape = sym is i };
   ranks = by (frame_length (solid rs) n (solid_lengths rs n long));
   whole = tt;
+  frame = span_frame f.frame (fold_frame (solid rs)) spans few words small;
+  result = tt;
+  names = all_names n 8 None [] bs rs f.grids.items (subst (λ m. each (range_of m 8 None []) bs ≡ Ok rs) is_n found) cut long;
 }
   where
     by : (fold_frame (solid rs) ≡ record { low = pos 0; extent = 0 } ∷ []) ⊎ (length (fold_frame (solid rs)) ≡ n) → All (λ (g : List Grid1). length g ≡ length f.frame) f.grids.items ⊎ IsVoid f.frame

@@ -25,8 +25,8 @@ named_first grids (p ∷ ps) h = (All-head (NamesFirst grids) p ps h, named_firs
 pub covered : (frame : List Grid1) (labels : List Label) → SplitsVectors (map (λ (p : Label). p.0) labels) (has_vector frame) → Covers frame labels
 covered frame labels h v e = h v ∙ ap (λ t. cond t 1 0) e
 
-pub void_covered : (frame : List Grid1) (labels : List Label) → IsVoid frame → Covers frame labels
-void_covered frame labels h v e = absurd (true≢false (sym e ∙ void_vector frame v h))
+pub void_splits : (frame : List Grid1) (labels : List Label) → labels ≡ [] → IsVoid frame → SplitsVectors (map (λ (p : Label). p.0) labels) (has_vector frame)
+void_splits frame labels none h v = (λ i. times_vector (map (λ (p : Label). p.0) (none i)) v) ∙ sym (ap (λ t. cond t 1 0) (void_vector frame v h))
 
 -- where not all generators have the frame's axes it has no index
 pub is_void : (frame : List Grid1) (grids : List (List Grid1)) (n : ℕ) → n ≡ length frame → (All (λ (g : List Grid1). length g ≡ length frame) grids ⊎ IsVoid frame)

@@ -1,9 +1,10 @@
 -- From the frame of an operation's values to that under the facts of its variables.
-use Rattle.std.proofs.Common.{◌≡◌, List, ℕ, ◌++◌, refl, sym, ap, subst, ◌∙◌, Some, Result, Ok, Err}
+use Rattle.std.proofs.Common.{◌≡◌, ◌≤◌, List, ℕ, ◌++◌, refl, sym, ap, subst, ◌∙◌, Some, Result, Ok, Err}
+use Rattle.std.specs.Prelude.{unwrap_or}
 use Rattle.sac_base.specs.declared.base.Base.{Base}
 use Rattle.sac_base.specs.declared.op.Op.{Op}
 use Rattle.sac_base.specs.declared.site.Site.{Site}
-use Rattle.sac_base.specs.Arrays.{ArrayValue}
+use Rattle.sac_base.specs.Arrays.{ArrayValue, size, MOST}
 use Rattle.sac_base.specs.WithLoops.{Bounds, Plan, plan}
 use Rattle.sac_base.specs.WithLoops
 use Rattle.core_ir.specs.declared.tree.Var.{Var}
@@ -49,13 +50,13 @@ module _ (k : Facts) (op : CoreOp) (bs : List Bounds) (r : Result Framed Unplann
 
   pub modarray_known : (x : Var) (shape : List ℕ) → op ≡ making.Modarray x → (k x).shape ≡ Some shape
       → Decides r (λ f. (shape ≡ extents f.frame ++ f.cell) × ((s : Site) (base : Base) (x : Var) → FramesPlan base (making.Modarray x) bs (WithLoops.modarray (cell_form base shape) s) f))
-      ((s : Site) × ((base : Base) × ((planned : Plan) × (plan bs (WithLoops.modarray (cell_form base shape) s) ≡ Ok planned))))
+      ((s : Site) × ((base : Base) × ((planned : Plan) × ((plan bs (WithLoops.modarray (cell_form base shape) s) ≡ Ok planned) × (size shape ≤ MOST)))))
       → Known op
   modarray_known x shape e known h =
       subst Known (sym e) (decides_more r
       (λ f. (shape ≡ extents f.frame ++ f.cell) × ((s : Site) (base : Base) (x : Var) → FramesPlan base (making.Modarray x) bs (WithLoops.modarray (cell_form base shape) s) f))
       (λ f. (s : Site) (base : Base) → FramesKnown k s (making.Modarray x) base bs f)
-      ((s : Site) × ((base : Base) × ((planned : Plan) × (plan bs (WithLoops.modarray (cell_form base shape) s) ≡ Ok planned))))
+      ((s : Site) × ((base : Base) × ((planned : Plan) × ((plan bs (WithLoops.modarray (cell_form base shape) s) ≡ Ok planned) × (size shape ≤ MOST)))))
       (HasPlan k (making.Modarray x) bs)
       (λ f p s base. record {
         operation = WithLoops.modarray (cell_form base shape) s;
@@ -63,7 +64,19 @@ module _ (k : Facts) (op : CoreOp) (bs : List Bounds) (r : Result Framed Unplann
         frames = p.1 s base x;
         shape = known ∙ ap (λ c. Some c) (p.0 ∙ sym (p.1 s base x).whole);
       })
-      (λ q. (q.0, (q.1.0, (q.1.1.1.0, ap (plan bs) (operation_same k q.0 q.1.0 (making.Modarray x) _ q.1.1.0 (shape, (known, refl)) q.1.1.1.1.0) ∙ q.1.1.1.1.1))))
+      (λ q. (
+        q.0,
+        (
+          q.1.0,
+          (
+            q.1.1.1.0,
+            (
+              ap (plan bs) (operation_same k q.0 q.1.0 (making.Modarray x) _ q.1.1.0 (shape, (known, refl)) q.1.1.1.1.0) ∙ q.1.1.1.1.1,
+              subst (λ m. size m ≤ MOST) (ap (λ o. unwrap_or o shape) (sym q.1.1.1.1.2.1.0 ∙ known)) q.1.1.1.1.2.1.1,
+            ),
+          ),
+        ),
+      ))
       h)
 
   pub fold_known : (o : Op) (x : Var) (cell : List ℕ) → op ≡ making.Fold o x → (k x).shape ≡ Some cell

@@ -1,13 +1,15 @@
 -- What is known of a with-loop before its cells.
-use Rattle.std.specs.Prelude.{◌≡◌, ◌⊎◌, ◌++◌, List, [], ◌∷◌, All, map, length, pos, Ok, Some}
+use Rattle.std.specs.Prelude.{◌≡◌, ◌⊎◌, ◌++◌, ◌≤◌, ◌≤ℤ◌, ℕ, true, List, [], ◌∷◌, All, map, length, pos, negsuc, Ok, Some}
 use Rattle.sac_base.specs.declared.base.Base.{Base}
 use Rattle.sac_base.specs.declared.grid.Grid1.{Grid1}
 use Rattle.sac_base.specs.declared.site.Site.{Site}
-use Rattle.sac_base.specs.WithLoops.{Bounds, Operation, Plan, box, plan}
+use Rattle.sac_base.specs.Arrays.{size, MOST}
+use Rattle.sac_base.specs.WithLoops.{Bounds, Operation, Plan, box, names_fit, plan}
 use Rattle.core_ir.specs.declared.tree.CoreOp.{CoreOp}
 use Rattle.core_ir.specs.declared.tree.CoreOp.TheVariants as making
 use Rattle.core_ir.specs.Meaning.{extents}
 use Rattle.core_ir.specs.Terms.{GensTerm}
+use Rattle.core_ir.specs.WellFormed.{IsFrame, IsResultFrame}
 use Rattle.core_facts.specs.Facts.{Facts}
 use Rattle.core_loops.specs.Loops.{AllLiteral, KnownOperation}
 use Rattle.partable_loops.specs.declared.framing.Framed.{Framed}
@@ -23,6 +25,29 @@ IsWhole (making.Genarray x y) p f = p.shape ≡ extents f.frame ++ f.cell
 IsWhole (making.Modarray x) p f = p.shape ≡ extents f.frame ++ f.cell
 IsWhole (making.Fold o x) p f = Unit {0}
 
+-- an axis whose numbers have 32 bits
+pub record IsWordAxis (a : Grid1) : Type 0 where
+  pub least : negsuc 2147483647 ≤ℤ a.lo
+  pub most : a.hi ≤ℤ pos 2147483648
+
+-- an array of the frame's cells may be
+abbrev pub IsResult : CoreOp → List Grid1 → List ℕ → Type 0
+IsResult (making.Genarray x y) frame cell = IsResultFrame frame cell
+IsResult (making.Modarray x) frame cell = IsResultFrame frame cell
+IsResult (making.Fold o x) frame cell = Unit {0}
+
+-- a modarray's array has no more elements than an array may have
+abbrev pub MayStand : Facts → CoreOp → Type 0
+MayStand k (making.Genarray x y) = Unit {0}
+MayStand k (making.Modarray x) = (shape : List ℕ) × (((k x).shape ≡ Some shape) × (size shape ≤ MOST))
+MayStand k (making.Fold o x) = Unit {0}
+
+-- the names of each generator are as many as the axes of its grid
+abbrev pub NamesFitGrids : List Bounds → List (List Grid1) → Type 0
+NamesFitGrids [] [] = Unit {0}
+NamesFitGrids (b ∷ bs) (g ∷ gs) = (names_fit (length g) b.names ≡ true) × NamesFitGrids bs gs
+NamesFitGrids _ _ = ⊥
+
 -- There is a plan, and this is its frame, its grids and its cell.
 pub record FramesPlan (base : Base) (op : CoreOp) (bounds : List Bounds) (operation : Operation) (f : Framed) : Type 0 where
   pub planned : Plan
@@ -34,6 +59,9 @@ pub record FramesPlan (base : Base) (op : CoreOp) (bounds : List Bounds) (operat
   pub form : planned.form ≡ record { base = base; shape = f.cell }
   pub ranks : All (λ g. length g ≡ length f.frame) f.grids.items ⊎ IsVoid f.frame
   pub whole : IsWhole op planned f
+  pub frame : IsFrame f.frame
+  pub result : IsResult op f.frame f.cell
+  pub names : NamesFitGrids bounds f.grids.items
 
 -- the shape that is known
 abbrev pub HasKnown : Facts → CoreOp → Plan → Framed → Type 0
@@ -52,7 +80,7 @@ pub record FramesKnown (k : Facts) (s : Site) (op : CoreOp) (base : Base) (bound
 abbrev pub HasBounds : Facts → GensTerm → Type 0
 HasBounds k gens = (bounds : List Bounds) × AllLiteral k gens bounds
 
--- some operation has a plan
+-- some operation has a plan, on arrays that may be
 abbrev pub HasPlan : Facts → CoreOp → List Bounds → Type 0
 HasPlan k op bounds = (s : Site) × ((base : Base) × ((operation : Operation) × ((planned : Plan) ×
-    (KnownOperation k s base op operation × (plan bounds operation ≡ Ok planned)))))
+    (KnownOperation k s base op operation × (plan bounds operation ≡ Ok planned) × MayStand k op))))

@@ -1,22 +1,24 @@
 -- What a plan says of the with-loop.
 use Rattle.std.specs.List.{list_any}
-use Rattle.std.specs.Prelude.{◌≡◌, ◌⊎◌, ℕ, true, false, List, ◌++◌, map, filter, is_some, length, ℤ, Option, Some}
+use Rattle.std.specs.Prelude.{◌≡◌, ◌⊎◌, ◌≤◌, ℕ, true, false, List, [], ◌++◌, map, filter, is_some, length, ℤ, Option, Some}
 use Rattle.sac_base.specs.declared.base.Base.{Base}
 use Rattle.sac_base.specs.declared.grid.Grid1.{Grid1}
 use Rattle.sac_base.specs.declared.op.Op.{Op}
 use Rattle.sac_base.specs.declared.site.Site.{Site}
-use Rattle.sac_base.specs.Grids.{has_vector, times_vector}
+use Rattle.sac_base.specs.Grids.{SplitsVectors, has_vector, times_vector}
 use Rattle.sac_base.specs.Parts.{Part as ArrayPart, part_at}
 use Rattle.core_ir.specs.declared.tree.Var.{Var}
 use Rattle.core_ir.specs.declared.tree.CoreOp.{CoreOp}
 use Rattle.core_ir.specs.declared.tree.CoreOp.TheVariants as making
 use Rattle.core_ir.specs.Meaning.{extents}
-use Rattle.core_ir.specs.Terms.{GensTerm}
+use Rattle.core_ir.specs.Terms.{GensTerm, NoGens, Gen}
+use Rattle.core_ir.specs.WellFormed.{IsFrame}
 use Rattle.core_facts.specs.Facts.{Facts}
 use Rattle.core_norm.specs.Norm.{NameFirst}
 use Rattle.partable_loops.specs.declared.planning.PartPlan.{PartPlan}
 use Rattle.core_loops.specs.Loops.{IsPartable}
 use Rattle.partable_loops.specs.Counted.{generator_count}
+use Rattle.partable_loops.specs.Framings.{IsResult, MayStand}
 
 -- a grid of a plan, with the first generator that has its members
 abbrev pub Label : Type 0
@@ -28,6 +30,15 @@ needed_parts (making.Genarray x y) labels = labels
 needed_parts (making.Modarray x) labels = labels
 needed_parts (making.Fold o x) labels = filter (λ (p : Label). is_some p.1) labels
 
+-- each generator has no names, or as many as this
+abbrev pub AllNamed : ℕ → GensTerm → Type 0
+AllNamed n NoGens = Unit {0}
+AllNamed n (Gen h b rest) = ((h.names ≡ []) ⊎ (length h.names ≡ n)) × AllNamed n rest
+
+-- a with-loop that can become a parted loop: a partable one whose array may be
+abbrev pub IsPlannable : Facts → ℕ → Site → CoreOp → GensTerm → Type 0
+IsPlannable k above s op gens = IsPartable k above s op gens × MayStand k op
+
 -- Of each operation. The base is that of the default, the array or the neutral value.
 pub record IsPlan (k : Facts) (above : ℕ) (s : Site) (op : CoreOp) (gens : GensTerm) (base : Base) (plan : PartPlan) : Type 0 where
   pub partable : IsPartable k above s op gens
@@ -36,6 +47,14 @@ pub record IsPlan (k : Facts) (above : ℕ) (s : Site) (op : CoreOp) (gens : Gen
   pub form : partable.planned.form ≡ record { base = partable.base; shape = plan.cell }
   pub count : length partable.planned.ranges ≡ generator_count gens
   pub first : NameFirst partable.grids plan.parts.items
+  pub frame : IsFrame plan.frame
+  pub result : IsResult op plan.frame plan.cell
+  -- all indices, split into few grids
+  pub labels : List Label
+  pub splits : SplitsVectors (map (λ (p : Label). p.0) labels) (has_vector plan.frame)
+  pub few : length labels ≤ 64
+  pub needed : plan.parts.items ≡ needed_parts op labels
+  pub names : AllNamed (length plan.frame) gens ⊎ (labels ≡ [])
 
 -- each vector of the frame is in one grid
 abbrev pub Covers : List Grid1 → List Label → Type 0

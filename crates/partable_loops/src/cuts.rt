@@ -1,11 +1,12 @@
 //! A frame, cut into grids by generators.
 
-ghost use Rattle.std.specs.Prelude.{◌≡◌, ◌≤◌, ◌⊎◌, ◌↔◌, IsTrue, IfOk, ℕ, pos, length, filter, is_some, Option};
+ghost use Rattle.std.specs.Prelude.{◌≡◌, ◌≤◌, ◌⊎◌, ◌↔◌, IsTrue, IfOk, ℕ, pos, [], length, map, filter, is_some, Option};
 ghost use Rattle.std.specs.List.{All};
+ghost use Rattle.sac_base.specs.Grids.{SplitsVectors, has_vector};
 ghost use Rattle.core_norm.specs.Norm.{NameFirst};
 ghost use Rattle.generator_sets.specs.Counts.{IsCanonicalCount};
 ghost use Rattle.partable_loops.specs.Framings.{IsVoid};
-ghost use Rattle.partable_loops.specs.Planned.{Covers, CoversHeld, Label};
+ghost use Rattle.partable_loops.specs.Planned.{CoversHeld, Label};
 ghost use Rattle.partable_loops.specs.Refused.{Decides};
 
 use crate::refusal::Unplanned;
@@ -24,7 +25,9 @@ pub fn cut(
     requires ranks { All (λ g. length g ≡ length frame.now) generators.now ⊎ IsVoid frame.now }
     ensures due { (greatest count : ℕ) → IsCanonicalCount generators.now 0 frame.now greatest count
         → Decides result (λ _. (greatest ≤ 4096) × (count ≤ 64)) ((greatest ≤ 4096) × (count ≤ 64)) }
-    ensures cover { IfOk result (λ parts. Covers frame.now parts.items) }
+    ensures splits { IfOk result (λ parts. SplitsVectors (map (λ (p : Label). p.0) parts.items) (has_vector frame.now)) }
+    ensures few { IfOk result (λ parts. length parts.items ≤ 64) }
+    ensures same { IfOk result (λ parts. All (λ g. length g ≡ length frame.now) generators.now ⊎ (parts.items ≡ [])) }
     ensures first { IfOk result (λ parts. NameFirst generators.now parts.items) }
 {
     if !have_axes(generators, frame.axes().len()) {

@@ -4,6 +4,7 @@ ghost use Rattle.std.specs.Prelude.{◌≡◌, ◌≤◌, ◌++◌, Some, Ok, If
 ghost use Rattle.sac_base.specs.declared.base.Base.{Base};
 ghost use Rattle.sac_base.specs.declared.op.Op.{Op};
 ghost use Rattle.sac_base.specs.declared.site.Site.{Site};
+ghost use Rattle.sac_base.specs.Arrays.{size, MOST};
 ghost use Rattle.sac_base.specs.Parts.{shape_of_numbers, vector_of};
 ghost use Rattle.sac_base.specs.WithLoops.{Plan, plan, genarray, modarray, fold_by, shape_spans};
 ghost use Rattle.core_ir.specs.declared.tree.Var.{Var as Variable};
@@ -101,6 +102,8 @@ fn genarray_frame(
     let Some(whole) = front.joined(cell) else {
         return Err(Unplanned::NotPartable);
     };
+    let _ = front.extents();
+    let _ = whole.extents();
     if elements(&front).is_none() || elements(&whole).is_none() {
         return Err(Unplanned::NotPartable);
     }
@@ -118,12 +121,15 @@ fn modarray_frame(alloc: Global, bounds: &[Bounds], shape: &Shape) -> Result<Fra
     ensures { Decides result
         (λ f. (shape.now ≡ extents f.frame ++ f.cell) × ((s : Site) (base : Base) (x : Variable) →
         FramesPlan base (Modarray x) bounds.now (modarray (cell_form base shape.now) s) f))
-        ((s : Site) × ((base : Base) × ((planned : Plan) × (plan bounds.now (modarray (cell_form base shape.now) s) ≡ Ok planned)))) }
+        ((s : Site) × ((base : Base) × ((planned : Plan) ×
+        ((plan bounds.now (modarray (cell_form base shape.now) s) ≡ Ok planned) × (size shape.now ≤ MOST))))) }
 {
     let rank = shape.rank();
     let n = index_length(bounds, rank);
     let front = shape.first(n);
-    if elements(&front).is_none() {
+    let _ = front.extents();
+    let _ = shape.extents();
+    if elements(&front).is_none() || elements(shape).is_none() {
         return Err(Unplanned::NotPartable);
     }
     match ranges_of(alloc, bounds, n, rank, &front, true) {

@@ -4,7 +4,7 @@ ghost use Rattle.std.specs.Prelude.{◌≡◌, ◌≤◌, IfOk, map, length, All
 ghost use Rattle.sac_base.specs.WithLoops.{is_empty_box, shape_spans, span_of};
 ghost use Rattle.array_with_loops.specs.Frames.{joined_frame};
 ghost use Rattle.core_loops.specs.Loops.{axis_of, grid_range, spanned};
-ghost use Rattle.partable_loops.specs.Framings.{IsVoid};
+ghost use Rattle.partable_loops.specs.Framings.{IsVoid, IsWordAxis};
 
 use array_with_loops::{Axis, Range, joined_range};
 use sac_base::{Grid, Grid1, Memory, Shape};
@@ -37,7 +37,9 @@ fn grid_of(alloc: Global, range: &Range) -> Result<Grid, Memory>
 #[tactic(auto, using(crate::proofs::Boxes::some_box, crate::proofs::Boxes::no_box))]
 pub fn grid_of_ranges(alloc: Global, ranges: &[Range]) -> Result<Grid, Memory>
     requires { All (λ r. length r ≤ 8) ranges.now }
-    ensures { IfOk result (λ grid. grid_range grid ≡ map spanned (joined_frame ranges.now)) }
+    ensures spans { IfOk result (λ grid. grid_range grid ≡ map spanned (joined_frame ranges.now)) }
+    ensures words { IfOk result (λ grid. All IsWordAxis grid) }
+    ensures rank { IfOk result (λ grid. length grid ≤ 8) }
 {
     match joined_range(alloc, ranges)? {
         Some(range) => grid_of_box(alloc, &range),
@@ -49,7 +51,9 @@ pub fn grid_of_ranges(alloc: Global, ranges: &[Range]) -> Result<Grid, Memory>
 fn grid_of_box(alloc: Global, range: &Range) -> Result<Grid, Memory>
     requires some { is_empty_box range.now ≡ false }
     requires rank { length range.now ≤ 8 }
-    ensures { IfOk result (λ grid. grid_range grid ≡ map spanned (map span_of range.now)) }
+    ensures spans { IfOk result (λ grid. grid_range grid ≡ map spanned (map span_of range.now)) }
+    ensures words { IfOk result (λ grid. All IsWordAxis grid) }
+    ensures rank { IfOk result (λ grid. length grid ≤ 8) }
 {
     let mut axes = Vec::new(alloc);
     for axis in range.axes() {
@@ -59,8 +63,10 @@ fn grid_of_box(alloc: Global, range: &Range) -> Result<Grid, Memory>
 }
 
 fn without_gaps(axis: &Axis) -> Grid1
-    ensures { axis_of result ≡ record { lower = axis.now.lower; upper = axis.now.upper; step = pos 1; width = pos 1 } }
+    ensures axis { axis_of result ≡ record { lower = axis.now.lower; upper = axis.now.upper; step = pos 1; width = pos 1 } }
+    ensures word { IsWordAxis result }
 {
+    let _ = axis.lower();
     let axis = axis.grid_axis();
     Grid1 {
         lo: axis.lo,
@@ -95,7 +101,9 @@ fn axis_below(extent: i32) -> Grid1
 
 /// One axis without a number.
 fn no_index(alloc: Global) -> Result<Grid, Memory>
-    ensures { IfOk result IsVoid }
+    ensures void { IfOk result IsVoid }
+    ensures words { IfOk result (λ grid. All IsWordAxis grid) }
+    ensures rank { IfOk result (λ grid. length grid ≤ 8) }
 {
     let mut axes = Vec::new(alloc);
     axes.push(axis_below(0))?;

@@ -4,8 +4,7 @@ ghost use Rattle.sac_base.specs.declared.site.Site.{Site};
 ghost use Rattle.core_ir.specs.Terms.{gens_of};
 ghost use Rattle.core_ir.specs.View.{gen_term};
 ghost use Rattle.fact_table.specs.Table.{facts_of};
-ghost use Rattle.core_loops.specs.Loops.{IsPartable};
-ghost use Rattle.partable_loops.specs.Planned.{PlanFits, needed_parts};
+ghost use Rattle.partable_loops.specs.Planned.{IsPlannable, PlanFits, needed_parts};
 ghost use Rattle.partable_loops.specs.Refused.{Decides};
 
 use crate::cuts::{cut, held};
@@ -30,7 +29,8 @@ pub struct PartPlan {
     pub parts: Vec<(Grid, Option<u64>)>,
 }
 
-/// The plan of the parted loop that a with-loop can become. There is none exactly where the with-loop is not partable.
+/// The plan of the parted loop that a with-loop can become. There is none exactly where the with-loop is not partable, or the known shape of a modarray's
+/// array is of more elements than an array may have.
 ///
 /// The table has what is known of variables before the with-loop; `above` is one more than the greatest number of a variable of the function.
 ///
@@ -47,7 +47,7 @@ pub fn part_plan(
     ensures planned { IfOk result (λ found. IfSome found (λ plan. (s : Site) (base : Base) →
         PlanFits (facts_of table.now) above s op (gens_of (map gen_term gens.now)) base plan)) }
     ensures refused { IfOk result (λ found. IfNone found ((s : Site) →
-        IsPartable (facts_of table.now) above s op (gens_of (map gen_term gens.now)) → ⊥)) }
+        IsPlannable (facts_of table.now) above s op (gens_of (map gen_term gens.now)) → ⊥)) }
 {
     match planned(alloc, table, above, op, gens) {
         Ok(plan) => Ok(Some(plan)),
@@ -65,7 +65,7 @@ fn planned(
 ) -> Result<PartPlan, Unplanned>
     ensures { Decides result
         (λ plan. (s : Site) (base : Base) → PlanFits (facts_of table.now) above s op (gens_of (map gen_term gens.now)) base plan)
-        ((s : Site) × IsPartable (facts_of table.now) above s op (gens_of (map gen_term gens.now))) }
+        ((s : Site) × IsPlannable (facts_of table.now) above s op (gens_of (map gen_term gens.now))) }
 {
     let bounds = literal_bounds(alloc, table, gens)?;
     let framed = frame_of(alloc, table, op, &bounds)?;

@@ -20,6 +20,9 @@ returns-in-Ok c =
           c.in-Ok.ensures.lengths
           (passed (box_size (joined_frame rs)) MOST (ap (λ r. nat_le (box_size (joined_frame r)) MOST) (sym c.deref.ensures.value) ∙ sym c.in_ok-of_ranges-in-Ok.ensures.none ∙ some))
           (c.in_ok-grids_of-in-Ok.ensures ∙ c.deref-in-Ok.ensures.value)
-          (c.in_ok-grid_of_ranges-in-Ok.ensures ∙ ap (λ r. map spanned (joined_frame r)) c.deref-in-Ok-2.ensures.value)
-          c.copy.ensures,
+          (c.in_ok-grid_of_ranges-in-Ok.ensures.spans ∙ ap (λ r. map spanned (joined_frame r)) c.deref-in-Ok-2.ensures.value)
+          c.copy.ensures
+          c.in_ok-grid_of_ranges-in-Ok.ensures.words
+          c.in_ok-grid_of_ranges-in-Ok.ensures.rank
+          (sym c.index_length-n.ensures),
     )

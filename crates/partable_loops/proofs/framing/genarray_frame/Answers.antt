@@ -1,6 +1,7 @@
 use Rattle.std.proofs.Common.{◌≡◌, ◌≤◌, ◌∙◌, sym, subst, rules, length, true, All, Some, Ok}
 use Rattle.std.specs.Prelude.{is_some}
 use Rattle.sac_base.specs.Arrays.{size, MOST}
+use Rattle.sac_base.specs.Shapes.{IsShape}
 use Rattle.sac_base.specs.WithLoops.{Range, each, range_of}
 use Rattle.array_with_loops.proofs.CellSteps.{some_small}
 use Rattle.partable_loops.proofs.Framers.{genarray_frames, joined_short}
@@ -25,5 +26,7 @@ returns-in-Ok c =
           (subst (λ n. All (λ (r : Range). length r ≡ n) rs) c.rank.ensures.value c.in-Ok.ensures.lengths)
           (c.in_ok-grids_of-in-Ok.ensures ∙ c.deref.ensures.value)
           c.in_ok-grid_of_shape-in-Ok.ensures
-          c.copy.ensures,
+          c.copy.ensures
+          c.extents.ensures.shape
+          (subst IsShape c.in-Some-joined.ensures.value c.extents-2.ensures.shape),
     )

@@ -1,6 +1,7 @@
 use Rattle.std.proofs.Common.{◌≡◌, ◌≤◌, ◌∙◌, ap, sym, subst, rules, length, true, All, Some, take, drop, min, map}
 use Rattle.std.specs.Prelude.{is_some}
 use Rattle.sac_base.specs.Arrays.{size, MOST}
+use Rattle.sac_base.specs.Shapes.{IsShape}
 use Rattle.sac_base.specs.WithLoops.{Range, each, index_length, range_of, shape_spans}
 use Rattle.array_with_loops.proofs.CellSteps.{some_small}
 use Rattle.partable_loops.specs.declared.framing.Framed.{Framed}
@@ -17,6 +18,7 @@ returns-in-Ok c =
     let n : c.index_length-n.result ≡ index_length bs (length shape) = c.index_length-n.ensures ∙ ap (index_length bs) rank in
     let front : c.first-front.result ≡ take (index_length bs (length shape)) shape = c.first-front.ensures ∙ ap (λ m. take m shape) n in
     let some : is_some c.elements.result ≡ true = search rules in
+    let whole : is_some c.elements-else-is_none.result ≡ true = search rules in
     let spans = c.in_ok-grid_of_shape-in-Ok.ensures ∙ ap (λ s. map spanned (shape_spans s)) front in
     let cell : c.rest.result ≡ drop (min (index_length bs (length shape)) (length shape)) shape =
     c.rest.ensures ∙ ap (λ m. drop m shape) (c.min.ensures ∙ (λ i. min (n i) (rank i))) in
@@ -28,5 +30,8 @@ returns-in-Ok c =
           (subst (λ m. All (λ (r : Range). length r ≡ m) rs) n c.in-Ok.ensures.lengths)
           (c.in_ok-grids_of-in-Ok.ensures ∙ c.deref.ensures.value)
           spans
-          cell,
+          cell
+          (subst IsShape front c.extents.ensures.shape)
+          c.extents-2.ensures.shape
+          (some_small _ _ _ c.elements-else-is_none.ensures whole),
     )

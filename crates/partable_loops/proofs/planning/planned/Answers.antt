@@ -1,4 +1,4 @@
-use Rattle.std.proofs.Common.{◌≡◌, ◌⊎◌, map, length, refl, sym, subst, rules, All, List}
+use Rattle.std.proofs.Common.{◌≡◌, ◌⊎◌, [], map, length, refl, sym, subst, rules, All, List}
 use Rattle.sac_base.specs.declared.base.Base.TheVariants.{Int}
 use Rattle.sac_base.specs.declared.grid.Grid1.{Grid1}
 use Rattle.core_ir.specs.Terms.{gens_of}
@@ -53,7 +53,9 @@ returns c s base =
     plan_fits k c.args.above s base gens c.deref.result.now f parts literal
     (record {
       due = λ greatest count counted. c.in_ok-parts.ensures.due greatest count (subst (λ gs. IsCanonicalCount gs 0 f.frame greatest count) (sym c.deref-2.ensures.value) counted);
-      cover = c.in_ok-parts.ensures.cover;
+      splits = c.in_ok-parts.ensures.splits;
+      few = c.in_ok-parts.ensures.few;
+      same = subst (λ gs. All (λ (g : List Grid1). length g ≡ length f.frame) gs ⊎ (parts ≡ [])) c.deref-2.ensures.value c.in_ok-parts.ensures.same;
       first = subst (λ gs. NameFirst gs parts) c.deref-2.ensures.value c.in_ok-parts.ensures.first;
     })
     room.0 room.1 c.args.op (record { frame = f.frame; cell = f.cell; parts = c.needed.result }) (c.in_ok-framed.ensures s base) refl refl c.needed.ensures
