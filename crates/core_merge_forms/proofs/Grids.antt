@@ -70,7 +70,7 @@ and_assoc : (a b c : Bool) → (a && (b && c)) ≡ ((a && b) && c)
 and_assoc true b c = refl
 and_assoc false b c = refl
 
-split_has : (f g : List Grid1) (x : List ℤ) → has_vector (f ++ g) x ≡ (has_vector f (take (length f) x) && has_vector g (drop (length f) x))
+pub split_has : (f g : List Grid1) (x : List ℤ) → has_vector (f ++ g) x ≡ (has_vector f (take (length f) x) && has_vector g (drop (length f) x))
 split_has [] g x = refl
 split_has (a ∷ f) g [] = refl
 split_has (a ∷ f) g (z ∷ x) = ap (λ b. has_index a z && b) (split_has f g x) ∙ and_assoc (has_index a z) (has_vector f (take (length f) x)) (has_vector g (drop (length f) x))

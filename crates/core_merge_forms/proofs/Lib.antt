@@ -8,3 +8,4 @@ pub mod Places
 pub mod Laws
 pub mod Stepped
 pub mod Whole
+pub mod Placing
