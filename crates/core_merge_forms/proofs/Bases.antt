@@ -135,9 +135,11 @@ module _ (core next : CoreTerm) (z : Var) where
       straight_bases S u v g wider ts h.1 a.0 st.0 n.1 k m.1 (distinct_left (bound_in u) (bound_in b) d) (distinct_left (bound_in v) (bound_in c) e),
       straight_bases S b c g wider ts h.2 a.1 st.1 n.2 k m.2 (distinct_right (bound_in u) (bound_in b) d) (distinct_right (bound_in v) (bound_in c) e),
     )
-    right_bases S (Plain p) (RightTerm.If y v c) g wider ts h a st n k m d e = absurd h
-    right_bases S (RightTerm.If x u b) (Plain q) g wider ts h a st n k m d e = absurd h
-    right_bases S _ _ g wider ts h a st n k m d e = absurd st
+    right_bases S (RightTerm.Loop first start params test body u) q g wider ts h a st n k m d e = absurd st
+    right_bases S (RightTerm.Call f xs) q g wider ts h a st n k m d e = absurd st
+    right_bases S (RightTerm.With o gens) q g wider ts h a st n k m d e = absurd st
+    right_bases S (RightTerm.Parted f b c o parts) q g wider ts h a st n k m d e = absurd st
+    right_bases S _ _ g wider ts h a st n k m d e = absurd h
 
 -- ---- bases of one table, in any order
 
@@ -145,11 +147,11 @@ module _ (t : BaseTable) where
   -- more bindings hide none of the table
   kept_more : (xs : List Var) (full : Bases) → Within t full → Kept full (zip xs (map t xs) ++ full)
   kept_more [] full w y u h = h
-  kept_more (x ∷ xs) full w y u h = go (eqb x.0 y.0) refl
+  kept_more (x ∷ xs) full w y u h = go (eqb x.0 y.0) refl (kept_more xs full w y u h)
     where
-      go : (b : Bool) → eqb x.0 y.0 ≡ b → cond (eqb x.0 y.0) (Some (t x)) (base_of (zip xs (map t xs) ++ full) y) ≡ Some u
-      go true e = (λ i. cond (e i) (Some (t x)) (base_of (zip xs (map t xs) ++ full) y)) ∙ ap Some (ap t (same_number x y e) ∙ sym (w y u h))
-      go false e = (λ i. cond (e i) (Some (t x)) (base_of (zip xs (map t xs) ++ full) y)) ∙ kept_more xs full w y u h
+      go : (b : Bool) → eqb x.0 y.0 ≡ b → base_of (zip xs (map t xs) ++ full) y ≡ Some u → cond (eqb x.0 y.0) (Some (t x)) (base_of (zip xs (map t xs) ++ full) y) ≡ Some u
+      go true e r = (λ i. cond (e i) (Some (t x)) (base_of (zip xs (map t xs) ++ full) y)) ∙ ap Some (ap t (same_number x y e) ∙ sym (w y u h))
+      go false e r = (λ i. cond (e i) (Some (t x)) (base_of (zip xs (map t xs) ++ full) y)) ∙ r
 
   kept_zip : (xs : List Var) (us : List Base) (full : Bases) → us ≡ map t xs → Within t full → Kept full (zip xs us ++ full)
   kept_zip xs us full e w = subst (λ (vs : List Base). Kept full (zip xs vs ++ full)) (sym e) (kept_more xs full w)

@@ -27,11 +27,14 @@ rest_apart g gs h = λ i j d l m. h (suc i) (suc j) d (omega (arith, l)) (omega 
 first_apart : (g : List Grid1) (gs : List (List Grid1)) → AllPairs AreDisjoint (g ∷ gs) → All (AreDisjoint g) gs
 first_apart g gs h = λ j d l. h 0 (suc j) d (omega arith) (omega (arith, l))
 
+nought : (n : ℕ) → 0 + n ≡ n
+nought n = omega arith
+
 none_else : (g : List Grid1) (v : List ℤ) → has_vector g v ≡ true → (gs : List (List Grid1)) → All (AreDisjoint g) gs → counted gs v ≡ 0
 none_else g v e [] h = refl
 none_else g v e (k ∷ gs) h =
     let out : has_vector k v ≡ false = (λ i. sym e i && has_vector k v) ∙ All-head (AreDisjoint g) k gs h v in
-    (λ i. cond (out i) 1 0 + counted gs v) ∙ none_else g v e gs (All-tail (AreDisjoint g) k gs h)
+    (λ i. cond (out i) 1 0 + counted gs v) ∙ nought (counted gs v) ∙ none_else g v e gs (All-tail (AreDisjoint g) k gs h)
 
 abbrev Inside : List Grid1 → List (List Grid1) → Type 0
 Inside frame gs = All (λ (g : List Grid1). (index : List ℤ) → has_vector g index ≡ true → has_vector frame index ≡ true) gs
@@ -39,7 +42,7 @@ Inside frame gs = All (λ (g : List Grid1). (index : List ℤ) → has_vector g 
 outside : (frame : List Grid1) (v : List ℤ) → has_vector frame v ≡ false → (gs : List (List Grid1)) → Inside frame gs → counted gs v ≡ 0
 outside frame v e [] h = refl
 outside frame v e (g ∷ gs) h =
-    (λ i. cond (out (has_vector g v) refl i) 1 0 + counted gs v)
+    (λ i. cond (out (has_vector g v) refl i) 1 0 + counted gs v) ∙ nought (counted gs v)
     ∙ outside frame v e gs (All-tail (λ (g : List Grid1). (index : List ℤ) → has_vector g index ≡ true → has_vector frame index ≡ true) g gs h)
   where
     out : (b : Bool) → has_vector g v ≡ b → has_vector g v ≡ false
@@ -55,7 +58,7 @@ there_once v (k ∷ gs) h (suc i) g l e q = go (has_vector k v) refl (there_once
   where
     go : (b : Bool) → has_vector k v ≡ b → counted gs v ≡ 1 → cond (has_vector k v) 1 0 + counted gs v ≡ 1
     go true p r = absurd (let z : 0 ≡ 1 = sym (none_else k v p gs (first_apart k gs h)) ∙ r in cc)
-    go false p r = (λ i. cond (p i) 1 0 + counted gs v) ∙ r
+    go false p r = (λ i. cond (p i) 1 0 + counted gs v) ∙ nought (counted gs v) ∙ r
 
 fit_counts : (frame : List Grid1) (gs : List (List Grid1)) → Fit frame gs → Covered frame gs → (v : List ℤ) → counted gs v ≡ cond (has_vector frame v) 1 0
 fit_counts frame gs f c v = go (has_vector frame v) refl
@@ -99,14 +102,11 @@ join_has frame h g x inside = split_has h g x ∙ go (has_vector h (take (length
     go false e = (λ i. e i && has_vector g (drop (length h) x)) ∙ sym (λ i. out e (has_vector h (take (length frame) x)) refl i && has_vector g (drop (length frame) x))
 
 counted_both : (gs ks : List (List Grid1)) (v : List ℤ) → counted (gs ++ ks) v ≡ counted gs v + counted ks v
-counted_both [] ks v = refl
+counted_both [] ks v = sym (nought (counted ks v))
 counted_both (g ∷ gs) ks v = ap (λ n. cond (has_vector g v) 1 0 + n) (counted_both gs ks v) ∙ more (cond (has_vector g v) 1 0) (counted gs v) (counted ks v)
   where
     more : (a b c : ℕ) → a + (b + c) ≡ (a + b) + c
     more a b c = omega arith
-
-nothing : (h : Bool) (b : Bool) (c : ℕ) → h ≡ false → cond (h && b) 1 0 + c ≡ c
-nothing h b c e = λ i. cond (e i && b) 1 0 + c
 
 module _ (frame inner : List Grid1) (x : List ℤ) where
   abbrev front : List ℤ
@@ -119,13 +119,13 @@ module _ (frame inner : List Grid1) (x : List ℤ) where
       → counted (map (λ (g : List Grid1). h ++ g) gs) x ≡ cond (has_vector h front) (counted gs back) 0
   joined_one h inside [] = zeros (has_vector h front)
     where
-      zeros : (b : Bool) → 0 ≡ cond b 0 0
+      zeros : (b : Bool) → ◌≡◌ {A = ℕ} 0 (cond b 0 0)
       zeros true = refl
       zeros false = refl
   joined_one h inside (g ∷ gs) =
       (λ i. cond (join_has frame h g x inside i) 1 0 + joined_one h inside gs i) ∙ go (has_vector h front)
     where
-      go : (b : Bool) → cond (b && has_vector g back) 1 0 + cond b (counted gs back) 0 ≡ cond b (cond (has_vector g back) 1 0 + counted gs back) 0
+      go : (b : Bool) → ◌≡◌ {A = ℕ} (cond (b && has_vector g back) 1 0 + cond b (counted gs back) 0) (cond b (cond (has_vector g back) 1 0 + counted gs back) 0)
       go true = refl
       go false = refl
 
@@ -151,7 +151,7 @@ module _ (frame inner : List Grid1) (x : List ℤ) where
       within : counted p.1 back ≡ cond b 1 0
       within = fit_counts inner p.1 (All-head Fits p ps k).0 (All-head Fits p ps k).1 back ∙ (λ i. cond (e i) 1 0)
 
-      both : (a b : Bool) (n : ℕ) → cond a (cond b 1 0) 0 + cond b n 0 ≡ cond b (cond a 1 0 + n) 0
+      both : (a b : Bool) (n : ℕ) → ◌≡◌ {A = ℕ} (cond a (cond b 1 0) 0 + cond b n 0) (cond b (cond a 1 0 + n) 0)
       both true true n = refl
       both true false n = refl
       both false true n = refl
@@ -166,7 +166,7 @@ module _ (frame inner : List Grid1) (x : List ℤ) where
       ∙ go (has_vector frame front) (has_vector inner back)
       ∙ sym (λ i. cond (split_has frame inner x i) 1 0)
     where
-      go : (a b : Bool) → cond b (cond a 1 0) 0 ≡ cond (a && b) 1 0
+      go : (a b : Bool) → ◌≡◌ {A = ℕ} (cond b (cond a 1 0) 0) (cond (a && b) 1 0)
       go true true = refl
       go true false = refl
       go false true = refl

@@ -59,12 +59,15 @@ calls_append P (Part h c rest) q s t = (s.0, calls_append P rest q s.1 t)
 sums : (a b c : ℕ) → a + (b + c) ≡ (a + b) + c
 sums a b c = omega arith
 
+nought : (n : ℕ) → n ≡ 0 + n
+nought n = omega arith
+
 weight_append : (p q : PartsTerm) → weight_parts (append_parts p q) ≡ weight_parts p + weight_parts q
-weight_append NoParts q = refl
+weight_append NoParts q = nought (weight_parts q)
 weight_append (Part h b rest) q = ap (λ n. weight b + n) (weight_append rest q) ∙ sums (weight b) (weight_parts rest) (weight_parts q)
 
 parted_append : (p q : PartsTerm) → parted_in_parts (append_parts p q) ≡ parted_in_parts p + parted_in_parts q
-parted_append NoParts q = refl
+parted_append NoParts q = nought (parted_in_parts q)
 parted_append (Part h b rest) q = ap (λ n. parted_in b + n) (parted_append rest q) ∙ sums (parted_in b) (parted_in_parts rest) (parted_in_parts q)
 
 avoids_front : (z : Var) (ls ms : List LetTerm) → AvoidsLets z (ls ++ ms) → AvoidsLets z ls

@@ -91,9 +91,11 @@ module _ (z : Var) where
       straight_scoped S u v scope wider h.1 st.0 a.1 k s.1 (distinct_left (bound_in v) (bound_in e) d) (away_left (bound_in v) (bound_in e) wider w),
       straight_scoped S b e scope wider h.2 st.1 a.2 k s.2 (distinct_right (bound_in v) (bound_in e) d) (away_right (bound_in v) (bound_in e) wider w),
     )
-    right_scoped S (Plain p) (RightTerm.If y v e) scope wider h st a k s d w = absurd h
-    right_scoped S (RightTerm.If x u b) (Plain q) scope wider h st a k s d w = absurd h
-    right_scoped S _ _ scope wider h st a k s d w = absurd st
+    right_scoped S (RightTerm.Loop first start params test body u) q scope wider h st a k s d w = absurd st
+    right_scoped S (RightTerm.Call g xs) q scope wider h st a k s d w = absurd st
+    right_scoped S (RightTerm.With o gens) q scope wider h st a k s d w = absurd st
+    right_scoped S (RightTerm.Parted f b c o parts) q scope wider h st a k s d w = absurd st
+    right_scoped S _ _ scope wider h st a k s d w = absurd h
 
   -- Bindings in front of X are copied in front of a copy of Y: `full` has what is in scope, but for the variable.
   pub lets_scoped :

@@ -45,9 +45,9 @@ module _ (called : ℕ → List (Option (List ℕ))) (grid : List Grid1) where
     right_straight : (r : RightTerm) (k : Facts) (m : IndexFacts) → total_right called grid r k m ≡ true → StraightRight r
     right_straight (Plain p) k m h = tt
     right_straight (RightTerm.If x a b) k m h =
-        let w = both_true (is_scalar_shape (k x).shape) (total_block called grid a k m && total_block called grid b k m) h in
-        let v = both_true (total_block called grid a k m) (total_block called grid b k m) w.1 in
-        (total_straight a k m v.0, total_straight b k m v.1)
+        let w = both_true (is_scalar_shape (k x).shape && total_block called grid a k m) (total_block called grid b k m) h in
+        let v = both_true (is_scalar_shape (k x).shape) (total_block called grid a k m) w.0 in
+        (total_straight a k m v.1, total_straight b k m w.1)
     right_straight (RightTerm.Loop first start params test body s) k m h = absurd (cc)
     right_straight (RightTerm.Call g xs) k m h = absurd (cc)
     right_straight (RightTerm.With o gens) k m h = absurd (cc)
@@ -90,13 +90,16 @@ mutual
   no_parted_right (RightTerm.If x a b) h = λ i. no_parted a h.0 i + no_parted b h.1 i
   no_parted_right _ h = absurd h
 
+nought : (n : ℕ) → 0 + n ≡ n
+nought n = omega arith
+
 pub chain_weight : (ls : List LetTerm) (b : BlockTerm) → StraightLets ls → weight (chain ls b) ≡ weight b
 chain_weight [] b h = refl
-chain_weight (l ∷ ls) b h = λ i. no_weight_right l.right h.0 i + chain_weight ls b h.1 i
+chain_weight (l ∷ ls) b h = (λ i. no_weight_right l.right h.0 i + chain_weight ls b h.1 i) ∙ nought (weight b)
 
 pub chain_parted : (ls : List LetTerm) (b : BlockTerm) → StraightLets ls → parted_in (chain ls b) ≡ parted_in b
 chain_parted [] b h = refl
-chain_parted (l ∷ ls) b h = λ i. no_parted_right l.right h.0 i + chain_parted ls b h.1 i
+chain_parted (l ∷ ls) b h = (λ i. no_parted_right l.right h.0 i + chain_parted ls b h.1 i) ∙ nought (parted_in b)
 
 -- ---- they call nothing
 
