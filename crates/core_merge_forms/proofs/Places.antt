@@ -118,9 +118,9 @@ module _ (h : PartHead) (before after : List LetTerm) (z : Var) (s : Site) (f : 
       subst (λ (y : BlockTerm). Away (bound_in y) (j.index ∷ scope)) x.whole (away_left (bound_in e) (bound_in_parts pieces) (own ++ scope) (away_below own more scope d w)) in (
         w j.index (names.itself j.index more),
         subst (Scoped (j.index ∷ scope)) (sym x.whole)
-        (makes_scoped j.index x.outer x.inner (length h.grid) (length g.grid) x.makes x.made x.body (j.index ∷ scope) (names.itself j.index scope) de we
-        (λ v sub p q. merged_scoped z s before after f base [] whole h.index x.outer g c x.body x.inner scope v sc sb sa (avoids_front z before after av) (avoids_back z before after av)
-        (emb g c (inl (refl, refl))) (copied g c j e x) (λ y r. sub y (behind_first y j.index scope r)) p q)),
+            (makes_scoped j.index x.outer x.inner (length h.grid) (length g.grid) x.makes x.made x.body (j.index ∷ scope) (names.itself j.index scope) de we
+            (λ v sub p q. merged_scoped z s before after f base [] whole h.index x.outer g c x.body x.inner scope v sc sb sa (avoids_front z before after av) (avoids_back z before after av)
+            (emb g c (inl (refl, refl))) (copied g c j e x) (λ y r. sub y (behind_first y j.index scope r)) p q)),
         pieces_scoped scope sc rest pieces m.3 (λ i y n. emb i y (inr n)) (distinct_right (bound_in e) (bound_in_parts pieces) dr) (away_right (bound_in e) (bound_in_parts pieces) scope (away_right own more scope w)),
       )
 
@@ -147,10 +147,10 @@ module _ (h : PartHead) (before after : List LetTerm) (z : Var) (s : Site) (f : 
         let like : Alike (chain before (chain after c)) x.body = subst (λ (y : BlockTerm). Alike y x.body) (chain_append before after c) a.0 in
         let low = n j.index (names.itself j.index more) in (
           subst (λ (y : BlockTerm). BlockBases next ((j.index, Int) ∷ g) y (base ∷ [])) (sym x.whole)
-          (makes_bases next j.index x.outer x.inner (length h.grid) (length p.grid) x.makes x.made x.body ((j.index, Int) ∷ g) (base ∷ [])
-          (short_row h.grid p.grid j.grid w.0 (All-head (λ (x : List Grid1). length x ≤ 8) j.grid (part_grids pieces) short)) (own_base g j.index Int) de ne
-          (λ v sub q r. merged_bases core next into t z s before after f base [] whole h.index x.outer p c x.body x.inner g v m fo number within sb sa (avoids_front z before after av) (avoids_back z before after av)
-          st index (copied p c j e x) like (λ y u k. sub y u (Rattle.core_merge_forms.proofs.Makes.kept_one g j.index Int low y u k)) once q)),
+              (makes_bases next j.index x.outer x.inner (length h.grid) (length p.grid) x.makes x.made x.body ((j.index, Int) ∷ g) (base ∷ [])
+              (short_row h.grid p.grid j.grid w.0 (All-head (λ (x : List Grid1). length x ≤ 8) j.grid (part_grids pieces) short)) (own_base g j.index Int) de ne
+              (λ v sub q r. merged_bases core next into t z s before after f base [] whole h.index x.outer p c x.body x.inner g v m fo number within sb sa (avoids_front z before after av) (avoids_back z before after av)
+              st index (copied p c j e x) like (λ y u k. sub y u (Rattle.core_merge_forms.proofs.Makes.kept_one g j.index Int low y u k)) once q)),
           pieces_bases rest pieces w.3 a.1 (λ i y k. emb i y (inr k)) (distinct_right (bound_in e) (bound_in_parts pieces) dr)
               (λ y q. n y (in_right y own more (in_right y (bound_in e) (bound_in_parts pieces) q))) (All-tail (λ (x : List Grid1). length x ≤ 8) j.grid (part_grids pieces) short),
         )
@@ -161,8 +161,8 @@ module _ (h : PartHead) (before after : List LetTerm) (z : Var) (s : Site) (f : 
   pieces_calls P (Part g c rest) (Part j e pieces) m k =
       let x = m.2 in (
         subst (CallsAll P) (sym x.whole)
-        (chain_calls P x.makes x.body (makes_straight j.index x.outer x.inner (length h.grid) (length g.grid) x.makes x.made)
-        (copy_calls P (under (under itself h.index x.outer) g.index x.inner) (chain (before ++ after) c) x.body x.renamed (chain_calls P (before ++ after) c (straight_both before after sb sa) k.0))),
+            (chain_calls P x.makes x.body (makes_straight j.index x.outer x.inner (length h.grid) (length g.grid) x.makes x.made)
+            (copy_calls P (under (under itself h.index x.outer) g.index x.inner) (chain (before ++ after) c) x.body x.renamed (chain_calls P (before ++ after) c (straight_both before after sb sa) k.0))),
         pieces_calls P rest pieces m.3 k.1,
       )
 
