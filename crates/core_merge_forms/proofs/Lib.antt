@@ -9,3 +9,4 @@ pub mod Laws
 pub mod Stepped
 pub mod Whole
 pub mod Placing
+pub mod Built

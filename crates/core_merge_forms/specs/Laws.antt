@@ -1,18 +1,25 @@
 -- The statements of the laws.
-use Rattle.std.specs.Prelude.{◌≡◌, ℕ, ◌+◌, ◌<◌, ◌≤◌, List, [], ◌∷◌, ◌++◌, All, Option, map}
+use Rattle.std.specs.Prelude.{◌≡◌, ℕ, ◌+◌, ◌<◌, ◌≤◌, true, false, eqb, length, List, [], ◌∷◌, ◌++◌, All, Option, map}
 use Rattle.sac_base.specs.declared.grid.Grid1.{Grid1}
 use Rattle.core_ir.specs.declared.tree.Var.{Var}
-use Rattle.core_ir.specs.Binders.{bound_in}
+use Rattle.sac_base.specs.declared.site.Site.{Site}
+use Rattle.core_ir.specs.Binders.{is_in, bound_in}
 use Rattle.core_ir.specs.Edits.{Edited}
-use Rattle.core_ir.specs.Terms.{BlockTerm, CoreTerm}
+use Rattle.core_ir.specs.Scopes.{Scoped}
+use Rattle.core_ir.specs.Terms.{BlockTerm, CoreTerm, LetTerm, PartHead, chain}
+use Rattle.core_ir.specs.Uses.{targets_of}
 use Rattle.core_ir.specs.WellFormed.{Covered, Distinct, Fit, IsWellFormed}
 use Rattle.core_calls.specs.Arrays.{SameOutcomeOnArrays}
 use Rattle.core_facts.specs.Facts.{Facts}
 use Rattle.core_loops.specs.Loops.{parted_in, weight}
 use Rattle.core_loops.specs.Steps.{fact_ways}
 use Rattle.core_subst.specs.Names.{above_function}
+use Rattle.core_copy.specs.Mapped.{mapped}
+use Rattle.core_merge_steps.specs.Step.{MergedBody}
+use Rattle.core_norm_forms.specs.Alike.{Alike}
 use Rattle.core_norm_forms.specs.Copied.{IsPlaced}
 use Rattle.core_norm_forms.specs.Walks.{core_weight}
+use Rattle.core_merge_forms.specs.Built.{merged_body, picks}
 use Rattle.core_merge_forms.specs.Fresh.{MergesFresh}
 use Rattle.core_merge_forms.specs.Walks.{BlockMerges, FunctionMerges, MergeSteps, core_parted}
 
@@ -63,3 +70,18 @@ NumbersStayBelow =
 -- steps after steps are steps
 abbrev pub StepsGoOn : Type 0
 StepsGoOn = (n m : ℕ) (a b c : CoreTerm) → MergeSteps n a b → MergeSteps m b c → MergeSteps (n + m) a c
+
+-- A body so built is a merged body: f keeps apart the variables in scope and those that the copied block binds, and leaves what is in scope outside of both
+-- loops; the new index, the constants and the components are distinct, and stand for none of these.
+abbrev pub BodiesAreMerged : Type 0
+BodiesAreMerged =
+    (f : Var → Var) (s : Site) (h g j : PartHead) (before after : List LetTerm) (c : BlockTerm) (outside front back cs : List Var) →
+    Scoped ((g.index ∷ h.index ∷ []) ++ outside) (chain (before ++ after) c) → Distinct (g.index ∷ h.index ∷ []) →
+    ((x y : Var) → is_in x (bound_in (chain (before ++ after) c) ++ ((g.index ∷ h.index ∷ []) ++ outside)) ≡ true →
+    is_in y (bound_in (chain (before ++ after) c) ++ ((g.index ∷ h.index ∷ []) ++ outside)) ≡ true → eqb (f x).0 (f y).0 ≡ eqb x.0 y.0) →
+    ((x : Var) → is_in x outside ≡ true → f x ≡ x) → length front ≡ length h.grid → length back ≡ length g.grid → length cs ≡ length (front ++ back) →
+    Distinct (j.index ∷ targets_of (picks s j.index 0 (front ++ back) cs)) →
+    ((x y : Var) → is_in x (j.index ∷ targets_of (picks s j.index 0 (front ++ back) cs)) ≡ true →
+    is_in y (bound_in (chain (before ++ after) c) ++ ((g.index ∷ h.index ∷ []) ++ outside)) ≡ true → eqb x.0 (f y).0 ≡ false) →
+    MergedBody h before after g c j (merged_body s j.index front back cs f h.index g.index (before ++ after) c)
+    × Alike (chain (before ++ after) c) (mapped f (chain (before ++ after) c))

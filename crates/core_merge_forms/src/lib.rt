@@ -1,7 +1,7 @@
 //! Laws: a core in which loops were merged with the loops in their cells is well formed, and has fewer parted loops.
 #![tactic(auto)]
 
-ghost use Rattle.core_merge_forms.specs.Laws.{PartedLoopsFall, BindersStayDistinct, BlocksStayPlaced, JoinedGridsFit};
+ghost use Rattle.core_merge_forms.specs.Laws.{PartedLoopsFall, BindersStayDistinct, BlocksStayPlaced, JoinedGridsFit, BodiesAreMerged};
 ghost use Rattle.core_merge_forms.specs.Laws.{MergesKeep, NumbersStayBelow, StepsGoOn};
 
 /// Law: where one loop of a block is merged with the loops in its cells, its weight stays, and it has fewer parted loops.
@@ -19,6 +19,11 @@ pub fn merged_parts_are_distinct()
 /// Law: the grids of a loop joined with those of the loops in its cells fit the joined frame and cover it.
 pub fn joined_grids_fit()
     ensures { JoinedGridsFit }
+{}
+
+/// Law: a copy of the outer bindings and of an inner part's body, behind bindings that make the two old indices from the new one, is a merged body.
+pub fn bodies_are_merged()
+    ensures { BodiesAreMerged }
 {}
 
 /// Law: a core in one function of which loops were merged, one after another and with new variables, has the same outcome on arrays, is
