@@ -1,18 +1,18 @@
 -- A copy behind bindings that make the two old indices is a merged body.
-use Rattle.std.proofs.Common.{◌≡◌, ℕ, suc, Bool, true, false, not, ◌&&◌, ◌||◌, eqb, List, [], ◌∷◌, ◌++◌, length, refl, sym, ap, subst, ◌∙◌, ◌⊎◌, inl, inr, arith}
+use Rattle.std.proofs.Common.{◌≡◌, ℕ, suc, Bool, true, false, ◌||◌, eqb, List, [], ◌∷◌, ◌++◌, length, refl, sym, ap, subst, ◌∙◌, arith}
 use Rattle.std.proofs.lemmas.Bool.{eq-eqb}
 use Rattle.sac_base.specs.declared.site.Site.{Site}
 use Rattle.core_ir.specs.declared.tree.Var.{Var}
 use Rattle.core_ir.specs.Binders.{is_in, bound_in}
 use Rattle.core_ir.specs.Renaming.{Renamed, under}
 use Rattle.core_ir.specs.Scopes.{Scoped}
-use Rattle.core_ir.specs.Terms.{BlockTerm, LetTerm, PartHead, Gives, Bind, chain}
+use Rattle.core_ir.specs.Terms.{BlockTerm, LetTerm, PartHead, Bind, chain}
 use Rattle.core_ir.specs.Uses.{Avoids, AvoidsEach, targets_of}
 use Rattle.core_ir.specs.WellFormed.{Distinct}
 use Rattle.core_ir.proofs.Variables.{or_false, same_number}
 use Rattle.core_copy.specs.Mapped.{mapped}
 use Rattle.core_loops.specs.Steps.{itself}
-use Rattle.core_merge_steps.specs.Step.{IndicesMade, MergedBody, Picks}
+use Rattle.core_merge_steps.specs.Step.{MergedBody, Picks}
 use Rattle.core_inlined_bodies.proofs.Names.{behind_first, clash, in_either, in_left, not_in}
 use Rattle.core_inlined_bodies.proofs.Names as names
 use Rattle.core_norm_forms.specs.Alike.{Alike}

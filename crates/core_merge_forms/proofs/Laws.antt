@@ -1,13 +1,12 @@
 -- What holds at the place where a loop is merged with the loops in its cells, and in the block around.
-use Rattle.std.proofs.Common.{◌≡◌, ℕ, zero, suc, ◌+◌, ◌*◌, ◌<◌, ◌≤◌, ◌^◌, Bool, true, false, ◌&&◌, cond, List, [], ◌∷◌, ◌++◌, map, length, take, drop, All, Option, ◌⊎◌, inl, inr, refl, sym, ap, subst, ◌∙◌, arith}
+use Rattle.std.proofs.Common.{◌≡◌, ℕ, suc, ◌+◌, ◌*◌, ◌<◌, ◌≤◌, Bool, true, false, ◌&&◌, List, [], ◌∷◌, ◌++◌, map, length, take, drop, All, Option, ◌⊎◌, inl, inr, refl, sym, ap, subst, ◌∙◌, arith}
 use Rattle.std.specs.Prelude.{zip, ℤ, pos, FitsSigned}
 use mir.Syntax.{w32}
-use Rattle.std.proofs.lemmas.List.{length-append, length-map, map-append, take-append-drop}
-use Rattle.std.proofs.lemmas.List.Elements.{All-append, All-cons, All-head, All-nil, All-tail}
+use Rattle.std.proofs.lemmas.List.{length-map, map-append, take-append-drop}
+use Rattle.std.proofs.lemmas.List.Elements.{All-append, All-cons, All-nil}
 use Rattle.sac_base.specs.declared.base.Base.{Base}
 use Rattle.sac_base.specs.declared.base.Base.TheVariants.{Int}
 use Rattle.sac_base.specs.declared.grid.Grid1.{Grid1}
-use Rattle.sac_base.specs.declared.site.Site.{Site}
 use Rattle.sac_base.specs.Arrays.{MOST, size}
 use Rattle.sac_base.specs.Grids.{has_vector}
 use Rattle.sac_base.specs.Shapes.{IsExtent, IsShape}
@@ -18,7 +17,7 @@ use Rattle.core_ir.specs.Edits.{Ways, Edited, EditedRight, EditedGens, EditedPar
 use Rattle.core_ir.specs.Meaning.{extents}
 use Rattle.core_ir.specs.Scopes.{Scoped}
 use Rattle.core_ir.specs.Terms.{BlockTerm, RightTerm, GensTerm, PartsTerm, LetTerm, CoreTerm, Gives, Bind, NoParts, Part, Parted, chain}
-use Rattle.core_ir.specs.WellFormed.{Bases, BlockBases, Covered, Distinct, Fit, GroupBases, IsFrame, IsResultFrame, PartedFits, PartsBases, RightBases, part_grids}
+use Rattle.core_ir.specs.WellFormed.{Bases, BlockBases, Covered, Distinct, Fit, GroupBases, IsFrame, IsResultFrame, PartedFits, PartsBases, part_grids}
 use Rattle.core_calls.specs.Nests.{CallsAll}
 use Rattle.core_facts.specs.Facts.{Facts}
 use Rattle.core_loops.specs.Loops.{parted_in, parted_in_right, parted_in_gens, parted_in_parts, weight, weight_right, weight_gens, weight_parts}
@@ -26,7 +25,7 @@ use Rattle.core_loops.specs.Pairs.{Nests, count_parts}
 use Rattle.core_loops.specs.Steps.{fact_ways}
 use Rattle.core_merge_steps.specs.Step.{InnerMerged, MergedParts, MergesHere}
 use Rattle.core_norm_steps.specs.Step.{BaseTable, Within, Follows}
-use Rattle.core_inlined_bodies.proofs.Names.{Names, same, both, distinct_left, distinct_right, Fresh, fresh_left, fresh_right}
+use Rattle.core_inlined_bodies.proofs.Names.{Names, same, both, distinct_left, distinct_right, Fresh}
 use Rattle.core_norm_forms.specs.Fresh.{IsBetween}
 use Rattle.core_norm_forms.proofs.Below.{OldBases, all_new, moved}
 use Rattle.core_norm_forms.proofs.Laws.{all_by, fresh_from, names_below, rises}
@@ -36,8 +35,7 @@ use Rattle.core_norm_forms.proofs.Walking.{names_kept}
 use Rattle.core_merge_forms.specs.Fresh.{MergesFresh}
 use Rattle.core_merge_forms.specs.Laws.{joined_grids}
 use Rattle.core_merge_forms.proofs.Grids.{joined_fit, split_has}
-use Rattle.core_merge_forms.proofs.Makes.{Baseless}
-use Rattle.core_merge_forms.proofs.Places.{grids_append, merged_parted, merged_parts_bases, merged_parts_calls, merged_parts_scoped, merged_weight, nested}
+use Rattle.core_merge_forms.proofs.Places.{grids_append, merged_parted, merged_parts_bases, merged_parts_calls, merged_parts_scoped, merged_weight}
 
 -- ---- the joined frame
 

@@ -1,5 +1,5 @@
 -- The parts of a merged loop: scoped, of agreeing bases, calling no other groups, and as heavy as before.
-use Rattle.std.proofs.Common.{◌≡◌, ℕ, zero, suc, ◌+◌, ◌<◌, ◌≤◌, ◌^◌, Bool, true, false, List, [], ◌∷◌, ◌++◌, length, Option, refl, sym, ap, subst, ◌∙◌, inl, inr, arith}
+use Rattle.std.proofs.Common.{◌≡◌, ℕ, suc, ◌+◌, ◌≤◌, ◌^◌, List, [], ◌∷◌, ◌++◌, length, Option, refl, sym, ap, subst, ◌∙◌, inl, inr, arith}
 use Rattle.std.proofs.lemmas.List.{append_assoc, length-append}
 use Rattle.std.proofs.lemmas.List.Elements.{All-head, All-tail}
 use Rattle.std.specs.Prelude.{All, zip}
@@ -9,11 +9,11 @@ use Rattle.sac_base.specs.declared.grid.Grid1.{Grid1}
 use Rattle.sac_base.specs.declared.site.Site.{Site}
 use Rattle.core_ir.specs.declared.tree.Var.{Var}
 use Rattle.core_ir.specs.declared.tree.PartedOp.TheVariants as parted
-use Rattle.core_ir.specs.Binders.{is_in, bound_in, bound_in_parts}
+use Rattle.core_ir.specs.Binders.{bound_in, bound_in_parts}
 use Rattle.core_ir.specs.Renaming.{Renamed, under}
 use Rattle.core_ir.specs.Scopes.{Scoped, ScopedParts}
 use Rattle.core_ir.specs.Terms.{BlockTerm, PartsTerm, LetTerm, PartHead, CoreTerm, Gives, Bind, NoParts, Part, Parted, chain}
-use Rattle.core_ir.specs.WellFormed.{Bases, BlockBases, GroupBases, PartedFits, PartsBases, Distinct, part_grids}
+use Rattle.core_ir.specs.WellFormed.{Bases, BlockBases, GroupBases, PartsBases, Distinct, part_grids}
 use Rattle.core_calls.specs.Nests.{CallsAll, CallsAllParts}
 use Rattle.core_facts.specs.Facts.{Facts, in_part}
 use Rattle.core_loops.specs.Indices.{own_index}

@@ -1,5 +1,5 @@
 -- Merge steps of a rule that asks what is in scope where it is used.
-use Rattle.std.proofs.Common.{ℕ, ◌<◌, ◌≤◌, List, [], ◌∷◌, ◌++◌, Option, arith, All}
+use Rattle.std.proofs.Common.{ℕ, ◌<◌, ◌≤◌, List, Option, All}
 use Rattle.core_ir.specs.declared.tree.Var.{Var}
 use Rattle.core_ir.specs.Binders.{bound_in}
 use Rattle.core_ir.specs.Edits.{Edited}

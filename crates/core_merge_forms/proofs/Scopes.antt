@@ -1,15 +1,15 @@
 -- Merged bodies are scoped.
-use Rattle.std.proofs.Common.{◌≡◌, ℕ, Bool, true, false, not, ◌&&◌, ◌||◌, eqb, List, [], ◌∷◌, ◌++◌, length, refl, sym, subst, ◌∙◌, ◌⊎◌, inl, inr}
+use Rattle.std.proofs.Common.{◌≡◌, ℕ, Bool, true, false, not, ◌&&◌, ◌||◌, eqb, List, [], ◌∷◌, ◌++◌, refl, sym, subst, ◌∙◌, ◌⊎◌, inl, inr}
 use Rattle.std.specs.Prelude.{if◌then◌else◌}
 use Rattle.sac_base.specs.declared.site.Site.{Site}
 use Rattle.core_ir.specs.declared.tree.Var.{Var}
-use Rattle.core_ir.specs.Binders.{is_in, bound_in, bound_in_right, bound_in_parts}
+use Rattle.core_ir.specs.Binders.{is_in, bound_in, bound_in_right}
 use Rattle.core_ir.specs.Renaming.{Link, Linked, Renamed, RenamedRight, RenamedPlain, under, under_all}
 use Rattle.core_ir.specs.Scopes.{AllIn, Scoped, ScopedRight, ScopedParts, plain_uses}
 use Rattle.core_ir.specs.Terms.{PlainTerm, BlockTerm, RightTerm, PartsTerm, LetTerm, PartHead, Gives, Bind, Plain, NoParts, Part, Parted, chain}
 use Rattle.core_ir.specs.Uses.{AvoidsAll, Avoids, AvoidsRight}
 use Rattle.core_ir.specs.WellFormed.{Distinct}
-use Rattle.core_ir.proofs.Variables.{in_more, or_false, same_number}
+use Rattle.core_ir.proofs.Variables.{in_more, same_number}
 use Rattle.core_loops.specs.Pairs.{AvoidsLets}
 use Rattle.core_loops.specs.Steps.{itself}
 use Rattle.core_inlined_bodies.proofs.Names.{behind_first, clash, distinct_left, distinct_right, in_either, in_left, none_by}

@@ -17,7 +17,6 @@ use Rattle.core_calls.proofs.Agreeing.{weaker}
 use Rattle.core_calls.proofs.Replaced.{at_place}
 use Rattle.core_facts.specs.Facts.{Facts}
 use Rattle.core_loops.specs.Loops.{parted_in, weight}
-use Rattle.core_loops.specs.Pairs.{IsScalarisable}
 use Rattle.core_loops.specs.Steps.{fact_ways}
 use Rattle.core_settled.specs.Called.{called, params_facts, result_shapes, shapes_at, common_shapes}
 use Rattle.core_subst.specs.Names.{above, above_all, above_function}
@@ -27,7 +26,6 @@ use Rattle.core_inlined_bodies.proofs.Counts.{all_at}
 use Rattle.core_inlined_bodies.proofs.Names.{Names, same, both, distinct_right, Fresh, fresh_left, fresh_right, fresh_more, own_vars, own_fresh, not_in}
 use Rattle.core_inlined_bodies.proofs.Stepped.{stepped, group_moved, still_below, well_stepped}
 use Rattle.core_norm_forms.specs.Walks.{functions_weight, core_weight}
-use Rattle.core_norm_forms.proofs.Below.{OldBases}
 use Rattle.core_norm_forms.proofs.Laws.{names_below}
 use Rattle.core_norm_forms.proofs.Reach.{fresh_above, block_above}
 use Rattle.core_norm_forms.proofs.Tables.{Low}

@@ -1,5 +1,5 @@
 -- Bindings that never fault hold neither with-loops nor parted loops nor calls.
-use Rattle.std.proofs.Common.{◌≡◌, ℕ, ◌+◌, Bool, true, false, ◌&&◌, List, [], ◌∷◌, ◌++◌, Option, refl, sym, ap, ◌∙◌, arith}
+use Rattle.std.proofs.Common.{◌≡◌, ℕ, ◌+◌, Bool, true, false, ◌&&◌, List, [], ◌∷◌, ◌++◌, Option, refl, ◌∙◌, arith}
 use Rattle.std.specs.Prelude.{length}
 use Rattle.sac_base.specs.declared.grid.Grid1.{Grid1}
 use Rattle.core_ir.specs.declared.tree.Var.{Var}
