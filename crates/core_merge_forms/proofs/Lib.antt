@@ -10,3 +10,4 @@ pub mod Stepped
 pub mod Whole
 pub mod Placing
 pub mod Built
+pub mod Inner

@@ -70,11 +70,11 @@ parted_append : (p q : PartsTerm) → parted_in_parts (append_parts p q) ≡ par
 parted_append NoParts q = nought (parted_in_parts q)
 parted_append (Part h b rest) q = ap (λ n. parted_in b + n) (parted_append rest q) ∙ sums (parted_in b) (parted_in_parts rest) (parted_in_parts q)
 
-avoids_front : (z : Var) (ls ms : List LetTerm) → AvoidsLets z (ls ++ ms) → AvoidsLets z ls
+pub avoids_front : (z : Var) (ls ms : List LetTerm) → AvoidsLets z (ls ++ ms) → AvoidsLets z ls
 avoids_front z [] ms a = tt
 avoids_front z (l ∷ ls) ms a = (a.0, avoids_front z ls ms a.1)
 
-avoids_back : (z : Var) (ls ms : List LetTerm) → AvoidsLets z (ls ++ ms) → AvoidsLets z ms
+pub avoids_back : (z : Var) (ls ms : List LetTerm) → AvoidsLets z (ls ++ ms) → AvoidsLets z ms
 avoids_back z [] ms a = a
 avoids_back z (l ∷ ls) ms a = avoids_back z ls ms a.1
 

@@ -127,7 +127,7 @@ abbrev pub Stands : PartsTerm → PartHead → BlockTerm → Type 0
 Stands NoParts g c = ⊥
 Stands (Part h b rest) g c = ((h ≡ g) × (b ≡ c)) ⊎ Stands rest g c
 
-part_scoped : (scope : List Var) (ps : PartsTerm) (g : PartHead) (c : BlockTerm) → Stands ps g c → ScopedParts scope ps → Scoped (g.index ∷ scope) c
+pub part_scoped : (scope : List Var) (ps : PartsTerm) (g : PartHead) (c : BlockTerm) → Stands ps g c → ScopedParts scope ps → Scoped (g.index ∷ scope) c
 part_scoped scope NoParts g c n s = absurd n
 part_scoped scope (Part h b rest) g c (inl n) s = subst (λ (j : PartHead). Scoped (j.index ∷ scope) c) n.0 (subst (λ (d : BlockTerm). Scoped (h.index ∷ scope) d) n.1 s.1)
 part_scoped scope (Part h b rest) g c (inr n) s = part_scoped scope rest g c n s.2

@@ -4,7 +4,7 @@ use Rattle.sac_base.specs.declared.base.Base.TheVariants.{Int}
 use Rattle.sac_base.specs.declared.site.Site.{Site}
 use Rattle.sac_base.specs.Arrays.{scalar}
 use Rattle.core_ir.specs.declared.tree.Var.{Var}
-use Rattle.core_ir.specs.Terms.{PlainTerm, BlockTerm, LetTerm, Plain, chain}
+use Rattle.core_ir.specs.Terms.{PlainTerm, BlockTerm, PartsTerm, LetTerm, PartHead, Plain, NoParts, Part, chain}
 use Rattle.core_copy.specs.Mapped.{mapped}
 
 -- the components of u from the j-th on, each by a constant and a selection
@@ -25,3 +25,8 @@ index_lets s u front back cs i l =
 abbrev pub merged_body : Site → Var → List Var → List Var → List Var → (Var → Var) → Var → Var → List LetTerm → BlockTerm → BlockTerm
 merged_body s u front back cs f outer inner lets c =
     chain (index_lets s u front back cs (f outer) (f inner)) (mapped f (chain lets c))
+
+-- each part is so
+abbrev pub AllParts : (PartHead → BlockTerm → Type 0) → PartsTerm → Type 0
+AllParts P NoParts = Unit {0}
+AllParts P (Part h b rest) = P h b × AllParts P rest

@@ -1,13 +1,14 @@
 -- The statements of the laws.
 use Rattle.std.specs.Prelude.{◌≡◌, ℕ, ◌+◌, ◌<◌, ◌≤◌, true, false, eqb, length, List, [], ◌∷◌, ◌++◌, All, Option, map}
+use Rattle.sac_base.specs.declared.base.Base.{Base}
 use Rattle.sac_base.specs.declared.grid.Grid1.{Grid1}
 use Rattle.core_ir.specs.declared.tree.Var.{Var}
 use Rattle.sac_base.specs.declared.site.Site.{Site}
 use Rattle.core_ir.specs.Binders.{is_in, bound_in}
 use Rattle.core_ir.specs.Edits.{Edited}
 use Rattle.core_ir.specs.Scopes.{Scoped}
-use Rattle.core_ir.specs.Terms.{BlockTerm, CoreTerm, LetTerm, PartHead, chain}
-use Rattle.core_ir.specs.Uses.{targets_of}
+use Rattle.core_ir.specs.Terms.{BlockTerm, CoreTerm, LetTerm, PartHead, PartsTerm, chain}
+use Rattle.core_ir.specs.Uses.{AvoidsParts, targets_of}
 use Rattle.core_ir.specs.WellFormed.{Covered, Distinct, Fit, IsWellFormed}
 use Rattle.core_calls.specs.Arrays.{SameOutcomeOnArrays}
 use Rattle.core_facts.specs.Facts.{Facts}
@@ -19,7 +20,9 @@ use Rattle.core_merge_steps.specs.Step.{MergedBody}
 use Rattle.core_norm_forms.specs.Alike.{Alike}
 use Rattle.core_norm_forms.specs.Copied.{IsPlaced}
 use Rattle.core_norm_forms.specs.Walks.{core_weight}
-use Rattle.core_merge_forms.specs.Built.{merged_body, picks}
+use Rattle.core_loops.specs.Indices.{IndexFacts}
+use Rattle.core_loops.specs.Pairs.{IsNest}
+use Rattle.core_merge_forms.specs.Built.{AllParts, merged_body, picks}
 use Rattle.core_merge_forms.specs.Fresh.{MergesFresh}
 use Rattle.core_merge_forms.specs.Walks.{BlockMerges, FunctionMerges, MergeSteps, core_parted}
 
@@ -85,3 +88,12 @@ BodiesAreMerged =
     is_in y (bound_in (chain (before ++ after) c) ++ ((g.index ∷ h.index ∷ []) ++ outside)) ≡ true → eqb x.0 (f y).0 ≡ false) →
     MergedBody h before after g c j (merged_body s j.index front back cs f h.index g.index (before ++ after) c)
     × Alike (chain (before ++ after) c) (mapped f (chain (before ++ after) c))
+
+-- Where a part's body is scoped, the parts of the inner loop do not use its variable, and the outer bindings may stand in front of the body of each, below
+-- both indices.
+abbrev pub InnerPartsAreScoped : Type 0
+InnerPartsAreScoped =
+    (called : ℕ → List (Option (List ℕ))) (k : Facts) (grid : List Grid1) (m : IndexFacts) (frame : List Grid1) (base : Base) (b : BlockTerm)
+    (inner : PartsTerm) → (nest : IsNest called k grid m frame base b inner) → (index : Var) (outside : List Var) → Scoped (index ∷ outside) b →
+    Distinct (bound_in b) → AvoidsParts nest.z inner ×
+    AllParts (λ g c. (is_in g.index (index ∷ outside) ≡ false) × Scoped (g.index ∷ (index ∷ outside)) (chain (nest.before ++ nest.after) c)) inner

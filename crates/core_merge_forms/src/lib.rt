@@ -2,6 +2,7 @@
 #![tactic(auto)]
 
 ghost use Rattle.core_merge_forms.specs.Laws.{PartedLoopsFall, BindersStayDistinct, BlocksStayPlaced, JoinedGridsFit, BodiesAreMerged};
+ghost use Rattle.core_merge_forms.specs.Laws.{InnerPartsAreScoped};
 ghost use Rattle.core_merge_forms.specs.Laws.{MergesKeep, NumbersStayBelow, StepsGoOn};
 
 /// Law: where one loop of a block is merged with the loops in its cells, its weight stays, and it has fewer parted loops.
@@ -24,6 +25,11 @@ pub fn joined_grids_fit()
 /// Law: a copy of the outer bindings and of an inner part's body, behind bindings that make the two old indices from the new one, is a merged body.
 pub fn bodies_are_merged()
     ensures { BodiesAreMerged }
+{}
+
+/// Law: the parts of an inner loop do not use its variable, and the outer bindings may stand in front of each of their bodies.
+pub fn inner_parts_are_scoped()
+    ensures { InnerPartsAreScoped }
 {}
 
 /// Law: a core in one function of which loops were merged, one after another and with new variables, has the same outcome on arrays, is
