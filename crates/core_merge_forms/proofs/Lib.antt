@@ -11,3 +11,4 @@ pub mod Whole
 pub mod Placing
 pub mod Built
 pub mod Inner
+pub mod Around

@@ -7,7 +7,7 @@ use Rattle.sac_base.specs.declared.site.Site.{Site}
 use Rattle.core_ir.specs.Binders.{is_in, bound_in}
 use Rattle.core_ir.specs.Edits.{Edited}
 use Rattle.core_ir.specs.Scopes.{Scoped}
-use Rattle.core_ir.specs.Terms.{BlockTerm, CoreTerm, LetTerm, PartHead, PartsTerm, chain}
+use Rattle.core_ir.specs.Terms.{BlockTerm, RightTerm, CoreTerm, LetTerm, PartHead, PartsTerm, Bind, Gives, chain}
 use Rattle.core_ir.specs.Uses.{AvoidsParts, targets_of}
 use Rattle.core_ir.specs.WellFormed.{Covered, Distinct, Fit, IsWellFormed}
 use Rattle.core_calls.specs.Arrays.{SameOutcomeOnArrays}
@@ -20,8 +20,8 @@ use Rattle.core_merge_steps.specs.Step.{MergedBody}
 use Rattle.core_norm_forms.specs.Alike.{Alike}
 use Rattle.core_norm_forms.specs.Copied.{IsPlaced}
 use Rattle.core_norm_forms.specs.Walks.{core_weight}
-use Rattle.core_loops.specs.Indices.{IndexFacts}
-use Rattle.core_loops.specs.Pairs.{IsNest}
+use Rattle.core_loops.specs.Indices.{IndexFacts, total_block}
+use Rattle.core_loops.specs.Pairs.{AvoidsLets, IsNest, total_around}
 use Rattle.core_merge_forms.specs.Built.{AllParts, merged_body, picks}
 use Rattle.core_merge_forms.specs.Fresh.{MergesFresh}
 use Rattle.core_merge_forms.specs.Walks.{BlockMerges, FunctionMerges, MergeSteps, core_parted}
@@ -97,3 +97,10 @@ InnerPartsAreScoped =
     (inner : PartsTerm) → (nest : IsNest called k grid m frame base b inner) → (index : Var) (outside : List Var) → Scoped (index ∷ outside) b →
     Distinct (bound_in b) → AvoidsParts nest.z inner ×
     AllParts (λ g c. (is_in g.index (index ∷ outside) ≡ false) × Scoped (g.index ∷ (index ∷ outside)) (chain (nest.before ++ nest.after) c)) inner
+
+-- The bindings around an inner loop never fault where they never fault one after another without it, if none of them uses it.
+abbrev pub AroundIsTotal : Type 0
+AroundIsTotal =
+    (called : ℕ → List (Option (List ℕ))) (grid : List Grid1) (before after : List LetTerm) (z : Var) (s : Site) (r : RightTerm) (xs : List Var) (k : Facts)
+    (m : IndexFacts) → AvoidsLets z after →
+    total_around called grid before (Bind (z ∷ []) s r (chain after (Gives xs))) k m ≡ total_block called grid (chain before (chain after (Gives []))) k m

@@ -2,7 +2,7 @@
 #![tactic(auto)]
 
 ghost use Rattle.core_merge_forms.specs.Laws.{PartedLoopsFall, BindersStayDistinct, BlocksStayPlaced, JoinedGridsFit, BodiesAreMerged};
-ghost use Rattle.core_merge_forms.specs.Laws.{InnerPartsAreScoped};
+ghost use Rattle.core_merge_forms.specs.Laws.{InnerPartsAreScoped, AroundIsTotal};
 ghost use Rattle.core_merge_forms.specs.Laws.{MergesKeep, NumbersStayBelow, StepsGoOn};
 
 /// Law: where one loop of a block is merged with the loops in its cells, its weight stays, and it has fewer parted loops.
@@ -30,6 +30,11 @@ pub fn bodies_are_merged()
 /// Law: the parts of an inner loop do not use its variable, and the outer bindings may stand in front of each of their bodies.
 pub fn inner_parts_are_scoped()
     ensures { InnerPartsAreScoped }
+{}
+
+/// Law: bindings around an inner loop that do not use it never fault where they never fault one after another without it.
+pub fn around_is_total()
+    ensures { AroundIsTotal }
 {}
 
 /// Law: a core in one function of which loops were merged, one after another and with new variables, has the same outcome on arrays, is
