@@ -1,10 +1,8 @@
 -- Whether bindings never fault does not hang on what is known of a variable that they do not use.
-use Rattle.std.proofs.Common.{◌≡◌, ℕ, Bool, true, false, not, ◌&&◌, ◌||◌, cond, eqb, List, [], ◌∷◌, map, length, Option, refl, sym, ◌∙◌}
+use Rattle.std.proofs.Common.{◌≡◌, ℕ, true, false, not, ◌&&◌, ◌||◌, cond, eqb, List, [], ◌∷◌, map, length, Option, refl, ◌∙◌}
 use Rattle.sac_base.specs.declared.grid.Grid1.{Grid1}
-use Rattle.sac_base.specs.declared.op.Op.{Op}
 use Rattle.sac_base.specs.declared.op.Op.TheVariants as op
 use Rattle.sac_base.specs.declared.site.Site.{Site}
-use Rattle.sac_base.specs.Arrays.{ArrayValue}
 use Rattle.sac_base.specs.Operators.{binary}
 use Rattle.sac_base.specs.Parts.{literal}
 use Rattle.core_ir.specs.declared.tree.Var.{Var}
