@@ -31,7 +31,8 @@ pub fn are_passed(
     called: &CalledShapes,
     facts: &mut FactTable,
 ) -> Result<bool, Memory>
-    ensures total { IfOk result (λ total. total ≡ are_total (shapes_of called.now) grid.now (facts_of facts.old) index (map let_term before.now) (map let_term after.now)) }
+    ensures total { IfOk result (λ total. total
+        ≡ are_total (shapes_of called.now) grid.now (facts_of facts.old) index (map let_term before.now) (map let_term after.now)) }
     ensures facts { OnOk result (facts.new ≡ facts.old) }
 {
     let mark = facts.mark();
