@@ -1,0 +1,14 @@
+pub mod Grids
+pub mod Straight
+pub mod Copies
+pub mod Makes
+pub mod Scopes
+pub mod Bases
+pub mod Places
+pub mod Laws
+pub mod Stepped
+pub mod Whole
+pub mod Placing
+pub mod Built
+pub mod Inner
+pub mod Around

@@ -1,0 +1,4 @@
+pub mod Fresh
+pub mod Walks
+pub mod Built
+pub mod Laws
