@@ -1,3 +1,4 @@
 pub mod Bounds
 pub mod Reported
 pub mod Settling
+pub mod Teams

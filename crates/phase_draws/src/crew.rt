@@ -1,5 +1,5 @@
 // The workers of a phase, each in a thread of its own.
-ghost use Rattle.std.specs.Prelude.{◌≡◌, ℕ, ◌+◌, ◌*◌, ◌<◌, ◌≤◌, ◌++◌, [], List, length, map, IfOk, false, true, vec_len, vec_capacity};
+ghost use Rattle.std.specs.Prelude.{◌≡◌, ℕ, ◌+◌, ◌*◌, ◌^◌, ◌<◌, ◌≤◌, ◌++◌, [], List, length, map, IfOk, false, true, vec_len, vec_capacity};
 ghost use Rattle.std.specs.Thread.{IsSync, IsSend};
 ghost use Rattle.wl_core.specs.Machine.{TakesBase};
 ghost use Rattle.phase_team.specs.Segments.{HasRows, MergesRows};
@@ -275,7 +275,7 @@ fn side_by_side<H: Send, C: PhaseCells<H>, G: Gate, R: Threads + Sync>(
 
 // How many elements a worker's rows have.
 fn own_room(share: Share) -> usize
-    ensures { (n : ℕ) → n < 2 ^ 64 → HasThreeRows share.job share.width n → result ≤ n }
+    ensures { (n : ℕ) → n < 2 ^ 64 → HasThreeRows share.job share.width n → HasThreeRows share.job share.width result × (result ≤ n) }
 {
     match share.job {
         Job::Write => 0,
