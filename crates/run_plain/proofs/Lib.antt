@@ -1,3 +1,4 @@
+pub mod Buffers
 pub mod Literals
 pub mod Operands
 pub mod Rest

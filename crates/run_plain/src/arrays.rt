@@ -11,6 +11,7 @@ ghost use Rattle.sac_base.specs.Operators.{unary as unary_arrays};
 ghost use Rattle.sac_base.specs.Outcomes.{Ends};
 ghost use Rattle.array_ops.specs.Tells.{Tells};
 
+use crate::together::array_together;
 use array_ops::{binary_at, literal, placed, replace, reshape, unary_of};
 use core_ir::Var;
 use run_store::{Store, place_result, read_array};
@@ -53,6 +54,9 @@ pub fn binary_array(
 ) -> Result<Array, Stop>
     ensures { (m : MachineHeap) → Stands heap.now m → Tells result (binary_in m op a b site) }
 {
+    if let Some(array) = array_together(alloc, heap, op, a, b)? {
+        return Ok(array);
+    }
     let left = read_array(alloc, heap, a)?;
     let right = read_array(alloc, heap, b)?;
     binary_at(alloc, op, &left, &right, site)

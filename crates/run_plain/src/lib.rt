@@ -4,6 +4,7 @@
 mod arrays;
 mod operators;
 mod right;
+mod together;
 
 pub use arrays::{read_all, replace_value, reshape_value};
 pub use operators::{binary_value, literal_value, unary_value};

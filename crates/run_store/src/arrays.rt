@@ -35,9 +35,10 @@ pub fn read_array(alloc: Global, heap: &Store<'_>, value: RunValue) -> Result<Ar
     }
 }
 
-// The array of these extents and cells.
-fn array_of(alloc: Global, base: Base, extents: &Few, cells: Vec<Cell>) -> Result<Array, Memory>
-    ensures { IfOk result (λ a. a ≡ record { base = base; shape = map unsigned_abs (numbers extents.now); cells = cells.items }) }
+/// The array of these extents and cells. Others than an array has, which do not occur in code, count as want of memory.
+pub fn array_of(alloc: Global, base: Base, extents: &Few, cells: Vec<Cell>) -> Result<Array, Memory>
+    ensures array { IfOk result (λ a. a ≡ record { base = base; shape = map unsigned_abs (numbers extents.now); cells = cells.items }) }
+    ensures full { IfOk result (λ a. size a.shape ≡ length a.cells) }
 {
     let Some(shape) = Shape::from_extents(alloc, extents.as_slice()) else {
         return Err(Memory);

@@ -11,8 +11,8 @@ mod store;
 mod target;
 
 pub use access::{buffer_cells, keep, release};
-pub use arrays::{place_array, place_cells, place_own, place_result, read_array};
+pub use arrays::{array_of, place_array, place_cells, place_own, place_result, read_array};
 pub use lent::{Lent, lent_counts};
 pub use select::select_value;
 pub use store::Store;
-pub use target::{Target, claim, copy_into, fits, is_small, overwrite, settle, write};
+pub use target::{Target, claim, copy_into, fits, is_small, overwrite, same_sizes, settle, write};

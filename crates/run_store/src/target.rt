@@ -148,7 +148,8 @@ fn has_shape(shape: &Shape, value: &RunValue) -> bool
     }
 }
 
-fn same_sizes(a: &[Cell], b: &[Cell]) -> bool
+/// Whether extents are the same.
+pub fn same_sizes(a: &[Cell], b: &[Cell]) -> bool
     ensures { result ≡ same_shape (map unsigned_abs a.now) (map unsigned_abs b.now) }
 {
     if a.len() != b.len() {
