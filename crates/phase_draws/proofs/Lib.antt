@@ -5,3 +5,4 @@ pub mod Teams
 pub mod Chunked
 pub mod Ended
 pub mod Orderly
+pub mod Phases

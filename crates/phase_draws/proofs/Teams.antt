@@ -15,8 +15,8 @@ use Rattle.phase_team.specs.Segments.{value_if, HasRows, MergesRows, Same}
 use Rattle.phase_team.proofs.Sequences.{same_of}
 use Rattle.phase_draws.specs.declared.share.Share.{Share}
 use Rattle.phase_draws.specs.Chunks.{ChunkPart, ChunkReport, HasThreeRows}
-use Rattle.phase_draws.specs.Crews.{IsBack, IsRun, IsSettled}
-use Rattle.phase_draws.specs.Reports.{AllOk, AreCombined, AreFrames, AreRooms, Combine, CostOf, Grew, GrewBoth, HasRowsFor, Told, gathered}
+use Rattle.phase_draws.specs.Crews.{AreRooms, IsBack, IsRun, IsSettled}
+use Rattle.phase_draws.specs.Reports.{AllOk, AreCombined, AreFrames, Combine, CostOf, Grew, GrewBoth, HasRowsFor, Told, gathered}
 use Rattle.phase_draws.proofs.Reported.{costs_both, gathered_both, ok_both}
 
 -- ---- rooms

@@ -1,7 +1,10 @@
 -- What the workers of a phase begin with, and what they leave.
-use Rattle.std.specs.Prelude.{◌≡◌, ℕ, ◌+◌, ◌-◌, ◌<◌, ◌≤◌, Bool, List, [], Option, None, Some, Ok}
+use Rattle.std.specs.Prelude.{◌≡◌, ℕ, ◌+◌, ◌-◌, ◌*◌, ◌<◌, ◌≤◌, vec_len, vec_capacity, Bool, List, [], Option, None, Some, Ok}
+use Rattle.std.specs.Prelude.{◌∷◌, Vec}
+use Rattle.std.specs.Global.{Global}
 use Rattle.count_table.specs.Seats.{PhaseId, WorkerState, FrameState}
-use Rattle.phase_draws.specs.Chunks.{ChunkPart}
+use Rattle.phase_draws.specs.Chunks.{ChunkPart, ChunkReport}
+use Rattle.phase_draws.specs.declared.rooms.Rooms.{Rooms}
 use Rattle.wl_core.specs.Machine.{CellValue, IsFold, TakesBase}
 use Rattle.phase_draws.specs.declared.share.Share.{Share}
 
@@ -56,3 +59,17 @@ pub record IsRun (before after : FrameState ChunkPart) : Type 0 where
   pub opening : after.opening ≡ before.opening
   pub out : after.out ≡ before.out
   pub ended : before.nones < after.nones
+
+-- lists for reports, each empty and with room for so many
+abbrev pub AreRooms : ℕ → List (Vec ChunkReport Global) → Type 0
+AreRooms n [] = Unit {0}
+AreRooms n (v ∷ vs) = (v.items ≡ []) × (n ≤ vec_capacity v) × AreRooms n vs
+
+-- there is room for the reports of so many workers, each of which may draw so many chunks
+pub record HaveRoom (chunks workers : ℕ) (rooms : Rooms) : Type 0 where
+  pub mine : rooms.mine.items ≡ []
+  pub own : chunks ≤ vec_capacity rooms.mine
+  pub count : vec_len rooms.others + 1 ≡ workers
+  pub others : AreRooms chunks rooms.others.items
+  pub empty : rooms.reports.items ≡ []
+  pub all : workers * chunks ≤ vec_capacity rooms.reports

@@ -1,3 +1,4 @@
 pub mod Crews
 pub mod Chunks
 pub mod Reports
+pub mod Endings

@@ -54,11 +54,6 @@ AreCombined cell share rs held rows = Combine share.job cell share rs held rows
 abbrev pub AreFrames : List ChunkReport → FrameState ChunkPart → Type 0
 AreFrames rs frame = map (λ (r : ChunkReport). r.chunk) rs ≡ map (λ (p : ℕ × ℕ). p.0) frame.drawn
 
--- lists for reports, each empty and with room for so many
-abbrev pub AreRooms : ℕ → List (Vec ChunkReport Global) → Type 0
-AreRooms n [] = Unit {0}
-AreRooms n (v ∷ vs) = (v.items ≡ []) × (n ≤ vec_capacity v) × AreRooms n vs
-
 -- so many workers have three rows each
 abbrev pub HasRowsFor : Job → ℕ → ℕ → ℕ → Type 0
 HasRowsFor Store width workers len = Unit {0}

@@ -4,8 +4,8 @@ ghost use Rattle.std.specs.Thread.{IsSync, IsSend};
 ghost use Rattle.wl_core.specs.Machine.{TakesBase};
 ghost use Rattle.phase_team.specs.Segments.{HasRows, MergesRows};
 ghost use Rattle.phase_draws.specs.Chunks.{HasThreeRows};
-ghost use Rattle.phase_draws.specs.Crews.{drawn_by, IsBack, IsFresh, IsGoing, IsRun, Suits};
-ghost use Rattle.phase_draws.specs.Reports.{AllOk, AreCombined, AreDone, AreFrames, AreRooms, CostOf, Grew, GrewBoth, HasRowsFor, PartsFit};
+ghost use Rattle.phase_draws.specs.Crews.{AreRooms, drawn_by, IsBack, IsFresh, IsGoing, IsRun, Suits};
+ghost use Rattle.phase_draws.specs.Reports.{AllOk, AreCombined, AreDone, AreFrames, CostOf, Grew, GrewBoth, HasRowsFor, PartsFit};
 
 use crate::cells::PhaseCells;
 use crate::settles::settle_worker;

@@ -8,6 +8,8 @@
 mod cells;
 mod crew;
 mod draws;
+mod phase;
+mod rooms;
 mod settles;
 mod share;
 mod turns;

@@ -1,7 +1,8 @@
 use Rattle.std.proofs.Common.{◌≡◌, ℕ, ◌+◌, ◌-◌, ◌*◌, ◌<◌, ◌≤◌, List, ◌++◌, length, refl, sym, subst, arith, vec_len}
 use Rattle.std.proofs.lemmas.Bool.Decides.{nat_tests}
 use Rattle.phase_draws.specs.Chunks.{ChunkReport, HasThreeRows}
-use Rattle.phase_draws.specs.Reports.{AreDone, AreRooms, HasRowsFor}
+use Rattle.phase_draws.specs.Reports.{AreDone, HasRowsFor}
+use Rattle.phase_draws.specs.Crews.{AreRooms}
 use Rattle.phase_draws.proofs.Reported.{done_both}
 use Rattle.phase_draws.proofs.Teams.{grew_both, grew_none, grew_team, room_last, rows_apart, rows_within, rows_of_both}
 use Rattle.phase_draws.proofs.crew.+crew.Goals as goal
