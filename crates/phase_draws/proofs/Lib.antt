@@ -6,3 +6,5 @@ pub mod Chunked
 pub mod Ended
 pub mod Orderly
 pub mod Phases
+pub mod Neutral
+pub mod Buffers

@@ -8,6 +8,7 @@
 mod cells;
 mod crew;
 mod draws;
+mod folds;
 mod phase;
 mod rooms;
 mod settles;
@@ -16,4 +17,5 @@ mod turns;
 mod worker;
 
 pub use cells::PhaseCells;
+pub use folds::fold_phase;
 pub use share::ChunkPart;

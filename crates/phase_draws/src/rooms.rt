@@ -14,6 +14,14 @@ pub(crate) struct Rooms {
     pub(crate) reports: Vec<ChunkReport>,
 }
 
+/// How many workers begin: as many as there may be, but no more than chunks.
+pub(crate) fn team_of(workers: u32, chunks: u64) -> usize
+    requires { workers ≤ 64 }
+    ensures { (1 ≤ result) × (result ≤ 64) }
+{
+    (workers as u64).min(chunks).max(1) as usize
+}
+
 /// Room for so many workers, each of which may draw all chunks.
 pub(crate) fn rooms_for(alloc: Global, workers: usize, chunks: usize) -> Result<Rooms, Memory>
     requires some { 1 ≤ workers }
@@ -23,7 +31,7 @@ pub(crate) fn rooms_for(alloc: Global, workers: usize, chunks: usize) -> Result<
     let mine = Vec::with_capacity(alloc, chunks)?;
     let reports = Vec::with_capacity(alloc, workers * chunks)?;
     let mut others = Vec::with_capacity(alloc, workers)?;
-    for _i in 1..workers {
+    for _ in 1..workers {
         let room = Vec::with_capacity(alloc, chunks)?;
         others.push_reserved(room);
     }
@@ -39,7 +47,7 @@ pub(crate) fn no_parts(alloc: Global, chunks: usize) -> Result<Vec<ChunkPart>, M
     ensures { IfOk result (λ slots. slots.items ≡ replicate chunks None) }
 {
     let mut slots = Vec::with_capacity(alloc, chunks)?;
-    for _i in 0..chunks {
+    for _ in 0..chunks {
         slots.push_reserved(None);
     }
     Ok(slots)
