@@ -2,8 +2,10 @@
 use Rattle.std.proofs.Common.{◌≡◌, ℕ, zero, suc, ◌+◌, ◌-◌, ◌*◌, ◌<◌, ◌≤◌, min, Bool, true, ℤ, List, [], ◌∷◌, ◌++◌, length, map, Option, None, Some, Result, Ok, Err, IfOk, refl, sym, ap, subst, ◌∙◌, inl, inr, arith}
 use Rattle.std.specs.Prelude.{slice_get}
 use Rattle.std.proofs.lemmas.Bool.{cases_order}
+use Rattle.std.proofs.lemmas.List.{length-map}
 use Rattle.std.proofs.Math.Nat.{add-mul, mul-le-mul_right, mul_assoc, suc-mul}
 use Rattle.buffer_parts.specs.Spans.{Span, KeepsPlace, KeepPlaces, joined, lengths}
+use Rattle.sac_base.specs.declared.memory.Memory as memory
 use Rattle.sac_base.specs.declared.stop.Stop.{Stop}
 use Rattle.sac_base.specs.declared.stop.Stop.TheVariants.{Faulted, Memory}
 use Rattle.chunk_reports.specs.Orders.{counting}
@@ -13,14 +15,16 @@ use Rattle.wl_core.specs.declared.setup.Job.{Job}
 use Rattle.wl_core.specs.declared.setup.Job.TheVariants.{Write as Store, Fold}
 use Rattle.wl_core.specs.Machine.{CellValue}
 use Rattle.phase_team.specs.Endings.{IsArray}
-use Rattle.phase_team.specs.Segments.{cells_from, Ran}
+use Rattle.phase_team.specs.Segments.{cells_from, Costs, Ran}
 use Rattle.phase_team.proofs.Merges.{merged, stops-front, stops-back}
 use Rattle.phase_team.proofs.Sequences.{widths_none}
 use Rattle.phase_draws.specs.declared.share.Share.{Share}
 use Rattle.phase_draws.specs.Chunks.{cells_of, count_of, ChunkPart, ChunkReport, IsDone, PartFits}
-use Rattle.phase_draws.specs.Reports.{AreDone, PartsFit}
+use Rattle.phase_draws.specs.declared.phase.TeamEnd.{TeamEnd}
+use Rattle.phase_draws.specs.Endings.{Answers, IsEnded}
+use Rattle.phase_draws.specs.Reports.{AllOk, AreDone, Combine, IsLent, PartsFit}
 use Rattle.phase_draws.proofs.Chunked.{cells_all, chunk_cells}
-use Rattle.phase_draws.proofs.Ended.{report_at}
+use Rattle.phase_draws.proofs.Ended.{ok_all, report_at}
 
 abbrev head : List ℕ → ℕ
 head [] = 0
@@ -150,3 +154,51 @@ array_of width cells rows (Err Memory) r = tt
 pub kept_same : (ps : List (Span ℤ)) → KeepPlaces ps ps
 kept_same [] = tt
 kept_same (p ∷ ps) = ((refl, refl), kept_same ps)
+
+present_all : (ps : List (Span ℤ)) → present (map (λ (p : Span ℤ). Some p) ps) ≡ ps
+present_all [] = refl
+present_all (p ∷ ps) = ap (λ (l : List (Span ℤ)). p ∷ l) (present_all ps)
+
+pub places_same : (ps back : List (Span ℤ)) (slots : List ChunkPart) → slots ≡ map (λ (p : Span ℤ). Some p) ps → back ≡ present slots → KeepPlaces ps back
+places_same ps back slots is all = subst (λ (l : List (Span ℤ)). KeepPlaces ps l) (sym (all ∙ ap (λ (l : List ChunkPart). present l) is ∙ present_all ps)) (kept_same ps)
+
+-- ---- a whole phase
+
+module _ (cell : ℕ → CellValue) (cost : ℕ → ℕ → ℕ) (share : Share) (store : share.job ≡ Store) (ps : List (Span ℤ)) (lent : IsLent share (length ps) ps) (k k' : ℕ → ℕ) (rows : List ℤ) (end : TeamEnd)
+  (ended : IsEnded cell cost share (map (λ (p : Span ℤ). Some p) ps) k k' rows end) where
+  slots : List ChunkPart
+  slots = map (λ (p : Span ℤ). Some p) ps
+
+  order : map chunk_in end.reports.items ≡ counting 0 (length ps)
+  order = ended.order ∙ ap (counting 0) (length-map ps (λ (p : Span ℤ). Some p))
+
+  pub places_back : KeepPlaces ps (present (map part_in end.reports.items))
+  places_back = kept_from cell share store (map (λ (p : Span ℤ). Some p) ps) (length ps) 0 end.reports.items order ended.done ps refl (λ j. ap (slice_get (map (λ (p : Span ℤ). Some p) ps)) (let e : 0 + j ≡ j = omega arith in e))
+
+  ran : Ran Store share.width (cells_from cell 0 share.positions) (joined (present (map part_in end.reports.items))) (as_held (first_stop_of end.reports.items))
+  ran =
+      subst (λ (l : List CellValue). Ran Store share.width l (joined (present (map part_in end.reports.items))) (as_held (first_stop_of end.reports.items)))
+      (sym (cells_all share cell (length ps) lent.filled lent.covers))
+      (array_from cell share store (map (λ (p : Span ℤ). Some p) ps) (length ps) 0 end.reports.items order ended.done)
+
+  costs : (held : Bool) → end.held ≡ Ok held → (first : Result (Unit {0}) Stop) → first_stop_of end.reports.items ≡ first → IfOk first (λ done. Costs cost 0 share.positions k k')
+  costs held e (Ok done) none =
+      let t = subst (λ (r : Result Bool memory.Memory). IfOk r (λ h. AllOk end.reports.items → Costs cost 0 share.positions k k' × Combine share.job cell share end.reports.items h rows)) e ended.told in
+      (t (ok_all end.reports.items none)).0
+  costs held e (Err stop) none = tt
+
+  answer : (result : Result (Unit {0}) Stop) (held : Result Bool memory.Memory) → end.held ≡ held → Answers (first_stop_of end.reports.items) held result
+      → IsArray (cells_from cell 0 share.positions) (joined (present (map part_in end.reports.items))) result × IfOk result (λ done. Costs cost 0 share.positions k k')
+  answer result (Ok held) e is = (
+    subst (λ (r : Result (Unit {0}) Stop). IsArray (cells_from cell 0 share.positions) (joined (present (map part_in end.reports.items))) r) (sym is)
+        (array_of share.width (cells_from cell 0 share.positions) (joined (present (map part_in end.reports.items))) (first_stop_of end.reports.items) ran),
+    subst (λ (r : Result (Unit {0}) Stop). IfOk r (λ done. Costs cost 0 share.positions k k')) (sym is) (costs held e (first_stop_of end.reports.items) refl),
+  )
+  answer result (Err m) e is = (
+    subst (λ (r : Result (Unit {0}) Stop). IsArray (cells_from cell 0 share.positions) (joined (present (map part_in end.reports.items))) r) (sym is) tt,
+    subst (λ (r : Result (Unit {0}) Stop). IfOk r (λ done. Costs cost 0 share.positions k k')) (sym is) tt,
+  )
+
+  pub buffer_answer : (result : Result (Unit {0}) Stop) → Answers (first_stop_of end.reports.items) end.held result
+      → IsArray (cells_from cell 0 share.positions) (joined (present (map part_in end.reports.items))) result × IfOk result (λ done. Costs cost 0 share.positions k k')
+  buffer_answer result is = answer result end.held refl is

@@ -59,11 +59,14 @@ ended_of (Fold base op) width cells (Some p) after end d = absurd d
 
 pub ok_all : (rs : List ChunkReport) → first_stop_of rs ≡ Ok tt → AllOk rs
 ok_all [] e = tt
-ok_all (r ∷ rs) e = by r.end refl e
+ok_all (r ∷ rs) e = by r.end refl e (λ f. ok_all rs f)
   where
-    by : (end : Result Bool Stop) → r.end ≡ end → stop_or end (first_stop_of rs) ≡ Ok tt → AllOk (r ∷ rs)
-    by (Ok held) is e = (subst (λ (s : Result Bool Stop). IsOk s) (sym is) cc, ok_all rs e)
-    by (Err stop) is e = absurd (cc)
+    fine : (held : Bool) → IsOk {T = Bool} {E = Stop} (Ok held)
+    fine held = cc
+
+    by : (end : Result Bool Stop) → r.end ≡ end → stop_or end (first_stop_of rs) ≡ Ok tt → (first_stop_of rs ≡ Ok tt → AllOk rs) → AllOk (r ∷ rs)
+    by (Ok held) is e rest = (subst (λ (s : Result Bool Stop). IsOk s) (sym is) (fine held), rest e)
+    by (Err stop) is e rest = absurd (cc)
 
 -- ---- folds
 

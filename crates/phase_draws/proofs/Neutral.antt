@@ -11,6 +11,7 @@ use Rattle.chunk_reports.specs.Orders.{counting}
 use Rattle.chunk_reports.specs.Stops.{first_stop_of}
 use Rattle.count_table.specs.Tallied.{PhaseTotals}
 use Rattle.wl_core.specs.declared.setup.Job.TheVariants.{Fold}
+use Rattle.wl_core.specs.Combining.{IsFoldable}
 use Rattle.wl_core.specs.Machine.{CellValue, TakesBase, combine, both}
 use Rattle.wl_core.proofs.FoldLaws.{foldable, elementwise-foldable}
 use Rattle.phase_team.specs.Endings.{IsCombined}
@@ -39,6 +40,7 @@ parts_none share base op is n filled c part at =
 module _ (cell : ℕ → CellValue) (cost : ℕ → ℕ → ℕ) (share : Share) (parts : List ChunkPart) (base : Base) (op : Op) (is : share.job ≡ Fold base op) (takes : TakesBase (Fold base op)) (n : ℕ) (many : length parts ≡ n)
   (filled : (k : ℕ) → k < n → k * share.size < share.positions) (covers : share.positions ≤ n * share.size) (k k' : ℕ → ℕ) (rows : List ℤ) (end : TeamEnd) (ended : IsEnded cell cost share parts k k' rows end)
   (before after : List ℤ) (width : share.width ≡ length before) (result : Result (Unit {0}) Stop) where
+  laws : IsFoldable (combine op)
   laws = elementwise-foldable (fold_op op) (foldable base op takes)
 
   all : FoldEnd cell share parts op laws (cells_from cell 0 share.positions) end.reports.items (first_stop_of end.reports.items)

@@ -25,6 +25,10 @@ pub room_last : (n : ℕ) (vs : List (Vec ChunkReport Global)) (v : Vec ChunkRep
 room_last n [] v all = (tt, all.0, all.1)
 room_last n (w ∷ vs) v all = let rest = room_last n vs v all.2 in ((all.0, all.1, rest.0), rest.1, rest.2)
 
+pub rooms_push : (n : ℕ) (vs : List (Vec ChunkReport Global)) (v : Vec ChunkReport Global) → AreRooms n vs → v.items ≡ [] → n ≤ vec_capacity v → AreRooms n (vs ++ v ∷ [])
+rooms_push n [] v all none fits = (none, fits, tt)
+rooms_push n (w ∷ vs) v all none fits = (all.0, all.1, rooms_push n vs v all.2 none fits)
+
 -- a worker's rows, and those of the others
 pub rows_apart : (job : Job) (width n len own : ℕ) → HasRowsFor job width (n + 1) len → HasThreeRows job width own → HasRowsFor job width n (len - own)
 rows_apart Store width n len own all mine = tt

@@ -27,6 +27,11 @@ Finishes op (Ok done) (Err e) rows before after result = result ≡ Err Memory
 Finishes op (Ok done) (Ok held) rows before after result =
     (result ≡ Ok tt) × (Some after ≡ both (combine op) (Some before) (value_if held (take (length before) rows)))
 
+-- an array's phase answers with the first stop, or with want of memory
+abbrev pub Answers : Result (Unit {0}) Stop → Result Bool memory.Memory → Result (Unit {0}) Stop → Type 0
+Answers first (Ok held) result = result ≡ first
+Answers first (Err e) result = result ≡ Err Memory
+
 -- a phase was closed into the tally, and drew so many chunks
 abbrev pub one_phase : ℕ → PhaseTotals → PhaseTotals
 one_phase chunks tally = record { phases = (tally.phases + 1) % 2 ^ 64; draws = (tally.draws + chunks) % 2 ^ 64 }

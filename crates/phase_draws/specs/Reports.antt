@@ -1,6 +1,8 @@
 -- What workers tell of the chunks that they drew.
 use Rattle.std.specs.Prelude.{◌≡◌, ℕ, ◌+◌, ◌*◌, ◌<◌, ◌≤◌, ◌++◌, ℤ, List, [], ◌∷◌, map, Vec, vec_capacity, Result, IfOk, take, slice_get, All, MatchOption, IsOk, Bool, Option, None, Some}
 use Rattle.std.specs.Global.{Global}
+use Rattle.buffer_parts.specs.Spans as spans
+use Rattle.buffer_parts.specs.Spans.{Span}
 use Rattle.count_table.specs.Seats.{FrameState}
 use Rattle.phase_draws.specs.Chunks.{ChunkPart, ChunkReport, cells_of, count_of, partial_of, IsDone, PartFits}
 use Rattle.sac_base.specs.declared.memory.Memory.{Memory}
@@ -75,3 +77,10 @@ abbrev pub GrewBoth : (ℕ → CellValue) → (ℕ → ℕ → ℕ) → Share �
 GrewBoth cell cost share mine old new kept kept' spent spent' rows result =
     (more : List ChunkReport) × (new ≡ old ++ more) × IfOk result (λ held. AllOk more → AllOk mine
     → CostOf cost share more kept kept' × CostOf cost share mine spent spent' × AreCombined cell share (more ++ mine) held rows)
+
+-- the parts are those of n chunks, which have all positions
+pub record IsLent (share : Share) (n : ℕ) (parts : List (Span ℤ)) : Type 0 where
+  pub lengths : map (λ (p : Span ℤ). length p.cells) parts ≡ spans.lengths (share.size * share.width) n (share.positions * share.width)
+  pub filled : (k : ℕ) → k < n → k * share.size < share.positions
+  pub covers : share.positions ≤ n * share.size
+  pub few : n ≤ 4096

@@ -5,6 +5,7 @@
 //! that of the cells taken one after another.
 #![tactic(auto)]
 
+mod arrays;
 mod cells;
 mod crew;
 mod draws;
@@ -16,6 +17,7 @@ mod share;
 mod turns;
 mod worker;
 
+pub use arrays::PhaseBooks;
 pub use cells::PhaseCells;
 pub use folds::fold_phase;
 pub use share::ChunkPart;
