@@ -1,5 +1,6 @@
 -- The value of a fold's whole phase.
 use Rattle.std.proofs.Common.{◌≡◌, ℕ, zero, suc, ◌+◌, ◌*◌, ◌<◌, ◌≤◌, Bool, ℤ, List, [], ◌∷◌, length, take, Option, None, Some, Result, Ok, Err, IfOk, refl, sym, ap, subst, ◌∙◌, arith}
+use Rattle.std.proofs.Math.Nat.{suc-mul}
 use Rattle.std.specs.Prelude.{fold, replicate, slice_get}
 use Rattle.sac_base.specs.Verdict.{each, present, combined, fold_op}
 use Rattle.sac_base.specs.declared.base.Base.{Base}
@@ -79,3 +80,10 @@ pub tallied : (n : ℕ) (before after : PhaseTotals) (r : Result (Unit {0}) Stop
 tallied n before after (Ok done) e = e
 tallied n before after (Err (Faulted fault)) e = e
 tallied n before after (Err Memory) e = tt
+
+-- where there is a worker, there is a row
+pub row_there : (workers others w len : ℕ) → others + 1 ≡ workers → len ≡ workers * (w + (w + w)) → w ≤ len
+row_there workers others w len some is =
+    let e : workers * (w + (w + w)) ≡ suc others * (w + (w + w)) = ap (λ (n : ℕ). n * (w + (w + w))) (let k : workers ≡ suc others = omega arith in k) in
+    let f : suc others * (w + (w + w)) ≡ others * (w + (w + w)) + (w + (w + w)) = suc-mul others (w + (w + w)) in
+    omega arith

@@ -1,5 +1,5 @@
 -- What workers tell of the chunks that they drew.
-use Rattle.std.specs.Prelude.{◌≡◌, ℕ, ◌+◌, ◌*◌, ◌<◌, ◌≤◌, ◌++◌, ℤ, List, [], ◌∷◌, map, Vec, vec_capacity, Result, IfOk, take, slice_get, All, MatchOption, IsOk, Bool, Option, None, Some}
+use Rattle.std.specs.Prelude.{◌≡◌, ℕ, ◌+◌, ◌*◌, ◌<◌, ◌≤◌, ◌++◌, ℤ, List, [], ◌∷◌, length, map, Vec, vec_capacity, Result, IfOk, take, slice_get, All, MatchOption, IsOk, Bool, Option, None, Some}
 use Rattle.std.specs.Global.{Global}
 use Rattle.buffer_parts.specs.Spans as spans
 use Rattle.buffer_parts.specs.Spans.{Span}

@@ -7,7 +7,7 @@ ghost use Rattle.index_cutter.specs.Cuts.{chunk_size};
 ghost use Rattle.sac_base.specs.Verdict.{folds};
 ghost use Rattle.phase_team.specs.Endings.{IsCombined};
 ghost use Rattle.phase_team.specs.Segments.{cells_from, Costs};
-ghost use Rattle.phase_draws.specs.Crews.{HaveRoom};
+ghost use Rattle.phase_draws.specs.Crews.{HaveRoom, Suits};
 ghost use Rattle.phase_draws.specs.Endings.{Finishes, IsTallied};
 
 use crate::cells::PhaseCells;
@@ -17,7 +17,7 @@ use crate::share::{ChunkPart, Share};
 use crate::worker::combine_held;
 use chunk_reports::first_stop;
 use count_table::Tally;
-use index_cutter::cut;
+use index_cutter::{Cuts, cut};
 use phase_team::Gate;
 use sac_base::{Base, Cell, Memory, Op, Stop};
 use std::alloc::Global;
@@ -88,14 +88,8 @@ pub fn fold_phase<H: Send, C: PhaseCells<H>, G: Gate, R: Threads + Sync>(
     ensures tally { IsTallied (div_ceil positions (chunk_size positions workers chunk)) tally.old tally.new result }
 {
     let cuts = cut(positions as u64, workers, chunk);
-    let share = Share {
-        job: Job::Fold(base, op),
-        width: value.len(),
-        positions,
-        size: cuts.size as usize,
-    };
     let team = team_of(workers, cuts.count);
-    let begun = fold_rooms(alloc, team, cuts.count as usize, share.width);
+    let begun = fold_rooms(alloc, team, cuts.count as usize, value.len());
     let Ok(FoldRooms {
         slots,
         rooms,
@@ -104,10 +98,56 @@ pub fn fold_phase<H: Send, C: PhaseCells<H>, G: Gate, R: Threads + Sync>(
     else {
         return Err(Stop::Memory);
     };
+    run_fold(
+        rt, alloc, cells, gate, cuts, base, op, slots, rooms, &mut rows, home, counts, value,
+        tally,
+    )
+}
+
+// Runs a phase that combines its cells, and combines what they come to with the neutral value.
+fn run_fold<H: Send, C: PhaseCells<H>, G: Gate, R: Threads + Sync>(
+    rt: &R,
+    alloc: Global,
+    cells: &C,
+    gate: &G,
+    cuts: Cuts,
+    base: Base,
+    op: Op,
+    slots: Vec<ChunkPart>,
+    rooms: Rooms,
+    rows: &mut [Cell],
+    home: &mut H,
+    counts: &mut [u64],
+    value: &mut [Cell],
+    tally: &mut Tally,
+) -> Result<(), Stop>
+    requires suits { Suits (C.cell cells.now) (C.positions cells.now) (C.width cells.now) (C.shared cells.now) (length counts.old)
+        (record { job = Job.Fold base op; width = length value.old; positions = cuts.positions; size = cuts.size }) 0 cuts.positions }
+    requires filled { (k : ℕ) → k < cuts.count → k * cuts.size < cuts.positions }
+    requires covers { cuts.positions ≤ cuts.count * cuts.size }
+    requires most { cuts.count ≤ 4096 }
+    requires op { IsTrue (folds base op) }
+    requires slots { slots.items ≡ replicate cuts.count None }
+    requires rooms { (workers : ℕ) × (workers ≤ 64) × HaveRoom cuts.count workers rooms
+        × (length rows.old ≡ workers * (length value.old + (length value.old + length value.old))) }
+    requires counts { AreReferences counts.old }
+    requires home { C.open_home cells.now home.old }
+    ensures combined { IsCombined op (cells_from (C.cell cells.now) 0 cuts.positions) value.old value.new result }
+    ensures home { C.open_home cells.now home.new }
+    ensures kept { IfOk result (λ _. Costs (C.cost cells.now) 0 cuts.positions (C.kept cells.now home.old) (C.kept cells.now home.new)) }
+    ensures counts { counts.new ≡ counts.old }
+    ensures tally { IsTallied cuts.count tally.old tally.new result }
+{
+    let share = Share {
+        job: Job::Fold(base, op),
+        width: value.len(),
+        positions: cuts.positions as usize,
+        size: cuts.size as usize,
+    };
     match run_phase(
-        rt, alloc, cells, gate, share, slots, rooms, &mut rows, home, counts, tally,
+        rt, alloc, cells, gate, share, slots, rooms, rows, home, counts, tally,
     ) {
-        Ok(end) => with_neutral(op, &end, &rows, value),
+        Ok(end) => with_neutral(op, &end, rows, value),
         Err(_) => Err(Stop::Memory),
     }
 }
