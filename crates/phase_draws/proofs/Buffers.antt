@@ -165,7 +165,7 @@ places_same ps back slots is all = subst (λ (l : List (Span ℤ)). KeepPlaces p
 -- ---- a whole phase
 
 module _ (cell : ℕ → CellValue) (cost : ℕ → ℕ → ℕ) (share : Share) (store : share.job ≡ Store) (ps : List (Span ℤ)) (lent : IsLent share (length ps) ps) (k k' : ℕ → ℕ) (rows : List ℤ) (end : TeamEnd)
-  (ended : IsEnded cell cost share (map (λ (p : Span ℤ). Some p) ps) k k' rows end) where
+    (ended : IsEnded cell cost share (map (λ (p : Span ℤ). Some p) ps) k k' rows end) where
   slots : List ChunkPart
   slots = map (λ (p : Span ℤ). Some p) ps
 
@@ -202,3 +202,11 @@ module _ (cell : ℕ → CellValue) (cost : ℕ → ℕ → ℕ) (share : Share)
   pub buffer_answer : (result : Result (Unit {0}) Stop) → Answers (first_stop_of end.reports.items) end.held result
       → IsArray (cells_from cell 0 share.positions) (joined (present (map part_in end.reports.items))) result × IfOk result (λ done. Costs cost 0 share.positions k k')
   buffer_answer result is = answer result end.held refl is
+
+-- as many reports as chunks
+long_counting : (c n : ℕ) → length (counting c n) ≡ n
+long_counting c zero = refl
+long_counting c (suc n) = ap (λ (k : ℕ). suc k) (long_counting (c + 1) n)
+
+pub as_many : (rs : List ChunkReport) (n : ℕ) → map chunk_in rs ≡ counting 0 n → length rs ≡ n
+as_many rs n e = sym (length-map rs chunk_in) ∙ ap (λ (l : List ℕ). length l) e ∙ long_counting 0 n

@@ -29,9 +29,11 @@ use Rattle.phase_draws.proofs.Ended.{fold_from, ok_all, FoldEnd}
 -- a fold's chunks have no parts
 pub parts_none : (share : Share) (base : Base) (op : Op) → share.job ≡ Fold base op → (n : ℕ) → ((k : ℕ) → k < n → k * share.size < share.positions) → PartsFit share (replicate n None)
 parts_none share base op is n filled c part at =
-    let there = by n c part at in
-    (filled c there.0, subst (λ j. PartFits j (count_of share c * share.width) part) (sym is)
-    (subst (λ p. PartFits (Fold base op) (count_of share c * share.width) p) (sym there.1) tt))
+    let there = by n c part at in (
+      filled c there.0,
+      subst (λ j. PartFits j (count_of share c * share.width) part) (sym is)
+          (subst (λ p. PartFits (Fold base op) (count_of share c * share.width) p) (sym there.1) tt),
+    )
   where
     by : (m j : ℕ) (p : ChunkPart) → slice_get (replicate m None) j ≡ Some p → (j < m) × (p ≡ None)
     by zero j p e = absurd (cc)
@@ -39,8 +41,8 @@ parts_none share base op is n filled c part at =
     by (suc m) (suc j) p e = let b = by m j p e in (let l = b.0 in omega arith, b.1)
 
 module _ (cell : ℕ → CellValue) (cost : ℕ → ℕ → ℕ) (share : Share) (parts : List ChunkPart) (base : Base) (op : Op) (is : share.job ≡ Fold base op) (takes : TakesBase (Fold base op)) (n : ℕ) (many : length parts ≡ n)
-  (filled : (k : ℕ) → k < n → k * share.size < share.positions) (covers : share.positions ≤ n * share.size) (k k' : ℕ → ℕ) (rows : List ℤ) (end : TeamEnd) (ended : IsEnded cell cost share parts k k' rows end)
-  (before after : List ℤ) (width : share.width ≡ length before) (result : Result (Unit {0}) Stop) where
+    (filled : (k : ℕ) → k < n → k * share.size < share.positions) (covers : share.positions ≤ n * share.size) (k k' : ℕ → ℕ) (rows : List ℤ) (end : TeamEnd) (ended : IsEnded cell cost share parts k k' rows end)
+    (before after : List ℤ) (width : share.width ≡ length before) (result : Result (Unit {0}) Stop) where
   laws : IsFoldable (combine op)
   laws = elementwise-foldable (fold_op op) (foldable base op takes)
 
@@ -67,9 +69,10 @@ module _ (cell : ℕ → CellValue) (cost : ℕ → ℕ → ℕ) (share : Share)
       let whole : Some after ≡ Some (fold (combine op) before (present a.0)) =
       fin.1 ∙ (λ j. both (combine op) (Some before) (t.1 j)) ∙ (λ j. both (combine op) (Some before) (a.3 j)) ∙ sym (from_first (combine op) laws before (present a.0)) in
       let value : after ≡ fold (combine op) before (present a.0) = cc in
-      let r = sym fin.0 in
-      (subst (λ s. IsCombined op (cells_from cell 0 share.positions) before after s) r (a.0, a.1, value, subst (λ (w : ℕ). HaveWidth w a.0) width a.2),
-      subst (λ (s : Result (Unit {0}) Stop). IfOk s (λ done. Costs cost 0 share.positions k k')) r t.0)
+      let r = sym fin.0 in (
+        subst (λ s. IsCombined op (cells_from cell 0 share.positions) before after s) r (a.0, a.1, value, subst (λ (w : ℕ). HaveWidth w a.0) width a.2),
+        subst (λ (s : Result (Unit {0}) Stop). IfOk s (λ done. Costs cost 0 share.positions k k')) r t.0,
+      )
 
   pub fold_answer : Finishes op (first_stop_of end.reports.items) end.held rows before after result
       → IsCombined op (cells_from cell 0 share.positions) before after result × IfOk result (λ done. Costs cost 0 share.positions k k')

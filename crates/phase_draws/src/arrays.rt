@@ -147,7 +147,17 @@ fn run_parts<H: Send, C: PhaseCells<H>, G: Gate, R: Threads + Sync>(
     let mut parts = parts;
     fill_slots(&mut parts, &mut slots);
     let ran = run_phase(
-        rt, alloc, cells, gate, share, slots, rooms, &mut [], &mut home, &mut counts, &mut tally,
+        rt,
+        alloc,
+        cells,
+        gate,
+        share,
+        slots,
+        rooms,
+        &mut [],
+        &mut home,
+        &mut counts,
+        &mut tally,
     );
     let end = match ran {
         Ok(team) => {

@@ -4,8 +4,8 @@ ghost use Rattle.wl_core.specs.Machine.{CellValue};
 ghost use Rattle.phase_draws.specs.Crews.{IsFresh};
 ghost use Rattle.phase_team.specs.Segments.{IsComputed, Same, Tells, row_at};
 
-use count_table::{Phase, WorkerSeat};
 use crate::share::ChunkPart;
+use count_table::{Phase, WorkerSeat};
 use phase_team::CellEnd;
 use sac_base::{Cell, Memory};
 

@@ -177,9 +177,7 @@ fn run_first<H: Send, C: PhaseCells<H>, G: Gate, R: Threads + Sync>(
     ensures frame { IsBack frame.old frame.new }
 {
     if rooms.is_empty() {
-        return Ok(run_turns(
-            cells, gate, table, seat, worker, share, number, rows, mine,
-        ));
+        return Ok(run_turns(cells, gate, table, seat, worker, share, number, rows, mine));
     }
     let (own, rest) = rows.split_at_mut(own_room(share));
     let (held, more) = side_by_side(
@@ -269,7 +267,21 @@ fn side_by_side<H: Send, C: PhaseCells<H>, G: Gate, R: Threads + Sync>(
         ensures capacity { vec_capacity reports.exit.now ≡ vec_capacity reports.entry.now }
         ensures home { C.open_home cells.entry.now home.exit.now }
         ensures frame { IsBack frame.entry.now frame.exit.now }
-    { run_others(rt, cells, gate, table, frame, home, share, number + 1, rooms, rest, reports) };
+    {
+        run_others(
+            rt,
+            cells,
+            gate,
+            table,
+            frame,
+            home,
+            share,
+            number + 1,
+            rooms,
+            rest,
+            reports,
+        )
+    };
     join_mut(rt, &mut here, &mut there)
 }
 

@@ -3,8 +3,8 @@ ghost use Rattle.std.specs.Prelude.{◌≡◌, ℕ, ◌<◌, ◌++◌, [], ◌�
 ghost use Rattle.count_table.specs.Views.{times};
 ghost use Rattle.phase_draws.specs.Crews.{IsFresh, IsGoing, drawn_by};
 
-use count_table::{Phase, WorkerSeat};
 use crate::share::ChunkPart;
+use count_table::{Phase, WorkerSeat};
 
 /// A chunk that was drawn, and its part.
 #[derive(Drop)]

@@ -32,12 +32,7 @@ struct FoldRooms {
     rows: Vec<Cell>,
 }
 
-fn fold_rooms(
-    alloc: Global,
-    team: usize,
-    chunks: usize,
-    width: usize,
-) -> Result<FoldRooms, Memory>
+fn fold_rooms(alloc: Global, team: usize, chunks: usize, width: usize) -> Result<FoldRooms, Memory>
     requires some { 1 ≤ team }
     requires few { (team ≤ 64) × (chunks ≤ 4096) }
     ensures slots { IfOk result (λ r. r.slots.items ≡ replicate chunks None) }
@@ -90,17 +85,18 @@ pub fn fold_phase<H: Send, C: PhaseCells<H>, G: Gate, R: Threads + Sync>(
     let cuts = cut(positions as u64, workers, chunk);
     let team = team_of(workers, cuts.count);
     let begun = fold_rooms(alloc, team, cuts.count as usize, value.len());
-    let Ok(FoldRooms {
-        slots,
-        rooms,
-        mut rows,
-    }) = begun
+    let Ok(
+        FoldRooms {
+            slots,
+            rooms,
+            mut rows,
+        },
+    ) = begun
     else {
         return Err(Stop::Memory);
     };
     run_fold(
-        rt, alloc, cells, gate, cuts, base, op, slots, rooms, &mut rows, home, counts, value,
-        tally,
+        rt, alloc, cells, gate, cuts, base, op, slots, rooms, &mut rows, home, counts, value, tally,
     )
 }
 

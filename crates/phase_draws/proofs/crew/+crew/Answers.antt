@@ -31,7 +31,7 @@ run_first-side_by_side-held-requires-clause-rest g t c κs within =
 pub run_others-run_team-requires-clause-mine : goal.run_others-run_team-requires-clause-mine
 run_others-run_team-requires-clause-mine g t c κs within =
     let last = room_last (length c.args.table.now.parts) c.pop.new.self.items c.in-Some.room
-        (subst (λ l. AreRooms (length c.args.table.now.parts) l) c.in-Some.ensures.items c.requires.rooms) in
+    (subst (λ l. AreRooms (length c.args.table.now.parts) l) c.in-Some.ensures.items c.requires.rooms) in
     (last.1, last.2)
 
 pub run_others-run_team-requires-clause-rooms : goal.run_others-run_team-requires-clause-rooms
@@ -59,9 +59,9 @@ run_first-returns-clause-grew g t c =
     let mine : c.own_room.result ≡ length c.side_by_side-held.new.own = omega arith in
     let others : length c.args.rows.now - c.own_room.result ≡ length c.side_by_side-held.new.rest = omega arith in
     let rows = rows_of_both c.args.share.job c.args.share.width (vec_len c.args.rooms.now) (length c.side_by_side-held.new.own) (length c.side_by_side-held.new.rest) some
-        (subst (λ (n : ℕ). HasThreeRows c.args.share.job c.args.share.width n) mine is.0)
-        (subst (λ (n : ℕ). HasRowsFor c.args.share.job c.args.share.width (vec_len c.args.rooms.now) n) others
-        (rows_apart c.args.share.job c.args.share.width (vec_len c.args.rooms.now) (length c.args.rows.now) c.own_room.result c.requires.rows is.0)) in
+    (subst (λ (n : ℕ). HasThreeRows c.args.share.job c.args.share.width n) mine is.0)
+    (subst (λ (n : ℕ). HasRowsFor c.args.share.job c.args.share.width (vec_len c.args.rooms.now) n) others
+    (rows_apart c.args.share.job c.args.share.width (vec_len c.args.rooms.now) (length c.args.rows.now) c.own_room.result c.requires.rows is.0)) in
     grew_both (g.C.PhaseCells.cell c.args.cells.now) (g.C.PhaseCells.cost c.args.cells.now) c.args.share c.requires.suits.takes
     c.side_by_side-held.new.mine.items c.args.reports.now.items c.side_by_side-held.new.reports.items
     (g.C.PhaseCells.kept c.args.cells.now c.args.home.now) (g.C.PhaseCells.kept c.args.cells.now c.side_by_side-held.new.home)
