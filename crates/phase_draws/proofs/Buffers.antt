@@ -1,5 +1,5 @@
 -- The buffer of a whole phase.
-use Rattle.std.proofs.Common.{◌≡◌, ℕ, zero, suc, ◌+◌, ◌-◌, ◌*◌, ◌<◌, ◌≤◌, min, Bool, true, ℤ, List, [], ◌∷◌, ◌++◌, length, map, Option, None, Some, Result, Ok, Err, IfOk, refl, sym, ap, subst, ◌∙◌, inl, inr, arith}
+use Rattle.std.proofs.Common.{◌≡◌, ℕ, zero, suc, ◌+◌, ◌-◌, ◌*◌, ◌<◌, ◌≤◌, min, Bool, true, ℤ, List, [], ◌∷◌, ◌++◌, length, map, None, Some, Result, Ok, Err, IfOk, refl, sym, ap, subst, ◌∙◌, inl, inr, arith}
 use Rattle.std.specs.Prelude.{slice_get}
 use Rattle.std.proofs.lemmas.Bool.{cases_order}
 use Rattle.std.proofs.lemmas.List.{length-map}
@@ -12,7 +12,7 @@ use Rattle.chunk_reports.specs.Orders.{counting}
 use Rattle.chunk_reports.specs.Stops.{first_stop_of, stop_or}
 use Rattle.count_table.specs.Opening.{present}
 use Rattle.wl_core.specs.declared.setup.Job.{Job}
-use Rattle.wl_core.specs.declared.setup.Job.TheVariants.{Write as Store, Fold}
+use Rattle.wl_core.specs.declared.setup.Job.TheVariants.{Write as Store}
 use Rattle.wl_core.specs.Machine.{CellValue}
 use Rattle.phase_team.specs.Endings.{IsArray}
 use Rattle.phase_team.specs.Segments.{cells_from, Costs, Ran}

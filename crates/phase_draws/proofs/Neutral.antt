@@ -1,8 +1,8 @@
 -- The value of a fold's whole phase.
-use Rattle.std.proofs.Common.{◌≡◌, ℕ, zero, suc, ◌+◌, ◌*◌, ◌<◌, ◌≤◌, Bool, ℤ, List, [], ◌∷◌, length, take, Option, None, Some, Result, Ok, Err, IfOk, refl, sym, ap, subst, ◌∙◌, arith}
+use Rattle.std.proofs.Common.{◌≡◌, ℕ, zero, suc, ◌+◌, ◌*◌, ◌<◌, ◌≤◌, Bool, ℤ, List, length, take, None, Some, Result, Ok, Err, IfOk, refl, sym, ap, subst, ◌∙◌, arith}
 use Rattle.std.proofs.Math.Nat.{suc-mul}
 use Rattle.std.specs.Prelude.{fold, replicate, slice_get}
-use Rattle.sac_base.specs.Verdict.{each, present, combined, fold_op}
+use Rattle.sac_base.specs.Verdict.{present, fold_op}
 use Rattle.sac_base.specs.declared.base.Base.{Base}
 use Rattle.sac_base.specs.declared.memory.Memory as memory
 use Rattle.sac_base.specs.declared.op.Op.{Op}
@@ -23,7 +23,7 @@ use Rattle.phase_draws.specs.declared.phase.TeamEnd.{TeamEnd}
 use Rattle.phase_draws.specs.Chunks.{count_of, ChunkPart, PartFits}
 use Rattle.phase_draws.specs.Endings.{one_phase, Finishes, IsEnded, IsTallied}
 use Rattle.phase_draws.specs.Reports.{AllOk, Combine, PartsFit, gathered}
-use Rattle.phase_draws.proofs.Chunked.{cells_all, chunk_cells}
+use Rattle.phase_draws.proofs.Chunked.{cells_all}
 use Rattle.phase_draws.proofs.Ended.{fold_from, ok_all, FoldEnd}
 
 -- a fold's chunks have no parts

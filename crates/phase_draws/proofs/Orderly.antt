@@ -1,17 +1,17 @@
 -- Reports put in order, and totals of all chunks.
-use Rattle.std.proofs.Common.{◌≡◌, ℕ, zero, suc, ◌+◌, ◌*◌, ◌<◌, ◌≤◌, ℤ, List, [], ◌∷◌, map, Option, refl, sym, ap, subst, ◌∙◌, arith}
+use Rattle.std.proofs.Common.{◌≡◌, ℕ, ◌+◌, ◌*◌, ◌<◌, ◌≤◌, ℤ, List, [], ◌∷◌, map, Option, refl, sym, ap, ◌∙◌}
 use Rattle.std.specs.Prelude.{All, IsOk}
 use Rattle.std.specs.List.Sorted.{IsPermutation}
 use Rattle.std.proofs.lemmas.List.Elements.{All-nil, All-cons, All-head, All-tail}
 use Rattle.std.proofs.lemmas.List.Sorted.{All-permutation, IsPermutation-sym}
-use Rattle.chunk_reports.specs.Orders.{EachOnce, combined_over, combined_upto, counting, sum_over, sum_upto}
+use Rattle.chunk_reports.specs.Orders.{EachOnce, combined_over, sum_over}
 use Rattle.chunk_reports.proofs.Ascending.{same_times}
 use Rattle.chunk_reports.proofs.Totals.{combined_once, sum_once}
 use Rattle.sac_base.specs.Verdict.{each}
 use Rattle.sac_base.specs.declared.op.Op.{Op}
 use Rattle.wl_core.specs.Combining.{IsFoldable}
 use Rattle.wl_core.specs.Machine.{CellValue, combine, both}
-use Rattle.phase_team.specs.Segments.{cost_from, Costs, Same}
+use Rattle.phase_team.specs.Segments.{cost_from, Costs}
 use Rattle.phase_team.proofs.Sequences.{same_of, same_then}
 use Rattle.phase_draws.specs.declared.share.Share.{Share}
 use Rattle.phase_draws.specs.Chunks.{cells_of, count_of, partial_of, ChunkPart, ChunkReport}

@@ -1,5 +1,5 @@
 -- A whole phase's reports.
-use Rattle.std.proofs.Common.{◌≡◌, ℕ, zero, suc, ◌+◌, ◌*◌, ◌<◌, ◌≤◌, Bool, ℤ, List, [], ◌∷◌, ◌++◌, length, map, cond, ltb, Option, Some, Result, Ok, Err, IfOk, refl, sym, ap, subst, ◌∙◌, arith}
+use Rattle.std.proofs.Common.{◌≡◌, ℕ, zero, suc, ◌*◌, ◌<◌, ◌≤◌, Bool, ℤ, List, [], ◌∷◌, length, map, cond, Some, Result, Ok, Err, IfOk, refl, sym, ap, subst, ◌∙◌, arith}
 use Rattle.std.specs.Prelude.{slice_get, nat_lt}
 use Rattle.std.specs.List.Sorted.{IsPermutation}
 use Rattle.std.proofs.lemmas.List.{length-map}
@@ -10,9 +10,9 @@ use Rattle.count_table.specs.Seats.{FrameState}
 use Rattle.count_table.specs.Views.{times}
 use Rattle.wl_core.specs.declared.setup.Job.{Job}
 use Rattle.wl_core.specs.declared.setup.Job.TheVariants.{Write as Store, Fold}
-use Rattle.wl_core.specs.Machine.{CellValue, TakesBase, combine}
+use Rattle.wl_core.specs.Machine.{CellValue, TakesBase}
 use Rattle.wl_core.proofs.FoldLaws.{foldable, elementwise-foldable}
-use Rattle.phase_team.specs.Segments.{value_if, Costs}
+use Rattle.phase_team.specs.Segments.{Costs}
 use Rattle.phase_draws.specs.declared.share.Share.{Share}
 use Rattle.phase_draws.specs.Chunks.{ChunkPart, ChunkReport}
 use Rattle.phase_draws.specs.Reports.{AllOk, AreFrames, Combine, Grew, PartsFit, Told}

@@ -1,5 +1,5 @@
 -- One report more.
-use Rattle.std.proofs.Common.{◌≡◌, ℕ, ◌+◌, ◌*◌, Bool, true, ℤ, List, [], ◌∷◌, ◌++◌, take, Option, None, Some, Result, Ok, Err, IfOk, refl, sym, ap, subst, ◌∙◌, arith}
+use Rattle.std.proofs.Common.{◌≡◌, ℕ, ◌+◌, ◌*◌, Bool, true, ℤ, List, [], ◌∷◌, ◌++◌, Option, None, Some, Result, Ok, Err, IfOk, refl, sym, ap, subst, ◌∙◌, arith}
 use Rattle.std.specs.Prelude.{IsOk, MatchOption, is_ok, slice_get}
 use Rattle.phase_draws.specs.Chunks.{ChunkPart, ChunkReport, cells_of, count_of, partial_of, IsDone, IsMore, PartFits}
 use Rattle.sac_base.specs.Verdict.{each, fold_op}
@@ -13,7 +13,7 @@ use Rattle.wl_core.specs.Machine.{CellValue, TakesBase, combine, both}
 use Rattle.wl_core.proofs.FoldLaws.{foldable, elementwise-foldable}
 use Rattle.phase_draws.specs.declared.share.Share.{Share}
 use Rattle.phase_draws.specs.Reports.{AllOk, AreCombined, AreDone, Combine, CostOf, IsReport, cost_of, gathered}
-use Rattle.phase_team.specs.Segments.{cost_from, value_if, Costs, Same}
+use Rattle.phase_team.specs.Segments.{cost_from, Costs, Same}
 use Rattle.phase_team.proofs.Sequences.{both-none, same_of, same_sum, same_then}
 
 pub done_push : (cell : ℕ → CellValue) (share : Share) (parts : List ChunkPart) (rs : List ChunkReport) (r : ChunkReport) → AreDone cell share parts rs → IsReport cell share parts r → AreDone cell share parts (rs ++ r ∷ [])

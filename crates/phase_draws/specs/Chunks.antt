@@ -1,5 +1,5 @@
 -- What becomes of chunks.
-use Rattle.std.specs.Prelude.{◌≡◌, ℕ, ◌+◌, ◌-◌, ◌*◌, min, ℤ, List, [], ◌∷◌, length, take, Bool, Option, None, Some, Result, Ok, Err}
+use Rattle.std.specs.Prelude.{◌≡◌, ℕ, ◌+◌, ◌-◌, ◌*◌, min, ℤ, List, length, take, Bool, Option, None, Some, Result, Ok, Err}
 use Rattle.buffer_parts.specs.Spans.{KeepsPlace, Span}
 use Rattle.chunk_reports.specs.declared.reports.Report.{Report}
 use Rattle.sac_base.specs.Verdict.{each, present, combined}

@@ -1,6 +1,5 @@
 -- What workers tell of the chunks that they drew.
-use Rattle.std.specs.Prelude.{◌≡◌, ℕ, ◌+◌, ◌*◌, ◌<◌, ◌≤◌, ◌++◌, ℤ, List, [], ◌∷◌, length, map, Vec, vec_capacity, Result, IfOk, take, slice_get, All, MatchOption, IsOk, Bool, Option, None, Some}
-use Rattle.std.specs.Global.{Global}
+use Rattle.std.specs.Prelude.{◌≡◌, ℕ, ◌+◌, ◌*◌, ◌<◌, ◌≤◌, ◌++◌, ℤ, List, [], ◌∷◌, length, map, Result, IfOk, take, slice_get, MatchOption, IsOk, Bool, Option, None, Some}
 use Rattle.buffer_parts.specs.Spans as spans
 use Rattle.buffer_parts.specs.Spans.{Span}
 use Rattle.count_table.specs.Seats.{FrameState}

@@ -1,4 +1,4 @@
-use Rattle.std.proofs.Common.{◌≡◌, ℕ, List, None, length, refl, sym, ap, subst, ◌∙◌, vec_len, rules}
+use Rattle.std.proofs.Common.{◌≡◌, ℕ, List, None, length, refl, sym, ap, subst, ◌∙◌, vec_len}
 use Rattle.std.proofs.lemmas.List.{length-replicate}
 use Rattle.wl_core.specs.declared.setup.Job.TheVariants.{Fold}
 use Rattle.phase_draws.specs.declared.share.Share.{Share}

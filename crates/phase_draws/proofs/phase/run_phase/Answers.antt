@@ -1,4 +1,4 @@
-use Rattle.std.proofs.Common.{◌≡◌, ℕ, ◌<◌, List, length, refl, sym, ap, subst, ◌∙◌, arith}
+use Rattle.std.proofs.Common.{◌≡◌, ◌<◌, List, length, refl, sym, ap, subst, ◌∙◌, arith}
 use Rattle.chunk_reports.specs.Orders.{counting}
 use Rattle.phase_draws.specs.Chunks.{ChunkPart, ChunkReport}
 use Rattle.phase_draws.specs.Reports.{AreDone, Grew, PartsFit}

@@ -1,6 +1,4 @@
-use Rattle.std.proofs.Common.{◌∷◌, [], ◌++◌, ◌∙◌, List, Vec, sym, subst, arith}
-use Rattle.std.specs.Global.{Global}
-use Rattle.phase_draws.specs.Chunks.{ChunkReport}
+use Rattle.std.proofs.Common.{◌∙◌, sym, subst, arith}
 use Rattle.phase_draws.specs.Crews.{AreRooms}
 use Rattle.phase_draws.proofs.Teams.{rooms_push}
 use Rattle.phase_draws.proofs.rooms.rooms_for.Goals as goal

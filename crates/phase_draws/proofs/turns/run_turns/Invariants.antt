@@ -1,4 +1,4 @@
-use Rattle.std.proofs.Common.{◌≡◌, ℕ, ◌-◌, ◌≤◌, List, map, length, Bool, true, false}
+use Rattle.std.proofs.Common.{◌≡◌, ◌-◌, ◌≤◌, map, length, false}
 use Rattle.std.specs.Vec.{vec_capacity}
 use Rattle.phase_draws.specs.Crews.{drawn_by, IsFresh, IsGoing}
 use Rattle.phase_draws.specs.Reports.{AllOk, AreDone, AreCombined, CostOf}

@@ -1,4 +1,4 @@
-use Rattle.std.proofs.Common.{◌≡◌, ℕ, ◌+◌, ◌-◌, ◌*◌, ◌++◌, ◌<◌, ◌≤◌, length, Some, Ok, sym, subst, arith, rules}
+use Rattle.std.proofs.Common.{◌≡◌, ℕ, ◌+◌, ◌-◌, ◌*◌, ◌++◌, ◌<◌, length, Some, Ok, sym, subst, arith, rules}
 use borrow.Rule.Slice.PartMut.{post_of}
 use Rattle.phase_team.specs.declared.cells.CellEnd.{CellEnd}
 use Rattle.phase_team.specs.Segments.{Tells, row_at}
