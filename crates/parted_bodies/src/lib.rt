@@ -6,5 +6,7 @@ mod copying;
 mod names;
 mod parts;
 
-pub use names::Progress;
+pub use binders::bound_in;
+pub use copying::copy_block;
+pub use names::{Names, Progress};
 pub use parts::{base_var, parted_op, parts_of};
