@@ -1,0 +1,4 @@
+pub mod Copied
+pub mod Fresh
+pub mod Walks
+pub mod Laws
