@@ -17,11 +17,13 @@ abbrev pub HasPart : PartsTerm → PartHead → BlockTerm → Type 0
 HasPart NoParts h b = ⊥
 HasPart (Part g c rest) h b = ((g ≡ h) × (c ≡ b)) ⊎ HasPart rest h b
 
--- what stands for a selection is a copy of the body of a part, which binds as many variables
-abbrev pub IsCopied : (p : Producer) (grid : List Grid1) (m : IndexFacts) (xs : List Var) (r : RightTerm) (d c : BlockTerm) → TakenAt p grid m xs r d c → Type 0
-IsCopied p grid m xs r d c t = HasPart p.parts t.head t.body × Alike t.body (chain t.lets (Gives (t.result ∷ [])))
+-- what stands for a selection is a copy of the body of a part, which binds as many variables, all new
+pub record IsCopied (p : Producer) (grid : List Grid1) (low high : ℕ) (m : IndexFacts) (xs : List Var) (r : RightTerm) (d c : BlockTerm) (t : TakenAt p grid m xs r d c) : Type 0 where
+  pub part : HasPart p.parts t.head t.body
+  pub alike : Alike t.body (chain t.lets (Gives (t.result ∷ [])))
+  pub new : All (IsBetween low high) (t.own ∷ bound_in (chain t.lets (Gives (t.result ∷ []))))
 
-module _ (called : ℕ → List (Option (List ℕ))) (p : Producer) (n : ℕ) (grid : List Grid1) where
+module _ (called : ℕ → List (Option (List ℕ))) (p : Producer) (n : ℕ) (grid : List Grid1) (low high : ℕ) where
   abbrev mutual
     -- so is each selection's in a folded body
     pub AllCopied : (b : BlockTerm) (k : Facts) (m : IndexFacts) (c : BlockTerm) → Folded called p n grid b k m c → Type 0
@@ -29,7 +31,7 @@ module _ (called : ℕ → List (Option (List ℕ))) (p : Producer) (n : ℕ) (g
     AllCopied (Bind xs s r b) k m c (inl h) =
         AllCopiedRight r k m h.0 h.1.1.1 × AllCopied b (note_all k xs (right_facts called r k)) (learn_index n m xs r k) h.1.0 h.1.1.2
     AllCopied (Bind xs s r b) k m c (inr h) =
-        IsCopied p grid m xs r h.0 c h.1.0 × AllCopied b (note_all k xs (right_facts called r k)) (learn_index n m xs r k) h.0 h.1.1
+        IsCopied p grid low high m xs r h.0 c h.1.0 × AllCopied b (note_all k xs (right_facts called r k)) (learn_index n m xs r k) h.0 h.1.1
 
     pub AllCopiedRight : (r : RightTerm) (k : Facts) (m : IndexFacts) (q : RightTerm) → FoldedRight called p n grid r k m q → Type 0
     AllCopiedRight (RightTerm.If x a b) k m q h = AllCopied a k m h.0 h.1.1.1 × AllCopied b k m h.1.0 h.1.1.2

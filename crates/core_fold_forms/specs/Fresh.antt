@@ -20,7 +20,7 @@ module _ (called : ℕ → List (Option (List ℕ))) (later : Facts) (p : Produc
       (folded : Folded called p (length h.grid) g.grid b (in_part later h) (own_index (length h.grid) h.index) c) : Type 0 where
     pub once : Distinct (bound_in c)
     pub within : All (IsOldOrNew (bound_in b) low high) (bound_in c)
-    pub copied : AllCopied called p (length h.grid) g.grid b (in_part later h) (own_index (length h.grid) h.index) c folded
+    pub copied : AllCopied called p (length h.grid) g.grid low high b (in_part later h) (own_index (length h.grid) h.index) c folded
     pub alike : Alike c d
 
   abbrev pub FreshPieces : (h : PartHead) (b : BlockTerm) (pieces : PartsTerm) → PiecesFold called later p h b pieces → Type 0

@@ -1,0 +1,12 @@
+pub mod Lists
+pub mod Copying
+pub mod Chains
+pub mod Producers
+pub mod Counting
+pub mod Scopes
+pub mod Typing
+pub mod Grids
+pub mod Places
+pub mod Laws
+pub mod Stepped
+pub mod Whole
