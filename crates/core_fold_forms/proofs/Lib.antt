@@ -5,6 +5,7 @@ pub mod Producers
 pub mod Counting
 pub mod Scopes
 pub mod Typing
+pub mod Narrow
 pub mod Grids
 pub mod Places
 pub mod Laws
