@@ -68,15 +68,16 @@ rest_only n t m p q = omega (arith, p, q)
 
 at_most : (frame : List Grid1) (gs : List (List Grid1)) → AllPairs AreDisjoint gs → All (λ (g : List Grid1). (index : List ℤ) → has_vector g index ≡ true → has_vector frame index ≡ true) gs → AtMost (has_vector frame) gs
 at_most frame [] a i v = omega arith
-at_most frame (g ∷ gs) a i v = go (has_vector g v) refl
+at_most frame (g ∷ gs) a i v =
+    go (has_vector g v) refl (at_most frame gs (apart_tail g gs a) (All-tail (λ (g : List Grid1). (index : List ℤ) → has_vector g index ≡ true → has_vector frame index ≡ true) g gs i) v)
   where
-    go : (b : Bool) → has_vector g v ≡ b → times_vector (g ∷ gs) v ≤ cond (has_vector frame v) 1 0
-    go true e =
+    go : (b : Bool) → has_vector g v ≡ b → times_vector gs v ≤ cond (has_vector frame v) 1 0 → times_vector (g ∷ gs) v ≤ cond (has_vector frame v) 1 0
+    go true e rest =
         subst (λ (b : Bool). times_vector (g ∷ gs) v ≤ cond b 1 0) (sym (All-head (λ (g : List Grid1). (index : List ℤ) → has_vector g index ≡ true → has_vector frame index ≡ true) g gs i v e))
         (one (times_vector (g ∷ gs) v) (times_vector gs v) (times_cons g gs v ∙ (λ j. cond (e j) 1 0 + times_vector gs v)) (none_there g gs v (apart_head g gs a) e))
-    go false e =
+    go false e rest =
         rest_only (times_vector (g ∷ gs) v) (times_vector gs v) (cond (has_vector frame v) 1 0) (times_cons g gs v ∙ (λ j. cond (e j) 1 0 + times_vector gs v))
-        (at_most frame gs (apart_tail g gs a) (All-tail (λ (g : List Grid1). (index : List ℤ) → has_vector g index ≡ true → has_vector frame index ≡ true) g gs i) v)
+        rest
 
 pub still_fit : (frame : List Grid1) (old new : List (List Grid1)) → ((v : List ℤ) → times_vector new v ≡ times_vector old v) → Fit frame old → Fit frame new
 still_fit frame old new same h = fit frame new (λ v. subst (λ (n : ℕ). n ≤ cond (has_vector frame v) 1 0) (sym (same v)) (at_most frame old h.apart h.inside v))

@@ -17,13 +17,13 @@ use Rattle.core_ir.specs.WellFormed.{Bases, base_of, HasBases, AllHave, OptionHa
 abbrev pub NarrowBases : Var → Bases → Bases → Type 0
 NarrowBases x g narrow = (y : Var) (t : Base) → eqb x.0 y.0 ≡ false → base_of g y ≡ Some t → base_of narrow y ≡ Some t
 
+base_more : (b : Bool) (t : Base) (s p q : Option Base) → (p ≡ Some t → q ≡ Some t) → cond b s p ≡ Some t → cond b s q ≡ Some t
+base_more true t s p q k h = h
+base_more false t s p q k h = k h
+
 narrow_below : (x : Var) (zs g narrow : Bases) → NarrowBases x g narrow → NarrowBases x (zs ++ g) (zs ++ narrow)
-narrow_below x [] g narrow k = k
-narrow_below x (z ∷ zs) g narrow k y t n h = go (eqb z.0.0 y.0) h
-  where
-    go : (b : Bool) → cond b (Some z.1) (base_of (zs ++ g) y) ≡ Some t → cond b (Some z.1) (base_of (zs ++ narrow) y) ≡ Some t
-    go true h = h
-    go false h = narrow_below x zs g narrow k y t n h
+narrow_below x [] g narrow k y t n h = k y t n h
+narrow_below x (z ∷ zs) g narrow k y t n h = base_more (eqb z.0.0 y.0) t (Some z.1) (base_of (zs ++ g) y) (base_of (zs ++ narrow) y) (narrow_below x zs g narrow k y t n) h
 
 avoids_front : (x : Var) (ys zs : List Var) → AvoidsAll x (ys ++ zs) → AvoidsAll x ys
 avoids_front x [] zs h = tt

@@ -1,0 +1,3 @@
+mod Made
+mod Naming
+mod Shown
