@@ -1,5 +1,6 @@
 -- What the parts of a fold step are copies of.
-use Rattle.std.specs.Prelude.{◌≡◌, ◌⊎◌, inl, inr, ℕ, true, List, [], ◌∷◌, All, Option}
+use Rattle.std.specs.Prelude.{◌≡◌, ◌⊎◌, ℕ, true, List, [], ◌∷◌, All, Option}
+use mathlib.Core.Logic.{inl, inr}
 use Rattle.sac_base.specs.declared.grid.Grid1.{Grid1}
 use Rattle.core_ir.specs.declared.tree.Var.{Var}
 use Rattle.core_ir.specs.Binders.{is_in, bound_in}
