@@ -22,7 +22,7 @@ pub struct Source<'a> {
 impl Source<'_> {
     /// The part whose number stands in the list at this place.
     fn part_for(&self, place: usize) -> Option<&CorePart>
-        ensures { IfSome result (λ part. (part_for (map part_term self.now.parts.now) (slice_get self.now.holders.now place) ≡ Some (part_term part.now))
+        ensures some { IfSome result (λ part. (part_for (map part_term self.now.parts.now) (slice_get self.now.holders.now place) ≡ Some (part_term part.now))
             × (place < length self.now.holders.now)) }
         ensures none { IfNone result (part_for (map part_term self.now.parts.now) (slice_get self.now.holders.now place) ≡ None) }
     {
