@@ -1,13 +1,20 @@
 -- A body whose bindings are folded one after another.
-use Rattle.std.proofs.Common.{◌≡◌, ℕ, suc, ◌+◌, List, [], ◌∷◌, ◌++◌, map, length, Option, Some, None, refl, sym, ap, subst, ◌∙◌, arith}
+use Rattle.std.proofs.Common.{◌≡◌, ℕ, Bool, suc, ◌+◌, List, [], ◌∷◌, ◌++◌, map, length, Option, Some, None, refl, sym, ap, subst, ◌∙◌, arith}
+use Rattle.std.specs.Prelude.{Vec}
+use Rattle.std.specs.declared.alloc.Global.{Global}
 use Rattle.core_ir.specs.declared.tree.Var.{Var}
 use Rattle.core_ir.specs.declared.tree.Block.{Block, Block-F, out-Block, roll-Block}
 use Rattle.core_ir.specs.declared.tree.Let.{Let}
+use Rattle.core_ir.specs.declared.tree.Right.{Right}
+use Rattle.core_ir.specs.declared.tree.Right.TheVariants as right
+use Rattle.core_ir.specs.declared.tree.WithLoop.{WithLoop'}
+use Rattle.core_ir.specs.declared.tree.PartedLoop.{PartedLoop'}
+use Rattle.sac_base.specs.declared.site.Site.{Site}
 use Rattle.core_ir.specs.declared.tree.Right.TheBlock.{the_data, the_data-1, the_data-2, the_data-3, the_data-4, the_data-5, the_data-6}
 use Rattle.core_ir.specs.Terms.{BlockTerm, RightTerm, LetTerm, PartTerm, Gives, Bind, chain}
-use Rattle.core_ir.specs.View.{block_term, let_term}
+use Rattle.core_ir.specs.View.{block_term, let_term, right_term}
 use Rattle.core_ir.proofs.Trees.{block_out, block_roll}
-use Rattle.folded_parts.specs.Folding.{BlockFolded, ends, takes, keeps, RightFolded, LetFolded, chosen, copy_binds, taken}
+use Rattle.folded_parts.specs.Folding.{BlockFolded, ends, takes, keeps, RightFolded, LetFolded, IsWhole, chosen, copy_binds, taken}
 
 pub chain_both : (ls ks : List LetTerm) (x : BlockTerm) → chain (ls ++ ks) x ≡ chain ls (chain ks x)
 chain_both [] ks x = refl
@@ -59,3 +66,25 @@ module _ (p : Var) (parts : List PartTerm) (holders : List ℕ) where
   pub let_taken : (i i' n m : ℕ) (l : LetTerm) (index : Var) (part : PartTerm) → i' ≡ suc i → m ≡ n + copy_binds part → chosen p parts holders i l.right ≡ Some (index, part) → LetFolded p parts holders i n l (taken part index l.targets l.site n) i' m
   let_taken i i' n m l index part e q c b d t u h =
       takes c (subst (λ (z : ℕ). BlockFolded p parts holders (suc i) z b d t u) q (subst (λ (z : ℕ). BlockFolded p parts holders z m b d t u) e h))
+
+-- what is neither a conditional nor a loop is kept whole
+pub is_whole :
+    (r : Right) → ((cond : Var) (yes no : Block) → r ≡ right.If cond yes no → ⊥) →
+    ((first : Bool) (start params : Vec Var Global) (test body : Block) (site : Site) → r ≡ right.Loop first start params test body site → ⊥) → IsWhole (right_term r)
+is_whole (right.If c a b) h l = absurd (h c a b refl)
+is_whole (right.Loop f xs ps a b s) h l = absurd (l f xs ps a b s refl)
+is_whole (right.Const a) h l = tt
+is_whole (right.Copy x) h l = tt
+is_whole (right.Unary op x) h l = tt
+is_whole (right.Binary op x y) h l = tt
+is_whole (right.Literal xs) h l = tt
+is_whole (right.Dim x) h l = tt
+is_whole (right.ShapeOf x) h l = tt
+is_whole (right.Reshape x y) h l = tt
+is_whole (right.Select x y) h l = tt
+is_whole (right.Replace x y z) h l = tt
+is_whole (right.Call group args) h l = tt
+is_whole (right.With (WithLoop' shape gens op)) h l = tt
+is_whole (right.Parted (PartedLoop' frame base cell op shape parts)) h l = tt
+is_whole (right.Always k) h l = tt
+is_whole (right.Check x t) h l = tt
