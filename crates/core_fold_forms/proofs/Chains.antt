@@ -1,11 +1,11 @@
 -- Bindings before a block.
-use Rattle.std.proofs.Common.{◌≡◌, ℕ, ◌+◌, ◌≤◌, false, List, [], ◌∷◌, ◌++◌, refl, sym, ap, subst, ◌∙◌, append_assoc, arith}
+use Rattle.std.proofs.Common.{◌≡◌, ℕ, ◌+◌, ◌≤◌, false, List, [], ◌∷◌, ◌++◌, refl, sym, ◌∙◌, append_assoc, arith}
 use Rattle.std.specs.Prelude.{zip}
 use Rattle.sac_base.specs.declared.base.Base.{Base}
 use Rattle.core_ir.specs.declared.tree.Var.{Var}
 use Rattle.core_ir.specs.Binders.{is_in, bound_in, bound_in_right}
 use Rattle.core_ir.specs.Scopes.{AllIn, Scoped}
-use Rattle.core_ir.specs.Terms.{BlockTerm, CoreTerm, LetTerm, Gives, Bind, chain}
+use Rattle.core_ir.specs.Terms.{BlockTerm, CoreTerm, LetTerm, Gives, chain}
 use Rattle.core_ir.specs.Uses.{Avoids}
 use Rattle.core_ir.specs.WellFormed.{Bases, base_of, HasBases, BlockBases, Distinct}
 use Rattle.core_ir.proofs.Variables.{in_neither}
@@ -101,6 +101,6 @@ behind core (l ∷ ls) ys us g d =
       has = rest.has;
       back = λ x ts h. (d.0, (d.1.0, d.1.1, rest.back x ts h));
       same = λ y h.
-      let n = in_neither y l.targets (bound_in_right l.right ++ bound_in (chain ls (Gives ys))) h in
-      rest.same y (in_neither y (bound_in_right l.right) (bound_in (chain ls (Gives ys))) n.1).1 ∙ zip_keeps l.targets d.0 g y n.0;
+          let n = in_neither y l.targets (bound_in_right l.right ++ bound_in (chain ls (Gives ys))) h in
+          rest.same y (in_neither y (bound_in_right l.right) (bound_in (chain ls (Gives ys))) n.1).1 ∙ zip_keeps l.targets d.0 g y n.0;
     }

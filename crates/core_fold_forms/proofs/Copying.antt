@@ -1,5 +1,5 @@
 -- A copy has as many parted loops as what it is a copy of, and calls the same groups.
-use Rattle.std.proofs.Common.{◌≡◌, ℕ, suc, ◌+◌, List, [], ◌∷◌, refl, subst}
+use Rattle.std.proofs.Common.{◌≡◌, ℕ, suc, ◌+◌, refl, subst}
 use Rattle.core_ir.specs.Renaming.{Link, Renamed, RenamedRight, RenamedGens, RenamedParts, under, under_all}
 use Rattle.core_ir.specs.Terms.{BlockTerm, RightTerm, GensTerm, PartsTerm, Gives, Bind, Plain, NoGens, Gen, NoParts, Part}
 use Rattle.core_calls.specs.Nests.{CallsAll, CallsAllRight, CallsAllGens, CallsAllParts}

@@ -1,5 +1,5 @@
 -- Folded bodies weigh as much as before, have as many parted loops, and call what the producer and the consumer call.
-use Rattle.std.proofs.Common.{◌≡◌, ℕ, zero, suc, ◌+◌, List, [], ◌∷◌, length, Option, refl, sym, ap, subst, ◌∙◌, ◌⊎◌, inl, inr, arith}
+use Rattle.std.proofs.Common.{◌≡◌, ℕ, ◌+◌, List, [], ◌∷◌, length, Option, refl, sym, ap, subst, ◌∙◌, inl, inr, arith}
 use Rattle.sac_base.specs.declared.grid.Grid1.{Grid1}
 use Rattle.core_ir.specs.declared.tree.Var.{Var}
 use Rattle.core_ir.specs.Renaming.{under}
@@ -95,7 +95,6 @@ module _ (called : ℕ → List (Option (List ℕ))) (p : Producer) (n : ℕ) (g
       right_calls (RightTerm.Parted f t c w ps) k m q h a o = subst (CallsAllRight P) (sym h) o
 
 -- ---- parts
-
 
 module _ (called : ℕ → List (Option (List ℕ))) (later : Facts) (p : Producer) (low high : ℕ) where
   append_weight : (pieces others : PartsTerm) → weight_parts (append_parts pieces others) ≡ weight_parts pieces + weight_parts others

@@ -1,13 +1,13 @@
 -- The grids of the new parts fit the frame, and cover it where the old ones did.
-use Rattle.std.proofs.Common.{◌≡◌, ℕ, zero, suc, ◌+◌, ◌<◌, ◌≤◌, Bool, true, false, ◌&&◌, cond, List, [], ◌∷◌, ◌++◌, length, All, Option, refl, sym, ap, subst, ◌∙◌, arith, ℤ}
+use Rattle.std.proofs.Common.{◌≡◌, ℕ, zero, suc, ◌+◌, ◌<◌, ◌≤◌, Bool, true, false, ◌&&◌, cond, List, [], ◌∷◌, length, All, Option, refl, sym, subst, ◌∙◌, arith, ℤ}
 use Rattle.std.specs.Prelude.{AllPairs, Contains, get_or}
 use Rattle.std.proofs.lemmas.List.Elements.{All-head, All-tail}
 use Rattle.std.proofs.lemmas.List.Sums.{sum_by-cons}
 use Rattle.sac_base.specs.declared.grid.Grid1.{Grid1}
-use Rattle.sac_base.specs.Grids.{AreDisjoint, SplitsVectors, has_vector, times_vector}
+use Rattle.sac_base.specs.Grids.{AreDisjoint, has_vector, times_vector}
 use Rattle.core_ir.specs.declared.tree.PartedOp.{PartedOp}
 use Rattle.core_ir.specs.declared.tree.PartedOp.TheVariants as parted
-use Rattle.core_ir.specs.Terms.{BlockTerm, PartsTerm, NoParts, Part}
+use Rattle.core_ir.specs.Terms.{PartsTerm, NoParts, Part}
 use Rattle.core_ir.specs.WellFormed.{Covered, Fit, PartedFits, part_grids}
 use Rattle.core_facts.specs.Facts.{Facts}
 use Rattle.core_loops.specs.Pairs.{Producer}

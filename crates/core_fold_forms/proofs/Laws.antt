@@ -1,5 +1,5 @@
 -- What the laws say of one place.
-use Rattle.std.proofs.Common.{◌≡◌, ℕ, suc, ◌+◌, ◌*◌, ◌<◌, ◌≤◌, List, [], ◌∷◌, All, Option, refl, ◌∙◌, arith}
+use Rattle.std.proofs.Common.{◌≡◌, ℕ, suc, ◌+◌, ◌*◌, ◌<◌, ◌≤◌, List, All, Option, arith}
 use Rattle.core_ir.specs.declared.tree.Var.{Var}
 use Rattle.core_ir.specs.Binders.{bound_in}
 use Rattle.core_ir.specs.Edits.{Ways, Edited, EditedRight, EditedGens, EditedParts, here, later, inside, in_then, in_else, in_test, in_body, in_gens, in_parts, this_gen, later_gen, this_part, later_part}
@@ -8,7 +8,7 @@ use Rattle.core_ir.specs.WellFormed.{Distinct}
 use Rattle.core_facts.specs.Facts.{Facts}
 use Rattle.core_loops.specs.Loops.{weight, weight_right, weight_gens, weight_parts, parted_in, parted_in_right, parted_in_gens, parted_in_parts}
 use Rattle.core_loops.specs.Steps.{fact_ways}
-use Rattle.core_inlined_bodies.proofs.Names.{Names, Fresh, fresh_below, fresh_more}
+use Rattle.core_inlined_bodies.proofs.Names.{Names, fresh_below, fresh_more}
 use Rattle.core_norm_forms.specs.Copied.{IsPlaced}
 use Rattle.core_norm_forms.proofs.Laws.{rises, fresh_from, all_by, names_below}
 use Rattle.core_norm_forms.proofs.Walking.{by_other, names_kept, scoped_kept}

@@ -1,16 +1,13 @@
 -- Variables in lists, and their bases.
-use Rattle.std.proofs.Common.{◌≡◌, ℕ, ◌<◌, ◌≤◌, Bool, true, false, ◌||◌, cond, eqb, List, [], ◌∷◌, ◌++◌, map, length, All, Option, Some, None, refl, sym, ap, subst, ◌∙◌, ◌⊎◌, inl, inr, arith}
-use Rattle.std.specs.Prelude.{zip, unwrap_or}
-use Rattle.std.proofs.lemmas.Bool.{eq-eqb}
+use Rattle.std.proofs.Common.{◌≡◌, ℕ, ◌≤◌, Bool, true, false, ◌||◌, cond, eqb, List, [], ◌∷◌, ◌++◌, map, All, Option, Some, None, refl, sym, ap, subst, ◌∙◌, inr}
+use Rattle.std.specs.Prelude.{zip}
 use Rattle.sac_base.specs.declared.base.Base.{Base}
 use Rattle.core_ir.specs.declared.tree.Var.{Var}
 use Rattle.core_ir.specs.Binders.{is_in}
-use Rattle.core_ir.specs.Renaming.{Link}
 use Rattle.core_ir.specs.Scopes.{AllIn}
 use Rattle.core_ir.specs.WellFormed.{Bases, base_of, Distinct}
-use Rattle.core_ir.proofs.Variables.{in_more, or_false, or_right, same_number}
+use Rattle.core_ir.proofs.Variables.{in_more, or_false, same_number}
 use Rattle.core_edits.specs.Within.{AreWithin, BasesWithin}
-use Rattle.core_loops.specs.Steps.{itself}
 use Rattle.core_norm_steps.specs.Step.{BaseTable, Within}
 use Rattle.core_inlined_bodies.proofs.Names.{Fresh, Names, clash, not_in, in_none, in_left, distinct_apart}
 use Rattle.core_norm_forms.specs.Fresh.{IsBetween}

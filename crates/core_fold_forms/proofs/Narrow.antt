@@ -1,5 +1,5 @@
 -- Bases of a block agree without a variable that it does not use.
-use Rattle.std.proofs.Common.{◌≡◌, ℕ, Bool, true, false, cond, eqb, List, [], ◌∷◌, ◌++◌, Option, Some, None, refl, sym, ◌∙◌}
+use Rattle.std.proofs.Common.{◌≡◌, Bool, true, false, cond, eqb, List, [], ◌∷◌, ◌++◌, Option, Some, None, sym, ◌∙◌}
 use Rattle.std.specs.Prelude.{zip, option_to_list}
 use Rattle.sac_base.specs.declared.base.Base.{Base}
 use Rattle.sac_base.specs.declared.base.Base.TheVariants.{Int, Bool as Truth}
@@ -8,8 +8,8 @@ use Rattle.core_ir.specs.declared.tree.CoreOp.{CoreOp}
 use Rattle.core_ir.specs.declared.tree.CoreOp.TheVariants as making
 use Rattle.core_ir.specs.declared.tree.PartedOp.{PartedOp}
 use Rattle.core_ir.specs.declared.tree.PartedOp.TheVariants as parted
-use Rattle.core_ir.specs.Scopes.{plain_uses, op_uses, parted_uses, head_uses}
-use Rattle.core_ir.specs.Terms.{PlainTerm, BlockTerm, RightTerm, GensTerm, PartsTerm, GenHead, CoreTerm, Gives, Bind, Plain, NoGens, Gen, NoParts, Part}
+use Rattle.core_ir.specs.Scopes.{plain_uses, op_uses, parted_uses}
+use Rattle.core_ir.specs.Terms.{PlainTerm, BlockTerm, RightTerm, GensTerm, PartsTerm, CoreTerm, Gives, Bind, Plain, NoGens, Gen, NoParts, Part}
 use Rattle.core_ir.specs.Uses.{AvoidsAll, Avoids, AvoidsRight, AvoidsGens, AvoidsParts}
 use Rattle.core_ir.specs.WellFormed.{Bases, base_of, HasBases, AllHave, OptionHas, ints, LiteralBase, PlainBases, OperationBase, PartedBase, BlockBases, RightBases, GensBases, PartsBases}
 

@@ -1,13 +1,13 @@
 -- What holds at the place where a pair is folded and the new parts bind new variables.
-use Rattle.std.proofs.Common.{◌≡◌, ℕ, suc, ◌+◌, ◌<◌, ◌≤◌, Bool, true, false, eqb, List, [], ◌∷◌, ◌++◌, length, All, Option, Some, refl, sym, ap, subst, ◌∙◌, inr, arith}
+use Rattle.std.proofs.Common.{◌≡◌, ℕ, suc, ◌+◌, ◌≤◌, List, [], ◌∷◌, ◌++◌, Option, sym, ap, subst, ◌∙◌, arith}
 use Rattle.std.specs.Prelude.{zip}
 use Rattle.sac_base.specs.declared.base.Base.{Base}
 use Rattle.core_ir.specs.declared.tree.Var.{Var}
-use Rattle.core_ir.specs.Binders.{is_in, bound_in, bound_in_right, bound_in_parts}
+use Rattle.core_ir.specs.Binders.{bound_in, bound_in_right, bound_in_parts}
 use Rattle.core_ir.specs.Scopes.{Scoped}
 use Rattle.core_ir.specs.Terms.{BlockTerm, RightTerm, PartsTerm, LetTerm, CoreTerm, Bind, Parted, chain}
 use Rattle.core_ir.specs.Uses.{Avoids}
-use Rattle.core_ir.specs.WellFormed.{Bases, base_of, part_grids, GroupBases, BlockBases, RightBases, Distinct}
+use Rattle.core_ir.specs.WellFormed.{Bases, part_grids, GroupBases, BlockBases, Distinct}
 use Rattle.core_calls.specs.Nests.{CallsAll}
 use Rattle.core_edits.specs.Within.{AreWithin, BasesWithin}
 use Rattle.core_facts.specs.Facts.{Facts}
@@ -20,7 +20,7 @@ use Rattle.core_norm_forms.proofs.Below.{OldBases, all_new}
 use Rattle.core_norm_forms.proofs.Scopes.{in_right}
 use Rattle.core_norm_forms.proofs.Tables.{Low, low_zip, within_zip}
 use Rattle.core_fold_forms.specs.Fresh.{FreshFold}
-use Rattle.core_fold_forms.proofs.Lists.{new_away, new_names, gone_names, bases_more, table_zip}
+use Rattle.core_fold_forms.proofs.Lists.{new_away, new_names, gone_names, table_zip}
 use Rattle.core_fold_forms.proofs.Chains.{chain_names, chain_weight, chain_parted, chain_calls, avoids_chain}
 use Rattle.core_fold_forms.proofs.Producers.{part_light, parts_light}
 use Rattle.core_fold_forms.proofs.Counting.{parts_counts, parts_calls}

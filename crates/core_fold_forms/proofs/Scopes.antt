@@ -1,11 +1,11 @@
 -- The new parts of a consumer are scoped.
-use Rattle.std.proofs.Common.{◌≡◌, ℕ, ◌<◌, ◌≤◌, Bool, true, false, ◌||◌, eqb, List, [], ◌∷◌, ◌++◌, length, All, Option, refl, sym, subst, ◌∙◌, ◌⊎◌, inl, inr, arith}
+use Rattle.std.proofs.Common.{◌≡◌, ℕ, ◌<◌, ◌≤◌, Bool, true, false, ◌||◌, eqb, List, [], ◌∷◌, ◌++◌, length, Option, refl, sym, subst, ◌∙◌, ◌⊎◌, inl, inr, arith}
 use Rattle.std.proofs.lemmas.Bool.{eqb-true}
 use Rattle.sac_base.specs.declared.grid.Grid1.{Grid1}
 use Rattle.sac_base.specs.declared.site.Site.{Site}
 use Rattle.core_ir.specs.declared.tree.Var.{Var}
-use Rattle.core_ir.specs.Binders.{is_in, NoneIn, bound_in, bound_in_right, bound_in_gens, bound_in_parts}
-use Rattle.core_ir.specs.Renaming.{Link, under}
+use Rattle.core_ir.specs.Binders.{is_in, NoneIn, bound_in, bound_in_right, bound_in_parts}
+use Rattle.core_ir.specs.Renaming.{under}
 use Rattle.core_ir.specs.Scopes.{AllIn, Scoped, ScopedRight, ScopedGens, ScopedParts, plain_uses, op_uses, parted_uses, head_uses}
 use Rattle.core_ir.specs.Terms.{PlainTerm, BlockTerm, RightTerm, GensTerm, PartsTerm, PartHead, Gives, Bind, Plain, NoGens, Gen, NoParts, Part, chain}
 use Rattle.core_ir.specs.Uses.{AvoidsAll, Avoids, AvoidsRight, AvoidsGens, AvoidsParts}
@@ -19,12 +19,11 @@ use Rattle.core_loops.specs.Pairs.{Producer}
 use Rattle.core_loops.specs.Steps.{itself, Folded, FoldedRight, TakenAt, append_parts, PiecesFold, NewParts}
 use Rattle.core_inlined_bodies.proofs.Names.{Fresh, clash, none_by, none_at, in_none, in_either, fresh_below, distinct_left, distinct_right, behind_first}
 use Rattle.core_inlined_bodies.proofs.Names as names
-use Rattle.core_norm_forms.specs.Fresh.{IsBetween}
 use Rattle.core_norm_forms.proofs.Places.{all_member}
-use Rattle.core_norm_forms.proofs.Scopes.{Away, away_left, away_right, in_right, Carries, carries_one, copy_scoped}
-use Rattle.core_fold_forms.specs.Copied.{HasPart, IsCopied, AllCopied, AllCopiedRight, IsOldOrNew}
-use Rattle.core_fold_forms.specs.Fresh.{IsFreshPiece, FreshPieces, FreshParts}
-use Rattle.core_fold_forms.proofs.Lists.{all_within, within_below, within_behind, away_below, new_away}
+use Rattle.core_norm_forms.proofs.Scopes.{Away, away_left, away_right, Carries, carries_one, copy_scoped}
+use Rattle.core_fold_forms.specs.Copied.{IsCopied, AllCopied, AllCopiedRight, IsOldOrNew}
+use Rattle.core_fold_forms.specs.Fresh.{FreshPieces, FreshParts}
+use Rattle.core_fold_forms.proofs.Lists.{all_within, within_below, within_behind, away_below}
 use Rattle.core_fold_forms.proofs.Chains.{chain_bound, below, within_chain, given_behind, chain_scoped, away_chain}
 use Rattle.core_fold_forms.proofs.Producers.{part_scoped}
 

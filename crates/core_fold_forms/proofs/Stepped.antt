@@ -8,7 +8,7 @@ use Rattle.core_ir.specs.Edits.{Edited}
 use Rattle.core_ir.specs.Outcome.{param_vars, group_at}
 use Rattle.core_ir.specs.Scopes.{Scoped}
 use Rattle.core_ir.specs.Terms.{BlockTerm, FunTerm, CoreTerm}
-use Rattle.core_ir.specs.WellFormed.{base_of, bases, param_bases, BlockBases, Distinct, IsFunction, IsWellFormed}
+use Rattle.core_ir.specs.WellFormed.{base_of, bases, param_bases, BlockBases, IsFunction, IsWellFormed}
 use Rattle.core_ir.proofs.Variables.{or_false}
 use Rattle.core_bases.proofs.Backward.{below}
 use Rattle.core_calls.specs.Arrays.{SameOutcomeOnArrays}
@@ -18,7 +18,6 @@ use Rattle.core_calls.proofs.Agreeing.{weaker}
 use Rattle.core_calls.proofs.Replaced.{at_place}
 use Rattle.core_facts.specs.Facts.{Facts}
 use Rattle.core_loops.specs.Loops.{weight, parted_in}
-use Rattle.core_loops.specs.Pairs.{IsFoldable}
 use Rattle.core_loops.specs.Steps.{fact_ways, FoldsHere}
 use Rattle.core_settled.specs.Called.{called, params_facts, result_shapes, shapes_at, common_shapes}
 use Rattle.core_subst.specs.Names.{above, above_all, above_function}
@@ -29,7 +28,6 @@ use Rattle.core_inlined_bodies.proofs.Counts.{all_at}
 use Rattle.core_inlined_bodies.proofs.Names.{Names, same, both, distinct_right, Fresh, fresh_left, fresh_right, fresh_more, own_vars, own_fresh, not_in}
 use Rattle.core_inlined_bodies.proofs.Stepped.{stepped, group_moved, still_below, well_stepped}
 use Rattle.core_norm_forms.specs.Walks.{functions_weight, core_weight}
-use Rattle.core_norm_forms.proofs.Below.{OldBases}
 use Rattle.core_norm_forms.proofs.Laws.{names_below}
 use Rattle.core_norm_forms.proofs.Reach.{fresh_above, block_above}
 use Rattle.core_norm_forms.proofs.Tables.{Low}

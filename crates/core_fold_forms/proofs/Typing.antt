@@ -1,5 +1,5 @@
 -- In the new parts of a consumer bases agree.
-use Rattle.std.proofs.Common.{◌≡◌, ℕ, ◌<◌, ◌≤◌, Bool, true, false, cond, eqb, List, [], ◌∷◌, ◌++◌, map, length, All, Option, Some, None, refl, sym, ap, subst, ◌∙◌, ◌⊎◌, inl, inr, arith}
+use Rattle.std.proofs.Common.{◌≡◌, ℕ, ◌<◌, ◌≤◌, Bool, true, false, cond, eqb, List, [], ◌∷◌, ◌++◌, map, length, Option, Some, None, refl, sym, ap, subst, ◌∙◌, inl, inr, arith}
 use Rattle.std.specs.Prelude.{zip, unwrap_or}
 use Rattle.std.proofs.lemmas.Bool.{eqb-true, eq-eqb}
 use Rattle.sac_base.specs.declared.base.Base.{Base}
@@ -8,10 +8,10 @@ use Rattle.sac_base.specs.declared.grid.Grid1.{Grid1}
 use Rattle.sac_base.specs.declared.site.Site.{Site}
 use Rattle.core_ir.specs.declared.tree.Var.{Var}
 use Rattle.core_ir.specs.Binders.{is_in, bound_in, bound_in_right, bound_in_parts}
-use Rattle.core_ir.specs.Renaming.{Link, under}
+use Rattle.core_ir.specs.Renaming.{under}
 use Rattle.core_ir.specs.Terms.{PlainTerm, BlockTerm, RightTerm, PartsTerm, PartHead, CoreTerm, Gives, Bind, Plain, NoParts, Part, chain}
-use Rattle.core_ir.specs.WellFormed.{Bases, base_of, AllHave, HasBase, HasBases, LiteralBase, PlainBases, GroupBases, BlockBases, RightBases, PartsBases, Distinct}
-use Rattle.core_ir.proofs.Variables.{or_false, same_number}
+use Rattle.core_ir.specs.WellFormed.{Bases, base_of, AllHave, HasBases, LiteralBase, PlainBases, BlockBases, RightBases, PartsBases, Distinct}
+use Rattle.core_ir.proofs.Variables.{same_number}
 use Rattle.core_edits.specs.Within.{BasesWithin}
 use Rattle.core_edits.proofs.Wider.{block_bases_wider}
 use Rattle.core_facts.specs.Facts.{Facts, note_all, right_facts, in_part}
@@ -26,10 +26,10 @@ use Rattle.core_norm_forms.proofs.Places.{all_member}
 use Rattle.core_norm_forms.proofs.Scopes.{in_right}
 use Rattle.core_norm_forms.proofs.Tables.{Low, within_one, within_zip}
 use Rattle.core_norm_forms.proofs.Typing.{GivesBases, gives_one, copy_bases}
-use Rattle.core_fold_forms.specs.Copied.{HasPart, IsCopied, AllCopied, AllCopiedRight}
-use Rattle.core_fold_forms.specs.Fresh.{IsFreshPiece, FreshPieces, FreshParts}
+use Rattle.core_fold_forms.specs.Copied.{IsCopied, AllCopied, AllCopiedRight}
+use Rattle.core_fold_forms.specs.Fresh.{FreshPieces, FreshParts}
 use Rattle.core_fold_forms.proofs.Lists.{bases_more, bases_both, bases_zip, table_more, table_zip, Bare, bare_left, bare_right, bare_below}
-use Rattle.core_fold_forms.proofs.Chains.{Behind, behind, chain_bound}
+use Rattle.core_fold_forms.proofs.Chains.{behind, chain_bound}
 use Rattle.core_fold_forms.proofs.Producers.{part_bases, part_distinct}
 
 -- ---- terms as they were

@@ -4,8 +4,7 @@ use mathlib.Core.Logic.{inl, inr}
 use Rattle.sac_base.specs.declared.grid.Grid1.{Grid1}
 use Rattle.core_ir.specs.declared.tree.Var.{Var}
 use Rattle.core_ir.specs.Binders.{is_in, bound_in}
-use Rattle.core_ir.specs.Terms.{PlainTerm, BlockTerm, RightTerm, PartsTerm, PartHead, Gives, Bind, Plain, NoParts, Part, chain}
-use Rattle.core_ir.specs.WellFormed.{Distinct}
+use Rattle.core_ir.specs.Terms.{BlockTerm, RightTerm, PartsTerm, PartHead, Gives, Bind, NoParts, Part, chain}
 use Rattle.core_facts.specs.Facts.{Facts, note_all, right_facts}
 use Rattle.core_loops.specs.Indices.{IndexFacts, note_others, learn_index}
 use Rattle.core_loops.specs.Pairs.{Producer}
