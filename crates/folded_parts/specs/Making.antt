@@ -1,5 +1,6 @@
 -- A new part of a consumer: a folded body with other variables.
-use Rattle.std.specs.Prelude.{◌≡◌, ℕ, suc, ◌+◌, List, [], ◌∷◌, length}
+use Rattle.std.specs.Prelude.{◌≡◌, ℕ, suc, ◌+◌, List, [], ◌∷◌, length, Vec}
+use Rattle.std.specs.declared.alloc.Global.{Global}
 use Rattle.sac_base.specs.declared.grid.Grid1.{Grid1}
 use Rattle.core_ir.specs.declared.tree.Var.{Var}
 use Rattle.core_ir.specs.Binders.{bound_in}
@@ -22,7 +23,8 @@ pub record PieceMade (p : Var) (parts : List PartTerm) (holders : List ℕ) (old
   pub up_to : after ≡ suc next + length (bound_in body)
 
 -- pieces of a part: each is a grid, with the number of the producer's part for each selection
-abbrev pub PiecesMade : Var → List PartTerm → PartTerm → List (List Grid1 × List ℕ) → ℕ → List PartTerm → ℕ → Type 0
+abbrev pub PiecesMade : Var → List PartTerm → PartTerm → List (List Grid1 × Vec ℕ Global) → ℕ → List PartTerm → ℕ → Type 0
 PiecesMade p parts old [] n [] m = n ≡ m
-PiecesMade p parts old (piece ∷ pieces) n (new ∷ news) m = (k : ℕ) × (PieceMade p parts piece.1 old piece.0 n new k × PiecesMade p parts old pieces k news m)
+PiecesMade p parts old (piece ∷ pieces) n (new ∷ news) m =
+    (k : ℕ) × (PieceMade p parts (piece.1).items old piece.0 n new k × PiecesMade p parts old pieces k news m)
 PiecesMade p parts old _ n _ m = ⊥

@@ -6,4 +6,4 @@ mod pieces;
 mod taking;
 
 pub use taking::Source;
-pub use pieces::folded_part;
+pub use pieces::{folded_part, folded_pieces};

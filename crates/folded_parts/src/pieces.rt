@@ -2,11 +2,11 @@
 
 ghost use Rattle.std.specs.Prelude.{◌≡◌, OnOk, IfOk, map};
 ghost use Rattle.core_ir.specs.View.{part_term};
-ghost use Rattle.folded_parts.specs.Making.{PieceMade};
+ghost use Rattle.folded_parts.specs.Making.{PieceMade, PiecesMade};
 
 use crate::folding::fold_block;
 use crate::taking::Source;
-use core_ir::{CorePart, copy_block as copy_whole};
+use core_ir::{CorePart, Var, copy_block as copy_whole};
 use parted_bodies::{Names, Progress, bound_in, copy_block};
 use sac_base::{Grid, Memory};
 use std::alloc::Global;
@@ -40,4 +40,32 @@ pub fn folded_part(
         body: copy_block(alloc, &body, &names)?,
         site: old.site,
     })
+}
+
+/// The parts of a consumer for all pieces of an old part. Each piece has the number of a part of the producer for each selection.
+///
+/// # Errors
+///
+/// `Memory`: there is none for the parts, or the numbers of variables have more than 32 bits.
+pub fn folded_pieces(
+    alloc: Global,
+    old: &CorePart,
+    pieces: Vec<(Grid, Vec<usize>)>,
+    producer: Var,
+    parts: &[CorePart],
+    progress: &mut Progress,
+) -> Result<Vec<CorePart>, Memory>
+    ensures { IfOk result (λ made. PiecesMade producer (map part_term parts.now) (part_term old.now) pieces.items progress.old.next (map part_term made.items)
+        progress.new.next) }
+{
+    let mut made = Vec::new(alloc);
+    for (grid, holders) in pieces {
+        let source = Source {
+            producer,
+            parts,
+            holders: &holders,
+        };
+        made.push(folded_part(alloc, old, grid, &source, progress)?)?;
+    }
+    Ok(made)
 }
