@@ -38,7 +38,7 @@ impl Source<'_> {
     {
         match right {
             Right::Select(array, index) => {
-                if array.0 != self.producer.0 {
+                if self.producer.0 != array.0 {
                     return None;
                 }
                 match self.part_for(place) {
