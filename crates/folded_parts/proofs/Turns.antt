@@ -14,7 +14,7 @@ use Rattle.core_ir.specs.declared.tree.Right.TheBlock.{the_data, the_data-1, the
 use Rattle.core_ir.specs.Terms.{BlockTerm, RightTerm, LetTerm, PartTerm, Gives, Bind, chain}
 use Rattle.core_ir.specs.View.{block_term, let_term, right_term}
 use Rattle.core_ir.proofs.Trees.{block_out, block_roll}
-use Rattle.folded_parts.specs.Folding.{BlockFolded, ends, takes, keeps, RightFolded, LetFolded, IsWhole, chosen, copy_binds, taken}
+use Rattle.folded_parts.specs.Folding.{BlockFolded, ends, takes, keeps, branches, turns, RightFolded, LetFolded, IsWhole, chosen, copy_binds, taken}
 
 pub chain_both : (ls ks : List LetTerm) (x : BlockTerm) → chain (ls ++ ks) x ≡ chain ls (chain ks x)
 chain_both [] ks x = refl
@@ -66,6 +66,17 @@ module _ (p : Var) (parts : List PartTerm) (holders : List ℕ) where
   pub let_taken : (i i' n m : ℕ) (l : LetTerm) (index : Var) (part : PartTerm) → i' ≡ suc i → m ≡ n + copy_binds part → chosen p parts holders i l.right ≡ Some (index, part) → LetFolded p parts holders i n l (taken part index l.targets l.site n) i' m
   let_taken i i' n m l index part e q c b d t u h =
       takes c (subst (λ (z : ℕ). BlockFolded p parts holders (suc i) z b d t u) q (subst (λ (z : ℕ). BlockFolded p parts holders z m b d t u) e h))
+
+  -- ---- right sides with blocks
+
+  pub if_folded : {i n j l k m : ℕ} {x : Var} {a b c d : BlockTerm} {r : RightTerm} → r ≡ RightTerm.If x a b → BlockFolded p parts holders i n a c j l → BlockFolded p parts holders j l b d k m → RightFolded p parts holders i n r (RightTerm.If x c d) k m
+  if_folded {i = i} {n = n} {k = k} {m = m} {x = x} {c = c} {d = d} e f g = subst (λ (z : RightTerm). RightFolded p parts holders i n z (RightTerm.If x c d) k m) (sym e) (branches f g)
+
+  pub loop_folded :
+      {i n j l k m : ℕ} {first : Bool} {start params : List Var} {a b c d : BlockTerm} {s : Site} {r : RightTerm} → r ≡ RightTerm.Loop first start params a b s → BlockFolded p parts holders i n a c j l →
+      BlockFolded p parts holders j l b d k m → RightFolded p parts holders i n r (RightTerm.Loop first start params c d s) k m
+  loop_folded {i = i} {n = n} {k = k} {m = m} {first = first} {start = start} {params = params} {c = c} {d = d} {s = s} e f g =
+      subst (λ (z : RightTerm). RightFolded p parts holders i n z (RightTerm.Loop first start params c d s) k m) (sym e) (turns f g)
 
 -- what is neither a conditional nor a loop is kept whole
 pub is_whole :

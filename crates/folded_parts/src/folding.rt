@@ -59,7 +59,8 @@ fn fold_binding(
     } = binding;
     if let Some((index, part)) = source.chosen(&right, *passed) {
         *passed += 1;
-        return push_taken(alloc, part, index, &targets, site, folded, progress);
+        push_taken(alloc, part, index, &targets, site, folded, progress)?;
+        return Ok(());
     }
     let right = fold_right(alloc, right, source, passed, progress)?;
     folded.push(Let {

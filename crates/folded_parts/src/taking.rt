@@ -78,7 +78,8 @@ pub fn push_taken(
         results,
     } = copy_block(alloc, &part.body, &names)?;
     lets.append(&mut inner)?;
-    push_last(alloc, targets, &results, site, lets)
+    push_last(alloc, targets, &results, site, lets)?;
+    Ok(())
 }
 
 /// The first target becomes the first result.

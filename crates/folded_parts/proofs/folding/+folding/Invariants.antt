@@ -5,5 +5,5 @@ use Rattle.folded_parts.proofs.folding.+folding.Given as goal
 
 abbrev pub invariant-fold_block-loop-binding : goal.invariant-fold_block-loop-binding
 invariant-fold_block-loop-binding l =
-    Going l.source.now.producer (map part_term l.source.now.parts.now) l.source.now.holders.now l.initial.passed l.initial.progress.next l.initial.binding-iterator.rest.items l.folded.items
+    Going l.source.producer (map part_term l.source.parts.now) l.source.holders.now l.initial.passed l.initial.progress.next l.initial.binding-iterator.rest.items l.folded.items
     l.binding-iterator.rest.items l.passed l.progress.next

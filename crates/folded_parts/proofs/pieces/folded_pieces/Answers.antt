@@ -1,6 +1,6 @@
-use Rattle.std.proofs.Common.{map, refl}
+use Rattle.std.proofs.Common.{map, subst}
 use Rattle.core_ir.specs.View.{part_term}
-use Rattle.folded_parts.proofs.Gathering.{gathered_first, gathered_on, gathered_all}
+use Rattle.folded_parts.proofs.Gathering.{Gathered, gathered_first, gathered_on, gathered_all}
 use Rattle.folded_parts.proofs.Turns.{none_left}
 use Rattle.folded_parts.proofs.pieces.folded_pieces.Goals as goal
 
@@ -15,5 +15,6 @@ loop-grid-preserved c =
 pub returns : goal.returns
 returns c =
     let none = none_left c.loop-grid.grid-iterator.rest.len c.loop-grid.grid-iterator.rest.items c.in-None.ensures.steps.0 c.loop-grid.grid-iterator.rest.ok.0 in
-    gathered_all c.args.producer (map part_term c.args.parts.now) (part_term c.args.old.now) c.into_iter-grid-iterator.result.rest.items c.args.progress.now.next c.loop-grid.made.items c.loop-grid.grid-iterator.rest.items c.loop-grid.progress.next
-    c.loop-grid.invariant none
+    gathered_all c.args.producer (map part_term c.args.parts.now) (part_term c.args.old.now) c.args.pieces.items c.args.progress.now.next c.loop-grid.made.items c.loop-grid.grid-iterator.rest.items c.loop-grid.progress.next
+    (subst (λ zs. Gathered c.args.producer (map part_term c.args.parts.now) (part_term c.args.old.now) zs c.args.progress.now.next c.loop-grid.made.items c.loop-grid.grid-iterator.rest.items c.loop-grid.progress.next)
+    c.into_iter-grid-iterator.ensures.into_iter_gives.0 c.loop-grid.invariant) none
