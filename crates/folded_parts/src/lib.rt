@@ -5,5 +5,5 @@ mod folding;
 mod pieces;
 mod taking;
 
-pub use taking::Source;
 pub use pieces::{folded_part, folded_pieces};
+pub use taking::Source;
