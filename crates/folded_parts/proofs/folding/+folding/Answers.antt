@@ -25,15 +25,15 @@ fold_block-returns t c =
     block_folded s.producer (map part_term s.parts.now) s.holders.now c.args.passed.now c.args.progress.now.next c.loop-binding.passed c.loop-binding.progress.next _ _ c.loop-binding.binding-iterator.rest.items c.args.block c.loop-binding.invariant
     none c.into_iter-binding-iterator.ensures.into_iter_gives.0 refl
 
-pub fold_binding-returns-in_ok-push_taken-in-Some : goal.fold_binding-returns-in_ok-push_taken-in-Some
-fold_binding-returns-in_ok-push_taken-in-Some t c =
+pub fold_binding-returns-in-Some : goal.fold_binding-returns-in-Some
+fold_binding-returns-in-Some t c =
     let s = c.args.source.now in
     let b = c.args.binding in
     let p = c.args.progress.now in (
       taken (part_term c.in-Some.part.now) c.in-Some.index b.targets.items b.site p.next,
-      c.in_ok-push_taken-in-Some.ensures.lets ∙ (λ i. map let_term c.args.folded.now.items ++ taken (part_term c.in-Some.part.now) c.in-Some.index (c.deref.ensures.value i) b.site p.next),
+      (c.in_ok-push_taken-in-Some.ensures.lets ∙ (λ i. map let_term c.args.folded.now.items ++ taken (part_term c.in-Some.part.now) c.in-Some.index (c.deref.ensures.value i) b.site p.next),
       let_taken s.producer (map part_term s.parts.now) s.holders.now c.args.passed.now (c.args.passed.now + 1) p.next c.push_taken.new.progress.next (let_term b) c.in-Some.index (part_term c.in-Some.part.now)
-          (omega arith) (ap (λ (q : Progress). q.next) c.in_ok-push_taken-in-Some.ensures.next) c.in-Some.ensures.some.0,
+          (omega arith) (ap (λ (q : Progress). q.next) c.in_ok-push_taken-in-Some.ensures.next) c.in-Some.ensures.some.0),
     )
 
 pub fold_binding-returns : goal.fold_binding-returns
@@ -42,9 +42,9 @@ fold_binding-returns t c =
     let b = c.args.binding in
     let l : LetTerm = record { targets = b.targets.items; site = b.site; right = right_term c.in_ok-right.right } in (
       l ∷ [],
-      ap (map let_term) c.in_ok-push.ensures.items ∙ map_snoc let_term c.args.folded.now.items _,
+      (ap (map let_term) c.in_ok-push.ensures.items ∙ map_snoc let_term c.args.folded.now.items _,
       let_kept s.producer (map part_term s.parts.now) s.holders.now c.args.passed.now c.args.progress.now.next c.fold_right.new.passed c.fold_right.new.progress.next (let_term b) l refl refl c.in-None.ensures.none
-          c.in_ok-right.ensures,
+          c.in_ok-right.ensures),
     )
 
 pub fold_right-returns-in_ok-no-in-If : goal.fold_right-returns-in_ok-no-in-If
