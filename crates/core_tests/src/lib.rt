@@ -12,6 +12,8 @@ mod generators;
 #[cfg(test)]
 mod grids;
 #[cfg(test)]
+mod making;
+#[cfg(test)]
 mod substitution;
 #[cfg(test)]
 mod trees;

@@ -1,69 +1,33 @@
+use crate::making::{SITE, bind, gives, main_name, one, small, vars};
 use core_ir::{
     Block, Core, CoreFun, CoreGen, CoreOp, CorePart, Let, PartedLoop, PartedOp, Right, Var,
     WithLoop, copy_block, copy_core, copy_function, nodes,
 };
-use sac_base::{
-    Array, ArrayType, Base, Cell, FaultKind, Grid, Grid1, Memory, Name, Op, Part, Shape, Site,
-};
+use sac_base::{Array, ArrayType, Base, Cell, FaultKind, Grid, Grid1, Name, Op, Part, Shape, Site};
 use std::alloc::Global;
-use std::test::Fail;
 
-const SITE: Site = Site { line: 3, col: 7 };
-
-fn vars(alloc: Global, numbers: &[u32]) -> Result<Vec<Var>, Memory> {
-    let mut vars = Vec::new(alloc);
-    for number in numbers {
-        vars.push(Var(*number))?;
-    }
-    Ok(vars)
-}
-
-fn binding(alloc: Global, target: u32, right: Right) -> Result<Let, Memory> {
-    Ok(Let {
-        targets: vars(alloc, &[target])?,
-        site: SITE,
-        right,
-    })
-}
-
-// Appends a binding, of which what is appended next needs no fact.
-fn bind(alloc: Global, lets: &mut Vec<Let>, target: u32, right: Right) -> Result<(), Memory> {
-    lets.push(binding(alloc, target, right)?)?;
-    Ok(())
-}
-
-/// A block with one binding.
-fn small(alloc: Global, target: u32, right: Right) -> Result<Block, Memory> {
-    let mut lets = Vec::new(alloc);
-    lets.push(binding(alloc, target, right)?)?;
-    Ok(Block {
-        lets,
-        results: vars(alloc, &[target])?,
-    })
-}
-
-fn conditional(alloc: Global) -> Result<Right, Memory> {
-    Ok(Right::If {
+fn conditional(alloc: Global) -> Right {
+    Right::If {
         cond: Var(0),
-        yes: small(alloc, 3, Right::Unary(Op::Neg, Var(1)))?,
-        no: small(alloc, 4, Right::Always(FaultKind::F2))?,
-    })
+        yes: small(alloc, 3, Right::Unary(Op::Neg, Var(1))),
+        no: small(alloc, 4, Right::Always(FaultKind::F2)),
+    }
 }
 
-fn repetition(alloc: Global) -> Result<Right, Memory> {
-    Ok(Right::Loop {
+fn repetition(alloc: Global) -> Right {
+    Right::Loop {
         first_body: true,
-        start: vars(alloc, &[2])?,
-        params: vars(alloc, &[6])?,
-        test: small(alloc, 7, Right::Binary(Op::Lt, Var(6), Var(1)))?,
-        body: small(alloc, 8, Right::Select(Var(1), Var(6)))?,
+        start: vars(alloc, &[Var(2)]),
+        params: vars(alloc, &[Var(6)]),
+        test: small(alloc, 7, Right::Binary(Op::Lt, Var(6), Var(1))),
+        body: small(alloc, 8, Right::Select(Var(1), Var(6))),
         test_site: SITE,
-    })
+    }
 }
 
-fn with_loop(alloc: Global) -> Result<Right, Memory> {
-    let mut gens = Vec::new(alloc);
-    gens.push(CoreGen {
+/// A with-loop with one bound and a name for its index.
+fn with_loop(alloc: Global) -> Right {
+    let generator = CoreGen {
         lower: None,
         lower_closed: true,
         upper: Some(Var(5)),
@@ -71,150 +35,188 @@ fn with_loop(alloc: Global) -> Result<Right, Memory> {
         step: None,
         width: None,
         index: Var(10),
-        names: vars(alloc, &[11])?,
-        body: small(alloc, 12, Right::Copy(Var(11)))?,
+        names: vars(alloc, &[Var(11)]),
+        body: small(alloc, 12, Right::Copy(Var(11))),
         site: SITE,
-    })?;
-    Ok(Right::With(WithLoop {
-        gens,
+    };
+    Right::With(WithLoop {
+        gens: one(alloc, generator),
         op: CoreOp::Genarray {
             shape: Var(5),
             default: Var(2),
         },
-    }))
-}
-
-fn line(alloc: Global, hi: i64) -> Result<Grid, Memory> {
-    let mut axes = Vec::new(alloc);
-    axes.push(Grid1 {
-        lo: 0,
-        hi,
-        step: 1,
-        width: 1,
-    })?;
-    Ok(Grid::new(axes))
-}
-
-fn parted_loop(alloc: Global) -> Result<Right, Memory> {
-    let mut parts = Vec::new(alloc);
-    parts.push(CorePart {
-        grid: line(alloc, 4)?,
-        index: Var(14),
-        body: small(alloc, 15, Right::Dim(Var(14)))?,
-        site: SITE,
-    })?;
-    Ok(Right::Parted(PartedLoop {
-        frame: line(alloc, 4)?,
-        base: Base::Int,
-        cell: Shape::empty(alloc),
-        op: PartedOp::Genarray,
-        parts,
-    }))
-}
-
-/// Two numbers, and an operator on them and another variable.
-fn numbers(alloc: Global, lets: &mut Vec<Let>) -> Result<(), Memory> {
-    let cells: [Cell; 2] = [7, 8];
-    let array = Array::vector(alloc, Base::Int, Vec::from_slice(alloc, &cells)?);
-    bind(alloc, lets, 1, Right::Const(array))?;
-    bind(alloc, lets, 2, Right::Binary(Op::Sub, Var(1), Var(0)))
-}
-
-/// A call of two arguments.
-fn call(alloc: Global) -> Result<Right, Memory> {
-    let args = vars(alloc, &[16, 13])?;
-    Ok(Right::Call { group: 0, args })
-}
-
-/// A block of seven bindings, with one binding more in each of their six blocks.
-fn sample(alloc: Global) -> Result<Block, Memory> {
-    let mut lets = Vec::new(alloc);
-    numbers(alloc, &mut lets)?;
-    bind(alloc, &mut lets, 5, conditional(alloc)?)?;
-    bind(alloc, &mut lets, 9, repetition(alloc)?)?;
-    bind(alloc, &mut lets, 13, with_loop(alloc)?)?;
-    bind(alloc, &mut lets, 16, parted_loop(alloc)?)?;
-    bind(alloc, &mut lets, 17, call(alloc)?)?;
-    Ok(Block {
-        lets,
-        results: vars(alloc, &[17])?,
     })
 }
 
-fn sample_core(alloc: Global) -> Result<Option<Core>, Memory> {
-    let Some(name) = Name::from_bytes(alloc, b"main")? else {
-        return Ok(None);
+fn line(alloc: Global, hi: i64) -> Grid {
+    Grid::new(one(
+        alloc,
+        Grid1 {
+            lo: 0,
+            hi,
+            step: 1,
+            width: 1,
+        },
+    ))
+}
+
+fn parted_loop(alloc: Global) -> Right {
+    let part = CorePart {
+        grid: line(alloc, 4),
+        index: Var(14),
+        body: small(alloc, 15, Right::Dim(Var(14))),
+        site: SITE,
     };
-    let ty = ArrayType {
+    Right::Parted(PartedLoop {
+        frame: line(alloc, 4),
+        base: Base::Int,
+        cell: Shape::empty(alloc),
+        op: PartedOp::Genarray,
+        parts: one(alloc, part),
+    })
+}
+
+/// Two numbers.
+fn pair(alloc: Global) -> Right {
+    let cells: [Cell; 2] = [7, 8];
+    match Vec::from_slice(alloc, &cells) {
+        Ok(cells) => Right::Const(Array::vector(alloc, Base::Int, cells)),
+        Err(_) => Right::Always(FaultKind::F2),
+    }
+}
+
+/// A call of two arguments.
+fn call(alloc: Global) -> Right {
+    Right::Call {
+        group: 0,
+        args: vars(alloc, &[Var(16), Var(13)]),
+    }
+}
+
+/// A block of seven bindings, with one binding more in each of their six blocks.
+fn sample(alloc: Global) -> Block {
+    let mut lets = Vec::new(alloc);
+    bind(alloc, &mut lets, 1, pair(alloc));
+    bind(alloc, &mut lets, 2, Right::Binary(Op::Sub, Var(1), Var(0)));
+    bind(alloc, &mut lets, 5, conditional(alloc));
+    bind(alloc, &mut lets, 9, repetition(alloc));
+    bind(alloc, &mut lets, 13, with_loop(alloc));
+    bind(alloc, &mut lets, 16, parted_loop(alloc));
+    bind(alloc, &mut lets, 17, call(alloc));
+    gives(alloc, lets, 17)
+}
+
+fn sample_function(alloc: Global, name: Name) -> CoreFun {
+    let param = ArrayType {
         base: Base::Bool,
         part: Part::Star,
     };
-    let mut params = Vec::new(alloc);
-    params.push((Var(0), ty))?;
-    let mut results = Vec::new(alloc);
-    results.push(ArrayType {
+    let result = ArrayType {
         base: Base::Int,
         part: Part::Rank(1),
-    })?;
-    let mut functions = Vec::new(alloc);
-    functions.push(CoreFun {
+    };
+    CoreFun {
         name,
         site: SITE,
-        params,
-        results,
+        params: one(alloc, (Var(0), param)),
+        results: one(alloc, result),
         inline: false,
-        body: sample(alloc)?,
+        body: sample(alloc),
         ends: Site { line: 9, col: 1 },
-    })?;
-    let mut groups = Vec::new(alloc);
-    groups.push(Vec::from_slice(alloc, &[0u32])?)?;
-    Ok(Some(Core {
-        functions,
-        groups,
+    }
+}
+
+fn sample_core(alloc: Global, name: Name) -> Core {
+    Core {
+        functions: one(alloc, sample_function(alloc, name)),
+        groups: one(alloc, one(alloc, 0)),
         main: 0,
-    }))
+    }
 }
 
 #[test]
-fn nested_bindings_are_counted(rt: HostRuntime) -> Result<(), Fail> {
+fn nested_bindings_are_counted(rt: HostRuntime) {
     let alloc = rt.alloc();
-    assert_eq!(rt; nodes(&sample(alloc)?), 13);
-    let none = Block {
-        lets: Vec::new(alloc),
-        results: vars(alloc, &[0])?,
-    };
-    assert_eq!(rt; nodes(&none), 0);
-    Ok(())
+    let counts = (
+        nodes(&sample(alloc)),
+        nodes(&gives(alloc, Vec::new(alloc), 0)),
+    );
+    assert_eq!(rt; counts, (13, 0));
 }
 
-#[test]
-fn a_block_is_copied(rt: HostRuntime) -> Result<(), Fail> {
-    let alloc = rt.alloc();
-    let copy = copy_block(alloc, &sample(alloc)?)?;
-    assert_eq!(rt; nodes(&copy), 13);
-    assert!(rt; copy.results.first() == Some(&Var(17)));
-    let second = copy.lets.get(1).ok_or("a second binding")?;
-    let wanted = match &second.right {
-        Right::Binary(op, x, y) => *op == Op::Sub && *x == Var(1) && *y == Var(0),
+/// Whether a binding is the difference of the variables 1 and 0.
+fn is_difference(binding: Option<&Let>) -> bool {
+    match binding {
+        Some(
+            Let {
+                right: Right::Binary(op, x, y),
+                ..
+            },
+        ) => *op == Op::Sub && *x == Var(1) && *y == Var(0),
         _ => false,
-    };
-    assert!(rt; wanted);
-    Ok(())
+    }
+}
+
+/// Whether a copy of a block is the sample.
+fn is_copied(alloc: Global, block: &Block) -> bool {
+    match copy_block(alloc, block) {
+        Ok(copy) => {
+            nodes(&copy) == 13
+                && copy.results.first() == Some(&Var(17))
+                && is_difference(copy.lets.get(1))
+        }
+        Err(_) => false,
+    }
 }
 
 #[test]
-fn a_core_is_copied(rt: HostRuntime) -> Result<(), Fail> {
+fn a_block_is_copied(rt: HostRuntime) {
     let alloc = rt.alloc();
-    let core = sample_core(alloc)?.ok_or("a name")?;
-    let copy = copy_core(alloc, &core)?;
-    assert_eq!(rt; copy.main, 0);
-    let group = copy.groups.first().ok_or("a group")?;
-    assert_eq!(rt; group.as_slice(), [0].as_slice());
-    let function = copy_function(alloc, copy.functions.first().ok_or("a function")?)?;
-    assert_eq!(rt; function.name.as_str(), "main");
-    let param = function.params.first().ok_or("a parameter")?;
-    assert_eq!(rt; param.0, Var(0));
-    assert_eq!(rt; function.ends, Site { line: 9, col: 1 });
-    assert_eq!(rt; nodes(&function.body), 13);
-    Ok(())
+    assert!(rt; is_copied(alloc, &sample(alloc)));
+}
+
+/// Whether a function is that of the sample.
+fn is_main(function: &CoreFun) -> bool {
+    function.name.as_str() == "main"
+        && first_param(function) == Some(Var(0))
+        && function.ends == Site { line: 9, col: 1 }
+        && nodes(&function.body) == 13
+}
+
+fn first_param(function: &CoreFun) -> Option<Var> {
+    let (var, _) = function.params.first()?;
+    Some(*var)
+}
+
+/// Whether a copy of a core's first function is that of the sample.
+fn is_main_copied(alloc: Global, core: &Core) -> bool {
+    match core.functions.first() {
+        Some(function) => match copy_function(alloc, function) {
+            Ok(copy) => is_main(&copy),
+            Err(_) => false,
+        },
+        None => false,
+    }
+}
+
+fn has_group(core: &Core) -> bool {
+    match core.groups.first() {
+        Some(group) => group.as_slice() == [0].as_slice(),
+        None => false,
+    }
+}
+
+/// Whether a copy of a core is the sample, and a copy of its function is too.
+fn is_core_copied(alloc: Global, core: &Core) -> bool {
+    match copy_core(alloc, core) {
+        Ok(copy) => copy.main == 0 && has_group(&copy) && is_main_copied(alloc, &copy),
+        Err(_) => false,
+    }
+}
+
+#[test]
+fn a_core_is_copied(rt: HostRuntime) {
+    let alloc = rt.alloc();
+    let name = main_name(alloc).expect(&rt, "a name");
+    assert!(rt; is_core_copied(alloc, &sample_core(alloc, name)));
 }
