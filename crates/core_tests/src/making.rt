@@ -1,7 +1,7 @@
 //! Pieces of cores, made with no branch: where there is no memory, a list is shorter, and the test that looks at it fails.
 
 use core_ir::{Block, CoreFun, CoreGen, CoreOp, Let, Right, Var, WithLoop};
-use sac_base::{Array, ArrayType, Base, Cell, FaultKind, Name, Part, Site};
+use sac_base::{Array, ArrayType, Base, Cell, FaultKind, Grid, Grid1, Name, Part, Site};
 use std::alloc::Global;
 
 pub const SITE: Site = Site { line: 3, col: 7 };
@@ -87,6 +87,20 @@ pub fn with_loop(
             default: Var(op.1),
         },
     })
+}
+
+/// The numbers from `lo` to below `hi`, as a grid of one axis.
+pub fn line(alloc: Global, lo: i64, hi: i64) -> Grid {
+    let axis = Grid1 {
+        lo,
+        hi,
+        step: 1,
+        width: 1,
+    };
+    match Vec::from_array(alloc, [axis]) {
+        Ok(axes) => Grid::new(axes),
+        Err(_) => Grid::new(Vec::new(alloc)),
+    }
 }
 
 pub fn main_name(alloc: Global) -> Option<Name> {

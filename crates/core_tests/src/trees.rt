@@ -1,9 +1,9 @@
-use crate::making::{SITE, bind, gives, main_name, one, small, vars};
+use crate::making::{SITE, bind, gives, line, main_name, one, small, vars};
 use core_ir::{
     Block, Core, CoreFun, CoreGen, CoreOp, CorePart, Let, PartedLoop, PartedOp, Right, Var,
     WithLoop, copy_block, copy_core, copy_function, nodes,
 };
-use sac_base::{Array, ArrayType, Base, Cell, FaultKind, Grid, Grid1, Name, Op, Part, Shape, Site};
+use sac_base::{Array, ArrayType, Base, Cell, FaultKind, Name, Op, Part, Shape, Site};
 use std::alloc::Global;
 
 fn conditional(alloc: Global) -> Right {
@@ -48,27 +48,15 @@ fn with_loop(alloc: Global) -> Right {
     })
 }
 
-fn line(alloc: Global, hi: i64) -> Grid {
-    Grid::new(one(
-        alloc,
-        Grid1 {
-            lo: 0,
-            hi,
-            step: 1,
-            width: 1,
-        },
-    ))
-}
-
 fn parted_loop(alloc: Global) -> Right {
     let part = CorePart {
-        grid: line(alloc, 4),
+        grid: line(alloc, 0, 4),
         index: Var(14),
         body: small(alloc, 15, Right::Dim(Var(14))),
         site: SITE,
     };
     Right::Parted(PartedLoop {
-        frame: line(alloc, 4),
+        frame: line(alloc, 0, 4),
         base: Base::Int,
         cell: Shape::empty(alloc),
         op: PartedOp::Genarray,

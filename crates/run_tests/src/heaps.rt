@@ -4,7 +4,6 @@ ghost use Rattle.std.specs.Prelude.{◌≡◌};
 use buffer_heap::{BufferId, Heap};
 use sac_base::{Cell, Memory};
 use std::alloc::Global;
-use std::test::Fail;
 
 // A heap may go to another thread.
 fn sends<X: Send>(value: X) -> X
@@ -51,16 +50,25 @@ fn counters(heap: &Heap) -> (u64, u64, u64, u64) {
     (heap.live(), heap.taken(), heap.given(), heap.reused())
 }
 
+// Keeps and releases a buffer of zeros until it is gone.
+fn is_freed_by_the_last(heap: &mut Heap) -> Result<bool, Memory> {
+    let a = take(heap, 16)?;
+    Ok(
+        has(heap, a, &[0; 16])
+            && keep(heap, a)
+            && !is_sole(heap, a)
+            && release(heap, a)
+            && is_sole(heap, a)
+            && release(heap, a)
+            && !release(heap, a),
+    )
+}
+
 #[test]
-fn the_last_reference_frees_the_buffer(rt: HostRuntime) -> Result<(), Fail> {
+fn the_last_reference_frees_the_buffer(rt: HostRuntime) {
     let mut heap = Heap::new(rt.alloc());
-    let a = take(&mut heap, 16)?;
-    assert!(rt; has(&heap, a, &[0; 16]));
-    assert!(rt; keep(&mut heap, a) && !is_sole(&heap, a));
-    assert!(rt; release(&mut heap, a) && is_sole(&heap, a));
-    assert!(rt; release(&mut heap, a) && !release(&mut heap, a));
+    assert_eq!(rt; is_freed_by_the_last(&mut heap), Ok(true));
     assert_eq!(rt; counters(&heap), (0, 1, 1, 0));
-    Ok(())
 }
 
 // Hands the cells of a new buffer of two zeros out and takes them back, twice, with a 7 behind the second time.
@@ -74,26 +82,34 @@ fn hand_out_twice(heap: &mut Heap) -> Result<BufferId, Memory> {
     Ok(a)
 }
 
+// Whether a buffer has the cells that came back, and one of no cells has none.
+fn have_their_cells(heap: &mut Heap) -> Result<bool, Memory> {
+    let a = hand_out_twice(heap)?;
+    let b = take(heap, 0)?;
+    Ok(has(heap, a, &[0, 7]) && has(heap, b, &[]))
+}
+
 #[test]
-fn cells_are_handed_out_and_taken_back(rt: HostRuntime) -> Result<(), Fail> {
+fn cells_are_handed_out_and_taken_back(rt: HostRuntime) {
     let mut heap = Heap::new(rt.alloc());
-    let a = hand_out_twice(&mut heap)?;
-    assert!(rt; has(&heap, a, &[0, 7]));
-    let b = take(&mut heap, 0)?;
-    assert!(rt; has(&heap, b, &[]));
+    assert_eq!(rt; have_their_cells(&mut heap), Ok(true));
     assert_eq!(rt; counters(&heap), (2, 2, 0, 1));
+}
+
+// Adds the counters of a heap that took a buffer and gave it back.
+fn add_another(alloc: Global, heap: &mut Heap) -> Result<(), Memory> {
+    let mut other = Heap::new(alloc);
+    let a = other.take(3)?;
+    other.release(a);
+    heap.absorb(sends(other));
     Ok(())
 }
 
 #[test]
-fn counters_of_another_heap_are_added(rt: HostRuntime) -> Result<(), Fail> {
+fn counters_of_another_heap_are_added(rt: HostRuntime) {
     let mut heap = Heap::new(rt.alloc());
-    let mut other = Heap::new(rt.alloc());
-    let a = other.take(3)?;
-    other.release(a);
-    heap.absorb(sends(other));
+    assert_eq!(rt; add_another(rt.alloc(), &mut heap), Ok(()));
     assert_eq!(rt; counters(&heap), (0, 1, 1, 0));
-    Ok(())
 }
 
 // Takes three buffers and gives them back, the middle one first.
@@ -108,13 +124,12 @@ fn take_three(heap: &mut Heap) -> Result<(), Memory> {
 }
 
 #[test]
-fn freed_places_are_used_again(rt: HostRuntime) -> Result<(), Fail> {
+fn freed_places_are_used_again(rt: HostRuntime) {
     let mut heap = Heap::new(rt.alloc());
     for _ in 0..1000 {
-        take_three(&mut heap)?;
+        assert_eq!(rt; take_three(&mut heap), Ok(()));
     }
     assert_eq!(rt; (heap.live(), heap.places()), (0, 3));
-    Ok(())
 }
 
 // Whether a buffer of two zeros is held, and then may have one reference more, only until its cells are handed out.
@@ -125,17 +140,25 @@ fn is_held_until_lifted(heap: &mut Heap) -> Result<bool, Memory> {
     Ok(before && !heap.is_held(a) && !heap.has_room(a))
 }
 
+// A buffer of the cells 4 and 5.
+fn put(alloc: Global, heap: &mut Heap) -> Result<BufferId, Memory> {
+    heap.put(vec![in alloc; 4, 5]?)
+}
+
+// Whether two buffers that are one place after another have names of their own.
+fn are_told_apart(heap: &mut Heap, a: BufferId) -> Result<bool, Memory> {
+    let first = has(heap, a, &[4, 5]) && release(heap, a) && !heap.is_held(a);
+    let b = take(heap, 2)?;
+    let names = (a.born(), b.born(), heap.places()) == (0, 1, 1);
+    Ok(first && names && !heap.is_held(a) && heap.is_held(b))
+}
+
 #[test]
-fn a_reference_names_one_buffer(rt: HostRuntime) -> Result<(), Fail> {
+fn a_reference_names_one_buffer(rt: HostRuntime) {
     let mut heap = Heap::new(rt.alloc());
-    let a = heap.put(vec![in rt.alloc(); 4, 5]?)?;
-    assert!(rt; has(&heap, a, &[4, 5]) && release(&mut heap, a));
-    assert!(rt; !heap.is_held(a));
-    let b = take(&mut heap, 2)?;
-    assert_eq!(rt; (a.born(), b.born(), heap.places()), (0, 1, 1));
-    assert!(rt; !heap.is_held(a) && heap.is_held(b));
-    assert!(rt; is_held_until_lifted(&mut heap)?);
-    Ok(())
+    let a = put(rt.alloc(), &mut heap).expect(&rt, "memory");
+    assert_eq!(rt; are_told_apart(&mut heap, a), Ok(true));
+    assert_eq!(rt; is_held_until_lifted(&mut heap), Ok(true));
 }
 
 // Takes three buffers, of which one has two references, one has none, and the cells of one are handed out.
@@ -146,20 +169,24 @@ fn take_in_each_state(heap: &mut Heap) -> Result<bool, Memory> {
 }
 
 #[test]
-fn all_buffers_are_given_back_together(rt: HostRuntime) -> Result<(), Fail> {
+fn all_buffers_are_given_back_together(rt: HostRuntime) {
     let mut heap = Heap::new(rt.alloc());
-    assert!(rt; take_in_each_state(&mut heap)?);
+    assert_eq!(rt; take_in_each_state(&mut heap), Ok(true));
     heap.clear();
     assert_eq!(rt; counters(&heap), (0, 3, 3, 0));
-    Ok(())
 }
 
-// A heap behind the first one that goes on with as many numbers as a third one has used, twice, and has its counters.
-fn home_of(first: &Heap) -> Result<Heap, Memory> {
-    let mut home = Heap::behind(first);
+// A worker behind a heap, which takes a buffer and gives it back, and the number of the buffer.
+fn worker_behind(first: &Heap) -> Result<(Heap, u64), Memory> {
     let mut worker = Heap::behind(first);
     let own = worker.take(2)?;
     worker.release(own);
+    Ok((worker, own.born()))
+}
+
+// A heap behind the first one that goes on with as many numbers as a worker has used, twice, and has its counters.
+fn home_of(first: &Heap, worker: Heap) -> Result<Heap, Memory> {
+    let mut home = Heap::behind(first);
     home.follow(&worker, first)?;
     home.follow(&worker, first)?;
     home.absorb(worker);
@@ -168,15 +195,13 @@ fn home_of(first: &Heap) -> Result<Heap, Memory> {
 
 // Numbers go on from heap to heap.
 #[test]
-fn a_worker_has_numbers_of_its_own(rt: HostRuntime) -> Result<(), Fail> {
+fn a_worker_has_numbers_of_its_own(rt: HostRuntime) {
     let mut heap = Heap::new(rt.alloc());
-    take(&mut heap, 1)?;
-    let mut worker = Heap::behind(&heap);
-    let own = take(&mut worker, 2)?;
-    assert_eq!(rt; (own.born(), worker.births()), (1, 2));
-    let home = home_of(&heap)?;
+    assert!(rt; take(&mut heap, 1).is_ok());
+    let (worker, number) = worker_behind(&heap).expect(&rt, "memory");
+    assert_eq!(rt; (number, worker.births()), (1, 2));
+    let home = home_of(&heap, worker).expect(&rt, "memory");
     assert_eq!(rt; (home.births(), home.taken(), home.places()), (3, 1, 0));
-    Ok(())
 }
 
 // A heap with one buffer takes over from one that stands behind it.
@@ -190,13 +215,20 @@ fn taken_over(alloc: Global) -> Result<Heap, Memory> {
     Ok(heap)
 }
 
+// How often buffers were taken and given back, and the places and their counts.
+fn figures(heap: &Heap) -> [u64; 6] {
+    [
+        heap.births(),
+        heap.taken(),
+        heap.given(),
+        heap.places() as u64,
+        heap.count_at(0),
+        heap.count_at(1),
+    ]
+}
+
 #[test]
-fn a_heap_takes_over(rt: HostRuntime) -> Result<(), Fail> {
-    let heap = taken_over(rt.alloc())?;
-    assert_eq!(rt; (heap.births(), heap.taken(), heap.given()), (2, 2, 1));
-    assert_eq!(rt;
-        (heap.places(), heap.count_at(0), heap.count_at(1)),
-        (1, 1, 0)
-    );
-    Ok(())
+fn a_heap_takes_over(rt: HostRuntime) {
+    let heap = taken_over(rt.alloc()).expect(&rt, "memory");
+    assert_eq!(rt; figures(&heap), [2, 2, 1, 1, 1, 0]);
 }

@@ -9,6 +9,8 @@ mod data;
 #[cfg(test)]
 mod heaps;
 #[cfg(test)]
+mod making;
+#[cfg(test)]
 mod operators;
 #[cfg(test)]
 mod orders;

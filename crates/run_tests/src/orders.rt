@@ -1,18 +1,13 @@
+use crate::making::{int, one};
 use sac_base::{ArrayType, Base, Form, Part, Shape};
 use shape_types::{Instance, below, join, meet, pick};
 use std::alloc::Global;
-use std::test::Fail;
 
 // The type of the int arrays of this shape.
 fn known(alloc: Global, extents: &[i32]) -> ArrayType {
-    let shape = Shape::from_extents(alloc, extents).unwrap_or(Shape::empty(alloc));
-    int(Part::Known(shape))
-}
-
-fn int(part: Part) -> ArrayType {
-    ArrayType {
-        base: Base::Int,
-        part,
+    match Shape::from_extents(alloc, extents) {
+        Some(shape) => int(Part::Known(shape)),
+        None => int(Part::Star),
     }
 }
 
@@ -27,49 +22,56 @@ fn a_type_is_below_those_that_contain_it(rt: HostRuntime) {
     assert!(rt; !below(&known(rt.alloc(), &[]), &int(Part::Plus)));
 }
 
+// Whether the arrays that both types have are those of a third type.
+fn meet_is(a: &ArrayType, b: &ArrayType, want: &ArrayType) -> bool {
+    match meet(a, b) {
+        Some(found) => same(&found, want),
+        None => false,
+    }
+}
+
 #[test]
-fn the_meet_has_what_both_have(rt: HostRuntime) -> Result<(), Fail> {
+fn the_meet_has_what_both_have(rt: HostRuntime) {
     let three = known(rt.alloc(), &[3]);
-    let found = meet(&int(Part::Rank(1)), &three).ok_or("a meet")?;
-    assert!(rt; same(&found, &three));
+    assert!(rt; meet_is(&int(Part::Rank(1)), &three, &three));
     assert!(rt; meet(&known(rt.alloc(), &[]), &int(Part::Plus)).is_none());
-    Ok(())
+}
+
+// Whether the least type of the arrays of either type is a third type.
+fn join_is(a: &ArrayType, b: &ArrayType, want: &ArrayType) -> bool {
+    match join(a, b) {
+        Some(found) => same(&found, want),
+        None => false,
+    }
 }
 
 #[test]
-fn the_join_is_the_least_above_both(rt: HostRuntime) -> Result<(), Fail> {
-    let cases: [(&[i32], Part); 3] = [
-        (&[4], Part::Rank(1)),
-        (&[2, 2], Part::Plus),
-        (&[], Part::Star),
-    ];
-    for (extents, want) in cases {
-        let found = join(&known(rt.alloc(), &[3]), &known(rt.alloc(), extents)).ok_or("a join")?;
-        assert!(rt; same(&found, &int(want)));
-    }
-    Ok(())
+fn the_join_is_the_least_above_both(rt: HostRuntime) {
+    let alloc = rt.alloc();
+    let three = known(alloc, &[3]);
+    assert!(rt; join_is(&three, &known(alloc, &[4]), &int(Part::Rank(1))));
+    assert!(rt; join_is(&three, &known(alloc, &[2, 2]), &int(Part::Plus)));
+    assert!(rt; join_is(&three, &known(alloc, &[]), &int(Part::Star)));
 }
 
-fn instance(alloc: Global, part: Part) -> Result<Instance, Fail> {
-    Ok(Instance {
-        params: vec![in alloc; int(part)]?,
-    })
+fn instance(alloc: Global, part: Part) -> Instance {
+    Instance {
+        params: one(alloc, int(part)),
+    }
+}
+
+// The instance of these that an int array of this shape picks.
+fn picked(alloc: Global, instances: &[Instance], extents: &[i32]) -> Option<usize> {
+    let shape = Shape::from_extents(alloc, extents)?;
+    let base = Base::Int;
+    pick(instances, &[Form { base, shape }])
 }
 
 #[test]
-fn the_least_instance_is_picked(rt: HostRuntime) -> Result<(), Fail> {
-    let instances = vec![in rt.alloc();
-        instance(rt.alloc(), Part::Star)?,
-        instance(rt.alloc(), Part::Rank(1))?,
-    ]?;
-    let cases: [(&[i32], usize); 3] = [(&[], 0), (&[2], 1), (&[2, 2], 0)];
-    for (extents, want) in cases {
-        let shape = Shape::from_extents(rt.alloc(), extents).ok_or("extents")?;
-        let form = Form {
-            base: Base::Int,
-            shape,
-        };
-        assert_eq!(rt; pick(&instances, &[form]), Some(want));
-    }
-    Ok(())
+fn the_least_instance_is_picked(rt: HostRuntime) {
+    let alloc = rt.alloc();
+    let instances = [instance(alloc, Part::Star), instance(alloc, Part::Rank(1))];
+    assert_eq!(rt; picked(alloc, &instances, &[]), Some(0));
+    assert_eq!(rt; picked(alloc, &instances, &[2]), Some(1));
+    assert_eq!(rt; picked(alloc, &instances, &[2, 2]), Some(0));
 }

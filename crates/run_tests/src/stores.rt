@@ -1,60 +1,57 @@
+ghost use Rattle.std.specs.Prelude.{◌≡◌};
+ghost use Rattle.run_store.specs.Stands.{lender_of};
+
+use crate::making::{few, vector};
 use buffer_heap::Heap;
 use count_table::{Phase, Tally};
 use run_store::{
     Lent, Store, claim, copy_into, fits, keep, lent_counts, overwrite, place_array, place_own,
     read_array, release, select_value, settle, write,
 };
-use run_values::{Few, RunValue};
+use run_values::RunValue;
 use sac_base::{Array, Base, Cell, FaultKind, Memory, Shape, Site, Stop};
 use std::alloc::Global;
-use std::test::Fail;
 
 const HERE: Site = Site { line: 1, col: 1 };
 
-// Some numbers as a vector.
-fn vector(alloc: Global, cells: &[Cell]) -> Result<Array, Fail> {
-    if cells.len() > 100 {
-        return Err("a short vector".into());
-    }
-    Ok(Array::vector(alloc, Base::Int, Vec::from_slice(alloc, cells)?))
-}
-
-fn reshaped(alloc: Global, extents: &Array, flat: &Array) -> Result<Array, Fail> {
-    Ok(
-        array_ops::reshape(alloc, extents, flat)
-            .ok()
-            .ok_or("as many cells as the extents say")?,
-    )
-}
-
-// The array of these extents whose cells are 0, 1, 2 and so on.
-fn counting(alloc: Global, extents: &[Cell], count: i32) -> Result<Array, Fail> {
+// The numbers 0, 1, 2 and so on.
+fn numbers(alloc: Global, count: i32) -> Result<Vec<Cell>, Memory> {
     let mut cells = Vec::new(alloc);
     for k in 0..count {
         cells.push(k)?;
     }
-    reshaped(alloc, &vector(alloc, extents)?, &vector(alloc, &cells)?)
+    Ok(cells)
 }
 
-fn few(cells: &[Cell]) -> Result<Few, Fail> {
-    Ok(Few::from_slice(cells).ok_or("a short list")?)
+// The array of these extents whose cells are 0, 1, 2 and so on.
+fn counting(alloc: Global, extents: &[Cell], count: i32) -> Result<Array, Memory> {
+    let extents = vector(alloc, extents)?;
+    let cells = vector(alloc, &numbers(alloc, count)?)?;
+    match array_ops::reshape(alloc, &extents, &cells) {
+        Ok(array) => Ok(array),
+        Err(_) => Err(Memory),
+    }
 }
 
-// Calls of a store, of whose facts a test needs none.
+// Calls of a store, of whose facts a test needs none, but that it has the same lender.
 fn placed(
     alloc: Global,
     store: &mut Store<'_>,
     extents: &[Cell],
     count: i32,
-) -> Result<RunValue, Fail> {
-    Ok(place_own(store, counting(alloc, extents, count)?)?)
+) -> Result<RunValue, Memory> {
+    place_own(store, counting(alloc, extents, count)?)
 }
 
-fn kept(store: &mut Store<'_>, value: RunValue) -> bool {
+fn is_kept(store: &mut Store<'_>, value: RunValue) -> bool
+    ensures { lender_of store.new ≡ lender_of store.old }
+{
     keep(store, value).is_ok()
 }
 
-fn released(store: &mut Store<'_>, value: RunValue) -> bool {
+fn is_released(store: &mut Store<'_>, value: RunValue) -> bool
+    ensures { lender_of store.new ≡ lender_of store.old }
+{
     release(store, value).is_ok()
 }
 
@@ -62,48 +59,72 @@ fn read(alloc: Global, store: &Store<'_>, value: RunValue) -> Result<Array, Memo
     read_array(alloc, store, value)
 }
 
-#[test]
-fn references_are_counted(rt: HostRuntime) -> Result<(), Fail> {
-    let mut store = Store::of(Heap::new(rt.alloc()));
-    let value = placed(rt.alloc(), &mut store, &[2, 5], 10)?;
-    assert!(rt; kept(&mut store, value) && released(&mut store, value));
-    assert_eq!(rt; store.own.live(), 1);
-    assert!(rt; released(&mut store, value));
-    assert_eq!(rt; store.own.live(), 0);
-    assert!(rt; !released(&mut store, value) && !kept(&mut store, value));
-    Ok(())
+// Whether these are the cells of a value.
+fn has_cells(alloc: Global, store: &Store<'_>, value: RunValue, cells: &[Cell]) -> bool {
+    match read(alloc, store, value) {
+        Ok(array) => array.cells() == cells,
+        Err(_) => false,
+    }
+}
+
+// Whether the one reference of a value is counted, with the numbers of live buffers before and after it goes.
+fn is_counted(store: &mut Store<'_>, value: RunValue) -> (bool, u64, bool, u64, bool) {
+    let twice = is_kept(store, value) && is_released(store, value);
+    let before = store.own.live();
+    let last = is_released(store, value);
+    let after = store.own.live();
+    let gone = !is_released(store, value) && !is_kept(store, value);
+    (twice, before, last, after, gone)
 }
 
 #[test]
-fn lent_buffers_are_held_by_the_table(rt: HostRuntime) -> Result<(), Fail> {
-    let alloc = rt.alloc();
-    let mut main = Store::of(Heap::new(alloc));
-    let value = place_own(&mut main, counting(alloc, &[2, 5], 10)?)?;
-    let mut counts = lent_counts(alloc, &main.own)?;
+fn references_are_counted(rt: HostRuntime) {
+    let mut store = Store::of(Heap::new(rt.alloc()));
+    let value = placed(rt.alloc(), &mut store, &[2, 5], 10).expect(&rt, "memory");
+    assert_eq!(rt; is_counted(&mut store, value), (true, 1, true, 0, true));
+}
+
+// Whether a value is kept, released, released more often than it was kept, read, and kept again.
+fn uses(alloc: Global, store: &mut Store<'_>, value: RunValue) -> [bool; 5]
+    ensures { lender_of store.new ≡ lender_of store.old }
+{
+    let once = is_kept(store, value);
+    let back = is_released(store, value);
+    let too_often = is_released(store, value);
+    let same = has_cells(alloc, store, value, &[0, 1, 2, 3, 4, 5, 6, 7, 8, 9]);
+    let again = is_kept(store, value);
+    [once, back, too_often, same, again]
+}
+
+// What a value of a heap comes to in a phase that is lent the heap, what is live of the phase's own buffers, and the counts behind it.
+fn in_phase(
+    alloc: Global,
+    heap: &Heap,
+    value: RunValue,
+) -> Result<([bool; 5], u64, Vec<u64>), Memory> {
+    let mut counts = lent_counts(alloc, heap)?;
+    let holds = vec![in alloc; 0; heap.places()]?;
     let (table, mut frame) = Phase::open(alloc, &counts, 0)?;
     let seat = table.seat(&mut frame);
-    let holds = vec![in alloc; 0; main.own.places()]?;
-    let lent = Lent::new(&main.own, &table, seat, holds);
-    let mut store = Store::with(Heap::behind(&main.own), lent);
-    let kept = keep(&mut store, value).is_ok();
-    let released = release(&mut store, value).is_ok();
-    let too_often = release(&mut store, value).is_ok();
-    let read = match read_array(alloc, &store, value) {
-        Ok(array) => array.cells().len(),
-        Err(_) => 0,
-    };
-    let kept_again = keep(&mut store, value).is_ok();
+    let lent = Lent::new(heap, &table, seat, holds);
+    let mut store = Store::with(Heap::behind(heap), lent);
+    let found = uses(alloc, &mut store, value);
     let (own, seat, _) = store.close();
     table.leave(seat, &mut frame);
     let mut tally = Tally::new();
     table.close(frame, &mut counts, &mut tally);
-    assert_eq!(rt;
-        (kept, released, too_often, kept_again, read),
-        (true, true, false, true, 10)
-    );
+    Ok((found, own.live(), counts))
+}
+
+#[test]
+fn lent_buffers_are_held_by_the_table(rt: HostRuntime) {
+    let alloc = rt.alloc();
+    let mut main = Store::of(Heap::new(alloc));
+    let value = placed(alloc, &mut main, &[2, 5], 10).expect(&rt, "memory");
+    let (found, live, counts) = in_phase(alloc, &main.own, value).expect(&rt, "memory");
+    assert_eq!(rt; found, [true, true, false, true, true]);
     assert_eq!(rt; counts.as_slice(), [1].as_slice());
-    assert_eq!(rt; (own.live(), main.own.live()), (0, 1));
-    Ok(())
+    assert_eq!(rt; (live, main.own.live()), (0, 1));
 }
 
 // A copy of an array.
@@ -112,27 +133,33 @@ fn copied(
     store: &mut Store<'_>,
     extents: &[Cell],
     count: i32,
-) -> Result<RunValue, Fail> {
-    Ok(place_array(alloc, store, &counting(alloc, extents, count)?)?)
+) -> Result<RunValue, Memory> {
+    place_array(alloc, store, &counting(alloc, extents, count)?)
+}
+
+// Whether a value has these extents, and the cells of another one.
+fn is_same(
+    alloc: Global,
+    store: &Store<'_>,
+    value: RunValue,
+    other: RunValue,
+    extents: &[Cell],
+) -> Result<bool, Memory> {
+    let found = read(alloc, store, value)?;
+    Ok(found.shape().extents() == extents && has_cells(alloc, store, other, found.cells()))
 }
 
 // Whether an array and a copy of it, which is then released, are read as they were placed, and so many buffers are left.
-fn is_read_back(alloc: Global, extents: &[Cell], count: i32, live: u64) -> Result<bool, Fail> {
+fn is_read_back(alloc: Global, extents: &[Cell], count: i32, live: u64) -> Result<bool, Memory> {
     let mut store = Store::of(Heap::new(alloc));
     let copy = copied(alloc, &mut store, extents, count)?;
     let value = placed(alloc, &mut store, extents, count)?;
-    let found = read(alloc, &store, value)?;
-    let wanted = read(alloc, &store, copy)?;
-    Ok(
-        released(&mut store, copy)
-            && found.shape().extents() == extents
-            && found.cells() == wanted.cells()
-            && store.own.live() == live,
-    )
+    let same = is_same(alloc, &store, value, copy, extents)?;
+    Ok(same && is_released(&mut store, copy) && store.own.live() == live)
 }
 
 #[test]
-fn placed_arrays_are_read_as_they_were(rt: HostRuntime) -> Result<(), Fail> {
+fn placed_arrays_are_read_as_they_were(rt: HostRuntime) {
     let cases: [(&[Cell], i32, u64); 4] = [
         (&[], 1, 0),
         (&[8], 8, 0),
@@ -140,9 +167,8 @@ fn placed_arrays_are_read_as_they_were(rt: HostRuntime) -> Result<(), Fail> {
         (&[3, 2], 6, 1),
     ];
     for (extents, count, live) in cases {
-        assert!(rt; is_read_back(rt.alloc(), extents, count, live)?);
+        assert_eq!(rt; is_read_back(rt.alloc(), extents, count, live), Ok(true));
     }
-    Ok(())
 }
 
 // The value at an index of an array, or nothing where it is outside of the array.
@@ -151,41 +177,48 @@ fn part(
     store: &mut Store<'_>,
     array: RunValue,
     index: &[Cell],
-) -> Result<Option<RunValue>, Fail> {
-    let index = RunValue::Short(Base::Int, few(index)?);
+) -> Result<Option<RunValue>, Memory> {
+    let index = RunValue::Short(Base::Int, few(index));
     match select_value(alloc, store, array, index, HERE) {
         Ok(value) => Ok(Some(value)),
         Err(Stop::Faulted(fault)) if fault.kind == FaultKind::F1 => Ok(None),
-        Err(_) => Err(Fail::from("another fault")),
+        Err(_) => Err(Memory),
     }
 }
 
-// The part of an array of 3 rows and 4 columns at an index. The array's buffer is then the one that is left.
-fn selected(alloc: Global, index: &[Cell]) -> Result<Option<Array>, Fail> {
+fn is_part(
+    alloc: Global,
+    store: &Store<'_>,
+    part: Option<RunValue>,
+    want: Option<&[Cell]>,
+) -> bool {
+    match (part, want) {
+        (Some(value), Some(cells)) => has_cells(alloc, store, value, cells),
+        (None, None) => true,
+        _ => false,
+    }
+}
+
+// Whether this is the part at an index of an array of 3 rows and 4 columns, whose buffer is then the one that is left.
+fn has_part(alloc: Global, index: &[Cell], want: Option<&[Cell]>) -> Result<bool, Memory> {
     let mut store = Store::of(Heap::new(alloc));
     let array = placed(alloc, &mut store, &[3, 4], 12)?;
     let found = part(alloc, &mut store, array, index)?;
-    if store.own.live() != 1 {
-        return Err(Fail::from("one buffer"));
-    }
-    match found {
-        Some(value) => Ok(Some(read(alloc, &store, value)?)),
-        None => Ok(None),
-    }
+    Ok(is_part(alloc, &store, found, want) && store.own.live() == 1)
 }
 
 #[test]
-fn parts_are_selected(rt: HostRuntime) -> Result<(), Fail> {
-    let cases: [(&[Cell], &[Cell]); 2] = [(&[1, 2], &[6]), (&[2], &[8, 9, 10, 11])];
-    for (index, cells) in cases {
-        let part = selected(rt.alloc(), index)?.ok_or("a part")?;
-        assert_eq!(rt; part.cells(), cells);
+fn parts_are_selected(rt: HostRuntime) {
+    let cases: [(&[Cell], Option<&[Cell]>); 5] = [
+        (&[1, 2], Some(&[6])),
+        (&[2], Some(&[8, 9, 10, 11])),
+        (&[3, 0], None),
+        (&[0, -1], None),
+        (&[0, 0, 0], None),
+    ];
+    for (index, want) in cases {
+        assert_eq!(rt; has_part(rt.alloc(), index, want), Ok(true));
     }
-    let outside: [&[Cell]; 3] = [&[3, 0], &[0, -1], &[0, 0, 0]];
-    for index in outside {
-        assert!(rt; selected(rt.alloc(), index)?.is_none());
-    }
-    Ok(())
 }
 
 // A result of a shape, of which the first cell is written.
@@ -208,27 +241,33 @@ fn is_copied(
     Ok(copy.first() == Some(&7))
 }
 
+// Whether a value is read as an array that it fits, of which the first cell is 7.
+fn is_read(alloc: Global, store: &Store<'_>, value: RunValue) -> bool {
+    match read(alloc, store, value) {
+        Ok(array) => array.cells().first() == Some(&7) && fits(&array.form(), &value),
+        Err(_) => false,
+    }
+}
+
 // Whether a result of so many cells is read as it was made, and as it is copied into other cells.
-fn is_made(alloc: Global, extents: &[Cell], count: u8, live: u64) -> Result<bool, Fail> {
+fn is_made(alloc: Global, shape: &Shape, count: u8, live: u64) -> Result<bool, Memory> {
     let mut store = Store::of(Heap::new(alloc));
-    let shape = Shape::from_extents(alloc, extents).ok_or("a shape")?;
-    let value = made(alloc, &mut store, &shape)?;
-    let found = read(alloc, &store, value)?;
-    Ok(
-        is_copied(alloc, &store, &value, count)?
-            && found.cells().first() == Some(&7)
-            && fits(&found.form(), &value)
-            && store.own.live() == live,
-    )
+    let value = made(alloc, &mut store, shape)?;
+    let same = is_read(alloc, &store, value) && is_copied(alloc, &store, &value, count)?;
+    Ok(same && store.own.live() == live)
+}
+
+fn is_made_of(alloc: Global, extents: &[Cell], count: u8, live: u64) -> Option<bool> {
+    let shape = Shape::from_extents(alloc, extents)?;
+    is_made(alloc, &shape, count, live).ok()
 }
 
 #[test]
-fn results_are_made(rt: HostRuntime) -> Result<(), Fail> {
+fn results_are_made(rt: HostRuntime) {
     let cases: [(&[Cell], u8, u64); 3] = [(&[], 1, 0), (&[8], 8, 0), (&[9], 9, 1)];
     for (extents, count, live) in cases {
-        assert!(rt; is_made(rt.alloc(), extents, count, live)?);
+        assert_eq!(rt; is_made_of(rt.alloc(), extents, count, live), Some(true));
     }
     let mut cells = [0; 9];
     assert!(rt; overwrite(&mut cells, 9, &[1]).is_err());
-    Ok(())
 }

@@ -1,99 +1,110 @@
+use crate::making::few;
 use buffer_heap::Heap;
 use core_ir::Var;
 use run_values::{Few, Frames, RunValue, short_binary, short_unary, small_value};
 use sac_base::{Base, Cell, FaultKind, Memory, Op, Shape};
-use std::test::Fail;
+use std::alloc::Global;
 
-fn few(cells: &[Cell]) -> Result<Few, Fail> {
-    Ok(Few::from_slice(cells).ok_or("a short list")?)
+/// Whether the short list of these numbers has them, if there is one.
+fn short(cells: &[Cell]) -> Option<bool> {
+    let few = Few::from_slice(cells)?;
+    Some(few.as_slice() == cells && few.len() == cells.len())
 }
 
-#[test]
-fn lists_of_up_to_eight_numbers_are_short(rt: HostRuntime) -> Result<(), Fail> {
-    let cases: [(&[Cell], bool); 4] = [
-        (&[], true),
-        (&[-1, 2], true),
-        (&[1, 2, 3, 4, 5, 6, 7, 8], true),
-        (&[1, 2, 3, 4, 5, 6, 7, 8, 9], false),
-    ];
-    for (cells, short) in cases {
-        match Few::from_slice(cells) {
-            Some(few) => assert!(rt; short && few.as_slice() == cells && few.len() == cells.len()),
-            None => assert!(rt; !short),
-        }
-    }
+fn is_pushed() -> bool {
     let mut one = Few::one(7);
-    assert!(rt; one.push(8));
-    assert_eq!(rt; one.as_slice(), [7, 8].as_slice());
-    assert_eq!(rt; Few::empty().len(), 0);
-    Ok(())
+    one.push(8) && one.as_slice() == [7, 8].as_slice()
 }
 
 #[test]
-fn values_have_a_base_and_a_shape(rt: HostRuntime) -> Result<(), Fail> {
-    let mut heap = Heap::new(rt.alloc());
-    let id = heap.take(12)?;
-    let cases: [(RunValue, Base, &[Cell]); 4] = [
-        (RunValue::Unbound, Base::Int, &[]),
-        (RunValue::Word(Base::Bool, 1), Base::Bool, &[]),
-        (
-            RunValue::Short(Base::Int, few(&[5, 6, 7])?),
-            Base::Int,
-            &[3],
-        ),
-        (
-            RunValue::Buffer(Base::Bool, id, few(&[3, 4])?),
-            Base::Bool,
-            &[3, 4],
-        ),
+fn lists_of_up_to_eight_numbers_are_short(rt: HostRuntime) {
+    let cases: [(&[Cell], Option<bool>); 4] = [
+        (&[], Some(true)),
+        (&[-1, 2], Some(true)),
+        (&[1, 2, 3, 4, 5, 6, 7, 8], Some(true)),
+        (&[1, 2, 3, 4, 5, 6, 7, 8, 9], None),
     ];
-    for (value, base, extents) in cases {
-        assert!(rt; value.base() == base);
-        assert_eq!(rt; value.rank(), extents.len());
-        assert_eq!(rt; value.extents().as_slice(), extents);
+    for (cells, want) in cases {
+        assert_eq!(rt; short(cells), want);
     }
-    Ok(())
+    assert!(rt; is_pushed());
+    assert_eq!(rt; Few::empty().len(), 0);
+}
+
+fn has(value: &RunValue, base: Base, extents: &[Cell]) -> bool {
+    value.base() == base && value.rank() == extents.len() && value.extents().as_slice() == extents
+}
+
+/// Twelve bools in three rows.
+fn rows(alloc: Global) -> Result<RunValue, Memory> {
+    let id = Heap::new(alloc).take(12)?;
+    Ok(RunValue::Buffer(Base::Bool, id, few(&[3, 4])))
 }
 
 #[test]
-fn scalars_and_short_vectors_are_small(rt: HostRuntime) -> Result<(), Fail> {
-    let shape = Shape::vector(rt.alloc(), 2);
-    match small_value(Base::Int, &shape, &[4, 5]) {
-        Some(RunValue::Short(_, cells)) => assert_eq!(rt; cells.as_slice(), [4, 5].as_slice()),
-        _ => assert!(rt; false),
+fn values_have_a_base_and_a_shape(rt: HostRuntime) {
+    let rows = rows(rt.alloc()).expect(&rt, "memory");
+    assert!(rt; has(&RunValue::Unbound, Base::Int, &[]));
+    assert!(rt; has(&RunValue::Word(Base::Bool, 1), Base::Bool, &[]));
+    assert!(rt;
+        has(
+            &RunValue::Short(Base::Int, few(&[5, 6, 7])),
+            Base::Int,
+            &[3]
+        )
+    );
+    assert!(rt; has(&rows, Base::Bool, &[3, 4]));
+}
+
+/// Whether two numbers are a short vector.
+fn is_short_vector(alloc: Global) -> bool {
+    match small_value(Base::Int, &Shape::vector(alloc, 2), &[4, 5]) {
+        Some(RunValue::Short(_, cells)) => cells.as_slice() == [4, 5].as_slice(),
+        _ => false,
     }
-    match small_value(Base::Int, &Shape::empty(rt.alloc()), &[9]) {
-        Some(value) => assert_eq!(rt; value.as_word(), Ok(Some(9))),
-        None => assert!(rt; false),
+}
+
+/// Whether one number is a word.
+fn is_word(alloc: Global) -> bool {
+    match small_value(Base::Int, &Shape::empty(alloc), &[9]) {
+        Some(value) => value.as_word() == Ok(Some(9)),
+        None => false,
     }
-    assert_eq!(rt; RunValue::Short(Base::Int, few(&[1])?).as_word(), Ok(None));
-    Ok(())
 }
 
 #[test]
-fn operators_go_element_by_element(rt: HostRuntime) -> Result<(), Fail> {
-    let cases: [(Op, &[Cell], &[Cell], Result<&[Cell], FaultKind>); 4] = [
+fn scalars_and_short_vectors_are_small(rt: HostRuntime) {
+    let alloc = rt.alloc();
+    assert!(rt; is_short_vector(alloc) && is_word(alloc));
+    assert_eq!(rt; RunValue::Short(Base::Int, few(&[1])).as_word(), Ok(None));
+}
+
+type Want<'a> = Result<&'a [Cell], FaultKind>;
+
+fn gives(op: Op, left: &[Cell], right: &[Cell], want: Want<'_>) -> bool {
+    match (short_binary(op, &few(left), &few(right)), want) {
+        (Ok(cells), Ok(wanted)) => cells.as_slice() == wanted,
+        (Err(kind), Err(wanted)) => kind == wanted,
+        _ => false,
+    }
+}
+
+fn negates(cells: &[Cell], want: &[Cell]) -> bool {
+    short_unary(Op::Neg, &few(cells)).as_slice() == want
+}
+
+#[test]
+fn operators_go_element_by_element(rt: HostRuntime) {
+    let cases: [(Op, &[Cell], &[Cell], Want<'static>); 4] = [
         (Op::Sub, &[5, 6], &[1, 2], Ok(&[4, 4])),
         (Op::Add, &[2147483647], &[1], Ok(&[-2147483648])),
         (Op::Add, &[1, 2], &[1], Err(FaultKind::F3)),
         (Op::Div, &[1, 2], &[1, 0], Err(FaultKind::F2)),
     ];
     for (op, left, right, want) in cases {
-        match (short_binary(op, &few(left)?, &few(right)?), want) {
-            (Ok(cells), Ok(wanted)) => assert_eq!(rt; cells.as_slice(), wanted),
-            (Err(kind), Err(wanted)) => assert_eq!(rt; kind, wanted),
-            _ => assert!(rt; false),
-        }
+        assert!(rt; gives(op, left, right, want));
     }
-    assert_eq!(rt;
-        short_unary(Op::Neg, &few(&[3, -4])?).as_slice(),
-        [-3, 4].as_slice()
-    );
-    Ok(())
-}
-
-fn word(frames: &Frames, x: u32) -> Result<Option<Cell>, Memory> {
-    frames.get(Var(x)).as_word()
+    assert!(rt; negates(&[3, -4], &[-3, 4]));
 }
 
 // The steps on variables, of which a test needs no fact.
@@ -113,26 +124,38 @@ fn leave(frames: &mut Frames) {
     frames.leave();
 }
 
-type Words = (Result<Option<Cell>, Memory>, Result<Option<Cell>, Memory>);
+fn word(frames: &Frames, x: u32) -> Result<Option<Cell>, Memory> {
+    frames.get(Var(x)).as_word()
+}
 
-fn words(frames: &Frames) -> Words {
-    (word(frames, 1), word(frames, 3))
+/// Whether the variables 1 and 3 hold these.
+fn holds(frames: &Frames, first: Cell, third: Cell) -> bool {
+    word(frames, 1) == Ok(Some(first)) && word(frames, 3) == Ok(Some(third))
+}
+
+/// The variable 3 in a scope and the variable 1 in one within it.
+fn two_scopes(frames: &mut Frames) -> Result<(), Memory> {
+    bind(frames, 3, 30)?;
+    enter(frames)?;
+    bind(frames, 1, 10)
+}
+
+/// What the variable 3 is in a call, before and after it is bound there.
+fn in_call(frames: &mut Frames) -> Result<(Option<Cell>, Option<Cell>), Memory> {
+    enter_call(frames)?;
+    let before = word(frames, 3)?;
+    bind(frames, 3, 33)?;
+    Ok((before, word(frames, 3)?))
 }
 
 #[test]
-fn what_a_scope_binds_ends_with_it(rt: HostRuntime) -> Result<(), Fail> {
+fn what_a_scope_binds_ends_with_it(rt: HostRuntime) {
     let mut frames = Frames::new(rt.alloc());
-    bind(&mut frames, 3, 30)?;
-    enter(&mut frames)?;
-    bind(&mut frames, 1, 10)?;
-    assert_eq!(rt; words(&frames), (Ok(Some(10)), Ok(Some(30))));
-    enter_call(&mut frames)?;
-    assert_eq!(rt; word(&frames, 3), Ok(Some(0)));
-    bind(&mut frames, 3, 33)?;
-    assert_eq!(rt; word(&frames, 3), Ok(Some(33)));
+    assert_eq!(rt; two_scopes(&mut frames), Ok(()));
+    assert!(rt; holds(&frames, 10, 30));
+    assert_eq!(rt; in_call(&mut frames), Ok((Some(0), Some(33))));
     leave(&mut frames);
-    assert_eq!(rt; words(&frames), (Ok(Some(10)), Ok(Some(30))));
+    assert!(rt; holds(&frames, 10, 30));
     leave(&mut frames);
-    assert_eq!(rt; words(&frames), (Ok(Some(0)), Ok(Some(30))));
-    Ok(())
+    assert!(rt; holds(&frames, 0, 30));
 }
