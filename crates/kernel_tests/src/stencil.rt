@@ -1,9 +1,9 @@
+use crate::making::vector;
 use kernel_buffers::Buffer;
 use kernel_run::run_line;
 use kernel_tree::{KernelStep, Registers};
-use sac_base::{Array, Base, Site};
+use sac_base::{Array, Cell, Memory, Site};
 use std::alloc::Global;
-use std::test::Fail;
 
 const HERE: Site = Site { line: 1, col: 1 };
 
@@ -26,21 +26,28 @@ const FOUR: [KernelStep; 14] = [
 ];
 
 // The array of 3 rows of 4 cells, whose cells are squares.
-pub fn squares(alloc: Global) -> Result<Array, Fail> {
-    let cells = vec![in alloc; 0, 1, 4, 9, 16, 25, 36, 49, 64, 81, 100, 121]?;
-    let flat = Array::vector(alloc, Base::Int, cells);
-    let extents = Array::vector(alloc, Base::Int, vec![in alloc; 3, 4]?);
-    Ok(
-        array_ops::reshape(alloc, &extents, &flat)
-            .ok()
-            .ok_or("12 cells")?,
-    )
+pub fn squares(alloc: Global) -> Result<Array, Memory> {
+    let cells = [0, 1, 4, 9, 16, 25, 36, 49, 64, 81, 100, 121];
+    let flat = vector(alloc, &cells)?;
+    match array_ops::reshape(alloc, &vector(alloc, &[3, 4])?, &flat) {
+        Ok(array) => Ok(array),
+        Err(_) => Err(Memory),
+    }
+}
+
+// What register 15 has behind a line of steps at a row and a column, where there is no fault.
+fn cell_at(steps: &[KernelStep], array: &Array, row: Cell, column: Cell) -> Option<Cell> {
+    let mut registers: Registers = [row; 256];
+    registers[1] = column;
+    match run_line(steps, &[Buffer::of(array)], &mut registers) {
+        Ok(()) => Some(registers[15]),
+        Err(_) => None,
+    }
 }
 
 #[test]
-fn one_cell_has_its_value_or_a_fault(rt: HostRuntime) -> Result<(), Fail> {
-    let array = squares(rt.alloc())?;
-    let buffers = [Buffer::of(&array)];
+fn one_cell_has_its_value_or_a_fault(rt: HostRuntime) {
+    let array = squares(rt.alloc()).expect(&rt, "memory");
     let cases = [
         (1, 1, Some(33)),
         (1, 2, Some(44)),
@@ -48,10 +55,6 @@ fn one_cell_has_its_value_or_a_fault(rt: HostRuntime) -> Result<(), Fail> {
         (2, 1, None),
     ];
     for (row, column, wanted) in cases {
-        let mut registers: Registers = [row; 256];
-        registers[1] = column;
-        let found = run_line(&FOUR, &buffers, &mut registers).ok();
-        assert_eq!(rt; found.map(|_| registers[15]), wanted);
+        assert_eq!(rt; cell_at(&FOUR, &array, row, column), wanted);
     }
-    Ok(())
 }

@@ -1,9 +1,9 @@
+use crate::making::one;
 use kernel_buffers::Buffer;
-use kernel_strip::{StripRoom, run_strip, strip_of};
+use kernel_strip::{StripRoom, Strips, run_strip, strip_of};
 use kernel_tree::{Held, KernelBlock, KernelPart, KernelStep, Registers};
-use sac_base::{Array, Base, Cell, Site};
+use sac_base::{Base, Cell, Memory, Site};
 use std::alloc::Global;
-use std::test::Fail;
 
 pub const HERE: Site = Site { line: 1, col: 1 };
 
@@ -11,38 +11,92 @@ pub const HERE: Site = Site { line: 1, col: 1 };
 pub const RESULT: u8 = 20;
 
 /// One line as a block.
-pub fn line(alloc: Global, steps: &[KernelStep]) -> Result<KernelBlock, Fail> {
-    let line = Vec::from_slice(alloc, steps)?;
-    let mut parts = Vec::new(alloc);
-    parts.reserve(1)?;
-    parts.push_reserved(KernelPart::Line(line));
-    Ok(KernelBlock { parts })
-}
-
-/// Some numbers as a vector.
-pub fn vector(alloc: Global, cells: &[Cell]) -> Result<Array, Fail> {
-    if cells.len() > 100 {
-        return Err("a short vector".into());
+pub fn line(alloc: Global, steps: &[KernelStep]) -> KernelBlock {
+    let line = match Vec::from_slice(alloc, steps) {
+        Ok(line) => line,
+        Err(_) => Vec::new(alloc),
+    };
+    KernelBlock {
+        parts: one(alloc, KernelPart::Line(line)),
     }
-    Ok(Array::vector(alloc, Base::Int, Vec::from_slice(alloc, cells)?))
 }
 
-/// The cells of a row whose innermost index, in register 0, begins with `first`, or none where the strip is refused.
-pub fn row(
+/// A line and then one of two.
+pub fn branches(
     alloc: Global,
-    block: &KernelBlock,
+    steps: &[KernelStep],
+    cond: u8,
+    yes: &[KernelStep],
+    no: &[KernelStep],
+) -> KernelBlock {
+    let mut block = line(alloc, steps);
+    let _ = block.parts.push(KernelPart::If {
+        cond,
+        yes: line(alloc, yes),
+        no: line(alloc, no),
+    });
+    block
+}
+
+// Whether the strips run so far, from an innermost index in register 0.
+fn run(
+    alloc: Global,
+    strips: &Strips,
     buffers: &[Buffer<'_>],
     first: Cell,
-    len: usize,
-) -> Result<Option<Vec<Cell>>, Fail> {
-    let strips = strip_of(alloc, block, Held::Word(Base::Int, RESULT), 0)?.ok_or("strips")?;
+    out: &mut [Cell],
+) -> Result<bool, Memory> {
     let mut room = StripRoom::new(alloc, strips.steps.len())?;
     let mut registers: Registers = [0; 256];
     registers[0] = first;
+    Ok(run_strip(strips, buffers, &registers, &mut room, out))
+}
+
+// The cells of a row, or none where the strip is refused.
+fn cells(
+    alloc: Global,
+    strips: &Strips,
+    buffers: &[Buffer<'_>],
+    first: Cell,
+    len: usize,
+) -> Result<Option<Vec<Cell>>, Memory> {
     let mut out = vec![in alloc; 7; len]?;
-    if run_strip(&strips, buffers, &registers, &mut room, &mut out) {
+    if run(alloc, strips, buffers, first, &mut out)? {
         Ok(Some(out))
     } else {
         Ok(None)
+    }
+}
+
+/// The strips of a block, whose index is in register 0.
+pub fn strips(alloc: Global, block: &KernelBlock) -> Option<Strips> {
+    strip_of(alloc, block, Held::Word(Base::Int, RESULT), 0).ok()?
+}
+
+/// Whether the cells of a row, whose innermost index begins with `first`, are these.
+pub fn gives(
+    alloc: Global,
+    strips: &Strips,
+    buffers: &[Buffer<'_>],
+    first: Cell,
+    wanted: &[Cell],
+) -> bool {
+    match cells(alloc, strips, buffers, first, wanted.len()) {
+        Ok(Some(found)) => found.as_slice() == wanted,
+        _ => false,
+    }
+}
+
+/// Whether a row of so many cells is refused.
+pub fn refuses(
+    alloc: Global,
+    strips: &Strips,
+    buffers: &[Buffer<'_>],
+    first: Cell,
+    len: usize,
+) -> bool {
+    match cells(alloc, strips, buffers, first, len) {
+        Ok(found) => found.is_none(),
+        Err(_) => false,
     }
 }

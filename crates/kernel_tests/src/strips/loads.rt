@@ -1,9 +1,10 @@
-use super::common::{HERE, RESULT, line, row, vector};
+use super::common::{HERE, RESULT, gives, line, refuses, strips};
+use crate::making::vector;
 use kernel_buffers::Buffer;
+use kernel_strip::Strips;
 use kernel_tree::KernelStep;
-use sac_base::Cell;
+use sac_base::{Cell, Memory};
 use std::alloc::Global;
-use std::test::Fail;
 
 // `a[i - 1]`.
 const BEFORE: [KernelStep; 3] = [
@@ -13,18 +14,15 @@ const BEFORE: [KernelStep; 3] = [
 ];
 
 #[test]
-fn a_load_ends_at_both_edges(rt: HostRuntime) -> Result<(), Fail> {
+fn a_load_ends_at_both_edges(rt: HostRuntime) {
     let alloc = rt.alloc();
-    let block = line(alloc, &BEFORE)?;
-    let array = vector(alloc, &[10, 20, 30])?;
+    let strips = strips(alloc, &line(alloc, &BEFORE)).expect(&rt, "strips");
+    let array = vector(alloc, &[10, 20, 30]).expect(&rt, "memory");
     let buffers = [Buffer::of(&array)];
-    let all = row(alloc, &block, &buffers, 1, 3)?.ok_or("cells")?;
-    assert!(rt; all.as_slice() == [10, 20, 30].as_slice());
+    assert!(rt; gives(alloc, &strips, &buffers, 1, &[10, 20, 30]));
     for (first, len) in [(0, 3), (0, 1), (1, 4), (4, 1)] {
-        let found = row(alloc, &block, &buffers, first, len)?;
-        assert!(rt; found.is_none());
+        assert!(rt; refuses(alloc, &strips, &buffers, first, len));
     }
-    Ok(())
 }
 
 // `b[a[i]] + i`.
@@ -34,19 +32,28 @@ const INDIRECT: [KernelStep; 3] = [
     KernelStep::Add(RESULT, 9, 0),
 ];
 
-// The cells where `a` holds these numbers, and `b` is 50 and 60.
-fn indirect(alloc: Global, indices: &[Cell]) -> Result<Option<Vec<Cell>>, Fail> {
-    let block = line(alloc, &INDIRECT)?;
+// Whether the cells are these, or the row is refused, where `a` holds these numbers, and `b` is 50 and 60.
+fn is_indirect(
+    alloc: Global,
+    strips: &Strips,
+    indices: &[Cell],
+    wanted: Option<&[Cell]>,
+) -> Result<bool, Memory> {
     let values = vector(alloc, &[50, 60])?;
     let indices = vector(alloc, indices)?;
     let buffers = [Buffer::of(&indices), Buffer::of(&values)];
-    row(alloc, &block, &buffers, 0, 3)
+    Ok(match wanted {
+        Some(cells) => gives(alloc, strips, &buffers, 0, cells),
+        None => refuses(alloc, strips, &buffers, 0, 3),
+    })
 }
 
 #[test]
-fn an_index_may_be_loaded(rt: HostRuntime) -> Result<(), Fail> {
-    let found = indirect(rt.alloc(), &[1, 0, 1])?.ok_or("cells")?;
-    assert!(rt; found.as_slice() == [60, 51, 62].as_slice());
-    assert!(rt; indirect(rt.alloc(), &[1, 2, 1])?.is_none());
-    Ok(())
+fn an_index_may_be_loaded(rt: HostRuntime) {
+    let alloc = rt.alloc();
+    let strips = strips(alloc, &line(alloc, &INDIRECT)).expect(&rt, "strips");
+    let found = is_indirect(alloc, &strips, &[1, 0, 1], Some(&[60, 51, 62]));
+    assert_eq!(rt; found, Ok(true));
+    let found = is_indirect(alloc, &strips, &[1, 2, 1], None);
+    assert_eq!(rt; found, Ok(true));
 }

@@ -1,7 +1,10 @@
-use super::common::{HERE, RESULT, line, row, vector};
+use super::common::{HERE, RESULT, gives, line, refuses, strips};
+use crate::making::vector;
 use kernel_buffers::Buffer;
+use kernel_strip::Strips;
 use kernel_tree::KernelStep;
-use std::test::Fail;
+use sac_base::{Cell, Memory};
+use std::alloc::Global;
 
 // `10 / a[i]`.
 const QUOTIENT: [KernelStep; 3] = [
@@ -10,19 +13,27 @@ const QUOTIENT: [KernelStep; 3] = [
     KernelStep::Div(RESULT, 8, 9, HERE),
 ];
 
+// Whether a row over these numbers has these cells.
+fn gives_of(alloc: Global, strips: &Strips, a: &[Cell], wanted: &[Cell]) -> Result<bool, Memory> {
+    let array = vector(alloc, a)?;
+    Ok(gives(alloc, strips, &[Buffer::of(&array)], 0, wanted))
+}
+
+// Whether a row over these numbers is refused.
+fn refuses_of(alloc: Global, strips: &Strips, a: &[Cell]) -> Result<bool, Memory> {
+    let array = vector(alloc, a)?;
+    Ok(refuses(alloc, strips, &[Buffer::of(&array)], 0, a.len()))
+}
+
 #[test]
-fn a_zero_divisor_in_any_lane_refuses(rt: HostRuntime) -> Result<(), Fail> {
+fn a_zero_divisor_in_any_lane_refuses(rt: HostRuntime) {
     let alloc = rt.alloc();
-    let block = line(alloc, &QUOTIENT)?;
+    let strips = strips(alloc, &line(alloc, &QUOTIENT)).expect(&rt, "strips");
     for divisors in [[0, 1, 2], [1, 0, 2], [1, 2, 0]] {
-        let array = vector(alloc, &divisors)?;
-        let found = row(alloc, &block, &[Buffer::of(&array)], 0, 3)?;
-        assert!(rt; found.is_none());
+        assert_eq!(rt; refuses_of(alloc, &strips, &divisors), Ok(true));
     }
-    let array = vector(alloc, &[1, -2, 5])?;
-    let found = row(alloc, &block, &[Buffer::of(&array)], 0, 3)?.ok_or("cells")?;
-    assert!(rt; found.as_slice() == [10, -5, 2].as_slice());
-    Ok(())
+    let found = gives_of(alloc, &strips, &[1, -2, 5], &[10, -5, 2]);
+    assert_eq!(rt; found, Ok(true));
 }
 
 // `a[i] / 4 - a[i] % 3`.
@@ -36,11 +47,9 @@ const BY_NUMBERS: [KernelStep; 6] = [
 ];
 
 #[test]
-fn numbers_divide_toward_zero(rt: HostRuntime) -> Result<(), Fail> {
+fn numbers_divide_toward_zero(rt: HostRuntime) {
     let alloc = rt.alloc();
-    let block = line(alloc, &BY_NUMBERS)?;
-    let array = vector(alloc, &[-9, -4, 7, 11])?;
-    let found = row(alloc, &block, &[Buffer::of(&array)], 0, 4)?.ok_or("cells")?;
-    assert!(rt; found.as_slice() == [-2, 0, 0, 0].as_slice());
-    Ok(())
+    let strips = strips(alloc, &line(alloc, &BY_NUMBERS)).expect(&rt, "strips");
+    let found = gives_of(alloc, &strips, &[-9, -4, 7, 11], &[-2, 0, 0, 0]);
+    assert_eq!(rt; found, Ok(true));
 }
