@@ -1,22 +1,45 @@
-ghost use Rattle.std.specs.Prelude.{◌≤◌};
-
+use crate::making::int;
 use data_text::{DataCode, DataError, generate, print_array, print_summary, read_arrays};
-use sac_base::{Array, ArrayType, Base, Part, Shape};
+use sac_base::{Array, ArrayType, Base, Memory, Part, Shape};
 use std::alloc::Global;
-use std::test::Fail;
+
+fn print(array: &Array, into: &mut Vec<u8>) -> Result<(), Memory> {
+    print_array(array, into)
+}
+
+// Arrays as they are printed.
+fn printed(alloc: Global, arrays: &[Array]) -> Result<Vec<u8>, Memory> {
+    let mut text = Vec::new(alloc);
+    for array in arrays {
+        print(array, &mut text)?;
+    }
+    Ok(text)
+}
 
 // The arrays of a text as they are printed, or the code and the line of its refusal.
 fn read_back(alloc: Global, text: &[u8], bases: &[Base]) -> Result<Vec<u8>, DataError> {
     let arrays = read_arrays(alloc, text, bases)?;
-    let mut printed = Vec::new(alloc);
-    for array in &arrays {
-        print_array(array, &mut printed)?;
+    Ok(printed(alloc, &arrays)?)
+}
+
+// Whether the arrays of a text are printed so.
+fn reads(alloc: Global, text: &[u8], bases: &[Base], want: &[u8]) -> bool {
+    match read_back(alloc, text, bases) {
+        Ok(printed) => printed.as_slice() == want,
+        Err(_) => false,
     }
-    Ok(printed)
+}
+
+// Whether a text of one array of ints is refused so.
+fn is_refused(alloc: Global, text: &[u8], code: DataCode, line: u64) -> bool {
+    match read_back(alloc, text, &[Base::Int]) {
+        Ok(_) => false,
+        Err(error) => error == DataError::Refused(code, line),
+    }
 }
 
 #[test]
-fn lines_are_read(rt: HostRuntime) -> Result<(), Fail> {
+fn lines_are_read(rt: HostRuntime) {
     let cases = [
         (
             b"int[2,3]: 1 2 3 4 5 6\n".as_slice(),
@@ -36,14 +59,10 @@ fn lines_are_read(rt: HostRuntime) -> Result<(), Fail> {
         ),
     ];
     for (text, want) in cases {
-        assert_eq!(rt; read_back(rt.alloc(), text, &[Base::Int])?.as_slice(), want);
+        assert!(rt; reads(rt.alloc(), text, &[Base::Int], want));
     }
     let text = b"bool[2]: true false\nint[]: -3\n";
-    assert_eq!(rt;
-        read_back(rt.alloc(), text, &[Base::Bool, Base::Int])?.as_slice(),
-        text.as_slice()
-    );
-    Ok(())
+    assert!(rt; reads(rt.alloc(), text, &[Base::Bool, Base::Int], text));
 }
 
 #[test]
@@ -71,76 +90,93 @@ fn lines_are_refused(rt: HostRuntime) {
         (b"Int[1]: 1", DataCode::I1, 1),
     ];
     for (text, code, line) in cases {
-        let read = read_back(rt.alloc(), text, &[Base::Int]);
-        assert_eq!(rt; read.err(), Some(DataError::Refused(code, line)));
+        assert!(rt; is_refused(rt.alloc(), text, code, line));
     }
 }
 
-#[test]
-fn an_input_that_is_cut_short_is_refused(rt: HostRuntime) -> Result<(), Fail> {
-    let alloc = rt.alloc();
+// The first 100 bytes of a vector of 1000 numbers.
+fn cut_short(alloc: Global) -> Result<Vec<u8>, Memory> {
     let mut text = b"int[1000]:".to_vec(alloc)?;
     for _ in 0..1000 {
         text.extend_from_slice(b" 123")?;
     }
     text.truncate(100);
-    let read = read_back(alloc, text.as_slice(), &[Base::Int]);
-    assert_eq!(rt; read.err(), Some(DataError::Refused(DataCode::I4, 1)));
-    Ok(())
-}
-
-// The summaries of generated arrays.
-fn summary(alloc: Global, params: &[ArrayType], n: u32) -> Result<Vec<u8>, DataError>
-    requires { (1 ≤ n) × (n ≤ 4096) }
-{
-    let arrays = generate(alloc, params, n)?;
-    let mut into = Vec::new(alloc);
-    for array in &arrays {
-        print_summary(array, &mut into)?;
-    }
-    Ok(into)
+    Ok(text)
 }
 
 #[test]
-fn arrays_are_generated(rt: HostRuntime) -> Result<(), Fail> {
-    let alloc = rt.alloc();
-    let vector = [ArrayType {
-        base: Base::Int,
-        part: Part::Rank(1),
-    }];
-    assert_eq!(rt;
-        summary(alloc, &vector, 4)?.as_slice(),
-        b"int[4]: elements 4 sum 646\n".as_slice()
-    );
-    let arrays = generate(alloc, &vector, 4)?;
-    let mut line = Vec::new(alloc);
-    for array in &arrays {
-        print_array(array, &mut line)?;
+fn an_input_that_is_cut_short_is_refused(rt: HostRuntime) {
+    let text = cut_short(rt.alloc()).expect(&rt, "memory");
+    assert!(rt; is_refused(rt.alloc(), text.as_slice(), DataCode::I4, 1));
+}
+
+// Arrays of a size from 1 to 4,096.
+fn generated(alloc: Global, params: &[ArrayType], n: u32) -> Result<Vec<Array>, DataError> {
+    if n == 0 || n > 4096 {
+        return Err(DataError::Memory);
     }
-    assert_eq!(rt; line.as_slice(), b"int[4]: 7 110 213 316\n".as_slice());
-    let several = [
-        ArrayType {
-            base: Base::Int,
-            part: Part::Known(Shape::empty(alloc)),
-        },
-        ArrayType {
-            base: Base::Bool,
-            part: Part::Plus,
-        },
-    ];
+    generate(alloc, params, n)
+}
+
+fn summaries(alloc: Global, arrays: &[Array]) -> Result<Vec<u8>, Memory> {
+    let mut text = Vec::new(alloc);
+    for array in arrays {
+        print_summary(array, &mut text)?;
+    }
+    Ok(text)
+}
+
+// Whether these are the summaries of generated arrays.
+fn have_summaries(
+    alloc: Global,
+    params: &[ArrayType],
+    n: u32,
+    want: &[u8],
+) -> Result<bool, DataError> {
+    let arrays = generated(alloc, params, n)?;
+    Ok(summaries(alloc, &arrays)?.as_slice() == want)
+}
+
+// Whether generated arrays are printed so.
+fn are_printed(
+    alloc: Global,
+    params: &[ArrayType],
+    n: u32,
+    want: &[u8],
+) -> Result<bool, DataError> {
+    let arrays = generated(alloc, params, n)?;
+    Ok(printed(alloc, &arrays)?.as_slice() == want)
+}
+
+fn refusal(alloc: Global, params: &[ArrayType], n: u32) -> Option<DataError> {
+    generated(alloc, params, n).err()
+}
+
+#[test]
+fn arrays_are_generated(rt: HostRuntime) {
+    let alloc = rt.alloc();
+    let vector = [int(Part::Rank(1))];
+    let found = have_summaries(alloc, &vector, 4, b"int[4]: elements 4 sum 646\n");
+    assert_eq!(rt; found, Ok(true));
+    let found = are_printed(alloc, &vector, 4, b"int[4]: 7 110 213 316\n");
+    assert_eq!(rt; found, Ok(true));
+}
+
+#[test]
+fn arrays_of_several_types_are_generated(rt: HostRuntime) {
+    let alloc = rt.alloc();
+    let bools = ArrayType {
+        base: Base::Bool,
+        part: Part::Plus,
+    };
+    let several = [int(Part::Known(Shape::empty(alloc))), bools];
     let want = b"int[]: elements 1 sum 7\nbool[3]: elements 3 sum 2\n";
-    assert_eq!(rt; summary(alloc, &several, 3)?.as_slice(), want.as_slice());
-    let large = [
-        ArrayType {
-            base: Base::Int,
-            part: Part::Star,
-        },
-        ArrayType {
-            base: Base::Int,
-            part: Part::Rank(3),
-        },
-    ];
-    let refused = generate(alloc, &large, 4096).err();
+    assert_eq!(rt; have_summaries(alloc, &several, 3, want), Ok(true));
+}
+
+#[test]
+fn an_array_that_would_be_too_large_is_refused(rt: HostRuntime) {
+    let large = [int(Part::Star), int(Part::Rank(3))];
+    let refused = refusal(rt.alloc(), &large, 4096);
     assert_eq!(rt; refused, Some(DataError::Refused(DataCode::I6, 2)));
-    Ok(())
 }

@@ -176,17 +176,19 @@ fn all_buffers_are_given_back_together(rt: HostRuntime) {
     assert_eq!(rt; counters(&heap), (0, 3, 3, 0));
 }
 
-// A worker behind a heap, which takes a buffer and gives it back, and the number of the buffer.
-fn worker_behind(first: &Heap) -> Result<(Heap, u64), Memory> {
+// The number of the buffer that a worker behind a heap takes, and of the next one.
+fn numbers_behind(first: &Heap) -> Result<(u64, u64), Memory> {
+    let mut worker = Heap::behind(first);
+    let own = take(&mut worker, 2)?;
+    Ok((own.born(), worker.births()))
+}
+
+// A heap behind the first one that goes on with as many numbers as a third one has used, twice, and has its counters.
+fn home_of(first: &Heap) -> Result<Heap, Memory> {
+    let mut home = Heap::behind(first);
     let mut worker = Heap::behind(first);
     let own = worker.take(2)?;
     worker.release(own);
-    Ok((worker, own.born()))
-}
-
-// A heap behind the first one that goes on with as many numbers as a worker has used, twice, and has its counters.
-fn home_of(first: &Heap, worker: Heap) -> Result<Heap, Memory> {
-    let mut home = Heap::behind(first);
     home.follow(&worker, first)?;
     home.follow(&worker, first)?;
     home.absorb(worker);
@@ -198,9 +200,8 @@ fn home_of(first: &Heap, worker: Heap) -> Result<Heap, Memory> {
 fn a_worker_has_numbers_of_its_own(rt: HostRuntime) {
     let mut heap = Heap::new(rt.alloc());
     assert!(rt; take(&mut heap, 1).is_ok());
-    let (worker, number) = worker_behind(&heap).expect(&rt, "memory");
-    assert_eq!(rt; (number, worker.births()), (1, 2));
-    let home = home_of(&heap, worker).expect(&rt, "memory");
+    assert_eq!(rt; numbers_behind(&heap), Ok((1, 2)));
+    let home = home_of(&heap).expect(&rt, "memory");
     assert_eq!(rt; (home.births(), home.taken(), home.places()), (3, 1, 0));
 }
 

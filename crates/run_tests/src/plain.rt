@@ -1,12 +1,12 @@
+use crate::making::few;
 use buffer_heap::Heap;
 use core_ir::Var;
 use counted_code::CodeRight;
 use run_plain::plain_value;
 use run_store::{Store, read_array};
-use run_values::{Few, Frames, RunValue};
+use run_values::{Frames, RunValue};
 use sac_base::{Array, Base, Cell, Memory, Op, Site};
 use std::alloc::Global;
-use std::test::Fail;
 
 const HERE: Site = Site { line: 1, col: 1 };
 
@@ -16,11 +16,10 @@ fn bind(frames: &mut Frames, x: u32, value: RunValue) -> Result<(), Memory> {
 }
 
 // The variable 1 is 7, the variable 2 is `[4, 5]`, and the variable 0 is not bound.
-fn bound(alloc: Global) -> Result<Frames, Fail> {
-    let pair = Few::from_slice(&[4, 5]).ok_or("a short list")?;
+fn bound(alloc: Global) -> Result<Frames, Memory> {
     let mut frames = Frames::new(alloc);
     bind(&mut frames, 1, RunValue::Word(Base::Int, 7))?;
-    bind(&mut frames, 2, RunValue::Short(Base::Int, pair))?;
+    bind(&mut frames, 2, RunValue::Short(Base::Int, few(&[4, 5])))?;
     Ok(frames)
 }
 
@@ -38,11 +37,18 @@ fn array_of(
 }
 
 // The array that a right side gives over a heap of its own, and how many buffers it takes there.
-fn run(alloc: Global, right: &CodeRight) -> Result<(Option<Array>, u64), Fail> {
+fn run(alloc: Global, right: &CodeRight) -> Result<(Option<Array>, u64), Memory> {
     let frames = bound(alloc)?;
     let mut store = Store::of(Heap::new(alloc));
     let array = array_of(alloc, &mut store, &frames, right)?;
     Ok((array, store.own.taken()))
+}
+
+fn is_array(array: Option<&Array>, extents: &[Cell], cells: &[Cell]) -> bool {
+    match array {
+        Some(array) => array.shape().extents() == extents && array.cells() == cells,
+        None => false,
+    }
 }
 
 // Whether a right side gives these extents and cells, and takes so many buffers.
@@ -52,46 +58,35 @@ fn gives(
     extents: &[Cell],
     cells: &[Cell],
     buffers: u64,
-) -> Result<bool, Fail> {
+) -> Result<bool, Memory> {
     let (array, taken) = run(alloc, right)?;
-    Ok(match array {
-        Some(array) => {
-            array.shape().extents() == extents && array.cells() == cells && taken == buffers
-        }
-        None => false,
-    })
+    Ok(is_array(array.as_ref(), extents, cells) && taken == buffers)
 }
 
-fn difference(alloc: Global) -> Result<bool, Fail> {
-    let right = CodeRight::Binary(Op::Sub, Var(1), Var(2));
-    gives(alloc, &right, &[2], &[3, 2], 0)
-}
-
-fn rows(alloc: Global) -> Result<bool, Fail> {
-    let right = CodeRight::Literal(Vec::from_slice(alloc, &[Var(2), Var(2)])?);
-    gives(alloc, &right, &[2, 2], &[4, 5, 4, 5], 1)
-}
-
-fn extents(alloc: Global) -> Result<bool, Fail> {
-    let right = CodeRight::ShapeOf(Var(2));
-    gives(alloc, &right, &[1], &[2], 0)
-}
-
-fn replaced(alloc: Global) -> Result<bool, Fail> {
-    let right = CodeRight::Replace(Var(2), Var(0), Var(1));
-    gives(alloc, &right, &[2], &[7, 5], 0)
+fn rows(alloc: Global) -> Result<CodeRight, Memory> {
+    Ok(CodeRight::Literal(Vec::from_slice(alloc, &[Var(2), Var(2)])?))
 }
 
 #[test]
-fn right_sides_give_their_values(rt: HostRuntime) -> Result<(), Fail> {
+fn right_sides_give_their_values(rt: HostRuntime) {
     let alloc = rt.alloc();
-    assert!(rt; difference(alloc)? && rows(alloc)? && extents(alloc)? && replaced(alloc)?);
-    Ok(())
+    let difference = CodeRight::Binary(Op::Sub, Var(1), Var(2));
+    assert_eq!(rt; gives(alloc, &difference, &[2], &[3, 2], 0), Ok(true));
+    let rows = rows(alloc).expect(&rt, "memory");
+    assert_eq!(rt; gives(alloc, &rows, &[2, 2], &[4, 5, 4, 5], 1), Ok(true));
+    let extents = CodeRight::ShapeOf(Var(2));
+    assert_eq!(rt; gives(alloc, &extents, &[1], &[2], 0), Ok(true));
+    let replaced = CodeRight::Replace(Var(2), Var(0), Var(1));
+    assert_eq!(rt; gives(alloc, &replaced, &[2], &[7, 5], 0), Ok(true));
+}
+
+// Whether a right side faults.
+fn faults(alloc: Global, right: &CodeRight) -> Result<bool, Memory> {
+    Ok(run(alloc, right)?.0.is_none())
 }
 
 #[test]
-fn a_zero_divisor_faults(rt: HostRuntime) -> Result<(), Fail> {
+fn a_zero_divisor_faults(rt: HostRuntime) {
     let zero = CodeRight::Binary(Op::Div, Var(1), Var(0));
-    assert!(rt; run(rt.alloc(), &zero)?.0.is_none());
-    Ok(())
+    assert_eq!(rt; faults(rt.alloc(), &zero), Ok(true));
 }
