@@ -112,10 +112,11 @@ fn an_input_that_is_cut_short_is_refused(rt: HostRuntime) {
 
 // Arrays of a size from 1 to 4,096.
 fn generated(alloc: Global, params: &[ArrayType], n: u32) -> Result<Vec<Array>, DataError> {
-    if n == 0 || n > 4096 {
-        return Err(DataError::Memory);
+    if 1 <= n && n <= 4096 {
+        generate(alloc, params, n)
+    } else {
+        Err(DataError::Memory)
     }
-    generate(alloc, params, n)
 }
 
 fn summaries(alloc: Global, arrays: &[Array]) -> Result<Vec<u8>, Memory> {

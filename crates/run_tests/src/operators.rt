@@ -86,11 +86,15 @@ fn parts_are_selected(rt: HostRuntime) {
     }
 }
 
+// An array with another part at an index.
+fn replaced_in(alloc: Global, a: &Array, index: &[Cell], part: &Array) -> Answer {
+    replace(alloc, a, &vector(alloc, index)?, part)
+}
+
 // Two rows of two numbers with another part at an index.
 fn replaced(alloc: Global, index: &[Cell], part: &[Cell]) -> Answer {
     let a = array(alloc, &[2, 2], &[1, 2, 3, 4])?;
-    let at = vector(alloc, index)?;
-    replace(alloc, &a, &at, &vector(alloc, part)?)
+    replaced_in(alloc, &a, index, &vector(alloc, part)?)
 }
 
 #[test]

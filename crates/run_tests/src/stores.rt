@@ -14,20 +14,14 @@ use std::alloc::Global;
 
 const HERE: Site = Site { line: 1, col: 1 };
 
-// The numbers 0, 1, 2 and so on.
-fn numbers(alloc: Global, count: i32) -> Result<Vec<Cell>, Memory> {
-    let mut cells = Vec::new(alloc);
-    for k in 0..count {
-        cells.push(k)?;
-    }
-    Ok(cells)
-}
+const TEN: [Cell; 10] = [0, 1, 2, 3, 4, 5, 6, 7, 8, 9];
 
-// The array of these extents whose cells are 0, 1, 2 and so on.
-fn counting(alloc: Global, extents: &[Cell], count: i32) -> Result<Array, Memory> {
+const TWELVE: [Cell; 12] = [0, 1, 2, 3, 4, 5, 6, 7, 8, 9, 10, 11];
+
+// The array of these extents and cells.
+fn array(alloc: Global, extents: &[Cell], cells: &[Cell]) -> Result<Array, Memory> {
     let extents = vector(alloc, extents)?;
-    let cells = vector(alloc, &numbers(alloc, count)?)?;
-    match array_ops::reshape(alloc, &extents, &cells) {
+    match array_ops::reshape(alloc, &extents, &vector(alloc, cells)?) {
         Ok(array) => Ok(array),
         Err(_) => Err(Memory),
     }
@@ -38,9 +32,9 @@ fn placed(
     alloc: Global,
     store: &mut Store<'_>,
     extents: &[Cell],
-    count: i32,
+    cells: &[Cell],
 ) -> Result<RunValue, Memory> {
-    place_own(store, counting(alloc, extents, count)?)
+    place_own(store, array(alloc, extents, cells)?)
 }
 
 fn is_kept(store: &mut Store<'_>, value: RunValue) -> bool
@@ -80,7 +74,7 @@ fn is_counted(store: &mut Store<'_>, value: RunValue) -> (bool, u64, bool, u64, 
 #[test]
 fn references_are_counted(rt: HostRuntime) {
     let mut store = Store::of(Heap::new(rt.alloc()));
-    let value = placed(rt.alloc(), &mut store, &[2, 5], 10).expect(&rt, "memory");
+    let value = placed(rt.alloc(), &mut store, &[2, 5], &TEN).expect(&rt, "memory");
     assert_eq!(rt; is_counted(&mut store, value), (true, 1, true, 0, true));
 }
 
@@ -91,7 +85,7 @@ fn uses(alloc: Global, store: &mut Store<'_>, value: RunValue) -> [bool; 5]
     let once = is_kept(store, value);
     let back = is_released(store, value);
     let too_often = is_released(store, value);
-    let same = has_cells(alloc, store, value, &[0, 1, 2, 3, 4, 5, 6, 7, 8, 9]);
+    let same = has_cells(alloc, store, value, &TEN);
     let again = is_kept(store, value);
     [once, back, too_often, same, again]
 }
@@ -120,7 +114,7 @@ fn in_phase(
 fn lent_buffers_are_held_by_the_table(rt: HostRuntime) {
     let alloc = rt.alloc();
     let mut main = Store::of(Heap::new(alloc));
-    let value = placed(alloc, &mut main, &[2, 5], 10).expect(&rt, "memory");
+    let value = placed(alloc, &mut main, &[2, 5], &TEN).expect(&rt, "memory");
     let (found, live, counts) = in_phase(alloc, &main.own, value).expect(&rt, "memory");
     assert_eq!(rt; found, [true, true, false, true, true]);
     assert_eq!(rt; counts.as_slice(), [1].as_slice());
@@ -132,42 +126,55 @@ fn copied(
     alloc: Global,
     store: &mut Store<'_>,
     extents: &[Cell],
-    count: i32,
+    cells: &[Cell],
 ) -> Result<RunValue, Memory> {
-    place_array(alloc, store, &counting(alloc, extents, count)?)
+    place_array(alloc, store, &array(alloc, extents, cells)?)
 }
 
-// Whether a value has these extents, and the cells of another one.
-fn is_same(
+// Whether a value has these extents and cells, and another one the same cells.
+fn are_read(
     alloc: Global,
     store: &Store<'_>,
     value: RunValue,
-    other: RunValue,
+    copy: RunValue,
     extents: &[Cell],
-) -> Result<bool, Memory> {
-    let found = read(alloc, store, value)?;
-    Ok(found.shape().extents() == extents && has_cells(alloc, store, other, found.cells()))
+    cells: &[Cell],
+) -> bool {
+    match read(alloc, store, value) {
+        Ok(found) => {
+            found.shape().extents() == extents
+                && found.cells() == cells
+                && has_cells(alloc, store, copy, cells)
+        }
+        Err(_) => false,
+    }
 }
 
 // Whether an array and a copy of it, which is then released, are read as they were placed, and so many buffers are left.
-fn is_read_back(alloc: Global, extents: &[Cell], count: i32, live: u64) -> Result<bool, Memory> {
+fn is_read_back(
+    alloc: Global,
+    extents: &[Cell],
+    cells: &[Cell],
+    live: u64,
+) -> Result<bool, Memory> {
     let mut store = Store::of(Heap::new(alloc));
-    let copy = copied(alloc, &mut store, extents, count)?;
-    let value = placed(alloc, &mut store, extents, count)?;
-    let same = is_same(alloc, &store, value, copy, extents)?;
-    Ok(same && is_released(&mut store, copy) && store.own.live() == live)
+    let copy = copied(alloc, &mut store, extents, cells)?;
+    let value = placed(alloc, &mut store, extents, cells)?;
+    let same = are_read(alloc, &store, value, copy, extents, cells);
+    let gone = is_released(&mut store, copy);
+    Ok(same && gone && store.own.live() == live)
 }
 
 #[test]
 fn placed_arrays_are_read_as_they_were(rt: HostRuntime) {
-    let cases: [(&[Cell], i32, u64); 4] = [
-        (&[], 1, 0),
-        (&[8], 8, 0),
-        (&[9], 9, 1),
-        (&[3, 2], 6, 1),
+    let cases: [(&[Cell], &[Cell], u64); 4] = [
+        (&[], &[0], 0),
+        (&[8], &[0, 1, 2, 3, 4, 5, 6, 7], 0),
+        (&[9], &[0, 1, 2, 3, 4, 5, 6, 7, 8], 1),
+        (&[3, 2], &[0, 1, 2, 3, 4, 5], 1),
     ];
-    for (extents, count, live) in cases {
-        assert_eq!(rt; is_read_back(rt.alloc(), extents, count, live), Ok(true));
+    for (extents, cells, live) in cases {
+        assert_eq!(rt; is_read_back(rt.alloc(), extents, cells, live), Ok(true));
     }
 }
 
@@ -202,7 +209,7 @@ fn is_part(
 // Whether this is the part at an index of an array of 3 rows and 4 columns, whose buffer is then the one that is left.
 fn has_part(alloc: Global, index: &[Cell], want: Option<&[Cell]>) -> Result<bool, Memory> {
     let mut store = Store::of(Heap::new(alloc));
-    let array = placed(alloc, &mut store, &[3, 4], 12)?;
+    let array = placed(alloc, &mut store, &[3, 4], &TWELVE)?;
     let found = part(alloc, &mut store, array, index)?;
     Ok(is_part(alloc, &store, found, want) && store.own.live() == 1)
 }
