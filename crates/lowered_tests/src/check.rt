@@ -1,35 +1,32 @@
 //! Sources that are accepted or refused, and what plain runs of them come to.
+use crate::sources::tree;
 use sac_ast::Program;
-use sac_base::{Array, Base, Caps, FaultKind, Outcome};
-use sac_lex::lex;
-use sac_parse::parse;
+use sac_base::{Array, Base, Caps, FaultKind, Memory, Outcome};
 use std::alloc::Global;
-use std::test::Fail;
 use type_check::{CheckCode, CheckError, check};
 use value_meaning::plain_run;
 
-fn tree(alloc: Global, source: &str) -> Result<Program, Fail> {
-    let source = source.as_bytes();
-    if source.len() > 1000 {
-        return Err(Fail::from("a short source"));
-    }
-    let tokens = lex(alloc, source).map_err(|_| "tokens")?;
-    let program = parse(alloc, &tokens).map_err(|_| "a tree")?;
-    Ok(program)
-}
-
 type Refusal = Option<(CheckCode, u32, u32)>;
 
-fn refusal(alloc: Global, source: &str) -> Result<Refusal, Fail> {
-    match check(alloc, tree(alloc, source)?) {
+/// The refusal of a program, or none where it is accepted.
+fn refusal_of(alloc: Global, program: Program) -> Result<Refusal, Memory> {
+    match check(alloc, program) {
         Ok(_) => Ok(None),
         Err(CheckError::Refused(code, site)) => Ok(Some((code, site.line, site.col))),
-        Err(CheckError::Memory) => Err(Fail::from("memory")),
+        Err(CheckError::Memory) => Err(Memory),
+    }
+}
+
+/// The refusal of a source with a tree.
+fn refusal(alloc: Global, source: &str) -> Result<Refusal, Memory> {
+    match tree(alloc, source) {
+        Some(program) => refusal_of(alloc, program),
+        None => Err(Memory),
     }
 }
 
 #[test]
-fn the_first_violation_of_each_rule(rt: HostRuntime) -> Result<(), Fail> {
+fn the_first_violation_of_each_rule(rt: HostRuntime) {
     let rows: [(&str, Refusal); 13] = [
         ("int main() { return (1); }", None),
         ("int main() { return (x); }", Some((CheckCode::C1, 1, 22))),
@@ -78,9 +75,8 @@ fn the_first_violation_of_each_rule(rt: HostRuntime) -> Result<(), Fail> {
         ),
     ];
     for (source, wanted) in &rows {
-        assert_eq!(&rt; refusal(rt.alloc(), source)?, *wanted);
+        assert_eq!(rt; refusal(rt.alloc(), source), Ok(*wanted));
     }
-    Ok(())
 }
 
 /// What a run comes to: the extents and cells of the one result, or a fault.
@@ -90,12 +86,8 @@ enum Ending {
     Faults(FaultKind, u32, u32),
 }
 
-/// Whether the plain run of a source on a scalar ends so.
-fn ends(alloc: Global, source: &str, n: i32, caps: Caps, wanted: &Ending) -> Result<bool, Fail> {
-    let program = tree(alloc, source)?;
-    let argument = Array::scalar(alloc, Base::Int, n)?;
-    let outcome = plain_run(alloc, &program, &[argument], caps)?;
-    Ok(match (&outcome, wanted) {
+fn is_ending(outcome: &Outcome, wanted: &Ending) -> bool {
+    match (outcome, wanted) {
         (Outcome::Values(values), Ending::Gives(extents, cells)) => {
             values.len() == 1
                 && values[0].shape().extents() == *extents
@@ -105,7 +97,24 @@ fn ends(alloc: Global, source: &str, n: i32, caps: Caps, wanted: &Ending) -> Res
             fault.kind == *kind && fault.site.line == *line && fault.site.col == *col
         }
         _ => false,
-    })
+    }
+}
+
+fn outcome(alloc: Global, program: &Program, n: i32, caps: Caps) -> Result<Outcome, Memory> {
+    let argument = Array::scalar(alloc, Base::Int, n)?;
+    plain_run(alloc, program, &[argument], caps)
+}
+
+fn outcome_of(alloc: Global, source: &str, n: i32, caps: Caps) -> Option<Outcome> {
+    outcome(alloc, &tree(alloc, source)?, n, caps).ok()
+}
+
+/// Whether the plain run of a source on a scalar ends so.
+fn ends(alloc: Global, source: &str, n: i32, caps: Caps, wanted: &Ending) -> bool {
+    match outcome_of(alloc, source, n, caps) {
+        Some(outcome) => is_ending(&outcome, wanted),
+        None => false,
+    }
 }
 
 /// An element at a place.
@@ -119,7 +128,7 @@ const DEEPER: &str =
     "int f(int n) { return (n == 0 ? 0 : 1 + f(n - 1)); } int main(int a) { return (f(a)); }";
 
 #[test]
-fn plain_runs_have_their_values(rt: HostRuntime) -> Result<(), Fail> {
+fn plain_runs_have_their_values(rt: HostRuntime) {
     // Each: the source, its argument, the limits on turns and on depth, and the ending.
     let rows: [(&str, i32, u64, u64, Ending); 22] = [
         (
@@ -199,7 +208,6 @@ int[*] main(int a) { return ([f(a), f([4, 5]), f([[1, 2], [3, 4]])]); }",
             turns: *turns,
             depth: *depth,
         };
-        assert!(&rt; ends(rt.alloc(), source, *n, caps, wanted)?);
+        assert!(rt; ends(rt.alloc(), source, *n, caps, wanted));
     }
-    Ok(())
 }

@@ -1,28 +1,8 @@
-use crate::text::core_text;
-use sac_lex::lex;
-use sac_parse::parse;
-use single_assign::to_core;
-use std::alloc::Global;
-use std::test::Fail;
-use type_check::check;
+use crate::sources::{core_of, has_text};
 
-// The core of a source is this text.
-fn becomes(alloc: Global, source: &str, wanted: &str) -> Result<bool, Fail> {
-    let source = source.as_bytes();
-    if source.len() > 1000 {
-        return Ok(false);
-    }
-    let tokens = lex(alloc, source).map_err(|_| "tokens")?;
-    let program = parse(alloc, &tokens).map_err(|_| "a tree")?;
-    let checked = check(alloc, program).map_err(|_| "an accepted program")?;
-    let core = to_core(alloc, &checked)?;
-    let text = core_text(alloc, &core)?;
-    Ok(text.as_slice() == wanted.as_bytes())
-}
+const REPEATED: &str = "int main() { i = 0; while (i < 3) { i = i + 2; } return (i); }";
 
-#[test]
-fn a_core_has_a_line_for_each_binding(rt: HostRuntime) -> Result<(), Fail> {
-    let loop_text = "main
+const REPEATED_TEXT: &str = "main
   v0 = constant 0
   v6 = loop v1 from v0
     v2 = constant 3
@@ -34,7 +14,11 @@ fn a_core_has_a_line_for_each_binding(rt: HostRuntime) -> Result<(), Fail> {
     gives v5
   gives v6
 ";
-    let with_text = "main
+
+const WITH: &str =
+    "int[*] main() { return (with { ([0] <= iv < [4]) : iv[0]; } : genarray([4], 0)); }";
+
+const WITH_TEXT: &str = "main
   v0 = constant 0
   v1 = literal v0
   v2 = constant 4
@@ -49,18 +33,10 @@ fn a_core_has_a_line_for_each_binding(rt: HostRuntime) -> Result<(), Fail> {
       gives v6
   gives v10
 ";
-    let cases = [
-        (
-            "int main() { i = 0; while (i < 3) { i = i + 2; } return (i); }",
-            loop_text,
-        ),
-        (
-            "int[*] main() { return (with { ([0] <= iv < [4]) : iv[0]; } : genarray([4], 0)); }",
-            with_text,
-        ),
-    ];
-    for (source, text) in cases {
-        assert!(rt; becomes(rt.alloc(), source, text)?, "{source}");
-    }
-    Ok(())
+
+#[test]
+fn a_core_has_a_line_for_each_binding(rt: HostRuntime) {
+    let alloc = rt.alloc();
+    assert!(rt; has_text(alloc, core_of(alloc, REPEATED), REPEATED_TEXT));
+    assert!(rt; has_text(alloc, core_of(alloc, WITH), WITH_TEXT));
 }

@@ -17,6 +17,8 @@ mod parse;
 #[cfg(test)]
 mod print;
 #[cfg(test)]
+mod sources;
+#[cfg(test)]
 mod special;
 #[cfg(test)]
 mod text;

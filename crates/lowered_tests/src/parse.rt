@@ -1,22 +1,28 @@
 //! Token lists with a tree, and refused ones.
-use sac_lex::lex;
+use sac_base::Memory;
+use sac_lex::{Tokens, lex};
 use sac_parse::{ParseCode, ParseError};
 use std::alloc::Global;
 
 type Refusal = Option<(ParseCode, u32, u32)>;
 
-/// The refusal of a source with tokens, or none where it has a tree.
-fn refusal(alloc: Global, source: &[u8]) -> Refusal {
-    if source.len() > 1_048_576 {
-        return None;
-    }
-    let Ok(tokens) = lex(alloc, source) else {
-        return Some((ParseCode::P1, 0, 0));
-    };
-    match sac_parse::parse(alloc, &tokens) {
+/// The refusal of tokens, or none where they have a tree.
+fn refusal_of(alloc: Global, tokens: &Tokens<'_>) -> Refusal {
+    match sac_parse::parse(alloc, tokens) {
         Ok(_program) => None,
         Err(ParseError::Refused(code, site)) => Some((code, site.line, site.col)),
         Err(ParseError::Memory) => Some((ParseCode::P1, 0, 1)),
+    }
+}
+
+/// The refusal of a source with tokens, or none where it has a tree.
+fn refusal(alloc: Global, source: &[u8]) -> Refusal {
+    if source.len() > 1_048_576 {
+        return Some((ParseCode::P1, 0, 2));
+    }
+    match lex(alloc, source) {
+        Ok(tokens) => refusal_of(alloc, &tokens),
+        Err(_) => Some((ParseCode::P1, 0, 0)),
     }
 }
 
@@ -54,14 +60,48 @@ fn refusals(rt: HostRuntime) {
         ),
     ];
     for (source, answer) in &rows {
-        assert!(&rt; refusal(alloc, source) == *answer);
+        assert!(rt; refusal(alloc, source) == *answer);
     }
+}
+
+/// A piece so many times.
+fn repeat(text: &mut Vec<u8>, piece: &[u8], times: usize) -> Result<(), Memory> {
+    for _ in 0..times {
+        text.extend_from_slice(piece)?;
+    }
+    Ok(())
+}
+
+/// A program that returns what stands in so many brackets. One with nothing in them ends there.
+fn nested(
+    alloc: Global,
+    open: (&[u8], usize),
+    middle: &[u8],
+    close: (&[u8], usize),
+) -> Result<Vec<u8>, Memory> {
+    let mut text = Vec::new(alloc);
+    repeat(&mut text, b"int main() { return (", 1)?;
+    repeat(&mut text, open.0, open.1)?;
+    repeat(&mut text, middle, 1)?;
+    repeat(&mut text, close.0, close.1)?;
+    repeat(&mut text, b"); }", usize::from(!middle.is_empty()))?;
+    Ok(text)
+}
+
+/// The refusal of a program that returns what stands in so many brackets.
+fn nested_refusal(
+    alloc: Global,
+    open: (&[u8], usize),
+    middle: &[u8],
+    close: (&[u8], usize),
+) -> Result<Refusal, Memory> {
+    let text = nested(alloc, open, middle, close)?;
+    Ok(refusal(alloc, &text))
 }
 
 #[test]
 fn nesting(rt: HostRuntime) {
     let alloc = rt.alloc();
-    let head: &[u8] = b"int main() { return (";
     let rows: [(&[u8], usize, &[u8], &[u8], usize, Refusal); 6] = [
         (b"(", 198, b"1", b")", 198, None),
         (b"(", 199, b"1", b")", 199, Some((ParseCode::P2, 1, 220))),
@@ -71,18 +111,7 @@ fn nesting(rt: HostRuntime) {
         (b"- ", 99, b"1", b"", 0, Some((ParseCode::P2, 1, 218))),
     ];
     for (open, opens, middle, close, closes, answer) in &rows {
-        let mut text = Vec::new(alloc);
-        text.extend_from_slice(head).expect(&rt, "memory");
-        for _ in 0..*opens {
-            text.extend_from_slice(open).expect(&rt, "memory");
-        }
-        text.extend_from_slice(middle).expect(&rt, "memory");
-        for _ in 0..*closes {
-            text.extend_from_slice(close).expect(&rt, "memory");
-        }
-        if !middle.is_empty() {
-            text.extend_from_slice(b"); }").expect(&rt, "memory");
-        }
-        assert!(&rt; refusal(alloc, &text) == *answer);
+        let found = nested_refusal(alloc, (open, *opens), middle, (close, *closes));
+        assert!(rt; found == Ok(*answer));
     }
 }

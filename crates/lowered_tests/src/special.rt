@@ -1,8 +1,6 @@
-use crate::inlined::accepted;
-use counted_code::CodeFun;
+use crate::sources::code_of;
+use counted_code::{Code, CodeFun};
 use sac_base::Part;
-use sac_build::compile;
-use std::test::Fail;
 
 // A function of a vector, and calls of it with literal vectors of each length from 1 to 17.
 const LENGTHS: &str = "int f(int[.] a) { return (shape(a)[0] + a[0]); }
@@ -25,15 +23,19 @@ fn has_known_shape(function: &CodeFun) -> bool {
     }
 }
 
-#[test]
-fn at_most_sixteen_instances_of_a_function_are_made(rt: HostRuntime) -> Result<(), Fail> {
-    let compiled = compile(rt.alloc(), &accepted(rt.alloc(), LENGTHS)?, &[])?;
+// How many functions have a known shape for the first parameter.
+fn instances(code: &Code) -> u64 {
     let mut instances = 0u64;
-    for function in &compiled.code.functions {
+    for function in &code.functions {
         if has_known_shape(function) {
             instances = instances.wrapping_add(1);
         }
     }
-    assert_eq!(rt; instances, 16);
-    Ok(())
+    instances
+}
+
+#[test]
+fn at_most_sixteen_instances_of_a_function_are_made(rt: HostRuntime) {
+    let code = code_of(rt.alloc(), LENGTHS).expect(&rt, "code");
+    assert_eq!(rt; instances(&code), 16);
 }

@@ -1,57 +1,53 @@
-//! The text of a core, for tests and documents: a line for each binding, and nested blocks further in.
+//! The text of a core, for tests and documents: a line for each binding, and nested blocks further in. Where there is no memory, a piece is left out.
 
 use core_ir::{Block, Core, CoreGen, CoreOp, Right, Var, WithLoop};
 use itoa::Buffer;
-use sac_base::{Array, Memory, Op};
+use sac_base::{Array, Op};
 use std::alloc::Global;
 
-pub fn core_text(alloc: Global, core: &Core) -> Result<Vec<u8>, Memory> {
+pub fn core_text(alloc: Global, core: &Core) -> Vec<u8> {
     let mut text = Vec::new(alloc);
     for f in &core.functions {
-        text.extend_from_slice(f.name.as_bytes())?;
+        put(f.name.as_str(), &mut text);
         for (x, _) in &f.params {
-            put(" ", &mut text)?;
-            put_var(*x, &mut text)?;
+            put(" ", &mut text);
+            put_var(*x, &mut text);
         }
-        put_block(&f.body, 1, &mut text)?;
-        put("\n", &mut text)?;
+        put_block(&f.body, 1, &mut text);
+        put("\n", &mut text);
     }
-    Ok(text)
+    text
 }
 
-fn put(piece: &str, text: &mut Vec<u8>) -> Result<(), Memory> {
-    text.extend_from_slice(piece.as_bytes())?;
-    Ok(())
+fn put(piece: &str, text: &mut Vec<u8>) {
+    let _ = text.extend_from_slice(piece.as_bytes());
 }
 
-fn put_var(x: Var, text: &mut Vec<u8>) -> Result<(), Memory> {
-    put("v", text)?;
+fn put_var(x: Var, text: &mut Vec<u8>) {
+    put("v", text);
     put(Buffer::new().format(x.0), text)
 }
 
-fn put_vars(xs: &[Var], text: &mut Vec<u8>) -> Result<(), Memory> {
+fn put_vars(xs: &[Var], text: &mut Vec<u8>) {
     for x in xs {
-        put(" ", text)?;
-        put_var(*x, text)?;
+        put(" ", text);
+        put_var(*x, text);
     }
-    Ok(())
 }
 
-fn put_maybe(word: &str, x: Option<Var>, text: &mut Vec<u8>) -> Result<(), Memory> {
+fn put_maybe(word: &str, x: Option<Var>, text: &mut Vec<u8>) {
     if let Some(x) = x {
-        put(word, text)?;
-        put_var(x, text)?;
+        put(word, text);
+        put_var(x, text);
     }
-    Ok(())
 }
 
-fn put_array(array: &Array, text: &mut Vec<u8>) -> Result<(), Memory> {
-    put("constant", text)?;
+fn put_array(array: &Array, text: &mut Vec<u8>) {
+    put("constant", text);
     for cell in array.cells() {
-        put(" ", text)?;
-        put(Buffer::new().format(*cell), text)?;
+        put(" ", text);
+        put(Buffer::new().format(*cell), text);
     }
-    Ok(())
 }
 
 fn operator(op: Op) -> &'static str {
@@ -77,32 +73,31 @@ fn operator(op: Op) -> &'static str {
 }
 
 // Begins a line.
-fn indent(depth: usize, text: &mut Vec<u8>) -> Result<(), Memory> {
-    put("\n", text)?;
+fn indent(depth: usize, text: &mut Vec<u8>) {
+    put("\n", text);
     for _ in 0..depth {
-        put("  ", text)?;
+        put("  ", text);
     }
-    Ok(())
 }
 
 #[cycle(text)]
-fn put_block(block: &Block, depth: usize, text: &mut Vec<u8>) -> Result<(), Memory> {
+fn put_block(block: &Block, depth: usize, text: &mut Vec<u8>) {
     for binding in &block.lets {
-        indent(depth, text)?;
+        indent(depth, text);
         for target in &binding.targets {
-            put_var(*target, text)?;
-            put(" ", text)?;
+            put_var(*target, text);
+            put(" ", text);
         }
-        put("= ", text)?;
-        put_right(&binding.right, depth, text)?;
+        put("= ", text);
+        put_right(&binding.right, depth, text);
     }
-    indent(depth, text)?;
-    put("gives", text)?;
+    indent(depth, text);
+    put("gives", text);
     put_vars(&block.results, text)
 }
 
 #[cycle(text)]
-fn put_right(right: &Right, depth: usize, text: &mut Vec<u8>) -> Result<(), Memory> {
+fn put_right(right: &Right, depth: usize, text: &mut Vec<u8>) {
     match right {
         Right::Const(array) => put_array(array, text),
         Right::Copy(x) => put_form("copy", &[*x], text),
@@ -115,10 +110,10 @@ fn put_right(right: &Right, depth: usize, text: &mut Vec<u8>) -> Result<(), Memo
         Right::Select(x, y) => put_form("select", &[*x, *y], text),
         Right::Replace(x, y, z) => put_form("replace", &[*x, *y, *z], text),
         Right::If { cond, yes, no } => {
-            put_form("if", &[*cond], text)?;
-            put_block(yes, depth.saturating_add(1), text)?;
-            indent(depth, text)?;
-            put("else", text)?;
+            put_form("if", &[*cond], text);
+            put_block(yes, depth.saturating_add(1), text);
+            indent(depth, text);
+            put("else", text);
             put_block(no, depth.saturating_add(1), text)
         }
         Right::Loop {
@@ -128,11 +123,11 @@ fn put_right(right: &Right, depth: usize, text: &mut Vec<u8>) -> Result<(), Memo
             body,
             ..
         } => {
-            put_form("loop", params, text)?;
-            put_form(" from", start, text)?;
-            put_block(test, depth.saturating_add(1), text)?;
-            indent(depth, text)?;
-            put("turn", text)?;
+            put_form("loop", params, text);
+            put_form(" from", start, text);
+            put_block(test, depth.saturating_add(1), text);
+            indent(depth, text);
+            put("turn", text);
             put_block(body, depth.saturating_add(1), text)
         }
         Right::Call { args, .. } => put_form("call", args, text),
@@ -143,39 +138,38 @@ fn put_right(right: &Right, depth: usize, text: &mut Vec<u8>) -> Result<(), Memo
     }
 }
 
-fn put_form(word: &str, vars: &[Var], text: &mut Vec<u8>) -> Result<(), Memory> {
-    put(word, text)?;
+fn put_form(word: &str, vars: &[Var], text: &mut Vec<u8>) {
+    put(word, text);
     put_vars(vars, text)
 }
 
 #[cycle(text)]
-fn put_with(with_loop: &WithLoop, depth: usize, text: &mut Vec<u8>) -> Result<(), Memory> {
-    put_operation(with_loop.op, text)?;
+fn put_with(with_loop: &WithLoop, depth: usize, text: &mut Vec<u8>) {
+    put_operation(with_loop.op, text);
     for g in &with_loop.gens {
-        put_generator(g, depth, text)?;
+        put_generator(g, depth, text);
     }
-    Ok(())
 }
 
-fn put_operation(op: CoreOp, text: &mut Vec<u8>) -> Result<(), Memory> {
+fn put_operation(op: CoreOp, text: &mut Vec<u8>) {
     match op {
         CoreOp::Genarray { shape, default } => put_form("genarray", &[shape, default], text),
         CoreOp::Modarray { array } => put_form("modarray", &[array], text),
         CoreOp::Fold { op, neutral } => {
-            put("fold ", text)?;
+            put("fold ", text);
             put_form(operator(op), &[neutral], text)
         }
     }
 }
 
 #[cycle(text)]
-fn put_generator(g: &CoreGen, depth: usize, text: &mut Vec<u8>) -> Result<(), Memory> {
+fn put_generator(g: &CoreGen, depth: usize, text: &mut Vec<u8>) {
     let depth = depth.saturating_add(1);
-    indent(depth, text)?;
-    put_form("at", &[g.index], text)?;
-    put_maybe(" from ", g.lower, text)?;
-    put_maybe(" to ", g.upper, text)?;
-    put_maybe(" step ", g.step, text)?;
-    put_maybe(" width ", g.width, text)?;
+    indent(depth, text);
+    put_form("at", &[g.index], text);
+    put_maybe(" from ", g.lower, text);
+    put_maybe(" to ", g.upper, text);
+    put_maybe(" step ", g.step, text);
+    put_maybe(" width ", g.width, text);
     put_block(&g.body, depth.saturating_add(1), text)
 }
