@@ -125,12 +125,15 @@ fn bound_again(alloc: Global) -> Block {
     gives(alloc, lets, 0)
 }
 
-/// Whether a block has these free variables and gives this one, where one stands for another.
-fn is_replaced(alloc: Global, body: Block, from: Var, to: Var, wanted: &[Var], given: Var) -> bool {
-    match substitute(alloc, body, &[(from, to)]) {
-        Ok(body) => has_free(alloc, &body, wanted) && body.results.first() == Some(&given),
-        Err(_) => false,
-    }
+/// What the body of a function becomes where a new variable stands for another one.
+fn replaced(alloc: Global, function: CoreFun, from: Var) -> Option<Block> {
+    let new = fresh(&function)?;
+    substitute(alloc, function.body, &[(from, new)]).ok()
+}
+
+/// Whether a block has these free variables and gives this one.
+fn is_like(alloc: Global, body: &Block, wanted: &[Var], given: Var) -> bool {
+    has_free(alloc, body, wanted) && body.results.first() == Some(&given)
 }
 
 #[test]
@@ -139,7 +142,8 @@ fn a_free_variable_is_replaced(rt: HostRuntime) {
     let cell = of(alloc, &[Var(12), Var(17)], raised(alloc)).expect(&rt, "a name");
     assert_eq!(rt; fresh(&cell), Some(Var(21)));
     let wanted = [Var(17), Var(21)];
-    assert!(rt; is_replaced(alloc, cell.body, Var(12), Var(21), &wanted, Var(20)));
+    let body = replaced(alloc, cell, Var(12)).expect(&rt, "memory");
+    assert!(rt; is_like(alloc, &body, &wanted, Var(20)));
 }
 
 #[test]
@@ -148,7 +152,8 @@ fn a_bound_variable_stays(rt: HostRuntime) {
     assert!(rt; has_free(alloc, &bound_again(alloc), &[]));
     let again = of(alloc, &[Var(8)], bound_again(alloc)).expect(&rt, "a name");
     assert_eq!(rt; fresh(&again), Some(Var(9)));
-    assert!(rt; is_replaced(alloc, again.body, Var(0), Var(9), &[Var(9)], Var(0)));
+    let body = replaced(alloc, again, Var(0)).expect(&rt, "memory");
+    assert!(rt; is_like(alloc, &body, &[Var(9)], Var(0)));
 }
 
 #[test]
