@@ -3,6 +3,7 @@ mod Bounds
 mod Evenness
 mod Insides
 mod Keepings
+mod Members
 mod Searching
 mod Splitting
 mod Verdict

@@ -1,8 +1,8 @@
 -- A cut, and what refutes one.
-use Rattle.std.proofs.Common.{◌≡◌, ℕ, ◌≤◌, ◌<◌, true, false, List, [], ◌∷◌, map, length, refl, sym, ap, subst, ◌∙◌, arith, ℤ, Result, Ok, Err}
+use Rattle.std.proofs.Common.{◌≡◌, ℕ, ◌≤◌, ◌<◌, Bool, true, false, cond, List, [], ◌∷◌, map, length, refl, sym, ap, subst, ◌∙◌, arith, ℤ, Result, Ok, Err}
 use Rattle.std.specs.Prelude.{filter, IfOk}
 use Rattle.std.specs.List.{All}
-use Rattle.std.proofs.lemmas.List.Elements.{All-weaker, All-tail}
+use Rattle.std.proofs.lemmas.List.Elements.{All-nil, All-cons, All-head, All-tail}
 use Rattle.sac_base.specs.declared.grid.Grid1.{Grid1}
 use Rattle.sac_base.specs.Grids.{has_vector, SplitsVectors}
 use Rattle.core_loops.specs.Loops.{grid_range}
@@ -24,10 +24,27 @@ module _ (frame grid : List Grid1) (grids : List (List Grid1)) (at : List (List 
   abbrev cutting : List (List Grid1)
   cutting = grid ∷ all_moved_back at grids
 
-  -- what is kept of even pieces holds as a whole
-  holding : (ps : List (List Grid1)) (found : List FoldPiece) → grids_in found ≡ filter (is_kept grid grids at) ps → All (IsUniformVector cutting) ps
-      → All (λ (p : FoldPiece). HaveFirst grids (lows p.grid) at p.holders.items) found → All (λ (p : FoldPiece). Hold grids at p.grid p.holders.items) found
-  holding ps found e even have = ?
+  abbrev Uniform : List Grid1 → Type 0
+  Uniform p = IsUniformVector cutting p
+
+  even_kept : (ps : List (List Grid1)) → All Uniform ps → All Uniform (filter (is_kept grid grids at) ps)
+  even_kept [] even = All-nil Uniform
+  even_kept (p ∷ ps) even = go (is_kept grid grids at p) (even_kept ps (All-tail Uniform p ps even))
+    where
+      go : (b : Bool) → All Uniform (filter (is_kept grid grids at) ps) → All Uniform (cond b (p ∷ filter (is_kept grid grids at) ps) (filter (is_kept grid grids at) ps))
+      go true rest = All-cons Uniform p (filter (is_kept grid grids at) ps) (All-head Uniform p ps even) rest
+      go false rest = rest
+
+  -- even pieces hold as a whole
+  holding : (found : List FoldPiece) → All Uniform (grids_in found) → All (λ (p : FoldPiece). HaveFirst grids (lows p.grid) at p.holders.items) found
+      → All (λ (p : FoldPiece). Hold grids at p.grid p.holders.items) found
+  holding [] even have = All-nil (λ (p : FoldPiece). Hold grids at p.grid p.holders.items)
+  holding (p ∷ found) even have =
+      let H = λ (q : FoldPiece). HaveFirst grids (lows q.grid) at q.holders.items in
+      let one = All-head Uniform p.grid (grids_in found) even in
+      All-cons (λ (q : FoldPiece). Hold grids at q.grid q.holders.items) p found
+      (have_first p.grid grids at p.holders.items (All-tail (Even p.grid) grid (all_moved_back at grids) one) (All-head H p found have))
+      (holding found (All-tail Uniform p.grid (grids_in found) even) (All-tail H p found have))
 
   pub cut_is : (box : List Grid1) (ps : List (List Grid1)) (found : List FoldPiece) (count : ℕ) → IsInside frame grid at → grid_range box ≡ box_range grid
       → SplitsVectors ps (in_box box) → All (IsUniformVector cutting) ps → count ≡ length ps
@@ -50,7 +67,7 @@ module _ (frame grid : List Grid1) (grids : List (List Grid1)) (at : List (List 
         };
         few = subst (λ n. n ≤ 64) same fits.1;
         split = λ cover. subst (λ gs. SplitsVectors gs (has_vector grid)) (sym kept) (kept_split grid grids at frame box ps cover inside range split even);
-        held = holding ps found kept even have;
+        held = holding found (subst (All Uniform) (sym kept) (even_kept ps even)) have;
       }
 
   caused : (e : GenError) (greatest count : ℕ) → (e ≡ Memory → ⊥) → IsCause 4096 greatest count e → greatest ≤ 4096 → count ≤ 64 → ⊥
