@@ -1,4 +1,4 @@
-mod Backward
+pub mod Backward
 mod Bounds
 mod Evenness
 mod Insides

@@ -1,5 +1,5 @@
 -- What a cut of a part's grid says.
-use Rattle.std.specs.Prelude.{◌≡◌, ℕ, ◌≤◌, Bool, true, ◌&&◌, List, [], ◌∷◌, ℤ, pos}
+use Rattle.std.specs.Prelude.{◌≡◌, ℕ, ◌≤◌, Bool, true, ◌&&◌, List, [], ◌∷◌, length, ℤ, pos}
 use Rattle.std.specs.Ordering.{int_eq}
 use Rattle.std.specs.List.{All, list_all}
 use Rattle.sac_base.specs.declared.grid.Grid1.{Grid1}
@@ -8,7 +8,7 @@ use Rattle.core_ir.specs.WellFormed.{Covered}
 use Rattle.core_loops.specs.Loops.{grid_range}
 use Rattle.core_loops.specs.Pairs.{all_moved_back, box_range}
 use Rattle.generator_sets.specs.Counts.{IsCanonicalCount}
-use Rattle.generator_sets.specs.Pieces.{moved}
+use Rattle.generator_sets.specs.Pieces.{in_box, moved, IsUniformVector}
 use Rattle.fold_pieces.specs.declared.keeping.FoldPiece.{FoldPiece}
 use Rattle.fold_pieces.specs.Kept.{grids_in}
 use Rattle.fold_pieces.specs.Pieces.{Hold}
@@ -32,6 +32,13 @@ pub record HasCount (grid : List Grid1) (grids : List (List Grid1)) (at : List (
   pub greatest : ℕ
   pub counted : IsCanonicalCount (grid ∷ all_moved_back at grids) 0 frame greatest count
   pub fine : greatest ≤ 4096
+
+-- The pieces split the box of a frame, each generator has all of a piece or nothing, and there are as many as the canonical count.
+pub record IsUniformCut (generators : List (List Grid1)) (frame : List Grid1) (pieces : List (List Grid1)) : Type 0 where
+  pub split : SplitsVectors pieces (in_box frame)
+  pub uniform : All (IsUniformVector generators) pieces
+  pub due : (greatest count : ℕ) → IsCanonicalCount generators 0 frame greatest count → (greatest ≤ 4096) × (count ≤ 64)
+  pub count : (greatest count : ℕ) → IsCanonicalCount generators 0 frame greatest count → length pieces ≡ count
 
 pub record IsCut (frame grid : List Grid1) (grids : List (List Grid1)) (at : List (List ℤ)) (pieces : List FoldPiece) (count : ℕ) : Type 0 where
   pub inside : IsInside frame grid at

@@ -19,7 +19,7 @@ pub struct FoldPiece {
 }
 
 /// The pieces whose first vector lies in the grid, and, moved by any vector, in one of the grids.
-pub fn kept(
+pub fn kept_pieces(
     alloc: Global,
     pieces: &[Grid],
     grid: &Grid,

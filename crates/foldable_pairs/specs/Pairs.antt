@@ -19,11 +19,9 @@ use Rattle.fold_pieces.specs.declared.keeping.FoldPiece.{FoldPiece}
 use Rattle.fold_pieces.specs.Cuts.{IsDense}
 use Rattle.fold_pieces.specs.Kept.{grids_in}
 use Rattle.fold_pieces.specs.Pieces.{Hold, AreNear}
+use Rattle.foldable_pairs.specs.Parts.{terms}
 use Rattle.foldable_pairs.specs.declared.plan.PartPlan.{PartPlan}
 use Rattle.foldable_pairs.specs.declared.producer.Producer.{Producer as Source}
-
-abbrev pub terms : List CorePart → PartsTerm
-terms parts = parts_of (map part_term parts)
 
 -- what a fold reads of a producer; its site, base and operation are not read
 abbrev pub producer_of : Source → Site → Base → PartedOp → Producer

@@ -7,7 +7,8 @@ ghost use Rattle.core_loops.specs.Indices.{is_scalar_shape};
 ghost use Rattle.core_loops.specs.Pairs.{TotalParts, Makes, one_scalar};
 ghost use Rattle.fact_table.specs.Table.{fact_of, facts_of};
 ghost use Rattle.plain_facts.specs.Called.{shapes_of};
-ghost use Rattle.foldable_pairs.specs.Pairs.{terms, CanProduce};
+ghost use Rattle.foldable_pairs.specs.Parts.{terms};
+ghost use Rattle.foldable_pairs.specs.Pairs.{CanProduce};
 
 use core_ir::{CorePart, PartedOp, Var};
 use fact_table::{FactTable, Known};

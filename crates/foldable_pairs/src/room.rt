@@ -5,7 +5,8 @@ ghost use Rattle.core_ir.specs.Counts.{bindings, capped};
 ghost use Rattle.core_ir.specs.View.{block_term, part_term};
 ghost use Rattle.core_loops.specs.Loops.{binders as bound_number, FEW};
 ghost use Rattle.core_loops.specs.Pairs.{most_bindings, most_binders as most_bound};
-ghost use Rattle.foldable_pairs.specs.Pairs.{terms};
+ghost use Rattle.foldable_pairs.specs.Building.{HasRoom};
+ghost use Rattle.foldable_pairs.specs.Parts.{terms};
 
 use core_ir::{Block, CorePart, nodes};
 use core_uses::binders;
@@ -19,11 +20,21 @@ const MOST_BINDERS: u64 = 65_536;
 /// Whether a body, with the largest body of the producer's parts for each of so many selections, has at most 4,096 bindings, and binds at most 65,536
 /// variables.
 pub fn has_room(body: &Block, selected: usize, parts: &[CorePart]) -> bool
-    ensures { IsTrue result ↔ ((bindings (block_term body.now) + selected * most_bindings (terms parts.now) ≤ 4096)
-        × (bound_number (block_term body.now) + selected * most_bound (terms parts.now) ≤ FEW)) }
+    ensures { IsTrue result ↔ HasRoom (block_term body.now) selected (terms parts.now) }
+{
+    has_nodes(body, selected, parts) && has_binders(body, selected, parts)
+}
+
+fn has_nodes(body: &Block, selected: usize, parts: &[CorePart]) -> bool
+    ensures { IsTrue result ↔ (bindings (block_term body.now) + selected * most_bindings (terms parts.now) ≤ 4096) }
 {
     is_within(nodes(body), selected, most_nodes(parts), MOST_NODES)
-        && is_within(binders(body), selected, most_binders(parts), MOST_BINDERS)
+}
+
+fn has_binders(body: &Block, selected: usize, parts: &[CorePart]) -> bool
+    ensures { IsTrue result ↔ (bound_number (block_term body.now) + selected * most_bound (terms parts.now) ≤ FEW) }
+{
+    is_within(binders(body), selected, most_binders(parts), MOST_BINDERS)
 }
 
 /// Whether a number, and another so many times, is at most a limit.

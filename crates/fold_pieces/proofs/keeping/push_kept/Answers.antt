@@ -21,7 +21,7 @@ returns-in_ok-push-in-Some-clause-holders c =
     let p = c.in-Some.kept in
     let new : c.push.new.self.items ≡ c.args.found.now.items ++ p ∷ [] = search rules in
     let h : (p.grid ≡ c.args.piece.now) × (is_kept c.args.grid.now c.args.grids.now (vectors c.args.offsets.now) c.args.piece.now ≡ true)
-        × HaveFirst c.args.grids.now (lows c.args.piece.now) (vectors c.args.offsets.now) p.holders.items = search rules in
+    × HaveFirst c.args.grids.now (lows c.args.piece.now) (vectors c.args.offsets.now) p.holders.items = search rules in
     let here : HaveFirst c.args.grids.now (lows p.grid) (vectors c.args.offsets.now) p.holders.items = subst (λ g. HaveFirst c.args.grids.now (lows g) (vectors c.args.offsets.now) p.holders.items) (sym h.0) h.2 in
     λ all. subst (All P) (sym new) (All-push P c.args.found.now.items p all here)
 

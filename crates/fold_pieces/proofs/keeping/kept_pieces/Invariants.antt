@@ -5,7 +5,7 @@ use Rattle.generator_sets.specs.Pieces.{lows}
 use Rattle.fold_pieces.specs.declared.keeping.FoldPiece.{FoldPiece}
 use Rattle.fold_pieces.specs.Kept.{grids_in}
 use Rattle.fold_pieces.specs.Pieces.{vectors, is_kept, HaveFirst}
-use Rattle.fold_pieces.proofs.keeping.kept.Given as goal
+use Rattle.fold_pieces.proofs.keeping.kept_pieces.Given as goal
 
 abbrev pub invariant-loop-piece : goal.invariant-loop-piece
 invariant-loop-piece l = record {

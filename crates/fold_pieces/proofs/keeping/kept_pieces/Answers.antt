@@ -1,7 +1,7 @@
 use Rattle.fold_pieces.specs.Kept.{grids_in}
 use Rattle.fold_pieces.specs.Pieces.{vectors, is_kept}
 use Rattle.fold_pieces.proofs.Keepings.{keep_turn, keep_end}
-use Rattle.fold_pieces.proofs.keeping.kept.Goals as goal
+use Rattle.fold_pieces.proofs.keeping.kept_pieces.Goals as goal
 
 pub loop-piece-preserved : goal.loop-piece-preserved
 loop-piece-preserved c = record {

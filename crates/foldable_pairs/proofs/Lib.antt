@@ -1,0 +1,5 @@
+mod Avoiding
+mod Capping
+mod Laws
+mod Planning
+mod Selecting
