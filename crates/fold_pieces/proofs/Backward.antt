@@ -1,5 +1,5 @@
 -- Grids that are moved back, and grids of the same numbers.
-use Rattle.std.proofs.Common.{◌≡◌, ℕ, suc, ◌+◌, ◌<◌, ◌≤◌, ◌++◌, length, append_assoc, append-nil, ◌&&◌, Bool, true, false, List, [], ◌∷◌, map, get_or, drop, refl, sym, ap, subst, ◌∙◌, arith, inl, inr, ℤ, pos, ◌+ℤ◌, ◌≤ℤ◌, ◌<ℤ◌}
+use Rattle.std.proofs.Common.{◌≡◌, ℕ, suc, ◌+◌, ◌<◌, ◌≤◌, ◌++◌, length, append_assoc, append-nil, ◌&&◌, Bool, true, false, List, [], ◌∷◌, map, get_or, drop, refl, sym, ap, subst, ◌∙◌, arith, inl, inr, ℤ, pos, ◌+ℤ◌, ◌≤ℤ◌}
 use Rattle.std.specs.Prelude.{◌-ℤ◌, unsigned_abs, nat_lt, ◌%◌, Vec}
 use Rattle.std.specs.declared.alloc.Global.{Global}
 use Rattle.std.proofs.lemmas.List.{drop_all}

@@ -1,5 +1,5 @@
 -- Bounds and sums of 64 bits.
-use Rattle.std.proofs.Common.{◌≡◌, ◌∙◌, ap, sym, subst, ◌^◌, Bool, true, false, arith, inl, inr, w32, w64, to_z, of_z, FitsSigned, ℤ, pos, negsuc, ◌+ℤ◌, ◌≤ℤ◌, ◌<ℤ◌}
+use Rattle.std.proofs.Common.{◌≡◌, ◌∙◌, ap, sym, subst, false, arith, inl, inr, w32, w64, to_z, of_z, FitsSigned, ℤ, pos, negsuc, ◌+ℤ◌, ◌≤ℤ◌}
 use Rattle.std.specs.Prelude.{◌-ℤ◌}
 use Rattle.std.proofs.lemmas.Int.{ints, to_z-of_z}
 use Rattle.sac_base.specs.declared.grid.Grid1.{Grid1}

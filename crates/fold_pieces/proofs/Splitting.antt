@@ -1,5 +1,5 @@
 -- The pieces that are kept split the grid.
-use Rattle.std.proofs.Common.{◌≡◌, ℕ, zero, suc, ◌+◌, ◌<◌, ◌&&◌, ◌||◌, Bool, true, false, cond, List, [], ◌∷◌, map, length, get_or, refl, sym, ap, subst, ◌∙◌, arith, ℤ}
+use Rattle.std.proofs.Common.{◌≡◌, ℕ, zero, suc, ◌+◌, ◌<◌, ◌&&◌, ◌||◌, Bool, true, false, cond, List, [], ◌∷◌, length, get_or, refl, sym, ap, ◌∙◌, arith, ℤ}
 use Rattle.std.specs.Prelude.{filter, Contains}
 use Rattle.std.specs.List.{All, list_all, list_any}
 use Rattle.std.proofs.lemmas.List.Elements.{All-head, All-tail}
@@ -11,7 +11,7 @@ use Rattle.core_ir.specs.WellFormed.{Covered}
 use Rattle.fold_pieces.proofs.Members.{member_has}
 use Rattle.core_loops.specs.Loops.{axis_of, grid_range}
 use Rattle.core_loops.specs.Pairs.{all_moved_back, box_range}
-use Rattle.generator_sets.specs.Pieces.{in_box, lows, moved, IsUniformVector}
+use Rattle.generator_sets.specs.Pieces.{in_box, moved, IsUniformVector}
 use Rattle.fold_pieces.specs.Pieces.{is_held, is_kept}
 use Rattle.fold_pieces.specs.Cuts.{IsInside}
 use Rattle.fold_pieces.proofs.Evenness.{Even, held_same}

@@ -1,9 +1,9 @@
 -- Pieces of a grid that lie, moved by vectors, as a whole in one of some grids.
-use Rattle.std.specs.Prelude.{◌≡◌, ℕ, zero, suc, ◌&&◌, ◌||◌, ◌^◌, Bool, true, false, List, [], ◌∷◌, map, ℤ, pos, ◌-ℤ◌, ◌+ℤ◌, ◌≤ℤ◌, Vec}
+use Rattle.std.specs.Prelude.{◌≡◌, ℕ, zero, suc, ◌&&◌, ◌^◌, Bool, true, false, List, [], ◌∷◌, map, ℤ, pos, ◌-ℤ◌, ◌+ℤ◌, ◌≤ℤ◌, Vec}
 use Rattle.std.specs.List.{All, list_all, list_any}
 use Rattle.std.specs.declared.alloc.Global.{Global}
 use Rattle.sac_base.specs.declared.grid.Grid1.{Grid1}
-use Rattle.sac_base.specs.Grids.{has_index, has_vector}
+use Rattle.sac_base.specs.Grids.{has_vector}
 use Rattle.generator_sets.specs.Pieces.{lows, moved}
 
 -- vectors as the code holds them

@@ -1,8 +1,4 @@
-use Rattle.std.proofs.Common.{◌≡◌, ℕ, ◌+◌, drop}
-use Rattle.std.specs.List.{list_any}
-use Rattle.sac_base.specs.Grids.{has_vector}
 use Rattle.generator_sets.specs.Pieces.{lows, moved}
-use Rattle.fold_pieces.specs.Pieces.{HasFirst}
 use Rattle.fold_pieces.proofs.Searching.{Beyond}
 use Rattle.fold_pieces.proofs.holding.holder.Given as goal
 

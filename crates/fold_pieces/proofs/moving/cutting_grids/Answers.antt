@@ -1,4 +1,4 @@
-use Rattle.std.proofs.Common.{◌≡◌, ◌++◌, ap, sym, ◌∙◌, Ok}
+use Rattle.std.proofs.Common.{◌++◌, ap, ◌∙◌, Ok}
 use Rattle.std.specs.Prelude.{map}
 use Rattle.core_loops.specs.Pairs.{moved_back, all_moved_back}
 use Rattle.fold_pieces.specs.Pieces.{vectors}

@@ -1,5 +1,4 @@
 use Rattle.std.proofs.Common.{rules, arith, ◌≡◌, ◌≤◌, ◌++◌, length, ap, subst, ◌∙◌, Ok}
-use Rattle.core_loops.specs.Pairs.{moved_back}
 use Rattle.fold_pieces.proofs.Backward.{few_back}
 use Rattle.fold_pieces.proofs.moving.moved_grid.Goals as goal
 

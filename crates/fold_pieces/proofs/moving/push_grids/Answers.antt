@@ -1,4 +1,4 @@
-use Rattle.std.proofs.Common.{◌≡◌, ◌++◌, ap, sym, subst, Ok}
+use Rattle.std.proofs.Common.{ap, sym, subst, Ok}
 use Rattle.std.specs.List.{All}
 use Rattle.core_loops.specs.Pairs.{moved_back}
 use Rattle.generator_sets.proofs.Growing.{grown_map, all_mapped}

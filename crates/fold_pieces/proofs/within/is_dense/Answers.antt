@@ -1,5 +1,5 @@
-use Rattle.std.proofs.Common.{◌≡◌, ◌∙◌, ap, sym, subst, IsTrue, ◌↔◌}
-use Rattle.fold_pieces.specs.Cuts.{IsDense, have_step_one}
+use Rattle.std.proofs.Common.{◌∙◌, ap}
+use Rattle.fold_pieces.specs.Cuts.{have_step_one}
 use Rattle.fold_pieces.proofs.Insides.{dense_is}
 use Rattle.fold_pieces.proofs.within.is_dense.Goals as goal
 
