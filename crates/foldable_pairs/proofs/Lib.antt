@@ -1,5 +1,6 @@
 mod Avoiding
 mod Capping
-mod Laws
 mod Planning
 mod Selecting
+mod Totals
+mod Verdicts

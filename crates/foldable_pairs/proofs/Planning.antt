@@ -1,6 +1,9 @@
 -- The plan of one part, and of one part more.
 use Rattle.std.proofs.Common.{◌≡◌, ◌↔◌, IsTrue, ℕ, zero, suc, ◌+◌, ◌*◌, ◌<◌, ◌≤◌, Bool, true, false, ◌||◌, nat_lt, List, [], ◌∷◌, ◌++◌, map, length, get_or, drop, refl, sym, ap, subst, ◌∙◌, arith, ℤ, Option, Some, append_assoc, append-nil, length-map}
 use Rattle.std.proofs.lemmas.Bool.Decides.{nat_tests}
+use Rattle.std.proofs.lemmas.List.{drop_more, drop_all}
+use Rattle.core_ir.specs.declared.tree.CorePart.{CorePart}
+use Rattle.core_ir.specs.View.{part_term}
 use Rattle.sac_base.specs.declared.grid.Grid1.{Grid1}
 use Rattle.core_ir.specs.Terms.{PartTerm, PartsTerm, parts_of}
 use Rattle.core_facts.specs.Facts.{Facts}
@@ -13,6 +16,7 @@ use Rattle.foldable_pairs.specs.declared.plan.PartPlan.{PartPlan}
 use Rattle.foldable_pairs.specs.declared.plan.Planned.{Planned}
 use Rattle.foldable_pairs.specs.declared.plan.Plans.{Plans}
 use Rattle.foldable_pairs.specs.Building.{Added, Building, CanTake, HasRoom}
+use Rattle.foldable_pairs.specs.Parts.{terms}
 use Rattle.foldable_pairs.specs.Pairs.{PartPlanned, PartsPlanned}
 use Rattle.foldable_pairs.specs.Selected.{OnlySelects}
 use Rattle.foldable_pairs.proofs.Selecting.{somes}
@@ -82,6 +86,27 @@ module _ (called : ℕ → List (Option (List ℕ))) (k : Facts) (p : Producer) 
       split = cut.split;
       held = cut.held;
     }
+
+-- ---- grids
+
+next_is : (xs : List CorePart) (i : ℕ) (x : CorePart) → i < length xs → x ≡ get_or xs i x → drop i xs ≡ x ∷ drop (i + 1) xs
+next_is xs i x low is = drop_more xs i x low ∙ ap (λ y. y ∷ drop (i + 1) xs) (sym is)
+
+pub grids_turn : (parts : List CorePart) (i : ℕ) (x : CorePart) (old new whole : List (List Grid1)) → i < length parts → x ≡ get_or parts i x → new ≡ old ++ (part_term x).head.grid ∷ []
+    → old ++ grids_of (terms (drop i parts)) ≡ whole → new ++ grids_of (terms (drop (i + 1) parts)) ≡ whole
+grids_turn parts i x old new whole low is e h =
+    let rest = grids_of (terms (drop (i + 1) parts)) in
+    ap (λ l. l ++ rest) e ∙ append_assoc old ((part_term x).head.grid ∷ []) rest ∙ ap (λ l. old ++ grids_of (terms l)) (sym (next_is parts i x low is)) ∙ h
+
+pub grids_end : (parts : List CorePart) (i : ℕ) (old whole : List (List Grid1)) → length parts ≤ i → old ++ grids_of (terms (drop i parts)) ≡ whole → old ≡ whole
+grids_end parts i old whole past h = sym (append-nil old) ∙ ap (λ l. old ++ grids_of (terms l)) (sym (drop_all i parts past)) ∙ h
+
+-- the parts from a place on, as terms
+pub rest_is : (parts : List CorePart) (i : ℕ) (x : CorePart) → i < length parts → x ≡ get_or parts i x → map part_term (drop i parts) ≡ part_term x ∷ map part_term (drop (i + 1) parts)
+rest_is parts i x low is = ap (map part_term) (next_is parts i x low is)
+
+pub rest_none : (parts : List CorePart) (i : ℕ) → length parts ≤ i → map part_term (drop i parts) ≡ []
+rest_none parts i past = ap (map part_term) (drop_all i parts past)
 
 -- ---- one part more
 

@@ -1,20 +1,19 @@
 -- What a plan of a fold says.
-use Rattle.std.specs.Prelude.{◌≡◌, ℕ, ◌+◌, ◌<◌, ◌≤◌, List, [], ◌∷◌, map, ℤ, Option, Some, Vec}
+use Rattle.std.specs.Prelude.{◌≡◌, ℕ, ◌+◌, ◌<◌, ◌≤◌, true, List, [], ◌∷◌, map, length, replicate, pos, Option, Some}
 use Rattle.std.specs.List.{All}
 use Rattle.sac_base.specs.declared.base.Base.{Base}
 use Rattle.sac_base.specs.declared.grid.Grid1.{Grid1}
 use Rattle.sac_base.specs.declared.site.Site.{Site}
 use Rattle.sac_base.specs.Grids.{has_vector, SplitsVectors}
-use Rattle.core_ir.specs.declared.tree.CorePart.{CorePart}
 use Rattle.core_ir.specs.declared.tree.PartedOp.{PartedOp}
 use Rattle.core_ir.specs.declared.tree.Var.{Var}
 use Rattle.core_ir.specs.Scopes.{parted_uses}
-use Rattle.core_ir.specs.Terms.{PartsTerm, PartTerm, NoParts, Part, parts_of}
+use Rattle.core_ir.specs.Terms.{BlockTerm, PartsTerm, PartTerm, parts_of}
 use Rattle.core_ir.specs.Uses.{AvoidsAll}
-use Rattle.core_ir.specs.View.{part_term}
 use Rattle.core_ir.specs.WellFormed.{Covered}
-use Rattle.core_facts.specs.Facts.{Facts}
-use Rattle.core_loops.specs.Pairs.{Producer, PartFolds, PartsFold, Makes, TotalParts, grids_of}
+use Rattle.core_facts.specs.Facts.{Facts, note, shape_fact, block_facts}
+use Rattle.core_loops.specs.Indices.{note_index, total_block, Plus, Other}
+use Rattle.core_loops.specs.Pairs.{Producer, PartFolds, PartsFold, Makes, TotalParts, one_scalar, grids_of}
 use Rattle.fold_pieces.specs.declared.keeping.FoldPiece.{FoldPiece}
 use Rattle.fold_pieces.specs.Cuts.{IsDense}
 use Rattle.fold_pieces.specs.Kept.{grids_in}
@@ -30,6 +29,12 @@ producer_of p site base op = record { var = p.var; site = site; frame = p.frame.
 -- bounds of the producer's grids are near enough to 0 to be moved
 abbrev pub IsNear : Source → Type 0
 IsNear p = IsDense p.frame.now × AreNear (grids_of (terms p.parts.now))
+
+-- a body with this index never faults at a member of the grid, and gives a scalar
+abbrev pub GivesScalar : (ℕ → List (Option (List ℕ))) → Facts → List Grid1 → Var → BlockTerm → Type 0
+GivesScalar called k grid index b =
+    (total_block called grid b (note k index (shape_fact (Some (length grid ∷ [])))) (note_index (λ x. Other) index (Plus (replicate (length grid) (pos 0))))
+    ≡ true) × (one_scalar (block_facts called b (note k index (shape_fact (Some (length grid ∷ []))))) ≡ true)
 
 -- a producer's facts are those before it
 pub record CanProduce (called : ℕ → List (Option (List ℕ))) (k : Facts) (op : PartedOp) (parts : PartsTerm) : Type 0 where

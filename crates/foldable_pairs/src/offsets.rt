@@ -39,7 +39,10 @@ pub fn selected_offsets(
     if avoids_part(producer, part) {
         return Ok(Some(Vec::new(alloc)));
     }
-    offsets_within(alloc, producer, part, called, facts)
+    match offsets_within(alloc, producer, part, called, facts)? {
+        Some(offsets) => Ok(Some(offsets)),
+        None => Ok(None),
+    }
 }
 
 fn avoids_part(producer: Var, part: &CorePart) -> bool
@@ -64,7 +67,10 @@ fn offsets_within(
 {
     selecting();
     match part_selections(alloc, producer, part, called, facts)? {
-        Some(found) => all_known(alloc, &found),
+        Some(found) => match all_known(alloc, &found)? {
+            Some(offsets) => Ok(Some(offsets)),
+            None => Ok(None),
+        },
         None => Ok(None),
     }
 }

@@ -1,20 +1,19 @@
 //! Parted loops whose cells others may select.
 
 ghost use Rattle.std.specs.Prelude.{◌≡◌, ◌↔◌, IsTrue, IfOk, OnOk, map};
-ghost use Rattle.core_ir.specs.View.{part_term};
-ghost use Rattle.core_ir.specs.Terms.{NoParts, Part};
+ghost use Rattle.core_ir.specs.View.{block_term, part_term};
 ghost use Rattle.core_loops.specs.Indices.{is_scalar_shape};
 ghost use Rattle.core_loops.specs.Pairs.{TotalParts, Makes, one_scalar};
 ghost use Rattle.fact_table.specs.Table.{fact_of, facts_of};
 ghost use Rattle.plain_facts.specs.Called.{shapes_of};
 ghost use Rattle.foldable_pairs.specs.Parts.{terms};
-ghost use Rattle.foldable_pairs.specs.Pairs.{CanProduce};
+ghost use Rattle.foldable_pairs.specs.Pairs.{CanProduce, GivesScalar};
 
-use core_ir::{CorePart, PartedOp, Var};
+use core_ir::{Block, CorePart, PartedOp, Var};
 use fact_table::{FactTable, Known};
 use index_table::IndexTable;
 use plain_facts::CalledShapes;
-use sac_base::{Grid, Memory};
+use sac_base::{Grid, Memory, Shape};
 use std::alloc::Global;
 use total_cells::body_results;
 
@@ -83,21 +82,28 @@ fn is_total(
     called: &CalledShapes,
     facts: &mut FactTable,
 ) -> Result<bool, Memory>
+    ensures total { IfOk result (λ total. IsTrue total ↔ GivesScalar (shapes_of called.now) (facts_of facts.old)
+        (part_term part.now).head.grid (part_term part.now).head.index (part_term part.now).body) }
+    ensures facts { OnOk result (facts.new ≡ facts.old) }
+{
+    is_total_body(alloc, part.index, &part.grid, &part.body, called, facts)
+}
+
+/// Whether a body with this index never faults, and gives a scalar.
+fn is_total_body(
+    alloc: Global,
+    index: Var,
+    grid: &Grid,
+    body: &Block,
+    called: &CalledShapes,
+    facts: &mut FactTable,
+) -> Result<bool, Memory>
     ensures total { IfOk result (λ total. IsTrue total
-        ↔ TotalParts (shapes_of called.now) (facts_of facts.old) (Part (part_term part.now).head (part_term part.now).body NoParts)) }
+        ↔ GivesScalar (shapes_of called.now) (facts_of facts.old) grid.now index (block_term body.now)) }
     ensures facts { OnOk result (facts.new ≡ facts.old) }
 {
     let mut indices = IndexTable::new(alloc);
-    let found = body_results(
-        alloc,
-        part.index,
-        &part.grid,
-        &part.body,
-        called,
-        facts,
-        &mut indices,
-    )?;
-    match found {
+    match body_results(alloc, index, grid, body, called, facts, &mut indices)? {
         Some(values) => Ok(is_one_scalar(&values)),
         None => Ok(false),
     }
@@ -107,16 +113,19 @@ fn is_total(
 fn is_one_scalar(values: &[Known]) -> bool
     ensures { result ≡ one_scalar (map fact_of values.now) }
 {
-    match values {
-        [value] => is_scalar(value),
-        _ => false,
+    match values.split_first() {
+        Some((value, others)) => match others.split_first() {
+            Some(_) => false,
+            None => is_scalar(&value.shape),
+        },
+        None => false,
     }
 }
 
-fn is_scalar(value: &Known) -> bool
-    ensures { result ≡ is_scalar_shape (fact_of value.now).shape }
+fn is_scalar(shape: &Option<Shape>) -> bool
+    ensures { result ≡ is_scalar_shape shape.now }
 {
-    match &value.shape {
+    match shape {
         Some(shape) => shape.rank() == 0,
         None => false,
     }

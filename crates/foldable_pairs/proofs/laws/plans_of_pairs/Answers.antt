@@ -1,4 +1,4 @@
-use Rattle.foldable_pairs.proofs.Laws.{holder_held, plan_takes, pair_is}
+use Rattle.foldable_pairs.proofs.Verdicts.{holder_held, plan_takes, pair_is}
 use Rattle.foldable_pairs.proofs.laws.plans_of_pairs.Goals as goal
 
 pub returns-clause-holders : goal.returns-clause-holders
