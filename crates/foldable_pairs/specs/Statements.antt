@@ -1,5 +1,5 @@
 -- The laws of plans and of foldable pairs.
-use Rattle.std.specs.Prelude.{◌≡◌, ◌↔◌, ℕ, ◌^◌, ◌≤◌, List, map, ℤ, Option, Some, slice_get}
+use Rattle.std.specs.Prelude.{◌≡◌, ◌↔◌, ℕ, ◌+◌, ◌^◌, ◌≤◌, List, ℤ, Option, Some, slice_get}
 use Rattle.core_ir.specs.declared.tree.PartedOp.{PartedOp}
 use Rattle.core_ir.specs.Terms.{BlockTerm, LetTerm, PartsTerm, PartTerm, parts_of}
 use Rattle.core_ir.specs.Uses.{Avoids}

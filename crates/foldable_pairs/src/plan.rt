@@ -1,6 +1,6 @@
 //! The plan of a fold.
 
-ghost use Rattle.std.specs.Prelude.{◌≡◌, ◌↔◌, IsTrue, ◌++◌, ◌+◌, ◌<◌, ◌≤◌, ℕ, List, [], ◌∷◌, Ok, true, false, nat_lt, IfOk, OnOk, IfSome, IfNone, map};
+ghost use Rattle.std.specs.Prelude.{◌≡◌, ◌↔◌, IsTrue, ◌++◌, ◌+◌, ◌<◌, ◌≤◌, ℕ, List, [], ◌∷◌, Ok, true, false, ◌||◌, nat_lt, IfOk, OnOk, IfSome, IfNone, map};
 ghost use Rattle.sac_base.specs.declared.base.Base.{Base};
 ghost use Rattle.sac_base.specs.declared.site.Site.{Site};
 ghost use Rattle.core_ir.specs.declared.tree.PartedOp.{PartedOp as Operation};
@@ -126,10 +126,10 @@ fn add_part(
         CanTake (shapes_of called.now) (facts_of facts.old) (producer_of producer.now s base made) whole → ⊥ }
     ensures facts { OnOk result (facts.new ≡ facts.old) }
 {
-    match part_plan(alloc, producer, grids, part, called, facts)? {
-        Some(planned) => push_plan(planned, plans),
-        None => Ok(false),
-    }
+    let Some(planned) = part_plan(alloc, producer, grids, part, called, facts)? else {
+        return Ok(false);
+    };
+    push_plan(planned, plans)
 }
 
 /// Appends a plan, if the pieces stay few.
@@ -145,15 +145,15 @@ fn push_plan(planned: Planned, plans: &mut Plans) -> Result<bool, Memory>
         return Ok(false);
     }
     plans.count = count;
-    plans.is_used = plans.is_used || is_some(planned.plan.selected);
+    plans.is_used = is_used(plans.is_used, planned.plan.selected);
     plans.parts.push(planned.plan)?;
     Ok(true)
 }
 
-fn is_some(count: usize) -> bool
-    ensures { result ≡ nat_lt 0 count }
+fn is_used(before: bool, count: usize) -> bool
+    ensures { result ≡ (before || nat_lt 0 count) }
 {
-    0 < count
+    before || 0 < count
 }
 
 /// The plan of one part, if it can take from the producer.
@@ -166,7 +166,8 @@ fn part_plan(
     facts: &mut FactTable,
 ) -> Result<Option<Planned>, Memory>
     requires { grids.now ≡ grids_of (terms producer.now.parts.now) }
-    ensures plan { IfOk result (λ found. IfSome found (λ planned. (s : Site) (base : Base) (made : Operation) → (planned.count ≤ 64) ×
+    ensures few { IfOk result (λ found. IfSome found (λ planned. planned.count ≤ 64)) }
+    ensures plan { IfOk result (λ found. IfSome found (λ planned. (s : Site) (base : Base) (made : Operation) →
         PartPlanned (shapes_of called.now) (facts_of facts.old) (producer_of producer.now s base made) (part_term part.now) planned.plan planned.plan.selected
         planned.count)) }
     ensures none { IfOk result (λ found. IfNone found (IsNear producer.now → (s : Site) (base : Base) (made : Operation) (selected count : ℕ) → count ≤ 64 →
