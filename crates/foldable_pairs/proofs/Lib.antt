@@ -1,5 +1,6 @@
 mod Avoiding
 mod Capping
+mod PartTrees
 mod Planning
 mod Selecting
 mod Totals

@@ -5,7 +5,7 @@ use Rattle.std.specs.declared.alloc.Global.{Global}
 use Rattle.std.proofs.lemmas.List.{drop_more, drop_all}
 use Rattle.core_ir.specs.declared.tree.Var.{Var}
 use Rattle.core_ir.specs.Terms.{BlockTerm, PartTerm}
-use Rattle.core_facts.specs.Facts.{Facts, note, shape_fact}
+use Rattle.core_facts.specs.Facts.{Fact, Facts, note, shape_fact}
 use Rattle.core_loops.specs.Indices.{note_index, Plus, Other}
 use Rattle.core_loops.specs.Loops.{weight, parted_in}
 use Rattle.core_loops.specs.Pairs.{Selects}
@@ -14,7 +14,7 @@ use Rattle.core_uses.proofs.Decided.{block_decided}
 use Rattle.fold_pieces.specs.Pieces.{vectors}
 use Rattle.loop_selections.specs.Selecting.{is_selecting}
 use Rattle.loop_selections.specs.Statements.{SelectingIsDecided}
-use Rattle.loop_selections.specs.Told.{offset_told, told}
+use Rattle.loop_selections.specs.Told.{offset_told, told, known_if}
 use Rattle.foldable_pairs.specs.Selected.{part_offsets, SelectsAt, OnlySelects, FlatSelects}
 use Rattle.foldable_pairs.proofs.Avoiding.{avoids_none, none_avoids}
 
@@ -79,3 +79,15 @@ pub known_none : (found : List (Option (Vec ℤ Global))) (i : ℕ) (x : Option 
     → offset_told x ≡ None → old ++ told (drop i found) ≡ whole → (at : List (List ℤ)) → somes at ≡ whole → ⊥
 known_none found i x old whole low is none h at e =
     none_inside at old (told (drop (i + 1) found)) (e ∙ sym h ∙ ap (λ l. old ++ told l) (next_is found i x low is) ∙ (λ j. old ++ none j ∷ told (drop (i + 1) found)))
+
+-- one known offset more
+pub pushed_known : (old new : List (Vec ℤ Global)) (v : Vec ℤ Global) (xs : List ℤ) → new ≡ old ++ v ∷ [] → v.items ≡ xs → somes (vectors new) ≡ somes (vectors old) ++ Some xs ∷ []
+pushed_known old new v xs e f = ap (λ l. somes (vectors l)) e ∙ two old ∙ (λ i. somes (vectors old) ++ Some (f i) ∷ [])
+  where
+    two : (old : List (Vec ℤ Global)) → somes (vectors (old ++ v ∷ [])) ≡ somes (vectors old) ++ Some v.items ∷ []
+    two [] = refl
+    two (x ∷ old) = ap (λ l. Some x.items ∷ l) (two old)
+
+pub is_known : (t : Bool) (fs gs : List Fact) → Some fs ≡ known_if t gs → t ≡ true
+is_known true fs gs e = refl
+is_known false fs gs e = absurd (let q : ◌≡◌ {A = Option (List Fact)} (Some fs) None = e in cc)

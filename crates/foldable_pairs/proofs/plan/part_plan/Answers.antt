@@ -1,5 +1,6 @@
-use Rattle.std.proofs.Common.{rules, ◌≡◌, ◌↔◌, ◌≤◌, ◌∙◌, ℕ, IsTrue, List, ℤ, length, length-map, sym, subst}
+use Rattle.std.proofs.Common.{rules, ◌≡◌, ◌↔◌, ◌≤◌, ◌∙◌, ℕ, IsTrue, List, ℤ, length, sym, subst}
 use Rattle.std.specs.Prelude.{Vec}
+use Rattle.std.proofs.lemmas.List.{length-map}
 use Rattle.std.specs.declared.alloc.Global.{Global}
 use Rattle.sac_base.specs.declared.base.Base.{Base}
 use Rattle.sac_base.specs.declared.site.Site.{Site}
