@@ -133,7 +133,7 @@ fn all_known(alloc: Global, found: &[Option<Vec<i32>>]) -> Result<Option<Vec<Vec
 {
     let mut known = Vec::new(alloc);
     for offset in found {
-        if !push_known(offset, &mut known)? {
+        if !push_known(alloc, offset, &mut known)? {
             return Ok(None);
         }
     }
@@ -141,14 +141,19 @@ fn all_known(alloc: Global, found: &[Option<Vec<i32>>]) -> Result<Option<Vec<Vec
 }
 
 /// Appends an offset, if it is known.
-fn push_known(offset: &Option<Vec<i32>>, known: &mut Vec<Vec<i32>>) -> Result<bool, Memory>
+fn push_known(
+    alloc: Global,
+    offset: &Option<Vec<i32>>,
+    known: &mut Vec<Vec<i32>>,
+) -> Result<bool, Memory>
     ensures pushed { result ≡ Ok true → map (λ (c : List ℤ). Some c) (vectors known.new.items)
         ≡ map (λ (c : List ℤ). Some c) (vectors known.old.items) ++ offset_told offset.now ∷ [] }
     ensures none { result ≡ Ok false → offset_told offset.now ≡ None }
 {
     match offset {
         Some(numbers) => {
-            known.push(numbers.clone()?)?;
+            let copy = Vec::from_slice(alloc, numbers.as_slice())?;
+            known.push(copy)?;
             Ok(true)
         }
         None => Ok(false),

@@ -1,6 +1,5 @@
-use Rattle.std.proofs.Common.{rules, ◌≡◌, ◌↔◌, ◌≤◌, ◌∙◌, ℕ, IsTrue, List, ℤ, length, sym, subst}
+use Rattle.std.proofs.Common.{rules, ◌≡◌, ◌↔◌, ◌≤◌, ◌∙◌, ℕ, IsTrue, List, [], ◌∷◌, ℤ, length, suc, refl, ap, sym, subst}
 use Rattle.std.specs.Prelude.{Vec}
-use Rattle.std.proofs.lemmas.List.{length-map}
 use Rattle.std.specs.declared.alloc.Global.{Global}
 use Rattle.sac_base.specs.declared.base.Base.{Base}
 use Rattle.sac_base.specs.declared.site.Site.{Site}
@@ -19,7 +18,8 @@ use Rattle.foldable_pairs.proofs.Planning.{no_offsets, no_room, no_cut, planned}
 use Rattle.foldable_pairs.proofs.plan.part_plan.Goals as goal
 
 many : (offsets : List (Vec ℤ Global)) → length (vectors offsets) ≡ length offsets
-many offsets = length-map (λ (c : Vec ℤ Global). c.items) offsets
+many [] = refl
+many (x ∷ offsets) = ap suc (many offsets)
 
 pub returns-in_default-clause-none : goal.returns-in_default-clause-none
 returns-in_default-clause-none c = λ near s base made n m few f.
