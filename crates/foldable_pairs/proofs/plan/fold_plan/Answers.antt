@@ -1,4 +1,4 @@
-use Rattle.std.proofs.Common.{rules, ◌≡◌, ◌∙◌, ◌≤◌, ap, sym, subst, refl, true, false, map, drop, length, Ok, arith}
+use Rattle.std.proofs.Common.{rules, ◌≡◌, ◌∙◌, ◌≤◌, ap, sym, subst, refl, true, false, map, drop, length, Ok, arith, ◌+◌, ◌∷◌}
 use Rattle.sac_base.specs.declared.base.Base.{Base}
 use Rattle.sac_base.specs.declared.site.Site.{Site}
 use Rattle.core_ir.specs.declared.tree.PartedOp.{PartedOp}
@@ -16,10 +16,10 @@ use Rattle.foldable_pairs.proofs.plan.fold_plan.Goals as goal
 pub loop-part-init : goal.loop-part-init
 loop-part-init c = record {
   facts = refl;
-  few = let none = c.no_plans.ensures.count in omega (arith, none);
+  few = let none = c.no_plans-plans.ensures.count in omega (arith, none);
   so_far = λ s base made.
-      build_none (shapes_of c.args.called.now) (facts_of c.args.facts.now) (producer_of c.args.producer.now s base made) (map part_term c.args.parts.now) c.no_plans.result
-      c.no_plans.ensures.parts c.no_plans.ensures.count c.no_plans.ensures.used;
+      build_none (shapes_of c.args.called.now) (facts_of c.args.facts.now) (producer_of c.args.producer.now s base made) (map part_term c.args.parts.now) c.no_plans-plans.result
+      c.no_plans-plans.ensures.parts c.no_plans-plans.ensures.count c.no_plans-plans.ensures.used;
 }
 
 pub loop-part-preserved : goal.loop-part-preserved
@@ -79,3 +79,12 @@ returns-then-plans-clause-plan c = λ s base made.
       few = c.loop-part.invariant.few;
       operation = (list_decided var (parted_uses c.args.op)).0 avoided;
     }
+
+pub returns-clause-none : goal.returns-clause-none
+returns-clause-none c = λ near s base made takes.
+    let called = shapes_of c.args.called.now in
+    let k = facts_of c.args.facts.now in
+    let p = producer_of c.args.producer.now s base made in
+    let parts = map part_term c.args.parts.now in
+    let all = subst (λ rest. Building called k p parts rest c.loop-part.plans) (rest_none c.args.parts.now c.loop-part.part-index c.loop-part-test.false) (c.loop-part.invariant.so_far s base made) in
+    unused called k p parts c.loop-part.plans all c.if-plans.false takes.selected takes.count takes.folds takes.used
