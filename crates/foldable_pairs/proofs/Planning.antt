@@ -1,16 +1,16 @@
 -- The plan of one part, and of one part more.
-use Rattle.std.proofs.Common.{◌≡◌, ◌↔◌, IsTrue, ℕ, zero, suc, ◌+◌, ◌*◌, ◌<◌, ◌≤◌, Bool, true, false, ◌||◌, nat_lt, List, [], ◌∷◌, ◌++◌, map, length, get_or, drop, refl, sym, ap, subst, ◌∙◌, arith, ℤ, Option, Some, append_assoc, append-nil}
+use Rattle.std.proofs.Common.{◌≡◌, ◌↔◌, IsTrue, ℕ, zero, suc, ◌+◌, ◌<◌, ◌≤◌, Bool, true, false, ◌||◌, nat_lt, List, [], ◌∷◌, ◌++◌, map, length, get_or, drop, refl, sym, ap, subst, ◌∙◌, arith, ℤ, Option, Some, append_assoc, append-nil}
 use Rattle.std.proofs.lemmas.Bool.Decides.{nat_tests}
 use Rattle.std.proofs.lemmas.List.{drop_more, drop_all}
 use Rattle.core_ir.specs.declared.tree.CorePart.{CorePart}
 use Rattle.core_ir.specs.View.{part_term}
 use Rattle.sac_base.specs.declared.grid.Grid1.{Grid1}
-use Rattle.core_ir.specs.Terms.{PartTerm, PartsTerm, parts_of}
+use Rattle.core_ir.specs.Terms.{PartTerm, parts_of}
 use Rattle.core_facts.specs.Facts.{Facts}
 use Rattle.core_loops.specs.Pairs.{Producer, PartFolds, PartsFold, all_moved_back, grids_of}
 use Rattle.generator_sets.specs.Counts.{IsCanonicalCount}
 use Rattle.generator_sets.proofs.CountFacts.{one_canonical}
-use Rattle.fold_pieces.specs.Cuts.{IsInside, IsCut, HasCut, HasCount}
+use Rattle.fold_pieces.specs.Cuts.{IsCut, HasCut}
 use Rattle.fold_pieces.proofs.Backward.{same_grid}
 use Rattle.foldable_pairs.specs.declared.plan.PartPlan.{PartPlan}
 use Rattle.foldable_pairs.specs.declared.plan.Planned.{Planned}

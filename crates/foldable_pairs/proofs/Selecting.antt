@@ -1,21 +1,19 @@
 -- What a walk finds of a part's selections.
-use Rattle.std.proofs.Common.{◌≡◌, ◌↔◌, IsTrue, ℕ, ◌+◌, ◌<◌, ◌≤◌, Bool, true, false, List, [], ◌∷◌, ◌++◌, map, length, drop, get_or, refl, sym, ap, ◌∙◌, inl, inr, ℤ, Option, Some, None, append_assoc, append-nil}
-use Rattle.std.specs.Prelude.{Vec, unwrap_or}
+use Rattle.std.proofs.Common.{◌≡◌, ℕ, ◌+◌, ◌<◌, ◌≤◌, Bool, true, false, List, [], ◌∷◌, ◌++◌, map, length, drop, get_or, refl, sym, ap, ◌∙◌, inl, inr, ℤ, Option, Some, None, append_assoc, append-nil}
+use Rattle.std.specs.Prelude.{Vec}
 use Rattle.std.specs.declared.alloc.Global.{Global}
 use Rattle.std.proofs.lemmas.List.{drop_more, drop_all}
 use Rattle.core_ir.specs.declared.tree.Var.{Var}
-use Rattle.core_ir.specs.Terms.{BlockTerm, PartTerm}
+use Rattle.core_ir.specs.Terms.{PartTerm}
 use Rattle.core_facts.specs.Facts.{Fact, Facts, note, shape_fact}
 use Rattle.core_loops.specs.Indices.{note_index, Plus, Other}
-use Rattle.core_loops.specs.Loops.{weight, parted_in}
-use Rattle.core_loops.specs.Pairs.{Selects}
 use Rattle.core_uses.specs.Tests.{is_avoided}
 use Rattle.core_uses.proofs.Decided.{block_decided}
 use Rattle.fold_pieces.specs.Pieces.{vectors}
 use Rattle.loop_selections.specs.Selecting.{is_selecting}
 use Rattle.loop_selections.specs.Statements.{SelectingIsDecided}
 use Rattle.loop_selections.specs.Told.{offset_told, told, known_if}
-use Rattle.foldable_pairs.specs.Selected.{part_offsets, SelectsAt, OnlySelects, FlatSelects}
+use Rattle.foldable_pairs.specs.Selected.{part_offsets, OnlySelects, FlatSelects}
 use Rattle.foldable_pairs.proofs.Avoiding.{avoids_none, none_avoids}
 
 never : {P : Type 0} (b : Bool) → b ≡ true → b ≡ false → P

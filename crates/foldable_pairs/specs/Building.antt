@@ -1,5 +1,5 @@
 -- Plans of the first parts of a consumer.
-use Rattle.std.specs.Prelude.{◌≡◌, ◌↔◌, IsTrue, ℕ, ◌+◌, ◌*◌, ◌<◌, ◌≤◌, Bool, ◌||◌, nat_lt, List, [], ◌∷◌, ◌++◌, Option}
+use Rattle.std.specs.Prelude.{◌≡◌, ◌↔◌, IsTrue, ℕ, ◌+◌, ◌*◌, ◌<◌, ◌≤◌, ◌||◌, nat_lt, List, [], ◌∷◌, ◌++◌, Option}
 use Rattle.core_ir.specs.Counts.{bindings}
 use Rattle.core_ir.specs.Terms.{BlockTerm, PartsTerm, PartTerm, parts_of}
 use Rattle.core_facts.specs.Facts.{Facts}

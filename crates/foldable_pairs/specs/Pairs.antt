@@ -1,5 +1,5 @@
 -- What a plan of a fold says.
-use Rattle.std.specs.Prelude.{◌≡◌, ℕ, ◌+◌, ◌<◌, ◌≤◌, true, List, [], ◌∷◌, map, length, replicate, pos, Option, Some}
+use Rattle.std.specs.Prelude.{◌≡◌, ℕ, ◌+◌, ◌<◌, ◌≤◌, true, List, [], ◌∷◌, length, replicate, pos, Option, Some}
 use Rattle.std.specs.List.{All}
 use Rattle.sac_base.specs.declared.base.Base.{Base}
 use Rattle.sac_base.specs.declared.grid.Grid1.{Grid1}
@@ -8,7 +8,7 @@ use Rattle.sac_base.specs.Grids.{has_vector, SplitsVectors}
 use Rattle.core_ir.specs.declared.tree.PartedOp.{PartedOp}
 use Rattle.core_ir.specs.declared.tree.Var.{Var}
 use Rattle.core_ir.specs.Scopes.{parted_uses}
-use Rattle.core_ir.specs.Terms.{BlockTerm, PartsTerm, PartTerm, parts_of}
+use Rattle.core_ir.specs.Terms.{BlockTerm, PartsTerm, PartTerm}
 use Rattle.core_ir.specs.Uses.{AvoidsAll}
 use Rattle.core_ir.specs.WellFormed.{Covered}
 use Rattle.core_facts.specs.Facts.{Facts, note, shape_fact, block_facts}

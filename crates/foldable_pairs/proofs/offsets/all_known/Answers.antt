@@ -1,4 +1,4 @@
-use Rattle.std.proofs.Common.{◌≡◌, ap, Ok}
+use Rattle.std.proofs.Common.{ap, Ok}
 use Rattle.fold_pieces.specs.Pieces.{vectors}
 use Rattle.loop_selections.specs.Told.{told}
 use Rattle.foldable_pairs.proofs.Selecting.{somes, known_turn, known_end, known_none}

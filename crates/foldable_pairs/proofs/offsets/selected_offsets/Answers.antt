@@ -1,4 +1,4 @@
-use Rattle.std.proofs.Common.{rules, ◌≡◌, ◌∙◌, List, ℤ, sym, subst}
+use Rattle.std.proofs.Common.{rules, ◌∙◌, List, ℤ, sym, subst}
 use Rattle.std.specs.Prelude.{Vec}
 use Rattle.std.specs.declared.alloc.Global.{Global}
 use Rattle.core_ir.specs.View.{part_term}

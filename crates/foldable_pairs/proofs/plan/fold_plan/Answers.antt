@@ -1,7 +1,4 @@
-use Rattle.std.proofs.Common.{rules, ◌≡◌, ◌∙◌, ◌≤◌, ap, sym, subst, refl, true, false, map, drop, length, Ok, arith, ◌+◌, ◌∷◌}
-use Rattle.sac_base.specs.declared.base.Base.{Base}
-use Rattle.sac_base.specs.declared.site.Site.{Site}
-use Rattle.core_ir.specs.declared.tree.PartedOp.{PartedOp}
+use Rattle.std.proofs.Common.{◌≡◌, ◌∙◌, ap, sym, subst, refl, true, false, map, drop, Ok, arith, ◌+◌, ◌∷◌}
 use Rattle.core_ir.specs.View.{part_term}
 use Rattle.core_ir.specs.Scopes.{parted_uses}
 use Rattle.core_uses.proofs.Decided.{list_decided}

@@ -1,17 +1,12 @@
-use Rattle.std.proofs.Common.{rules, ◌≡◌, ◌↔◌, ◌≤◌, ◌∙◌, ℕ, IsTrue, List, [], ◌∷◌, ℤ, length, suc, refl, ap, sym, subst}
+use Rattle.std.proofs.Common.{rules, ◌≡◌, ◌∙◌, List, [], ◌∷◌, ℤ, length, suc, refl, ap, sym, subst}
 use Rattle.std.specs.Prelude.{Vec}
 use Rattle.std.specs.declared.alloc.Global.{Global}
-use Rattle.sac_base.specs.declared.base.Base.{Base}
-use Rattle.sac_base.specs.declared.site.Site.{Site}
-use Rattle.core_ir.specs.declared.tree.PartedOp.{PartedOp}
 use Rattle.core_ir.specs.View.{part_term}
-use Rattle.core_loops.specs.Pairs.{PartFolds, grids_of}
+use Rattle.core_loops.specs.Pairs.{grids_of}
 use Rattle.fact_table.specs.Table.{facts_of}
 use Rattle.plain_facts.specs.Called.{shapes_of}
 use Rattle.fold_pieces.specs.Cuts.{IsDense, IsCut, HasCut}
 use Rattle.fold_pieces.specs.Pieces.{vectors, AreNear}
-use Rattle.foldable_pairs.specs.Building.{HasRoom}
-use Rattle.foldable_pairs.specs.Parts.{terms}
 use Rattle.foldable_pairs.specs.Pairs.{producer_of}
 use Rattle.foldable_pairs.specs.Selected.{OnlySelects}
 use Rattle.foldable_pairs.proofs.Planning.{no_offsets, no_room, no_cut, planned}

@@ -1,4 +1,4 @@
-use Rattle.std.proofs.Common.{◌≡◌, ◌↔◌, IsTrue, sym, subst}
+use Rattle.std.proofs.Common.{◌↔◌, IsTrue, sym, subst}
 use Rattle.std.specs.Prelude.{IfOk}
 use Rattle.core_ir.specs.Terms.{PartTerm}
 use Rattle.fact_table.specs.Table.{facts_of}

@@ -1,6 +1,5 @@
-use Rattle.std.proofs.Common.{rules, ◌≡◌, ◌-◌, ◌^◌, ◌≤◌, ◌∙◌, ap, arith}
+use Rattle.std.proofs.Common.{rules, ◌≡◌, ◌∙◌, ap, arith}
 use Rattle.std.specs.Prelude.{max}
-use Rattle.core_ir.specs.Counts.{capped}
 use Rattle.foldable_pairs.proofs.Capping.{binders_turn, binders_end}
 use Rattle.foldable_pairs.proofs.room.most_binders.Goals as goal
 

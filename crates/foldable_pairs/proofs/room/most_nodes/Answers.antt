@@ -1,6 +1,5 @@
-use Rattle.std.proofs.Common.{rules, ◌≡◌, ◌-◌, ◌^◌, ◌≤◌, ◌∙◌, ap, arith}
+use Rattle.std.proofs.Common.{rules, ◌≡◌, ◌∙◌, ap, arith}
 use Rattle.std.specs.Prelude.{max}
-use Rattle.core_ir.specs.Counts.{capped}
 use Rattle.foldable_pairs.proofs.Capping.{nodes_turn, nodes_end}
 use Rattle.foldable_pairs.proofs.room.most_nodes.Goals as goal
 
