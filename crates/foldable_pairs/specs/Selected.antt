@@ -11,7 +11,8 @@ use Rattle.core_loops.specs.Pairs.{Selects, offsets}
 -- the offsets of the selections in a part's body
 abbrev pub body_offsets : (ℕ → List (Option (List ℕ))) → Facts → Var → List Grid1 → Var → BlockTerm → List (Option (List ℤ))
 body_offsets called k p grid index b =
-    offsets called p (length grid) b (note k index (shape_fact (Some (length grid ∷ [])))) (note_index (λ x. Other) index (Plus (replicate (length grid) (pos 0))))
+    offsets called p (length grid) b (note k index (shape_fact (Some (length grid ∷ []))))
+    (note_index (λ x. Other) index (Plus (replicate (length grid) (pos 0))))
 
 abbrev pub part_offsets : (ℕ → List (Option (List ℕ))) → Facts → Var → PartTerm → List (Option (List ℤ))
 part_offsets called k p part = body_offsets called k p part.head.grid part.head.index part.body

@@ -32,7 +32,8 @@ const MOST_PIECES: usize = 64;
 /// What becomes of a part of the consumer.
 #[derive(Drop)]
 pub struct PartPlan {
-    /// Its pieces, each with the number of the producer's part for each selection, in the order of the body. A part that selects nothing is one piece.
+    /// Its pieces, each with the number of the producer's part for each selection, in the order of the body. A part that selects
+    /// nothing may stay as it is, whatever its pieces are.
     pub pieces: Vec<FoldPiece>,
     /// How many selections from the producer the body has.
     pub selected: usize,
@@ -53,9 +54,9 @@ pub struct Plans {
     is_used: bool,
 }
 
-/// The plan of a fold of a producer into a consumer of this operation and these parts: for each part its pieces. There is a plan exactly where the consumer is
-/// that of a foldable pair, so far as it can be seen at it: each of its parts uses the producer in selections alone, at its index plus numbers that stay inside of
-/// the producer's frame; the pieces are at most 64 in all, with no period above 4,096; bodies stay small enough; and some part selects.
+/// The plan of a fold of a producer into a consumer of this operation and these parts: for each part its pieces. There is a plan exactly where the
+/// consumer is that of a foldable pair, so far as it can be seen at it: each of its parts uses the producer in selections alone, at its index plus numbers
+/// that stay inside of the producer's frame; the pieces are at most 64 in all, with no period above 4,096; bodies stay small enough; and some part selects.
 ///
 /// The table has what is known of variables before the consumer, and is left as it was.
 ///
@@ -171,8 +172,8 @@ fn part_plan(
         PartPlanned (shapes_of called.now) (facts_of facts.old) (producer_of producer.now s base made) (part_term part.now) planned.plan planned.plan.selected
         planned.count)) }
     ensures none { IfOk result (λ found. IfNone found (IsNear producer.now → (s : Site) (base : Base) (made : Operation) (selected count : ℕ) → count ≤ 64 →
-        PartFolds (shapes_of called.now) (facts_of facts.old) (producer_of producer.now s base made) (part_term part.now).head (part_term part.now).body selected count
-        → ⊥)) }
+        PartFolds (shapes_of called.now) (facts_of facts.old) (producer_of producer.now s base made) (part_term part.now).head (part_term part.now).body
+        selected count → ⊥)) }
     ensures facts { OnOk result (facts.new ≡ facts.old) }
 {
     let Some(offsets) = selected_offsets(alloc, producer.var, part, called, facts)? else {
@@ -220,7 +221,8 @@ fn cut_part(
     frame: &Grid,
     grids: &[Grid],
 ) -> Result<Option<Cut>, Memory>
-    ensures cut { IfOk result (λ found. IfSome found (λ cut. IsCut frame.now (part_term part.now).head.grid grids.now (vectors offsets.now) cut.pieces.items cut.count)) }
+    ensures cut { IfOk result (λ found. IfSome found (λ cut.
+        IsCut frame.now (part_term part.now).head.grid grids.now (vectors offsets.now) cut.pieces.items cut.count)) }
     ensures none { IfOk result (λ found. IfNone found
         (IsDense frame.now → AreNear grids.now → HasCut frame.now (part_term part.now).head.grid grids.now (vectors offsets.now) → ⊥)) }
 {
