@@ -1,0 +1,9 @@
+pub mod Backward
+mod Bounds
+mod Evenness
+mod Insides
+mod Keepings
+mod Members
+mod Searching
+mod Splitting
+mod Verdict

@@ -1,0 +1,7 @@
+mod Avoiding
+mod Capping
+mod PartTrees
+mod Planning
+mod Selecting
+mod Totals
+mod Verdicts
