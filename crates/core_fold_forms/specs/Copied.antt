@@ -18,7 +18,8 @@ HasPart NoParts h b = ⊥
 HasPart (Part g c rest) h b = ((g ≡ h) × (c ≡ b)) ⊎ HasPart rest h b
 
 -- what stands for a selection is a copy of the body of a part, which binds as many variables, all new
-pub record IsCopied (p : Producer) (grid : List Grid1) (low high : ℕ) (m : IndexFacts) (xs : List Var) (r : RightTerm) (d c : BlockTerm) (t : TakenAt p grid m xs r d c) : Type 0 where
+pub record IsCopied (p : Producer) (grid : List Grid1) (low high : ℕ) (m : IndexFacts) (xs : List Var) (r : RightTerm) (d c : BlockTerm)
+    (t : TakenAt p grid m xs r d c) : Type 0 where
   pub part : HasPart p.parts t.head t.body
   pub alike : Alike t.body (chain t.lets (Gives (t.result ∷ [])))
   pub new : All (IsBetween low high) (t.own ∷ bound_in (chain t.lets (Gives (t.result ∷ []))))

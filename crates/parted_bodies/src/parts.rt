@@ -79,7 +79,8 @@ fn gap_part(
     progress: &mut Progress,
 ) -> Result<Option<CorePart>, Memory>
     ensures part { IfOk result (λ p. option_map part_term p ≡ gap_of op site grid progress.old.next) }
-    ensures next { OnOk result (progress.new ≡ record progress.old { next = progress.old.next + binds_of (option_to_list (gap_of op site grid progress.old.next)) }) }
+    ensures next { OnOk result (progress.new
+        ≡ record progress.old { next = progress.old.next + binds_of (option_to_list (gap_of op site grid progress.old.next)) }) }
 {
     match op {
         CoreOp::Genarray { default, .. } => {

@@ -15,10 +15,12 @@ use Rattle.phase_draws.specs.Reports.{AllOk, AreDone, Combine}
 
 -- The workers have left a report of each chunk, in order. Where none of them stopped, this is what all positions cost, and the first row of a fold has the
 -- values of all chunks combined.
-pub record IsEnded (cell : ℕ → CellValue) (cost : ℕ → ℕ → ℕ) (share : Share) (parts : List ChunkPart) (before after : ℕ → ℕ) (rows : List ℤ) (end : TeamEnd) : Type 0 where
+pub record IsEnded (cell : ℕ → CellValue) (cost : ℕ → ℕ → ℕ) (share : Share) (parts : List ChunkPart) (before after : ℕ → ℕ) (rows : List ℤ)
+    (end : TeamEnd) : Type 0 where
   pub order : map (λ r. r.chunk) end.reports.items ≡ counting 0 (length parts)
   pub done : AreDone cell share parts end.reports.items
-  pub told : IfOk end.held (λ held. AllOk end.reports.items → Costs cost 0 share.positions before after × Combine share.job cell share end.reports.items held rows)
+  pub told : IfOk end.held (λ held.
+      AllOk end.reports.items → Costs cost 0 share.positions before after × Combine share.job cell share end.reports.items held rows)
 
 -- The value is what it was, combined with that of the first row where there is one, and no chunk stopped. Or this is the first stop.
 abbrev pub Finishes : Op → Result (Unit {0}) Stop → Result Bool memory.Memory → List ℤ → List ℤ → List ℤ → Result (Unit {0}) Stop → Type 0

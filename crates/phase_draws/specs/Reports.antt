@@ -15,7 +15,8 @@ use Rattle.phase_team.specs.Segments.{cost_from, value_if, Same}
 
 -- each chunk has a position, and its part is as long as its positions ask
 abbrev pub PartsFit : Share → List ChunkPart → Type 0
-PartsFit share parts = (c : ℕ) (part : ChunkPart) → slice_get parts c ≡ Some part → (c * share.size < share.positions) × PartFits share.job (count_of share c * share.width) part
+PartsFit share parts =
+    (c : ℕ) (part : ChunkPart) → slice_get parts c ≡ Some part → (c * share.size < share.positions) × PartFits share.job (count_of share c * share.width) part
 
 -- a report is one of a chunk that the phase has
 abbrev pub IsReport : (ℕ → CellValue) → Share → List ChunkPart → ChunkReport → Type 0
@@ -71,7 +72,8 @@ Grew cell cost share old new before after rows result =
     (more : List ChunkReport) × (new ≡ old ++ more) × IfOk result (λ held. Told cell cost share more before after held rows)
 
 -- The same of a worker's own reports and those of others, which were put behind those that were there.
-abbrev pub GrewBoth : (ℕ → CellValue) → (ℕ → ℕ → ℕ) → Share → List ChunkReport → List ChunkReport → List ChunkReport → (ℕ → ℕ) → (ℕ → ℕ) → (ℕ → ℕ) → (ℕ → ℕ) → List ℤ
+abbrev pub GrewBoth : (ℕ → CellValue) → (ℕ → ℕ → ℕ) → Share → List ChunkReport → List ChunkReport → List ChunkReport
+    → (ℕ → ℕ) → (ℕ → ℕ) → (ℕ → ℕ) → (ℕ → ℕ) → List ℤ
     → Result Bool Memory → Type 0
 GrewBoth cell cost share mine old new kept kept' spent spent' rows result =
     (more : List ChunkReport) × (new ≡ old ++ more) × IfOk result (λ held. AllOk more → AllOk mine
