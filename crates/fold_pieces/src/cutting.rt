@@ -23,7 +23,7 @@ pub struct Cut {
 
 /// A grid, cut so that each piece, moved by any of the vectors, lies as a whole in one of some grids. There is a cut exactly where each member of the grid,
 /// moved by any vector, lies in the frame, and where the box of the grid, cut by the grid and by the grids moved back, has no period above 4,096 and a
-/// canonical count of at most 64.
+/// canonical count of at most 64. A bound of these grids that leaves 64 bits when it is moved back gives no cut, which bounds within 2^62 of 0 never do.
 ///
 /// # Errors
 ///

@@ -57,6 +57,7 @@ pub struct Plans {
 /// The plan of a fold of a producer into a consumer of this operation and these parts: for each part its pieces. There is a plan exactly where the
 /// consumer is that of a foldable pair, so far as it can be seen at it: each of its parts uses the producer in selections alone, at its index plus numbers
 /// that stay inside of the producer's frame; the pieces are at most 64 in all, with no period above 4,096; bodies stay small enough; and some part selects.
+/// A bound of the producer's grids that leaves 64 bits when it is moved back gives no plan, which bounds within 2^62 of 0 never do.
 ///
 /// The table has what is known of variables before the consumer, and is left as it was.
 ///
