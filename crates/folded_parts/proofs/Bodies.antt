@@ -1,0 +1,92 @@
+-- The bindings that stand for a selection, and the parts that are made of folded bodies.
+use Rattle.std.proofs.Common.{◌≡◌, ℕ, suc, ◌+◌, List, [], ◌∷◌, ◌++◌, map, length, refl, sym, ap, subst, ◌∙◌, append_assoc}
+use Rattle.sac_base.specs.declared.grid.Grid1.{Grid1}
+use Rattle.sac_base.specs.declared.site.Site.{Site}
+use Rattle.core_ir.specs.declared.tree.Block.{Block, out-Block}
+use Rattle.core_ir.specs.declared.tree.CorePart.{CorePart, CorePart', CorePart-F, out-CorePart, roll-CorePart, out-roll-CorePart}
+use Rattle.core_ir.specs.declared.tree.Let.{Let}
+use Rattle.core_ir.specs.declared.tree.Right.TheBlock.{the_data, the_data-1, the_data-2, the_data-3, the_data-4, the_data-5, the_data-6}
+use Rattle.core_ir.specs.declared.tree.Var.{Var}
+use Rattle.core_ir.specs.Binders.{bound_in}
+use Rattle.core_ir.specs.Terms.{PlainTerm, BlockTerm, LetTerm, PartTerm, Gives, Bind, Plain, chain}
+use Rattle.core_ir.specs.View.{block_term, let_term, part_term}
+use Rattle.core_ir.proofs.Trees.{block_out}
+use Rattle.core_copy.specs.Mapped.{mapped}
+use Rattle.core_inlining.specs.Inlined.{bindings, results}
+use Rattle.core_subst.specs.Names.{variable}
+use Rattle.parted_bodies.specs.Numbering.{named, numbered}
+use Rattle.folded_parts.specs.Folding.{BlockFolded, copied, last_copy, taken}
+use Rattle.folded_parts.specs.Making.{PieceMade}
+use Rattle.folded_parts.proofs.Turns.{map_both}
+
+-- ---- parts by their fields
+
+abbrev pub shown_part : CorePart-F the_data the_data-1 the_data-2 the_data-3 the_data-4 the_data-5 the_data-6 → PartTerm
+shown_part x = record { head = record { grid = x.grid; index = x.index; site = x.site }; body = block_term x.body }
+
+pub part_out : (p : CorePart) → part_term p ≡ shown_part (out-CorePart p)
+unfolding out-CorePart denote.Hole.Carrier.out
+part_out (CorePart' a b c d) = refl
+
+pub part_roll : (x : CorePart-F the_data the_data-1 the_data-2 the_data-3 the_data-4 the_data-5 the_data-6) → part_term (roll-CorePart x) ≡ shown_part x
+part_roll x = part_out (roll-CorePart x) ∙ ap shown_part (out-roll-CorePart x)
+
+-- ---- blocks by their bindings
+
+chain_bindings : (ls : List LetTerm) (rs : List Var) → bindings (chain ls (Gives rs)) ≡ ls
+chain_bindings [] rs = refl
+chain_bindings (l ∷ ls) rs = ap (λ ks. l ∷ ks) (chain_bindings ls rs)
+
+chain_results : (ls : List LetTerm) (rs : List Var) → results (chain ls (Gives rs)) ≡ rs
+chain_results [] rs = refl
+chain_results (l ∷ ls) rs = chain_results ls rs
+
+-- ---- copies
+
+-- the names after both steps
+names_made : (f0 f1 f2 : Var → Var) (x index : Var) (bound : List Var) (m : ℕ) → ((z : Var) → f0 z ≡ z) → ((z : Var) → f1 z ≡ named f0 x index z) → ((z : Var) → f2 z ≡ numbered f1 bound m z) →
+    f2 ≡ numbered (named (λ w. w) x index) bound m
+names_made f0 f1 f2 x index bound m e0 e1 e2 =
+    let p1 : f1 ≡ named (λ w. w) x index = λ i z. (e1 z ∙ (λ j. named (λ w. e0 w j) x index z)) i in
+    λ i z. (e2 z ∙ (λ j. numbered (p1 j) bound m z)) i
+
+pub copy_made : (x : Var) (old new : BlockTerm) (n m : ℕ) (index : Var) (bound : List Var) (f0 f1 f2 : Var → Var) → ((z : Var) → f0 z ≡ z) → ((z : Var) → f1 z ≡ named f0 x index z) → ((z : Var) → f2 z ≡ numbered f1 bound m z) →
+    bound ≡ bound_in old → new ≡ mapped f2 old → index ≡ variable n → m ≡ suc n → new ≡ mapped (numbered (named (λ w. w) x (variable n)) (bound_in old) (suc n)) old
+copy_made x old new n m index bound f0 f1 f2 e0 e1 e2 eb en ei em =
+    en ∙ (λ j. mapped (names_made f0 f1 f2 x index bound m e0 e1 e2 j) old) ∙ (λ j. mapped (numbered (named (λ w. w) x (ei j)) (eb j) (em j)) old)
+
+-- the index, the bindings of the copy, and the target
+pub taken_made :
+    (part : CorePart) (index : Var) (targets : List Var) (site : Site) (n : ℕ) (own : Var) (block : Block) (before first second last : List Let) (l : Let) → block_term block ≡ copied (part_term part) n → own ≡ variable n →
+    let_term l ≡ record { targets = own ∷ []; site = site; right = Plain (PlainTerm.Copy index) } → first ≡ before ++ (l ∷ []) → second ≡ first ++ (out-Block block).lets.items →
+    map let_term last ≡ map let_term second ++ last_copy targets (out-Block block).results.items site → map let_term last ≡ map let_term before ++ taken (part_term part) index targets site n
+taken_made part index targets site n own block before first second last l eb eo el e1 e2 e3 =
+    let inner = (out-Block block).lets.items in
+    let rs = (out-Block block).results.items in
+    let ends = last_copy targets rs site in
+    let whole : map let_term second ≡ (map let_term before ++ (let_term l ∷ [])) ++ map let_term inner =
+    ap (map let_term) e2 ∙ map_both let_term first inner ∙ (λ i. (ap (map let_term) e1 ∙ map_both let_term before (l ∷ [])) i ++ map let_term inner) in
+    let lets : map let_term inner ≡ bindings (copied (part_term part) n) = sym (ap bindings (block_out block) ∙ chain_bindings (map let_term inner) rs) ∙ ap bindings eb in
+    let gives : rs ≡ results (copied (part_term part) n) = sym (ap results (block_out block) ∙ chain_results (map let_term inner) rs) ∙ ap results eb in
+    e3 ∙ (λ i. whole i ++ ends)
+    ∙ append_assoc (map let_term before ++ (let_term l ∷ [])) (map let_term inner) ends
+    ∙ append_assoc (map let_term before) (let_term l ∷ []) (map let_term inner ++ ends)
+    ∙ (λ i. map let_term before ++ (el i ∷ (lets i ++ last_copy targets (gives i) site)))
+    ∙ (λ i. map let_term before ++ (record { targets = eo i ∷ []; site = site; right = Plain (PlainTerm.Copy index) } ∷ (bindings (copied (part_term part) n) ++ last_copy targets (results (copied (part_term part) n)) site)))
+
+-- the part of a piece
+pub piece_made :
+    (p : Var) (parts : List PartTerm) (holders : List ℕ) (old : CorePart) (grid : List Grid1) (n : ℕ) (x : CorePart-F the_data the_data-1 the_data-2 the_data-3 the_data-4 the_data-5 the_data-6) (body : BlockTerm) (passed next after : ℕ) →
+    BlockFolded p parts holders 0 n (block_term (out-CorePart old).body) body passed next → x.grid ≡ grid → x.index ≡ variable next → x.site ≡ (out-CorePart old).site →
+    block_term x.body ≡ mapped (numbered (named (λ w. w) (out-CorePart old).index (variable next)) (bound_in body) (suc next)) body → after ≡ suc next + length (bound_in body) →
+    PieceMade p parts holders (part_term old) grid n (part_term (roll-CorePart x)) after
+piece_made p parts holders old grid n x body passed next after f eg ei es eb ea =
+    subst (λ (t : PartTerm). PieceMade p parts holders t grid n (part_term (roll-CorePart x)) after) (sym (part_out old))
+    (record {
+      body = body;
+      passed = passed;
+      next = next;
+      folded = f;
+      made = part_roll x ∙ (λ i. record { head = record { grid = eg i; index = ei i; site = es i }; body = eb i });
+      up_to = ea;
+    })
