@@ -25,8 +25,8 @@ fold_block-returns t c =
     block_folded s.producer (map part_term s.parts.now) s.holders.now c.args.passed.now c.args.progress.now.next c.loop-binding.passed c.loop-binding.progress.next _ _ c.loop-binding.binding-iterator.rest.items c.args.block c.loop-binding.invariant
     none c.into_iter-binding-iterator.ensures.into_iter_gives.0 refl
 
-pub fold_binding-returns-in-Some : goal.fold_binding-returns-in-Some
-fold_binding-returns-in-Some t c =
+pub fold_binding-returns-in_ok-push_taken-in-Some : goal.fold_binding-returns-in_ok-push_taken-in-Some
+fold_binding-returns-in_ok-push_taken-in-Some t c =
     let s = c.args.source.now in
     let b = c.args.binding in
     let p = c.args.progress.now in (
@@ -36,15 +36,15 @@ fold_binding-returns-in-Some t c =
           (omega arith) (ap (λ (q : Progress). q.next) c.in_ok-push_taken-in-Some.ensures.next) c.in-Some.ensures.some.0),
     )
 
-pub fold_binding-returns : goal.fold_binding-returns
-fold_binding-returns t c =
+pub fold_binding-returns-in_ok-push_kept-in-None : goal.fold_binding-returns-in_ok-push_kept-in-None
+fold_binding-returns-in_ok-push_kept-in-None t c =
     let s = c.args.source.now in
     let b = c.args.binding in
-    let l : LetTerm = record { targets = b.targets.items; site = b.site; right = right_term c.in_ok-right.right } in (
+    let l : LetTerm = record { targets = b.targets.items; site = b.site; right = right_term c.in_ok-right-in-None.right } in (
       l ∷ [],
-      (ap (map let_term) c.in_ok-push.ensures.items ∙ map_snoc let_term c.args.folded.now.items _,
+      (c.in_ok-push_kept-in-None.ensures,
       let_kept s.producer (map part_term s.parts.now) s.holders.now c.args.passed.now c.args.progress.now.next c.fold_right.new.passed c.fold_right.new.progress.next (let_term b) l refl refl c.in-None.ensures.none
-          c.in_ok-right.ensures),
+          c.in_ok-right-in-None.ensures),
     )
 
 pub fold_right-returns-in_ok-no-in-If : goal.fold_right-returns-in_ok-no-in-If
