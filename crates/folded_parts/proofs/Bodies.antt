@@ -8,7 +8,7 @@ use Rattle.core_ir.specs.declared.tree.Let.{Let}
 use Rattle.core_ir.specs.declared.tree.Right.TheBlock.{the_data, the_data-1, the_data-2, the_data-3, the_data-4, the_data-5, the_data-6}
 use Rattle.core_ir.specs.declared.tree.Var.{Var}
 use Rattle.core_ir.specs.Binders.{bound_in}
-use Rattle.core_ir.specs.Terms.{PlainTerm, BlockTerm, LetTerm, PartTerm, Gives, Bind, Plain, chain}
+use Rattle.core_ir.specs.Terms.{PlainTerm, BlockTerm, LetTerm, PartTerm, Gives, Plain, chain}
 use Rattle.core_ir.specs.View.{block_term, let_term, part_term}
 use Rattle.core_ir.proofs.Trees.{block_out}
 use Rattle.core_copy.specs.Mapped.{mapped}

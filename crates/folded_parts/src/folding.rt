@@ -111,12 +111,7 @@ fn fold_right(
     }
 }
 
-fn push_kept(
-    targets: Vec<Var>,
-    site: Site,
-    right: Right,
-    lets: &mut Vec<Let>,
-) -> Result<(), Memory>
+fn push_kept(targets: Vec<Var>, site: Site, right: Right, lets: &mut Vec<Let>) -> Result<(), Memory>
     ensures { OnOk result (map let_term lets.new.items ≡ map let_term lets.old.items
         ++ (record { targets = targets.items; site = site; right = right_term right } ∷ [])) }
 {

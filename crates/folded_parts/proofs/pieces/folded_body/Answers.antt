@@ -1,4 +1,4 @@
-use Rattle.std.proofs.Common.{◌≡◌, map, subst}
+use Rattle.std.proofs.Common.{map, subst}
 use Rattle.core_ir.specs.Terms.{BlockTerm}
 use Rattle.core_ir.specs.View.{block_term, part_term}
 use Rattle.folded_parts.specs.Folding.{BlockFolded}

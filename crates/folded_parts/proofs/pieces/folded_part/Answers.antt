@@ -1,4 +1,4 @@
-use Rattle.std.proofs.Common.{◌≡◌, map, ap}
+use Rattle.std.proofs.Common.{map, ap}
 use Rattle.core_ir.specs.View.{block_term, part_term}
 use Rattle.parted_bodies.specs.declared.names.Progress.{Progress}
 use Rattle.folded_parts.proofs.Bodies.{piece_made}

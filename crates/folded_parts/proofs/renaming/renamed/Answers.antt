@@ -1,4 +1,4 @@
-use Rattle.std.proofs.Common.{◌≡◌, ◌+◌, ◌∙◌, length}
+use Rattle.std.proofs.Common.{◌+◌, ◌∙◌, length}
 use Rattle.core_ir.specs.View.{block_term}
 use Rattle.parted_bodies.specs.Numbering.{named_in, numbered}
 use Rattle.folded_parts.proofs.Bodies.{renamed_made}

@@ -1,4 +1,4 @@
-use Rattle.std.proofs.Common.{◌≡◌, ◌++◌, ◌∙◌, map, ap}
+use Rattle.std.proofs.Common.{◌++◌, ◌∙◌, map, ap}
 use Rattle.core_ir.specs.View.{block_term, let_term}
 use Rattle.parted_bodies.specs.declared.names.Progress.{Progress}
 use Rattle.folded_parts.specs.Folding.{last_copy}
