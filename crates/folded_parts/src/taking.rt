@@ -66,7 +66,8 @@ pub fn push_taken(
     lets: &mut Vec<Let>,
     progress: &mut Progress,
 ) -> Result<(), Memory>
-    ensures lets { OnOk result (map let_term lets.new.items ≡ map let_term lets.old.items ++ taken (part_term part.now) index targets.now site progress.old.next) }
+    ensures lets { OnOk result (map let_term lets.new.items
+        ≡ map let_term lets.old.items ++ taken (part_term part.now) index targets.now site progress.old.next) }
     ensures next { OnOk result (progress.new ≡ record progress.old { next = progress.old.next + copy_binds (part_term part.now) }) }
 {
     let own = progress.take()?;
