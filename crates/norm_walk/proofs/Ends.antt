@@ -1,19 +1,34 @@
 -- Generators, parts and right sides by their fields, after a walk.
-use Rattle.std.proofs.Common.{◌≡◌, ℕ, List, [], ◌∷◌, map, Option, refl, sym, ap, subst, ◌∙◌}
-use Rattle.std.specs.Prelude.{Result, Ok, Err, IfOk}
+use Rattle.std.proofs.Common.{◌≡◌, ℕ, suc, ◌+◌, ◌<◌, Bool, true, false, cond, nat_lt, List, [], ◌∷◌, map, Option, Some, None, refl, sym, ap, subst, ◌∙◌}
+use Rattle.std.specs.Prelude.{Result, Ok, Err, IfOk, OnOk}
+use Rattle.std.proofs.lemmas.Bool.{ltb-true, lt-ltb}
+use Rattle.std.proofs.lemmas.Option.{none-some}
 use Rattle.sac_base.specs.declared.base.Base.{Base}
+use Rattle.sac_base.specs.declared.memory.Memory.{Memory}
 use Rattle.sac_base.specs.declared.site.Site.{Site}
+use Rattle.std.specs.Prelude.{Vec}
+use Rattle.std.specs.declared.alloc.Global.{Global}
 use Rattle.core_ir.specs.declared.tree.Var.{Var}
 use Rattle.core_ir.specs.declared.tree.Block.{Block}
 use Rattle.core_ir.specs.declared.tree.CoreGen.{CoreGen, CoreGen', CoreGen-F, out-CoreGen, roll-CoreGen, out-roll-CoreGen}
 use Rattle.core_ir.specs.declared.tree.CorePart.{CorePart, CorePart', CorePart-F, out-CorePart, roll-CorePart, out-roll-CorePart}
+use Rattle.core_ir.specs.declared.tree.CoreOp.{CoreOp}
+use Rattle.core_ir.specs.declared.tree.PartedOp.{PartedOp}
+use Rattle.core_ir.specs.declared.tree.WithLoop.{WithLoop, out-WithLoop}
+use Rattle.core_ir.specs.declared.tree.PartedLoop.{PartedLoop, PartedLoop-F, out-PartedLoop, roll-PartedLoop}
 use Rattle.core_ir.specs.declared.tree.Right.TheBlock.{the_data, the_data-1, the_data-2, the_data-3, the_data-4, the_data-5, the_data-6}
-use Rattle.core_ir.specs.Terms.{RightTerm, GenTerm, PartTerm}
-use Rattle.core_ir.specs.View.{block_term, gen_term, part_term, right_term}
-use Rattle.core_facts.specs.Facts.{Facts, note_all, in_part}
+use Rattle.core_ir.specs.Terms.{RightTerm, GensTerm, GenTerm, PartTerm, With, Parted, gens_of, parts_of}
+use Rattle.core_ir.specs.View.{block_term, gen_term, part_term, right_term, with_term, parted_term}
+use Rattle.core_ir.proofs.Trees.{with_out, parted_out, parted_roll}
+use Rattle.core_facts.specs.Facts.{Fact, Facts, note_all, in_part, right_facts, shape_fact, known_shape, parted_shape}
+use Rattle.fact_table.specs.Table.{fact_of}
+use Rattle.partable_loops.specs.Planned.{IsPlannable, PlanFits}
+use Rattle.partable_loops.specs.declared.planning.PartPlan.{PartPlan}
 use Rattle.parted_bodies.specs.declared.names.Progress.{Progress}
+use Rattle.parted_bodies.specs.Making.{base_var, binds_of, made_parts, parted_op}
 use Rattle.norm_walk.specs.declared.known.KnownRight.{KnownRight}
-use Rattle.norm_walk.specs.Replacing.{BlockWalked, GenWalked, PartWalked}
+use Rattle.norm_walk.specs.Replacing.{BlockWalked, RightWalked, LetWalked, GensWalked, GenWalked, PartWalked, WithWalked, IsKnownAnywhere, IsLeft, IsPlanned, old_base}
+use Rattle.norm_walk.proofs.Walking.{PartsGoing, parts_done, with_walked, left_walked, replaced_walked}
 
 abbrev shown_gen : CoreGen-F the_data the_data-1 the_data-2 the_data-3 the_data-4 the_data-5 the_data-6 → GenTerm
 shown_gen x = record {
@@ -50,7 +65,82 @@ module _ (called : ℕ → List (Option (List ℕ))) (bases : Var → Option Bas
       subst (λ (t : PartTerm). PartWalked called bases first k p q t (part_term (roll-CorePart (record (out-CorePart g) { body = b })))) (sym (part_out g))
       (subst (λ (t : PartTerm). PartWalked called bases first k p q (shown_part (out-CorePart g)) t) (sym (part_roll (record (out-CorePart g) { body = b }))) (record { head = refl; body = w }))
 
--- what holds of a right side holds of a result that has it
-pub ok_moved : {E : Type 0} (result : Result KnownRight E) (t : RightTerm) (P : RightTerm → Type 0) → IfOk result (λ (new : KnownRight). right_term new.right ≡ t) → P t → IfOk result (λ (new : KnownRight). P (right_term new.right))
-ok_moved (Ok new) t P e h = subst P (sym e) h
-ok_moved (Err e) t P f h = tt
+  pub let_end : (k : Facts) (p q : Progress) (xs : List Var) (s : Site) (r t : RightTerm) → RightWalked called bases first k p q s r t → LetWalked called bases first k p q (record { targets = xs; site = s; right = r }) (record { targets = xs; site = s; right = t })
+  let_end k p q xs s r t u = record { walked = λ rest. u.walked xs rest; none = u.none }
+
+  -- the generators of a with-loop were walked through, and then it was looked at itself
+  pub with_end : (k k' : Facts) (p q r : Progress) (s : Site) (w : WithLoop) (gens : List CoreGen) (new : Result KnownRight Memory) → k' ≡ k → GensWalked called bases first k p q (gens_of (map gen_term (out-WithLoop w).gens.items)) (gens_of (map gen_term gens)) → IfOk new (λ (n : KnownRight). WithWalked called bases first k' q r s (out-WithLoop w).op (gens_of (map gen_term gens)) (right_term n.right))
+      → IfOk new (λ (n : KnownRight). RightWalked called bases first k p r s (with_term w) (right_term n.right))
+  with_end k k' p q r s w gens (Ok n) e u v =
+      subst (λ (t : RightTerm). RightWalked called bases first k p r s t (right_term n.right)) (sym (with_out w))
+      (with_walked called bases first k p q r s (out-WithLoop w).op (gens_of (map gen_term (out-WithLoop w).gens.items)) (gens_of (map gen_term gens)) (right_term n.right) u
+      (subst (λ (f : Facts). WithWalked called bases first f q r s (out-WithLoop w).op (gens_of (map gen_term gens)) (right_term n.right)) e v))
+  with_end k k' p q r s w gens (Err m) e u v = tt
+
+  -- the parts of a parted loop were walked through
+  pub parted_end : (k : Facts) (p q : Progress) (new : Result KnownRight Memory) (all rest : List CorePart) (parts : Vec CorePart Global) (w : PartedLoop) → IfOk new (λ (n : KnownRight). right_term n.right ≡ parted_term (roll-PartedLoop (record (out-PartedLoop w) { parts = parts }))) → PartsGoing called bases first k p all q parts.items rest → rest ≡ [] → all ≡ (out-PartedLoop w).parts.items
+      → IfOk new (λ (n : KnownRight). (s : Site) → RightWalked called bases first k p q s (parted_term w) (right_term n.right))
+  parted_end k p q (Ok n) all rest parts w h v r a = λ s.
+      let o = out-PartedLoop w in
+      let old : Parted o.frame o.base o.cell o.op (parts_of (map part_term all)) ≡ parted_term w = (λ i. Parted o.frame o.base o.cell o.op (parts_of (map part_term (a i)))) ∙ sym (parted_out w) in
+      let now : Parted o.frame o.base o.cell o.op (parts_of (map part_term parts.items)) ≡ right_term n.right = sym (h ∙ parted_roll (record o { parts = parts })) in
+      subst (λ (t : RightTerm). RightWalked called bases first k p q s t (right_term n.right)) old
+      (subst (λ (t : RightTerm). RightWalked called bases first k p q s (Parted o.frame o.base o.cell o.op (parts_of (map part_term all))) t) now
+      (parts_done called bases first k p q s all parts.items rest o.frame o.base o.cell o.op v r))
+  parted_end k p q (Err m) all rest parts w h v r a = tt
+
+  -- ---- the with-loop itself
+
+  base_left : (op : CoreOp) → old_base bases first op ≡ None → (b : Base) → bases (base_var op) ≡ Some b → (base_var op).0 < first → ⊥
+  base_left op none b known old = none-some b (sym none ∙ ap (λ (t : Bool). cond t (bases (base_var op)) None) (lt-ltb (base_var op).0 first old) ∙ known)
+
+  -- the base of no old variable
+  pub left_new : (k : Facts) (above : ℕ) (op : CoreOp) (gens : GensTerm) → old_base bases first op ≡ None → (s : Site) → IsLeft bases first above k s op gens
+  left_new k above op gens none s b known old plan = base_left op none b known old
+
+  pub left_refused : (k : Facts) (above : ℕ) (op : CoreOp) (gens : GensTerm) → ((s : Site) → IsPlannable k above s op gens → ⊥) → (s : Site) → IsLeft bases first above k s op gens
+  left_refused k above op gens refused s b known old plan = refused s plan
+
+  old_known : (op : CoreOp) (base : Base) → old_base bases first op ≡ Some base → (bases (base_var op) ≡ Some base) × ((base_var op).0 < first)
+  old_known op base e = chosen (nat_lt (base_var op).0 first) refl e
+    where
+      chosen : (t : Bool) → nat_lt (base_var op).0 first ≡ t → cond t (bases (base_var op)) None ≡ Some base → (bases (base_var op) ≡ Some base) × ((base_var op).0 < first)
+      chosen true lower is = (is, ltb-true (base_var op).0 first lower)
+      chosen false lower is = absurd (none-some base is)
+
+  pub planned : (k : Facts) (above : ℕ) (op : CoreOp) (gens : GensTerm) (base : Base) (plan : PartPlan) → old_base bases first op ≡ Some base → ((s : Site) (b : Base) → PlanFits k above s op gens b plan) → IsPlanned bases first k above op gens base plan
+  planned k above op gens base plan e fits = let w = old_known op base e in record { fits = fits; known = w.0; old = w.1 }
+
+  pub unchanged_end : (k : Facts) (p : Progress) (s : Site) (op : CoreOp) (gens : GensTerm) (new : Result KnownRight Memory) → IfOk new (λ (n : KnownRight). right_term n.right ≡ With op gens) → ((s : Site) → IsLeft bases first p.next k s op gens) → IfOk new (λ (n : KnownRight). WithWalked called bases first k p p s op gens (right_term n.right))
+  unchanged_end k p s op gens (Ok n) e left = left_walked called bases first k p s op gens (right_term n.right) e (left s)
+  unchanged_end k p s op gens (Err m) e left = tt
+
+  pub replaced_end : (k : Facts) (p q : Progress) (s : Site) (op : CoreOp) (gens : List GenTerm) (base : Base) (plan : PartPlan) (new : Result KnownRight Memory) → IsPlanned bases first k p.next op (gens_of gens) base plan → IfOk new (λ (n : KnownRight). right_term n.right ≡ Parted plan.frame base plan.cell (parted_op op) (parts_of (made_parts op s gens plan.parts.items p.next)))
+      → OnOk new (q ≡ record { next = p.next + binds_of (made_parts op s gens plan.parts.items p.next); replaced = suc p.replaced })
+      → IfOk new (λ (n : KnownRight). WithWalked called bases first k p q s op (gens_of gens) (right_term n.right))
+  replaced_end k p q s op gens base plan (Ok n) w made after = replaced_walked called bases first k p q s op gens (right_term n.right) (record { plan = plan; fits = w.fits s; base = base; known = w.known; old = w.old; made = made; after = after })
+  replaced_end k p q s op gens base plan (Err m) w made after = tt
+
+  -- the same of generators that were lent out twice
+  pub replaced_lent : (k : Facts) (p q : Progress) (s : Site) (op : CoreOp) (gens once twice : List CoreGen) (base : Base) (plan : PartPlan) (new : Result KnownRight Memory) → once ≡ gens → twice ≡ gens → IsPlanned bases first k p.next op (gens_of (map gen_term once)) base plan
+      → IfOk new (λ (n : KnownRight). right_term n.right ≡ Parted plan.frame base plan.cell (parted_op op) (parts_of (made_parts op s (map gen_term twice) plan.parts.items p.next)))
+      → OnOk new (q ≡ record { next = p.next + binds_of (made_parts op s (map gen_term twice) plan.parts.items p.next); replaced = suc p.replaced })
+      → IfOk new (λ (n : KnownRight). WithWalked called bases first k p q s op (gens_of (map gen_term gens)) (right_term n.right))
+  replaced_lent k p q s op gens once twice base plan new e f w made after =
+      let seen = subst (λ (gs : List CoreGen). IsPlanned bases first k p.next op (gens_of (map gen_term gs)) base plan) e w in
+      let right = subst (λ (gs : List CoreGen). IfOk new (λ (n : KnownRight). right_term n.right ≡ Parted plan.frame base plan.cell (parted_op op) (parts_of (made_parts op s (map gen_term gs) plan.parts.items p.next)))) f made in
+      let next = subst (λ (gs : List CoreGen). OnOk new (q ≡ record { next = p.next + binds_of (made_parts op s (map gen_term gs) plan.parts.items p.next); replaced = suc p.replaced })) f after in
+      replaced_end k p q s op (map gen_term gens) base plan new seen right next
+
+-- what is known anywhere is known where the right side stands
+pub known_here : (new : Result KnownRight Memory) (called : ℕ → List (Option (List ℕ))) (k : Facts) → IfOk new (λ (n : KnownRight). IsKnownAnywhere (right_term n.right) (map fact_of n.values.items)) → IfOk new (λ (n : KnownRight). map fact_of n.values.items ≡ right_facts called (right_term n.right) k)
+known_here (Ok n) called k h = h called k
+known_here (Err m) called k h = tt
+
+pub parted_known : (new : Result KnownRight Memory) (w : PartedLoop) (known : Fact) → IfOk new (λ (n : KnownRight). right_term n.right ≡ parted_term w) → IfOk new (λ (n : KnownRight). map fact_of n.values.items ≡ known ∷ []) → known ≡ shape_fact (known_shape (parted_shape (out-PartedLoop w).frame (out-PartedLoop w).cell (out-PartedLoop w).op)) → IfOk new (λ (n : KnownRight). IsKnownAnywhere (right_term n.right) (map fact_of n.values.items))
+parted_known (Ok n) w known h q e = λ called k. q ∙ ap (λ f. f ∷ []) e ∙ ap (λ t. right_facts called t k) (sym (parted_out w)) ∙ ap (λ t. right_facts called t k) (sym h)
+parted_known (Err m) w known h q e = tt
+
+pub parted_made : (new : Result KnownRight Memory) (x : PartedLoop-F the_data the_data-1 the_data-2 the_data-3 the_data-4 the_data-5 the_data-6) (parts : List PartTerm) (op : PartedOp) → IfOk new (λ (n : KnownRight). right_term n.right ≡ parted_term (roll-PartedLoop x)) → map part_term x.parts.items ≡ parts → x.op ≡ op → IfOk new (λ (n : KnownRight). right_term n.right ≡ Parted x.frame x.base x.cell op (parts_of parts))
+parted_made (Ok n) x parts op h e o = h ∙ parted_roll x ∙ (λ i. Parted x.frame x.base x.cell (o i) (parts_of (e i)))
+parted_made (Err m) x parts op h e o = tt
