@@ -203,21 +203,33 @@ fn norm_gen(
         progress.old progress.new (gen_term generator) (gen_term new)) }
     ensures table { OnOk result (table.new ≡ table.old) }
 {
+    let CoreGen {
+        lower,
+        lower_closed,
+        upper,
+        upper_closed,
+        step,
+        width,
+        index,
+        names,
+        body,
+        site,
+    } = generator;
     let outer = table.mark();
-    forget_index(alloc, table, generator.index, &generator.names)?;
-    let body = norm_block(alloc, generator.body, given, table, progress)?;
+    forget_index(alloc, table, index, &names)?;
+    let body = norm_block(alloc, body, given, table, progress)?;
     table.undo(outer);
     Ok(CoreGen {
-        lower: generator.lower,
-        lower_closed: generator.lower_closed,
-        upper: generator.upper,
-        upper_closed: generator.upper_closed,
-        step: generator.step,
-        width: generator.width,
-        index: generator.index,
-        names: generator.names,
+        lower,
+        lower_closed,
+        upper,
+        upper_closed,
+        step,
+        width,
+        index,
+        names,
         body: body.block,
-        site: generator.site,
+        site,
     })
 }
 
@@ -269,14 +281,20 @@ fn norm_part(
         progress.old progress.new (part_term part) (part_term new)) }
     ensures table { OnOk result (table.new ≡ table.old) }
 {
+    let CorePart {
+        grid,
+        index,
+        body,
+        site,
+    } = part;
     let outer = table.mark();
-    learn_index(alloc, table, part.index, &part.grid)?;
-    let body = norm_block(alloc, part.body, given, table, progress)?;
+    learn_index(alloc, table, index, &grid)?;
+    let body = norm_block(alloc, body, given, table, progress)?;
     table.undo(outer);
     Ok(CorePart {
-        grid: part.grid,
-        index: part.index,
+        grid,
+        index,
         body: body.block,
-        site: part.site,
+        site,
     })
 }
