@@ -1,0 +1,123 @@
+-- With-loops that become parted loops on one walk over a block.
+use Rattle.std.specs.Prelude.{◌≡◌, ℕ, suc, ◌+◌, ◌<◌, nat_lt, if◌then◌else◌, List, [], ◌∷◌, Option, Some, None}
+use Rattle.sac_base.specs.declared.base.Base.{Base}
+use Rattle.sac_base.specs.declared.site.Site.{Site}
+use Rattle.core_ir.specs.declared.tree.Var.{Var}
+use Rattle.core_ir.specs.declared.tree.CoreOp.{CoreOp}
+use Rattle.core_ir.specs.Edits.{Edited}
+use Rattle.core_ir.specs.Terms.{BlockTerm, RightTerm, GensTerm, PartsTerm, LetTerm, GenTerm, PartTerm}
+use Rattle.core_ir.specs.Terms.{Gives, Bind, Plain, With, Parted, NoGens, Gen, NoParts, Part, gens_of, parts_of}
+use Rattle.core_facts.specs.Facts.{Fact, Facts, note_all, right_facts, in_part}
+use Rattle.core_loops.specs.Steps.{fact_ways}
+use Rattle.partable_loops.specs.Planned.{IsPlannable, PlanFits}
+use Rattle.partable_loops.specs.declared.planning.PartPlan.{PartPlan}
+use Rattle.parted_bodies.specs.declared.names.Progress.{Progress}
+use Rattle.parted_bodies.specs.Making.{base_var, binds_of, made_parts, parted_op}
+
+-- ---- one with-loop
+
+-- a with-loop of which nothing is left to do: its base is not known, or it cannot become a parted loop
+abbrev pub IsLeft : (Var → Option Base) → ℕ → ℕ → Facts → Site → CoreOp → GensTerm → Type 0
+IsLeft bases first above k s op gens =
+    (base : Base) → bases (base_var op) ≡ Some base → (base_var op).0 < first → IsPlannable k above s op gens → ⊥
+
+module _ (bases : Var → Option Base) (first : ℕ) where
+  -- the base of a with-loop, if it is that of a variable of the function where the walk began
+  abbrev pub old_base : CoreOp → Option Base
+  old_base op = if nat_lt (base_var op).0 first then bases (base_var op) else None
+
+  -- a plan that fits, and the base of such a variable
+  pub record IsPlanned (k : Facts) (above : ℕ) (op : CoreOp) (gens : GensTerm) (base : Base) (plan : PartPlan) : Type 0 where
+    pub fits : (s : Site) (b : Base) → PlanFits k above s op gens b plan
+    pub known : bases (base_var op) ≡ Some base
+    pub old : (base_var op).0 < first
+
+  -- the parted loop of a plan, whose variables have the next numbers
+  pub record ReplacedAt (p q : Progress) (k : Facts) (s : Site) (op : CoreOp) (gens : List GenTerm) (right : RightTerm) : Type 0 where
+    pub plan : PartPlan
+    pub fits : (base : Base) → PlanFits k p.next s op (gens_of gens) base plan
+    pub base : Base
+    pub known : bases (base_var op) ≡ Some base
+    pub old : (base_var op).0 < first
+    pub made : right ≡ Parted plan.frame base plan.cell (parted_op op) (parts_of (made_parts op s gens plan.parts.items p.next))
+    pub after : q ≡ record { next = p.next + binds_of (made_parts op s gens plan.parts.items p.next); replaced = suc p.replaced }
+
+  pub record ReplacedHere (p q : Progress) (k : Facts) (b c : BlockTerm) : Type 0 where
+    pub targets : List Var
+    pub site : Site
+    pub op : CoreOp
+    pub gens : List GenTerm
+    pub right : RightTerm
+    pub rest : BlockTerm
+    pub at : ReplacedAt p q k site op gens right
+    pub before : b ≡ Bind targets site (With op (gens_of gens)) rest
+    pub now : c ≡ Bind targets site right rest
+
+-- what is known of the values of a right side wherever it stands
+abbrev pub IsKnownAnywhere : RightTerm → List Fact → Type 0
+IsKnownAnywhere r facts = (called : ℕ → List (Option (List ℕ))) (k : Facts) → facts ≡ right_facts called r k
+
+-- ---- all with-loops of a term
+
+-- each with-loop of the term, by what is known where it stands
+module _ (called : ℕ → List (Option (List ℕ))) (P : Facts → Site → CoreOp → GensTerm → Type 0) where
+  abbrev mutual
+    pub EachWith : BlockTerm → Facts → Type 0
+    EachWith (Gives xs) k = Unit {0}
+    EachWith (Bind xs s r b) k = EachWithRight s r k × EachWith b (note_all k xs (right_facts called r k))
+
+    pub EachWithRight : Site → RightTerm → Facts → Type 0
+    EachWithRight s (Plain p) k = Unit {0}
+    EachWithRight s (RightTerm.If x a b) k = EachWith a k × EachWith b k
+    EachWithRight s (RightTerm.Loop first start params test body t) k = EachWith test (note_all k params []) × EachWith body (note_all k params [])
+    EachWithRight s (RightTerm.Call g xs) k = Unit {0}
+    EachWithRight s (RightTerm.With o gens) k = P k s o gens × EachWithGens gens k
+    EachWithRight s (RightTerm.Parted frame base cell o parts) k = EachWithParts parts k
+
+    pub EachWithGens : GensTerm → Facts → Type 0
+    EachWithGens NoGens k = Unit {0}
+    EachWithGens (Gen h b rest) k = EachWith b (note_all k (h.index ∷ h.names) []) × EachWithGens rest k
+
+    pub EachWithParts : PartsTerm → Facts → Type 0
+    EachWithParts NoParts k = Unit {0}
+    EachWithParts (Part h b rest) k = EachWith b (in_part k h) × EachWithParts rest k
+
+-- ---- a walk
+
+module _ (called : ℕ → List (Option (List ℕ))) (bases : Var → Option Base) (first : ℕ) where
+  -- with-loops were replaced one after another
+  pub data Walked : Facts → Progress → Progress → BlockTerm → BlockTerm → Type 0 where
+    stays : {k : Facts} {p : Progress} {b : BlockTerm} → Walked k p p b b
+    goes : {k : Facts} {p q r : Progress} {b c d : BlockTerm} →
+        Edited Facts (fact_ways called) (ReplacedHere bases first p q) k b c → Walked k q r c d → Walked k p r b d
+
+  -- a walk that replaced none leaves none
+  pub record BlockWalked (k : Facts) (p q : Progress) (b c : BlockTerm) : Type 0 where
+    pub walked : Walked k p q b c
+    pub none : q.replaced ≡ p.replaced → EachWith called (IsLeft bases first p.next) b k
+
+  pub record RightWalked (k : Facts) (p q : Progress) (s : Site) (r t : RightTerm) : Type 0 where
+    pub walked : (xs : List Var) (rest : BlockTerm) → Walked k p q (Bind xs s r rest) (Bind xs s t rest)
+    pub none : q.replaced ≡ p.replaced → EachWithRight called (IsLeft bases first p.next) s r k
+
+  pub record LetWalked (k : Facts) (p q : Progress) (l m : LetTerm) : Type 0 where
+    pub walked : (rest : BlockTerm) → Walked k p q (Bind l.targets l.site l.right rest) (Bind m.targets m.site m.right rest)
+    pub none : q.replaced ≡ p.replaced → EachWithRight called (IsLeft bases first p.next) l.site l.right k
+
+  pub record GensWalked (k : Facts) (p q : Progress) (g h : GensTerm) : Type 0 where
+    pub walked : (xs : List Var) (s : Site) (op : CoreOp) (rest : BlockTerm) → Walked k p q (Bind xs s (With op g) rest) (Bind xs s (With op h) rest)
+    pub none : q.replaced ≡ p.replaced → EachWithGens called (IsLeft bases first p.next) g k
+
+  -- a with-loop whose generators have been walked through
+  pub record WithWalked (k : Facts) (p q : Progress) (s : Site) (op : CoreOp) (gens : GensTerm) (t : RightTerm) : Type 0 where
+    pub walked : (xs : List Var) (rest : BlockTerm) → Walked k p q (Bind xs s (With op gens) rest) (Bind xs s t rest)
+    pub none : q.replaced ≡ p.replaced → IsLeft bases first p.next k s op gens
+
+  -- the body of a generator alone, and that of a part
+  pub record GenWalked (k : Facts) (p q : Progress) (g h : GenTerm) : Type 0 where
+    pub head : h.head ≡ g.head
+    pub body : BlockWalked (note_all k (g.head.index ∷ g.head.names) []) p q g.body h.body
+
+  pub record PartWalked (k : Facts) (p q : Progress) (g h : PartTerm) : Type 0 where
+    pub head : h.head ≡ g.head
+    pub body : BlockWalked (in_part k g.head) p q g.body h.body

@@ -1,0 +1,6 @@
+mod Numbered
+mod Copied
+mod Parts
+mod Fits
+mod Walks
+mod Rounds

@@ -1,0 +1,192 @@
+-- What a round keeps, and rounds after one another.
+use Rattle.std.proofs.Common.{◌≡◌, ℕ, zero, suc, ◌+◌, ◌<◌, ◌≤◌, List, [], ◌∷◌, ◌++◌, map, length, Option, Some, refl, sym, ap, subst, ◌∙◌, ◌⊎◌, inl, inr, append_assoc, append-nil, arith}
+use Rattle.std.specs.Prelude.{slice_get, unwrap_or}
+use Rattle.sac_base.specs.declared.base.Base.{Base}
+use Rattle.sac_base.specs.declared.types.ArrayType.{ArrayType}
+use Rattle.core_ir.specs.declared.tree.Var.{Var}
+use Rattle.core_ir.specs.Binders.{bound_in}
+use Rattle.core_ir.specs.Outcome.{SameHeads, SameOutside, group_at, param_vars}
+use Rattle.core_ir.specs.Terms.{BlockTerm, FunTerm, CoreTerm}
+use Rattle.core_ir.specs.WellFormed.{GroupBases, IsFunction, IsWellFormed, bases}
+use Rattle.core_calls.specs.Replaced.{replaced_at}
+use Rattle.core_calls.proofs.Replaced.{at_place}
+use Rattle.core_settled.specs.Called.{called, common_shapes, params_facts, result_shapes, shapes_at}
+use Rattle.core_subst.specs.Names.{above_function}
+use Rattle.core_inlined_bodies.proofs.Counts.{all_at}
+use Rattle.core_inlined_bodies.proofs.Names.{distinct_right, fresh_below, fresh_left, fresh_more, fresh_right, own_fresh, own_vars}
+use Rattle.core_inlined_bodies.proofs.Stepped.{old_at, stepped}
+use Rattle.core_norm_steps.proofs.Tables.{has_table}
+use Rattle.core_norm_forms.specs.Copied.{IsPlaced}
+use Rattle.core_norm_forms.specs.Walks.{NormSteps, no_step, FunctionWalk, BlockWalk, core_weight}
+use Rattle.core_norm_forms.proofs.Laws.{all_by}
+use Rattle.core_norm_forms.proofs.Whole.{walks_keep, go_on}
+use Rattle.variable_bases.specs.declared.signatures.Signatures.{Signatures}
+use Rattle.variable_bases.specs.Instances.{HasInstances, Instance}
+use Rattle.variable_bases.specs.Table.{base_in}
+use Rattle.with_norm.specs.Normed.{FunctionNormed, AllNormed, Round, Kept, Normalised}
+use Rattle.with_norm.proofs.Walks.{walk_is}
+
+-- ---- one after another
+
+nothing_more : (n : ℕ) → n + 0 ≤ n
+nothing_more n = omega arith
+
+sum_less : (a b c n m : ℕ) → b + n ≤ a → c + m ≤ b → c + (n + m) ≤ a
+sum_less a b c n m p q = omega (arith, p, q)
+
+pub kept_itself : (a : CoreTerm) → IsWellFormed a → Kept a a 0
+kept_itself a well = record { outcome = λ args caps full. refl; well = well; lighter = nothing_more (core_weight a); steps = no_step }
+
+pub kept_on : (a b c : CoreTerm) (n m : ℕ) → Kept a b n → Kept b c m → Kept a c (n + m)
+kept_on a b c n m p q = record {
+  outcome = λ args caps full. p.outcome args caps full ∙ q.outcome args caps full;
+  well = q.well;
+  lighter = sum_less (core_weight a) (core_weight b) (core_weight c) n m p.lighter q.lighter;
+  steps = go_on n m a b c p.steps q.steps;
+}
+
+-- ---- a function at a place
+
+at_length : (done fs : List FunTerm) (f : FunTerm) → slice_get (done ++ (f ∷ fs)) (length done) ≡ Some f
+at_length [] fs f = refl
+at_length (g ∷ done) fs f = at_length done fs f
+
+put_at : (done fs : List FunTerm) (f g : FunTerm) → replaced_at (done ++ (f ∷ fs)) (length done) g ≡ done ++ (g ∷ fs)
+put_at [] fs f g = refl
+put_at (x ∷ done) fs f g = ap (λ gs. x ∷ gs) (put_at done fs f g)
+
+module _ (a : CoreTerm) (n : ℕ) (f : FunTerm) (c : BlockTerm) (found : slice_get a.functions n ≡ Some f) where
+  shapes_same : (fs gs : List FunTerm) → ((place : ℕ) → result_shapes (slice_get gs place) ≡ result_shapes (slice_get fs place)) → (places : List ℕ) → shapes_at gs places ≡ shapes_at fs places
+  shapes_same fs gs r [] = refl
+  shapes_same fs gs r (p ∷ []) = r p
+  shapes_same fs gs r (p ∷ q ∷ ps) = λ i. common_shapes (r p i) (shapes_same fs gs r (q ∷ ps) i)
+
+  results_same : (place : ℕ) → result_shapes (slice_get (stepped a n f c).functions place) ≡ result_shapes (slice_get a.functions place)
+  results_same place = go (at_place a.functions n place f (record f { body = c }) found)
+    where
+      go : (slice_get a.functions place ≡ slice_get (replaced_at a.functions n (record f { body = c })) place) ⊎ ((slice_get a.functions place ≡ Some f) × (slice_get (replaced_at a.functions n (record f { body = c })) place ≡ Some (record f { body = c })))
+          → result_shapes (slice_get (replaced_at a.functions n (record f { body = c })) place) ≡ result_shapes (slice_get a.functions place)
+      go (inl y) = ap result_shapes (sym y)
+      go (inr y) = ap result_shapes y.1 ∙ sym (ap result_shapes y.0)
+
+  called_same : called (stepped a n f c) ≡ called a
+  called_same = λ i group. shapes_same a.functions (stepped a n f c).functions results_same (group_at a group) i
+
+  group_back : (g : ℕ) (us vs : List Base) → GroupBases (stepped a n f c) g us vs → GroupBases a g us vs
+  group_back g us vs h =
+      let q = h.1.1.1 in
+      let w = old_at a n f c found h.1.0 h.1.1.0 q.2 in
+      (h.0, (h.1.0, (w.0, (q.0, q.1, w.1.0, ap (λ (ps : List (Var × ArrayType)). bases (map (λ (p : Var × ArrayType). p.1) ps)) w.1.1.params ∙ q.3, ap bases w.1.1.results ∙ q.4))))
+
+-- ---- one function
+
+most_of : (a b n : ℕ) → a ≤ b → b ≤ n → a ≤ n
+most_of a b n p q = omega (arith, p, q)
+
+module _ (calls : ℕ → List (Option (List ℕ))) (signatures : Signatures) where
+  function_kept :
+      (a : CoreTerm) (n before after : ℕ) (f g : FunTerm) → slice_get a.functions n ≡ Some f → calls ≡ called a → HasInstances signatures a → IsWellFormed a →
+      (h : FunctionNormed calls signatures before after f g) → (count : ℕ) × ((after ≡ count + before) × Kept a (stepped a n f h.body) count)
+  function_kept a n before after f g found same has well h =
+      let is : IsFunction a f = all_at (IsFunction a) a.functions n f well.functions found in
+      let table = has_table a f is in
+      let m = table.0 in
+      let tells = h.tells a has m table.1 is.agreeing table.2 in
+      let own = fresh_more (own_vars f) (above_function f) h.first h.above (own_fresh f) in
+      let params = fresh_left (param_vars f) (bound_in f.body) h.first own in
+      let bound = fresh_right (param_vars f) (bound_in f.body) h.first own in
+      let placed : IsPlaced h.first (param_vars f) f.body = record {
+        scoped = is.scoped;
+        once = distinct_right (param_vars f) (bound_in f.body) is.once;
+        scope_below = all_by h.first (param_vars f) (λ y q. fresh_below (param_vars f) h.first y params q);
+        bound_below = all_by h.first (bound_in f.body) (λ y q. fresh_below (bound_in f.body) h.first y bound q);
+      } in
+      let walk = walk_is calls m h.first (base_in h.table) tells (params_facts f) (record { next = h.first; replaced = before }) (record { next = h.last; replaced = after }) f.body h.body h.walked.walked (param_vars f) placed in
+      let whole : FunctionWalk a (stepped a n f h.body) walk.0 = record {
+        place = n;
+        function = f;
+        body = h.body;
+        found = found;
+        table = m;
+        params = table.1;
+        agreeing = is.agreeing;
+        follows = table.2;
+        low = h.first;
+        high = h.last;
+        below = h.above;
+        walk = subst (λ (k : ℕ → List (Option (List ℕ))). BlockWalk k h.first m (params_facts f) walk.0 h.first h.last f.body h.body) same walk.1.1;
+        changed = refl;
+      } in
+      let kept = walks_keep a (stepped a n f h.body) walk.0 whole well in
+      (walk.0, (walk.1.0, record { outcome = kept.0; well = kept.1; lighter = kept.2; steps = kept.3 }))
+
+  sum_is : (m k n c d : ℕ) → k ≡ c + n → m ≡ d + k → m ≡ (c + d) + n
+  sum_is m k n c d p q = omega (arith, p, q)
+
+  none_more : (n : ℕ) → n ≡ 0 + n
+  none_more n = omega arith
+
+  -- ---- all functions
+
+  functions_kept :
+      (a : CoreTerm) (done fs gs : List FunTerm) (n m : ℕ) → a.functions ≡ done ++ fs → calls ≡ called a → HasInstances signatures a → IsWellFormed a →
+      AllNormed calls signatures n fs gs m → (count : ℕ) × ((m ≡ count + n) × Kept a (record a { functions = done ++ gs }) count)
+  functions_kept a done [] [] n m e same has well h =
+      let stays : a ≡ record a { functions = done ++ [] } = λ i. record a { functions = e i } in
+      (0, (h ∙ none_more n, subst (λ (x : CoreTerm). Kept a x 0) stays (kept_itself a well)))
+  functions_kept a done [] (g ∷ gs) n m e same has well h = absurd h
+  functions_kept a done (f ∷ fs) [] n m e same has well h = absurd h
+  functions_kept a done (f ∷ fs) (g ∷ gs) n m e same has well h =
+      let place = length done in
+      let found : slice_get a.functions place ≡ Some f = (λ i. slice_get (e i) place) ∙ at_length done fs f in
+      let one = h.1.0 in
+      let first = function_kept a place n h.0 f g found same has well one in
+      let b = stepped a place f one.body in
+      let new = record f { body = one.body } in
+      let next : b.functions ≡ (done ++ (new ∷ [])) ++ fs = (λ i. replaced_at (e i) place new) ∙ put_at done fs f new ∙ sym (append_assoc done (new ∷ []) fs) in
+      let rest = functions_kept b (done ++ (new ∷ [])) fs gs h.0 m next (same ∙ sym (called_same a place f one.body found)) (λ group us vs w. has group us vs (group_back a place f one.body found group us vs w)) first.1.1.well h.1.1 in
+      let end : (done ++ (new ∷ [])) ++ gs ≡ done ++ (g ∷ gs) = append_assoc done (new ∷ []) gs ∙ ap (λ (x : FunTerm). done ++ (x ∷ gs)) (sym one.new) in
+      (first.0 + rest.0, (sum_is m h.0 n first.0 rest.0 first.1.0 rest.1.0, subst (λ (x : List FunTerm). Kept a (record a { functions = x }) (first.0 + rest.0)) end (kept_on a b (record a { functions = (done ++ (new ∷ [])) ++ gs }) first.0 rest.0 first.1.1 rest.1.1)))
+
+-- ---- outside
+
+heads_itself : (fs : List FunTerm) → SameHeads fs fs
+heads_itself [] = tt
+heads_itself (f ∷ fs) = (record { site = refl; types = refl; inlines = refl }, heads_itself fs)
+
+heads_on : (calls : ℕ → List (Option (List ℕ))) (signatures : Signatures) (es fs gs : List FunTerm) (n m : ℕ) → SameHeads es fs → AllNormed calls signatures n fs gs m → SameHeads es gs
+heads_on calls signatures [] [] [] n m s h = tt
+heads_on calls signatures [] [] (g ∷ gs) n m s h = absurd h
+heads_on calls signatures [] (f ∷ fs) gs n m s h = absurd s
+heads_on calls signatures (e ∷ es) [] gs n m s h = absurd s
+heads_on calls signatures (e ∷ es) (f ∷ fs) [] n m s h = absurd h
+heads_on calls signatures (e ∷ es) (f ∷ fs) (g ∷ gs) n m s h = (
+  subst (Rattle.core_ir.specs.Outcome.SameHead e) (sym h.1.0.new) (record { site = s.0.site; types = s.0.types; inlines = s.0.inlines }),
+  heads_on calls signatures es fs gs h.0 m s.1 h.1.1,
+)
+
+-- ---- rounds
+
+pub normalised_itself : (a : CoreTerm) → Normalised a a 0
+normalised_itself a = record { outside = record { groups = refl; main = refl; heads = heads_itself a.functions }; kept = kept_itself a }
+
+same_core : (a b : CoreTerm) → b.groups ≡ a.groups → b.main ≡ a.main → record a { functions = b.functions } ≡ b
+same_core a b g m = λ i. record { functions = b.functions; groups = sym g i; main = sym m i }
+
+zero_right : (m c : ℕ) → m ≡ c + 0 → c ≡ m
+zero_right m c e = omega (arith, e)
+
+round_kept : (a b : CoreTerm) (count : ℕ) → Round a b count → IsWellFormed a → Kept a b count
+round_kept a b count h well =
+    let k = functions_kept (called a) h.signatures a [] a.functions b.functions 0 count refl refl h.has well h.functions in
+    subst (λ (n : ℕ). Kept a b n) (zero_right count k.0 k.1.0) (subst (λ (x : CoreTerm). Kept a x k.0) (same_core a b h.groups h.main) k.1.1)
+
+pub round_on : (a b c : CoreTerm) (n m : ℕ) → Normalised a b n → Round b c m → Normalised a c (n + m)
+round_on a b c n m p h = record {
+  outside = record {
+    groups = p.outside.groups ∙ sym h.groups;
+    main = p.outside.main ∙ sym h.main;
+    heads = heads_on (called b) h.signatures a.functions b.functions c.functions 0 m p.outside.heads h.functions;
+  };
+  kept = λ well. let one = p.kept well in kept_on a b c n m one (round_kept b c m h one.well);
+}

@@ -1,0 +1,52 @@
+-- Functions in which with-loops became parted loops, and cores.
+use Rattle.std.specs.Prelude.{◌≡◌, ℕ, ◌+◌, ◌≤◌, List, [], ◌∷◌, Option}
+use Rattle.core_ir.specs.Outcome.{SameOutside}
+use Rattle.core_ir.specs.Terms.{BlockTerm, FunTerm, CoreTerm}
+use Rattle.core_ir.specs.WellFormed.{IsWellFormed}
+use Rattle.core_calls.specs.Arrays.{SameOutcomeOnArrays}
+use Rattle.core_settled.specs.Called.{called, params_facts}
+use Rattle.core_subst.specs.Names.{above_function}
+use Rattle.core_norm_forms.specs.Walks.{NormSteps, core_weight}
+use Rattle.variable_bases.specs.declared.signatures.Signatures.{Signatures}
+use Rattle.variable_bases.specs.declared.table.BaseTable.{BaseTable}
+use Rattle.variable_bases.specs.Instances.{HasInstances}
+use Rattle.variable_bases.specs.Table.{base_in, TellsOf}
+use Rattle.parted_bodies.specs.declared.names.Progress.{Progress}
+use Rattle.norm_walk.specs.Replacing.{BlockWalked}
+
+-- one walk over a function; so many with-loops had been replaced before, and so many are after
+pub record FunctionNormed (calls : ℕ → List (Option (List ℕ))) (signatures : Signatures) (before after : ℕ) (f g : FunTerm) : Type 0 where
+  pub table : BaseTable
+  pub tells : TellsOf f signatures table
+  pub first : ℕ
+  pub above : above_function f ≤ first
+  pub last : ℕ
+  pub body : BlockTerm
+  pub walked : BlockWalked calls (base_in table) first (params_facts f) (record { next = first; replaced = before }) (record { next = last; replaced = after })
+      f.body body
+  pub new : g ≡ record f { body = body }
+
+-- over one function after another
+abbrev pub AllNormed : (ℕ → List (Option (List ℕ))) → Signatures → ℕ → List FunTerm → List FunTerm → ℕ → Type 0
+AllNormed calls signatures n [] [] m = m ≡ n
+AllNormed calls signatures n (f ∷ fs) (g ∷ gs) m = (k : ℕ) × (FunctionNormed calls signatures n k f g × AllNormed calls signatures k fs gs m)
+AllNormed calls signatures n _ _ m = ⊥
+
+-- one round over a core
+pub record Round (a b : CoreTerm) (count : ℕ) : Type 0 where
+  pub signatures : Signatures
+  pub has : HasInstances signatures a
+  pub groups : b.groups ≡ a.groups
+  pub main : b.main ≡ a.main
+  pub functions : AllNormed (called a) signatures 0 a.functions b.functions count
+
+-- what so many steps keep
+pub record Kept (a b : CoreTerm) (count : ℕ) : Type 0 where
+  pub outcome : SameOutcomeOnArrays a b
+  pub well : IsWellFormed b
+  pub lighter : core_weight b + count ≤ core_weight a
+  pub steps : NormSteps count a b
+
+pub record Normalised (a b : CoreTerm) (count : ℕ) : Type 0 where
+  pub outside : SameOutside a b
+  pub kept : IsWellFormed a → Kept a b count
