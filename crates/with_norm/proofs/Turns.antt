@@ -1,5 +1,5 @@
 -- The functions of a core, one after another.
-use Rattle.std.proofs.Common.{◌≡◌, ℕ, List, [], ◌∷◌, ◌++◌, map, Option, refl, sym, ap, subst, ◌∙◌, append_assoc, append-nil}
+use Rattle.std.proofs.Common.{◌≡◌, ℕ, length, arith, List, [], ◌∷◌, ◌++◌, map, Option, refl, sym, ap, subst, ◌∙◌, append_assoc, append-nil}
 use Rattle.core_ir.specs.declared.tree.CoreFun.{CoreFun}
 use Rattle.core_ir.specs.Terms.{FunTerm}
 use Rattle.core_ir.specs.View.{fun_term}
@@ -9,6 +9,11 @@ use Rattle.with_norm.specs.Normed.{FunctionNormed, AllNormed}
 map_snoc : (xs : List CoreFun) (x : CoreFun) → map fun_term (xs ++ (x ∷ [])) ≡ map fun_term xs ++ (fun_term x ∷ [])
 map_snoc [] x = refl
 map_snoc (y ∷ ys) x = ap (λ l. fun_term y ∷ l) (map_snoc ys x)
+
+-- an iterator at its end has no more items
+pub none_left : {A : Type 0} (len : ℕ) (items : List A) → len ≡ 0 → len ≡ length items → items ≡ []
+none_left len [] p q = refl
+none_left len (x ∷ xs) p q = absurd (omega arith)
 
 module _ (calls : ℕ → List (Option (List ℕ))) (signatures : Signatures) where
   -- whatever the rest becomes, it goes behind those made so far
