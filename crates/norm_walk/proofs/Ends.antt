@@ -1,19 +1,35 @@
 -- Generators, parts and right sides by their fields, after a walk.
-use Rattle.std.proofs.Common.{◌≡◌, ℕ, List, [], ◌∷◌, map, Option, refl, sym, ap, subst, ◌∙◌}
-use Rattle.std.specs.Prelude.{Result, Ok, Err, IfOk}
+use Rattle.std.proofs.Common.{◌≡◌, ℕ, suc, ◌+◌, ◌<◌, Bool, true, false, List, [], ◌∷◌, map, Option, Some, None, refl, sym, ap, subst, ◌∙◌}
+use Rattle.std.specs.Prelude.{Result, Ok, Err, IfOk, OnOk}
 use Rattle.sac_base.specs.declared.base.Base.{Base}
+use Rattle.sac_base.specs.declared.memory.Memory.{Memory}
 use Rattle.sac_base.specs.declared.site.Site.{Site}
+use Rattle.std.specs.Prelude.{Vec}
+use Rattle.std.specs.declared.alloc.Global.{Global}
 use Rattle.core_ir.specs.declared.tree.Var.{Var}
 use Rattle.core_ir.specs.declared.tree.Block.{Block}
 use Rattle.core_ir.specs.declared.tree.CoreGen.{CoreGen, CoreGen', CoreGen-F, out-CoreGen, roll-CoreGen, out-roll-CoreGen}
 use Rattle.core_ir.specs.declared.tree.CorePart.{CorePart, CorePart', CorePart-F, out-CorePart, roll-CorePart, out-roll-CorePart}
+use Rattle.core_ir.specs.declared.tree.CoreOp.{CoreOp}
+use Rattle.core_ir.specs.declared.tree.Right.{Right}
+use Rattle.core_ir.specs.declared.tree.Right.TheVariants as right
+use Rattle.core_ir.specs.declared.tree.PartedOp.{PartedOp}
+use Rattle.core_ir.specs.declared.tree.WithLoop.{WithLoop, out-WithLoop}
+use Rattle.core_ir.specs.declared.tree.PartedLoop.{PartedLoop, PartedLoop-F, out-PartedLoop, roll-PartedLoop}
 use Rattle.core_ir.specs.declared.tree.Right.TheBlock.{the_data, the_data-1, the_data-2, the_data-3, the_data-4, the_data-5, the_data-6}
-use Rattle.core_ir.specs.Terms.{RightTerm, GenTerm, PartTerm}
-use Rattle.core_ir.specs.View.{block_term, gen_term, part_term, right_term}
-use Rattle.core_facts.specs.Facts.{Facts, note_all, in_part}
+use Rattle.core_ir.specs.Terms.{PlainTerm, RightTerm, Plain, GensTerm, GenTerm, PartTerm, With, Parted, gens_of, parts_of}
+use Rattle.core_ir.specs.View.{block_term, gen_term, part_term, right_term, with_term, parted_term}
+use Rattle.core_ir.proofs.Trees.{with_out, parted_out, parted_roll}
+use Rattle.core_facts.specs.Facts.{Fact, Facts, note_all, in_part, right_facts, shape_fact, known_shape, parted_shape}
+use Rattle.fact_table.specs.Table.{fact_of}
+use Rattle.plain_facts.specs.Rights.{fact_of_right}
+use Rattle.partable_loops.specs.Planned.{IsPlannable, PlanFits}
+use Rattle.partable_loops.specs.declared.planning.PartPlan.{PartPlan}
 use Rattle.parted_bodies.specs.declared.names.Progress.{Progress}
+use Rattle.parted_bodies.specs.Making.{base_var, binds_of, made_parts, parted_op}
 use Rattle.norm_walk.specs.declared.known.KnownRight.{KnownRight}
-use Rattle.norm_walk.specs.Replacing.{BlockWalked, GenWalked, PartWalked}
+use Rattle.norm_walk.specs.Replacing.{BlockWalked, RightWalked, LetWalked, GensWalked, GenWalked, PartWalked, WithWalked, IsKnownAnywhere, IsLeft, IsPlanned, EachWithRight}
+use Rattle.norm_walk.proofs.Walking.{PartsGoing, parts_done, with_walked, left_walked, replaced_walked, right_stays, if_walked, loop_walked}
 
 abbrev shown_gen : CoreGen-F the_data the_data-1 the_data-2 the_data-3 the_data-4 the_data-5 the_data-6 → GenTerm
 shown_gen x = record {
@@ -50,7 +66,134 @@ module _ (called : ℕ → List (Option (List ℕ))) (bases : Var → Option Bas
       subst (λ (t : PartTerm). PartWalked called bases first k p q t (part_term (roll-CorePart (record (out-CorePart g) { body = b })))) (sym (part_out g))
       (subst (λ (t : PartTerm). PartWalked called bases first k p q (shown_part (out-CorePart g)) t) (sym (part_roll (record (out-CorePart g) { body = b }))) (record { head = refl; body = w }))
 
--- what holds of a right side holds of a result that has it
-pub ok_moved : {E : Type 0} (result : Result KnownRight E) (t : RightTerm) (P : RightTerm → Type 0) → IfOk result (λ (new : KnownRight). right_term new.right ≡ t) → P t → IfOk result (λ (new : KnownRight). P (right_term new.right))
-ok_moved (Ok new) t P e h = subst P (sym e) h
-ok_moved (Err e) t P f h = tt
+  pub let_end : (k : Facts) (p q : Progress) (xs : List Var) (s : Site) (r t : RightTerm) → RightWalked called bases first k p q s r t → LetWalked called bases first k p q (record { targets = xs; site = s; right = r }) (record { targets = xs; site = s; right = t })
+  let_end k p q xs s r t u = record { walked = λ rest. u.walked xs rest; none = u.none }
+
+  -- both blocks of a choice were walked through
+  pub choice_end : (k k' : Facts) (p q r : Progress) (s : Site) (x : Var) (a b c d : Block) (old : Right) → old ≡ right.If x a b → k' ≡ k → BlockWalked called bases first k p q (block_term a) (block_term c) → BlockWalked called bases first k' q r (block_term b) (block_term d)
+      → RightWalked called bases first k p r s (right_term old) (RightTerm.If x (block_term c) (block_term d))
+  choice_end k k' p q r s x a b c d old is e u v =
+      subst (λ (t : RightTerm). RightWalked called bases first k p r s t (RightTerm.If x (block_term c) (block_term d))) (sym (ap right_term is))
+      (if_walked called bases first k p q r s x (block_term a) (block_term b) (block_term c) (block_term d) u (subst (λ (f : Facts). BlockWalked called bases first f q r (block_term b) (block_term d)) e v))
+
+  -- the test and the body of a loop were
+  pub turns_end : (k inner behind : Facts) (p q r : Progress) (s : Site) (head : Bool) (start params : Vec Var Global) (t : Site) (a b c d : Block) (old : Right) → old ≡ right.Loop head start params a b t → inner ≡ note_all k params.items [] → behind ≡ inner
+      → BlockWalked called bases first inner p q (block_term a) (block_term c) → BlockWalked called bases first behind q r (block_term b) (block_term d)
+      → RightWalked called bases first k p r s (right_term old) (RightTerm.Loop head start.items params.items (block_term c) (block_term d) t)
+  turns_end k inner behind p q r s head start params t a b c d old is e f u v =
+      subst (λ (o : RightTerm). RightWalked called bases first k p r s o (RightTerm.Loop head start.items params.items (block_term c) (block_term d) t)) (sym (ap right_term is))
+      (loop_walked called bases first k p q r s head start.items params.items t (block_term a) (block_term b) (block_term c) (block_term d)
+      (subst (λ (m : Facts). BlockWalked called bases first m p q (block_term a) (block_term c)) e u)
+      (subst (λ (m : Facts). BlockWalked called bases first m q r (block_term b) (block_term d)) (f ∙ e) v))
+
+  pub call_end : (k : Facts) (p : Progress) (s : Site) (group : ℕ) (args : Vec Var Global) (old : Right) → old ≡ right.Call group args → RightWalked called bases first k p p s (right_term old) (RightTerm.Call group args.items)
+  call_end k p s group args old is =
+      subst (λ (o : RightTerm). RightWalked called bases first k p p s o (RightTerm.Call group args.items)) (sym (ap right_term is))
+      (right_stays called bases first k p s (RightTerm.Call group args.items) tt)
+
+  -- the generators of a with-loop were walked through, and then it was looked at itself
+  pub with_end : (k k' : Facts) (p q r : Progress) (s : Site) (w : WithLoop) (gens : List CoreGen) (new : Result KnownRight Memory) → k' ≡ k → GensWalked called bases first k p q (gens_of (map gen_term (out-WithLoop w).gens.items)) (gens_of (map gen_term gens)) → IfOk new (λ (n : KnownRight). WithWalked called bases first k' q r s (out-WithLoop w).op (gens_of (map gen_term gens)) (right_term n.right))
+      → IfOk new (λ (n : KnownRight). RightWalked called bases first k p r s (with_term w) (right_term n.right))
+  with_end k k' p q r s w gens (Ok n) e u v =
+      subst (λ (t : RightTerm). RightWalked called bases first k p r s t (right_term n.right)) (sym (with_out w))
+      (with_walked called bases first k p q r s (out-WithLoop w).op (gens_of (map gen_term (out-WithLoop w).gens.items)) (gens_of (map gen_term gens)) (right_term n.right) u
+      (subst (λ (f : Facts). WithWalked called bases first f q r s (out-WithLoop w).op (gens_of (map gen_term gens)) (right_term n.right)) e v))
+  with_end k k' p q r s w gens (Err m) e u v = tt
+
+  -- the parts of a parted loop were walked through
+  pub parted_end : (k : Facts) (p q : Progress) (new : Result KnownRight Memory) (all rest : List CorePart) (parts : Vec CorePart Global) (w : PartedLoop) → IfOk new (λ (n : KnownRight). right_term n.right ≡ parted_term (roll-PartedLoop (record (out-PartedLoop w) { parts = parts }))) → PartsGoing called bases first k p all q parts.items rest → rest ≡ [] → all ≡ (out-PartedLoop w).parts.items
+      → IfOk new (λ (n : KnownRight). (s : Site) → RightWalked called bases first k p q s (parted_term w) (right_term n.right))
+  parted_end k p q (Ok n) all rest parts w h v r a = λ s.
+      let o = out-PartedLoop w in
+      let old : Parted o.frame o.base o.cell o.op (parts_of (map part_term all)) ≡ parted_term w = (λ i. Parted o.frame o.base o.cell o.op (parts_of (map part_term (a i)))) ∙ sym (parted_out w) in
+      let now : Parted o.frame o.base o.cell o.op (parts_of (map part_term parts.items)) ≡ right_term n.right = sym (h ∙ parted_roll (record o { parts = parts })) in
+      subst (λ (t : RightTerm). RightWalked called bases first k p q s t (right_term n.right)) old
+      (subst (λ (t : RightTerm). RightWalked called bases first k p q s (Parted o.frame o.base o.cell o.op (parts_of (map part_term all))) t) now
+      (parts_done called bases first k p q s all parts.items rest o.frame o.base o.cell o.op v r))
+  parted_end k p q (Err m) all rest parts w h v r a = tt
+
+  -- ---- the with-loop itself
+
+  pub left_refused : (k : Facts) (above : ℕ) (op : CoreOp) (gens : GensTerm) → ((s : Site) → IsPlannable k above s op gens → ⊥) → (s : Site) → IsLeft bases first above k s op gens
+  left_refused k above op gens refused s b known old plan = refused s plan
+
+  pub unchanged_end : (k : Facts) (p : Progress) (s : Site) (op : CoreOp) (gens : GensTerm) (new : Result KnownRight Memory) → IfOk new (λ (n : KnownRight). right_term n.right ≡ With op gens) → ((s : Site) → IsLeft bases first p.next k s op gens) → IfOk new (λ (n : KnownRight). WithWalked called bases first k p p s op gens (right_term n.right))
+  unchanged_end k p s op gens (Ok n) e left = left_walked called bases first k p s op gens (right_term n.right) e (left s)
+  unchanged_end k p s op gens (Err m) e left = tt
+
+  pub replaced_end : (k : Facts) (p q : Progress) (s : Site) (op : CoreOp) (gens : List GenTerm) (base : Base) (plan : PartPlan) (new : Result KnownRight Memory) → IsPlanned bases first k p.next op (gens_of gens) base plan → IfOk new (λ (n : KnownRight). right_term n.right ≡ Parted plan.frame base plan.cell (parted_op op) (parts_of (made_parts op s gens plan.parts.items p.next)))
+      → OnOk new (q ≡ record { next = p.next + binds_of (made_parts op s gens plan.parts.items p.next); replaced = suc p.replaced })
+      → IfOk new (λ (n : KnownRight). WithWalked called bases first k p q s op (gens_of gens) (right_term n.right))
+  replaced_end k p q s op gens base plan (Ok n) w made after = replaced_walked called bases first k p q s op gens (right_term n.right) (record { plan = plan; fits = w.fits s; base = base; known = w.known; old = w.old; made = made; after = after })
+  replaced_end k p q s op gens base plan (Err m) w made after = tt
+
+  -- the same of generators that were lent out twice
+  pub replaced_lent : (k : Facts) (p q : Progress) (s : Site) (op : CoreOp) (gens once twice : List CoreGen) (base : Base) (plan : PartPlan) (new : Result KnownRight Memory) → once ≡ gens → twice ≡ gens → IsPlanned bases first k p.next op (gens_of (map gen_term once)) base plan
+      → IfOk new (λ (n : KnownRight). right_term n.right ≡ Parted plan.frame base plan.cell (parted_op op) (parts_of (made_parts op s (map gen_term twice) plan.parts.items p.next)))
+      → OnOk new (q ≡ record { next = p.next + binds_of (made_parts op s (map gen_term twice) plan.parts.items p.next); replaced = suc p.replaced })
+      → IfOk new (λ (n : KnownRight). WithWalked called bases first k p q s op (gens_of (map gen_term gens)) (right_term n.right))
+  replaced_lent k p q s op gens once twice base plan new e f w made after =
+      let seen = subst (λ (gs : List CoreGen). IsPlanned bases first k p.next op (gens_of (map gen_term gs)) base plan) e w in
+      let right = subst (λ (gs : List CoreGen). IfOk new (λ (n : KnownRight). right_term n.right ≡ Parted plan.frame base plan.cell (parted_op op) (parts_of (made_parts op s (map gen_term gs) plan.parts.items p.next)))) f made in
+      let next = subst (λ (gs : List CoreGen). OnOk new (q ≡ record { next = p.next + binds_of (made_parts op s (map gen_term gs) plan.parts.items p.next); replaced = suc p.replaced })) f after in
+      replaced_end k p q s op (map gen_term gens) base plan new seen right next
+
+-- what is known anywhere is known where the right side stands
+pub known_here : (new : Result KnownRight Memory) (called : ℕ → List (Option (List ℕ))) (k : Facts) → IfOk new (λ (n : KnownRight). IsKnownAnywhere (right_term n.right) (map fact_of n.values.items)) → IfOk new (λ (n : KnownRight). map fact_of n.values.items ≡ right_facts called (right_term n.right) k)
+known_here (Ok n) called k h = h called k
+known_here (Err m) called k h = tt
+
+pub parted_known : (new : Result KnownRight Memory) (w : PartedLoop) (known : Fact) → IfOk new (λ (n : KnownRight). right_term n.right ≡ parted_term w) → IfOk new (λ (n : KnownRight). map fact_of n.values.items ≡ known ∷ []) → known ≡ shape_fact (known_shape (parted_shape (out-PartedLoop w).frame (out-PartedLoop w).cell (out-PartedLoop w).op)) → IfOk new (λ (n : KnownRight). IsKnownAnywhere (right_term n.right) (map fact_of n.values.items))
+parted_known (Ok n) w known h q e = λ called k. q ∙ ap (λ f. f ∷ []) e ∙ ap (λ t. right_facts called t k) (sym (parted_out w)) ∙ ap (λ t. right_facts called t k) (sym h)
+parted_known (Err m) w known h q e = tt
+
+pub parted_made : (new : Result KnownRight Memory) (x : PartedLoop-F the_data the_data-1 the_data-2 the_data-3 the_data-4 the_data-5 the_data-6) (parts : List PartTerm) (op : PartedOp) → IfOk new (λ (n : KnownRight). right_term n.right ≡ parted_term (roll-PartedLoop x)) → map part_term x.parts.items ≡ parts → x.op ≡ op → IfOk new (λ (n : KnownRight). right_term n.right ≡ Parted x.frame x.base x.cell op (parts_of parts))
+parted_made (Ok n) x parts op h e o = h ∙ parted_roll x ∙ (λ i. Parted x.frame x.base x.cell (o i) (parts_of (e i)))
+parted_made (Err m) x parts op h e o = tt
+
+-- ---- right sides without blocks
+
+-- a right side that is none of those with blocks, and no call
+abbrev pub IsOther : Right → Type 0
+IsOther r = ((x : Var) (a b : Block) → r ≡ right.If x a b → ⊥)
+    × ((head : Bool) (start params : Vec Var Global) (test body : Block) (site : Site) → r ≡ right.Loop head start params test body site → ⊥)
+    × ((group : ℕ) (args : Vec Var Global) → r ≡ right.Call group args → ⊥)
+    × ((w : WithLoop) → r ≡ right.With w → ⊥)
+    × ((p : PartedLoop) → r ≡ right.Parted p → ⊥)
+
+other_plain : (r : Right) → IsOther r → (p : PlainTerm) × (right_term r ≡ Plain p)
+other_plain (right.If x a b) o = absurd (o.0 x a b refl)
+other_plain (right.Loop head start params test body site) o = absurd (o.1 head start params test body site refl)
+other_plain (right.Call group args) o = absurd (o.2 group args refl)
+other_plain (right.With w) o = absurd (o.3 w refl)
+other_plain (right.Parted p) o = absurd (o.4 p refl)
+other_plain (right.Const a) o = (PlainTerm.Const a, refl)
+other_plain (right.Copy x) o = (PlainTerm.Copy x, refl)
+other_plain (right.Unary op x) o = (PlainTerm.Unary op x, refl)
+other_plain (right.Binary op x y) o = (PlainTerm.Binary op x y, refl)
+other_plain (right.Literal xs) o = (PlainTerm.Literal xs.items, refl)
+other_plain (right.Dim x) o = (PlainTerm.Dim x, refl)
+other_plain (right.ShapeOf x) o = (PlainTerm.ShapeOf x, refl)
+other_plain (right.Reshape x y) o = (PlainTerm.Reshape x y, refl)
+other_plain (right.Select x y) o = (PlainTerm.Select x y, refl)
+other_plain (right.Replace x y z) o = (PlainTerm.Replace x y z, refl)
+other_plain (right.Always k) o = (PlainTerm.Always k, refl)
+other_plain (right.Check x t) o = (PlainTerm.Check x t, refl)
+
+plain_known : (called : ℕ → List (Option (List ℕ))) (k : Facts) (r : RightTerm) (p : PlainTerm) → r ≡ Plain p → fact_of_right r k ∷ [] ≡ right_facts called r k
+plain_known called k r p e = ap (λ t. fact_of_right t k ∷ []) e ∙ ap (λ t. right_facts called t k) (sym e)
+
+pub other_known : (called : ℕ → List (Option (List ℕ))) (k : Facts) (r : Right) (known : Fact) (new : Result KnownRight Memory) → IsOther r → known ≡ fact_of_right (right_term r) k → IfOk new (λ (n : KnownRight). right_term n.right ≡ right_term r) → IfOk new (λ (n : KnownRight). map fact_of n.values.items ≡ known ∷ []) → IfOk new (λ (n : KnownRight). map fact_of n.values.items ≡ right_facts called (right_term n.right) k)
+other_known called k r known (Ok n) o e h q = let w = other_plain r o in q ∙ ap (λ f. f ∷ []) e ∙ plain_known called k (right_term r) w.0 w.1 ∙ ap (λ t. right_facts called t k) (sym h)
+other_known called k r known (Err m) o e h q = tt
+
+pub other_walked : (called : ℕ → List (Option (List ℕ))) (bases : Var → Option Base) (first : ℕ) (k : Facts) (p : Progress) (s : Site) (r : Right) (new : Result KnownRight Memory) → IsOther r → IfOk new (λ (n : KnownRight). right_term n.right ≡ right_term r) → IfOk new (λ (n : KnownRight). RightWalked called bases first k p p s (right_term r) (right_term n.right))
+other_walked called bases first k p s r (Ok n) o h =
+    let w = other_plain r o in
+    subst (λ (t : RightTerm). RightWalked called bases first k p p s (right_term r) t) (sym h)
+    (right_stays called bases first k p s (right_term r) (subst (λ (t : RightTerm). EachWithRight called (IsLeft bases first p.next) s t k) (sym w.1) tt))
+other_walked called bases first k p s r (Err m) o h = tt
+
+pub kept : {A : Type 0} (new : Result KnownRight Memory) (table : A) → OnOk new (table ≡ table)
+kept (Ok n) table = refl
+kept (Err m) table = tt

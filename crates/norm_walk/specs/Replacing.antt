@@ -1,12 +1,12 @@
 -- With-loops that become parted loops on one walk over a block.
-use Rattle.std.specs.Prelude.{◌≡◌, ℕ, suc, ◌+◌, ◌<◌, List, [], ◌∷◌, Option, Some}
+use Rattle.std.specs.Prelude.{◌≡◌, ℕ, suc, ◌+◌, ◌<◌, nat_lt, if◌then◌else◌, List, [], ◌∷◌, Option, Some, None}
 use Rattle.sac_base.specs.declared.base.Base.{Base}
 use Rattle.sac_base.specs.declared.site.Site.{Site}
 use Rattle.core_ir.specs.declared.tree.Var.{Var}
 use Rattle.core_ir.specs.declared.tree.CoreOp.{CoreOp}
 use Rattle.core_ir.specs.Edits.{Edited}
 use Rattle.core_ir.specs.Terms.{BlockTerm, RightTerm, GensTerm, PartsTerm, LetTerm, GenTerm, PartTerm, Gives, Bind, Plain, With, Parted, NoGens, Gen, NoParts, Part, gens_of, parts_of}
-use Rattle.core_facts.specs.Facts.{Facts, note_all, right_facts, in_part}
+use Rattle.core_facts.specs.Facts.{Fact, Facts, note_all, right_facts, in_part}
 use Rattle.core_loops.specs.Steps.{fact_ways}
 use Rattle.partable_loops.specs.Planned.{IsPlannable, PlanFits}
 use Rattle.partable_loops.specs.declared.planning.PartPlan.{PartPlan}
@@ -21,6 +21,16 @@ IsLeft bases first above k s op gens =
     (base : Base) → bases (base_var op) ≡ Some base → (base_var op).0 < first → IsPlannable k above s op gens → ⊥
 
 module _ (bases : Var → Option Base) (first : ℕ) where
+  -- the base of a with-loop, if it is that of a variable of the function where the walk began
+  abbrev pub old_base : CoreOp → Option Base
+  old_base op = if nat_lt (base_var op).0 first then bases (base_var op) else None
+
+  -- a plan that fits, and the base of such a variable
+  pub record IsPlanned (k : Facts) (above : ℕ) (op : CoreOp) (gens : GensTerm) (base : Base) (plan : PartPlan) : Type 0 where
+    pub fits : (s : Site) (b : Base) → PlanFits k above s op gens b plan
+    pub known : bases (base_var op) ≡ Some base
+    pub old : (base_var op).0 < first
+
   -- the parted loop of a plan, whose variables have the next numbers
   pub record ReplacedAt (p q : Progress) (k : Facts) (s : Site) (op : CoreOp) (gens : List GenTerm) (right : RightTerm) : Type 0 where
     pub plan : PartPlan
@@ -41,6 +51,10 @@ module _ (bases : Var → Option Base) (first : ℕ) where
     pub at : ReplacedAt p q k site op gens right
     pub before : b ≡ Bind targets site (With op (gens_of gens)) rest
     pub now : c ≡ Bind targets site right rest
+
+-- what is known of the values of a right side wherever it stands
+abbrev pub IsKnownAnywhere : RightTerm → List Fact → Type 0
+IsKnownAnywhere r facts = (called : ℕ → List (Option (List ℕ))) (k : Facts) → facts ≡ right_facts called r k
 
 -- ---- all with-loops of a term
 

@@ -1,38 +1,26 @@
 //! One walk over a block in which each partable with-loop becomes a parted loop, inner ones first.
 
-ghost use Rattle.std.specs.Prelude.{◌≡◌, ◌-◌, [], IfOk, OnOk, map, drop, length};
+ghost use Rattle.std.specs.Prelude.{◌≡◌, ◌-◌, IfOk, OnOk, map, drop, length};
 ghost use Rattle.sac_base.specs.declared.site.Site.{Site as SiteOf};
-ghost use Rattle.core_ir.specs.Terms.{With, gens_of};
-ghost use Rattle.core_ir.specs.View.{block_term, let_term, right_term, gen_term, parted_term, part_term};
-ghost use Rattle.core_facts.specs.Facts.{note_all, block_facts, right_facts, unknown};
+ghost use Rattle.core_ir.specs.Terms.{gens_of};
+ghost use Rattle.core_ir.specs.View.{block_term, let_term, right_term, with_term, gen_term, parted_term, part_term};
+ghost use Rattle.core_facts.specs.Facts.{note_all, block_facts, right_facts};
 ghost use Rattle.fact_table.specs.Table.{fact_of, facts_of};
 ghost use Rattle.plain_facts.specs.Called.{shapes_of};
 ghost use Rattle.variable_bases.specs.Table.{base_in};
-ghost use Rattle.norm_walk.specs.Replacing.{BlockWalked, RightWalked, LetWalked, GensWalked, GenWalked, PartWalked, WithWalked};
+ghost use Rattle.norm_walk.specs.Replacing.{BlockWalked, RightWalked, LetWalked, GensWalked, GenWalked, PartWalked};
 
+use crate::given::Given;
 use crate::known::{KnownBlock, KnownRight};
-use core_ir::{Block, CoreGen, CoreOp, CorePart, Let, PartedLoop, Right, WithLoop};
-use fact_table::{FactTable, Known};
-use partable_loops::{PartPlan, part_plan};
-use parted_bodies::{Progress, base_var, parted_op, parts_of};
+use crate::parting::{known_parted, replace_with};
+use core_ir::{Block, CoreGen, CorePart, Let, PartedLoop, Right, WithLoop};
+use fact_table::FactTable;
+use parted_bodies::Progress;
 use plain_facts::{
-    CalledShapes, common_facts, forget, forget_index, known_of, learn_all, learn_index,
-    parted_shape, plain_fact,
+    common_facts, forget, forget_index, known_of, learn_all, learn_index, plain_fact,
 };
 use sac_base::{Memory, Site};
 use std::alloc::Global;
-use variable_bases::BaseTable;
-
-/// What a walk over a function reads.
-#[derive(Clone, Copy)]
-pub struct Given<'a> {
-    /// The known shapes of the results of calls.
-    pub called: &'a CalledShapes,
-    /// The bases of the function's variables.
-    pub bases: &'a BaseTable,
-    /// One more than the greatest number of a variable where the walk began.
-    pub first: u64,
-}
 
 /// Replaces the partable with-loops of a block by parted loops.
 ///
@@ -154,10 +142,7 @@ fn norm_right(
             right: Right::Call { group, args },
             values: given.called.facts(alloc, group)?,
         }),
-        Right::With(w) => {
-            let WithLoop { gens, op } = w;
-            norm_with(alloc, op, gens, site, given, table, progress)
-        }
+        Right::With(w) => norm_with(alloc, w, site, given, table, progress),
         Right::Parted(p) => norm_parted(alloc, p, given, table, progress),
         plain => {
             let known = plain_fact(alloc, &plain, table)?;
@@ -170,18 +155,18 @@ fn norm_right(
 #[cycle(norming)]
 fn norm_with(
     alloc: Global,
-    op: CoreOp,
-    gens: Vec<CoreGen>,
+    with: WithLoop,
     site: Site,
     given: &Given<'_>,
     table: &mut FactTable,
     progress: &mut Progress,
 ) -> Result<KnownRight, Memory>
     ensures walked { IfOk result (λ new. RightWalked (shapes_of given.now.called.now) (base_in given.now.bases.now) given.now.first (facts_of table.old)
-        progress.old progress.new site (With op (gens_of (map gen_term gens.items))) (right_term new.right)) }
+        progress.old progress.new site (with_term with) (right_term new.right)) }
     ensures known { IfOk result (λ new. map fact_of new.values.items ≡ right_facts (shapes_of given.now.called.now) (right_term new.right) (facts_of table.old)) }
     ensures table { OnOk result (table.new ≡ table.old) }
 {
+    let WithLoop { gens, op } = with;
     let gens = norm_gens(alloc, gens, given, table, progress)?;
     replace_with(alloc, op, gens, site, given, table, progress)
 }
@@ -218,79 +203,34 @@ fn norm_gen(
         progress.old progress.new (gen_term generator) (gen_term new)) }
     ensures table { OnOk result (table.new ≡ table.old) }
 {
+    let CoreGen {
+        lower,
+        lower_closed,
+        upper,
+        upper_closed,
+        step,
+        width,
+        index,
+        names,
+        body,
+        site,
+    } = generator;
     let outer = table.mark();
-    forget_index(alloc, table, generator.index, &generator.names)?;
-    let body = norm_block(alloc, generator.body, given, table, progress)?;
+    forget_index(alloc, table, index, &names)?;
+    let body = norm_block(alloc, body, given, table, progress)?;
     table.undo(outer);
     Ok(CoreGen {
-        lower: generator.lower,
-        lower_closed: generator.lower_closed,
-        upper: generator.upper,
-        upper_closed: generator.upper_closed,
-        step: generator.step,
-        width: generator.width,
-        index: generator.index,
-        names: generator.names,
+        lower,
+        lower_closed,
+        upper,
+        upper_closed,
+        step,
+        width,
+        index,
+        names,
         body: body.block,
-        site: generator.site,
+        site,
     })
-}
-
-/// The with-loop itself, if it can become a parted loop and its base is that of a variable of the function where the walk began.
-fn replace_with(
-    alloc: Global,
-    op: CoreOp,
-    gens: Vec<CoreGen>,
-    site: Site,
-    given: &Given<'_>,
-    table: &FactTable,
-    progress: &mut Progress,
-) -> Result<KnownRight, Memory>
-    ensures walked { IfOk result (λ new. WithWalked (shapes_of given.now.called.now) (base_in given.now.bases.now) given.now.first (facts_of table.now)
-        progress.old progress.new site op (gens_of (map gen_term gens.items)) (right_term new.right)) }
-    ensures known { IfOk result (λ new. map fact_of new.values.items ≡ right_facts (shapes_of given.now.called.now) (right_term new.right) (facts_of table.now)) }
-{
-    let source = base_var(op);
-    let Some(base) = given.bases.of(source) else {
-        return unchanged(alloc, op, gens);
-    };
-    if u64::from(source.0) >= given.first {
-        return unchanged(alloc, op, gens);
-    }
-    let Some(plan) = part_plan(alloc, table, progress.next, op, &gens)? else {
-        return unchanged(alloc, op, gens);
-    };
-    let PartPlan { frame, cell, parts } = plan;
-    let parts = parts_of(alloc, op, site, &gens, parts, progress)?;
-    progress.count()?;
-    known_parted(
-        alloc,
-        PartedLoop {
-            frame,
-            base,
-            cell,
-            op: parted_op(op),
-            parts,
-        },
-    )
-}
-
-fn unchanged(alloc: Global, op: CoreOp, gens: Vec<CoreGen>) -> Result<KnownRight, Memory>
-    ensures right { IfOk result (λ new. right_term new.right ≡ With op (gens_of (map gen_term gens.items))) }
-    ensures known { IfOk result (λ new. new.values.items ≡ []) }
-{
-    Ok(KnownRight {
-        right: Right::With(WithLoop { gens, op }),
-        values: Vec::new(alloc),
-    })
-}
-
-fn known_parted(alloc: Global, parted: PartedLoop) -> Result<KnownRight, Memory>
-    ensures right { IfOk result (λ new. right_term new.right ≡ parted_term parted) }
-    ensures known { IfOk result (λ new. map fact_of new.values.items ≡ right_facts (λ _. []) (parted_term parted) (λ _. unknown)) }
-{
-    let shape = parted_shape(alloc, &parted.frame, &parted.cell, parted.op);
-    KnownRight::of_one(alloc, Right::Parted(parted), Known::of_shape(shape))
 }
 
 #[cycle(norming)]
@@ -341,14 +281,20 @@ fn norm_part(
         progress.old progress.new (part_term part) (part_term new)) }
     ensures table { OnOk result (table.new ≡ table.old) }
 {
+    let CorePart {
+        grid,
+        index,
+        body,
+        site,
+    } = part;
     let outer = table.mark();
-    learn_index(alloc, table, part.index, &part.grid)?;
-    let body = norm_block(alloc, part.body, given, table, progress)?;
+    learn_index(alloc, table, index, &grid)?;
+    let body = norm_block(alloc, body, given, table, progress)?;
     table.undo(outer);
     Ok(CorePart {
-        grid: part.grid,
-        index: part.index,
+        grid,
+        index,
         body: body.block,
-        site: part.site,
+        site,
     })
 }

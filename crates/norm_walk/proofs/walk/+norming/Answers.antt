@@ -1,4 +1,4 @@
-use Rattle.std.proofs.Common.{◌-◌, ◌∙◌, ap, refl, sym, subst, map, length, List}
+use Rattle.std.proofs.Common.{◌-◌, ◌∙◌, ◌≡◌, [], ◌∷◌, ap, refl, sym, subst, map, length, List}
 use Rattle.std.specs.Prelude.{drop}
 use Rattle.fact_table.specs.Table.{facts_of}
 use Rattle.plain_facts.specs.Called.{shapes_of}
@@ -7,12 +7,13 @@ use Rattle.scoped_table.proofs.Marks.{earlier_on, none_gone}
 use Rattle.norm_walk.proofs.Noting.{none_left}
 use Rattle.core_ir.specs.declared.tree.CoreGen.{CoreGen, out-CoreGen}
 use Rattle.core_ir.specs.declared.tree.CorePart.{CorePart, out-CorePart}
-use Rattle.core_ir.specs.View.{gen_term, part_term}
+use Rattle.core_ir.specs.View.{block_term, gen_term, part_term, right_term}
 use Rattle.core_ir.specs.Terms.{gens_of}
 use Rattle.fact_table.specs.Notes.{Note}
-use Rattle.norm_walk.specs.Replacing.{GensWalked, GenWalked, PartWalked}
-use Rattle.norm_walk.proofs.Ends.{gen_end, part_end, ok_moved}
-use Rattle.norm_walk.proofs.Walking.{going_first, going_on, block_walked, block_known, gens_first, gens_on, gens_done, parts_first, parts_on, parts_done, with_walked}
+use Rattle.core_facts.specs.Facts.{Facts, note_all}
+use Rattle.norm_walk.specs.Replacing.{BlockWalked, GensWalked, GenWalked, PartWalked}
+use Rattle.norm_walk.proofs.Ends.{gen_end, part_end, let_end, with_end, parted_end, known_here, choice_end, turns_end, call_end, IsOther, other_known, kept, other_walked}
+use Rattle.norm_walk.proofs.Walking.{going_first, going_on, block_walked, block_known, gens_first, gens_on, gens_done, parts_first, parts_on}
 use Rattle.norm_walk.proofs.walk.+norming.Goals as goal
 
 pub norm_block-loop-binding-init : goal.norm_block-loop-binding-init
@@ -81,7 +82,17 @@ norm_gens-returns-clause-walked t c =
     (gens_done (shapes_of given.called.now) (base_in given.bases.now) given.first (facts_of c.args.table.now) c.args.progress.now c.loop-generator.progress _ c.loop-generator.normal.items c.loop-generator.generator-iterator.rest.items c.loop-generator.invariant.going none)
 
 pub norm_gen-returns-clause-walked : goal.norm_gen-returns-clause-walked
-norm_gen-returns-clause-walked t c = ?
+norm_gen-returns-clause-walked t c =
+    let given = c.args.given.now in
+    let called = shapes_of given.called.now in
+    let bases = base_in given.bases.now in
+    let p = c.args.progress.now in
+    let q = c.norm_block.new.progress in
+    let new = c.in_ok-body.body.block in
+    let g = c.args.generator in
+    gen_end called bases given.first (facts_of c.args.table.now) p q g new
+    (subst (λ (f : Facts). BlockWalked called bases given.first f p q (block_term (out-CoreGen g).body) (block_term new)) (c.in_ok-forget_index.ensures.forgotten ∙ ap (λ xs. note_all (facts_of c.args.table.now) ((out-CoreGen g).index ∷ xs) []) c.deref.ensures.value)
+    c.in_ok-body.ensures.walked)
 
 pub norm_gen-returns-clause-table : goal.norm_gen-returns-clause-table
 norm_gen-returns-clause-table t c =
@@ -90,7 +101,16 @@ norm_gen-returns-clause-table t c =
     ∙ c.in_ok-forget_index.ensures.behind
 
 pub norm_part-returns-clause-walked : goal.norm_part-returns-clause-walked
-norm_part-returns-clause-walked t c = ?
+norm_part-returns-clause-walked t c =
+    let given = c.args.given.now in
+    let called = shapes_of given.called.now in
+    let bases = base_in given.bases.now in
+    let p = c.args.progress.now in
+    let q = c.norm_block.new.progress in
+    let new = c.in_ok-body.body.block in
+    let g = c.args.part in
+    part_end called bases given.first (facts_of c.args.table.now) p q g new
+    (subst (λ (f : Facts). BlockWalked called bases given.first f p q (block_term (out-CorePart g).body) (block_term new)) c.in_ok-learn_index.ensures.learned c.in_ok-body.ensures.walked)
 
 pub norm_part-returns-clause-table : goal.norm_part-returns-clause-table
 norm_part-returns-clause-table t c =
@@ -117,16 +137,58 @@ norm_parted-loop-part-preserved t c =
     }
 
 pub norm_parted-returns-clause-walked : goal.norm_parted-returns-clause-walked
-norm_parted-returns-clause-walked t c = ?
+norm_parted-returns-clause-walked t c =
+    let given = c.args.given.now in
+    let none = none_left c.loop-part.part-iterator.rest.len c.loop-part.part-iterator.rest.items c.in-None.ensures.steps.0 c.loop-part.part-iterator.rest.ok.0 in
+    parted_end (shapes_of given.called.now) (base_in given.bases.now) given.first (facts_of c.args.table.now) c.args.progress.now c.loop-part.progress c.known_parted.result
+    c.into_iter-part-iterator.result.rest.items c.loop-part.part-iterator.rest.items c.loop-part.normal c.args.parted c.known_parted.ensures.right c.loop-part.invariant.going none c.into_iter-part-iterator.ensures.into_iter_gives.0
 
 pub norm_parted-returns-clause-known : goal.norm_parted-returns-clause-known
-norm_parted-returns-clause-known t c = ?
+norm_parted-returns-clause-known t c = known_here c.known_parted.result (shapes_of c.args.given.now.called.now) (facts_of c.args.table.now) c.known_parted.ensures.known
 
 pub norm_with-returns-clause-walked : goal.norm_with-returns-clause-walked
-norm_with-returns-clause-walked t c = ?
+norm_with-returns-clause-walked t c =
+    let given = c.args.given.now in
+    with_end (shapes_of given.called.now) (base_in given.bases.now) given.first (facts_of c.args.table.now) (facts_of c.norm_gens.new.table) c.args.progress.now c.norm_gens.new.progress c.replace_with.new.progress c.args.site c.args.with c.in_ok-gens.gens.items
+    c.replace_with.result (ap facts_of c.in_ok-gens.ensures.table) c.in_ok-gens.ensures.walked c.replace_with.ensures.walked
 
 pub norm_with-returns-clause-known : goal.norm_with-returns-clause-known
-norm_with-returns-clause-known t c = ?
+norm_with-returns-clause-known t c = known_here c.replace_with.result (shapes_of c.args.given.now.called.now) (facts_of c.args.table.now) c.replace_with.ensures.known
 
 pub norm_binding-returns-clause-walked : goal.norm_binding-returns-clause-walked
-norm_binding-returns-clause-walked t c = ?
+norm_binding-returns-clause-walked t c =
+    let given = c.args.given.now in
+    let old = c.args.binding in
+    let_end (shapes_of given.called.now) (base_in given.bases.now) given.first (facts_of c.args.table.now) c.args.progress.now c.norm_right.new.progress old.targets.items old.site (right_term old.right) (right_term c.in_ok-right.field-0.right) c.in_ok-right.ensures.walked
+
+pub norm_right-returns-in_ok-values-in-If-clause-walked : goal.norm_right-returns-in_ok-values-in-If-clause-walked
+norm_right-returns-in_ok-values-in-If-clause-walked t c =
+    let given = c.args.given.now in
+    choice_end (shapes_of given.called.now) (base_in given.bases.now) given.first (facts_of c.args.table.now) (facts_of c.norm_block.new.table) c.args.progress.now c.norm_block.new.progress c.norm_block-in-If.new.progress c.args.site
+    c.in-If.cond c.in-If.yes c.in-If.no c.in_ok-yes-in-If.yes.block c.in_ok-no-in-If.no.block c.args.right c.in-If.is (ap facts_of c.in_ok-yes-in-If.ensures.table) c.in_ok-yes-in-If.ensures.walked c.in_ok-no-in-If.ensures.walked
+
+pub norm_right-returns-in_ok-body-in-Loop-clause-walked : goal.norm_right-returns-in_ok-body-in-Loop-clause-walked
+norm_right-returns-in_ok-body-in-Loop-clause-walked t c =
+    let given = c.args.given.now in
+    let k = facts_of c.args.table.now in
+    turns_end (shapes_of given.called.now) (base_in given.bases.now) given.first k (facts_of c.forget.new.table) (facts_of c.norm_block-in-Loop.new.table) c.args.progress.now c.norm_block-in-Loop.new.progress c.norm_block-in-Loop-2.new.progress c.args.site
+    c.in-Loop.first_body c.in-Loop.start c.in-Loop.params c.in-Loop.test_site c.in-Loop.test c.in-Loop.body c.in_ok-test-in-Loop.test.block c.in_ok-body-in-Loop.body.block c.args.right c.in-Loop.is
+    (c.in_ok-forget-in-Loop.ensures.forgotten ∙ ap (λ xs. note_all k xs []) c.deref-in-Loop.ensures.value) (ap facts_of c.in_ok-test-in-Loop.ensures.table) c.in_ok-test-in-Loop.ensures.walked c.in_ok-body-in-Loop.ensures.walked
+
+pub norm_right-returns-in_ok-facts-in-Call-clause-walked : goal.norm_right-returns-in_ok-facts-in-Call-clause-walked
+norm_right-returns-in_ok-facts-in-Call-clause-walked t c =
+    let given = c.args.given.now in
+    call_end (shapes_of given.called.now) (base_in given.bases.now) given.first (facts_of c.args.table.now) c.args.progress.now c.args.site c.in-Call.group c.in-Call.args c.args.right c.in-Call.is
+
+pub norm_right-returns-in_ok-known-in_default : goal.norm_right-returns-in_ok-known-in_default
+norm_right-returns-in_ok-known-in_default t c =
+    let given = c.args.given.now in
+    let called = shapes_of given.called.now in
+    let k = facts_of c.args.table.now in
+    let arm = c.in_default in
+    let other : IsOther c.args.right = (arm.not-If, arm.not-Loop, arm.not-Call, arm.not-With, arm.not-Parted) in
+    record {
+      walked = other_walked called (base_in given.bases.now) given.first k c.args.progress.now c.args.site c.args.right c.of_one.result other c.of_one.ensures.right;
+      known = other_known called k c.args.right _ c.of_one.result other c.in_ok-known-in_default.ensures c.of_one.ensures.right c.of_one.ensures.known;
+      table = kept c.of_one.result c.args.table.now;
+    }
