@@ -28,7 +28,7 @@ use with_norm::normalise;
 #[derive(Drop)]
 pub struct Compiled {
     pub code: Code,
-    /// How many with-loops were folded into others, and parted ones made.
+    /// How many with-loops were folded into others.
     pub folded: u64,
     /// How many with-loops were merged with the ones in their cells.
     pub scalarised: u64,
