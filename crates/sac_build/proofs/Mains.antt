@@ -64,14 +64,15 @@ code_at code core same f e = go (slice_get code.functions code.main) refl
 
 -- ---- all passes
 
-pub main_takes_forms : (p : ProgramTree) (forms : List Form) (core inlined special settled : CoreTerm) (code : CodeProgram) → core ≡ lowered_program p
-    → SameOutside core inlined → IsWellFormed special → MainTakes inlined special forms → SameOutside special settled → core_of_code code ≡ settled
+pub main_takes_forms : (p : ProgramTree) (forms : List Form) (core inlined special settled normal : CoreTerm) (code : CodeProgram) → core ≡ lowered_program p
+    → SameOutside core inlined → IsWellFormed special → MainTakes inlined special forms → SameOutside special settled → SameOutside settled normal → core_of_code code ≡ normal
     → MainTakesForms p forms code
-main_takes_forms p forms core inlined special settled code lowered first well takes second same f e fit =
+main_takes_forms p forms core inlined special settled normal code lowered first well takes second third same f e fit =
     let from : slice_get core.functions core.main ≡ Some (lowered_function p.functions f) = (λ i. slice_get (lowered i).functions (lowered i).main) ∙ lowered_main p f e in
     let one = main_at core inlined first (lowered_function p.functions f) from in
     let types : source.param_types f ≡ param_types one.0 = sym (same_params 0 f.params) ∙ one.1.1 in
     let exact = takes one.0 well.main.0 one.1.0 well.main.1.0 (ap (λ ts. all_have_forms ts forms) (sym types) ∙ fit) in
     let two = main_at special settled second well.main.0 well.main.1.0 in
-    let three = code_at code settled same two.0 two.1.0 in
-    (three.0, (three.1.0, subst (λ ts. AreExact ts forms) (two.1.1 ∙ ap param_types (sym three.1.1)) exact))
+    let three = main_at settled normal third two.0 two.1.0 in
+    let four = code_at code normal same three.0 three.1.0 in
+    (four.0, (four.1.0, subst (λ ts. AreExact ts forms) (two.1.1 ∙ three.1.1 ∙ ap param_types (sym four.1.1)) exact))

@@ -22,12 +22,13 @@ use single_assign::to_core;
 use specialise::specialise;
 use std::alloc::Global;
 use type_check::Checked;
+use with_norm::normalise;
 
 /// What a program was compiled to.
 #[derive(Drop)]
 pub struct Compiled {
     pub code: Code,
-    /// How many with-loops were folded into others, and parted ones made.
+    /// How many with-loops were folded into others.
     pub folded: u64,
     /// How many with-loops were merged with the ones in their cells.
     pub scalarised: u64,
@@ -56,7 +57,8 @@ pub fn compile(alloc: Global, checked: &Checked, forms: &[Form]) -> Result<Compi
     let inlined = inline_all(alloc, core)?;
     let special = specialise(alloc, inlined, forms)?;
     let settled = propagate(alloc, special)?;
-    let code = count_refs(alloc, settled)?;
+    let (normal, _) = normalise(alloc, settled)?;
+    let code = count_refs(alloc, normal)?;
     Ok(Compiled {
         code,
         folded: 0,

@@ -4,3 +4,4 @@ mod Parts
 mod Fits
 mod Walks
 mod Rounds
+mod Turns

@@ -8,18 +8,22 @@ use Rattle.sac_build.proofs.compiler.compile.Goals as goal
 
 pub returns-clause-counted : goal.returns-clause-counted
 returns-clause-counted c formed =
-    c.in_ok-code.ensures.counted (c.in_ok-settled.ensures.well (c.in_ok-special.ensures.well (c.in_ok-inlined.ensures.well (c.in_ok-core.ensures.well_formed formed))))
+    let special = c.in_ok-special.ensures.well (c.in_ok-inlined.ensures.well (c.in_ok-core.ensures.well_formed formed)) in
+    c.in_ok-code.ensures.counted (c.in_ok-normal.ensures.well (c.in_ok-settled.ensures.well special))
 
 pub returns-clause-prompt : goal.returns-clause-prompt
 returns-clause-prompt c formed =
-    c.in_ok-code.ensures.prompt (c.in_ok-settled.ensures.well (c.in_ok-special.ensures.well (c.in_ok-inlined.ensures.well (c.in_ok-core.ensures.well_formed formed))))
+    let special = c.in_ok-special.ensures.well (c.in_ok-inlined.ensures.well (c.in_ok-core.ensures.well_formed formed)) in
+    c.in_ok-code.ensures.prompt (c.in_ok-normal.ensures.well (c.in_ok-settled.ensures.well special))
 
 pub returns-clause-outcome : goal.returns-clause-outcome
 returns-clause-outcome c formed args caps arrays forms =
     let well = c.in_ok-core.ensures.well_formed formed in
     let inlined = c.in_ok-inlined.ensures.well well in
     let special = c.in_ok-special.ensures.well inlined in
-    c.in_ok-code.ensures.outcome (c.in_ok-settled.ensures.well special) args caps
+    let settled = c.in_ok-settled.ensures.well special in
+    c.in_ok-code.ensures.outcome (c.in_ok-normal.ensures.well settled) args caps
+    ∙ sym (c.in_ok-normal.ensures.outcome settled args caps (all_full args arrays))
     ∙ sym (c.in_ok-settled.ensures.outcome special args caps (all_full args arrays))
     ∙ sym (c.in_ok-special.ensures.outcome inlined args caps forms)
     ∙ sym (c.in_ok-inlined.ensures.outcome well args caps) ∙ c.in_ok-core.ensures.outcome formed args caps
@@ -28,5 +32,5 @@ pub returns-clause-main : goal.returns-clause-main
 returns-clause-main c formed =
     let inlined = c.in_ok-inlined.ensures.well (c.in_ok-core.ensures.well_formed formed) in
     main_takes_forms (tree c.args.checked.now.program) c.args.forms.now (core_term c.in_ok-core.core) (core_term c.in_ok-inlined.inlined) (core_term c.in_ok-special.special)
-    (core_term c.in_ok-settled.settled) (code_program c.in_ok-code.code) c.in_ok-core.ensures.lowered c.in_ok-inlined.ensures.outside (c.in_ok-special.ensures.well inlined)
-    (c.in_ok-special.ensures.main inlined) c.in_ok-settled.ensures.outside c.in_ok-code.ensures.same
+    (core_term c.in_ok-settled.settled) (core_term c.in_ok-normal.normal) (code_program c.in_ok-code.code) c.in_ok-core.ensures.lowered c.in_ok-inlined.ensures.outside
+    (c.in_ok-special.ensures.well inlined) (c.in_ok-special.ensures.main inlined) c.in_ok-settled.ensures.outside c.in_ok-normal.ensures.outside c.in_ok-code.ensures.same

@@ -1,0 +1,18 @@
+use Rattle.std.proofs.Common.{ℕ, sym, subst}
+use Rattle.core_ir.specs.View.{core_term}
+use Rattle.with_norm.specs.Normed.{Normalised}
+use Rattle.with_norm.proofs.Rounds.{normalised_itself, round_on}
+use Rattle.with_norm.proofs.pass.rounds.Goals as goal
+
+pub loop-round-init : goal.loop-round-init
+loop-round-init c = normalised_itself (core_term c.args.core)
+
+pub returns-then-count-eq0 : goal.returns-then-count-eq0
+returns-then-count-eq0 c =
+    subst (λ (n : ℕ). Normalised (core_term c.args.core) (core_term c.in_ok-next.next) n) (sym c.in-Some.ensures.1)
+    (round_on (core_term c.args.core) (core_term c.loop-round.core) (core_term c.in_ok-next.next) c.loop-round.replaced c.in_ok-next.count c.loop-round.invariant c.in_ok-next.ensures)
+
+pub loop-round-preserved : goal.loop-round-preserved
+loop-round-preserved c =
+    subst (λ (n : ℕ). Normalised (core_term c.args.core) (core_term c.in_ok-next.next) n) (sym c.in-Some.ensures.1)
+    (round_on (core_term c.args.core) (core_term c.loop-round.core) (core_term c.in_ok-next.next) c.loop-round.replaced c.in_ok-next.count c.loop-round.invariant c.in_ok-next.ensures)
