@@ -1,3 +1,6 @@
 pub mod Alike
+pub mod Blocks
+pub mod Jobs
 pub mod Over
 pub mod Places
+pub mod Rights
