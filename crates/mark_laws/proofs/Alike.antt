@@ -181,6 +181,15 @@ module _ (over : Var → Bool) (own : Var → List ℤ) where
     plain_same (PlainTerm.Always k) m fits s says = refl
     plain_same (PlainTerm.Check x t) m fits s says = λ i. checked t (first_same x [] s i)
 
+-- ---- what is known under the binders
+
+pub sound_part : (k : Facts) (e : Env) (g : PartHead) (index : List ℤ) → AreSound k e → has_vector g.grid index ≡ true → AreSound (Facts.in_part k g) (bind e g.index (vector Int index))
+sound_part k e g index sound q =
+    noted_one k e g.index (shape_fact (Some (length g.grid ∷ []))) (vector Int index) sound (record { shape = λ i. has_length g.grid index q i ∷ []; literal = tt; full = vector_full index })
+
+pub sound_gen : (k : Facts) (e : Env) (g : GenHead) (index : List ℤ) → AreSound k e → AreSound (note_all k (g.index ∷ g.names) []) (with_index e g index)
+sound_gen k e g index sound = noted k e (g.index ∷ g.names) [] (vector Int index ∷ map (scalar Int) index) sound (vector_full index, scalars_full index)
+
 -- ---- terms
 
 module _ (calls : CallMeaning) (turns : ℕ) (called : ℕ → List (Option (List ℕ))) (fit : CallsFit called calls) (over : Var → Bool) (own : Var → List ℤ) (fits : (v : Var) → over v ≡ true → All (FitsSigned w32) (own v)) where
@@ -270,15 +279,6 @@ module _ (calls : CallMeaning) (turns : ℕ) (called : ℕ → List (Option (Lis
       let p : Var → Bool = λ v. own_only called v (length (own v)) b (Facts.in_part k g) (inner_over m g.index v) in
       let q : Var → Bool = λ v. own_inner called v (length (own v)) rest k (m v) in
       (left p q only, right p q only)
-
-  -- ---- what is known under the binders
-
-  pub sound_part : (k : Facts) (e : Env) (g : PartHead) (index : List ℤ) → AreSound k e → has_vector g.grid index ≡ true → AreSound (Facts.in_part k g) (bind e g.index (vector Int index))
-  sound_part k e g index sound q =
-      noted_one k e g.index (shape_fact (Some (length g.grid ∷ []))) (vector Int index) sound (record { shape = λ i. has_length g.grid index q i ∷ []; literal = tt; full = vector_full index })
-
-  pub sound_gen : (k : Facts) (e : Env) (g : GenHead) (index : List ℤ) → AreSound k e → AreSound (note_all k (g.index ∷ g.names) []) (with_index e g index)
-  sound_gen k e g index sound = noted k e (g.index ∷ g.names) [] (vector Int index ∷ map (scalar Int) index) sound (vector_full index, scalars_full index)
 
   pub says_params : (m : Var → IndexFacts) (e : Env) (xs : List Var) (vs : List ArrayValue) → SaysOver m e → SaysOver (others_over m xs) (bind_all e xs vs)
   says_params m e xs vs says v h = says_others (own v) (m v) e xs vs (says v h)

@@ -2,7 +2,10 @@ pub mod Alike
 pub mod Blocks
 pub mod Gens
 pub mod Jobs
+pub mod Kept
+pub mod Marks
 pub mod Over
 pub mod Parts
 pub mod Places
 pub mod Rights
+pub mod Whole
