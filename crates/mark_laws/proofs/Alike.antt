@@ -1,5 +1,5 @@
 -- Code that reads its own element alone of some arrays means the same whatever other elements these have.
-use Rattle.std.proofs.Common.{◌≡◌, ℕ, Bool, true, false, ◌&&◌, not, cond, eqb, List, [], ◌∷◌, map, length, replicate, Option, Some, None, Ok, Err, refl, sym, ap, subst, ◌∙◌, arith, ℤ, pos, All, FitsSigned, w32, true≢false}
+use Rattle.std.proofs.Common.{◌≡◌, ℕ, Bool, true, false, ◌&&◌, not, cond, eqb, List, [], ◌∷◌, map, length, replicate, Option, Some, None, Ok, refl, sym, ap, subst, ◌∙◌, ℤ, pos, All, FitsSigned, w32, true≢false}
 use Rattle.std.specs.Prelude.{if◌then◌else◌, fold, option_map, option_to_list}
 use Rattle.std.specs.List.{list_all}
 use Rattle.std.specs.Ordering.{int_eq}
@@ -13,7 +13,7 @@ use Rattle.sac_base.specs.declared.site.Site.{Site}
 use Rattle.sac_base.specs.Arrays.{ArrayValue, scalar, vector, same_form}
 use Rattle.sac_base.specs.Grids.{has_vector, members}
 use Rattle.sac_base.specs.Operators.{unary, binary}
-use Rattle.sac_base.specs.Outcomes.{Ends, and_then, fault, at_site, choose}
+use Rattle.sac_base.specs.Outcomes.{and_then, fault, at_site, choose}
 use Rattle.sac_base.specs.Parts.{literal, select, replace, reshape, dim, shape_vector, condition}
 use Rattle.sac_base.specs.WithLoops.{with_value, each, combined}
 use Rattle.sac_base.specs.WithLoops as loops
@@ -23,8 +23,8 @@ use Rattle.core_ir.specs.declared.tree.CoreOp.TheVariants as making
 use Rattle.core_ir.specs.declared.tree.PartedOp.{PartedOp}
 use Rattle.core_ir.specs.declared.tree.PartedOp.TheVariants as parted
 use Rattle.core_ir.specs.Terms.{PlainTerm, GenHead, PartHead}
-use Rattle.core_ir.specs.Scopes.{plain_uses, op_uses, parted_uses}
-use Rattle.core_ir.specs.Meaning.{Env, CallMeaning, Cells, missing, bind, bind_all, checked, plain_value, first, one, loop_value, operation, with_index, name_count, generator, made_of, neutral_fits, cell_form, parted_value, run, right_value, generators, cells}
+use Rattle.core_ir.specs.Scopes.{op_uses, parted_uses}
+use Rattle.core_ir.specs.Meaning.{Env, CallMeaning, missing, bind, bind_all, checked, plain_value, first, one, loop_value, operation, with_index, name_count, generator, made_of, neutral_fits, cell_form, run, right_value, generators, cells}
 use Rattle.core_ir.proofs.Edited.{then_same, SameCells, same_cell_at}
 use Rattle.core_ir.proofs.Variables.{same_number}
 use Rattle.core_facts.specs.Facts.{Facts, note_all, shape_fact, DescribeAll, AreSound, right_facts, CallsFit}

@@ -12,7 +12,6 @@ use Rattle.core_ir.specs.Meaning.{CallMeaning, no_variables, bind_all, run}
 use Rattle.core_ir.specs.Outcome.{RunMeaning, param_types, param_vars, results_in, body_of, instances, group_at, chosen, run_chosen, call_chosen, call_by, run_inline, run_deeper}
 use Rattle.core_facts.proofs.Shapes.{ok_same, no_ok}
 use Rattle.core_facts.proofs.Sound.{then_ok}
-use Rattle.core_calls.specs.Nests.{StandsIn}
 use Rattle.core_calls.specs.Arrays.{AllFull, CallsKeepFull, InTypes, CallsKeep, KeepsArrays}
 use Rattle.core_calls.proofs.Full.{full_bound, block_full}
 use Rattle.core_calls.proofs.Nested.{chosen_in}

@@ -1,5 +1,5 @@
 -- With-loops do what their core means, where marks are right.
-use Rattle.std.proofs.Common.{◌≡◌, ℕ, ◌+◌, ◌≤◌, Bool, true, false, cond, eqb, List, [], ◌∷◌, ◌++◌, map, length, ℤ, Option, Some, None, Ok, Err, refl, ap, ◌∙◌, sym, subst, arith}
+use Rattle.std.proofs.Common.{◌≡◌, ℕ, ◌≤◌, Bool, true, false, cond, eqb, List, [], ◌∷◌, ◌++◌, map, length, ℤ, Option, Some, None, Ok, Err, refl, ap, sym, subst, arith}
 use Rattle.std.specs.Prelude.{if◌then◌else◌, option_map, option_to_list}
 use Rattle.std.proofs.lemmas.Bool.{eq-eqb}
 use Rattle.sac_base.specs.declared.base.Base.TheVariants.{Int}
@@ -17,7 +17,7 @@ use Rattle.core_ir.specs.Terms.{GenHead}
 use Rattle.core_ir.specs.Meaning.{Env, Answer, CallMeaning, one, first, bind_all, generator, operation, with_index, run, generators, name_count, right_value}
 use Rattle.counted_code.specs.Terms.{CodeTerm, CodeGensTerm, WithCode, NoCodeGens, GenCode, core_of, core_of_right, core_of_gens}
 use Rattle.counted_code.specs.Values.{Heap, Value, Small, Ended, Done, Failed, give, go_on, pure_end, read}
-use Rattle.counted_code.specs.Loops.{Source, Job, CodeGenerator, holder, is_fold, with_job, job_does}
+use Rattle.counted_code.specs.Loops.{Job, CodeGenerator, holder, is_fold, with_job, job_does}
 use Rattle.counted_code.specs.Machine.{Values, DoesCalls, missing_value, reads, first_of, first_value, bind_value, bind_values, bounds_of, with_index_value, does, right_does, code_generators}
 use Rattle.counted_code.specs.Counts.{Counted, CountedGens}
 use Rattle.counted_laws.specs.Simulation.{refers, held, Owns, AllBacked, Shows, SameCells, Matches, MatchesOne}

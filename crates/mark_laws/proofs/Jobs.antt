@@ -1,5 +1,5 @@
 -- A loop over cells with a mark does what its core means.
-use Rattle.std.proofs.Common.{◌≡◌, ℕ, suc, ◌+◌, ◌<◌, Bool, true, false, cond, drop, List, [], ◌∷◌, length, ℤ, pos, Option, Some, None, Ok, Err, refl, ap, ◌∙◌, sym, subst, arith}
+use Rattle.std.proofs.Common.{◌≡◌, ℕ, ◌+◌, ◌<◌, Bool, true, false, cond, drop, List, [], ◌∷◌, length, ℤ, pos, Option, Some, None, Ok, Err, refl, ap, ◌∙◌, sym, subst, arith}
 use Rattle.std.specs.Prelude.{◌==◌, ◌||◌, not, replicate}
 use Rattle.std.proofs.lemmas.Bool.{eqb-true, eq-eqb}
 use Rattle.sac_base.specs.declared.base.Base.{Base}
@@ -8,8 +8,8 @@ use Rattle.sac_base.specs.Outcomes.{Ends, and_then}
 use Rattle.sac_base.specs.Places.{vector_at}
 use Rattle.sac_base.specs.WithLoops.{each}
 use Rattle.core_ir.specs.Meaning.{Answer, one}
-use Rattle.counted_code.specs.Values.{Heap, Value, Small, Ref, Ended, Done, Failed, give, go_on, is_small, read, count_of, cells_of, release, take_buffer}
-use Rattle.counted_code.specs.Loops.{Source, Job, cells_do, Target, Inside, Fresh, Old, write_cell, settled, claim, claim_new, claim_old, count_phase, claimed_does, job_does}
+use Rattle.counted_code.specs.Values.{Heap, Value, Small, Ref, Ended, Done, Failed, give, go_on, is_small, count_of, cells_of, release, take_buffer}
+use Rattle.counted_code.specs.Loops.{Job, cells_do, Target, Inside, Fresh, Old, write_cell, settled, claim, claim_new, claim_old, count_phase, claimed_does, job_does}
 use Rattle.counted_code.specs.Machine.{one_value}
 use Rattle.counted_laws.specs.Simulation.{refers, held, Owns, SameCells, Matches}
 use Rattle.counted_laws.proofs.Held.{backed_reads, released_owns, released_same}

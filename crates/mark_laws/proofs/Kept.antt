@@ -1,6 +1,6 @@
 -- Arrays that are written over are bound outside of the cells, which hold no reference to them.
-use Rattle.std.proofs.Common.{◌≡◌, Bool, true, false, cond, eqb, List, [], ◌∷◌, ◌++◌, Option, Some, None, refl, sym, ap, subst, ◌∙◌, true≢false, inl, inr}
-use Rattle.std.specs.Prelude.{◌||◌, option_to_list}
+use Rattle.std.proofs.Common.{◌≡◌, Bool, true, false, eqb, List, [], ◌∷◌, ◌++◌, refl, sym, subst, ◌∙◌, true≢false, inl, inr}
+use Rattle.std.specs.Prelude.{◌||◌}
 use Rattle.core_ir.specs.declared.tree.Var.{Var}
 use Rattle.core_ir.specs.Binders.{is_in, NoneIn}
 use Rattle.core_ir.proofs.Variables.{same_number}

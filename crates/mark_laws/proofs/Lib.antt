@@ -11,4 +11,5 @@ pub mod Over
 pub mod Parts
 pub mod Places
 pub mod Rights
+pub mod Rows
 pub mod Whole

@@ -1,12 +1,10 @@
 -- In well-marked code marks are right in each run, as far as arrays that are written over allow.
 use Rattle.std.proofs.Common.{◌≡◌, ℕ, Bool, true, false, cond, eqb, List, [], ◌∷◌, ◌++◌, map, length, Option, Some, None, Ok, refl, sym, ap, subst, ◌∙◌, ℤ, All, FitsSigned, w32}
-use Rattle.std.specs.Prelude.{◌||◌, ◌&&◌, zip}
-use Rattle.std.proofs.lemmas.Bool.{eq-eqb}
+use Rattle.std.specs.Prelude.{◌||◌, zip}
 use Rattle.std.proofs.lemmas.List.Elements.{All-head, All-tail}
 use Rattle.sac_base.specs.declared.base.Base.{Base}
 use Rattle.sac_base.specs.declared.base.Base.TheVariants.{Int, Bool as Truth}
 use Rattle.sac_base.specs.declared.grid.Grid1.{Grid1}
-use Rattle.sac_base.specs.declared.site.Site.{Site}
 use Rattle.sac_base.specs.Arrays.{ArrayValue, IsFull, scalar, vector}
 use Rattle.sac_base.specs.Grids.{has_vector}
 use Rattle.sac_base.specs.Outcomes.{first_result}
@@ -14,7 +12,6 @@ use Rattle.sac_base.specs.Parts.{select}
 use Rattle.core_ir.specs.declared.tree.Var.{Var}
 use Rattle.core_ir.specs.declared.tree.PartedOp.{PartedOp}
 use Rattle.core_ir.specs.declared.tree.PartedOp.TheVariants as parted
-use Rattle.core_ir.specs.Binders.{is_in}
 use Rattle.core_ir.specs.Terms.{CoreTerm, PartHead}
 use Rattle.core_ir.specs.Meaning.{Env, Answer, CallMeaning, bind, bind_all, extents, first, with_index, run, right_value}
 use Rattle.core_ir.specs.WellFormed.{Bases, BlockBases, RightBases, GensBases, PartsBases, PartedFits, part_grids, ints}
@@ -27,7 +24,7 @@ use Rattle.core_facts.proofs.Sound.{noted, full_env, all_full, described, then_o
 use Rattle.core_facts.proofs.Settle.{has_length, vector_full, scalars_full}
 use Rattle.core_calls.proofs.Full.{block_full}
 use Rattle.core_fold.specs.Cells.{IsBox}
-use Rattle.core_loops.specs.Indices.{IndexFact, IndexFacts, Other, own_index, note_index, note_others}
+use Rattle.core_loops.specs.Indices.{IndexFacts, Other, own_index, note_index, note_others}
 use Rattle.core_loops.specs.Pairs.{Makes}
 use Rattle.core_uses.specs.Tests.{none_is}
 use Rattle.core_index_facts.specs.Says.{SaysAll}
@@ -37,9 +34,9 @@ use Rattle.counted_code.specs.Terms.{CodeTerm, CodeRightTerm, CodeGensTerm, Code
 use Rattle.counted_code.specs.Counts.{Reordered, Counted, CountedRight, CountedGens, CountedParts}
 use Rattle.counted_placing.proofs.Lists.{or_none}
 use Rattle.counted_marks.specs.Known.{Given, Known, learned, in_loop, in_gen, in_part}
-use Rattle.counted_marks.specs.Marks.{MayReuse, WellMarked, WellMarkedRight, WellMarkedGens, WellMarkedParts, own_only, own_right, own_gens, own_inner, own_parts}
+use Rattle.counted_marks.specs.Marks.{WellMarked, WellMarkedRight, WellMarkedGens, WellMarkedParts, own_only, own_right, own_gens, own_inner, own_parts}
 use Rattle.mark_laws.specs.Alike.{AlikeAt}
-use Rattle.mark_laws.specs.Holds.{Reached, at_start, after_turn, CanHold, MarksHold, MarksHoldRight, MarksHoldGens, MarksHoldParts, MarksHoldOver}
+use Rattle.mark_laws.specs.Holds.{Reached, at_start, after_turn, MarksHold, MarksHoldRight, MarksHoldGens, MarksHoldParts, MarksHoldOver}
 use Rattle.mark_laws.proofs.Alike.{AlikeBut, bound_alike, all_same, first_same, not_over, sound_part}
 use Rattle.mark_laws.proofs.Alike as alike
 use Rattle.mark_laws.proofs.Kept.{Kept, kept_right, kept_rest, kept_more, kept_less, kept_fresh, kept_outside, not_yet, kept_over}
@@ -201,15 +198,15 @@ module _ (core : CoreTerm) (results_of : ℕ → ℕ) (g : Given) (calls : CallM
         let o = alike.own_binding calls turns g.shapes fit over own seen.fits xs s r t k.facts m only in (
           right_holds r k over own m e f (length xs) outer mine after xs b bases.0 counted.3 (kept_right over outer refs mine after kept counted.2) well.0 bases.1.0 w.1 seen o.0,
           (λ vs p.
-          (let is : right_value calls turns (core_of_right r) s e ≡ Ok vs = sym (alike.right_same calls turns g.shapes fit over own seen.fits r s k.facts m e f o.0 w.1 seen.sound seen.says seen.same) ∙ p in
-          block_holds t (learned g k xs (core_of_right r)) over own (alike.learned_over calls turns g.shapes fit over own seen.fits m xs r k.facts) (bind_all e xs vs) (bind_all f xs vs) n outer (xs ++ after) (zip xs bases.0 ++ b) ts counted.6
-          (kept_rest over outer refs mine after xs kept counted.2 counted.5) well.1 bases.1.2 w.2
-          (record {
-            fits = seen.fits;
-            sound = alike.sound_learned calls turns g.shapes fit over own seen.fits xs s r k.facts e vs seen.sound is w.0 w.1;
-            says = alike.says_bound calls turns g.shapes fit over own seen.fits xs s r k.facts e vs seen.sound is m seen.says;
-            same = bound_alike over own e f xs vs seen.same;
-          }) o.1)),
+              (let is : right_value calls turns (core_of_right r) s e ≡ Ok vs = sym (alike.right_same calls turns g.shapes fit over own seen.fits r s k.facts m e f o.0 w.1 seen.sound seen.says seen.same) ∙ p in
+              block_holds t (learned g k xs (core_of_right r)) over own (alike.learned_over calls turns g.shapes fit over own seen.fits m xs r k.facts) (bind_all e xs vs) (bind_all f xs vs) n outer (xs ++ after) (zip xs bases.0 ++ b) ts counted.6
+              (kept_rest over outer refs mine after xs kept counted.2 counted.5) well.1 bases.1.2 w.2
+              (record {
+                fits = seen.fits;
+                sound = alike.sound_learned calls turns g.shapes fit over own seen.fits xs s r k.facts e vs seen.sound is w.0 w.1;
+                says = alike.says_bound calls turns g.shapes fit over own seen.fits xs s r k.facts e vs seen.sound is m seen.says;
+                same = bound_alike over own e f xs vs seen.same;
+              }) o.1)),
         )
     block_holds (Keeping x t) k over own m e f n outer refs b ts counted kept well bases w seen only =
         let o = alike.own_keeping calls turns g.shapes fit over own seen.fits x t k.facts m only in
@@ -249,7 +246,7 @@ module _ (core : CoreTerm) (results_of : ℕ → ℕ) (g : Given) (calls : CallM
             shape = ap (λ (a : ArrayValue). a.shape) (seen.same.others v other) ∙ shape;
           },
           over_hold parts k over own m e f v (after ++ outer) mine b base counted.3 kept counted.1 well.2 bases.1 w (words_inside op frame cell (part_grids (core_of_parts parts)) may.makes bases.2) seen
-          (alike.own_parted calls turns g.shapes fit over own seen.fits frame base cell op parts (Some v) k.facts m only).1 may.own,
+              (alike.own_parted calls turns g.shapes fit over own seen.fits frame base cell op parts (Some v) k.facts m only).1 may.own,
         )
 
     gens_hold : (gens : CodeGensTerm) (k : Known) (over : Var → Bool) (own : Var → List ℤ) (m : Var → IndexFacts) (e f : Env) (outer refs : List Var) (b : Bases) (t : Base) → CountedGens results_of outer gens → Kept over outer refs → WellMarkedGens g gens k → GensBases core b (core_of_gens gens) t → FullInsideGens calls turns (core_of_gens gens) → Seen over own m k.facts e f → OnlyGens over own m k.facts gens → MarksHoldGens calls turns gens f
@@ -258,9 +255,9 @@ module _ (core : CoreTerm) (results_of : ℕ → ℕ) (g : Given) (calls : CallM
         let o = alike.own_gen calls turns g.shapes fit over own seen.fits h body rest k.facts m only in
         let names = h.index ∷ h.names in (
           (λ index.
-          (let vs = vector Int index ∷ map (scalar Int) index in
-          block_holds body (in_gen k h) over own (λ v. note_others (m v) (h.index ∷ h.names)) (with_index e h index) (with_index f h index) 1 outer names (ints (h.index ∷ h.names) ++ b) (t ∷ []) counted.2 (kept_fresh over outer refs names kept counted.1) well.0 bases.4 w.0
-          (seen_params over own m k.facts e f seen names vs (vector_full index, scalars_full index)) o.1)),
+              (let vs = vector Int index ∷ map (scalar Int) index in
+              block_holds body (in_gen k h) over own (λ v. note_others (m v) (h.index ∷ h.names)) (with_index e h index) (with_index f h index) 1 outer names (ints (h.index ∷ h.names) ++ b) (t ∷ []) counted.2 (kept_fresh over outer refs names kept counted.1) well.0 bases.4 w.0
+              (seen_params over own m k.facts e f seen names vs (vector_full index, scalars_full index)) o.1)),
           gens_hold rest k over own m e f outer refs b t counted.3 kept well.1 bases.5 w.1 seen o.2,
         )
 
@@ -269,7 +266,7 @@ module _ (core : CoreTerm) (results_of : ℕ → ℕ) (g : Given) (calls : CallM
     parts_hold (PartCode h body rest) k over own m e f outer refs b t counted kept well bases w seen only =
         let o = alike.own_part calls turns g.shapes fit over own seen.fits h body rest k.facts m only in (
           (λ index q. block_holds body (in_part k h) over own (λ v. note_index (m v) h.index Other) (bind e h.index (vector Int index)) (bind f h.index (vector Int index)) 1 outer (h.index ∷ []) ((h.index, Int) ∷ b) (t ∷ []) counted.1 (kept_fresh over outer refs (h.index ∷ []) kept (counted.0, tt)) well.0 bases.0 w.0
-          (seen_part over own m k.facts e f seen h index q) o.0),
+              (seen_part over own m k.facts e f seen h index q) o.0),
           parts_hold rest k over own m e f outer refs b t counted.2 kept well.1 bases.1 w.1 seen o.1,
         )
 
@@ -280,17 +277,17 @@ module _ (core : CoreTerm) (results_of : ℕ → ℕ) (g : Given) (calls : CallM
         let its = and_both (own_only g.shapes v (length h.grid) body (Facts.in_part k.facts h) (own_index (length h.grid) h.index)) (own_parts g.shapes v rest k.facts) itself in
         let inner : Var → IndexFacts = λ y. note_index (m y) h.index Other in (
           (λ index q.
-          (let before = bind e h.index (vector Int index) in
-          let here = seen_part over own m k.facts e f seen h index q in (
-            (λ σ alike_at.
-            (let more = seen_more over own m v h index k.facts e f σ (not_yet over outer mine v kept order) seen words.0 q alike_at in
-            let only_now = only_more over own m v h index g.shapes body k.facts q its.0 o.0 in (
-              same_run (over_more over own m v h index) (own_more over own m v h index) (facts_more over own m v h index) (Facts.in_part k.facts h) before σ more body only_now w.0
-              ∙ sym (same_run over own inner (Facts.in_part k.facts h) before (bind f h.index (vector Int index)) here body o.0 w.0),
-              block_holds body (in_part k h) (over_more over own m v h index) (own_more over own m v h index) (facts_more over own m v h index) before σ 1 (mine ++ outer) (h.index ∷ []) ((h.index, Int) ∷ b) (t ∷ []) counted.1
-              (kept_over over outer mine v h.index kept order counted.0) well.0 bases.0 w.0 more only_now,
-            ))),
-            (λ a p. first_full (run calls turns (core_of body) (bind f h.index (vector Int index))) a (λ ws u. full_run over own inner (Facts.in_part k.facts h) before (bind f h.index (vector Int index)) here body ws o.0 w.0 u) p),
-          ))),
+              (let before = bind e h.index (vector Int index) in
+              let here = seen_part over own m k.facts e f seen h index q in (
+                (λ σ alike_at.
+                    (let more = seen_more over own m v h index k.facts e f σ (not_yet over outer mine v kept order) seen words.0 q alike_at in
+                    let only_now = only_more over own m v h index g.shapes body k.facts q its.0 o.0 in (
+                      same_run (over_more over own m v h index) (own_more over own m v h index) (facts_more over own m v h index) (Facts.in_part k.facts h) before σ more body only_now w.0
+                          ∙ sym (same_run over own inner (Facts.in_part k.facts h) before (bind f h.index (vector Int index)) here body o.0 w.0),
+                      block_holds body (in_part k h) (over_more over own m v h index) (own_more over own m v h index) (facts_more over own m v h index) before σ 1 (mine ++ outer) (h.index ∷ []) ((h.index, Int) ∷ b) (t ∷ []) counted.1
+                          (kept_over over outer mine v h.index kept order counted.0) well.0 bases.0 w.0 more only_now,
+                    ))),
+                (λ a p. first_full (run calls turns (core_of body) (bind f h.index (vector Int index))) a (λ ws u. full_run over own inner (Facts.in_part k.facts h) before (bind f h.index (vector Int index)) here body ws o.0 w.0 u) p),
+              ))),
           over_hold rest k over own m e f v outer mine b t counted.2 kept order well.1 bases.1 w.1 words.1 seen o.1 its.1,
         )

@@ -15,7 +15,7 @@ use Rattle.counted_code.specs.Terms.{CodeFunTerm, CodeProgram, core_of_fun, core
 use Rattle.counted_code.specs.Values.{Heap, empty_heap, Value, Small, Ref, Ended, Done, Failed, Doing, give, go_on, then_go, read, count_of, is_small, release, release_all, place_as, place_all, take_buffer}
 use Rattle.counted_code.specs.Outcome.{code_param_types, function_does, call_does_at, copied_out, main_does, whole_run, outcome_of}
 use Rattle.counted_code.specs.Counts.{IsWellCounted}
-use Rattle.counted_laws.specs.Simulation.{refers, Balanced, Owns, SameCells, Matches, LeavesNothing, GivesAllBack}
+use Rattle.counted_laws.specs.Simulation.{refers, Balanced, Owns, Matches, LeavesNothing, GivesAllBack}
 use Rattle.counted_laws.proofs.Held.{backed_reads, released_owns, live_none, taken_balance}
 use Rattle.counted_laws.proofs.Plains.{taken_cells, taken_owns, taken_same}
 use Rattle.counted_laws.proofs.Instances.{have_length}
@@ -112,7 +112,7 @@ ends_as_core code counted well args full caps =
         after_placing (length args) (length f.results) args (function_does caps.turns (call_does_at code caps.turns caps.depth) f) (function_value caps.turns (call_at (core_of_code code) caps.turns caps.depth) (core_of_fun f))
         (all_placed args empty_heap nobody empty_owns)
         (λ vs k z o same. function_runs code counted well caps.turns (call_does_at code caps.turns caps.depth) (call_at (core_of_code code) caps.turns caps.depth) (top_does code counted well caps.turns caps.depth) (top_keeps code counted well caps.turns caps.depth) code.main f is vs k nobody (z ∙ size) o
-            (subst AllFull (sym same) full) (subst (λ ws. all_have (code_param_types f) ws ≡ true) (sym same) e))
+        (subst AllFull (sym same) full) (subst (λ ws. all_have (code_param_types f) ws ≡ true) (sym same) e))
 
     go : (o : Option CodeFunTerm) → slice_get code.functions code.main ≡ o → EndsAs (main_does caps.turns (call_does_at code caps.turns caps.depth) o args empty_heap) (main_value caps.turns (call_at (core_of_code code) caps.turns caps.depth) (option_map core_of_fun o) args)
     go None is = (refl, tt, tt)

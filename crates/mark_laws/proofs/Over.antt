@@ -1,12 +1,11 @@
 -- A loop that writes its cells over an array, whose reference is the only one, gives what its core gives, if each cell reads of the array no more than
 -- what stands from its own place on.
 use Rattle.std.proofs.Common.{◌≡◌, ℕ, suc, ◌+◌, ◌*◌, ◌<◌, ◌≤◌, Bool, true, false, cond, eqb, List, [], ◌∷◌, map, length, drop, ℤ, Option, Some, None, Ok, Err, refl, ap, ◌∙◌, sym, subst, arith}
-use Rattle.std.specs.Prelude.{if◌then◌else◌, ◌&&◌}
+use Rattle.std.specs.Prelude.{if◌then◌else◌}
 use Rattle.std.proofs.lemmas.Bool.{eqb-true, eq-eqb}
 use Rattle.std.proofs.lemmas.Slice.Eq.{bytes_eq-Decides}
 use Rattle.sac_base.specs.declared.faults.FaultKind.TheVariants.{F6}
 use Rattle.sac_base.specs.declared.form.Form.{Form}
-use Rattle.sac_base.specs.declared.site.Site.{Site}
 use Rattle.sac_base.specs.Arrays.{ArrayValue, IsFull, size, same_base, same_shape}
 use Rattle.sac_base.specs.Operators.{all_of, with_first}
 use Rattle.sac_base.specs.Outcomes.{Ends, and_then, fault}
@@ -16,8 +15,8 @@ use Rattle.core_ir.specs.Meaning.{one}
 use Rattle.core_facts.proofs.Shapes.{ok_same, no_ok}
 use Rattle.core_facts.proofs.Sound.{then_ok}
 use Rattle.core_index_facts.proofs.Members.{and_both}
-use Rattle.counted_code.specs.Values.{Buffer, Heap, Value, Ref, Ended, Done, Failed, give, go_on, then_go, read, count_of, cells_of, with_cells}
-use Rattle.counted_code.specs.Loops.{Source, Job, cell_does, cells_do, Old, Inside, write_cell, written_at, claimed_does, count_phase}
+use Rattle.counted_code.specs.Values.{Buffer, Heap, Ref, Ended, Done, Failed, give, go_on, count_of, cells_of, with_cells}
+use Rattle.counted_code.specs.Loops.{Source, cell_does, cells_do, Old, Inside, write_cell, written_at}
 use Rattle.counted_laws.specs.Simulation.{Owns, SameCells, Matches, MatchesOne, MatchesPure}
 use Rattle.counted_laws.proofs.Held.{buffer_set, recelled_balance}
 use Rattle.counted_laws.proofs.Cells.{formed, Linked, cells_match, with_new}

@@ -1,5 +1,5 @@
 -- Parted loops, marked or not, do what their core means, where marks are right.
-use Rattle.std.proofs.Common.{◌≡◌, ℕ, suc, ◌+◌, ◌<◌, ◌≤◌, Bool, true, false, cond, eqb, List, [], ◌∷◌, ◌++◌, map, length, ℤ, Option, Some, None, Ok, Err, refl, ap, ◌∙◌, sym, subst, arith}
+use Rattle.std.proofs.Common.{◌≡◌, ℕ, suc, ◌+◌, ◌<◌, ◌≤◌, Bool, true, false, cond, eqb, List, [], ◌∷◌, ◌++◌, map, length, ℤ, Some, None, Ok, refl, ap, ◌∙◌, sym, subst, arith}
 use Rattle.std.specs.Prelude.{if◌then◌else◌, fold}
 use Rattle.std.proofs.lemmas.Bool.{eq-eqb}
 use Rattle.sac_base.specs.declared.base.Base.{Base}
@@ -25,7 +25,7 @@ use Rattle.core_ir.specs.Meaning.{Env, CallMeaning, one, first, bind, cell_form,
 use Rattle.core_ir.specs.Meaning as core
 use Rattle.core_ir.proofs.Variables.{same_number}
 use Rattle.counted_code.specs.Terms.{CodeTerm, CodePartsTerm, PartedCode, NoCodeParts, PartCode, core_of, core_of_right, core_of_parts}
-use Rattle.counted_code.specs.Values.{Heap, Value, Small, Ref, give, go_on, pure_end, read, cells_of}
+use Rattle.counted_code.specs.Values.{Heap, Small, Ref, give, go_on, pure_end, read, cells_of}
 use Rattle.counted_code.specs.Loops.{Job, CodeCells, part_holder, parted_folds, parted_shape, parted_job, job_does}
 use Rattle.counted_code.specs.Machine.{Values, DoesCalls, reads, first_value, bind_value, does, right_does, code_cells}
 use Rattle.counted_code.specs.Counts.{Reordered, none, stays, swaps, through, Counted, CountedParts}
@@ -36,12 +36,12 @@ use Rattle.counted_laws.proofs.Bound.{zero_not_suc, shown_at, turn_ready}
 use Rattle.counted_laws.proofs.Plains.{owns_none}
 use Rattle.counted_laws.proofs.Cells.{Linked, AlwaysLinked, job_matches}
 use Rattle.mark_laws.specs.Alike.{AlikeAt}
-use Rattle.mark_laws.specs.Holds.{CanHold, MarksHold, MarksHoldParts, MarksHoldOver}
+use Rattle.mark_laws.specs.Holds.{MarksHold, MarksHoldParts, MarksHoldOver}
 use Rattle.mark_laws.proofs.Blocks.{RightDoes, BlockDoes}
 use Rattle.mark_laws.proofs.Gens.{first_matches}
 use Rattle.mark_laws.proofs.Jobs.{CanTakeOver, marked_job}
 use Rattle.mark_laws.proofs.Over.{holding, Left, LinkedOver}
-use Rattle.mark_laws.proofs.Places.{From, frame_from, own_element}
+use Rattle.mark_laws.proofs.Places.{frame_from, own_element}
 
 -- each part's body does what it means
 abbrev pub PartsDo : (results_of : ℕ → ℕ) (does_calls : DoesCalls) (calls : CallMeaning) (turns : ℕ) → CodePartsTerm → Type 0
@@ -221,9 +221,16 @@ module _ (results_of : ℕ → ℕ) (does_calls : DoesCalls) (calls : CallMeanin
       linked index = parts_linked results_of does_calls calls turns h e ρ (λ d. refers d (e v) + others d) (mine ++ (after ++ outer)) backed ready.shows parts blocks counted.3 (unchanged v parts ρ marks.1) b c index
 
       taken : (buffer : ℕ) (base : Base) (shape : List ℕ) → e v ≡ Ref buffer base shape → CanTakeOver (parted_of f b c op (code_cells does_calls turns parts e) ρ) (cell_at (cell_form b c) (cells calls turns (core_of_parts parts) ρ)) h others buffer
-      taken buffer base shape is vacant =
-          (extents f, (marks.0.scalars, (frame_from f marks.0.frame_is_box,
-          (λ p index lt at. over_linked results_of does_calls calls turns h e ρ others v mine (after ++ outer) counted.1 ready.backed ready.shows buffer base shape is vacant (extents f) marks.0.shape (record { base = b; shape = c }) marks.0.scalars parts blocks counted.3 marks.1 p index lt at))))
+      taken buffer base shape is vacant = (
+        extents f,
+        (
+          marks.0.scalars,
+          (
+            frame_from f marks.0.frame_is_box,
+            (λ p index lt at. over_linked results_of does_calls calls turns h e ρ others v mine (after ++ outer) counted.1 ready.backed ready.shows buffer base shape is vacant (extents f) marks.0.shape (record { base = b; shape = c }) marks.0.scalars parts blocks counted.3 marks.1 p index lt at),
+          ),
+        ),
+      )
 
       go : (fits : Bool) → Matches 1 others h (go_on (go_on (pure_end (if fits then Ok (parted_of f b c op (code_cells does_calls turns parts e) ρ) else fault F6 s) h) (job_does (Some (e v)))) (λ u. give (u ∷ []))) (one (if fits then and_then (each (cell_at (cell_form b c) (cells calls turns (core_of_parts parts) ρ)) (members f)) (λ found. Ok (made_of f b c op ρ found)) else fault F6 s))
       go true = marked_job (parted_of f b c op (code_cells does_calls turns parts e) ρ) (cell_at (cell_form b c) (cells calls turns (core_of_parts parts) ρ)) h others (e v) owns linked taken

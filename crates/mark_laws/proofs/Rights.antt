@@ -76,7 +76,7 @@ module _ (m : ℕ) (others : ℕ → ℕ) (h : Heap) (site test_site : Site) (te
           let here = through_cells k k2 same (same_cells_fewer others (λ b. held b vs + others b) k k2 (λ b. omega arith) s) in
           let now = subst (Reached start core_body) (sym (values_same k k2 others vs s)) reached in (
             then_told m m others others k2 (body vs k2) (core_body (map (read k2) vs)) (repeat_does n site test_site (λ ws. first_value (test ws)) body) (repeat n site test_site (λ us. first (core_test us)) core_body) (λ b. omega arith) (bodies k2 vs here size o now)
-            (λ us k3 z o3 s3 is. later k3 us (through_cells k2 k3 here s3) z o3 (after_turn now is)),
+                (λ us k3 z o3 s3 is. later k3 us (through_cells k2 k3 here s3) z o3 (after_turn now is)),
             (size, refl, o, (λ b le. refl)),
           )
 

@@ -1,5 +1,5 @@
 -- Whole terms do what their core means, where marks are right.
-use Rattle.std.proofs.Common.{ℕ, Option, Some, None}
+use Rattle.std.proofs.Common.{ℕ, Some, None}
 use Rattle.core_ir.specs.Meaning.{CallMeaning}
 use Rattle.counted_code.specs.Terms.{CodeTerm, CodeRightTerm, CodeGensTerm, CodePartsTerm, Giving, Binding, Keeping, Releasing, PlainCode, IfCode, LoopCode, CallCode, WithCode, PartedCode, NoCodeGens, GenCode, NoCodeParts, PartCode}
 use Rattle.counted_code.specs.Machine.{DoesCalls}

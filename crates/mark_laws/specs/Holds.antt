@@ -1,6 +1,6 @@
 -- When marks are right under an environment: each marked loop that is reached writes over an array of the result's shape, and each of its cells reads
 -- of it its own element alone.
-use Rattle.std.specs.Prelude.{◌≡◌, ℕ, true, List, [], ◌∷◌, map, ℤ, Some, None, Ok}
+use Rattle.std.specs.Prelude.{◌≡◌, ℕ, true, List, [], map, ℤ, Some, None, Ok}
 use Rattle.sac_base.specs.declared.base.Base.TheVariants.{Int}
 use Rattle.sac_base.specs.declared.grid.Grid1.{Grid1}
 use Rattle.sac_base.specs.declared.site.Site.{Site}
