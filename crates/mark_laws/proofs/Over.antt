@@ -1,6 +1,6 @@
--- A loop that writes its cells over an array, whose reference is the only one, gives what its core gives, if each cell reads of the array no more than
--- what stands from its own place on.
-use Rattle.std.proofs.Common.{◌≡◌, ℕ, suc, ◌+◌, ◌*◌, ◌<◌, ◌≤◌, Bool, true, false, cond, eqb, List, [], ◌∷◌, map, length, drop, ℤ, Option, Some, None, Ok, Err, refl, ap, ◌∙◌, sym, subst, arith}
+-- A loop that writes its cells over an array, whose reference is the only one, gives what its core gives, if each cell reads of the array its own
+-- element alone.
+use Rattle.std.proofs.Common.{◌≡◌, ℕ, suc, ◌+◌, ◌*◌, ◌<◌, ◌≤◌, Bool, true, false, cond, eqb, List, [], ◌∷◌, map, length, take, drop, ℤ, Option, Some, None, Ok, Err, refl, ap, ◌∙◌, sym, subst, arith}
 use Rattle.std.specs.Prelude.{if◌then◌else◌}
 use Rattle.std.proofs.lemmas.Bool.{eqb-true, eq-eqb}
 use Rattle.std.proofs.lemmas.Slice.Eq.{bytes_eq-Decides}
@@ -77,12 +77,16 @@ module _ (buffer : ℕ) (others : ℕ → ℕ) (vacant : others buffer ≡ 0) wh
     abbrev pub Left : ℕ → Heap → Type 0
     Left p k = drop p (cells_of k buffer) ≡ drop p (cells_of h buffer)
 
-    -- in each heap where the array is as it was from its place on, the source gives what the core's cell is
+    -- what stands at a place is what stood there
+    abbrev pub OwnIs : ℕ → Heap → Type 0
+    OwnIs p k = take 1 (drop p (cells_of k buffer)) ≡ take 1 (drop p (cells_of h buffer))
+
+    -- in each heap where the array has its old element at the place, the source gives what the core's cell is
     abbrev pub LinkedOver : ℕ → Option Source → Ends (Option ArrayValue) → Type 0
     LinkedOver p None c = Ok None ≡ c
     LinkedOver p (Some s) c =
         (cell : Ends ArrayValue) × (and_then cell (formed form s.site) ≡ c) × ((a : ArrayValue) → cell ≡ Ok a → IsFull a)
-        × ((k : Heap) → Owns k [] holding → SameCells others h k → Left p k → MatchesOne holding k (s.cell k) cell)
+        × ((k : Heap) → Owns k [] holding → SameCells others h k → OwnIs p k → MatchesOne holding k (s.cell k) cell)
 
     -- a cell that is made is a scalar
     scalar_cell : (p : ℕ) (s : Option Source) (c : Ends (Option ArrayValue)) (a : ArrayValue) → LinkedOver p s c → c ≡ Ok (Some a) → length a.cells ≡ 1
@@ -121,7 +125,7 @@ module _ (buffer : ℕ) (others : ℕ → ℕ) (vacant : others buffer ≡ 0) wh
       where
         again : (s : Option Source) (c : Ends (Option ArrayValue)) → LinkedOver p s c → Linked holding holding (λ b. omega arith) k form s c
         again None c l = l
-        again (Some s) c l = (l.0, l.1, (λ k2 o to. l.3 k2 o (λ b le. to b (omega (arith, le, fewer b)) ∙ same b le) (ap (drop p) (to buffer here_one) ∙ left)))
+        again (Some s) c l = (l.0, l.1, (λ k2 o to. l.3 k2 o (λ b le. to b (omega (arith, le, fewer b)) ∙ same b le) (ap (λ xs. take 1 (drop p xs)) (to buffer here_one) ∙ ap (take 1) left)))
 
     cell_before : (k k2 : Heap) (d c : Option ArrayValue) → d ≡ c → SameCells others k k2 → (m : Ended (List (Option ArrayValue))) (r : Ends (List (Option ArrayValue))) → MatchesPure holding others k2 m r → MatchesPure holding others k (go_on m (λ ds. give (d ∷ ds))) (with_first c r)
     cell_before k k2 d c is same (Done ds l) (Ok cs) p = ((λ i. is i ∷ p.0 i), p.1, (λ b le. p.2 b le ∙ same b le))

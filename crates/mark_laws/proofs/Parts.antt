@@ -40,7 +40,7 @@ use Rattle.mark_laws.specs.Holds.{MarksHold, MarksHoldParts, MarksHoldOver}
 use Rattle.mark_laws.proofs.Blocks.{RightDoes, BlockDoes}
 use Rattle.mark_laws.proofs.Gens.{first_matches}
 use Rattle.mark_laws.proofs.Jobs.{CanTakeOver, marked_job}
-use Rattle.mark_laws.proofs.Over.{holding, Left, LinkedOver}
+use Rattle.mark_laws.proofs.Over.{holding, OwnIs, LinkedOver}
 use Rattle.mark_laws.proofs.Places.{frame_from, own_element}
 
 -- each part's body does what it means
@@ -118,38 +118,38 @@ module _ (results_of : ℕ → ℕ) (does_calls : DoesCalls) (calls : CallMeanin
             (rest_shown rest backed (shows_back h e ρ mine rest shows))
 
       module _ (ns : List ℕ) (is_shape : (ρ v).shape ≡ ns) (form : Form) (is_scalar : form.shape ≡ []) where
-        same_element : (k : Heap) (p : ℕ) (index : List ℤ) → p < size ns → index ≡ vector_at ns p → Left buffer others vacant h ns form is_scalar p k → select (read k (e v)) (vector Int index) ≡ select (ρ v) (vector Int index)
-        same_element k p index lt at left =
+        same_element : (k : Heap) (p : ℕ) (index : List ℤ) → p < size ns → index ≡ vector_at ns p → OwnIs buffer others vacant h ns form is_scalar p k → select (read k (e v)) (vector Int index) ≡ select (ρ v) (vector Int index)
+        same_element k p index lt at own =
             let sh : shape ≡ ns = sym (ap (λ (a : ArrayValue). a.shape) (ap (read h) is)) ∙ ap (λ (a : ArrayValue). a.shape) array_shown ∙ is_shape in
             (λ i. select (read k (is i)) (vector Int index))
             ∙ (λ i. select (record { base = base; shape = sh i; cells = cells_of k buffer }) (vector Int index))
-            ∙ own_element base ns p index (cells_of k buffer) (cells_of h buffer) lt at left
+            ∙ own_element base ns p index (cells_of k buffer) (cells_of h buffer) lt at own
             ∙ sym (λ i. select (record { base = base; shape = sh i; cells = cells_of h buffer }) (vector Int index))
             ∙ sym (λ i. select (read h (is i)) (vector Int index))
             ∙ (λ i. select (array_shown i) (vector Int index))
 
-        is_alike : (k : Heap) (same : SameCells others h k) (g : PartHead) (p : ℕ) (index : List ℤ) → p < size ns → index ≡ vector_at ns p → Left buffer others vacant h ns form is_scalar p k
+        is_alike : (k : Heap) (same : SameCells others h k) (g : PartHead) (p : ℕ) (index : List ℤ) → p < size ns → index ≡ vector_at ns p → OwnIs buffer others vacant h ns form is_scalar p k
             → AlikeAt v index (bind ρ g.index (vector Int index)) (bind (now k same) g.index (vector Int index))
-        is_alike k same g p index lt at left = record {
+        is_alike k same g p index lt at own = record {
           others = λ y n i. cond (eqb g.index.0 y.0) (vector Int index) (cond (n i) (read k (e v)) (ρ y));
           element = go (eqb g.index.0 v.0);
         }
           where
             go : (b : Bool) → select (cond b (vector Int index) (cond (eqb v.0 v.0) (read k (e v)) (ρ v))) (vector Int index) ≡ select (cond b (vector Int index) (ρ v)) (vector Int index)
             go true = refl
-            go false = ap (λ b. select (cond b (read k (e v)) (ρ v)) (vector Int index)) (eq-eqb v.0 v.0 refl) ∙ same_element k p index lt at left
+            go false = ap (λ b. select (cond b (read k (e v)) (ρ v)) (vector Int index)) (eq-eqb v.0 v.0 refl) ∙ same_element k p index lt at own
 
         pub over_linked : (parts : CodePartsTerm) → PartsDo results_of does_calls calls turns parts → CountedParts results_of (mine ++ rest) parts → MarksHoldOver calls turns v parts ρ → (p : ℕ) (index : List ℤ) → p < size ns → index ≡ vector_at ns p
             → LinkedOver buffer others vacant h ns form is_scalar p (part_holder (code_cells does_calls turns parts e) index) (cell_at (cell_form form.base form.shape) (cells calls turns (core_of_parts parts) ρ) index)
         over_linked NoCodeParts blocks counted marks p index lt at = refl
         over_linked (PartCode g b behind) blocks counted marks p index lt at = go (has_vector g.grid index) refl (over_linked behind blocks.1 counted.2 marks.1 p index lt at)
           where
-            runs : has_vector g.grid index ≡ true → (k : Heap) → Owns k [] (holding buffer others vacant) → SameCells others h k → Left buffer others vacant h ns form is_scalar p k
+            runs : has_vector g.grid index ≡ true → (k : Heap) → Owns k [] (holding buffer others vacant) → SameCells others h k → OwnIs buffer others vacant h ns form is_scalar p k
                 → MatchesOne (holding buffer others vacant) k (first_value (does does_calls turns b (bind_value e g.index (Small (vector Int index)))) k) (first (run calls turns (core_of b) (bind ρ g.index (vector Int index))))
-            runs q k owns same left =
+            runs q k owns same own =
                 let held_by = holding buffer others vacant in
                 let env : Env = bind (now k same) g.index (vector Int index) in
-                let both = (marks.0 index q).0 env (is_alike k same g p index lt at left) in
+                let both = (marks.0 index q).0 env (is_alike k same g p index lt at own) in
                 subst (λ a. MatchesOne held_by k (first_value (does does_calls turns b (bind_value e g.index (Small (vector Int index)))) k) (first a)) both.0
                 (first_matches held_by k (does does_calls turns b (bind_value e g.index (Small (vector Int index))) k) (run calls turns (core_of b) env)
                 (blocks.0 1 (mine ++ rest) (g.index ∷ []) counted.1 k (bind_value e g.index (Small (vector Int index))) env held_by
@@ -192,7 +192,7 @@ module _ (results_of : ℕ → ℕ) (does_calls : DoesCalls) (calls : CallMeanin
       go true owns linked = job_matches (parted_of f b c op (code_cells does_calls turns parts e) ρ) (cell_at (cell_form b c) (cells calls turns (core_of_parts parts) ρ)) h others owns linked
       go false owns linked = refl
 
-  -- a cell over an array that is left as it is
+  -- a cell over an array that is own as it is
   unchanged : (v : Var) (parts : CodePartsTerm) (ρ : Env) → MarksHoldOver calls turns v parts ρ → MarksHoldParts calls turns parts ρ
   unchanged v NoCodeParts ρ marks = tt
   unchanged v (PartCode g b rest) ρ marks =

@@ -42,7 +42,7 @@ frame_from frame box_frame =
 -- ---- the elements
 
 -- a selection at the index of a place reads what stands at that place
-pub own_element : (base : Base) (ns : List ℕ) (p : ℕ) (v xs ys : _) → p < size ns → v ≡ vector_at ns p → drop p xs ≡ drop p ys
+pub own_element : (base : Base) (ns : List ℕ) (p : ℕ) (v xs ys : _) → p < size ns → v ≡ vector_at ns p → take 1 (drop p xs) ≡ take 1 (drop p ys)
     → select (record { base = base; shape = ns; cells = xs }) (vector Int v) ≡ select (record { base = base; shape = ns; cells = ys }) (vector Int v)
 own_element base ns p v xs ys lt is same =
     (λ i. selected (record { base = base; shape = ns; cells = xs }) (there i)) ∙ (λ i. Ok (record { base = base; shape = []; cells = cell i })) ∙ sym (λ i. selected (record { base = base; shape = ns; cells = ys }) (there i))
@@ -54,7 +54,7 @@ own_element base ns p v xs ys lt is same =
     once = omega arith
 
     cell : take 1 (drop (p * size []) xs) ≡ take 1 (drop (p * size []) ys)
-    cell = ap (λ k. take 1 (drop k xs)) once ∙ ap (take 1) same ∙ sym (ap (λ k. take 1 (drop k ys)) once)
+    cell = ap (λ k. take 1 (drop k xs)) once ∙ same ∙ sym (ap (λ k. take 1 (drop k ys)) once)
 
 -- ---- writing
 
