@@ -20,7 +20,13 @@ use Rattle.counted_laws.proofs.Held.{backed_reads, released_owns, live_none, tak
 use Rattle.counted_laws.proofs.Plains.{taken_cells, taken_owns, taken_same}
 use Rattle.counted_laws.proofs.Instances.{have_length}
 use Rattle.counted_laws.proofs.Functions.{slice_map, map_length}
+use Rattle.counted_laws.proofs.Outcomes.{ends_as_core as ends_without_marks}
+use Rattle.mark_places.proofs.Programs.{code_core, code_counted}
 use Rattle.counted_marks.specs.Marks.{IsWellMarked}
+use Rattle.counted_marks.specs.Marking.{marking_code}
+use Rattle.counted_marks.proofs.Left.{code_well}
+use Rattle.counted_marks.proofs.Marked.{code_marked}
+use Rattle.mark_laws.specs.Statements.{MarkingKeepsTheOutcome}
 use Rattle.mark_laws.proofs.Functions.{function_runs, top_does, top_keeps}
 
 -- ---- the arguments
@@ -117,3 +123,12 @@ ends_as_core code counted well args full caps =
     go : (o : Option CodeFunTerm) → slice_get code.functions code.main ≡ o → EndsAs (main_does caps.turns (call_does_at code caps.turns caps.depth) o args empty_heap) (main_value caps.turns (call_at (core_of_code code) caps.turns caps.depth) (option_map core_of_fun o) args)
     go None is = (refl, tt, tt)
     go (Some f) is = called f is (all_have (code_param_types f) args) refl
+
+-- ---- marking
+
+pub marking_keeps : MarkingKeepsTheOutcome
+marking_keeps code counted unmarked args full caps =
+    let made = marking_code code in
+    (ends_as_core made (code_counted code made (code_marked code) counted) (code_well code unmarked) args full caps).0
+    ∙ (λ i. outcome (code_core code made (code_marked code) i) args caps)
+    ∙ sym (ends_without_marks code counted unmarked args caps).0

@@ -11,11 +11,12 @@ use Rattle.core_facts.specs.Full.{FullInside}
 use Rattle.core_calls.specs.Arrays.{AllFull}
 use Rattle.core_loops.specs.Indices.{IndexFacts}
 use Rattle.core_index_facts.specs.Says.{SaysAll}
-use Rattle.counted_code.specs.Counts.{IsWellCounted}
+use Rattle.counted_code.specs.Counts.{IsWellCounted, IsUnmarked}
 use Rattle.counted_code.specs.Outcome.{whole_run, outcome_of, cost_of}
 use Rattle.counted_code.specs.Terms.{CodeTerm, CodeProgram, core_of, core_of_code}
 use Rattle.counted_laws.specs.Simulation.{LeavesNothing, GivesAllBack}
 use Rattle.counted_marks.specs.Marks.{IsWellMarked, own_only}
+use Rattle.counted_marks.specs.Marking.{marking_code}
 use Rattle.mark_laws.specs.Alike.{AlikeAt}
 
 -- code that uses an array in selections at the own index alone means the same whatever other elements the array has
@@ -48,3 +49,9 @@ abbrev pub CostsAreEven : Type 0
 CostsAreEven =
     (code : CodeProgram) → IsWellCounted code → IsWellMarked code → (args : List ArrayValue) → AllFull args → (caps : Caps) →
     (cost_of (whole_run code args caps)).given ≡ (cost_of (whole_run code args caps)).taken
+
+-- code whose loops are marked with their candidates has the outcome that it had
+abbrev pub MarkingKeepsTheOutcome : Type 0
+MarkingKeepsTheOutcome =
+    (code : CodeProgram) → IsWellCounted code → IsUnmarked code → (args : List ArrayValue) → AllFull args → (caps : Caps) →
+    outcome_of (whole_run (marking_code code) args caps) ≡ outcome_of (whole_run code args caps)

@@ -1,7 +1,7 @@
 //! Laws of marked loops: a run whose loops write over arrays ends as its core does, leaves no buffer, and gives back each buffer that it took.
 #![tactic(auto)]
 
-ghost use Rattle.mark_laws.specs.Statements.{OwnElementsAreEnough, SameOutcome, RunsLeaveNothing, RunsGiveAllBack, CostsAreEven};
+ghost use Rattle.mark_laws.specs.Statements.{OwnElementsAreEnough, SameOutcome, RunsLeaveNothing, RunsGiveAllBack, CostsAreEven, MarkingKeepsTheOutcome};
 
 /// Law: code that reads of an array its own element alone means the same whatever other elements the array has.
 pub fn own_elements_are_enough()
@@ -19,4 +19,10 @@ pub fn outcome_of_the_core()
 pub fn taken_is_given()
     ensures heap { RunsGiveAllBack }
     ensures cost { CostsAreEven }
+{}
+
+/// Law: well-counted code whose loops are marked, each that has candidates with the one of the least number, has the outcome that it had without marks,
+/// on arguments that are arrays.
+pub fn marking_keeps_the_outcome()
+    ensures { MarkingKeepsTheOutcome }
 {}
