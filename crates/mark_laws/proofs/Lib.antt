@@ -1,0 +1,15 @@
+pub mod Alike
+pub mod Blocks
+pub mod Calls
+pub mod Functions
+pub mod Gens
+pub mod Jobs
+pub mod Kept
+pub mod Marks
+pub mod Outcomes
+pub mod Over
+pub mod Parts
+pub mod Places
+pub mod Rights
+pub mod Rows
+pub mod Whole
