@@ -21,6 +21,8 @@ pub enum Directive<'a> {
     Phases(&'a str),
     /// Runs the case with two workers, of which each chunk waits for the other one.
     Meet,
+    /// Runs the case with so many workers, where one chunk waits until another one has begun: the numbers of the two chunks, and of the workers.
+    Hold(&'a str),
     /// Runs the case over files of which one fetch fails, and a sink of which one call fails.
     Devices(u64, u64),
     /// Runs the case over sinks that take one byte a call, of which the first call fails, then the second, and so on.
@@ -51,6 +53,7 @@ impl<'a> Directive<'a> {
             "bytes" => Directive::Bytes(rest),
             "run" => Directive::Run(rest),
             "phases" => Directive::Phases(rest),
+            "hold" => Directive::Hold(rest),
             "devices" => match rest.split_once(' ') {
                 Some((fetch, call)) => Directive::Devices(number(fetch), number(call)),
                 None => Directive::Unknown,

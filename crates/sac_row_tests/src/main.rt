@@ -7,6 +7,7 @@
 
 mod case;
 mod directive;
+mod holding;
 mod meeting;
 mod plain;
 mod row;
@@ -47,6 +48,7 @@ fn run_case<R: Threads + Sync + Print>(
         Directive::Run(workers) => runs::with_workers(rt, alloc, case, workers),
         Directive::Phases(workers) => runs::of_phases(rt, alloc, case, workers),
         Directive::Meet => runs::of_meeting(rt, alloc, case),
+        Directive::Hold(numbers) => runs::of_holding(rt, alloc, case, numbers),
         Directive::Devices(fetch, call) => {
             runs::with_failing_devices(rt, alloc, case, *fetch, *call)
         }

@@ -1,6 +1,7 @@
 //! Runs of a case, and what they print.
 
 use crate::case::Case;
+use crate::holding::Holding;
 use crate::meeting::Meeting;
 use buffer_heap::Heap;
 use run_eval::Trace;
@@ -127,6 +128,28 @@ pub fn of_meeting<R: Threads + Sync + Print>(rt: &R, alloc: Global, case: &Case)
     show_phases(rt, &sink, &ran)?;
     let met = gate.met();
     println!(rt; "met {met}").ok()
+}
+
+/// Runs the case where one chunk waits until another one has begun, by the numbers of the two chunks and of the workers, and
+/// prints how often it saw that one begin.
+pub fn of_holding<R: Threads + Sync + Print>(
+    rt: &R,
+    alloc: Global,
+    case: &Case,
+    numbers: &str,
+) -> Option<()> {
+    let mut rest = numbers.split_whitespace();
+    let held = rest.next()?.parse::<u64>().ok()?;
+    let awaited = rest.next()?.parse::<u64>().ok()?;
+    let workers = rest.next()?;
+    let mut files = case.files(alloc, Vec::new(alloc))?;
+    let mut sink = MemSink::new(alloc, ROOM, Vec::new(alloc));
+    let gate = Holding::new(held, awaited);
+    let words = case.words.as_str();
+    let ran = run_behind(rt, alloc, words, workers, &mut files, &mut sink, &gate)?;
+    show(rt, &sink, &ran)?;
+    let seen = gate.seen();
+    println!(rt; "seen {seen}").ok()
 }
 
 /// Runs the case over files of which this fetch fails, and a sink of 8 bytes a call, of which this call fails.
