@@ -1,5 +1,5 @@
 -- Generators, parts and right sides by their fields, after a walk.
-use Rattle.std.proofs.Common.{◌≡◌, ℕ, suc, ◌+◌, ◌<◌, Bool, true, false, List, [], ◌∷◌, map, Option, Some, None, refl, sym, ap, subst, ◌∙◌}
+use Rattle.std.proofs.Common.{◌≡◌, ℕ, suc, ◌+◌, Bool, List, [], ◌∷◌, map, Option, refl, sym, ap, subst, ◌∙◌}
 use Rattle.std.specs.Prelude.{Result, Ok, Err, IfOk, OnOk}
 use Rattle.sac_base.specs.declared.base.Base.{Base}
 use Rattle.sac_base.specs.declared.memory.Memory.{Memory}
@@ -23,10 +23,10 @@ use Rattle.core_ir.proofs.Trees.{with_out, parted_out, parted_roll}
 use Rattle.core_facts.specs.Facts.{Fact, Facts, note_all, in_part, right_facts, shape_fact, known_shape, parted_shape}
 use Rattle.fact_table.specs.Table.{fact_of}
 use Rattle.plain_facts.specs.Rights.{fact_of_right}
-use Rattle.partable_loops.specs.Planned.{IsPlannable, PlanFits}
+use Rattle.partable_loops.specs.Planned.{IsPlannable}
 use Rattle.partable_loops.specs.declared.planning.PartPlan.{PartPlan}
 use Rattle.parted_bodies.specs.declared.names.Progress.{Progress}
-use Rattle.parted_bodies.specs.Making.{base_var, binds_of, made_parts, parted_op}
+use Rattle.parted_bodies.specs.Making.{binds_of, made_parts, parted_op}
 use Rattle.norm_walk.specs.declared.known.KnownRight.{KnownRight}
 use Rattle.norm_walk.specs.Replacing.{BlockWalked, RightWalked, LetWalked, GensWalked, GenWalked, PartWalked, WithWalked, IsKnownAnywhere, IsLeft, IsPlanned, EachWithRight}
 use Rattle.norm_walk.proofs.Walking.{PartsGoing, parts_done, with_walked, left_walked, replaced_walked, right_stays, if_walked, loop_walked}

@@ -1,5 +1,5 @@
 -- Walks that replace with-loops: within a larger term, one after another, and those that replace none.
-use Rattle.std.proofs.Common.{◌≡◌, ℕ, suc, ◌+◌, ◌≤◌, List, [], ◌∷◌, ◌++◌, map, Option, refl, sym, ap, subst, ◌∙◌, arith}
+use Rattle.std.proofs.Common.{◌≡◌, ℕ, suc, ◌≤◌, List, [], ◌∷◌, ◌++◌, map, Option, refl, sym, ap, subst, ◌∙◌, arith}
 use Rattle.sac_base.specs.declared.base.Base.{Base}
 use Rattle.sac_base.specs.declared.base.Base.TheVariants.{Int}
 use Rattle.sac_base.specs.declared.grid.Grid1.{Grid1}
@@ -17,7 +17,7 @@ use Rattle.core_ir.specs.declared.tree.Right.TheBlock.{the_data, the_data-1, the
 use Rattle.core_ir.specs.View.{block_term, let_term, right_term, gen_term, part_term}
 use Rattle.core_ir.proofs.Trees.{block_out, block_roll}
 use Rattle.core_ir.specs.Edits.{Edited, EditedRight, EditedGens, EditedParts, here, later, inside, in_then, in_else, in_test, in_body, in_gens, in_parts, this_gen, later_gen, this_part, later_part}
-use Rattle.core_ir.specs.Terms.{BlockTerm, RightTerm, GensTerm, PartsTerm, LetTerm, GenTerm, PartTerm, GenHead, PartHead, Gives, Bind, Plain, With, Parted, NoGens, Gen, NoParts, Part, chain, gens_of, parts_of}
+use Rattle.core_ir.specs.Terms.{BlockTerm, RightTerm, GensTerm, PartsTerm, LetTerm, GenTerm, PartTerm, GenHead, PartHead, Gives, Bind, With, Parted, NoGens, Gen, NoParts, Part, chain, gens_of, parts_of}
 use Rattle.core_facts.specs.Facts.{Fact, Facts, note_all, block_facts, right_facts, in_part}
 use Rattle.core_loops.specs.Steps.{fact_ways, facts_after}
 use Rattle.norm_walk.proofs.Noting.{map_snoc, chain_snoc}

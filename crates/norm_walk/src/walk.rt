@@ -35,7 +35,8 @@ pub fn norm_block(
 ) -> Result<KnownBlock, Memory>
     ensures walked { IfOk result (λ new. BlockWalked (shapes_of given.now.called.now) (base_in given.now.bases.now) given.now.first (facts_of table.old)
         progress.old progress.new (block_term block) (block_term new.block)) }
-    ensures known { IfOk result (λ new. map fact_of new.results.items ≡ block_facts (shapes_of given.now.called.now) (block_term new.block) (facts_of table.old)) }
+    ensures known { IfOk result (λ new. map fact_of new.results.items
+        ≡ block_facts (shapes_of given.now.called.now) (block_term new.block) (facts_of table.old)) }
     ensures table { OnOk result (table.new ≡ table.old) }
 {
     let Block { lets, results } = block;
@@ -96,7 +97,8 @@ fn norm_right(
 ) -> Result<KnownRight, Memory>
     ensures walked { IfOk result (λ new. RightWalked (shapes_of given.now.called.now) (base_in given.now.bases.now) given.now.first (facts_of table.old)
         progress.old progress.new site (right_term right) (right_term new.right)) }
-    ensures known { IfOk result (λ new. map fact_of new.values.items ≡ right_facts (shapes_of given.now.called.now) (right_term new.right) (facts_of table.old)) }
+    ensures known { IfOk result (λ new. map fact_of new.values.items
+        ≡ right_facts (shapes_of given.now.called.now) (right_term new.right) (facts_of table.old)) }
     ensures table { OnOk result (table.new ≡ table.old) }
 {
     match right {
@@ -163,7 +165,8 @@ fn norm_with(
 ) -> Result<KnownRight, Memory>
     ensures walked { IfOk result (λ new. RightWalked (shapes_of given.now.called.now) (base_in given.now.bases.now) given.now.first (facts_of table.old)
         progress.old progress.new site (with_term with) (right_term new.right)) }
-    ensures known { IfOk result (λ new. map fact_of new.values.items ≡ right_facts (shapes_of given.now.called.now) (right_term new.right) (facts_of table.old)) }
+    ensures known { IfOk result (λ new. map fact_of new.values.items
+        ≡ right_facts (shapes_of given.now.called.now) (right_term new.right) (facts_of table.old)) }
     ensures table { OnOk result (table.new ≡ table.old) }
 {
     let WithLoop { gens, op } = with;
@@ -241,9 +244,11 @@ fn norm_parted(
     table: &mut FactTable,
     progress: &mut Progress,
 ) -> Result<KnownRight, Memory>
-    ensures walked { IfOk result (λ new. (s : SiteOf) → RightWalked (shapes_of given.now.called.now) (base_in given.now.bases.now) given.now.first (facts_of table.old)
+    ensures walked { IfOk result (λ new. (s : SiteOf) → RightWalked (shapes_of given.now.called.now) (base_in given.now.bases.now) given.now.first
+        (facts_of table.old)
         progress.old progress.new s (parted_term parted) (right_term new.right)) }
-    ensures known { IfOk result (λ new. map fact_of new.values.items ≡ right_facts (shapes_of given.now.called.now) (right_term new.right) (facts_of table.old)) }
+    ensures known { IfOk result (λ new. map fact_of new.values.items
+        ≡ right_facts (shapes_of given.now.called.now) (right_term new.right) (facts_of table.old)) }
     ensures table { OnOk result (table.new ≡ table.old) }
 {
     let PartedLoop {

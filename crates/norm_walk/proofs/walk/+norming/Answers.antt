@@ -1,4 +1,4 @@
-use Rattle.std.proofs.Common.{◌-◌, ◌∙◌, ◌≡◌, [], ◌∷◌, ap, refl, sym, subst, map, length, List}
+use Rattle.std.proofs.Common.{◌-◌, ◌∙◌, [], ◌∷◌, ap, refl, sym, subst, map, length, List}
 use Rattle.std.specs.Prelude.{drop}
 use Rattle.fact_table.specs.Table.{facts_of}
 use Rattle.plain_facts.specs.Called.{shapes_of}
@@ -6,7 +6,7 @@ use Rattle.variable_bases.specs.Table.{base_in}
 use Rattle.scoped_table.proofs.Marks.{earlier_on, none_gone}
 use Rattle.norm_walk.proofs.Noting.{none_left}
 use Rattle.core_ir.specs.declared.tree.CoreGen.{CoreGen, out-CoreGen}
-use Rattle.core_ir.specs.declared.tree.CorePart.{CorePart, out-CorePart}
+use Rattle.core_ir.specs.declared.tree.CorePart.{out-CorePart}
 use Rattle.core_ir.specs.View.{block_term, gen_term, part_term, right_term}
 use Rattle.core_ir.specs.Terms.{gens_of}
 use Rattle.fact_table.specs.Notes.{Note}
