@@ -202,6 +202,18 @@ round_on a b c n m p h = record {
 
 -- ---- a round that replaced none
 
+order : (m n : ℕ) → (m ≡ n) ⊎ ((m < n) ⊎ (n < m))
+order zero zero = inl refl
+order zero (suc n) = inr (inl (omega arith))
+order (suc m) zero = inr (inr (omega arith))
+order (suc m) (suc n) = elim (order m n) [
+  | inl e ↦ inl (ap suc e)
+  | inr r ↦ elim r [
+    | inl l ↦ inr (inl (omega (arith, l)))
+    | inr l ↦ inr (inr (omega (arith, l)))
+  ]
+]
+
 -- functions of one group whose parameters have equal bases give equal bases
 same_gives : (core : CoreTerm) (places : List ℕ) (i j : ℕ) (f g : FunTerm) → AllPairs (PlacesShare core.functions) places → Contains places i → Contains places j →
     slice_get core.functions i ≡ Some f → slice_get core.functions j ≡ Some g → bases (param_types f) ≡ bases (param_types g) → bases f.results ≡ bases g.results
