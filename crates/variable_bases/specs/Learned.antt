@@ -12,7 +12,8 @@ use Rattle.core_norm_steps.specs.Step.{BaseTable as AllBases}
 use Rattle.variable_bases.specs.declared.signatures.Signatures.{Signatures}
 use Rattle.variable_bases.specs.declared.table.BaseTable.{BaseTable}
 use Rattle.variable_bases.specs.Instances.{HasInstances, AreUnique}
-use Rattle.variable_bases.specs.Sources.{results, sources, sources_right, sources_gens, sources_parts, MayEnd, AllMayEnd, AllMayEndRight, AllMayEndGens, AllMayEndParts}
+use Rattle.variable_bases.specs.Sources.{results, sources, sources_right, sources_gens, sources_parts}
+use Rattle.variable_bases.specs.Sources.{MayEnd, AllMayEnd, AllMayEndRight, AllMayEndGens, AllMayEndParts}
 use Rattle.variable_bases.specs.Table.{base_in, Tells, IsTold}
 
 -- ---- notes

@@ -1,5 +1,5 @@
 -- What a round keeps, and rounds after one another.
-use Rattle.std.proofs.Common.{◌≡◌, ℕ, zero, suc, ◌+◌, ◌<◌, ◌≤◌, List, [], ◌∷◌, ◌++◌, map, length, get_or, All, Contains, Option, Some, refl, sym, ap, subst, ◌∙◌, ◌⊎◌, inl, inr, append_assoc, append-nil, arith}
+use Rattle.std.proofs.Common.{◌≡◌, ℕ, zero, suc, ◌+◌, ◌<◌, ◌≤◌, List, [], ◌∷◌, ◌++◌, map, length, get_or, All, Contains, Option, Some, refl, sym, ap, subst, ◌∙◌, ◌⊎◌, inl, inr, append_assoc, arith}
 use Rattle.std.specs.Prelude.{slice_get, unwrap_or}
 use Rattle.std.specs.List.{AllPairs}
 use Rattle.std.proofs.Math.Nat.{le-max_right}
@@ -21,12 +21,12 @@ use Rattle.core_inlined_bodies.proofs.Names.{distinct_right, fresh_below, fresh_
 use Rattle.core_inlined_bodies.proofs.Stepped.{old_at, stepped}
 use Rattle.core_norm_steps.proofs.Tables.{has_table}
 use Rattle.core_norm_forms.specs.Copied.{IsPlaced}
-use Rattle.core_norm_forms.specs.Walks.{NormSteps, no_step, FunctionWalk, BlockWalk, core_weight}
+use Rattle.core_norm_forms.specs.Walks.{no_step, FunctionWalk, BlockWalk, core_weight}
 use Rattle.core_norm_forms.proofs.Laws.{all_by}
 use Rattle.core_norm_forms.proofs.Whole.{walks_keep, go_on}
 use Rattle.variable_bases.specs.declared.signatures.Signatures.{Signatures}
 use Rattle.partable_loops.specs.Planned.{IsPlannable}
-use Rattle.variable_bases.specs.Instances.{AreUnique, HasInstances, OnlyInstances, Instance}
+use Rattle.variable_bases.specs.Instances.{AreUnique, HasInstances, OnlyInstances}
 use Rattle.variable_bases.specs.Table.{base_in}
 use Rattle.norm_walk.specs.Replacing.{EachWith}
 use Rattle.norm_walk.proofs.Walking.{rises, still}

@@ -13,7 +13,6 @@ use Rattle.partable_loops.specs.Planned.{IsPlannable}
 use Rattle.variable_bases.specs.Instances.{HasInstances, OnlyInstances}
 use Rattle.variable_bases.specs.Sources.{AllMayEnd}
 use Rattle.variable_bases.specs.Table.{base_in, HasSources, TellsOf}
-use Rattle.parted_bodies.specs.declared.names.Progress.{Progress}
 use Rattle.norm_walk.specs.Replacing.{BlockWalked, EachWith}
 
 -- one walk over a function; so many with-loops had been replaced before, and so many are after

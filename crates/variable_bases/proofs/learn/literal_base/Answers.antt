@@ -1,5 +1,4 @@
-use Rattle.std.proofs.Common.{rules, ◌≡◌, ℕ, length, sym, ◌∙◌, arith}
-use Rattle.core_ir.specs.declared.tree.Var.{Var}
+use Rattle.std.proofs.Common.{rules, ◌≡◌, length, sym, ◌∙◌, arith}
 use Rattle.variable_bases.proofs.Told.{literal_told}
 use Rattle.variable_bases.proofs.Scopes.{none_more, not_all}
 use Rattle.variable_bases.proofs.learn.literal_base.Goals as goal
