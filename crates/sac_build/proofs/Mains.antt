@@ -1,5 +1,5 @@
 -- Main over the passes.
-use Rattle.std.proofs.Common.{◌≡◌, ℕ, zero, suc, true, List, [], ◌∷◌, map, Option, Some, None, refl, sym, ap, subst, ◌∙◌}
+use Rattle.std.proofs.Common.{◌≡◌, ℕ, zero, suc, List, [], ◌∷◌, map, Option, Some, None, refl, sym, ap, subst, ◌∙◌}
 use Rattle.std.specs.Prelude.{slice_get, position, unwrap_or, option_map}
 use Rattle.std.proofs.lemmas.Option.{slice_get-map}
 use Rattle.sac_base.specs.declared.form.Form.{Form}

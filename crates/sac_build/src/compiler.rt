@@ -11,6 +11,7 @@ ghost use Rattle.counted_code.specs.Counts.{IsWellCounted, IsUnmarked};
 ghost use Rattle.counted_code.specs.Prompt.{IsPrompt};
 ghost use Rattle.counted_code.specs.Outcome.{whole_run, outcome_of};
 ghost use Rattle.sac_build.specs.Arguments.{AreArrays};
+ghost use Rattle.sac_build.specs.Loops.{HasNormalLoops};
 ghost use Rattle.sac_build.specs.Mains.{MainTakesForms};
 
 use const_shape::propagate;
@@ -38,7 +39,8 @@ pub struct Compiled {
 ///
 /// No loop in the code is marked. Where the program has the form that the grammar gives, the code is well counted and prompt, and on all arguments
 /// that are arrays of these forms and under all limits its outcome on the machine is that of the program, faults and their sites included. Where the
-/// types of the program's main contain these forms, main of the code takes arrays of these forms alone.
+/// types of the program's main contain these forms, main of the code takes arrays of these forms alone. In a function in which no right side always
+/// faults, no with-loop is left that can become a parted loop.
 ///
 /// # Errors
 ///
@@ -51,6 +53,7 @@ pub fn compile(alloc: Global, checked: &Checked, forms: &[Form]) -> Result<Compi
     ensures outcome { ProgramFormed (tree checked.now.program) → (args : List ArrayValue) (caps : Caps) → AreArrays args → map form_of args ≡ forms.now
         → IfOk result (λ c. outcome_of (whole_run (code_program c.code) args caps) ≡ outcome (tree checked.now.program) args caps) }
     ensures main { ProgramFormed (tree checked.now.program) → IfOk result (λ c. MainTakesForms (tree checked.now.program) forms.now (code_program c.code)) }
+    ensures normal { ProgramFormed (tree checked.now.program) → IfOk result (λ c. HasNormalLoops (code_program c.code)) }
     ensures none { IfOk result (λ c. (c.folded ≡ 0) × (c.scalarised ≡ 0)) }
 {
     let core = to_core(alloc, checked)?;

@@ -21,6 +21,7 @@ use Rattle.run_eval.specs.declared.trace.Trace.{Trace}
 use Rattle.run_eval.specs.Outcomes.{HasCounters}
 use Rattle.sac_words.specs.Meaning.{Meant, file}
 use Rattle.sac_build.specs.Arguments.{AreArrays}
+use Rattle.sac_build.specs.Loops.{HasNormalLoops}
 use Rattle.sac_build.specs.Mains.{MainTakesForms}
 use Rattle.sac_due.specs.Report.{Numbers}
 use Rattle.sac_due.specs.Source.{IsProgramOf}
@@ -46,13 +47,14 @@ IsRunStatus _ = ⊥
 
 -- Code for a program and arguments of these forms: it is well counted and prompt, no loop in it is marked, and on all arguments that are arrays of
 -- these forms and under all limits its outcome on the machine is that of the program. Where the types of the program's main contain the forms, its main
--- takes arrays of these forms alone.
+-- takes arrays of these forms alone. In a function in which no right side always faults, no with-loop is left that can become a parted loop.
 pub record IsCodeFor (p : ProgramTree) (forms : List Form) (code : CodeProgram) : Type 0 where
   pub counted : IsWellCounted code
   pub prompt : IsPrompt code
   pub unmarked : IsUnmarked code
   pub outcome : (args : List ArrayValue) (caps : Caps) → AreArrays args → map form_of args ≡ forms → outcome_of (whole_run code args caps) ≡ outcome p args caps
   pub main : MainTakesForms p forms code
+  pub normal : HasNormalLoops code
 
 -- the trace's four numbers of a run are the cost
 abbrev pub HasCost : Trace → Cost → Type 0

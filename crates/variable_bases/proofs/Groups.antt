@@ -1,10 +1,10 @@
 -- The instances of groups, place after place.
-use Rattle.std.proofs.Common.{◌≡◌, ℕ, zero, suc, ◌+◌, ◌<◌, ◌≤◌, ◌≢◌, eqb, Bool, true, false, List, [], ◌∷◌, ◌++◌, map, drop, length, get_or, Option, Some, None, refl, sym, ap, subst, ◌∙◌, arith, append_assoc, append-nil}
+use Rattle.std.proofs.Common.{◌≡◌, ℕ, zero, suc, ◌+◌, ◌<◌, ◌≤◌, ◌≢◌, eqb, Bool, true, false, List, [], ◌∷◌, ◌++◌, map, drop, length, get_or, Option, Some, None, inl, inr, refl, sym, ap, subst, ◌∙◌, arith, append_assoc, append-nil}
 use Rattle.std.specs.Prelude.{slice_get, unwrap_or}
 use Rattle.std.specs.Prelude.{option_map}
 use Rattle.std.proofs.lemmas.Bool.{eqb-true, eq-eqb}
 use Rattle.std.proofs.lemmas.List.{drop_more, at_drop_all, get_or_default}
-use Rattle.std.proofs.lemmas.List.Elements.{Contains-append_left, Contains-push}
+use Rattle.std.proofs.lemmas.List.Elements.{Contains-append_left, Contains-push, Contains-push_cases}
 use Rattle.std.proofs.lemmas.Option.{slice_get-map}
 use Rattle.sac_base.specs.declared.base.Base.{Base}
 use Rattle.core_ir.specs.declared.tree.Var.{Var}
@@ -15,8 +15,8 @@ use Rattle.core_ir.specs.View.{fun_term}
 use Rattle.core_ir.specs.WellFormed.{GroupBases, bases}
 use Rattle.variable_bases.specs.declared.signatures.Signature.{Signature}
 use Rattle.variable_bases.specs.declared.table.BaseTable.{BaseTable}
-use Rattle.variable_bases.specs.Instances.{HasSignature, HasPlaces, AddsPlace}
-use Rattle.variable_bases.specs.Table.{may_have, AllGive}
+use Rattle.variable_bases.specs.Instances.{HasSignature, HasPlaces, OnlyPlaces, StandsAt, AddsPlace}
+use Rattle.variable_bases.specs.Table.{may_have, AllGive, Fits, NoneTakes, SomeGives}
 
 -- ---- one more signature
 
@@ -26,40 +26,74 @@ more ss one takes gives h = (h.0, (Contains-append_left ss (one ∷ []) h.0 h.1.
 pub place_added :
     (fs : List CoreFun) (place : ℕ) (f : CoreFun) (one : Signature) (ss : List Signature) → slice_get fs place ≡ Some f →
     one.takes.items ≡ bases (param_types (fun_term f)) → one.gives.items ≡ bases (fun_term f).results → AddsPlace (map fun_term fs) place ss (ss ++ one ∷ [])
-place_added fs place f one ss found takes gives = (
-  more ss one,
-  λ g at. let same : fun_term f ≡ g = ap (λ o. unwrap_or o g) (sym (slice_get-map fun_term fs place ∙ ap (option_map fun_term) found) ∙ at) in
-      subst (λ (h : FunTerm). HasSignature (ss ++ one ∷ []) (bases (param_types h)) (bases h.results)) same (one, (Contains-push ss one, takes, gives)),
-)
+place_added fs place f one ss found takes gives = record {
+  keeps = more ss one;
+  has = λ g at. let same : fun_term f ≡ g = ap (λ o. unwrap_or o g) (sym there ∙ at) in
+      subst (λ (h : FunTerm). HasSignature (ss ++ one ∷ []) (bases (param_types h)) (bases h.results)) same (one, (Contains-push ss one, takes, gives));
+  only = λ us ts h. elim (Contains-push_cases ss one h.0 h.1.0) [
+    | inl c ↦ inl (h.0, (c, h.1.1, h.1.2))
+    | inr e ↦ inr (fun_term f, (there, sym takes ∙ ap (λ (x : Signature). x.takes.items) e ∙ h.1.1, sym gives ∙ ap (λ (x : Signature). x.gives.items) e ∙ h.1.2))
+  ];
+}
+  where
+    there : slice_get (map fun_term fs) place ≡ Some (fun_term f)
+    there = slice_get-map fun_term fs place ∙ ap (option_map fun_term) found
 
 pub place_missing : (fs : List CoreFun) (place : ℕ) (ss : List Signature) → slice_get fs place ≡ None → AddsPlace (map fun_term fs) place ss ss
-place_missing fs place ss none =
-    (λ takes gives h. h, λ f at. absurd (let z : ◌≡◌ {A = Option FunTerm} None (Some f) = sym (slice_get-map fun_term fs place ∙ ap (option_map fun_term) none) ∙ at in cc))
+place_missing fs place ss none = record {
+  keeps = λ takes gives h. h;
+  has = λ f at. absurd (let z : ◌≡◌ {A = Option FunTerm} None (Some f) = sym (slice_get-map fun_term fs place ∙ ap (option_map fun_term) none) ∙ at in cc);
+  only = λ takes gives h. inl h;
+}
 
 -- ---- the places of a group
 
-abbrev pub PlacesSoFar : List FunTerm → List ℕ → ℕ → List Signature → Type 0
-PlacesSoFar fs places i ss =
-    (k : ℕ) → k < i → (f : FunTerm) → slice_get fs (get_or places k 0) ≡ Some f → HasSignature ss (bases (param_types f)) (bases f.results)
+pub record PlacesSoFar (fs : List FunTerm) (places : List ℕ) (i : ℕ) (ss : List Signature) : Type 0 where
+  pub has : (k : ℕ) → k < i → (f : FunTerm) → slice_get fs (get_or places k 0) ≡ Some f → HasSignature ss (bases (param_types f)) (bases f.results)
+  pub only : (takes gives : List Base) → HasSignature ss takes gives → (k : ℕ) × ((k < length places) × StandsAt fs (get_or places k 0) takes gives)
+
+pub no_place : (fs : List FunTerm) (places : List ℕ) (ss : List Signature) → ss ≡ [] → PlacesSoFar fs places 0 ss
+no_place fs places ss none = record {
+  has = λ k low. absurd (omega (arith, low));
+  only = λ takes gives h. absurd (let less = h.1.0.1 in let z : length ss ≡ 0 = ap length none in omega (arith, less, z));
+}
 
 pub next_place :
     (fs : List FunTerm) (places : List ℕ) (i place : ℕ) (before after : List Signature) → i < length places → place ≡ get_or places i place →
     PlacesSoFar fs places i before → AddsPlace fs place before after → PlacesSoFar fs places (i + 1) after
-next_place fs places i place before after less is so_far adds k low f at = go (eqb k i) refl
+next_place fs places i place before after less is so_far adds = record {
+  has = λ k low f at. go k low f at (eqb k i) refl;
+  only = λ takes gives h. elim (adds.only takes gives h) [
+    | inl old ↦ so_far.only takes gives old
+    | inr new ↦ (i, (less, subst (λ n. StandsAt fs n takes gives) here new))
+  ];
+}
   where
-    go : (b : Bool) → eqb k i ≡ b → HasSignature after (bases (param_types f)) (bases f.results)
-    go true e = adds.1 f (subst (λ n. slice_get fs n ≡ Some f) (ap (λ j. get_or places j 0) (eqb-true k i e) ∙ get_or_default places i 0 place less ∙ sym is) at)
-    go false e = adds.0 (bases (param_types f)) (bases f.results) (so_far k (let other : k ≢ i = λ same. absurd (let z : true ≡ false = sym (eq-eqb k i same) ∙ e in cc) in omega (arith, low, other)) f at)
+    here : place ≡ get_or places i 0
+    here = is ∙ get_or_default places i place 0 less
 
-pub all_places : (fs : List FunTerm) (places : List ℕ) (i : ℕ) (ss : List Signature) → length places ≤ i → PlacesSoFar fs places i ss → HasPlaces fs places ss
-all_places fs places i ss over so_far place f one at =
-    so_far one.0 (omega (arith, one.1, over)) f (subst (λ n. slice_get fs n ≡ Some f) (sym one.2 ∙ get_or_default places one.0 place 0 one.1) at)
+    go : (k : ℕ) → k < i + 1 → (f : FunTerm) → slice_get fs (get_or places k 0) ≡ Some f → (b : Bool) → eqb k i ≡ b → HasSignature after (bases (param_types f)) (bases f.results)
+    go k low f at true e = adds.has f (subst (λ n. slice_get fs n ≡ Some f) (ap (λ j. get_or places j 0) (eqb-true k i e) ∙ sym here) at)
+    go k low f at false e =
+        adds.keeps (bases (param_types f)) (bases f.results) (so_far.has k (let other : k ≢ i = λ same. absurd (let z : true ≡ false = sym (eq-eqb k i same) ∙ e in cc) in omega (arith, low, other)) f at)
+
+pub has_places : (fs : List FunTerm) (places : List ℕ) (i : ℕ) (ss : List Signature) → length places ≤ i → PlacesSoFar fs places i ss → HasPlaces fs places ss
+has_places fs places i ss over so_far place f one at =
+    so_far.has one.0 (omega (arith, one.1, over)) f (subst (λ n. slice_get fs n ≡ Some f) (sym one.2 ∙ get_or_default places one.0 place 0 one.1) at)
+
+pub only_places : (fs : List FunTerm) (places : List ℕ) (i : ℕ) (ss : List Signature) → PlacesSoFar fs places i ss → OnlyPlaces fs places ss
+only_places fs places i ss so_far takes gives h =
+    let w = so_far.only takes gives h in
+    (get_or places w.0 0, ((w.0, w.1.0, get_or_default places w.0 (get_or places w.0 0) 0 w.1.0), w.1.1))
 
 -- ---- the groups of a core
 
+abbrev pub ArePlaces : List FunTerm → List ℕ → List Signature → Type 0
+ArePlaces fs places ss = HasPlaces fs places ss × OnlyPlaces fs places ss
+
 abbrev pub AllPlaces : List FunTerm → List (List ℕ) → List (List Signature) → Type 0
 AllPlaces fs [] [] = Unit {0}
-AllPlaces fs (p ∷ ps) (s ∷ ss) = HasPlaces fs p s × AllPlaces fs ps ss
+AllPlaces fs (p ∷ ps) (s ∷ ss) = ArePlaces fs p s × AllPlaces fs ps ss
 AllPlaces fs _ _ = ⊥
 
 abbrev pub GroupsSoFar : List FunTerm → List (List ℕ) → ℕ → List (List Signature) → Type 0
@@ -67,10 +101,10 @@ GroupsSoFar fs groups i so_far = (rest : List (List Signature)) → AllPlaces fs
 
 pub next_group :
     (fs : List FunTerm) (groups : List (List ℕ)) (i : ℕ) (group : List ℕ) (one : List Signature) (before : List (List Signature)) → i < length groups →
-    group ≡ get_or groups i group → HasPlaces fs group one → GroupsSoFar fs groups i before → GroupsSoFar fs groups (i + 1) (before ++ one ∷ [])
+    group ≡ get_or groups i group → ArePlaces fs group one → GroupsSoFar fs groups i before → GroupsSoFar fs groups (i + 1) (before ++ one ∷ [])
 next_group fs groups i group one before less is has so_far rest more =
     subst (λ xs. AllPlaces fs groups xs) (sym (append_assoc before (one ∷ []) rest)) (so_far (one ∷ rest)
-    (subst (λ xs. AllPlaces fs xs (one ∷ rest)) (sym (drop_more groups i group less)) (subst (λ x. HasPlaces fs x one) is has, more)))
+    (subst (λ xs. AllPlaces fs xs (one ∷ rest)) (sym (drop_more groups i group less)) (subst (λ x. ArePlaces fs x one) is has, more)))
 
 pub all_groups : (fs : List FunTerm) (groups : List (List ℕ)) (i : ℕ) (ss : List (List Signature)) → length groups ≤ i → GroupsSoFar fs groups i ss → AllPlaces fs groups ss
 all_groups fs groups i ss over so_far =
@@ -78,11 +112,20 @@ all_groups fs groups i ss over so_far =
 
 pub group_found :
     (fs : List FunTerm) (groups : List (List ℕ)) (ss : List (List Signature)) → AllPlaces fs groups ss → (group : ℕ) (places : List ℕ) → slice_get groups group ≡ Some places →
-    (instances : List Signature) × ((slice_get ss group ≡ Some instances) × HasPlaces fs places instances)
+    (instances : List Signature) × ((slice_get ss group ≡ Some instances) × ArePlaces fs places instances)
 group_found fs [] ss all group places at = absurd (let z : ◌≡◌ {A = Option (List ℕ)} None (Some places) = at in cc)
 group_found fs (p ∷ ps) [] all group places at = absurd all
-group_found fs (p ∷ ps) (s ∷ ss) all zero places at = (s, (refl, subst (λ x. HasPlaces fs x s) (ap (λ o. unwrap_or o p) at) all.0))
+group_found fs (p ∷ ps) (s ∷ ss) all zero places at = (s, (refl, subst (λ x. ArePlaces fs x s) (ap (λ o. unwrap_or o p) at) all.0))
 group_found fs (p ∷ ps) (s ∷ ss) all (suc group) places at = group_found fs ps ss all.1 group places at
+
+pub places_found :
+    (fs : List FunTerm) (groups : List (List ℕ)) (ss : List (List Signature)) → AllPlaces fs groups ss → (group : ℕ) (instances : List Signature) → slice_get ss group ≡ Some instances →
+    (places : List ℕ) × ((slice_get groups group ≡ Some places) × ArePlaces fs places instances)
+places_found fs [] [] all group instances at = absurd (let z : ◌≡◌ {A = Option (List Signature)} None (Some instances) = at in cc)
+places_found fs [] (s ∷ ss) all group instances at = absurd all
+places_found fs (p ∷ ps) [] all group instances at = absurd all
+places_found fs (p ∷ ps) (s ∷ ss) all zero instances at = (p, (refl, subst (λ x. ArePlaces fs p x) (ap (λ o. unwrap_or o s) at) all.0))
+places_found fs (p ∷ ps) (s ∷ ss) all (suc group) instances at = places_found fs ps ss all.1 group instances at
 
 -- ---- what they give
 
@@ -131,4 +174,57 @@ pub has_instances :
     (instances : List Signature) × ((slice_get ss group ≡ Some instances) × HasSignature instances takes gives)
 has_instances core ss all group takes gives (places, (place, (f, (at, one, found, is_taken, is_given)))) =
     let h = group_found core.functions core.groups ss all group places at in
-    (h.0, (h.1.0, subst (λ us. HasSignature h.0 us gives) is_taken (subst (λ us. HasSignature h.0 (bases (param_types f)) us) is_given (h.1.1 place f one found))))
+    (h.0, (h.1.0, subst (λ us. HasSignature h.0 us gives) is_taken (subst (λ us. HasSignature h.0 (bases (param_types f)) us) is_given (h.1.1.0 place f one found))))
+
+pub only_instances :
+    (core : CoreTerm) (ss : List (List Signature)) → AllPlaces core.functions core.groups ss → (group : ℕ) (takes gives : List Base) →
+    ((instances : List Signature) × ((slice_get ss group ≡ Some instances) × HasSignature instances takes gives)) → GroupBases core group takes gives
+only_instances core ss all group takes gives one =
+    let w = places_found core.functions core.groups ss all group one.0 one.1.0 in
+    let h = w.1.1.1 takes gives one.1.1 in
+    (w.0, (h.0, (h.1.1.0, (w.1.0, h.1.0, h.1.1.1.0, h.1.1.1.1, h.1.1.1.2))))
+
+-- ---- where none gives what the first does
+
+-- a signature that may take the variables and gives other bases than the first
+pub some_gives :
+    (ss : List Signature) (one : Signature) (i : ℕ) (args : List Var) (table : BaseTable) (gives : List Base) → i < length ss → one ≡ get_or ss i one →
+    may_have table args one.takes.items ≡ true → (one.gives.items ≡ gives → ⊥) → SomeGives ss args table gives
+some_gives ss one i args table gives less is may other = (one.takes.items, (one.gives.items, ((one, ((i, less, sym is), refl, refl)), may, other)))
+
+pub none_gives :
+    (groups : List (List Signature)) (group : ℕ) (args : List Var) (table : BaseTable) (takes gives : List Base) → slice_get groups group ≡ None →
+    ((instances : List Signature) × ((slice_get groups group ≡ Some instances) × HasSignature instances takes gives)) → ⊥
+none_gives groups group args table takes gives none h = let z : ◌≡◌ {A = Option (List Signature)} None (Some h.0) = sym none ∙ h.1.0 in cc
+
+-- ---- the first that may take the variables
+
+abbrev pub NoneSoFar : List Signature → ℕ → List Var → BaseTable → Type 0
+NoneSoFar ss i args table = (k : ℕ) → k < i → (d : Signature) → may_have table args (get_or ss k d).takes.items ≡ false
+
+pub none_next : (ss : List Signature) (i : ℕ) (one : Signature) (args : List Var) (table : BaseTable) → i < length ss → one ≡ get_or ss i one → may_have table args one.takes.items ≡ false
+    → NoneSoFar ss i args table → NoneSoFar ss (i + 1) args table
+none_next ss i one args table less is not so_far k low d = go (eqb k i) refl
+  where
+    go : (b : Bool) → eqb k i ≡ b → may_have table args (get_or ss k d).takes.items ≡ false
+    go true e = subst (λ (x : Signature). may_have table args x.takes.items ≡ false) (sym (ap (λ j. get_or ss j d) (eqb-true k i e) ∙ get_or_default ss i d one less ∙ sym is)) not
+    go false e = so_far k (let other : k ≢ i = λ same. absurd (let z : true ≡ false = sym (eq-eqb k i same) ∙ e in cc) in omega (arith, low, other)) d
+
+pub none_takes : (ss : List Signature) (i : ℕ) (args : List Var) (table : BaseTable) → length ss ≤ i → NoneSoFar ss i args table → NoneTakes ss args table
+none_takes ss i args table over so_far takes given h may =
+    let at = h.1.0 in
+    let not : may_have table args takes ≡ false = ap (may_have table args) (sym h.1.1) ∙ ap (λ (x : Signature). may_have table args x.takes.items) (sym at.2) ∙ so_far at.0 (omega (arith, at.1, over)) h.0 in
+    absurd (let z : true ≡ false = sym may ∙ not in cc)
+
+pub group_none : (groups : List (List Signature)) (group : ℕ) (ss : List Signature) (args : List Var) (table : BaseTable) (takes given : List Base) → slice_get groups group ≡ Some ss → NoneTakes ss args table
+    → ((instances : List Signature) × ((slice_get groups group ≡ Some instances) × HasSignature instances takes given)) → may_have table args takes ≡ true → ⊥
+group_none groups group ss args table takes given at none h may = none takes given (subst (λ xs. HasSignature xs takes given) (ap (λ o. unwrap_or o ss) (sym h.1.0 ∙ at)) h.1.1) may
+
+-- two that give different bases
+pub group_two : (groups : List (List Signature)) (group : ℕ) (ss : List Signature) (first : Signature) (args : List Var) (table : BaseTable) (gives : List Base) → slice_get groups group ≡ Some ss → Fits ss args table first
+    → SomeGives ss args table first.gives.items
+    → ((others given : List Base) → (instances : List Signature) × ((slice_get groups group ≡ Some instances) × HasSignature instances others given) → may_have table args others ≡ true → given ≡ gives) → ⊥
+group_two groups group ss first args table gives at fits other same =
+    let one = same first.takes.items first.gives.items (ss, (at, (first, (fits.0, refl, refl)))) fits.1 in
+    let two = same other.0 other.1.0 (ss, (at, other.1.1.0)) other.1.1.1 in
+    other.1.1.2 (two ∙ sym one)

@@ -3,3 +3,4 @@ mod Notes
 mod Groups
 mod Told
 mod Within
+mod Scopes

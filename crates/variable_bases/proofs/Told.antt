@@ -1,17 +1,18 @@
 -- What a table tells of the operands of right sides.
-use Rattle.std.proofs.Common.{◌≡◌, ℕ, zero, suc, ◌<◌, Bool, true, false, ◌&&◌, List, [], ◌∷◌, map, length, get_or, Option, Some, None, refl, sym, ap, ◌∙◌, arith}
+use Rattle.std.proofs.Common.{◌≡◌, ℕ, zero, suc, ◌<◌, Bool, true, false, ◌&&◌, List, [], ◌∷◌, map, length, get_or, All, Option, Some, None, refl, sym, ap, ◌∙◌, arith}
 use Rattle.sac_base.specs.declared.base.Base.{Base}
 use Rattle.sac_base.specs.declared.base.Base.TheVariants.{Int, Bool as Truth}
 use Rattle.sac_base.specs.Arrays.{same_base}
 use Rattle.core_ir.specs.declared.tree.Var.{Var}
-use Rattle.std.specs.Prelude.{IfSome}
+use Rattle.std.specs.Prelude.{IfSome, IfNone}
 use Rattle.core_ir.specs.Terms.{PlainTerm, Plain}
 use Rattle.core_ir.specs.WellFormed.{Bases, HasBase, AllHave, LiteralBase}
-use Rattle.variable_bases.specs.Learned.{TellsLiteral, TellsRight}
+use Rattle.variable_bases.specs.Learned.{TellsLiteral, TellsNothing, TellsRight}
 use Rattle.core_norm_steps.specs.Step.{Within}
 use Rattle.core_norm_steps.specs.Step.{BaseTable as AllBases}
 use Rattle.variable_bases.specs.declared.table.BaseTable.{BaseTable}
-use Rattle.variable_bases.specs.Table.{base_in, Tells, may_be, may_have}
+use Rattle.variable_bases.specs.Table.{base_in, Tells, IsTold, may_be, may_have}
+use Rattle.variable_bases.proofs.Scopes.{literal_all_told}
 
 same : (t : Base) → same_base t t ≡ true
 same Int = refl
@@ -64,3 +65,7 @@ literal_told t xs k d v less has m g u h w tells = told t m g (get_or xs k d) u 
 pub literal_right : (t : BaseTable) (xs : List Var) (o : Option Base) → IfSome o (λ b. TellsLiteral t xs b) → IfSome o (λ b. TellsRight t (Plain (PlainTerm.Literal xs)) b)
 literal_right t xs None h = tt
 literal_right t xs (Some v) h = λ core m g ts d w tells. d.2 ∙ (λ i. h m g d.0 d.1 w tells i ∷ [])
+
+pub literal_nothing : (t : BaseTable) (xs : List Var) (o : Option Base) → IfNone o (All (IsTold t) xs → ⊥) → IfNone o (TellsNothing t (Plain (PlainTerm.Literal xs)))
+literal_nothing t xs None h = λ core g ts d scope may. h (literal_all_told t g xs d.0 scope d.1)
+literal_nothing t xs (Some v) h = tt

@@ -8,6 +8,7 @@ use Rattle.core_ir.specs.Terms.{BlockTerm, LetTerm, CoreTerm, Gives, Bind, chain
 use Rattle.core_ir.specs.WellFormed.{Bases, base_of, HasBases, BlockBases, ints}
 use Rattle.core_ir.proofs.Variables.{same_number}
 use Rattle.core_norm_steps.specs.Step.{BaseTable, Within, AllNumbers, Follows}
+use Rattle.variable_bases.specs.Sources.{results}
 
 pub within_one : (m : BaseTable) (g : Bases) (x : Var) (u : Base) → Within m g → u ≡ m x → Within m ((x, u) ∷ g)
 within_one m g x u w e y t p = go (eqb x.0 y.0) refl
@@ -32,10 +33,6 @@ have_all m g [] [] w h = refl
 have_all m g [] (t ∷ ts) w h = absurd h
 have_all m g (x ∷ xs) [] w h = absurd h
 have_all m g (x ∷ xs) (t ∷ ts) w h = λ i. sym (w x t h.0) i ∷ have_all m g xs ts w h.1 i
-
-abbrev pub results : BlockTerm → List Var
-results (Gives xs) = xs
-results (Bind xs s r b) = results b
 
 pub results_chain : (ls : List LetTerm) (xs : List Var) → results (chain ls (Gives xs)) ≡ xs
 results_chain [] xs = refl

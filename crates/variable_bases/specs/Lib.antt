@@ -1,3 +1,4 @@
 pub mod Instances
 pub mod Learned
+pub mod Sources
 pub mod Table

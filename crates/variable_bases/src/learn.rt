@@ -1,9 +1,11 @@
 //! What the bindings of a block tell of the bases of its variables.
 
-ghost use Rattle.std.specs.Prelude.{◌≡◌, OnOk, IfSome};
+ghost use Rattle.std.specs.Prelude.{◌≡◌, All, OnOk, IfSome, IfNone};
 ghost use Rattle.core_ir.specs.View.{block_term, right_term, with_term, gen_term, parted_term, part_term};
 ghost use Rattle.variable_bases.specs.Learned.{LearnsBlock, LearnsRight, LearnsGens, LearnsGen, LearnsParts, LearnsPart};
-ghost use Rattle.variable_bases.specs.Learned.{TellsRight, TellsLiteral, source as source_of, gens_in, parts_in};
+ghost use Rattle.variable_bases.specs.Learned.{TellsRight, TellsLiteral, TellsNothing, gens_in, parts_in};
+ghost use Rattle.variable_bases.specs.Sources.{source as source_of};
+ghost use Rattle.variable_bases.specs.Table.{IsTold};
 
 use crate::signatures::Signatures;
 use crate::table::BaseTable;
@@ -131,7 +133,8 @@ fn learn_part(part: &CorePart, signatures: &Signatures, table: &mut BaseTable) -
 
 /// The base that a right side without blocks and calls gives, if it can be told.
 fn plain_base(right: &Right, table: &BaseTable) -> Option<Base>
-    ensures { IfSome result (λ base. TellsRight table.now (right_term right.now) base) }
+    ensures some { IfSome result (λ base. TellsRight table.now (right_term right.now) base) }
+    ensures none { IfNone result (TellsNothing table.now (right_term right.now)) }
 {
     match right {
         Right::Const(array) => Some(array.base()),
@@ -151,7 +154,8 @@ fn plain_base(right: &Right, table: &BaseTable) -> Option<Base>
 
 /// The base of the elements of a literal. An empty one is of numbers.
 fn literal_base(xs: &[Var], table: &BaseTable) -> Option<Base>
-    ensures { IfSome result (λ base. TellsLiteral table.now xs.now base) }
+    ensures some { IfSome result (λ base. TellsLiteral table.now xs.now base) }
+    ensures none { IfNone result (All (IsTold table.now) xs.now → ⊥) }
 {
     if xs.is_empty() {
         return Some(Base::Int);

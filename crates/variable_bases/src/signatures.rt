@@ -1,11 +1,11 @@
 //! The bases that the functions of a core take and give.
 
-ghost use Rattle.std.specs.Prelude.{◌≡◌, map, IfOk, IfSome, OnOk, true};
+ghost use Rattle.std.specs.Prelude.{◌≡◌, map, IfOk, IfSome, IfNone, OnOk, true, false};
 ghost use Rattle.core_ir.specs.Outcome.{param_types};
 ghost use Rattle.core_ir.specs.View.{core_term, fun_term};
 ghost use Rattle.core_ir.specs.WellFormed.{bases};
-ghost use Rattle.variable_bases.specs.Instances.{HasInstances, HasPlaces, AddsPlace};
-ghost use Rattle.variable_bases.specs.Table.{AllGive, GroupGives};
+ghost use Rattle.variable_bases.specs.Instances.{HasInstances, HasPlaces, OnlyInstances, OnlyPlaces, AddsPlace};
+ghost use Rattle.variable_bases.specs.Table.{AllGive, Fits, GroupGives, NoneGives, NoneTakes, SomeGives};
 
 use crate::table::BaseTable;
 use core_ir::{Core, CoreFun, Var};
@@ -32,7 +32,8 @@ impl Signatures {
     ///
     /// `Memory`: there is none for them.
     pub fn of_core(alloc: Global, core: &Core) -> Result<Signatures, Memory>
-        ensures { IfOk result (λ signatures. HasInstances signatures (core_term core.now)) }
+        ensures has { IfOk result (λ signatures. HasInstances signatures (core_term core.now)) }
+        ensures only { IfOk result (λ signatures. OnlyInstances signatures (core_term core.now)) }
     {
         let mut groups = Vec::new(alloc);
         for places in &core.groups {
@@ -43,12 +44,11 @@ impl Signatures {
 
     /// What each instance of a group gives that may take the variables, if there is one and all give the same.
     pub(crate) fn given(&self, group: u32, args: &[Var], table: &BaseTable) -> Option<&[Base]>
-        ensures { IfSome result (λ gives. GroupGives self.now group args.now table.now gives.now) }
+        ensures some { IfSome result (λ gives. GroupGives self.now group args.now table.now gives.now) }
+        ensures none { IfNone result (NoneGives self.now group args.now table.now) }
     {
         let signatures = self.groups.get(group as usize)?;
-        let first = signatures
-            .iter()
-            .find(|signature| table.may_have(args, &signature.takes))?;
+        let first = first_fit(signatures, args, table)?;
         if all_give(signatures, args, table, &first.gives) {
             Some(&first.gives)
         } else {
@@ -57,9 +57,27 @@ impl Signatures {
     }
 }
 
+/// The first instance that may take the variables.
+fn first_fit<'a>(
+    signatures: &'a [Signature],
+    args: &[Var],
+    table: &BaseTable,
+) -> Option<&'a Signature>
+    ensures fits { IfSome result (λ one. Fits signatures.now args.now table.now one.now) }
+    ensures none { IfNone result (NoneTakes signatures.now args.now table.now) }
+{
+    for signature in signatures {
+        if table.may_have(args, &signature.takes) {
+            return Some(signature);
+        }
+    }
+    None
+}
+
 /// Whether each instance that may take the variables gives these.
 fn all_give(signatures: &[Signature], args: &[Var], table: &BaseTable, gives: &[Base]) -> bool
-    ensures { result ≡ true → AllGive signatures.now args.now table.now gives.now }
+    ensures all { result ≡ true → AllGive signatures.now args.now table.now gives.now }
+    ensures some { result ≡ false → SomeGives signatures.now args.now table.now gives.now }
 {
     for signature in signatures {
         if table.may_have(args, &signature.takes) && !same_bases(&signature.gives, gives) {
@@ -70,7 +88,8 @@ fn all_give(signatures: &[Signature], args: &[Var], table: &BaseTable, gives: &[
 }
 
 fn same_bases(a: &[Base], b: &[Base]) -> bool
-    ensures { result ≡ true → a.now ≡ b.now }
+    ensures same { result ≡ true → a.now ≡ b.now }
+    ensures other { result ≡ false → a.now ≡ b.now → ⊥ }
 {
     if a.len() != b.len() {
         return false;
@@ -88,7 +107,8 @@ fn group_signatures(
     functions: &[CoreFun],
     places: &[u32],
 ) -> Result<Vec<Signature>, Memory>
-    ensures { IfOk result (λ signatures. HasPlaces (map fun_term functions.now) places.now signatures.items) }
+    ensures has { IfOk result (λ signatures. HasPlaces (map fun_term functions.now) places.now signatures.items) }
+    ensures only { IfOk result (λ signatures. OnlyPlaces (map fun_term functions.now) places.now signatures.items) }
 {
     let mut signatures = Vec::new(alloc);
     for place in places {

@@ -3,7 +3,7 @@
 ghost use Rattle.std.specs.Prelude.{◌≡◌, [], ◌∷◌, IfOk, OnOk};
 ghost use Rattle.core_ir.specs.View.{fun_term};
 ghost use Rattle.variable_bases.specs.Learned.{HasParams, Noted, Notes, Takes, Numbers};
-ghost use Rattle.variable_bases.specs.Table.{base_in, may_be, may_have as may_have_bases, TellsOf};
+ghost use Rattle.variable_bases.specs.Table.{base_in, may_be, may_have as may_have_bases, TellsOf, HasSources};
 
 use crate::learn::learn_block;
 use crate::signatures::Signatures;
@@ -31,7 +31,8 @@ impl BaseTable {
         function: &CoreFun,
         signatures: &Signatures,
     ) -> Result<BaseTable, Memory>
-        ensures { IfOk result (λ table. TellsOf (fun_term function.now) signatures.now table) }
+        ensures tells { IfOk result (λ table. TellsOf (fun_term function.now) signatures.now table) }
+        ensures sources { IfOk result (λ table. HasSources (fun_term function.now) signatures.now table) }
     {
         let mut table = BaseTable::of_params(alloc, &function.params)?;
         learn_block(&function.body, signatures, &mut table)?;

@@ -1,8 +1,7 @@
 -- A part that is made of a generator is a copy of its body below the components of the index, and what it binds is numbered in order.
-use Rattle.std.proofs.Common.{◌≡◌, ℕ, zero, suc, ◌+◌, ◌<◌, ◌≤◌, Bool, true, false, ◌||◌, eqb, List, [], ◌∷◌, ◌++◌, map, length, All, Option, Some, None, refl, sym, ap, subst, ◌∙◌, ◌⊎◌, inl, inr, append_assoc, append-nil, arith, pos}
+use Rattle.std.proofs.Common.{◌≡◌, ℕ, zero, suc, ◌+◌, ◌<◌, ◌≤◌, Bool, true, false, ◌||◌, eqb, List, [], ◌∷◌, ◌++◌, length, All, Option, Some, None, refl, sym, ap, subst, ◌∙◌, ◌⊎◌, inl, inr, append_assoc, arith, pos}
 use Rattle.std.specs.Prelude.{slice_get, unwrap_or}
 use Rattle.sac_base.specs.declared.base.Base.TheVariants.{Int}
-use Rattle.sac_base.specs.declared.grid.Grid1.{Grid1}
 use Rattle.sac_base.specs.declared.site.Site.{Site}
 use Rattle.sac_base.specs.Arrays.{scalar}
 use Rattle.core_ir.specs.declared.tree.Var.{Var}
@@ -11,7 +10,7 @@ use Rattle.core_ir.specs.Renaming.{under}
 use Rattle.core_ir.specs.Scopes.{Scoped, ScopedGens}
 use Rattle.core_ir.specs.Terms.{PlainTerm, BlockTerm, GensTerm, GenTerm, Bind, Plain, chain, gens_of}
 use Rattle.core_ir.specs.WellFormed.{Distinct}
-use Rattle.core_ir.proofs.Variables.{not_bound, same_number}
+use Rattle.core_ir.proofs.Variables.{same_number}
 use Rattle.core_subst.specs.Names.{variable}
 use Rattle.core_copy.specs.Mapped.{mapped}
 use Rattle.core_copy.proofs.Renaming.{bound_mapped}
@@ -25,7 +24,7 @@ use Rattle.core_norm_forms.specs.Alike.{NamedAlike}
 use Rattle.core_norm_forms.specs.Copied.{AreFrom, components}
 use Rattle.core_norm_forms.proofs.Named.{copies_named}
 use Rattle.core_norm_forms.proofs.Places.{all_member}
-use Rattle.with_norm.proofs.Numbered.{Good, And, Those, AreComponents, components_good, components_off, components_order, components_same, named_at, named_good, named_off, numbered_good, numbered_off, numbered_order, order_append, turned}
+use Rattle.with_norm.proofs.Numbered.{Good, And, Those, AreComponents, components_good, components_off, components_order, components_same, named_at, named_good, named_off, numbered_good, numbered_off, numbered_order}
 
 -- ---- a generator at its place
 

@@ -11,20 +11,18 @@ use Rattle.sac_base.specs.Grids.{SplitsVectors, has_vector, times_vector}
 use Rattle.core_ir.specs.declared.tree.Var.{Var}
 use Rattle.core_ir.specs.declared.tree.CoreOp.{CoreOp}
 use Rattle.core_ir.specs.declared.tree.CoreOp.TheVariants as making
-use Rattle.core_ir.specs.declared.tree.PartedOp.{PartedOp}
 use Rattle.core_ir.specs.declared.tree.PartedOp.TheVariants as parted
-use Rattle.core_ir.specs.Binders.{is_in, bound_in, bound_in_right, bound_in_gens, bound_in_parts}
+use Rattle.core_ir.specs.Binders.{is_in, bound_in, bound_in_gens, bound_in_parts}
 use Rattle.core_ir.specs.Scopes.{Scoped, ScopedRight, ScopedGens}
 use Rattle.core_ir.specs.Terms.{BlockTerm, RightTerm, GensTerm, PartsTerm, GenTerm, Bind, With, Parted, gens_of, parts_of}
-use Rattle.core_ir.specs.WellFormed.{Covered, Distinct, Fit, PartedFits, part_grids}
+use Rattle.core_ir.specs.WellFormed.{Distinct, Fit, PartedFits}
 use Rattle.core_facts.specs.Facts.{Facts}
 use Rattle.core_inlined_bodies.proofs.Names.{distinct_left, distinct_right}
 use Rattle.core_norm.specs.Norm.{NameFirst}
-use Rattle.core_loops.specs.Loops.{IsPartable, grid_range}
-use Rattle.core_norm_steps.specs.Step.{BaseTable, WithParted, NormHere}
-use Rattle.core_norm_steps.specs.Genarray.{GenarrayParted, LabelledParts, count_gens}
-use Rattle.core_norm_steps.specs.Modarray.{ModarrayParted, OldLabelled}
-use Rattle.core_norm_steps.specs.Fold.{FoldParted, FoldLabelled}
+use Rattle.core_norm_steps.specs.Step.{BaseTable}
+use Rattle.core_norm_steps.specs.Genarray.{LabelledParts, count_gens}
+use Rattle.core_norm_steps.specs.Modarray.{OldLabelled}
+use Rattle.core_norm_steps.specs.Fold.{FoldLabelled}
 use Rattle.core_norm_forms.specs.Alike.{LabelledAlike}
 use Rattle.core_norm_forms.specs.Copied.{IsPlaced}
 use Rattle.core_norm_forms.specs.Fresh.{FreshHere, IsBetween, count_parts}
@@ -33,7 +31,7 @@ use Rattle.core_norm_forms.proofs.Named.{in_order}
 use Rattle.core_norm_forms.proofs.Places.{all_member}
 use Rattle.partable_loops.specs.declared.planning.PartPlan.{PartPlan}
 use Rattle.partable_loops.specs.Counted.{generator_count}
-use Rattle.partable_loops.specs.Planned.{AllNamed, CoversHeld, Label, IsPlan, IsGenarrayPlan, IsModarrayPlan, IsFoldPlan, PlanFits, needed_parts}
+use Rattle.partable_loops.specs.Planned.{AllNamed, Label, IsPlan, needed_parts}
 use Rattle.parted_bodies.specs.declared.names.Progress.{Progress}
 use Rattle.parted_bodies.specs.Making.{base_var, binds_of, made_parts, parted_op}
 use Rattle.norm_walk.specs.Replacing.{ReplacedAt, ReplacedHere}

@@ -1,5 +1,5 @@
 -- The parts that are made for the grids of a plan.
-use Rattle.std.proofs.Common.{◌≡◌, ℕ, zero, suc, ◌+◌, ◌<◌, ◌≤◌, Bool, true, false, ◌||◌, cond, eqb, List, [], ◌∷◌, ◌++◌, map, length, All, Option, Some, None, refl, sym, ap, subst, ◌∙◌, ◌⊎◌, inl, inr, append_assoc, append-nil, arith, ℤ}
+use Rattle.std.proofs.Common.{◌≡◌, ℕ, zero, suc, ◌+◌, ◌<◌, ◌≤◌, Bool, true, false, ◌||◌, cond, List, [], ◌∷◌, ◌++◌, map, length, All, Option, Some, None, refl, sym, ap, subst, ◌∙◌, ◌⊎◌, append_assoc, append-nil, arith, ℤ}
 use Rattle.std.specs.Prelude.{filter, is_some, option_map, option_to_list, slice_get, nat_lt}
 use Rattle.std.specs.List.{list_any, position, position_or_len}
 use Rattle.std.proofs.lemmas.Bool.Decides.{nat_tests}
@@ -28,7 +28,7 @@ use Rattle.core_norm_forms.specs.Fresh.{count_parts}
 use Rattle.partable_loops.specs.Planned.{AllNamed, Label}
 use Rattle.parted_bodies.specs.Making.{binds_of, generator_part, label_part, made_parts, part_body}
 use Rattle.with_norm.proofs.Numbered.{order_append}
-use Rattle.with_norm.proofs.Copied.{GenPlace, gen_place, apart_if, copy_is, part_order}
+use Rattle.with_norm.proofs.Copied.{gen_place, apart_if, copy_is, part_order}
 
 -- ---- labels of generators that are there
 

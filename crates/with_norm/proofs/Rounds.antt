@@ -1,29 +1,37 @@
 -- What a round keeps, and rounds after one another.
-use Rattle.std.proofs.Common.{◌≡◌, ℕ, zero, suc, ◌+◌, ◌<◌, ◌≤◌, List, [], ◌∷◌, ◌++◌, map, length, Option, Some, refl, sym, ap, subst, ◌∙◌, ◌⊎◌, inl, inr, append_assoc, append-nil, arith}
+use Rattle.std.proofs.Common.{◌≡◌, ℕ, zero, suc, ◌+◌, ◌<◌, ◌≤◌, List, [], ◌∷◌, ◌++◌, map, length, get_or, All, Contains, Option, Some, refl, sym, ap, subst, ◌∙◌, ◌⊎◌, inl, inr, append_assoc, arith}
 use Rattle.std.specs.Prelude.{slice_get, unwrap_or}
+use Rattle.std.specs.List.{AllPairs}
+use Rattle.std.proofs.Math.Nat.{le-max_right}
+use Rattle.std.proofs.lemmas.List.{get_or_default}
+use Rattle.std.proofs.lemmas.List.Elements.{All-nil, All-cons, All-head, All-tail}
 use Rattle.sac_base.specs.declared.base.Base.{Base}
 use Rattle.sac_base.specs.declared.types.ArrayType.{ArrayType}
 use Rattle.core_ir.specs.declared.tree.Var.{Var}
 use Rattle.core_ir.specs.Binders.{bound_in}
-use Rattle.core_ir.specs.Outcome.{SameHeads, SameOutside, group_at, param_vars}
+use Rattle.core_ir.specs.Outcome.{SameHeads, SameOutside, group_at, param_types, param_vars}
 use Rattle.core_ir.specs.Terms.{BlockTerm, FunTerm, CoreTerm}
-use Rattle.core_ir.specs.WellFormed.{GroupBases, IsFunction, IsWellFormed, bases}
+use Rattle.core_ir.specs.WellFormed.{GroupBases, IsFunction, IsWellFormed, PlacesShare, bases}
 use Rattle.core_calls.specs.Replaced.{replaced_at}
 use Rattle.core_calls.proofs.Replaced.{at_place}
 use Rattle.core_settled.specs.Called.{called, common_shapes, params_facts, result_shapes, shapes_at}
-use Rattle.core_subst.specs.Names.{above_function}
+use Rattle.core_subst.specs.Names.{above, above_all, above_function}
 use Rattle.core_inlined_bodies.proofs.Counts.{all_at}
 use Rattle.core_inlined_bodies.proofs.Names.{distinct_right, fresh_below, fresh_left, fresh_more, fresh_right, own_fresh, own_vars}
 use Rattle.core_inlined_bodies.proofs.Stepped.{old_at, stepped}
 use Rattle.core_norm_steps.proofs.Tables.{has_table}
 use Rattle.core_norm_forms.specs.Copied.{IsPlaced}
-use Rattle.core_norm_forms.specs.Walks.{NormSteps, no_step, FunctionWalk, BlockWalk, core_weight}
+use Rattle.core_norm_forms.specs.Walks.{no_step, FunctionWalk, BlockWalk, core_weight}
 use Rattle.core_norm_forms.proofs.Laws.{all_by}
 use Rattle.core_norm_forms.proofs.Whole.{walks_keep, go_on}
 use Rattle.variable_bases.specs.declared.signatures.Signatures.{Signatures}
-use Rattle.variable_bases.specs.Instances.{HasInstances, Instance}
+use Rattle.partable_loops.specs.Planned.{IsPlannable}
+use Rattle.variable_bases.specs.Instances.{AreUnique, HasInstances, OnlyInstances}
 use Rattle.variable_bases.specs.Table.{base_in}
-use Rattle.with_norm.specs.Normed.{FunctionNormed, AllNormed, Round, Kept, Normalised}
+use Rattle.norm_walk.specs.Replacing.{EachWith}
+use Rattle.norm_walk.proofs.Walking.{rises, still}
+use Rattle.with_norm.specs.Normed.{FunctionNormed, AllNormed, AllNormal, IsNormal, Round, Kept, Normalised}
+use Rattle.with_norm.proofs.Left.{none_left}
 use Rattle.with_norm.proofs.Walks.{walk_is}
 
 -- ---- one after another
@@ -92,7 +100,8 @@ module _ (calls : ℕ → List (Option (List ℕ))) (signatures : Signatures) wh
       let table = has_table a f is in
       let m = table.0 in
       let tells = h.tells a has m table.1 is.agreeing table.2 in
-      let own = fresh_more (own_vars f) (above_function f) h.first h.above (own_fresh f) in
+      let low : above_function f ≤ h.first = omega (arith, h.above) in
+      let own = fresh_more (own_vars f) (above_function f) h.first low (own_fresh f) in
       let params = fresh_left (param_vars f) (bound_in f.body) h.first own in
       let bound = fresh_right (param_vars f) (bound_in f.body) h.first own in
       let placed : IsPlaced h.first (param_vars f) f.body = record {
@@ -113,7 +122,7 @@ module _ (calls : ℕ → List (Option (List ℕ))) (signatures : Signatures) wh
         follows = table.2;
         low = h.first;
         high = h.last;
-        below = h.above;
+        below = low;
         walk = subst (λ (k : ℕ → List (Option (List ℕ))). BlockWalk k h.first m (params_facts f) walk.0 h.first h.last f.body h.body) same walk.1.1;
         changed = refl;
       } in
@@ -190,3 +199,98 @@ round_on a b c n m p h = record {
   };
   kept = λ well. let one = p.kept well in kept_on a b c n m one (round_kept b c m h one.well);
 }
+
+-- ---- a round that replaced none
+
+order : (m n : ℕ) → (m ≡ n) ⊎ ((m < n) ⊎ (n < m))
+order zero zero = inl refl
+order zero (suc n) = inr (inl (omega arith))
+order (suc m) zero = inr (inr (omega arith))
+order (suc m) (suc n) = elim (order m n) [
+  | inl e ↦ inl (ap suc e)
+  | inr r ↦ elim r [
+    | inl l ↦ inr (inl (omega (arith, l)))
+    | inr l ↦ inr (inr (omega (arith, l)))
+  ]
+]
+
+-- functions of one group whose parameters have equal bases give equal bases
+same_gives : (core : CoreTerm) (places : List ℕ) (i j : ℕ) (f g : FunTerm) → AllPairs (PlacesShare core.functions) places → Contains places i → Contains places j →
+    slice_get core.functions i ≡ Some f → slice_get core.functions j ≡ Some g → bases (param_types f) ≡ bases (param_types g) → bases f.results ≡ bases g.results
+same_gives core places i j f g share c d at to same =
+    let m = c.0 in
+    let n = d.0 in
+    let first : get_or places m 0 ≡ i = get_or_default places m 0 i c.1 ∙ c.2 in
+    let second : get_or places n 0 ≡ j = get_or_default places n 0 j d.1 ∙ d.2 in
+    elim (order m n) [
+      | inl e ↦ let one : f ≡ g = ap (λ o. unwrap_or o f) (sym at ∙ ap (slice_get core.functions) (sym first ∙ ap (λ k. get_or places k 0) e ∙ second) ∙ to) in
+          ap (λ (x : FunTerm). bases x.results) one
+      | inr r ↦ elim r [
+        | inl l ↦ (share m n 0 l d.1 f g (ap (slice_get core.functions) first ∙ at) (ap (slice_get core.functions) second ∙ to)).bases same
+        | inr l ↦ sym ((share n m 0 l c.1 g f (ap (slice_get core.functions) second ∙ to) (ap (slice_get core.functions) first ∙ at)).bases (sym same))
+      ]
+    ]
+
+pub unique : (core : CoreTerm) (signatures : Signatures) → IsWellFormed core → OnlyInstances signatures core → AreUnique signatures
+unique core signatures well only group takes gives others one two =
+    let a = only group takes gives one in
+    let b = only group takes others two in
+    let places : a.0 ≡ b.0 = ap (λ o. unwrap_or o a.0) (sym a.1.1.1.0 ∙ b.1.1.1.0) in
+    let share = all_at (AllPairs (PlacesShare core.functions)) core.groups group a.0 well.names a.1.1.1.0 in
+    sym a.1.1.1.4
+    ∙ same_gives core a.0 a.1.0 b.1.0 a.1.1.0 b.1.1.0 share a.1.1.1.1 (subst (λ (ps : List ℕ). Contains ps b.1.0) (sym places) b.1.1.1.1) a.1.1.1.2 b.1.1.1.2 (a.1.1.1.3 ∙ sym b.1.1.1.3)
+    ∙ b.1.1.1.4
+
+module _ (calls : ℕ → List (Option (List ℕ))) (signatures : Signatures) where
+  after_function : {n k : ℕ} {f g : FunTerm} → FunctionNormed calls signatures n k f g → n ≤ k
+  after_function h = rises calls (base_in h.table) h.first h.walked.walked
+
+  after_all : (fs gs : List FunTerm) (n m : ℕ) → AllNormed calls signatures n fs gs m → n ≤ m
+  after_all [] [] n m h = omega (arith, h)
+  after_all [] (g ∷ gs) n m h = absurd h
+  after_all (f ∷ fs) [] n m h = absurd h
+  after_all (f ∷ fs) (g ∷ gs) n m h = let one = after_function h.1.0 in let rest = after_all fs gs h.0 m h.1.1 in omega (arith, one, rest)
+
+  no_more : (n k m : ℕ) → n ≤ k → k ≤ m → m ≡ n → k ≡ n
+  no_more n k m p q e = omega (arith, p, q, e)
+
+  function_stays : {n k : ℕ} {f g : FunTerm} → FunctionNormed calls signatures n k f g → k ≡ n → g ≡ f
+  function_stays {f = f} h e = h.new ∙ (λ i. record f { body = sym ((still calls (base_in h.table) h.first h.walked.walked e).1) i })
+
+  all_stay : (fs gs : List FunTerm) (n m : ℕ) → AllNormed calls signatures n fs gs m → m ≡ n → gs ≡ fs
+  all_stay [] [] n m h e = refl
+  all_stay [] (g ∷ gs) n m h e = absurd h
+  all_stay (f ∷ fs) [] n m h e = absurd h
+  all_stay (f ∷ fs) (g ∷ gs) n m h e =
+      let none = no_more n h.0 m (after_function h.1.0) (after_all fs gs h.0 m h.1.1) e in
+      λ i. function_stays h.1.0 none i ∷ all_stay fs gs h.0 m h.1.1 (e ∙ sym none) i
+
+  function_normal : (a : CoreTerm) (n k : ℕ) (f g : FunTerm) → calls ≡ called a → HasInstances signatures a → AreUnique signatures → IsFunction a f → FunctionNormed calls signatures n k f g → k ≡ n
+      → IsNormal a f
+  function_normal a n k f g same has alone is h e may =
+      let m = has_table a f is in
+      let told = h.sources a has alone m.0 m.1 is.agreeing m.2 may in
+      let low : above f.body ≤ h.first = let p = le-max_right (above_all (param_vars f)) (above f.body) in omega (arith, p, h.above) in
+      let left = none_left calls (base_in h.table) h.first f.body (params_facts f) low told (h.walked.none e) in
+      subst (λ (first : ℕ). EachWith (called a) (λ k s op gens. IsPlannable k first s op gens → ⊥) f.body (params_facts f)) h.above
+      (subst (λ (c : ℕ → List (Option (List ℕ))). EachWith c (λ k s op gens. IsPlannable k h.first s op gens → ⊥) f.body (params_facts f)) same left)
+
+  all_normal : (a : CoreTerm) (fs gs : List FunTerm) (n m : ℕ) → calls ≡ called a → HasInstances signatures a → AreUnique signatures → All (IsFunction a) fs → AllNormed calls signatures n fs gs m → m ≡ n
+      → All (IsNormal a) fs
+  all_normal a [] gs n m same has alone are h e = All-nil (IsNormal a)
+  all_normal a (f ∷ fs) [] n m same has alone are h e = absurd h
+  all_normal a (f ∷ fs) (g ∷ gs) n m same has alone are h e =
+      let none = no_more n h.0 m (after_function h.1.0) (after_all fs gs h.0 m h.1.1) e in
+      All-cons (IsNormal a) f fs (function_normal a n h.0 f g same has alone (All-head (IsFunction a) f fs are) h.1.0 none)
+      (all_normal a fs gs h.0 m same has alone (All-tail (IsFunction a) f fs are) h.1.1 (e ∙ sym none))
+
+round_stays : (a b : CoreTerm) (count : ℕ) → Round a b count → count ≡ 0 → a ≡ b
+round_stays a b count h e =
+    (λ i. record a { functions = sym (all_stay (called a) h.signatures a.functions b.functions 0 count h.functions e) i }) ∙ same_core a b h.groups h.main
+
+-- the last round finds nothing
+pub ends_normal : (a b c : CoreTerm) (n m : ℕ) → Normalised a b n → Round b c m → m ≡ 0 → IsWellFormed a → AllNormal c
+ends_normal a b c n m p h e well =
+    let now = (p.kept well).well in
+    subst AllNormal (round_stays b c m h e)
+    (all_normal (called b) h.signatures b b.functions c.functions 0 m refl h.has (unique b h.signatures now h.only) now.functions h.functions e)

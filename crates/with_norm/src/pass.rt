@@ -8,7 +8,7 @@ ghost use Rattle.core_calls.specs.Arrays.{SameOutcomeOnArrays};
 ghost use Rattle.core_norm_forms.specs.Walks.{NormSteps, core_weight};
 ghost use Rattle.core_subst.specs.Names.{above_function};
 ghost use Rattle.plain_facts.specs.Called.{shapes_of};
-ghost use Rattle.with_norm.specs.Normed.{AllNormed, FunctionNormed, Normalised, Round};
+ghost use Rattle.with_norm.specs.Normed.{AllNormal, AllNormed, FunctionNormed, Normalised, Round};
 
 use core_ir::{Core, CoreFun};
 use core_subst::fresh;
@@ -35,13 +35,15 @@ pub fn normalise(alloc: Global, core: Core) -> Result<(Core, u64), Memory>
     ensures well { IsWellFormed (core_term core) → IfOk result (λ new. IsWellFormed (core_term new.0)) }
     ensures lighter { IsWellFormed (core_term core) → IfOk result (λ new. (core_weight (core_term new.0) + new.1) ≤ core_weight (core_term core)) }
     ensures steps { IsWellFormed (core_term core) → IfOk result (λ new. NormSteps new.1 (core_term core) (core_term new.0)) }
+    ensures normal { IsWellFormed (core_term core) → IfOk result (λ new. AllNormal (core_term new.0)) }
 {
     rounds(alloc, core)
 }
 
 // A well-formed core gets lighter in each round but the last, so there are not more of them than its weight.
 fn rounds(alloc: Global, core: Core) -> Result<(Core, u64), Memory>
-    ensures { IfOk result (λ new. Normalised (core_term core) (core_term new.0) new.1) }
+    ensures kept { IfOk result (λ new. Normalised (core_term core) (core_term new.0) new.1) }
+    ensures normal { IsWellFormed (core_term core) → IfOk result (λ new. AllNormal (core_term new.0)) }
 {
     let mut core = core;
     let mut replaced = 0u64;

@@ -1,7 +1,8 @@
-use Rattle.std.proofs.Common.{◌∙◌, sym}
+use Rattle.std.proofs.Common.{◌∙◌, sym, subst}
 use Rattle.core_ir.specs.View.{core_term}
 use Rattle.counted_code.specs.View.{code_program}
 use Rattle.sac_ast.specs.View.{program as tree}
+use Rattle.with_norm.specs.Normed.{AllNormal}
 use Rattle.sac_build.proofs.Arrays.{all_full}
 use Rattle.sac_build.proofs.Mains.{main_takes_forms}
 use Rattle.sac_build.proofs.compiler.compile.Goals as goal
@@ -34,3 +35,8 @@ returns-clause-main c formed =
     main_takes_forms (tree c.args.checked.now.program) c.args.forms.now (core_term c.in_ok-core.core) (core_term c.in_ok-inlined.inlined) (core_term c.in_ok-special.special)
     (core_term c.in_ok-settled.settled) (core_term c.in_ok-normal.normal) (code_program c.in_ok-code.code) c.in_ok-core.ensures.lowered c.in_ok-inlined.ensures.outside
     (c.in_ok-special.ensures.well inlined) (c.in_ok-special.ensures.main inlined) c.in_ok-settled.ensures.outside c.in_ok-normal.ensures.outside c.in_ok-code.ensures.same
+
+pub returns-clause-normal : goal.returns-clause-normal
+returns-clause-normal c formed =
+    let special = c.in_ok-special.ensures.well (c.in_ok-inlined.ensures.well (c.in_ok-core.ensures.well_formed formed)) in
+    subst AllNormal (sym c.in_ok-code.ensures.same) (c.in_ok-normal.ensures.normal (c.in_ok-settled.ensures.well special))

@@ -10,7 +10,7 @@ use Rattle.core_ir.specs.Terms.{BlockTerm, RightTerm}
 use Rattle.core_ir.specs.View.{block_term, right_term}
 use Rattle.core_ir.proofs.Trees.{block_out, with_out, parted_out}
 use Rattle.variable_bases.specs.Learned.{Takes, LearnsBlock, LearnsRight, LearnsGens, LearnsParts, gens_in, parts_in}
-use Rattle.variable_bases.specs.Table.{GroupGives}
+use Rattle.variable_bases.specs.Table.{GroupGives, NoneGives}
 use Rattle.variable_bases.proofs.Learning
 use Rattle.variable_bases.proofs.learn.+learning.Goals as goal
 
@@ -114,7 +114,7 @@ learn_right-returns-in-Some t c =
     let gives = c.in-Some.gives.now in
     let after = c.note_each.new.self in
     let all : GroupGives s c.in-Call.group c.in-Call.args.items c.args.table.now gives =
-    subst (λ ys. GroupGives s c.in-Call.group ys c.args.table.now gives) c.deref-in-Call.ensures.value c.in-Some.ensures in
+    subst (λ ys. GroupGives s c.in-Call.group ys c.args.table.now gives) c.deref-in-Call.ensures.value c.in-Some.ensures.some in
     subst (λ (r : Right). OnOk c.note_each.result (LearnsRight s c.args.table.now after xs (right_term r))) (sym c.in-Call.is)
     (on_ok_weaker c.note_each.result (Learning.call_learned s c.args.table.now after xs c.in-Call.group c.in-Call.args.items gives all) c.note_each.ensures)
 
@@ -138,10 +138,27 @@ learn_right-returns-in_ok-learn_parted-in-Parted t c =
     subst (λ (r : Right). OnOk c.note_each-in-Parted.result (LearnsRight s c.args.table.now after xs (right_term r))) (sym c.in-Parted.is)
     (on_ok_weaker c.note_each-in-Parted.result (Learning.whole_parted s c.in-Parted.p c.args.table.now c.learn_parted.new.table after xs c.in_ok-learn_parted-in-Parted.ensures) c.note_each-in-Parted.ensures)
 
+pub learn_right-returns-in-None : goal.learn_right-returns-in-None
+learn_right-returns-in-None t c =
+    let s = c.args.signatures.now in
+    let table = c.args.table.now in
+    let none : NoneGives s c.in-Call.group c.in-Call.args.items table = subst (λ ys. NoneGives s c.in-Call.group ys table) c.deref-in-Call.ensures.value c.in-None.ensures.none in
+    subst (λ (r : Right). LearnsRight s table table c.args.targets.now (right_term r)) (sym c.in-Call.is) (Learning.call_unknown s table c.args.targets.now c.in-Call.group c.in-Call.args.items none)
+
+pub learn_right-returns-in-None-plain_base : goal.learn_right-returns-in-None-plain_base
+learn_right-returns-in-None-plain_base t c =
+    let r = c.args.right.now in
+    let arm = c.in_default in
+    let plain = Learning.other_plain r (arm.not-If, arm.not-Loop, arm.not-Call, arm.not-With, arm.not-Parted) in
+    Learning.right_unknown c.args.signatures.now c.args.table.now c.args.targets.now (right_term r) plain.0 plain.1 c.in-None-plain_base.ensures.none
+
 pub learn_right-returns-in-Some-plain_base : goal.learn_right-returns-in-Some-plain_base
 learn_right-returns-in-Some-plain_base t c =
     let s = c.args.signatures.now in
     let xs = c.args.targets.now in
     let r = c.args.right.now in
     let after = c.note_each-in-Some-plain_base.new.self in
-    on_ok_weaker c.note_each-in-Some-plain_base.result (Learning.right_learned s c.args.table.now after xs (right_term r) c.in-Some-plain_base.base c.in-Some-plain_base.ensures) c.note_each-in-Some-plain_base.ensures
+    let arm = c.in_default in
+    let plain = Learning.other_plain r (arm.not-If, arm.not-Loop, arm.not-Call, arm.not-With, arm.not-Parted) in
+    on_ok_weaker c.note_each-in-Some-plain_base.result
+    (Learning.right_learned s c.args.table.now after xs (right_term r) plain.0 c.in-Some-plain_base.base plain.1 c.in-Some-plain_base.ensures.some) c.note_each-in-Some-plain_base.ensures

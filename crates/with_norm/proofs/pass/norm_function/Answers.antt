@@ -1,9 +1,9 @@
-use Rattle.std.proofs.Common.{◌≡◌, ◌≤◌, List, map, refl, sym, ap, subst, ◌∙◌, arith}
+use Rattle.std.proofs.Common.{List, map, refl, ap, subst, ◌∙◌}
 use Rattle.sac_base.specs.declared.types.ArrayType.{ArrayType}
 use Rattle.core_ir.specs.Outcome.{param_types, param_vars}
 use Rattle.core_ir.specs.View.{fun_term, block_term}
 use Rattle.core_facts.specs.Facts.{Facts, note_all, shape_fact}
-use Rattle.core_settled.specs.Called.{params_facts, shape_of_type}
+use Rattle.core_settled.specs.Called.{shape_of_type}
 use Rattle.fact_table.specs.Notes.{Note}
 use Rattle.fact_table.specs.Table.{facts_of}
 use Rattle.plain_facts.specs.Called.{shapes_of}
@@ -18,9 +18,10 @@ returns c =
     let facts = c.in_ok-learn_params.ensures.noted ∙ ap (λ (notes : List Note). note_all (facts_of notes) (param_vars f) known) c.new-table.ensures in
     record {
       table = c.in_ok-bases.bases;
-      tells = c.in_ok-bases.ensures;
+      tells = c.in_ok-bases.ensures.tells;
+      sources = c.in_ok-bases.ensures.sources;
       first = c.in_ok-first.first;
-      above = omega (arith, c.in_ok-first.ensures);
+      above = c.in_ok-first.ensures;
       last = c.norm_block.new.progress.next;
       body = block_term c.in_ok-body.body.block;
       walked = subst (λ (k : Facts). BlockWalked (shapes_of c.args.called.now) (base_in c.in_ok-bases.bases) c.in_ok-first.first k (record { next = c.in_ok-first.first; replaced = c.args.replaced })

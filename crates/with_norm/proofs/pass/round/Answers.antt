@@ -6,7 +6,8 @@ use Rattle.with_norm.proofs.pass.round.Goals as goal
 pub returns : goal.returns
 returns c = record {
   signatures = c.in_ok-signatures.signatures;
-  has = c.in_ok-signatures.ensures;
+  has = c.in_ok-signatures.ensures.has;
+  only = c.in_ok-signatures.ensures.only;
   groups = refl;
   main = refl;
   functions = subst (λ (calls : ℕ → List (Option (List ℕ))). AllNormed calls c.in_ok-signatures.signatures 0 (map fun_term c.args.core.functions.items) (map fun_term c.in_ok-functions.functions.items) c.in_ok-functions.replaced)

@@ -32,6 +32,7 @@ returns-clause-traced g c =
       unmarked = c.in_ok-compiled.ensures.unmarked;
       outcome = λ args caps arrays same. c.in_ok-compiled.ensures.outcome formed args caps arrays (same ∙ forms);
       main = subst (λ fs. MainTakesForms (program_of c.args.job.now) fs (code_program c.in_ok-compiled.compiled.code)) (sym forms) (c.in_ok-compiled.ensures.main formed);
+      normal = c.in_ok-compiled.ensures.normal formed;
     })
     c.run-result.ensures.outcome c.run-result.ensures.cost c.run-result.ensures.tally c.run-result.ensures.counters c.in_ok-compiled.ensures.none.0 c.in_ok-compiled.ensures.none.1 ended)
     c.outcome_told.ensures.ended
