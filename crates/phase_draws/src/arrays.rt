@@ -1,5 +1,8 @@
 // Phases that store their cells.
 ghost use Rattle.std.specs.Prelude.{◌≡◌, ◌≢◌, ℕ, ◌+◌, ◌*◌, ◌<◌, ◌≤◌, [], None, Ok, Some, Vec, length, map, vec_len, vec_capacity, IfOk, IfSome};
+ghost use Rattle.std.specs.Int.{div_ceil};
+ghost use Rattle.std.specs.Thread.{IsSync, IsSend};
+ghost use Rattle.index_cutter.specs.Cuts.{chunk_size};
 ghost use Rattle.wl_core.specs.declared.setup.Job.TheVariants.{Write as Store};
 ghost use Rattle.chunk_reports.specs.Stops.{first_stop_of};
 ghost use Rattle.count_table.specs.Opening.{present};
@@ -13,15 +16,17 @@ ghost use Rattle.phase_draws.specs.Reports.{IsLent};
 
 use crate::cells::PhaseCells;
 use crate::phase::{TeamEnd, run_phase};
-use crate::rooms::{Rooms, rooms_for};
+use crate::rooms::{Rooms, rooms_for, team_of};
 use crate::share::{ChunkPart, ChunkReport, Share};
 use buffer_parts::Part;
 use chunk_reports::{Report, first_stop};
 use count_table::{Tally, Unopened};
+use index_cutter::{cut, lend};
 use phase_team::Gate;
 use sac_base::{Cell, Memory, Stop};
 use std::alloc::Global;
 use std::thread::Threads;
+use wl_core::Job;
 
 /// What a phase goes by beside its cells: where contexts are handed back to, a count for each shared buffer, and the tally.
 /// A phase that lends its buffer has them by value.
@@ -111,7 +116,7 @@ fn answer_of(end: &TeamEnd) -> Result<(), Stop>
 }
 
 // Runs a phase whose chunks fill the parts that were lent, and gives them back.
-fn run_parts<H: Send, C: PhaseCells<H>, G: Gate, R: Threads + Sync>(
+fn run_parts<H: Send, W: Send, C: PhaseCells<H, W>, G: Gate, R: Threads + Sync>(
     rt: &R,
     alloc: Global,
     cells: &C,
@@ -177,4 +182,77 @@ fn run_parts<H: Send, C: PhaseCells<H>, G: Gate, R: Threads + Sync>(
         tally,
     };
     (parts, ArrayRun { books, end })
+}
+
+/// Computes the cells of a phase into the buffer, each at its place, by at most so many workers, which draw chunks of the
+/// size that is given, or of an equal share for each. The phase has the books' count for each shared buffer while it runs.
+///
+/// `Ok` comes where no cell faults, and the buffer has the elements of all cells in order. `Faulted` is the fault of the
+/// least position that faults, whichever worker met its fault first. After `Memory` nothing is known of the buffer.
+pub fn array_phase<H: Send, W: Send, C: PhaseCells<H, W>, G: Gate, R: Threads + Sync>(
+    rt: &R,
+    alloc: Global,
+    cells: &C,
+    gate: &G,
+    workers: u32,
+    chunk: Option<u64>,
+    books: PhaseBooks<H>,
+    positions: usize,
+    width: usize,
+    buffer: &mut [Cell],
+) -> (PhaseBooks<H>, Result<(), Stop>)
+    requires workers { (1 ≤ workers) × (workers ≤ 64) }
+    requires chunk { IfSome chunk (λ size. 1 ≤ size) }
+    requires positions { (positions ≤ 16777216) × (positions ≡ C.positions cells.now) × (width ≡ C.width cells.now) }
+    requires held { (p : ℕ) → p < positions → C.cell cells.now p ≢ Ok None }
+    requires counts { AreReferences books.counts.items }
+    requires shared { length books.counts.items ≡ C.shared cells.now }
+    requires home { C.open_home cells.now books.home }
+    requires room { length buffer.old ≡ positions * width }
+    ensures array { IsArray (cells_from (C.cell cells.now) 0 positions) buffer.new result.1 }
+    ensures home { C.open_home cells.now result.0.home }
+    ensures kept { IfOk result.1 (λ _. Costs (C.cost cells.now) 0 positions (C.kept cells.now books.home) (C.kept cells.now result.0.home)) }
+    ensures counts { result.0.counts.items ≡ books.counts.items }
+    ensures tally { IsTallied (div_ceil positions (chunk_size positions workers chunk)) books.tally result.0.tally result.1 }
+{
+    let cuts = cut(positions as u64, workers, chunk);
+    let share = Share {
+        job: Job::Write,
+        width,
+        positions,
+        size: cuts.size as usize,
+    };
+    let mut run = ArrayRun {
+        books,
+        end: Err(Stop::Memory),
+    };
+    if let Ok(begun) = array_rooms(alloc, team_of(workers, cuts.count), cuts.count as usize) {
+        let _ = lend(
+            alloc,
+            buffer,
+            &cuts,
+            width,
+            &mut run,
+            move |parts: Vec<Part<Cell>>, run: ArrayRun<H>| -> (Vec<Part<Cell>>, ArrayRun<H>)
+                requires shared { IsSync R.row × IsSync C.row × IsSync G.row × IsSend H.row × IsSend W.row }
+                requires suits { Suits (C.cell cells.now) (C.positions cells.now) (C.width cells.now) (C.shared cells.now)
+                    (length run.books.counts.items) share 0 share.positions }
+                requires job { share.job ≡ Store }
+                requires lent { IsLent share (length parts.items) parts.items }
+                requires slots { (begun.slots.items ≡ []) × (length parts.items ≤ vec_capacity begun.slots) }
+                requires rooms { (workers : ℕ) × (workers ≤ 64) × HaveRoom (length parts.items) workers begun.rooms }
+                requires home { C.open_home cells.now run.books.home }
+                requires counts { AreReferences run.books.counts.items }
+                ensures places { KeepPlaces parts.items result.0.items }
+                ensures array { IsArray (cells_from (C.cell cells.entry.now) 0 share.positions) (joined result.0.items) result.1.end }
+                ensures home { C.open_home cells.entry.now result.1.books.home }
+                ensures kept { IfOk result.1.end (λ _. Costs (C.cost cells.entry.now) 0 share.positions
+                    (C.kept cells.entry.now run.books.home) (C.kept cells.entry.now result.1.books.home)) }
+                ensures counts { result.1.books.counts.items ≡ run.books.counts.items }
+                ensures tally { IsTallied (length parts.items) run.books.tally result.1.books.tally result.1.end }
+            { run_parts(rt, alloc, cells, gate, share, begun, parts, run) },
+        );
+    }
+    let ArrayRun { books, end } = run;
+    (books, end)
 }

@@ -11,13 +11,13 @@ use count_table::{FrameSeat, Phase, WorkerSeat};
 use sac_base::Memory;
 
 /// Takes a worker's seat, its reports and its context back.
-pub(crate) fn settle_worker<H, C: PhaseCells<H>>(
+pub(crate) fn settle_worker<H: Send, W: Send, C: PhaseCells<H, W>>(
     cells: &C,
     table: &Phase<ChunkPart>,
     frame: &mut FrameSeat<ChunkPart>,
     home: &mut H,
     seat: Option<WorkerSeat<ChunkPart>>,
-    worker: C::Worker,
+    worker: W,
     mine: Vec<ChunkReport>,
     reports: &mut Vec<ChunkReport>,
 ) -> Result<(), Memory>
