@@ -1,7 +1,7 @@
 // Phases that store their cells.
 ghost use Rattle.std.specs.Prelude.{◌≡◌, ◌≢◌, ℕ, ◌+◌, ◌*◌, ◌<◌, ◌≤◌, [], None, Ok, Some, Vec, length, map, vec_len, vec_capacity, IfOk, IfSome};
 ghost use Rattle.std.specs.Int.{div_ceil};
-ghost use Rattle.std.specs.Thread.{IsSync, IsSend};
+ghost use Rattle.std.specs.Thread.{IsSend, IsSync};
 ghost use Rattle.index_cutter.specs.Cuts.{chunk_size};
 ghost use Rattle.wl_core.specs.declared.setup.Job.TheVariants.{Write as Store};
 ghost use Rattle.chunk_reports.specs.Stops.{first_stop_of};
@@ -116,7 +116,7 @@ fn answer_of(end: &TeamEnd) -> Result<(), Stop>
 }
 
 // Runs a phase whose chunks fill the parts that were lent, and gives them back.
-fn run_parts<H: Send, W: Send, C: PhaseCells<H, W>, G: Gate, R: Threads + Sync>(
+fn run_parts<H: Send, C: PhaseCells<H>, G: Gate, R: Threads + Sync>(
     rt: &R,
     alloc: Global,
     cells: &C,
@@ -184,12 +184,75 @@ fn run_parts<H: Send, W: Send, C: PhaseCells<H, W>, G: Gate, R: Threads + Sync>(
     (parts, ArrayRun { books, end })
 }
 
+// What a buffer's parts are lent with: the cells that are to fill them, who computes them, and the phase's run.
+struct LentRun<'a, H, C, G, R> {
+    rt: &'a R,
+    alloc: Global,
+    cells: &'a C,
+    gate: &'a G,
+    share: Share,
+    team: usize,
+    run: ArrayRun<H>,
+}
+
+// Runs a phase whose chunks fill the parts that were lent, where there is room for its workers' reports.
+fn run_lent<'a, H: Send, C: PhaseCells<H>, G: Gate, R: Threads + Sync>(
+    parts: Vec<Part<Cell>>,
+    lent: LentRun<'a, H, C, G, R>,
+) -> (Vec<Part<Cell>>, LentRun<'a, H, C, G, R>)
+    requires shared { IsSync R.row × IsSync C.row × IsSync G.row × IsSend H.row × IsSend C.Worker.row }
+    requires suits { Suits (C.cell lent.cells.now) (C.positions lent.cells.now) (C.width lent.cells.now) (C.shared lent.cells.now)
+        (length lent.run.books.counts.items) lent.share 0 lent.share.positions }
+    requires job { lent.share.job ≡ Store }
+    requires cut { IsLent lent.share (length parts.items) parts.items }
+    requires team { (1 ≤ lent.team) × (lent.team ≤ 64) }
+    requires home { C.open_home lent.cells.now lent.run.books.home }
+    requires counts { AreReferences lent.run.books.counts.items }
+    ensures places { KeepPlaces parts.items result.0.items }
+    ensures array { IsArray (cells_from (C.cell lent.entry.cells.now) 0 lent.entry.share.positions) (joined result.0.items) result.1.run.end }
+    ensures home { C.open_home lent.entry.cells.now result.1.run.books.home }
+    ensures kept { IfOk result.1.run.end (λ _. Costs (C.cost lent.entry.cells.now) 0 lent.entry.share.positions
+        (C.kept lent.entry.cells.now lent.entry.run.books.home) (C.kept lent.entry.cells.now result.1.run.books.home)) }
+    ensures counts { result.1.run.books.counts.items ≡ lent.entry.run.books.counts.items }
+    ensures tally { IsTallied (length parts.items) lent.entry.run.books.tally result.1.run.books.tally result.1.run.end }
+{
+    let LentRun {
+        rt,
+        alloc,
+        cells,
+        gate,
+        share,
+        team,
+        run,
+    } = lent;
+    let (parts, run) = match array_rooms(alloc, team, parts.len()) {
+        Ok(begun) => run_parts(rt, alloc, cells, gate, share, begun, parts, run),
+        Err(Memory) => {
+            let ArrayRun { books, end: _ } = run;
+            let end = Err(Stop::Memory);
+            (parts, ArrayRun { books, end })
+        }
+    };
+    (
+        parts,
+        LentRun {
+            rt,
+            alloc,
+            cells,
+            gate,
+            share,
+            team,
+            run,
+        },
+    )
+}
+
 /// Computes the cells of a phase into the buffer, each at its place, by at most so many workers, which draw chunks of the
 /// size that is given, or of an equal share for each. The phase has the books' count for each shared buffer while it runs.
 ///
 /// `Ok` comes where no cell faults, and the buffer has the elements of all cells in order. `Faulted` is the fault of the
 /// least position that faults, whichever worker met its fault first. After `Memory` nothing is known of the buffer.
-pub fn array_phase<H: Send, W: Send, C: PhaseCells<H, W>, G: Gate, R: Threads + Sync>(
+pub fn array_phase<H: Send, C: PhaseCells<H>, G: Gate, R: Threads + Sync>(
     rt: &R,
     alloc: Global,
     cells: &C,
@@ -222,37 +285,29 @@ pub fn array_phase<H: Send, W: Send, C: PhaseCells<H, W>, G: Gate, R: Threads + 
         positions,
         size: cuts.size as usize,
     };
-    let mut run = ArrayRun {
-        books,
-        end: Err(Stop::Memory),
+    let mut lent = LentRun {
+        rt,
+        alloc,
+        cells,
+        gate,
+        share,
+        team: team_of(workers, cuts.count),
+        run: ArrayRun {
+            books,
+            end: Err(Stop::Memory),
+        },
     };
-    if let Ok(begun) = array_rooms(alloc, team_of(workers, cuts.count), cuts.count as usize) {
-        let _ = lend(
-            alloc,
-            buffer,
-            &cuts,
-            width,
-            &mut run,
-            move |parts: Vec<Part<Cell>>, run: ArrayRun<H>| -> (Vec<Part<Cell>>, ArrayRun<H>)
-                requires shared { IsSync R.row × IsSync C.row × IsSync G.row × IsSend H.row × IsSend W.row }
-                requires suits { Suits (C.cell cells.now) (C.positions cells.now) (C.width cells.now) (C.shared cells.now)
-                    (length run.books.counts.items) share 0 share.positions }
-                requires job { share.job ≡ Store }
-                requires lent { IsLent share (length parts.items) parts.items }
-                requires slots { (begun.slots.items ≡ []) × (length parts.items ≤ vec_capacity begun.slots) }
-                requires rooms { (workers : ℕ) × (workers ≤ 64) × HaveRoom (length parts.items) workers begun.rooms }
-                requires home { C.open_home cells.now run.books.home }
-                requires counts { AreReferences run.books.counts.items }
-                ensures places { KeepPlaces parts.items result.0.items }
-                ensures array { IsArray (cells_from (C.cell cells.entry.now) 0 share.positions) (joined result.0.items) result.1.end }
-                ensures home { C.open_home cells.entry.now result.1.books.home }
-                ensures kept { IfOk result.1.end (λ _. Costs (C.cost cells.entry.now) 0 share.positions
-                    (C.kept cells.entry.now run.books.home) (C.kept cells.entry.now result.1.books.home)) }
-                ensures counts { result.1.books.counts.items ≡ run.books.counts.items }
-                ensures tally { IsTallied (length parts.items) run.books.tally result.1.books.tally result.1.end }
-            { run_parts(rt, alloc, cells, gate, share, begun, parts, run) },
-        );
-    }
+    // Where no memory is found for the list of parts, the run is as it was, and says so.
+    let _ = lend(alloc, buffer, &cuts, width, &mut lent, run_lent);
+    let LentRun {
+        rt: _,
+        alloc: _,
+        cells: _,
+        gate: _,
+        share: _,
+        team: _,
+        run,
+    } = lent;
     let ArrayRun { books, end } = run;
     (books, end)
 }

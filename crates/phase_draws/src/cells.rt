@@ -10,11 +10,14 @@ use phase_team::CellEnd;
 use sac_base::{Cell, Memory};
 
 /// The cells of one phase. Each worker computes them with a context of its own, and each context is handed back to the
-/// caller's home once its worker is done.
+/// caller's `H` once its worker is done.
 ///
 /// A context counts things of several kinds, as the buffers that it took. The count of kind 0 is exact, and each other one is
 /// modulo 2^64.
-pub trait PhaseCells<H: Send, W: Send>: Sync {
+pub trait PhaseCells<H>: Sync {
+    /// What one worker computes cells with.
+    type Worker: Send;
+
     /// What the cell of each position comes to.
     ghost cell: { Self → ℕ → CellValue };
 
@@ -26,19 +29,19 @@ pub trait PhaseCells<H: Send, W: Send>: Sync {
     ghost shared: { Self → ℕ };
 
     /// A context between two cells, and a home that contexts may be handed back to.
-    ghost idle: { Self → W → Type 0 };
+    ghost idle: { Self → Self.Worker → Type 0 };
 
     ghost open_home: { Self → H → Type 0 };
 
     /// How much a context or a home has counted of each kind, and how much more after the cell of a position.
-    ghost spent: { Self → W → ℕ → ℕ };
+    ghost spent: { Self → Self.Worker → ℕ → ℕ };
 
     ghost kept: { Self → H → ℕ → ℕ };
 
     ghost cost: { Self → ℕ → ℕ → ℕ };
 
     /// A new context, which has counted nothing, and which is to be handed back to this home.
-    fn begin(&self, home: &H) -> Result<W, Memory>
+    fn begin(&self, home: &H) -> Result<Self::Worker, Memory>
         requires home { open_home self.now home.now }
         ensures idle { IfOk result (λ w. idle self.now w) }
         ensures spent { IfOk result (λ w. (kind : ℕ) → spent self.now w kind ≡ 0) };
@@ -47,7 +50,7 @@ pub trait PhaseCells<H: Send, W: Send>: Sync {
     /// table. It may be taken out of its place meanwhile, and ends there as it began.
     fn cell(
         &self,
-        worker: &mut W,
+        worker: &mut Self::Worker,
         table: &Phase<ChunkPart>,
         seat: &mut Option<WorkerSeat<ChunkPart>>,
         position: usize,
@@ -67,7 +70,13 @@ pub trait PhaseCells<H: Send, W: Send>: Sync {
     /// Computes the cells of positions from one on, one after another into the front of the elements that are given, as far as
     /// that is cheaper than one by one. Each has a value and counts nothing. Answers how many it has computed, at most `count`:
     /// after 0 the next one is still to be computed by itself.
-    fn stretch(&self, _worker: &mut W, _start: usize, _count: usize, _rows: &mut [Cell]) -> usize
+    fn stretch(
+        &self,
+        _worker: &mut Self::Worker,
+        _start: usize,
+        _count: usize,
+        _rows: &mut [Cell],
+    ) -> usize
         requires idle { idle self.now _worker.old }
         requires within { _start + _count ≤ positions self.now }
         requires room { length _rows.old ≡ _count * width self.now }
@@ -85,7 +94,7 @@ pub trait PhaseCells<H: Send, W: Send>: Sync {
     /// # Errors
     ///
     /// `Memory`: nothing is known of the counts.
-    fn finish(&self, worker: W, home: &mut H) -> Result<(), Memory>
+    fn finish(&self, worker: Self::Worker, home: &mut H) -> Result<(), Memory>
         requires idle { idle self.now worker }
         requires home { open_home self.now home.old }
         ensures home { open_home self.now home.new }

@@ -22,7 +22,7 @@ use wl_core::Job;
 /// draws chunks until none is left. The reports of all go behind those that are there. For a fold the first row has the
 /// values of their cells combined.
 #[cycle(crew)]
-pub(crate) fn run_team<H: Send, W: Send, C: PhaseCells<H, W>, G: Gate, R: Threads + Sync>(
+pub(crate) fn run_team<H: Send, C: PhaseCells<H>, G: Gate, R: Threads + Sync>(
     rt: &R,
     cells: &C,
     gate: &G,
@@ -31,7 +31,7 @@ pub(crate) fn run_team<H: Send, W: Send, C: PhaseCells<H, W>, G: Gate, R: Thread
     home: &mut H,
     share: Share,
     number: u32,
-    worker: W,
+    worker: C::Worker,
     mine: Vec<ChunkReport>,
     rooms: &mut Vec<Vec<ChunkReport>>,
     rows: &mut [Cell],
@@ -86,7 +86,7 @@ pub(crate) fn run_team<H: Send, W: Send, C: PhaseCells<H, W>, G: Gate, R: Thread
 
 // A worker for each room, as far as memory is found for their contexts.
 #[cycle(crew)]
-fn run_others<H: Send, W: Send, C: PhaseCells<H, W>, G: Gate, R: Threads + Sync>(
+fn run_others<H: Send, C: PhaseCells<H>, G: Gate, R: Threads + Sync>(
     rt: &R,
     cells: &C,
     gate: &G,
@@ -132,13 +132,13 @@ fn run_others<H: Send, W: Send, C: PhaseCells<H, W>, G: Gate, R: Threads + Sync>
 
 // The first worker, beside the others where there is a room for one.
 #[cycle(crew)]
-fn run_first<H: Send, W: Send, C: PhaseCells<H, W>, G: Gate, R: Threads + Sync>(
+fn run_first<H: Send, C: PhaseCells<H>, G: Gate, R: Threads + Sync>(
     rt: &R,
     cells: &C,
     gate: &G,
     table: &Phase<ChunkPart>,
     seat: &mut Option<WorkerSeat<ChunkPart>>,
-    worker: &mut W,
+    worker: &mut C::Worker,
     frame: &mut FrameSeat<ChunkPart>,
     home: &mut H,
     share: Share,
@@ -189,13 +189,13 @@ fn run_first<H: Send, W: Send, C: PhaseCells<H, W>, G: Gate, R: Threads + Sync>(
 
 // This worker in a thread of its own, and the others here.
 #[cycle(crew)]
-fn side_by_side<H: Send, W: Send, C: PhaseCells<H, W>, G: Gate, R: Threads + Sync>(
+fn side_by_side<H: Send, C: PhaseCells<H>, G: Gate, R: Threads + Sync>(
     rt: &R,
     cells: &C,
     gate: &G,
     table: &Phase<ChunkPart>,
     seat: &mut Option<WorkerSeat<ChunkPart>>,
-    worker: &mut W,
+    worker: &mut C::Worker,
     frame: &mut FrameSeat<ChunkPart>,
     home: &mut H,
     share: Share,
@@ -238,7 +238,7 @@ fn side_by_side<H: Send, W: Send, C: PhaseCells<H, W>, G: Gate, R: Threads + Syn
     ensures frame { IsBack frame.old frame.new }
 {
     let mut here = || -> bool
-        requires { IsSync C.row × IsSync G.row × IsSend W.row
+        requires { IsSync C.row × IsSync G.row × IsSend C.Worker.row
             × Suits (C.cell cells.now) (C.positions cells.now) (C.width cells.now) (C.shared cells.now) table.now.buffers share 0 share.positions
             × PartsFit share table.now.parts × IsFresh table.now seat.now × IsGoing false seat.now × (drawn_by seat.now ≡ [])
             × C.idle cells.now worker.now × HasThreeRows share.job share.width (length own.now)
@@ -253,7 +253,7 @@ fn side_by_side<H: Send, W: Send, C: PhaseCells<H, W>, G: Gate, R: Threads + Syn
         ensures combined { AllOk mine.exit.now.items → AreCombined (C.cell cells.entry.now) share mine.exit.now.items result own.exit.now }
     { run_turns(cells, gate, table, seat, worker, share, number, own, mine) };
     let mut there = || -> Result<bool, Memory>
-        requires { IsSync R.row × IsSync C.row × IsSync G.row × IsSend W.row × IsSend H.row
+        requires { IsSync R.row × IsSync C.row × IsSync G.row × IsSend C.Worker.row × IsSend H.row
             × Suits (C.cell cells.now) (C.positions cells.now) (C.width cells.now) (C.shared cells.now) table.now.buffers share 0 share.positions
             × PartsFit share table.now.parts × (frame.now.phase ≡ table.now) × (frame.now.made + vec_len rooms.now ≤ 64)
             × (number + vec_len rooms.now < 64) × C.open_home cells.now home.now × AreRooms (length table.now.parts) rooms.now.items

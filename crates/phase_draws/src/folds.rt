@@ -53,7 +53,7 @@ fn fold_rooms(alloc: Global, team: usize, chunks: usize, width: usize) -> Result
 /// `Ok` comes where no cell faults, and the value is that of the neutral one and the held cells combined in order, each of
 /// which has as many elements as the neutral one. `Faulted` is the fault of the least position that faults. After any error
 /// nothing is known of the value.
-pub fn fold_phase<H: Send, W: Send, C: PhaseCells<H, W>, G: Gate, R: Threads + Sync>(
+pub fn fold_phase<H: Send, C: PhaseCells<H>, G: Gate, R: Threads + Sync>(
     rt: &R,
     alloc: Global,
     cells: &C,
@@ -101,7 +101,7 @@ pub fn fold_phase<H: Send, W: Send, C: PhaseCells<H, W>, G: Gate, R: Threads + S
 }
 
 // Runs a phase that combines its cells, and combines what they come to with the neutral value.
-fn run_fold<H: Send, W: Send, C: PhaseCells<H, W>, G: Gate, R: Threads + Sync>(
+fn run_fold<H: Send, C: PhaseCells<H>, G: Gate, R: Threads + Sync>(
     rt: &R,
     alloc: Global,
     cells: &C,

@@ -26,7 +26,7 @@ pub(crate) struct TeamEnd {
 
 /// Opens a table with these parts, runs its workers, closes it into the tally, and puts their reports in order. Where no
 /// memory is found to begin, the parts come back.
-pub(crate) fn run_phase<H: Send, W: Send, C: PhaseCells<H, W>, G: Gate, R: Threads + Sync>(
+pub(crate) fn run_phase<H: Send, C: PhaseCells<H>, G: Gate, R: Threads + Sync>(
     rt: &R,
     alloc: Global,
     cells: &C,

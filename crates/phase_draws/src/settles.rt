@@ -11,13 +11,13 @@ use count_table::{FrameSeat, Phase, WorkerSeat};
 use sac_base::Memory;
 
 /// Takes a worker's seat, its reports and its context back.
-pub(crate) fn settle_worker<H: Send, W: Send, C: PhaseCells<H, W>>(
+pub(crate) fn settle_worker<H, C: PhaseCells<H>>(
     cells: &C,
     table: &Phase<ChunkPart>,
     frame: &mut FrameSeat<ChunkPart>,
     home: &mut H,
     seat: Option<WorkerSeat<ChunkPart>>,
-    worker: W,
+    worker: C::Worker,
     mine: Vec<ChunkReport>,
     reports: &mut Vec<ChunkReport>,
 ) -> Result<(), Memory>

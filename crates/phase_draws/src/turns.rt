@@ -17,11 +17,11 @@ use sac_base::{Cell, Stop};
 use wl_core::Job;
 
 // Runs one chunk. A fold combines its value with those of the worker's chunks before.
-fn run_drawn<H: Send, W: Send, C: PhaseCells<H, W>>(
+fn run_drawn<H, C: PhaseCells<H>>(
     cells: &C,
     table: &Phase<ChunkPart>,
     seat: &mut Option<WorkerSeat<ChunkPart>>,
-    worker: &mut W,
+    worker: &mut C::Worker,
     share: Share,
     drawn: Drawn,
     held: &mut bool,
@@ -59,12 +59,12 @@ fn run_drawn<H: Send, W: Send, C: PhaseCells<H, W>>(
 
 /// Draws chunks and runs them until none is left, and answers whether the first row has a value then. After a chunk that
 /// stopped it runs no other one: it only hands back their parts.
-pub(crate) fn run_turns<H: Send, W: Send, C: PhaseCells<H, W>, G: Gate>(
+pub(crate) fn run_turns<H, C: PhaseCells<H>, G: Gate>(
     cells: &C,
     gate: &G,
     table: &Phase<ChunkPart>,
     seat: &mut Option<WorkerSeat<ChunkPart>>,
-    worker: &mut W,
+    worker: &mut C::Worker,
     share: Share,
     number: u32,
     rows: &mut [Cell],

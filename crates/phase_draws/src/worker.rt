@@ -46,11 +46,11 @@ pub(crate) fn combine_held(
 }
 
 // Writes the next cells one after another, at least one of them, or up to the first that stops. Answers how many.
-fn fill_next<H: Send, W: Send, C: PhaseCells<H, W>>(
+fn fill_next<H, C: PhaseCells<H>>(
     cells: &C,
     table: &Phase<ChunkPart>,
     seat: &mut Option<WorkerSeat<ChunkPart>>,
-    worker: &mut W,
+    worker: &mut C::Worker,
     share: Share,
     start: usize,
     count: usize,
@@ -80,11 +80,11 @@ fn fill_next<H: Send, W: Send, C: PhaseCells<H, W>>(
 }
 
 // Writes cells one after another, up to the first that stops.
-fn fill<H: Send, W: Send, C: PhaseCells<H, W>>(
+fn fill<H, C: PhaseCells<H>>(
     cells: &C,
     table: &Phase<ChunkPart>,
     seat: &mut Option<WorkerSeat<ChunkPart>>,
-    worker: &mut W,
+    worker: &mut C::Worker,
     share: Share,
     start: usize,
     count: usize,
@@ -121,11 +121,11 @@ fn fill<H: Send, W: Send, C: PhaseCells<H, W>>(
 }
 
 // Combines cells one after another into the first row, up to the first that stops.
-fn gather<H: Send, W: Send, C: PhaseCells<H, W>>(
+fn gather<H, C: PhaseCells<H>>(
     cells: &C,
     table: &Phase<ChunkPart>,
     seat: &mut Option<WorkerSeat<ChunkPart>>,
-    worker: &mut W,
+    worker: &mut C::Worker,
     share: Share,
     op: Op,
     start: usize,
@@ -154,11 +154,11 @@ fn gather<H: Send, W: Send, C: PhaseCells<H, W>>(
 }
 
 // The same in rows of which the first is the value's and the second is spare.
-fn gather_rows<H: Send, W: Send, C: PhaseCells<H, W>>(
+fn gather_rows<H, C: PhaseCells<H>>(
     cells: &C,
     table: &Phase<ChunkPart>,
     seat: &mut Option<WorkerSeat<ChunkPart>>,
-    worker: &mut W,
+    worker: &mut C::Worker,
     share: Share,
     op: Op,
     start: usize,
@@ -181,11 +181,11 @@ fn gather_rows<H: Send, W: Send, C: PhaseCells<H, W>>(
 }
 
 // Computes the cells of one chunk into its part, up to the first that stops.
-fn fill_part<H: Send, W: Send, C: PhaseCells<H, W>>(
+fn fill_part<H, C: PhaseCells<H>>(
     cells: &C,
     table: &Phase<ChunkPart>,
     seat: &mut Option<WorkerSeat<ChunkPart>>,
-    worker: &mut W,
+    worker: &mut C::Worker,
     share: Share,
     stretch: Stretch,
     part: ChunkPart,
@@ -216,11 +216,11 @@ fn fill_part<H: Send, W: Send, C: PhaseCells<H, W>>(
 }
 
 /// Computes the cells of one chunk, up to the first that stops: into its part, or combined into the first of two rows.
-pub(crate) fn run_chunk<H: Send, W: Send, C: PhaseCells<H, W>>(
+pub(crate) fn run_chunk<H, C: PhaseCells<H>>(
     cells: &C,
     table: &Phase<ChunkPart>,
     seat: &mut Option<WorkerSeat<ChunkPart>>,
-    worker: &mut W,
+    worker: &mut C::Worker,
     share: Share,
     stretch: Stretch,
     part: ChunkPart,
