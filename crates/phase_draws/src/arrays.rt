@@ -30,6 +30,7 @@ use wl_core::Job;
 
 /// What a phase goes by beside its cells: where contexts are handed back to, a count for each shared buffer, and the tally.
 /// A phase that lends its buffer has them by value.
+#[derive(Drop)]
 pub struct PhaseBooks<H> {
     pub home: H,
     pub counts: Vec<u64>,
