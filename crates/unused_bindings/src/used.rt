@@ -1,11 +1,11 @@
 //! Variables that are used behind a place, as the set of their numbers.
 
-ghost use Rattle.std.specs.Prelude.{◌≡◌, ◌&&◌, ◌++◌, OnOk, option_to_list};
-ghost use Rattle.core_ir.specs.View.{let_term, right_term};
-ghost use Rattle.core_cleaning.specs.Unused.{also, is_unused, never_faults};
+ghost use Rattle.std.specs.Prelude.{◌≡◌, ◌||◌, ◌++◌, IfOk, OnOk, option_to_list};
+ghost use Rattle.core_ir.specs.declared.tree.Var.{Var as VarOf};
+ghost use Rattle.core_cleaning.specs.Unused.{also, is_unused};
 ghost use Rattle.unused_bindings.specs.Swept.{used_of};
 
-use core_ir::{Let, Right, Var};
+use core_ir::Var;
 use sac_base::Memory;
 use std::collections::BTreeSet;
 
@@ -45,23 +45,28 @@ fn add_option(used: &mut BTreeSet<u32>, var: Option<Var>) -> Result<(), Memory>
     }
 }
 
-/// The binding never faults, and its variable is not used.
-pub fn may_go(binding: &Let, used: &BTreeSet<u32>) -> bool
-    ensures { result ≡ (never_faults (let_term binding.now).right && is_unused binding.now.targets.items (used_of used.now)) }
+/// Those of both. The smaller set is put into the greater one.
+pub fn united(a: BTreeSet<u32>, b: BTreeSet<u32>) -> Result<BTreeSet<u32>, Memory>
+    ensures { IfOk result (λ both. (x : VarOf) → used_of both x ≡ (used_of a x || used_of b x)) }
 {
-    never_fails(&binding.right) && are_unused(&binding.targets, used)
+    if a.len() < b.len() {
+        joined(b, a)
+    } else {
+        joined(a, b)
+    }
 }
 
-fn never_fails(right: &Right) -> bool
-    ensures { result ≡ never_faults (right_term right.now) }
+fn joined(mut more: BTreeSet<u32>, mut few: BTreeSet<u32>) -> Result<BTreeSet<u32>, Memory>
+    ensures { IfOk result (λ both. (x : VarOf) → used_of both x ≡ (used_of more x || used_of few x)) }
 {
-    matches!(
-        right,
-        Right::Const(_) | Right::Copy(_) | Right::Unary(_, _) | Right::Dim(_) | Right::ShapeOf(_)
-    )
+    while let Some(number) = few.pop_first() {
+        more.insert(number)?;
+    }
+    Ok(more)
 }
 
-fn are_unused(vars: &[Var], used: &BTreeSet<u32>) -> bool
+/// The only variable is not used.
+pub fn are_unused(vars: &[Var], used: &BTreeSet<u32>) -> bool
     ensures { result ≡ is_unused vars.now (used_of used.now) }
 {
     vars.len() == 1 && !used.contains(&vars[0].0)
