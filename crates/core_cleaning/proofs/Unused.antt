@@ -34,10 +34,10 @@ use Rattle.core_bases.proofs.Bound.{bound_index, bound_zip, distinct_left, disti
 use Rattle.core_bases.proofs.Whole.{block_typed}
 use Rattle.core_index_facts.proofs.Total.{plain_total}
 use Rattle.core_cleaning.proofs.Places.{At, RightAt, GensAt, PartsAt, right_at, after_bind}
-use Rattle.core_cleaning.specs.Unused.{never_faults, is_total, no_indices, goes, is_unused, also, nothing_used, swept, swept_right, swept_gens, swept_parts}
+use Rattle.core_cleaning.specs.Unused.{never_faults, is_total, no_indices, is_removable, is_unused, swept, swept_right, swept_gens, swept_parts}
 use Rattle.core_cleaning.proofs.Lists.{clash, itself, behind_first, in_left, turned, zip_elsewhere, Sub, all_of, joined, behind_all}
 
--- ---- what it says that a binding goes
+-- ---- what it says that a binding is_removable
 
 both_true : (b c : Bool) → (b && c) ≡ true → (b ≡ true) × (c ≡ true)
 both_true true c h = (refl, h)
@@ -68,7 +68,7 @@ has_value calls turns (RightTerm.With o gens) s e h = absurd (cc)
 has_value calls turns (RightTerm.Parted frame base cell o parts) s e h = absurd (cc)
 
 -- and calls nothing
-no_calls : (r : RightTerm) (k : Facts) → goes r k ≡ true → calls_in_right r ≡ []
+no_calls : (r : RightTerm) (k : Facts) → is_removable r k ≡ true → calls_in_right r ≡ []
 no_calls (Plain p) k h = refl
 no_calls (RightTerm.If x a b) k h = absurd (cc)
 no_calls (RightTerm.Loop first start params test body u) k h = absurd (cc)
@@ -77,13 +77,13 @@ no_calls (RightTerm.With o gens) k h = absurd (cc)
 no_calls (RightTerm.Parted frame base cell o parts) k h = absurd (cc)
 
 -- its variable is not used
-unused_by : (xs us : List Var) (used : Var → Bool) (y : Var) → is_unused xs (also us used) ≡ true → is_in y xs ≡ true → is_in y us ≡ false
-unused_by [] us used y h p = absurd (cc)
-unused_by (x ∷ z ∷ zs) us used y h p = absurd (cc)
-unused_by (x ∷ []) us used y h p = go (eqb x.0 y.0) refl
+unused_by : (xs us : List Var) (y : Var) → is_unused xs us ≡ true → is_in y xs ≡ true → is_in y us ≡ false
+unused_by [] us y h p = absurd (cc)
+unused_by (x ∷ z ∷ zs) us y h p = absurd (cc)
+unused_by (x ∷ []) us y h p = go (eqb x.0 y.0) refl
   where
     go : (b : Bool) → eqb x.0 y.0 ≡ b → is_in y us ≡ false
-    go true e = ap (λ z. is_in z us) (sym (Rattle.core_ir.proofs.Variables.same_number x y e)) ∙ (or_false (used x) (is_in x us) (is_false (used x || is_in x us) h)).1
+    go true e = ap (λ z. is_in z us) (sym (Rattle.core_ir.proofs.Variables.same_number x y e)) ∙ is_false (is_in x us) h
     go false e = clash (eqb x.0 y.0 || false) p (λ i. e i || false)
 
 avoids_all : (x : Var) (ys : List Var) → is_in x ys ≡ false → AvoidsAll x ys
@@ -136,7 +136,7 @@ total_value core calls turns (RightTerm.With o gens) s g ts k e h a = absurd (cc
 total_value core calls turns (RightTerm.Parted frame t cell o parts) s g ts k e h a = absurd (cc)
 
 gone_value :
-    (core : CoreTerm) (calls : CallMeaning) (turns : ℕ) (r : RightTerm) (s : Site) (g : Bases) (ts : List Base) (k : Facts) (e : Env) → goes r k ≡ true →
+    (core : CoreTerm) (calls : CallMeaning) (turns : ℕ) (r : RightTerm) (s : Site) (g : Bases) (ts : List Base) (k : Facts) (e : Env) → is_removable r k ≡ true →
     RightAt core calls turns g ts k r e → (v : ArrayValue) × (right_value calls turns r s e ≡ Ok (v ∷ []))
 gone_value core calls turns r s g ts k e h a = go (never_faults r) refl
   where
@@ -147,11 +147,11 @@ gone_value core calls turns r s g ts k e h a = go (never_faults r) refl
 -- the binding may go
 gone :
     (calls : CallMeaning) (turns : ℕ) (xs : List Var) (s : Site) (r : RightTerm) (c : BlockTerm) (e : Env) → (v : ArrayValue) × (right_value calls turns r s e ≡ Ok (v ∷ [])) →
-    is_unused xs (also (used_in c) nothing_used) ≡ true → run calls turns c e ≡ run calls turns (Bind xs s r c) e
+    is_unused xs (used_in c) ≡ true → run calls turns c e ≡ run calls turns (Bind xs s r c) e
 gone calls turns [] s r c e v h = absurd (cc)
 gone calls turns (x ∷ y ∷ ys) s r c e v h = absurd (cc)
 gone calls turns (x ∷ []) s r c e v h =
-    sym (drop_unused calls turns x s r c e v.0 (avoids x c (unused_by (x ∷ []) (used_in c) nothing_used x h (itself x []))) v.1)
+    sym (drop_unused calls turns x s r c e v.0 (avoids x c (unused_by (x ∷ []) (used_in c) x h (itself x []))) v.1)
 
 -- ---- the meaning
 
@@ -168,12 +168,12 @@ module _ (core : CoreTerm) (calls : CallMeaning) (turns : ℕ) (typed : CallsTyp
     block_same (Bind xs s r b) g ts k e a =
         let n = note_all k xs (right_facts called r k) in
         let c = swept called b n in
-        let behind = also (used_in c) nothing_used in
+        let behind = used_in c in
         let here = right_at core calls turns typed called fit xs s r b g ts k e a in
         let rest = then_same (right_value calls turns r s e) (λ vs. run calls turns c (bind_all e xs vs)) (λ vs. run calls turns b (bind_all e xs vs))
         (λ vs q. block_same b (zip xs a.bases.0 ++ g) ts n (bind_all e xs vs) (after_bind core calls turns typed called fit xs s r b g ts k e vs a q)) in
-        either_same calls turns (goes r k && is_unused xs behind) c (Bind xs s (swept_right called r k) c) e (run calls turns (Bind xs s r b) e)
-        (λ h. let w = both_true (goes r k) (is_unused xs behind) h in gone calls turns xs s r c e (gone_value core calls turns r s g a.bases.0 k e w.0 here) w.1 ∙ rest)
+        either_same calls turns (is_removable r k && is_unused xs behind) c (Bind xs s (swept_right called r k) c) e (run calls turns (Bind xs s r b) e)
+        (λ h. let w = both_true (is_removable r k) (is_unused xs behind) h in gone calls turns xs s r c e (gone_value core calls turns r s g a.bases.0 k e w.0 here) w.1 ∙ rest)
         ((λ i. and_then (right_same r s g a.bases.0 k e here i) (λ vs. run calls turns c (bind_all e xs vs))) ∙ rest)
 
     right_same : (r : RightTerm) (s : Site) (g : Bases) (ts : List Base) (k : Facts) (e : Env) → RightAt core calls turns g ts k r e → right_value calls turns (swept_right called r k) s e ≡ right_value calls turns r s e
@@ -256,9 +256,9 @@ mutual
   calls_kept called (Bind xs s r b) k =
       let n = note_all k xs (right_facts called r k) in
       let c = swept called b n in
-      let behind = also (used_in c) nothing_used in
-      either_calls (goes r k && is_unused xs behind) c (Bind xs s (swept_right called r k) c) (calls_in_right r ++ calls_in b)
-      (λ h. calls_kept called b n ∙ ap (λ gs. gs ++ calls_in b) (sym (no_calls r k (both_true (goes r k) (is_unused xs behind) h).0)))
+      let behind = used_in c in
+      either_calls (is_removable r k && is_unused xs behind) c (Bind xs s (swept_right called r k) c) (calls_in_right r ++ calls_in b)
+      (λ h. calls_kept called b n ∙ ap (λ gs. gs ++ calls_in b) (sym (no_calls r k (both_true (is_removable r k) (is_unused xs behind) h).0)))
       (λ i. calls_kept_right called r k i ++ calls_kept called b n i)
 
   calls_kept_right : (called : ℕ → List (Option (List ℕ))) (r : RightTerm) (k : Facts) → calls_in_right (swept_right called r k) ≡ calls_in_right r
@@ -289,8 +289,8 @@ mutual
   bound_less called (Bind xs s r b) k =
       let n = note_all k xs (right_facts called r k) in
       let c = swept called b n in
-      let behind = also (used_in c) nothing_used in
-      either_sub (goes r k && is_unused xs behind) c (Bind xs s (swept_right called r k) c) (xs ++ (bound_in_right r ++ bound_in b))
+      let behind = used_in c in
+      either_sub (is_removable r k && is_unused xs behind) c (Bind xs s (swept_right called r k) c) (xs ++ (bound_in_right r ++ bound_in b))
       (behind_all xs (behind_all (bound_in_right r) (bound_less called b n)))
       (joined (all_of xs) (joined (bound_less_right called r k) (bound_less called b n)))
 
@@ -357,7 +357,7 @@ none_within : (xs new scope : List Var) → Within new scope → NoneIn xs scope
 none_within [] new scope w n = tt
 none_within (x ∷ xs) new scope w n = (not_within x new scope w n.0, none_within xs new scope w n.1)
 
--- what stands behind a binding that goes uses none of its variables
+-- what stands behind a binding that is_removable uses none of its variables
 serves_without : (xs us scope new : List Var) → ((y : Var) → is_in y xs ≡ true → is_in y us ≡ false) → Serves us scope new → Serves us (xs ++ scope) new
 serves_without xs us scope new n h = λ y u p. go y u (is_in y xs) refl (sym (in_more y xs scope) ∙ p)
   where
@@ -375,11 +375,11 @@ mutual
   scoped_kept called (Bind xs s r b) k scope new h w u =
       let n = note_all k xs (right_facts called r k) in
       let c = swept called b n in
-      let behind = also (used_in c) nothing_used in
-      let t = goes r k && is_unused xs behind in
+      let behind = used_in c in
+      let t = is_removable r k && is_unused xs behind in
       either_scoped t c (Bind xs s (swept_right called r k) c) scope new u
       (λ m v. scoped_kept called b n (xs ++ scope) new h.2 (λ y p. in_front y xs scope (w y p))
-      (serves_without xs (used_in c) scope new (λ y p. unused_by xs (used_in c) nothing_used y (both_true (goes r k) (is_unused xs behind) m).1 p) v))
+      (serves_without xs (used_in c) scope new (λ y p. unused_by xs (used_in c) y (both_true (is_removable r k) (is_unused xs behind) m).1 p) v))
       (λ v. (
         scoped_kept_right called r k scope new h.0 w (serves_left (used_in_right (swept_right called r k)) (used_in c) scope new v),
         none_within xs new scope w h.1,
@@ -529,11 +529,11 @@ module _ (core : CoreTerm) where
     block_kept called (Bind xs s r b) k g new ts h u =
         let n = note_all k xs (right_facts called r k) in
         let c = swept called b n in
-        let behind = also (used_in c) nothing_used in
-        let t = goes r k && is_unused xs behind in
+        let behind = used_in c in
+        let t = is_removable r k && is_unused xs behind in
         either_based t c (Bind xs s (swept_right called r k) c) g new ts u
         (λ m v. block_kept called b n (zip xs h.0 ++ g) new ts h.1.2
-        (has_without xs h.0 (used_in c) g new (λ y p. unused_by xs (used_in c) nothing_used y (both_true (goes r k) (is_unused xs behind) m).1 p) v))
+        (has_without xs h.0 (used_in c) g new (λ y p. unused_by xs (used_in c) y (both_true (is_removable r k) (is_unused xs behind) m).1 p) v))
         (λ v. (
           h.0,
           (

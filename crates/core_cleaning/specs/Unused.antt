@@ -1,5 +1,6 @@
--- Bindings that are not used and cannot fault go.
+-- Bindings go that are not used and whose right side is known to have a value.
 use Rattle.std.specs.Prelude.{ℕ, Bool, true, false, not, ◌||◌, ◌&&◌, if◌then◌else◌, List, [], ◌∷◌, Option}
+use Rattle.sac_base.specs.declared.site.Site.{Site}
 use Rattle.core_ir.specs.declared.tree.Var.{Var}
 use Rattle.core_ir.specs.Binders.{is_in}
 use Rattle.core_ir.specs.Terms.{PlainTerm, BlockTerm, RightTerm, GensTerm, PartsTerm, FunTerm, CoreTerm, Gives, Bind, Plain, NoGens, Gen, NoParts, Part}
@@ -27,20 +28,18 @@ abbrev pub is_total : RightTerm → Facts → Bool
 is_total (Plain p) k = total_plain [] p k no_indices
 is_total r k = false
 
-abbrev pub goes : RightTerm → Facts → Bool
-goes r k = never_faults r || is_total r k
+-- the right side has a value, whatever its operands are or by what is known of them
+abbrev pub is_removable : RightTerm → Facts → Bool
+is_removable r k = never_faults r || is_total r k
 
--- the only variable of the list is not used
-abbrev pub is_unused : List Var → (Var → Bool) → Bool
-is_unused (x ∷ []) used = not (used x)
+-- the only variable of the list is none of these
+abbrev pub is_unused : List Var → List Var → Bool
+is_unused (x ∷ []) used = not (is_in x used)
 is_unused xs used = false
 
--- these variables are used too
-abbrev pub also : List Var → (Var → Bool) → Var → Bool
-also xs used x = used x || is_in x xs
-
-abbrev pub nothing_used : Var → Bool
-nothing_used x = false
+-- a binding before a block, unless it may go and its variable is not used there
+abbrev pub bind_if_needed : Bool → List Var → Site → RightTerm → BlockTerm → BlockTerm
+bind_if_needed may_go xs s r b = if may_go && is_unused xs (used_in b) then b else Bind xs s r b
 
 -- The block without bindings whose right side has a value, by what is known there, and whose variable is not used behind them. Seen from the end, so
 -- that what only such bindings use is not used either.
@@ -48,10 +47,7 @@ module _ (called : ℕ → List (Option (List ℕ))) where
   abbrev mutual
     pub swept : BlockTerm → Facts → BlockTerm
     swept (Gives xs) k = Gives xs
-    swept (Bind xs s r b) k =
-        if goes r k && is_unused xs (also (used_in (swept b (note_all k xs (right_facts called r k)))) nothing_used)
-        then swept b (note_all k xs (right_facts called r k))
-        else Bind xs s (swept_right r k) (swept b (note_all k xs (right_facts called r k)))
+    swept (Bind xs s r b) k = bind_if_needed (is_removable r k) xs s (swept_right r k) (swept b (note_all k xs (right_facts called r k)))
 
     pub swept_right : RightTerm → Facts → RightTerm
     swept_right (Plain p) k = Plain p

@@ -2,6 +2,9 @@
 #![tactic(auto)]
 
 mod functions;
+mod needed;
+mod right;
+mod swept;
 mod total;
 mod used;
 mod walk;

@@ -1,17 +1,29 @@
-//! Variables that are used behind a place, as the set of their numbers.
+//! Variables that are used, as the set of their numbers.
 
-ghost use Rattle.std.specs.Prelude.{◌≡◌, ◌||◌, ◌++◌, IfOk, OnOk, option_to_list};
+ghost use Rattle.std.specs.Prelude.{◌≡◌, IfOk, OnOk, option_to_list};
+ghost use Rattle.core_cleaning.specs.Unused.{is_unused};
+ghost use Rattle.core_ir.specs.Binders.{is_in};
 ghost use Rattle.core_ir.specs.declared.tree.Var.{Var as VarOf};
-ghost use Rattle.core_cleaning.specs.Unused.{also, is_unused};
-ghost use Rattle.unused_bindings.specs.Swept.{used_of};
+ghost use Rattle.std.specs.Prelude.{◌++◌, List};
+ghost use Rattle.unused_bindings.specs.Uses.{used_of, among, either};
 
 use core_ir::Var;
 use sac_base::Memory;
+use std::alloc::Global;
 use std::collections::BTreeSet;
+
+/// The set of these variables.
+pub fn set_of(alloc: Global, vars: &[Var]) -> Result<BTreeSet<u32>, Memory>
+    ensures { IfOk result (λ used. used_of used ≡ among vars.now) }
+{
+    let mut used = BTreeSet::new(alloc);
+    add_all(&mut used, vars)?;
+    Ok(used)
+}
 
 /// These variables are used too.
 pub fn add_all(used: &mut BTreeSet<u32>, vars: &[Var]) -> Result<(), Memory>
-    ensures { OnOk result (used_of used.new ≡ also vars.now (used_of used.old)) }
+    ensures { OnOk result (used_of used.new ≡ either (used_of used.old) (among vars.now)) }
 {
     for var in vars {
         used.insert(var.0)?;
@@ -27,8 +39,8 @@ pub fn add_head(
     step: Option<Var>,
     width: Option<Var>,
 ) -> Result<(), Memory>
-    ensures { OnOk result (used_of used.new
-        ≡ also (option_to_list lower ++ (option_to_list upper ++ (option_to_list step ++ option_to_list width))) (used_of used.old)) }
+    ensures { OnOk result (used_of used.new ≡ either (used_of used.old)
+        (among (option_to_list lower ++ (option_to_list upper ++ (option_to_list step ++ option_to_list width))))) }
 {
     add_option(used, lower)?;
     add_option(used, upper)?;
@@ -37,7 +49,7 @@ pub fn add_head(
 }
 
 fn add_option(used: &mut BTreeSet<u32>, var: Option<Var>) -> Result<(), Memory>
-    ensures { OnOk result (used_of used.new ≡ also (option_to_list var) (used_of used.old)) }
+    ensures { OnOk result (used_of used.new ≡ either (used_of used.old) (among (option_to_list var))) }
 {
     match var {
         Some(x) => add_all(used, &[x]),
@@ -47,27 +59,28 @@ fn add_option(used: &mut BTreeSet<u32>, var: Option<Var>) -> Result<(), Memory>
 
 /// Those of both. The smaller set is put into the greater one.
 pub fn united(a: BTreeSet<u32>, b: BTreeSet<u32>) -> Result<BTreeSet<u32>, Memory>
-    ensures { IfOk result (λ both. (x : VarOf) → used_of both x ≡ (used_of a x || used_of b x)) }
+    ensures { IfOk result (λ both. used_of both ≡ either (used_of a) (used_of b)) }
 {
     if a.len() < b.len() {
-        joined(b, a)
+        appended(b, a)
     } else {
-        joined(a, b)
+        appended(a, b)
     }
 }
 
-fn joined(mut more: BTreeSet<u32>, mut few: BTreeSet<u32>) -> Result<BTreeSet<u32>, Memory>
-    ensures { IfOk result (λ both. (x : VarOf) → used_of both x ≡ (used_of more x || used_of few x)) }
+fn appended(more: BTreeSet<u32>, few: BTreeSet<u32>) -> Result<BTreeSet<u32>, Memory>
+    ensures first { IfOk result (λ both. used_of both ≡ either (used_of more) (used_of few)) }
+    ensures last { IfOk result (λ both. used_of both ≡ either (used_of few) (used_of more)) }
 {
-    while let Some(number) = few.pop_first() {
-        more.insert(number)?;
-    }
-    Ok(more)
+    let mut both = more;
+    let mut rest = few;
+    both.append(&mut rest)?;
+    Ok(both)
 }
 
-/// The only variable is not used.
+/// The only variable is none of those that these are.
 pub fn are_unused(vars: &[Var], used: &BTreeSet<u32>) -> bool
-    ensures { result ≡ is_unused vars.now (used_of used.now) }
+    ensures { (all : List VarOf) → used_of used.now ≡ among all → result ≡ is_unused vars.now all }
 {
     vars.len() == 1 && !used.contains(&vars[0].0)
 }
