@@ -1,10 +1,13 @@
 -- A binding, a generator, a part and a function alone, without bindings that are not used and whose right side is known to have a value.
-use Rattle.std.specs.Prelude.{ℕ, Bool, ◌&&◌, ◌||◌, not, List, [], ◌∷◌, Option}
-use Rattle.core_ir.specs.Terms.{PlainTerm, BlockTerm, RightTerm, LetTerm, GenTerm, PartTerm, FunTerm, Plain}
+use Rattle.std.specs.Prelude.{◌≡◌, ℕ, Bool, ◌&&◌, ◌||◌, not, List, [], ◌∷◌, reverse, Option}
+use Rattle.core_ir.specs.declared.tree.Var.{Var}
+use Rattle.core_ir.specs.Terms.{PlainTerm, BlockTerm, RightTerm, LetTerm, GenTerm, PartTerm, FunTerm, Plain, chain}
 use Rattle.core_facts.specs.Facts.{Facts, is_some, note_all, in_part}
 use Rattle.core_loops.specs.Indices.{Other, is_division, no_zero, may_be_row, in_range}
 use Rattle.core_settled.specs.Called.{params_facts}
+use Rattle.core_subst.specs.Names.{used_in}
 use Rattle.core_cleaning.specs.Unused.{is_removable, never_faults, bind_if_needed, swept, swept_right}
+use Rattle.unused_bindings.specs.Uses.{among}
 
 -- whether the right side is known to have a value, where the shape of its value is known to be this
 abbrev pub removable_shaped : Option (List ℕ) → RightTerm → Facts → Bool
@@ -35,3 +38,11 @@ pub record PassedTerm : Type 0 where
 abbrev pub needed_before : List PassedTerm → BlockTerm → BlockTerm
 needed_before [] end = end
 needed_before (l ∷ ls) end = bind_if_needed l.may_go l.binding.targets l.binding.site l.binding.right (needed_before ls end)
+
+-- With this binding before them the bindings that are needed, the latest in the block first, become others, whatever stands behind them; and where it was
+-- known what is used there, it is known now.
+abbrev pub IsStep : PassedTerm → List LetTerm → List LetTerm → (Var → Bool) → (Var → Bool) → Type 0
+IsStep l old new was is =
+    (end : BlockTerm) → was ≡ among (used_in (chain (reverse old) end))
+    → (chain (reverse new) end ≡ bind_if_needed l.may_go l.binding.targets l.binding.site l.binding.right (chain (reverse old) end))
+    × (is ≡ among (used_in (chain (reverse new) end)))

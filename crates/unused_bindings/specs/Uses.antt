@@ -1,5 +1,5 @@
 -- Sets of variables.
-use Rattle.std.specs.Prelude.{ℕ, Bool, ◌||◌, List, ◌++◌}
+use Rattle.std.specs.Prelude.{ℕ, Bool, false, not, ◌||◌, List, [], ◌∷◌, ◌++◌}
 use Rattle.std.specs.Ordering.{nat_cmp}
 use Rattle.std.specs.BTreeSet.{BTreeSet, contains}
 use Rattle.core_ir.specs.declared.tree.Var.{Var}
@@ -23,3 +23,8 @@ either these those x = these x || those x
 -- the variables that a generator uses, nested uses included
 abbrev pub used_in_gen : GenTerm → List Var
 used_in_gen g = head_uses g.head ++ used_in g.body
+
+-- the only variable of the list is not used
+abbrev pub is_not_used : List Var → (Var → Bool) → Bool
+is_not_used (x ∷ []) used = not (used x)
+is_not_used xs used = false

@@ -64,11 +64,7 @@ fn in_functions(
     Ok(swept)
 }
 
-fn in_function(
-    alloc: Global,
-    function: CoreFun,
-    called: &CalledShapes,
-) -> Result<CoreFun, Memory>
+fn in_function(alloc: Global, function: CoreFun, called: &CalledShapes) -> Result<CoreFun, Memory>
     ensures { IfOk result (λ new. fun_term new ≡ swept_function (shapes_of called.now) (fun_term function)) }
 {
     let mut table = FactTable::new(alloc);

@@ -1,11 +1,7 @@
 //! Variables that are used, as the set of their numbers.
 
-ghost use Rattle.std.specs.Prelude.{◌≡◌, IfOk, OnOk, option_to_list};
-ghost use Rattle.core_cleaning.specs.Unused.{is_unused};
-ghost use Rattle.core_ir.specs.Binders.{is_in};
-ghost use Rattle.core_ir.specs.declared.tree.Var.{Var as VarOf};
-ghost use Rattle.std.specs.Prelude.{◌++◌, List};
-ghost use Rattle.unused_bindings.specs.Uses.{used_of, among, either};
+ghost use Rattle.std.specs.Prelude.{◌≡◌, ◌++◌, IfOk, OnOk, option_to_list};
+ghost use Rattle.unused_bindings.specs.Uses.{used_of, among, either, is_not_used};
 
 use core_ir::Var;
 use sac_base::Memory;
@@ -78,9 +74,9 @@ fn appended(more: BTreeSet<u32>, few: BTreeSet<u32>) -> Result<BTreeSet<u32>, Me
     Ok(both)
 }
 
-/// The only variable is none of those that these are.
+/// The only variable is not used.
 pub fn are_unused(vars: &[Var], used: &BTreeSet<u32>) -> bool
-    ensures { (all : List VarOf) → used_of used.now ≡ among all → result ≡ is_unused vars.now all }
+    ensures { result ≡ is_not_used vars.now (used_of used.now) }
 {
     vars.len() == 1 && !used.contains(&vars[0].0)
 }
