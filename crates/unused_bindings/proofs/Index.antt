@@ -25,11 +25,3 @@ index_is (n ∷ ns) (pos i ∷ is) = (λ j. (le-leb 0 i (omega arith) j && nat_l
 pub literal_is : (b : Bool) (ns : List ℕ) (l : ArrayValue) (zs is : List ℤ) → zs ≡ map pos ns → is ≡ l.cells → length l.shape ≤ 1 → b ≡ are_components zs is → b ≡ at_literal ns (Some l)
 literal_is b ns l zs is p q r e =
     e ∙ (λ i. are_components (p i) (q i)) ∙ index_is ns l.cells ∙ (λ i. at_numbers ns (if sym (le-leb (length l.shape) 1 r) i then Some l.cells else None))
-
-or_none : (b : Bool) → b ≡ (b || false)
-or_none true = refl
-or_none false = refl
-
--- there is no relation to an index
-pub range_is : (shape : List ℕ) (l : Option ArrayValue) → at_literal shape l ≡ in_range [] (Some shape) Other l
-range_is shape l = or_none (at_literal shape l)
