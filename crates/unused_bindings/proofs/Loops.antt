@@ -1,21 +1,22 @@
 -- One turn of the loops over swept generators and parts, and their ends.
 use Rattle.std.proofs.Common.{◌≡◌, Bool, List, [], ◌∷◌, ◌++◌, map, refl, sym, ap, ◌∙◌, append_assoc, append-nil}
+use Rattle.std.specs.Prelude.{option_to_list}
 use Rattle.core_ir.specs.declared.tree.Var.{Var}
-use Rattle.core_ir.specs.declared.tree.CoreGen.{CoreGen}
+use Rattle.core_ir.specs.declared.tree.CoreGen.{CoreGen, CoreGen', CoreGen-F, out-CoreGen, roll-CoreGen, out-roll-CoreGen}
 use Rattle.core_ir.specs.declared.tree.CorePart.{CorePart}
 use Rattle.core_ir.specs.declared.tree.WithLoop.{WithLoop-F, roll-WithLoop}
 use Rattle.core_ir.specs.declared.tree.PartedLoop.{PartedLoop-F, roll-PartedLoop}
 use Rattle.core_ir.specs.declared.tree.Right.TheBlock.{the_data, the_data-1, the_data-2, the_data-3, the_data-4, the_data-5, the_data-6}
 use Rattle.core_ir.specs.Scopes.{op_uses, parted_uses, head_uses}
 use Rattle.core_ir.specs.Terms.{RightTerm, GenTerm, PartTerm, gens_of, parts_of}
-use Rattle.core_ir.specs.View.{gen_term, part_term, with_term, parted_term}
+use Rattle.core_ir.specs.View.{block_term, gen_term, part_term, with_term, parted_term}
 use Rattle.core_ir.proofs.Trees.{with_roll, parted_roll}
 use Rattle.core_subst.specs.Names.{used_in, used_in_right, used_in_gens, used_in_parts}
 use Rattle.unused_bindings.specs.declared.swept.SweptGen.{SweptGen}
 use Rattle.unused_bindings.specs.declared.swept.SweptPart.{SweptPart}
 use Rattle.unused_bindings.specs.Passed.{gen_terms, part_terms}
 use Rattle.unused_bindings.specs.Uses.{used_of, among, either, used_in_gen}
-use Rattle.unused_bindings.proofs.Sets.{lists_of}
+use Rattle.unused_bindings.proofs.Sets.{lists_of, list_in_front}
 use Rattle.unused_bindings.proofs.Turns.{map_snoc}
 
 gens_snoc : (gs : List GenTerm) (g : GenTerm) → used_in_gens (gens_of (gs ++ (g ∷ []))) ≡ used_in_gens (gens_of gs) ++ used_in_gen g
@@ -94,3 +95,21 @@ parted_made rest all x p e =
 pub parted_uses_all : (x : PartedLoop-F the_data the_data-1 the_data-2 the_data-3 the_data-4 the_data-5 the_data-6) (used : Var → Bool) → used ≡ among (parted_uses x.op ++ used_in_parts (parts_of (map part_term x.parts.items)))
     → used ≡ among (used_in_right (parted_term (roll-PartedLoop x)))
 parted_uses_all x used u = u ∙ (λ i. among (used_in_right (sym (parted_roll x) i)))
+
+-- ---- a generator with another body
+
+abbrev shown_gen : CoreGen-F the_data the_data-1 the_data-2 the_data-3 the_data-4 the_data-5 the_data-6 → GenTerm
+shown_gen x = record {
+  head = record { lower = x.lower; lower_closed = x.lower_closed; upper = x.upper; upper_closed = x.upper_closed; step = x.step; width = x.width; index = x.index; names = x.names.items; site = x.site };
+  body = block_term x.body;
+}
+
+gen_out : (g : CoreGen) → gen_term g ≡ shown_gen (out-CoreGen g)
+unfolding out-CoreGen denote.Hole.Carrier.out
+gen_out (CoreGen' lower lower_closed upper upper_closed step width index names body site) = refl
+
+pub gen_made : (x : CoreGen-F the_data the_data-1 the_data-2 the_data-3 the_data-4 the_data-5 the_data-6) (inner used : Var → Bool) → inner ≡ among (used_in (block_term x.body))
+    → used ≡ either inner (among (option_to_list x.lower ++ (option_to_list x.upper ++ (option_to_list x.step ++ option_to_list x.width)))) → used ≡ among (used_in_gen (gen_term (roll-CoreGen x)))
+gen_made x inner used p q =
+    list_in_front (option_to_list x.lower ++ (option_to_list x.upper ++ (option_to_list x.step ++ option_to_list x.width))) (used_in (block_term x.body)) inner used p q
+    ∙ (λ i. among (used_in_gen ((ap shown_gen (sym (out-roll-CoreGen x)) ∙ sym (gen_out (roll-CoreGen x))) i)))

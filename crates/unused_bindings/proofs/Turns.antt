@@ -1,5 +1,9 @@
 -- One turn of the loops of the walk forward, and their ends.
 use Rattle.std.proofs.Common.{◌≡◌, ℕ, ◌+◌, List, [], ◌∷◌, ◌++◌, map, length, Option, refl, sym, ap, ◌∙◌, append_assoc, append-nil, arith}
+use Rattle.std.specs.Prelude.{Result, Ok, Err, IfOk, OnOk, Vec}
+use Rattle.std.specs.declared.alloc.Global.{Global}
+use Rattle.std.proofs.lemmas.Result.{IfOk-weaker}
+use Rattle.sac_base.specs.declared.memory.Memory.{Memory}
 use Rattle.core_ir.specs.declared.tree.Let.{Let}
 use Rattle.core_ir.specs.declared.tree.CoreGen.{CoreGen}
 use Rattle.core_ir.specs.declared.tree.CorePart.{CorePart}
@@ -7,10 +11,14 @@ use Rattle.core_ir.specs.declared.tree.Block.{Block, out-Block}
 use Rattle.core_ir.specs.declared.tree.WithLoop.{WithLoop, out-WithLoop}
 use Rattle.core_ir.specs.declared.tree.PartedLoop.{PartedLoop, out-PartedLoop}
 use Rattle.core_ir.specs.Terms.{BlockTerm, RightTerm, Gives, Gen, Part, GenTerm, PartTerm, chain, gens_of, parts_of}
-use Rattle.core_ir.specs.View.{block_term, let_term, gen_term, part_term, with_term, parted_term}
+use Rattle.core_ir.specs.View.{block_term, let_term, right_term, gen_term, part_term, with_term, parted_term}
 use Rattle.core_ir.proofs.Trees.{block_out, with_out, parted_out}
 use Rattle.core_facts.specs.Facts.{Fact, Facts, note_all, right_facts, block_facts}
 use Rattle.core_cleaning.specs.Unused.{bind_if_needed, is_removable, swept, swept_right, swept_gens, swept_parts}
+use Rattle.fact_table.specs.declared.known.Known.{Known}
+use Rattle.fact_table.specs.Table.{fact_of}
+use Rattle.unused_bindings.specs.declared.swept.SweptBlock.{SweptBlock}
+use Rattle.unused_bindings.specs.declared.swept.SweptRight.{SweptRight}
 use Rattle.unused_bindings.specs.declared.swept.SweptLet.{SweptLet}
 use Rattle.unused_bindings.specs.declared.swept.SweptGen.{SweptGen}
 use Rattle.unused_bindings.specs.declared.swept.SweptPart.{SweptPart}
@@ -29,6 +37,10 @@ needed_snoc (m ∷ ms) l end = ap (bind_if_needed m.may_go m.binding.targets m.b
 pub none_left : {A : Type 0} (len : ℕ) (items : List A) → len ≡ 0 → len ≡ length items → items ≡ []
 none_left len [] p q = refl
 none_left len (x ∷ xs) p q = absurd (omega arith)
+
+pub on_ok : {A E : Type 0} {P : Type 0} (r : Result A E) → P → OnOk r P
+on_ok (Ok a) p = p
+on_ok (Err e) p = tt
 
 -- ---- bindings
 
@@ -57,7 +69,7 @@ module _ (called : ℕ → List (Option (List ℕ))) (k k' : Facts) (before rest
       ∙ p
 
 -- all bindings are passed
-pub block_end : (called : ℕ → List (Option (List ℕ))) (k k' : Facts) (ps : List SweptLet) (rest before : List Let) (b : Block) (new : BlockTerm)
+block_end : (called : ℕ → List (Option (List ℕ))) (k k' : Facts) (ps : List SweptLet) (rest before : List Let) (b : Block) (new : BlockTerm)
     → ((end : BlockTerm) → needed_before (map passed_term ps) (swept called (chain (map let_term rest) end) k') ≡ swept called (chain (map let_term before) end) k)
     → rest ≡ [] → before ≡ (out-Block b).lets.items → new ≡ needed_before (map passed_term ps) (Gives (out-Block b).results.items) → new ≡ swept called (block_term b) k
 block_end called k k' ps rest before b new p r e n =
@@ -68,7 +80,7 @@ block_end called k k' ps rest before b new p r e n =
     ∙ (λ i. swept called (chain (map let_term (e i)) end) k)
     ∙ ap (λ z. swept called z k) (sym (block_out b))
 
-pub known_end : (called : ℕ → List (Option (List ℕ))) (k k' : Facts) (rest before : List Let) (b : Block) (known : List Fact)
+known_end : (called : ℕ → List (Option (List ℕ))) (k k' : Facts) (rest before : List Let) (b : Block) (known : List Fact)
     → ((end : BlockTerm) → block_facts called (chain (map let_term rest) end) k' ≡ block_facts called (chain (map let_term before) end) k)
     → rest ≡ [] → before ≡ (out-Block b).lets.items → known ≡ map k' (out-Block b).results.items → known ≡ block_facts called (block_term b) k
 known_end called k k' rest before b known p r e q =
@@ -78,6 +90,22 @@ known_end called k k' rest before b known p r e q =
     ∙ p end
     ∙ (λ i. block_facts called (chain (map let_term (e i)) end) k)
     ∙ ap (λ z. block_facts called z k) (sym (block_out b))
+
+pub block_swept : (called : ℕ → List (Option (List ℕ))) (k k' : Facts) (ps : List SweptLet) (rest before : List Let) (b : Block) (r : Result SweptBlock Memory)
+    → ((end : BlockTerm) → needed_before (map passed_term ps) (swept called (chain (map let_term rest) end) k') ≡ swept called (chain (map let_term before) end) k)
+    → rest ≡ [] → before ≡ (out-Block b).lets.items → IfOk r (λ (new : SweptBlock). block_term new.block ≡ needed_before (map passed_term ps) (Gives (out-Block b).results.items))
+    → IfOk r (λ (new : SweptBlock). block_term new.block ≡ swept called (block_term b) k)
+block_swept called k k' ps rest before b r p e q h =
+    IfOk-weaker r (λ (new : SweptBlock). block_term new.block ≡ needed_before (map passed_term ps) (Gives (out-Block b).results.items)) (λ (new : SweptBlock). block_term new.block ≡ swept called (block_term b) k)
+    (λ new n. block_end called k k' ps rest before b (block_term new.block) p e q n) h
+
+pub block_known : (called : ℕ → List (Option (List ℕ))) (k k' : Facts) (rest before : List Let) (b : Block) (known : Vec Known Global) (r : Result SweptBlock Memory)
+    → ((end : BlockTerm) → block_facts called (chain (map let_term rest) end) k' ≡ block_facts called (chain (map let_term before) end) k)
+    → rest ≡ [] → before ≡ (out-Block b).lets.items → map fact_of known.items ≡ map k' (out-Block b).results.items → IfOk r (λ (new : SweptBlock). new.results ≡ known)
+    → IfOk r (λ (new : SweptBlock). map fact_of new.results.items ≡ block_facts called (block_term b) k)
+block_known called k k' rest before b known r p e q f h =
+    IfOk-weaker r (λ (new : SweptBlock). new.results ≡ known) (λ (new : SweptBlock). map fact_of new.results.items ≡ block_facts called (block_term b) k)
+    (λ new n. (λ i. map fact_of (n i).items) ∙ known_end called k k' rest before b (map fact_of known.items) p e q f) h
 
 -- ---- generators and parts
 
@@ -120,7 +148,7 @@ module _ (called : ℕ → List (Option (List ℕ))) (k : Facts) where
       ∙ p
 
   -- all are swept
-  pub with_end : (done : List SweptGen) (rest before : List CoreGen) (w : WithLoop) (new : RightTerm) → gen_terms done ++ gens_swept rest ≡ gens_swept before → rest ≡ [] → before ≡ (out-WithLoop w).gens.items
+  with_end : (done : List SweptGen) (rest before : List CoreGen) (w : WithLoop) (new : RightTerm) → gen_terms done ++ gens_swept rest ≡ gens_swept before → rest ≡ [] → before ≡ (out-WithLoop w).gens.items
       → new ≡ RightTerm.With (out-WithLoop w).op (gens_of (gen_terms done)) → new ≡ swept_right called (with_term w) k
   with_end done rest before w new p r e n =
       n
@@ -128,7 +156,7 @@ module _ (called : ℕ → List (Option (List ℕ))) (k : Facts) where
       ∙ ap (RightTerm.With (out-WithLoop w).op) (gens_done (out-WithLoop w).gens.items)
       ∙ ap (λ z. swept_right called z k) (sym (with_out w))
 
-  pub parted_end : (done : List SweptPart) (rest before : List CorePart) (w : PartedLoop) (new : RightTerm) → part_terms done ++ parts_swept rest ≡ parts_swept before → rest ≡ [] → before ≡ (out-PartedLoop w).parts.items
+  parted_end : (done : List SweptPart) (rest before : List CorePart) (w : PartedLoop) (new : RightTerm) → part_terms done ++ parts_swept rest ≡ parts_swept before → rest ≡ [] → before ≡ (out-PartedLoop w).parts.items
       → new ≡ RightTerm.Parted (out-PartedLoop w).frame (out-PartedLoop w).base (out-PartedLoop w).cell (out-PartedLoop w).op (parts_of (part_terms done)) → new ≡ swept_right called (parted_term w) k
   parted_end done rest before w new p r e n =
       let o = out-PartedLoop w in
@@ -136,3 +164,17 @@ module _ (called : ℕ → List (Option (List ℕ))) (k : Facts) where
       ∙ ap (λ ps. RightTerm.Parted o.frame o.base o.cell o.op (parts_of ps)) (sym (append-nil _) ∙ (λ j. part_terms done ++ parts_swept (sym r j)) ∙ p ∙ ap parts_swept e)
       ∙ ap (RightTerm.Parted o.frame o.base o.cell o.op) (parts_done o.parts.items)
       ∙ ap (λ z. swept_right called z k) (sym (parted_out w))
+
+  pub with_swept : (done : List SweptGen) (rest before : List CoreGen) (w : WithLoop) (r : Result SweptRight Memory) → gen_terms done ++ gens_swept rest ≡ gens_swept before → rest ≡ [] → before ≡ (out-WithLoop w).gens.items
+      → IfOk r (λ (new : SweptRight). right_term new.right ≡ RightTerm.With (out-WithLoop w).op (gens_of (gen_terms done))) → IfOk r (λ (new : SweptRight). right_term new.right ≡ swept_right called (with_term w) k)
+  with_swept done rest before w r p e q h =
+      IfOk-weaker r (λ (new : SweptRight). right_term new.right ≡ RightTerm.With (out-WithLoop w).op (gens_of (gen_terms done))) (λ (new : SweptRight). right_term new.right ≡ swept_right called (with_term w) k)
+      (λ new n. with_end done rest before w (right_term new.right) p e q n) h
+
+  pub parted_swept : (done : List SweptPart) (rest before : List CorePart) (w : PartedLoop) (r : Result SweptRight Memory) → part_terms done ++ parts_swept rest ≡ parts_swept before → rest ≡ [] → before ≡ (out-PartedLoop w).parts.items
+      → IfOk r (λ (new : SweptRight). right_term new.right ≡ RightTerm.Parted (out-PartedLoop w).frame (out-PartedLoop w).base (out-PartedLoop w).cell (out-PartedLoop w).op (parts_of (part_terms done)))
+      → IfOk r (λ (new : SweptRight). right_term new.right ≡ swept_right called (parted_term w) k)
+  parted_swept done rest before w r p e q h =
+      let o = out-PartedLoop w in
+      IfOk-weaker r (λ (new : SweptRight). right_term new.right ≡ RightTerm.Parted o.frame o.base o.cell o.op (parts_of (part_terms done))) (λ (new : SweptRight). right_term new.right ≡ swept_right called (parted_term w) k)
+      (λ new n. parted_end done rest before w (right_term new.right) p e q n) h
