@@ -1,11 +1,11 @@
 -- A literal index in range.
-use Rattle.std.proofs.Common.{◌≡◌, ℕ, ◌≤◌, Bool, true, false, ◌&&◌, ◌||◌, List, [], ◌∷◌, map, length, refl, sym, ◌∙◌, arith, ℤ, pos, negsuc, Option, Some, None, nat_lt}
+use Rattle.std.proofs.Common.{◌≡◌, ℕ, ◌≤◌, Bool, true, false, ◌&&◌, List, [], ◌∷◌, map, length, refl, sym, ◌∙◌, arith, ℤ, pos, negsuc, Option, Some, None, nat_lt}
 use Rattle.std.specs.Prelude.{if◌then◌else◌}
 use Rattle.std.proofs.lemmas.Bool.{le-leb}
 use Rattle.sac_base.specs.Arrays.{ArrayValue}
 use Rattle.sac_base.specs.Parts.{Part, part_at, further}
 use Rattle.core_facts.specs.Facts.{is_some}
-use Rattle.core_loops.specs.Indices.{Other, at_numbers, at_literal, in_range}
+use Rattle.core_loops.specs.Indices.{at_numbers, at_literal}
 use Rattle.unused_bindings.specs.Total.{are_components}
 
 further_some : (i : ℕ) (ns : List ℕ) (p : Option Part) → is_some (further i ns p) ≡ is_some p

@@ -1,7 +1,6 @@
 -- Right sides without blocks that are known to have a value.
-use Rattle.std.proofs.Common.{◌≡◌, ℕ, Bool, true, false, ◌||◌, List, refl, sym, ap, ◌∙◌, Option}
+use Rattle.std.proofs.Common.{◌≡◌, refl}
 use Rattle.core_ir.specs.Terms.{PlainTerm, RightTerm, Plain}
-use Rattle.core_ir.specs.Scopes.{plain_uses, right_uses}
 use Rattle.core_facts.specs.Facts.{Facts}
 use Rattle.core_cleaning.specs.Unused.{is_removable}
 use Rattle.plain_facts.specs.Rights.{right_shape}

@@ -6,7 +6,7 @@ use Rattle.core_facts.specs.Facts.{Facts, is_some, note_all, in_part}
 use Rattle.core_loops.specs.Indices.{Other, is_division, no_zero, may_be_row, in_range}
 use Rattle.core_settled.specs.Called.{params_facts}
 use Rattle.core_subst.specs.Names.{used_in}
-use Rattle.core_cleaning.specs.Unused.{is_removable, never_faults, bind_if_needed, swept, swept_right}
+use Rattle.core_cleaning.specs.Unused.{never_faults, bind_if_needed, swept, swept_right}
 use Rattle.unused_bindings.specs.Uses.{among}
 
 -- whether the right side is known to have a value, where the shape of its value is known to be this

@@ -1,4 +1,4 @@
-use Rattle.std.proofs.Common.{rules, append-nil, ◌≡◌, ◌∙◌, refl, sym, ap, map}
+use Rattle.std.proofs.Common.{rules, append-nil, ◌∙◌, map}
 use Rattle.core_ir.specs.View.{let_term}
 use Rattle.core_ir.specs.Terms.{Gives}
 use Rattle.unused_bindings.specs.Uses.{used_of}

@@ -1,4 +1,4 @@
-use Rattle.std.proofs.Common.{◌∙◌, ap, map, refl}
+use Rattle.std.proofs.Common.{◌∙◌, ap}
 use Rattle.core_ir.specs.Scopes.{parted_uses}
 use Rattle.unused_bindings.specs.Passed.{part_terms}
 use Rattle.unused_bindings.specs.Uses.{used_of}

@@ -1,8 +1,5 @@
-use Rattle.std.proofs.Common.{◌∙◌, ap, map, refl}
+use Rattle.std.proofs.Common.{◌∙◌, ap}
 use Rattle.core_ir.specs.Scopes.{op_uses}
-use Rattle.core_ir.specs.Terms.{gens_of}
-use Rattle.core_ir.specs.View.{gen_term}
-use Rattle.core_subst.specs.Names.{used_in_gens}
 use Rattle.unused_bindings.specs.Passed.{gen_terms}
 use Rattle.unused_bindings.specs.Uses.{used_of}
 use Rattle.unused_bindings.proofs.Loops.{gen_items, gen_uses, with_made, with_uses}
