@@ -37,7 +37,7 @@ use Rattle.core_cleaning.proofs.Places.{At, RightAt, GensAt, PartsAt, right_at, 
 use Rattle.core_cleaning.specs.Unused.{never_faults, is_total, no_indices, is_removable, is_unused, swept, swept_right, swept_gens, swept_parts}
 use Rattle.core_cleaning.proofs.Lists.{clash, itself, behind_first, in_left, turned, zip_elsewhere, Sub, all_of, joined, behind_all}
 
--- ---- what it says that a binding is_removable
+-- ---- what it says that a binding goes
 
 both_true : (b c : Bool) → (b && c) ≡ true → (b ≡ true) × (c ≡ true)
 both_true true c h = (refl, h)
@@ -357,7 +357,7 @@ none_within : (xs new scope : List Var) → Within new scope → NoneIn xs scope
 none_within [] new scope w n = tt
 none_within (x ∷ xs) new scope w n = (not_within x new scope w n.0, none_within xs new scope w n.1)
 
--- what stands behind a binding that is_removable uses none of its variables
+-- what stands behind a binding that goes uses none of its variables
 serves_without : (xs us scope new : List Var) → ((y : Var) → is_in y xs ≡ true → is_in y us ≡ false) → Serves us scope new → Serves us (xs ++ scope) new
 serves_without xs us scope new n h = λ y u p. go y u (is_in y xs) refl (sym (in_more y xs scope) ∙ p)
   where
