@@ -1,5 +1,5 @@
 -- The whole pass.
-use Rattle.std.proofs.Common.{◌≡◌, ◌∙◌, All, List, [], ◌∷◌, map, refl}
+use Rattle.std.proofs.Common.{◌∙◌, All, List, [], ◌∷◌, map, refl}
 use Rattle.core_ir.specs.Outcome.{SameHeads, SameOutside}
 use Rattle.core_ir.specs.Terms.{BlockTerm, FunTerm, CoreTerm}
 use Rattle.core_ir.specs.WellFormed.{IsWellFormed}
