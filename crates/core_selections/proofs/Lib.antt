@@ -1,0 +1,5 @@
+mod Bound
+mod Places
+mod Agreeing
+mod Same
+pub mod Laws
