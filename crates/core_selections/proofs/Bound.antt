@@ -113,20 +113,18 @@ module _ (called : ℕ → List (Option (List ℕ))) where
   mutual
     pub names : (b : BlockTerm) (k : Facts) (n : ℕ) → Names (bound_in b) (bound_in (vectored called b k n)) n (next called b k n)
     names (Gives xs) k n = same [] n n
-    names (Bind xs s r b) k n = go (by_scalar r k) refl (λ m. names b k' m) (names_right r k n)
+    names (Bind xs s r b) k n =
+        go (note_all k xs (right_facts called r k)) (by_scalar r k) refl (λ m. names b (note_all k xs (right_facts called r k)) m) (names_right r k n)
       where
-        abbrev k' : Facts
-        k' = note_all k xs (right_facts called r k)
-
-        go : (o : Option Selection) → by_scalar r k ≡ o → ((m : ℕ) → Names (bound_in b) (bound_in (vectored called b k' m)) m (next called b k' m))
+        go : (k' : Facts) (o : Option Selection) → by_scalar r k ≡ o → ((m : ℕ) → Names (bound_in b) (bound_in (vectored called b k' m)) m (next called b k' m))
             → Names (bound_in_right r) (bound_in_right (vectored_right called r k n)) n (next_right called r k n)
             → Names (xs ++ (bound_in_right r ++ bound_in b)) (bound_in (bind_vector o (next_right called r k n) xs s (vectored_right called r k n) (vectored called b k' (behind o (next_right called r k n))))) n (next called b k' (behind o (next_right called r k n)))
-        go None e rest here =
+        go k' None e rest here =
             let m = next_right called r k n in
             let t = next called b k' m in
             both xs (bound_in_right r ++ bound_in b) xs (bound_in_right (vectored_right called r k n) ++ bound_in (vectored called b k' m)) n n t (itself_le n) (trans n m t (rises_right r k n) (rises b k' m)) (same xs n n)
             (both (bound_in_right r) (bound_in b) (bound_in_right (vectored_right called r k n)) (bound_in (vectored called b k' m)) n m t (rises_right r k n) (rises b k' m) here (rest m))
-        go (Some x) e rest here =
+        go k' (Some x) e rest here =
             let w = (goes r k x e).right in
             let t = next called b k' (suc n) in
             subst (λ (q : RightTerm). Names (xs ++ (bound_in_right q ++ bound_in b)) (bound_in (bind_vector (Some x) (next_right called q k n) xs s (vectored_right called q k n) (vectored called b k' (suc (next_right called q k n))))) n (next called b k' (suc (next_right called q k n))))
@@ -180,15 +178,13 @@ module _ (called : ℕ → List (Option (List ℕ))) where
   mutual
     pub calls_kept : (b : BlockTerm) (k : Facts) (n : ℕ) → calls_in (vectored called b k n) ≡ calls_in b
     calls_kept (Gives xs) k n = refl
-    calls_kept (Bind xs s r b) k n = go (by_scalar r k) refl (λ m. calls_kept b k' m) (calls_kept_right r k n)
+    calls_kept (Bind xs s r b) k n =
+        go (note_all k xs (right_facts called r k)) (by_scalar r k) refl (λ m. calls_kept b (note_all k xs (right_facts called r k)) m) (calls_kept_right r k n)
       where
-        abbrev k' : Facts
-        k' = note_all k xs (right_facts called r k)
-
-        go : (o : Option Selection) → by_scalar r k ≡ o → ((m : ℕ) → calls_in (vectored called b k' m) ≡ calls_in b) → calls_in_right (vectored_right called r k n) ≡ calls_in_right r
+        go : (k' : Facts) (o : Option Selection) → by_scalar r k ≡ o → ((m : ℕ) → calls_in (vectored called b k' m) ≡ calls_in b) → calls_in_right (vectored_right called r k n) ≡ calls_in_right r
             → calls_in (bind_vector o (next_right called r k n) xs s (vectored_right called r k n) (vectored called b k' (behind o (next_right called r k n)))) ≡ calls_in_right r ++ calls_in b
-        go None e rest here = λ i. here i ++ rest (next_right called r k n) i
-        go (Some x) e rest here = rest (suc (next_right called r k n)) ∙ ap (λ gs. gs ++ calls_in b) (sym (ap calls_in_right (goes r k x e).right))
+        go k' None e rest here = λ i. here i ++ rest (next_right called r k n) i
+        go k' (Some x) e rest here = rest (suc (next_right called r k n)) ∙ ap (λ gs. gs ++ calls_in b) (sym (ap calls_in_right (goes r k x e).right))
 
     pub calls_kept_right : (r : RightTerm) (k : Facts) (n : ℕ) → calls_in_right (vectored_right called r k n) ≡ calls_in_right r
     calls_kept_right (Plain p) k n = refl

@@ -1,5 +1,5 @@
-mod Bound
-mod Places
 mod Agreeing
-mod Same
+mod Bound
 pub mod Laws
+mod Places
+mod Same
