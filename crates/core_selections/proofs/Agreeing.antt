@@ -1,23 +1,22 @@
 -- Bases once selections go by vectors.
-use Rattle.std.proofs.Common.{◌≡◌, ℕ, suc, ◌<◌, ◌≤◌, Bool, true, false, cond, ◌||◌, eqb, List, [], ◌∷◌, ◌++◌, Option, Some, None, refl, sym, ap, subst, ◌∙◌, arith}
+use Rattle.std.proofs.Common.{◌≡◌, ℕ, suc, ◌≤◌, Bool, true, false, cond, eqb, List, [], ◌∷◌, ◌++◌, Option, Some, None, refl, sym, subst, ◌∙◌, arith}
 use Rattle.std.specs.Prelude.{zip}
 use Rattle.std.proofs.lemmas.Bool.{eqb-true, eq-eqb}
 use Rattle.sac_base.specs.declared.base.Base.{Base}
 use Rattle.sac_base.specs.declared.base.Base.TheVariants.{Int, Bool as Truth}
 use Rattle.core_ir.specs.declared.tree.Var.{Var}
-use Rattle.core_ir.specs.Binders.{is_in, bound_in, bound_in_right, bound_in_gens, bound_in_parts}
-use Rattle.core_ir.specs.Terms.{PlainTerm, BlockTerm, RightTerm, GensTerm, PartsTerm, CoreTerm, Gives, Bind, Plain, NoGens, Gen, NoParts, Part}
+use Rattle.core_ir.specs.Binders.{bound_in, bound_in_right, bound_in_gens, bound_in_parts}
+use Rattle.core_ir.specs.Terms.{BlockTerm, RightTerm, GensTerm, PartsTerm, CoreTerm, Gives, Bind, Plain, NoGens, Gen, NoParts, Part}
 use Rattle.core_ir.specs.WellFormed.{Bases, BlockBases, GensBases, PartedFits, PartsBases, RightBases, base_of, ints}
-use Rattle.core_ir.proofs.Variables.{or_false}
 use Rattle.core_subst.specs.Names.{variable}
 use Rattle.core_facts.specs.Facts.{Facts, note_all, right_facts, in_part}
 use Rattle.core_edits.specs.Within.{BasesWithin}
 use Rattle.core_edits.proofs.Wider.{block_bases_wider}
 use Rattle.core_inlined_bodies.proofs.Counts.{trans}
 use Rattle.core_inlined_bodies.proofs.Names.{Fresh, fresh_left, fresh_right, fresh_more}
-use Rattle.core_cleaning.proofs.Lists.{clash, zip_elsewhere, ints_elsewhere}
-use Rattle.core_selections.specs.Vectors.{Selection, by_scalar, bind_vector, behind, next, next_right, next_gens, next_parts, vectored, vectored_right, vectored_gens, vectored_parts}
-use Rattle.core_selections.proofs.Bound.{goes, select_of, rises, rises_right, grids_kept}
+use Rattle.core_cleaning.proofs.Lists.{zip_elsewhere, ints_elsewhere}
+use Rattle.core_selections.specs.Vectors.{Selection, by_scalar, bind_vector, behind, next, next_right, vectored, vectored_right, vectored_gens, vectored_parts}
+use Rattle.core_selections.proofs.Bound.{goes, rises, rises_right, grids_kept}
 
 -- no variable from this number on has a base
 abbrev pub NoneFrom : Bases → ℕ → Type 0

@@ -1,26 +1,24 @@
 -- The laws of whole cores.
-use Rattle.std.proofs.Common.{◌≡◌, ℕ, ◌≤◌, max, cond, eqb, List, [], ◌∷◌, ◌++◌, map, Option, Some, None, refl, sym, subst, ◌∙◌, arith}
-use Rattle.sac_base.specs.declared.base.Base.{Base}
+use Rattle.std.proofs.Common.{◌≡◌, ℕ, ◌≤◌, max, cond, eqb, List, [], ◌∷◌, map, Some, None, refl, ◌∙◌, arith}
 use Rattle.sac_base.specs.declared.types.ArrayType.{ArrayType}
 use Rattle.core_ir.specs.declared.tree.Var.{Var}
 use Rattle.core_ir.specs.Binders.{is_in, bound_in}
 use Rattle.core_ir.specs.Meaning.{no_variables, bind_all}
 use Rattle.core_ir.specs.Outcome.{param_vars}
 use Rattle.core_ir.specs.Terms.{BlockTerm, FunTerm, CoreTerm}
-use Rattle.core_ir.specs.Uses.{Avoids}
-use Rattle.core_ir.specs.WellFormed.{Bases, IsFunction, IsWellFormed, bases, base_of, param_bases}
+use Rattle.core_ir.specs.WellFormed.{IsFunction, IsWellFormed, bases, base_of, param_bases}
 use Rattle.core_ir.proofs.Variables.{or_false}
 use Rattle.core_subst.specs.Names.{above, above_all, above_function}
 use Rattle.core_subst.proofs.Above.{block_new}
 use Rattle.core_bases.proofs.Bound.{distinct_right}
 use Rattle.core_calls.specs.Arrays.{SameOutcomeOnArrays}
 use Rattle.core_settled.specs.Called.{called, params_facts}
-use Rattle.core_inlined_bodies.proofs.Names.{Names, Fresh, fresh_left, fresh_right, own_fresh, same, both}
+use Rattle.core_inlined_bodies.proofs.Names.{fresh_left, fresh_right, own_fresh, same, both}
 use Rattle.core_cleaning.proofs.Bodies.{KeepsForm, KeepsMeaning, well_formed, same_outcome}
 use Rattle.core_selections.specs.Vectors.{next, vectored, vectored_core}
 use Rattle.core_selections.proofs.Bound.{names, rises, calls_kept}
 use Rattle.core_selections.proofs.Places.{scoped}
-use Rattle.core_selections.proofs.Agreeing.{agreeing, NoneFrom}
+use Rattle.core_selections.proofs.Agreeing.{agreeing}
 use Rattle.core_selections.proofs.Same.{block_same}
 
 abbrev vectored_in : CoreTerm → FunTerm → BlockTerm

@@ -1,18 +1,18 @@
 -- Scopes once selections go by vectors.
-use Rattle.std.proofs.Common.{◌≡◌, ℕ, suc, ◌<◌, ◌≤◌, Bool, true, false, ◌||◌, eqb, List, [], ◌∷◌, ◌++◌, Option, Some, None, refl, sym, ap, subst, ◌∙◌, arith, ◌⊎◌, inl, inr}
+use Rattle.std.proofs.Common.{◌≡◌, ℕ, suc, ◌<◌, ◌≤◌, Bool, true, false, ◌||◌, eqb, List, [], ◌∷◌, ◌++◌, Option, Some, None, refl, sym, subst, ◌∙◌, arith, ◌⊎◌, inl, inr}
 use Rattle.std.proofs.lemmas.Bool.{eqb-true}
 use Rattle.core_ir.specs.declared.tree.Var.{Var}
 use Rattle.core_ir.specs.Binders.{is_in, NoneIn, bound_in, bound_in_right, bound_in_gens, bound_in_parts}
-use Rattle.core_ir.specs.Scopes.{AllIn, Scoped, ScopedRight, ScopedGens, ScopedParts}
-use Rattle.core_ir.specs.Terms.{PlainTerm, BlockTerm, RightTerm, GensTerm, PartsTerm, Gives, Bind, Plain, NoGens, Gen, NoParts, Part}
+use Rattle.core_ir.specs.Scopes.{Scoped, ScopedRight, ScopedGens, ScopedParts}
+use Rattle.core_ir.specs.Terms.{BlockTerm, RightTerm, GensTerm, PartsTerm, Gives, Bind, Plain, NoGens, Gen, NoParts, Part}
 use Rattle.core_ir.proofs.Variables.{in_more}
 use Rattle.core_subst.specs.Names.{variable}
 use Rattle.core_facts.specs.Facts.{Facts, note_all, right_facts, in_part}
 use Rattle.core_cleaning.proofs.Lists.{clash, itself, behind_first}
 use Rattle.core_edits.proofs.Wider.{block_wider, bound_new, none_both}
 use Rattle.core_inlined_bodies.proofs.Names.{Names, Fresh, fresh_both, fresh_left, fresh_right, fresh_more, none_by}
-use Rattle.core_selections.specs.Vectors.{Selection, by_scalar, bind_vector, behind, next, next_right, next_gens, next_parts, vectored, vectored_right, vectored_gens, vectored_parts}
-use Rattle.core_selections.proofs.Bound.{goes, select_of, rises, rises_right, rises_gens, rises_parts, behind_rises, names}
+use Rattle.core_selections.specs.Vectors.{Selection, by_scalar, bind_vector, behind, next, next_right, vectored, vectored_right, vectored_gens, vectored_parts}
+use Rattle.core_selections.proofs.Bound.{goes, rises, rises_right, names}
 
 -- another number
 other : (n : ℕ) (y : Var) → suc n ≤ y.0 → eqb n y.0 ≡ false

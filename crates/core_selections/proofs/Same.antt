@@ -1,5 +1,5 @@
 -- Selections by vectors mean the same.
-use Rattle.std.proofs.Common.{◌≡◌, ℕ, suc, ◌<◌, ◌≤◌, Bool, true, false, ◌&&◌, ◌||◌, eqb, List, [], ◌∷◌, ◌++◌, map, length, Option, Some, None, Ok, refl, sym, ap, subst, ◌∙◌, arith}
+use Rattle.std.proofs.Common.{◌≡◌, ℕ, suc, ◌<◌, ◌≤◌, Bool, true, false, ◌&&◌, eqb, List, [], ◌∷◌, ◌++◌, map, length, Option, Some, None, Ok, refl, sym, ap, subst, ◌∙◌, arith}
 use Rattle.std.specs.Prelude.{if◌then◌else◌, zip, not}
 use Rattle.std.proofs.lemmas.Bool.{eqb-true}
 use Rattle.sac_base.specs.declared.base.Base.{Base}
@@ -12,9 +12,9 @@ use Rattle.sac_base.specs.Outcomes.{and_then, fault, choose}
 use Rattle.sac_base.specs.Parts.{condition}
 use Rattle.sac_base.specs.WithLoops.{with_value, each}
 use Rattle.core_ir.specs.declared.tree.Var.{Var}
-use Rattle.core_ir.specs.Binders.{bound_in, bound_in_right, bound_in_gens, bound_in_parts}
+use Rattle.core_ir.specs.Binders.{bound_in, bound_in_gens, bound_in_parts}
 use Rattle.core_ir.specs.Meaning.{Env, CallMeaning, bind, bind_all, first, one, made_of, neutral_fits, cell_form, generator, operation, with_index, run, right_value, generators, cells}
-use Rattle.core_ir.specs.Terms.{PlainTerm, BlockTerm, RightTerm, GensTerm, PartsTerm, CoreTerm, Gives, Bind, Plain, NoGens, Gen, NoParts, Part}
+use Rattle.core_ir.specs.Terms.{BlockTerm, RightTerm, GensTerm, PartsTerm, CoreTerm, Gives, Bind, Plain, NoGens, Gen, NoParts, Part}
 use Rattle.core_ir.specs.Uses.{Avoids, AvoidsRight, AvoidsGens, AvoidsParts}
 use Rattle.core_ir.specs.WellFormed.{Bases, RightBases, ints}
 use Rattle.core_ir.proofs.Edited.{then_same, SameCells, same_cell_at}
@@ -29,8 +29,8 @@ use Rattle.core_loops.specs.Indices.{is_scalar_shape}
 use Rattle.core_norm_steps.proofs.Scalars.{by_row}
 use Rattle.core_inlined_bodies.proofs.Counts.{trans}
 use Rattle.core_cleaning.proofs.Places.{At, RightAt, GensAt, PartsAt, right_at, after_bind}
-use Rattle.core_selections.specs.Vectors.{Selection, is_open_scalar, by_scalar, bind_vector, behind, next, next_right, next_gens, next_parts, vectored, vectored_right, vectored_gens, vectored_parts}
-use Rattle.core_selections.proofs.Bound.{goes, select_of, rises, rises_right, behind_rises}
+use Rattle.core_selections.specs.Vectors.{Selection, by_scalar, bind_vector, behind, next, next_right, vectored, vectored_right, vectored_gens, vectored_parts}
+use Rattle.core_selections.proofs.Bound.{goes, select_of, rises, rises_right}
 
 -- ---- the vectors are not used elsewhere
 
