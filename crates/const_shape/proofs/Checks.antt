@@ -1,5 +1,5 @@
 -- A right side after both steps.
-use Rattle.std.proofs.Common.{◌≡◌, List, [], ◌∷◌, map, refl, sym, ap, ◌∙◌}
+use Rattle.std.proofs.Common.{◌≡◌, List, [], ◌∷◌, refl, sym, ap, ◌∙◌}
 use Rattle.core_ir.specs.Terms.{RightTerm, Plain}
 use Rattle.core_facts.specs.Facts.{Fact, Facts}
 use Rattle.core_cleaning.proofs.Checks.{same_plain_fact}

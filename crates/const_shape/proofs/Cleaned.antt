@@ -1,5 +1,5 @@
 -- The whole pass.
-use Rattle.std.proofs.Common.{◌≡◌, ◌∙◌, All, List, [], ◌∷◌, map, refl}
+use Rattle.std.proofs.Common.{◌∙◌, All, List, [], ◌∷◌, map, refl}
 use Rattle.core_ir.specs.Outcome.{SameHeads, SameOutside}
 use Rattle.core_ir.specs.Terms.{BlockTerm, FunTerm, CoreTerm}
 use Rattle.core_ir.specs.WellFormed.{IsWellFormed}
@@ -9,7 +9,7 @@ use Rattle.core_settled.specs.Called.{called, params_facts}
 use Rattle.core_cleaning.specs.Bodies.{with_bodies}
 use Rattle.core_cleaning.specs.Checks.{simplified, simplified_core}
 use Rattle.core_cleaning.specs.Copies.{forwarded, forwarded_core}
-use Rattle.core_cleaning.specs.Unused.{swept, swept_core, nothing_used}
+use Rattle.core_cleaning.specs.Unused.{swept, swept_core}
 use Rattle.core_cleaning.proofs.Simplified.{simplified_well, simplified_outcome, simplified_settled}
 use Rattle.core_cleaning.proofs.Laws.{forwarded_well, forwarded_outcome, swept_well, swept_outcome}
 use Rattle.const_shape.specs.Cleaned.{cleaned}
@@ -55,5 +55,5 @@ cleaned_outside core =
     let h0 : SameOutside core core = record { groups = refl; main = refl; heads = heads_itself core.functions } in
     let h1 = outside_on (λ (f : FunTerm). simplified (called core) f.body (params_facts f)) core core h0 in
     let h2 = outside_on (λ (f : FunTerm). forwarded f.body (λ x. x)) core one h1 in
-    let h3 = outside_on (λ (f : FunTerm). swept f.body nothing_used) core two h2 in
+    let h3 = outside_on (λ (f : FunTerm). swept (called two) f.body (params_facts f)) core two h2 in
     outside_on (λ (f : FunTerm). simplified (called three) f.body (params_facts f)) core three h3

@@ -1,6 +1,6 @@
 -- One turn of the loops of the walk, and their ends.
-use Rattle.std.proofs.Common.{◌≡◌, ℕ, zero, suc, ◌+◌, ◌-◌, List, [], ◌∷◌, ◌++◌, map, length, Option, refl, sym, ap, ◌∙◌, append_assoc, append-nil, arith}
-use Rattle.std.specs.Prelude.{drop, Result, Ok, Err, IfOk}
+use Rattle.std.proofs.Common.{◌≡◌, ℕ, List, [], ◌∷◌, ◌++◌, map, length, Option, refl, sym, ap, ◌∙◌, append_assoc, append-nil, arith}
+use Rattle.std.specs.Prelude.{Result, Ok, Err, IfOk}
 use Rattle.core_ir.specs.declared.tree.Let.{Let}
 use Rattle.core_ir.specs.declared.tree.CoreGen.{CoreGen}
 use Rattle.core_ir.specs.declared.tree.CorePart.{CorePart}
@@ -14,7 +14,6 @@ use Rattle.core_ir.proofs.Trees.{block_out, block_roll, with_out, with_roll, par
 use Rattle.sac_base.specs.declared.memory.Memory.{Memory}
 use Rattle.core_facts.specs.Facts.{Fact, Facts, shape_fact, note_all, parted_shape, known_shape, right_facts, block_facts}
 use Rattle.core_cleaning.specs.Checks.{simplified, simplified_right, simplified_gens, simplified_parts}
-use Rattle.fact_table.specs.Notes.{Note}
 use Rattle.fact_table.specs.Table.{fact_of}
 use Rattle.const_shape.specs.declared.known.KnownRight.{KnownRight}
 use Rattle.const_shape.specs.Settling.{settled_let, settled_gen, settled_part}

@@ -23,9 +23,10 @@ use std::alloc::Global;
 use unused_bindings::remove_unused;
 
 /// Binds each literal variable of a core by a constant: one whose value is known before the run, from the constants and the known shapes that it comes
-/// from. Checks that cannot fail and copies go, their sources are used in their place, and bindings that are then not used and never fault go.
+/// from. Checks that cannot fail and copies go, their sources are used in their place, and bindings that are then not used and whose right side is known to
+/// have a value go.
 ///
-/// The groups, main, and the types of all functions stay. Of a well-formed core the result is well formed and has the same outcome on arrays, under all
+/// The new core is exactly that of the four passes one after another, as `core_cleaning` defines them. The groups, main, and the types of all functions stay. Of a well-formed core the result is well formed and has the same outcome on arrays, under all
 /// limits. In each function of the result, by what is known in it of its parameters and of the results of calls, each literal variable is bound by a
 /// constant.
 ///
@@ -33,6 +34,7 @@ use unused_bindings::remove_unused;
 ///
 /// `Memory`: there is none for a constant, for what is known of a variable, or for a list.
 pub fn propagate(alloc: Global, core: Core) -> Result<Core, Memory>
+    ensures term { IfOk result (λ new. core_term new ≡ cleaned (core_term core)) }
     ensures outcome { IsWellFormed (core_term core) → IfOk result (λ new. SameOutcomeOnArrays (core_term core) (core_term new)) }
     ensures outside { IfOk result (λ new. SameOutside (core_term core) (core_term new)) }
     ensures well { IsWellFormed (core_term core) → IfOk result (λ new. IsWellFormed (core_term new)) }

@@ -6,7 +6,6 @@ use Rattle.sac_base.specs.declared.base.Base.{Base}
 use Rattle.sac_base.specs.declared.base.Base.TheVariants.{Int, Bool as Truth}
 use Rattle.sac_base.specs.declared.faults.FaultKind.TheVariants.{F6, F7}
 use Rattle.sac_base.specs.declared.site.Site.{Site}
-use Rattle.sac_base.specs.declared.types.ArrayType.{ArrayType}
 use Rattle.sac_base.specs.declared.types.Part.{Part as TypePart}
 use Rattle.sac_base.specs.declared.types.Part.TheVariants as part
 use Rattle.sac_base.specs.Arrays.{ArrayValue, same_base, scalar, vector}

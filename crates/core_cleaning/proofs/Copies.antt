@@ -1,5 +1,5 @@
 -- Sources may be used in the place of copies.
-use Rattle.std.proofs.Common.{◌≡◌, ℕ, Bool, true, false, cond, eqb, List, [], ◌∷◌, ◌++◌, map, length, Option, Some, None, Ok, refl, sym, ap, subst, ◌∙◌}
+use Rattle.std.proofs.Common.{◌≡◌, ℕ, Bool, true, false, cond, eqb, List, [], ◌∷◌, ◌++◌, map, Option, Some, None, Ok, refl, sym, ap, subst, ◌∙◌}
 use Rattle.std.specs.Prelude.{if◌then◌else◌, option_map, option_to_list, zip}
 use Rattle.sac_base.specs.declared.base.Base.{Base}
 use Rattle.sac_base.specs.declared.base.Base.TheVariants.{Int, Bool as Truth}
@@ -24,7 +24,7 @@ use Rattle.core_ir.specs.Terms.{PlainTerm, BlockTerm, RightTerm, GensTerm, Parts
 use Rattle.core_ir.specs.WellFormed.{AllHave, Bases, BlockBases, GensBases, HasBases, LiteralBase, OperationBase, OptionHas, PartedBase, PartedFits, PartsBases, PlainBases, RightBases, base_of, calls_in, calls_in_right, calls_in_gens, calls_in_parts, ints, part_grids}
 use Rattle.core_ir.proofs.Edited.{then_same}
 use Rattle.core_ir.proofs.Splice.{bound_elsewhere}
-use Rattle.core_ir.proofs.Variables.{in_front, in_more, in_neither, not_bound, or_false}
+use Rattle.core_ir.proofs.Variables.{in_front, in_neither, not_bound, or_false}
 use Rattle.core_facts.proofs.Shapes.{ok_same}
 use Rattle.core_subst.specs.Substitution.{plain_with, core_op_with, parted_op_with, gen_head_with}
 use Rattle.core_cleaning.specs.Copies.{source, behind, forwarded, forwarded_right, forwarded_gens, forwarded_parts}

@@ -1,13 +1,15 @@
 -- The laws of whole cores.
-use Rattle.std.proofs.Common.{◌≡◌, List, ◌++◌, sym, refl, subst}
+use Rattle.std.proofs.Common.{List, ◌++◌, sym, refl, subst}
 use Rattle.core_ir.specs.Binders.{bound_in}
 use Rattle.core_ir.specs.Meaning.{no_variables, bind_all}
 use Rattle.core_ir.specs.Outcome.{param_vars}
-use Rattle.core_ir.specs.Terms.{FunTerm, CoreTerm}
+use Rattle.core_ir.specs.Terms.{BlockTerm, FunTerm, CoreTerm}
 use Rattle.core_ir.specs.WellFormed.{Distinct, IsFunction, IsWellFormed, bases, param_bases}
+use Rattle.core_bases.proofs.Bound.{distinct_right}
+use Rattle.core_settled.specs.Called.{called, params_facts}
 use Rattle.core_calls.specs.Arrays.{SameOutcomeOnArrays}
 use Rattle.core_cleaning.specs.Copies.{forwarded, forwarded_core}
-use Rattle.core_cleaning.specs.Unused.{nothing_used, swept, swept_core}
+use Rattle.core_cleaning.specs.Unused.{swept, swept_core}
 use Rattle.core_cleaning.proofs.Bodies.{KeepsForm, KeepsMeaning, well_formed, same_outcome}
 use Rattle.core_cleaning.proofs.Lists.{all_of, distinct_sub, joined}
 use Rattle.core_cleaning.proofs.Copies as copies
@@ -38,20 +40,24 @@ forwarded_outcome core well = same_outcome core (λ (f : FunTerm). forwarded f.b
 
 -- ---- without bindings that are not used
 
-swept_form : (core : CoreTerm) (f : FunTerm) → IsFunction core f → KeepsForm core f (swept f.body nothing_used)
+abbrev swept_in : CoreTerm → FunTerm → BlockTerm
+swept_in core f = swept (called core) f.body (params_facts f)
+
+swept_form : (core : CoreTerm) (f : FunTerm) → IsFunction core f → KeepsForm core f (swept_in core f)
 swept_form core f is = record {
-  once = distinct_sub (joined (all_of (param_vars f)) (unused.bound_less f.body nothing_used)) is.once;
-  scoped = unused.scoped_kept f.body nothing_used (param_vars f) (param_vars f) is.scoped (λ y p. p) (λ y u p. p);
-  agreeing = unused.block_kept core f.body nothing_used (param_bases f) (param_bases f) (bases f.results) is.agreeing (λ y t u p. p);
-  calls = unused.calls_kept f.body nothing_used;
+  once = distinct_sub (joined (all_of (param_vars f)) (unused.bound_less (called core) f.body (params_facts f))) is.once;
+  scoped = unused.scoped_kept (called core) f.body (params_facts f) (param_vars f) (param_vars f) is.scoped (λ y p. p) (λ y u p. p);
+  agreeing = unused.block_kept core (called core) f.body (params_facts f) (param_bases f) (param_bases f) (bases f.results) is.agreeing (λ y t u p. p);
+  calls = unused.calls_kept (called core) f.body (params_facts f);
 }
 
-swept_meaning : (core : CoreTerm) (f : FunTerm) → IsFunction core f → KeepsMeaning core f (swept f.body nothing_used)
+swept_meaning : (core : CoreTerm) (f : FunTerm) → IsFunction core f → KeepsMeaning core f (swept_in core f)
 swept_meaning core f is turns C args typed fit full env sound =
-    unused.block_same C turns f.body nothing_used (bind_all no_variables (param_vars f) args)
+    unused.block_same core C turns typed (called core) fit f.body (param_bases f) (bases f.results) (params_facts f) (bind_all no_variables (param_vars f) args)
+    (record { bases = is.agreeing; once = distinct_right (param_vars f) (bound_in f.body) is.once; full = full; typed = env; sound = sound })
 
 pub swept_well : (core : CoreTerm) → IsWellFormed core → IsWellFormed (swept_core core)
-swept_well core well = well_formed core (λ (f : FunTerm). swept f.body nothing_used) well (swept_form core)
+swept_well core well = well_formed core (swept_in core) well (swept_form core)
 
 pub swept_outcome : (core : CoreTerm) → IsWellFormed core → SameOutcomeOnArrays core (swept_core core)
-swept_outcome core well = same_outcome core (λ (f : FunTerm). swept f.body nothing_used) well (swept_form core) (swept_meaning core)
+swept_outcome core well = same_outcome core (swept_in core) well (swept_form core) (swept_meaning core)

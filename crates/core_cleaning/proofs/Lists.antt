@@ -1,14 +1,13 @@
 -- Lists of variables, and bases of variables that are not bound.
-use Rattle.std.proofs.Common.{◌≡◌, Bool, true, false, ◌||◌, cond, eqb, List, [], ◌∷◌, ◌++◌, Some, refl, sym, ap, ◌∙◌}
+use Rattle.std.proofs.Common.{◌≡◌, Bool, true, false, ◌||◌, cond, eqb, List, [], ◌∷◌, ◌++◌, Some, refl, sym, ◌∙◌}
 use Rattle.std.specs.Prelude.{zip}
 use Rattle.std.proofs.lemmas.Bool.{eq-eqb}
 use Rattle.sac_base.specs.declared.base.Base.{Base}
 use Rattle.sac_base.specs.declared.base.Base.TheVariants.{Int}
 use Rattle.core_ir.specs.declared.tree.Var.{Var}
-use Rattle.core_ir.specs.Binders.{is_in, NoneIn}
-use Rattle.core_ir.specs.Scopes.{AllIn}
+use Rattle.core_ir.specs.Binders.{is_in}
 use Rattle.core_ir.specs.WellFormed.{Bases, Distinct, base_of, ints}
-use Rattle.core_ir.proofs.Variables.{in_front, in_more, in_neither, or_false, same_number}
+use Rattle.core_ir.proofs.Variables.{in_more, or_false, same_number}
 
 pub clash : {A : Type 0} (b : Bool) → b ≡ true → b ≡ false → A
 clash b p q = absurd (let r = sym p ∙ q in cc)

@@ -1,15 +1,14 @@
--- Bindings that are not used and never fault may go.
+-- Bindings that are not used and whose right side is known to have a value may go.
 use Rattle.std.proofs.Common.{◌≡◌, ℕ, Bool, true, false, not, ◌&&◌, ◌||◌, cond, eqb, List, [], ◌∷◌, ◌++◌, map, length, Option, Some, None, Ok, refl, sym, ap, subst, ◌∙◌}
 use Rattle.std.specs.Prelude.{if◌then◌else◌, option_to_list, zip}
 use Rattle.sac_base.specs.declared.base.Base.{Base}
 use Rattle.sac_base.specs.declared.base.Base.TheVariants.{Int, Bool as Truth}
 use Rattle.sac_base.specs.declared.faults.FaultKind.TheVariants.{F6}
-use Rattle.sac_base.specs.declared.grid.Grid1.{Grid1}
 use Rattle.sac_base.specs.declared.site.Site.{Site}
 use Rattle.sac_base.specs.Arrays.{ArrayValue, scalar, vector}
 use Rattle.sac_base.specs.Grids.{members}
 use Rattle.sac_base.specs.Operators.{unary}
-use Rattle.sac_base.specs.Outcomes.{and_then, fault, choose}
+use Rattle.sac_base.specs.Outcomes.{and_then, at_site, fault, choose}
 use Rattle.sac_base.specs.Parts.{condition, dim, shape_vector}
 use Rattle.sac_base.specs.WithLoops.{with_value, each}
 use Rattle.core_ir.specs.declared.tree.Var.{Var}
@@ -20,14 +19,23 @@ use Rattle.core_ir.specs.declared.tree.PartedOp.TheVariants as parted
 use Rattle.core_ir.specs.Binders.{is_in, NoneIn, bound_in, bound_in_right, bound_in_gens, bound_in_parts}
 use Rattle.core_ir.specs.Meaning.{Env, CallMeaning, bind, bind_all, first, loop_value, one, made_of, neutral_fits, cell_form, cell_at, generator, operation, with_index, run, right_value, generators, cells}
 use Rattle.core_ir.specs.Scopes.{AllIn, Scoped, ScopedRight, ScopedGens, ScopedParts, head_uses, op_uses, parted_uses, plain_uses}
-use Rattle.core_ir.specs.Terms.{PlainTerm, BlockTerm, RightTerm, GensTerm, PartsTerm, GenHead, CoreTerm, Gives, Bind, Plain, NoGens, Gen, NoParts, Part}
+use Rattle.core_ir.specs.Terms.{PlainTerm, BlockTerm, RightTerm, GensTerm, PartsTerm, CoreTerm, Gives, Bind, Plain, NoGens, Gen, NoParts, Part}
 use Rattle.core_ir.specs.Uses.{AvoidsAll, Avoids, AvoidsRight, AvoidsGens, AvoidsParts}
 use Rattle.core_ir.specs.WellFormed.{AllHave, Bases, BlockBases, GensBases, HasBases, LiteralBase, OperationBase, OptionHas, PartedBase, PartedFits, PartsBases, PlainBases, RightBases, base_of, calls_in, calls_in_right, calls_in_gens, calls_in_parts, ints, part_grids}
+use Rattle.core_ir.proofs.Edited.{then_same, SameCells, same_cell_at}
 use Rattle.core_ir.proofs.Unused.{drop_unused}
 use Rattle.core_ir.proofs.Variables.{in_front, in_more, in_neither, or_false, or_right}
 use Rattle.core_subst.specs.Names.{used_in, used_in_right, used_in_gens, used_in_parts}
-use Rattle.core_cleaning.specs.Unused.{never_faults, is_unused, also, swept, swept_right, swept_gens, swept_parts}
-use Rattle.core_cleaning.proofs.Lists.{clash, itself, behind_first, in_left, turned, zip_elsewhere, ints_elsewhere, Sub, all_of, joined, behind_all}
+use Rattle.core_facts.specs.Facts.{Facts, CallsFit, DescribeAll, block_facts, in_part, note_all, right_facts, shape_fact}
+use Rattle.core_facts.proofs.Settle.{has_length, loop_same, scalars_full, vector_full}
+use Rattle.core_facts.proofs.Sound.{all_full, block_sound, described, noted, noted_one}
+use Rattle.core_bases.specs.Typed.{CallsTyped, HaveBases}
+use Rattle.core_bases.proofs.Bound.{bound_index, bound_zip, distinct_left, distinct_right, typed_one, values_typed}
+use Rattle.core_bases.proofs.Whole.{block_typed}
+use Rattle.core_index_facts.proofs.Total.{plain_total}
+use Rattle.core_cleaning.proofs.Places.{At, RightAt, GensAt, PartsAt, right_at, after_bind}
+use Rattle.core_cleaning.specs.Unused.{never_faults, is_total, no_indices, is_removable, is_unused, swept, swept_right, swept_gens, swept_parts}
+use Rattle.core_cleaning.proofs.Lists.{clash, itself, behind_first, in_left, turned, zip_elsewhere, Sub, all_of, joined, behind_all}
 
 -- ---- what it says that a binding goes
 
@@ -60,22 +68,22 @@ has_value calls turns (RightTerm.With o gens) s e h = absurd (cc)
 has_value calls turns (RightTerm.Parted frame base cell o parts) s e h = absurd (cc)
 
 -- and calls nothing
-no_calls : (r : RightTerm) → never_faults r ≡ true → calls_in_right r ≡ []
-no_calls (Plain p) h = refl
-no_calls (RightTerm.If x a b) h = absurd (cc)
-no_calls (RightTerm.Loop first start params test body u) h = absurd (cc)
-no_calls (RightTerm.Call g xs) h = absurd (cc)
-no_calls (RightTerm.With o gens) h = absurd (cc)
-no_calls (RightTerm.Parted frame base cell o parts) h = absurd (cc)
+no_calls : (r : RightTerm) (k : Facts) → is_removable r k ≡ true → calls_in_right r ≡ []
+no_calls (Plain p) k h = refl
+no_calls (RightTerm.If x a b) k h = absurd (cc)
+no_calls (RightTerm.Loop first start params test body u) k h = absurd (cc)
+no_calls (RightTerm.Call g xs) k h = absurd (cc)
+no_calls (RightTerm.With o gens) k h = absurd (cc)
+no_calls (RightTerm.Parted frame base cell o parts) k h = absurd (cc)
 
 -- its variable is not used
-unused_by : (xs us : List Var) (used : Var → Bool) (y : Var) → is_unused xs (also us used) ≡ true → is_in y xs ≡ true → is_in y us ≡ false
-unused_by [] us used y h p = absurd (cc)
-unused_by (x ∷ z ∷ zs) us used y h p = absurd (cc)
-unused_by (x ∷ []) us used y h p = go (eqb x.0 y.0) refl
+unused_by : (xs us : List Var) (y : Var) → is_unused xs us ≡ true → is_in y xs ≡ true → is_in y us ≡ false
+unused_by [] us y h p = absurd (cc)
+unused_by (x ∷ z ∷ zs) us y h p = absurd (cc)
+unused_by (x ∷ []) us y h p = go (eqb x.0 y.0) refl
   where
     go : (b : Bool) → eqb x.0 y.0 ≡ b → is_in y us ≡ false
-    go true e = ap (λ z. is_in z us) (sym (Rattle.core_ir.proofs.Variables.same_number x y e)) ∙ (or_false (used x) (is_in x us) (is_false (used x || is_in x us) h)).1
+    go true e = ap (λ z. is_in z us) (sym (Rattle.core_ir.proofs.Variables.same_number x y e)) ∙ is_false (is_in x us) h
     go false e = clash (eqb x.0 y.0 || false) p (λ i. e i || false)
 
 avoids_all : (x : Var) (ys : List Var) → is_in x ys ≡ false → AvoidsAll x ys
@@ -115,54 +123,126 @@ mutual
   avoids_parts x (Part h b rest) n =
       let w = in_neither x (used_in b) (used_in_parts rest) n in (avoids x b w.0, avoids_parts x rest w.1)
 
+-- what is known shows that a right side has a value
+total_value :
+    (core : CoreTerm) (calls : CallMeaning) (turns : ℕ) (r : RightTerm) (s : Site) (g : Bases) (ts : List Base) (k : Facts) (e : Env) → is_total r k ≡ true →
+    RightAt core calls turns g ts k r e → (v : ArrayValue) × (right_value calls turns r s e ≡ Ok (v ∷ []))
+total_value core calls turns (Plain p) s g ts k e h a =
+    let v = plain_total [] [] p g ts k no_indices e refl h a.bases a.typed a.sound (λ x. tt) in (v.0, λ i. one (at_site s (v.1 i)))
+total_value core calls turns (RightTerm.If x b c) s g ts k e h a = absurd (cc)
+total_value core calls turns (RightTerm.Loop first start params test body u) s g ts k e h a = absurd (cc)
+total_value core calls turns (RightTerm.Call group xs) s g ts k e h a = absurd (cc)
+total_value core calls turns (RightTerm.With o gens) s g ts k e h a = absurd (cc)
+total_value core calls turns (RightTerm.Parted frame t cell o parts) s g ts k e h a = absurd (cc)
+
+gone_value :
+    (core : CoreTerm) (calls : CallMeaning) (turns : ℕ) (r : RightTerm) (s : Site) (g : Bases) (ts : List Base) (k : Facts) (e : Env) → is_removable r k ≡ true →
+    RightAt core calls turns g ts k r e → (v : ArrayValue) × (right_value calls turns r s e ≡ Ok (v ∷ []))
+gone_value core calls turns r s g ts k e h a = go (never_faults r) refl
+  where
+    go : (b : Bool) → never_faults r ≡ b → (v : ArrayValue) × (right_value calls turns r s e ≡ Ok (v ∷ []))
+    go true p = has_value calls turns r s e p
+    go false p = total_value core calls turns r s g ts k e (ap (λ b. b || is_total r k) (sym p) ∙ h) a
+
 -- the binding may go
-gone : (calls : CallMeaning) (turns : ℕ) (xs : List Var) (s : Site) (r : RightTerm) (c : BlockTerm) (used : Var → Bool) (e : Env) → (never_faults r && is_unused xs (also (used_in c) used)) ≡ true → run calls turns c e ≡ run calls turns (Bind xs s r c) e
-gone calls turns [] s r c used e h = absurd (let w = both_true (never_faults r) false h in let q = w.1 in cc)
-gone calls turns (x ∷ y ∷ ys) s r c used e h = absurd (let w = both_true (never_faults r) false h in let q = w.1 in cc)
-gone calls turns (x ∷ []) s r c used e h =
-    let w = both_true (never_faults r) (is_unused (x ∷ []) (also (used_in c) used)) h in
-    let v = has_value calls turns r s e w.0 in
-    sym (drop_unused calls turns x s r c e v.0 (avoids x c (unused_by (x ∷ []) (used_in c) used x w.1 (itself x []))) v.1)
+gone :
+    (calls : CallMeaning) (turns : ℕ) (xs : List Var) (s : Site) (r : RightTerm) (c : BlockTerm) (e : Env) → (v : ArrayValue) × (right_value calls turns r s e ≡ Ok (v ∷ [])) →
+    is_unused xs (used_in c) ≡ true → run calls turns c e ≡ run calls turns (Bind xs s r c) e
+gone calls turns [] s r c e v h = absurd (cc)
+gone calls turns (x ∷ y ∷ ys) s r c e v h = absurd (cc)
+gone calls turns (x ∷ []) s r c e v h =
+    sym (drop_unused calls turns x s r c e v.0 (avoids x c (unused_by (x ∷ []) (used_in c) x h (itself x []))) v.1)
 
 -- ---- the meaning
 
-module _ (calls : CallMeaning) (turns : ℕ) where
-  either_same : (b : Bool) (c d : BlockTerm) (e : Env) (answer : Rattle.core_ir.specs.Meaning.Answer) → (b ≡ true → run calls turns c e ≡ answer) → run calls turns d e ≡ answer → run calls turns (if b then c else d) e ≡ answer
-  either_same true c d e answer p q = p refl
-  either_same false c d e answer p q = q
+either_same :
+    (calls : CallMeaning) (turns : ℕ) (b : Bool) (c d : BlockTerm) (e : Env) (answer : Rattle.core_ir.specs.Meaning.Answer) →
+    (b ≡ true → run calls turns c e ≡ answer) → run calls turns d e ≡ answer → run calls turns (if b then c else d) e ≡ answer
+either_same calls turns true c d e answer p q = p refl
+either_same calls turns false c d e answer p q = q
 
+module _ (core : CoreTerm) (calls : CallMeaning) (turns : ℕ) (typed : CallsTyped core calls) (called : ℕ → List (Option (List ℕ))) (fit : CallsFit called calls) where
   mutual
-    pub block_same : (b : BlockTerm) (used : Var → Bool) (e : Env) → run calls turns (swept b used) e ≡ run calls turns b e
-    block_same (Gives xs) used e = refl
-    block_same (Bind xs s r b) used e =
-        let c = swept b used in
-        let behind = also (used_in c) used in
-        either_same (never_faults r && is_unused xs behind) c (Bind xs s (swept_right r behind) c) e (run calls turns (Bind xs s r b) e)
-        (λ h. gone calls turns xs s r c used e h ∙ (λ i. and_then (right_value calls turns r s e) (λ vs. block_same b used (bind_all e xs vs) i)))
-        (λ i. and_then (right_same r s behind e i) (λ vs. block_same b used (bind_all e xs vs) i))
+    pub block_same : (b : BlockTerm) (g : Bases) (ts : List Base) (k : Facts) (e : Env) → At core calls turns g ts k b e → run calls turns (swept called b k) e ≡ run calls turns b e
+    block_same (Gives xs) g ts k e a = refl
+    block_same (Bind xs s r b) g ts k e a =
+        let n = note_all k xs (right_facts called r k) in
+        let c = swept called b n in
+        let behind = used_in c in
+        let here = right_at core calls turns typed called fit xs s r b g ts k e a in
+        let rest = then_same (right_value calls turns r s e) (λ vs. run calls turns c (bind_all e xs vs)) (λ vs. run calls turns b (bind_all e xs vs))
+        (λ vs q. block_same b (zip xs a.bases.0 ++ g) ts n (bind_all e xs vs) (after_bind core calls turns typed called fit xs s r b g ts k e vs a q)) in
+        either_same calls turns (is_removable r k && is_unused xs behind) c (Bind xs s (swept_right called r k) c) e (run calls turns (Bind xs s r b) e)
+        (λ h. let w = both_true (is_removable r k) (is_unused xs behind) h in gone calls turns xs s r c e (gone_value core calls turns r s g a.bases.0 k e w.0 here) w.1 ∙ rest)
+        ((λ i. and_then (right_same r s g a.bases.0 k e here i) (λ vs. run calls turns c (bind_all e xs vs))) ∙ rest)
 
-    right_same : (r : RightTerm) (s : Site) (used : Var → Bool) (e : Env) → right_value calls turns (swept_right r used) s e ≡ right_value calls turns r s e
-    right_same (Plain p) s used e = refl
-    right_same (RightTerm.If x a b) s used e = λ i. choose s (condition (e x)) (block_same a used e i) (block_same b (also (used_in (swept a used)) used) e i)
-    right_same (RightTerm.Loop fb start params test body u) s used e =
-        λ i. loop_value fb turns s u
-        (λ vs. first (block_same test used (bind_all e params vs) i))
-        (λ vs. block_same body (also (used_in (swept test used)) used) (bind_all e params vs) i)
-        (map e start)
-    right_same (RightTerm.Call g xs) s used e = refl
-    right_same (RightTerm.With op gens) s used e = λ i. one (with_value (gens_same gens used e i) (operation op s e))
-    right_same (RightTerm.Parted frame b c o parts) s used e =
-        λ i. one (if neutral_fits (cell_form b c) o e then and_then (each (cell_at (cell_form b c) (parts_same parts used e i)) (members frame)) (λ found. Ok (made_of frame b c o e found)) else fault F6 s)
+    right_same : (r : RightTerm) (s : Site) (g : Bases) (ts : List Base) (k : Facts) (e : Env) → RightAt core calls turns g ts k r e → right_value calls turns (swept_right called r k) s e ≡ right_value calls turns r s e
+    right_same (Plain p) s g ts k e a = refl
+    right_same (RightTerm.If x b c) s g ts k e a =
+        let p = block_same b g ts k e (record { bases = a.bases.1; once = distinct_left (bound_in b) (bound_in c) a.once; full = a.full.0; typed = a.typed; sound = a.sound }) in
+        let q = block_same c g ts k e (record { bases = a.bases.2; once = distinct_right (bound_in b) (bound_in c) a.once; full = a.full.1; typed = a.typed; sound = a.sound }) in
+        λ i. choose s (condition (e x)) (p i) (q i)
+    right_same (RightTerm.Loop fb start params test body u) s g ts k e a =
+        let n = note_all k params [] in
+        let rest = distinct_right params (bound_in test ++ bound_in body) a.once in
+        let p = distinct_left params (bound_in test ++ bound_in body) a.once in
+        sym (loop_same (λ vs. DescribeAll [] vs × HaveBases ts vs) fb turns s u
+        (λ vs. first (run calls turns test (bind_all e params vs))) (λ vs. first (run calls turns (swept called test n) (bind_all e params vs)))
+        (λ vs. run calls turns body (bind_all e params vs)) (λ vs. run calls turns (swept called body n) (bind_all e params vs))
+        (λ vs d. ap first (sym (block_same test (zip params ts ++ g) (Truth ∷ []) n (bind_all e params vs) (record {
+          bases = a.bases.2;
+          once = distinct_left (bound_in test) (bound_in body) rest;
+          full = a.full.0;
+          typed = bound_zip g e params ts vs a.typed p a.bases.1 d.1;
+          sound = noted k e params [] vs a.sound d.0;
+        }))))
+        (λ vs d. sym (block_same body (zip params ts ++ g) ts n (bind_all e params vs) (record {
+          bases = a.bases.3;
+          once = distinct_right (bound_in test) (bound_in body) rest;
+          full = a.full.1;
+          typed = bound_zip g e params ts vs a.typed p a.bases.1 d.1;
+          sound = noted k e params [] vs a.sound d.0;
+        })))
+        (λ vs ws d q. (
+          all_full (block_facts called body n) ws (block_sound calls turns called fit body n (bind_all e params vs) ws a.full.1 (noted k e params [] vs a.sound d.0) q),
+          block_typed core calls turns typed body (zip params ts ++ g) ts (bind_all e params vs) ws a.bases.3 (distinct_right (bound_in test) (bound_in body) rest) (bound_zip g e params ts vs a.typed p a.bases.1 d.1) q,
+        ))
+        (map e start) (all_full (map k start) (map e start) (described k e start a.sound), values_typed g e start ts a.typed a.bases.0))
+    right_same (RightTerm.Call group xs) s g ts k e a = refl
+    right_same (RightTerm.With op gens) s g ts k e a =
+        λ i. one (with_value (gens_same gens g a.bases.0 k e (record { bases = a.bases.1.1; once = a.once; full = a.full; typed = a.typed; sound = a.sound }) i) (operation op s e))
+    right_same (RightTerm.Parted f t shape op parts) s g ts k e a =
+        let same = parts_same parts g t k e (record { bases = a.bases.1; once = a.once; full = a.full; typed = a.typed; sound = a.sound }) in
+        λ i. one (if neutral_fits (cell_form t shape) op e then and_then (each (λ index. same_cell_at (cell_form t shape) _ _ index same i) (members f)) (λ found. Ok (made_of f t shape op e found)) else fault F6 s)
 
-    gens_same : (gs : GensTerm) (used : Var → Bool) (e : Env) → generators calls turns (swept_gens gs used) e ≡ generators calls turns gs e
-    gens_same NoGens used e = refl
-    gens_same (Gen j b rest) used e =
-        λ i. generator j (λ index. first (block_same b used (with_index e j index) i)) e ∷ gens_same rest (also (head_uses j) (also (used_in (swept b used)) used)) e i
+    gens_same : (gs : GensTerm) (g : Bases) (t : Base) (k : Facts) (e : Env) → GensAt core calls turns g t k gs e → generators calls turns (swept_gens called gs k) e ≡ generators calls turns gs e
+    gens_same NoGens g t k e a = refl
+    gens_same (Gen j b rest) g t k e a =
+        let n = note_all k (j.index ∷ j.names) [] in
+        let inner = distinct_right (j.index ∷ j.names) (bound_in b ++ bound_in_gens rest) a.once in
+        let there = gens_same rest g t k e (record { bases = a.bases.5; once = distinct_right (bound_in b) (bound_in_gens rest) inner; full = a.full.1; typed = a.typed; sound = a.sound }) in
+        λ i. generator j (λ index. first (block_same b (ints (j.index ∷ j.names) ++ g) (t ∷ []) n (with_index e j index) (record {
+          bases = a.bases.4;
+          once = distinct_left (bound_in b) (bound_in_gens rest) inner;
+          full = a.full.0;
+          typed = bound_index g e j.index j.names index a.typed (distinct_left (j.index ∷ j.names) (bound_in b ++ bound_in_gens rest) a.once);
+          sound = noted k e (j.index ∷ j.names) [] (vector Int index ∷ map (scalar Int) index) a.sound (vector_full index, scalars_full index);
+        }) i)) e ∷ there i
 
-    parts_same : (ps : PartsTerm) (used : Var → Bool) (e : Env) → cells calls turns (swept_parts ps used) e ≡ cells calls turns ps e
-    parts_same NoParts used e = refl
-    parts_same (Part j b rest) used e =
-        λ i. record { grid = j.grid; site = j.site; cell = λ index. first (block_same b used (bind e j.index (vector Int index)) i) } ∷ parts_same rest (also (used_in (swept b used)) used) e i
+    parts_same : (ps : PartsTerm) (g : Bases) (t : Base) (k : Facts) (e : Env) → PartsAt core calls turns g t k ps e → SameCells (cells calls turns (swept_parts called ps k) e) (cells calls turns ps e)
+    parts_same NoParts g t k e a = tt
+    parts_same (Part j b rest) g t k e a = (
+      refl,
+      refl,
+      (λ index q. ap first (block_same b ((j.index, Int) ∷ g) (t ∷ []) (in_part k j) (bind e j.index (vector Int index)) (record {
+        bases = a.bases.0;
+        once = distinct_left (bound_in b) (bound_in_parts rest) a.once.1;
+        full = a.full.0;
+        typed = typed_one g e j.index Int (vector Int index) a.typed refl;
+        sound = noted_one k e j.index (shape_fact (Some (length j.grid ∷ []))) (vector Int index) a.sound (record { shape = λ i. has_length j.grid index q i ∷ []; literal = tt; full = vector_full index });
+      }))),
+      parts_same rest g t k e (record { bases = a.bases.1; once = distinct_right (bound_in b) (bound_in_parts rest) a.once.1; full = a.full.1; typed = a.typed; sound = a.sound }),
+    )
 
 -- ---- calls
 
@@ -171,30 +251,31 @@ either_calls true c d gs p q = p refl
 either_calls false c d gs p q = q
 
 mutual
-  pub calls_kept : (b : BlockTerm) (used : Var → Bool) → calls_in (swept b used) ≡ calls_in b
-  calls_kept (Gives xs) used = refl
-  calls_kept (Bind xs s r b) used =
-      let c = swept b used in
-      let behind = also (used_in c) used in
-      either_calls (never_faults r && is_unused xs behind) c (Bind xs s (swept_right r behind) c) (calls_in_right r ++ calls_in b)
-      (λ h. calls_kept b used ∙ ap (λ gs. gs ++ calls_in b) (sym (no_calls r (both_true (never_faults r) (is_unused xs behind) h).0)))
-      (λ i. calls_kept_right r behind i ++ calls_kept b used i)
+  pub calls_kept : (called : ℕ → List (Option (List ℕ))) (b : BlockTerm) (k : Facts) → calls_in (swept called b k) ≡ calls_in b
+  calls_kept called (Gives xs) k = refl
+  calls_kept called (Bind xs s r b) k =
+      let n = note_all k xs (right_facts called r k) in
+      let c = swept called b n in
+      let behind = used_in c in
+      either_calls (is_removable r k && is_unused xs behind) c (Bind xs s (swept_right called r k) c) (calls_in_right r ++ calls_in b)
+      (λ h. calls_kept called b n ∙ ap (λ gs. gs ++ calls_in b) (sym (no_calls r k (both_true (is_removable r k) (is_unused xs behind) h).0)))
+      (λ i. calls_kept_right called r k i ++ calls_kept called b n i)
 
-  calls_kept_right : (r : RightTerm) (used : Var → Bool) → calls_in_right (swept_right r used) ≡ calls_in_right r
-  calls_kept_right (Plain p) used = refl
-  calls_kept_right (RightTerm.If x a b) used = λ i. calls_kept a used i ++ calls_kept b (also (used_in (swept a used)) used) i
-  calls_kept_right (RightTerm.Loop first start params test body s) used = λ i. calls_kept test used i ++ calls_kept body (also (used_in (swept test used)) used) i
-  calls_kept_right (RightTerm.Call g xs) used = refl
-  calls_kept_right (RightTerm.With o gens) used = calls_kept_gens gens used
-  calls_kept_right (RightTerm.Parted frame t c o parts) used = calls_kept_parts parts used
+  calls_kept_right : (called : ℕ → List (Option (List ℕ))) (r : RightTerm) (k : Facts) → calls_in_right (swept_right called r k) ≡ calls_in_right r
+  calls_kept_right called (Plain p) k = refl
+  calls_kept_right called (RightTerm.If x a b) k = λ i. calls_kept called a k i ++ calls_kept called b k i
+  calls_kept_right called (RightTerm.Loop first start params test body s) k = λ i. calls_kept called test (note_all k params []) i ++ calls_kept called body (note_all k params []) i
+  calls_kept_right called (RightTerm.Call g xs) k = refl
+  calls_kept_right called (RightTerm.With o gens) k = calls_kept_gens called gens k
+  calls_kept_right called (RightTerm.Parted frame t c o parts) k = calls_kept_parts called parts k
 
-  calls_kept_gens : (gs : GensTerm) (used : Var → Bool) → calls_in_gens (swept_gens gs used) ≡ calls_in_gens gs
-  calls_kept_gens NoGens used = refl
-  calls_kept_gens (Gen h b rest) used = λ i. calls_kept b used i ++ calls_kept_gens rest (also (head_uses h) (also (used_in (swept b used)) used)) i
+  calls_kept_gens : (called : ℕ → List (Option (List ℕ))) (gs : GensTerm) (k : Facts) → calls_in_gens (swept_gens called gs k) ≡ calls_in_gens gs
+  calls_kept_gens called NoGens k = refl
+  calls_kept_gens called (Gen h b rest) k = λ i. calls_kept called b (note_all k (h.index ∷ h.names) []) i ++ calls_kept_gens called rest k i
 
-  calls_kept_parts : (ps : PartsTerm) (used : Var → Bool) → calls_in_parts (swept_parts ps used) ≡ calls_in_parts ps
-  calls_kept_parts NoParts used = refl
-  calls_kept_parts (Part h b rest) used = λ i. calls_kept b used i ++ calls_kept_parts rest (also (used_in (swept b used)) used) i
+  calls_kept_parts : (called : ℕ → List (Option (List ℕ))) (ps : PartsTerm) (k : Facts) → calls_in_parts (swept_parts called ps k) ≡ calls_in_parts ps
+  calls_kept_parts called NoParts k = refl
+  calls_kept_parts called (Part h b rest) k = λ i. calls_kept called b (in_part k h) i ++ calls_kept_parts called rest k i
 
 -- ---- bound variables
 
@@ -203,34 +284,35 @@ either_sub true c d ys p q = p
 either_sub false c d ys p q = q
 
 mutual
-  pub bound_less : (b : BlockTerm) (used : Var → Bool) → Sub (bound_in (swept b used)) (bound_in b)
-  bound_less (Gives xs) used = all_of []
-  bound_less (Bind xs s r b) used =
-      let c = swept b used in
-      let behind = also (used_in c) used in
-      either_sub (never_faults r && is_unused xs behind) c (Bind xs s (swept_right r behind) c) (xs ++ (bound_in_right r ++ bound_in b))
-      (behind_all xs (behind_all (bound_in_right r) (bound_less b used)))
-      (joined (all_of xs) (joined (bound_less_right r behind) (bound_less b used)))
+  pub bound_less : (called : ℕ → List (Option (List ℕ))) (b : BlockTerm) (k : Facts) → Sub (bound_in (swept called b k)) (bound_in b)
+  bound_less called (Gives xs) k = all_of []
+  bound_less called (Bind xs s r b) k =
+      let n = note_all k xs (right_facts called r k) in
+      let c = swept called b n in
+      let behind = used_in c in
+      either_sub (is_removable r k && is_unused xs behind) c (Bind xs s (swept_right called r k) c) (xs ++ (bound_in_right r ++ bound_in b))
+      (behind_all xs (behind_all (bound_in_right r) (bound_less called b n)))
+      (joined (all_of xs) (joined (bound_less_right called r k) (bound_less called b n)))
 
-  bound_less_right : (r : RightTerm) (used : Var → Bool) → Sub (bound_in_right (swept_right r used)) (bound_in_right r)
-  bound_less_right (Plain p) used = all_of []
-  bound_less_right (RightTerm.If x a b) used = joined (bound_less a used) (bound_less b (also (used_in (swept a used)) used))
-  bound_less_right (RightTerm.Loop first start params test body s) used = joined (all_of params) (joined (bound_less test used) (bound_less body (also (used_in (swept test used)) used)))
-  bound_less_right (RightTerm.Call g xs) used = all_of []
-  bound_less_right (RightTerm.With o gens) used = bound_less_gens gens used
-  bound_less_right (RightTerm.Parted frame t c o parts) used = bound_less_parts parts used
+  bound_less_right : (called : ℕ → List (Option (List ℕ))) (r : RightTerm) (k : Facts) → Sub (bound_in_right (swept_right called r k)) (bound_in_right r)
+  bound_less_right called (Plain p) k = all_of []
+  bound_less_right called (RightTerm.If x a b) k = joined (bound_less called a k) (bound_less called b k)
+  bound_less_right called (RightTerm.Loop first start params test body s) k = joined (all_of params) (joined (bound_less called test (note_all k params [])) (bound_less called body (note_all k params [])))
+  bound_less_right called (RightTerm.Call g xs) k = all_of []
+  bound_less_right called (RightTerm.With o gens) k = bound_less_gens called gens k
+  bound_less_right called (RightTerm.Parted frame t c o parts) k = bound_less_parts called parts k
 
-  bound_less_gens : (gs : GensTerm) (used : Var → Bool) → Sub (bound_in_gens (swept_gens gs used)) (bound_in_gens gs)
-  bound_less_gens NoGens used = all_of []
-  bound_less_gens (Gen h b rest) used = joined (all_of (h.index ∷ h.names)) (joined (bound_less b used) (bound_less_gens rest (also (head_uses h) (also (used_in (swept b used)) used))))
+  bound_less_gens : (called : ℕ → List (Option (List ℕ))) (gs : GensTerm) (k : Facts) → Sub (bound_in_gens (swept_gens called gs k)) (bound_in_gens gs)
+  bound_less_gens called NoGens k = all_of []
+  bound_less_gens called (Gen h b rest) k = joined (all_of (h.index ∷ h.names)) (joined (bound_less called b (note_all k (h.index ∷ h.names) [])) (bound_less_gens called rest k))
 
-  bound_less_parts : (ps : PartsTerm) (used : Var → Bool) → Sub (bound_in_parts (swept_parts ps used)) (bound_in_parts ps)
-  bound_less_parts NoParts used = all_of []
-  bound_less_parts (Part h b rest) used = joined (all_of (h.index ∷ [])) (joined (bound_less b used) (bound_less_parts rest (also (used_in (swept b used)) used)))
+  bound_less_parts : (called : ℕ → List (Option (List ℕ))) (ps : PartsTerm) (k : Facts) → Sub (bound_in_parts (swept_parts called ps k)) (bound_in_parts ps)
+  bound_less_parts called NoParts k = all_of []
+  bound_less_parts called (Part h b rest) k = joined (all_of (h.index ∷ [])) (joined (bound_less called b (in_part k h)) (bound_less_parts called rest k))
 
-grids_kept : (ps : PartsTerm) (used : Var → Bool) → part_grids (swept_parts ps used) ≡ part_grids ps
-grids_kept NoParts used = refl
-grids_kept (Part h b rest) used = ap (λ gs. h.grid ∷ gs) (grids_kept rest (also (used_in (swept b used)) used))
+grids_kept : (called : ℕ → List (Option (List ℕ))) (ps : PartsTerm) (k : Facts) → part_grids (swept_parts called ps k) ≡ part_grids ps
+grids_kept called NoParts k = refl
+grids_kept called (Part h b rest) k = ap (λ gs. h.grid ∷ gs) (grids_kept called rest k)
 
 -- ---- scopes: what is used stays in scope
 
@@ -288,72 +370,71 @@ either_scoped true c d scope new h p q = p refl h
 either_scoped false c d scope new h p q = q h
 
 mutual
-  pub scoped_kept : (b : BlockTerm) (used : Var → Bool) (scope new : List Var) → Scoped scope b → Within new scope → Serves (used_in (swept b used)) scope new → Scoped new (swept b used)
-  scoped_kept (Gives xs) used scope new h w u = all_served xs scope new u h
-  scoped_kept (Bind xs s r b) used scope new h w u =
-      let c = swept b used in
-      let behind = also (used_in c) used in
-      let t = never_faults r && is_unused xs behind in
-      either_scoped t c (Bind xs s (swept_right r behind) c) scope new u
-      (λ m v. scoped_kept b used (xs ++ scope) new h.2 (λ y p. in_front y xs scope (w y p))
-      (serves_without xs (used_in c) scope new (λ y p. unused_by xs (used_in c) used y (both_true (never_faults r) (is_unused xs behind) m).1 p) v))
+  pub scoped_kept : (called : ℕ → List (Option (List ℕ))) (b : BlockTerm) (k : Facts) (scope new : List Var) → Scoped scope b → Within new scope → Serves (used_in (swept called b k)) scope new → Scoped new (swept called b k)
+  scoped_kept called (Gives xs) k scope new h w u = all_served xs scope new u h
+  scoped_kept called (Bind xs s r b) k scope new h w u =
+      let n = note_all k xs (right_facts called r k) in
+      let c = swept called b n in
+      let behind = used_in c in
+      let t = is_removable r k && is_unused xs behind in
+      either_scoped t c (Bind xs s (swept_right called r k) c) scope new u
+      (λ m v. scoped_kept called b n (xs ++ scope) new h.2 (λ y p. in_front y xs scope (w y p))
+      (serves_without xs (used_in c) scope new (λ y p. unused_by xs (used_in c) y (both_true (is_removable r k) (is_unused xs behind) m).1 p) v))
       (λ v. (
-        scoped_kept_right r behind scope new h.0 w (serves_left (used_in_right (swept_right r behind)) (used_in c) scope new v),
+        scoped_kept_right called r k scope new h.0 w (serves_left (used_in_right (swept_right called r k)) (used_in c) scope new v),
         none_within xs new scope w h.1,
-        scoped_kept b used (xs ++ scope) (xs ++ new) h.2 (within_below xs new scope w) (serves_below xs (used_in c) scope new (serves_right (used_in_right (swept_right r behind)) (used_in c) scope new v)),
+        scoped_kept called b n (xs ++ scope) (xs ++ new) h.2 (within_below xs new scope w) (serves_below xs (used_in c) scope new (serves_right (used_in_right (swept_right called r k)) (used_in c) scope new v)),
       ))
 
-  scoped_kept_right : (r : RightTerm) (used : Var → Bool) (scope new : List Var) → ScopedRight scope r → Within new scope → Serves (used_in_right (swept_right r used)) scope new → ScopedRight new (swept_right r used)
-  scoped_kept_right (Plain p) used scope new h w u = all_served (plain_uses p) scope new u h
-  scoped_kept_right (RightTerm.If x a b) used scope new h w u =
-      let a' = used_in (swept a used) in
-      let b' = used_in (swept b (also a' used)) in
+  scoped_kept_right : (called : ℕ → List (Option (List ℕ))) (r : RightTerm) (k : Facts) (scope new : List Var) → ScopedRight scope r → Within new scope → Serves (used_in_right (swept_right called r k)) scope new → ScopedRight new (swept_right called r k)
+  scoped_kept_right called (Plain p) k scope new h w u = all_served (plain_uses p) scope new u h
+  scoped_kept_right called (RightTerm.If x a b) k scope new h w u =
+      let a' = used_in (swept called a k) in
+      let b' = used_in (swept called b k) in
       let v = serves_right (x ∷ []) (a' ++ b') scope new u in (
         u x (itself x (a' ++ b')) h.0,
-        scoped_kept a used scope new h.1 w (serves_left a' b' scope new v),
-        scoped_kept b (also a' used) scope new h.2 w (serves_right a' b' scope new v),
+        scoped_kept called a k scope new h.1 w (serves_left a' b' scope new v),
+        scoped_kept called b k scope new h.2 w (serves_right a' b' scope new v),
       )
-  scoped_kept_right (RightTerm.Loop first start params test body s) used scope new h w u =
-      let t = used_in (swept test used) in
-      let b = used_in (swept body (also t used)) in
+  scoped_kept_right called (RightTerm.Loop first start params test body s) k scope new h w u =
+      let t = used_in (swept called test (note_all k params [])) in
+      let b = used_in (swept called body (note_all k params [])) in
       let v = serves_right start (t ++ b) scope new u in
       let inside = within_below params new scope w in (
         all_served start scope new (serves_left start (t ++ b) scope new u) h.0,
         none_within params new scope w h.1,
-        scoped_kept test used (params ++ scope) (params ++ new) h.2 inside (serves_below params t scope new (serves_left t b scope new v)),
-        scoped_kept body (also t used) (params ++ scope) (params ++ new) h.3 inside (serves_below params b scope new (serves_right t b scope new v)),
+        scoped_kept called test (note_all k params []) (params ++ scope) (params ++ new) h.2 inside (serves_below params t scope new (serves_left t b scope new v)),
+        scoped_kept called body (note_all k params []) (params ++ scope) (params ++ new) h.3 inside (serves_below params b scope new (serves_right t b scope new v)),
       )
-  scoped_kept_right (RightTerm.Call g xs) used scope new h w u = all_served xs scope new u h
-  scoped_kept_right (RightTerm.With o gens) used scope new h w u =
-      let us = used_in_gens (swept_gens gens used) in
-      (all_served (op_uses o) scope new (serves_left (op_uses o) us scope new u) h.0, scoped_kept_gens gens used scope new h.1 w (serves_right (op_uses o) us scope new u))
-  scoped_kept_right (RightTerm.Parted f t c o parts) used scope new h w u =
-      let us = used_in_parts (swept_parts parts used) in
-      (all_served (parted_uses o) scope new (serves_left (parted_uses o) us scope new u) h.0, scoped_kept_parts parts used scope new h.1 w (serves_right (parted_uses o) us scope new u))
+  scoped_kept_right called (RightTerm.Call g xs) k scope new h w u = all_served xs scope new u h
+  scoped_kept_right called (RightTerm.With o gens) k scope new h w u =
+      let us = used_in_gens (swept_gens called gens k) in
+      (all_served (op_uses o) scope new (serves_left (op_uses o) us scope new u) h.0, scoped_kept_gens called gens k scope new h.1 w (serves_right (op_uses o) us scope new u))
+  scoped_kept_right called (RightTerm.Parted f t c o parts) k scope new h w u =
+      let us = used_in_parts (swept_parts called parts k) in
+      (all_served (parted_uses o) scope new (serves_left (parted_uses o) us scope new u) h.0, scoped_kept_parts called parts k scope new h.1 w (serves_right (parted_uses o) us scope new u))
 
-  scoped_kept_gens : (gs : GensTerm) (used : Var → Bool) (scope new : List Var) → ScopedGens scope gs → Within new scope → Serves (used_in_gens (swept_gens gs used)) scope new → ScopedGens new (swept_gens gs used)
-  scoped_kept_gens NoGens used scope new h w u = tt
-  scoped_kept_gens (Gen j b rest) used scope new h w u =
+  scoped_kept_gens : (called : ℕ → List (Option (List ℕ))) (gs : GensTerm) (k : Facts) (scope new : List Var) → ScopedGens scope gs → Within new scope → Serves (used_in_gens (swept_gens called gs k)) scope new → ScopedGens new (swept_gens called gs k)
+  scoped_kept_gens called NoGens k scope new h w u = tt
+  scoped_kept_gens called (Gen j b rest) k scope new h w u =
       let xs = j.index ∷ j.names in
-      let c = used_in (swept b used) in
-      let later = also (head_uses j) (also c used) in
-      let us = used_in_gens (swept_gens rest later) in
+      let c = used_in (swept called b (note_all k (j.index ∷ j.names) [])) in
+      let us = used_in_gens (swept_gens called rest k) in
       let v = serves_right (head_uses j) (c ++ us) scope new u in (
         all_served (head_uses j) scope new (serves_left (head_uses j) (c ++ us) scope new u) h.0,
         none_within xs new scope w h.1,
-        scoped_kept b used (xs ++ scope) (xs ++ new) h.2 (within_below xs new scope w) (serves_below xs c scope new (serves_left c us scope new v)),
-        scoped_kept_gens rest later scope new h.3 w (serves_right c us scope new v),
+        scoped_kept called b (note_all k (j.index ∷ j.names) []) (xs ++ scope) (xs ++ new) h.2 (within_below xs new scope w) (serves_below xs c scope new (serves_left c us scope new v)),
+        scoped_kept_gens called rest k scope new h.3 w (serves_right c us scope new v),
       )
 
-  scoped_kept_parts : (ps : PartsTerm) (used : Var → Bool) (scope new : List Var) → ScopedParts scope ps → Within new scope → Serves (used_in_parts (swept_parts ps used)) scope new → ScopedParts new (swept_parts ps used)
-  scoped_kept_parts NoParts used scope new h w u = tt
-  scoped_kept_parts (Part j b rest) used scope new h w u =
-      let c = used_in (swept b used) in
-      let later = also c used in
-      let us = used_in_parts (swept_parts rest later) in (
+  scoped_kept_parts : (called : ℕ → List (Option (List ℕ))) (ps : PartsTerm) (k : Facts) (scope new : List Var) → ScopedParts scope ps → Within new scope → Serves (used_in_parts (swept_parts called ps k)) scope new → ScopedParts new (swept_parts called ps k)
+  scoped_kept_parts called NoParts k scope new h w u = tt
+  scoped_kept_parts called (Part j b rest) k scope new h w u =
+      let c = used_in (swept called b (in_part k j)) in
+      let us = used_in_parts (swept_parts called rest k) in (
         not_within j.index new scope w h.0,
-        scoped_kept b used (j.index ∷ scope) (j.index ∷ new) h.1 (within_below (j.index ∷ []) new scope w) (serves_below (j.index ∷ []) c scope new (serves_left c us scope new u)),
-        scoped_kept_parts rest later scope new h.2 w (serves_right c us scope new u),
+        scoped_kept called b (in_part k j) (j.index ∷ scope) (j.index ∷ new) h.1 (within_below (j.index ∷ []) new scope w) (serves_below (j.index ∷ []) c scope new (serves_left c us scope new u)),
+        scoped_kept_parts called rest k scope new h.2 w (serves_right c us scope new u),
       )
 
 -- ---- bases: what is used keeps its base
@@ -443,68 +524,68 @@ module _ (core : CoreTerm) where
   either_based false c d g new ts h p q = q h
 
   mutual
-    pub block_kept : (b : BlockTerm) (used : Var → Bool) (g new : Bases) (ts : List Base) → BlockBases core g b ts → Has (used_in (swept b used)) g new → BlockBases core new (swept b used) ts
-    block_kept (Gives xs) used g new ts h u = bases_kept g new xs ts (each_has xs g new u) h
-    block_kept (Bind xs s r b) used g new ts h u =
-        let c = swept b used in
-        let behind = also (used_in c) used in
-        let t = never_faults r && is_unused xs behind in
-        either_based t c (Bind xs s (swept_right r behind) c) g new ts u
-        (λ m v. block_kept b used (zip xs h.0 ++ g) new ts h.1.2
-        (has_without xs h.0 (used_in c) g new (λ y p. unused_by xs (used_in c) used y (both_true (never_faults r) (is_unused xs behind) m).1 p) v))
+    pub block_kept : (called : ℕ → List (Option (List ℕ))) (b : BlockTerm) (k : Facts) (g new : Bases) (ts : List Base) → BlockBases core g b ts → Has (used_in (swept called b k)) g new → BlockBases core new (swept called b k) ts
+    block_kept called (Gives xs) k g new ts h u = bases_kept g new xs ts (each_has xs g new u) h
+    block_kept called (Bind xs s r b) k g new ts h u =
+        let n = note_all k xs (right_facts called r k) in
+        let c = swept called b n in
+        let behind = used_in c in
+        let t = is_removable r k && is_unused xs behind in
+        either_based t c (Bind xs s (swept_right called r k) c) g new ts u
+        (λ m v. block_kept called b n (zip xs h.0 ++ g) new ts h.1.2
+        (has_without xs h.0 (used_in c) g new (λ y p. unused_by xs (used_in c) y (both_true (is_removable r k) (is_unused xs behind) m).1 p) v))
         (λ v. (
           h.0,
           (
-            right_kept r behind g new h.0 h.1.0 (has_left (used_in_right (swept_right r behind)) (used_in c) g new v),
+            right_kept called r k g new h.0 h.1.0 (has_left (used_in_right (swept_right called r k)) (used_in c) g new v),
             h.1.1,
-            block_kept b used (zip xs h.0 ++ g) (zip xs h.0 ++ new) ts h.1.2 (has_below (zip xs h.0) g new (used_in c) (has_right (used_in_right (swept_right r behind)) (used_in c) g new v)),
+            block_kept called b n (zip xs h.0 ++ g) (zip xs h.0 ++ new) ts h.1.2 (has_below (zip xs h.0) g new (used_in c) (has_right (used_in_right (swept_right called r k)) (used_in c) g new v)),
           ),
         ))
 
-    right_kept : (r : RightTerm) (used : Var → Bool) (g new : Bases) (ts : List Base) → RightBases core g r ts → Has (used_in_right (swept_right r used)) g new → RightBases core new (swept_right r used) ts
-    right_kept (Plain p) used g new ts h u = plain_kept g new p ts (each_has (plain_uses p) g new u) h
-    right_kept (RightTerm.If x a b) used g new ts h u =
-        let a' = used_in (swept a used) in
-        let b' = used_in (swept b (also a' used)) in
+    right_kept : (called : ℕ → List (Option (List ℕ))) (r : RightTerm) (k : Facts) (g new : Bases) (ts : List Base) → RightBases core g r ts → Has (used_in_right (swept_right called r k)) g new → RightBases core new (swept_right called r k) ts
+    right_kept called (Plain p) k g new ts h u = plain_kept g new p ts (each_has (plain_uses p) g new u) h
+    right_kept called (RightTerm.If x a b) k g new ts h u =
+        let a' = used_in (swept called a k) in
+        let b' = used_in (swept called b k) in
         let v = has_right (x ∷ []) (a' ++ b') g new u in (
           u x Truth (itself x (a' ++ b')) h.0,
-          block_kept a used g new ts h.1 (has_left a' b' g new v),
-          block_kept b (also a' used) g new ts h.2 (has_right a' b' g new v),
+          block_kept called a k g new ts h.1 (has_left a' b' g new v),
+          block_kept called b k g new ts h.2 (has_right a' b' g new v),
         )
-    right_kept (RightTerm.Loop first start params test body s) used g new ts h u =
-        let t = used_in (swept test used) in
-        let b = used_in (swept body (also t used)) in
+    right_kept called (RightTerm.Loop first start params test body s) k g new ts h u =
+        let t = used_in (swept called test (note_all k params [])) in
+        let b = used_in (swept called body (note_all k params [])) in
         let v = has_right start (t ++ b) g new u in (
           bases_kept g new start ts (each_has start g new (has_left start (t ++ b) g new u)) h.0,
           h.1,
-          block_kept test used (zip params ts ++ g) (zip params ts ++ new) (Truth ∷ []) h.2 (has_below (zip params ts) g new t (has_left t b g new v)),
-          block_kept body (also t used) (zip params ts ++ g) (zip params ts ++ new) ts h.3 (has_below (zip params ts) g new b (has_right t b g new v)),
+          block_kept called test (note_all k params []) (zip params ts ++ g) (zip params ts ++ new) (Truth ∷ []) h.2 (has_below (zip params ts) g new t (has_left t b g new v)),
+          block_kept called body (note_all k params []) (zip params ts ++ g) (zip params ts ++ new) ts h.3 (has_below (zip params ts) g new b (has_right t b g new v)),
         )
-    right_kept (RightTerm.Call group xs) used g new ts h u = (h.0, (bases_kept g new xs h.0 (each_has xs g new u) h.1.0, h.1.1))
-    right_kept (RightTerm.With o gens) used g new ts h u =
-        let us = used_in_gens (swept_gens gens used) in (
+    right_kept called (RightTerm.Call group xs) k g new ts h u = (h.0, (bases_kept g new xs h.0 (each_has xs g new u) h.1.0, h.1.1))
+    right_kept called (RightTerm.With o gens) k g new ts h u =
+        let us = used_in_gens (swept_gens called gens k) in (
           h.0,
           (
             operation_kept g new o h.0 (each_has (op_uses o) g new (has_left (op_uses o) us g new u)) h.1.0,
-            gens_kept gens used g new h.0 h.1.1 (has_right (op_uses o) us g new u),
+            gens_kept called gens k g new h.0 h.1.1 (has_right (op_uses o) us g new u),
             h.1.2,
           ),
         )
-    right_kept (RightTerm.Parted frame t cell o parts) used g new ts h u =
-        let us = used_in_parts (swept_parts parts used) in (
+    right_kept called (RightTerm.Parted frame t cell o parts) k g new ts h u =
+        let us = used_in_parts (swept_parts called parts k) in (
           parted_kept g new o t (each_has (parted_uses o) g new (has_left (parted_uses o) us g new u)) h.0,
-          parts_kept parts used g new t h.1 (has_right (parted_uses o) us g new u),
-          subst (λ gs. PartedFits o frame cell gs) (sym (grids_kept parts used)) h.2,
+          parts_kept called parts k g new t h.1 (has_right (parted_uses o) us g new u),
+          subst (λ gs. PartedFits o frame cell gs) (sym (grids_kept called parts k)) h.2,
           h.3,
         )
 
-    gens_kept : (gs : GensTerm) (used : Var → Bool) (g new : Bases) (t : Base) → GensBases core g gs t → Has (used_in_gens (swept_gens gs used)) g new → GensBases core new (swept_gens gs used) t
-    gens_kept NoGens used g new t h u = tt
-    gens_kept (Gen j b rest) used g new t h u =
+    gens_kept : (called : ℕ → List (Option (List ℕ))) (gs : GensTerm) (k : Facts) (g new : Bases) (t : Base) → GensBases core g gs t → Has (used_in_gens (swept_gens called gs k)) g new → GensBases core new (swept_gens called gs k) t
+    gens_kept called NoGens k g new t h u = tt
+    gens_kept called (Gen j b rest) k g new t h u =
         let xs = j.index ∷ j.names in
-        let c = used_in (swept b used) in
-        let later = also (head_uses j) (also c used) in
-        let us = used_in_gens (swept_gens rest later) in
+        let c = used_in (swept called b (note_all k (j.index ∷ j.names) [])) in
+        let us = used_in_gens (swept_gens called rest k) in
         let v = has_right (head_uses j) (c ++ us) g new u in
         let low = option_to_list j.lower in
         let up = option_to_list j.upper in
@@ -517,16 +598,15 @@ module _ (core : CoreTerm) where
           option_kept g new j.upper Int (has_left up (step ++ width) g new heads') h.1,
           option_kept g new j.step Int (has_left step width g new heads'') h.2,
           option_kept g new j.width Int (has_right step width g new heads'') h.3,
-          block_kept b used (ints xs ++ g) (ints xs ++ new) (t ∷ []) h.4 (has_below (ints xs) g new c (has_left c us g new v)),
-          gens_kept rest later g new t h.5 (has_right c us g new v),
+          block_kept called b (note_all k (j.index ∷ j.names) []) (ints xs ++ g) (ints xs ++ new) (t ∷ []) h.4 (has_below (ints xs) g new c (has_left c us g new v)),
+          gens_kept called rest k g new t h.5 (has_right c us g new v),
         )
 
-    parts_kept : (ps : PartsTerm) (used : Var → Bool) (g new : Bases) (t : Base) → PartsBases core g ps t → Has (used_in_parts (swept_parts ps used)) g new → PartsBases core new (swept_parts ps used) t
-    parts_kept NoParts used g new t h u = tt
-    parts_kept (Part j b rest) used g new t h u =
-        let c = used_in (swept b used) in
-        let later = also c used in
-        let us = used_in_parts (swept_parts rest later) in (
-          block_kept b used ((j.index, Int) ∷ g) ((j.index, Int) ∷ new) (t ∷ []) h.0 (has_below ((j.index, Int) ∷ []) g new c (has_left c us g new u)),
-          parts_kept rest later g new t h.1 (has_right c us g new u),
+    parts_kept : (called : ℕ → List (Option (List ℕ))) (ps : PartsTerm) (k : Facts) (g new : Bases) (t : Base) → PartsBases core g ps t → Has (used_in_parts (swept_parts called ps k)) g new → PartsBases core new (swept_parts called ps k) t
+    parts_kept called NoParts k g new t h u = tt
+    parts_kept called (Part j b rest) k g new t h u =
+        let c = used_in (swept called b (in_part k j)) in
+        let us = used_in_parts (swept_parts called rest k) in (
+          block_kept called b (in_part k j) ((j.index, Int) ∷ g) ((j.index, Int) ∷ new) (t ∷ []) h.0 (has_below ((j.index, Int) ∷ []) g new c (has_left c us g new u)),
+          parts_kept called rest k g new t h.1 (has_right c us g new u),
         )

@@ -1,5 +1,5 @@
 -- Checks that cannot fail are copies.
-use Rattle.std.specs.Prelude.{ℕ, Bool, true, false, if◌then◌else◌, List, [], ◌∷◌, Option, Some, None}
+use Rattle.std.specs.Prelude.{ℕ, Bool, false, if◌then◌else◌, List, [], ◌∷◌, Option, Some, None}
 use Rattle.sac_base.specs.declared.types.ArrayType.{ArrayType}
 use Rattle.sac_base.specs.declared.types.Part.{Part as TypePart}
 use Rattle.sac_base.specs.Types.{has_shape}

@@ -6,8 +6,6 @@ use Rattle.core_facts.specs.Settled.{IsSettled}
 use Rattle.core_calls.specs.Arrays.{SameOutcomeOnArrays}
 use Rattle.core_settled.specs.Called.{called, params_facts}
 use Rattle.core_cleaning.specs.Checks.{simplified_core}
-use Rattle.core_cleaning.specs.Copies.{forwarded_core}
-use Rattle.core_cleaning.specs.Unused.{swept_core}
 
 -- a well-formed core stays well formed
 abbrev pub StaysWellFormed : (CoreTerm → CoreTerm) → Type 0

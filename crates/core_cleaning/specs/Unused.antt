@@ -1,10 +1,13 @@
--- Bindings that are not used and cannot fault go.
-use Rattle.std.specs.Prelude.{Bool, true, false, not, ◌||◌, ◌&&◌, if◌then◌else◌, List, [], ◌∷◌}
+-- Bindings go that are not used and whose right side is known to have a value.
+use Rattle.std.specs.Prelude.{ℕ, Bool, true, false, not, ◌||◌, ◌&&◌, if◌then◌else◌, List, [], ◌∷◌, Option}
+use Rattle.sac_base.specs.declared.site.Site.{Site}
 use Rattle.core_ir.specs.declared.tree.Var.{Var}
 use Rattle.core_ir.specs.Binders.{is_in}
-use Rattle.core_ir.specs.Scopes.{head_uses}
 use Rattle.core_ir.specs.Terms.{PlainTerm, BlockTerm, RightTerm, GensTerm, PartsTerm, FunTerm, CoreTerm, Gives, Bind, Plain, NoGens, Gen, NoParts, Part}
 use Rattle.core_subst.specs.Names.{used_in}
+use Rattle.core_facts.specs.Facts.{Facts, note_all, right_facts, in_part}
+use Rattle.core_settled.specs.Called.{called as called_in, params_facts}
+use Rattle.core_loops.specs.Indices.{IndexFacts, Other, total_plain}
 use Rattle.core_cleaning.specs.Bodies.{with_bodies}
 
 -- the right side has a value whatever its operands are
@@ -16,44 +19,53 @@ never_faults (Plain (PlainTerm.Dim x)) = true
 never_faults (Plain (PlainTerm.ShapeOf x)) = true
 never_faults r = false
 
--- the only variable of the list is not used
-abbrev pub is_unused : List Var → (Var → Bool) → Bool
-is_unused (x ∷ []) used = not (used x)
+-- nothing is known beside the index of a part
+abbrev pub no_indices : IndexFacts
+no_indices x = Other
+
+-- what is known of its operands shows that the right side has a value
+abbrev pub is_total : RightTerm → Facts → Bool
+is_total (Plain p) k = total_plain [] p k no_indices
+is_total r k = false
+
+-- the right side has a value, whatever its operands are or by what is known of them
+abbrev pub is_removable : RightTerm → Facts → Bool
+is_removable r k = never_faults r || is_total r k
+
+-- the only variable of the list is none of these
+abbrev pub is_unused : List Var → List Var → Bool
+is_unused (x ∷ []) used = not (is_in x used)
 is_unused xs used = false
 
--- these variables are used too
-abbrev pub also : List Var → (Var → Bool) → Var → Bool
-also xs used x = used x || is_in x xs
+-- a binding before a block, unless it may go and its variable is not used there
+abbrev pub bind_if_needed : Bool → List Var → Site → RightTerm → BlockTerm → BlockTerm
+bind_if_needed may_go xs s r b = if may_go && is_unused xs (used_in b) then b else Bind xs s r b
 
--- The block without bindings that never fault and whose variable is not used behind them, in this block or by `used`. Seen from the end, so that
--- what only such bindings use is not used either.
-abbrev mutual
-  pub swept : BlockTerm → (Var → Bool) → BlockTerm
-  swept (Gives xs) used = Gives xs
-  swept (Bind xs s r b) used =
-      if never_faults r && is_unused xs (also (used_in (swept b used)) used) then swept b used
-      else Bind xs s (swept_right r (also (used_in (swept b used)) used)) (swept b used)
+-- The block without bindings whose right side has a value, by what is known there, and whose variable is not used behind them. Seen from the end, so
+-- that what only such bindings use is not used either.
+module _ (called : ℕ → List (Option (List ℕ))) where
+  abbrev mutual
+    pub swept : BlockTerm → Facts → BlockTerm
+    swept (Gives xs) k = Gives xs
+    swept (Bind xs s r b) k = bind_if_needed (is_removable r k) xs s (swept_right r k) (swept b (note_all k xs (right_facts called r k)))
 
-  pub swept_right : RightTerm → (Var → Bool) → RightTerm
-  swept_right (Plain p) used = Plain p
-  swept_right (RightTerm.If x a b) used = RightTerm.If x (swept a used) (swept b (also (used_in (swept a used)) used))
-  swept_right (RightTerm.Loop first start params test body s) used =
-      RightTerm.Loop first start params (swept test used) (swept body (also (used_in (swept test used)) used)) s
-  swept_right (RightTerm.Call g xs) used = RightTerm.Call g xs
-  swept_right (RightTerm.With o gens) used = RightTerm.With o (swept_gens gens used)
-  swept_right (RightTerm.Parted frame base cell o parts) used = RightTerm.Parted frame base cell o (swept_parts parts used)
+    pub swept_right : RightTerm → Facts → RightTerm
+    swept_right (Plain p) k = Plain p
+    swept_right (RightTerm.If x a b) k = RightTerm.If x (swept a k) (swept b k)
+    swept_right (RightTerm.Loop first start params test body s) k =
+        RightTerm.Loop first start params (swept test (note_all k params [])) (swept body (note_all k params [])) s
+    swept_right (RightTerm.Call g xs) k = RightTerm.Call g xs
+    swept_right (RightTerm.With o gens) k = RightTerm.With o (swept_gens gens k)
+    swept_right (RightTerm.Parted frame base cell o parts) k = RightTerm.Parted frame base cell o (swept_parts parts k)
 
-  pub swept_gens : GensTerm → (Var → Bool) → GensTerm
-  swept_gens NoGens used = NoGens
-  swept_gens (Gen h b rest) used = Gen h (swept b used) (swept_gens rest (also (head_uses h) (also (used_in (swept b used)) used)))
+    pub swept_gens : GensTerm → Facts → GensTerm
+    swept_gens NoGens k = NoGens
+    swept_gens (Gen h b rest) k = Gen h (swept b (note_all k (h.index ∷ h.names) [])) (swept_gens rest k)
 
-  pub swept_parts : PartsTerm → (Var → Bool) → PartsTerm
-  swept_parts NoParts used = NoParts
-  swept_parts (Part h b rest) used = Part h (swept b used) (swept_parts rest (also (used_in (swept b used)) used))
-
-abbrev pub nothing_used : Var → Bool
-nothing_used x = false
+    pub swept_parts : PartsTerm → Facts → PartsTerm
+    swept_parts NoParts k = NoParts
+    swept_parts (Part h b rest) k = Part h (swept b (in_part k h)) (swept_parts rest k)
 
 -- the whole core
 abbrev pub swept_core : CoreTerm → CoreTerm
-swept_core core = with_bodies (λ (f : FunTerm). swept f.body nothing_used) core
+swept_core core = with_bodies (λ (f : FunTerm). swept (called_in core) f.body (params_facts f)) core

@@ -1,4 +1,4 @@
-//! Laws: checks that cannot fail are copies, uses of copies are uses of their sources, and unused bindings that never fault go.
+//! Laws: checks that cannot fail are copies, uses of copies are uses of their sources, and unused bindings go that are known to have a value.
 #![tactic(auto)]
 
 ghost use Rattle.core_cleaning.specs.Checks.{simplified_core};
@@ -19,7 +19,7 @@ pub fn sources_stand_for_copies()
     ensures outcome { KeepsTheOutcome forwarded_core }
 {}
 
-/// Law: bindings that are not used and never fault may go.
+/// Law: bindings may go that are not used and whose right side is known to have a value.
 pub fn unused_bindings_go()
     ensures well { StaysWellFormed swept_core }
     ensures outcome { KeepsTheOutcome swept_core }

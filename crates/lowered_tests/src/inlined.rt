@@ -55,17 +55,22 @@ fn literal_variables_are_bound_by_constants(rt: HostRuntime) {
     assert!(rt; has_text(alloc, cleaned_of(alloc, SQUARES), SQUARES_CLEANED));
 }
 
+// An operator and a selection that are not used and have values go. A selection out of range stays, used or not.
 const FIRST: &str =
-    "inline int first(int[3] a) { rank = dim(a); return (a[0]); } int main(int[3] x) { return (first(x)); }";
+    "inline int first(int[3] a) { rank = dim(a); sum = a[2] + a; far = a[3]; return (a[0]); } int main(int[3] x) { return (first(x)); }";
 
 const FIRST_CLEANED: &str = "first v0
-  v2 = constant 0
-  v3 = select v0 v2
-  gives v3
+  v5 = constant 3
+  v6 = select v0 v5
+  v7 = constant 0
+  v8 = select v0 v7
+  gives v8
 main v0
-  v4 = constant 0
-  v5 = select v0 v4
-  gives v5
+  v7 = constant 3
+  v8 = select v0 v7
+  v9 = constant 0
+  v10 = select v0 v9
+  gives v10
 ";
 
 #[test]

@@ -1,2 +1,6 @@
+mod Backward
+mod Index
+mod Loops
+mod Rights
 mod Sets
-mod Steps
+mod Turns

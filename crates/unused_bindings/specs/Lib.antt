@@ -1,1 +1,4 @@
+pub mod Passed
 pub mod Swept
+pub mod Total
+pub mod Uses

@@ -1,37 +1,48 @@
--- A binding, a generator, a part and a function alone, without bindings that are not used and never fault.
-use Rattle.std.specs.Prelude.{◌≡◌, ℕ, Bool, ◌&&◌, if◌then◌else◌, List, reverse}
-use Rattle.std.specs.Ordering.{nat_cmp}
-use Rattle.std.specs.BTreeSet.{BTreeSet, contains}
+-- A binding, a generator, a part and a function alone, without bindings that are not used and whose right side is known to have a value.
+use Rattle.std.specs.Prelude.{◌≡◌, ℕ, Bool, ◌&&◌, ◌||◌, not, List, [], ◌∷◌, reverse, Option}
 use Rattle.core_ir.specs.declared.tree.Var.{Var}
-use Rattle.core_ir.specs.Terms.{BlockTerm, LetTerm, GenTerm, PartTerm, FunTerm, Bind, chain}
+use Rattle.core_ir.specs.Terms.{PlainTerm, BlockTerm, RightTerm, LetTerm, GenTerm, PartTerm, FunTerm, Plain, chain}
+use Rattle.core_facts.specs.Facts.{Facts, is_some, note_all, in_part}
+use Rattle.core_loops.specs.Indices.{Other, is_division, no_zero, may_be_row, in_range}
+use Rattle.core_settled.specs.Called.{params_facts}
 use Rattle.core_subst.specs.Names.{used_in}
-use Rattle.core_cleaning.specs.Unused.{also, is_unused, never_faults, nothing_used, swept, swept_right}
+use Rattle.core_cleaning.specs.Unused.{never_faults, bind_if_needed, swept, swept_right}
+use Rattle.unused_bindings.specs.Uses.{among}
 
--- the variables whose numbers are in the set
-abbrev pub used_of : BTreeSet ℕ → Var → Bool
-used_of numbers x = contains nat_cmp numbers x.0
+-- whether the right side is known to have a value, where the shape of its value is known to be this
+abbrev pub removable_shaped : Option (List ℕ) → RightTerm → Facts → Bool
+removable_shaped shape (Plain (PlainTerm.Binary o x y)) k = is_some shape && (not (is_division o) || no_zero (k y).literal)
+removable_shaped shape (Plain (PlainTerm.Literal xs)) k = may_be_row shape
+removable_shaped shape (Plain (PlainTerm.Select x y)) k = in_range [] (k x).shape Other (k y).literal
+removable_shaped shape r k = never_faults r
 
-abbrev pub swept_let : LetTerm → (Var → Bool) → LetTerm
-swept_let l used = record l { right = swept_right l.right used }
+module _ (called : ℕ → List (Option (List ℕ))) where
+  abbrev pub swept_let : LetTerm → Facts → LetTerm
+  swept_let l k = record l { right = swept_right called l.right k }
 
--- a binding before a block that is swept
-abbrev pub before_one : LetTerm → BlockTerm → (Var → Bool) → BlockTerm
-before_one l c used =
-    if never_faults l.right && is_unused l.targets (also (used_in c) used) then c
-    else Bind l.targets l.site (swept_right l.right (also (used_in c) used)) c
+  abbrev pub swept_gen : GenTerm → Facts → GenTerm
+  swept_gen g k = record g { body = swept called g.body (note_all k (g.head.index ∷ g.head.names) []) }
 
--- With this binding before them the bindings that are kept, the latest in the block first, become others, whatever stands behind them. What they use
--- was used before, and is used now.
-abbrev pub IsStep : LetTerm → List LetTerm → List LetTerm → (Var → Bool) → (Var → Bool) → Type 0
+  abbrev pub swept_part : PartTerm → Facts → PartTerm
+  swept_part p k = record p { body = swept called p.body (in_part k p.head) }
+
+  abbrev pub swept_function : FunTerm → FunTerm
+  swept_function f = record f { body = swept called f.body (params_facts f) }
+
+-- a binding, and whether it may go where its variable is not used
+pub record PassedTerm : Type 0 where
+  pub binding : LetTerm
+  pub may_go : Bool
+
+-- bindings before a block, without those that may go and whose variable is not used behind them
+abbrev pub needed_before : List PassedTerm → BlockTerm → BlockTerm
+needed_before [] end = end
+needed_before (l ∷ ls) end = bind_if_needed l.may_go l.binding.targets l.binding.site l.binding.right (needed_before ls end)
+
+-- With this binding before them the bindings that are needed, the latest in the block first, become others, whatever stands behind them; and where it was
+-- known what is used there, it is known now.
+abbrev pub IsStep : PassedTerm → List LetTerm → List LetTerm → (Var → Bool) → (Var → Bool) → Type 0
 IsStep l old new was is =
-    (end : BlockTerm) (used : Var → Bool) → was ≡ also (used_in (chain (reverse old) end)) used
-    → (chain (reverse new) end ≡ before_one l (chain (reverse old) end) used) × (is ≡ also (used_in (chain (reverse new) end)) used)
-
-abbrev pub swept_gen : GenTerm → (Var → Bool) → GenTerm
-swept_gen g used = record g { body = swept g.body used }
-
-abbrev pub swept_part : PartTerm → (Var → Bool) → PartTerm
-swept_part p used = record p { body = swept p.body used }
-
-abbrev pub swept_function : FunTerm → FunTerm
-swept_function f = record f { body = swept f.body nothing_used }
+    (end : BlockTerm) → was ≡ among (used_in (chain (reverse old) end))
+    → (chain (reverse new) end ≡ bind_if_needed l.may_go l.binding.targets l.binding.site l.binding.right (chain (reverse old) end))
+    × (is ≡ among (used_in (chain (reverse new) end)))

@@ -5,16 +5,19 @@ ghost use Rattle.core_ir.specs.View.{core_term, fun_term};
 ghost use Rattle.core_ir.specs.WellFormed.{IsWellFormed};
 ghost use Rattle.core_calls.specs.Arrays.{SameOutcomeOnArrays};
 ghost use Rattle.core_cleaning.specs.Unused.{swept_core};
+ghost use Rattle.plain_facts.specs.Called.{shapes_of};
 ghost use Rattle.unused_bindings.specs.Swept.{swept_function};
 
 use crate::walk::in_block;
 use core_ir::{Core, CoreFun};
+use fact_table::FactTable;
+use plain_facts::{CalledShapes, learn_params};
 use sac_base::Memory;
 use std::alloc::Global;
-use std::collections::BTreeSet;
 
-/// Takes out of each function of a core the bindings that are not used and never fault: constants, copies, operators of one operand, `Dim` and `ShapeOf`.
-/// What only such bindings use is not used either.
+/// Takes out of each function of a core the bindings that are not used and whose right side is known to have a value: constants, copies, operators of one
+/// operand, `Dim` and `ShapeOf`; operators of two operands whose known shapes fit, but `/` and `%` only by literals without a zero; literals of one known
+/// shape; selections from a known shape at a literal index in range. What only such bindings use is not used either.
 ///
 /// The new core is exactly the one that `core_cleaning` defines. Of a well-formed core it is well formed and has the same outcome on arrays, under all
 /// limits.
@@ -33,12 +36,13 @@ pub fn remove_unused(alloc: Global, core: Core) -> Result<Core, Memory>
 fn in_core(alloc: Global, core: Core) -> Result<Core, Memory>
     ensures { IfOk result (λ new. core_term new ≡ swept_core (core_term core)) }
 {
+    let called = CalledShapes::of_core(alloc, &core)?;
     let Core {
         functions,
         groups,
         main,
     } = core;
-    let functions = in_functions(alloc, functions)?;
+    let functions = in_functions(alloc, functions, &called)?;
     Ok(Core {
         functions,
         groups,
@@ -46,20 +50,25 @@ fn in_core(alloc: Global, core: Core) -> Result<Core, Memory>
     })
 }
 
-fn in_functions(alloc: Global, functions: Vec<CoreFun>) -> Result<Vec<CoreFun>, Memory>
-    ensures { IfOk result (λ new. map fun_term new.items ≡ map swept_function (map fun_term functions.items)) }
+fn in_functions(
+    alloc: Global,
+    functions: Vec<CoreFun>,
+    called: &CalledShapes,
+) -> Result<Vec<CoreFun>, Memory>
+    ensures { IfOk result (λ new. map fun_term new.items ≡ map (swept_function (shapes_of called.now)) (map fun_term functions.items)) }
 {
     let mut swept = Vec::new(alloc);
     for function in functions {
-        swept.push(in_function(alloc, function)?)?;
+        swept.push(in_function(alloc, function, called)?)?;
     }
     Ok(swept)
 }
 
-fn in_function(alloc: Global, function: CoreFun) -> Result<CoreFun, Memory>
-    ensures { IfOk result (λ new. fun_term new ≡ swept_function (fun_term function)) }
+fn in_function(alloc: Global, function: CoreFun, called: &CalledShapes) -> Result<CoreFun, Memory>
+    ensures { IfOk result (λ new. fun_term new ≡ swept_function (shapes_of called.now) (fun_term function)) }
 {
-    let mut used = BTreeSet::new(alloc);
+    let mut table = FactTable::new(alloc);
+    learn_params(&function, &mut table)?;
     let CoreFun {
         name,
         site,
@@ -69,7 +78,7 @@ fn in_function(alloc: Global, function: CoreFun) -> Result<CoreFun, Memory>
         body,
         ends,
     } = function;
-    let body = in_block(alloc, body, &mut used)?;
+    let body = in_block(alloc, body, called, &mut table)?.block;
     Ok(CoreFun {
         name,
         site,

@@ -1,7 +1,11 @@
-//! Dead binding elimination: bindings that are not used and never fault go.
+//! Dead binding elimination: bindings go that are not used and whose right side is known to have a value.
 #![tactic(auto)]
 
 mod functions;
+mod needed;
+mod right;
+mod swept;
+mod total;
 mod used;
 mod walk;
 

@@ -1,17 +1,25 @@
-//! Variables that are used behind a place, as the set of their numbers.
+//! Variables that are used, as the set of their numbers.
 
-ghost use Rattle.std.specs.Prelude.{◌≡◌, ◌&&◌, ◌++◌, OnOk, option_to_list};
-ghost use Rattle.core_ir.specs.View.{let_term, right_term};
-ghost use Rattle.core_cleaning.specs.Unused.{also, is_unused, never_faults};
-ghost use Rattle.unused_bindings.specs.Swept.{used_of};
+ghost use Rattle.std.specs.Prelude.{◌≡◌, ◌++◌, IfOk, OnOk, option_to_list};
+ghost use Rattle.unused_bindings.specs.Uses.{used_of, among, either, is_not_used};
 
-use core_ir::{Let, Right, Var};
+use core_ir::Var;
 use sac_base::Memory;
+use std::alloc::Global;
 use std::collections::BTreeSet;
+
+/// The set of these variables.
+pub fn set_of(alloc: Global, vars: &[Var]) -> Result<BTreeSet<u32>, Memory>
+    ensures { IfOk result (λ used. used_of used ≡ among vars.now) }
+{
+    let mut used = BTreeSet::new(alloc);
+    add_all(&mut used, vars)?;
+    Ok(used)
+}
 
 /// These variables are used too.
 pub fn add_all(used: &mut BTreeSet<u32>, vars: &[Var]) -> Result<(), Memory>
-    ensures { OnOk result (used_of used.new ≡ also vars.now (used_of used.old)) }
+    ensures { OnOk result (used_of used.new ≡ either (used_of used.old) (among vars.now)) }
 {
     for var in vars {
         used.insert(var.0)?;
@@ -27,8 +35,8 @@ pub fn add_head(
     step: Option<Var>,
     width: Option<Var>,
 ) -> Result<(), Memory>
-    ensures { OnOk result (used_of used.new
-        ≡ also (option_to_list lower ++ (option_to_list upper ++ (option_to_list step ++ option_to_list width))) (used_of used.old)) }
+    ensures { OnOk result (used_of used.new ≡ either (used_of used.old)
+        (among (option_to_list lower ++ (option_to_list upper ++ (option_to_list step ++ option_to_list width))))) }
 {
     add_option(used, lower)?;
     add_option(used, upper)?;
@@ -37,7 +45,7 @@ pub fn add_head(
 }
 
 fn add_option(used: &mut BTreeSet<u32>, var: Option<Var>) -> Result<(), Memory>
-    ensures { OnOk result (used_of used.new ≡ also (option_to_list var) (used_of used.old)) }
+    ensures { OnOk result (used_of used.new ≡ either (used_of used.old) (among (option_to_list var))) }
 {
     match var {
         Some(x) => add_all(used, &[x]),
@@ -45,24 +53,30 @@ fn add_option(used: &mut BTreeSet<u32>, var: Option<Var>) -> Result<(), Memory>
     }
 }
 
-/// The binding never faults, and its variable is not used.
-pub fn may_go(binding: &Let, used: &BTreeSet<u32>) -> bool
-    ensures { result ≡ (never_faults (let_term binding.now).right && is_unused binding.now.targets.items (used_of used.now)) }
+/// Those of both. The smaller set is put into the greater one.
+pub fn united(a: BTreeSet<u32>, b: BTreeSet<u32>) -> Result<BTreeSet<u32>, Memory>
+    ensures { IfOk result (λ both. used_of both ≡ either (used_of a) (used_of b)) }
 {
-    never_fails(&binding.right) && are_unused(&binding.targets, used)
+    if a.len() < b.len() {
+        appended(b, a)
+    } else {
+        appended(a, b)
+    }
 }
 
-fn never_fails(right: &Right) -> bool
-    ensures { result ≡ never_faults (right_term right.now) }
+fn appended(more: BTreeSet<u32>, few: BTreeSet<u32>) -> Result<BTreeSet<u32>, Memory>
+    ensures first { IfOk result (λ both. used_of both ≡ either (used_of more) (used_of few)) }
+    ensures last { IfOk result (λ both. used_of both ≡ either (used_of few) (used_of more)) }
 {
-    matches!(
-        right,
-        Right::Const(_) | Right::Copy(_) | Right::Unary(_, _) | Right::Dim(_) | Right::ShapeOf(_)
-    )
+    let mut both = more;
+    let mut rest = few;
+    both.append(&mut rest)?;
+    Ok(both)
 }
 
-fn are_unused(vars: &[Var], used: &BTreeSet<u32>) -> bool
-    ensures { result ≡ is_unused vars.now (used_of used.now) }
+/// The only variable is not used.
+pub fn are_unused(vars: &[Var], used: &BTreeSet<u32>) -> bool
+    ensures { result ≡ is_not_used vars.now (used_of used.now) }
 {
     vars.len() == 1 && !used.contains(&vars[0].0)
 }

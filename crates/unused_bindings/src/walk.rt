@@ -1,76 +1,102 @@
-//! One walk over a block, from its end.
+//! One walk over a block: what is known forward, what is used from the end.
 
-ghost use Rattle.std.specs.Prelude.{◌≡◌, IfOk, OnOk, map};
-ghost use Rattle.core_ir.specs.Scopes.{head_uses};
+ghost use Rattle.std.specs.Prelude.{◌≡◌, ◌-◌, IfOk, OnOk, map, drop, length};
 ghost use Rattle.core_ir.specs.View.{block_term, let_term, right_term, with_term, gen_term, parted_term, part_term};
-ghost use Rattle.core_subst.specs.Names.{used_in, used_in_right};
-ghost use Rattle.core_cleaning.specs.Unused.{also, swept, swept_right};
-ghost use Rattle.unused_bindings.specs.Swept.{used_of, IsStep, swept_gen, swept_part};
+ghost use Rattle.core_facts.specs.Facts.{note_all, block_facts, right_facts};
+ghost use Rattle.core_cleaning.specs.Unused.{is_removable, swept, swept_right};
+ghost use Rattle.fact_table.specs.Table.{fact_of, facts_of};
+ghost use Rattle.plain_facts.specs.Called.{shapes_of};
+ghost use Rattle.unused_bindings.specs.Swept.{swept_let, swept_gen, swept_part};
 
-use crate::used::{add_all, add_head, may_go};
+use crate::needed::needed_block;
+use crate::right::{call, conditional, parted_loop, plain, repeated, with_loop};
+use crate::swept::{SweptBlock, SweptGen, SweptLet, SweptPart, SweptRight};
+use crate::used::add_head;
 use core_ir::{Block, CoreGen, CorePart, Let, PartedLoop, Right, WithLoop};
+use fact_table::FactTable;
+use plain_facts::{CalledShapes, forget, forget_index, known_of, learn_all, learn_index};
 use sac_base::Memory;
 use std::alloc::Global;
-use std::collections::BTreeSet;
 
-/// Takes the bindings out of a block that never fault and whose variable is not used behind them. What the new block uses is used too.
+/// Takes the bindings out of a block whose variable is not used behind them and whose right side is known to have a value.
+///
+/// The table has what is known before the block, and is left as it was.
 #[cycle(sweeping)]
-pub fn in_block(alloc: Global, block: Block, used: &mut BTreeSet<u32>) -> Result<Block, Memory>
-    ensures swept { IfOk result (λ b. block_term b ≡ swept (block_term block) (used_of used.old)) }
-    ensures used { IfOk result (λ b. used_of used.new ≡ also (used_in (block_term b)) (used_of used.old)) }
+pub fn in_block(
+    alloc: Global,
+    block: Block,
+    called: &CalledShapes,
+    table: &mut FactTable,
+) -> Result<SweptBlock, Memory>
+    ensures swept { IfOk result (λ new. block_term new.block ≡ swept (shapes_of called.now) (block_term block) (facts_of table.old)) }
+    ensures known { IfOk result (λ new. map fact_of new.results.items ≡ block_facts (shapes_of called.now) (block_term block) (facts_of table.old)) }
+    ensures table { OnOk result (table.new ≡ table.old) }
 {
     let Block { lets, results } = block;
-    let mut lets = lets;
-    let mut kept = Vec::new(alloc);
-    add_all(used, &results)?;
-    while let Some(binding) = lets.pop() {
-        in_binding(alloc, binding, used, &mut kept)?;
+    let before = table.mark();
+    let mut passed = Vec::new(alloc);
+    for binding in lets {
+        passed.push(pass_binding(alloc, binding, called, table)?)?;
     }
-    kept.reverse();
-    Ok(Block {
-        lets: kept,
-        results,
-    })
+    let known = known_of(alloc, table, &results)?;
+    table.undo(before);
+    needed_block(alloc, passed, results, known)
 }
 
-/// Puts a binding behind those that are kept, the latest in the block first, unless it may go.
+/// The table learns what the right side tells of the targets.
 #[cycle(sweeping)]
-fn in_binding(
+fn pass_binding(
     alloc: Global,
     binding: Let,
-    used: &mut BTreeSet<u32>,
-    kept: &mut Vec<Let>,
-) -> Result<(), Memory>
-    ensures { OnOk result (IsStep (let_term binding) (map let_term kept.old.items) (map let_term kept.new.items) (used_of used.old) (used_of used.new)) }
+    called: &CalledShapes,
+    table: &mut FactTable,
+) -> Result<SweptLet, Memory>
+    ensures swept { IfOk result (λ l. let_term l.binding ≡ swept_let (shapes_of called.now) (let_term binding) (facts_of table.old)) }
+    ensures value { IfOk result (λ l. l.may_go ≡ is_removable (let_term binding).right (facts_of table.old)) }
+    ensures learned { OnOk result (facts_of table.new
+        ≡ note_all (facts_of table.old) (let_term binding).targets (right_facts (shapes_of called.now) (let_term binding).right (facts_of table.old))) }
+    ensures earlier { OnOk result (drop (length table.new - length table.old) table.new ≡ table.old) }
 {
-    if may_go(&binding, used) {
-        return Ok(());
-    }
     let Let {
         targets,
         site,
         right,
     } = binding;
-    let right = in_right(alloc, right, used)?;
-    kept.push(Let {
-        targets,
-        site,
+    let SweptRight {
         right,
-    })?;
-    Ok(())
+        used,
+        values,
+        has_value,
+    } = in_right(alloc, right, called, table)?;
+    learn_all(table, &targets, values)?;
+    Ok(SweptLet {
+        binding: Let {
+            targets,
+            site,
+            right,
+        },
+        used,
+        may_go: has_value,
+    })
 }
 
 #[cycle(sweeping)]
-fn in_right(alloc: Global, right: Right, used: &mut BTreeSet<u32>) -> Result<Right, Memory>
-    ensures swept { IfOk result (λ r. right_term r ≡ swept_right (right_term right) (used_of used.old)) }
-    ensures used { IfOk result (λ r. used_of used.new ≡ also (used_in_right (right_term r)) (used_of used.old)) }
+fn in_right(
+    alloc: Global,
+    right: Right,
+    called: &CalledShapes,
+    table: &mut FactTable,
+) -> Result<SweptRight, Memory>
+    ensures swept { IfOk result (λ new. right_term new.right ≡ swept_right (shapes_of called.now) (right_term right) (facts_of table.old)) }
+    ensures known { IfOk result (λ new. map fact_of new.values.items ≡ right_facts (shapes_of called.now) (right_term right) (facts_of table.old)) }
+    ensures value { IfOk result (λ new. new.has_value ≡ is_removable (right_term right) (facts_of table.old)) }
+    ensures table { OnOk result (table.new ≡ table.old) }
 {
     match right {
         Right::If { cond, yes, no } => {
-            let yes = in_block(alloc, yes, used)?;
-            let no = in_block(alloc, no, used)?;
-            add_all(used, &[cond])?;
-            Ok(Right::If { cond, yes, no })
+            let yes = in_block(alloc, yes, called, table)?;
+            let no = in_block(alloc, no, called, table)?;
+            conditional(alloc, cond, yes, no)
         }
         Right::Loop {
             first_body,
@@ -80,46 +106,57 @@ fn in_right(alloc: Global, right: Right, used: &mut BTreeSet<u32>) -> Result<Rig
             body,
             test_site,
         } => {
-            let test = in_block(alloc, test, used)?;
-            let body = in_block(alloc, body, used)?;
-            add_all(used, &start)?;
-            Ok(Right::Loop {
+            let outer = table.mark();
+            forget(alloc, table, &params)?;
+            let test = in_block(alloc, test, called, table)?;
+            let body = in_block(alloc, body, called, table)?;
+            table.undo(outer);
+            repeated(
                 first_body,
                 start,
                 params,
                 test,
                 body,
                 test_site,
-            })
+                Vec::new(alloc),
+            )
         }
-        Right::With(w) => Ok(Right::With(in_with(alloc, w, used)?)),
-        Right::Parted(p) => Ok(Right::Parted(in_parted(alloc, p, used)?)),
-        simple => {
-            add_all(used, simple.operands().as_slice())?;
-            Ok(simple)
-        }
+        Right::Call { group, args } => call(alloc, group, args, called.facts(alloc, group)?),
+        Right::With(w) => in_with(alloc, w, called, table),
+        Right::Parted(p) => in_parted(alloc, p, called, table),
+        other => plain(alloc, other, table),
     }
 }
 
 #[cycle(sweeping)]
-fn in_with(alloc: Global, with: WithLoop, used: &mut BTreeSet<u32>) -> Result<WithLoop, Memory>
-    ensures swept { IfOk result (λ w. with_term w ≡ swept_right (with_term with) (used_of used.old)) }
-    ensures used { IfOk result (λ w. used_of used.new ≡ also (used_in_right (with_term w)) (used_of used.old)) }
+fn in_with(
+    alloc: Global,
+    with: WithLoop,
+    called: &CalledShapes,
+    table: &mut FactTable,
+) -> Result<SweptRight, Memory>
+    ensures swept { IfOk result (λ new. right_term new.right ≡ swept_right (shapes_of called.now) (with_term with) (facts_of table.old)) }
+    ensures known { IfOk result (λ new. map fact_of new.values.items ≡ right_facts (shapes_of called.now) (with_term with) (facts_of table.old)) }
+    ensures value { IfOk result (λ new. new.has_value ≡ is_removable (with_term with) (facts_of table.old)) }
+    ensures table { OnOk result (table.new ≡ table.old) }
 {
     let WithLoop { gens, op } = with;
     let mut swept = Vec::new(alloc);
     for generator in gens {
-        swept.push(in_gen(alloc, generator, used)?)?;
+        swept.push(in_gen(alloc, generator, called, table)?)?;
     }
-    add_all(used, op.operands().as_slice())?;
-    Ok(WithLoop { gens: swept, op })
+    with_loop(alloc, op, swept)
 }
 
 #[cycle(sweeping)]
-fn in_gen(alloc: Global, generator: CoreGen, used: &mut BTreeSet<u32>) -> Result<CoreGen, Memory>
-    ensures swept { IfOk result (λ g. gen_term g ≡ swept_gen (gen_term generator) (used_of used.old)) }
-    ensures used { IfOk result (λ g. used_of used.new
-        ≡ also (head_uses (gen_term g).head) (also (used_in (gen_term g).body) (used_of used.old))) }
+fn in_gen(
+    alloc: Global,
+    generator: CoreGen,
+    called: &CalledShapes,
+    table: &mut FactTable,
+) -> Result<SweptGen, Memory>
+    ensures swept { IfOk result (λ new. gen_term new.generator ≡ swept_gen (shapes_of called.now) (gen_term generator) (facts_of table.old)) }
+    ensures table { OnOk result (table.new ≡ table.old) }
 {
     let CoreGen {
         lower,
@@ -133,19 +170,26 @@ fn in_gen(alloc: Global, generator: CoreGen, used: &mut BTreeSet<u32>) -> Result
         body,
         site,
     } = generator;
-    let body = in_block(alloc, body, used)?;
-    add_head(used, lower, upper, step, width)?;
-    Ok(CoreGen {
-        lower,
-        lower_closed,
-        upper,
-        upper_closed,
-        step,
-        width,
-        index,
-        names,
-        body,
-        site,
+    let outer = table.mark();
+    forget_index(alloc, table, index, &names)?;
+    let body = in_block(alloc, body, called, table)?;
+    table.undo(outer);
+    let mut used = body.used;
+    add_head(&mut used, lower, upper, step, width)?;
+    Ok(SweptGen {
+        generator: CoreGen {
+            lower,
+            lower_closed,
+            upper,
+            upper_closed,
+            step,
+            width,
+            index,
+            names,
+            body: body.block,
+            site,
+        },
+        used,
     })
 }
 
@@ -153,10 +197,13 @@ fn in_gen(alloc: Global, generator: CoreGen, used: &mut BTreeSet<u32>) -> Result
 fn in_parted(
     alloc: Global,
     parted: PartedLoop,
-    used: &mut BTreeSet<u32>,
-) -> Result<PartedLoop, Memory>
-    ensures swept { IfOk result (λ p. parted_term p ≡ swept_right (parted_term parted) (used_of used.old)) }
-    ensures used { IfOk result (λ p. used_of used.new ≡ also (used_in_right (parted_term p)) (used_of used.old)) }
+    called: &CalledShapes,
+    table: &mut FactTable,
+) -> Result<SweptRight, Memory>
+    ensures swept { IfOk result (λ new. right_term new.right ≡ swept_right (shapes_of called.now) (parted_term parted) (facts_of table.old)) }
+    ensures known { IfOk result (λ new. map fact_of new.values.items ≡ right_facts (shapes_of called.now) (parted_term parted) (facts_of table.old)) }
+    ensures value { IfOk result (λ new. new.has_value ≡ is_removable (parted_term parted) (facts_of table.old)) }
+    ensures table { OnOk result (table.new ≡ table.old) }
 {
     let PartedLoop {
         frame,
@@ -167,28 +214,32 @@ fn in_parted(
     } = parted;
     let mut swept = Vec::new(alloc);
     for part in parts {
-        swept.push(in_part(alloc, part, used)?)?;
+        swept.push(in_part(alloc, part, called, table)?)?;
     }
-    add_all(used, op.operands().as_slice())?;
-    Ok(PartedLoop {
-        frame,
-        base,
-        cell,
-        op,
-        parts: swept,
-    })
+    parted_loop(alloc, frame, base, cell, op, swept)
 }
 
 #[cycle(sweeping)]
-fn in_part(alloc: Global, part: CorePart, used: &mut BTreeSet<u32>) -> Result<CorePart, Memory>
-    ensures swept { IfOk result (λ p. part_term p ≡ swept_part (part_term part) (used_of used.old)) }
-    ensures used { IfOk result (λ p. used_of used.new ≡ also (used_in (part_term p).body) (used_of used.old)) }
+fn in_part(
+    alloc: Global,
+    part: CorePart,
+    called: &CalledShapes,
+    table: &mut FactTable,
+) -> Result<SweptPart, Memory>
+    ensures swept { IfOk result (λ new. part_term new.part ≡ swept_part (shapes_of called.now) (part_term part) (facts_of table.old)) }
+    ensures table { OnOk result (table.new ≡ table.old) }
 {
-    let body = in_block(alloc, part.body, used)?;
-    Ok(CorePart {
-        grid: part.grid,
-        index: part.index,
-        body,
-        site: part.site,
+    let outer = table.mark();
+    learn_index(alloc, table, part.index, &part.grid)?;
+    let body = in_block(alloc, part.body, called, table)?;
+    table.undo(outer);
+    Ok(SweptPart {
+        part: CorePart {
+            grid: part.grid,
+            index: part.index,
+            body: body.block,
+            site: part.site,
+        },
+        used: body.used,
     })
 }

@@ -1,4 +1,4 @@
-use Rattle.std.proofs.Common.{◌≡◌, ◌-◌, length, ap, ◌∙◌}
+use Rattle.std.proofs.Common.{◌-◌, length, ap, ◌∙◌}
 use Rattle.std.specs.Prelude.{drop}
 use Rattle.copy_propagation.specs.Table.{source_note}
 use Rattle.std.specs.Prelude.{map}

@@ -1,0 +1,5 @@
+mod Agreeing
+mod Bound
+pub mod Laws
+mod Places
+mod Same
