@@ -1,1 +1,3 @@
 pub mod Opens
+pub mod Frames
+pub mod Parts

@@ -10,16 +10,17 @@ ghost use Rattle.core_ir.specs.WellFormed.{part_grids};
 ghost use Rattle.core_loops.specs.Loops.{binders as bound_number, FEW};
 ghost use Rattle.fact_table.specs.Table.{facts_of};
 ghost use Rattle.plain_facts.specs.Called.{shapes_of};
-ghost use Rattle.merge_plans.specs.Inners.{HasInner, IsInner, IsInnerOf, parts_in};
+ghost use Rattle.merge_plans.specs.Inners.{HasInner, IsInner, parts_in};
 ghost use Rattle.merge_plans.specs.Mergeable.{FitBehind, MOST_AXES};
 ghost use Rattle.merge_plans.specs.Openings.{nest_term};
 
 use crate::finding::{Nest, nest_of};
+use crate::grids::same_axes;
 use core_ir::{Block, CorePart, PartedLoop, PartedOp, Var};
 use core_uses::binders;
 use fact_table::FactTable;
 use plain_facts::CalledShapes;
-use sac_base::{Base, Grid, Grid1, Memory};
+use sac_base::{Base, Grid, Memory};
 use scalarisable_loops::{are_passed, none_use};
 use std::alloc::Global;
 
@@ -111,21 +112,20 @@ pub fn is_genarray(op: PartedOp) -> bool
     matches!(op, PartedOp::Genarray)
 }
 
-fn same_axes(a: &[Grid1], b: &[Grid1]) -> bool
-    ensures { IsTrue result ↔ (a.now ≡ b.now) }
-{
-    a == b
-}
-
 /// Whether the grid of each part of a loop fits behind this one.
 fn fit_behind(grid: &Grid, inner: &PartedLoop) -> bool
     ensures { IsTrue result ↔ FitBehind grid.now (parts_in (parted_term inner.now)) }
 {
-    let axes = grid.axes().len();
     for part in &inner.parts {
-        if axes + part.grid.axes().len() > MOST_AXES {
+        if !fits_behind(grid, part) {
             return false;
         }
     }
     true
+}
+
+fn fits_behind(grid: &Grid, part: &CorePart) -> bool
+    ensures { IsTrue result ↔ (length grid.now + length (part_term part.now).head.grid ≤ MOST_AXES) }
+{
+    grid.axes().len() + part.grid.axes().len() <= MOST_AXES
 }

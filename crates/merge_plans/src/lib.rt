@@ -3,10 +3,10 @@
 
 mod filling;
 mod finding;
-mod joining;
+mod grids;
 mod judging;
 mod planning;
 
 pub use finding::{Nest, nest_of};
-pub use joining::joined_grid;
+pub use grids::joined_grid;
 pub use planning::{MergePlan, merge_plan};

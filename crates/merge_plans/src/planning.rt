@@ -12,7 +12,7 @@ ghost use Rattle.merge_plans.specs.Seen.{IsSeen, first_frame, frame_seen};
 
 use crate::filling::is_filled;
 use crate::finding::nest_of;
-use crate::joining::joined_grid;
+use crate::grids::joined_grid;
 use crate::judging::{inner_count, is_genarray};
 use core_ir::{Block, CorePart, PartedLoop};
 use fact_table::FactTable;
