@@ -1,22 +1,22 @@
 //! Whether the body of a part is bindings that never fault, and an inner loop.
 
-ghost use Rattle.std.specs.Prelude.{◌≡◌, ◌↔◌, ◌≤◌, ◌+◌, IsTrue, IfOk, OnOk, IfSome, IfNone, ℕ, [], ◌∷◌, length, All, List};
-ghost use Rattle.sac_base.specs.declared.grid.Grid1.{Grid1 as Axis};
+ghost use Rattle.std.specs.Prelude.{◌≡◌, ◌↔◌, ◌≤◌, ◌+◌, IsTrue, IfOk, OnOk, IfSome, IfNone, ℕ, [], ◌∷◌, length, map, option_map};
 ghost use Rattle.core_ir.specs.declared.tree.PartedOp.TheVariants.{Genarray};
 ghost use Rattle.core_ir.specs.declared.tree.Var.{Var as Variable};
 ghost use Rattle.core_ir.specs.Terms.{Parted};
-ghost use Rattle.core_ir.specs.View.{block_term, part_term, parted_term};
-ghost use Rattle.core_ir.specs.WellFormed.{part_grids};
+ghost use Rattle.core_ir.specs.View.{let_term, part_term, parted_term};
 ghost use Rattle.core_loops.specs.Loops.{binders as bound_number, FEW};
+ghost use Rattle.core_loops.specs.Pairs.{AvoidsLets, count_parts};
 ghost use Rattle.fact_table.specs.Table.{facts_of};
 ghost use Rattle.plain_facts.specs.Called.{shapes_of};
+ghost use Rattle.scalarisable_loops.specs.Around.{are_total};
 ghost use Rattle.merge_plans.specs.Inners.{HasInner, IsInner, parts_in};
 ghost use Rattle.merge_plans.specs.Mergeable.{FitBehind, MOST_AXES};
-ghost use Rattle.merge_plans.specs.Openings.{nest_term};
+ghost use Rattle.merge_plans.specs.Openings.{nest_term, opened};
 
 use crate::finding::{Nest, nest_of};
 use crate::grids::same_axes;
-use core_ir::{Block, CorePart, PartedLoop, PartedOp, Var};
+use core_ir::{CorePart, Let, PartedLoop, PartedOp, Var};
 use core_uses::binders;
 use fact_table::FactTable;
 use plain_facts::CalledShapes;
@@ -46,25 +46,64 @@ pub fn inner_count(
         IsInner (shapes_of called.now) (facts_of facts.old) frame.now base (part_term part.now) count → ⊥)) }
     ensures facts { OnOk result (facts.new ≡ facts.old) }
 {
-    let Some(nest) = nest_of(&part.body) else {
+    let Some(nest) = nest_in(part) else {
         return Ok(None);
     };
-    if !is_inner(&nest, &part.grid, frame, base) || binders(&part.body) > MOST_BINDERS {
+    if !is_inner_of(&nest, part, frame, base) {
         return Ok(None);
     }
-    if are_passed(
-        alloc,
-        &part.grid,
-        part.index,
-        nest.before,
-        nest.after,
-        called,
-        facts,
-    )? {
-        Ok(Some(nest.inner.parts.len()))
+    if !has_room(part) {
+        return Ok(None);
+    }
+    if is_passed(alloc, part, &nest, called, facts)? {
+        Ok(Some(count_of(nest.inner)))
     } else {
         Ok(None)
     }
+}
+
+fn nest_in(part: &CorePart) -> Option<Nest<'_>>
+    ensures { option_map nest_term result ≡ opened (part_term part.now).body }
+{
+    nest_of(&part.body)
+}
+
+/// Whether the bindings around a loop in a part's body never fault.
+fn is_passed(
+    alloc: Global,
+    part: &CorePart,
+    nest: &Nest<'_>,
+    called: &CalledShapes,
+    facts: &mut FactTable,
+) -> Result<bool, Memory>
+    ensures total { IfOk result (λ total. total ≡ are_total (shapes_of called.now) (part_term part.now).head.grid (facts_of facts.old)
+        (part_term part.now).head.index (nest_term nest.now).before (nest_term nest.now).after) }
+    ensures facts { OnOk result (facts.new ≡ facts.old) }
+{
+    are_passed(
+        alloc, &part.grid, part.index, nest.before, nest.after, called, facts,
+    )
+}
+
+fn is_inner_of(nest: &Nest<'_>, part: &CorePart, frame: &Grid, base: Base) -> bool
+    ensures { IsTrue result ↔ HasInner (part_term part.now).head.grid frame.now base (nest_term nest.now) }
+{
+    is_inner(nest, &part.grid, frame, base)
+}
+
+/// How many parts a loop has.
+fn count_of(inner: &PartedLoop) -> usize
+    ensures { result ≡ count_parts (parts_in (parted_term inner.now)) }
+{
+    let parts = inner.parts.as_slice();
+    parts.len()
+}
+
+/// Whether the body of a part binds few variables.
+fn has_room(part: &CorePart) -> bool
+    ensures { IsTrue result ↔ (bound_number (part_term part.now).body ≤ FEW) }
+{
+    binders(&part.body) <= MOST_BINDERS
 }
 
 /// Whether a loop is the result of its body, of scalar cells and of this frame and base, whether no other binding uses it, and whether its grids fit behind
@@ -72,15 +111,20 @@ pub fn inner_count(
 fn is_inner(nest: &Nest<'_>, grid: &Grid, frame: &Grid, base: Base) -> bool
     ensures { IsTrue result ↔ HasInner grid.now frame.now base (nest_term nest.now) }
 {
-    match only_result(nest.targets, nest.results) {
-        Some(target) => {
-            has_form(nest.inner, frame, base)
-                && fit_behind(grid, nest.inner)
-                && none_use(target, nest.before)
-                && none_use(target, nest.after)
-        }
-        None => false,
+    let Some(target) = only_result(nest.targets, nest.results) else {
+        return false;
+    };
+    if !has_form(nest.inner, frame, base) {
+        return false;
     }
+    fit_behind(grid, nest.inner) && is_unused(target, nest.before, nest.after)
+}
+
+/// Whether no binding uses a variable.
+fn is_unused(target: Var, before: &[Let], after: &[Let]) -> bool
+    ensures { IsTrue result ↔ (AvoidsLets target (map let_term before.now) × AvoidsLets target (map let_term after.now)) }
+{
+    none_use(target, before) && none_use(target, after)
 }
 
 /// The only target, if it is the only result.
