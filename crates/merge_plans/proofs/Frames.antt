@@ -1,5 +1,5 @@
 -- Axes of the same numbers are the same; frames of some extents that have an index.
-use Rattle.std.proofs.Common.{◌≡◌, ◌<◌, ◌%◌, nat_lt, ◌⊎◌, inl, inr, Bool, true, false, ◌&&◌, List, [], ◌∷◌, map, refl, ap, sym, subst, ◌∙◌, arith, true≢false, ℕ, suc, ℤ, pos, negsuc, ◌-ℤ◌, ◌+ℤ◌, ◌≤ℤ◌, ◌<ℤ◌, get_or, drop}
+use Rattle.std.proofs.Common.{◌≡◌, ◌<◌, ◌%◌, nat_lt, ◌⊎◌, inl, inr, Bool, true, false, ◌&&◌, List, [], ◌∷◌, refl, ap, sym, subst, ◌∙◌, arith, true≢false, ℕ, ℤ, pos, negsuc, ◌-ℤ◌, ◌≤ℤ◌, ◌<ℤ◌, get_or, drop}
 use Rattle.std.proofs.Math.Dec.{T_prop}
 use Rattle.std.specs.Prelude.{unsigned_abs}
 use Rattle.std.proofs.lemmas.Int.{ints}
@@ -8,7 +8,6 @@ use Rattle.sac_base.specs.declared.grid.Grid1.{Grid1}
 use Rattle.sac_base.specs.Grids.{has_index, has_vector}
 use Rattle.sac_base.specs.WithLoops.{distance}
 use Rattle.sac_base.proofs.GridFacts.{has_facts}
-use Rattle.core_ir.specs.Meaning.{extents}
 use Rattle.merge_plans.specs.Filled.{IsFilled, IsFilledAxis}
 
 -- ---- the same numbers

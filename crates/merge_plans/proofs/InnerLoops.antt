@@ -1,5 +1,5 @@
 -- What makes the first parted loop of a part its inner loop.
-use Rattle.std.proofs.Common.{◌≡◌, ◌≤◌, ◌+◌, ℕ, suc, Bool, true, false, List, [], ◌∷◌, ◌++◌, length, map, Option, Some, None, refl, ap, sym, subst, ◌∙◌, true≢false, get_or}
+use Rattle.std.proofs.Common.{◌≡◌, ◌≤◌, ℕ, suc, Bool, true, false, List, [], ◌∷◌, ◌++◌, length, map, Option, Some, None, refl, ap, sym, subst, ◌∙◌, true≢false, get_or}
 use Rattle.std.proofs.lemmas.List.{length-map}
 use Rattle.std.specs.Prelude.{IsTrue, option_map}
 use Rattle.sac_base.specs.declared.base.Base.{Base}
@@ -12,7 +12,7 @@ use Rattle.core_ir.specs.Terms.{RightTerm, LetTerm, PartTerm, PartsTerm, Parted,
 use Rattle.core_facts.specs.Facts.{Facts, in_part}
 use Rattle.core_loops.specs.Indices.{own_index}
 use Rattle.core_loops.specs.Loops.{binders, FEW}
-use Rattle.core_loops.specs.Pairs.{AvoidsLets, IsNest, count_parts}
+use Rattle.core_loops.specs.Pairs.{AvoidsLets, count_parts}
 use Rattle.scalarisable_loops.specs.Around.{are_total, none_uses}
 use Rattle.scalarisable_loops.proofs.Decided.{totals_decided, uses_decided}
 use Rattle.merge_plans.specs.Inners.{HasInner, IsInner, parts_in}
@@ -110,7 +110,7 @@ module _ (called : ℕ → List (Option (List ℕ))) (k : Facts) (frame : List G
             site = o.site;
             whole = whole p.body o e
                 ∙ (λ i. Rattle.core_ir.specs.Terms.chain o.before (Rattle.core_ir.specs.Terms.Bind (h.targets i) o.site (h.form i)
-                    (Rattle.core_ir.specs.Terms.chain o.after (Rattle.core_ir.specs.Terms.Gives (h.results i)))));
+                (Rattle.core_ir.specs.Terms.chain o.after (Rattle.core_ir.specs.Terms.Gives (h.results i)))));
             unused = avoids_both h.target o.before o.after h.before h.after;
             total = totals_decided called k p.head o.before o.after h.target o.site right (h.target ∷ []) h.after ∙ total;
           };

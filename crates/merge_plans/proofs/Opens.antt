@@ -90,18 +90,18 @@ pub opens : (before : List LetTerm) (xs : List Var) (s : Site) (r : RightTerm) (
     opened (chain before (Bind xs s r (chain after (Gives rs)))) ≡ Some (record { before = before; targets = xs; site = s; right = r; after = after; results = rs })
 opens [] xs s r after rs h p =
     (λ i. if p i then Some (record { before = []; targets = xs; site = s; right = r; after = lets_chain after rs i; results = results_chain after rs i })
-      else option_map (behind (record { targets = xs; site = s; right = r })) (opened (chain after (Gives rs))))
+    else option_map (behind (record { targets = xs; site = s; right = r })) (opened (chain after (Gives rs))))
 opens (l ∷ ls) xs s r after rs h p =
     let rest = chain ls (Bind xs s r (chain after (Gives rs))) in
     (λ i. if All-head NoLoop l ls h i then Some (record { before = []; targets = l.targets; site = l.site; right = l.right; after = lets_of rest; results = results_of rest })
-      else option_map (behind l) (opens ls xs s r after rs (All-tail NoLoop l ls h) p i))
+    else option_map (behind l) (opens ls xs s r after rs (All-tail NoLoop l ls h) p i))
 
 pub opens_none : (ls : List LetTerm) (rs : List Var) → All NoLoop ls → opened (chain ls (Gives rs)) ≡ None
 opens_none [] rs h = refl
 opens_none (l ∷ ls) rs h =
     let rest = chain ls (Gives rs) in
     (λ i. if All-head NoLoop l ls h i then Some (record { before = []; targets = l.targets; site = l.site; right = l.right; after = lets_of rest; results = results_of rest })
-      else option_map (behind l) (opens_none ls rs (All-tail NoLoop l ls h) i))
+    else option_map (behind l) (opens_none ls rs (All-tail NoLoop l ls h) i))
 
 -- the inner loop of a part is the first of its body
 pub nest_opens :

@@ -1,20 +1,19 @@
 -- The points of a loop that can be merged, put together, and each refuted alone.
-use Rattle.std.proofs.Common.{◌≡◌, ◌≤◌, ◌<◌, ◌+◌, ◌^◌, ℕ, suc, List, [], ◌∷◌, ◌++◌, map, length, Option, Some, None, refl, ap, sym, subst, ◌∙◌, arith, pos}
+use Rattle.std.proofs.Common.{◌≡◌, ◌≤◌, ◌<◌, ◌+◌, ℕ, List, [], ◌∷◌, ◌++◌, map, length, Option, Some, None, refl, ap, sym, subst, ◌∙◌, arith, pos}
 use Rattle.std.specs.Prelude.{unwrap_or, option_map}
 use Rattle.sac_base.specs.declared.base.Base.{Base}
 use Rattle.sac_base.specs.declared.grid.Grid1.{Grid1}
 use Rattle.core_ir.specs.declared.tree.PartedOp.{PartedOp}
 use Rattle.core_ir.specs.declared.tree.PartedOp.TheVariants as parted
 use Rattle.core_ir.specs.Meaning.{extents}
-use Rattle.core_ir.specs.Terms.{RightTerm, PartTerm, PartsTerm, Parted, parts_of}
+use Rattle.core_ir.specs.Terms.{RightTerm, PartTerm, Parted, parts_of}
 use Rattle.core_facts.specs.Facts.{Facts, in_part}
 use Rattle.core_loops.specs.Indices.{own_index}
-use Rattle.core_loops.specs.Pairs.{IsScalarisable, Nests, count_parts}
+use Rattle.core_loops.specs.Pairs.{Nests, count_parts}
 use Rattle.merge_plans.specs.declared.planning.MergePlan.{MergePlan}
-use Rattle.merge_plans.specs.Filled.{IsFilled}
-use Rattle.merge_plans.specs.Inners.{AreInner, IsInner}
-use Rattle.merge_plans.specs.Mergeable.{CanMerge, GridsFit, IsMergeable, IsMergePlan, PlanOf}
-use Rattle.merge_plans.specs.Openings.{Opened, opened}
+use Rattle.merge_plans.specs.Inners.{AreInner}
+use Rattle.merge_plans.specs.Mergeable.{CanMerge, GridsFit, IsMergeable, PlanOf}
+use Rattle.merge_plans.specs.Openings.{Opened}
 use Rattle.merge_plans.specs.Seen.{IsSeen, first_frame, frame_of}
 use Rattle.merge_plans.proofs.Opens.{nest_opens}
 

@@ -2,7 +2,6 @@
 use Rattle.std.specs.Prelude.{Bool, true, false, if◌then◌else◌, List, [], ◌∷◌, map, option_map, Option, Some, None}
 use Rattle.sac_base.specs.declared.site.Site.{Site}
 use Rattle.core_ir.specs.declared.tree.Var.{Var}
-use Rattle.core_ir.specs.declared.tree.Let.{Let}
 use Rattle.core_ir.specs.Terms.{BlockTerm, RightTerm, LetTerm, Gives, Bind}
 use Rattle.core_ir.specs.View.{let_term, parted_term}
 use Rattle.merge_plans.specs.declared.finding.Nest.{Nest}

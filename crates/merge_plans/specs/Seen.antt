@@ -1,7 +1,6 @@
 -- What can be seen of a loop without looking at each inner loop.
-use Rattle.std.specs.Prelude.{◌≡◌, ℕ, ◌+◌, ◌^◌, ◌≤◌, List, [], map, length, pos, Option, Some, None, option_map}
+use Rattle.std.specs.Prelude.{ℕ, ◌+◌, ◌^◌, ◌≤◌, List, [], map, length, pos, Option, None, option_map}
 use Rattle.sac_base.specs.declared.grid.Grid1.{Grid1}
-use Rattle.core_ir.specs.declared.tree.PartedOp.{PartedOp}
 use Rattle.core_ir.specs.declared.tree.PartedOp.TheVariants as parted
 use Rattle.core_ir.specs.Terms.{RightTerm, PartsTerm, PartTerm, NoParts, Part, Parted}
 use Rattle.merge_plans.specs.Filled.{IsFilled}

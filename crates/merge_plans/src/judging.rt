@@ -81,7 +81,13 @@ fn is_passed(
     ensures facts { OnOk result (facts.new ≡ facts.old) }
 {
     are_passed(
-        alloc, &part.grid, part.index, nest.before, nest.after, called, facts,
+        alloc,
+        &part.grid,
+        part.index,
+        nest.before,
+        nest.after,
+        called,
+        facts,
     )
 }
 

@@ -1,13 +1,13 @@
-use Rattle.std.proofs.Common.{get_or, ◌≡◌, ◌∙◌, ap, sym, refl, subst, All, true, Some, length, take, map}
+use Rattle.std.proofs.Common.{get_or, ◌≡◌, ◌∙◌, ap, sym, subst, All, map}
 use Rattle.std.proofs.lemmas.List.{get_or_default, take_all, take_rest}
 use Rattle.std.proofs.lemmas.List.Elements.{All-more}
 use Rattle.core_ir.specs.declared.tree.Block.{out-Block}
 use Rattle.core_ir.specs.declared.tree.Right.TheVariants as right
 use Rattle.core_ir.specs.declared.tree.Let.{Let}
 use Rattle.core_ir.specs.Terms.{Gives, chain}
-use Rattle.core_ir.specs.View.{let_term, right_term}
+use Rattle.core_ir.specs.View.{let_term}
 use Rattle.core_ir.proofs.Trees.{block_out}
-use Rattle.merge_plans.specs.Openings.{is_parted, opened}
+use Rattle.merge_plans.specs.Openings.{opened}
 use Rattle.merge_plans.proofs.Opens.{IsLoopless, body_found, found_none, loop_is, not_parted}
 use Rattle.merge_plans.proofs.finding.nest_of.Goals as goal
 

@@ -1,4 +1,4 @@
-use Rattle.std.proofs.Common.{rules, ◌≡◌, ◌+◌, ◌-◌, ◌<◌, ◌≤◌, ℕ, arith, subst, sym}
+use Rattle.std.proofs.Common.{rules, ◌≡◌, ◌+◌, ◌-◌, ◌<◌, ◌≤◌, ℕ, arith}
 use Rattle.core_ir.specs.View.{part_term}
 use Rattle.fact_table.specs.Table.{facts_of}
 use Rattle.plain_facts.specs.Called.{shapes_of}

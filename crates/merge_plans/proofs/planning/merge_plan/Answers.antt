@@ -1,7 +1,6 @@
-use Rattle.std.proofs.Common.{◌≡◌, ◌≤◌, ◌∙◌, ap, sym, subst, Some, None, map, true, true≢false, ℕ}
+use Rattle.std.proofs.Common.{◌≤◌, ◌∙◌, ap, sym, subst, map, true≢false, ℕ}
 use Rattle.std.specs.Prelude.{option_map}
 use Rattle.core_ir.specs.declared.tree.PartedLoop.{out-PartedLoop}
-use Rattle.core_ir.specs.Terms.{RightTerm, PartTerm}
 use Rattle.core_ir.specs.View.{part_term}
 use Rattle.core_ir.proofs.Trees.{parted_out}
 use Rattle.fact_table.specs.Table.{facts_of}
