@@ -1,6 +1,6 @@
 //! The components of a new index.
 
-ghost use Rattle.std.specs.Prelude.{◌≡◌, ◌+◌, ◌≤◌, suc, [], ◌∷◌, IfOk, OnOk, map};
+ghost use Rattle.std.specs.Prelude.{◌≡◌, ◌+◌, ◌≤◌, suc, [], ◌∷◌, IfOk, OnOk, map, pos};
 ghost use Rattle.core_ir.specs.Terms.{PlainTerm, Plain};
 ghost use Rattle.core_ir.specs.View.{let_term, right_term};
 ghost use Rattle.core_merge_forms.specs.Built.{picks};
@@ -23,7 +23,7 @@ pub struct Components {
 /// # Errors
 ///
 /// `Memory`: there is none for the bindings, or the numbers of variables have more than 32 bits.
-pub fn components(
+pub fn components_of(
     alloc: Global,
     site: Site,
     index: Var,
@@ -37,21 +37,25 @@ pub fn components(
 {
     let mut lets = Vec::new(alloc);
     let mut vars = Vec::new(alloc);
-    let mut place = 0i32;
-    for _ in 0..axes {
+    for place in 0..axes {
         let constant = progress.take()?;
         let component = progress.take()?;
-        let number = Right::Const(Array::scalar(alloc, Base::Int, place)?);
+        let number = Right::Const(Array::scalar(alloc, Base::Int, number_of(place)?)?);
         lets.push(binding(alloc, constant, site, number)?)?;
         let selection = Right::Select(index, constant);
         lets.push(binding(alloc, component, site, selection)?)?;
         vars.push(component)?;
-        place = match place.checked_add(1) {
-            Some(next) => next,
-            None => return Err(Memory),
-        };
     }
     Ok(Components { lets, vars })
+}
+
+fn number_of(place: usize) -> Result<i32, Memory>
+    ensures { IfOk result (λ number. number ≡ pos place) }
+{
+    match i32::try_from(place) {
+        Ok(number) => Ok(number),
+        Err(_) => Err(Memory),
+    }
 }
 
 /// A variable that is bound to the vector of others.

@@ -7,7 +7,7 @@ ghost use Rattle.merged_parts.specs.Merging.{merged_all, merged_at, merged_inner
 ghost use Rattle.parted_bodies.specs.Making.{binds_of};
 
 use crate::bodies::{body_behind, names_for, with_indices};
-use crate::indices::components;
+use crate::indices::components_of;
 use crate::splitting::split_body;
 use core_ir::{Block, CorePart, Var};
 use merge_plans::joined_grid;
@@ -113,7 +113,7 @@ fn merged_part(
     let own = progress.take()?;
     let outer_axes = grid.axes().len();
     let axes = outer_axes + inner.grid.axes().len();
-    let made = components(alloc, inner.site, own, axes, progress)?;
+    let made = components_of(alloc, inner.site, own, axes, progress)?;
     let names = names_for(alloc, index, inner.index, around, &inner.body, progress)?;
     let before = with_indices(
         alloc,

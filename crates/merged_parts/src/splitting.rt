@@ -4,7 +4,7 @@ ghost use Rattle.std.specs.Prelude.{◌≡◌, option_map};
 ghost use Rattle.core_ir.specs.View.{block_term};
 ghost use Rattle.merged_parts.specs.Splitting.{split, split_term};
 
-use core_ir::{Block, PartedLoop, Right};
+use core_ir::{Block, Let, PartedLoop, Right};
 use merge_plans::nest_of;
 use std::alloc::Global;
 
@@ -25,8 +25,8 @@ pub fn split_body(alloc: Global, body: Block) -> Option<SplitBody>
         None => return None,
     };
     let Block { mut lets, .. } = body;
-    let binding = lets.remove(place);
-    match binding.right {
+    let Let { right, .. } = lets.remove(place);
+    match right {
         Right::Parted(inner) => Some(SplitBody {
             around: Block {
                 lets,
