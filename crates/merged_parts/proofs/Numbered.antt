@@ -101,3 +101,21 @@ counted_all outer inner b c n vars v1 v2 v3 e1 e2 e3 e4 =
     let list : vars ≡ outer ∷ inner ∷ bound_in (chain (lets_of b) c) =
     e3 ∙ (λ i. e2 i ++ bound_in c) ∙ (λ i. (e1 i ++ bound_in b) ++ bound_in c) ∙ ap (λ l. outer ∷ inner ∷ l) (sym (bound_both b c)) in
     ap (λ l. n + length l) (e4 ∙ list)
+
+-- ---- before the first component
+
+all_left : (axes : ℕ) → axes - 0 ≡ axes
+all_left axes = omega arith
+
+pub begun_lets : (s : Site) (i : Var) (axes n : ℕ) (lets : List Let) → lets ≡ [] →
+    map let_term lets ++ picks s i 0 (every_other (axes - 0) (suc n)) (every_other (axes - 0) n) ≡ picks s i 0 (every_other axes (suc n)) (every_other axes n)
+begun_lets s i axes n lets e = λ j. map let_term (e j) ++ picks s i 0 (every_other (all_left axes j) (suc n)) (every_other (all_left axes j) n)
+
+pub begun_vars : (axes n : ℕ) (vars : List Var) → vars ≡ [] → vars ++ every_other (axes - 0) (suc n) ≡ every_other axes (suc n)
+begun_vars axes n vars e = λ j. e j ++ every_other (all_left axes j) (suc n)
+
+pub begun_next : (p : Progress) → p ≡ record p { next = p.next + (0 + 0) }
+begun_next p = let e : p.next ≡ p.next + (0 + 0) = omega arith in λ j. record p { next = e j }
+
+pub two_pushed : (x y : Var) (v0 v1 v2 : List Var) → v0 ≡ [] → v1 ≡ v0 ++ (x ∷ []) → v2 ≡ v1 ++ (y ∷ []) → v2 ≡ (x ∷ []) ++ (y ∷ [])
+two_pushed x y v0 v1 v2 e f g = g ∙ (λ j. f j ++ (y ∷ [])) ∙ (λ j. (e j ++ (x ∷ [])) ++ (y ∷ []))
