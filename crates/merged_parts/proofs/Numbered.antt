@@ -1,13 +1,13 @@
 -- Components of an index, one after another, and the names of a copy.
-use Rattle.std.proofs.Common.{◌≡◌, ℕ, zero, suc, ◌+◌, ◌-◌, ◌<◌, ◌≤◌, List, [], ◌∷◌, ◌++◌, map, length, refl, ap, sym, ◌∙◌, append_assoc, append-nil, arith, ℤ, pos}
+use Rattle.std.proofs.Common.{◌≡◌, ℕ, zero, suc, ◌+◌, ◌-◌, ◌<◌, ◌≤◌, List, [], ◌∷◌, ◌++◌, map, length, refl, ap, sym, ◌∙◌, append_assoc, append-nil, arith, pos}
 use Rattle.std.proofs.lemmas.List.{length-append, map-append}
 use Rattle.sac_base.specs.declared.base.Base.TheVariants.{Int}
 use Rattle.sac_base.specs.declared.site.Site.{Site}
-use Rattle.sac_base.specs.Arrays.{ArrayValue, scalar}
+use Rattle.sac_base.specs.Arrays.{scalar}
 use Rattle.core_ir.specs.declared.tree.Let.{Let}
 use Rattle.core_ir.specs.declared.tree.Var.{Var}
 use Rattle.core_ir.specs.Binders.{bound_in, bound_in_right}
-use Rattle.core_ir.specs.Terms.{PlainTerm, BlockTerm, LetTerm, Plain, Gives, Bind, chain}
+use Rattle.core_ir.specs.Terms.{PlainTerm, BlockTerm, RightTerm, LetTerm, Plain, Gives, Bind, chain}
 use Rattle.core_ir.specs.View.{let_term}
 use Rattle.core_subst.specs.Names.{variable}
 use Rattle.core_merge_forms.specs.Built.{picks}
@@ -16,8 +16,8 @@ use Rattle.merged_parts.specs.Merging.{every_other, merged_names}
 use Rattle.parted_bodies.specs.declared.names.Progress.{Progress}
 use Rattle.parted_bodies.specs.Numbering.{numbered}
 
-abbrev constant_let : Site → Var → ArrayValue → LetTerm
-constant_let s x a = record { targets = x ∷ []; site = s; right = Plain (PlainTerm.Const a) }
+abbrev bound_let : Site → Var → RightTerm → LetTerm
+bound_let s x r = record { targets = x ∷ []; site = s; right = r }
 
 abbrev select_let : Site → Var → Var → Var → LetTerm
 select_let s y i x = record { targets = y ∷ []; site = s; right = Plain (PlainTerm.Select i x) }
@@ -32,13 +32,13 @@ pushed_two lets lets1 lets2 l m e f =
     (λ j. map let_term (f j)) ∙ (λ j. map let_term (e j ++ (m ∷ []))) ∙ ap (map let_term) (append_assoc lets (l ∷ []) (m ∷ [])) ∙ map-append let_term lets (l ∷ m ∷ [])
 
 pub lets_turn :
-    (s : Site) (i : Var) (axes k n n2 : ℕ) (lets lets1 lets2 : List Let) (l m : Let) (a : ArrayValue) (z : ℤ) (x y : Var) (whole : List LetTerm) → k < axes →
-    map let_term lets ++ picks s i k (every_other (axes - k) (suc n)) (every_other (axes - k) n) ≡ whole → lets1 ≡ lets ++ (l ∷ []) → lets2 ≡ lets1 ++ (m ∷ []) → let_term l ≡ constant_let s x a →
-    let_term m ≡ select_let s y i x → a ≡ scalar Int z → z ≡ pos k → x ≡ variable n → y ≡ variable (suc n) → n2 ≡ suc (suc n) →
+    (s : Site) (i : Var) (axes k n n2 : ℕ) (lets lets1 lets2 : List Let) (l m : Let) (r : RightTerm) (x y : Var) (whole : List LetTerm) → k < axes →
+    map let_term lets ++ picks s i k (every_other (axes - k) (suc n)) (every_other (axes - k) n) ≡ whole → lets1 ≡ lets ++ (l ∷ []) → lets2 ≡ lets1 ++ (m ∷ []) → let_term l ≡ bound_let s x r →
+    let_term m ≡ select_let s y i x → r ≡ Plain (PlainTerm.Const (scalar Int (pos k))) → x ≡ variable n → y ≡ variable (suc n) → n2 ≡ suc (suc n) →
     map let_term lets2 ++ picks s i (k + 1) (every_other (axes - (k + 1)) (suc n2)) (every_other (axes - (k + 1)) n2) ≡ whole
-lets_turn s i axes k n n2 lets lets1 lets2 l m a z x y whole h p e f lt mt av zk xn yn n2e =
+lets_turn s i axes k n n2 lets lets1 lets2 l m r x y whole h p e f lt mt rk xn yn n2e =
     let next : k + 1 ≡ suc k = omega arith in
-    let first : let_term l ≡ constant_let s (variable n) (scalar Int (pos k)) = lt ∙ (λ j. constant_let s (xn j) ((av ∙ ap (scalar Int) zk) j)) in
+    let first : let_term l ≡ bound_let s (variable n) (Plain (PlainTerm.Const (scalar Int (pos k)))) = lt ∙ (λ j. bound_let s (xn j) (rk j)) in
     let second : let_term m ≡ select_let s (variable (suc n)) i (variable n) = mt ∙ (λ j. select_let s (yn j) i (xn j)) in
     let rest = axes - (k + 1) in
     (λ j. pushed_two lets lets1 lets2 l m e f j ++ picks s i (next j) (every_other rest (suc (n2e j))) (every_other rest (n2e j)))

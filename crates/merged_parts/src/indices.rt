@@ -1,6 +1,8 @@
 //! The components of a new index.
 
 ghost use Rattle.std.specs.Prelude.{◌≡◌, ◌+◌, ◌≤◌, suc, [], ◌∷◌, IfOk, OnOk, map, pos};
+ghost use Rattle.sac_base.specs.declared.base.Base.TheVariants.{Int};
+ghost use Rattle.sac_base.specs.Arrays.{scalar};
 ghost use Rattle.core_ir.specs.Terms.{PlainTerm, Plain};
 ghost use Rattle.core_ir.specs.View.{let_term, right_term};
 ghost use Rattle.core_merge_forms.specs.Built.{picks};
@@ -40,7 +42,7 @@ pub fn components_of(
     for place in 0..axes {
         let constant = progress.take()?;
         let component = progress.take()?;
-        let number = Right::Const(Array::scalar(alloc, Base::Int, number_of(place)?)?);
+        let number = number_of(alloc, place)?;
         lets.push(binding(alloc, constant, site, number)?)?;
         let selection = Right::Select(index, constant);
         lets.push(binding(alloc, component, site, selection)?)?;
@@ -49,11 +51,11 @@ pub fn components_of(
     Ok(Components { lets, vars })
 }
 
-fn number_of(place: usize) -> Result<i32, Memory>
-    ensures { IfOk result (λ number. number ≡ pos place) }
+fn number_of(alloc: Global, place: usize) -> Result<Right, Memory>
+    ensures { IfOk result (λ right. right_term right ≡ Plain (PlainTerm.Const (scalar Int (pos place)))) }
 {
     match i32::try_from(place) {
-        Ok(number) => Ok(number),
+        Ok(number) => Ok(Right::Const(Array::scalar(alloc, Base::Int, number)?)),
         Err(_) => Err(Memory),
     }
 }

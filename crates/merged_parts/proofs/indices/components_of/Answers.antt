@@ -23,8 +23,8 @@ loop-place-preserved c =
     let second = c.in_ok-component.ensures.var ∙ ap (λ (q : Progress). variable q.next) one in
     record {
       lets = lets_turn c.args.site c.args.index c.args.axes c.loop-place.place p.next _ c.loop-place.lets.items c.push.new.self.items c.push-in-loop-place.new.self.items c.in_ok-binding.field-0 c.in_ok-binding-2.field-0
-          c.in_ok-scalar.field-0 _ c.in_ok-constant.constant c.in_ok-component.component _ c.loop-place-test.true v.lets c.in_ok-push.ensures.items c.in_ok-push-2.ensures.items
-          c.in_ok-binding.ensures c.in_ok-binding-2.ensures c.in_ok-scalar.ensures c.in_ok-number_of.ensures c.in_ok-constant.ensures.var second n2;
+          _ c.in_ok-constant.constant c.in_ok-component.component _ c.loop-place-test.true v.lets c.in_ok-push.ensures.items c.in_ok-push-2.ensures.items
+          c.in_ok-binding.ensures c.in_ok-binding-2.ensures c.in_ok-number.ensures c.in_ok-constant.ensures.var second n2;
       vars = vars_turn c.args.axes c.loop-place.place p.next _ c.loop-place.vars.items c.push-in-loop-place-2.new.self.items _ c.in_ok-component.component c.loop-place-test.true v.vars c.in_ok-push-3.ensures.items second n2;
       next = progress_turn p c.args.progress.now c.take.new.self c.take-in-loop-place.new.self c.loop-place.place v.next one two;
     }

@@ -4,7 +4,7 @@ use Rattle.merged_parts.proofs.Taken.{none_split, place_inside, taken_is, taken_
 use Rattle.merged_parts.proofs.splitting.split_body.Goals as goal
 
 pub remove-right-requires : goal.remove-right-requires
-remove-right-requires c = place_inside c.args.body c.nest_of.result c.in-Some.nest c.nest_of.ensures c.in-Some.is _ (out-Block c.args.body).lets.ok
+remove-right-requires c = place_inside c.args.body c.nest_of.result c.in-Some.nest c.nest_of.ensures c.in-Some.is _ (out-Block c.args.body).lets.ok.0
 
 pub returns-in-Parted : goal.returns-in-Parted
 returns-in-Parted c =
