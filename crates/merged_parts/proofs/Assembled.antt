@@ -1,28 +1,27 @@
 -- The part for one inner part, and the parts for all, one after another.
-use Rattle.std.proofs.Common.{◌≡◌, ℕ, zero, suc, ◌+◌, ◌-◌, ◌<◌, ◌≤◌, List, [], ◌∷◌, ◌++◌, map, length, take, drop, get_or, All, refl, ap, sym, subst, ◌∙◌, append_assoc, append-nil, arith, Option, Some, None}
+use Rattle.std.proofs.Common.{◌≡◌, ℕ, zero, suc, ◌+◌, ◌<◌, ◌≤◌, List, [], ◌∷◌, ◌++◌, map, length, take, drop, get_or, All, refl, ap, sym, subst, ◌∙◌, append_assoc, append-nil, arith, Option, Some, None}
 use Rattle.std.specs.Prelude.{option_map, unwrap_or}
 use Rattle.std.proofs.lemmas.List.{drop_all, drop_more, length-append, length-map, map-append, take-append-drop}
 use Rattle.std.proofs.lemmas.List.Elements.{All-head, All-map, All-tail}
 use Rattle.sac_base.specs.declared.grid.Grid1.{Grid1}
 use Rattle.sac_base.specs.declared.site.Site.{Site}
 use Rattle.core_ir.specs.declared.tree.CorePart.{CorePart, CorePart-F, out-CorePart, roll-CorePart, out-roll-CorePart}
-use Rattle.core_ir.specs.declared.tree.Let.{Let}
 use Rattle.core_ir.specs.declared.tree.PartedLoop.{PartedLoop, out-PartedLoop}
 use Rattle.core_ir.specs.declared.tree.Right.TheBlock.{the_data, the_data-1, the_data-2, the_data-3, the_data-4, the_data-5, the_data-6}
 use Rattle.core_ir.specs.declared.tree.Var.{Var}
 use Rattle.core_ir.specs.Binders.{bound_in, bound_in_parts}
-use Rattle.core_ir.specs.Terms.{PlainTerm, BlockTerm, PartsTerm, LetTerm, PartTerm, PartHead, Plain, Gives, chain, parts_of}
+use Rattle.core_ir.specs.Terms.{PlainTerm, BlockTerm, LetTerm, PartTerm, PartHead, Plain, chain, parts_of}
 use Rattle.core_ir.specs.View.{block_term, part_term, parted_term}
 use Rattle.core_copy.specs.Mapped.{mapped}
 use Rattle.core_copy.proofs.Renaming.{bound_mapped}
 use Rattle.core_subst.specs.Names.{variable}
-use Rattle.core_merge_forms.specs.Built.{index_lets, picks}
+use Rattle.core_merge_forms.specs.Built.{picks}
 use Rattle.core_merge_forms.proofs.Straight.{chain_append}
 use Rattle.merge_plans.specs.Inners.{parts_in}
 use Rattle.merge_plans.specs.Mergeable.{FitBehind}
 use Rattle.merge_plans.specs.Openings.{Opened, lets_of, opened}
 use Rattle.merge_plans.proofs.Opens.{lets_chain}
-use Rattle.merge_plans.proofs.Parts.{Fits, each_fits, part_out, parts_are}
+use Rattle.merge_plans.proofs.Parts.{each_fits, part_out, parts_are}
 use Rattle.parted_bodies.specs.Making.{binds_of}
 use Rattle.parted_bodies.specs.declared.names.Progress.{Progress}
 use Rattle.merged_parts.specs.Merging.{every_other, merged_all, merged_at, merged_inner, merged_names, merged_opened, merged_part, part_list, GridFits, OpenedFits, PartFits}

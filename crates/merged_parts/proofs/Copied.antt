@@ -1,11 +1,11 @@
 -- Copies of bindings and of a body, one behind the other.
-use Rattle.std.proofs.Common.{◌≡◌, List, [], ◌∷◌, ◌++◌, map, refl, ap, sym, ◌∙◌, append_assoc}
+use Rattle.std.proofs.Common.{◌≡◌, List, ◌++◌, map, refl, ap, sym, ◌∙◌, append_assoc}
 use Rattle.std.proofs.lemmas.List.{map-append}
 use Rattle.core_ir.specs.declared.tree.Block.{Block, Block-F, out-Block, roll-Block}
 use Rattle.core_ir.specs.declared.tree.Let.{Let}
 use Rattle.core_ir.specs.declared.tree.Right.TheBlock.{the_data, the_data-1, the_data-2, the_data-3, the_data-4, the_data-5, the_data-6}
 use Rattle.core_ir.specs.declared.tree.Var.{Var}
-use Rattle.core_ir.specs.Terms.{BlockTerm, LetTerm, Gives, Bind, chain}
+use Rattle.core_ir.specs.Terms.{BlockTerm, Gives, Bind, chain}
 use Rattle.core_ir.specs.View.{block_term, let_term}
 use Rattle.core_ir.proofs.Trees.{block_out, block_roll}
 use Rattle.core_copy.specs.Mapped.{mapped, mapped_right}

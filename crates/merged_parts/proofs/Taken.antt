@@ -1,22 +1,20 @@
 -- The first parted loop of a body, taken out of it.
-use Rattle.std.proofs.Common.{◌≡◌, ℕ, zero, suc, ◌+◌, ◌<◌, List, [], ◌∷◌, ◌++◌, map, length, take, drop, get_or, refl, ap, sym, subst, ◌∙◌, arith, Option, Some, None, true, false, true≢false}
+use Rattle.std.proofs.Common.{◌≡◌, ℕ, suc, ◌+◌, ◌<◌, List, [], ◌∷◌, ◌++◌, map, length, take, drop, get_or, refl, ap, sym, ◌∙◌, arith, Option, Some, None, true, true≢false}
 use Rattle.std.proofs.lemmas.List.{length-map, map-append}
 use Rattle.std.specs.Prelude.{option_map}
 use Rattle.core_ir.specs.declared.tree.Block.{Block, Block-F, out-Block, roll-Block}
 use Rattle.core_ir.specs.declared.tree.Let.{Let}
 use Rattle.core_ir.specs.declared.tree.PartedLoop.{PartedLoop}
-use Rattle.core_ir.specs.declared.tree.Right.{Right}
 use Rattle.core_ir.specs.declared.tree.Right.TheVariants as right
 use Rattle.core_ir.specs.declared.tree.Right.TheBlock.{the_data, the_data-1, the_data-2, the_data-3, the_data-4, the_data-5, the_data-6}
 use Rattle.core_ir.specs.declared.tree.Var.{Var}
-use Rattle.core_ir.specs.Terms.{BlockTerm, LetTerm, Gives, Bind, chain}
-use Rattle.core_ir.specs.View.{block_term, let_term, parted_term, right_term}
+use Rattle.core_ir.specs.Terms.{LetTerm, Gives, Bind, chain}
+use Rattle.core_ir.specs.View.{block_term, let_term, right_term}
 use Rattle.core_ir.proofs.Trees.{block_out, block_roll}
 use Rattle.merge_plans.specs.declared.finding.Nest.{Nest}
 use Rattle.merge_plans.specs.Openings.{Opened, is_parted, lets_of, nest_term, opened}
 use Rattle.merge_plans.proofs.InnerLoops.{found_is, none_is}
 use Rattle.merge_plans.proofs.Opens.{lets_chain, loop_is, not_parted, whole}
-use Rattle.merged_parts.specs.declared.splitting.SplitBody.{SplitBody}
 use Rattle.merged_parts.specs.Splitting.{split, split_of, split_term}
 
 -- ---- a list around one element

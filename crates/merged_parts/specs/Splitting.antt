@@ -1,5 +1,5 @@
 -- A body without its first parted loop, and that loop.
-use Rattle.std.specs.Prelude.{List, [], ◌++◌, Option, option_map}
+use Rattle.std.specs.Prelude.{[], ◌++◌, Option, option_map}
 use Rattle.core_ir.specs.Terms.{BlockTerm, RightTerm, Gives, chain}
 use Rattle.core_ir.specs.View.{block_term, parted_term}
 use Rattle.merge_plans.specs.Openings.{Opened, opened}

@@ -1,4 +1,4 @@
-use Rattle.std.proofs.Common.{ap, ◌∙◌, suc, ◌+◌, length, [], ◌∷◌, ◌++◌}
+use Rattle.std.proofs.Common.{ap, ◌∙◌, ◌++◌}
 use Rattle.core_ir.specs.View.{block_term}
 use Rattle.parted_bodies.specs.Numbering.{named_in}
 use Rattle.merged_parts.proofs.Numbered.{counted_all, named_all, two_pushed}

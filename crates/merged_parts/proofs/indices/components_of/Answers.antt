@@ -1,7 +1,5 @@
-use Rattle.std.proofs.Common.{ap, ◌∙◌, arith, refl}
+use Rattle.std.proofs.Common.{ap, ◌∙◌}
 use Rattle.core_subst.specs.Names.{variable}
-use Rattle.core_ir.specs.View.{let_term}
-use Rattle.merged_parts.specs.Merging.{every_other}
 use Rattle.parted_bodies.specs.declared.names.Progress.{Progress}
 use Rattle.merged_parts.proofs.Numbered.{begun_lets, begun_next, begun_vars, lets_done, lets_turn, next_next, progress_done, progress_turn, vars_done, vars_turn}
 use Rattle.merged_parts.proofs.indices.components_of.Goals as goal

@@ -3,7 +3,7 @@ use Rattle.std.specs.Prelude.{option_map, OnOk}
 use Rattle.core_ir.specs.View.{part_term}
 use Rattle.parted_bodies.specs.Making.{binds_of}
 use Rattle.merged_parts.specs.Splitting.{split_term}
-use Rattle.merged_parts.proofs.Assembled.{inner_fits, merged_is, merged_none}
+use Rattle.merged_parts.proofs.Assembled.{inner_fits, merged_is}
 use Rattle.merged_parts.proofs.merging.add_merged.Goals as goal
 
 pub add_inner-requires : goal.add_inner-requires

@@ -1,5 +1,4 @@
-use Rattle.std.proofs.Common.{◌≡◌, ◌∙◌, ◌+◌, ap, sym, length, refl, rules, suc}
-use Rattle.core_ir.specs.declared.tree.CorePart.{out-CorePart}
+use Rattle.std.proofs.Common.{◌+◌, ap, length, refl}
 use Rattle.core_ir.specs.View.{block_term}
 use Rattle.merge_plans.specs.Openings.{lets_of}
 use Rattle.parted_bodies.specs.declared.names.Progress.{Progress}

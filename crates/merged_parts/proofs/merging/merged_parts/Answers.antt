@@ -1,4 +1,4 @@
-use Rattle.std.proofs.Common.{◌≡◌, ◌++◌, All, refl, ap, sym, subst, map}
+use Rattle.std.proofs.Common.{◌++◌, All, refl, ap, sym, subst, map}
 use Rattle.core_ir.specs.View.{part_term}
 use Rattle.parted_bodies.specs.declared.names.Progress.{Progress}
 use Rattle.merged_parts.specs.Merging.{merged_all, PartFits}

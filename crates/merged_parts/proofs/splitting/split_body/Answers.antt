@@ -1,6 +1,6 @@
-use Rattle.std.proofs.Common.{refl, sym, ap, ◌∙◌}
+use Rattle.std.proofs.Common.{refl, sym}
 use Rattle.core_ir.specs.declared.tree.Block.{out-Block}
-use Rattle.merged_parts.proofs.Taken.{none_split, place_inside, taken_is, taken_not}
+use Rattle.merged_parts.proofs.Taken.{place_inside, taken_is, taken_not}
 use Rattle.merged_parts.proofs.splitting.split_body.Goals as goal
 
 pub remove-right-requires : goal.remove-right-requires
