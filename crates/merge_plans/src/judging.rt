@@ -28,7 +28,7 @@ use std::alloc::Global;
 const MOST_BINDERS: u64 = 65_536;
 
 /// The most axes of a grid.
-const MOST_AXES: usize = 8;
+const GRID_AXES: usize = 8;
 
 /// How many parts the inner loop of a part has, if the part's body is bindings that never fault and a loop of this frame and base, and if its grids fit
 /// behind the part's own.
@@ -177,5 +177,5 @@ fn fit_behind(grid: &Grid, inner: &PartedLoop) -> bool
 fn fits_behind(grid: &Grid, part: &CorePart) -> bool
     ensures { IsTrue result ↔ (length grid.now + length (part_term part.now).head.grid ≤ MOST_AXES) }
 {
-    grid.axes().len() + part.grid.axes().len() <= MOST_AXES
+    grid.axes().len() + part.grid.axes().len() <= GRID_AXES
 }

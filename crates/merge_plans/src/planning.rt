@@ -7,7 +7,7 @@ ghost use Rattle.fact_table.specs.Table.{facts_of};
 ghost use Rattle.plain_facts.specs.Called.{shapes_of};
 ghost use Rattle.merge_plans.specs.Filled.{IsFilled};
 ghost use Rattle.merge_plans.specs.Inners.{AreInner, IsInner};
-ghost use Rattle.merge_plans.specs.Mergeable.{CanMerge, PlanOf, MOST_AXES};
+ghost use Rattle.merge_plans.specs.Mergeable.{CanMerge, PlanOf};
 ghost use Rattle.merge_plans.specs.Seen.{IsSeen, first_frame, frame_seen};
 
 use crate::filling::is_filled;
@@ -24,7 +24,7 @@ use std::alloc::Global;
 const MOST_NUMBER: u64 = 2_147_483_649;
 
 /// The most axes of a grid.
-const MOST_AXES: usize = 8;
+const GRID_AXES: usize = 8;
 
 /// The most parts of all inner loops together.
 const MOST_PARTS: usize = 64;
@@ -94,7 +94,7 @@ fn is_seen(outer: &PartedLoop, inner: &Grid, above: u64) -> bool
 {
     above <= MOST_NUMBER
         && is_genarray(outer.op)
-        && outer.frame.axes().len() + inner.axes().len() <= MOST_AXES
+        && outer.frame.axes().len() + inner.axes().len() <= GRID_AXES
         && is_filled(inner.axes(), outer.cell.extents())
 }
 
