@@ -1,6 +1,6 @@
 -- The variables that made parts bind are numbered one after another.
-use Rattle.std.proofs.Common.{◌≡◌, ℕ, zero, suc, ◌+◌, ◌<◌, ◌≤◌, List, [], ◌∷◌, ◌++◌, map, length, take, drop, All, refl, sym, ap, subst, ◌∙◌, arith, append-nil, append_assoc}
-use Rattle.std.proofs.lemmas.List.{length-append, length-map, take-append-drop}
+use Rattle.std.proofs.Common.{◌≡◌, ℕ, zero, suc, ◌+◌, List, [], ◌∷◌, ◌++◌, map, length, take, drop, refl, sym, ap, subst, ◌∙◌, arith, append-nil, append_assoc}
+use Rattle.std.proofs.lemmas.List.{take-append-drop}
 use Rattle.sac_base.specs.declared.grid.Grid1.{Grid1}
 use Rattle.sac_base.specs.declared.site.Site.{Site}
 use Rattle.core_ir.specs.declared.tree.Var.{Var}
@@ -84,7 +84,7 @@ module _ (grid : List Grid1) (outer : Var) (lets : List LetTerm) where
   pub inner_from : (inner : PartsTerm) (n : ℕ) → AllParts OneEach inner → AreFrom n (bound_in_parts (parts_of (merged_inner grid outer lets (part_list inner) n)))
   inner_from NoParts n h = tt
   inner_from (Part g c rest) n h =
-      let p = record { head = g; body = c } in
+      let p : PartTerm = record { head = g; body = c } in
       let first = merged_at grid outer lets p n in
       let own = first.head.index ∷ bound_in first.body in
       let none : binds_of (first ∷ []) ≡ length own = ap (λ l. suc (length l)) (append-nil (bound_in first.body)) in

@@ -1,12 +1,11 @@
 -- The parts that are made are merged parts, with bodies that bind what they are copies of.
-use Rattle.std.proofs.Common.{◌≡◌, ℕ, zero, suc, ◌+◌, ◌<◌, ◌≤◌, Bool, true, false, ◌||◌, eqb, List, [], ◌∷◌, ◌++◌, map, length, take, drop, All, Option, Some, None, refl, sym, ap, subst, ◌∙◌, arith, ◌⊎◌, inl, inr}
+use Rattle.std.proofs.Common.{◌≡◌, ℕ, zero, suc, ◌+◌, ◌<◌, ◌≤◌, Bool, true, false, ◌||◌, eqb, List, [], ◌∷◌, ◌++◌, length, take, drop, All, Option, refl, sym, ap, subst, ◌∙◌, arith, ◌⊎◌, inl, inr}
 use Rattle.std.proofs.lemmas.List.{length-append, length-drop, length-take-le, take-append-drop}
 use Rattle.std.proofs.lemmas.List.Elements.{All-append, All-cons, All-head, All-nil, All-tail}
 use Rattle.sac_base.specs.declared.base.Base.{Base}
 use Rattle.sac_base.specs.declared.grid.Grid1.{Grid1}
 use Rattle.sac_base.specs.declared.site.Site.{Site}
 use Rattle.core_ir.specs.declared.tree.Var.{Var}
-use Rattle.core_ir.specs.declared.tree.PartedOp.TheVariants as parted
 use Rattle.core_ir.specs.Binders.{is_in, bound_in, bound_in_parts}
 use Rattle.core_ir.specs.Scopes.{Scoped, ScopedParts}
 use Rattle.core_ir.specs.Terms.{BlockTerm, PartsTerm, LetTerm, PartTerm, PartHead, Gives, Bind, NoParts, Part, Parted, chain, parts_of}
@@ -19,7 +18,7 @@ use Rattle.core_loops.specs.Indices.{own_index}
 use Rattle.core_loops.specs.Pairs.{IsNest, Nests}
 use Rattle.core_loops.specs.Steps.{append_parts}
 use Rattle.core_merge_steps.specs.Step.{IndicesMade, InnerMerged, MergedBody, MergedParts, Picks}
-use Rattle.core_merge_forms.specs.Built.{AllParts, index_lets, merged_body, picks}
+use Rattle.core_merge_forms.specs.Built.{AllParts, index_lets, picks}
 use Rattle.core_merge_forms.specs.Fresh.{AlikeInner, AlikeMerged}
 use Rattle.core_merge_forms.proofs.Built.{bodies_merged}
 use Rattle.core_merge_forms.proofs.Inner.{inner_parts}
@@ -29,13 +28,12 @@ use Rattle.core_norm_forms.proofs.Named.{order_between, order_distinct}
 use Rattle.core_norm_forms.proofs.Scopes.{in_right}
 use Rattle.core_subst.specs.Names.{variable}
 use Rattle.parted_bodies.specs.Making.{binds_of}
-use Rattle.merge_plans.specs.Inners.{parts_in}
 use Rattle.merge_plans.specs.Mergeable.{FitBehind, GridsFit}
-use Rattle.merge_plans.specs.Openings.{Opened, opened}
+use Rattle.merge_plans.specs.Openings.{Opened}
 use Rattle.merge_plans.proofs.Opens.{nest_opens}
-use Rattle.merged_parts.specs.Merging.{every_other, merged_all, merged_at, merged_inner, merged_names, merged_opened, merged_part, part_list}
+use Rattle.merged_parts.specs.Merging.{every_other, merged_all, merged_at, merged_inner, merged_opened, merged_part, part_list}
 use Rattle.core_norm_forms.specs.Copied.{AreFrom}
-use Rattle.planned_merges.proofs.Made.{axes_of, bound_parts, inner_from, front_count, front_from, names_of, number_of, own_picks, OneEach}
+use Rattle.planned_merges.proofs.Made.{bound_parts, inner_from, front_count, front_from, names_of, number_of, own_picks, OneEach}
 use Rattle.planned_merges.proofs.Numbering.{from_both, keeps, not_new, old_stays, other_than, turned}
 use Rattle.planned_merges.proofs.Sides.{Inside, around_once, around_within, inner_once, nested, parts_inside, parts_within, scope_apart}
 
@@ -68,7 +66,7 @@ makes_long : (u i l : Var) (n m : ℕ) (makes : List LetTerm) → IndicesMade u 
 makes_long u i l n m makes h =
     let one = ap length h.made in
     let two = length-append h.picks (record { targets = i ∷ []; site = h.first; right = Rattle.core_ir.specs.Terms.Plain (Rattle.core_ir.specs.Terms.PlainTerm.Literal h.front) }
-      ∷ record { targets = l ∷ []; site = h.second; right = Rattle.core_ir.specs.Terms.Plain (Rattle.core_ir.specs.Terms.PlainTerm.Literal h.back) } ∷ []) in
+    ∷ record { targets = l ∷ []; site = h.second; right = Rattle.core_ir.specs.Terms.Plain (Rattle.core_ir.specs.Terms.PlainTerm.Literal h.back) } ∷ []) in
     let three = picked_long u 0 (h.front ++ h.back) h.picks h.picked in
     let four = length-append h.front h.back in
     let five = h.in_front in
@@ -115,7 +113,7 @@ module _ (low n : ℕ) (outside : List Var) (h : PartHead) (before after : List 
   pub each_once : OneEach h.grid h.index lets g c
   each_once = (
     Rattle.core_inlined_bodies.proofs.Names.in_none h.index (g.index ∷ []) bound
-    ((λ i. turned h.index.0 g.index.0 ((or_false (eqb h.index.0 g.index.0) (is_in g.index outside) w.apart).0) i || false)) (scope_apart (chain lets c) (g.index ∷ (h.index ∷ outside)) h.index w.scoped in_scope_outer),
+        ((λ i. turned h.index.0 g.index.0 ((or_false (eqb h.index.0 g.index.0) (is_in g.index outside) w.apart).0) i || false)) (scope_apart (chain lets c) (g.index ∷ (h.index ∷ outside)) h.index w.scoped in_scope_outer),
     (scope_apart (chain lets c) (g.index ∷ (h.index ∷ outside)) g.index w.scoped in_scope_index, w.once),
   )
 
@@ -197,8 +195,8 @@ module _ (low n : ℕ) (outside : List Var) (h : PartHead) (before after : List 
           not_new (h.index ∷ g.index ∷ bound) (number_of h.grid h.index lets part n) each_once low x y (omega (arith, late, low_x)) (omega (arith, high_x, count)) (old_below y q)
 
       equal : (m : MergedBody h before after g c (merged_at h.grid h.index lets part n).head (merged_at h.grid h.index lets part n).body) →
-      length (every_other (length h.grid + length g.grid) (suc n)) ≡ length (take (length h.grid) vars ++ drop (length h.grid) vars) →
-      length (index_lets g.site (variable n) (take (length h.grid) vars) (drop (length h.grid) vars) (every_other (length h.grid + length g.grid) (suc n)) (f h.index) (f g.index)) ≡ length m.makes
+          length (every_other (length h.grid + length g.grid) (suc n)) ≡ length (take (length h.grid) vars ++ drop (length h.grid) vars) →
+          length (index_lets g.site (variable n) (take (length h.grid) vars) (drop (length h.grid) vars) (every_other (length h.grid + length g.grid) (suc n)) (f h.index) (f g.index)) ≡ length m.makes
       equal m long =
           let one = makes_long (variable n) m.outer m.inner (length h.grid) (length g.grid) m.makes m.made in
           let both = take (length h.grid) vars ++ drop (length h.grid) vars in
@@ -217,8 +215,7 @@ module _ (low : ℕ) (outside : List Var) (h : PartHead) (before after : List Le
     (scope_below : (y : Var) → is_in y outside ≡ true → y.0 < low) where
   pub inner_merged :
       (n : ℕ) → low ≤ n → (inner : PartsTerm) → AllParts (Stands low outside h.index (before ++ after)) inner →
-      (m : InnerMerged h before after inner (parts_of (merged_inner h.grid h.index (before ++ after) (part_list inner) n)))
-      × AlikeInner h before after inner (parts_of (merged_inner h.grid h.index (before ++ after) (part_list inner) n)) m
+      (m : InnerMerged h before after inner (parts_of (merged_inner h.grid h.index (before ++ after) (part_list inner) n))) × AlikeInner h before after inner (parts_of (merged_inner h.grid h.index (before ++ after) (part_list inner) n)) m
   inner_merged n late NoParts w = (refl, tt)
   inner_merged n late (Part g c rest) w =
       let first = merged_here low n outside h before after late hidden own_below scope_below g c w.0 in
@@ -284,24 +281,24 @@ module _ (called : ℕ → List (Option (List ℕ))) (k : Facts) (frame : List G
   pub all_merged :
       (ps : List PartTerm) (n : ℕ) → low ≤ n → ScopedParts scope (parts_of ps) → Distinct (bound_in_parts (parts_of ps)) → ((y : Var) → is_in y (bound_in_parts (parts_of ps)) ≡ true → y.0 < low) →
       (count : ℕ) → (w : Nests called k frame base (parts_of ps) count) → Result ps n count w
-  all_merged [] n late s d f count w = record { parts = refl; alike = tt; order = tt }
-  all_merged (p ∷ ps) n late s d f count w =
+  all_merged [] n late s d low_of count w = record { parts = refl; alike = tt; order = tt }
+  all_merged (p ∷ ps) n late s d low_of count w =
       let h = p.head in
       let more = bound_in p.body ++ bound_in_parts (parts_of ps) in
       let nest = w.1.1.0 in
-      let at = record {
+      let at : AtPart h p.body = record {
         hidden = s.0;
         scoped = s.1;
         once = distinct_left (bound_in p.body) (bound_in_parts (parts_of ps)) d.1;
-        below = λ y m. f y (behind_first y h.index more (in_left y (bound_in p.body) (bound_in_parts (parts_of ps)) m));
-        own = f h.index (itself h.index more);
+        below = λ y m. low_of y (behind_first y h.index more (in_left y (bound_in p.body) (bound_in_parts (parts_of ps)) m));
+        own = low_of h.index (itself h.index more);
       } in
       let stands = stand h p.body w.0 nest at in
       let own = merged_inner h.grid h.index (nest.before ++ nest.after) (part_list w.0) n in
       let made = part_made p n w.0 nest in
       let next = n + binds_of (merged_part p n) in
       let rest = all_merged ps next (omega (arith, late)) s.2 (distinct_right (bound_in p.body) (bound_in_parts (parts_of ps)) d.1)
-      (λ y m. f y (behind_first y h.index more (in_right y (bound_in p.body) (bound_in_parts (parts_of ps)) m))) w.1.0 w.1.1.1 in
+      (λ y m. low_of y (behind_first y h.index more (in_right y (bound_in p.body) (bound_in_parts (parts_of ps)) m))) w.1.0 w.1.1.1 in
       let inner = inner_merged low scope h nest.before nest.after s.0 at.own scope_below n late w.0 stands in
       let first = inner_from h.grid h.index (nest.before ++ nest.after) w.0 n (all_once low scope h nest.before nest.after s.0 at.own scope_below n late w.0 stands) in
       record {

@@ -1,5 +1,5 @@
 -- New numbers for the variables of a list: what they stand for, one after another, and apart from all others.
-use Rattle.std.proofs.Common.{◌≡◌, ℕ, zero, suc, ◌+◌, ◌<◌, ◌≤◌, Bool, true, false, ◌||◌, cond, eqb, List, [], ◌∷◌, ◌++◌, map, length, refl, sym, ap, subst, ◌∙◌, arith, ◌⊎◌, inl, inr}
+use Rattle.std.proofs.Common.{◌≡◌, ℕ, suc, ◌+◌, ◌<◌, ◌≤◌, Bool, true, false, ◌||◌, cond, eqb, List, [], ◌∷◌, ◌++◌, map, length, refl, sym, ap, subst, ◌∙◌, arith}
 use Rattle.std.proofs.lemmas.Bool.{eqb-true, eq-eqb}
 use Rattle.std.proofs.lemmas.List.{length-map}
 use Rattle.core_ir.specs.declared.tree.Var.{Var}
@@ -7,7 +7,7 @@ use Rattle.core_ir.specs.Binders.{is_in}
 use Rattle.core_ir.specs.WellFormed.{Distinct}
 use Rattle.core_ir.proofs.Variables.{or_false, same_number}
 use Rattle.core_subst.specs.Names.{variable}
-use Rattle.core_inlined_bodies.proofs.Names.{clash, itself}
+use Rattle.core_inlined_bodies.proofs.Names.{clash}
 use Rattle.core_norm_forms.specs.Copied.{AreFrom}
 use Rattle.core_norm_forms.proofs.Named.{order_between, order_distinct}
 use Rattle.parted_bodies.specs.Numbering.{named, numbered}

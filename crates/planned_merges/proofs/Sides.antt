@@ -1,21 +1,19 @@
 -- What a part's body binds around its inner loop, and in each part of it: each variable once.
-use Rattle.std.proofs.Common.{◌≡◌, Bool, true, false, ◌||◌, eqb, List, [], ◌∷◌, ◌++◌, refl, sym, ap, subst, ◌∙◌, append_assoc, ◌⊎◌, inl, inr}
+use Rattle.std.proofs.Common.{◌≡◌, true, false, List, [], ◌∷◌, ◌++◌, refl, sym, ap, subst, ◌∙◌, append_assoc, ◌⊎◌, inl, inr}
 use Rattle.sac_base.specs.declared.base.Base.{Base}
 use Rattle.sac_base.specs.declared.grid.Grid1.{Grid1}
 use Rattle.sac_base.specs.declared.site.Site.{Site}
 use Rattle.core_ir.specs.declared.tree.Var.{Var}
 use Rattle.core_ir.specs.declared.tree.PartedOp.TheVariants as parted
-use Rattle.core_ir.specs.Binders.{is_in, NoneIn, bound_in, bound_in_right, bound_in_parts}
+use Rattle.core_ir.specs.Binders.{is_in, bound_in, bound_in_right, bound_in_parts}
 use Rattle.core_ir.specs.Scopes.{Scoped}
 use Rattle.core_ir.specs.Terms.{BlockTerm, PartsTerm, LetTerm, PartHead, Gives, Bind, NoParts, Part, Parted, chain}
 use Rattle.core_ir.specs.WellFormed.{Distinct}
-use Rattle.core_ir.proofs.Variables.{or_false}
 use Rattle.core_edits.proofs.Wider.{bound_new}
 use Rattle.core_inlined_bodies.proofs.Names.{behind_first, clash, distinct_apart, distinct_both, distinct_left, distinct_right, in_either, in_left, itself, none_at, not_in}
 use Rattle.core_merge_forms.specs.Built.{AllParts}
 use Rattle.core_merge_forms.proofs.Straight.{chain_append}
 use Rattle.core_norm_forms.proofs.Scopes.{in_right}
-use Rattle.planned_merges.proofs.Numbering.{other_than, turned}
 
 abbrev pub ends : List LetTerm → List Var
 ends ls = bound_in (chain ls (Gives []))
@@ -107,16 +105,13 @@ module _ (before after : List LetTerm) (z : Var) (s : Site) (frame : List Grid1)
         ap (is_in y) bound_is
         ∙ go (in_either y (ends before) (ends after ++ bound_in c) (sym (ap (is_in y) (ap bound_in (chain_append before after c) ∙ bound_chain before (chain after c) ∙ ap (λ xs. ends before ++ xs) (bound_chain after c))) ∙ h))
       where
-        abbrev rest : List Var
-        rest = z ∷ (all ++ bound_in (chain after (Gives (z ∷ []))))
-
-        side : (is_in y (ends after) ≡ true) ⊎ (is_in y (bound_in c) ≡ true) → is_in y rest ≡ true
+        side : (is_in y (ends after) ≡ true) ⊎ (is_in y (bound_in c) ≡ true) → is_in y (z ∷ (all ++ bound_in (chain after (Gives (z ∷ []))))) ≡ true
         side (inl m) = in_whole y (in_right y all (bound_in (chain after (Gives (z ∷ [])))) (after_in y m))
         side (inr m) = in_whole y (in_left y all (bound_in (chain after (Gives (z ∷ [])))) (within y m))
 
-        go : (is_in y (ends before) ≡ true) ⊎ (is_in y (ends after ++ bound_in c) ≡ true) → is_in y (ends before ++ rest) ≡ true
-        go (inl m) = in_left y (ends before) rest m
-        go (inr m) = in_right y (ends before) rest (side (in_either y (ends after) (bound_in c) m))
+        go : (is_in y (ends before) ≡ true) ⊎ (is_in y (ends after ++ bound_in c) ≡ true) → is_in y (ends before ++ (z ∷ (all ++ bound_in (chain after (Gives (z ∷ [])))))) ≡ true
+        go (inl m) = in_left y (ends before) (z ∷ (all ++ bound_in (chain after (Gives (z ∷ []))))) m
+        go (inr m) = in_right y (ends before) (z ∷ (all ++ bound_in (chain after (Gives (z ∷ []))))) (side (in_either y (ends after) (bound_in c) m))
 
     pub parts_within : (y : Var) → is_in y all ≡ true → is_in y (bound_in nested) ≡ true
     parts_within y h = ap (is_in y) bound_is ∙ in_right y (ends before) (z ∷ (all ++ bound_in (chain after (Gives (z ∷ []))))) (in_whole y (in_left y all (bound_in (chain after (Gives (z ∷ [])))) h))

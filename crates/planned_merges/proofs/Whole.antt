@@ -1,14 +1,12 @@
 -- A loop that is merged by a plan is merged with new variables.
-use Rattle.std.proofs.Common.{◌≡◌, ℕ, ◌+◌, ◌<◌, ◌≤◌, true, List, [], ◌∷◌, ◌++◌, length, All, Option, Some, refl, sym, ap, subst, arith}
+use Rattle.std.proofs.Common.{◌≡◌, ℕ, ◌+◌, ◌<◌, ◌≤◌, true, List, [], ◌∷◌, ◌++◌, length, All, Option, sym, subst, arith}
 use Rattle.std.proofs.lemmas.List.Elements.{All-cons, All-nil}
 use Rattle.sac_base.specs.declared.base.Base.{Base}
 use Rattle.sac_base.specs.declared.grid.Grid1.{Grid1}
 use Rattle.core_ir.specs.declared.tree.Var.{Var}
 use Rattle.core_ir.specs.declared.tree.PartedOp.TheVariants as parted
 use Rattle.core_ir.specs.Binders.{is_in, bound_in, bound_in_parts}
-use Rattle.core_ir.specs.Scopes.{ScopedParts}
 use Rattle.core_ir.specs.Terms.{BlockTerm, PartTerm, Bind, Parted, parts_of}
-use Rattle.core_ir.specs.WellFormed.{Distinct}
 use Rattle.core_facts.specs.Facts.{Facts, in_part}
 use Rattle.core_loops.specs.Indices.{own_index}
 use Rattle.core_loops.specs.Pairs.{Nests}
