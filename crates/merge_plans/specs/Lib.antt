@@ -1,0 +1,5 @@
+pub mod Openings
+pub mod Mergeable
+pub mod Inners
+pub mod Filled
+pub mod Seen

@@ -1,0 +1,4 @@
+pub mod Numbered
+pub mod Copied
+pub mod Taken
+pub mod Assembled
