@@ -73,8 +73,8 @@ below_low x low n p q = omega (arith, p, q)
 
 -- ---- the place
 
--- a producer, a piece, and what holds of the producer's parts
-pub record Setting (around : List Var) (low : ℕ) (p : Producer) (sources : List PartTerm) (grid : List Grid1) : Type 0 where
+-- a producer, and what holds of its parts
+pub record Setting (around : List Var) (low : ℕ) (p : Producer) (sources : List PartTerm) : Type 0 where
   pub given : p.parts ≡ parts_of sources
   pub below : All (λ (x : Var). x.0 < low) around
   pub known : (j : ℕ) (part : PartTerm) → slice_get sources j ≡ Some part → Source around part
@@ -82,10 +82,13 @@ pub record Setting (around : List Var) (low : ℕ) (p : Producer) (sources : Lis
   pub own : (j : ℕ) (part : PartTerm) → slice_get sources j ≡ Some part → Avoids p.var part.body
   pub old : (x : Var) → low ≤ x.0 → (j : ℕ) (part : PartTerm) → slice_get sources j ≡ Some part → Avoids x part.body
   pub var : p.var.0 < low
+
+-- a piece that has a member
+pub record HasMember (grid : List Grid1) : Type 0 where
   pub member : List ℤ
   pub has : has_vector grid member ≡ true
 
-module _ (called : ℕ → List (Option (List ℕ))) (p : Producer) (sources : List PartTerm) (holders : List ℕ) (axes : ℕ) (grid : List Grid1) (low high : ℕ) (around : List Var) (at : Setting around low p sources grid) where
+module _ (called : ℕ → List (Option (List ℕ))) (p : Producer) (sources : List PartTerm) (holders : List ℕ) (axes : ℕ) (grid : List Grid1) (low high : ℕ) (around : List Var) (at : Setting around low p sources) (some : HasMember grid) where
   abbrev grids : List (List Grid1)
   grids = grids_of (parts_of sources)
 
@@ -170,11 +173,11 @@ module _ (called : ℕ → List (Option (List ℕ))) (p : Producer) (sources : L
         let later = offsets called p.var axes b k' m' in
         let first : (cond (eqb p.var.0 p.var.0) (o ∷ []) [] ++ later) ++ os ≡ o ∷ (later ++ os) = λ i. (cond (eq-eqb p.var.0 p.var.0 refl i) (o ∷ []) [] ++ later) ++ os in
         let all : Held (o ∷ (later ++ os)) i = subst (λ l. Held l i) first h in
-        let f = held_first grids at.member o (later ++ os) (drop i holders) (all at.member at.has) in
+        let f = held_first grids some.member o (later ++ os) (drop i holders) (all some.member some.has) in
         let drops = at_drop holders i f.number f.others f.whole in
         let same : f.number ≡ number = ap (λ (o : Option ℕ). unwrap_or o f.number) (sym drops.0 ∙ held) in
         let both : (v : List ℤ) → has_vector grid v ≡ true → Rattle.fold_pieces.specs.Pieces.HasFirst grids (moved v f.offset) f.number × HeldBy grids v (later ++ os) f.others =
-        λ v q. first_same grids at.member v o (later ++ os) (drop i holders) f (all v q) in
+        λ v q. first_same grids some.member v o (later ++ os) (drop i holders) f (all v q) in
         let holds : (v : List ℤ) → has_vector grid v ≡ true → HeldIn p.parts (moved v f.offset) part.head part.body =
         λ v q. subst (λ ps. HeldIn ps (moved v f.offset) part.head part.body) (sym at.given)
         (number_holds sources (moved v f.offset) number part there (subst (λ j. Rattle.fold_pieces.specs.Pieces.HasFirst grids (moved v f.offset) j) same (both v q).0)) in
@@ -215,9 +218,9 @@ module _ (called : ℕ → List (Option (List ℕ))) (p : Producer) (sources : L
       go true e =
           let o = offset_of (m y) in
           let all : Held (o ∷ os) i = subst (λ l. Held l i) (λ l. cond (e l) (o ∷ []) [] ++ os) h in
-          let f = held_first grids at.member o os (drop i holders) (all at.member at.has) in
+          let f = held_first grids some.member o os (drop i holders) (all some.member some.has) in
           let drops = at_drop holders i f.number f.others f.whole in
-          let w = number_names sources (moved at.member f.offset) f.number f.has in
+          let w = number_names sources (moved some.member f.offset) f.number f.has in
           none_chosen (chosen p.var sources holders i (Plain (PlainTerm.Select x y))) (y, w.0) none (is_chosen p.var sources holders i x y f.number w.0 e drops.0 w.1)
       go false e =
           record { folded = refl; copied = tt; gone = (e, only); rest = subst (λ l. Held l i) (λ l. cond (e l) (offset_of (m y) ∷ []) [] ++ os) h }

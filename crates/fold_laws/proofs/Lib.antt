@@ -6,3 +6,5 @@ pub mod Sources
 pub mod Folded
 pub mod Holding
 pub mod Folding
+pub mod Unchanged
+pub mod Pieces
