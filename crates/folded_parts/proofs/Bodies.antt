@@ -1,5 +1,5 @@
 -- The bindings that stand for a selection, and the parts that are made of folded bodies.
-use Rattle.std.proofs.Common.{◌≡◌, ℕ, suc, ◌+◌, List, [], ◌∷◌, ◌++◌, map, length, refl, sym, ap, subst, ◌∙◌, append_assoc}
+use Rattle.std.proofs.Common.{◌≡◌, ℕ, suc, ◌+◌, List, [], ◌∷◌, ◌++◌, map, length, refl, sym, ap, subst, ◌∙◌, append_assoc, arith}
 use Rattle.sac_base.specs.declared.grid.Grid1.{Grid1}
 use Rattle.sac_base.specs.declared.site.Site.{Site}
 use Rattle.core_ir.specs.declared.tree.Block.{Block, out-Block}
@@ -8,14 +8,15 @@ use Rattle.core_ir.specs.declared.tree.Let.{Let}
 use Rattle.core_ir.specs.declared.tree.Right.TheBlock.{the_data, the_data-1, the_data-2, the_data-3, the_data-4, the_data-5, the_data-6}
 use Rattle.core_ir.specs.declared.tree.Var.{Var}
 use Rattle.core_ir.specs.Binders.{bound_in}
-use Rattle.core_ir.specs.Terms.{PlainTerm, BlockTerm, LetTerm, PartTerm, Gives, Bind, Plain, chain}
+use Rattle.core_ir.specs.Terms.{PlainTerm, BlockTerm, LetTerm, PartTerm, Gives, Plain, chain}
 use Rattle.core_ir.specs.View.{block_term, let_term, part_term}
 use Rattle.core_ir.proofs.Trees.{block_out}
 use Rattle.core_copy.specs.Mapped.{mapped}
 use Rattle.core_inlining.specs.Inlined.{bindings, results}
 use Rattle.core_subst.specs.Names.{variable}
+use Rattle.parted_bodies.specs.declared.names.Progress.{Progress}
 use Rattle.parted_bodies.specs.Numbering.{named, numbered}
-use Rattle.folded_parts.specs.Folding.{BlockFolded, copied, last_copy, taken}
+use Rattle.folded_parts.specs.Folding.{BlockFolded, copied, copy_binds, last_copy, taken}
 use Rattle.folded_parts.specs.Making.{PieceMade}
 use Rattle.folded_parts.proofs.Turns.{map_both}
 
@@ -50,10 +51,23 @@ names_made f0 f1 f2 x index bound m e0 e1 e2 =
     let p1 : f1 ≡ named (λ w. w) x index = λ i z. (e1 z ∙ (λ j. named (λ w. e0 w j) x index z)) i in
     λ i z. (e2 z ∙ (λ j. numbered (p1 j) bound m z)) i
 
-pub copy_made : (x : Var) (old new : BlockTerm) (n m : ℕ) (index : Var) (bound : List Var) (f0 f1 f2 : Var → Var) → ((z : Var) → f0 z ≡ z) → ((z : Var) → f1 z ≡ named f0 x index z) → ((z : Var) → f2 z ≡ numbered f1 bound m z) →
-    bound ≡ bound_in old → new ≡ mapped f2 old → index ≡ variable n → m ≡ suc n → new ≡ mapped (numbered (named (λ w. w) x (variable n)) (bound_in old) (suc n)) old
-copy_made x old new n m index bound f0 f1 f2 e0 e1 e2 eb en ei em =
-    en ∙ (λ j. mapped (names_made f0 f1 f2 x index bound m e0 e1 e2 j) old) ∙ (λ j. mapped (numbered (named (λ w. w) x (ei j)) (eb j) (em j)) old)
+pub renamed_made : (x own : Var) (old new : BlockTerm) (m : ℕ) (bound : List Var) (f0 f1 f2 : Var → Var) → ((z : Var) → f0 z ≡ z) → ((z : Var) → f1 z ≡ named f0 x own z) → ((z : Var) → f2 z ≡ numbered f1 bound m z) →
+    bound ≡ bound_in old → new ≡ mapped f2 old → new ≡ mapped (numbered (named (λ w. w) x own) (bound_in old) m) old
+renamed_made x own old new m bound f0 f1 f2 e0 e1 e2 eb en =
+    en ∙ (λ j. mapped (names_made f0 f1 f2 x own bound m e0 e1 e2 j) old) ∙ (λ j. mapped (numbered (named (λ w. w) x own) (eb j) m) old)
+
+pub copy_made : (part : CorePart) (new : BlockTerm) (n m : ℕ) (own : Var) → new ≡ mapped (numbered (named (λ w. w) (out-CorePart part).index own) (bound_in (block_term (out-CorePart part).body)) m) (block_term (out-CorePart part).body) →
+    own ≡ variable n → m ≡ suc n → new ≡ copied (part_term part) n
+copy_made part new n m own e eo em =
+    let x = out-CorePart part in
+    e ∙ (λ j. mapped (numbered (named (λ w. w) x.index (eo j)) (bound_in (block_term x.body)) (em j)) (block_term x.body)) ∙ ap (λ t. copied t n) (sym (part_out part))
+
+-- how many variables a copy takes
+pub copy_taken : (part : CorePart) (p q r : Progress) → q ≡ record p { next = suc p.next } → r ≡ record q { next = q.next + length (bound_in (block_term (out-CorePart part).body)) } → r ≡ record p { next = p.next + copy_binds (part_term part) }
+copy_taken part p q r e f =
+    let bound = bound_in (block_term (out-CorePart part).body) in
+    let count : suc p.next + length bound ≡ p.next + suc (length bound) = omega arith in
+    f ∙ (λ j. record (e j) { next = (e j).next + length bound }) ∙ (λ j. record p { next = count j }) ∙ (λ j. record p { next = p.next + copy_binds (sym (part_out part) j) })
 
 -- the index, the bindings of the copy, and the target
 pub taken_made :
@@ -76,17 +90,20 @@ taken_made part index targets site n own block before first second last l eb eo 
 
 -- the part of a piece
 pub piece_made :
-    (p : Var) (parts : List PartTerm) (holders : List ℕ) (old : CorePart) (grid : List Grid1) (n : ℕ) (x : CorePart-F the_data the_data-1 the_data-2 the_data-3 the_data-4 the_data-5 the_data-6) (body : BlockTerm) (passed next after : ℕ) →
-    BlockFolded p parts holders 0 n (block_term (out-CorePart old).body) body passed next → x.grid ≡ grid → x.index ≡ variable next → x.site ≡ (out-CorePart old).site →
-    block_term x.body ≡ mapped (numbered (named (λ w. w) (out-CorePart old).index (variable next)) (bound_in body) (suc next)) body → after ≡ suc next + length (bound_in body) →
-    PieceMade p parts holders (part_term old) grid n (part_term (roll-CorePart x)) after
-piece_made p parts holders old grid n x body passed next after f eg ei es eb ea =
-    subst (λ (t : PartTerm). PieceMade p parts holders t grid n (part_term (roll-CorePart x)) after) (sym (part_out old))
+    (p : Var) (parts : List PartTerm) (holders : List ℕ) (old : CorePart) (grid : List Grid1) (n m m' after : ℕ) (new : PartTerm) (body renamed : BlockTerm) (own : Var) →
+    (passed : ℕ) × BlockFolded p parts holders 0 n (block_term (out-CorePart old).body) body passed m →
+    new ≡ record { head = record { grid = grid; index = own; site = (out-CorePart old).site }; body = renamed } →
+    renamed ≡ mapped (numbered (named (λ w. w) (out-CorePart old).index own) (bound_in body) m') body → own ≡ variable m → m' ≡ suc m → after ≡ m' + length (bound_in body) →
+    PieceMade p parts holders (part_term old) grid n new after
+piece_made p parts holders old grid n m m' after new body renamed own folded en er eo em ea =
+    let x = out-CorePart old in
+    subst (λ (t : PartTerm). PieceMade p parts holders t grid n new after) (sym (part_out old))
     (record {
       body = body;
-      passed = passed;
-      next = next;
-      folded = f;
-      made = part_roll x ∙ (λ i. record { head = record { grid = eg i; index = ei i; site = es i }; body = eb i });
-      up_to = ea;
+      passed = folded.0;
+      next = m;
+      folded = folded.1;
+      made = en ∙ (λ i. record { head = record { grid = grid; index = eo i; site = x.site }; body = er i })
+          ∙ (λ i. record { head = record { grid = grid; index = variable m; site = x.site }; body = mapped (numbered (named (λ w. w) x.index (eo i)) (bound_in body) (em i)) body });
+      up_to = ea ∙ (λ i. em i + length (bound_in body));
     })

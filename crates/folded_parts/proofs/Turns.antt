@@ -1,5 +1,5 @@
 -- A body whose bindings are folded one after another.
-use Rattle.std.proofs.Common.{◌≡◌, ℕ, Bool, suc, ◌+◌, List, [], ◌∷◌, ◌++◌, map, length, Option, Some, None, refl, sym, ap, subst, ◌∙◌, arith}
+use Rattle.std.proofs.Common.{◌≡◌, ℕ, Bool, suc, ◌+◌, List, [], ◌∷◌, ◌++◌, map, length, Some, None, refl, sym, ap, subst, ◌∙◌, arith}
 use Rattle.std.specs.Prelude.{Vec}
 use Rattle.std.specs.declared.alloc.Global.{Global}
 use Rattle.core_ir.specs.declared.tree.Var.{Var}
@@ -77,6 +77,10 @@ module _ (p : Var) (parts : List PartTerm) (holders : List ℕ) where
       BlockFolded p parts holders j l b d k m → RightFolded p parts holders i n r (RightTerm.Loop first start params c d s) k m
   loop_folded {i = i} {n = n} {k = k} {m = m} {first = first} {start = start} {params = params} {c = c} {d = d} {s = s} e f g =
       subst (λ (z : RightTerm). RightFolded p parts holders i n z (RightTerm.Loop first start params c d s) k m) (sym e) (turns f g)
+
+-- the same targets under another name
+pub taken_at : (part : PartTerm) (index : Var) (site : Site) (n : ℕ) (ts us : List Var) (before after : List LetTerm) → after ≡ before ++ taken part index ts site n → ts ≡ us → after ≡ before ++ taken part index us site n
+taken_at part index site n ts us before after e f = subst (λ (zs : List Var). after ≡ before ++ taken part index zs site n) f e
 
 -- what is neither a conditional nor a loop is kept whole
 pub is_whole :

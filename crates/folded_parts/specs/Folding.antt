@@ -39,7 +39,8 @@ part_for parts (Some j) = slice_get parts j
 
 -- The index and the part, where a right side is a selection from the producer. So many selections came before it.
 abbrev pub chosen : Var → List PartTerm → List ℕ → ℕ → RightTerm → Option (Var × PartTerm)
-chosen p parts holders i (Plain (PlainTerm.Select x index)) = if eqb p.0 x.0 then option_map (λ part. (index, part)) (part_for parts (slice_get holders i)) else None
+chosen p parts holders i (Plain (PlainTerm.Select x index)) =
+    if eqb p.0 x.0 then option_map (λ part. (index, part)) (part_for parts (slice_get holders i)) else None
 chosen p parts holders i r = None
 
 -- ---- folded bodies

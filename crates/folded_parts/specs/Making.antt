@@ -8,10 +8,11 @@ use Rattle.core_ir.specs.Terms.{BlockTerm, PartTerm}
 use Rattle.core_copy.specs.Mapped.{mapped}
 use Rattle.core_subst.specs.Names.{variable}
 use Rattle.parted_bodies.specs.Numbering.{named, numbered}
-use Rattle.folded_parts.specs.Folding.{BlockFolded, copied}
+use Rattle.folded_parts.specs.Folding.{BlockFolded}
 
 -- The part of a piece. The copies in the folded body have the numbers from n on, and all variables of the part those behind them.
-pub record PieceMade (p : Var) (parts : List PartTerm) (holders : List ℕ) (old : PartTerm) (grid : List Grid1) (n : ℕ) (new : PartTerm) (after : ℕ) : Type 0 where
+pub record PieceMade (p : Var) (parts : List PartTerm) (holders : List ℕ) (old : PartTerm) (grid : List Grid1)
+    (n : ℕ) (new : PartTerm) (after : ℕ) : Type 0 where
   pub body : BlockTerm
   pub passed : ℕ
   pub next : ℕ

@@ -1,14 +1,14 @@
 //! A body in which copies stand for the selections from a producer.
 
-ghost use Rattle.std.specs.Prelude.{◌≡◌, ◌++◌, OnOk, IfOk, map, List};
+ghost use Rattle.std.specs.Prelude.{◌≡◌, ◌++◌, [], ◌∷◌, OnOk, IfOk, map, List};
 ghost use Rattle.core_ir.specs.Terms.{LetTerm};
 ghost use Rattle.core_ir.specs.View.{block_term, let_term, part_term, right_term};
 ghost use Rattle.folded_parts.specs.Folding.{BlockFolded, LetFolded, RightFolded};
 
 use crate::taking::{Source, push_taken};
-use core_ir::{Block, Let, Right};
+use core_ir::{Block, Let, Right, Var};
 use parted_bodies::Progress;
-use sac_base::Memory;
+use sac_base::{Memory, Site};
 use std::alloc::Global;
 
 /// Replaces the selections of a block from a producer. So many selections came before.
@@ -57,18 +57,18 @@ fn fold_binding(
         site,
         right,
     } = binding;
-    if let Some((index, part)) = source.chosen(&right, *passed) {
-        *passed += 1;
-        push_taken(alloc, part, index, &targets, site, folded, progress)?;
-        return Ok(());
+    match source.chosen(&right, *passed) {
+        Some((index, part)) => {
+            *passed += 1;
+            push_taken(alloc, part, index, &targets, site, folded, progress)?;
+            Ok(())
+        }
+        None => {
+            let right = fold_right(alloc, right, source, passed, progress)?;
+            push_kept(targets, site, right, folded)?;
+            Ok(())
+        }
     }
-    let right = fold_right(alloc, right, source, passed, progress)?;
-    folded.push(Let {
-        targets,
-        site,
-        right,
-    })?;
-    Ok(())
 }
 
 #[cycle(folding)]
@@ -109,4 +109,16 @@ fn fold_right(
         }
         whole => Ok(whole),
     }
+}
+
+fn push_kept(targets: Vec<Var>, site: Site, right: Right, lets: &mut Vec<Let>) -> Result<(), Memory>
+    ensures { OnOk result (map let_term lets.new.items ≡ map let_term lets.old.items
+        ++ (record { targets = targets.items; site = site; right = right_term right } ∷ [])) }
+{
+    lets.push(Let {
+        targets,
+        site,
+        right,
+    })?;
+    Ok(())
 }

@@ -3,6 +3,7 @@
 
 mod folding;
 mod pieces;
+mod renaming;
 mod taking;
 
 pub use pieces::{folded_part, folded_pieces};

@@ -1,14 +1,16 @@
 //! The part of a piece of a consumer's part.
 
-ghost use Rattle.std.specs.Prelude.{◌≡◌, OnOk, IfOk, map};
-ghost use Rattle.core_ir.specs.View.{part_term};
+ghost use Rattle.std.specs.Prelude.{◌≡◌, ℕ, IfOk, map};
+ghost use Rattle.core_ir.specs.View.{block_term, part_term};
+ghost use Rattle.folded_parts.specs.Folding.{BlockFolded};
 ghost use Rattle.folded_parts.specs.Making.{PieceMade, PiecesMade};
 
 use crate::folding::fold_block;
+use crate::renaming::renamed;
 use crate::taking::Source;
-use core_ir::{CorePart, Var, copy_block as copy_whole};
-use parted_bodies::{Names, Progress, bound_in, copy_block};
-use sac_base::{Grid, Memory};
+use core_ir::{Block, CorePart, Var, copy_block};
+use parted_bodies::Progress;
+use sac_base::{Grid, Memory, Site};
 use std::alloc::Global;
 
 /// The part of a consumer for one piece of the grid of an old part: its body, in which the bindings of the producer's parts stand for selections from the
@@ -27,19 +29,37 @@ pub fn folded_part(
     ensures { IfOk result (λ new. PieceMade source.now.producer (map part_term source.now.parts.now) source.now.holders.now (part_term old.now) grid
         progress.old.next (part_term new) progress.new.next) }
 {
-    let mut passed = 0;
-    let body = copy_whole(alloc, &old.body)?;
-    let body = fold_block(alloc, body, source, &mut passed, progress)?;
+    let body = folded_body(alloc, &old.body, source, progress)?;
     let index = progress.take()?;
-    let mut names = Names::new(alloc);
-    names.set(old.index, index)?;
-    names.set_all(&bound_in(alloc, &body)?, progress)?;
-    Ok(CorePart {
+    let body = renamed(alloc, &body, old.index, index, progress)?;
+    Ok(part_of(grid, index, body, old.site))
+}
+
+/// A copy of a body in which the bindings of the producer's parts stand for selections from the producer.
+fn folded_body(
+    alloc: Global,
+    body: &Block,
+    source: &Source<'_>,
+    progress: &mut Progress,
+) -> Result<Block, Memory>
+    ensures { IfOk result (λ new. (passed : ℕ) × BlockFolded source.now.producer (map part_term source.now.parts.now) source.now.holders.now
+        0 progress.old.next (block_term body.now) (block_term new) passed progress.new.next) }
+{
+    let mut passed = 0;
+    let whole = copy_block(alloc, body)?;
+    let folded = fold_block(alloc, whole, source, &mut passed, progress)?;
+    Ok(folded)
+}
+
+fn part_of(grid: Grid, index: Var, body: Block, site: Site) -> CorePart
+    ensures { part_term result ≡ record { head = record { grid = grid; index = index; site = site }; body = block_term body } }
+{
+    CorePart {
         grid,
         index,
-        body: copy_block(alloc, &body, &names)?,
-        site: old.site,
-    })
+        body,
+        site,
+    }
 }
 
 /// The parts of a consumer for all pieces of an old part. Each piece has the number of a part of the producer for each selection.

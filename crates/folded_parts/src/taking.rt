@@ -5,8 +5,9 @@ ghost use Rattle.core_ir.specs.Terms.{Plain, Copy};
 ghost use Rattle.core_ir.specs.View.{let_term, part_term, right_term};
 ghost use Rattle.folded_parts.specs.Folding.{chosen as chosen_by, copy_binds, last_copy as last_of, part_for, taken};
 
+use crate::renaming::renamed;
 use core_ir::{Block, CorePart, Let, Right, Var};
-use parted_bodies::{Names, Progress, bound_in, copy_block};
+use parted_bodies::Progress;
 use sac_base::{Memory, Site};
 use std::alloc::Global;
 
@@ -65,18 +66,16 @@ pub fn push_taken(
     lets: &mut Vec<Let>,
     progress: &mut Progress,
 ) -> Result<(), Memory>
-    ensures lets { OnOk result (map let_term lets.new.items ≡ map let_term lets.old.items ++ taken (part_term part.now) index targets.now site progress.old.next) }
+    ensures lets { OnOk result (map let_term lets.new.items
+        ≡ map let_term lets.old.items ++ taken (part_term part.now) index targets.now site progress.old.next) }
     ensures next { OnOk result (progress.new ≡ record progress.old { next = progress.old.next + copy_binds (part_term part.now) }) }
 {
     let own = progress.take()?;
     lets.push(copy_of(alloc, own, site, index)?)?;
-    let mut names = Names::new(alloc);
-    names.set(part.index, own)?;
-    names.set_all(&bound_in(alloc, &part.body)?, progress)?;
     let Block {
         lets: mut inner,
         results,
-    } = copy_block(alloc, &part.body, &names)?;
+    } = renamed(alloc, &part.body, part.index, own, progress)?;
     lets.append(&mut inner)?;
     push_last(alloc, targets, &results, site, lets)?;
     Ok(())

@@ -1,9 +1,9 @@
-use Rattle.std.proofs.Common.{◌≡◌, ◌∙◌, ◌++◌, ◌+◌, suc, [], ◌∷◌, ap, map, refl, sym, subst, arith}
+use Rattle.std.proofs.Common.{◌+◌, [], ◌∷◌, ap, map, refl, arith}
 use Rattle.core_ir.specs.Terms.{LetTerm}
 use Rattle.core_ir.specs.View.{let_term, part_term, right_term}
 use Rattle.parted_bodies.specs.declared.names.Progress.{Progress}
 use Rattle.folded_parts.specs.Folding.{stays, taken}
-use Rattle.folded_parts.proofs.Turns.{going_first, going_on, block_folded, let_kept, let_taken, if_folded, loop_folded, none_left, map_snoc, is_whole}
+use Rattle.folded_parts.proofs.Turns.{going_first, going_on, block_folded, let_kept, let_taken, if_folded, loop_folded, none_left, taken_at, is_whole}
 use Rattle.folded_parts.proofs.folding.+folding.Goals as goal
 
 pub fold_block-loop-binding-init : goal.fold_block-loop-binding-init
@@ -25,26 +25,30 @@ fold_block-returns t c =
     block_folded s.producer (map part_term s.parts.now) s.holders.now c.args.passed.now c.args.progress.now.next c.loop-binding.passed c.loop-binding.progress.next _ _ c.loop-binding.binding-iterator.rest.items c.args.block c.loop-binding.invariant
     none c.into_iter-binding-iterator.ensures.into_iter_gives.0 refl
 
-pub fold_binding-returns-in-Some : goal.fold_binding-returns-in-Some
-fold_binding-returns-in-Some t c =
+pub fold_binding-returns-in_ok-push_taken-in-Some : goal.fold_binding-returns-in_ok-push_taken-in-Some
+fold_binding-returns-in_ok-push_taken-in-Some t c =
     let s = c.args.source.now in
     let b = c.args.binding in
     let p = c.args.progress.now in (
       taken (part_term c.in-Some.part.now) c.in-Some.index b.targets.items b.site p.next,
-      (c.in_ok-push_taken-in-Some.ensures.lets ∙ (λ i. map let_term c.args.folded.now.items ++ taken (part_term c.in-Some.part.now) c.in-Some.index (c.deref.ensures.value i) b.site p.next),
-      let_taken s.producer (map part_term s.parts.now) s.holders.now c.args.passed.now (c.args.passed.now + 1) p.next c.push_taken.new.progress.next (let_term b) c.in-Some.index (part_term c.in-Some.part.now)
-          (omega arith) (ap (λ (q : Progress). q.next) c.in_ok-push_taken-in-Some.ensures.next) c.in-Some.ensures.some.0),
+      (
+        taken_at (part_term c.in-Some.part.now) c.in-Some.index b.site p.next _ b.targets.items (map let_term c.args.folded.now.items) (map let_term c.push_taken.new.lets.items) c.in_ok-push_taken-in-Some.ensures.lets c.deref.ensures.value,
+        let_taken s.producer (map part_term s.parts.now) s.holders.now c.args.passed.now (c.args.passed.now + 1) p.next c.push_taken.new.progress.next (let_term b) c.in-Some.index (part_term c.in-Some.part.now)
+            (omega arith) (ap (λ (q : Progress). q.next) c.in_ok-push_taken-in-Some.ensures.next) c.in-Some.ensures.some.0,
+      ),
     )
 
-pub fold_binding-returns : goal.fold_binding-returns
-fold_binding-returns t c =
+pub fold_binding-returns-in_ok-push_kept-in-None : goal.fold_binding-returns-in_ok-push_kept-in-None
+fold_binding-returns-in_ok-push_kept-in-None t c =
     let s = c.args.source.now in
     let b = c.args.binding in
-    let l : LetTerm = record { targets = b.targets.items; site = b.site; right = right_term c.in_ok-right.right } in (
+    let l : LetTerm = record { targets = b.targets.items; site = b.site; right = right_term c.in_ok-right-in-None.right } in (
       l ∷ [],
-      (ap (map let_term) c.in_ok-push.ensures.items ∙ map_snoc let_term c.args.folded.now.items _,
-      let_kept s.producer (map part_term s.parts.now) s.holders.now c.args.passed.now c.args.progress.now.next c.fold_right.new.passed c.fold_right.new.progress.next (let_term b) l refl refl c.in-None.ensures.none
-          c.in_ok-right.ensures),
+      (
+        c.in_ok-push_kept-in-None.ensures,
+        let_kept s.producer (map part_term s.parts.now) s.holders.now c.args.passed.now c.args.progress.now.next c.fold_right.new.passed c.fold_right.new.progress.next (let_term b) l refl refl c.in-None.ensures.none
+            c.in_ok-right-in-None.ensures,
+      ),
     )
 
 pub fold_right-returns-in_ok-no-in-If : goal.fold_right-returns-in_ok-no-in-If
