@@ -8,3 +8,7 @@ pub mod Holding
 pub mod Folding
 pub mod Unchanged
 pub mod Pieces
+pub mod Members
+pub mod Selecting
+pub mod Parts
+pub mod Place

@@ -67,6 +67,10 @@ pub record OldPart (scope : List Var) (low : ℕ) (old : PartTerm) : Type 0 wher
   pub index : old.head.index.0 < low
   pub new : (y : Var) → low ≤ y.0 → Avoids y old.body
 
+abbrev pub OldParts : List Var → ℕ → List PartTerm → Type 0
+OldParts scope low [] = Unit {0}
+OldParts scope low (old ∷ olds) = OldPart scope low old × OldParts scope low olds
+
 -- the scope at the consumer
 pub record AtConsumer (around scope : List Var) (low : ℕ) : Type 0 where
   pub within : AreWithin around scope

@@ -68,7 +68,7 @@ module _ (x : Var) where
         let v = in_neither x (bound_in b) (bound_in_gens rest) w.1 in
         (all_out (head_uses h) scope s.0 n, out_of_scope b (own ++ scope) s.2 (in_none x own scope w.0 n) v.0, gens_out rest scope s.3 n v.1)
 
-    parts_out : (p : PartsTerm) (scope : List Var) → ScopedParts scope p → is_in x scope ≡ false → is_in x (bound_in_parts p) ≡ false → AvoidsParts x p
+    pub parts_out : (p : PartsTerm) (scope : List Var) → ScopedParts scope p → is_in x scope ≡ false → is_in x (bound_in_parts p) ≡ false → AvoidsParts x p
     parts_out NoParts scope s n m = tt
     parts_out (Part h b rest) scope s n m =
         let own = h.index ∷ [] in
