@@ -1,9 +1,9 @@
 -- A variable that a block does not use is not used in a copy either, unless it stands for another.
-use Rattle.std.proofs.Common.{◌≡◌, true, false, eqb, List, [], ◌∷◌, ◌++◌, map, Option, Some, None, refl, sym, subst}
+use Rattle.std.proofs.Common.{◌≡◌, false, eqb, List, [], ◌∷◌, ◌++◌, map, Option, Some, None, sym, subst}
 use Rattle.std.specs.Prelude.{option_map, option_to_list}
 use Rattle.core_ir.specs.declared.tree.Var.{Var}
 use Rattle.core_ir.specs.Scopes.{plain_uses, op_uses, parted_uses, head_uses}
-use Rattle.core_ir.specs.Terms.{PlainTerm, BlockTerm, RightTerm, GensTerm, PartsTerm, GenHead, Gives, Bind, Plain, NoGens, Gen, NoParts, Part}
+use Rattle.core_ir.specs.Terms.{BlockTerm, RightTerm, GensTerm, PartsTerm, GenHead, Gives, Bind, Plain, NoGens, Gen, NoParts, Part}
 use Rattle.core_ir.specs.Uses.{AvoidsAll, Avoids, AvoidsRight, AvoidsGens, AvoidsParts}
 use Rattle.core_subst.specs.Substitution.{plain_with}
 use Rattle.core_copy.specs.Mapped.{mapped, mapped_right, mapped_gens, mapped_parts, mapped_gen_head}

@@ -1,21 +1,20 @@
 -- Numbers, uses and bound variables of a folded body.
-use Rattle.std.proofs.Common.{◌≡◌, ℕ, suc, ◌+◌, ◌<◌, ◌≤◌, Bool, true, false, ◌||◌, eqb, List, [], ◌∷◌, ◌++◌, length, Option, Some, None, refl, sym, ap, subst, ◌∙◌, ◌⊎◌, inl, inr, arith}
+use Rattle.std.proofs.Common.{◌≡◌, ℕ, ◌+◌, ◌<◌, ◌≤◌, false, eqb, List, [], ◌∷◌, ◌++◌, Some, sym, ap, subst, ◌∙◌, inl, inr, arith}
 use Rattle.std.specs.Prelude.{slice_get}
 use Rattle.sac_base.specs.declared.site.Site.{Site}
 use Rattle.core_ir.specs.declared.tree.Var.{Var}
-use Rattle.core_ir.specs.Binders.{is_in, bound_in, bound_in_right}
+use Rattle.core_ir.specs.Binders.{bound_in, bound_in_right}
 use Rattle.core_ir.specs.Terms.{PlainTerm, BlockTerm, RightTerm, PartTerm, LetTerm, Gives, Bind, Plain, chain}
 use Rattle.core_ir.specs.Uses.{AvoidsAll, Avoids, AvoidsRight}
-use Rattle.core_ir.specs.WellFormed.{Distinct}
 use Rattle.core_inlining.specs.Inlined.{bindings, results}
-use Rattle.core_inlined_bodies.proofs.Names.{Names, Fresh, both, same}
+use Rattle.core_inlined_bodies.proofs.Names.{Names, both, same}
 use Rattle.core_subst.specs.Names.{variable}
 use Rattle.core_copy.specs.Mapped.{mapped}
-use Rattle.folded_parts.specs.Folding.{BlockFolded, RightFolded, ends, takes, keeps, stays, branches, turns, chosen, copied, copy_binds, last_copy, taken}
+use Rattle.folded_parts.specs.Folding.{BlockFolded, RightFolded, ends, takes, keeps, stays, branches, turns, copied, copy_binds, last_copy, taken}
 use Rattle.fold_laws.proofs.Numbered.{apart_if}
 use Rattle.fold_laws.proofs.Copied.{IsSameOrNew, renumbered, same_or_new}
 use Rattle.fold_laws.proofs.Avoiding.{avoids_mapped}
-use Rattle.fold_laws.proofs.Chosen.{IsChosen, chosen_is, Single, SingleRight, SinglePlain}
+use Rattle.fold_laws.proofs.Chosen.{chosen_is, Single, SingleRight}
 use Rattle.fold_laws.proofs.Sources.{Source, own_names, taken_bound}
 
 -- ---- numbers

@@ -1,5 +1,5 @@
 -- A body in which copies stand for all selections is a folded body.
-use Rattle.std.proofs.Common.{◌≡◌, ℕ, zero, suc, ◌+◌, ◌<◌, ◌≤◌, Bool, true, false, cond, eqb, List, [], ◌∷◌, ◌++◌, map, drop, length, All, Option, Some, None, refl, sym, ap, subst, ◌∙◌, ◌⊎◌, inl, inr, append_assoc, arith, ℤ}
+use Rattle.std.proofs.Common.{◌≡◌, ℕ, suc, ◌+◌, ◌<◌, ◌≤◌, Bool, true, false, cond, eqb, List, [], ◌∷◌, ◌++◌, drop, All, Option, Some, None, refl, sym, ap, subst, ◌∙◌, ◌⊎◌, inl, inr, append_assoc, arith, ℤ}
 use Rattle.std.specs.Prelude.{slice_get, unwrap_or}
 use Rattle.std.proofs.lemmas.Bool.{eq-eqb}
 use Rattle.std.proofs.lemmas.List.Elements.{All-nil, All-cons}
@@ -9,9 +9,8 @@ use Rattle.sac_base.specs.Grids.{has_vector}
 use Rattle.core_ir.specs.declared.tree.Var.{Var}
 use Rattle.core_ir.specs.Binders.{is_in, bound_in, bound_in_right}
 use Rattle.core_ir.specs.Renaming.{under, Renamed}
-use Rattle.core_ir.specs.Terms.{PlainTerm, BlockTerm, RightTerm, PartTerm, LetTerm, Gives, Bind, Plain, chain, parts_of}
-use Rattle.core_ir.specs.Scopes.{plain_uses}
-use Rattle.core_ir.specs.Uses.{AvoidsAll, Avoids, AvoidsRight, AvoidsEach, targets_of}
+use Rattle.core_ir.specs.Terms.{PlainTerm, BlockTerm, RightTerm, PartTerm, Gives, Bind, Plain, chain, parts_of}
+use Rattle.core_ir.specs.Uses.{Avoids, AvoidsRight, AvoidsEach, targets_of}
 use Rattle.core_ir.proofs.Variables.{same_number}
 use Rattle.core_facts.specs.Facts.{Facts, note_all, right_facts}
 use Rattle.core_inlining.specs.Inlined.{bindings, results}
@@ -29,10 +28,10 @@ use Rattle.core_fold_forms.specs.Copied.{HasPart, IsCopied, AllCopied, AllCopied
 use Rattle.generator_sets.specs.Pieces.{moved}
 use Rattle.folded_parts.specs.Folding.{BlockFolded, RightFolded, ends, takes, keeps, stays, branches, turns, IsWhole, chosen, copied, copy_binds, taken}
 use Rattle.fold_laws.proofs.Copied.{copy_renamed, renumbered}
-use Rattle.fold_laws.proofs.Chosen.{IsChosen, chosen_is, is_chosen, Single, SingleRight}
+use Rattle.fold_laws.proofs.Chosen.{chosen_is, is_chosen, Single, SingleRight}
 use Rattle.fold_laws.proofs.Sources.{Source, has_part, last, last_is, own_new, taken_is}
-use Rattle.fold_laws.proofs.Folded.{avoids_folded, plus_most, rises, right_rises, taken_avoids}
-use Rattle.fold_laws.proofs.Holding.{HeldBy, IsFirst, held_first, first_same, at_drop, offset_is, number_holds, number_names}
+use Rattle.fold_laws.proofs.Folded.{avoids_folded, rises, right_rises, taken_avoids}
+use Rattle.fold_laws.proofs.Holding.{HeldBy, held_first, first_same, at_drop, offset_is, number_holds, number_names}
 
 -- ---- lists of bindings
 

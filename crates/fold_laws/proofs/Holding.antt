@@ -1,8 +1,7 @@
 -- The numbers of a piece name the parts that hold what is selected.
-use Rattle.std.proofs.Common.{◌≡◌, ℕ, zero, suc, ◌+◌, true, false, List, [], ◌∷◌, ◌++◌, map, drop, length, Option, Some, None, refl, sym, ap, subst, ◌∙◌, ℤ, inl, inr}
-use Rattle.std.specs.Prelude.{slice_get, unwrap_or, get_or, option_to_list}
+use Rattle.std.proofs.Common.{◌≡◌, ℕ, zero, suc, List, [], ◌∷◌, map, drop, Option, Some, None, refl, sym, ap, subst, ◌∙◌, ℤ, inl, inr}
+use Rattle.std.specs.Prelude.{slice_get, unwrap_or, get_or}
 use Rattle.sac_base.specs.declared.grid.Grid1.{Grid1}
-use Rattle.sac_base.specs.Grids.{has_vector}
 use Rattle.core_ir.specs.Terms.{PartTerm, parts_of}
 use Rattle.core_loops.specs.Indices.{IndexFact, Plus, Component, Other, offset_of}
 use Rattle.core_loops.specs.Pairs.{grids_of}

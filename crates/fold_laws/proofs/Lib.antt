@@ -12,3 +12,5 @@ pub mod Members
 pub mod Selecting
 pub mod Parts
 pub mod Place
+pub mod Placing
+pub mod Walks

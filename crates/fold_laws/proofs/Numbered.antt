@@ -6,7 +6,7 @@ use Rattle.core_ir.specs.Binders.{is_in}
 use Rattle.core_ir.specs.WellFormed.{Distinct}
 use Rattle.core_ir.proofs.Variables.{or_false, same_number}
 use Rattle.core_subst.specs.Names.{variable}
-use Rattle.core_inlined_bodies.proofs.Names.{behind_first, clash, itself}
+use Rattle.core_inlined_bodies.proofs.Names.{behind_first, clash}
 use Rattle.parted_bodies.specs.Numbering.{named, numbered}
 use Rattle.core_norm_forms.specs.Copied.{AreFrom}
 

@@ -1,6 +1,6 @@
 -- The parts that are made for all parts of a consumer.
-use Rattle.std.proofs.Common.{◌≡◌, ℕ, suc, ◌+◌, ◌<◌, ◌≤◌, Bool, true, false, ◌||◌, cond, nat_lt, List, [], ◌∷◌, ◌++◌, map, length, Option, refl, sym, ap, subst, ◌∙◌, ◌⊎◌, inl, inr, append_assoc, append-nil, arith, ℤ}
-use Rattle.std.specs.Prelude.{All, filter, slice_get}
+use Rattle.std.proofs.Common.{◌≡◌, ℕ, suc, ◌+◌, ◌≤◌, Bool, true, false, ◌||◌, cond, nat_lt, List, [], ◌∷◌, ◌++◌, map, length, Option, refl, sym, ap, subst, ◌∙◌, ◌⊎◌, inl, inr, append_assoc, arith, ℤ}
+use Rattle.std.specs.Prelude.{All}
 use Rattle.std.proofs.lemmas.Bool.Decides.{nat_tests}
 use Rattle.std.proofs.lemmas.List.Elements.{All-head, All-tail}
 use Rattle.sac_base.specs.declared.grid.Grid1.{Grid1}
@@ -8,7 +8,7 @@ use Rattle.sac_base.specs.Grids.{has_vector, times_vector, SplitsVectors}
 use Rattle.core_ir.specs.declared.tree.Var.{Var}
 use Rattle.core_ir.specs.Binders.{bound_in, bound_in_parts}
 use Rattle.core_ir.specs.Scopes.{ScopedParts}
-use Rattle.core_ir.specs.Terms.{BlockTerm, PartsTerm, PartTerm, PartHead, NoParts, Part, parts_of}
+use Rattle.core_ir.specs.Terms.{PartsTerm, PartTerm, NoParts, Part, parts_of}
 use Rattle.core_ir.specs.Uses.{Avoids, AvoidsParts}
 use Rattle.core_ir.specs.WellFormed.{Covered, part_grids}
 use Rattle.core_facts.specs.Facts.{Facts, in_part}
@@ -168,14 +168,16 @@ module _ (called : ℕ → List (Option (List ℕ))) (later : Facts) (p : Produc
         where
           go : (b : Bool) → has_members q ≡ b → AllAllowed (map numbered_grid (kept ps)) → AllAllowed (map numbered_grid (cond (has_members q) (q ∷ kept ps) (kept ps)))
           go true e rec =
-              subst (λ t. AllAllowed (map numbered_grid (cond t (q ∷ kept ps) (kept ps)))) (sym e)
-              (inr (record {
-                some = record { member = lows q.grid; has = e };
-                only = folds.only;
-                at = folds.at;
-                offsets = folds.offsets;
-                hold = subst (λ ps. Hold (grids_of ps) folds.at q.grid q.holders.items) setting.given (All-head (λ (q : FoldPiece). Hold (grids_of p.parts) folds.at q.grid q.holders.items) q ps h);
-              }), rec)
+              subst (λ t. AllAllowed (map numbered_grid (cond t (q ∷ kept ps) (kept ps)))) (sym e) (
+                inr (record {
+                  some = record { member = lows q.grid; has = e };
+                  only = folds.only;
+                  at = folds.at;
+                  offsets = folds.offsets;
+                  hold = subst (λ ps. Hold (grids_of ps) folds.at q.grid q.holders.items) setting.given (All-head (λ (q : FoldPiece). Hold (grids_of p.parts) folds.at q.grid q.holders.items) q ps h);
+                }),
+                rec,
+              )
           go false e rec = subst (λ t. AllAllowed (map numbered_grid (cond t (q ∷ kept ps) (kept ps)))) (sym e) rec
 
       abbrev Due : Bool → List (List Grid1 × List ℕ)

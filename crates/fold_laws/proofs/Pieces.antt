@@ -1,17 +1,17 @@
 -- The parts that are made for the pieces of one part.
-use Rattle.std.proofs.Common.{◌≡◌, ℕ, suc, ◌+◌, ◌<◌, ◌≤◌, Bool, true, false, ◌||◌, cond, eqb, List, [], ◌∷◌, ◌++◌, map, length, All, Option, Some, None, refl, sym, ap, subst, ◌∙◌, ◌⊎◌, inl, inr, append-nil, arith, ℤ}
-use Rattle.std.specs.Prelude.{slice_get, Vec}
+use Rattle.std.proofs.Common.{◌≡◌, ℕ, suc, ◌+◌, ◌<◌, ◌≤◌, Bool, true, false, ◌||◌, eqb, List, [], ◌∷◌, ◌++◌, map, length, All, Option, Some, refl, sym, ap, subst, ◌∙◌, ◌⊎◌, inl, inr, append-nil, arith, ℤ}
+use Rattle.std.specs.Prelude.{Vec}
 use Rattle.std.specs.declared.alloc.Global.{Global}
 use Rattle.std.proofs.lemmas.List.Elements.{All-nil, All-cons}
 use Rattle.sac_base.specs.declared.grid.Grid1.{Grid1}
 use Rattle.sac_base.specs.Grids.{has_vector}
 use Rattle.core_ir.specs.declared.tree.Var.{Var}
-use Rattle.core_ir.specs.Binders.{is_in, bound_in, bound_in_parts}
+use Rattle.core_ir.specs.Binders.{is_in, bound_in}
 use Rattle.core_ir.specs.Renaming.{under, Renamed}
 use Rattle.core_ir.specs.Scopes.{Scoped, ScopedParts}
-use Rattle.core_ir.specs.Terms.{BlockTerm, PartsTerm, PartTerm, PartHead, NoParts, Part, parts_of}
-use Rattle.core_ir.specs.Uses.{Avoids, AvoidsParts}
-use Rattle.core_ir.specs.WellFormed.{Distinct, part_grids}
+use Rattle.core_ir.specs.Terms.{BlockTerm, PartTerm, PartHead, parts_of}
+use Rattle.core_ir.specs.Uses.{Avoids}
+use Rattle.core_ir.specs.WellFormed.{Distinct}
 use Rattle.core_edits.specs.Within.{AreWithin}
 use Rattle.core_edits.proofs.Wider.{bound_new}
 use Rattle.core_facts.specs.Facts.{Facts, in_part}
@@ -25,11 +25,10 @@ use Rattle.core_loops.specs.Pairs.{Producer, Selects, offsets, grids_of}
 use Rattle.core_loops.specs.Steps.{Folded, PiecesFold}
 use Rattle.core_loops.specs.Steps as loops
 use Rattle.core_norm_forms.specs.Copied.{AreFrom}
-use Rattle.core_norm_forms.specs.Fresh.{IsBetween}
 use Rattle.core_norm_forms.proofs.Copies.{alike}
 use Rattle.core_norm_forms.proofs.Named.{order_between, order_distinct}
 use Rattle.core_fold_forms.specs.Copied.{AllCopied, IsOldOrNew}
-use Rattle.core_fold_forms.specs.Fresh.{IsFreshPiece, FreshPieces}
+use Rattle.core_fold_forms.specs.Fresh.{IsFreshPiece}
 use Rattle.core_fold_forms.proofs.Scopes.{folded_scoped}
 use Rattle.fold_pieces.specs.Pieces.{Hold}
 use Rattle.folded_parts.specs.Folding.{BlockFolded}

@@ -1,5 +1,5 @@
 -- A pair that is folded by its plan, at its place.
-use Rattle.std.proofs.Common.{◌≡◌, ℕ, suc, ◌+◌, ◌<◌, ◌≤◌, true, false, List, [], ◌∷◌, ◌++◌, length, Option, Some, refl, sym, ap, subst, ◌∙◌, ◌⊎◌, inl, inr, arith}
+use Rattle.std.proofs.Common.{◌≡◌, ℕ, suc, ◌≤◌, true, false, List, [], ◌∷◌, ◌++◌, length, Option, Some, refl, ap, subst, ◌∙◌, ◌⊎◌, inl, inr, arith}
 use Rattle.std.specs.Prelude.{All, zip, slice_get}
 use Rattle.std.proofs.lemmas.List.Elements.{All-nil, All-cons}
 use Rattle.sac_base.specs.declared.base.Base.{Base}
@@ -11,19 +11,18 @@ use Rattle.core_ir.specs.Binders.{is_in, bound_in, bound_in_right, bound_in_part
 use Rattle.core_ir.specs.Scopes.{Scoped, ScopedParts}
 use Rattle.core_ir.specs.Terms.{BlockTerm, RightTerm, PartsTerm, LetTerm, PartTerm, CoreTerm, Bind, NoParts, Part, Parted, chain, parts_of}
 use Rattle.core_ir.specs.WellFormed.{Bases, BlockBases, Covered, Distinct, PartedFits, PartsBases, part_grids}
-use Rattle.core_edits.proofs.Wider.{bound_new}
 use Rattle.core_facts.specs.Facts.{Facts, note_all, right_facts}
-use Rattle.core_inlined_bodies.proofs.Names.{Names, Fresh, behind_first, clash, distinct_left, distinct_right, distinct_apart, fresh_below, fresh_both, fresh_left, fresh_right, itself}
+use Rattle.core_inlined_bodies.proofs.Names.{Fresh, behind_first, clash, distinct_left, distinct_right, distinct_apart, fresh_below, fresh_both, fresh_left, fresh_right, itself}
 use Rattle.core_loops.specs.Pairs.{Producer, IsFoldable, Makes, PartsFold, TotalParts, count_parts, grids_of}
-use Rattle.core_loops.specs.Steps.{FoldsHere, facts_after}
+use Rattle.core_loops.specs.Steps.{facts_after}
 use Rattle.core_norm_forms.specs.Copied.{IsPlaced}
 use Rattle.core_norm_forms.specs.Fresh.{IsBetween}
 use Rattle.core_norm_forms.proofs.Laws.{all_by, fresh_from}
-use Rattle.core_fold_forms.specs.Fresh.{FreshFold}
+use Rattle.core_fold_forms.specs.Fresh.{FreshFold, FreshFoldOf}
 use Rattle.core_fold_forms.proofs.Chains.{below, within_chain}
 use Rattle.foldable_pairs.specs.declared.plan.PartPlan.{PartPlan}
 use Rattle.foldable_pairs.specs.Pairs.{PartsPlanned}
-use Rattle.fold_laws.specs.Made.{FoldMade}
+use Rattle.fold_laws.specs.Made.{FoldMade, FoldMadeOf}
 use Rattle.fold_laws.proofs.Chosen.{single}
 use Rattle.fold_laws.proofs.Sources.{out_of_scope, parts_avoid, parts_out, source_at}
 use Rattle.fold_laws.proofs.Folding.{Setting}
@@ -278,3 +277,14 @@ module _ (core : CoreTerm) (called : ℕ → List (Option (List ℕ))) (low high
     copies = parts.fresh;
     few = most_same (count_parts (parts_of h.new)) (length h.new) 64 (parts_count h.new) h.few;
   }
+
+  pub same_pair : (fresh_fold.step.producer.var ≡ p.var) × (fresh_fold.step.consumer ≡ h.consumer)
+  unfolding fresh_fold
+  same_pair = (refl, refl)
+
+pub fresh_of :
+    (core : CoreTerm) (called : ℕ → List (Option (List ℕ))) (x y : Var) (low high : ℕ) (k : Facts) (b c : BlockTerm) → FoldMadeOf called x y low high k b c →
+    (scope : List Var) → IsPlaced low scope b → (g : Bases) (ts : List Base) → BlockBases core g b ts → FreshFoldOf called x y low high k b c
+fresh_of core called x y low high k b c h scope placed g ts based =
+    let same = same_pair core called low high k b c h.0 scope placed g ts based in
+    (fresh_fold core called low high k b c h.0 scope placed g ts based, (same.0 ∙ h.1.0, same.1 ∙ h.1.1))

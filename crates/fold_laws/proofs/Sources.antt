@@ -1,6 +1,6 @@
 -- What holds of the parts of a producer, and of the bindings that stand for a selection from it.
-use Rattle.std.proofs.Common.{◌≡◌, ℕ, zero, suc, ◌+◌, ◌≤◌, Bool, true, false, ◌||◌, eqb, List, [], ◌∷◌, ◌++◌, map, length, All, Option, Some, None, refl, sym, ap, subst, ◌∙◌, inl, inr, arith}
-use Rattle.std.specs.Prelude.{slice_get, unwrap_or, option_to_list}
+use Rattle.std.proofs.Common.{◌≡◌, ℕ, zero, suc, ◌+◌, ◌≤◌, Bool, true, false, eqb, List, [], ◌∷◌, ◌++◌, map, length, Option, Some, None, refl, sym, ap, subst, ◌∙◌, inl, inr, arith}
+use Rattle.std.specs.Prelude.{slice_get, unwrap_or}
 use Rattle.sac_base.specs.declared.site.Site.{Site}
 use Rattle.core_ir.specs.declared.tree.Var.{Var}
 use Rattle.core_ir.specs.Binders.{is_in, bound_in, bound_in_right, bound_in_gens, bound_in_parts}
@@ -8,17 +8,15 @@ use Rattle.core_ir.specs.Scopes.{AllIn, Scoped, ScopedRight, ScopedGens, ScopedP
 use Rattle.core_ir.specs.Terms.{PlainTerm, BlockTerm, RightTerm, GensTerm, PartsTerm, PartTerm, Gives, Bind, Plain, NoGens, Gen, NoParts, Part, chain, parts_of}
 use Rattle.core_ir.specs.Uses.{AvoidsAll, Avoids, AvoidsRight, AvoidsGens, AvoidsParts}
 use Rattle.core_ir.specs.WellFormed.{Distinct}
-use Rattle.core_ir.proofs.Variables.{or_false, same_number, in_neither}
+use Rattle.core_ir.proofs.Variables.{same_number, in_neither}
 use Rattle.core_facts.specs.Facts.{Fact, Facts, note_all, right_facts, block_facts, in_part}
 use Rattle.core_inlining.specs.Inlined.{bindings, results}
 use Rattle.core_inlining.proofs.Bodies.{results_mapped}
-use Rattle.core_inlined_bodies.proofs.Names.{Names, clash, in_none, not_in, behind_first, itself, in_left, distinct_left, distinct_right, distinct_apart, bound_bindings}
-use Rattle.core_copy.specs.Mapped.{mapped}
+use Rattle.core_inlined_bodies.proofs.Names.{Names, clash, in_none, distinct_left, distinct_right, bound_bindings}
 use Rattle.core_copy.proofs.Renaming.{bound_mapped}
 use Rattle.core_loops.specs.Pairs.{TotalParts, one_scalar}
 use Rattle.core_norm_forms.specs.Copied.{AreFrom}
-use Rattle.core_norm_forms.proofs.Named.{in_order, order_between, order_distinct}
-use Rattle.core_norm_forms.proofs.Scopes.{in_right}
+use Rattle.core_norm_forms.proofs.Named.{order_between, order_distinct}
 use Rattle.core_subst.specs.Names.{variable}
 use Rattle.core_fold_forms.specs.Copied.{HasPart}
 use Rattle.folded_parts.specs.Folding.{copied, copy_binds, last_copy, taken}

@@ -14,8 +14,9 @@ use Rattle.fold_laws.specs.Walks.{FunctionFolded}
 -- a pair that is folded by its plan, at its place in a well-formed function, is folded with new variables
 abbrev pub PlansAreFresh : Type 0
 PlansAreFresh =
-    (core : CoreTerm) (called : ℕ → List (Option (List ℕ))) (x y : Var) (low high : ℕ) (k : Facts) (b c : BlockTerm) → FoldMadeOf called x y low high k b c →
-    (scope : List Var) → IsPlaced low scope b → (g : Bases) (ts : List Base) → BlockBases core g b ts → FreshFoldOf called x y low high k b c
+    (core : CoreTerm) (called : ℕ → List (Option (List ℕ))) (x y : Var) (low high : ℕ) (k : Facts) (b c : BlockTerm) →
+    FoldMadeOf called x y low high k b c → (scope : List Var) → IsPlaced low scope b → (g : Bases) (ts : List Base) → BlockBases core g b ts →
+    FreshFoldOf called x y low high k b c
 
 -- a well-formed core in a function of which pairs were folded by their plans is one in which they were folded with new variables
 abbrev pub FoldedFunctionsAreFresh : Type 0
