@@ -1,2 +1,3 @@
 pub mod Learned
 pub mod Gathering
+pub mod Users

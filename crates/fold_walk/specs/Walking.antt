@@ -1,5 +1,5 @@
 -- Pairs of parted loops that are folded on one walk over a block.
-use Rattle.std.specs.Prelude.{◌≡◌, ℕ, List, [], ◌∷◌, ◌++◌, length, reversed, Option}
+use Rattle.std.specs.Prelude.{◌≡◌, ℕ, List, [], ◌∷◌, ◌++◌, length, reverse, Option}
 use Rattle.sac_base.specs.declared.base.Base.{Base}
 use Rattle.sac_base.specs.declared.grid.Grid1.{Grid1}
 use Rattle.sac_base.specs.declared.site.Site.{Site}
@@ -79,8 +79,8 @@ module _ (called : ℕ → List (Option (List ℕ))) (function : ℕ) where
     pub whole : behind ≡ before ++ (user ∷ after)
     pub at : length before ≡ place
     pub fold : FoldedHere p q k
-        (Bind l.targets l.site l.right (chain (reversed after) (Bind user.targets user.site user.right (chain (reversed before) (Gives results)))))
-        (chain (reversed after) (Bind new.targets new.site new.right (chain (reversed before) (Gives results))))
+        (Bind l.targets l.site l.right (chain (reverse after) (Bind user.targets user.site user.right (chain (reverse before) (Gives results)))))
+        (chain (reverse after) (Bind new.targets new.site new.right (chain (reverse before) (Gives results))))
 
   -- pairs of these bindings were folded
   pub record LevelFolded (k : Facts) (p q : State) (lets new : List LetTerm) (results : List Var) : Type 0 where

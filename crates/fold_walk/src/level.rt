@@ -1,6 +1,6 @@
 //! The pairs whose loops are bound in one block.
 
-ghost use Rattle.std.specs.Prelude.{◌≡◌, ◌-◌, ◌+◌, ◌^◌, ◌≤◌, [], ◌∷◌, IfOk, IfSome, IfNone, OnOk, map, drop, length, reversed};
+ghost use Rattle.std.specs.Prelude.{◌≡◌, ◌-◌, ◌+◌, ◌^◌, ◌≤◌, [], ◌∷◌, IfOk, IfSome, IfNone, OnOk, map, drop, length, reverse as reversed};
 ghost use Rattle.core_ir.specs.Terms.{Gives, chain};
 ghost use Rattle.core_ir.specs.View.{let_term, part_term};
 ghost use Rattle.core_loops.specs.Steps.{facts_after};

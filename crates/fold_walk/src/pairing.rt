@@ -1,6 +1,6 @@
 //! A producer, its consumer, and what the consumer becomes.
 
-ghost use Rattle.std.specs.Prelude.{◌≡◌, ℕ, ◌<◌, ◌≤◌, ◌-◌, ◌+◌, ◌^◌, ⊥, [], ◌∷◌, IfOk, IfSome, IfNone, OnOk, map, drop, length, reversed};
+ghost use Rattle.std.specs.Prelude.{◌≡◌, ℕ, ◌<◌, ◌≤◌, ◌-◌, ◌+◌, ◌^◌, [], ◌∷◌, IfOk, IfSome, IfNone, OnOk, map, drop, length, reverse as reversed};
 ghost use Rattle.core_ir.specs.View.{let_term, part_term};
 ghost use Rattle.core_loops.specs.Steps.{facts_after};
 ghost use Rattle.fact_table.specs.Table.{facts_of};
