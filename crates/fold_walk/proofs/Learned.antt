@@ -1,6 +1,6 @@
 -- What is known behind bindings.
-use Rattle.std.proofs.Common.{◌≡◌, ℕ, ◌+◌, ◌<◌, ◌≤◌, List, [], ◌∷◌, ◌++◌, map, length, drop, get_or, Option, refl, sym, ap, subst, ◌∙◌}
-use Rattle.std.proofs.lemmas.List.{drop_more, drop_all}
+use Rattle.std.proofs.Common.{◌≡◌, ℕ, ◌+◌, ◌<◌, ◌≤◌, List, [], ◌∷◌, ◌++◌, map, length, drop, get_or, Option, refl, sym, ap, subst, ◌∙◌, ◌-◌, reverse, arith}
+use Rattle.std.proofs.lemmas.List.{drop_more, drop_all, reverse-append}
 use Rattle.core_ir.specs.declared.tree.Var.{Var}
 use Rattle.core_ir.specs.declared.tree.Let.{Let}
 use Rattle.core_ir.specs.declared.tree.Block.{Block, out-Block}
@@ -42,3 +42,44 @@ module _ (called : ℕ → List (Option (List ℕ))) where
       ∙ (λ j. map (facts_after called (map let_term (e j)) k) rs)
       ∙ sym (known_behind (map let_term (out-Block b).lets.items) rs k)
       ∙ (λ j. block_facts called (sym (block_out b) j) k)
+
+-- ---- bindings that are learned from the last of a list on
+
+back_place : (n t : ℕ) → t < n → n - 1 - t ≡ n - (t + 1)
+back_place n t h = omega (arith, h)
+
+back_next : (n t : ℕ) → t < n → (n - (t + 1)) + 1 ≡ n - t
+back_next n t h = omega (arith, h)
+
+back_inside : (n t : ℕ) → t < n → n - (t + 1) < n
+back_inside n t h = omega (arith, h)
+
+all_back : (n t : ℕ) → n ≤ t → n - t ≡ 0
+all_back n t h = omega (arith, h)
+
+same_most : (n : ℕ) → n ≤ n - 0
+same_most n = omega arith
+
+pub reverse_cons : {A : Type 0} (y : A) (ys : List A) → reverse (y ∷ ys) ≡ reverse ys ++ (y ∷ [])
+reverse_cons y ys = reverse-append (y ∷ []) ys
+
+module _ (called : ℕ → List (Option (List ℕ))) (ls : List Let) (k : Facts) where
+  abbrev pub Back : ℕ → Facts → Type 0
+  Back t f = f ≡ facts_after called (reverse (map let_term (drop (length ls - t) ls))) k
+
+  pub back_first : Back 0 k
+  back_first = λ j. facts_after called (reverse (map let_term (sym (drop_all (length ls - 0) ls (same_most (length ls))) j))) k
+
+  pub back_turn : (t : ℕ) (x : Let) (f g : Facts) → t < length ls → x ≡ get_or ls (length ls - 1 - t) x → g ≡ note_all f (let_term x).targets (right_facts called (let_term x).right f) → Back t f → Back (t + 1) g
+  back_turn t x f g h e n v =
+      let i = length ls - (t + 1) in
+      let at : x ≡ get_or ls i x = e ∙ ap (λ j. get_or ls j x) (back_place (length ls) t h) in
+      let front : drop i ls ≡ x ∷ drop (length ls - t) ls = next_is ls i x (back_inside (length ls) t h) at ∙ ap (λ j. x ∷ drop j ls) (back_next (length ls) t h) in
+      let behind = map let_term (drop (length ls - t) ls) in
+      n ∙ (λ j. note_all (v j) (let_term x).targets (right_facts called (let_term x).right (v j)))
+      ∙ sym (after_snoc called (reverse behind) (let_term x) k)
+      ∙ (λ j. facts_after called (sym (reverse_cons (let_term x) behind) j) k)
+      ∙ (λ j. facts_after called (reverse (map let_term (sym front j))) k)
+
+  pub back_end : (t : ℕ) (f : Facts) → length ls ≤ t → Back t f → f ≡ facts_after called (reverse (map let_term ls)) k
+  back_end t f h v = v ∙ (λ j. facts_after called (reverse (map let_term (drop (all_back (length ls) t h j) ls))) k)
