@@ -1,3 +1,4 @@
 pub mod Learned
 pub mod Gathering
 pub mod Users
+pub mod Consumers

@@ -1,5 +1,5 @@
 -- Blocks in which no pair is left to fold.
-use Rattle.std.specs.Prelude.{◌≡◌, ℕ, ◌<◌, List, [], ◌∷◌, Option}
+use Rattle.std.specs.Prelude.{◌≡◌, ℕ, List, [], ◌∷◌, Option}
 use Rattle.sac_base.specs.declared.base.Base.{Base}
 use Rattle.sac_base.specs.declared.grid.Grid1.{Grid1}
 use Rattle.sac_base.specs.declared.site.Site.{Site}
@@ -11,9 +11,7 @@ use Rattle.core_loops.specs.Pairs.{Producer, IsFoldable, grids_of}
 use Rattle.core_loops.specs.Steps.{facts_after}
 use Rattle.fold_pieces.specs.Cuts.{IsDense}
 use Rattle.fold_pieces.specs.Pieces.{AreNear}
-use Rattle.foldable_pairs.specs.declared.plan.PartPlan.{PartPlan}
-use Rattle.foldable_pairs.specs.Pairs.{IsPlanned}
-use Rattle.fold_walk.specs.Making.{due_count}
+use Rattle.fold_walk.specs.Making.{GetsMany}
 
 -- a foldable pair whose producer is the block's first binding
 pub record IsPairAt (called : ℕ → List (Option (List ℕ))) (above : ℕ) (k : Facts) (b : BlockTerm) : Type 0 where
@@ -36,12 +34,6 @@ pub record IsPairAt (called : ℕ → List (Option (List ℕ))) (above : ℕ) (k
 -- the bounds of its grids are near enough to 0 to be moved, and its frame has no gaps
 abbrev pub IsNearProducer : Producer → Type 0
 IsNearProducer p = IsDense p.frame × AreNear (grids_of p.parts)
-
--- The consumer would get more than 64 parts, though its canonical counts are at most 64: parts with an empty grid are not counted there.
-pub record GetsMany (called : ℕ → List (Option (List ℕ))) (later : Facts) (p : Producer) (op : PartedOp) (old : List PartTerm) : Type 0 where
-  pub plans : List PartPlan
-  pub planned : IsPlanned called later p op old plans
-  pub many : 64 < due_count p.var old plans
 
 -- no pair is foldable here, but for those whose bounds can't be moved and those that would get too many parts
 abbrev pub NoPairAt : (ℕ → List (Option (List ℕ))) → ℕ → Facts → BlockTerm → Type 0

@@ -1,5 +1,5 @@
 -- Pairs of parted loops that are folded on one walk over a block.
-use Rattle.std.specs.Prelude.{◌≡◌, ℕ, List, [], ◌∷◌, ◌++◌, length, reverse, Option}
+use Rattle.std.specs.Prelude.{◌≡◌, ℕ, List, [], ◌∷◌, ◌++◌, ◌+◌, ◌^◌, ◌≤◌, length, map, reverse, Option}
 use Rattle.sac_base.specs.declared.base.Base.{Base}
 use Rattle.sac_base.specs.declared.grid.Grid1.{Grid1}
 use Rattle.sac_base.specs.declared.site.Site.{Site}
@@ -7,12 +7,18 @@ use Rattle.core_ir.specs.declared.tree.Var.{Var}
 use Rattle.core_ir.specs.declared.tree.CoreOp.{CoreOp}
 use Rattle.core_ir.specs.declared.tree.PartedOp.{PartedOp}
 use Rattle.core_ir.specs.Edits.{Edited}
-use Rattle.core_ir.specs.Terms.{BlockTerm, RightTerm, GensTerm, PartsTerm, LetTerm, GenTerm, PartTerm, Gives, Bind, With, Parted, chain}
+use Rattle.core_ir.specs.Terms.{BlockTerm, RightTerm, GensTerm, PartsTerm, LetTerm, GenTerm, PartTerm, Gives, Gives, Bind, With, Parted, chain, parts_of}
 use Rattle.core_facts.specs.Facts.{Facts, note_all, in_part}
 use Rattle.core_loops.specs.Steps.{fact_ways}
-use Rattle.fold_laws.specs.Made.{FoldMadeOf}
+use Rattle.core_ir.specs.View.{part_term}
+use Rattle.foldable_pairs.specs.declared.plan.PartPlan.{PartPlan}
+use Rattle.foldable_pairs.specs.declared.producer.Producer.{Producer as Source}
+use Rattle.foldable_pairs.specs.Pairs.{producer_of, IsPlanned}
+use Rattle.fold_laws.specs.Made.{FoldMadeOf, PartsMade}
 use Rattle.fold_walk.specs.declared.state.Fold.{Fold}
 use Rattle.fold_walk.specs.declared.state.Folding.{Folding}
+use Rattle.fold_walk.specs.Making.{CannotTake}
+use Rattle.fold_walk.specs.Pairing.{loop_let}
 use Rattle.fold_walk.specs.Left.{EachBinding, EachInRight, EachInGens, EachInParts, EachBegun, NoPairAt}
 
 -- the next number of a variable, and the pairs that were folded
@@ -70,6 +76,30 @@ module _ (called : ℕ → List (Option (List ℕ))) (function : ℕ) where
     pub body : BlockWalked (in_part k g.head) p q g.body h.body
 
   -- ---- the bindings of one block, those in blocks of theirs left out
+
+  -- a consumer that got the parts of its plan
+  pub record ConsumerMade (later : Facts) (p q : State) (producer : Source) (l new : LetTerm) : Type 0 where
+    pub consumer : Var
+    pub site : Site
+    pub frame : List Grid1
+    pub base : Base
+    pub op : PartedOp
+    pub old : List PartTerm
+    pub parts : List PartTerm
+    pub plans : List PartPlan
+    pub planned : (s : Site) (b : Base) (o : PartedOp) → IsPlanned called later (producer_of producer s b o) op old plans
+    pub room : p.next ≤ 2 ^ 31 + 1
+    pub made : PartsMade producer.var (map part_term producer.parts.now) old plans p.next parts q.next
+    pub few : length parts ≤ 64
+    pub before : l ≡ loop_let consumer site frame base op (parts_of old)
+    pub after : new ≡ loop_let consumer site frame base op (parts_of parts)
+    pub logged : q.folds ≡ p.folds ++ (record { function = function; producer = producer.var; consumer = consumer } ∷ [])
+
+  -- no binding of a consumer that can take from the producer
+  abbrev pub NoConsumer : Facts → ℕ → Source → LetTerm → Type 0
+  NoConsumer later next producer l =
+      (y : Var) (s : Site) (frame : List Grid1) (base : Base) (op : PartedOp) (old : List PartTerm) → l ≡ loop_let y s frame base op (parts_of old) →
+      next ≤ 2 ^ 31 + 1 → CannotTake called later producer op old
 
   -- This pair was folded. What follows the producer comes last first.
   pub record FirstFolded (k : Facts) (p q : State) (l : LetTerm) (behind : List LetTerm) (results : List Var) (place : ℕ) (new : LetTerm) : Type 0 where

@@ -6,17 +6,20 @@ ghost use Rattle.core_ir.specs.View.{let_term, part_term};
 ghost use Rattle.core_loops.specs.Steps.{facts_after};
 ghost use Rattle.fact_table.specs.Table.{facts_of};
 ghost use Rattle.plain_facts.specs.Called.{shapes_of};
-ghost use Rattle.fold_walk.specs.Walking.{state_of, FirstFolded, LevelFolded};
+ghost use Rattle.core_ir.specs.Terms.{parts_of as parts_in};
+ghost use Rattle.fold_walk.specs.Making.{CannotTake, PiecesPlanned};
+ghost use Rattle.fold_walk.specs.Pairing.{loop_with};
+ghost use Rattle.fold_walk.specs.Walking.{state_of, ConsumerMade, FirstFolded, LevelFolded, NoConsumer};
 ghost use Rattle.fold_walk.specs.Left.{NoPairAt};
 
 use crate::making::{all_parts, all_pieces, are_few};
 use crate::pairing::{bound_loop, learn_bindings, sole_user};
 use crate::state::{Folding, Given};
 use crate::values::learn_binding;
-use core_ir::{CorePart, Let, PartedLoop, Right, Var};
+use core_ir::{CorePart, Let, PartedLoop, PartedOp, Right, Var};
 use fact_table::FactTable;
-use foldable_pairs::{PartPlan, Producer, can_produce, fold_plan};
-use sac_base::{Memory, Site};
+use foldable_pairs::{Producer, can_produce, fold_plan};
+use sac_base::{Grid, Memory, Site};
 use std::alloc::Global;
 
 /// The greatest number that the next new variable may have where a pair is folded.
@@ -61,6 +64,12 @@ fn fold_first(
     table: &mut FactTable,
     folding: &mut Folding,
 ) -> Result<Option<(usize, Let)>, Memory>
+    ensures some { IfOk result (λ found. IfSome found (λ new. FirstFolded (shapes_of given.now.called.now) given.now.function (facts_of table.old)
+        (state_of folding.old) (state_of folding.new) (let_term binding.now) (map let_term behind.now) results.now new.0 (let_term new.1))) }
+    ensures stays { IfOk result (λ found. IfNone found (state_of folding.new ≡ state_of folding.old)) }
+    ensures none { IfOk result (λ found. IfNone found (NoPairAt (shapes_of given.now.called.now) (state_of folding.old).next (facts_of table.old)
+        (chain (let_term binding.now ∷ reversed (map let_term behind.now)) (Gives results.now)))) }
+    ensures table { OnOk result (table.new ≡ table.old) }
 {
     let Some((var, parted)) = bound_loop(binding) else {
         return Ok(None);
@@ -96,6 +105,12 @@ fn fold_into(
     table: &mut FactTable,
     folding: &mut Folding,
 ) -> Result<Option<Let>, Memory>
+    ensures some { IfOk result (λ found. IfSome found (λ new. ConsumerMade (shapes_of given.now.called.now) given.now.function (facts_of table.old)
+        (state_of folding.old) (state_of folding.new) producer.now (let_term user.now) (let_term new))) }
+    ensures stays { IfOk result (λ found. IfNone found (state_of folding.new ≡ state_of folding.old)) }
+    ensures none { IfOk result (λ found. IfNone found (NoConsumer (shapes_of given.now.called.now) given.now.function (facts_of table.old)
+        (state_of folding.old).next producer.now (let_term user.now))) }
+    ensures table { OnOk result (table.new ≡ table.old) }
 {
     let Some((consumer, parted)) = bound_loop(user) else {
         return Ok(None);
@@ -103,30 +118,39 @@ fn fold_into(
     if folding.progress.next > ROOM {
         return Ok(None);
     }
-    let Some(plans) = fold_plan(
-        alloc,
-        producer,
-        parted.op,
-        &parted.parts,
-        given.called,
-        table,
-    )?
-    else {
+    let Some(pieces) = plan_pieces(alloc, producer, parted.op, &parted.parts, given, table)? else {
         return Ok(None);
     };
-    let pieces = all_pieces(alloc, producer.var, &parted.parts, plans)?;
-    if !are_few(&pieces) {
-        return Ok(None);
-    }
-    let parts = all_parts(
-        alloc,
-        producer,
-        &parted.parts,
-        pieces,
-        &mut folding.progress,
-    )?;
+    let progress = &mut folding.progress;
+    let parts = all_parts(alloc, producer, &parted.parts, pieces, progress)?;
     folding.log(given.function, producer.var, consumer)?;
     Ok(Some(with_parts(alloc, consumer, user.site, parted, parts)?))
+}
+
+/// The pieces that the parts of a consumer become, if it can take from the producer and they are few.
+fn plan_pieces(
+    alloc: Global,
+    producer: &Producer<'_>,
+    op: PartedOp,
+    parts: &[CorePart],
+    given: &Given<'_>,
+    table: &mut FactTable,
+) -> Result<Option<Vec<Vec<(Grid, Vec<usize>)>>>, Memory>
+    ensures some { IfOk result (λ found. IfSome found (λ pieces. PiecesPlanned (shapes_of given.now.called.now) (facts_of table.old) producer.now op
+        (map part_term parts.now) pieces.items)) }
+    ensures none { IfOk result (λ found. IfNone found (CannotTake (shapes_of given.now.called.now) (facts_of table.old) producer.now op
+        (map part_term parts.now))) }
+    ensures table { OnOk result (table.new ≡ table.old) }
+{
+    let Some(plans) = fold_plan(alloc, producer, op, parts, given.called, table)? else {
+        return Ok(None);
+    };
+    let pieces = all_pieces(alloc, producer.var, parts, plans)?;
+    if are_few(&pieces) {
+        Ok(Some(pieces))
+    } else {
+        Ok(None)
+    }
 }
 
 /// The same binding with other parts.
@@ -137,6 +161,7 @@ fn with_parts(
     parted: &PartedLoop,
     parts: Vec<CorePart>,
 ) -> Result<Let, Memory>
+    ensures { IfOk result (λ new. let_term new ≡ record { targets = target ∷ []; site = site; right = loop_with parted.now (parts_in (map part_term parts.items)) }) }
 {
     let mut targets = Vec::new(alloc);
     targets.push(target)?;

@@ -5,7 +5,7 @@ ghost use Rattle.core_ir.specs.View.{let_term, part_term};
 ghost use Rattle.core_loops.specs.Steps.{facts_after};
 ghost use Rattle.fact_table.specs.Table.{facts_of};
 ghost use Rattle.plain_facts.specs.Called.{shapes_of};
-ghost use Rattle.fold_walk.specs.Pairing.{BindsLoop, IsSoleUser};
+ghost use Rattle.fold_walk.specs.Pairing.{BindsLoop, BindsNoLoop, IsSoleUser};
 
 use core_ir::{Let, PartedLoop, Right, Var};
 use core_uses::{avoids_all, avoids_right};
@@ -19,6 +19,7 @@ use crate::values::learn_binding;
 /// A parted loop of scalar cells, and the variable that it is bound to.
 pub fn bound_loop(binding: &Let) -> Option<(Var, &PartedLoop)>
     ensures some { IfSome result (λ found. BindsLoop (let_term binding.now) found.0 found.1.now) }
+    ensures none { IfNone result (BindsNoLoop (let_term binding.now)) }
 {
     let [target] = binding.targets.as_slice() else {
         return None;
