@@ -21,7 +21,7 @@ use Rattle.folded_parts.specs.Making.{PiecesMade}
 use Rattle.fold_walk.specs.Walking.{ConsumerMade, NoConsumer, State}
 use Rattle.fold_walk.specs.Making.{AllDue, AllMade, CannotTake, GetsMany, PieceVec, PiecesPlanned, due_count, piece_count}
 use Rattle.fold_walk.specs.Pairing.{BindsLoop, BindsNoLoop, loop_let, loop_with}
-use Rattle.fold_walk.proofs.Gathering.{due_counted, parts_made}
+use Rattle.fold_walk.proofs.Gathering.{due_counted, due_lengths, parts_made}
 
 -- ---- bindings of loops
 
@@ -178,3 +178,10 @@ module _ (called : ℕ → List (Option (List ℕ))) (function : ℕ) (later : F
       let ops = same_op x y l.site s o.frame frame o.base base o.op op (parts_of (olds loop)) (parts_of old) both in
       let lists = same_list (olds loop) old (same_parts x y l.site s o.frame frame o.base base o.op op (parts_of (olds loop)) (parts_of old) both) in
       subst (λ (ps : List PartTerm). CannotTake called later producer op ps) lists (subst (λ (u : PartedOp). CannotTake called later producer u (olds loop)) ops h)
+
+pub piece_lengths : (called : ℕ → List (Option (List ℕ))) (later : Facts) (p : Source) (op : PartedOp) (parts : List CorePart) (pieces : List PieceVec) → PiecesPlanned called later p op (map part_term parts) pieces → length parts ≡ length pieces
+piece_lengths called later p op parts pieces h = sym (count parts) ∙ due_lengths p.var (map part_term parts) h.plans pieces h.due
+  where
+    count : (xs : List CorePart) → length (map part_term xs) ≡ length xs
+    count [] = refl
+    count (x ∷ xs) = ap suc (count xs)
