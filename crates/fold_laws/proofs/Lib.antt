@@ -1,0 +1,16 @@
+pub mod Numbered
+pub mod Copied
+pub mod Avoiding
+pub mod Chosen
+pub mod Sources
+pub mod Folded
+pub mod Holding
+pub mod Folding
+pub mod Unchanged
+pub mod Pieces
+pub mod Members
+pub mod Selecting
+pub mod Parts
+pub mod Place
+pub mod Placing
+pub mod Walks
