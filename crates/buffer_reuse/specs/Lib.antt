@@ -1,0 +1,6 @@
+pub mod Calls
+pub mod Chosen
+pub mod Pieces
+pub mod Plain
+pub mod Tables
+pub mod Told
