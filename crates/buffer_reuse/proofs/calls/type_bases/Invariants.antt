@@ -1,6 +1,0 @@
-use Rattle.std.proofs.Common.{◌≡◌, ◌++◌, drop}
-use Rattle.buffer_reuse.specs.Calls.{bases_of_types}
-use Rattle.buffer_reuse.proofs.calls.type_bases.Given as goal
-
-abbrev pub invariant-loop-ty : goal.invariant-loop-ty
-invariant-loop-ty l = l.bases.items ++ bases_of_types (drop l.ty-index l.types) ≡ bases_of_types l.types
