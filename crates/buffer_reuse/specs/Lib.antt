@@ -1,6 +1,2 @@
-pub mod Calls
-pub mod Chosen
-pub mod Pieces
-pub mod Plain
-pub mod Tables
-pub mod Told
+pub mod Marked
+pub mod Rights

@@ -7,24 +7,12 @@ ghost use Rattle.counted_code.specs.Terms.{core_of_code, core_of_fun};
 ghost use Rattle.counted_code.specs.View.{code_fun_term, code_program};
 ghost use Rattle.counted_marks.specs.Marking.{marking_code, marking_fun};
 ghost use Rattle.counted_marks.specs.Marks.{HasNoneLeft, IsWellMarked};
-ghost use Rattle.core_ir.specs.declared.tree.Var.{Var as Variable};
-ghost use Rattle.core_facts.specs.Facts.{note_all, shape_fact};
-ghost use Rattle.core_settled.specs.Called.{shape_of_type};
-ghost use Rattle.counted_marks.specs.Bases.{note_bases};
-ghost use Rattle.fact_table.specs.Table.{facts_of};
-ghost use Rattle.sac_base.specs.declared.types.ArrayType.{ArrayType as TypeOf};
-ghost use Rattle.buffer_reuse.specs.Calls.{given_by};
-ghost use Rattle.buffer_reuse.specs.Tables.{bases_of};
+ghost use Rattle.reuse_candidates.specs.Calls.{given_by};
 
-use crate::bases::{BaseTable, learn_bases};
-use crate::calls::{Calls, calls_of};
 use crate::walk::mark_block;
-use core_ir::Var;
 use counted_code::{Code, CodeFun};
-use fact_table::{FactTable, Known};
-use known_shapes::type_shape;
-use sac_base::{ArrayType, Memory};
-use scoped_table::ScopedTable;
+use reuse_candidates::{Calls, Scope, calls_of};
+use sac_base::Memory;
 use std::alloc::Global;
 
 /// The program in which each parted loop that may take over an array is marked with it, in the place of the array's release; where there are several, with
@@ -89,10 +77,9 @@ fn mark_function(alloc: Global, function: CodeFun, calls: &Calls) -> Result<Code
         body,
         ends,
     } = function;
-    let mut facts = FactTable::new(alloc);
-    let mut bases = ScopedTable::new(alloc);
-    learn_params(&params, &mut facts, &mut bases)?;
-    let marked = mark_block(alloc, &body, calls, &mut facts, &mut bases)?;
+    let mut scope = Scope::new(alloc);
+    scope.enter_function(&params)?;
+    let marked = mark_block(alloc, &body, calls, &mut scope)?;
     Ok(CodeFun {
         name,
         site,
@@ -102,22 +89,4 @@ fn mark_function(alloc: Global, function: CodeFun, calls: &Calls) -> Result<Code
         body: marked.block,
         ends,
     })
-}
-
-/// Notes the shapes and the bases that the types of a function's parameters name.
-fn learn_params(
-    params: &[(Var, ArrayType)],
-    facts: &mut FactTable,
-    bases: &mut BaseTable,
-) -> Result<(), Memory>
-    ensures facts { OnOk result (facts_of facts.new ≡ note_all (facts_of facts.old) (map (λ (p : Variable × TypeOf). p.0) params.now)
-        (map (λ (p : Variable × TypeOf). shape_fact (shape_of_type p.1)) params.now)) }
-    ensures bases { OnOk result (bases_of bases.new ≡ note_bases (bases_of bases.old) (map (λ (p : Variable × TypeOf). p.0) params.now)
-        (map (λ (p : Variable × TypeOf). Some p.1.base) params.now)) }
-{
-    for (x, ty) in params {
-        facts.learn(*x, Known::of_shape(type_shape(&ty.part, &None)))?;
-        bases.note(*x, Some(ty.base))?;
-    }
-    Ok(())
 }

@@ -1,12 +1,8 @@
-//! Marks: which parted loops take over the buffer of an array that ends in them.
+//! The pass that marks parted loops: a marked loop takes over the buffer of an array that ends in it.
 #![tactic(auto)]
 
-mod bases;
-mod calls;
-mod candidate;
-mod copies;
 mod functions;
-mod own;
+mod rights;
 mod walk;
 
 pub use functions::mark_reuse;

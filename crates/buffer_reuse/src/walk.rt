@@ -1,41 +1,26 @@
 //! One walk over a block that sets marks in the place of releases.
 
-ghost use Rattle.std.specs.Prelude.{◌≡◌, ◌-◌, [], ◌∷◌, IfOk, OnOk, map, drop, length};
-ghost use Rattle.core_facts.specs.Facts.{block_facts, common_facts as common_of, right_facts};
-ghost use Rattle.counted_code.specs.Terms.{core_of, core_of_right, Binding, CodeTerm, Releasing};
-ghost use Rattle.counted_code.specs.View.{code_term, code_right_term, code_with_term, code_parted_term, steps_before};
-ghost use Rattle.counted_marks.specs.Bases.{block_bases, either_bases as either_of, right_bases};
+ghost use Rattle.std.specs.Prelude.{◌≡◌, [], IfOk, List, OnOk};
+ghost use Rattle.core_ir.specs.declared.tree.Var.{Var as Variable};
+ghost use Rattle.counted_code.specs.Terms.{core_of, core_of_right, Binding, CodeTerm, Giving, Releasing};
+ghost use Rattle.counted_code.specs.View.{code_term, code_right_term, code_with_term, code_parted_term, step_term, steps_before};
 ghost use Rattle.counted_marks.specs.Known.{learned};
 ghost use Rattle.counted_marks.specs.Marking.{choice, marking, marking_right, released_by, with_mark};
-ghost use Rattle.fact_table.specs.Table.{fact_of};
-ghost use Rattle.buffer_reuse.specs.Calls.{given_by};
-ghost use Rattle.buffer_reuse.specs.Chosen.{Ends};
-ghost use Rattle.buffer_reuse.specs.Pieces.{code_gen_term, code_part_term, marking_gen, marking_part};
-ghost use Rattle.buffer_reuse.specs.Tables.{known_by};
+ghost use Rattle.reuse_candidates.specs.Calls.{given_by};
+ghost use Rattle.reuse_candidates.specs.Pieces.{code_gen_term, code_part_term};
+ghost use Rattle.reuse_candidates.specs.Scopes.{known_in, mark_of, taken_back, told, told_block, told_right};
+ghost use Rattle.buffer_reuse.specs.Marked.{made_with, marking_gen, marking_part};
 
-use crate::bases::{
-    BaseTable, bases_at, either_bases, learn_bases, learn_ints, loop_base, plain_base,
+use crate::rights::{
+    MarkedRight, either_values, mark_call, mark_plain, parted_values, start_values, with_values,
 };
-use crate::calls::Calls;
-use crate::candidate::choose;
-use crate::copies::{copy_plain, copy_vars, core_right};
 use core_ir::Var;
 use counted_code::{
     CodeBlock, CodeGen, CodeLet, CodePart, CodeParted, CodeRight, CodeStep, CodeWith,
 };
-use fact_table::{FactTable, Known};
-use plain_facts::{
-    common_facts, forget, forget_index, known_of, learn_all, learn_index, parted_shape, plain_fact,
-};
-use sac_base::{Base, Memory};
+use reuse_candidates::{Calls, Scope, Values, choose, copy_vars};
+use sac_base::Memory;
 use std::alloc::Global;
-
-/// What is known of several values.
-#[derive(Drop)]
-pub struct Values {
-    pub known: Vec<Known>,
-    pub bases: Vec<Option<Base>>,
-}
 
 /// A block with its marks, and what is known of its results.
 #[derive(Drop)]
@@ -44,14 +29,14 @@ pub struct MarkedBlock {
     pub values: Values,
 }
 
-/// A right side with its marks, and what is known of its values.
+/// What stands of a block: its steps, and the array that the last loop takes over, until that array's release is passed.
 #[derive(Drop)]
-struct MarkedRight {
-    right: CodeRight,
-    values: Values,
+struct Made {
+    steps: Vec<CodeStep>,
+    taken: Option<Var>,
 }
 
-/// The block with its marks. The tables have what is known before it, and are left as they were.
+/// The block with its marks. The scope has what is known before it, and is left as it was.
 ///
 /// # Errors
 ///
@@ -61,264 +46,195 @@ pub fn mark_block(
     alloc: Global,
     block: &CodeBlock,
     calls: &Calls,
-    facts: &mut FactTable,
-    bases: &mut BaseTable,
+    scope: &mut Scope,
 ) -> Result<MarkedBlock, Memory>
-    ensures marked { IfOk result (λ r. code_term r.block ≡ marking (given_by calls.now) (code_term block.now) (known_by facts.old bases.old)) }
-    ensures known { IfOk result (λ r. map fact_of r.values.known.items
-        ≡ block_facts (given_by calls.now).shapes (core_of (code_term block.now)) (known_by facts.old bases.old).facts) }
-    ensures typed { IfOk result (λ r. r.values.bases.items
-        ≡ block_bases (given_by calls.now).bases (core_of (code_term block.now)) (known_by facts.old bases.old).bases) }
-    ensures facts { OnOk result (facts.new ≡ facts.old) }
-    ensures bases { OnOk result (bases.new ≡ bases.old) }
+    ensures marked { IfOk result (λ r. code_term r.block ≡ marking (given_by calls.now) (code_term block.now) (known_in scope.old)) }
+    ensures known { IfOk result (λ r. told r.values ≡ told_block (given_by calls.now) (core_of (code_term block.now)) (known_in scope.old)) }
+    ensures scope { OnOk result (scope.new ≡ scope.old) }
 {
-    let facts_before = facts.mark();
-    let bases_before = bases.mark();
-    let mut steps = Vec::new(alloc);
-    // the array that the loop before takes over, until its release is passed
-    let mut taken = None;
-    for i in 0..block.steps.len() {
-        match &block.steps[i] {
-            CodeStep::Bind(binding) => {
-                let rest = &block.steps[i + 1..];
-                taken = mark_binding(alloc, binding, rest, calls, facts, bases, &mut steps)?;
-            }
-            CodeStep::Keep(x) => steps.push(CodeStep::Keep(*x))?,
-            CodeStep::Release(x) => taken = pass_release(*x, taken, &mut steps)?,
-        }
-    }
-    let values = Values {
-        known: known_of(alloc, facts, &block.results)?,
-        bases: bases_at(alloc, bases, &block.results)?,
+    let before = scope.mark();
+    let mut made = Made {
+        steps: Vec::new(alloc),
+        taken: None,
     };
-    facts.undo(facts_before);
-    bases.undo(bases_before);
+    for i in 0..block.steps.len() {
+        let later = &block.steps[i + 1..];
+        mark_step(alloc, &block.steps[i], later, calls, scope, &mut made)?;
+    }
+    let values = scope.values(alloc, &block.results)?;
+    scope.undo(before);
     Ok(MarkedBlock {
         block: CodeBlock {
-            steps,
+            steps: made.steps,
             results: copy_vars(alloc, &block.results)?,
         },
         values,
     })
 }
 
-/// Appends a release, if it is not that of the array that is taken over; and gives the array whose release is still to come.
-fn pass_release(
-    x: Var,
-    taken: Option<Var>,
-    steps: &mut Vec<CodeStep>,
-) -> Result<Option<Var>, Memory>
-    ensures { IfOk result (λ later. (rest : CodeTerm)
-        → steps_before steps.new.items (released_by later rest) ≡ steps_before steps.old.items (released_by taken (Releasing x rest))) }
+/// Appends a step with its marks, and learns what it tells. `later` are the steps behind it.
+#[cycle(marks)]
+fn mark_step(
+    alloc: Global,
+    step: &CodeStep,
+    later: &[CodeStep],
+    calls: &Calls,
+    scope: &mut Scope,
+    made: &mut Made,
+) -> Result<(), Memory>
+    ensures marked { OnOk result ((results : List Variable) → made_with (given_by calls.now) made.new (known_in scope.new) (steps_before later.now (Giving results))
+        ≡ made_with (given_by calls.now) made.old (known_in scope.old) (step_term step.now (steps_before later.now (Giving results)))) }
+    ensures known { OnOk result ((rest : CodeTerm) → told_block (given_by calls.now) (core_of rest) (known_in scope.new)
+        ≡ told_block (given_by calls.now) (core_of (step_term step.now rest)) (known_in scope.old)) }
+    ensures behind { OnOk result (taken_back (mark_of scope.old) scope.new ≡ scope.old) }
 {
-    match taken {
-        Some(v) if v.0 == x.0 => Ok(None),
-        _ => {
-            steps.push(CodeStep::Release(x))?;
-            Ok(taken)
+    match step {
+        CodeStep::Bind(binding) => mark_binding(alloc, binding, later, calls, scope, made),
+        CodeStep::Keep(x) => {
+            made.steps.push(CodeStep::Keep(*x))?;
+            Ok(())
         }
+        CodeStep::Release(x) => pass_release(*x, made),
     }
 }
 
-/// Appends a binding with its marks, learns what it tells, and gives the array that it takes over. `rest` are the steps behind it.
+/// Appends a release, if it is not that of the array that is taken over.
+fn pass_release(x: Var, made: &mut Made) -> Result<(), Memory>
+    ensures { OnOk result ((rest : CodeTerm)
+        → steps_before made.new.steps.items (released_by made.new.taken rest) ≡ steps_before made.old.steps.items (released_by made.old.taken (Releasing x rest))) }
+{
+    match made.taken {
+        Some(v) if v.0 == x.0 => made.taken = None,
+        _ => made.steps.push(CodeStep::Release(x))?,
+    }
+    Ok(())
+}
+
+/// Appends a binding with its marks, and learns what it tells.
 #[cycle(marks)]
 fn mark_binding(
     alloc: Global,
     binding: &CodeLet,
-    rest: &[CodeStep],
+    later: &[CodeStep],
     calls: &Calls,
-    facts: &mut FactTable,
-    bases: &mut BaseTable,
-    steps: &mut Vec<CodeStep>,
-) -> Result<Option<Var>, Memory>
-    ensures marked { IfOk result (λ taken. (later : CodeTerm) → steps_before steps.new.items later
-        ≡ steps_before steps.old.items (Binding binding.now.targets.items binding.now.site
-        (with_mark taken (marking_right (given_by calls.now) (code_right_term binding.now.right) (known_by facts.old bases.old))) later)) }
-    ensures chosen { IfOk result (λ taken. (end : CodeTerm) → Ends end → taken ≡ choice (given_by calls.now) (known_by facts.old bases.old)
-        binding.now.targets.items (code_right_term binding.now.right) (steps_before rest.now end)) }
-    ensures learned { OnOk result (known_by facts.new bases.new ≡ learned (given_by calls.now) (known_by facts.old bases.old) binding.now.targets.items
+    scope: &mut Scope,
+    made: &mut Made,
+) -> Result<(), Memory>
+    ensures marked { OnOk result ((rest : CodeTerm) → steps_before made.new.steps.items rest
+        ≡ steps_before made.old.steps.items (Binding binding.now.targets.items binding.now.site
+        (with_mark made.new.taken (marking_right (given_by calls.now) (code_right_term binding.now.right) (known_in scope.old))) rest)) }
+    ensures chosen { OnOk result (made.new.taken ≡ choice (given_by calls.now) (known_in scope.old)
+        binding.now.targets.items (code_right_term binding.now.right) (steps_before later.now (Giving []))) }
+    ensures learned { OnOk result (known_in scope.new ≡ learned (given_by calls.now) (known_in scope.old) binding.now.targets.items
         (core_of_right (code_right_term binding.now.right))) }
-    ensures facts { OnOk result (drop (length facts.new - length facts.old) facts.new ≡ facts.old) }
-    ensures bases { OnOk result (drop (length bases.new - length bases.old) bases.new ≡ bases.old) }
+    ensures behind { OnOk result (taken_back (mark_of scope.old) scope.new ≡ scope.old) }
 {
-    let taken = match &binding.right {
-        CodeRight::Parted(parted) => {
-            choose(alloc, &binding.targets, parted, rest, calls, facts, bases)?
-        }
-        _ => None,
-    };
-    let marked = mark_right(alloc, &binding.right, taken, calls, facts, bases)?;
+    let taken = choose(alloc, &binding.targets, &binding.right, later, calls, scope)?;
+    let marked = mark_right(alloc, &binding.right, calls, scope)?;
     let MarkedRight { right, values } = marked;
-    let Values {
-        known,
-        bases: typed,
-    } = values;
-    learn_all(facts, &binding.targets, known)?;
-    learn_bases(bases, &binding.targets, &typed)?;
-    steps.push(CodeStep::Bind(CodeLet {
+    scope.learn(&binding.targets, values)?;
+    made.steps.push(CodeStep::Bind(CodeLet {
         targets: copy_vars(alloc, &binding.targets)?,
         site: binding.site,
-        right,
+        right: taking(right, taken),
     }))?;
-    Ok(taken)
+    made.taken = taken;
+    Ok(())
 }
 
-/// The right side with its marks, and what is known of its values. A parted loop takes over `taken`.
+/// A right side that takes over an array, if there is one.
+fn taking(right: CodeRight, taken: Option<Var>) -> CodeRight
+    ensures { code_right_term result ≡ with_mark taken (code_right_term right) }
+{
+    match right {
+        CodeRight::Parted(parted) => CodeRight::Parted(marked_with(parted, taken)),
+        other => other,
+    }
+}
+
+fn marked_with(parted: CodeParted, taken: Option<Var>) -> CodeParted
+    ensures { code_parted_term result ≡ with_mark taken (code_parted_term parted) }
+{
+    let CodeParted {
+        frame,
+        base,
+        cell,
+        op,
+        parts,
+        reuse,
+    } = parted;
+    CodeParted {
+        frame,
+        base,
+        cell,
+        op,
+        parts,
+        reuse: taken.or(reuse),
+    }
+}
+
+/// The right side with its marks, and what is known of its values.
 #[cycle(marks)]
 fn mark_right(
     alloc: Global,
     right: &CodeRight,
-    taken: Option<Var>,
     calls: &Calls,
-    facts: &mut FactTable,
-    bases: &mut BaseTable,
+    scope: &mut Scope,
 ) -> Result<MarkedRight, Memory>
-    ensures marked { IfOk result (λ r. code_right_term r.right
-        ≡ with_mark taken (marking_right (given_by calls.now) (code_right_term right.now) (known_by facts.old bases.old))) }
-    ensures known { IfOk result (λ r. map fact_of r.values.known.items
-        ≡ right_facts (given_by calls.now).shapes (core_of_right (code_right_term right.now)) (known_by facts.old bases.old).facts) }
-    ensures typed { IfOk result (λ r. r.values.bases.items
-        ≡ right_bases (given_by calls.now).bases (core_of_right (code_right_term right.now)) (known_by facts.old bases.old).bases) }
-    ensures facts { OnOk result (facts.new ≡ facts.old) }
-    ensures bases { OnOk result (bases.new ≡ bases.old) }
+    ensures marked { IfOk result (λ r. code_right_term r.right ≡ marking_right (given_by calls.now) (code_right_term right.now) (known_in scope.old)) }
+    ensures known { IfOk result (λ r. told r.values ≡ told_right (given_by calls.now) (core_of_right (code_right_term right.now)) (known_in scope.old)) }
+    ensures scope { OnOk result (scope.new ≡ scope.old) }
 {
     match right {
         CodeRight::If { cond, yes, no } => {
-            let first = mark_block(alloc, yes, calls, facts, bases)?;
-            let second = mark_block(alloc, no, calls, facts, bases)?;
-            let values = either_values(alloc, &first.values, &second.values)?;
-            let right = CodeRight::If {
-                cond: *cond,
-                yes: first.block,
-                no: second.block,
-            };
-            Ok(MarkedRight { right, values })
-        }
-        CodeRight::Loop { .. } => mark_loop(alloc, right, calls, facts, bases),
-        CodeRight::Call { group, args } => {
-            let values = Values {
-                known: calls.shapes.facts(alloc, *group)?,
-                bases: Vec::from_slice(alloc, calls.bases.at(*group))?,
-            };
-            let right = CodeRight::Call {
-                group: *group,
-                args: copy_vars(alloc, args)?,
-            };
-            Ok(MarkedRight { right, values })
-        }
-        CodeRight::With(with) => {
-            let right = CodeRight::With(mark_with(alloc, with, calls, facts, bases)?);
-            let values = Values {
-                known: Vec::new(alloc),
-                bases: one_base(alloc, loop_base(with.op, bases))?,
-            };
-            Ok(MarkedRight { right, values })
-        }
-        CodeRight::Parted(parted) => {
-            let marked = mark_parted(alloc, parted, taken, calls, facts, bases)?;
-            let shape = parted_shape(alloc, &parted.frame, &parted.cell, parted.op);
-            let values = one_value(alloc, Known::of_shape(shape), Some(parted.base))?;
+            let first = mark_block(alloc, yes, calls, scope)?;
+            let second = mark_block(alloc, no, calls, scope)?;
             Ok(MarkedRight {
-                right: CodeRight::Parted(marked),
+                values: either_values(alloc, &first.values, &second.values)?,
+                right: CodeRight::If {
+                    cond: *cond,
+                    yes: first.block,
+                    no: second.block,
+                },
+            })
+        }
+        CodeRight::Loop {
+            first_body,
+            start,
+            params,
+            test,
+            body,
+            test_site,
+        } => {
+            let before = scope.mark();
+            let values = start_values(alloc, start, scope)?;
+            scope.enter_loop(alloc, params, start)?;
+            let tested = mark_block(alloc, test, calls, scope)?;
+            let turned = mark_block(alloc, body, calls, scope)?;
+            scope.undo(before);
+            Ok(MarkedRight {
+                right: CodeRight::Loop {
+                    first_body: *first_body,
+                    start: copy_vars(alloc, start)?,
+                    params: copy_vars(alloc, params)?,
+                    test: tested.block,
+                    body: turned.block,
+                    test_site: *test_site,
+                },
                 values,
             })
         }
-        plain => {
-            let core = core_right(alloc, plain)?;
-            let known = plain_fact(alloc, &core, facts)?;
-            Ok(MarkedRight {
-                right: copy_plain(alloc, plain)?,
-                values: one_value(alloc, known, plain_base(plain, bases))?,
-            })
-        }
+        CodeRight::Call { group, args } => mark_call(alloc, *group, args, calls),
+        CodeRight::With(with) => Ok(MarkedRight {
+            values: with_values(alloc, with.op, scope)?,
+            right: CodeRight::With(mark_with(alloc, with, calls, scope)?),
+        }),
+        CodeRight::Parted(parted) => Ok(MarkedRight {
+            values: parted_values(alloc, &parted.frame, parted.base, &parted.cell, parted.op)?,
+            right: CodeRight::Parted(mark_parted(alloc, parted, calls, scope)?),
+        }),
+        plain => mark_plain(alloc, plain, scope),
     }
-}
-
-/// What is known of one value.
-fn one_value(alloc: Global, known: Known, base: Option<Base>) -> Result<Values, Memory>
-    ensures known { IfOk result (λ values. map fact_of values.known.items ≡ fact_of known ∷ []) }
-    ensures typed { IfOk result (λ values. values.bases.items ≡ base ∷ []) }
-{
-    let mut all = Vec::new(alloc);
-    all.push(known)?;
-    Ok(Values {
-        known: all,
-        bases: one_base(alloc, base)?,
-    })
-}
-
-fn one_base(alloc: Global, base: Option<Base>) -> Result<Vec<Option<Base>>, Memory>
-    ensures { IfOk result (λ bases. bases.items ≡ base ∷ []) }
-{
-    let mut all = Vec::new(alloc);
-    all.push(base)?;
-    Ok(all)
-}
-
-/// What is known of the results of a conditional, from what is known of those of its two blocks.
-fn either_values(alloc: Global, a: &Values, b: &Values) -> Result<Values, Memory>
-    ensures known { IfOk result (λ values. map fact_of values.known.items
-        ≡ common_of (map fact_of a.now.known.items) (map fact_of b.now.known.items)) }
-    ensures typed { IfOk result (λ values. values.bases.items ≡ either_of a.now.bases.items b.now.bases.items) }
-{
-    Ok(Values {
-        known: common_facts(alloc, &a.known, &b.known)?,
-        bases: either_bases(alloc, &a.bases, &b.bases)?,
-    })
-}
-
-/// A loop with the marks in its two blocks, where of its parameters the bases alone are known.
-#[cycle(marks)]
-fn mark_loop(
-    alloc: Global,
-    right: &CodeRight,
-    calls: &Calls,
-    facts: &mut FactTable,
-    bases: &mut BaseTable,
-) -> Result<MarkedRight, Memory>
-    ensures marked { IfOk result (λ r. code_right_term r.right
-        ≡ marking_right (given_by calls.now) (code_right_term right.now) (known_by facts.old bases.old)) }
-    ensures known { IfOk result (λ r. map fact_of r.values.known.items
-        ≡ right_facts (given_by calls.now).shapes (core_of_right (code_right_term right.now)) (known_by facts.old bases.old).facts) }
-    ensures typed { IfOk result (λ r. r.values.bases.items
-        ≡ right_bases (given_by calls.now).bases (core_of_right (code_right_term right.now)) (known_by facts.old bases.old).bases) }
-    ensures facts { OnOk result (facts.new ≡ facts.old) }
-    ensures bases { OnOk result (bases.new ≡ bases.old) }
-{
-    let CodeRight::Loop {
-        first_body,
-        start,
-        params,
-        test,
-        body,
-        test_site,
-    } = right
-    else {
-        return Err(Memory);
-    };
-    let facts_before = facts.mark();
-    let bases_before = bases.mark();
-    let first = bases_at(alloc, bases, start)?;
-    forget(alloc, facts, params)?;
-    learn_bases(bases, params, &first)?;
-    let tested = mark_block(alloc, test, calls, facts, bases)?;
-    let turned = mark_block(alloc, body, calls, facts, bases)?;
-    facts.undo(facts_before);
-    bases.undo(bases_before);
-    Ok(MarkedRight {
-        right: CodeRight::Loop {
-            first_body: *first_body,
-            start: copy_vars(alloc, start)?,
-            params: copy_vars(alloc, params)?,
-            test: tested.block,
-            body: turned.block,
-            test_site: *test_site,
-        },
-        values: Values {
-            known: Vec::new(alloc),
-            bases: first,
-        },
-    })
 }
 
 #[cycle(marks)]
@@ -326,16 +242,14 @@ fn mark_with(
     alloc: Global,
     with: &CodeWith,
     calls: &Calls,
-    facts: &mut FactTable,
-    bases: &mut BaseTable,
+    scope: &mut Scope,
 ) -> Result<CodeWith, Memory>
-    ensures marked { IfOk result (λ w. code_with_term w ≡ marking_right (given_by calls.now) (code_with_term with.now) (known_by facts.old bases.old)) }
-    ensures facts { OnOk result (facts.new ≡ facts.old) }
-    ensures bases { OnOk result (bases.new ≡ bases.old) }
+    ensures marked { IfOk result (λ w. code_with_term w ≡ marking_right (given_by calls.now) (code_with_term with.now) (known_in scope.old)) }
+    ensures scope { OnOk result (scope.new ≡ scope.old) }
 {
     let mut gens = Vec::new(alloc);
     for generator in &with.gens {
-        gens.push(mark_gen(alloc, generator, calls, facts, bases)?)?;
+        gens.push(mark_gen(alloc, generator, calls, scope)?)?;
     }
     Ok(CodeWith { gens, op: with.op })
 }
@@ -345,21 +259,15 @@ fn mark_gen(
     alloc: Global,
     generator: &CodeGen,
     calls: &Calls,
-    facts: &mut FactTable,
-    bases: &mut BaseTable,
+    scope: &mut Scope,
 ) -> Result<CodeGen, Memory>
-    ensures marked { IfOk result (λ r. code_gen_term r ≡ marking_gen (given_by calls.now) (code_gen_term generator.now) (known_by facts.old bases.old)) }
-    ensures facts { OnOk result (facts.new ≡ facts.old) }
-    ensures bases { OnOk result (bases.new ≡ bases.old) }
+    ensures marked { IfOk result (λ r. code_gen_term r ≡ marking_gen (given_by calls.now) (code_gen_term generator.now) (known_in scope.old)) }
+    ensures scope { OnOk result (scope.new ≡ scope.old) }
 {
-    let facts_before = facts.mark();
-    let bases_before = bases.mark();
-    forget_index(alloc, facts, generator.index, &generator.names)?;
-    learn_ints(bases, &[generator.index])?;
-    learn_ints(bases, &generator.names)?;
-    let marked = mark_block(alloc, &generator.body, calls, facts, bases)?;
-    facts.undo(facts_before);
-    bases.undo(bases_before);
+    let before = scope.mark();
+    scope.enter_gen(alloc, generator.index, &generator.names)?;
+    let marked = mark_block(alloc, &generator.body, calls, scope)?;
+    scope.undo(before);
     Ok(CodeGen {
         lower: generator.lower,
         lower_closed: generator.lower_closed,
@@ -378,27 +286,25 @@ fn mark_gen(
 fn mark_parted(
     alloc: Global,
     parted: &CodeParted,
-    taken: Option<Var>,
     calls: &Calls,
-    facts: &mut FactTable,
-    bases: &mut BaseTable,
+    scope: &mut Scope,
 ) -> Result<CodeParted, Memory>
-    ensures marked { IfOk result (λ r. code_parted_term r
-        ≡ with_mark taken (marking_right (given_by calls.now) (code_parted_term parted.now) (known_by facts.old bases.old))) }
-    ensures facts { OnOk result (facts.new ≡ facts.old) }
-    ensures bases { OnOk result (bases.new ≡ bases.old) }
+    ensures marked { IfOk result (λ r. code_parted_term r ≡ marking_right (given_by calls.now) (code_parted_term parted.now) (known_in scope.old)) }
+    ensures scope { OnOk result (scope.new ≡ scope.old) }
 {
     let mut parts = Vec::new(alloc);
     for part in &parted.parts {
-        parts.push(mark_part(alloc, part, calls, facts, bases)?)?;
+        parts.push(mark_part(alloc, part, calls, scope)?)?;
     }
+    let frame = parted.frame.copy(alloc)?;
+    let cell = parted.cell.copy();
     Ok(CodeParted {
-        frame: parted.frame.copy(alloc)?,
+        frame,
         base: parted.base,
-        cell: parted.cell.copy(),
+        cell,
         op: parted.op,
         parts,
-        reuse: taken.or(parted.reuse),
+        reuse: parted.reuse,
     })
 }
 
@@ -407,20 +313,15 @@ fn mark_part(
     alloc: Global,
     part: &CodePart,
     calls: &Calls,
-    facts: &mut FactTable,
-    bases: &mut BaseTable,
+    scope: &mut Scope,
 ) -> Result<CodePart, Memory>
-    ensures marked { IfOk result (λ r. code_part_term r ≡ marking_part (given_by calls.now) (code_part_term part.now) (known_by facts.old bases.old)) }
-    ensures facts { OnOk result (facts.new ≡ facts.old) }
-    ensures bases { OnOk result (bases.new ≡ bases.old) }
+    ensures marked { IfOk result (λ r. code_part_term r ≡ marking_part (given_by calls.now) (code_part_term part.now) (known_in scope.old)) }
+    ensures scope { OnOk result (scope.new ≡ scope.old) }
 {
-    let facts_before = facts.mark();
-    let bases_before = bases.mark();
-    learn_index(alloc, facts, part.index, &part.grid)?;
-    learn_ints(bases, &[part.index])?;
-    let marked = mark_block(alloc, &part.body, calls, facts, bases)?;
-    facts.undo(facts_before);
-    bases.undo(bases_before);
+    let before = scope.mark();
+    scope.enter_part(alloc, part.index, &part.grid)?;
+    let marked = mark_block(alloc, &part.body, calls, scope)?;
+    scope.undo(before);
     Ok(CodePart {
         grid: part.grid.copy(alloc)?,
         index: part.index,

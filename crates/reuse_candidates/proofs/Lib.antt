@@ -1,8 +1,9 @@
 mod BaseNotes
 mod Called
+pub mod Choices
 mod Groups
 mod OwnEnds
 mod OwnTurns
 mod Pairs
 mod Plains
-mod Trees
+pub mod Trees

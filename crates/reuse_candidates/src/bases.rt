@@ -114,8 +114,8 @@ pub fn plain_base(right: &CodeRight, table: &BaseTable) -> Option<Base>
         CodeRight::Literal(xs) => literal_base(xs, table),
         CodeRight::Dim(_) | CodeRight::ShapeOf(_) => Some(Base::Int),
         CodeRight::Check(_, ty) => Some(ty.base),
-        CodeRight::Always(_)
-        | CodeRight::If { .. }
+        CodeRight::Always(_) => None,
+        CodeRight::If { .. }
         | CodeRight::Loop { .. }
         | CodeRight::Call { .. }
         | CodeRight::With(_)

@@ -7,7 +7,7 @@ ghost use Rattle.counted_code.specs.View.{steps_before, code_parted_term, code_r
 ghost use Rattle.counted_marks.specs.Marking.{choice, is_base as base_is, is_known_shape, lesser as lesser_of, released_next as next_released};
 ghost use Rattle.mark_places.specs.Places.{releases_next as is_released_next};
 ghost use Rattle.reuse_candidates.specs.Calls.{given_by};
-ghost use Rattle.reuse_candidates.specs.Chosen.{buffer_of, fits as fits_of, fitting as fitting_of, has_form as form_is};
+ghost use Rattle.reuse_candidates.specs.Chosen.{buffer_of, fits as fits_of, fitting as fitting_of, has_form as form_is, large as large_of};
 ghost use Rattle.reuse_candidates.specs.Scopes.{known_in};
 
 use crate::bases::base_at;
@@ -18,7 +18,7 @@ use core_ir::{PartedOp, Var};
 use core_uses::avoids_all;
 use counted_code::{CodeParted, CodeRight, CodeStep};
 use plain_facts::parted_shape;
-use sac_base::{Base, Memory, Shape, same_base, same_shape};
+use sac_base::{Base, Grid, Memory, Shape, same_base, same_shape};
 use std::alloc::Global;
 
 /// The array of the least number that a right side may take over, where it is a parted loop without a mark: of those that are released before the next
@@ -59,7 +59,10 @@ fn choose_for(
         ≡ choice (given_by calls.now) (known_in scope.old) targets.now (code_parted_term parted.now) (steps_before later.now (Giving []))) }
     ensures scope { OnOk result (scope.new ≡ scope.old) }
 {
-    let Some(shape) = buffer_shape(alloc, parted) else {
+    if parted.reuse.is_some() {
+        return Ok(None);
+    }
+    let Some(shape) = buffer_shape(alloc, &parted.frame, &parted.cell, parted.op) else {
         return Ok(None);
     };
     let mut found = None;
@@ -103,17 +106,23 @@ fn fits(
     has_form(x, base, shape, scope) && avoids_all(x, targets) && is_released(x, later)
 }
 
-/// The shape of a loop's result, where the loop is not marked, and makes an array of scalar cells that has a buffer.
-fn buffer_shape(alloc: Global, parted: &CodeParted) -> Option<Shape>
-    ensures { result ≡ buffer_of (code_parted_term parted.now) }
+/// The shape of a parted loop's result, where the loop makes an array of scalar cells that has a buffer.
+fn buffer_shape(alloc: Global, frame: &Grid, cell: &Shape, op: PartedOp) -> Option<Shape>
+    ensures { result ≡ buffer_of frame.now cell.now op }
 {
-    if parted.reuse.is_some() || parted.cell.rank() != 0 {
+    if cell.rank() != 0 {
         return None;
     }
-    if let PartedOp::Fold { .. } = parted.op {
-        return None;
+    match op {
+        PartedOp::Fold { .. } => None,
+        _ => large(parted_shape(alloc, frame, cell, op)),
     }
-    match parted_shape(alloc, &parted.frame, &parted.cell, parted.op) {
+}
+
+fn large(shape: Option<Shape>) -> Option<Shape>
+    ensures { result ≡ large_of shape }
+{
+    match shape {
         Some(shape) if !is_small(&shape) => Some(shape),
         _ => None,
     }

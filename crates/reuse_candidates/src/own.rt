@@ -367,7 +367,7 @@ fn in_turns(
 /// No variable of these has a relation to the index.
 fn forget_relations(indices: &mut IndexTable, vars: &[Var]) -> Result<(), Memory>
     ensures forgotten { OnOk result (indices_of indices.new ≡ note_others (indices_of indices.old) vars.now) }
-    ensures behind { drop (length indices.new - length indices.old) indices.new ≡ indices.old }
+    ensures behind { OnOk result (drop (length indices.new - length indices.old) indices.new ≡ indices.old) }
 {
     for var in vars {
         indices.learn(*var, Relation::Other)?;

@@ -122,7 +122,8 @@ impl Scope {
     {
         forget_index(alloc, &mut self.facts, index, names)?;
         self.bases.note(index, Some(Base::Int))?;
-        learn_ints(&mut self.bases, names)
+        learn_ints(&mut self.bases, names)?;
+        Ok(())
     }
 
     /// The index of a part is a vector of as many numbers as the part's grid has axes.
