@@ -1,8 +1,9 @@
 //! What is known of the values of right sides, and copies of right sides without blocks.
 
-ghost use Rattle.std.specs.Prelude.{◌≡◌, ◌∷◌, [], IfOk};
+ghost use Rattle.std.specs.Prelude.{◌≡◌, ◌∷◌, [], IfOk, Some};
 ghost use Rattle.counted_code.specs.Terms.{core_of_right, CallCode};
-ghost use Rattle.counted_code.specs.View.{code_right_term};
+ghost use Rattle.counted_code.specs.View.{code_parted_term, code_right_term};
+ghost use Rattle.counted_marks.specs.Marking.{with_mark};
 ghost use Rattle.fact_table.specs.Table.{fact_of};
 ghost use Rattle.reuse_candidates.specs.Calls.{given_by};
 ghost use Rattle.reuse_candidates.specs.Plain.{plain_code};
@@ -10,7 +11,7 @@ ghost use Rattle.reuse_candidates.specs.Scopes.{known_in, told};
 ghost use Rattle.buffer_reuse.specs.Rights.{call_told, either_told, one_told, parted_told, plain_told, start_told, with_told};
 
 use core_ir::{CoreOp, PartedOp, Var};
-use counted_code::CodeRight;
+use counted_code::{CodeParted, CodeRight};
 use fact_table::Known;
 use plain_facts::{common_facts, parted_shape, plain_fact};
 use reuse_candidates::{
@@ -64,6 +65,46 @@ pub fn mark_call(
             bases: Vec::from_slice(alloc, calls.bases.at(group))?,
         },
     })
+}
+
+/// A right side that takes over an array, if there is one.
+pub fn with_taken(right: CodeRight, taken: Option<Var>) -> CodeRight
+    ensures { code_right_term result ≡ with_mark taken (code_right_term right) }
+{
+    match taken {
+        Some(array) => taking(right, array),
+        None => right,
+    }
+}
+
+fn taking(right: CodeRight, array: Var) -> CodeRight
+    ensures { code_right_term result ≡ with_mark (Some array) (code_right_term right) }
+{
+    match right {
+        CodeRight::Parted(parted) => CodeRight::Parted(loop_taking(parted, array)),
+        other => other,
+    }
+}
+
+fn loop_taking(parted: CodeParted, array: Var) -> CodeParted
+    ensures { code_parted_term result ≡ with_mark (Some array) (code_parted_term parted) }
+{
+    let CodeParted {
+        frame,
+        base,
+        cell,
+        op,
+        parts,
+        ..
+    } = parted;
+    CodeParted {
+        frame,
+        base,
+        cell,
+        op,
+        parts,
+        reuse: Some(array),
+    }
 }
 
 /// What is known of the results of a conditional, from what is known of those of its two blocks.

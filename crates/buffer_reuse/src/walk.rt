@@ -12,7 +12,8 @@ ghost use Rattle.reuse_candidates.specs.Scopes.{known_in, mark_of, taken_back, t
 ghost use Rattle.buffer_reuse.specs.Marked.{made_with, marking_gen, marking_part};
 
 use crate::rights::{
-    MarkedRight, either_values, mark_call, mark_plain, parted_values, start_values, with_values,
+    MarkedRight, either_values, mark_call, mark_plain, parted_values, start_values, with_taken,
+    with_values,
 };
 use core_ir::Var;
 use counted_code::{
@@ -136,41 +137,10 @@ fn mark_binding(
     made.steps.push(CodeStep::Bind(CodeLet {
         targets: copy_vars(alloc, &binding.targets)?,
         site: binding.site,
-        right: taking(right, taken),
+        right: with_taken(right, taken),
     }))?;
     made.taken = taken;
     Ok(())
-}
-
-/// A right side that takes over an array, if there is one.
-fn taking(right: CodeRight, taken: Option<Var>) -> CodeRight
-    ensures { code_right_term result ≡ with_mark taken (code_right_term right) }
-{
-    match right {
-        CodeRight::Parted(parted) => CodeRight::Parted(marked_with(parted, taken)),
-        other => other,
-    }
-}
-
-fn marked_with(parted: CodeParted, taken: Option<Var>) -> CodeParted
-    ensures { code_parted_term result ≡ with_mark taken (code_parted_term parted) }
-{
-    let CodeParted {
-        frame,
-        base,
-        cell,
-        op,
-        parts,
-        reuse,
-    } = parted;
-    CodeParted {
-        frame,
-        base,
-        cell,
-        op,
-        parts,
-        reuse: taken.or(reuse),
-    }
 }
 
 /// The right side with its marks, and what is known of its values.

@@ -8,10 +8,10 @@ use Rattle.core_loops.specs.Indices.{IndexFacts, Other, own_index, note_index, n
 use Rattle.core_uses.specs.Tests.{head_avoided}
 use Rattle.counted_code.specs.declared.tree.CodeGen.{CodeGen}
 use Rattle.counted_code.specs.declared.tree.CodePart.{CodePart}
-use Rattle.counted_code.specs.Terms.{CodeTerm, CodeRightTerm, CodeGensTerm, CodePartsTerm, LoopCode, WithCode, PartedCode, NoCodeGens, GenCode, NoCodeParts}
+use Rattle.counted_code.specs.Terms.{CodeTerm, CodeRightTerm, CodeGensTerm, CodePartsTerm, LoopCode, NoCodeGens, GenCode, NoCodeParts}
 use Rattle.counted_code.specs.Terms.{PartCode}
 use Rattle.counted_code.specs.View.{code_term}
-use Rattle.counted_marks.specs.Marks.{own_only, own_gens, own_inner}
+use Rattle.counted_marks.specs.Marks.{own_only, own_right}
 
 pub record CodeGenTerm : Type 0 where
   pub head : GenHead
@@ -62,10 +62,7 @@ module _ (called : ℕ → List (Option (List ℕ))) (v : Var) where
     abbrev pub own_inner_part : CodePartTerm → Facts → IndexFacts → Bool
     own_inner_part p k m = own_only called v n p.body (Facts.in_part k p.head) (note_index m p.head.index Other)
 
-    -- the blocks of a loop
-    abbrev pub own_blocks : CodeRightTerm → Facts → IndexFacts → Bool
-    own_blocks (LoopCode first start params test body s) k m =
-        own_only called v n test (note_all k params []) (note_others m params) && own_only called v n body (note_all k params []) (note_others m params)
-    own_blocks (WithCode o gens) k m = own_gens called v n gens k m
-    own_blocks (PartedCode f b c o parts reuse) k m = own_inner called v n parts k m
-    own_blocks _ k m = false
+    -- a loop, and no other right side
+    abbrev pub own_loop : CodeRightTerm → Facts → IndexFacts → Bool
+    own_loop (LoopCode first start params test body s) k m = own_right called v n (LoopCode first start params test body s) k m
+    own_loop _ k m = false

@@ -5,7 +5,9 @@ mod bases;
 mod calls;
 mod candidate;
 mod copies;
+mod heads;
 mod own;
+mod plain;
 mod scope;
 
 pub use bases::{BaseTable, bases_at, either_bases, loop_base, plain_base};

@@ -1,22 +1,20 @@
 //! Whether the cells of a loop use an array in selections at their own index alone.
 
-ghost use Rattle.std.specs.List.{list_all};
-ghost use Rattle.std.specs.Ordering.{int_eq};
-ghost use Rattle.std.specs.Prelude.{◌≡◌, ◌-◌, ◌&&◌, ◌∷◌, [], Ok, Some, true, IfOk, OnOk, map, drop, length, option_to_list, pos, replicate};
+ghost use Rattle.std.specs.Prelude.{◌≡◌, ◌-◌, ◌&&◌, Ok, true, IfOk, OnOk, map, drop, length};
 ghost use Rattle.core_facts.specs.Facts.{block_facts, note_all, right_facts};
-ghost use Rattle.core_loops.specs.Indices.{learn_index as learned_index, note_others};
-ghost use Rattle.core_uses.specs.Tests.{none_is, head_avoided};
+ghost use Rattle.core_loops.specs.Indices.{learn_index as learned_index};
 ghost use Rattle.counted_code.specs.Terms.{CodeTerm, core_of, core_of_right};
-ghost use Rattle.counted_code.specs.View.{code_term, step_term, steps_before, code_right_term, code_with_term, code_parted_term, code_parts_term};
-ghost use Rattle.counted_marks.specs.Marks.{is_own_index, own_only, own_right, own_parts as own_in_parts};
-ghost use Rattle.fact_table.specs.Table.{fact_of, facts_of};
-ghost use Rattle.index_table.specs.Table.{index_of, indices_of};
+ghost use Rattle.counted_code.specs.View.{code_term, step_term, steps_before, code_right_term, code_with_term, code_parted_term};
+ghost use Rattle.counted_marks.specs.Marks.{own_only, own_right, own_parts as own_in_parts};
+ghost use Rattle.fact_table.specs.Table.{facts_of};
+ghost use Rattle.index_table.specs.Table.{indices_of};
 ghost use Rattle.plain_facts.specs.Called.{shapes_of};
-ghost use Rattle.reuse_candidates.specs.Pieces.{code_gen_term, code_part_term, code_parts_of, own_gen, own_inner_part, own_part, own_blocks};
-ghost use Rattle.reuse_candidates.specs.Plain.{is_own_plain};
+ghost use Rattle.reuse_candidates.specs.Pieces.{code_gen_term, code_part_term, code_parts_of, own_gen, own_inner_part, own_loop, own_part};
 ghost use Rattle.reuse_candidates.specs.Told.{known_if, seen};
 
 use crate::copies::core_right;
+use crate::heads::{avoids_head, forget_relations, zeros};
+use crate::plain::{call_values, known_results, nothing_if, one, plain_values};
 use core_ir::Var;
 use core_uses::avoids_all;
 use counted_code::{
@@ -25,8 +23,7 @@ use counted_code::{
 use fact_table::{FactTable, Known};
 use index_table::{IndexTable, Relation, learn_relation};
 use plain_facts::{
-    CalledShapes, common_facts, forget, forget_index, known_of, learn_all, learn_index,
-    parted_shape, plain_fact,
+    CalledShapes, common_facts, forget, forget_index, learn_all, learn_index, parted_shape,
 };
 use sac_base::Memory;
 use std::alloc::Global;
@@ -84,14 +81,6 @@ fn own_part_only(
     Ok(found.is_some())
 }
 
-fn zeros(alloc: Global, count: usize) -> Result<Vec<i32>, Memory>
-    ensures { IfOk result (λ numbers. numbers.items ≡ replicate count (pos 0)) }
-{
-    let mut numbers = Vec::new(alloc);
-    numbers.resize(count, 0)?;
-    Ok(numbers)
-}
-
 /// What is known of the results of a block, where it uses the array in selections at the own index alone. There is nothing exactly where it does not.
 ///
 /// The tables have what is known of variables before the block, and are left as they were.
@@ -117,23 +106,6 @@ fn own_results(
     facts.undo(facts_before);
     indices.undo(indices_before);
     Ok(found)
-}
-
-/// What is known of the results of a block whose steps are passed, where none of them is the array.
-fn known_results(
-    alloc: Global,
-    passed: bool,
-    array: Var,
-    table: &FactTable,
-    results: &[Var],
-) -> Result<Option<Vec<Known>>, Memory>
-    ensures { IfOk result (λ found. seen found ≡ known_if (passed && none_is array results.now) (map (facts_of table.now) results.now)) }
-{
-    if passed && avoids_all(array, results) {
-        Ok(Some(known_of(alloc, table, results)?))
-    } else {
-        Ok(None)
-    }
 }
 
 /// Learns what steps tell, up to the first that uses the array in another way. True exactly where there is none.
@@ -247,91 +219,29 @@ fn own_values(
             };
             Ok(Some(common_facts(alloc, &first, &second)?))
         }
-        CodeRight::Loop { start, .. } => {
-            let own = avoids_all(sought.array, start)
-                && in_turns(alloc, right, sought, called, facts, indices)?;
-            Ok(if own { Some(Vec::new(alloc)) } else { None })
+        CodeRight::Loop { .. } => {
+            let own = in_loop(alloc, right, sought, called, facts, indices)?;
+            Ok(nothing_if(alloc, own))
         }
-        CodeRight::Call { group, args } => {
-            if !avoids_all(sought.array, args) {
-                return Ok(None);
-            }
-            Ok(Some(called.facts(alloc, *group)?))
-        }
+        CodeRight::Call { group, args } => call_values(alloc, *group, args, sought.array, called),
         CodeRight::With(with) => {
-            let own = avoids_all(sought.array, with.op.operands().as_slice())
-                && in_gens(alloc, with, sought, called, facts, indices)?;
-            Ok(if own { Some(Vec::new(alloc)) } else { None })
+            let own = in_with(alloc, with, sought, called, facts, indices)?;
+            Ok(nothing_if(alloc, own))
         }
         CodeRight::Parted(parted) => {
-            let own = avoids_all(sought.array, parted.op.operands().as_slice())
-                && in_parts(alloc, parted, sought, called, facts, indices)?;
-            if !own {
+            if !in_parted(alloc, parted, sought, called, facts, indices)? {
                 return Ok(None);
             }
             let shape = parted_shape(alloc, &parted.frame, &parted.cell, parted.op);
             one(alloc, Known::of_shape(shape))
         }
-        plain => {
-            if !own_plain(plain, sought.array, indices) {
-                return Ok(None);
-            }
-            let core = core_right(alloc, plain)?;
-            one(alloc, plain_fact(alloc, &core, facts)?)
-        }
+        plain => plain_values(alloc, plain, sought.array, facts, indices),
     }
 }
 
-/// What is known of one value.
-fn one(alloc: Global, known: Known) -> Result<Option<Vec<Known>>, Memory>
-    ensures { IfOk result (λ all. seen all ≡ Some (fact_of known ∷ [])) }
-{
-    let mut all = Vec::new(alloc);
-    all.push(known)?;
-    Ok(Some(all))
-}
-
-/// Whether a right side without blocks and calls uses the array in a selection at the own index alone.
-fn own_plain(right: &CodeRight, array: Var, indices: &IndexTable) -> bool
-    ensures { result ≡ is_own_plain array (core_of_right (code_right_term right.now)) (indices_of indices.now) }
-{
-    match right {
-        CodeRight::Select(x, y) => {
-            avoids_all(array, &[*y]) && (array.0 != x.0 || is_own(indices.at(*y)))
-        }
-        CodeRight::If { .. }
-        | CodeRight::Loop { .. }
-        | CodeRight::Call { .. }
-        | CodeRight::With(_)
-        | CodeRight::Parted(_) => false,
-        other => avoids_all(array, other.operands().as_slice()),
-    }
-}
-
-/// Whether a variable is the index, with nothing added.
-fn is_own(relation: &Relation) -> bool
-    ensures { result ≡ is_own_index (index_of relation.now) }
-{
-    match relation {
-        Relation::Plus(numbers) => are_zero(numbers),
-        _ => false,
-    }
-}
-
-fn are_zero(numbers: &[i32]) -> bool
-    ensures { result ≡ list_all (λ z. int_eq z (pos 0)) numbers.now }
-{
-    for number in numbers {
-        if *number != 0 {
-            return false;
-        }
-    }
-    true
-}
-
-/// The same of both blocks of a loop, in which nothing is known of its parameters.
+/// The same of a loop, in whose two blocks nothing is known of its parameters.
 #[cycle(own)]
-fn in_turns(
+fn in_loop(
     alloc: Global,
     right: &CodeRight,
     sought: Sought,
@@ -340,11 +250,12 @@ fn in_turns(
     indices: &mut IndexTable,
 ) -> Result<bool, Memory>
     ensures own { IfOk result (λ own. own
-        ≡ own_blocks (shapes_of called.now) sought.array sought.axes (code_right_term right.now) (facts_of facts.old) (indices_of indices.old)) }
+        ≡ own_loop (shapes_of called.now) sought.array sought.axes (code_right_term right.now) (facts_of facts.old) (indices_of indices.old)) }
     ensures facts { OnOk result (facts.new ≡ facts.old) }
     ensures indices { OnOk result (indices.new ≡ indices.old) }
 {
     let CodeRight::Loop {
+        start,
         params,
         test,
         body,
@@ -353,6 +264,9 @@ fn in_turns(
     else {
         return Ok(false);
     };
+    if !avoids_all(sought.array, start) {
+        return Ok(false);
+    }
     let facts_before = facts.mark();
     let indices_before = indices.mark();
     forget(alloc, facts, params)?;
@@ -364,19 +278,8 @@ fn in_turns(
     Ok(tested.is_some() && turned.is_some())
 }
 
-/// No variable of these has a relation to the index.
-fn forget_relations(indices: &mut IndexTable, vars: &[Var]) -> Result<(), Memory>
-    ensures forgotten { OnOk result (indices_of indices.new ≡ note_others (indices_of indices.old) vars.now) }
-    ensures behind { OnOk result (drop (length indices.new - length indices.old) indices.new ≡ indices.old) }
-{
-    for var in vars {
-        indices.learn(*var, Relation::Other)?;
-    }
-    Ok(())
-}
-
 #[cycle(own)]
-fn in_gens(
+fn in_with(
     alloc: Global,
     with: &CodeWith,
     sought: Sought,
@@ -385,10 +288,13 @@ fn in_gens(
     indices: &mut IndexTable,
 ) -> Result<bool, Memory>
     ensures own { IfOk result (λ own. own
-        ≡ own_blocks (shapes_of called.now) sought.array sought.axes (code_with_term with.now) (facts_of facts.old) (indices_of indices.old)) }
+        ≡ own_right (shapes_of called.now) sought.array sought.axes (code_with_term with.now) (facts_of facts.old) (indices_of indices.old)) }
     ensures facts { OnOk result (facts.new ≡ facts.old) }
     ensures indices { OnOk result (indices.new ≡ indices.old) }
 {
+    if !avoids_all(sought.array, with.op.operands().as_slice()) {
+        return Ok(false);
+    }
     for generator in &with.gens {
         if !in_gen(alloc, generator, sought, called, facts, indices)? {
             return Ok(false);
@@ -425,27 +331,8 @@ fn in_gen(
     Ok(found.is_some())
 }
 
-/// Whether the bounds, the step and the width of a generator are none of them this variable.
-fn avoids_head(x: Var, generator: &CodeGen) -> bool
-    ensures { result ≡ head_avoided x (code_gen_term generator.now).head }
-{
-    avoids_option(x, &generator.lower)
-        && avoids_option(x, &generator.upper)
-        && avoids_option(x, &generator.step)
-        && avoids_option(x, &generator.width)
-}
-
-fn avoids_option(x: Var, other: &Option<Var>) -> bool
-    ensures { result ≡ none_is x (option_to_list other.now) }
-{
-    match other {
-        Some(y) => avoids_all(x, &[*y]),
-        None => true,
-    }
-}
-
 #[cycle(own)]
-fn in_parts(
+fn in_parted(
     alloc: Global,
     parted: &CodeParted,
     sought: Sought,
@@ -454,10 +341,13 @@ fn in_parts(
     indices: &mut IndexTable,
 ) -> Result<bool, Memory>
     ensures own { IfOk result (λ own. own
-        ≡ own_blocks (shapes_of called.now) sought.array sought.axes (code_parted_term parted.now) (facts_of facts.old) (indices_of indices.old)) }
+        ≡ own_right (shapes_of called.now) sought.array sought.axes (code_parted_term parted.now) (facts_of facts.old) (indices_of indices.old)) }
     ensures facts { OnOk result (facts.new ≡ facts.old) }
     ensures indices { OnOk result (indices.new ≡ indices.old) }
 {
+    if !avoids_all(sought.array, parted.op.operands().as_slice()) {
+        return Ok(false);
+    }
     for part in &parted.parts {
         if !in_part(alloc, part, sought, called, facts, indices)? {
             return Ok(false);

@@ -7,7 +7,7 @@ use Rattle.counted_code.specs.View.{code_right_term}
 use Rattle.index_table.specs.Table.{indices_of}
 use Rattle.reuse_candidates.specs.Plain.{is_own_plain}
 use Rattle.reuse_candidates.proofs.Plains.{HasBlocks, with_blocks}
-use Rattle.reuse_candidates.proofs.own.own_plain.Goals as goal
+use Rattle.reuse_candidates.proofs.plain.own_plain.Goals as goal
 
 not_plain : (v : Var) (r : CodeRight) (m : IndexFacts) → HasBlocks r → false ≡ is_own_plain v (core_of_right (code_right_term r)) m
 not_plain v r m blocks =

@@ -1,7 +1,7 @@
 use Rattle.std.proofs.Common.{◌≡◌, ◌-◌, ◌≤◌, drop, length}
 use Rattle.core_loops.specs.Indices.{note_others}
 use Rattle.index_table.specs.Table.{indices_of}
-use Rattle.reuse_candidates.proofs.own.forget_relations.Given as goal
+use Rattle.reuse_candidates.proofs.heads.forget_relations.Given as goal
 
 abbrev pub invariant-loop-var : goal.invariant-loop-var
 invariant-loop-var l = record {

@@ -1,0 +1,2 @@
+mod MarkArms
+mod MarkTurns
