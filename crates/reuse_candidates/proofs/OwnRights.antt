@@ -8,8 +8,8 @@ use Rattle.core_uses.specs.Tests.{none_is}
 use Rattle.counted_code.specs.declared.tree.CodeBlock.{CodeBlock}
 use Rattle.counted_code.specs.declared.tree.CodeRight.{CodeRight}
 use Rattle.counted_code.specs.declared.tree.CodeRight.TheVariants as right
-use Rattle.counted_code.specs.declared.tree.CodeWith.{CodeWith}
-use Rattle.counted_code.specs.declared.tree.CodeParted.{CodeParted, out-CodeParted}
+use Rattle.counted_code.specs.declared.tree.CodeWith.{CodeWith, CodeWith'}
+use Rattle.counted_code.specs.declared.tree.CodeParted.{CodeParted, CodeParted', out-CodeParted}
 use Rattle.counted_code.specs.Terms.{CodeRightTerm, IfCode, LoopCode, core_of, core_of_right}
 use Rattle.counted_code.specs.View.{code_term, code_right_term, code_with_term, code_parted_term}
 use Rattle.counted_marks.specs.Marks.{own_only, own_right}
@@ -62,6 +62,12 @@ module _ (called : ℕ → List (Option (List ℕ))) (v : Var) (n : ℕ) (k : Fa
 
   -- ---- loops
 
+  with_none : (w : CodeWith) → false ≡ own_loop called v n (code_with_term w) k m
+  with_none (CodeWith' shape gens op) = refl
+
+  parted_none : (p : CodeParted) → false ≡ own_loop called v n (code_parted_term p) k m
+  parted_none (CodeParted' frame base cell op shape parts reuse) = refl
+
   pub loop_used : (r : CodeRight) (first : Bool) (start params : Vec Var Global) (test body : CodeBlock) (s : Site) → r ≡ right.Loop first start params test body s → none_is v start.items ≡ false →
       false ≡ own_loop called v n (code_right_term r) k m
   loop_used r first start params test body s e p =
@@ -77,6 +83,26 @@ module _ (called : ℕ → List (Option (List ℕ))) (v : Var) (n : ℕ) (k : Fa
       ∙ (λ i. own_only called v n (code_term test) (ek i) (em i) && own_only called v n (code_term body) ((ek' ∙ ek) i) ((em' ∙ em) i))
       ∙ (λ i. sym p i && (own_only called v n (code_term test) (note_all k params.items []) (note_others m params.items) && own_only called v n (code_term body) (note_all k params.items []) (note_others m params.items)))
       ∙ (λ i. own_loop called v n (sym (is_loop r first start params test body s e) i) k m)
+
+  -- no other right side is one
+  pub no_loop : (r : CodeRight) → ((first : Bool) (start params : Vec Var Global) (test body : CodeBlock) (s : Site) → r ≡ right.Loop first start params test body s → ⊥) → false ≡ own_loop called v n (code_right_term r) k m
+  no_loop (right.Const a) h = refl
+  no_loop (right.Copy x) h = refl
+  no_loop (right.Unary o x) h = refl
+  no_loop (right.Binary o x y) h = refl
+  no_loop (right.Literal xs) h = refl
+  no_loop (right.Dim x) h = refl
+  no_loop (right.ShapeOf x) h = refl
+  no_loop (right.Reshape x y) h = refl
+  no_loop (right.Select x y) h = refl
+  no_loop (right.Replace x y z) h = refl
+  no_loop (right.If' c sa a ra sb b rb) h = refl
+  no_loop (right.Loop' first start params st test rt sb body rb s) h = absurd (h first start params _ _ s refl)
+  no_loop (right.Call group args) h = refl
+  no_loop (right.With w) h = with_none w
+  no_loop (right.Parted p) h = parted_none p
+  no_loop (right.Always e) h = refl
+  no_loop (right.Check x t) h = refl
 
   pub loop_known : (r : CodeRight) (first : Bool) (start params : Vec Var Global) (test body : CodeBlock) (s : Site) (own : Bool) (o : Option (List Fact)) → r ≡ right.Loop first start params test body s →
       own ≡ own_loop called v n (code_right_term r) k m → o ≡ known_if own [] → o ≡ knows (code_right_term r)

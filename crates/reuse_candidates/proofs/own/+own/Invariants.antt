@@ -20,16 +20,16 @@ invariant-pass_steps-loop-step l = record {
   indices : drop (length l.indices - length l.initial.indices) l.indices ≡ l.initial.indices;
 }
 
-abbrev pub invariant-in_gens-loop-generator : goal.invariant-in_gens-loop-generator
-invariant-in_gens-loop-generator l = record {
+abbrev pub invariant-in_with-loop-generator : goal.invariant-in_with-loop-generator
+invariant-in_with-loop-generator l = record {
   own : own_gens (shapes_of l.called) l.sought.array l.sought.axes (code_gens_of (map code_gen_term (drop l.generator-index l.generator-items))) (facts_of l.fn.facts) (indices_of l.fn.indices)
       ≡ own_gens (shapes_of l.called) l.sought.array l.sought.axes (code_gens_of (map code_gen_term l.generator-items)) (facts_of l.fn.facts) (indices_of l.fn.indices);
   facts : l.facts ≡ l.fn.facts;
   indices : l.indices ≡ l.fn.indices;
 }
 
-abbrev pub invariant-in_parts-loop-part : goal.invariant-in_parts-loop-part
-invariant-in_parts-loop-part l = record {
+abbrev pub invariant-in_parted-loop-part : goal.invariant-in_parted-loop-part
+invariant-in_parted-loop-part l = record {
   own : own_inner (shapes_of l.called) l.sought.array l.sought.axes (code_parts_of (map code_part_term (drop l.part-index l.part-items))) (facts_of l.fn.facts) (indices_of l.fn.indices)
       ≡ own_inner (shapes_of l.called) l.sought.array l.sought.axes (code_parts_of (map code_part_term l.part-items)) (facts_of l.fn.facts) (indices_of l.fn.indices);
   facts : l.facts ≡ l.fn.facts;
