@@ -3,16 +3,18 @@ use Rattle.std.proofs.Common.{◌≡◌, ℕ, ◌-◌, Bool, true, false, cond, 
 use Rattle.sac_base.specs.declared.site.Site.{Site}
 use Rattle.core_ir.specs.declared.tree.Var.{Var}
 use Rattle.counted_code.specs.declared.tree.CodeStep.{CodeStep}
+use Rattle.counted_code.specs.declared.tree.CodeStep.TheVariants as step
 use Rattle.counted_code.specs.Terms.{CodeTerm, CodeRightTerm, Giving, Binding, Keeping, Releasing, core_of, core_of_right}
 use Rattle.counted_code.specs.View.{steps_before, step_term}
 use Rattle.counted_marks.specs.Known.{Given, Known, learned}
 use Rattle.counted_marks.specs.Marking.{choice, marking, marking_right, released_by, with_mark}
+use Rattle.mark_places.specs.Places.{without_release}
 use Rattle.scoped_table.proofs.Marks.{earlier_on, none_gone}
 use Rattle.reuse_candidates.specs.Scopes.{Told, mark_of, taken_back, told_block}
 use Rattle.reuse_candidates.specs.declared.scope.Scope.{Scope}
 use Rattle.reuse_candidates.proofs.Choices.{choice_same}
 use Rattle.reuse_candidates.proofs.Trees.{steps_append}
-use Rattle.buffer_reuse.specs.Marked.{made_with}
+use Rattle.buffer_reuse.specs.Marked.{is_taken, made_with}
 use Rattle.buffer_reuse.specs.declared.walk.Made.{Made}
 
 -- ---- notes
@@ -38,7 +40,28 @@ pub over_keep : (taken : Option Var) (x : Var) (b : CodeTerm) → released_by ta
 over_keep None x b = refl
 over_keep (Some v) x b = refl
 
+pub release_out : (taken : Option Var) (x : Var) (b : CodeTerm) → is_taken taken x ≡ true → b ≡ released_by taken (Releasing x b)
+release_out None x b e = absurd (let q : ◌≡◌ {A = Bool} false true = e in cc)
+release_out (Some v) x b e = λ i. cond (sym e i) b (Releasing x (without_release v b))
+
+pub release_stays : (taken : Option Var) (x : Var) (b : CodeTerm) → is_taken taken x ≡ false → Releasing x (released_by taken b) ≡ released_by taken (Releasing x b)
+release_stays None x b e = refl
+release_stays (Some v) x b e = λ i. cond (sym e i) b (Releasing x (without_release v b))
+
+-- ---- steps that are appended
+
+pub pushed : (old new : List CodeStep) (s : CodeStep) (t : CodeTerm) → new ≡ old ++ (s ∷ []) → steps_before new t ≡ steps_before old (step_term s t)
+pushed old new s t e = ap (λ (ss : List CodeStep). steps_before ss t) e ∙ steps_append old (s ∷ []) t
+
+pub released : (old new : List CodeStep) (taken : Option Var) (x : Var) (rest : CodeTerm) → is_taken taken x ≡ false → new ≡ old ++ (step.Release x ∷ []) →
+    steps_before new (released_by taken rest) ≡ steps_before old (released_by taken (Releasing x rest))
+released old new taken x rest t e = pushed old new (step.Release x) (released_by taken rest) e ∙ ap (steps_before old) (release_stays taken x rest t)
+
 module _ (g : Given) where
+  pub kept : (k : Known) (old : Made) (new : List CodeStep) (x : Var) (rest : CodeTerm) → new ≡ old.steps.items ++ (step.Keep x ∷ []) →
+      steps_before new (released_by old.taken (marking g rest k)) ≡ made_with g old k (Keeping x rest)
+  kept k old new x rest e = pushed old.steps.items new (step.Keep x) (released_by old.taken (marking g rest k)) e ∙ ap (steps_before old.steps.items) (sym (over_keep old.taken x (marking g rest k)))
+
   -- a binding is made
   pub bound : (k k' : Known) (old new : Made) (xs : List Var) (s : Site) (r : CodeRightTerm) (later : List CodeStep) →
       ((rest : CodeTerm) → steps_before new.steps.items rest ≡ steps_before old.steps.items (Binding xs s (with_mark new.taken (marking_right g r k)) rest)) →

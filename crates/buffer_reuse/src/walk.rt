@@ -9,7 +9,7 @@ ghost use Rattle.counted_marks.specs.Marking.{choice, marking, marking_right, re
 ghost use Rattle.reuse_candidates.specs.Calls.{given_by};
 ghost use Rattle.reuse_candidates.specs.Pieces.{code_gen_term, code_part_term};
 ghost use Rattle.reuse_candidates.specs.Scopes.{known_in, mark_of, taken_back, told, told_block, told_right};
-ghost use Rattle.buffer_reuse.specs.Marked.{made_with, marking_gen, marking_part};
+ghost use Rattle.buffer_reuse.specs.Marked.{is_taken as taken_is, made_with, marking_gen, marking_part};
 
 use crate::rights::{
     MarkedRight, either_values, mark_call, mark_plain, parted_values, start_values, with_taken,
@@ -90,12 +90,18 @@ fn mark_step(
     ensures behind { OnOk result (taken_back (mark_of scope.old) scope.new ≡ scope.old) }
 {
     match step {
-        CodeStep::Bind(binding) => mark_binding(alloc, binding, later, calls, scope, made),
+        CodeStep::Bind(binding) => {
+            mark_binding(alloc, binding, later, calls, scope, made)?;
+            Ok(())
+        }
         CodeStep::Keep(x) => {
             made.steps.push(CodeStep::Keep(*x))?;
             Ok(())
         }
-        CodeStep::Release(x) => pass_release(*x, made),
+        CodeStep::Release(x) => {
+            pass_release(*x, made)?;
+            Ok(())
+        }
     }
 }
 
@@ -104,11 +110,22 @@ fn pass_release(x: Var, made: &mut Made) -> Result<(), Memory>
     ensures { OnOk result ((rest : CodeTerm)
         → steps_before made.new.steps.items (released_by made.new.taken rest) ≡ steps_before made.old.steps.items (released_by made.old.taken (Releasing x rest))) }
 {
-    match made.taken {
-        Some(v) if v.0 == x.0 => made.taken = None,
-        _ => made.steps.push(CodeStep::Release(x))?,
+    if is_taken(made.taken, x) {
+        made.taken = None;
+        return Ok(());
     }
+    made.steps.push(CodeStep::Release(x))?;
     Ok(())
+}
+
+/// Whether a variable is the array that is taken over.
+fn is_taken(taken: Option<Var>, x: Var) -> bool
+    ensures { result ≡ taken_is taken x }
+{
+    match taken {
+        Some(array) => array.0 == x.0,
+        None => false,
+    }
 }
 
 /// Appends a binding with its marks, and learns what it tells.

@@ -1,5 +1,5 @@
 -- The least of the arrays that a loop may take over, among those that fit.
-use Rattle.std.proofs.Common.{◌≡◌, ℕ, Bool, true, false, ◌&&◌, not, cond, if◌then◌else◌, List, [], ◌∷◌, ◌++◌, length, map, drop, Option, Some, None, refl, sym, ap, ◌∙◌, subst}
+use Rattle.std.proofs.Common.{◌≡◌, ◌≤◌, ℕ, Bool, true, false, ◌&&◌, not, cond, if◌then◌else◌, List, [], ◌∷◌, ◌++◌, length, map, drop, Option, Some, None, refl, sym, ap, ◌∙◌, subst}
 use Rattle.std.specs.Prelude.{eqb, filter, unwrap_or}
 use Rattle.sac_base.specs.declared.base.Base.{Base}
 use Rattle.sac_base.specs.declared.grid.Grid1.{Grid1}
@@ -7,15 +7,24 @@ use Rattle.core_ir.specs.declared.tree.Var.{Var}
 use Rattle.core_ir.specs.declared.tree.PartedOp.{PartedOp}
 use Rattle.core_ir.specs.Meaning.{extents}
 use Rattle.core_uses.specs.Tests.{none_is}
+use Rattle.std.specs.Option.{is_some}
+use Rattle.counted_code.specs.declared.tree.CodeParted.{CodeParted, out-CodeParted}
+use Rattle.counted_code.specs.declared.tree.CodeRight.{CodeRight, CodeRight-F, out-CodeRight, roll-CodeRight, roll-out-CodeRight}
+use Rattle.counted_code.specs.declared.tree.CodeRight.TheBlock.{the_data, the_data-1, the_data-2, the_data-3, the_data-4, the_data-5, the_data-6, the_data-7}
+use Rattle.counted_code.specs.declared.tree.CodeRight.TheVariants as right
+use Rattle.counted_code.specs.declared.tree.CodeWith.{CodeWith, CodeWith'}
 use Rattle.counted_code.specs.declared.tree.CodeStep.{CodeStep}
 use Rattle.counted_code.specs.declared.tree.CodeStep.TheVariants as step
 use Rattle.counted_code.specs.Terms.{CodeTerm, CodeRightTerm, CodePartsTerm, Giving, PlainCode, IfCode, LoopCode, CallCode, WithCode, PartedCode}
-use Rattle.counted_code.specs.View.{steps_before, step_term}
+use Rattle.counted_code.specs.View.{code_parted_term, code_right_term, code_with_term, steps_before, step_term}
 use Rattle.counted_marks.specs.Known.{Given, Known}
 use Rattle.counted_marks.specs.Marks.{own_parts}
 use Rattle.counted_marks.specs.Marking.{choice, is_base, is_candidate, is_known_shape, least, lesser, makes_buffer, may_reuse, released_next}
 use Rattle.mark_places.specs.Places.{releases_next}
 use Rattle.reuse_candidates.specs.Chosen.{buffer_of, fits, fitting}
+use Rattle.reuse_candidates.specs.Pieces.{code_part_term, code_parts_of}
+use Rattle.reuse_candidates.proofs.Pairs.{drop_over}
+use Rattle.reuse_candidates.proofs.Trees.{parted_out}
 
 -- ---- tests, in another order
 
@@ -83,6 +92,54 @@ module _ (g : Given) (k : Known) (targets : List Var) (f : List Grid1) (b : Base
   none_chosen e =
       sym (least_none (is_candidate g k targets f b l o ps rest) None (released_next rest)
       (λ v. none_made (none_is v targets) (releases_next v rest) (makes_buffer f l o) _ (from_none (makes_buffer f l o) (extents f) e)))
+
+-- ---- the loop as it stands in memory
+
+unmarked : (reuse : Option Var) → is_some reuse ≡ false → reuse ≡ None
+unmarked None e = refl
+unmarked (Some v) e = absurd (let q : ◌≡◌ {A = Bool} true false = e in cc)
+
+module _ (g : Given) (k : Known) (targets : List Var) (p : CodeParted) (rest : CodeTerm) where
+  abbrev own : Var → Bool
+  own v = own_parts g.shapes v (code_parts_of (map code_part_term (out-CodeParted p).parts.items)) k.facts
+
+  without_mark : is_some (out-CodeParted p).reuse ≡ false →
+      choice g k targets (PartedCode (out-CodeParted p).frame (out-CodeParted p).base (out-CodeParted p).cell (out-CodeParted p).op (code_parts_of (map code_part_term (out-CodeParted p).parts.items)) None) rest ≡ choice g k targets (code_parted_term p) rest
+  without_mark e =
+      (λ i. choice g k targets (PartedCode (out-CodeParted p).frame (out-CodeParted p).base (out-CodeParted p).cell (out-CodeParted p).op (code_parts_of (map code_part_term (out-CodeParted p).parts.items)) (sym (unmarked (out-CodeParted p).reuse e) i)) rest)
+      ∙ (λ i. choice g k targets (sym (parted_out p) i) rest)
+
+  pub marked_already : is_some (out-CodeParted p).reuse ≡ true → None ≡ choice g k targets (code_parted_term p) rest
+  marked_already e =
+      by_mark (out-CodeParted p).reuse e ∙ (λ i. choice g k targets (sym (parted_out p) i) rest)
+    where
+      by_mark : (reuse : Option Var) → is_some reuse ≡ true →
+          None ≡ choice g k targets (PartedCode (out-CodeParted p).frame (out-CodeParted p).base (out-CodeParted p).cell (out-CodeParted p).op (code_parts_of (map code_part_term (out-CodeParted p).parts.items)) reuse) rest
+      by_mark None e = absurd (let q : ◌≡◌ {A = Bool} false true = e in cc)
+      by_mark (Some v) e = refl
+
+  pub no_buffer : is_some (out-CodeParted p).reuse ≡ false → None ≡ buffer_of (out-CodeParted p).frame (out-CodeParted p).cell (out-CodeParted p).op → None ≡ choice g k targets (code_parted_term p) rest
+  no_buffer e h = none_chosen g k targets (out-CodeParted p).frame (out-CodeParted p).base (out-CodeParted p).cell (out-CodeParted p).op (code_parts_of (map code_part_term (out-CodeParted p).parts.items)) rest h ∙ without_mark e
+
+  pub least_found : (shape : List ℕ) (found : Option Var) (items : List Var) (i : ℕ) → is_some (out-CodeParted p).reuse ≡ false → Some shape ≡ buffer_of (out-CodeParted p).frame (out-CodeParted p).cell (out-CodeParted p).op →
+      items ≡ fitting k targets (out-CodeParted p).base shape rest → length items ≤ i → least own found (drop i items) ≡ least own None items → found ≡ choice g k targets (code_parted_term p) rest
+  least_found shape found items i e h fit over whole =
+      chosen g k targets (out-CodeParted p).frame (out-CodeParted p).base (out-CodeParted p).cell (out-CodeParted p).op (code_parts_of (map code_part_term (out-CodeParted p).parts.items)) rest shape found h
+      ((λ j. least own found (sym (drop_over items i over) j)) ∙ whole ∙ (λ j. least own None (fit j)))
+      ∙ without_mark e
+
+-- no other right side takes over an array
+no_choice_with : (g : Given) (k : Known) (targets : List Var) (rest : CodeTerm) (w : CodeWith) → None ≡ choice g k targets (code_with_term w) rest
+no_choice_with g k targets rest (CodeWith' shape gens op) = refl
+
+pub no_choice : (g : Given) (k : Known) (targets : List Var) (rest : CodeTerm) (r : CodeRight) → ((p : CodeParted) → r ≡ right.Parted p → ⊥) → None ≡ choice g k targets (code_right_term r) rest
+unfolding roll-CodeRight denote.Hole.Carrier.roll
+no_choice g k targets rest r other = by_layer (out-CodeRight r) refl
+  where
+    by_layer : (l : CodeRight-F the_data the_data-1 the_data-2 the_data-3 the_data-4 the_data-5 the_data-6 the_data-7) → out-CodeRight r ≡ l → None ≡ choice g k targets (code_right_term r) rest
+    by_layer (CodeRight-F.Parted p) e = absurd (other p (sym (roll-out-CodeRight r) ∙ ap roll-CodeRight e ∙ right.rolls-Parted p))
+    by_layer (CodeRight-F.With w) e = subst (λ (q : CodeRight). None ≡ choice g k targets (code_right_term q) rest) (sym (ap roll-CodeRight e) ∙ roll-out-CodeRight r) (no_choice_with g k targets rest w)
+    by_layer l e = subst (λ (q : CodeRight). None ≡ choice g k targets (code_right_term q) rest) (sym (ap roll-CodeRight e) ∙ roll-out-CodeRight r) refl
 
 -- ---- steps up to the next binding
 

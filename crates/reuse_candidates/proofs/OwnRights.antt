@@ -1,12 +1,13 @@
 -- Right sides with blocks: what is known of their values where they use an array at the own index alone.
-use Rattle.std.proofs.Common.{◌≡◌, ℕ, Bool, true, false, ◌&&◌, List, [], ◌∷◌, map, Option, Some, None, refl, sym, ap, ◌∙◌, Vec, Global}
+use Rattle.std.proofs.Common.{◌≡◌, ℕ, Bool, true, false, ◌&&◌, List, [], ◌∷◌, map, Option, Some, None, refl, sym, ap, ◌∙◌, subst, Vec, Global}
 use Rattle.sac_base.specs.declared.site.Site.{Site}
 use Rattle.core_ir.specs.declared.tree.Var.{Var}
 use Rattle.core_facts.specs.Facts.{Fact, Facts, block_facts, common_facts, known_shape, note_all, parted_shape, right_facts, shape_fact}
 use Rattle.core_loops.specs.Indices.{IndexFacts, note_others}
 use Rattle.core_uses.specs.Tests.{none_is}
 use Rattle.counted_code.specs.declared.tree.CodeBlock.{CodeBlock}
-use Rattle.counted_code.specs.declared.tree.CodeRight.{CodeRight}
+use Rattle.counted_code.specs.declared.tree.CodeRight.{CodeRight, CodeRight-F, out-CodeRight, roll-CodeRight, roll-out-CodeRight}
+use Rattle.counted_code.specs.declared.tree.CodeRight.TheBlock.{the_data, the_data-1, the_data-2, the_data-3, the_data-4, the_data-5, the_data-6, the_data-7}
 use Rattle.counted_code.specs.declared.tree.CodeRight.TheVariants as right
 use Rattle.counted_code.specs.declared.tree.CodeWith.{CodeWith, CodeWith'}
 use Rattle.counted_code.specs.declared.tree.CodeParted.{CodeParted, CodeParted', out-CodeParted}
@@ -30,11 +31,6 @@ module _ (called : ℕ → List (Option (List ℕ))) (v : Var) (n : ℕ) (k : Fa
   is_loop r first start params test body s e = ap code_right_term e ∙ loop_term first start params test body s
 
   -- ---- conditionals
-
-  pub if_used : (r : CodeRight) (x : Var) (a b : CodeBlock) → r ≡ right.If x a b → none_is v (x ∷ []) ≡ false → None ≡ knows (code_right_term r)
-  if_used r x a b e p =
-      (λ i. known_if (sym p i && (own_only called v n (code_term a) k m && own_only called v n (code_term b) k m)) (common_facts (block_facts called (core_of (code_term a)) k) (block_facts called (core_of (code_term b)) k)))
-      ∙ (λ i. knows (sym (is_if r x a b e) i))
 
   pub if_first : (r : CodeRight) (x : Var) (a b : CodeBlock) → r ≡ right.If x a b → own_only called v n (code_term a) k m ≡ false → None ≡ knows (code_right_term r)
   if_first r x a b e p =
@@ -68,12 +64,6 @@ module _ (called : ℕ → List (Option (List ℕ))) (v : Var) (n : ℕ) (k : Fa
   parted_none : (p : CodeParted) → false ≡ own_loop called v n (code_parted_term p) k m
   parted_none (CodeParted' frame base cell op shape parts reuse) = refl
 
-  pub loop_used : (r : CodeRight) (first : Bool) (start params : Vec Var Global) (test body : CodeBlock) (s : Site) → r ≡ right.Loop first start params test body s → none_is v start.items ≡ false →
-      false ≡ own_loop called v n (code_right_term r) k m
-  loop_used r first start params test body s e p =
-      (λ i. sym p i && (own_only called v n (code_term test) (note_all k params.items []) (note_others m params.items) && own_only called v n (code_term body) (note_all k params.items []) (note_others m params.items)))
-      ∙ (λ i. own_loop called v n (sym (is_loop r first start params test body s e) i) k m)
-
   pub loop_is : (r : CodeRight) (first : Bool) (start params : Vec Var Global) (test body : CodeBlock) (s : Site) (k1 k2 : Facts) (m1 m2 : IndexFacts) (one two own : Bool) → r ≡ right.Loop first start params test body s →
       none_is v start.items ≡ true → k1 ≡ note_all k params.items [] → m1 ≡ note_others m params.items → k2 ≡ k1 → m2 ≡ m1 →
       one ≡ own_only called v n (code_term test) k1 m1 → two ≡ own_only called v n (code_term body) k2 m2 → own ≡ (one && two) → own ≡ own_loop called v n (code_right_term r) k m
@@ -86,31 +76,14 @@ module _ (called : ℕ → List (Option (List ℕ))) (v : Var) (n : ℕ) (k : Fa
 
   -- no other right side is one
   pub no_loop : (r : CodeRight) → ((first : Bool) (start params : Vec Var Global) (test body : CodeBlock) (s : Site) → r ≡ right.Loop first start params test body s → ⊥) → false ≡ own_loop called v n (code_right_term r) k m
-  no_loop (right.Const a) h = refl
-  no_loop (right.Copy x) h = refl
-  no_loop (right.Unary o x) h = refl
-  no_loop (right.Binary o x y) h = refl
-  no_loop (right.Literal xs) h = refl
-  no_loop (right.Dim x) h = refl
-  no_loop (right.ShapeOf x) h = refl
-  no_loop (right.Reshape x y) h = refl
-  no_loop (right.Select x y) h = refl
-  no_loop (right.Replace x y z) h = refl
-  no_loop (right.If' c sa a ra sb b rb) h = refl
-  no_loop (right.Loop' first start params st test rt sb body rb s) h = absurd (h first start params _ _ s refl)
-  no_loop (right.Call group args) h = refl
-  no_loop (right.With w) h = with_none w
-  no_loop (right.Parted p) h = parted_none p
-  no_loop (right.Always e) h = refl
-  no_loop (right.Check x t) h = refl
-
-  pub loop_known : (r : CodeRight) (first : Bool) (start params : Vec Var Global) (test body : CodeBlock) (s : Site) (own : Bool) (o : Option (List Fact)) → r ≡ right.Loop first start params test body s →
-      own ≡ own_loop called v n (code_right_term r) k m → o ≡ known_if own [] → o ≡ knows (code_right_term r)
-  loop_known r first start params test body s own o e p h =
-      let t = is_loop r first start params test body s e in
-      h
-      ∙ (λ i. known_if ((p ∙ (λ j. own_loop called v n (t j) k m)) i) [])
-      ∙ (λ i. knows (sym t i))
+  unfolding roll-CodeRight denote.Hole.Carrier.roll
+  no_loop r other = by_layer (out-CodeRight r) refl
+    where
+      by_layer : (l : CodeRight-F the_data the_data-1 the_data-2 the_data-3 the_data-4 the_data-5 the_data-6 the_data-7) → out-CodeRight r ≡ l → false ≡ own_loop called v n (code_right_term r) k m
+      by_layer (CodeRight-F.Loop first start params test body s) e = absurd (other first start params test body s (sym (roll-out-CodeRight r) ∙ ap roll-CodeRight e ∙ right.rolls-Loop first start params test body s))
+      by_layer (CodeRight-F.With w) e = subst (λ (q : CodeRight). false ≡ own_loop called v n (code_right_term q) k m) (sym (ap roll-CodeRight e) ∙ roll-out-CodeRight r) (with_none w)
+      by_layer (CodeRight-F.Parted p) e = subst (λ (q : CodeRight). false ≡ own_loop called v n (code_right_term q) k m) (sym (ap roll-CodeRight e) ∙ roll-out-CodeRight r) (parted_none p)
+      by_layer l e = subst (λ (q : CodeRight). false ≡ own_loop called v n (code_right_term q) k m) (sym (ap roll-CodeRight e) ∙ roll-out-CodeRight r) refl
 
   -- ---- with-loops and parted loops
 
@@ -121,13 +94,9 @@ module _ (called : ℕ → List (Option (List ℕ))) (v : Var) (n : ℕ) (k : Fa
       ∙ (λ i. known_if (own_right called v n (code_with_term w) k m) (right_facts called (core_of_right (sym (with_out w) i)) k))
       ∙ (λ i. knows (code_right_term (sym e i)))
 
-  pub parted_unknown : (r : CodeRight) (p : CodeParted) → r ≡ right.Parted p → own_right called v n (code_parted_term p) k m ≡ false → None ≡ knows (code_right_term r)
-  parted_unknown r p e f =
-      (λ i. known_if (sym f i) (right_facts called (core_of_right (code_parted_term p)) k)) ∙ (λ i. knows (code_right_term (sym e i)))
-
-  pub parted_known : (r : CodeRight) (p : CodeParted) (o : Option (List Fact)) → r ≡ right.Parted p → own_right called v n (code_parted_term p) k m ≡ true →
+  pub parted_known : (r : CodeRight) (p : CodeParted) (own : Bool) (o : Option (List Fact)) → r ≡ right.Parted p → own ≡ own_right called v n (code_parted_term p) k m → own ≡ true →
       o ≡ Some (shape_fact (known_shape (parted_shape (out-CodeParted p).frame (out-CodeParted p).cell (out-CodeParted p).op)) ∷ []) → o ≡ knows (code_right_term r)
-  parted_known r p o e t h =
+  parted_known r p own o e is t h =
       h
-      ∙ (λ i. known_if (sym t i) (right_facts called (core_of_right (sym (parted_out p) i)) k))
+      ∙ (λ i. known_if ((sym t ∙ is) i) (right_facts called (core_of_right (sym (parted_out p) i)) k))
       ∙ (λ i. knows (code_right_term (sym e i)))

@@ -1,5 +1,5 @@
 -- One step of the walk through a loop's cells more, and its ends.
-use Rattle.std.specs.Prelude.{unwrap_or, Vec}
+use Rattle.std.specs.Prelude.{unwrap_or, Vec, IfOk, Result, Ok, Err}
 use Rattle.std.specs.Option.{is_some}
 use Rattle.std.specs.declared.alloc.Global.{Global}
 use Rattle.std.proofs.Common.{◌≡◌, ℕ, Bool, true, false, ◌&&◌, List, [], ◌∷◌, map, Option, Some, None, refl, sym, ap, ◌∙◌}
@@ -49,13 +49,19 @@ block_values called v n b k k' m m' ss rs passed o l r t f e =
     at false t f = λ i. known_if (sym (t (Giving rs)) i) (block_facts called (core_of (steps_before ss (Giving rs))) k)
 
 -- what a known answer says
-pub is_known : (b : Bool) (fs gs : List Fact) → Some fs ≡ known_if b gs → (b ≡ true) × (fs ≡ gs)
+is_known : (b : Bool) (fs gs : List Fact) → Some fs ≡ known_if b gs → (b ≡ true) × (fs ≡ gs)
 is_known true fs gs e = (refl, ap (λ (o : Option (List Fact)). unwrap_or o []) e)
 is_known false fs gs e = absurd (let q : ◌≡◌ {A = Option (List Fact)} (Some fs) None = e in cc)
 
-pub is_unknown : (b : Bool) (gs : List Fact) → None ≡ known_if b gs → b ≡ false
+is_unknown : (b : Bool) (gs : List Fact) → None ≡ known_if b gs → b ≡ false
 is_unknown true gs e = absurd (let q : ◌≡◌ {A = Option (List Fact)} None (Some gs) = e in cc)
 is_unknown false gs e = refl
+
+pub known_at : (o : Option (Vec Known Global)) (v : Vec Known Global) (b : Bool) (gs : List Fact) → o ≡ Some v → seen o ≡ known_if b gs → (b ≡ true) × (map fact_of v.items ≡ gs)
+known_at o v b gs is e = is_known b (map fact_of v.items) gs (ap seen (sym is) ∙ e)
+
+pub unknown_at : (o : Option (Vec Known Global)) (b : Bool) (gs : List Fact) → o ≡ None → seen o ≡ known_if b gs → b ≡ false
+unknown_at o b gs is e = is_unknown b gs (ap seen (sym is) ∙ e)
 
 -- whether there is an answer
 pub some_is : (o : Option (Vec Known Global)) (b : Bool) (fs : List Fact) → seen o ≡ known_if b fs → is_some o ≡ b
@@ -63,6 +69,11 @@ some_is None true fs e = absurd (let q : ◌≡◌ {A = Option (List Fact)} None
 some_is None false fs e = refl
 some_is (Some v) true fs e = refl
 some_is (Some v) false fs e = absurd (let q : ◌≡◌ {A = Option (List Fact)} (Some (map fact_of v.items)) None = e in cc)
+
+-- what a call gives, if it gives something
+pub on_ok : {A E : Type 0} (P Q : A → Type 0) (r : Result A E) → ((a : A) → P a → Q a) → IfOk r P → IfOk r Q
+on_ok P Q (Ok a) f h = f a h
+on_ok P Q (Err e) f h = h
 
 -- ---- conditionals
 

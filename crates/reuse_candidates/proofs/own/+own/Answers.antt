@@ -1,4 +1,4 @@
-use Rattle.std.proofs.Common.{rules, refl, sym, ap, ◌≡◌, ◌∙◌, ◌+◌, ◌-◌, ◌&&◌, true, false, [], ◌∷◌, ◌≤◌, drop, length, map, Ok, None, arith}
+use Rattle.std.proofs.Common.{rules, refl, sym, ap, ◌≡◌, ◌∙◌, ◌+◌, ◌-◌, ◌&&◌, true, false, [], ◌∷◌, ◌≤◌, drop, length, map, Ok, Some, None, arith}
 use Rattle.std.specs.Option.{is_some}
 use Rattle.std.proofs.lemmas.List.{drop_more}
 use Rattle.counted_code.specs.declared.tree.CodeGen.{CodeGen}
@@ -9,7 +9,7 @@ use Rattle.counted_code.specs.declared.tree.CodeWith.{out-CodeWith}
 use Rattle.counted_code.specs.Terms.{core_of_right}
 use Rattle.counted_code.specs.View.{code_term, code_right_term, steps_before}
 use Rattle.counted_marks.specs.Marks.{own_only, own_right}
-use Rattle.core_facts.specs.Facts.{note_all}
+use Rattle.core_facts.specs.Facts.{common_facts, note_all, right_facts, shape_fact}
 use Rattle.core_ir.specs.Scopes.{op_uses, parted_uses}
 use Rattle.core_loops.specs.Indices.{learn_index, note_others}
 use Rattle.core_uses.specs.Tests.{none_is}
@@ -21,7 +21,7 @@ use Rattle.reuse_candidates.specs.Pieces.{code_gen_term, code_part_term, own_gen
 use Rattle.reuse_candidates.specs.Told.{known_if, seen}
 use Rattle.reuse_candidates.proofs.OwnEnds.{with_used, with_stopped, with_passed, parted_used, parted_stopped, parted_passed}
 use Rattle.reuse_candidates.proofs.OwnRights.{if_first, if_second, if_known, loop_is, no_loop, with_known, parted_known}
-use Rattle.reuse_candidates.proofs.OwnTurns.{own_turn, known_turn, block_values, is_known, is_unknown, some_is, learns_plain}
+use Rattle.reuse_candidates.proofs.OwnTurns.{own_turn, known_turn, block_values, known_at, unknown_at, some_is, learns_plain, on_ok}
 use Rattle.reuse_candidates.proofs.own.+own.Goals as goal
 use Rattle.reuse_candidates.proofs.own.+own.Goals.{in_loop-then-is_some, in_loop-else-is_some}
 
@@ -68,9 +68,9 @@ own_results-returns-clause-known t c =
 
 pub pass_binding-returns-in_ok-learn_all-in-Some-clause-known : goal.pass_binding-returns-in_ok-learn_all-in-Some-clause-known
 pass_binding-returns-in_ok-learn_all-in-Some-clause-known t c q =
-    let w = is_known _ _ _ (ap seen (sym c.in-Some.is) ∙ c.in_ok-own_values.ensures.known) in
+    let w = known_at _ _ _ _ c.in-Some.is c.in_ok-values.ensures.known in
     c.in_ok-learn_all-in-Some.ensures.noted
-    ∙ (λ i. note_all (facts_of (c.in_ok-own_values.ensures.facts i)) (c.deref-in-Some-2.ensures.value i) (w.1 i))
+    ∙ (λ i. note_all (facts_of (c.in_ok-values.ensures.facts i)) (c.deref-in-Some.ensures.value i) (w.1 i))
 
 pub pass_binding-returns-in_ok-learn_all-in-Some-clause-beside : goal.pass_binding-returns-in_ok-learn_all-in-Some-clause-beside
 pass_binding-returns-in_ok-learn_all-in-Some-clause-beside t c q =
@@ -80,7 +80,7 @@ pass_binding-returns-in_ok-learn_all-in-Some-clause-beside t c q =
     let xs = c.args.binding.now.targets.items in
     let r = core_of_right (code_right_term c.args.binding.now.right) in
     c.in_ok-learn_relation-in-Some.ensures.learned
-    ∙ (λ i. learn_index n (indices_of (c.in_ok-own_values.ensures.indices i)) (c.deref-in-Some.ensures.value i) (c.in_ok-right-in-Some.ensures i) (facts_of (c.in_ok-own_values.ensures.facts i)))
+    ∙ (λ i. learn_index n (indices_of (c.in_ok-values.ensures.indices i)) (c.deref.ensures.value i) (c.in_ok-right-in-Some.ensures i) (facts_of (c.in_ok-values.ensures.facts i)))
     ∙ learns_plain n m xs r k
 
 -- ---- right sides
@@ -89,29 +89,38 @@ pub own_values-returns-in_default-2-clause-known : goal.own_values-returns-in_de
 own_values-returns-in_default-2-clause-known t c =
     let none : c.in_ok-first-in-If.field-0 ≡ None = search rules in
     if_first (shapes_of c.args.called.now) c.args.sought.array c.args.sought.axes (facts_of c.args.facts.now) (indices_of c.args.indices.now) c.args.right.now c.in-If.cond c.in-If.yes c.in-If.no c.in-If.is
-    (is_unknown _ _ (ap seen (sym none) ∙ c.in_ok-first-in-If.ensures.known))
+    (unknown_at _ _ _ none c.in_ok-first-in-If.ensures.known)
 
 pub own_values-returns-in_default-3-clause-known : goal.own_values-returns-in_default-3-clause-known
 own_values-returns-in_default-3-clause-known t c =
     let none : c.in_ok-second-in-If.field-0 ≡ None = search rules in
     if_second (shapes_of c.args.called.now) c.args.sought.array c.args.sought.axes (facts_of c.args.facts.now) (indices_of c.args.indices.now) c.args.right.now c.in-If.cond c.in-If.yes c.in-If.no
     _ _ c.in-If.is (ap facts_of c.in_ok-first-in-If.ensures.facts) (ap indices_of c.in_ok-first-in-If.ensures.indices)
-    (is_unknown _ _ (ap seen (sym none) ∙ c.in_ok-second-in-If.ensures.known))
+    (unknown_at _ _ _ none c.in_ok-second-in-If.ensures.known)
 
 pub own_values-returns-in_ok-common_facts-in-If-clause-known : goal.own_values-returns-in_ok-common_facts-in-If-clause-known
 own_values-returns-in_ok-common_facts-in-If-clause-known t c =
     let apart : none_is c.args.sought.array (c.in-If.cond ∷ []) ≡ true = search rules in
     if_known (shapes_of c.args.called.now) c.args.sought.array c.args.sought.axes (facts_of c.args.facts.now) (indices_of c.args.indices.now) c.args.right.now c.in-If.cond c.in-If.yes c.in-If.no
     _ _ (map fact_of c.in-Some.first.items) (map fact_of c.in-Some-2.second.items) _ c.in-If.is (ap facts_of c.in_ok-first-in-If.ensures.facts) (ap indices_of c.in_ok-first-in-If.ensures.indices) apart
-    (is_known _ _ _ (ap seen (sym c.in-Some.is) ∙ c.in_ok-first-in-If.ensures.known)) (is_known _ _ _ (ap seen (sym c.in-Some-2.is) ∙ c.in_ok-second-in-If.ensures.known)) ?
+    (known_at _ _ _ _ c.in-Some.is c.in_ok-first-in-If.ensures.known) (known_at _ _ _ _ c.in-Some-2.is c.in_ok-second-in-If.ensures.known)
+    (c.in_ok-common_facts-in-If.ensures ∙ (λ i. common_facts (map fact_of (c.deref.ensures.value i)) (map fact_of (c.deref-in-If.ensures.value i))))
 
 pub own_values-returns-in_ok-own-in-With-clause-known : goal.own_values-returns-in_ok-own-in-With-clause-known
 own_values-returns-in_ok-own-in-With-clause-known t c =
-    with_known (shapes_of c.args.called.now) c.args.sought.array c.args.sought.axes (facts_of c.args.facts.now) (indices_of c.args.indices.now) c.args.right.now ? c.in_ok-own-in-With.own _ c.in-With.is
-    c.in_ok-own-in-With.ensures.own ?
+    with_known (shapes_of c.args.called.now) c.args.sought.array c.args.sought.axes (facts_of c.args.facts.now) (indices_of c.args.indices.now) c.args.right.now c.in-With.with c.in_ok-own-in-With.own _ c.in-With.is
+    c.in_ok-own-in-With.ensures.own c.nothing_if-in-With.ensures
 
 pub own_values-returns-else-not-branch-clause-known : goal.own_values-returns-else-not-branch-clause-known
-own_values-returns-else-not-branch-clause-known t c = ?
+own_values-returns-else-not-branch-clause-known t c =
+    let called = shapes_of c.args.called.now in
+    let v = c.args.sought.array in
+    let n = c.args.sought.axes in
+    let k = facts_of c.args.facts.now in
+    let m = indices_of c.args.indices.now in
+    on_ok (λ all. seen all ≡ Some (fact_of c.of_shape.result ∷ [])) (λ all. seen all ≡ known_if (own_right called v n (code_right_term c.args.right.now) k m) (right_facts called (core_of_right (code_right_term c.args.right.now)) k)) c.one.result
+    (λ all h. parted_known called v n k m c.args.right.now c.in-Parted.parted c.in_ok-in_parted-in-Parted.field-0 (seen all) c.in-Parted.is c.in_ok-in_parted-in-Parted.ensures.own c.if-not-branch.false
+    (h ∙ (λ i. Some ((c.of_shape.ensures ∙ ap shape_fact c.parted_shape-shape.ensures) i ∷ [])))) c.one.ensures
 
 -- ---- loops
 
