@@ -1,0 +1,10 @@
+mod BaseNotes
+mod Called
+pub mod Choices
+mod Groups
+mod OwnEnds
+mod OwnRights
+mod OwnTurns
+mod Pairs
+mod Plains
+pub mod Trees

@@ -1,0 +1,7 @@
+pub mod Calls
+pub mod Chosen
+pub mod Pieces
+pub mod Plain
+pub mod Scopes
+pub mod Tables
+pub mod Told
