@@ -174,8 +174,8 @@ fn pass_binding(
         ≡ own_right (shapes_of called.now) sought.array sought.axes (code_right_term binding.now.right) (facts_of facts.old) (indices_of indices.old)) }
     ensures known { result ≡ Ok true → facts_of facts.new ≡ note_all (facts_of facts.old) binding.now.targets.items
         (right_facts (shapes_of called.now) (core_of_right (code_right_term binding.now.right)) (facts_of facts.old)) }
-    ensures beside { result ≡ Ok true → indices_of indices.new
-        ≡ learned_index sought.axes (indices_of indices.old) binding.now.targets.items (core_of_right (code_right_term binding.now.right)) (facts_of facts.old) }
+    ensures beside { result ≡ Ok true → indices_of indices.new ≡ learned_index sought.axes (indices_of indices.old) binding.now.targets.items
+        (core_of_right (code_right_term binding.now.right)) (facts_of facts.old) }
     ensures facts { OnOk result (drop (length facts.new - length facts.old) facts.new ≡ facts.old) }
     ensures indices { OnOk result (drop (length indices.new - length indices.old) indices.new ≡ indices.old) }
 {
