@@ -3,11 +3,12 @@ use Rattle.std.specs.Prelude.{drop}
 use Rattle.core_ir.specs.declared.tree.Let.{Let}
 use Rattle.core_ir.specs.declared.tree.PartedLoop.{out-PartedLoop}
 use Rattle.core_ir.specs.Terms.{chain}
-use Rattle.core_ir.specs.View.{let_term}
+use Rattle.core_ir.specs.View.{let_term, gen_term, part_term}
 use Rattle.core_selections.specs.Vectors.{vectored}
 use Rattle.fact_table.specs.Table.{facts_of}
 use Rattle.plain_facts.specs.Called.{shapes_of}
 use Rattle.scoped_table.proofs.Marks.{earlier_on, none_gone}
+use Rattle.vector_selections.specs.Vectored.{vectored_gen, next_gen, vectored_part, next_part}
 use Rattle.vector_selections.proofs.Turns.{let_turn, next_turn, known_turn, none_left, block_end, next_end, known_end, gen_turn, gen_number, part_turn, part_number, with_end, with_number, parted_end, parted_number}
 use Rattle.vector_selections.proofs.walk.+vectoring.Goals as goal
 
@@ -74,7 +75,24 @@ in_gen-returns-clause-table t c =
     ∙ c.in_ok-forget_index.ensures.behind
 
 pub in_with-loop-generator-preserved : goal.in_with-loop-generator-preserved
-in_with-loop-generator-preserved t c = ?
+in_with-loop-generator-preserved t c =
+    let v = c.loop-generator.invariant in
+    let called = shapes_of c.args.called.now in
+    let k = facts_of c.args.table.now in
+    let n = c.loop-generator.fresh in
+    let n' = c.in_gen.new.fresh in
+    let before = c.loop-generator.generator-iterator.rest.items in
+    let rest = c.next.new.self.rest.items in
+    let x = c.in-Some.generator in
+    let new = c.in_ok-in_gen.ensures in
+    let first = c.in-Some.ensures.steps.0 in
+    let number = new.fresh ∙ (λ i. next_gen called (gen_term x) (facts_of (v.table i)) n) in
+    record {
+      items = gen_turn called k n n' before rest x first number c.loop-generator.done.items c.push.new.self.items c.in_ok-in_gen.field-0 _ v.items c.in_ok-push.ensures.items
+          (new.vectored ∙ (λ i. vectored_gen called (gen_term x) (facts_of (v.table i)) n));
+      number = gen_number called k n n' before rest x first number _ v.number;
+      table = new.table ∙ v.table;
+    }
 
 pub in_with-returns-clause-vectored : goal.in_with-returns-clause-vectored
 in_with-returns-clause-vectored t c =
@@ -91,7 +109,24 @@ in_with-returns-clause-fresh t c =
     c.loop-generator.invariant.number none c.into_iter-generator-iterator.ensures.into_iter_gives.0
 
 pub in_parted-loop-part-preserved : goal.in_parted-loop-part-preserved
-in_parted-loop-part-preserved t c = ?
+in_parted-loop-part-preserved t c =
+    let v = c.loop-part.invariant in
+    let called = shapes_of c.args.called.now in
+    let k = facts_of c.args.table.now in
+    let n = c.loop-part.fresh in
+    let n' = c.in_part.new.fresh in
+    let before = c.loop-part.part-iterator.rest.items in
+    let rest = c.next.new.self.rest.items in
+    let x = c.in-Some.part in
+    let new = c.in_ok-in_part.ensures in
+    let first = c.in-Some.ensures.steps.0 in
+    let number = new.fresh ∙ (λ i. next_part called (part_term x) (facts_of (v.table i)) n) in
+    record {
+      items = part_turn called k n n' before rest x first number c.loop-part.done.items c.push.new.self.items c.in_ok-in_part.field-0 _ v.items c.in_ok-push.ensures.items
+          (new.vectored ∙ (λ i. vectored_part called (part_term x) (facts_of (v.table i)) n));
+      number = part_number called k n n' before rest x first number _ v.number;
+      table = new.table ∙ v.table;
+    }
 
 pub in_parted-returns-clause-vectored : goal.in_parted-returns-clause-vectored
 in_parted-returns-clause-vectored t c =
