@@ -23,6 +23,7 @@ ghost use Rattle.phase_team.specs.Segments.{cells_from, cost_from};
 use crate::alive::alive_in_gens;
 use crate::results::{Begun, Books, begin_phase, end_phase, finish_phase, stop_phase};
 use crate::team::{Workers, compute_fold};
+use crate::worth::steps_of_gens;
 use array_with_loops::{Plan, fits_form};
 use buffer_heap::Heap;
 use core_ir::Var;
@@ -66,7 +67,11 @@ pub fn fold_outside<G: Gate, R: Threads + Sync>(
     if !gens_are_counted(context.alloc, context.code.get(), &live, gens)? {
         return fold_in_order(gens, plan, op, &neutral, context, state);
     }
-    fold_by_workers(workers, gens, plan, op, neutral, context, &live, state)
+    let team = workers.of_phase(
+        plan.frame.count(),
+        steps_of_gens(gens, &live, &state.frames),
+    );
+    fold_by_workers(&team, gens, plan, op, neutral, context, &live, state)
 }
 
 // Whether the operator folds cells of the plan's form, which the neutral value has as well.

@@ -23,6 +23,7 @@ use crate::folds::folds;
 use crate::parted::shares;
 use crate::results::{Begun, Books, begin_phase, end_phase, finish_phase, stop_phase};
 use crate::team::{Workers, compute_fold};
+use crate::worth::steps_of_parts;
 use array_with_loops::{Frame, Plan, fits_form};
 use buffer_heap::Heap;
 use core_ir::Var;
@@ -65,7 +66,11 @@ pub fn fold_parts_outside<G: Gate, R: Threads + Sync>(
     if !parts_are_counted(context.alloc, context.code.get(), &live, parts)? {
         return fold_parts_in_order(parts, plan, op, &neutral, context, state);
     }
-    fold_parts_by_workers(workers, parts, plan, op, neutral, context, &live, state)
+    let team = workers.of_phase(
+        plan.frame.count(),
+        steps_of_parts(parts, &live, &state.frames),
+    );
+    fold_parts_by_workers(&team, parts, plan, op, neutral, context, &live, state)
 }
 
 // Whether the operator folds cells of a form, which the neutral value has as well.

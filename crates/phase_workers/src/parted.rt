@@ -22,6 +22,7 @@ use crate::alive::alive_in_parts;
 use crate::covered::{CoveredCells, believed};
 use crate::results::{Begun, Books, begin_phase, end_phase, finish_phase, stop_phase};
 use crate::team::{Workers, compute_array};
+use crate::worth::steps_of_parts;
 use array_with_loops::{Frame, Plan};
 use buffer_heap::Heap;
 use core_ir::Var;
@@ -63,7 +64,11 @@ pub fn parts_outside<G: Gate, R: Threads + Sync>(
     if !parts_are_counted(context.alloc, context.code.get(), &live, parts)? {
         return parts_in_order(parts, plan, context, state);
     }
-    parts_by_workers(workers, parts, plan, context, &live, state)
+    let team = workers.of_phase(
+        plan.frame.count(),
+        steps_of_parts(parts, &live, &state.frames),
+    );
+    parts_by_workers(&team, parts, plan, context, &live, state)
 }
 
 // The same in order.

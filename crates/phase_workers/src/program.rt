@@ -47,11 +47,13 @@ pub fn run<G: Gate, R: Threads + Sync>(
     ensures counters { HasCounters trace.new heap.new }
     ensures kept { KeepsChanges trace.old trace.new }
 {
+    let nesting = Nesting::of(alloc, code, plan.caps.depth, plan.workers);
     let workers = Workers {
         rt,
         gate,
         workers: plan.workers,
-        nesting: Nesting::of(alloc, code, plan.caps.depth, plan.workers),
+        chunked: plan.chunk.is_some(),
+        nesting: &nesting,
     };
     let calls = LoopCall {
         run: |work: &CellLoop<'_>, context: &Context<'_>, state: &mut State<'_>| -> Result<

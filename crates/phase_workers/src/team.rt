@@ -23,8 +23,10 @@ pub struct Workers<'a, G: Gate, R: Threads + Sync> {
     pub rt: &'a R,
     pub gate: &'a G,
     pub workers: u32,
+    /// Whether a size of chunks was given. All workers then share out each phase, however small.
+    pub chunked: bool,
     /// How deep calls nest. A phase is run in order on this thread where a cell may nest too deep for a worker's stack.
-    pub nesting: Nesting,
+    pub nesting: &'a Nesting,
 }
 
 /// Computes the cells of all positions, each at its place. The workers' heap goes on behind the one that lends, and the
