@@ -109,8 +109,14 @@ fn cells_are_computed_on_lent_buffers(rt: HostRuntime) -> Result<(), Fail> {
     let lends = Heap::new(rt.alloc());
     for (workers, alone) in [(1, 0), (2, 3), (64, 6), (2, 10)] {
         let mut buffer = [7; 10];
-        let (PhaseBooks { home, .. }, end) =
-            numbered(&rt, rt.alloc(), &lends, alone, workers, &mut buffer);
+        let (PhaseBooks { home, .. }, end) = numbered(
+            &rt,
+            rt.alloc(),
+            &lends,
+            alone,
+            workers,
+            &mut buffer,
+        );
         assert!(rt; end.is_ok());
         assert_eq!(rt; buffer, [0, 1, 2, 3, 4, 5, 6, 7, 8, 9]);
         assert_eq!(rt; (home.live(), home.births(), home.taken()), (0, 0, 0));

@@ -2,7 +2,7 @@
 ghost use Rattle.std.specs.Prelude.{◌≡◌, ◌≤◌, IfSome, OnOk};
 ghost use Rattle.index_cutter.specs.Cuts.{chunks_of};
 ghost use Rattle.phase_count.specs.Tallies.{PhaseNumbers, counted_in, one_more, one_phase};
-ghost use Rattle.sac_base.specs.Arrays.{MOST};
+ghost use Rattle.wl_core.specs.declared.limits.TheConstants.{MOST_CHUNKS};
 
 use crate::alone::draw_alone;
 use count_table::Tally;
@@ -78,12 +78,13 @@ impl PhaseCount {
     }
 
     /// One phase more of so many positions, whose cells are computed in order, so that no buffer is shared. Its chunks are
-    /// drawn by this thread.
+    /// drawn by this thread. More than 2^24 positions, which no frame has, count as want of memory.
     pub fn count(&mut self, alloc: Global, positions: usize) -> Result<(), Memory>
-        requires { positions ≤ MOST }
         ensures { OnOk result (self.new ≡ one_more positions self.old) }
     {
-        let chunks = cut(positions as u64, self.cutting.workers, self.cutting.chunk).count;
+        let Some(chunks) = chunks_in(self.cutting, positions) else {
+            return Err(Memory);
+        };
         if let Some(tally) = &mut self.tally {
             draw_alone(alloc, chunks, tally)?;
         }
@@ -108,16 +109,15 @@ impl PhaseCount {
     }
 
     /// One phase more of so many positions, which workers compute. It is to be closed into the tally, which then comes
-    /// back. Within a cell there is none.
+    /// back. Within a cell there is none, nor for more than 2^24 positions.
     pub fn hand_out(&mut self, positions: usize) -> Option<OpenTally>
-        requires { positions ≤ MOST }
-        ensures counted { self.new ≡ one_more positions self.old }
+        ensures counted { IfSome result (λ _. self.new ≡ one_more positions self.old) }
         ensures cutting { IfSome result (λ handed. (handed.cutting.workers ≡ self.old.workers) × (handed.cutting.chunk ≡ self.old.chunk)) }
         ensures tally { IfSome result (λ handed. one_phase (chunks_of handed.cutting.workers handed.cutting.chunk positions) handed.tally
             ≡ counted_in handed.before.phases handed.before.draws self.new) }
     {
         let cutting = self.cutting;
-        let chunks = cut(positions as u64, cutting.workers, cutting.chunk).count;
+        let chunks = chunks_in(cutting, positions)?;
         self.number = self.number.wrapping_add(1);
         self.draws = self.draws.wrapping_add(chunks);
         let before = self.before;
@@ -147,18 +147,21 @@ impl PhaseCount {
         self.number
     }
 
-    /// The tally that the phases were closed into, if it had these numbers before the first of them.
-    pub fn into_tally(self, before: Totals) -> Option<Tally>
-        ensures { IfSome result (λ tally. tally ≡ counted_in before.phases before.draws self) }
+    /// The tally that the phases were closed into, if it had these numbers before the first of them, and the phases were
+    /// cut so.
+    pub fn into_tally(self, before: Totals, cutting: Cutting) -> Option<Tally>
+        ensures tally { IfSome result (λ tally. tally ≡ counted_in before.phases before.draws self) }
+        ensures cut { IfSome result (λ _. (self.workers ≡ cutting.workers) × (self.chunk ≡ cutting.chunk)) }
     {
         let PhaseCount {
-            cutting: _,
+            cutting: cut,
             number: _,
             draws: _,
             before: own,
             tally,
         } = self;
-        if own.phases != before.phases || own.draws != before.draws {
+        let same_cut = cut.workers == cutting.workers && cut.chunk == cutting.chunk;
+        if !same_cut || own.phases != before.phases || own.draws != before.draws {
             return None;
         }
         tally
@@ -173,6 +176,19 @@ pub struct OpenTally {
     pub before: Totals,
     pub cutting: Cutting,
 }
+
+// How many chunks so many positions are cut into.
+fn chunks_in(cutting: Cutting, positions: usize) -> Option<u64>
+    ensures { IfSome result (λ chunks. (chunks ≡ chunks_of cutting.workers cutting.chunk positions) × (chunks ≤ MOST_CHUNKS)) }
+{
+    if positions > MOST {
+        return None;
+    }
+    Some(cut(positions as u64, cutting.workers, cutting.chunk).count)
+}
+
+// The most positions of a phase.
+const MOST: usize = 16_777_216;
 
 /// The numbers of a tally.
 pub fn numbers_of(tally: &Tally) -> Totals
