@@ -1,9 +1,9 @@
 -- A tally from one phase to the next.
-use Rattle.std.proofs.Common.{◌≡◌, ℕ, ◌+◌, ◌%◌, ◌^◌, ◌<◌, List, [], ◌∷◌, ◌++◌, length, Option, sym, ap, ◌∙◌, arith}
+use Rattle.std.proofs.Common.{◌≡◌, ℕ, ◌+◌, ◌%◌, ◌^◌, ◌<◌, List, [], ◌∷◌, ◌++◌, length, Option, refl, sym, ap, ◌∙◌, subst, arith}
 use Rattle.std.proofs.Math.Nat.{mod-add-mod, add-mod-mod, mod-eq_of_lt}
 use Rattle.count_table.specs.Tallied.{PhaseTotals}
 use Rattle.index_cutter.specs.Cuts.{chunks_of}
-use Rattle.phase_count.specs.Tallies.{PhaseNumbers, counted_in, draws_of, numbers_after, one_more, one_phase}
+use Rattle.phase_count.specs.Tallies.{Counts, PhaseNumbers, counted_in, draws_of, numbers_after, one_more, one_phase}
 
 next_sum : (b n k : ℕ) → ((b + n) % 2 ^ 64 + k) % 2 ^ 64 ≡ (b + (n + k) % 2 ^ 64) % 2 ^ 64
 next_sum b n k =
@@ -45,3 +45,20 @@ numbers_next workers chunk ns n = λ i. record {
   number = (mod-add-mod (length ns) (2 ^ 64) 1 ∙ ap (λ k. k % 2 ^ 64) (sym (length_push ns n))) i;
   draws = (mod-add-mod (draws_of workers chunk ns) (2 ^ 64) (chunks_of workers chunk n) ∙ ap (λ k. k % 2 ^ 64) (sym (draws_push workers chunk ns n))) i;
 }
+
+pub counts_more : (p : PhaseNumbers) (ns : List ℕ) (n : ℕ) → Counts p ns → Counts (one_more n p) (ns ++ n ∷ [])
+counts_more p ns n is = ap (one_more n) is ∙ numbers_next p.workers p.chunk ns n
+
+pub counts_on : (p : PhaseNumbers) (ns ms : List ℕ) → ns ≡ ms → Counts p ns → Counts p ms
+counts_on p ns ms same is = subst (λ (l : List ℕ). Counts p l) same is
+
+pub counts_as : (p q : PhaseNumbers) (ns ms : List ℕ) → q ≡ p → ns ≡ ms → Counts p ns → Counts q ms
+counts_as p q ns ms now same is = subst (λ (r : PhaseNumbers). Counts r ms) (sym now) (counts_on p ns ms same is)
+
+pub counts_none : (p : PhaseNumbers) → p.number ≡ 0 → p.draws ≡ 0 → Counts p []
+counts_none p number draws = λ i. record { workers = p.workers; chunk = p.chunk; number = number i; draws = draws i }
+
+-- phases that are cut alike draw alike
+pub draws_same : (w v : ℕ) (c d : Option ℕ) → ((n : ℕ) → chunks_of w c n ≡ chunks_of v d n) → (ns : List ℕ) → draws_of w c ns ≡ draws_of v d ns
+draws_same w v c d alike [] = refl
+draws_same w v c d alike (n ∷ ns) = λ i. alike n i + draws_same w v c d alike ns i

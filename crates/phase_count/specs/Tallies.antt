@@ -19,6 +19,10 @@ draws_of workers chunk (n ∷ ns) = chunks_of workers chunk n + draws_of workers
 abbrev pub numbers_after : ℕ → Option ℕ → List ℕ → PhaseNumbers
 numbers_after workers chunk ns = record { workers = workers; chunk = chunk; number = length ns % 2 ^ 64; draws = draws_of workers chunk ns % 2 ^ 64 }
 
+-- these are counted of such phases
+abbrev pub Counts : PhaseNumbers → List ℕ → Type 0
+Counts p ns = p ≡ numbers_after p.workers p.chunk ns
+
 -- the same cut, and no phase yet
 abbrev pub none_of : PhaseNumbers → PhaseNumbers
 none_of p = record p { number = 0; draws = 0 }

@@ -48,7 +48,7 @@ put_told fill into written o s t form source m told put same = subst (λ end. To
     go (Done w h) told =
         let p = put h told.1.heap in (
           subst (λ w. elements_or fill (option_map (read h) w) ≡ value_if written into) told.0 p.elements,
-          record { heap = subst (λ w. Stands t.heap (release_rest w h)) told.0 p.stands; phases = same ∙ told.1.phases ∙ ap (λ ps. length ps % 2 ^ 64) (sym (rest_phases w h)) },
+          record { heap = subst (λ w. Stands t.heap (release_rest w h)) told.0 p.stands; phases = counts_as _ _ _ _ same (sym (rest_phases w h)) told.1.phases },
         )
 
 stop_told : (fill : Option (List ℤ)) (into : List ℤ) (stop : Stop) (s : State) (form : Form) (source : Option Source) (m : Heap) → Told {A = Option RunValue} IsPresent (Err stop) s (unreleased form source m) → ToldCell fill into (Err stop) s (cell_does form source m)
