@@ -16,6 +16,7 @@ use Rattle.phase_loop_cells.specs.Cells.{elements_or, IsPut, ToldCell}
 use Rattle.run_eval.specs.Loops.{IsPresent, unreleased}
 use Rattle.run_eval.specs.Running.{Told, formed}
 use Rattle.run_eval.specs.declared.state.State.{State}
+use Rattle.phase_count.proofs.Tallying.{counts_as}
 
 count_phases : (b n : ℕ) (h : Heap) → (release_count b n h).phases ≡ h.phases
 count_phases b zero h = refl

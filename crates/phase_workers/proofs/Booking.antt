@@ -1,5 +1,5 @@
 -- The books of a phase.
-use Rattle.std.proofs.Common.{◌≡◌, ℕ, Result, Ok, Err, ap, ◌∙◌, sym, subst}
+use Rattle.std.proofs.Common.{◌≡◌, ℕ, Result, Ok, Err, refl, ap, ◌∙◌, sym, subst}
 use Rattle.buffer_heap.specs.Heaps.{HeapValue}
 use Rattle.count_table.specs.Tallied.{PhaseTotals}
 use Rattle.counted_code.specs.Values.{Ended, Done, Failed}
@@ -9,6 +9,7 @@ use Rattle.phase_workers.specs.Homes.{Has, IsBooked, OrNoMemory, WillHave, chunk
 use Rattle.phase_workers.specs.declared.results.Books.{Books}
 use Rattle.run_eval.specs.Running.{ToldStop}
 use Rattle.phase_count.specs.Tallies.{PhaseNumbers, counted_in}
+use Rattle.phase_count.proofs.Tallying.{counts_as}
 use Rattle.phase_count.specs.declared.OpenTally.{OpenTally}
 use Rattle.phase_count.specs.declared.Totals.{Totals}
 use Rattle.run_eval.specs.declared.state.State.{State}
@@ -50,4 +51,4 @@ stopped_has n before after p end f will booked is = closed n before.count after.
 -- a fault is told of each state with as many phases
 pub stop_moved : {B : Type 0} (f : Fault) (s t : State) (w : Ended B) → t.phases ≡ s.phases → ToldStop (Faulted f) s w → ToldStop (Faulted f) t w
 stop_moved f s t (Done b k) same told = absurd told
-stop_moved f s t (Failed g phases) same told = (told.0, same ∙ told.1)
+stop_moved f s t (Failed g phases) same told = (told.0, counts_as _ _ _ _ same refl told.1)

@@ -52,6 +52,8 @@ use Rattle.phase_workers.specs.Alive.{AreAlive, IsAlive}
 use Rattle.phase_workers.specs.Homes.{ComputesAll, handed}
 use Rattle.phase_workers.proofs.Handing.{handed_stands}
 use Rattle.phase_workers.proofs.Openings.{AreReferred, alone_gens}
+use Rattle.phase_count.specs.Tallies.{Counts}
+use Rattle.phase_count.proofs.Tallying.{counts_as, counts_on}
 
 -- ---- variables that stay alive
 
@@ -93,7 +95,7 @@ claim_phases : (small : Bool) (n : ℕ) (k : Heap) → (claim small None n k).he
 claim_phases true n k = refl
 claim_phases false n k = refl
 
-pub begun_claim : (r : Result Target memory.Memory) (s : State) (h : Store) (small : Bool) (n : ℕ) (k : Heap) → s.phases ≡ length k.phases % 2 ^ 64 → IfOk r (λ t. IsClaimed t h (claim small None n k)) → IfOk r (λ t. IsBegun (target_of t) (record s { heap = h }) (claim small None n k))
+pub begun_claim : (r : Result Target memory.Memory) (s : State) (h : Store) (small : Bool) (n : ℕ) (k : Heap) → Counts s.phases k.phases → IfOk r (λ t. IsClaimed t h (claim small None n k)) → IfOk r (λ t. IsBegun (target_of t) (record s { heap = h }) (claim small None n k))
 begun_claim (Err e) s h small n k phases claimed = tt
 begun_claim (Ok t) s h small n k phases claimed = record {
   target = claimed.target;

@@ -53,6 +53,7 @@ use Rattle.phase_workers.specs.Alive.{AreAlive}
 use Rattle.phase_workers.specs.Homes.{CombinesAll, IsBehind, handed}
 use Rattle.phase_workers.proofs.Handing.{handed_stands}
 use Rattle.phase_workers.proofs.Openings.{AreReferred, alone_gens}
+use Rattle.phase_count.proofs.Tallying.{counts_as, counts_on}
 
 -- ---- the neutral value
 

@@ -54,6 +54,7 @@ use Rattle.phase_workers.proofs.Handing.{handed_stands}
 use Rattle.phase_kernels.proofs.Named.{AreSingle}
 use Rattle.phase_workers.proofs.Machines.{machine_of, stands_for_machine}
 use Rattle.phase_workers.proofs.Openings.{AreReferred, readable_here}
+use Rattle.phase_count.proofs.Tallying.{counts_as, counts_on}
 
 -- ---- cells, in the words of both
 
