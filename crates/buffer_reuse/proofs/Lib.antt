@@ -1,2 +1,3 @@
 mod MarkArms
 mod MarkTurns
+mod Unmarked
