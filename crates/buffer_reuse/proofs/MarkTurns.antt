@@ -1,11 +1,13 @@
 -- One step of the walk that sets marks more.
-use Rattle.std.proofs.Common.{◌≡◌, ℕ, ◌-◌, Bool, true, false, cond, eqb, List, [], ◌∷◌, ◌++◌, length, drop, map, Option, Some, None, refl, sym, ap, ◌∙◌, subst}
+use Rattle.std.proofs.lemmas.List.{at_drop_all}
+use Rattle.std.proofs.Common.{◌≡◌, ◌≤◌, ℕ, ◌-◌, Bool, true, false, cond, eqb, List, [], ◌∷◌, ◌++◌, length, drop, map, Option, Some, None, refl, sym, ap, ◌∙◌, subst}
 use Rattle.sac_base.specs.declared.site.Site.{Site}
 use Rattle.core_ir.specs.declared.tree.Var.{Var}
+use Rattle.counted_code.specs.declared.tree.CodeBlock.{CodeBlock}
 use Rattle.counted_code.specs.declared.tree.CodeStep.{CodeStep}
 use Rattle.counted_code.specs.declared.tree.CodeStep.TheVariants as step
 use Rattle.counted_code.specs.Terms.{CodeTerm, CodeRightTerm, Giving, Binding, Keeping, Releasing, core_of, core_of_right}
-use Rattle.counted_code.specs.View.{steps_before, step_term}
+use Rattle.counted_code.specs.View.{code_term, steps_before, step_term}
 use Rattle.counted_marks.specs.Known.{Given, Known, learned}
 use Rattle.counted_marks.specs.Marking.{choice, marking, marking_right, released_by, with_mark}
 use Rattle.mark_places.specs.Places.{without_release}
@@ -88,3 +90,17 @@ module _ (g : Given) where
       told_block g (core_of (steps_before rest end)) k' ≡ told_block g (core_of (step_term x (steps_before rest end))) k →
       told_block g (core_of (steps_before before end)) k ≡ whole → told_block g (core_of (steps_before rest end)) k' ≡ whole
   told_turn k k' x before rest end whole b e h = e ∙ (λ i. told_block g (core_of (steps_before (sym b i) end)) k) ∙ h
+
+  -- the whole block
+  pub block_marked : (k k' : Known) (b : CodeBlock) (made : Made) (out : List Var) (i : ℕ) →
+      ((results : List Var) → made_with g made k' (steps_before (drop i b.steps.items) (Giving results)) ≡ marking g (steps_before b.steps.items (Giving results)) k) →
+      length b.steps.items ≤ i → out ≡ b.results.items → steps_before made.steps.items (Giving out) ≡ marking g (code_term b) k
+  block_marked k k' b made out i h over same =
+      (λ j. steps_before made.steps.items (Giving (same j)))
+      ∙ ap (steps_before made.steps.items) (sym (at_end made.taken b.results.items))
+      ∙ sym (at_drop_all (λ ss. made_with g made k' (steps_before ss (Giving b.results.items))) b.steps.items i over)
+      ∙ h b.results.items
+    where
+      at_end : (taken : Option Var) (xs : List Var) → released_by taken (Giving xs) ≡ Giving xs
+      at_end None xs = refl
+      at_end (Some v) xs = refl

@@ -9,7 +9,7 @@ use Rattle.reuse_candidates.specs.Calls.{given_by}
 use Rattle.reuse_candidates.specs.Scopes.{known_in, told}
 use Rattle.buffer_reuse.specs.Marked.{made_with}
 use Rattle.buffer_reuse.proofs.MarkArms.{if_marked, if_told, loop_marked, with_known, with_marked, parted_known, parted_marked}
-use Rattle.buffer_reuse.proofs.MarkTurns.{bound, kept, pushed, scope_stays, scopes_on, told_on, told_turn, turn}
+use Rattle.buffer_reuse.proofs.MarkTurns.{block_marked, bound, kept, pushed, scope_stays, scopes_on, told_on, told_turn, turn}
 use Rattle.buffer_reuse.proofs.walk.+marks.Goals as goal
 
 -- ---- blocks
@@ -29,7 +29,9 @@ mark_block-loop-i-preserved t c =
     ?
 
 pub mark_block-returns-clause-marked : goal.mark_block-returns-clause-marked
-mark_block-returns-clause-marked t c = ?
+mark_block-returns-clause-marked t c =
+    block_marked (given_by c.args.calls.now) (known_in c.args.scope.now) (known_in c.loop-i.scope) c.args.block.now c.loop-i.made c.in_ok-copy_vars.field-0.items c.loop-i.i c.loop-i.invariant.marked (omega arith)
+    (c.in_ok-copy_vars.ensures ∙ c.deref-3.ensures.value)
 
 -- ---- steps
 
