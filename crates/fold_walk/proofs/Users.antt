@@ -194,3 +194,13 @@ pub passed_on :
     (x : Var) (rs : List Var) (ls : List Let) (i : ℕ) (l : Let) (found : Option ℕ) → true ≡ none_is x rs → i < length ls → l ≡ get_or ls i l → true ≡ is_avoided_right x (right_term l.right) →
     SoFar x (map let_term (take i ls)) rs found → SoFar x (map let_term (take (i + 1) ls)) rs found
 passed_on x rs ls i l found r inside is t s = avoids_turn x rs ((list_decided x rs).0 (sym r)) ls i l inside is found t s
+
+inside_of : (x : Var) (ls : List Let) (rs : List Var) (place : ℕ) → IsSoleUser x (map let_term ls) rs place → place < length ls
+inside_of x ls rs place h = less (length h.before) place (length (h.before ++ (h.user ∷ h.after))) (length ls) h.at (within h.before h.after h.user) (ap length (sym h.whole) ∙ map_length ls)
+  where
+    less : (b p a n : ℕ) → b ≡ p → b < a → a ≡ n → p < n
+    less b p a n e h f = omega (arith, e, h, f)
+
+pub inside_end : (x : Var) (rs : List Var) (ls : List Let) (i : ℕ) (found : Option ℕ) → length ls ≤ i → SoFar x (map let_term (take i ls)) rs found → IfSome found (λ place. place < length ls)
+inside_end x rs ls i None h s = tt
+inside_end x rs ls i (Some place) h s = inside_of x ls rs place (subst (λ zs. IsSoleUser x (map let_term zs) rs place) (all_taken ls i h) s)

@@ -1,5 +1,5 @@
 -- Pairs of parted loops that are folded on one walk over a block.
-use Rattle.std.specs.Prelude.{◌≡◌, ℕ, List, [], ◌∷◌, ◌++◌, ◌+◌, ◌^◌, ◌≤◌, length, map, reverse, Option}
+use Rattle.std.specs.Prelude.{◌≡◌, ℕ, List, [], ◌∷◌, ◌++◌, ◌+◌, ◌^◌, ◌≤◌, drop, length, map, reverse, Option}
 use Rattle.sac_base.specs.declared.base.Base.{Base}
 use Rattle.sac_base.specs.declared.grid.Grid1.{Grid1}
 use Rattle.sac_base.specs.declared.site.Site.{Site}
@@ -8,8 +8,8 @@ use Rattle.core_ir.specs.declared.tree.CoreOp.{CoreOp}
 use Rattle.core_ir.specs.declared.tree.PartedOp.{PartedOp}
 use Rattle.core_ir.specs.Edits.{Edited}
 use Rattle.core_ir.specs.Terms.{BlockTerm, RightTerm, GensTerm, PartsTerm, LetTerm, GenTerm, PartTerm, Gives, Gives, Bind, With, Parted, chain, parts_of}
-use Rattle.core_facts.specs.Facts.{Facts, note_all, in_part}
-use Rattle.core_loops.specs.Steps.{fact_ways}
+use Rattle.core_facts.specs.Facts.{Facts, note_all, right_facts, in_part}
+use Rattle.core_loops.specs.Steps.{fact_ways, facts_after}
 use Rattle.core_ir.specs.View.{part_term}
 use Rattle.foldable_pairs.specs.declared.plan.PartPlan.{PartPlan}
 use Rattle.foldable_pairs.specs.declared.producer.Producer.{Producer as Source}
@@ -28,6 +28,10 @@ pub record State : Type 0 where
 
 abbrev pub state_of : Folding → State
 state_of f = record { next = f.progress.next; folds = f.folds.items }
+
+-- what is known before the binding at a place behind another, where the last of those behind comes first
+abbrev pub facts_behind : (ℕ → List (Option (List ℕ))) → LetTerm → List LetTerm → ℕ → Facts → Facts
+facts_behind called l behind place k = facts_after called (reverse (drop (place + 1) behind)) (note_all k l.targets (right_facts called l.right k))
 
 module _ (called : ℕ → List (Option (List ℕ))) (function : ℕ) where
   -- ---- pairs one after another

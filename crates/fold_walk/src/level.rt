@@ -1,7 +1,7 @@
 //! The pairs whose loops are bound in one block.
 
-ghost use Rattle.std.specs.Prelude.{◌≡◌, ◌-◌, ◌+◌, ◌^◌, ◌≤◌, [], ◌∷◌, IfOk, IfSome, IfNone, OnOk, map, drop, length, reverse as reversed};
-ghost use Rattle.core_ir.specs.Terms.{Gives, chain};
+ghost use Rattle.std.specs.Prelude.{◌≡◌, ◌-◌, ◌+◌, ◌^◌, ◌<◌, ◌≤◌, [], ◌∷◌, Some, slice_get, IfOk, IfSome, IfNone, OnOk, map, drop, length, reverse as reversed};
+ghost use Rattle.core_ir.specs.Terms.{Gives, LetTerm, chain};
 ghost use Rattle.core_ir.specs.View.{let_term, part_term};
 ghost use Rattle.core_loops.specs.Steps.{facts_after};
 ghost use Rattle.fact_table.specs.Table.{facts_of};
@@ -9,7 +9,7 @@ ghost use Rattle.plain_facts.specs.Called.{shapes_of};
 ghost use Rattle.core_ir.specs.Terms.{parts_of as parts_in};
 ghost use Rattle.fold_walk.specs.Making.{CannotTake, PiecesPlanned};
 ghost use Rattle.fold_walk.specs.Pairing.{loop_with};
-ghost use Rattle.fold_walk.specs.Walking.{state_of, ConsumerMade, FirstFolded, LevelFolded, NoConsumer};
+ghost use Rattle.fold_walk.specs.Walking.{facts_behind, state_of, ConsumerMade, FirstFolded, LevelFolded, NoConsumer};
 ghost use Rattle.fold_walk.specs.Left.{NoPairAt};
 
 use crate::making::{all_parts, all_pieces, are_few};
@@ -27,7 +27,6 @@ const ROOM: u64 = 2_147_483_649;
 
 /// The bindings of a block, where each producer is folded into its consumer. The table learns what they tell.
 pub fn fold_level(
-    alloc: Global,
     lets: Vec<Let>,
     results: &[Var],
     given: &Given<'_>,
@@ -41,12 +40,12 @@ pub fn fold_level(
 {
     let mut behind = lets;
     behind.reverse();
-    let mut done = Vec::new(alloc);
+    let mut done = Vec::new(given.alloc);
     while let Some(binding) = behind.pop() {
-        match fold_first(alloc, &binding, &behind, results, given, table, folding)? {
+        match fold_first(&binding, &behind, results, given, table, folding)? {
             Some((place, consumer)) => behind[place] = consumer,
             None => {
-                learn_binding(alloc, &binding, given.called, table)?;
+                learn_binding(given.alloc, &binding, given.called, table)?;
                 done.push(binding)?;
             }
         }
@@ -56,7 +55,6 @@ pub fn fold_level(
 
 /// The consumer of a binding's parted loop as it is after the fold, and its place among the bindings behind, the last of which comes first.
 fn fold_first(
-    alloc: Global,
     binding: &Let,
     behind: &[Let],
     results: &[Var],
@@ -74,7 +72,7 @@ fn fold_first(
     let Some((var, parted)) = bound_loop(binding) else {
         return Ok(None);
     };
-    if !can_produce(alloc, parted.op, &parted.parts, given.called, table)? {
+    if !can_produce(given.alloc, parted.op, &parted.parts, given.called, table)? {
         return Ok(None);
     }
     let Some(place) = sole_user(var, behind, results) else {
@@ -85,20 +83,44 @@ fn fold_first(
         frame: &parted.frame,
         parts: &parted.parts,
     };
-    let before = table.mark();
-    learn_binding(alloc, binding, given.called, table)?;
-    learn_bindings(alloc, &behind[place + 1..], given.called, table)?;
-    let new = fold_into(alloc, &producer, &behind[place], given, table, folding)?;
-    table.undo(before);
-    match new {
+    match fold_at(&producer, binding, behind, place, given, table, folding)? {
         Some(new) => Ok(Some((place, new))),
         None => Ok(None),
     }
 }
 
+/// The binding behind a producer at a place after the fold. Its place counts from the last of the bindings behind.
+fn fold_at(
+    producer: &Producer<'_>,
+    binding: &Let,
+    behind: &[Let],
+    place: usize,
+    given: &Given<'_>,
+    table: &mut FactTable,
+    folding: &mut Folding,
+) -> Result<Option<Let>, Memory>
+    requires { place < length behind.now }
+    ensures some { IfOk result (λ found. IfSome found (λ new. (user : LetTerm) → slice_get (map let_term behind.now) place ≡ Some user →
+        ConsumerMade (shapes_of given.now.called.now) given.now.function
+        (facts_behind (shapes_of given.now.called.now) (let_term binding.now) (map let_term behind.now) place (facts_of table.old))
+        (state_of folding.old) (state_of folding.new) producer.now user (let_term new))) }
+    ensures stays { IfOk result (λ found. IfNone found (state_of folding.new ≡ state_of folding.old)) }
+    ensures none { IfOk result (λ found. IfNone found ((user : LetTerm) → slice_get (map let_term behind.now) place ≡ Some user →
+        NoConsumer (shapes_of given.now.called.now) given.now.function
+        (facts_behind (shapes_of given.now.called.now) (let_term binding.now) (map let_term behind.now) place (facts_of table.old))
+        (state_of folding.old).next producer.now user)) }
+    ensures table { OnOk result (table.new ≡ table.old) }
+{
+    let before = table.mark();
+    learn_binding(given.alloc, binding, given.called, table)?;
+    learn_bindings(given.alloc, &behind[place + 1..], given.called, table)?;
+    let new = fold_into(producer, &behind[place], given, table, folding)?;
+    table.undo(before);
+    Ok(new)
+}
+
 /// The binding of a consumer after the fold. The table has what is known before it.
 fn fold_into(
-    alloc: Global,
     producer: &Producer<'_>,
     user: &Let,
     given: &Given<'_>,
@@ -118,18 +140,17 @@ fn fold_into(
     if folding.progress.next > ROOM {
         return Ok(None);
     }
-    let Some(pieces) = plan_pieces(alloc, producer, parted.op, &parted.parts, given, table)? else {
+    let Some(pieces) = plan_pieces(producer, parted.op, &parted.parts, given, table)? else {
         return Ok(None);
     };
     let progress = &mut folding.progress;
-    let parts = all_parts(alloc, producer, &parted.parts, pieces, progress)?;
+    let parts = all_parts(given.alloc, producer, &parted.parts, pieces, progress)?;
     folding.log(given.function, producer.var, consumer)?;
-    Ok(Some(with_parts(alloc, consumer, user.site, parted, parts)?))
+    Ok(Some(with_parts(given.alloc, consumer, user.site, parted, parts)?))
 }
 
 /// The pieces that the parts of a consumer become, if it can take from the producer and they are few.
 fn plan_pieces(
-    alloc: Global,
     producer: &Producer<'_>,
     op: PartedOp,
     parts: &[CorePart],
@@ -142,10 +163,10 @@ fn plan_pieces(
         (map part_term parts.now))) }
     ensures table { OnOk result (table.new ≡ table.old) }
 {
-    let Some(plans) = fold_plan(alloc, producer, op, parts, given.called, table)? else {
+    let Some(plans) = fold_plan(given.alloc, producer, op, parts, given.called, table)? else {
         return Ok(None);
     };
-    let pieces = all_pieces(alloc, producer.var, parts, plans)?;
+    let pieces = all_pieces(given.alloc, producer.var, parts, plans)?;
     if are_few(&pieces) {
         Ok(Some(pieces))
     } else {

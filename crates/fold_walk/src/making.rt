@@ -138,8 +138,14 @@ pub fn all_parts(
     let mut pieces = pieces.into_iter();
     for part in parts {
         if let Some(of_part) = pieces.next() {
-            let mut new =
-                folded_pieces(alloc, part, of_part, producer.var, producer.parts, progress)?;
+            let mut new = folded_pieces(
+                alloc,
+                part,
+                of_part,
+                producer.var,
+                producer.parts,
+                progress,
+            )?;
             all.append(&mut new)?;
         }
     }

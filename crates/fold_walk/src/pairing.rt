@@ -7,14 +7,13 @@ ghost use Rattle.fact_table.specs.Table.{facts_of};
 ghost use Rattle.plain_facts.specs.Called.{shapes_of};
 ghost use Rattle.fold_walk.specs.Pairing.{BindsLoop, BindsNoLoop, IsSoleUser};
 
+use crate::values::learn_binding;
 use core_ir::{Let, PartedLoop, Right, Var};
 use core_uses::{avoids_all, avoids_right};
 use fact_table::FactTable;
 use plain_facts::CalledShapes;
 use sac_base::Memory;
 use std::alloc::Global;
-
-use crate::values::learn_binding;
 
 /// A parted loop of scalar cells, and the variable that it is bound to.
 pub fn bound_loop(binding: &Let) -> Option<(Var, &PartedLoop)>
@@ -37,6 +36,7 @@ pub fn bound_loop(binding: &Let) -> Option<(Var, &PartedLoop)>
 /// The place of the one binding that uses a variable, if the results do not.
 pub fn sole_user(x: Var, lets: &[Let], results: &[Var]) -> Option<usize>
     ensures some { IfSome result (λ place. IsSoleUser x (map let_term lets.now) results.now place) }
+    ensures inside { IfSome result (λ place. place < length lets.now) }
     ensures none { IfNone result ((place : ℕ) → IsSoleUser x (map let_term lets.now) results.now place → ⊥) }
 {
     if !avoids_all(x, results) {

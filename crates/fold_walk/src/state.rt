@@ -8,6 +8,7 @@ use core_ir::Var;
 use parted_bodies::Progress;
 use plain_facts::CalledShapes;
 use sac_base::Memory;
+use std::alloc::Global;
 
 /// A pair that was folded: the place of its function, and the variables of the producer and the consumer.
 #[derive(Clone, Copy, Debug, PartialEq, Eq)]
@@ -20,6 +21,7 @@ pub struct Fold {
 /// What a walk over a function reads.
 #[derive(Clone, Copy)]
 pub struct Given<'a> {
+    pub alloc: Global,
     /// The known shapes of the results of calls.
     pub called: &'a CalledShapes,
     /// The place of the function.

@@ -16,7 +16,6 @@ use core_ir::{Block, CoreGen, CorePart, Let, PartedLoop, Right, WithLoop};
 use fact_table::FactTable;
 use plain_facts::{forget, forget_index, learn_index};
 use sac_base::Memory;
-use std::alloc::Global;
 
 /// Folds pairs of parted loops of a block: first those in blocks of its bindings, and then those that are bound in the block itself.
 ///
@@ -27,7 +26,6 @@ use std::alloc::Global;
 /// `Memory`: there is none for a loop or for what is known of a variable, or the numbers of variables have more than 32 bits.
 #[cycle(folding)]
 pub fn fold_block(
-    alloc: Global,
     block: Block,
     given: &Given<'_>,
     table: &mut FactTable,
@@ -39,12 +37,12 @@ pub fn fold_block(
 {
     let Block { lets, results } = block;
     let before = table.mark();
-    let mut inner = Vec::new(alloc);
+    let mut inner = Vec::new(given.alloc);
     for binding in lets {
-        inner.push(fold_binding(alloc, binding, given, table, folding)?)?;
+        inner.push(fold_binding(binding, given, table, folding)?)?;
     }
     table.undo(before);
-    let lets = fold_level(alloc, inner, &results, given, table, folding)?;
+    let lets = fold_level(inner, &results, given, table, folding)?;
     table.undo(before);
     Ok(Block { lets, results })
 }
@@ -52,7 +50,6 @@ pub fn fold_block(
 /// The pairs in blocks of a binding. The table learns what the new right side tells of the targets.
 #[cycle(folding)]
 fn fold_binding(
-    alloc: Global,
     binding: Let,
     given: &Given<'_>,
     table: &mut FactTable,
@@ -69,19 +66,18 @@ fn fold_binding(
         site,
         right,
     } = binding;
-    let right = fold_right(alloc, right, given, table, folding)?;
+    let right = fold_right(right, given, table, folding)?;
     let new = Let {
         targets,
         site,
         right,
     };
-    learn_binding(alloc, &new, given.called, table)?;
+    learn_binding(given.alloc, &new, given.called, table)?;
     Ok(new)
 }
 
 #[cycle(folding)]
 fn fold_right(
-    alloc: Global,
     right: Right,
     given: &Given<'_>,
     table: &mut FactTable,
@@ -93,8 +89,8 @@ fn fold_right(
 {
     match right {
         Right::If { cond, yes, no } => {
-            let yes = fold_block(alloc, yes, given, table, folding)?;
-            let no = fold_block(alloc, no, given, table, folding)?;
+            let yes = fold_block(yes, given, table, folding)?;
+            let no = fold_block(no, given, table, folding)?;
             Ok(Right::If { cond, yes, no })
         }
         Right::Loop {
@@ -106,9 +102,9 @@ fn fold_right(
             test_site,
         } => {
             let outer = table.mark();
-            forget(alloc, table, &params)?;
-            let test = fold_block(alloc, test, given, table, folding)?;
-            let body = fold_block(alloc, body, given, table, folding)?;
+            forget(given.alloc, table, &params)?;
+            let test = fold_block(test, given, table, folding)?;
+            let body = fold_block(body, given, table, folding)?;
             table.undo(outer);
             Ok(Right::Loop {
                 first_body,
@@ -119,10 +115,8 @@ fn fold_right(
                 test_site,
             })
         }
-        Right::With(with) => Ok(Right::With(fold_with(alloc, with, given, table, folding)?)),
-        Right::Parted(parted) => Ok(Right::Parted(fold_parted(
-            alloc, parted, given, table, folding,
-        )?)),
+        Right::With(with) => Ok(Right::With(fold_with(with, given, table, folding)?)),
+        Right::Parted(parted) => Ok(Right::Parted(fold_parted(parted, given, table, folding)?)),
         plain => Ok(plain),
     }
 }
@@ -130,7 +124,6 @@ fn fold_right(
 /// The pairs in the bodies of generators.
 #[cycle(folding)]
 fn fold_with(
-    alloc: Global,
     with: WithLoop,
     given: &Given<'_>,
     table: &mut FactTable,
@@ -141,16 +134,15 @@ fn fold_with(
     ensures table { OnOk result (table.new ≡ table.old) }
 {
     let WithLoop { gens, op } = with;
-    let mut folded = Vec::new(alloc);
+    let mut folded = Vec::new(given.alloc);
     for generator in gens {
-        folded.push(fold_gen(alloc, generator, given, table, folding)?)?;
+        folded.push(fold_gen(generator, given, table, folding)?)?;
     }
     Ok(WithLoop { gens: folded, op })
 }
 
 #[cycle(folding)]
 fn fold_gen(
-    alloc: Global,
     generator: CoreGen,
     given: &Given<'_>,
     table: &mut FactTable,
@@ -173,8 +165,8 @@ fn fold_gen(
         site,
     } = generator;
     let outer = table.mark();
-    forget_index(alloc, table, index, &names)?;
-    let body = fold_block(alloc, body, given, table, folding)?;
+    forget_index(given.alloc, table, index, &names)?;
+    let body = fold_block(body, given, table, folding)?;
     table.undo(outer);
     Ok(CoreGen {
         lower,
@@ -193,7 +185,6 @@ fn fold_gen(
 /// The pairs in the bodies of parts.
 #[cycle(folding)]
 fn fold_parted(
-    alloc: Global,
     parted: PartedLoop,
     given: &Given<'_>,
     table: &mut FactTable,
@@ -210,9 +201,9 @@ fn fold_parted(
         op,
         parts,
     } = parted;
-    let mut folded = Vec::new(alloc);
+    let mut folded = Vec::new(given.alloc);
     for part in parts {
-        folded.push(fold_part(alloc, part, given, table, folding)?)?;
+        folded.push(fold_part(part, given, table, folding)?)?;
     }
     Ok(PartedLoop {
         frame,
@@ -225,7 +216,6 @@ fn fold_parted(
 
 #[cycle(folding)]
 fn fold_part(
-    alloc: Global,
     part: CorePart,
     given: &Given<'_>,
     table: &mut FactTable,
@@ -242,8 +232,8 @@ fn fold_part(
         site,
     } = part;
     let outer = table.mark();
-    learn_index(alloc, table, index, &grid)?;
-    let body = fold_block(alloc, body, given, table, folding)?;
+    learn_index(given.alloc, table, index, &grid)?;
+    let body = fold_block(body, given, table, folding)?;
     table.undo(outer);
     Ok(CorePart {
         grid,

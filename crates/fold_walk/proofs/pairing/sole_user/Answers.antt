@@ -2,7 +2,7 @@ use Rattle.std.proofs.Common.{◌≡◌, ◌+◌, sym, subst, map, take, Bool, t
 use Rattle.core_ir.specs.declared.tree.Let.{Let}
 use Rattle.core_ir.specs.View.{let_term, right_term}
 use Rattle.core_uses.specs.Tests.{is_avoided_right}
-use Rattle.fold_walk.proofs.Users.{SoFar, first_found, none_end, passed_on, returned, second_found, some_end}
+use Rattle.fold_walk.proofs.Users.{SoFar, first_found, inside_end, none_end, passed_on, returned, second_found, some_end}
 use Rattle.fold_walk.proofs.pairing.sole_user.Goals.{then-not-avoids_right+else-is_some, else-not-avoids_right}
 use Rattle.fold_walk.proofs.pairing.sole_user.Goals as goal
 
@@ -36,3 +36,6 @@ returns-clause-some c = some_end c.args.x c.args.results.now c.args.lets.now c.l
 
 pub returns-clause-none : goal.returns-clause-none
 returns-clause-none c = none_end c.args.x c.args.results.now c.args.lets.now c.loop-place.place c.loop-place.found c.loop-place-test.false c.loop-place.invariant
+
+pub returns-clause-inside : goal.returns-clause-inside
+returns-clause-inside c = inside_end c.args.x c.args.results.now c.args.lets.now c.loop-place.place c.loop-place.found c.loop-place-test.false c.loop-place.invariant
