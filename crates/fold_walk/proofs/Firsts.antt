@@ -87,8 +87,8 @@ map_drop (x ∷ xs) zero = refl
 map_drop (x ∷ xs) (suc n) = map_drop xs n
 
 -- what comes after it
-pub after_is : (x : Var) (behind : List Let) (rs : List Var) (place : ℕ) → (h : IsSoleUser x (map let_term behind) rs place) → map let_term (drop (place + 1) behind) ≡ h.after
-after_is x behind rs place h = map_drop behind (place + 1) ∙ ap (drop (place + 1)) h.whole ∙ at_after h.before h.after h.user place h.at
+pub after_is : (x : Var) (lets : List LetTerm) (rs : List Var) (place : ℕ) → (h : IsSoleUser x lets rs place) → drop (place + 1) lets ≡ h.after
+after_is x lets rs place h = ap (drop (place + 1)) h.whole ∙ at_after h.before h.after h.user place h.at
 
 pub get_here : (ls : List Let) (place : ℕ) (d : Let) → place < length ls → slice_get (map let_term ls) place ≡ Some (let_term (get_or ls place d))
 get_here [] place d h = absurd (omega (arith, h))
@@ -131,5 +131,15 @@ same_parts (b ∷ bs) zs (c ∷ cs) ds u v e l =
     let first : b ≡ c = ap (λ (k : List LetTerm). get_or k 0 b) e in
     ((λ i. first i ∷ w.0 i), w.1, w.2)
 
-pub same_user : (x : Var) (lets : List LetTerm) (rs : List Var) (place : ℕ) (h g : IsSoleUser x lets rs place) → (h.before ≡ g.before) × (h.user ≡ g.user) × (h.after ≡ g.after)
-same_user x lets rs place h g = same_parts h.before h.after g.before g.after h.user g.user (sym h.whole ∙ g.whole) (h.at ∙ sym g.at)
+-- the one user has one place
+same_place :
+    (x : Var) (bs zs cs ds : List LetTerm) (u v : LetTerm) → bs ++ (u ∷ zs) ≡ cs ++ (v ∷ ds) → AvoidsLets x bs → AvoidsLets x cs → (AvoidsRight x u.right → ⊥) → (AvoidsRight x v.right → ⊥) → length bs ≡ length cs
+same_place x [] zs [] ds u v e b c i j = refl
+same_place x [] zs (w ∷ cs) ds u v e b c i j = absurd (i (subst (λ (l : LetTerm). AvoidsRight x l.right) (sym (ap (λ (k : List LetTerm). get_or k 0 u) e)) c.0))
+same_place x (w ∷ bs) zs [] ds u v e b c i j = absurd (j (subst (λ (l : LetTerm). AvoidsRight x l.right) (ap (λ (k : List LetTerm). get_or k 0 w) e) b.0))
+same_place x (w ∷ bs) zs (y ∷ cs) ds u v e b c i j = ap suc (same_place x bs zs cs ds u v (ap (λ (k : List LetTerm). drop 1 k) e) b.1 c.1 i j)
+
+pub same_user : (x : Var) (lets : List LetTerm) (rs : List Var) (m n : ℕ) (h : IsSoleUser x lets rs m) (g : IsSoleUser x lets rs n) → (h.before ≡ g.before) × (h.user ≡ g.user) × (h.after ≡ g.after)
+same_user x lets rs m n h g =
+    same_parts h.before h.after g.before g.after h.user g.user (sym h.whole ∙ g.whole)
+    (same_place x h.before h.after g.before g.after h.user g.user (sym h.whole ∙ g.whole) h.others.0 g.others.0 h.used g.used)

@@ -210,3 +210,57 @@ module _ (called : ℕ → List (Option (List ℕ))) (above : ℕ) (k : Facts) (
 
   pub takes : Takes called h.later q h.op (parts_of h.old)
   takes = record { selected = h.foldable.selected; count = h.foldable.count; folds = h.foldable.folds; used = h.foldable.used; few = h.foldable.few; operation = h.foldable.operation }
+
+  pub no_loop_first : BindsNoLoop l → ⊥
+  no_loop_first none = none q.var q.site q.frame q.base q.op q.parts same_first
+
+-- ---- the producer of a binding that is known
+
+frame_in : List Grid1 → RightTerm → List Grid1
+frame_in d (Parted f b c o ps) = f
+frame_in d _ = d
+
+base_in : Base → RightTerm → Base
+base_in d (Parted f b c o ps) = b
+base_in d _ = d
+
+op_in : PartedOp → RightTerm → PartedOp
+op_in d (Parted f b c o ps) = o
+op_in d _ = d
+
+parts_in : PartsTerm → RightTerm → PartsTerm
+parts_in d (Parted f b c o ps) = ps
+parts_in d _ = d
+
+producer_in : Producer → LetTerm → Producer
+producer_in d l = record { var = get_or l.targets 0 d.var; site = l.site; frame = frame_in d.frame l.right; base = base_in d.base l.right; op = op_in d.op l.right; parts = parts_in d.parts l.right }
+
+same_producer : (p q : Producer) → loop_of p ≡ loop_of q → p ≡ q
+unfolding producer_in frame_in base_in op_in parts_in
+same_producer p q e = ap (producer_in p) e
+
+module _ (called : ℕ → List (Option (List ℕ))) (function : ℕ) (above : ℕ) (k : Facts) (l : LetTerm) (behind_lets : List LetTerm) (rs : List Var) (x : Var) (loop : PartedLoop) (bound : BindsLoop l x loop) where
+  abbrev the_loop : PartedLoop-F the_data the_data-1 the_data-2 the_data-3 the_data-4 the_data-5 the_data-6
+  the_loop = out-PartedLoop loop
+
+  abbrev the_parts : PartsTerm
+  the_parts = parts_of (map part_term the_loop.parts.items)
+
+  abbrev the_producer : Producer
+  the_producer = record { var = x; site = l.site; frame = the_loop.frame; base = the_loop.base; op = the_loop.op; parts = the_parts }
+
+  abbrev Pair : Type 0
+  Pair = IsPairAt called above k (Bind l.targets l.site l.right (chain (reverse behind_lets) (Gives rs)))
+
+  who : (h : Pair) → h.producer ≡ the_producer
+  who h = same_producer h.producer the_producer (sym (same_first called above k l behind_lets rs h) ∙ bound_let l x loop bound)
+
+  pub no_can : (CanProduce called k the_loop.op the_parts → ⊥) → Pair → ⊥
+  no_can not h = not (subst (λ (p : Producer). CanProduce called k p.op p.parts) (who h) (can called above k l behind_lets rs h))
+
+  the_sole : (h : Pair) → (place : ℕ) × IsSoleUser x behind_lets rs place
+  the_sole h =
+      (length (reverse (parted_at called above k l behind_lets rs h).tail), subst (λ (p : Producer). IsSoleUser p.var behind_lets rs (length (reverse (parted_at called above k l behind_lets rs h).tail))) (who h) (sole called above k l behind_lets rs h))
+
+  pub no_user : ((place : ℕ) → IsSoleUser x behind_lets rs place → ⊥) → Pair → ⊥
+  no_user not h = not (the_sole h).0 (the_sole h).1
