@@ -101,6 +101,9 @@ get_user [] zs u (suc n) e = absurd (omega (arith, e))
 get_user (b ∷ bs) zs u zero e = absurd (omega (arith, e))
 get_user (b ∷ bs) zs u (suc n) e = get_user bs zs u n (omega (arith, e))
 
+pub user_at : (x : Var) (lets : List LetTerm) (rs : List Var) (place : ℕ) (h : IsSoleUser x lets rs place) → slice_get lets place ≡ Some h.user
+user_at x lets rs place h = (λ i. slice_get (h.whole i) place) ∙ get_user h.before h.after h.user place h.at
+
 pub some_let : (a b : LetTerm) → ◌≡◌ {A = Option LetTerm} (Some a) (Some b) → a ≡ b
 some_let a b e = ap (λ (o : Option LetTerm). unwrap_or o a) e
 

@@ -25,9 +25,9 @@ use Rattle.fold_laws.specs.Made.{FoldMade, FoldMadeOf}
 use Rattle.fold_walk.specs.Left.{IsNearProducer, IsPairAt, NoPairAt}
 use Rattle.fold_walk.specs.Making.{CannotTake, GetsMany}
 use Rattle.fold_walk.specs.Pairing.{BindsLoop, BindsNoLoop, IsSoleUser, loop_let}
-use Rattle.fold_walk.specs.Walking.{State, ConsumerMade, FirstFolded, FoldedHere, NoConsumer}
+use Rattle.fold_walk.specs.Walking.{State, facts_behind, ConsumerMade, FirstFolded, FoldedHere, NoConsumer}
 use Rattle.fold_walk.proofs.Consumers.{bound_let, same_list, same_op, same_parts}
-use Rattle.fold_walk.proofs.Firsts.{Behind, after_is, avoids_lets, behind, chain_avoids, reverse_lets, same_user, user_is}
+use Rattle.fold_walk.proofs.Firsts.{Behind, after_is, avoids_lets, behind, chain_avoids, reverse_lets, same_user, user_at}
 
 -- ---- a pair that was folded
 
@@ -100,6 +100,13 @@ module _ (called : ℕ → List (Option (List ℕ))) (function : ℕ) (k : Facts
             logged = subst (λ (v : Var). q.folds ≡ p.folds ++ (record { function = function; producer = v; consumer = made.consumer } ∷ [])) var made.logged;
           };
         }
+
+    pub first_at :
+        source.var ≡ x → source.frame.now ≡ o.frame → source.parts.now ≡ o.parts.items → CanProduce called k o.op (parts_of sources) →
+        ((u : LetTerm) → slice_get behind_lets place ≡ Some u → ConsumerMade called function (facts_behind called l behind_lets place k) p q source u new) → later ≡ facts_behind called l behind_lets place k → FirstFolded called function k p q l behind_lets rs place new
+    first_at var frame parts can h is =
+        first_folded var frame parts can (is ∙ (λ i. facts_after called (reverse (after_is x behind_lets rs place user i)) (note_all k l.targets (right_facts called l.right k))))
+        (subst (λ (f : Facts). ConsumerMade called function f p q source user.user new) (sym is) (h user.user (user_at x behind_lets rs place user)))
 
 -- ---- where there is no fold
 
@@ -264,3 +271,35 @@ module _ (called : ℕ → List (Option (List ℕ))) (function : ℕ) (above : �
 
   pub no_user : ((place : ℕ) → IsSoleUser x behind_lets rs place → ⊥) → Pair → ⊥
   no_user not h = not (the_sole h).0 (the_sole h).1
+
+  module _ (behind_place : ℕ) (user : IsSoleUser x behind_lets rs behind_place) (source : Source) (var : source.var ≡ x) (frame : source.frame.now ≡ the_loop.frame) (parts : source.parts.now ≡ the_loop.parts.items) where
+    same_source : producer_of source l.site the_loop.base the_loop.op ≡ the_producer
+    same_source = λ i. record { var = var i; site = l.site; frame = frame i; base = the_loop.base; op = the_loop.op; parts = parts_of (map part_term (parts i)) }
+
+    near_source : IsNearProducer the_producer → IsNear source
+    near_source near = subst IsNearProducer (sym same_source) near
+
+    no_taking : NoConsumer called function (facts_behind called l behind_lets behind_place k) above source user.user → NoPairAt called above k (Bind l.targets l.site l.right (chain (reverse behind_lets) (Gives rs)))
+    no_taking none h near =
+        let tail = (parted_at called above k l behind_lets rs h).tail in
+        let mine = sole called above k l behind_lets rs h in
+        let mine_at = length (reverse tail) in
+        let here : IsSoleUser h.producer.var behind_lets rs behind_place = subst (λ (p : Producer). IsSoleUser p.var behind_lets rs behind_place) (sym (who h)) user in
+        let alike = same_user h.producer.var behind_lets rs behind_place mine_at here mine in
+        let between : drop (behind_place + 1) behind_lets ≡ reverse h.between = after_is h.producer.var behind_lets rs behind_place here ∙ alike.2 in
+        let later : facts_behind called l behind_lets behind_place k ≡ h.later =
+        (λ i. facts_after called (reverse (between i)) (note_all k l.targets (right_facts called l.right k)))
+        ∙ (λ i. facts_after called (reverse-reverse h.between i) (note_all k l.targets (right_facts called l.right k)))
+        ∙ (λ i. facts_after called h.between (note_all k (same_first called above k l behind_lets rs h i).targets (right_facts called (same_first called above k l behind_lets rs h i).right k))) ∙ sym h.known in
+        let user_is : user.user ≡ loop_let h.consumer h.site h.frame h.base h.op (parts_of h.old) = alike.1 in
+        let cannot : CannotTake called (facts_behind called l behind_lets behind_place k) source h.op h.old =
+        none h.consumer h.site h.frame h.base h.op h.old user_is h.foldable.numbers in
+        let near_it : IsNear source = near_source (subst IsNearProducer (who h) near) in
+        let takes_it : Takes called (facts_behind called l behind_lets behind_place k) (producer_of source l.site the_loop.base the_loop.op) h.op (parts_of h.old) =
+        subst (λ (f : Facts). Takes called f (producer_of source l.site the_loop.base the_loop.op) h.op (parts_of h.old)) (sym later)
+        (subst (λ (p : Producer). Takes called h.later p h.op (parts_of h.old)) (who h ∙ sym same_source) (takes called above k l behind_lets rs h)) in
+        subst (λ (f : Facts). GetsMany called f h.producer h.op h.old) later
+        (subst (λ (p : Producer). GetsMany called (facts_behind called l behind_lets behind_place k) p h.op h.old) (same_source ∙ sym (who h)) (cannot l.site the_loop.base the_loop.op near_it takes_it))
+
+    pub no_taker : ((u : LetTerm) → slice_get behind_lets behind_place ≡ Some u → NoConsumer called function (facts_behind called l behind_lets behind_place k) above source u) → NoPairAt called above k (Bind l.targets l.site l.right (chain (reverse behind_lets) (Gives rs)))
+    no_taker h = no_taking (h user.user (user_at x behind_lets rs behind_place user))
