@@ -5,3 +5,5 @@ pub mod Consumers
 pub mod Firsts
 pub mod Folds
 pub mod Places
+pub mod Walking
+pub mod Levels
