@@ -7,3 +7,4 @@ pub mod Folds
 pub mod Places
 pub mod Walking
 pub mod Levels
+pub mod Ends
