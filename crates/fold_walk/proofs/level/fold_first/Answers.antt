@@ -29,13 +29,13 @@ returns-then-not-branch-clause-none c = λ h near.
     let b : Bool = c.in_ok-can_produce.field-0 in
     let can = subst (λ (ps : List CorePart). IsTrue b ↔ CanProduce called k op (terms ps)) c.deref.ensures.value c.in_ok-can_produce.ensures.can in
     absurd (no_can called given.function c.args.folding.now.progress.next k (let_term c.args.binding.now) (map let_term c.args.behind.now) c.args.results.now c.in-Some.var loop c.in-Some.ensures.some
-      (λ m. let e : true ≡ false = sym (can.1 m) ∙ c.if-not-branch.true in cc) h)
+    (λ m. let e : true ≡ false = sym (can.1 m) ∙ c.if-not-branch.true in cc) h)
 
 pub returns-in_default-sole_user-clause-none : goal.returns-in_default-sole_user-clause-none
 returns-in_default-sole_user-clause-none c = λ h near.
     let given = c.args.given.now in
     absurd (no_user (shapes_of given.called.now) given.function c.args.folding.now.progress.next (facts_of c.args.table.now) (let_term c.args.binding.now) (map let_term c.args.behind.now) c.args.results.now c.in-Some.var c.in-Some.parted.now
-      c.in-Some.ensures.some c.in_default-sole_user.ensures.none h)
+    c.in-Some.ensures.some c.in_default-sole_user.ensures.none h)
 
 pub returns-in-Some-2-clause-some : goal.returns-in-Some-2-clause-some
 returns-in-Some-2-clause-some c =
