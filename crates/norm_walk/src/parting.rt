@@ -67,7 +67,12 @@ fn plan_of(
         return Ok(None);
     };
     match part_plan(alloc, table, above, op, gens)? {
-        Some(plan) => Ok(Some(BasedPlan { base, plan })),
+        Some(plan) => {
+            if given.is_spent(above) {
+                return Err(Memory);
+            }
+            Ok(Some(BasedPlan { base, plan }))
+        }
         None => Ok(None),
     }
 }

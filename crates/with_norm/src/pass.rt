@@ -28,7 +28,8 @@ use variable_bases::{BaseTable, Signatures};
 ///
 /// # Errors
 ///
-/// `Memory`: there is none for a loop or for what is known of a variable, or a function would need more than 2^32 variables.
+/// `Memory`: there is none for a loop or for what is known of a variable, a function would need more than 2^32 variables, or a with-loop could become a
+/// parted loop after more than 4,194,304 variables were made for others in one round.
 pub fn normalise(alloc: Global, core: Core) -> Result<(Core, u64), Memory>
     ensures outcome { IsWellFormed (core_term core) → IfOk result (λ new. SameOutcomeOnArrays (core_term core) (core_term new.0)) }
     ensures outside { IfOk result (λ new. SameOutside (core_term core) (core_term new.0)) }
@@ -92,21 +93,25 @@ fn norm_functions(
 {
     let mut normal = Vec::new(alloc);
     let mut replaced = 0u64;
+    let mut made = 0u64;
     for function in functions {
-        let (function, count) = norm_function(alloc, function, called, signatures, replaced)?;
+        let before = above(&function)?;
+        let (function, count) = norm_function(alloc, function, called, signatures, replaced, made)?;
+        made = made.saturating_add(above(&function)?.saturating_sub(before));
         normal.push(function)?;
         replaced = count;
     }
     Ok((normal, replaced))
 }
 
-/// The function, and how many with-loops were replaced so far.
+/// The function, and how many with-loops were replaced so far. So many variables were made in the functions before it.
 fn norm_function(
     alloc: Global,
     function: CoreFun,
     called: &CalledShapes,
     signatures: &Signatures,
     replaced: u64,
+    made: u64,
 ) -> Result<(CoreFun, u64), Memory>
     ensures { IfOk result (λ new. FunctionNormed (shapes_of called.now) signatures.now replaced new.1 (fun_term function) (fun_term new.0)) }
 {
@@ -118,6 +123,7 @@ fn norm_function(
         called,
         bases: &bases,
         first,
+        made,
     };
     let mut progress = Progress {
         next: first,
