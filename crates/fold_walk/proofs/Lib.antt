@@ -1,0 +1,10 @@
+pub mod Learned
+pub mod Gathering
+pub mod Users
+pub mod Consumers
+pub mod Firsts
+pub mod Folds
+pub mod Places
+pub mod Walking
+pub mod Levels
+pub mod Ends

@@ -1,0 +1,71 @@
+use Rattle.std.proofs.Common.{◌≡◌, ◌↔◌, ◌∙◌, IsTrue, List, Bool, true, false, ℕ, map, refl, sym, subst}
+use Rattle.std.specs.Prelude.{slice_get, IfNone, IfSome, Option, Some}
+use Rattle.core_ir.specs.declared.tree.CorePart.{CorePart}
+use Rattle.core_ir.specs.declared.tree.Let.{Let}
+use Rattle.core_ir.specs.declared.tree.PartedLoop.{out-PartedLoop}
+use Rattle.core_ir.specs.Terms.{LetTerm}
+use Rattle.core_ir.specs.View.{let_term}
+use Rattle.core_facts.specs.Facts.{Facts}
+use Rattle.fact_table.specs.Table.{facts_of}
+use Rattle.foldable_pairs.specs.Pairs.{CanProduce}
+use Rattle.foldable_pairs.specs.Parts.{terms}
+use Rattle.plain_facts.specs.Called.{shapes_of}
+use Rattle.fold_walk.specs.Pairing.{IsSoleUser}
+use Rattle.fold_walk.specs.Walking.{facts_behind, state_of, ConsumerMade, NoConsumer}
+use Rattle.fold_walk.proofs.Folds.{first_at, no_can, no_loop_first, no_taker, no_user}
+use Rattle.fold_walk.proofs.level.fold_first.Goals as goal
+
+pub returns-in_default-clause-none : goal.returns-in_default-clause-none
+returns-in_default-clause-none c = λ h near.
+    absurd (no_loop_first (shapes_of c.args.given.now.called.now) c.args.folding.now.progress.next (facts_of c.args.table.now) (let_term c.args.binding.now) (map let_term c.args.behind.now) c.args.results.now h c.in_default.ensures.none)
+
+pub returns-then-not-branch-clause-none : goal.returns-then-not-branch-clause-none
+returns-then-not-branch-clause-none c = λ h near.
+    let given = c.args.given.now in
+    let called = shapes_of given.called.now in
+    let k = facts_of c.args.table.now in
+    let loop = c.in-Some.parted.now in
+    let op = (out-PartedLoop loop).op in
+    let b : Bool = c.in_ok-can_produce.field-0 in
+    let can = subst (λ (ps : List CorePart). IsTrue b ↔ CanProduce called k op (terms ps)) c.deref.ensures.value c.in_ok-can_produce.ensures.can in
+    absurd (no_can called given.function c.args.folding.now.progress.next k (let_term c.args.binding.now) (map let_term c.args.behind.now) c.args.results.now c.in-Some.var loop c.in-Some.ensures.some
+    (λ m. let e : true ≡ false = sym (can.1 m) ∙ c.if-not-branch.true in cc) h)
+
+pub returns-in_default-sole_user-clause-none : goal.returns-in_default-sole_user-clause-none
+returns-in_default-sole_user-clause-none c = λ h near.
+    let given = c.args.given.now in
+    absurd (no_user (shapes_of given.called.now) given.function c.args.folding.now.progress.next (facts_of c.args.table.now) (let_term c.args.binding.now) (map let_term c.args.behind.now) c.args.results.now c.in-Some.var c.in-Some.parted.now
+    c.in-Some.ensures.some c.in_default-sole_user.ensures.none h)
+
+pub returns-in-Some-2-clause-some : goal.returns-in-Some-2-clause-some
+returns-in-Some-2-clause-some c =
+    let given = c.args.given.now in
+    let called = shapes_of given.called.now in
+    let k = facts_of c.args.table.now in
+    let l = let_term c.args.binding.now in
+    let lets = map let_term c.args.behind.now in
+    let loop = c.in-Some.parted.now in
+    let op = (out-PartedLoop loop).op in
+    let place = c.in-Some-sole_user.place in
+    let b : Bool = c.in_ok-can_produce.field-0 in
+    let can = subst (λ (ps : List CorePart). IsTrue b ↔ CanProduce called k op (terms ps)) c.deref.ensures.value c.in_ok-can_produce.ensures.can in
+    let p = state_of c.args.folding.now in
+    let q = state_of c.fold_at.new.folding in
+    let source = record { var = c.in-Some.var; frame = _; parts = c.deref-2.result } in
+    let made = subst (λ (o : Option Let). IfSome o (λ new. (u : LetTerm) → slice_get lets place ≡ Some u → ConsumerMade called given.function (facts_behind called l lets place k) p q source u (let_term new))) c.in-Some-2.is c.in_ok-new.ensures.some in
+    first_at called given.function k p q l c.args.results.now c.in-Some.var loop c.in-Some.ensures.some lets place c.in-Some-sole_user.ensures.some source (facts_behind called l lets place k) (let_term c.in-Some-2.new)
+    refl refl c.deref-2.ensures.value (can.0 c.if-not-branch.false) made refl
+
+pub returns-in-None-clause-none : goal.returns-in-None-clause-none
+returns-in-None-clause-none c =
+    let given = c.args.given.now in
+    let called = shapes_of given.called.now in
+    let k = facts_of c.args.table.now in
+    let l = let_term c.args.binding.now in
+    let lets = map let_term c.args.behind.now in
+    let loop = c.in-Some.parted.now in
+    let place = c.in-Some-sole_user.place in
+    let above = c.args.folding.now.progress.next in
+    let source = record { var = c.in-Some.var; frame = _; parts = c.deref-2.result } in
+    let none = subst (λ (o : Option Let). IfNone o ((u : LetTerm) → slice_get lets place ≡ Some u → NoConsumer called given.function (facts_behind called l lets place k) above source u)) c.in-None.is c.in_ok-new.ensures.none in
+    no_taker called given.function above k l lets c.args.results.now c.in-Some.var loop c.in-Some.ensures.some place c.in-Some-sole_user.ensures.some source refl refl c.deref-2.ensures.value none

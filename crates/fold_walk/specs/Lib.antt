@@ -1,0 +1,4 @@
+pub mod Left
+pub mod Making
+pub mod Pairing
+pub mod Walking

@@ -1,0 +1,40 @@
+-- A producer, and the one binding behind it that uses it.
+use Rattle.std.specs.Prelude.{◌≡◌, ℕ, List, [], ◌∷◌, ◌++◌, length}
+use Rattle.core_ir.specs.declared.tree.Var.{Var}
+use Rattle.core_ir.specs.declared.tree.PartedLoop.{PartedLoop, out-PartedLoop}
+use Rattle.sac_base.specs.declared.base.Base.{Base}
+use Rattle.sac_base.specs.declared.grid.Grid1.{Grid1}
+use Rattle.sac_base.specs.declared.site.Site.{Site}
+use Rattle.core_ir.specs.declared.tree.PartedOp.{PartedOp}
+use Rattle.core_ir.specs.Terms.{LetTerm, PartsTerm, RightTerm, Parted}
+use Rattle.core_ir.specs.Uses.{AvoidsAll, AvoidsRight}
+use Rattle.core_ir.specs.View.{parted_term}
+use Rattle.core_loops.specs.Pairs.{AvoidsLets}
+
+-- the binding of a variable to a parted loop of scalar cells
+pub record BindsLoop (l : LetTerm) (x : Var) (p : PartedLoop) : Type 0 where
+  pub targets : l.targets ≡ x ∷ []
+  pub right : l.right ≡ parted_term p
+  pub scalars : (out-PartedLoop p).cell ≡ []
+
+-- the binding of a variable to a parted loop of scalar cells, as a term
+abbrev pub loop_let : Var → Site → List Grid1 → Base → PartedOp → PartsTerm → LetTerm
+loop_let x s frame base op parts = record { targets = x ∷ []; site = s; right = Parted frame base [] op parts }
+
+abbrev pub BindsNoLoop : LetTerm → Type 0
+BindsNoLoop l = (x : Var) (s : Site) (frame : List Grid1) (base : Base) (op : PartedOp) (parts : PartsTerm) → l ≡ loop_let x s frame base op parts → ⊥
+
+-- the loop with other parts
+abbrev pub loop_with : PartedLoop → PartsTerm → RightTerm
+loop_with p parts = let loop = out-PartedLoop p in Parted loop.frame loop.base loop.cell loop.op parts
+
+-- the binding at this place uses the variable, and no other one does, nor do the results
+pub record IsSoleUser (x : Var) (lets : List LetTerm) (results : List Var) (place : ℕ) : Type 0 where
+  pub before : List LetTerm
+  pub user : LetTerm
+  pub after : List LetTerm
+  pub whole : lets ≡ before ++ (user ∷ after)
+  pub at : length before ≡ place
+  pub used : AvoidsRight x user.right → ⊥
+  pub others : AvoidsLets x before × AvoidsLets x after
+  pub unreturned : AvoidsAll x results
