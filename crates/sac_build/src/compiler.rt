@@ -15,6 +15,7 @@ ghost use Rattle.sac_build.specs.Loops.{HasNormalLoops};
 ghost use Rattle.sac_build.specs.Mains.{MainTakesForms};
 
 use const_shape::propagate;
+use core_ir::Core;
 use counted_code::Code;
 use inline_calls::inline_all;
 use ref_counts::count_refs;
@@ -24,6 +25,7 @@ use specialise::specialise;
 use std::alloc::Global;
 use type_check::Checked;
 use with_norm::normalise;
+use wl_folding::fold_all;
 
 /// What a program was compiled to.
 #[derive(Drop)]
@@ -60,11 +62,30 @@ pub fn compile(alloc: Global, checked: &Checked, forms: &[Form]) -> Result<Compi
     let inlined = inline_all(alloc, core)?;
     let special = specialise(alloc, inlined, forms)?;
     let settled = propagate(alloc, special)?;
-    let (normal, _) = normalise(alloc, settled)?;
-    let code = count_refs(alloc, normal)?;
+    let (core, folded) = fold_loops(alloc, settled)?;
+    let code = count_refs(alloc, core)?;
     Ok(Compiled {
         code,
-        folded: 0,
+        folded,
         scalarised: 0,
     })
+}
+
+/// With-loops become parted loops, and pairs of those are folded, in turn until no pair is left. The number says how many were folded.
+fn fold_loops(alloc: Global, core: Core) -> Result<(Core, u64), Memory> {
+    let mut core = core;
+    let mut folded = 0u64;
+    for _turn in 0..u64::MAX {
+        let (normal, _) = normalise(alloc, core)?;
+        let (next, log) = fold_all(alloc, normal)?;
+        core = next;
+        folded = match folded.checked_add(log.folds.len() as u64) {
+            Some(sum) => sum,
+            None => return Err(Memory),
+        };
+        if log.folds.is_empty() {
+            return Ok((core, folded));
+        }
+    }
+    Err(Memory)
 }
