@@ -11,6 +11,8 @@ mod devices;
 #[cfg(test)]
 mod files;
 #[cfg(test)]
+mod folded;
+#[cfg(test)]
 mod inlined;
 #[cfg(test)]
 mod normal;

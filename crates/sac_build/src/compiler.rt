@@ -6,12 +6,14 @@ ghost use Rattle.sac_base.specs.declared.faults.Caps.{Caps};
 ghost use Rattle.sac_ast.specs.View.{program as tree};
 ghost use Rattle.source_meaning.specs.Calls.{outcome};
 ghost use Rattle.core_acceptance.specs.Formed.{ProgramFormed};
+ghost use Rattle.core_ir.specs.View.{core_term};
+ghost use Rattle.core_ir.specs.WellFormed.{IsWellFormed};
 ghost use Rattle.counted_code.specs.View.{code_program};
 ghost use Rattle.counted_code.specs.Counts.{IsWellCounted, IsUnmarked};
 ghost use Rattle.counted_code.specs.Prompt.{IsPrompt};
 ghost use Rattle.counted_code.specs.Outcome.{whole_run, outcome_of};
 ghost use Rattle.sac_build.specs.Arguments.{AreArrays};
-ghost use Rattle.sac_build.specs.Loops.{HasNormalLoops};
+ghost use Rattle.sac_build.specs.Loops.{AreSettled, HasNoFoldablePair, HasNormalLoops, IsFolded, Turned};
 ghost use Rattle.sac_build.specs.Mains.{MainTakesForms};
 
 use const_shape::propagate;
@@ -31,7 +33,7 @@ use wl_folding::fold_all;
 #[derive(Drop)]
 pub struct Compiled {
     pub code: Code,
-    /// How many with-loops were folded into others.
+    /// How many parted loops were folded into others.
     pub folded: u64,
     /// How many with-loops were merged with the ones in their cells.
     pub scalarised: u64,
@@ -42,7 +44,9 @@ pub struct Compiled {
 /// No loop in the code is marked. Where the program has the form that the grammar gives, the code is well counted and prompt, and on all arguments
 /// that are arrays of these forms and under all limits its outcome on the machine is that of the program, faults and their sites included. Where the
 /// types of the program's main contain these forms, main of the code takes arrays of these forms alone. In a function in which no right side always
-/// faults, no with-loop is left that can become a parted loop.
+/// faults, no with-loop is left that can become a parted loop. No pair of parted loops is left that can be folded, but for those whose producer has a
+/// bound too far from 0 or a frame with gaps, and those whose consumer would get more than 64 parts. The code came from a core that has the program's
+/// outcome by normalising steps and as many fold steps as `folded` says.
 ///
 /// # Errors
 ///
@@ -56,14 +60,16 @@ pub fn compile(alloc: Global, checked: &Checked, forms: &[Form]) -> Result<Compi
         → IfOk result (λ c. outcome_of (whole_run (code_program c.code) args caps) ≡ outcome (tree checked.now.program) args caps) }
     ensures main { ProgramFormed (tree checked.now.program) → IfOk result (λ c. MainTakesForms (tree checked.now.program) forms.now (code_program c.code)) }
     ensures normal { ProgramFormed (tree checked.now.program) → IfOk result (λ c. HasNormalLoops (code_program c.code)) }
-    ensures none { IfOk result (λ c. (c.folded ≡ 0) × (c.scalarised ≡ 0)) }
+    ensures pairs { ProgramFormed (tree checked.now.program) → IfOk result (λ c. HasNoFoldablePair (code_program c.code)) }
+    ensures folded { ProgramFormed (tree checked.now.program) → IfOk result (λ c. IsFolded (tree checked.now.program) forms.now c.folded (code_program c.code)) }
+    ensures none { IfOk result (λ c. c.scalarised ≡ 0) }
 {
     let core = to_core(alloc, checked)?;
     let inlined = inline_all(alloc, core)?;
     let special = specialise(alloc, inlined, forms)?;
     let settled = propagate(alloc, special)?;
-    let (core, folded) = fold_loops(alloc, settled)?;
-    let code = count_refs(alloc, core)?;
+    let (normal, folded) = fold_loops(alloc, settled)?;
+    let code = count_refs(alloc, normal)?;
     Ok(Compiled {
         code,
         folded,
@@ -72,18 +78,22 @@ pub fn compile(alloc: Global, checked: &Checked, forms: &[Form]) -> Result<Compi
 }
 
 /// With-loops become parted loops, and pairs of those are folded, in turn until no pair is left. The number says how many were folded.
-fn fold_loops(alloc: Global, core: Core) -> Result<(Core, u64), Memory> {
+fn fold_loops(alloc: Global, core: Core) -> Result<(Core, u64), Memory>
+    ensures turned { IfOk result (λ new. Turned (core_term core) (core_term new.0) new.1) }
+    ensures settled { IsWellFormed (core_term core) → IfOk result (λ new. AreSettled (core_term new.0)) }
+{
     let mut core = core;
     let mut folded = 0u64;
     for _turn in 0..u64::MAX {
         let (normal, _) = normalise(alloc, core)?;
         let (next, log) = fold_all(alloc, normal)?;
         core = next;
+        let ended = log.folds.is_empty();
         folded = match folded.checked_add(log.folds.len() as u64) {
             Some(sum) => sum,
             None => return Err(Memory),
         };
-        if log.folds.is_empty() {
+        if ended {
             return Ok((core, folded));
         }
     }

@@ -112,14 +112,19 @@ module _ (calls : ℕ → List (Option (List ℕ))) where
         changed = refl;
       } in
       let fresh = function_fresh a b place pairs whole well in
-      let keeps = folds_keep a b pairs fresh.0 well in
-      (logged place pairs, (one.1.0, record {
-        outcome = keeps.0;
-        well = keeps.1;
-        weight = keeps.2;
-        parted = (λ i. parted_count b + as_many place pairs i) ∙ keeps.3;
-        steps = subst (λ (es : List Entry). FoldSteps es a b) ((λ i. entries_at (fresh.1 i) pairs) ∙ sym (same_entries place pairs)) keeps.4;
-      }))
+      let keeps = folds_keep a b pairs fresh.0 well in (
+        logged place pairs,
+        (
+          one.1.0,
+          record {
+            outcome = keeps.0;
+            well = keeps.1;
+            weight = keeps.2;
+            parted = (λ i. parted_count b + as_many place pairs i) ∙ keeps.3;
+            steps = subst (λ (es : List Entry). FoldSteps es a b) ((λ i. entries_at (fresh.1 i) pairs) ∙ sym (same_entries place pairs)) keeps.4;
+          },
+        ),
+      )
 
   -- ---- all functions
 
@@ -148,7 +153,7 @@ module _ (calls : ℕ → List (Option (List ℕ))) where
         (
           log_on before h.0 after first.0 rest.0 first.1.0 rest.1.0,
           subst (λ (x : List FunTerm). Kept a (record a { functions = x }) (first.0 ++ rest.0)) end
-          (kept_on a b (record a { functions = (done ++ (new ∷ [])) ++ gs }) first.0 rest.0 first.1.1 rest.1.1),
+              (kept_on a b (record a { functions = (done ++ (new ∷ [])) ++ gs }) first.0 rest.0 first.1.1 rest.1.1),
         ),
       )
     where

@@ -21,7 +21,6 @@ logged place pairs = map (λ (p : Pair). record { function = place; producer = p
 pub as_many : (place : ℕ) (pairs : List Pair) → length (logged place pairs) ≡ length pairs
 as_many place pairs = length-map pairs (λ (p : Pair). record { function = place; producer = p.producer; consumer = p.consumer })
 
-
 pub same_entries : (place : ℕ) (pairs : List Pair) → entries_of (logged place pairs) ≡ entries_at place pairs
 same_entries place [] = refl
 same_entries place (p ∷ pairs) = ap (λ (es : List Entry). (place, p) ∷ es) (same_entries place pairs)

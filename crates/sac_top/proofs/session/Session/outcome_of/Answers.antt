@@ -3,6 +3,7 @@ use Rattle.std.proofs.lemmas.Result.{IfOk-weaker}
 use Rattle.sac_base.specs.Arrays.{form_of}
 use Rattle.counted_code.specs.View.{code_program}
 use Rattle.core_source_laws.proofs.Cores.{source_formed}
+use Rattle.sac_build.specs.Loops.{IsFolded}
 use Rattle.sac_build.specs.Mains.{MainTakesForms}
 use Rattle.sac_top.specs.Sessions.{program_of}
 use Rattle.sac_top.proofs.Tracing.{stays, run_traced, ends_with}
@@ -33,6 +34,9 @@ returns-clause-traced g c =
       outcome = λ args caps arrays same. c.in_ok-compiled.ensures.outcome formed args caps arrays (same ∙ forms);
       main = subst (λ fs. MainTakesForms (program_of c.args.job.now) fs (code_program c.in_ok-compiled.compiled.code)) (sym forms) (c.in_ok-compiled.ensures.main formed);
       normal = c.in_ok-compiled.ensures.normal formed;
+      pairs = c.in_ok-compiled.ensures.pairs formed;
     })
-    c.run-result.ensures.outcome c.run-result.ensures.cost c.run-result.ensures.tally c.run-result.ensures.counters c.in_ok-compiled.ensures.none.0 c.in_ok-compiled.ensures.none.1 ended)
+    c.run-result.ensures.outcome c.run-result.ensures.cost c.run-result.ensures.tally c.run-result.ensures.counters
+    (subst (λ fs. IsFolded (program_of c.args.job.now) fs c.in_ok-compiled.compiled.folded (code_program c.in_ok-compiled.compiled.code)) (sym forms) (c.in_ok-compiled.ensures.folded formed))
+    c.in_ok-compiled.ensures.none ended)
     c.outcome_told.ensures.ended
