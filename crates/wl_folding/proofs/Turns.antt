@@ -1,5 +1,6 @@
 -- The functions of a core, one after another.
-use Rattle.std.proofs.Common.{◌≡◌, ℕ, suc, ◌+◌, length, arith, List, [], ◌∷◌, ◌++◌, map, Option, refl, sym, ap, subst, ◌∙◌, append_assoc, append-nil}
+use Rattle.std.proofs.Common.{◌≡◌, ℕ, suc, ◌+◌, true, eqb, length, arith, List, [], ◌∷◌, ◌++◌, map, Option, refl, sym, ap, subst, ◌∙◌, append_assoc, append-nil}
+use Rattle.std.proofs.lemmas.Bool.{eqb-true}
 use Rattle.core_ir.specs.declared.tree.CoreFun.{CoreFun}
 use Rattle.core_ir.specs.Terms.{FunTerm}
 use Rattle.core_ir.specs.View.{fun_term}
@@ -14,6 +15,10 @@ map_snoc (y ∷ ys) x = ap (λ l. fun_term y ∷ l) (map_snoc ys x)
 pub none_left : {A : Type 0} (len : ℕ) (items : List A) → len ≡ 0 → len ≡ length items → items ≡ []
 none_left len [] p q = refl
 none_left len (x ∷ xs) p q = absurd (omega arith)
+
+-- an empty vector has no items
+pub empty : {A : Type 0} (len : ℕ) (items : List A) → eqb len 0 ≡ true → len ≡ length items → items ≡ []
+empty len items e p = none_left len items (eqb-true len 0 e) p
 
 module _ (calls : ℕ → List (Option (List ℕ))) where
   -- whatever the rest becomes, it goes behind those walked so far
