@@ -22,5 +22,5 @@ returns-then-ended-clause-turned c =
 pub returns-then-ended-clause-settled : goal.returns-then-ended-clause-settled
 returns-then-ended-clause-settled c well =
     settled_at_end (core_term c.in_ok-normal.normal) (core_term c.in_ok-next.next) c.in_ok-next.log.folds.items
-    (empty c.in_ok-next.log.folds.len c.in_ok-next.log.folds.items (sym c.is_empty.ensures ∙ c.if-ended.true) c.in_ok-next.log.folds.ok.0) c.in_ok-next.ensures.unchanged
+    (empty c.in_ok-next.log.folds.len c.in_ok-next.log.folds.items (sym c.is_empty-ended.ensures ∙ c.if-ended.true) c.in_ok-next.log.folds.ok.0) c.in_ok-next.ensures.unchanged
     (c.in_ok-normal.ensures.normal (c.loop-turn.invariant.kept well).well) c.in_ok-next.ensures.none

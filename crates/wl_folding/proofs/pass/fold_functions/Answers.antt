@@ -11,8 +11,8 @@ loop-function-init c =
 pub loop-function-preserved : goal.loop-function-preserved
 loop-function-preserved c =
     function_turn (shapes_of c.args.called.now) c.loop-function.walked.items c.push.new.self.items c.loop-function.function-iterator.rest.items c.next.new.self.rest.items
-    c.in-Some.function c.in_ok-function.function _ c.loop-function.place c.in-Some-2.next c.loop-function.folds.items c.in_ok-function.longer.items
-    c.loop-function.invariant c.in-Some.ensures.steps.0 c.in_ok-push.ensures.items c.in-Some-2.ensures.1 c.in_ok-function.ensures
+    c.in-Some.function c.in_ok-function.function _ c.loop-function.place c.in-Some-checked_add.next c.loop-function.folds.items c.in_ok-function.longer.items
+    c.loop-function.invariant c.in-Some.ensures.steps.0 c.in_ok-push.ensures.items c.in-Some-checked_add.ensures.1 c.in_ok-function.ensures
 
 pub returns : goal.returns
 returns c =

@@ -13,7 +13,7 @@ returns-then-ended-clause-folded c =
 
 pub returns-then-ended-clause-none : goal.returns-then-ended-clause-none
 returns-then-ended-clause-none c = ends_done (core_term c.loop-round.core) (core_term c.in_ok-next.next) c.in_ok-next.found.items c.in_ok-next.ensures
-    (empty c.in_ok-next.found.len c.in_ok-next.found.items (sym c.is_empty.ensures ∙ c.if-ended.true) c.in_ok-next.found.ok.0)
+    (empty c.in_ok-next.found.len c.in_ok-next.found.items (sym c.is_empty-ended.ensures ∙ c.if-ended.true) c.in_ok-next.found.ok.0)
 
 pub loop-round-preserved : goal.loop-round-preserved
 loop-round-preserved c =
