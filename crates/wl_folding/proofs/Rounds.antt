@@ -1,12 +1,11 @@
 -- What a round keeps, rounds after one another, and what a round leaves that folded nothing.
-use Rattle.std.proofs.Common.{◌≡◌, ℕ, suc, ◌+◌, ◌≤◌, List, [], ◌∷◌, ◌++◌, map, length, All, Option, Some, refl, sym, ap, subst, ◌∙◌, ◌⊎◌, inl, inr, append_assoc, append-nil, arith}
+use Rattle.std.proofs.Common.{◌≡◌, ℕ, suc, ◌+◌, ◌≤◌, List, [], ◌∷◌, ◌++◌, length, All, Option, Some, refl, sym, ap, subst, ◌∙◌, ◌⊎◌, inl, inr, append_assoc, append-nil, arith}
 use Rattle.std.specs.Prelude.{slice_get}
 use Rattle.std.proofs.lemmas.List.{length-append}
 use Rattle.std.proofs.lemmas.List.Elements.{All-nil, All-cons}
-use Rattle.core_ir.specs.Outcome.{SameHead, SameHeads, SameOutside, group_at}
+use Rattle.core_ir.specs.Outcome.{SameHead, SameHeads, group_at}
 use Rattle.core_ir.specs.Terms.{BlockTerm, FunTerm, CoreTerm}
 use Rattle.core_ir.specs.WellFormed.{IsWellFormed}
-use Rattle.core_calls.specs.Arrays.{SameOutcomeOnArrays}
 use Rattle.core_calls.specs.Replaced.{replaced_at}
 use Rattle.core_calls.proofs.Replaced.{at_place}
 use Rattle.core_settled.specs.Called.{called, common_shapes, params_facts, result_shapes, shapes_at}

@@ -20,6 +20,9 @@ none_left len (x ∷ xs) p q = absurd (omega arith)
 pub empty : {A : Type 0} (len : ℕ) (items : List A) → eqb len 0 ≡ true → len ≡ length items → items ≡ []
 empty len items e p = none_left len items (eqb-true len 0 e) p
 
+one_more : (place next : ℕ) → next ≡ place + 1 → next ≡ suc place
+one_more place next e = omega (arith, e)
+
 module _ (calls : ℕ → List (Option (List ℕ))) where
   -- whatever the rest becomes, it goes behind those walked so far
   abbrev pub SoFar : List FunTerm → List FunTerm → ℕ → List Fold → List FunTerm → Type 0
@@ -32,11 +35,11 @@ module _ (calls : ℕ → List (Option (List ℕ))) where
 
   -- a function more is walked through
   pub function_turn : (done more before rest : List CoreFun) (x y : CoreFun) (all : List FunTerm) (place next : ℕ) (folds longer : List Fold) → SoFar all (map fun_term done) place folds (map fun_term before)
-      → before ≡ x ∷ rest → more ≡ done ++ (y ∷ []) → next ≡ suc place → FunctionWalked calls place folds longer (fun_term x) (fun_term y) → SoFar all (map fun_term more) next longer (map fun_term rest)
+      → before ≡ x ∷ rest → more ≡ done ++ (y ∷ []) → next ≡ place + 1 → FunctionWalked calls place folds longer (fun_term x) (fun_term y) → SoFar all (map fun_term more) next longer (map fun_term rest)
   function_turn done more before rest x y all place next folds longer p b d n h = λ gs after w.
       let new : map fun_term more ++ gs ≡ map fun_term done ++ (fun_term y ∷ gs) =
       (λ i. map fun_term (d i) ++ gs) ∙ ap (λ z. z ++ gs) (map_snoc done y) ∙ append_assoc (map fun_term done) (fun_term y ∷ []) gs in
-      let following : AllWalked calls (suc place) longer (map fun_term rest) gs after = subst (λ (k : ℕ). AllWalked calls k longer (map fun_term rest) gs after) n w in
+      let following : AllWalked calls (suc place) longer (map fun_term rest) gs after = subst (λ (k : ℕ). AllWalked calls k longer (map fun_term rest) gs after) (one_more place next n) w in
       let one : AllWalked calls place folds (map fun_term before) (fun_term y ∷ gs) after =
       subst (λ (xs : List CoreFun). AllWalked calls place folds (map fun_term xs) (fun_term y ∷ gs) after) (sym b) (longer, (h, following)) in
       subst (λ (ys : List FunTerm). AllWalked calls 0 [] all ys after) (sym new) (p (fun_term y ∷ gs) after one)
