@@ -1,3 +1,2 @@
 mod Arrays
 mod Mains
-mod Turned

@@ -1,19 +1,17 @@
 -- With-loops and parted loops in code.
-use Rattle.std.specs.Prelude.{◌≡◌, ℕ, ◌+◌, List, All, length, map}
+use Rattle.std.specs.Prelude.{◌≡◌, ℕ, List, map}
 use Rattle.sac_base.specs.Arrays.{ArrayValue, form_of}
 use Rattle.sac_base.specs.declared.faults.Caps.{Caps}
 use Rattle.sac_base.specs.declared.form.Form.{Form}
 use Rattle.sac_ast.specs.Tree.{ProgramTree}
 use Rattle.source_meaning.specs.Calls as source
-use Rattle.core_ir.specs.Outcome.{SameOutside, outcome}
+use Rattle.core_ir.specs.Outcome.{outcome}
 use Rattle.core_ir.specs.Terms.{CoreTerm}
 use Rattle.core_ir.specs.WellFormed.{IsWellFormed}
-use Rattle.core_calls.specs.Arrays.{SameOutcomeOnArrays}
-use Rattle.core_norm_forms.specs.Walks.{NormSteps}
-use Rattle.core_fold_forms.specs.Walks.{Entry, FoldSteps}
 use Rattle.counted_code.specs.Terms.{CodeProgram, core_of_code}
 use Rattle.with_norm.specs.Normed.{AllNormal}
 use Rattle.wl_folding.specs.Folded.{HasNoPairs}
+use Rattle.loop_turns.specs.Steps.{Turns}
 use Rattle.sac_build.specs.Arguments.{AreArrays}
 
 -- in a function in which no right side always faults, no with-loop is left that can become a parted loop
@@ -24,25 +22,6 @@ HasNormalLoops code = AllNormal (core_of_code code)
 -- and those whose consumer would get more than 64 parts.
 abbrev pub HasNoFoldablePair : CodeProgram → Type 0
 HasNoFoldablePair code = HasNoPairs (core_of_code code)
-
--- turns, each of normalising steps and then fold steps; the number counts the fold steps of all
-pub data Turns : ℕ → CoreTerm → CoreTerm → Type 0 where
-  no_turn : {a : CoreTerm} → Turns 0 a a
-  turn : {folded replaced : ℕ} {pairs : List Entry} {a b c d : CoreTerm} → Turns folded a b → NormSteps replaced b c → FoldSteps pairs c d →
-      Turns (folded + length pairs) a d
-
-pub record Kept (a b : CoreTerm) (folded : ℕ) : Type 0 where
-  pub outcome : SameOutcomeOnArrays a b
-  pub well : IsWellFormed b
-  pub turns : Turns folded a b
-
-pub record Turned (a b : CoreTerm) (folded : ℕ) : Type 0 where
-  pub outside : SameOutside a b
-  pub kept : IsWellFormed a → Kept a b folded
-
--- a core in which no with-loop and no pair is left
-abbrev pub AreSettled : CoreTerm → Type 0
-AreSettled core = AllNormal core × HasNoPairs core
 
 -- The code came by turns with so many fold steps in all from a core that has the outcome of the program on all arguments that are arrays of these forms.
 pub record IsFolded (p : ProgramTree) (forms : List Form) (folded : ℕ) (code : CodeProgram) : Type 0 where

@@ -6,28 +6,24 @@ ghost use Rattle.sac_base.specs.declared.faults.Caps.{Caps};
 ghost use Rattle.sac_ast.specs.View.{program as tree};
 ghost use Rattle.source_meaning.specs.Calls.{outcome};
 ghost use Rattle.core_acceptance.specs.Formed.{ProgramFormed};
-ghost use Rattle.core_ir.specs.View.{core_term};
-ghost use Rattle.core_ir.specs.WellFormed.{IsWellFormed};
 ghost use Rattle.counted_code.specs.View.{code_program};
 ghost use Rattle.counted_code.specs.Counts.{IsWellCounted, IsUnmarked};
 ghost use Rattle.counted_code.specs.Prompt.{IsPrompt};
 ghost use Rattle.counted_code.specs.Outcome.{whole_run, outcome_of};
 ghost use Rattle.sac_build.specs.Arguments.{AreArrays};
-ghost use Rattle.sac_build.specs.Loops.{AreSettled, HasNoFoldablePair, HasNormalLoops, IsFolded, Turned};
+ghost use Rattle.sac_build.specs.Loops.{HasNoFoldablePair, HasNormalLoops, IsFolded};
 ghost use Rattle.sac_build.specs.Mains.{MainTakesForms};
 
 use const_shape::propagate;
-use core_ir::Core;
 use counted_code::Code;
 use inline_calls::inline_all;
+use loop_turns::fold_loops;
 use ref_counts::count_refs;
 use sac_base::{Form, Memory};
 use single_assign::to_core;
 use specialise::specialise;
 use std::alloc::Global;
 use type_check::Checked;
-use with_norm::normalise;
-use wl_folding::fold_all;
 
 /// What a program was compiled to.
 #[derive(Drop)]
@@ -75,27 +71,4 @@ pub fn compile(alloc: Global, checked: &Checked, forms: &[Form]) -> Result<Compi
         folded,
         scalarised: 0,
     })
-}
-
-/// With-loops become parted loops, and pairs of those are folded, in turn until no pair is left. The number says how many were folded.
-fn fold_loops(alloc: Global, core: Core) -> Result<(Core, u64), Memory>
-    ensures turned { IfOk result (λ new. Turned (core_term core) (core_term new.0) new.1) }
-    ensures settled { IsWellFormed (core_term core) → IfOk result (λ new. AreSettled (core_term new.0)) }
-{
-    let mut core = core;
-    let mut folded = 0u64;
-    for _turn in 0..u64::MAX {
-        let (normal, _) = normalise(alloc, core)?;
-        let (next, log) = fold_all(alloc, normal)?;
-        core = next;
-        let ended = log.folds.is_empty();
-        folded = match folded.checked_add(log.folds.len() as u64) {
-            Some(sum) => sum,
-            None => return Err(Memory),
-        };
-        if ended {
-            return Ok((core, folded));
-        }
-    }
-    Err(Memory)
 }

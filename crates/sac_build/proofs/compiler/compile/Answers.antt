@@ -5,7 +5,7 @@ use Rattle.counted_code.specs.View.{code_program}
 use Rattle.sac_ast.specs.View.{program as tree}
 use Rattle.with_norm.specs.Normed.{AllNormal}
 use Rattle.wl_folding.specs.Folded.{HasNoPairs}
-use Rattle.sac_build.specs.Loops.{Turns}
+use Rattle.loop_turns.specs.Steps.{Turns}
 use Rattle.sac_build.proofs.Arrays.{all_full}
 use Rattle.sac_build.proofs.Mains.{main_takes_forms}
 use Rattle.sac_build.proofs.compiler.compile.Goals as goal
@@ -13,21 +13,21 @@ use Rattle.sac_build.proofs.compiler.compile.Goals as goal
 pub returns-clause-counted : goal.returns-clause-counted
 returns-clause-counted c formed =
     let special = c.in_ok-special.ensures.well (c.in_ok-inlined.ensures.well (c.in_ok-core.ensures.well_formed formed)) in
-    c.in_ok-code.ensures.counted (c.in_ok-normal.ensures.turned.kept (c.in_ok-settled.ensures.well special)).well
+    c.in_ok-code.ensures.counted (c.in_ok-normal.ensures.well (c.in_ok-settled.ensures.well special))
 
 pub returns-clause-prompt : goal.returns-clause-prompt
 returns-clause-prompt c formed =
     let special = c.in_ok-special.ensures.well (c.in_ok-inlined.ensures.well (c.in_ok-core.ensures.well_formed formed)) in
-    c.in_ok-code.ensures.prompt (c.in_ok-normal.ensures.turned.kept (c.in_ok-settled.ensures.well special)).well
+    c.in_ok-code.ensures.prompt (c.in_ok-normal.ensures.well (c.in_ok-settled.ensures.well special))
 
 pub returns-clause-outcome : goal.returns-clause-outcome
 returns-clause-outcome c formed args caps arrays forms =
     let well = c.in_ok-core.ensures.well_formed formed in
     let inlined = c.in_ok-inlined.ensures.well well in
     let special = c.in_ok-special.ensures.well inlined in
-    let kept = c.in_ok-normal.ensures.turned.kept (c.in_ok-settled.ensures.well special) in
-    c.in_ok-code.ensures.outcome kept.well args caps
-    ∙ sym (kept.outcome args caps (all_full args arrays))
+    let settled = c.in_ok-settled.ensures.well special in
+    c.in_ok-code.ensures.outcome (c.in_ok-normal.ensures.well settled) args caps
+    ∙ sym (c.in_ok-normal.ensures.outcome settled args caps (all_full args arrays))
     ∙ sym (c.in_ok-settled.ensures.outcome special args caps (all_full args arrays))
     ∙ sym (c.in_ok-special.ensures.outcome inlined args caps forms)
     ∙ sym (c.in_ok-inlined.ensures.outcome well args caps) ∙ c.in_ok-core.ensures.outcome formed args caps
@@ -37,17 +37,17 @@ returns-clause-main c formed =
     let inlined = c.in_ok-inlined.ensures.well (c.in_ok-core.ensures.well_formed formed) in
     main_takes_forms (tree c.args.checked.now.program) c.args.forms.now (core_term c.in_ok-core.core) (core_term c.in_ok-inlined.inlined) (core_term c.in_ok-special.special)
     (core_term c.in_ok-settled.settled) (core_term c.in_ok-normal.normal) (code_program c.in_ok-code.code) c.in_ok-core.ensures.lowered c.in_ok-inlined.ensures.outside
-    (c.in_ok-special.ensures.well inlined) (c.in_ok-special.ensures.main inlined) c.in_ok-settled.ensures.outside c.in_ok-normal.ensures.turned.outside c.in_ok-code.ensures.same
+    (c.in_ok-special.ensures.well inlined) (c.in_ok-special.ensures.main inlined) c.in_ok-settled.ensures.outside c.in_ok-normal.ensures.outside c.in_ok-code.ensures.same
 
 pub returns-clause-normal : goal.returns-clause-normal
 returns-clause-normal c formed =
     let special = c.in_ok-special.ensures.well (c.in_ok-inlined.ensures.well (c.in_ok-core.ensures.well_formed formed)) in
-    subst AllNormal (sym c.in_ok-code.ensures.same) (c.in_ok-normal.ensures.settled (c.in_ok-settled.ensures.well special)).0
+    subst AllNormal (sym c.in_ok-code.ensures.same) (c.in_ok-normal.ensures.normal (c.in_ok-settled.ensures.well special))
 
 pub returns-clause-pairs : goal.returns-clause-pairs
 returns-clause-pairs c formed =
     let special = c.in_ok-special.ensures.well (c.in_ok-inlined.ensures.well (c.in_ok-core.ensures.well_formed formed)) in
-    subst HasNoPairs (sym c.in_ok-code.ensures.same) (c.in_ok-normal.ensures.settled (c.in_ok-settled.ensures.well special)).1
+    subst HasNoPairs (sym c.in_ok-code.ensures.same) (c.in_ok-normal.ensures.pairs (c.in_ok-settled.ensures.well special))
 
 pub returns-clause-folded : goal.returns-clause-folded
 returns-clause-folded c formed =
@@ -63,5 +63,5 @@ returns-clause-folded c formed =
           ∙ sym (c.in_ok-special.ensures.outcome inlined args caps forms)
           ∙ sym (c.in_ok-inlined.ensures.outcome well args caps) ∙ c.in_ok-core.ensures.outcome formed args caps;
       turns = subst (λ (core : CoreTerm). Turns c.in_ok-normal.folded (core_term c.in_ok-settled.settled) core) (sym c.in_ok-code.ensures.same)
-          (c.in_ok-normal.ensures.turned.kept settled).turns;
+          (c.in_ok-normal.ensures.turns settled);
     }

@@ -8,14 +8,29 @@ use Rattle.core_calls.specs.Arrays.{SameOutcomeOnArrays}
 use Rattle.core_norm_forms.specs.Walks.{NormSteps}
 use Rattle.core_fold_forms.specs.Walks.{FoldSteps}
 use Rattle.fold_walk.specs.declared.state.Fold.{Fold}
-use Rattle.unreached_functions.proofs.Outside.{outside_through}
 use Rattle.with_norm.specs.Normed.{AllNormal}
 use Rattle.wl_folding.specs.Folded.{HasNoPairs, entries_of, entry_of}
-use Rattle.sac_build.specs.Loops.{AreSettled, Kept, Turned, Turns, no_turn, turn}
+use Rattle.loop_turns.specs.Steps.{AreSettled, Kept, Turned, Turns, no_turn, turn}
 
 heads_itself : (fs : List FunTerm) → SameHeads fs fs
 heads_itself [] = tt
 heads_itself (f ∷ fs) = (record { site = refl; types = refl; inlines = refl }, heads_itself fs)
+
+heads_through : (fs gs hs : List FunTerm) → SameHeads fs gs → SameHeads gs hs → SameHeads fs hs
+heads_through [] [] [] p q = tt
+heads_through [] [] (h ∷ hs) p q = absurd q
+heads_through [] (g ∷ gs) hs p q = absurd p
+heads_through (f ∷ fs) [] hs p q = absurd p
+heads_through (f ∷ fs) (g ∷ gs) [] p q = absurd q
+heads_through (f ∷ fs) (g ∷ gs) (h ∷ hs) p q =
+    (record { site = p.0.site ∙ q.0.site; types = p.0.types ∙ q.0.types; inlines = p.0.inlines ∙ q.0.inlines }, heads_through fs gs hs p.1 q.1)
+
+outside_through : (a b c : CoreTerm) → SameOutside a b → SameOutside b c → SameOutside a c
+outside_through a b c p q = record {
+  groups = p.groups ∙ q.groups;
+  main = p.main ∙ q.main;
+  heads = heads_through a.functions b.functions c.functions p.heads q.heads;
+}
 
 pub turned_itself : (a : CoreTerm) → Turned a a 0
 turned_itself a = record {

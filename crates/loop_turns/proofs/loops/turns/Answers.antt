@@ -1,8 +1,8 @@
 use Rattle.std.proofs.Common.{◌∙◌, sym}
 use Rattle.core_ir.specs.View.{core_term}
 use Rattle.wl_folding.proofs.Turns.{empty}
-use Rattle.sac_build.proofs.Turned.{settled_at_end, turned_itself, turned_on}
-use Rattle.sac_build.proofs.compiler.fold_loops.Goals as goal
+use Rattle.loop_turns.proofs.Turning.{settled_at_end, turned_itself, turned_on}
+use Rattle.loop_turns.proofs.loops.turns.Goals as goal
 
 pub loop-turn-init : goal.loop-turn-init
 loop-turn-init c = turned_itself (core_term c.args.core)
