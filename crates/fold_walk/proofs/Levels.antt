@@ -111,6 +111,20 @@ module _ (called : ℕ → List (Option (List ℕ))) (function : ℕ) (k : Facts
       more : (a b c : ℕ) → a ≤ b → c ≡ b + 1 → c ≡ a → ⊥
       more a b c h e f = omega (arith, h, e, f)
 
+  -- the same, where what is left is seen as a slice
+  pub level_kept :
+      (lets : List LetTerm) (now after : Facts) (q r : State) (done done' behind rest slice : List Let) (x : Let) → Level lets now q done behind → behind ≡ rest ++ (x ∷ []) → slice ≡ rest → r ≡ q → done' ≡ done ++ (x ∷ []) →
+      after ≡ note_all now (let_term x).targets (right_facts called (let_term x).right now) → NoPairAt called q.next now (chain (let_term x ∷ reverse (map let_term slice)) end) → Level lets after r done' rest
+  level_kept lets now after q r done done' behind rest slice x v b s e d learned none =
+      subst (λ (t : State). Level lets after t done' rest) (sym e)
+      (level_past lets now after q done done' behind rest x v b d learned (subst (λ (ls : List Let). NoPairAt called q.next now (chain (let_term x ∷ reverse (map let_term ls)) end)) s none))
+
+  pub level_made :
+      (lets : List LetTerm) (now : Facts) (q r : State) (done behind rest rest' slice : List Let) (x new : Let) (place : ℕ) → Level lets now q done behind → behind ≡ rest ++ (x ∷ []) → slice ≡ rest → rest' ≡ slice_set rest place new →
+      FirstFolded called function now q r (let_term x) (map let_term slice) rs place (let_term new) → Level lets now r done rest'
+  level_made lets now q r done behind rest rest' slice x new place v b s e f =
+      level_folded lets now q r done behind rest rest' x new place v b e (subst (λ (ls : List Let). FirstFolded called function now q r (let_term x) (map let_term ls) rs place (let_term new)) s f)
+
   pub level_end : (lets : List LetTerm) (now : Facts) (q : State) (done behind : List Let) → Level lets now q done behind → behind ≡ [] → LevelFolded called function k p q lets (map let_term done) rs
   level_end lets now q done behind v e = record {
     walked = subst (λ (ls : List Let). Walked called function k p q (chain lets end) (chain (map let_term done) (chain (reverse (map let_term ls)) end))) e v.walked;
