@@ -44,6 +44,18 @@ set_here (l ∷ ls) (suc place) new (b ∷ before) after user e p =
     let first : let_term l ≡ b = ap (λ (k : List LetTerm). get_or k 0 b) e in
     λ i. first i ∷ set_here ls place new before after user (ap (drop 1) e) (omega (arith, p)) i
 
+-- its place lies inside
+within : (ls : List Let) (place : ℕ) (before after : List LetTerm) (user : LetTerm) → map let_term ls ≡ before ++ (user ∷ after) → length before ≡ place → place < length ls
+within ls place before after user e p =
+    less (length before) place (length after) (length ls) p (sym (count ls) ∙ ap length e ∙ length-append before (user ∷ after))
+  where
+    less : (b p a n : ℕ) → b ≡ p → n ≡ b + suc a → p < n
+    less b p a n e f = omega (arith, e, f)
+
+    count : (xs : List Let) → length (map let_term xs) ≡ length xs
+    count [] = refl
+    count (x ∷ xs) = ap suc (count xs)
+
 turned : (before after : List LetTerm) (user : LetTerm) (end : BlockTerm) → chain (reverse (before ++ (user ∷ after))) end ≡ chain (reverse after) (Bind user.targets user.site user.right (chain (reverse before) end))
 turned before after user end =
     ap (λ ls. chain ls end) (reverse-append before (user ∷ after) ∙ ap (λ zs. zs ++ reverse before) (reverse_cons user after)) ∙ chain_both (reverse after ++ (user ∷ [])) (reverse before) end
@@ -124,6 +136,9 @@ module _ (called : ℕ → List (Option (List ℕ))) (function : ℕ) (k : Facts
       FirstFolded called function now q r (let_term x) (map let_term slice) rs place (let_term new) → Level lets now r done rest'
   level_made lets now q r done behind rest rest' slice x new place v b s e f =
       level_folded lets now q r done behind rest rest' x new place v b e (subst (λ (ls : List Let). FirstFolded called function now q r (let_term x) (map let_term ls) rs place (let_term new)) s f)
+
+  pub place_within : (now : Facts) (q r : State) (ls : List Let) (x new : Let) (place : ℕ) → FirstFolded called function now q r (let_term x) (map let_term ls) rs place (let_term new) → place < length ls
+  place_within now q r ls x new place f = within ls place f.before f.after f.user f.whole f.at
 
   pub level_end : (lets : List LetTerm) (now : Facts) (q : State) (done behind : List Let) → Level lets now q done behind → behind ≡ [] → LevelFolded called function k p q lets (map let_term done) rs
   level_end lets now q done behind v e = record {
