@@ -9,7 +9,7 @@ ghost use Rattle.fact_table.specs.Table.{facts_of};
 ghost use Rattle.plain_facts.specs.Called.{shapes_of};
 ghost use Rattle.core_ir.specs.Terms.{parts_of as parts_in};
 ghost use Rattle.fold_walk.specs.Making.{CannotTake, PiecesPlanned};
-ghost use Rattle.fold_walk.specs.Pairing.{loop_with};
+ghost use Rattle.fold_walk.specs.Pairing.{loop_with, IsSource};
 ghost use Rattle.fold_walk.specs.Walking.{facts_behind, state_of, ConsumerMade, FirstFolded, LevelFolded, NoConsumer, TurnFolded, TurnKept};
 ghost use Rattle.fold_walk.specs.Left.{NoPairAt};
 
@@ -125,14 +125,21 @@ fn fold_first(
     let Some(place) = sole_user(var, behind, results) else {
         return Ok(None);
     };
-    let producer = Producer {
-        var,
-        frame: &parted.frame,
-        parts: &parted.parts,
-    };
+    let producer = source_of(var, parted);
     match fold_at(&producer, binding, behind, place, given, table, folding)? {
         Some(new) => Ok(Some((place, new))),
         None => Ok(None),
+    }
+}
+
+/// A bound loop as a producer.
+fn source_of<'a>(var: Var, parted: &'a PartedLoop) -> Producer<'a>
+    ensures { IsSource result var parted.now }
+{
+    Producer {
+        var,
+        frame: &parted.frame,
+        parts: &parted.parts,
     }
 }
 

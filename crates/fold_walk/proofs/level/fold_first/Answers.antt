@@ -6,6 +6,7 @@ use Rattle.core_ir.specs.declared.tree.PartedLoop.{out-PartedLoop}
 use Rattle.core_ir.specs.Terms.{LetTerm}
 use Rattle.core_ir.specs.View.{let_term}
 use Rattle.core_facts.specs.Facts.{Facts}
+use Rattle.fact_table.specs.Notes.{Note}
 use Rattle.fact_table.specs.Table.{facts_of}
 use Rattle.foldable_pairs.specs.Pairs.{CanProduce}
 use Rattle.foldable_pairs.specs.Parts.{terms}
@@ -49,8 +50,13 @@ returns-in-Some-2-clause-some c =
     let place = c.in-Some-sole_user.place in
     let b : Bool = c.in_ok-can_produce.field-0 in
     let can = subst (λ (ps : List CorePart). IsTrue b ↔ CanProduce called k op (terms ps)) c.deref.ensures.value c.in_ok-can_produce.ensures.can in
-    first_some called given.function k (state_of c.args.folding.now) (state_of c.fold_at.new.folding) l c.args.results.now c.in-Some.var loop c.in-Some.ensures.some lets place c.in-Some-sole_user.ensures.some _ c.in_ok-new.field-0
-    c.in-Some-2.new c.in-Some-2.is c.in_ok-new.ensures.some refl refl c.deref-2.ensures.value (can.0 c.if-not-branch.false)
+    let p = state_of c.args.folding.now in
+    let q = state_of c.fold_at.new.folding in
+    let source = c.source_of-producer.ensures in
+    let made = subst (λ (t : List Note). IfSome c.in_ok-new.field-0 (λ n. (u : LetTerm) → slice_get lets place ≡ Some u → ConsumerMade called given.function (facts_behind called l lets place (facts_of t)) p q c.source_of-producer.result u (let_term n)))
+            c.in_ok-can_produce.ensures.facts c.in_ok-new.ensures.some in
+    first_some called given.function k p q l c.args.results.now c.in-Some.var loop c.in-Some.ensures.some lets place c.in-Some-sole_user.ensures.some c.source_of-producer.result c.in_ok-new.field-0
+    c.in-Some-2.new c.in-Some-2.is made source.var source.frame source.parts (can.0 c.if-not-branch.false)
 
 pub returns-in-None-clause-none : goal.returns-in-None-clause-none
 returns-in-None-clause-none c =
@@ -62,4 +68,7 @@ returns-in-None-clause-none c =
     let loop = c.in-Some.parted.now in
     let place = c.in-Some-sole_user.place in
     let above = c.args.folding.now.progress.next in
-    none_taken called given.function above k l lets c.args.results.now c.in-Some.var loop c.in-Some.ensures.some place c.in-Some-sole_user.ensures.some _ c.in_ok-new.field-0 c.in-None.is c.in_ok-new.ensures.none refl refl c.deref-2.ensures.value
+    let source = c.source_of-producer.ensures in
+    let none = subst (λ (t : List Note). IfNone c.in_ok-new.field-0 ((u : LetTerm) → slice_get lets place ≡ Some u → NoConsumer called given.function (facts_behind called l lets place (facts_of t)) above c.source_of-producer.result u))
+            c.in_ok-can_produce.ensures.facts c.in_ok-new.ensures.none in
+    none_taken called given.function above k l lets c.args.results.now c.in-Some.var loop c.in-Some.ensures.some place c.in-Some-sole_user.ensures.some c.source_of-producer.result c.in_ok-new.field-0 c.in-None.is none source.var source.frame source.parts
