@@ -164,7 +164,7 @@ fold_right-returns-in_ok-body-in-Loop-clause-walked t c =
     let k = facts_of c.args.table.now in
     turns_end (shapes_of given.called.now) given.function k (facts_of c.forget.new.table) (facts_of c.fold_block-in-Loop.new.table) (state_of c.args.folding.now) (state_of c.fold_block-in-Loop.new.folding) (state_of c.fold_block-in-Loop-2.new.folding)
     c.in-Loop.first_body c.in-Loop.start c.in-Loop.params c.in-Loop.test_site c.in-Loop.test c.in-Loop.body c.in_ok-test-in-Loop.test c.in_ok-body-in-Loop.body c.args.right c.in-Loop.is
-    (c.in_ok-forget-in-Loop.ensures.forgotten ∙ ap (λ xs. note_all k xs []) c.deref-in-Loop.ensures.value) (ap facts_of c.in_ok-test-in-Loop.ensures.table) c.in_ok-test-in-Loop.ensures.walked c.in_ok-body-in-Loop.ensures.walked
+    (c.in_ok-forget-in-Loop.ensures.forgotten ∙ ap (λ xs. note_all k xs []) c.deref.ensures.value) (ap facts_of c.in_ok-test-in-Loop.ensures.table) c.in_ok-test-in-Loop.ensures.walked c.in_ok-body-in-Loop.ensures.walked
 
 pub fold_right-returns-in_ok-fold_with-in-With-clause-walked : goal.fold_right-returns-in_ok-fold_with-in-With-clause-walked
 fold_right-returns-in_ok-fold_with-in-With-clause-walked t c =
