@@ -1,4 +1,4 @@
-use Rattle.std.proofs.Common.{◌≡◌, ◌-◌, ◌∙◌, [], ◌∷◌, ap, refl, sym, subst, map, length, List}
+use Rattle.std.proofs.Common.{◌-◌, ◌∙◌, [], ◌∷◌, ap, refl, sym, subst, map, length, List}
 use Rattle.std.specs.Prelude.{drop}
 use Rattle.fact_table.specs.Table.{facts_of}
 use Rattle.plain_facts.specs.Called.{shapes_of}
@@ -11,7 +11,7 @@ use Rattle.core_ir.specs.declared.tree.Var.{Var}
 use Rattle.fact_table.specs.Notes.{Note}
 use Rattle.core_facts.specs.Facts.{Facts, note_all}
 use Rattle.fold_walk.specs.Walking.{state_of, BlockWalked, GenWalked, LevelFolded, PartWalked}
-use Rattle.fold_walk.proofs.Ends.{gen_end, part_end, let_end, with_end, parted_end, choice_end, turns_end, IsOther, other_walked, right_end}
+use Rattle.fold_walk.proofs.Ends.{gen_end, part_end, let_end, with_end, parted_end, choice_end, turns_end, other_walked, right_end}
 use Rattle.fold_walk.proofs.Levels.{block_walked}
 use Rattle.fold_walk.proofs.Walking.{going_first, going_on, gens_first, gens_on, none_left, parts_first, parts_on}
 use Rattle.fold_walk.proofs.walk.+folding.Goals as goal
