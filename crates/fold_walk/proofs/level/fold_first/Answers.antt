@@ -12,7 +12,7 @@ use Rattle.foldable_pairs.specs.Parts.{terms}
 use Rattle.plain_facts.specs.Called.{shapes_of}
 use Rattle.fold_walk.specs.Pairing.{IsSoleUser}
 use Rattle.fold_walk.specs.Walking.{facts_behind, state_of, ConsumerMade, NoConsumer}
-use Rattle.fold_walk.proofs.Folds.{first_at, no_can, no_loop_first, no_taker, no_user}
+use Rattle.fold_walk.proofs.Folds.{first_some, no_can, no_loop_first, no_user, none_taken}
 use Rattle.fold_walk.proofs.level.fold_first.Goals as goal
 
 pub returns-in_default-clause-none : goal.returns-in_default-clause-none
@@ -49,12 +49,8 @@ returns-in-Some-2-clause-some c =
     let place = c.in-Some-sole_user.place in
     let b : Bool = c.in_ok-can_produce.field-0 in
     let can = subst (λ (ps : List CorePart). IsTrue b ↔ CanProduce called k op (terms ps)) c.deref.ensures.value c.in_ok-can_produce.ensures.can in
-    let p = state_of c.args.folding.now in
-    let q = state_of c.fold_at.new.folding in
-    let source = record { var = c.in-Some.var; frame = _; parts = c.deref-2.result } in
-    let made = subst (λ (o : Option Let). IfSome o (λ new. (u : LetTerm) → slice_get lets place ≡ Some u → ConsumerMade called given.function (facts_behind called l lets place k) p q source u (let_term new))) c.in-Some-2.is c.in_ok-new.ensures.some in
-    first_at called given.function k p q l c.args.results.now c.in-Some.var loop c.in-Some.ensures.some lets place c.in-Some-sole_user.ensures.some source (facts_behind called l lets place k) (let_term c.in-Some-2.new)
-    refl refl c.deref-2.ensures.value (can.0 c.if-not-branch.false) made refl
+    first_some called given.function k (state_of c.args.folding.now) (state_of c.fold_at.new.folding) l c.args.results.now c.in-Some.var loop c.in-Some.ensures.some lets place c.in-Some-sole_user.ensures.some _ c.in_ok-new.field-0
+    c.in-Some-2.new c.in-Some-2.is c.in_ok-new.ensures.some refl refl c.deref-2.ensures.value (can.0 c.if-not-branch.false)
 
 pub returns-in-None-clause-none : goal.returns-in-None-clause-none
 returns-in-None-clause-none c =
@@ -66,6 +62,4 @@ returns-in-None-clause-none c =
     let loop = c.in-Some.parted.now in
     let place = c.in-Some-sole_user.place in
     let above = c.args.folding.now.progress.next in
-    let source = record { var = c.in-Some.var; frame = _; parts = c.deref-2.result } in
-    let none = subst (λ (o : Option Let). IfNone o ((u : LetTerm) → slice_get lets place ≡ Some u → NoConsumer called given.function (facts_behind called l lets place k) above source u)) c.in-None.is c.in_ok-new.ensures.none in
-    no_taker called given.function above k l lets c.args.results.now c.in-Some.var loop c.in-Some.ensures.some place c.in-Some-sole_user.ensures.some source refl refl c.deref-2.ensures.value none
+    none_taken called given.function above k l lets c.args.results.now c.in-Some.var loop c.in-Some.ensures.some place c.in-Some-sole_user.ensures.some _ c.in_ok-new.field-0 c.in-None.is c.in_ok-new.ensures.none refl refl c.deref-2.ensures.value
