@@ -1,10 +1,9 @@
 -- The fold of a pair whose producer is the first binding.
-use Rattle.std.proofs.Common.{◌≡◌, ◌↔◌, IsTrue, ℕ, zero, suc, ◌+◌, ◌<◌, ◌≤◌, ◌^◌, Bool, true, false, eqb, cond, List, [], ◌∷◌, ◌++◌, map, length, drop, get_or, reverse, Option, Some, None, refl, sym, ap, subst, ◌∙◌, inl, inr, append_assoc, append-nil, arith, ℤ}
-use Rattle.std.specs.Prelude.{IfNone, IfSome, slice_get, unwrap_or}
-use Rattle.std.proofs.lemmas.List.{reverse-append, reverse-reverse, length-reverse}
+use Rattle.std.proofs.Common.{◌≡◌, ℕ, ◌+◌, ◌<◌, cond, List, [], ◌∷◌, ◌++◌, map, length, drop, get_or, reverse, Option, Some, None, refl, sym, ap, subst, ◌∙◌, append_assoc, arith, ℤ}
+use Rattle.std.specs.Prelude.{IfNone, IfSome, slice_get}
+use Rattle.std.proofs.lemmas.List.{reverse-append, reverse-reverse}
 use Rattle.sac_base.specs.declared.base.Base.{Base}
 use Rattle.sac_base.specs.declared.grid.Grid1.{Grid1}
-use Rattle.sac_base.specs.declared.site.Site.{Site}
 use Rattle.core_ir.specs.declared.tree.Var.{Var}
 use Rattle.core_ir.specs.declared.tree.CorePart.{CorePart}
 use Rattle.core_ir.specs.declared.tree.Let.{Let}
@@ -12,12 +11,12 @@ use Rattle.core_ir.specs.declared.tree.PartedLoop.{PartedLoop, PartedLoop-F, out
 use Rattle.core_ir.specs.declared.tree.Right.TheBlock.{the_data, the_data-1, the_data-2, the_data-3, the_data-4, the_data-5, the_data-6}
 use Rattle.core_ir.specs.declared.tree.PartedOp.{PartedOp}
 use Rattle.core_ir.specs.Terms.{PlainTerm, BlockTerm, RightTerm, LetTerm, PartsTerm, PartTerm, Gives, Bind, Plain, NoParts, Part, Parted, chain, parts_of}
-use Rattle.core_ir.specs.Scopes.{plain_uses, parted_uses}
+use Rattle.core_ir.specs.Scopes.{plain_uses}
 use Rattle.core_ir.specs.Uses.{AvoidsAll, Avoids, AvoidsParts, AvoidsRight}
 use Rattle.core_ir.specs.View.{let_term, part_term}
 use Rattle.core_facts.specs.Facts.{Facts, in_part, note_all, right_facts}
 use Rattle.core_loops.specs.Indices.{IndexFacts, learn_index, note_others, offset_of, own_index}
-use Rattle.core_loops.specs.Pairs.{Producer, AvoidsLets, IsFoldable, PartFolds, PartsFold, offsets, offsets_right, plain_offsets}
+use Rattle.core_loops.specs.Pairs.{Producer, PartsFold, offsets, offsets_right, plain_offsets}
 use Rattle.core_loops.specs.Steps.{facts_after}
 use Rattle.foldable_pairs.specs.declared.producer.Producer.{Producer as Source}
 use Rattle.foldable_pairs.specs.Pairs.{CanProduce, producer_of, IsNear, IsPlanned, Takes}
@@ -25,8 +24,8 @@ use Rattle.fold_laws.specs.Made.{FoldMade, FoldMadeOf}
 use Rattle.fold_walk.specs.Left.{IsNearProducer, IsPairAt, NoPairAt}
 use Rattle.fold_walk.specs.Making.{CannotTake, GetsMany}
 use Rattle.fold_walk.specs.Pairing.{BindsLoop, BindsNoLoop, IsSoleUser, loop_let}
-use Rattle.fold_walk.specs.Walking.{State, facts_behind, ConsumerMade, FirstFolded, FoldedHere, NoConsumer}
-use Rattle.fold_walk.proofs.Consumers.{bound_let, same_list, same_op, same_parts}
+use Rattle.fold_walk.specs.Walking.{State, facts_behind, ConsumerMade, FirstFolded, NoConsumer}
+use Rattle.fold_walk.proofs.Consumers.{bound_let}
 use Rattle.fold_walk.proofs.Firsts.{Behind, after_is, avoids_lets, behind, chain_avoids, reverse_lets, same_user, user_at}
 
 -- ---- a pair that was folded

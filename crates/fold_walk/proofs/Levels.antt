@@ -1,8 +1,7 @@
 -- The pairs that are bound in one block, one producer after another.
-use Rattle.std.proofs.Common.{◌≡◌, ℕ, zero, suc, ◌+◌, ◌-◌, ◌≤◌, ◌<◌, List, [], ◌∷◌, ◌++◌, map, length, get_or, drop, reverse, Option, Some, None, refl, sym, ap, subst, ◌∙◌, append_assoc, append-nil, arith}
+use Rattle.std.proofs.Common.{◌≡◌, ℕ, zero, suc, ◌+◌, ◌≤◌, ◌<◌, List, [], ◌∷◌, ◌++◌, map, length, get_or, drop, reverse, Option, Some, None, refl, sym, ap, subst, ◌∙◌, append-nil, arith}
 use Rattle.std.proofs.lemmas.List.{length-append, reverse-append, reverse-reverse}
 use Rattle.std.specs.Prelude.{IfNone, IfSome, slice_set}
-use Rattle.sac_base.specs.declared.site.Site.{Site}
 use Rattle.core_ir.specs.declared.tree.Var.{Var}
 use Rattle.core_ir.specs.declared.tree.Let.{Let}
 use Rattle.core_ir.specs.declared.tree.Block.{Block, Block-F, out-Block, roll-Block}
@@ -15,12 +14,11 @@ use Rattle.core_facts.specs.Facts.{Facts, note_all, right_facts}
 use Rattle.core_loops.specs.Steps.{facts_after}
 use Rattle.fact_table.specs.Notes.{Note}
 use Rattle.fact_table.specs.Table.{facts_of}
-use Rattle.fold_walk.specs.declared.state.Fold.{Fold}
 use Rattle.fold_walk.specs.Left.{EachBegun, EachBinding, NoPairAt}
-use Rattle.fold_walk.specs.Walking.{State, BlockWalked, FirstFolded, FoldedHere, LevelFolded, TurnFolded, TurnKept, Walked, stays, goes}
+use Rattle.fold_walk.specs.Walking.{State, BlockWalked, FirstFolded, LevelFolded, TurnFolded, TurnKept, Walked, stays, goes}
 use Rattle.fold_walk.proofs.Firsts.{bindings_in, bindings_of, chain_both}
 use Rattle.fold_walk.proofs.Learned.{reverse_cons}
-use Rattle.fold_walk.proofs.Walking.{EachInner, Going, after_snoc, chain_snoc, join, map_snoc, one_more, quiet, rises, still, through}
+use Rattle.fold_walk.proofs.Walking.{EachInner, Going, after_snoc, chain_snoc, join, map_snoc, quiet, rises, still, through}
 
 -- ---- lists the other way round
 

@@ -1,17 +1,14 @@
-use Rattle.std.proofs.Common.{◌≡◌, ◌↔◌, ◌∙◌, IsTrue, List, Bool, true, false, ℕ, map, refl, sym, subst}
-use Rattle.std.specs.Prelude.{slice_get, IfNone, IfSome, Option, Some}
+use Rattle.std.proofs.Common.{◌≡◌, ◌↔◌, ◌∙◌, IsTrue, List, Bool, true, false, map, sym, subst}
+use Rattle.std.specs.Prelude.{slice_get, IfNone, IfSome, Some}
 use Rattle.core_ir.specs.declared.tree.CorePart.{CorePart}
-use Rattle.core_ir.specs.declared.tree.Let.{Let}
 use Rattle.core_ir.specs.declared.tree.PartedLoop.{out-PartedLoop}
 use Rattle.core_ir.specs.Terms.{LetTerm}
 use Rattle.core_ir.specs.View.{let_term}
-use Rattle.core_facts.specs.Facts.{Facts}
 use Rattle.fact_table.specs.Notes.{Note}
 use Rattle.fact_table.specs.Table.{facts_of}
 use Rattle.foldable_pairs.specs.Pairs.{CanProduce}
 use Rattle.foldable_pairs.specs.Parts.{terms}
 use Rattle.plain_facts.specs.Called.{shapes_of}
-use Rattle.fold_walk.specs.Pairing.{IsSoleUser}
 use Rattle.fold_walk.specs.Walking.{facts_behind, state_of, ConsumerMade, NoConsumer}
 use Rattle.fold_walk.proofs.Folds.{first_some, no_can, no_loop_first, no_user, none_taken}
 use Rattle.fold_walk.proofs.level.fold_first.Goals as goal
