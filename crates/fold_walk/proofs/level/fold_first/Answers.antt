@@ -51,7 +51,7 @@ returns-in-Some-2-clause-some c =
     let q = state_of c.fold_at.new.folding in
     let source = c.source_of-producer.ensures in
     let made = subst (λ (t : List Note). IfSome c.in_ok-new.field-0 (λ n. (u : LetTerm) → slice_get lets place ≡ Some u → ConsumerMade called given.function (facts_behind called l lets place (facts_of t)) p q c.source_of-producer.result u (let_term n)))
-            c.in_ok-can_produce.ensures.facts c.in_ok-new.ensures.some in
+    c.in_ok-can_produce.ensures.facts c.in_ok-new.ensures.some in
     first_some called given.function k p q l c.args.results.now c.in-Some.var loop c.in-Some.ensures.some lets place c.in-Some-sole_user.ensures.some c.source_of-producer.result c.in_ok-new.field-0
     c.in-Some-2.new c.in-Some-2.is made source.var source.frame source.parts (can.0 c.if-not-branch.false)
 
@@ -67,5 +67,5 @@ returns-in-None-clause-none c =
     let above = c.args.folding.now.progress.next in
     let source = c.source_of-producer.ensures in
     let none = subst (λ (t : List Note). IfNone c.in_ok-new.field-0 ((u : LetTerm) → slice_get lets place ≡ Some u → NoConsumer called given.function (facts_behind called l lets place (facts_of t)) above c.source_of-producer.result u))
-            c.in_ok-can_produce.ensures.facts c.in_ok-new.ensures.none in
+    c.in_ok-can_produce.ensures.facts c.in_ok-new.ensures.none in
     none_taken called given.function above k l lets c.args.results.now c.in-Some.var loop c.in-Some.ensures.some place c.in-Some-sole_user.ensures.some c.source_of-producer.result c.in_ok-new.field-0 c.in-None.is none source.var source.frame source.parts
