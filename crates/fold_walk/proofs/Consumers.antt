@@ -1,5 +1,5 @@
 -- A consumer that gets other parts, by the fields of its binding.
-use Rattle.std.proofs.Common.{◌≡◌, ℕ, suc, ◌+◌, ◌<◌, ◌≤◌, ◌^◌, Bool, true, false, List, [], ◌∷◌, ◌++◌, map, length, Option, Some, None, refl, sym, ap, subst, ◌∙◌, arith}
+use Rattle.std.proofs.Common.{◌≡◌, ℕ, suc, ◌+◌, ◌<◌, ◌≤◌, ◌^◌, List, [], ◌∷◌, ◌++◌, map, length, Option, refl, sym, ap, subst, ◌∙◌, arith}
 use Rattle.std.specs.Prelude.{Vec}
 use Rattle.std.specs.declared.alloc.Global.{Global}
 use Rattle.sac_base.specs.declared.base.Base.{Base}
@@ -19,7 +19,7 @@ use Rattle.foldable_pairs.specs.declared.producer.Producer.{Producer as Source}
 use Rattle.foldable_pairs.specs.Pairs.{producer_of, IsNear, IsPlanned, PartsPlanned, Takes}
 use Rattle.folded_parts.specs.Making.{PiecesMade}
 use Rattle.fold_walk.specs.Walking.{ConsumerMade, NoConsumer, State}
-use Rattle.fold_walk.specs.Making.{AllDue, AllMade, CannotTake, GetsMany, PieceVec, PiecesPlanned, due_count, piece_count}
+use Rattle.fold_walk.specs.Making.{AllDue, AllMade, CannotTake, PieceVec, PiecesPlanned, piece_count}
 use Rattle.fold_walk.specs.Pairing.{BindsLoop, BindsNoLoop, loop_let, loop_with}
 use Rattle.fold_walk.proofs.Gathering.{due_counted, due_lengths, parts_made}
 

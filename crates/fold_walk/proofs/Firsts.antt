@@ -1,14 +1,10 @@
 -- A producer and what stands behind it in its block.
-use Rattle.std.proofs.Common.{◌≡◌, ℕ, zero, suc, ◌+◌, ◌<◌, ◌≤◌, ◌^◌, Bool, true, false, eqb, List, [], ◌∷◌, ◌++◌, map, length, drop, get_or, reverse, Option, Some, None, refl, sym, ap, subst, ◌∙◌, inl, inr, append_assoc, append-nil, arith, ℤ}
+use Rattle.std.proofs.Common.{◌≡◌, ℕ, zero, suc, ◌+◌, ◌<◌, List, [], ◌∷◌, ◌++◌, map, length, drop, get_or, reverse, Option, Some, refl, sym, ap, subst, ◌∙◌, append-nil, arith}
 use Rattle.std.specs.Prelude.{slice_get, unwrap_or}
-use Rattle.std.proofs.lemmas.List.{reverse-append, reverse-reverse, length-append}
-use Rattle.sac_base.specs.declared.base.Base.{Base}
-use Rattle.sac_base.specs.declared.grid.Grid1.{Grid1}
-use Rattle.sac_base.specs.declared.site.Site.{Site}
+use Rattle.std.proofs.lemmas.List.{length-append}
 use Rattle.core_ir.specs.declared.tree.Var.{Var}
 use Rattle.core_ir.specs.declared.tree.Let.{Let}
-use Rattle.core_ir.specs.declared.tree.PartedOp.{PartedOp}
-use Rattle.core_ir.specs.Terms.{BlockTerm, RightTerm, LetTerm, PartsTerm, PartTerm, Gives, Bind, Plain, Parted, chain, parts_of}
+use Rattle.core_ir.specs.Terms.{BlockTerm, LetTerm, Gives, Bind, chain}
 use Rattle.core_ir.specs.Uses.{AvoidsAll, Avoids, AvoidsRight}
 use Rattle.core_ir.specs.View.{let_term}
 use Rattle.core_loops.specs.Pairs.{AvoidsLets}

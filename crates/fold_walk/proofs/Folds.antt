@@ -1,10 +1,9 @@
 -- The fold of a pair whose producer is the first binding.
-use Rattle.std.proofs.Common.{◌≡◌, ◌↔◌, IsTrue, ℕ, zero, suc, ◌+◌, ◌<◌, ◌≤◌, ◌^◌, Bool, true, false, eqb, cond, List, [], ◌∷◌, ◌++◌, map, length, drop, get_or, reverse, Option, Some, None, refl, sym, ap, subst, ◌∙◌, inl, inr, append_assoc, append-nil, arith, ℤ}
-use Rattle.std.specs.Prelude.{slice_get, unwrap_or}
-use Rattle.std.proofs.lemmas.List.{reverse-append, reverse-reverse, length-reverse}
+use Rattle.std.proofs.Common.{◌≡◌, ℕ, ◌+◌, ◌<◌, cond, List, [], ◌∷◌, ◌++◌, map, length, drop, get_or, reverse, Option, Some, None, refl, sym, ap, subst, ◌∙◌, append_assoc, arith, ℤ}
+use Rattle.std.specs.Prelude.{IfNone, IfSome, slice_get}
+use Rattle.std.proofs.lemmas.List.{reverse-append, reverse-reverse}
 use Rattle.sac_base.specs.declared.base.Base.{Base}
 use Rattle.sac_base.specs.declared.grid.Grid1.{Grid1}
-use Rattle.sac_base.specs.declared.site.Site.{Site}
 use Rattle.core_ir.specs.declared.tree.Var.{Var}
 use Rattle.core_ir.specs.declared.tree.CorePart.{CorePart}
 use Rattle.core_ir.specs.declared.tree.Let.{Let}
@@ -12,12 +11,12 @@ use Rattle.core_ir.specs.declared.tree.PartedLoop.{PartedLoop, PartedLoop-F, out
 use Rattle.core_ir.specs.declared.tree.Right.TheBlock.{the_data, the_data-1, the_data-2, the_data-3, the_data-4, the_data-5, the_data-6}
 use Rattle.core_ir.specs.declared.tree.PartedOp.{PartedOp}
 use Rattle.core_ir.specs.Terms.{PlainTerm, BlockTerm, RightTerm, LetTerm, PartsTerm, PartTerm, Gives, Bind, Plain, NoParts, Part, Parted, chain, parts_of}
-use Rattle.core_ir.specs.Scopes.{plain_uses, parted_uses}
+use Rattle.core_ir.specs.Scopes.{plain_uses}
 use Rattle.core_ir.specs.Uses.{AvoidsAll, Avoids, AvoidsParts, AvoidsRight}
 use Rattle.core_ir.specs.View.{let_term, part_term}
 use Rattle.core_facts.specs.Facts.{Facts, in_part, note_all, right_facts}
 use Rattle.core_loops.specs.Indices.{IndexFacts, learn_index, note_others, offset_of, own_index}
-use Rattle.core_loops.specs.Pairs.{Producer, AvoidsLets, IsFoldable, PartFolds, PartsFold, offsets, offsets_right, plain_offsets}
+use Rattle.core_loops.specs.Pairs.{Producer, PartsFold, offsets, offsets_right, plain_offsets}
 use Rattle.core_loops.specs.Steps.{facts_after}
 use Rattle.foldable_pairs.specs.declared.producer.Producer.{Producer as Source}
 use Rattle.foldable_pairs.specs.Pairs.{CanProduce, producer_of, IsNear, IsPlanned, Takes}
@@ -25,8 +24,8 @@ use Rattle.fold_laws.specs.Made.{FoldMade, FoldMadeOf}
 use Rattle.fold_walk.specs.Left.{IsNearProducer, IsPairAt, NoPairAt}
 use Rattle.fold_walk.specs.Making.{CannotTake, GetsMany}
 use Rattle.fold_walk.specs.Pairing.{BindsLoop, BindsNoLoop, IsSoleUser, loop_let}
-use Rattle.fold_walk.specs.Walking.{State, facts_behind, ConsumerMade, FirstFolded, FoldedHere, NoConsumer}
-use Rattle.fold_walk.proofs.Consumers.{bound_let, same_list, same_op, same_parts}
+use Rattle.fold_walk.specs.Walking.{State, facts_behind, ConsumerMade, FirstFolded, NoConsumer}
+use Rattle.fold_walk.proofs.Consumers.{bound_let}
 use Rattle.fold_walk.proofs.Firsts.{Behind, after_is, avoids_lets, behind, chain_avoids, reverse_lets, same_user, user_at}
 
 -- ---- a pair that was folded
@@ -107,6 +106,17 @@ module _ (called : ℕ → List (Option (List ℕ))) (function : ℕ) (k : Facts
     first_at var frame parts can h is =
         first_folded var frame parts can (is ∙ (λ i. facts_after called (reverse (after_is x behind_lets rs place user i)) (note_all k l.targets (right_facts called l.right k))))
         (subst (λ (f : Facts). ConsumerMade called function f p q source user.user new) (sym is) (h user.user (user_at x behind_lets rs place user)))
+
+-- the same by what was found
+pub first_some :
+    (called : ℕ → List (Option (List ℕ))) (function : ℕ) (k : Facts) (p q : State) (l : LetTerm) (rs : List Var) (x : Var) (loop : PartedLoop) (bound : BindsLoop l x loop) (lets : List LetTerm) (place : ℕ)
+    (user : IsSoleUser x lets rs place) (source : Source) (found : Option Let) (new : Let) → found ≡ Some new →
+    IfSome found (λ n. (u : LetTerm) → slice_get lets place ≡ Some u → ConsumerMade called function (facts_behind called l lets place k) p q source u (let_term n)) → source.var ≡ x →
+    source.frame.now ≡ (out-PartedLoop loop).frame → source.parts.now ≡ (out-PartedLoop loop).parts.items → CanProduce called k (out-PartedLoop loop).op (parts_of (map part_term (out-PartedLoop loop).parts.items)) →
+    FirstFolded called function k p q l lets rs place (let_term new)
+first_some called function k p q l rs x loop bound lets place user source found new e h var frame parts can =
+    first_at called function k p q l rs x loop bound lets place user source (facts_behind called l lets place k) (let_term new) var frame parts can
+    (subst (λ (o : Option Let). IfSome o (λ n. (u : LetTerm) → slice_get lets place ≡ Some u → ConsumerMade called function (facts_behind called l lets place k) p q source u (let_term n))) e h) refl
 
 -- ---- where there is no fold
 
@@ -192,7 +202,7 @@ module _ (called : ℕ → List (Option (List ℕ))) (above : ℕ) (k : Facts) (
   unfolding rest_of
   same_rest = ap rest_of h.before
 
-  parted_at : Behind (reverse behind_lets) h.between user_let rs h.rest
+  pub parted_at : Behind (reverse behind_lets) h.between user_let rs h.rest
   parted_at = behind (reverse behind_lets) h.between user_let rs h.rest same_rest
 
   -- the consumer is the one user of the producer
@@ -211,6 +221,10 @@ module _ (called : ℕ → List (Option (List ℕ))) (above : ℕ) (k : Facts) (
         others = (reverse_lets q.var tail end.0, reverse_lets q.var h.between h.foldable.before);
         unreturned = end.1;
       }
+
+  pub sole_is : (sole.user ≡ user_let) × (sole.after ≡ reverse h.between)
+  unfolding sole
+  sole_is = (refl, refl)
 
   pub can : CanProduce called k q.op q.parts
   can = record { makes = h.foldable.makes; total = h.foldable.total }
@@ -245,6 +259,11 @@ producer_in d l = record { var = get_or l.targets 0 d.var; site = l.site; frame 
 same_producer : (p q : Producer) → loop_of p ≡ loop_of q → p ≡ q
 unfolding producer_in frame_in base_in op_in parts_in
 same_producer p q e = ap (producer_in p) e
+
+-- the one user of a variable under two names
+one_user : (y z : Var) (lets : List LetTerm) (rs : List Var) (m n : ℕ) (g : IsSoleUser y lets rs n) → y ≡ z → (u : IsSoleUser z lets rs m) → (g.user ≡ u.user) × (g.after ≡ u.after)
+one_user y z lets rs m n g e =
+    subst (λ (w : Var). (u : IsSoleUser w lets rs m) → (g.user ≡ u.user) × (g.after ≡ u.after)) e (λ u. let s = same_user y lets rs n m g u in (s.1, s.2))
 
 module _ (called : ℕ → List (Option (List ℕ))) (function : ℕ) (above : ℕ) (k : Facts) (l : LetTerm) (behind_lets : List LetTerm) (rs : List Var) (x : Var) (loop : PartedLoop) (bound : BindsLoop l x loop) where
   abbrev the_loop : PartedLoop-F the_data the_data-1 the_data-2 the_data-3 the_data-4 the_data-5 the_data-6
@@ -284,14 +303,14 @@ module _ (called : ℕ → List (Option (List ℕ))) (function : ℕ) (above : �
         let tail = (parted_at called above k l behind_lets rs h).tail in
         let mine = sole called above k l behind_lets rs h in
         let mine_at = length (reverse tail) in
-        let here : IsSoleUser h.producer.var behind_lets rs behind_place = subst (λ (p : Producer). IsSoleUser p.var behind_lets rs behind_place) (sym (who h)) user in
-        let alike = same_user h.producer.var behind_lets rs behind_place mine_at here mine in
-        let between : drop (behind_place + 1) behind_lets ≡ reverse h.between = after_is h.producer.var behind_lets rs behind_place here ∙ alike.2 in
+        let is = sole_is called above k l behind_lets rs h in
+        let alike = one_user h.producer.var x behind_lets rs behind_place mine_at mine (ap (λ (p : Producer). p.var) (who h)) user in
+        let between : drop (behind_place + 1) behind_lets ≡ reverse h.between = after_is x behind_lets rs behind_place user ∙ sym alike.1 ∙ is.1 in
         let later : facts_behind called l behind_lets behind_place k ≡ h.later =
         (λ i. facts_after called (reverse (between i)) (note_all k l.targets (right_facts called l.right k)))
         ∙ (λ i. facts_after called (reverse-reverse h.between i) (note_all k l.targets (right_facts called l.right k)))
         ∙ (λ i. facts_after called h.between (note_all k (same_first called above k l behind_lets rs h i).targets (right_facts called (same_first called above k l behind_lets rs h i).right k))) ∙ sym h.known in
-        let user_is : user.user ≡ loop_let h.consumer h.site h.frame h.base h.op (parts_of h.old) = alike.1 in
+        let user_is : user.user ≡ loop_let h.consumer h.site h.frame h.base h.op (parts_of h.old) = sym alike.0 ∙ is.0 in
         let cannot : CannotTake called (facts_behind called l behind_lets behind_place k) source h.op h.old =
         none h.consumer h.site h.frame h.base h.op h.old user_is h.foldable.numbers in
         let near_it : IsNear source = near_source (subst IsNearProducer (who h) near) in
@@ -303,3 +322,13 @@ module _ (called : ℕ → List (Option (List ℕ))) (function : ℕ) (above : �
 
     pub no_taker : ((u : LetTerm) → slice_get behind_lets behind_place ≡ Some u → NoConsumer called function (facts_behind called l behind_lets behind_place k) above source u) → NoPairAt called above k (Bind l.targets l.site l.right (chain (reverse behind_lets) (Gives rs)))
     no_taker h = no_taking (h user.user (user_at x behind_lets rs behind_place user))
+
+-- the same by what was found
+pub none_taken :
+    (called : ℕ → List (Option (List ℕ))) (function : ℕ) (above : ℕ) (k : Facts) (l : LetTerm) (lets : List LetTerm) (rs : List Var) (x : Var) (loop : PartedLoop) (bound : BindsLoop l x loop) (place : ℕ)
+    (user : IsSoleUser x lets rs place) (source : Source) (found : Option Let) → found ≡ None →
+    IfNone found ((u : LetTerm) → slice_get lets place ≡ Some u → NoConsumer called function (facts_behind called l lets place k) above source u) → source.var ≡ x →
+    source.frame.now ≡ (out-PartedLoop loop).frame → source.parts.now ≡ (out-PartedLoop loop).parts.items → NoPairAt called above k (Bind l.targets l.site l.right (chain (reverse lets) (Gives rs)))
+none_taken called function above k l lets rs x loop bound place user source found e h var frame parts =
+    no_taker called function above k l lets rs x loop bound place user source var frame parts
+    (subst (λ (o : Option Let). IfNone o ((u : LetTerm) → slice_get lets place ≡ Some u → NoConsumer called function (facts_behind called l lets place k) above source u)) e h)

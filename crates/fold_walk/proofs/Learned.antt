@@ -1,10 +1,10 @@
 -- What is known behind bindings.
-use Rattle.std.proofs.Common.{◌≡◌, ℕ, ◌+◌, ◌<◌, ◌≤◌, List, [], ◌∷◌, ◌++◌, map, length, drop, get_or, Option, refl, sym, ap, subst, ◌∙◌, ◌-◌, reverse, arith}
+use Rattle.std.proofs.Common.{◌≡◌, ℕ, ◌+◌, ◌<◌, ◌≤◌, List, [], ◌∷◌, ◌++◌, map, length, drop, get_or, Option, refl, sym, ap, ◌∙◌, ◌-◌, reverse, arith}
 use Rattle.std.proofs.lemmas.List.{drop_more, drop_all, reverse-append}
 use Rattle.core_ir.specs.declared.tree.Var.{Var}
 use Rattle.core_ir.specs.declared.tree.Let.{Let}
 use Rattle.core_ir.specs.declared.tree.Block.{Block, out-Block}
-use Rattle.core_ir.specs.Terms.{BlockTerm, LetTerm, Gives, chain}
+use Rattle.core_ir.specs.Terms.{LetTerm, Gives, chain}
 use Rattle.core_ir.specs.View.{block_term, let_term}
 use Rattle.core_ir.proofs.Trees.{block_out}
 use Rattle.core_facts.specs.Facts.{Fact, Facts, block_facts, note_all, right_facts}

@@ -1,8 +1,7 @@
 -- The pairs that are bound in one block, one producer after another.
-use Rattle.std.proofs.Common.{◌≡◌, ℕ, zero, suc, ◌+◌, ◌-◌, ◌≤◌, ◌<◌, List, [], ◌∷◌, ◌++◌, map, length, get_or, drop, reverse, Option, Some, refl, sym, ap, subst, ◌∙◌, append_assoc, append-nil, arith}
+use Rattle.std.proofs.Common.{◌≡◌, ℕ, zero, suc, ◌+◌, ◌≤◌, ◌<◌, List, [], ◌∷◌, ◌++◌, map, length, get_or, drop, reverse, Option, Some, None, refl, sym, ap, subst, ◌∙◌, append-nil, arith}
 use Rattle.std.proofs.lemmas.List.{length-append, reverse-append, reverse-reverse}
-use Rattle.std.specs.Prelude.{slice_set}
-use Rattle.sac_base.specs.declared.site.Site.{Site}
+use Rattle.std.specs.Prelude.{IfNone, IfSome, slice_set}
 use Rattle.core_ir.specs.declared.tree.Var.{Var}
 use Rattle.core_ir.specs.declared.tree.Let.{Let}
 use Rattle.core_ir.specs.declared.tree.Block.{Block, Block-F, out-Block, roll-Block}
@@ -13,12 +12,13 @@ use Rattle.core_ir.specs.View.{block_term, let_term}
 use Rattle.core_ir.proofs.Trees.{block_out, block_roll}
 use Rattle.core_facts.specs.Facts.{Facts, note_all, right_facts}
 use Rattle.core_loops.specs.Steps.{facts_after}
-use Rattle.fold_walk.specs.declared.state.Fold.{Fold}
+use Rattle.fact_table.specs.Notes.{Note}
+use Rattle.fact_table.specs.Table.{facts_of}
 use Rattle.fold_walk.specs.Left.{EachBegun, EachBinding, NoPairAt}
-use Rattle.fold_walk.specs.Walking.{State, BlockWalked, FirstFolded, FoldedHere, LevelFolded, Walked, stays, goes}
+use Rattle.fold_walk.specs.Walking.{State, BlockWalked, FirstFolded, LevelFolded, TurnFolded, TurnKept, Walked, stays, goes}
 use Rattle.fold_walk.proofs.Firsts.{bindings_in, bindings_of, chain_both}
 use Rattle.fold_walk.proofs.Learned.{reverse_cons}
-use Rattle.fold_walk.proofs.Walking.{EachInner, Going, after_snoc, chain_snoc, join, map_snoc, one_more, quiet, rises, still, through}
+use Rattle.fold_walk.proofs.Walking.{EachInner, Going, after_snoc, chain_snoc, join, map_snoc, quiet, rises, still, through}
 
 -- ---- lists the other way round
 
@@ -43,6 +43,18 @@ set_here (l ∷ ls) zero new (b ∷ before) after user e p = absurd (omega (arit
 set_here (l ∷ ls) (suc place) new (b ∷ before) after user e p =
     let first : let_term l ≡ b = ap (λ (k : List LetTerm). get_or k 0 b) e in
     λ i. first i ∷ set_here ls place new before after user (ap (drop 1) e) (omega (arith, p)) i
+
+-- its place lies inside
+within : (ls : List Let) (place : ℕ) (before after : List LetTerm) (user : LetTerm) → map let_term ls ≡ before ++ (user ∷ after) → length before ≡ place → place < length ls
+within ls place before after user e p =
+    less (length before) place (length after) (length ls) p (sym (count ls) ∙ ap length e ∙ length-append before (user ∷ after))
+  where
+    less : (b p a n : ℕ) → b ≡ p → n ≡ b + suc a → p < n
+    less b p a n e f = omega (arith, e, f)
+
+    count : (xs : List Let) → length (map let_term xs) ≡ length xs
+    count [] = refl
+    count (x ∷ xs) = ap suc (count xs)
 
 turned : (before after : List LetTerm) (user : LetTerm) (end : BlockTerm) → chain (reverse (before ++ (user ∷ after))) end ≡ chain (reverse after) (Bind user.targets user.site user.right (chain (reverse before) end))
 turned before after user end =
@@ -110,6 +122,34 @@ module _ (called : ℕ → List (Option (List ℕ))) (function : ℕ) (k : Facts
 
       more : (a b c : ℕ) → a ≤ b → c ≡ b + 1 → c ≡ a → ⊥
       more a b c h e f = omega (arith, h, e, f)
+
+  -- one turn: what was found, by the slice of what is left, and what was done with it
+  pub level_turn :
+      (lets : List LetTerm) (q r : State) (done done' behind rest rest' slice : List Let) (x : Let) (old notes notes' : List Note) (found : Option (ℕ × Let)) → Level lets (facts_of old) q done behind → behind ≡ rest ++ (x ∷ []) → slice ≡ rest → notes ≡ old →
+      IfSome found (λ n. FirstFolded called function (facts_of old) q r (let_term x) (map let_term slice) rs n.0 (let_term n.1)) → IfNone found (r ≡ q) →
+      IfNone found (NoPairAt called q.next (facts_of old) (chain (let_term x ∷ reverse (map let_term slice)) end)) → IfSome found (λ n. TurnFolded rest rest' done done' notes notes' n.0 n.1) →
+      IfNone found (TurnKept called x rest rest' done done' (facts_of notes) (facts_of notes')) → Level lets (facts_of notes') r done' rest'
+  level_turn lets q r done done' behind rest rest' slice x old notes notes' None v b s t some stay none folded kept =
+      let l = let_term x in
+      let learned = kept.known ∙ (λ i. note_all (facts_of (t i)) l.targets (right_facts called l.right (facts_of (t i)))) in
+      let here = subst (λ (ls : List Let). NoPairAt called q.next (facts_of old) (chain (l ∷ reverse (map let_term ls)) end)) s none in
+      subst (λ (ls : List Let). Level lets (facts_of notes') r done' ls) (sym kept.behind)
+      (subst (λ (m : State). Level lets (facts_of notes') m done' rest) (sym stay) (level_past lets (facts_of old) (facts_of notes') q done done' behind rest x v b kept.done learned here))
+  level_turn lets q r done done' behind rest rest' slice x old notes notes' (Some n) v b s t some stay none folded kept =
+      subst (λ (ls : List Let). Level lets (facts_of notes') r ls rest') (sym folded.done)
+      (subst (λ (m : List Note). Level lets (facts_of m) r done rest') (sym (folded.table ∙ t))
+      (level_folded lets (facts_of old) q r done behind rest rest' x n.1 n.0 v b folded.behind
+      (subst (λ (ls : List Let). FirstFolded called function (facts_of old) q r (let_term x) (map let_term ls) rs n.0 (let_term n.1)) s some)))
+
+  -- the place of a consumer lies inside of what is left
+  pub turn_inside :
+      (now : Facts) (q r : State) (rest slice : List Let) (x : Let) (len : ℕ) (found : Option (ℕ × Let)) → slice ≡ rest → len ≡ length rest →
+      IfSome found (λ n. FirstFolded called function now q r (let_term x) (map let_term slice) rs n.0 (let_term n.1)) → IfSome found (λ n. n.0 < len)
+  turn_inside now q r rest slice x len None s e f = tt
+  turn_inside now q r rest slice x len (Some n) s e f = below n.0 (length slice) len (within slice n.0 f.before f.after f.user f.whole f.at) (e ∙ ap (λ (ls : List Let). length ls) (sym s))
+    where
+      below : (a b m : ℕ) → a < b → m ≡ b → a < m
+      below a b m h e = omega (arith, h, e)
 
   pub level_end : (lets : List LetTerm) (now : Facts) (q : State) (done behind : List Let) → Level lets now q done behind → behind ≡ [] → LevelFolded called function k p q lets (map let_term done) rs
   level_end lets now q done behind v e = record {

@@ -1,5 +1,5 @@
 -- Walks that fold pairs: within a larger term, one after another, and those that fold none.
-use Rattle.std.proofs.Common.{◌≡◌, ℕ, suc, ◌+◌, ◌≤◌, List, [], ◌∷◌, ◌++◌, map, length, Option, refl, sym, ap, subst, ◌∙◌, append-nil, arith}
+use Rattle.std.proofs.Common.{◌≡◌, ℕ, suc, ◌+◌, ◌≤◌, List, [], ◌∷◌, ◌++◌, map, length, Option, refl, sym, ap, subst, ◌∙◌, arith}
 use Rattle.std.proofs.lemmas.List.{length-append}
 use Rattle.sac_base.specs.declared.base.Base.{Base}
 use Rattle.sac_base.specs.declared.base.Base.TheVariants.{Int}
@@ -20,7 +20,7 @@ use Rattle.core_facts.specs.Facts.{Facts, note_all, right_facts, in_part}
 use Rattle.core_loops.specs.Steps.{fact_ways, facts_after}
 use Rattle.fold_walk.specs.declared.state.Fold.{Fold}
 use Rattle.fold_walk.specs.Left.{EachBinding, EachInRight, EachInGens, EachInParts, NoPairAt}
-use Rattle.fold_walk.specs.Walking.{State, FoldedHere, Walked, stays, goes, BlockWalked, RightWalked, LetWalked, GensWalked, GenWalked, PartWalked, PartsWalked}
+use Rattle.fold_walk.specs.Walking.{State, FoldedHere, Walked, stays, goes, BlockWalked, RightWalked, LetWalked, GenWalked, PartWalked}
 
 -- ---- lists that grow at their end
 

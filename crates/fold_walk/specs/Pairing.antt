@@ -10,6 +10,7 @@ use Rattle.core_ir.specs.Terms.{LetTerm, PartsTerm, RightTerm, Parted}
 use Rattle.core_ir.specs.Uses.{AvoidsAll, AvoidsRight}
 use Rattle.core_ir.specs.View.{parted_term}
 use Rattle.core_loops.specs.Pairs.{AvoidsLets}
+use Rattle.foldable_pairs.specs.declared.producer.Producer.{Producer as Source}
 
 -- the binding of a variable to a parted loop of scalar cells
 pub record BindsLoop (l : LetTerm) (x : Var) (p : PartedLoop) : Type 0 where
@@ -38,3 +39,9 @@ pub record IsSoleUser (x : Var) (lets : List LetTerm) (results : List Var) (plac
   pub used : AvoidsRight x user.right → ⊥
   pub others : AvoidsLets x before × AvoidsLets x after
   pub unreturned : AvoidsAll x results
+
+-- the loop as a producer
+pub record IsSource (s : Source) (x : Var) (p : PartedLoop) : Type 0 where
+  pub var : s.var ≡ x
+  pub frame : s.frame.now ≡ (out-PartedLoop p).frame
+  pub parts : s.parts.now ≡ (out-PartedLoop p).parts.items

@@ -1,16 +1,18 @@
 -- Pairs of parted loops that are folded on one walk over a block.
-use Rattle.std.specs.Prelude.{◌≡◌, ℕ, List, [], ◌∷◌, ◌++◌, ◌+◌, ◌^◌, ◌≤◌, drop, length, map, reverse, Option}
+use Rattle.std.specs.Prelude.{◌≡◌, ℕ, List, [], ◌∷◌, ◌++◌, ◌+◌, ◌^◌, ◌≤◌, drop, length, map, reverse, slice_set, Option}
 use Rattle.sac_base.specs.declared.base.Base.{Base}
 use Rattle.sac_base.specs.declared.grid.Grid1.{Grid1}
 use Rattle.sac_base.specs.declared.site.Site.{Site}
 use Rattle.core_ir.specs.declared.tree.Var.{Var}
+use Rattle.core_ir.specs.declared.tree.Let.{Let}
 use Rattle.core_ir.specs.declared.tree.CoreOp.{CoreOp}
 use Rattle.core_ir.specs.declared.tree.PartedOp.{PartedOp}
 use Rattle.core_ir.specs.Edits.{Edited}
 use Rattle.core_ir.specs.Terms.{BlockTerm, RightTerm, GensTerm, PartsTerm, LetTerm, GenTerm, PartTerm, Gives, Gives, Bind, With, Parted, chain, parts_of}
 use Rattle.core_facts.specs.Facts.{Facts, note_all, right_facts, in_part}
 use Rattle.core_loops.specs.Steps.{fact_ways, facts_after}
-use Rattle.core_ir.specs.View.{part_term}
+use Rattle.core_ir.specs.View.{let_term, part_term}
+use Rattle.fact_table.specs.Notes.{Note}
 use Rattle.foldable_pairs.specs.declared.plan.PartPlan.{PartPlan}
 use Rattle.foldable_pairs.specs.declared.producer.Producer.{Producer as Source}
 use Rattle.foldable_pairs.specs.Pairs.{producer_of, IsPlanned}
@@ -120,3 +122,15 @@ module _ (called : ℕ → List (Option (List ℕ))) (function : ℕ) where
   pub record LevelFolded (k : Facts) (p q : State) (lets new : List LetTerm) (results : List Var) : Type 0 where
     pub walked : Walked k p q (chain lets (Gives results)) (chain new (Gives results))
     pub none : q.folds ≡ p.folds → EachBegun called (NoPairAt called p.next) lets (Gives results) k
+
+-- one turn over the bindings of a block, of which those that are left come last first: a binding in the place of another
+pub record TurnFolded (left left' passed passed' : List Let) (notes notes' : List Note) (place : ℕ) (new : Let) : Type 0 where
+  pub behind : left' ≡ slice_set left place new
+  pub done : passed' ≡ passed
+  pub table : notes' ≡ notes
+
+-- or a binding more that is done
+pub record TurnKept (called : ℕ → List (Option (List ℕ))) (binding : Let) (left left' passed passed' : List Let) (k m : Facts) : Type 0 where
+  pub behind : left' ≡ left
+  pub done : passed' ≡ passed ++ (binding ∷ [])
+  pub known : m ≡ note_all k (let_term binding).targets (right_facts called (let_term binding).right k)

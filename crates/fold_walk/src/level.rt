@@ -1,15 +1,16 @@
 //! The pairs whose loops are bound in one block.
 
-ghost use Rattle.std.specs.Prelude.{◌≡◌, ◌-◌, ◌+◌, ◌^◌, ◌<◌, ◌≤◌, [], ◌∷◌, Some, slice_get, IfOk, IfSome, IfNone, OnOk, map, drop, length, reverse as reversed};
+ghost use Rattle.std.specs.Prelude.{◌≡◌, ◌-◌, ◌+◌, ◌^◌, ◌<◌, ◌≤◌, ◌++◌, [], ◌∷◌, Some, slice_get, slice_set, vec_len, IfOk, IfSome, IfNone, OnOk, map, drop, length, reverse as reversed};
 ghost use Rattle.core_ir.specs.Terms.{Gives, LetTerm, chain};
 ghost use Rattle.core_ir.specs.View.{let_term, part_term};
+ghost use Rattle.core_facts.specs.Facts.{note_all, right_facts};
 ghost use Rattle.core_loops.specs.Steps.{facts_after};
 ghost use Rattle.fact_table.specs.Table.{facts_of};
 ghost use Rattle.plain_facts.specs.Called.{shapes_of};
 ghost use Rattle.core_ir.specs.Terms.{parts_of as parts_in};
 ghost use Rattle.fold_walk.specs.Making.{CannotTake, PiecesPlanned};
-ghost use Rattle.fold_walk.specs.Pairing.{loop_with};
-ghost use Rattle.fold_walk.specs.Walking.{facts_behind, state_of, ConsumerMade, FirstFolded, LevelFolded, NoConsumer};
+ghost use Rattle.fold_walk.specs.Pairing.{loop_with, IsSource};
+ghost use Rattle.fold_walk.specs.Walking.{facts_behind, state_of, ConsumerMade, FirstFolded, LevelFolded, NoConsumer, TurnFolded, TurnKept};
 ghost use Rattle.fold_walk.specs.Left.{NoPairAt};
 
 use crate::making::{all_parts, all_pieces, are_few};
@@ -42,15 +43,61 @@ pub fn fold_level(
     behind.reverse();
     let mut done = Vec::new(given.alloc);
     while let Some(binding) = behind.pop() {
-        match fold_first(&binding, &behind, results, given, table, folding)? {
-            Some((place, consumer)) => behind[place] = consumer,
-            None => {
-                learn_binding(given.alloc, &binding, given.called, table)?;
-                done.push(binding)?;
-            }
-        }
+        let found = fold_first(&binding, &behind, results, given, table, folding)?;
+        take_turn(binding, found, given, table, &mut behind, &mut done)?;
     }
     Ok(done)
+}
+
+/// A binding's consumer changes, or the binding stays: then it is done, and the table learns what it tells.
+fn take_turn(
+    binding: Let,
+    found: Option<(usize, Let)>,
+    given: &Given<'_>,
+    table: &mut FactTable,
+    behind: &mut Vec<Let>,
+    done: &mut Vec<Let>,
+) -> Result<(), Memory>
+    requires { IfSome found (λ new. new.0 < vec_len behind.old) }
+    ensures folded { OnOk result (IfSome found (λ new. TurnFolded behind.old.items behind.new.items done.old.items done.new.items table.old table.new new.0 new.1)) }
+    ensures kept { OnOk result (IfNone found (TurnKept (shapes_of given.now.called.now) binding behind.old.items behind.new.items done.old.items done.new.items
+        (facts_of table.old) (facts_of table.new))) }
+    ensures earlier { OnOk result (drop (length table.new - length table.old) table.new ≡ table.old) }
+    ensures count { vec_len behind.new ≡ vec_len behind.old }
+{
+    match found {
+        Some((place, consumer)) => {
+            put(behind, place, consumer);
+            Ok(())
+        }
+        None => keep(binding, given, table, done),
+    }
+}
+
+/// Puts a binding in the place of another.
+fn put(bindings: &mut Vec<Let>, place: usize, new: Let)
+    requires { place < vec_len bindings.old }
+    ensures items { bindings.new.items ≡ slice_set bindings.old.items place new }
+    ensures count { vec_len bindings.new ≡ vec_len bindings.old }
+{
+    bindings[place] = new;
+}
+
+/// The binding is done.
+fn keep(
+    binding: Let,
+    given: &Given<'_>,
+    table: &mut FactTable,
+    done: &mut Vec<Let>,
+) -> Result<(), Memory>
+    ensures done { OnOk result (done.new.items ≡ done.old.items ++ (binding ∷ [])) }
+    ensures learned { OnOk result (facts_of table.new ≡ note_all (facts_of table.old) (let_term binding).targets
+        (right_facts (shapes_of given.now.called.now) (let_term binding).right (facts_of table.old))) }
+    ensures earlier { OnOk result (drop (length table.new - length table.old) table.new ≡ table.old) }
+{
+    learn_binding(given.alloc, &binding, given.called, table)?;
+    done.push(binding)?;
+    Ok(())
 }
 
 /// The consumer of a binding's parted loop as it is after the fold, and its place among the bindings behind, the last of which comes first.
@@ -78,14 +125,21 @@ fn fold_first(
     let Some(place) = sole_user(var, behind, results) else {
         return Ok(None);
     };
-    let producer = Producer {
-        var,
-        frame: &parted.frame,
-        parts: &parted.parts,
-    };
+    let producer = source_of(var, parted);
     match fold_at(&producer, binding, behind, place, given, table, folding)? {
         Some(new) => Ok(Some((place, new))),
         None => Ok(None),
+    }
+}
+
+/// A bound loop as a producer.
+fn source_of<'a>(var: Var, parted: &'a PartedLoop) -> Producer<'a>
+    ensures { IsSource result var parted.now }
+{
+    Producer {
+        var,
+        frame: &parted.frame,
+        parts: &parted.parts,
     }
 }
 

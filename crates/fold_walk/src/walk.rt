@@ -1,13 +1,11 @@
 //! One walk over a block in which pairs of parted loops are folded, those in inner blocks first.
 
-ghost use Rattle.std.specs.Prelude.{◌≡◌, ◌-◌, IfOk, OnOk, map, drop, length};
-ghost use Rattle.core_ir.specs.Terms.{gens_of};
-ghost use Rattle.core_ir.specs.Terms.{parts_of as parts_in};
+ghost use Rattle.std.specs.Prelude.{◌≡◌, ◌-◌, IfOk, OnOk, drop, length};
 ghost use Rattle.core_ir.specs.View.{block_term, let_term, right_term, with_term, gen_term, parted_term, part_term};
 ghost use Rattle.core_facts.specs.Facts.{note_all, right_facts};
 ghost use Rattle.fact_table.specs.Table.{facts_of};
 ghost use Rattle.plain_facts.specs.Called.{shapes_of};
-ghost use Rattle.fold_walk.specs.Walking.{state_of, BlockWalked, RightWalked, LetWalked, GensWalked, GenWalked, PartsWalked, PartWalked};
+ghost use Rattle.fold_walk.specs.Walking.{state_of, BlockWalked, RightWalked, LetWalked, GenWalked, PartWalked};
 
 use crate::level::fold_level;
 use crate::state::{Folding, Given};

@@ -1,18 +1,16 @@
-use Rattle.std.proofs.Common.{◌≡◌, ◌↔◌, ◌∙◌, IsTrue, List, Bool, true, false, ℕ, map, refl, sym, subst}
-use Rattle.std.specs.Prelude.{slice_get, IfNone, IfSome, Option, Some}
+use Rattle.std.proofs.Common.{◌≡◌, ◌↔◌, ◌∙◌, IsTrue, List, Bool, true, false, map, sym, subst}
+use Rattle.std.specs.Prelude.{slice_get, IfNone, IfSome, Some}
 use Rattle.core_ir.specs.declared.tree.CorePart.{CorePart}
-use Rattle.core_ir.specs.declared.tree.Let.{Let}
 use Rattle.core_ir.specs.declared.tree.PartedLoop.{out-PartedLoop}
 use Rattle.core_ir.specs.Terms.{LetTerm}
 use Rattle.core_ir.specs.View.{let_term}
-use Rattle.core_facts.specs.Facts.{Facts}
+use Rattle.fact_table.specs.Notes.{Note}
 use Rattle.fact_table.specs.Table.{facts_of}
 use Rattle.foldable_pairs.specs.Pairs.{CanProduce}
 use Rattle.foldable_pairs.specs.Parts.{terms}
 use Rattle.plain_facts.specs.Called.{shapes_of}
-use Rattle.fold_walk.specs.Pairing.{IsSoleUser}
 use Rattle.fold_walk.specs.Walking.{facts_behind, state_of, ConsumerMade, NoConsumer}
-use Rattle.fold_walk.proofs.Folds.{first_at, no_can, no_loop_first, no_taker, no_user}
+use Rattle.fold_walk.proofs.Folds.{first_some, no_can, no_loop_first, no_user, none_taken}
 use Rattle.fold_walk.proofs.level.fold_first.Goals as goal
 
 pub returns-in_default-clause-none : goal.returns-in_default-clause-none
@@ -51,10 +49,11 @@ returns-in-Some-2-clause-some c =
     let can = subst (λ (ps : List CorePart). IsTrue b ↔ CanProduce called k op (terms ps)) c.deref.ensures.value c.in_ok-can_produce.ensures.can in
     let p = state_of c.args.folding.now in
     let q = state_of c.fold_at.new.folding in
-    let source = record { var = c.in-Some.var; frame = _; parts = c.deref-2.result } in
-    let made = subst (λ (o : Option Let). IfSome o (λ new. (u : LetTerm) → slice_get lets place ≡ Some u → ConsumerMade called given.function (facts_behind called l lets place k) p q source u (let_term new))) c.in-Some-2.is c.in_ok-new.ensures.some in
-    first_at called given.function k p q l c.args.results.now c.in-Some.var loop c.in-Some.ensures.some lets place c.in-Some-sole_user.ensures.some source (facts_behind called l lets place k) (let_term c.in-Some-2.new)
-    refl refl c.deref-2.ensures.value (can.0 c.if-not-branch.false) made refl
+    let source = c.source_of-producer.ensures in
+    let made = subst (λ (t : List Note). IfSome c.in_ok-new.field-0 (λ n. (u : LetTerm) → slice_get lets place ≡ Some u → ConsumerMade called given.function (facts_behind called l lets place (facts_of t)) p q c.source_of-producer.result u (let_term n)))
+    c.in_ok-can_produce.ensures.facts c.in_ok-new.ensures.some in
+    first_some called given.function k p q l c.args.results.now c.in-Some.var loop c.in-Some.ensures.some lets place c.in-Some-sole_user.ensures.some c.source_of-producer.result c.in_ok-new.field-0
+    c.in-Some-2.new c.in-Some-2.is made source.var source.frame source.parts (can.0 c.if-not-branch.false)
 
 pub returns-in-None-clause-none : goal.returns-in-None-clause-none
 returns-in-None-clause-none c =
@@ -66,6 +65,7 @@ returns-in-None-clause-none c =
     let loop = c.in-Some.parted.now in
     let place = c.in-Some-sole_user.place in
     let above = c.args.folding.now.progress.next in
-    let source = record { var = c.in-Some.var; frame = _; parts = c.deref-2.result } in
-    let none = subst (λ (o : Option Let). IfNone o ((u : LetTerm) → slice_get lets place ≡ Some u → NoConsumer called given.function (facts_behind called l lets place k) above source u)) c.in-None.is c.in_ok-new.ensures.none in
-    no_taker called given.function above k l lets c.args.results.now c.in-Some.var loop c.in-Some.ensures.some place c.in-Some-sole_user.ensures.some source refl refl c.deref-2.ensures.value none
+    let source = c.source_of-producer.ensures in
+    let none = subst (λ (t : List Note). IfNone c.in_ok-new.field-0 ((u : LetTerm) → slice_get lets place ≡ Some u → NoConsumer called given.function (facts_behind called l lets place (facts_of t)) above c.source_of-producer.result u))
+    c.in_ok-can_produce.ensures.facts c.in_ok-new.ensures.none in
+    none_taken called given.function above k l lets c.args.results.now c.in-Some.var loop c.in-Some.ensures.some place c.in-Some-sole_user.ensures.some c.source_of-producer.result c.in_ok-new.field-0 c.in-None.is none source.var source.frame source.parts

@@ -1,4 +1,4 @@
-use Rattle.std.proofs.Common.{◌≡◌, ◌∙◌, List, length, map, refl, sym, subst, ap}
+use Rattle.std.proofs.Common.{◌∙◌, List, length, map, sym, subst, ap}
 use Rattle.std.specs.Prelude.{IfNone, IfSome, Option, Vec}
 use Rattle.std.specs.declared.alloc.Global.{Global}
 use Rattle.core_ir.specs.declared.tree.CorePart.{CorePart}
@@ -7,7 +7,6 @@ use Rattle.core_ir.specs.View.{let_term, part_term}
 use Rattle.fact_table.specs.Table.{facts_of}
 use Rattle.plain_facts.specs.Called.{shapes_of}
 use Rattle.fold_walk.specs.Making.{AllMade, CannotTake, PieceVec, PiecesPlanned}
-use Rattle.fold_walk.specs.Pairing.{BindsLoop}
 use Rattle.fold_walk.specs.Walking.{state_of}
 use Rattle.fold_walk.proofs.Consumers.{consumer_made, no_loop, no_take, piece_lengths}
 use Rattle.fold_walk.proofs.level.fold_into.Goals as goal

@@ -11,3 +11,6 @@ invariant-loop-binding l = record {
   level : Level (shapes_of l.given.called.now) l.given.function (facts_of l.fn.table) (state_of l.fn.folding) l.results (map let_term l.fn.lets.items) (facts_of l.table) (state_of l.folding) l.done.items l.behind.items;
   earlier : drop (length l.table - length l.fn.table) l.table ≡ l.fn.table;
 }
+
+abbrev pub decreases-loop-binding : goal.decreases-loop-binding
+decreases-loop-binding l = l.behind.len

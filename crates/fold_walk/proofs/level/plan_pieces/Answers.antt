@@ -1,4 +1,4 @@
-use Rattle.std.proofs.Common.{◌≡◌, ◌<◌, ◌≤◌, refl, subst, map}
+use Rattle.std.proofs.Common.{◌<◌, ◌≤◌, refl, subst, map}
 use Rattle.std.specs.Prelude.{IfNone, IfSome, Option, Vec}
 use Rattle.std.specs.declared.alloc.Global.{Global}
 use Rattle.sac_base.specs.declared.base.Base.{Base}
@@ -8,9 +8,9 @@ use Rattle.core_ir.specs.Terms.{parts_of}
 use Rattle.core_ir.specs.View.{part_term}
 use Rattle.fact_table.specs.Table.{facts_of}
 use Rattle.foldable_pairs.specs.declared.plan.PartPlan.{PartPlan}
-use Rattle.foldable_pairs.specs.Pairs.{IsNear, IsPlanned, Takes, producer_of}
+use Rattle.foldable_pairs.specs.Pairs.{IsNear, Takes, producer_of}
 use Rattle.plain_facts.specs.Called.{shapes_of}
-use Rattle.fold_walk.specs.Making.{piece_count, PieceVec}
+use Rattle.fold_walk.specs.Making.{piece_count}
 use Rattle.fold_walk.proofs.Consumers.{AllPlanned, few_pieces, many_pieces, no_plan, plan_lengths}
 use Rattle.fold_walk.proofs.level.plan_pieces.Goals as goal
 

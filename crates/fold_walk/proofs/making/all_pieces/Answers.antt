@@ -1,4 +1,4 @@
-use Rattle.std.proofs.Common.{◌+◌, ◌++◌, ◌∙◌, ap, sym, subst, map}
+use Rattle.std.proofs.Common.{◌+◌, ◌++◌, ◌∙◌, ap, sym, subst}
 use Rattle.std.specs.Prelude.{option_to_list}
 use Rattle.fold_walk.proofs.Gathering.{DueGoing, due_first, due_turn, due_stop, due_end, none_left}
 use Rattle.fold_walk.proofs.making.all_pieces.Goals.{in-Some+in_ok-due_pieces+in_ok-push, in_default}

@@ -1,4 +1,4 @@
-use Rattle.std.proofs.Common.{◌≡◌, ◌+◌, sym, subst, map, take, Bool, true, false, Option, ℕ}
+use Rattle.std.proofs.Common.{◌≡◌, ◌+◌, sym, subst, map, take, true, false, Option, ℕ}
 use Rattle.core_ir.specs.declared.tree.Let.{Let}
 use Rattle.core_ir.specs.View.{let_term, right_term}
 use Rattle.core_uses.specs.Tests.{is_avoided_right}
