@@ -1,16 +1,18 @@
 -- One turn of the loops of the walk, and their ends.
 use Rattle.std.proofs.Common.{◌≡◌, ℕ, suc, ◌+◌, List, [], ◌∷◌, ◌++◌, map, length, Option, refl, sym, ap, ◌∙◌, arith}
+use Rattle.std.specs.List.{sum}
 use Rattle.sac_base.specs.declared.site.Site.{Site}
 use Rattle.core_ir.specs.declared.tree.Var.{Var}
 use Rattle.core_ir.specs.declared.tree.Let.{Let}
 use Rattle.core_ir.specs.declared.tree.CoreGen.{CoreGen}
 use Rattle.core_ir.specs.declared.tree.CorePart.{CorePart}
+use Rattle.core_ir.specs.declared.tree.CoreFun.{CoreFun}
 use Rattle.core_ir.specs.declared.tree.Block.{Block, Block-F, out-Block, roll-Block}
 use Rattle.core_ir.specs.declared.tree.WithLoop.{WithLoop, WithLoop-F, out-WithLoop, roll-WithLoop}
 use Rattle.core_ir.specs.declared.tree.PartedLoop.{PartedLoop, PartedLoop-F, out-PartedLoop, roll-PartedLoop}
 use Rattle.core_ir.specs.declared.tree.Right.TheBlock.{the_data, the_data-1, the_data-2, the_data-3, the_data-4, the_data-5, the_data-6}
-use Rattle.core_ir.specs.Terms.{PlainTerm, BlockTerm, RightTerm, GensTerm, PartsTerm, LetTerm, GenTerm, PartTerm, Gives, Bind, Plain, NoGens, Gen, NoParts, Part, chain, gens_of, parts_of}
-use Rattle.core_ir.specs.View.{block_term, let_term, gen_term, part_term, with_term, parted_term}
+use Rattle.core_ir.specs.Terms.{PlainTerm, BlockTerm, RightTerm, GensTerm, PartsTerm, LetTerm, GenTerm, PartTerm, FunTerm, Gives, Bind, Plain, NoGens, Gen, NoParts, Part, chain, gens_of, parts_of}
+use Rattle.core_ir.specs.View.{block_term, let_term, gen_term, part_term, with_term, parted_term, fun_term}
 use Rattle.core_ir.proofs.Trees.{block_out, block_roll, with_out, with_roll, parted_out, parted_roll}
 use Rattle.core_subst.specs.Names.{variable}
 use Rattle.core_facts.specs.Facts.{Fact, Facts, note_all, right_facts, block_facts}
@@ -44,6 +46,22 @@ both_pushed done done1 done2 x y v i a n s ts p q m first second end =
 pub none_left : {A : Type 0} (len : ℕ) (items : List A) → len ≡ 0 → len ≡ length items → items ≡ []
 none_left len [] p q = refl
 none_left len (x ∷ xs) p q = absurd (omega arith)
+
+-- a function more is counted
+plus_assoc : (a b c : ℕ) → (a + b) + c ≡ a + (b + c)
+plus_assoc a b c = omega arith
+
+pub count_turn : (each : FunTerm → ℕ) (before rest : List CoreFun) (x : CoreFun) (n n' more whole : ℕ) → n + sum (map each (map fun_term before)) ≡ whole → before ≡ x ∷ rest → n' ≡ n + more → more ≡ each (fun_term x)
+    → n' + sum (map each (map fun_term rest)) ≡ whole
+count_turn each before rest x n n' more whole p b q m =
+    let others = sum (map each (map fun_term rest)) in
+    (λ i. q i + others) ∙ (λ i. (n + m i) + others) ∙ plus_assoc n (each (fun_term x)) others ∙ (λ i. n + sum (map each (map fun_term (sym b i)))) ∙ p
+
+plus_none : (n : ℕ) → n ≡ n + 0
+plus_none n = omega arith
+
+pub count_end : (each : FunTerm → ℕ) (rest before all : List CoreFun) (n : ℕ) → n + sum (map each (map fun_term rest)) ≡ sum (map each (map fun_term before)) → rest ≡ [] → before ≡ all → n ≡ sum (map each (map fun_term all))
+count_end each rest before all n p r e = plus_none n ∙ (λ i. n + sum (map each (map fun_term (sym r i)))) ∙ p ∙ (λ i. sum (map each (map fun_term (e i))))
 
 -- ---- generators and parts one after another
 

@@ -1,9 +1,10 @@
 -- A binding, a generator, a part and a function alone, whose selections by scalars go by vectors.
-use Rattle.std.specs.Prelude.{ℕ, List, [], ◌∷◌, Option}
-use Rattle.core_ir.specs.Terms.{BlockTerm, LetTerm, GenTerm, PartTerm, FunTerm}
+use Rattle.std.specs.Prelude.{ℕ, ◌-◌, List, [], ◌∷◌, Option, map}
+use Rattle.std.specs.List.{sum}
+use Rattle.core_ir.specs.Terms.{BlockTerm, LetTerm, GenTerm, PartTerm, FunTerm, CoreTerm}
 use Rattle.core_subst.specs.Names.{above_function}
 use Rattle.core_facts.specs.Facts.{Facts, note_all, in_part}
-use Rattle.core_settled.specs.Called.{params_facts}
+use Rattle.core_settled.specs.Called.{called as called_in, params_facts}
 use Rattle.core_selections.specs.Vectors.{Selection, bind_vector, behind, by_scalar, next, next_right, vectored, vectored_right}
 
 -- a binding before a block, with a choice made for it
@@ -35,3 +36,11 @@ module _ (called : ℕ → List (Option (List ℕ))) where
 
   abbrev pub vectored_function : FunTerm → FunTerm
   vectored_function f = record f { body = vectored called f.body (params_facts f) (above_function f) }
+
+  -- how many vectors are new in a function
+  abbrev pub vectors_in : FunTerm → ℕ
+  vectors_in f = next called f.body (params_facts f) (above_function f) - above_function f
+
+-- how many are new in the functions of a core
+abbrev pub vectors_in_core : CoreTerm → ℕ
+vectors_in_core core = sum (map (vectors_in (called_in core)) core.functions)
