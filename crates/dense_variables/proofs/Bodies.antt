@@ -73,11 +73,11 @@ module _ (core : CoreTerm) (f : FunTerm) (is : IsFunction core f) where
   keeps_form = record {
     once = distinct_both params (bound_in (dense_body f)) (distinct_left params bound is.once) body_once body_off;
     scoped =
-        copy_scoped itself f.body (dense_body f) params params copy (λ x y e h. (λ i. is_in (same_number x y e (~ i)) params) ∙ h) is.scoped body_once
+        copy_scoped itself f.body (dense_body f) params params copy (λ x y e h. (λ i. is_in (sym (same_number x y e) i) params) ∙ h) is.scoped body_once
         (λ y h. not_in y params (λ k. clash (is_in y (bound_in (dense_body f))) h (body_off y k)));
     agreeing =
         copy_bases core core (λ group us ts h. h) itself f.body (dense_body f) (param_bases f) (param_bases f) (bases f.results) copy (alike m f.body)
-        (λ x y t e h. (λ i. base_of (param_bases f) (same_number x y e (~ i))) ∙ h) is.agreeing bound_once body_once;
+        (λ x y t e h. (λ i. base_of (param_bases f) (sym (same_number x y e) i)) ∙ h) is.agreeing bound_once body_once;
     calls = calls_mapped m f.body;
   }
 

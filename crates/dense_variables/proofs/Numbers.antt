@@ -1,5 +1,5 @@
 -- New numbers keep variables apart.
-use Rattle.std.proofs.Common.{◌≡◌, ℕ, suc, ◌+◌, ◌<◌, ◌≤◌, Bool, true, false, ◌||◌, cond, eqb, List, [], ◌∷◌, ◌++◌, map, length, refl, sym, ap, ◌∙◌, ◌⊎◌, inl, inr, arith}
+use Rattle.std.proofs.Common.{◌≡◌, ℕ, suc, ◌+◌, ◌<◌, ◌≤◌, Bool, true, false, ◌||◌, cond, eqb, List, [], ◌∷◌, ◌++◌, map, length, refl, sym, ap, subst, ◌∙◌, ◌⊎◌, inl, inr, arith}
 use Rattle.std.specs.Prelude.{max}
 use Rattle.std.proofs.lemmas.Bool.{eqb-true, eq-eqb}
 use Rattle.core_ir.specs.declared.tree.Var.{Var}
@@ -38,11 +38,11 @@ numbered_order (x ∷ xs) f n d = (
 
 pub in_map : (f : Var → Var) (xs : List Var) (y : Var) → is_in y xs ≡ true → is_in (f y) (map f xs) ≡ true
 in_map f [] y h = clash false h refl
-in_map f (x ∷ xs) y h = go (eqb x.0 y.0) refl h
+in_map f (x ∷ xs) y h = go (eqb x.0 y.0) refl h (λ k. in_map f xs y k)
   where
-    go : (t : Bool) → eqb x.0 y.0 ≡ t → (t || is_in y xs) ≡ true → (eqb (f x).0 (f y).0 || is_in (f y) (map f xs)) ≡ true
-    go true e k = λ i. eq-eqb (f x).0 (f y).0 (ap (λ (v : Var). (f v).0) (same_number x y e)) i || is_in (f y) (map f xs)
-    go false e k = behind_first (f y) (f x) (map f xs) (in_map f xs y k)
+    go : (t : Bool) → eqb x.0 y.0 ≡ t → (t || is_in y xs) ≡ true → (is_in y xs ≡ true → is_in (f y) (map f xs) ≡ true) → (eqb (f x).0 (f y).0 || is_in (f y) (map f xs)) ≡ true
+    go true e k rec = λ i. eq-eqb (f x).0 (f y).0 (ap (λ (v : Var). (f v).0) (same_number x y e)) i || is_in (f y) (map f xs)
+    go false e k rec = behind_first (f y) (f x) (map f xs) (rec k)
 
 other_way : (m n : ℕ) → eqb m n ≡ false → eqb n m ≡ false
 other_way m n h = go (eqb n m) refl
@@ -62,13 +62,13 @@ first_alone y xs z d h = go (eqb y.0 z.0) refl
 -- where what stands for the variables of a list is distinct, different ones stay so
 pub kept_apart : (f : Var → Var) (xs : List Var) (a b : Var) → Distinct (map f xs) → is_in a xs ≡ true → is_in b xs ≡ true → eqb a.0 b.0 ≡ false → eqb (f a).0 (f b).0 ≡ false
 kept_apart f [] a b d p q e = clash false p refl
-kept_apart f (x ∷ xs) a b d p q e = go (eqb x.0 a.0) (eqb x.0 b.0) refl refl p q
+kept_apart f (x ∷ xs) a b d p q e = go (eqb x.0 a.0) (eqb x.0 b.0) refl refl p q (λ k l. kept_apart f xs a b d.1 k l e)
   where
-    go : (t u : Bool) → eqb x.0 a.0 ≡ t → eqb x.0 b.0 ≡ u → (t || is_in a xs) ≡ true → (u || is_in b xs) ≡ true → eqb (f a).0 (f b).0 ≡ false
-    go true true m n k l = clash (eqb a.0 b.0) (eq-eqb a.0 b.0 (sym (eqb-true x.0 a.0 m) ∙ eqb-true x.0 b.0 n)) e
-    go true false m n k l = (λ i. eqb (f (same_number x a m (~ i))).0 (f b).0) ∙ first_alone (f x) (map f xs) (f b) d.0 (in_map f xs b l)
-    go false true m n k l = (λ i. eqb (f a).0 (f (same_number x b n (~ i))).0) ∙ other_way (f x).0 (f a).0 (first_alone (f x) (map f xs) (f a) d.0 (in_map f xs a k))
-    go false false m n k l = kept_apart f xs a b d.1 k l e
+    go : (t u : Bool) → eqb x.0 a.0 ≡ t → eqb x.0 b.0 ≡ u → (t || is_in a xs) ≡ true → (u || is_in b xs) ≡ true → (is_in a xs ≡ true → is_in b xs ≡ true → eqb (f a).0 (f b).0 ≡ false) → eqb (f a).0 (f b).0 ≡ false
+    go true true m n k l rec = clash (eqb a.0 b.0) (eq-eqb a.0 b.0 (sym (eqb-true x.0 a.0 m) ∙ eqb-true x.0 b.0 n)) e
+    go true false m n k l rec = (λ i. eqb (f (sym (same_number x a m) i)).0 (f b).0) ∙ first_alone (f x) (map f xs) (f b) d.0 (in_map f xs b l)
+    go false true m n k l rec = (λ i. eqb (f a).0 (f (sym (same_number x b n) i)).0) ∙ other_way (f x).0 (f a).0 (first_alone (f x) (map f xs) (f a) d.0 (in_map f xs a k))
+    go false false m n k l rec = rec k l
 
 -- ---- numbers above all
 
@@ -80,11 +80,11 @@ rest_below n m k h = omega arith
 
 pub below_above : (xs : List Var) (y : Var) → is_in y xs ≡ true → y.0 < above_all xs
 below_above [] y h = clash false h refl
-below_above (x ∷ xs) y h = go (eqb x.0 y.0) refl h
+below_above (x ∷ xs) y h = go (eqb x.0 y.0) refl h (λ k. below_above xs y k)
   where
-    go : (t : Bool) → eqb x.0 y.0 ≡ t → (t || is_in y xs) ≡ true → y.0 < max (suc x.0) (above_all xs)
-    go true e k = Rattle.std.proofs.Common.subst (λ n. n < max (suc x.0) (above_all xs)) (eqb-true x.0 y.0 e) (first_below x.0 (above_all xs))
-    go false e k = rest_below x.0 (above_all xs) y.0 (below_above xs y k)
+    go : (t : Bool) → eqb x.0 y.0 ≡ t → (t || is_in y xs) ≡ true → (is_in y xs ≡ true → y.0 < above_all xs) → y.0 < max (suc x.0) (above_all xs)
+    go true e k rec = subst (λ (n : ℕ). n < max (suc x.0) (above_all xs)) (eqb-true x.0 y.0 e) (first_below x.0 (above_all xs))
+    go false e k rec = rest_below x.0 (above_all xs) y.0 (rec k)
 
 clash_numbers : (n a b : ℕ) → n ≤ a → b < n → a ≡ b → ⊥
 clash_numbers n a b p q e = omega (arith, p, q, e)
@@ -118,7 +118,7 @@ module _ (low bound : List Var) (n : ℕ) (once : Distinct bound) (off : (y : Va
   new_off y h = not_in y (map f bound) (λ k. clash_numbers n y.0 y.0 (order_between n (map f bound) order y k).0 (below y h) refl)
 
   different : (x y : Var) → is_in x bound ≡ true → is_in y low ≡ true → eqb x.0 y.0 ≡ false
-  different x y p q = apart_if x.0 y.0 (λ e. clash (is_in y bound) ((λ i. is_in (record { 0 = e (~ i) }) bound) ∙ p) (off y q))
+  different x y p q = apart_if x.0 y.0 (λ e. clash (is_in y bound) ((λ i. is_in (record { 0 = sym e i }) bound) ∙ p) (off y q))
 
   mixed : (x y : Var) → is_in x bound ≡ true → is_in y low ≡ true → eqb (f x).0 (f y).0 ≡ false
   mixed x y p q = (λ i. eqb (f x).0 (low_stays y q i).0) ∙ apart_if (f x).0 y.0 (λ e. clash_numbers n (f x).0 y.0 (high x p) (below y q) e)

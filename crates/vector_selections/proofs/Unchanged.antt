@@ -33,7 +33,7 @@ module _ (called : ℕ → List (Option (List ℕ))) where
     pub block_stays : (b : BlockTerm) (k : Facts) (n : ℕ) → next called b k n ≡ n → vectored called b k n ≡ b
     block_stays (Gives xs) k n e = refl
     block_stays (Bind xs s r b) k n e =
-        go (by_scalar r k) e
+        go (by_scalar r k) e (λ q. right_stays r k n q) (λ q. block_stays b k' m q)
       where
         k' : Facts
         k' = note_all k xs (right_facts called r k)
@@ -41,13 +41,14 @@ module _ (called : ℕ → List (Option (List ℕ))) where
         m : ℕ
         m = next_right called r k n
 
-        go : (o : Option Selection) → next called b k' (behind o m) ≡ n → bind_vector o m xs s (vectored_right called r k n) (vectored called b k' (behind o m)) ≡ Bind xs s r b
-        go (Some x) q =
+        go : (o : Option Selection) → next called b k' (behind o m) ≡ n → (m ≡ n → vectored_right called r k n ≡ r) → (next called b k' m ≡ m → vectored called b k' m ≡ b)
+            → bind_vector o m xs s (vectored_right called r k n) (vectored called b k' (behind o m)) ≡ Bind xs s r b
+        go (Some x) q right rest =
             let t = next called b k' (suc m) in
             above_itself n m (rises_right called r k n) (first_stays n (suc m) t (plus_le n m (suc m) (rises_right called r k n) (behind_rises called (Some x) m)) (rises called b k' (suc m)) q)
-        go None q =
+        go None q right rest =
             let t = next called b k' m in
-            λ i. Bind xs s (right_stays r k n (first_stays n m t (rises_right called r k n) (rises called b k' m) q) i) (block_stays b k' m (second_stays n m t (rises_right called r k n) (rises called b k' m) q) i)
+            λ i. Bind xs s (right (first_stays n m t (rises_right called r k n) (rises called b k' m) q) i) (rest (second_stays n m t (rises_right called r k n) (rises called b k' m) q) i)
 
     pub right_stays : (r : RightTerm) (k : Facts) (n : ℕ) → next_right called r k n ≡ n → vectored_right called r k n ≡ r
     right_stays (Plain p) k n e = refl
