@@ -2,23 +2,20 @@
 use Rattle.std.proofs.Common.{◌≡◌, ℕ, ◌<◌, true, false, List, [], ◌∷◌, ◌++◌, map, length, All, refl, sym, ap, subst, ◌∙◌, arith}
 use Rattle.std.proofs.lemmas.Bool.{eq-eqb}
 use Rattle.std.proofs.lemmas.List.Elements.{All-map, All-weaker}
-use Rattle.sac_base.specs.declared.base.Base.{Base}
 use Rattle.core_ir.specs.declared.tree.Var.{Var}
 use Rattle.core_ir.specs.Binders.{is_in, bound_in}
 use Rattle.core_ir.specs.Meaning.{Env, no_variables, bind_all}
 use Rattle.core_ir.specs.Outcome.{param_vars, SameHeads, SameOutside}
 use Rattle.core_ir.specs.Renaming.{Agree, Renamed}
-use Rattle.core_ir.specs.Terms.{BlockTerm, FunTerm, CoreTerm}
+use Rattle.core_ir.specs.Terms.{FunTerm, CoreTerm}
 use Rattle.core_ir.specs.WellFormed.{Distinct, IsFunction, IsWellFormed, base_of, bases, param_bases}
 use Rattle.core_ir.proofs.Renamed as meaning
 use Rattle.core_ir.proofs.Variables.{same_number}
-use Rattle.core_copy.specs.Mapped.{mapped}
 use Rattle.core_copy.proofs.Renaming.{bound_mapped}
 use Rattle.core_calls.specs.Arrays.{SameOutcomeOnArrays}
 use Rattle.core_loops.specs.Steps.{itself}
 use Rattle.core_edits.proofs.Mapping.{calls_mapped}
 use Rattle.core_inlined_bodies.proofs.Names.{distinct_left, distinct_right, distinct_apart, distinct_both, in_left, clash, not_in}
-use Rattle.core_cleaning.specs.Bodies.{with_bodies}
 use Rattle.core_cleaning.proofs.Bodies.{KeepsForm, KeepsMeaning, well_formed, same_outcome}
 use Rattle.core_norm_forms.specs.Copied.{AreFrom}
 use Rattle.core_norm_forms.proofs.Copies.{alike, renamed}

@@ -1,7 +1,6 @@
 use Rattle.std.proofs.Common.{◌≡◌, ap, ◌∙◌, List, map}
 use Rattle.sac_base.specs.declared.types.ArrayType.{ArrayType}
 use Rattle.core_ir.specs.declared.tree.Var.{Var}
-use Rattle.core_ir.specs.Binders.{bound_in}
 use Rattle.core_ir.specs.View.{fun_term}
 use Rattle.core_copy.specs.Mapped.{mapped}
 use Rattle.core_subst.specs.Names.{above_all}
