@@ -10,6 +10,11 @@ use Rattle.plain_facts.specs.Called.{shapes_of}
 use Rattle.scoped_table.proofs.Marks.{earlier_on, none_gone}
 use Rattle.vector_selections.specs.Vectored.{vectored_gen, next_gen, vectored_part, next_part}
 use Rattle.vector_selections.proofs.Turns.{let_turn, next_turn, known_turn, none_left, block_end, next_end, known_end, gen_turn, gen_number, part_turn, part_number, with_end, with_number, parted_end, parted_number}
+use Rattle.core_ir.specs.declared.tree.CoreGen.{out-CoreGen}
+use Rattle.core_ir.specs.View.{right_term}
+use Rattle.core_facts.specs.Facts.{note_all}
+use Rattle.core_selections.specs.Vectors.{next_right, vectored_right}
+use Rattle.vector_selections.proofs.Ends.{IsOther, gen_end, gen_next, part_end, part_next, choice_end, choice_next, turns_end, turns_next, other_vectored, other_known, other_next, kept}
 use Rattle.vector_selections.proofs.walk.+vectoring.Goals as goal
 
 pub in_block-loop-binding-init : goal.in_block-loop-binding-init
@@ -141,3 +146,74 @@ in_parted-returns-clause-fresh t c =
     let none = none_left rest.len rest.items c.in-None.ensures.steps.0 rest.ok.0 in
     parted_number (shapes_of c.args.called.now) (facts_of c.args.table.now) c.args.fresh.now c.loop-part.fresh rest.items c.into_iter-part-iterator.result.rest.items c.args.parted
     c.loop-part.invariant.number none c.into_iter-part-iterator.ensures.into_iter_gives.0
+
+pub in_gen-returns-clause-vectored : goal.in_gen-returns-clause-vectored
+in_gen-returns-clause-vectored t c =
+    let g = c.args.generator in
+    let k = facts_of c.args.table.now in
+    gen_end (shapes_of c.args.called.now) k (facts_of c.forget_index.new.table) c.args.fresh.now g c.in_ok-body.body.block
+    (c.in_ok-forget_index.ensures.forgotten ∙ ap (λ xs. note_all k ((out-CoreGen g).index ∷ xs) []) c.deref.ensures.value) c.in_ok-body.ensures.vectored
+
+pub in_gen-returns-clause-fresh : goal.in_gen-returns-clause-fresh
+in_gen-returns-clause-fresh t c =
+    let g = c.args.generator in
+    let k = facts_of c.args.table.now in
+    gen_next (shapes_of c.args.called.now) k (facts_of c.forget_index.new.table) c.args.fresh.now c.in_block.new.fresh g
+    (c.in_ok-forget_index.ensures.forgotten ∙ ap (λ xs. note_all k ((out-CoreGen g).index ∷ xs) []) c.deref.ensures.value) c.in_ok-body.ensures.fresh
+
+pub in_part-returns-clause-vectored : goal.in_part-returns-clause-vectored
+in_part-returns-clause-vectored t c =
+    part_end (shapes_of c.args.called.now) (facts_of c.args.table.now) (facts_of c.learn_index.new.table) c.args.fresh.now c.args.part c.in_ok-body.body.block
+    c.in_ok-learn_index.ensures.learned c.in_ok-body.ensures.vectored
+
+pub in_part-returns-clause-fresh : goal.in_part-returns-clause-fresh
+in_part-returns-clause-fresh t c =
+    part_next (shapes_of c.args.called.now) (facts_of c.args.table.now) (facts_of c.learn_index.new.table) c.args.fresh.now c.in_block.new.fresh c.args.part
+    c.in_ok-learn_index.ensures.learned c.in_ok-body.ensures.fresh
+
+pub in_part-returns-clause-table : goal.in_part-returns-clause-table
+in_part-returns-clause-table t c =
+    c.undo.ensures
+    ∙ (λ i. drop (length (c.in_ok-body.ensures.table i) - c.mark-outer.ensures i) (c.in_ok-body.ensures.table i))
+    ∙ c.in_ok-learn_index.ensures.behind
+
+pub in_right-returns-in_ok-values-in-If-clause-vectored : goal.in_right-returns-in_ok-values-in-If-clause-vectored
+in_right-returns-in_ok-values-in-If-clause-vectored t c =
+    choice_end (shapes_of c.args.called.now) (facts_of c.args.table.now) (facts_of c.in_block.new.table) c.args.fresh.now c.in_block.new.fresh
+    c.in-If.cond c.in-If.yes c.in-If.no c.in_ok-yes-in-If.yes.block c.in_ok-no-in-If.no.block c.args.right c.in-If.is (ap facts_of c.in_ok-yes-in-If.ensures.table)
+    c.in_ok-yes-in-If.ensures.fresh c.in_ok-yes-in-If.ensures.vectored c.in_ok-no-in-If.ensures.vectored
+
+pub in_right-returns-in_ok-values-in-If-clause-fresh : goal.in_right-returns-in_ok-values-in-If-clause-fresh
+in_right-returns-in_ok-values-in-If-clause-fresh t c =
+    choice_next (shapes_of c.args.called.now) (facts_of c.args.table.now) (facts_of c.in_block.new.table) c.args.fresh.now c.in_block.new.fresh c.in_block-in-If.new.fresh
+    c.in-If.cond c.in-If.yes c.in-If.no c.args.right c.in-If.is (ap facts_of c.in_ok-yes-in-If.ensures.table) c.in_ok-yes-in-If.ensures.fresh c.in_ok-no-in-If.ensures.fresh
+
+pub in_right-returns-in_ok-body-in-Loop-clause-vectored : goal.in_right-returns-in_ok-body-in-Loop-clause-vectored
+in_right-returns-in_ok-body-in-Loop-clause-vectored t c =
+    let k = facts_of c.args.table.now in
+    turns_end (shapes_of c.args.called.now) k (facts_of c.forget.new.table) (facts_of c.in_block-in-Loop.new.table) c.args.fresh.now c.in_block-in-Loop.new.fresh
+    c.in-Loop.first_body c.in-Loop.start c.in-Loop.params c.in-Loop.test_site c.in-Loop.test c.in-Loop.body c.in_ok-test-in-Loop.test.block c.in_ok-body-in-Loop.body.block c.args.right c.in-Loop.is
+    (c.in_ok-forget-in-Loop.ensures.forgotten ∙ ap (λ xs. note_all k xs []) c.deref-in-Loop.ensures.value) (ap facts_of c.in_ok-test-in-Loop.ensures.table)
+    c.in_ok-test-in-Loop.ensures.fresh c.in_ok-test-in-Loop.ensures.vectored c.in_ok-body-in-Loop.ensures.vectored
+
+pub in_right-returns-in_ok-body-in-Loop-clause-fresh : goal.in_right-returns-in_ok-body-in-Loop-clause-fresh
+in_right-returns-in_ok-body-in-Loop-clause-fresh t c =
+    let k = facts_of c.args.table.now in
+    turns_next (shapes_of c.args.called.now) k (facts_of c.forget.new.table) (facts_of c.in_block-in-Loop.new.table) c.args.fresh.now c.in_block-in-Loop.new.fresh c.in_block-in-Loop-2.new.fresh
+    c.in-Loop.first_body c.in-Loop.start c.in-Loop.params c.in-Loop.test_site c.in-Loop.test c.in-Loop.body c.args.right c.in-Loop.is
+    (c.in_ok-forget-in-Loop.ensures.forgotten ∙ ap (λ xs. note_all k xs []) c.deref-in-Loop.ensures.value) (ap facts_of c.in_ok-test-in-Loop.ensures.table)
+    c.in_ok-test-in-Loop.ensures.fresh c.in_ok-body-in-Loop.ensures.fresh
+
+pub in_right-returns-in_default : goal.in_right-returns-in_default
+in_right-returns-in_default t c =
+    let called = shapes_of c.args.called.now in
+    let k = facts_of c.args.table.now in
+    let arm = c.in_default in
+    let new = c.one_value.result in
+    let other : IsOther c.args.right = (arm.not-If, arm.not-Loop, arm.not-Call, arm.not-With, arm.not-Parted) in
+    record {
+      vectored = other_vectored called k c.args.fresh.now c.args.right new other c.one_value.ensures.right;
+      known = other_known called k c.args.right new other c.one_value.ensures.known;
+      fresh = other_next called k c.args.fresh.now c.args.right new other;
+      table = kept new c.args.table.now;
+    }
