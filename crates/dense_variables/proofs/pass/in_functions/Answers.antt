@@ -1,0 +1,15 @@
+use Rattle.core_cleaning.proofs.Functions.{function_turn, all_done}
+use Rattle.dense_variables.specs.Dense.{numbered_function}
+use Rattle.dense_variables.proofs.Bodies.{none_left}
+use Rattle.dense_variables.proofs.pass.in_functions.Goals as goal
+
+pub loop-function-preserved : goal.loop-function-preserved
+loop-function-preserved c =
+    function_turn numbered_function c.loop-function.dense.items c.push.new.self.items c.loop-function.function-iterator.rest.items c.next.new.self.rest.items
+    c.in-Some.function c.in_ok-in_function.field-0 _ c.loop-function.invariant c.in-Some.ensures.steps.0 c.in_ok-push.ensures.items c.in_ok-in_function.ensures
+
+pub returns : goal.returns
+returns c =
+    let none = none_left c.loop-function.function-iterator.rest.len c.loop-function.function-iterator.rest.items c.in-None.ensures.steps.0 c.loop-function.function-iterator.rest.ok.0 in
+    all_done numbered_function c.loop-function.dense.items c.loop-function.function-iterator.rest.items c.into_iter-function-iterator.result.rest.items c.args.functions.items
+    c.loop-function.invariant none c.into_iter-function-iterator.ensures.into_iter_gives.0

@@ -1,0 +1,9 @@
+//! Selections by scalars become selections by vectors of one number.
+#![tactic(auto)]
+
+mod choice;
+mod functions;
+mod known;
+mod walk;
+
+pub use functions::select_by_vectors;
