@@ -117,8 +117,9 @@ fn merge_function(
 {
     let mut table = FactTable::new(alloc);
     learn_params(&function, &mut table)?;
+    let first = above(&function)?;
     let mut progress = Progress {
-        next: above(&function)?,
+        next: first,
         replaced: merged,
     };
     let CoreFun {
