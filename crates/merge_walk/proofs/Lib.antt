@@ -1,4 +1,0 @@
-pub mod Walks
-pub mod Lines
-pub mod Turns
-pub mod Loops
