@@ -13,6 +13,8 @@ mod files;
 #[cfg(test)]
 mod inlined;
 #[cfg(test)]
+mod merged;
+#[cfg(test)]
 mod normal;
 #[cfg(test)]
 mod parse;

@@ -1,4 +1,4 @@
--- Scalarisable loops of a well-formed core can be merged, where grids have the axes of their frames.
+-- Scalarisable loops of a well-formed core can be merged, where grids have no more axes than their frames.
 use Rattle.std.proofs.Common.{◌≡◌, ℕ, suc, ◌+◌, ◌≤◌, List, [], ◌∷◌, ◌++◌, length, zip, All, Option, refl, sym, ap, subst, ◌∙◌, arith}
 use Rattle.std.proofs.lemmas.List.{length-append}
 use Rattle.std.proofs.lemmas.List.Elements.{All-nil, All-cons, All-head, All-tail}
@@ -15,7 +15,7 @@ use Rattle.core_facts.specs.Facts.{Facts, note_all, right_facts, in_part}
 use Rattle.core_loops.specs.Pairs.{IsScalarisable, Nests}
 use Rattle.core_settled.specs.Called.{called, params_facts}
 use Rattle.core_subst.specs.Names.{above_function}
-use Rattle.merge_plans.specs.Mergeable.{FitBehind, GridsFit, IsMergeable, MOST_AXES}
+use Rattle.merge_plans.specs.Mergeable.{GridsFit, IsMergeable, MOST_AXES}
 use Rattle.merge_walk.specs.NoneLeft.{NoneHere, NoneMergeable, NoneMergeableRight, NoneMergeableGens, NoneMergeableParts}
 use Rattle.scalarise.specs.Axes.{Axes, AxesRight, AxesGens, AxesParts, CoreAxes, HasAxes, NoneIn, NoneInRight, NoneInGens, NoneInParts, NoneScalarisable, NotHere}
 use Rattle.scalarise.specs.Scalarised.{NoneLeft, NoneLeftIn}
@@ -27,10 +27,10 @@ inner_axes : (before : List LetTerm) (xs : List Var) (s : Site) (r : RightTerm) 
 inner_axes [] xs s r b h = h.0
 inner_axes (l ∷ ls) xs s r b h = inner_axes ls xs s r b h.1
 
-axes_few : (n m a b : ℕ) → a ≡ n → b ≡ m → n + m ≤ 8 → a + b ≤ 8
+axes_few : (n m a b : ℕ) → a ≤ n → b ≤ m → n + m ≤ 8 → a + b ≤ 8
 axes_few n m a b p q few = omega (arith, p, q, few)
 
-fit_behind : (n m : ℕ) (grid : List Grid1) (gs : List (List Grid1)) → length grid ≡ n → n + m ≤ MOST_AXES → All (HasAxes m) gs → All (λ (g : List Grid1). length grid + length g ≤ MOST_AXES) gs
+fit_behind : (n m : ℕ) (grid : List Grid1) (gs : List (List Grid1)) → length grid ≤ n → n + m ≤ MOST_AXES → All (HasAxes m) gs → All (λ (g : List Grid1). length grid + length g ≤ MOST_AXES) gs
 fit_behind n m grid [] same few h = All-nil (λ (g : List Grid1). length grid + length g ≤ MOST_AXES)
 fit_behind n m grid (g ∷ gs) same few h =
     All-cons (λ (g : List Grid1). length grid + length g ≤ MOST_AXES) g gs (axes_few n m (length grid) (length g) same (All-head (HasAxes m) g gs h) few)
@@ -123,5 +123,5 @@ module _ (core : CoreTerm) where
       (none_block core (called core) (above_function f) f.body (param_bases f) (bases f.results) (params_facts f) is.agreeing (All-head AxesIn f fs axes) (All-head (NoneLeftIn core) f fs none))
       (all_functions fs (All-tail (IsFunction core) f fs are) (All-tail AxesIn f fs axes) (All-tail (NoneLeftIn core) f fs none))
 
-pub axes_suffice : (core : CoreTerm) → IsWellFormed core → CoreAxes core → NoneLeft core → NoneScalarisable core
-axes_suffice core well axes none = all_functions core core.functions well.functions axes none
+pub all_left : (core : CoreTerm) → IsWellFormed core → CoreAxes core → NoneLeft core → NoneScalarisable core
+all_left core well axes none = all_functions core core.functions well.functions axes none

@@ -2,7 +2,6 @@
 use Rattle.std.proofs.Common.{◌≡◌, ℕ, ◌+◌, ◌≤◌, List, [], ◌∷◌, ◌++◌, length, All, Option, Some, refl, sym, ap, subst, ◌∙◌, ◌⊎◌, inl, inr, append_assoc, arith}
 use Rattle.std.specs.Prelude.{slice_get}
 use Rattle.std.proofs.lemmas.List.Elements.{All-nil, All-cons}
-use Rattle.core_ir.specs.declared.tree.Var.{Var}
 use Rattle.core_ir.specs.Binders.{bound_in}
 use Rattle.core_ir.specs.Outcome.{SameHead, SameHeads, group_at, param_vars}
 use Rattle.core_ir.specs.Terms.{BlockTerm, FunTerm, CoreTerm}
@@ -144,9 +143,13 @@ module _ (calls : ℕ → List (Option (List ℕ))) where
       let next : b.functions ≡ (before ++ (new ∷ [])) ++ fs = (λ i. replaced_at (e i) place new) ∙ put_at before fs f new ∙ sym (append_assoc before (new ∷ []) fs) in
       let rest = functions_kept b (before ++ (new ∷ [])) fs gs h.0 m next (same ∙ sym (called_same a place f one.body found)) first.well h.1.1 in
       let end : (before ++ (new ∷ [])) ++ gs ≡ before ++ (g ∷ gs) = append_assoc before (new ∷ []) gs ∙ ap (λ (x : FunTerm). before ++ (x ∷ gs)) (sym one.new) in
-      let count = one.walked.count in
-      (count + rest.0, (sum_is m h.0 n count rest.0 one.walked.counted rest.1.0,
-      subst (λ (x : List FunTerm). Kept a (record a { functions = x }) (count + rest.0)) end (kept_on a b (record a { functions = (before ++ (new ∷ [])) ++ gs }) count rest.0 first rest.1.1)))
+      let count = one.walked.count in (
+        count + rest.0,
+        (
+          sum_is m h.0 n count rest.0 one.walked.counted rest.1.0,
+          subst (λ (x : List FunTerm). Kept a (record a { functions = x }) (count + rest.0)) end (kept_on a b (record a { functions = (before ++ (new ∷ [])) ++ gs }) count rest.0 first rest.1.1),
+        ),
+      )
 
 -- ---- outside
 

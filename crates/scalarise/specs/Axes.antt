@@ -1,5 +1,5 @@
--- Functions in which no loop is scalarisable, and blocks whose parts' grids have the axes of their loops' frames.
-use Rattle.std.specs.Prelude.{◌≡◌, ℕ, List, [], ◌∷◌, length, All, Option}
+-- Functions in which no loop is scalarisable, and blocks whose grids have no more axes than the frames of their loops.
+use Rattle.std.specs.Prelude.{◌≤◌, ℕ, List, [], ◌∷◌, length, All, Option}
 use Rattle.sac_base.specs.declared.grid.Grid1.{Grid1}
 use Rattle.core_ir.specs.declared.tree.Var.{Var}
 use Rattle.core_ir.specs.declared.tree.PartedOp.TheVariants as parted
@@ -49,8 +49,9 @@ NoneScalarisable core = All (λ (f : FunTerm). NoneIn (called core) (above_funct
 
 -- ---- axes
 
+-- a grid of at most so many axes
 abbrev pub HasAxes : ℕ → List Grid1 → Type 0
-HasAxes n grid = length grid ≡ n
+HasAxes n grid = length grid ≤ n
 
 abbrev mutual
   pub Axes : BlockTerm → Type 0
@@ -78,6 +79,6 @@ CoreAxes core = All (λ (f : FunTerm). Axes f.body) core.functions
 
 -- ---- the law
 
--- where each grid of a well-formed core has the axes of its frame, members or not, no scalarisable loop is left either
+-- where no grid of a well-formed core, with members or without, has more axes than its frame, no scalarisable loop is left either
 abbrev pub AxesSuffice : Type 0
 AxesSuffice = (core : CoreTerm) → IsWellFormed core → CoreAxes core → NoneLeft core → NoneScalarisable core

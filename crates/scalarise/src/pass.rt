@@ -28,7 +28,7 @@ use std::alloc::Global;
 ///
 /// A loop can be merged where it is scalarisable (`IsScalarisable` of `core_loops`) and the frames of both loops, and each outer grid with the inner ones
 /// behind it, have at most 8 axes together (`IsMergeable` of `merge_plans`). In a well-formed core the frames and all grids with a member do. So a
-/// scalarisable loop is left only where a grid without members has more axes than its loop's frame.
+/// scalarisable loop is left only where a grid without members has more axes than its loop's frame (`axes_suffice`).
 ///
 /// # Errors
 ///
