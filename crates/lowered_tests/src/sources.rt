@@ -9,6 +9,7 @@ use sac_ast::Program;
 use sac_build::{Compiled, compile};
 use sac_lex::{Tokens, lex};
 use sac_parse::parse;
+use scalarise::scalarise_all;
 use single_assign::to_core;
 use std::alloc::Global;
 use type_check::{Checked, check};
@@ -54,6 +55,17 @@ pub fn inlined(alloc: Global, core: Core) -> Option<Core> {
 /// A core with its literal variables bound by constants, and nothing in it that is not needed.
 pub fn cleaned(alloc: Global, core: Core) -> Option<Core> {
     propagate(alloc, core).ok()
+}
+
+/// A core with parted loops in the place of with-loops of known bounds.
+pub fn parted(alloc: Global, core: Core) -> Option<Core> {
+    let (core, _) = normalise(alloc, core).ok()?;
+    Some(core)
+}
+
+/// A core with loops merged with the loops in their cells, and how many were.
+pub fn merges_of(alloc: Global, core: Core) -> Option<(Core, u64)> {
+    scalarise_all(alloc, core).ok()
 }
 
 /// Whether there is a core whose text is this.

@@ -1,0 +1,4 @@
+mod Walks
+mod Turns
+mod Rounds
+mod Axes

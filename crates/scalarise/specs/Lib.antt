@@ -1,0 +1,2 @@
+pub mod Scalarised
+pub mod Axes
