@@ -1,0 +1,4 @@
+pub mod NoneLeft
+pub mod Walking
+pub mod Lists
+pub mod Here

@@ -1,0 +1,9 @@
+//! One walk over a block that merges each loop with the loops in its cells where that can be done, the inner loops first.
+#![tactic(auto)]
+
+mod here;
+mod known;
+mod walk;
+
+pub use known::KnownBlock;
+pub use walk::merge_block;
