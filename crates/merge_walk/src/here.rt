@@ -76,7 +76,7 @@ fn merge_loop(
 }
 
 /// A loop with what is known of its value.
-fn known_loop(alloc: Global, made: PartedLoop) -> Result<KnownRight, Memory>
+pub fn known_loop(alloc: Global, made: PartedLoop) -> Result<KnownRight, Memory>
     ensures right { IfOk result (λ new. right_term new.right ≡ parted_term made) }
     ensures known { IfOk result (λ new. (called : ℕ → List (Option (List ℕ))) (k : Facts) →
         map fact_of new.values.items ≡ right_facts called (right_term new.right) k) }
