@@ -35,6 +35,23 @@ pub fn merge_here(
     if targets.len() != 1 {
         return Ok(known);
     }
+    merge_one(alloc, known, called, table, progress)
+}
+
+/// The same of a right side that is bound to one variable.
+fn merge_one(
+    alloc: Global,
+    known: KnownRight,
+    called: &CalledShapes,
+    table: &mut FactTable,
+    progress: &mut Progress,
+) -> Result<KnownRight, Memory>
+    requires known { map fact_of known.values.items ≡ right_facts (shapes_of called.now) (right_term known.right) (facts_of table.old) }
+    ensures merged { IfOk result (λ new. MergedOrNot (shapes_of called.now) (facts_of table.old) progress.old progress.new (right_term known.right)
+        (right_term new.right)) }
+    ensures known { IfOk result (λ new. map fact_of new.values.items ≡ right_facts (shapes_of called.now) (right_term new.right) (facts_of table.old)) }
+    ensures table { OnOk result (table.new ≡ table.old) }
+{
     let KnownRight { right, values } = known;
     match right {
         Right::Parted(outer) => {
