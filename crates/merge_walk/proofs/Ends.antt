@@ -66,13 +66,10 @@ module _ (called : ℕ → List (Option (List ℕ))) where
   -- ---- a binding: its right side was walked through, and then looked at itself
 
   pub binding_end :
-      (k k' : Facts) (p m q : Progress) (s : Site) (xs ys : List Var) (r t : RightTerm) (new : Result KnownRight Memory) → k' ≡ k → ys ≡ xs → RightWalked called k p m r t →
-      IfOk new (λ (n : KnownRight). BindingMerged called k' m q ys t (right_term n.right)) →
-      IfOk new (λ (n : KnownRight). LetsWalked called k p q (record { targets = xs; site = s; right = r } ∷ []) (record { targets = xs; site = s; right = right_term n.right } ∷ []))
-  binding_end k k' p m q s xs ys r t (Ok n) e f w h =
-      let_walked called k p m q s r t (right_term n.right) w xs
-      (subst (λ (zs : List Var). BindingMerged called k m q zs t (right_term n.right)) f (subst (λ (o : Facts). BindingMerged called o m q ys t (right_term n.right)) e h))
-  binding_end k k' p m q s xs ys r t (Err m') e f w h = tt
+      (k k' : Facts) (p m q : Progress) (s : Site) (xs ys : List Var) (r t u : RightTerm) → k' ≡ k → ys ≡ xs → RightWalked called k p m r t → BindingMerged called k' m q ys t u →
+      LetsWalked called k p q (record { targets = xs; site = s; right = r } ∷ []) (record { targets = xs; site = s; right = u } ∷ [])
+  binding_end k k' p m q s xs ys r t u e f w h =
+      let_walked called k p m q s r t u w xs (subst (λ (zs : List Var). BindingMerged called k m q zs t u) f (subst (λ (o : Facts). BindingMerged called o m q ys t u) e h))
 
   pub learned_end :
       (k mid late after : Facts) (xs ys : List Var) (facts : List Fact) (t : RightTerm) → mid ≡ k → late ≡ mid → ys ≡ xs → facts ≡ right_facts called t mid → after ≡ note_all late ys facts → after ≡ note_all k xs (right_facts called t k)

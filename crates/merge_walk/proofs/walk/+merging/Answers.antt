@@ -66,16 +66,23 @@ merge_block-returns-clause-table t c = c.undo.ensures ∙ c.loop-binding.invaria
 -- ---- bindings
 
 pub merge_binding-merge_here-requires : goal.merge_binding-merge_here-requires
-merge_binding-merge_here-requires t c = ?
+merge_binding-merge_here-requires t c = record {
+  known = known_at (shapes_of c.args.called.now) (facts_of c.args.table.now) (facts_of c.merge_right.new.table) _ (right_term c.in_ok-inside.inside.right) (ap facts_of c.in_ok-inside.ensures.table) c.in_ok-inside.ensures.known;
+}
 
 pub merge_binding-returns-clause-walked : goal.merge_binding-returns-clause-walked
-merge_binding-returns-clause-walked t c = ?
+merge_binding-returns-clause-walked t c =
+    let old = c.args.binding in
+    binding_end (shapes_of c.args.called.now) (facts_of c.args.table.now) (facts_of c.merge_right.new.table) c.args.progress.now c.merge_right.new.progress c.merge_here.new.progress old.site old.targets.items c.deref.result.now
+    (right_term old.right) (right_term c.in_ok-inside.inside.right) (right_term c.in_ok-right.field-0.right) (ap facts_of c.in_ok-inside.ensures.table) c.deref.ensures.value c.in_ok-inside.ensures.walked c.in_ok-right.ensures.merged
 
 pub merge_binding-returns-clause-learned : goal.merge_binding-returns-clause-learned
-merge_binding-returns-clause-learned t c = ?
+merge_binding-returns-clause-learned t c =
+    learned_end (shapes_of c.args.called.now) (facts_of c.args.table.now) (facts_of c.merge_right.new.table) (facts_of c.merge_here.new.table) (facts_of c.learn_all.new.facts) c.args.binding.targets.items c.deref-2.result.now _
+    (right_term c.in_ok-right.field-0.right) (ap facts_of c.in_ok-inside.ensures.table) (ap facts_of c.in_ok-right.ensures.table) c.deref-2.ensures.value c.in_ok-right.ensures.known c.in_ok-learn_all.ensures.noted
 
 pub merge_binding-returns-clause-earlier : goal.merge_binding-returns-clause-earlier
-merge_binding-returns-clause-earlier t c = ?
+merge_binding-returns-clause-earlier t c = earlier_end c.args.table.now c.merge_here.new.table c.learn_all.new.facts (c.in_ok-right.ensures.table ∙ c.in_ok-inside.ensures.table) c.learn_all.ensures.behind
 
 -- ---- generators
 
