@@ -35,7 +35,7 @@ shown_gen x = record {
 
 gen_out : (g : CoreGen) → gen_term g ≡ shown_gen (out-CoreGen g)
 unfolding out-CoreGen denote.Hole.Carrier.out
-gen_out (CoreGen' a b c d e f g h i j k) = refl
+gen_out (CoreGen' a b c d e f h i j k) = refl
 
 gen_roll : (x : CoreGen-F the_data the_data-1 the_data-2 the_data-3 the_data-4 the_data-5 the_data-6) → gen_term (roll-CoreGen x) ≡ shown_gen x
 gen_roll x = gen_out (roll-CoreGen x) ∙ ap shown_gen (out-roll-CoreGen x)

@@ -11,13 +11,16 @@ use Rattle.core_ir.specs.Edits.{here, later, inside, in_then, in_else, in_test, 
 use Rattle.core_ir.specs.Terms.{PlainTerm, BlockTerm, RightTerm, GensTerm, PartsTerm, LetTerm, GenTerm, PartTerm, GenHead, PartHead, Gives, Bind, Plain, NoGens, Gen, NoParts, Part, chain}
 use Rattle.core_facts.specs.Facts.{Facts, note_all, right_facts, in_part}
 use Rattle.core_loops.specs.Steps.{facts_after}
-use Rattle.core_merge_forms.proofs.Straight.{chain_append}
 use Rattle.parted_bodies.specs.declared.names.Progress.{Progress}
 use Rattle.merge_walk.specs.Here.{BindingMerged, IsMerged, MergedOrNot}
 use Rattle.merge_walk.specs.Lists.{GensWalked, GenWalked, LetsWalk, LetsWalked, PartsWalked, PartWalked, gens_behind, parts_behind}
 use Rattle.merge_walk.specs.NoneLeft.{NoneHere, NoneLets, NoneMergeable, NoneMergeableGens, NoneMergeableParts, NoneMergeableRight}
 use Rattle.merge_walk.specs.Walking.{Walk, Walked, BlockStep, BlockWalked, GensStep, PartsStep, RightStep, RightWalked, stays}
 use Rattle.merge_walk.proofs.Walks.{join, lift, lifted_two, no_step, one_step, untouched}
+
+chain_append : (xs ys : List LetTerm) (end : BlockTerm) → chain (xs ++ ys) end ≡ chain xs (chain ys end)
+chain_append [] ys end = refl
+chain_append (x ∷ xs) ys end = ap (Bind x.targets x.site x.right) (chain_append xs ys end)
 
 add_none : (r : ℕ) → r ≡ r + 0
 add_none r = omega arith

@@ -8,6 +8,7 @@ use Rattle.core_ir.specs.declared.tree.CoreGen.{out-CoreGen}
 use Rattle.core_ir.specs.declared.tree.CorePart.{out-CorePart}
 use Rattle.core_ir.specs.declared.tree.Let.{Let}
 use Rattle.core_ir.specs.declared.tree.PartedLoop.{out-PartedLoop}
+use Rattle.core_ir.specs.declared.tree.WithLoop.{out-WithLoop, roll-WithLoop}
 use Rattle.core_ir.specs.View.{block_term, gen_term, let_term, part_term, right_term}
 use Rattle.core_facts.specs.Facts.{Facts, note_all}
 use Rattle.core_loops.specs.Steps.{facts_after}
@@ -108,11 +109,11 @@ pub merge_with-returns-clause-walked : goal.merge_with-returns-clause-walked
 merge_with-returns-clause-walked t c =
     let rest = c.loop-generator.generator-iterator.rest in
     let none = none_left rest.len rest.items c.in-None.ensures.steps.0 rest.ok.0 in
-    generators_end (shapes_of c.args.called.now) (facts_of c.args.table.now) c.args.progress.now c.loop-generator.progress _ rest.items c.loop-generator.merged.items _ c.args.with _
+    generators_end (shapes_of c.args.called.now) (facts_of c.args.table.now) c.args.progress.now c.loop-generator.progress _ rest.items c.loop-generator.merged.items (record { gens = c.loop-generator.merged; op = (out-WithLoop c.args.with).op }) c.args.with _
     c.loop-generator.invariant.so_far none c.into_iter-generator-iterator.ensures.into_iter_gives.0 refl refl c.of_with.ensures.right
 
 pub merge_with-returns-clause-known : goal.merge_with-returns-clause-known
-merge_with-returns-clause-known t c = with_known (shapes_of c.args.called.now) (facts_of c.args.table.now) _ _ _ c.of_with.ensures.known c.of_with.ensures.right
+merge_with-returns-clause-known t c = with_known (shapes_of c.args.called.now) (facts_of c.args.table.now) (roll-WithLoop (record { gens = c.loop-generator.merged; op = (out-WithLoop c.args.with).op })) _ _ c.of_with.ensures.known c.of_with.ensures.right
 
 pub merge_gen-returns-clause-walked : goal.merge_gen-returns-clause-walked
 merge_gen-returns-clause-walked t c =
