@@ -1,5 +1,5 @@
 -- Bindings, generators, parts and right sides by their fields, after a walk.
-use Rattle.std.proofs.Common.{◌≡◌, ◌-◌, ℕ, suc, Bool, List, [], ◌∷◌, map, length, Option, refl, sym, ap, subst, ◌∙◌}
+use Rattle.std.proofs.Common.{◌≡◌, ◌-◌, ℕ, Bool, List, [], ◌∷◌, map, length, Option, refl, sym, ap, subst, ◌∙◌}
 use Rattle.std.specs.Prelude.{Result, Ok, Err, IfOk, OnOk, Vec, drop}
 use Rattle.sac_base.specs.declared.memory.Memory.{Memory}
 use Rattle.sac_base.specs.declared.site.Site.{Site}
@@ -15,8 +15,8 @@ use Rattle.core_ir.specs.declared.tree.PartedLoop.{PartedLoop, PartedLoop-F, out
 use Rattle.core_ir.specs.declared.tree.Right.TheBlock.{the_data, the_data-1, the_data-2, the_data-3, the_data-4, the_data-5, the_data-6}
 use Rattle.core_ir.specs.Terms.{PlainTerm, RightTerm, Plain, GenTerm, PartTerm}
 use Rattle.core_ir.specs.View.{block_term, gen_term, part_term, right_term, with_term, parted_term}
-use Rattle.core_ir.proofs.Trees.{with_out, parted_out}
-use Rattle.core_facts.specs.Facts.{Fact, Facts, note_all, in_part, right_facts, shape_fact, known_shape, parted_shape}
+use Rattle.core_ir.proofs.Trees.{with_out}
+use Rattle.core_facts.specs.Facts.{Fact, Facts, note_all, in_part, right_facts}
 use Rattle.fact_table.specs.Table.{fact_of}
 use Rattle.plain_facts.specs.Rights.{fact_of_right}
 use Rattle.parted_bodies.specs.declared.names.Progress.{Progress}
@@ -126,10 +126,6 @@ earlier_end start late now e h = subst (λ ns. drop (length now - length ns) now
 pub known_here : (new : Result KnownRight Memory) (called : ℕ → List (Option (List ℕ))) (k : Facts) → IfOk new (λ (n : KnownRight). (called : ℕ → List (Option (List ℕ))) (k : Facts) → map fact_of n.values.items ≡ right_facts called (right_term n.right) k) → IfOk new (λ (n : KnownRight). map fact_of n.values.items ≡ right_facts called (right_term n.right) k)
 known_here (Ok n) called k h = h called k
 known_here (Err m) called k h = tt
-
-pub loop_known : (new : Result KnownRight Memory) (w : PartedLoop) (known : Fact) → IfOk new (λ (n : KnownRight). right_term n.right ≡ parted_term w) → IfOk new (λ (n : KnownRight). map fact_of n.values.items ≡ known ∷ []) → known ≡ shape_fact (known_shape (parted_shape (out-PartedLoop w).frame (out-PartedLoop w).cell (out-PartedLoop w).op)) → IfOk new (λ (n : KnownRight). (called : ℕ → List (Option (List ℕ))) (k : Facts) → map fact_of n.values.items ≡ right_facts called (right_term n.right) k)
-loop_known (Ok n) w known h q e = λ called k. q ∙ ap (λ f. f ∷ []) e ∙ ap (λ t. right_facts called t k) (sym (parted_out w)) ∙ ap (λ t. right_facts called t k) (sym h)
-loop_known (Err m) w known h q e = tt
 
 -- ---- right sides without blocks
 

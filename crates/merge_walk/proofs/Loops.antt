@@ -1,5 +1,5 @@
 -- One loop that is merged by a plan, or that cannot be.
-use Rattle.std.proofs.Common.{◌≡◌, ℕ, suc, ◌+◌, List, [], ◌∷◌, map, length, All, Option, refl, sym, ap, subst, ◌∙◌, arith, inl, inr, true, false, true≢false}
+use Rattle.std.proofs.Common.{◌≡◌, ℕ, suc, ◌+◌, List, [], ◌∷◌, map, length, All, Option, refl, sym, ap, subst, ◌∙◌, arith, inl, inr, true, true≢false}
 use Rattle.std.specs.Prelude.{Result, Ok, Err, IfOk}
 use Rattle.sac_base.specs.declared.memory.Memory.{Memory}
 use Rattle.sac_base.specs.declared.base.Base.{Base}

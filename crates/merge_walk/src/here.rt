@@ -27,8 +27,8 @@ pub fn merge_here(
     progress: &mut Progress,
 ) -> Result<KnownRight, Memory>
     requires known { map fact_of known.values.items ≡ right_facts (shapes_of called.now) (right_term known.right) (facts_of table.old) }
-    ensures merged { IfOk result (λ new. BindingMerged (shapes_of called.now) (facts_of table.old) progress.old progress.new targets.now (right_term known.right)
-        (right_term new.right)) }
+    ensures merged { IfOk result (λ new. BindingMerged (shapes_of called.now) (facts_of table.old) progress.old progress.new targets.now
+        (right_term known.right) (right_term new.right)) }
     ensures known { IfOk result (λ new. map fact_of new.values.items ≡ right_facts (shapes_of called.now) (right_term new.right) (facts_of table.old)) }
     ensures table { OnOk result (table.new ≡ table.old) }
 {
