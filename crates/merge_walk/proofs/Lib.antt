@@ -1,0 +1,5 @@
+pub mod Walks
+pub mod Lines
+pub mod Turns
+pub mod Loops
+pub mod Ends
