@@ -1,64 +1,88 @@
--- Turns of normalising and folding, one after another.
+-- Turns of normalising, folding and merging, one after another.
 use Rattle.std.proofs.Common.{◌≡◌, ℕ, ◌+◌, List, [], ◌∷◌, length, refl, sym, ap, subst, ◌∙◌, arith}
 use Rattle.std.proofs.lemmas.List.{length-map}
-use Rattle.core_ir.specs.Outcome.{SameHeads, SameOutside}
-use Rattle.core_ir.specs.Terms.{FunTerm, CoreTerm}
+use Rattle.core_ir.specs.Outcome.{SameOutside}
+use Rattle.core_ir.specs.Terms.{CoreTerm}
 use Rattle.core_ir.specs.WellFormed.{IsWellFormed}
 use Rattle.core_calls.specs.Arrays.{SameOutcomeOnArrays}
-use Rattle.core_norm_forms.specs.Walks.{NormSteps}
 use Rattle.core_fold_forms.specs.Walks.{FoldSteps}
+use Rattle.core_merge_forms.specs.Walks.{MergeSteps}
+use Rattle.core_norm_forms.specs.Walks.{NormSteps}
+use Rattle.dense_variables.specs.Dense.{dense_core}
 use Rattle.fold_walk.specs.declared.state.Fold.{Fold}
+use Rattle.scalarise.specs.Scalarised.{NoneLeft}
+use Rattle.unreached_functions.proofs.Outside.{outside_itself, outside_through}
 use Rattle.with_norm.specs.Normed.{AllNormal}
 use Rattle.wl_folding.specs.Folded.{HasNoPairs, entries_of, entry_of}
-use Rattle.loop_turns.specs.Steps.{AreSettled, Kept, Turned, Turns, no_turn, turn}
+use Rattle.loop_turns.specs.Steps.{AreSettled, Kept, Turn, TurnKept, TurnMade, Turned, Turns, no_turn, turn}
 
-heads_itself : (fs : List FunTerm) → SameHeads fs fs
-heads_itself [] = tt
-heads_itself (f ∷ fs) = (record { site = refl; types = refl; inlines = refl }, heads_itself fs)
-
-heads_through : (fs gs hs : List FunTerm) → SameHeads fs gs → SameHeads gs hs → SameHeads fs hs
-heads_through [] [] [] p q = tt
-heads_through [] [] (h ∷ hs) p q = absurd q
-heads_through [] (g ∷ gs) hs p q = absurd p
-heads_through (f ∷ fs) [] hs p q = absurd p
-heads_through (f ∷ fs) (g ∷ gs) [] p q = absurd q
-heads_through (f ∷ fs) (g ∷ gs) (h ∷ hs) p q =
-    (record { site = p.0.site ∙ q.0.site; types = p.0.types ∙ q.0.types; inlines = p.0.inlines ∙ q.0.inlines }, heads_through fs gs hs p.1 q.1)
-
-outside_through : (a b c : CoreTerm) → SameOutside a b → SameOutside b c → SameOutside a c
-outside_through a b c p q = record {
-  groups = p.groups ∙ q.groups;
-  main = p.main ∙ q.main;
-  heads = heads_through a.functions b.functions c.functions p.heads q.heads;
-}
-
-pub turned_itself : (a : CoreTerm) → Turned a a 0
+pub turned_itself : (a : CoreTerm) → Turned a a 0 0
 turned_itself a = record {
-  outside = record { groups = refl; main = refl; heads = heads_itself a.functions };
+  outside = outside_itself a;
   kept = λ well. record { outcome = λ args caps full. refl; well = well; turns = no_turn };
 }
+
+-- a turn more
+pub turned_on : (a b c : CoreTerm) (folded scalarised pairs nests f s : ℕ) → Turned a b folded scalarised → TurnMade b c pairs nests → f ≡ folded + pairs → s ≡ scalarised + nests → Turned a c f s
+turned_on a b c folded scalarised pairs nests f s t one ef es = record {
+  outside = outside_through a b c t.outside one.outside;
+  kept = λ well.
+      let before = t.kept well in
+      let now = one.kept before.well in
+      record {
+        outcome = λ args caps full. before.outcome args caps full ∙ now.outcome args caps full;
+        well = now.well;
+        turns = subst (λ (n : ℕ). Turns n s a c) (sym ef) (subst (λ (n : ℕ). Turns (folded + pairs) n a c) (sym es) (turn before.turns now.turn));
+      };
+}
+
+-- what each of the four passes says of a well-formed core
+pub record Pass (Steps : Type 0) (a b : CoreTerm) : Type 0 where
+  pub outside : SameOutside a b
+  pub well : IsWellFormed a → IsWellFormed b
+  pub outcome : IsWellFormed a → SameOutcomeOnArrays a b
+  pub steps : IsWellFormed a → Steps
 
 as_many : (folds : List Fold) → length (entries_of folds) ≡ length folds
 as_many folds = length-map folds entry_of
 
--- a turn more
-pub turned_on :
-    (a b c d : CoreTerm) (folded replaced sum : ℕ) (folds : List Fold) → Turned a b folded →
-    SameOutside b c → (IsWellFormed b → IsWellFormed c) → (IsWellFormed b → SameOutcomeOnArrays b c) → (IsWellFormed b → NormSteps replaced b c) →
-    SameOutside c d → (IsWellFormed c → IsWellFormed d) → (IsWellFormed c → SameOutcomeOnArrays c d) → (IsWellFormed c → FoldSteps (entries_of folds) c d) →
-    sum ≡ folded + length folds → Turned a d sum
-turned_on a b c d folded replaced sum folds t out1 well1 same1 steps1 out2 well2 same2 steps2 e = record {
-  outside = outside_through a b d t.outside (outside_through b c d out1 out2);
-  kept = λ well.
-      let before = t.kept well in
-      let normal = well1 before.well in
-      record {
-        outcome = λ args caps full. before.outcome args caps full ∙ same1 before.well args caps full ∙ same2 normal args caps full;
-        well = well2 normal;
-        turns = subst (λ (n : ℕ). Turns n a d) (ap (λ (n : ℕ). folded + n) (as_many folds) ∙ sym e) (turn before.turns (steps1 before.well) (steps2 normal));
-      };
+no_fold : (folds : List Fold) → length folds ≡ 0 → folds ≡ []
+no_fold [] e = refl
+no_fold (f ∷ fs) e = absurd (omega (arith, e))
+
+-- a turn that folds and merges nothing leaves nothing
+settled_at_end : (normal single merged : CoreTerm) → single ≡ normal → merged ≡ single → AllNormal normal → HasNoPairs single → NoneLeft merged → AreSettled merged
+settled_at_end normal single merged same1 same2 n p m = record {
+  normal = subst AllNormal (sym (same2 ∙ same1)) n;
+  pairs = subst HasNoPairs (sym same2) p;
+  nests = m;
 }
 
--- a turn that folds nothing leaves nothing
-pub settled_at_end : (c d : CoreTerm) (folds : List Fold) → folds ≡ [] → (folds ≡ [] → d ≡ c) → AllNormal c → HasNoPairs d → AreSettled d
-settled_at_end c d folds none same normal pairs = (subst AllNormal (sym (same none)) normal, pairs)
+pub turn_made :
+    (a dense normal single merged : CoreTerm) (replaced folded scalarised : ℕ) (folds : List Fold) →
+    Pass (dense ≡ dense_core a) a dense → Pass (NormSteps replaced dense normal) dense normal → Pass (FoldSteps (entries_of folds) normal single) normal single →
+    Pass (MergeSteps scalarised single merged) single merged → (IsWellFormed dense → AllNormal normal) → (folds ≡ [] → single ≡ normal) → HasNoPairs single →
+    (scalarised ≡ 0 → merged ≡ single) → NoneLeft merged → length folds ≡ folded → TurnMade a merged folded scalarised
+turn_made a dense normal single merged replaced folded scalarised folds numbering normalising folding merging all same1 pairs same2 nests count = record {
+  outside = outside_through a dense merged numbering.outside (outside_through dense normal merged normalising.outside (outside_through normal single merged folding.outside merging.outside));
+  kept = λ well0.
+      let well1 = numbering.well well0 in
+      let well2 = normalising.well well1 in
+      let well3 = folding.well well2 in
+      record {
+        outcome = λ args caps full.
+            numbering.outcome well0 args caps full ∙ normalising.outcome well1 args caps full ∙ folding.outcome well2 args caps full ∙ merging.outcome well3 args caps full;
+        well = merging.well well3;
+        turn = record {
+          normal = normal;
+          single = single;
+          replaced = replaced;
+          pairs = entries_of folds;
+          normalised = subst (λ (core : CoreTerm). NormSteps replaced core normal) (numbering.steps well0) (normalising.steps well1);
+          folds = folding.steps well2;
+          count = as_many folds ∙ count;
+          merges = merging.steps well3;
+        };
+        settled = λ e1 e2. settled_at_end normal single merged (same1 (no_fold folds (count ∙ e1))) (same2 e2) (all well1) pairs nests;
+      };
+}

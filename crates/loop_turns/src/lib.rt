@@ -1,6 +1,6 @@
-//! With-loops become parted loops and pairs of those are folded, in turn.
+//! Parted loops are made, folded and merged, in turn.
 #![tactic(auto)]
 
-mod loops;
+mod turns;
 
-pub use loops::fold_loops;
+pub use turns::{Optimised, optimise_loops};

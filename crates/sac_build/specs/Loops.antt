@@ -10,6 +10,7 @@ use Rattle.core_ir.specs.Terms.{CoreTerm}
 use Rattle.core_ir.specs.WellFormed.{IsWellFormed}
 use Rattle.counted_code.specs.Terms.{CodeProgram, core_of_code}
 use Rattle.with_norm.specs.Normed.{AllNormal}
+use Rattle.scalarise.specs.Scalarised.{NoneLeft}
 use Rattle.wl_folding.specs.Folded.{HasNoPairs}
 use Rattle.loop_turns.specs.Steps.{Turns}
 use Rattle.sac_build.specs.Arguments.{AreArrays}
@@ -23,9 +24,14 @@ HasNormalLoops code = AllNormal (core_of_code code)
 abbrev pub HasNoFoldablePair : CodeProgram → Type 0
 HasNoFoldablePair code = HasNoPairs (core_of_code code)
 
--- The code came by turns with so many fold steps in all from a core that has the outcome of the program on all arguments that are arrays of these forms.
-pub record IsFolded (p : ProgramTree) (forms : List Form) (folded : ℕ) (code : CodeProgram) : Type 0 where
+-- In no block is a loop left that can be merged with the ones in its cells, but for those that would get grids of more than 8 axes.
+abbrev pub HasNoMergeableNest : CodeProgram → Type 0
+HasNoMergeableNest code = NoneLeft (core_of_code code)
+
+-- The code came by turns, with so many fold steps and merge steps in all, from a core that has the outcome of the program on all arguments that are arrays of
+-- these forms.
+pub record CameFrom (p : ProgramTree) (forms : List Form) (folded scalarised : ℕ) (code : CodeProgram) : Type 0 where
   pub core : CoreTerm
   pub well : IsWellFormed core
   pub outcome : (args : List ArrayValue) (caps : Caps) → AreArrays args → map form_of args ≡ forms → outcome core args caps ≡ source.outcome p args caps
-  pub turns : Turns folded core (core_of_code code)
+  pub turns : Turns folded scalarised core (core_of_code code)

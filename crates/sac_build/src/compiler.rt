@@ -11,13 +11,13 @@ ghost use Rattle.counted_code.specs.Counts.{IsWellCounted, IsUnmarked};
 ghost use Rattle.counted_code.specs.Prompt.{IsPrompt};
 ghost use Rattle.counted_code.specs.Outcome.{whole_run, outcome_of};
 ghost use Rattle.sac_build.specs.Arguments.{AreArrays};
-ghost use Rattle.sac_build.specs.Loops.{HasNoFoldablePair, HasNormalLoops, IsFolded};
+ghost use Rattle.sac_build.specs.Loops.{CameFrom, HasNoFoldablePair, HasNoMergeableNest, HasNormalLoops};
 ghost use Rattle.sac_build.specs.Mains.{MainTakesForms};
 
 use const_shape::propagate;
 use counted_code::Code;
 use inline_calls::inline_all;
-use loop_turns::fold_loops;
+use loop_turns::optimise_loops;
 use ref_counts::count_refs;
 use sac_base::{Form, Memory};
 use single_assign::to_core;
@@ -41,8 +41,9 @@ pub struct Compiled {
 /// that are arrays of these forms and under all limits its outcome on the machine is that of the program, faults and their sites included. Where the
 /// types of the program's main contain these forms, main of the code takes arrays of these forms alone. In a function in which no right side always
 /// faults, no with-loop is left that can become a parted loop. No pair of parted loops is left that can be folded, but for those whose producer has a
-/// bound too far from 0 or a frame with gaps, and those whose consumer would get more than 64 parts. The code came from a core that has the program's
-/// outcome by normalising steps and as many fold steps as `folded` says.
+/// bound too far from 0 or a frame with gaps, and those whose consumer would get more than 64 parts. No loop is left that can be merged with the ones
+/// in its cells, but for those that would get grids of more than 8 axes. The code came by turns from a core that has the program's outcome, with as many
+/// fold steps as `folded` says and as many merge steps as `scalarised` says.
 ///
 /// # Errors
 ///
@@ -57,18 +58,18 @@ pub fn compile(alloc: Global, checked: &Checked, forms: &[Form]) -> Result<Compi
     ensures main { ProgramFormed (tree checked.now.program) → IfOk result (λ c. MainTakesForms (tree checked.now.program) forms.now (code_program c.code)) }
     ensures normal { ProgramFormed (tree checked.now.program) → IfOk result (λ c. HasNormalLoops (code_program c.code)) }
     ensures pairs { ProgramFormed (tree checked.now.program) → IfOk result (λ c. HasNoFoldablePair (code_program c.code)) }
-    ensures folded { ProgramFormed (tree checked.now.program) → IfOk result (λ c. IsFolded (tree checked.now.program) forms.now c.folded (code_program c.code)) }
-    ensures none { IfOk result (λ c. c.scalarised ≡ 0) }
+    ensures nests { ProgramFormed (tree checked.now.program) → IfOk result (λ c. HasNoMergeableNest (code_program c.code)) }
+    ensures turns { ProgramFormed (tree checked.now.program) → IfOk result (λ c. CameFrom (tree checked.now.program) forms.now c.folded c.scalarised (code_program c.code)) }
 {
     let core = to_core(alloc, checked)?;
     let inlined = inline_all(alloc, core)?;
     let special = specialise(alloc, inlined, forms)?;
     let settled = propagate(alloc, special)?;
-    let (normal, folded) = fold_loops(alloc, settled)?;
-    let code = count_refs(alloc, normal)?;
+    let loops = optimise_loops(alloc, settled)?;
+    let code = count_refs(alloc, loops.core)?;
     Ok(Compiled {
         code,
-        folded,
-        scalarised: 0,
+        folded: loops.folded,
+        scalarised: loops.scalarised,
     })
 }

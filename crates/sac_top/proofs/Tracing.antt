@@ -26,7 +26,7 @@ use Rattle.run_eval.specs.Outcomes.{new_heap, IsCleared, HasCounters, TellsCost,
 use Rattle.sac_words.specs.declared.options.Mode.TheVariants.{Run}
 use Rattle.sac_words.specs.Meaning.{Meant, Origin, empty, file, generated, words_mean}
 use Rattle.sac_build.specs.Arguments.{AreArrays}
-use Rattle.sac_build.specs.Loops.{IsFolded}
+use Rattle.sac_build.specs.Loops.{CameFrom}
 use Rattle.sac_due.specs.Report.{Numbers}
 use Rattle.sac_due.specs.Input.{IsText, arguments}
 use Rattle.sac_due.specs.Source.{IsProgramOf}
@@ -65,31 +65,29 @@ after_results ended t cost m is h = subst (λ o. IfOk o (λ results. HasCost t c
 -- whatever ended the run but want of memory
 pub run_traced : (p : ProgramTree) (args : List ArrayValue) (caps : Caps) (code : Code) (r : Result (Vec ArrayValue Global) Stop) (before : PhaseTotals) (t : Trace) (h : HeapValue) (folded scalarised : ℕ)
     → AreArrays args → IsCodeFor p (map form_of args) (code_program code) → TellsItems r (outcome_of (whole_run (code_program code) args caps)) → TellsCost r t (cost_of (whole_run (code_program code) args caps))
-    → TellsTally r before t.tally (cost_of (whole_run (code_program code) args caps)) → HasCounters t h → IsFolded p (map form_of args) folded (code_program code) → scalarised ≡ 0 → HasEnded r
+    → TellsTally r before t.tally (cost_of (whole_run (code_program code) args caps)) → HasCounters t h → CameFrom p (map form_of args) folded scalarised (code_program code) → HasEnded r
     → IsRunTraced p args caps before (record t { code = Some code; folded = folded; scalarised = scalarised }) h
-run_traced p args caps code (Ok v) before t h folded scalarised arrays sound tells cost tally counters f s other = record {
+run_traced p args caps code (Ok v) before t h folded scalarised arrays sound tells cost tally counters turns other = record {
   code = code;
   kept = refl;
   sound = sound;
-  folded = f;
-  scalarised = s;
+  turns = turns;
   cost = after_results (outcome p args caps) t (cost_of (whole_run (code_program code) args caps)) (Ok v.items) (sym tells ∙ sound.outcome args caps arrays refl) cost;
   phases = cost.3;
   tally = tally;
   counters = counters;
 }
-run_traced p args caps code (Err (stop.Faulted e)) before t h folded scalarised arrays sound tells cost tally counters f s other = record {
+run_traced p args caps code (Err (stop.Faulted e)) before t h folded scalarised arrays sound tells cost tally counters turns other = record {
   code = code;
   kept = refl;
   sound = sound;
-  folded = f;
-  scalarised = s;
+  turns = turns;
   cost = after_results (outcome p args caps) t (cost_of (whole_run (code_program code) args caps)) (Err e) (sym tells ∙ sound.outcome args caps arrays refl) tt;
   phases = cost;
   tally = tally;
   counters = counters;
 }
-run_traced p args caps code (Err stop.Memory) before t h folded scalarised arrays sound tells cost tally counters f s other = absurd other
+run_traced p args caps code (Err stop.Memory) before t h folded scalarised arrays sound tells cost tally counters turns other = absurd other
 
 -- what holds whatever the answer
 pub whatever : {T E : Type 0} (r : Result T E) (P : Type 0) → P → IfOk r (λ x. P)

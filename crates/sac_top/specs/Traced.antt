@@ -21,7 +21,7 @@ use Rattle.run_eval.specs.declared.trace.Trace.{Trace}
 use Rattle.run_eval.specs.Outcomes.{HasCounters}
 use Rattle.sac_words.specs.Meaning.{Meant, file}
 use Rattle.sac_build.specs.Arguments.{AreArrays}
-use Rattle.sac_build.specs.Loops.{HasNormalLoops, HasNoFoldablePair, IsFolded}
+use Rattle.sac_build.specs.Loops.{HasNormalLoops, HasNoFoldablePair, HasNoMergeableNest, CameFrom}
 use Rattle.sac_build.specs.Mains.{MainTakesForms}
 use Rattle.sac_due.specs.Report.{Numbers}
 use Rattle.sac_due.specs.Source.{IsProgramOf}
@@ -48,7 +48,8 @@ IsRunStatus _ = ⊥
 -- Code for a program and arguments of these forms: it is well counted and prompt, no loop in it is marked, and on all arguments that are arrays of
 -- these forms and under all limits its outcome on the machine is that of the program. Where the types of the program's main contain the forms, its main
 -- takes arrays of these forms alone. In a function in which no right side always faults, no with-loop is left that can become a parted loop, and in none
--- a pair of parted loops is left that can be folded, but for two kinds of pairs that HasNoFoldablePair names.
+-- a pair of parted loops that can be folded, or a loop that can be merged with the ones in its cells, but for the few that HasNoFoldablePair and
+-- HasNoMergeableNest name.
 pub record IsCodeFor (p : ProgramTree) (forms : List Form) (code : CodeProgram) : Type 0 where
   pub counted : IsWellCounted code
   pub prompt : IsPrompt code
@@ -57,6 +58,7 @@ pub record IsCodeFor (p : ProgramTree) (forms : List Form) (code : CodeProgram) 
   pub main : MainTakesForms p forms code
   pub normal : HasNormalLoops code
   pub pairs : HasNoFoldablePair code
+  pub nests : HasNoMergeableNest code
 
 -- the trace's four numbers of a run are the cost
 abbrev pub HasCost : Trace → Cost → Type 0
@@ -72,8 +74,7 @@ pub record IsRunTraced (p : ProgramTree) (args : List ArrayValue) (caps : Caps) 
   pub code : Code
   pub kept : trace.code ≡ Some code
   pub sound : IsCodeFor p (map form_of args) (code_program code)
-  pub folded : IsFolded p (map form_of args) trace.folded (code_program code)
-  pub scalarised : trace.scalarised ≡ 0
+  pub turns : CameFrom p (map form_of args) trace.folded trace.scalarised (code_program code)
   pub cost : IfOk (outcome p args caps) (λ results. HasCost trace (cost_of (whole_run (code_program code) args caps)))
   pub phases : trace.phases ≡ (cost_of (whole_run (code_program code) args caps)).phases
   pub tally : HasRisen before trace.tally (cost_of (whole_run (code_program code) args caps)).phases

@@ -3,7 +3,7 @@ use Rattle.std.proofs.lemmas.Result.{IfOk-weaker}
 use Rattle.sac_base.specs.Arrays.{form_of}
 use Rattle.counted_code.specs.View.{code_program}
 use Rattle.core_source_laws.proofs.Cores.{source_formed}
-use Rattle.sac_build.specs.Loops.{IsFolded}
+use Rattle.sac_build.specs.Loops.{CameFrom}
 use Rattle.sac_build.specs.Mains.{MainTakesForms}
 use Rattle.sac_top.specs.Sessions.{program_of}
 use Rattle.sac_top.proofs.Tracing.{stays, run_traced, ends_with}
@@ -35,8 +35,10 @@ returns-clause-traced g c =
       main = subst (λ fs. MainTakesForms (program_of c.args.job.now) fs (code_program c.in_ok-compiled.compiled.code)) (sym forms) (c.in_ok-compiled.ensures.main formed);
       normal = c.in_ok-compiled.ensures.normal formed;
       pairs = c.in_ok-compiled.ensures.pairs formed;
+      nests = c.in_ok-compiled.ensures.nests formed;
     })
     c.run-result.ensures.outcome c.run-result.ensures.cost c.run-result.ensures.tally c.run-result.ensures.counters
-    (subst (λ fs. IsFolded (program_of c.args.job.now) fs c.in_ok-compiled.compiled.folded (code_program c.in_ok-compiled.compiled.code)) (sym forms) (c.in_ok-compiled.ensures.folded formed))
-    c.in_ok-compiled.ensures.none ended)
+    (subst (λ fs. CameFrom (program_of c.args.job.now) fs c.in_ok-compiled.compiled.folded c.in_ok-compiled.compiled.scalarised (code_program c.in_ok-compiled.compiled.code)) (sym forms)
+    (c.in_ok-compiled.ensures.turns formed))
+    ended)
     c.outcome_told.ensures.ended
