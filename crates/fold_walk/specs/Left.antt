@@ -5,7 +5,8 @@ use Rattle.sac_base.specs.declared.grid.Grid1.{Grid1}
 use Rattle.sac_base.specs.declared.site.Site.{Site}
 use Rattle.core_ir.specs.declared.tree.Var.{Var}
 use Rattle.core_ir.specs.declared.tree.PartedOp.{PartedOp}
-use Rattle.core_ir.specs.Terms.{BlockTerm, RightTerm, GensTerm, PartsTerm, LetTerm, PartTerm, Gives, Bind, Plain, NoGens, Gen, NoParts, Part, Parted, chain, parts_of}
+use Rattle.core_ir.specs.Terms.{BlockTerm, RightTerm, GensTerm, PartsTerm, LetTerm, PartTerm}
+use Rattle.core_ir.specs.Terms.{Gives, Bind, Plain, NoGens, Gen, NoParts, Part, Parted, chain, parts_of}
 use Rattle.core_facts.specs.Facts.{Facts, note_all, right_facts, in_part}
 use Rattle.core_loops.specs.Pairs.{Producer, IsFoldable, grids_of}
 use Rattle.core_loops.specs.Steps.{facts_after}

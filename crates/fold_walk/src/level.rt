@@ -1,6 +1,7 @@
 //! The pairs whose loops are bound in one block.
 
-ghost use Rattle.std.specs.Prelude.{◌≡◌, ◌-◌, ◌+◌, ◌^◌, ◌<◌, ◌≤◌, ◌++◌, [], ◌∷◌, Some, slice_get, slice_set, vec_len, IfOk, IfSome, IfNone, OnOk, map, drop, length, reverse as reversed};
+ghost use Rattle.std.specs.Prelude.{◌≡◌, ◌-◌, ◌+◌, ◌^◌, ◌<◌, ◌≤◌, ◌++◌, [], ◌∷◌, Some, slice_get, slice_set, vec_len};
+ghost use Rattle.std.specs.Prelude.{IfOk, IfSome, IfNone, OnOk, map, drop, length, reverse as reversed};
 ghost use Rattle.core_ir.specs.Terms.{Gives, LetTerm, chain};
 ghost use Rattle.core_ir.specs.View.{let_term, part_term};
 ghost use Rattle.core_facts.specs.Facts.{note_all, right_facts};
@@ -34,8 +35,8 @@ pub fn fold_level(
     table: &mut FactTable,
     folding: &mut Folding,
 ) -> Result<Vec<Let>, Memory>
-    ensures folded { IfOk result (λ new. LevelFolded (shapes_of given.now.called.now) given.now.function (facts_of table.old) (state_of folding.old) (state_of folding.new)
-        (map let_term lets.items) (map let_term new.items) results.now) }
+    ensures folded { IfOk result (λ new. LevelFolded (shapes_of given.now.called.now) given.now.function (facts_of table.old)
+        (state_of folding.old) (state_of folding.new) (map let_term lets.items) (map let_term new.items) results.now) }
     ensures learned { IfOk result (λ new. facts_of table.new ≡ facts_after (shapes_of given.now.called.now) (map let_term new.items) (facts_of table.old)) }
     ensures earlier { OnOk result (drop (length table.new - length table.old) table.new ≡ table.old) }
 {
@@ -59,7 +60,8 @@ fn take_turn(
     done: &mut Vec<Let>,
 ) -> Result<(), Memory>
     requires { IfSome found (λ new. new.0 < vec_len behind.old) }
-    ensures folded { OnOk result (IfSome found (λ new. TurnFolded behind.old.items behind.new.items done.old.items done.new.items table.old table.new new.0 new.1)) }
+    ensures folded { OnOk result (IfSome found (λ new. TurnFolded behind.old.items behind.new.items done.old.items done.new.items
+        table.old table.new new.0 new.1)) }
     ensures kept { OnOk result (IfNone found (TurnKept (shapes_of given.now.called.now) binding behind.old.items behind.new.items done.old.items done.new.items
         (facts_of table.old) (facts_of table.new))) }
     ensures earlier { OnOk result (drop (length table.new - length table.old) table.new ≡ table.old) }
@@ -236,7 +238,11 @@ fn with_parts(
     parted: &PartedLoop,
     parts: Vec<CorePart>,
 ) -> Result<Let, Memory>
-    ensures { IfOk result (λ new. let_term new ≡ record { targets = target ∷ []; site = site; right = loop_with parted.now (parts_in (map part_term parts.items)) }) }
+    ensures { IfOk result (λ new. let_term new ≡ record {
+      targets = target ∷ [];
+      site = site;
+      right = loop_with parted.now (parts_in (map part_term parts.items));
+    }) }
 {
     let mut targets = Vec::new(alloc);
     targets.push(target)?;
