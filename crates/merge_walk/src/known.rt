@@ -1,11 +1,36 @@
 //! Terms with what is known of their values.
 
-use core_ir::Block;
+ghost use Rattle.std.specs.Prelude.{◌≡◌, [], ◌∷◌, IfOk, map};
+ghost use Rattle.core_ir.specs.View.{right_term};
+ghost use Rattle.fact_table.specs.Table.{fact_of};
+
+use core_ir::{Block, Right};
 use fact_table::Known;
+use sac_base::Memory;
+use std::alloc::Global;
 
 /// A block, and what is known of its results.
 #[derive(Drop)]
 pub struct KnownBlock {
     pub block: Block,
     pub results: Vec<Known>,
+}
+
+/// A right side, and what is known of its values.
+#[derive(Drop)]
+pub struct KnownRight {
+    pub right: Right,
+    pub values: Vec<Known>,
+}
+
+impl KnownRight {
+    /// A right side of one value.
+    pub fn of_one(alloc: Global, right: Right, known: Known) -> Result<KnownRight, Memory>
+        ensures right { IfOk result (λ new. right_term new.right ≡ right_term right) }
+        ensures known { IfOk result (λ new. map fact_of new.values.items ≡ fact_of known ∷ []) }
+    {
+        let mut values = Vec::new(alloc);
+        values.push(known)?;
+        Ok(KnownRight { right, values })
+    }
 }

@@ -1,6 +1,7 @@
 //! One walk over a block that merges each loop with the loops in its cells where that can be done, the inner loops first.
 #![tactic(auto)]
 
+mod here;
 mod known;
 mod walk;
 

@@ -1,17 +1,23 @@
 //! One walk over a block.
 
-ghost use Rattle.std.specs.Prelude.{◌≡◌, IfOk, OnOk, map};
-ghost use Rattle.core_ir.specs.View.{block_term};
-ghost use Rattle.core_facts.specs.Facts.{block_facts};
+ghost use Rattle.std.specs.Prelude.{◌≡◌, ◌-◌, [], ◌∷◌, IfOk, OnOk, map, drop, length};
+ghost use Rattle.core_ir.specs.View.{block_term, let_term, right_term, with_term, gen_term, parted_term, part_term};
+ghost use Rattle.core_facts.specs.Facts.{note_all, block_facts, right_facts};
 ghost use Rattle.fact_table.specs.Table.{fact_of, facts_of};
 ghost use Rattle.plain_facts.specs.Called.{shapes_of};
-ghost use Rattle.merge_walk.specs.Walking.{BlockWalked};
+ghost use Rattle.plain_facts.specs.Rights.{fact_of_right};
+ghost use Rattle.merge_walk.specs.Lists.{LetsWalked, GenWalked, PartWalked};
+ghost use Rattle.merge_walk.specs.Walking.{BlockWalked, RightWalked};
 
-use crate::known::KnownBlock;
-use core_ir::Block;
-use fact_table::FactTable;
+use crate::here::merge_here;
+use crate::known::{KnownBlock, KnownRight};
+use core_ir::{Block, CoreGen, CorePart, Let, PartedLoop, Right, WithLoop};
+use fact_table::{FactTable, Known};
 use parted_bodies::Progress;
-use plain_facts::CalledShapes;
+use plain_facts::{
+    CalledShapes, common_facts, forget, forget_index, known_of, learn_all, learn_index,
+    parted_shape, plain_fact,
+};
 use sac_base::Memory;
 use std::alloc::Global;
 
@@ -22,6 +28,7 @@ use std::alloc::Global;
 /// # Errors
 ///
 /// `Memory`: there is none for a merged loop or for what is known of a variable, or the numbers of variables have more than 32 bits.
+#[cycle(merging)]
 pub fn merge_block(
     alloc: Global,
     block: Block,
@@ -34,5 +41,234 @@ pub fn merge_block(
     ensures known { IfOk result (λ new. map fact_of new.results.items ≡ block_facts (shapes_of called.now) (block_term new.block) (facts_of table.old)) }
     ensures table { OnOk result (table.new ≡ table.old) }
 {
-    Err(Memory)
+    let Block { lets, results } = block;
+    let before = table.mark();
+    let mut merged = Vec::new(alloc);
+    for binding in lets {
+        merged.push(merge_binding(alloc, binding, called, table, progress)?)?;
+    }
+    let known = known_of(alloc, table, &results)?;
+    table.undo(before);
+    Ok(KnownBlock {
+        block: Block {
+            lets: merged,
+            results,
+        },
+        results: known,
+    })
+}
+
+/// The table learns what the new right side tells of the targets.
+#[cycle(merging)]
+fn merge_binding(
+    alloc: Global,
+    binding: Let,
+    called: &CalledShapes,
+    table: &mut FactTable,
+    progress: &mut Progress,
+) -> Result<Let, Memory>
+    ensures walked { IfOk result (λ l. LetsWalked (shapes_of called.now) (facts_of table.old) progress.old progress.new (let_term binding ∷ [])
+        (let_term l ∷ [])) }
+    ensures learned { IfOk result (λ l. facts_of table.new
+        ≡ note_all (facts_of table.old) l.targets.items (right_facts (shapes_of called.now) (right_term l.right) (facts_of table.old))) }
+    ensures earlier { OnOk result (drop (length table.new - length table.old) table.new ≡ table.old) }
+{
+    let Let {
+        targets,
+        site,
+        right,
+    } = binding;
+    let inside = merge_right(alloc, right, called, table, progress)?;
+    let KnownRight { right, values } = merge_here(
+        alloc, &targets, inside, called, table, progress,
+    )?;
+    learn_all(table, &targets, values)?;
+    Ok(Let {
+        targets,
+        site,
+        right,
+    })
+}
+
+/// Merges the loops in the blocks of a right side.
+#[cycle(merging)]
+fn merge_right(
+    alloc: Global,
+    right: Right,
+    called: &CalledShapes,
+    table: &mut FactTable,
+    progress: &mut Progress,
+) -> Result<KnownRight, Memory>
+    ensures walked { IfOk result (λ new. RightWalked (shapes_of called.now) (facts_of table.old) progress.old progress.new (right_term right)
+        (right_term new.right)) }
+    ensures known { IfOk result (λ new. map fact_of new.values.items ≡ right_facts (shapes_of called.now) (right_term new.right) (facts_of table.old)) }
+    ensures table { OnOk result (table.new ≡ table.old) }
+{
+    match right {
+        Right::If { cond, yes, no } => {
+            let yes = merge_block(alloc, yes, called, table, progress)?;
+            let no = merge_block(alloc, no, called, table, progress)?;
+            let values = common_facts(alloc, &yes.results, &no.results)?;
+            Ok(KnownRight {
+                right: Right::If {
+                    cond,
+                    yes: yes.block,
+                    no: no.block,
+                },
+                values,
+            })
+        }
+        Right::Loop {
+            first_body,
+            start,
+            params,
+            test,
+            body,
+            test_site,
+        } => {
+            let outer = table.mark();
+            forget(alloc, table, &params)?;
+            let test = merge_block(alloc, test, called, table, progress)?;
+            let body = merge_block(alloc, body, called, table, progress)?;
+            table.undo(outer);
+            Ok(KnownRight {
+                right: Right::Loop {
+                    first_body,
+                    start,
+                    params,
+                    test: test.block,
+                    body: body.block,
+                    test_site,
+                },
+                values: Vec::new(alloc),
+            })
+        }
+        Right::Call { group, args } => Ok(KnownRight {
+            right: Right::Call { group, args },
+            values: called.facts(alloc, group)?,
+        }),
+        Right::With(w) => Ok(KnownRight {
+            right: Right::With(merge_with(alloc, w, called, table, progress)?),
+            values: Vec::new(alloc),
+        }),
+        Right::Parted(p) => merge_parted(alloc, p, called, table, progress),
+        plain => known_plain(alloc, plain, table),
+    }
+}
+
+fn known_plain(alloc: Global, right: Right, table: &FactTable) -> Result<KnownRight, Memory>
+    ensures right { IfOk result (λ new. right_term new.right ≡ right_term right) }
+    ensures known { IfOk result (λ new. map fact_of new.values.items ≡ fact_of_right (right_term right) (facts_of table.now) ∷ []) }
+{
+    let known = plain_fact(alloc, &right, table)?;
+    KnownRight::of_one(alloc, right, known)
+}
+
+#[cycle(merging)]
+fn merge_with(
+    alloc: Global,
+    with: WithLoop,
+    called: &CalledShapes,
+    table: &mut FactTable,
+    progress: &mut Progress,
+) -> Result<WithLoop, Memory>
+    ensures walked { IfOk result (λ w. RightWalked (shapes_of called.now) (facts_of table.old) progress.old progress.new (with_term with)
+        (with_term w)) }
+    ensures table { OnOk result (table.new ≡ table.old) }
+{
+    let WithLoop { gens, op } = with;
+    let mut merged = Vec::new(alloc);
+    for generator in gens {
+        merged.push(merge_gen(alloc, generator, called, table, progress)?)?;
+    }
+    Ok(WithLoop { gens: merged, op })
+}
+
+#[cycle(merging)]
+fn merge_gen(
+    alloc: Global,
+    generator: CoreGen,
+    called: &CalledShapes,
+    table: &mut FactTable,
+    progress: &mut Progress,
+) -> Result<CoreGen, Memory>
+    ensures walked { IfOk result (λ g. GenWalked (shapes_of called.now) (facts_of table.old) progress.old progress.new (gen_term generator)
+        (gen_term g)) }
+    ensures table { OnOk result (table.new ≡ table.old) }
+{
+    let outer = table.mark();
+    forget_index(alloc, table, generator.index, &generator.names)?;
+    let body = merge_block(alloc, generator.body, called, table, progress)?;
+    table.undo(outer);
+    Ok(CoreGen {
+        lower: generator.lower,
+        lower_closed: generator.lower_closed,
+        upper: generator.upper,
+        upper_closed: generator.upper_closed,
+        step: generator.step,
+        width: generator.width,
+        index: generator.index,
+        names: generator.names,
+        body: body.block,
+        site: generator.site,
+    })
+}
+
+#[cycle(merging)]
+fn merge_parted(
+    alloc: Global,
+    parted: PartedLoop,
+    called: &CalledShapes,
+    table: &mut FactTable,
+    progress: &mut Progress,
+) -> Result<KnownRight, Memory>
+    ensures walked { IfOk result (λ new. RightWalked (shapes_of called.now) (facts_of table.old) progress.old progress.new (parted_term parted)
+        (right_term new.right)) }
+    ensures known { IfOk result (λ new. map fact_of new.values.items ≡ right_facts (shapes_of called.now) (right_term new.right) (facts_of table.old)) }
+    ensures table { OnOk result (table.new ≡ table.old) }
+{
+    let PartedLoop {
+        frame,
+        base,
+        cell,
+        op,
+        parts,
+    } = parted;
+    let mut merged = Vec::new(alloc);
+    for part in parts {
+        merged.push(merge_part(alloc, part, called, table, progress)?)?;
+    }
+    let shape = parted_shape(alloc, &frame, &cell, op);
+    let right = Right::Parted(PartedLoop {
+        frame,
+        base,
+        cell,
+        op,
+        parts: merged,
+    });
+    KnownRight::of_one(alloc, right, Known::of_shape(shape))
+}
+
+#[cycle(merging)]
+fn merge_part(
+    alloc: Global,
+    part: CorePart,
+    called: &CalledShapes,
+    table: &mut FactTable,
+    progress: &mut Progress,
+) -> Result<CorePart, Memory>
+    ensures walked { IfOk result (λ p. PartWalked (shapes_of called.now) (facts_of table.old) progress.old progress.new (part_term part)
+        (part_term p)) }
+    ensures table { OnOk result (table.new ≡ table.old) }
+{
+    let outer = table.mark();
+    learn_index(alloc, table, part.index, &part.grid)?;
+    let body = merge_block(alloc, part.body, called, table, progress)?;
+    table.undo(outer);
+    Ok(CorePart {
+        grid: part.grid,
+        index: part.index,
+        body: body.block,
+        site: part.site,
+    })
 }
