@@ -2,3 +2,4 @@ pub mod Walks
 pub mod Lines
 pub mod Turns
 pub mod Loops
+pub mod Ends

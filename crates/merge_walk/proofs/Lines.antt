@@ -1,5 +1,5 @@
 -- Bindings, generators and parts, one more after others.
-use Rattle.std.proofs.Common.{◌≡◌, ℕ, zero, suc, ◌+◌, List, [], ◌∷◌, ◌++◌, Option, refl, sym, ap, subst, ◌∙◌, arith, inl, inr}
+use Rattle.std.proofs.Common.{◌≡◌, ℕ, ◌+◌, List, [], ◌∷◌, ◌++◌, Option, refl, sym, ap, subst, arith, inl, inr}
 use Rattle.std.specs.Prelude.{Bool}
 use Rattle.sac_base.specs.declared.base.Base.{Base}
 use Rattle.sac_base.specs.declared.grid.Grid1.{Grid1}
@@ -11,25 +11,16 @@ use Rattle.core_ir.specs.Edits.{here, later, inside, in_then, in_else, in_test, 
 use Rattle.core_ir.specs.Terms.{PlainTerm, BlockTerm, RightTerm, GensTerm, PartsTerm, LetTerm, GenTerm, PartTerm, GenHead, PartHead, Gives, Bind, Plain, NoGens, Gen, NoParts, Part, chain}
 use Rattle.core_facts.specs.Facts.{Facts, note_all, right_facts, in_part}
 use Rattle.core_loops.specs.Steps.{facts_after}
-use Rattle.core_merge_forms.proofs.Straight.{chain_append}
 use Rattle.parted_bodies.specs.declared.names.Progress.{Progress}
-use Rattle.merge_walk.specs.Here.{BindingMerged, IsMerged, MergedOrNot}
-use Rattle.merge_walk.specs.Lists.{GensWalked, GenWalked, LetsWalk, LetsWalked, PartsWalked, PartWalked, gens_behind, parts_behind}
+use Rattle.merge_walk.specs.Here.{BindingMerged, IsMerged}
+use Rattle.merge_walk.specs.Lists.{GensWalked, GenWalked, LetsWalked, PartsWalked, PartWalked, gens_behind, parts_behind}
 use Rattle.merge_walk.specs.NoneLeft.{NoneHere, NoneLets, NoneMergeable, NoneMergeableGens, NoneMergeableParts, NoneMergeableRight}
-use Rattle.merge_walk.specs.Walking.{Walk, Walked, BlockStep, BlockWalked, GensStep, PartsStep, RightStep, RightWalked, stays}
-use Rattle.merge_walk.proofs.Walks.{join, lift, lifted_two, no_step, one_step, untouched}
+use Rattle.merge_walk.specs.Walking.{Walk, BlockStep, BlockWalked, GensStep, PartsStep, RightStep, RightWalked, stays}
+use Rattle.merge_walk.proofs.Walks.{add_both, add_none, first_none, second_none, join, lift, lifted_two, no_step, one_step, untouched}
 
-add_none : (r : ℕ) → r ≡ r + 0
-add_none r = omega arith
-
-add_both : (r s t n m : ℕ) → s ≡ r + n → t ≡ s + m → t ≡ r + (n + m)
-add_both r s t n m p q = omega (arith, p, q)
-
-first_none : (n m : ℕ) → n + m ≡ 0 → n ≡ 0
-first_none n m e = omega (arith, e)
-
-second_none : (n m : ℕ) → n + m ≡ 0 → m ≡ 0
-second_none n m e = omega (arith, e)
+chain_append : (xs ys : List LetTerm) (end : BlockTerm) → chain (xs ++ ys) end ≡ chain xs (chain ys end)
+chain_append [] ys end = refl
+chain_append (x ∷ xs) ys end = ap (Bind x.targets x.site x.right) (chain_append xs ys end)
 
 module _ (called : ℕ → List (Option (List ℕ))) where
   -- ---- bindings

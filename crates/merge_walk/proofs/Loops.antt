@@ -1,5 +1,7 @@
 -- One loop that is merged by a plan, or that cannot be.
-use Rattle.std.proofs.Common.{◌≡◌, ℕ, suc, ◌+◌, List, [], ◌∷◌, map, length, All, Option, refl, sym, ap, subst, ◌∙◌, arith, inl, inr, true, false, true≢false}
+use Rattle.std.proofs.Common.{◌≡◌, ℕ, suc, ◌+◌, List, [], ◌∷◌, map, length, All, Option, refl, sym, ap, subst, ◌∙◌, arith, inl, inr, true, true≢false}
+use Rattle.std.specs.Prelude.{Result, Ok, Err, IfOk}
+use Rattle.sac_base.specs.declared.memory.Memory.{Memory}
 use Rattle.sac_base.specs.declared.base.Base.{Base}
 use Rattle.sac_base.specs.declared.grid.Grid1.{Grid1}
 use Rattle.core_ir.specs.declared.tree.PartedLoop.{PartedLoop, PartedLoop-F, out-PartedLoop, roll-PartedLoop}
@@ -21,6 +23,7 @@ use Rattle.merge_plans.specs.Openings.{is_parted}
 use Rattle.merge_plans.proofs.Opens.{not_parted}
 use Rattle.merged_parts.specs.Merging.{merged_all, PartFits}
 use Rattle.planned_merges.proofs.Whole.{fits}
+use Rattle.merge_walk.specs.declared.known.KnownRight.{KnownRight}
 use Rattle.merge_walk.specs.Here.{BindingMerged, IsMerged, MergedOrNot}
 
 module _ (called : ℕ → List (Option (List ℕ))) (k : Facts) where
@@ -76,18 +79,31 @@ module _ (called : ℕ → List (Option (List ℕ))) (k : Facts) where
   can_parted above (RightTerm.With o g) h = absurd h
   can_parted above (RightTerm.Parted f b c o p) h = refl
 
-  -- any other right side, and a binding of another number of variables
-  pub other_kept : (p : Progress) (xs : List Var) (r : Right) → ((l : PartedLoop) → r ≡ right.Parted l → ⊥) → BindingMerged called k p p xs (right_term r) (right_term r)
-  other_kept p [] r h = (refl, refl)
-  other_kept p (x ∷ []) r h = inr (refl, refl, λ can. true≢false (sym (can_parted p.next (right_term r) can) ∙ not_parted r h))
-  other_kept p (x ∷ y ∷ xs) r h = (refl, refl)
+  -- any other right side
+  pub other_kept : (p : Progress) (r : Right) → ((l : PartedLoop) → r ≡ right.Parted l → ⊥) → MergedOrNot called k p p (right_term r) (right_term r)
+  other_kept p r h = inr (refl, refl, λ can. true≢false (sym (can_parted p.next (right_term r) can) ∙ not_parted r h))
 
+  -- a loop, and what was made of it, in a right side
+  pub here_end :
+      (old new : Progress) (r : Right) (outer made : PartedLoop) (found : Result KnownRight Memory) → r ≡ right.Parted outer → MergedOrNot called k old new (parted_term outer) (parted_term made) →
+      IfOk found (λ (n : KnownRight). right_term n.right ≡ parted_term made) → IfOk found (λ (n : KnownRight). MergedOrNot called k old new (right_term r) (right_term n.right))
+  here_end old new r outer made (Ok n) is h e =
+      subst (λ (t : RightTerm). MergedOrNot called k old new (right_term r) t) (sym e) (subst (λ (t : RightTerm). MergedOrNot called k old new t (parted_term made)) (sym (ap right_term is)) h)
+  here_end old new r outer made (Err m) is h e = tt
+
+  -- a binding of another number of variables, and of one
   pub many_kept : (p : Progress) (xs : List Var) (r : RightTerm) → (length xs ≡ 1 → ⊥) → BindingMerged called k p p xs r r
   many_kept p [] r h = (refl, refl)
   many_kept p (x ∷ []) r h = absurd (h refl)
   many_kept p (x ∷ y ∷ xs) r h = (refl, refl)
 
-  pub one_merged : (old new : Progress) (xs : List Var) (r q : RightTerm) → length xs ≡ 1 → MergedOrNot called k old new r q → BindingMerged called k old new xs r q
+  one_merged : (old new : Progress) (xs : List Var) (r q : RightTerm) → length xs ≡ 1 → MergedOrNot called k old new r q → BindingMerged called k old new xs r q
   one_merged old new [] r q e h = absurd (omega (arith, e))
   one_merged old new (x ∷ []) r q e h = h
   one_merged old new (x ∷ y ∷ xs) r q e h = absurd (omega (arith, e))
+
+  pub one_end :
+      (old new : Progress) (xs : List Var) (r : RightTerm) (found : Result KnownRight Memory) → length xs ≡ 1 → IfOk found (λ (n : KnownRight). MergedOrNot called k old new r (right_term n.right)) →
+      IfOk found (λ (n : KnownRight). BindingMerged called k old new xs r (right_term n.right))
+  one_end old new xs r (Ok n) e h = one_merged old new xs r (right_term n.right) e h
+  one_end old new xs r (Err m) e h = tt

@@ -1,5 +1,5 @@
 -- Merges one after another, in a term and in what stands around it.
-use Rattle.std.proofs.Common.{◌≡◌, ℕ, zero, suc, ◌+◌, List, [], ◌∷◌, ◌++◌, Option, refl, sym, ap, subst, ◌∙◌, arith}
+use Rattle.std.proofs.Common.{◌≡◌, ℕ, suc, ◌+◌, refl, sym, subst, arith}
 use Rattle.parted_bodies.specs.declared.names.Progress.{Progress}
 use Rattle.merge_walk.specs.Walking.{Walk, Walked, stays, goes}
 
@@ -33,16 +33,16 @@ module _ (A B : Type 0) (S : ℕ → ℕ → A → A → Type 0) (T : ℕ → �
 
 -- ---- what was done
 
-add_none : (r : ℕ) → r ≡ r + 0
+pub add_none : (r : ℕ) → r ≡ r + 0
 add_none r = omega arith
 
-add_both : (r s t n m : ℕ) → s ≡ r + n → t ≡ s + m → t ≡ r + (n + m)
+pub add_both : (r s t n m : ℕ) → s ≡ r + n → t ≡ s + m → t ≡ r + (n + m)
 add_both r s t n m p q = omega (arith, p, q)
 
-first_none : (n m : ℕ) → n + m ≡ 0 → n ≡ 0
+pub first_none : (n m : ℕ) → n + m ≡ 0 → n ≡ 0
 first_none n m e = omega (arith, e)
 
-second_none : (n m : ℕ) → n + m ≡ 0 → m ≡ 0
+pub second_none : (n m : ℕ) → n + m ≡ 0 → m ≡ 0
 second_none n m e = omega (arith, e)
 
 pub untouched : (A : Type 0) (S : ℕ → ℕ → A → A → Type 0) (N : ℕ → A → Type 0) (p : Progress) (a : A) → N p.next a → Walked A (Walk A S) N p p a a

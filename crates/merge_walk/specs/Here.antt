@@ -7,7 +7,6 @@ use Rattle.core_facts.specs.Facts.{Facts}
 use Rattle.parted_bodies.specs.declared.names.Progress.{Progress}
 use Rattle.merge_plans.specs.Mergeable.{CanMerge}
 use Rattle.planned_merges.specs.Planned.{MergesPlanned}
-use Rattle.merge_walk.specs.NoneLeft.{NoneHere}
 
 module _ (called : ℕ → List (Option (List ℕ))) (k : Facts) (old new : Progress) where
   pub record IsMerged (r q : RightTerm) : Type 0 where

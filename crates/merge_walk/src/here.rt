@@ -27,14 +27,31 @@ pub fn merge_here(
     progress: &mut Progress,
 ) -> Result<KnownRight, Memory>
     requires known { map fact_of known.values.items ≡ right_facts (shapes_of called.now) (right_term known.right) (facts_of table.old) }
-    ensures merged { IfOk result (λ new. BindingMerged (shapes_of called.now) (facts_of table.old) progress.old progress.new targets.now (right_term known.right)
-        (right_term new.right)) }
+    ensures merged { IfOk result (λ new. BindingMerged (shapes_of called.now) (facts_of table.old) progress.old progress.new targets.now
+        (right_term known.right) (right_term new.right)) }
     ensures known { IfOk result (λ new. map fact_of new.values.items ≡ right_facts (shapes_of called.now) (right_term new.right) (facts_of table.old)) }
     ensures table { OnOk result (table.new ≡ table.old) }
 {
     if targets.len() != 1 {
         return Ok(known);
     }
+    merge_one(alloc, known, called, table, progress)
+}
+
+/// The same of a right side that is bound to one variable.
+fn merge_one(
+    alloc: Global,
+    known: KnownRight,
+    called: &CalledShapes,
+    table: &mut FactTable,
+    progress: &mut Progress,
+) -> Result<KnownRight, Memory>
+    requires known { map fact_of known.values.items ≡ right_facts (shapes_of called.now) (right_term known.right) (facts_of table.old) }
+    ensures merged { IfOk result (λ new. MergedOrNot (shapes_of called.now) (facts_of table.old) progress.old progress.new (right_term known.right)
+        (right_term new.right)) }
+    ensures known { IfOk result (λ new. map fact_of new.values.items ≡ right_facts (shapes_of called.now) (right_term new.right) (facts_of table.old)) }
+    ensures table { OnOk result (table.new ≡ table.old) }
+{
     let KnownRight { right, values } = known;
     match right {
         Right::Parted(outer) => {
@@ -76,7 +93,7 @@ fn merge_loop(
 }
 
 /// A loop with what is known of its value.
-fn known_loop(alloc: Global, made: PartedLoop) -> Result<KnownRight, Memory>
+pub fn known_loop(alloc: Global, made: PartedLoop) -> Result<KnownRight, Memory>
     ensures right { IfOk result (λ new. right_term new.right ≡ parted_term made) }
     ensures known { IfOk result (λ new. (called : ℕ → List (Option (List ℕ))) (k : Facts) →
         map fact_of new.values.items ≡ right_facts called (right_term new.right) k) }

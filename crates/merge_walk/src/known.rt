@@ -1,10 +1,10 @@
 //! Terms with what is known of their values.
 
 ghost use Rattle.std.specs.Prelude.{◌≡◌, [], ◌∷◌, IfOk, map};
-ghost use Rattle.core_ir.specs.View.{right_term};
+ghost use Rattle.core_ir.specs.View.{right_term, with_term};
 ghost use Rattle.fact_table.specs.Table.{fact_of};
 
-use core_ir::{Block, Right};
+use core_ir::{Block, Right, WithLoop};
 use fact_table::Known;
 use sac_base::Memory;
 use std::alloc::Global;
@@ -32,5 +32,16 @@ impl KnownRight {
         let mut values = Vec::new(alloc);
         values.push(known)?;
         Ok(KnownRight { right, values })
+    }
+
+    /// A with-loop, of whose value nothing is known.
+    pub fn of_with(alloc: Global, with: WithLoop) -> KnownRight
+        ensures right { right_term result.right ≡ with_term with }
+        ensures known { map fact_of result.values.items ≡ [] }
+    {
+        KnownRight {
+            right: Right::With(with),
+            values: Vec::new(alloc),
+        }
     }
 }

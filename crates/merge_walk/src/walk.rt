@@ -5,18 +5,16 @@ ghost use Rattle.core_ir.specs.View.{block_term, let_term, right_term, with_term
 ghost use Rattle.core_facts.specs.Facts.{note_all, block_facts, right_facts};
 ghost use Rattle.fact_table.specs.Table.{fact_of, facts_of};
 ghost use Rattle.plain_facts.specs.Called.{shapes_of};
-ghost use Rattle.plain_facts.specs.Rights.{fact_of_right};
 ghost use Rattle.merge_walk.specs.Lists.{LetsWalked, GenWalked, PartWalked};
 ghost use Rattle.merge_walk.specs.Walking.{BlockWalked, RightWalked};
 
-use crate::here::merge_here;
+use crate::here::{known_loop, merge_here};
 use crate::known::{KnownBlock, KnownRight};
 use core_ir::{Block, CoreGen, CorePart, Let, PartedLoop, Right, WithLoop};
-use fact_table::{FactTable, Known};
+use fact_table::FactTable;
 use parted_bodies::Progress;
 use plain_facts::{
-    CalledShapes, common_facts, forget, forget_index, known_of, learn_all, learn_index,
-    parted_shape, plain_fact,
+    CalledShapes, common_facts, forget, forget_index, known_of, learn_all, learn_index, plain_fact,
 };
 use sac_base::Memory;
 use std::alloc::Global;
@@ -147,23 +145,16 @@ fn merge_right(
             right: Right::Call { group, args },
             values: called.facts(alloc, group)?,
         }),
-        Right::With(w) => Ok(KnownRight {
-            right: Right::With(merge_with(alloc, w, called, table, progress)?),
-            values: Vec::new(alloc),
-        }),
+        Right::With(w) => merge_with(alloc, w, called, table, progress),
         Right::Parted(p) => merge_parted(alloc, p, called, table, progress),
-        plain => known_plain(alloc, plain, table),
+        plain => {
+            let known = plain_fact(alloc, &plain, table)?;
+            KnownRight::of_one(alloc, plain, known)
+        }
     }
 }
 
-fn known_plain(alloc: Global, right: Right, table: &FactTable) -> Result<KnownRight, Memory>
-    ensures right { IfOk result (λ new. right_term new.right ≡ right_term right) }
-    ensures known { IfOk result (λ new. map fact_of new.values.items ≡ fact_of_right (right_term right) (facts_of table.now) ∷ []) }
-{
-    let known = plain_fact(alloc, &right, table)?;
-    KnownRight::of_one(alloc, right, known)
-}
-
+/// Merges the loops in the bodies of the generators.
 #[cycle(merging)]
 fn merge_with(
     alloc: Global,
@@ -171,9 +162,10 @@ fn merge_with(
     called: &CalledShapes,
     table: &mut FactTable,
     progress: &mut Progress,
-) -> Result<WithLoop, Memory>
-    ensures walked { IfOk result (λ w. RightWalked (shapes_of called.now) (facts_of table.old) progress.old progress.new (with_term with)
-        (with_term w)) }
+) -> Result<KnownRight, Memory>
+    ensures walked { IfOk result (λ new. RightWalked (shapes_of called.now) (facts_of table.old) progress.old progress.new (with_term with)
+        (right_term new.right)) }
+    ensures known { IfOk result (λ new. map fact_of new.values.items ≡ right_facts (shapes_of called.now) (right_term new.right) (facts_of table.old)) }
     ensures table { OnOk result (table.new ≡ table.old) }
 {
     let WithLoop { gens, op } = with;
@@ -181,7 +173,7 @@ fn merge_with(
     for generator in gens {
         merged.push(merge_gen(alloc, generator, called, table, progress)?)?;
     }
-    Ok(WithLoop { gens: merged, op })
+    Ok(KnownRight::of_with(alloc, WithLoop { gens: merged, op }))
 }
 
 #[cycle(merging)]
@@ -196,21 +188,33 @@ fn merge_gen(
         (gen_term g)) }
     ensures table { OnOk result (table.new ≡ table.old) }
 {
+    let CoreGen {
+        lower,
+        lower_closed,
+        upper,
+        upper_closed,
+        step,
+        width,
+        index,
+        names,
+        body,
+        site,
+    } = generator;
     let outer = table.mark();
-    forget_index(alloc, table, generator.index, &generator.names)?;
-    let body = merge_block(alloc, generator.body, called, table, progress)?;
+    forget_index(alloc, table, index, &names)?;
+    let body = merge_block(alloc, body, called, table, progress)?;
     table.undo(outer);
     Ok(CoreGen {
-        lower: generator.lower,
-        lower_closed: generator.lower_closed,
-        upper: generator.upper,
-        upper_closed: generator.upper_closed,
-        step: generator.step,
-        width: generator.width,
-        index: generator.index,
-        names: generator.names,
+        lower,
+        lower_closed,
+        upper,
+        upper_closed,
+        step,
+        width,
+        index,
+        names,
         body: body.block,
-        site: generator.site,
+        site,
     })
 }
 
@@ -238,15 +242,16 @@ fn merge_parted(
     for part in parts {
         merged.push(merge_part(alloc, part, called, table, progress)?)?;
     }
-    let shape = parted_shape(alloc, &frame, &cell, op);
-    let right = Right::Parted(PartedLoop {
-        frame,
-        base,
-        cell,
-        op,
-        parts: merged,
-    });
-    KnownRight::of_one(alloc, right, Known::of_shape(shape))
+    known_loop(
+        alloc,
+        PartedLoop {
+            frame,
+            base,
+            cell,
+            op,
+            parts: merged,
+        },
+    )
 }
 
 #[cycle(merging)]
@@ -261,14 +266,20 @@ fn merge_part(
         (part_term p)) }
     ensures table { OnOk result (table.new ≡ table.old) }
 {
+    let CorePart {
+        grid,
+        index,
+        body,
+        site,
+    } = part;
     let outer = table.mark();
-    learn_index(alloc, table, part.index, &part.grid)?;
-    let body = merge_block(alloc, part.body, called, table, progress)?;
+    learn_index(alloc, table, index, &grid)?;
+    let body = merge_block(alloc, body, called, table, progress)?;
     table.undo(outer);
     Ok(CorePart {
-        grid: part.grid,
-        index: part.index,
+        grid,
+        index,
         body: body.block,
-        site: part.site,
+        site,
     })
 }
