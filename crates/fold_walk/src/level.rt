@@ -201,6 +201,9 @@ fn fold_into(
     };
     let progress = &mut folding.progress;
     let parts = all_parts(given.alloc, producer, &parted.parts, pieces, progress)?;
+    if folding.progress.next > given.most {
+        return Err(Memory);
+    }
     folding.log(given.function, producer.var, consumer)?;
     Ok(Some(with_parts(given.alloc, consumer, user.site, parted, parts)?))
 }

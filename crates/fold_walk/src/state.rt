@@ -26,6 +26,8 @@ pub struct Given<'a> {
     pub called: &'a CalledShapes,
     /// The place of the function.
     pub function: u32,
+    /// The greatest number that the next new variable may have: more count as want of memory.
+    pub most: u64,
 }
 
 /// The next new variable, and the pairs that were folded so far.

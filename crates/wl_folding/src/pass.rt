@@ -107,11 +107,8 @@ fn fold_functions(
     let mut place = 0u32;
     for function in functions {
         let before = above(&function)?;
-        let (function, longer) = fold_function(alloc, function, called, place, folds)?;
+        let (function, longer) = fold_function(alloc, function, called, place, folds, made)?;
         made = made.saturating_add(above(&function)?.saturating_sub(before));
-        if made > MOST_MADE {
-            return Err(Memory);
-        }
         walked.push(function)?;
         folds = longer;
         place = match place.checked_add(1) {
@@ -122,13 +119,14 @@ fn fold_functions(
     Ok((walked, folds))
 }
 
-/// The function at a place, and the pairs that were folded so far.
+/// The function at a place, and the pairs that were folded so far. So many variables were made in the functions before it.
 fn fold_function(
     alloc: Global,
     function: CoreFun,
     called: &CalledShapes,
     place: u32,
     folds: Vec<Fold>,
+    made: u64,
 ) -> Result<(CoreFun, Vec<Fold>), Memory>
     ensures { IfOk result (λ new. FunctionWalked (shapes_of called.now) place folds.items new.1.items (fun_term function) (fun_term new.0)) }
 {
@@ -139,6 +137,7 @@ fn fold_function(
         alloc,
         called,
         function: place,
+        most: first.saturating_add(MOST_MADE.saturating_sub(made)),
     };
     let mut folding = Folding {
         progress: Progress {
