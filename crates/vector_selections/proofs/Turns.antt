@@ -1,6 +1,7 @@
 -- One turn of the loops of the walk, and their ends.
 use Rattle.std.proofs.Common.{◌≡◌, ℕ, suc, ◌+◌, List, [], ◌∷◌, ◌++◌, map, length, Option, refl, sym, ap, ◌∙◌, arith}
 use Rattle.std.specs.List.{sum}
+use Rattle.std.proofs.lemmas.List.Sums.{sum_by-cons}
 use Rattle.sac_base.specs.declared.site.Site.{Site}
 use Rattle.core_ir.specs.declared.tree.Var.{Var}
 use Rattle.core_ir.specs.declared.tree.Let.{Let}
@@ -55,7 +56,7 @@ pub count_turn : (each : FunTerm → ℕ) (before rest : List CoreFun) (x : Core
     → n' + sum (map each (map fun_term rest)) ≡ whole
 count_turn each before rest x n n' more whole p b q m =
     let others = sum (map each (map fun_term rest)) in
-    (λ i. q i + others) ∙ (λ i. (n + m i) + others) ∙ plus_assoc n (each (fun_term x)) others ∙ (λ i. n + sum (map each (map fun_term (sym b i)))) ∙ p
+    (λ i. q i + others) ∙ (λ i. (n + m i) + others) ∙ plus_assoc n (each (fun_term x)) others ∙ (λ i. n + sym (sum_by-cons (λ (m : ℕ). m) (each (fun_term x)) (map each (map fun_term rest))) i) ∙ (λ i. n + sum (map each (map fun_term (sym b i)))) ∙ p
 
 plus_none : (n : ℕ) → n ≡ n + 0
 plus_none n = omega arith
