@@ -1,5 +1,5 @@
 -- One turn of the loops of the walk, and their ends.
-use Rattle.std.proofs.Common.{◌≡◌, ℕ, suc, ◌+◌, List, [], ◌∷◌, ◌++◌, map, length, Option, refl, sym, ap, ◌∙◌, arith}
+use Rattle.std.proofs.Common.{◌≡◌, ℕ, ◌+◌, List, [], ◌∷◌, ◌++◌, map, length, Option, refl, sym, ap, ◌∙◌, arith}
 use Rattle.std.specs.List.{sum}
 use Rattle.std.proofs.lemmas.List.Sums.{sum_by-cons}
 use Rattle.sac_base.specs.declared.site.Site.{Site}
@@ -17,8 +17,8 @@ use Rattle.core_ir.specs.View.{block_term, let_term, gen_term, part_term, with_t
 use Rattle.core_ir.proofs.Trees.{block_out, block_roll, with_out, with_roll, parted_out, parted_roll}
 use Rattle.core_subst.specs.Names.{variable}
 use Rattle.core_facts.specs.Facts.{Fact, Facts, note_all, right_facts, block_facts}
-use Rattle.core_selections.specs.Vectors.{Selection, next, next_right, next_gens, next_parts, vectored, vectored_right, vectored_gens, vectored_parts}
-use Rattle.vector_selections.specs.Vectored.{bind_chosen, bind_vectored, next_let, vectored_gen, next_gen, vectored_part, next_part}
+use Rattle.core_selections.specs.Vectors.{next, next_right, next_gens, next_parts, vectored, vectored_right, vectored_gens, vectored_parts}
+use Rattle.vector_selections.specs.Vectored.{bind_vectored, next_let, vectored_gen, next_gen, vectored_part, next_part}
 
 map_snoc : {A B : Type 0} (f : A → B) (xs : List A) (x : A) → map f (xs ++ (x ∷ [])) ≡ map f xs ++ (f x ∷ [])
 map_snoc f [] x = refl
