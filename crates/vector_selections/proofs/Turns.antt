@@ -1,6 +1,7 @@
 -- One turn of the loops of the walk, and their ends.
-use Rattle.std.proofs.Common.{◌≡◌, ℕ, suc, ◌+◌, List, [], ◌∷◌, ◌++◌, map, length, Option, refl, sym, ap, ◌∙◌, arith}
+use Rattle.std.proofs.Common.{◌≡◌, ℕ, ◌+◌, List, [], ◌∷◌, ◌++◌, map, length, Option, refl, sym, ap, ◌∙◌, arith}
 use Rattle.std.specs.List.{sum}
+use Rattle.std.proofs.lemmas.List.Sums.{sum_by-cons}
 use Rattle.sac_base.specs.declared.site.Site.{Site}
 use Rattle.core_ir.specs.declared.tree.Var.{Var}
 use Rattle.core_ir.specs.declared.tree.Let.{Let}
@@ -16,8 +17,8 @@ use Rattle.core_ir.specs.View.{block_term, let_term, gen_term, part_term, with_t
 use Rattle.core_ir.proofs.Trees.{block_out, block_roll, with_out, with_roll, parted_out, parted_roll}
 use Rattle.core_subst.specs.Names.{variable}
 use Rattle.core_facts.specs.Facts.{Fact, Facts, note_all, right_facts, block_facts}
-use Rattle.core_selections.specs.Vectors.{Selection, next, next_right, next_gens, next_parts, vectored, vectored_right, vectored_gens, vectored_parts}
-use Rattle.vector_selections.specs.Vectored.{bind_chosen, bind_vectored, next_let, vectored_gen, next_gen, vectored_part, next_part}
+use Rattle.core_selections.specs.Vectors.{next, next_right, next_gens, next_parts, vectored, vectored_right, vectored_gens, vectored_parts}
+use Rattle.vector_selections.specs.Vectored.{bind_vectored, next_let, vectored_gen, next_gen, vectored_part, next_part}
 
 map_snoc : {A B : Type 0} (f : A → B) (xs : List A) (x : A) → map f (xs ++ (x ∷ [])) ≡ map f xs ++ (f x ∷ [])
 map_snoc f [] x = refl
@@ -55,7 +56,7 @@ pub count_turn : (each : FunTerm → ℕ) (before rest : List CoreFun) (x : Core
     → n' + sum (map each (map fun_term rest)) ≡ whole
 count_turn each before rest x n n' more whole p b q m =
     let others = sum (map each (map fun_term rest)) in
-    (λ i. q i + others) ∙ (λ i. (n + m i) + others) ∙ plus_assoc n (each (fun_term x)) others ∙ (λ i. n + sum (map each (map fun_term (sym b i)))) ∙ p
+    (λ i. q i + others) ∙ (λ i. (n + m i) + others) ∙ plus_assoc n (each (fun_term x)) others ∙ (λ i. n + sym (sum_by-cons (λ (m : ℕ). m) (each (fun_term x)) (map each (map fun_term rest))) i) ∙ (λ i. n + sum (map each (map fun_term (sym b i)))) ∙ p
 
 plus_none : (n : ℕ) → n ≡ n + 0
 plus_none n = omega arith

@@ -74,7 +74,7 @@ fn in_functions(
     for function in functions {
         let (function, more) = in_function(alloc, function, called)?;
         vectored.push(function)?;
-        count = match count.checked_add(u64::from(more)) {
+        count = match count.checked_add(more) {
             Some(sum) => sum,
             None => return Err(Memory),
         };
@@ -87,7 +87,7 @@ fn in_function(
     alloc: Global,
     function: CoreFun,
     called: &CalledShapes,
-) -> Result<(CoreFun, u32), Memory>
+) -> Result<(CoreFun, u64), Memory>
     ensures term { IfOk result (λ new. fun_term new.0 ≡ vectored_function (shapes_of called.now) (fun_term function)) }
     ensures count { IfOk result (λ new. new.1 ≡ vectors_in (shapes_of called.now) (fun_term function)) }
 {
@@ -114,7 +114,7 @@ fn in_function(
         body,
         ends,
     };
-    Ok((function, fresh.saturating_sub(first)))
+    Ok((function, u64::from(fresh.saturating_sub(first))))
 }
 
 /// The first number above those of a function's variables.

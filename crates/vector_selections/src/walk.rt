@@ -195,21 +195,33 @@ fn in_gen(
     ensures fresh { OnOk result (fresh.new ≡ next_gen (shapes_of called.now) (gen_term generator) (facts_of table.old) fresh.old) }
     ensures table { OnOk result (table.new ≡ table.old) }
 {
+    let CoreGen {
+        lower,
+        lower_closed,
+        upper,
+        upper_closed,
+        step,
+        width,
+        index,
+        names,
+        body,
+        site,
+    } = generator;
     let outer = table.mark();
-    forget_index(alloc, table, generator.index, &generator.names)?;
-    let body = in_block(alloc, generator.body, called, table, fresh)?;
+    forget_index(alloc, table, index, &names)?;
+    let body = in_block(alloc, body, called, table, fresh)?;
     table.undo(outer);
     Ok(CoreGen {
-        lower: generator.lower,
-        lower_closed: generator.lower_closed,
-        upper: generator.upper,
-        upper_closed: generator.upper_closed,
-        step: generator.step,
-        width: generator.width,
-        index: generator.index,
-        names: generator.names,
+        lower,
+        lower_closed,
+        upper,
+        upper_closed,
+        step,
+        width,
+        index,
+        names,
         body: body.block,
-        site: generator.site,
+        site,
     })
 }
 
@@ -263,14 +275,20 @@ fn in_part(
     ensures fresh { OnOk result (fresh.new ≡ next_part (shapes_of called.now) (part_term part) (facts_of table.old) fresh.old) }
     ensures table { OnOk result (table.new ≡ table.old) }
 {
+    let CorePart {
+        grid,
+        index,
+        body,
+        site,
+    } = part;
     let outer = table.mark();
-    learn_index(alloc, table, part.index, &part.grid)?;
-    let body = in_block(alloc, part.body, called, table, fresh)?;
+    learn_index(alloc, table, index, &grid)?;
+    let body = in_block(alloc, body, called, table, fresh)?;
     table.undo(outer);
     Ok(CorePart {
-        grid: part.grid,
-        index: part.index,
+        grid,
+        index,
         body: body.block,
-        site: part.site,
+        site,
     })
 }

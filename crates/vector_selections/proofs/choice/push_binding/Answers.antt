@@ -1,4 +1,4 @@
-use Rattle.std.proofs.Common.{ap, sym, ◌∙◌, map}
+use Rattle.std.proofs.Common.{sym, ◌∙◌, map}
 use Rattle.core_ir.specs.Terms.{chain}
 use Rattle.core_ir.specs.View.{let_term}
 use Rattle.vector_selections.specs.Choice.{chosen}

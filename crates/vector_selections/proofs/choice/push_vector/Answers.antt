@@ -1,4 +1,4 @@
-use Rattle.std.proofs.Common.{refl, [], ◌∷◌}
+use Rattle.std.proofs.Common.{refl}
 use Rattle.core_ir.specs.Terms.{PlainTerm, Plain}
 use Rattle.vector_selections.proofs.Turns.{both_pushed}
 use Rattle.vector_selections.proofs.choice.push_vector.Goals as goal

@@ -11,10 +11,10 @@ loop-function-preserved c =
     let before = c.loop-function.function-iterator.rest.items in
     let rest = c.next.new.self.rest.items in
     let x = c.in-Some.function in
-    let new = c.in_ok-in_function.ensures in
+    let new = c.in_ok-function.ensures in
     record {
-      functions = function_turn (vectored_function called) c.loop-function.vectored.items c.push.new.self.items before rest x c.in_ok-in_function.field-0 _ v.functions c.in-Some.ensures.steps.0 c.in_ok-push.ensures.items new.term;
-      count = count_turn (vectors_in called) before rest x c.loop-function.count _ c.in_ok-in_function.field-1 _ v.count c.in-Some.ensures.steps.0 c.in-Some-2.ensures.1 new.count;
+      functions = function_turn (vectored_function called) c.loop-function.vectored.items c.push.new.self.items before rest x c.in_ok-function.function _ v.functions c.in-Some.ensures.steps.0 c.in_ok-push.ensures.items new.term;
+      count = count_turn (vectors_in called) before rest x c.loop-function.count _ c.in_ok-function.more _ v.count c.in-Some.ensures.steps.0 c.in-Some-checked_add.ensures.1 new.count;
     }
 
 pub returns-clause-term : goal.returns-clause-term

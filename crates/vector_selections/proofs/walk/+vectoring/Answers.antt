@@ -1,7 +1,6 @@
-use Rattle.std.proofs.Common.{◌≡◌, ◌-◌, ◌∙◌, ap, refl, sym, map, length, List}
+use Rattle.std.proofs.Common.{◌-◌, ◌∙◌, [], ◌∷◌, ap, refl, sym, map, length, List}
 use Rattle.std.specs.Prelude.{drop}
 use Rattle.core_ir.specs.declared.tree.Let.{Let}
-use Rattle.core_ir.specs.declared.tree.PartedLoop.{out-PartedLoop}
 use Rattle.core_ir.specs.Terms.{chain}
 use Rattle.core_ir.specs.View.{let_term, gen_term, part_term}
 use Rattle.core_selections.specs.Vectors.{vectored}
@@ -11,9 +10,7 @@ use Rattle.scoped_table.proofs.Marks.{earlier_on, none_gone}
 use Rattle.vector_selections.specs.Vectored.{vectored_gen, next_gen, vectored_part, next_part}
 use Rattle.vector_selections.proofs.Turns.{let_turn, next_turn, known_turn, none_left, block_end, next_end, known_end, gen_turn, gen_number, part_turn, part_number, with_end, with_number, parted_end, parted_number}
 use Rattle.core_ir.specs.declared.tree.CoreGen.{out-CoreGen}
-use Rattle.core_ir.specs.View.{right_term}
 use Rattle.core_facts.specs.Facts.{note_all}
-use Rattle.core_selections.specs.Vectors.{next_right, vectored_right}
 use Rattle.vector_selections.proofs.Ends.{IsOther, gen_end, gen_next, part_end, part_next, choice_end, choice_next, turns_end, turns_next, other_vectored, other_known, other_next, kept}
 use Rattle.vector_selections.proofs.walk.+vectoring.Goals as goal
 
