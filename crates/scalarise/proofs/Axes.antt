@@ -1,17 +1,20 @@
--- Scalarisable loops of a well-formed core can be merged, where grids have no more axes than their frames.
-use Rattle.std.proofs.Common.{◌≡◌, ℕ, suc, ◌+◌, ◌≤◌, List, [], ◌∷◌, ◌++◌, length, zip, All, Option, refl, sym, ap, subst, ◌∙◌, arith}
+-- Scalarisable loops of a well-formed core can be merged, where grids without members have no more axes than their frames.
+use Rattle.std.proofs.Common.{true, inl, inr, ◌≡◌, ℕ, suc, ◌+◌, ◌≤◌, List, [], ◌∷◌, ◌++◌, length, zip, All, Option, refl, sym, ap, subst, ◌∙◌, arith}
+use Rattle.std.specs.Prelude.{ℤ}
 use Rattle.std.proofs.lemmas.List.{length-append}
 use Rattle.std.proofs.lemmas.List.Elements.{All-nil, All-cons, All-head, All-tail}
 use Rattle.sac_base.specs.declared.base.Base.{Base}
 use Rattle.sac_base.specs.declared.base.Base.TheVariants.{Bool as Truth, Int}
 use Rattle.sac_base.specs.declared.grid.Grid1.{Grid1}
 use Rattle.sac_base.specs.declared.site.Site.{Site}
+use Rattle.sac_base.specs.Grids.{has_vector}
 use Rattle.core_ir.specs.declared.tree.Var.{Var}
 use Rattle.core_ir.specs.declared.tree.PartedOp.TheVariants as parted
 use Rattle.core_ir.specs.Meaning.{extents}
 use Rattle.core_ir.specs.Terms.{BlockTerm, RightTerm, GensTerm, PartsTerm, LetTerm, FunTerm, CoreTerm, Gives, Bind, Plain, NoGens, Gen, NoParts, Part, chain}
 use Rattle.core_ir.specs.WellFormed.{Bases, BlockBases, RightBases, GensBases, PartsBases, IsFunction, IsWellFormed, bases, ints, param_bases, part_grids}
 use Rattle.core_facts.specs.Facts.{Facts, note_all, right_facts, in_part}
+use Rattle.core_facts.proofs.Settle.{has_length}
 use Rattle.core_loops.specs.Pairs.{IsScalarisable, Nests}
 use Rattle.core_settled.specs.Called.{called, params_facts}
 use Rattle.core_subst.specs.Names.{above_function}
@@ -20,6 +23,37 @@ use Rattle.merge_walk.specs.NoneLeft.{NoneHere, NoneMergeable, NoneMergeableRigh
 use Rattle.scalarise.specs.Axes.{Axes, AxesRight, AxesGens, AxesParts, CoreAxes, HasAxes, NoneIn, NoneInRight, NoneInGens, NoneInParts, NoneScalarisable, NotHere}
 use Rattle.scalarise.specs.Scalarised.{NoneLeft, NoneLeftIn}
 
+-- ---- grids
+
+abbrev Few : ℕ → List Grid1 → Type 0
+Few n grid = length grid ≤ n
+
+abbrev Inside : List Grid1 → List Grid1 → Type 0
+Inside frame grid = (index : List ℤ) → has_vector grid index ≡ true → has_vector frame index ≡ true
+
+as_long : (a b n : ℕ) → n ≡ a → n ≡ b → a ≤ b
+as_long a b n p q = omega (arith, p, q)
+
+-- a member of a grid is one of the frame, so both have its length
+one_few : (frame grid : List Grid1) → Inside frame grid → HasAxes (length frame) grid → Few (length frame) grid
+one_few frame grid inside (inl few) = few
+one_few frame grid inside (inr m) = as_long (length grid) (length frame) (length m.0) (has_length grid m.0 m.1) (has_length frame m.0 (inside m.0 m.1))
+
+all_few : (frame : List Grid1) (gs : List (List Grid1)) → All (Inside frame) gs → All (HasAxes (length frame)) gs → All (Few (length frame)) gs
+all_few frame [] inside axes = All-nil (Few (length frame))
+all_few frame (g ∷ gs) inside axes =
+    All-cons (Few (length frame)) g gs (one_few frame g (All-head (Inside frame) g gs inside) (All-head (HasAxes (length frame)) g gs axes))
+    (all_few frame gs (All-tail (Inside frame) g gs inside) (All-tail (HasAxes (length frame)) g gs axes))
+
+axes_few : (n m a b : ℕ) → a ≤ n → b ≤ m → n + m ≤ 8 → a + b ≤ 8
+axes_few n m a b p q few = omega (arith, p, q, few)
+
+fit_behind : (n m : ℕ) (grid : List Grid1) (gs : List (List Grid1)) → Few n grid → n + m ≤ MOST_AXES → All (Few m) gs → All (λ (g : List Grid1). length grid + length g ≤ MOST_AXES) gs
+fit_behind n m grid [] own few h = All-nil (λ (g : List Grid1). length grid + length g ≤ MOST_AXES)
+fit_behind n m grid (g ∷ gs) own few h =
+    All-cons (λ (g : List Grid1). length grid + length g ≤ MOST_AXES) g gs (axes_few n m (length grid) (length g) own (All-head (Few m) g gs h) few)
+    (fit_behind n m grid gs own few (All-tail (Few m) g gs h))
+
 -- ---- one loop
 
 -- the loop behind some bindings
@@ -27,24 +61,23 @@ inner_axes : (before : List LetTerm) (xs : List Var) (s : Site) (r : RightTerm) 
 inner_axes [] xs s r b h = h.0
 inner_axes (l ∷ ls) xs s r b h = inner_axes ls xs s r b h.1
 
-axes_few : (n m a b : ℕ) → a ≤ n → b ≤ m → n + m ≤ 8 → a + b ≤ 8
-axes_few n m a b p q few = omega (arith, p, q, few)
+inner_bases : (core : CoreTerm) (before : List LetTerm) (xs : List Var) (s : Site) (r : RightTerm) (b : BlockTerm) (g : Bases) (ts : List Base) → BlockBases core g (chain before (Bind xs s r b)) ts →
+    (h : Bases) × ((us : List Base) × RightBases core h r us)
+inner_bases core [] xs s r b g ts d = (g, (d.0, d.1.0))
+inner_bases core (l ∷ ls) xs s r b g ts d = inner_bases core ls xs s r b (zip l.targets d.0 ++ g) ts d.1.2
 
-fit_behind : (n m : ℕ) (grid : List Grid1) (gs : List (List Grid1)) → length grid ≤ n → n + m ≤ MOST_AXES → All (HasAxes m) gs → All (λ (g : List Grid1). length grid + length g ≤ MOST_AXES) gs
-fit_behind n m grid [] same few h = All-nil (λ (g : List Grid1). length grid + length g ≤ MOST_AXES)
-fit_behind n m grid (g ∷ gs) same few h =
-    All-cons (λ (g : List Grid1). length grid + length g ≤ MOST_AXES) g gs (axes_few n m (length grid) (length g) same (All-head (HasAxes m) g gs h) few)
-    (fit_behind n m grid gs same few (All-tail (HasAxes m) g gs h))
-
-module _ (calls : ℕ → List (Option (List ℕ))) (k : Facts) (inner : List Grid1) (base : Base) where
-  grids_fit : (n : ℕ) (parts : PartsTerm) (count : ℕ) → (w : Nests calls k inner base parts count) → n + length inner ≤ MOST_AXES → All (HasAxes n) (part_grids parts) → AxesParts parts →
-      GridsFit calls k inner base parts count w
-  grids_fit n NoParts count w few same axes = tt
-  grids_fit n (Part h b rest) count w few same axes =
+module _ (core : CoreTerm) (calls : ℕ → List (Option (List ℕ))) (k : Facts) (inner : List Grid1) (base : Base) where
+  grids_fit : (n : ℕ) (parts : PartsTerm) (count : ℕ) → (w : Nests calls k inner base parts count) → n + length inner ≤ MOST_AXES → All (Few n) (part_grids parts) → AxesParts parts →
+      (g : Bases) (t : Base) → PartsBases core g parts t → GridsFit calls k inner base parts count w
+  grids_fit n NoParts count w few own axes g t d = tt
+  grids_fit n (Part h b rest) count w few own axes g t d =
       let nest = w.1.1.0 in
-      let loop = inner_axes nest.before (nest.z ∷ []) nest.site (RightTerm.Parted inner base [] parted.Genarray w.0) (chain nest.after (Gives (nest.z ∷ []))) (subst Axes nest.whole axes.0) in (
-        fit_behind n (length inner) h.grid (part_grids w.0) (All-head (HasAxes n) h.grid (part_grids rest) same) few loop.0,
-        grids_fit n rest w.1.0 w.1.1.1 few (All-tail (HasAxes n) h.grid (part_grids rest) same) axes.1,
+      let loop = RightTerm.Parted inner base [] parted.Genarray w.0 in
+      let after = chain nest.after (Gives (nest.z ∷ [])) in
+      let loop_axes = inner_axes nest.before (nest.z ∷ []) nest.site loop after (subst Axes nest.whole axes.0) in
+      let loop_bases = inner_bases core nest.before (nest.z ∷ []) nest.site loop after ((h.index, Int) ∷ g) (t ∷ []) (subst (λ (c : BlockTerm). BlockBases core ((h.index, Int) ∷ g) c (t ∷ [])) nest.whole d.0) in (
+        fit_behind n (length inner) h.grid (part_grids w.0) (All-head (Few n) h.grid (part_grids rest) own) few (all_few inner (part_grids w.0) loop_bases.1.1.2.1.inside loop_axes.0),
+        grids_fit n rest w.1.0 w.1.1.1 few (All-tail (Few n) h.grid (part_grids rest) own) axes.1 g t d.1,
       )
 
 extents_length : (frame : List Grid1) → length (extents frame) ≡ length frame
@@ -54,13 +87,15 @@ extents_length (g ∷ gs) = ap suc (extents_length gs)
 frames_few : (n m c a : ℕ) → n ≡ a + c → n ≤ 8 → m ≡ c → a + m ≤ 8
 frames_few n m c a e few p = omega (arith, e, few, p)
 
-mergeable : (calls : ℕ → List (Option (List ℕ))) (above : ℕ) (k : Facts) (frame : List Grid1) (base : Base) (cell : List ℕ) (parts : PartsTerm) → length (extents frame ++ cell) ≤ MOST_AXES →
-    All (HasAxes (length frame)) (part_grids parts) → AxesParts parts → IsScalarisable calls above k base cell parts → IsMergeable calls above k frame base cell parts
-mergeable calls above k frame base cell parts few same axes s =
+mergeable : (core : CoreTerm) (calls : ℕ → List (Option (List ℕ))) (above : ℕ) (k : Facts) (frame : List Grid1) (base : Base) (cell : List ℕ) (parts : PartsTerm) (g : Bases) (ts : List Base) →
+    RightBases core g (RightTerm.Parted frame base cell parted.Genarray parts) ts → AxesRight (RightTerm.Parted frame base cell parted.Genarray parts) → IsScalarisable calls above k base cell parts →
+    IsMergeable calls above k frame base cell parts
+mergeable core calls above k frame base cell parts g ts d a s =
     let whole : length (extents frame ++ cell) ≡ length frame + length cell = length-append (extents frame) cell ∙ ap (λ n. n + length cell) (extents_length frame) in
     let inner : length s.frame ≡ length cell = sym (extents_length s.frame) ∙ ap length s.shape in
-    let both = frames_few (length (extents frame ++ cell)) (length s.frame) (length cell) (length frame) whole few inner in
-    record { scalarisable = s; frames = both; grids = grids_fit calls k s.frame base (length frame) parts s.count s.nests both same axes }
+    let both = frames_few (length (extents frame ++ cell)) (length s.frame) (length cell) (length frame) whole d.2.3.shape.rank inner in
+    let own = all_few frame (part_grids parts) d.2.1.inside a.0 in
+    record { scalarisable = s; frames = both; grids = grids_fit core calls k s.frame base (length frame) parts s.count s.nests both own a.1 g base d.1 }
 
 -- ---- all loops
 
@@ -75,7 +110,7 @@ module _ (core : CoreTerm) (calls : ℕ → List (Option (List ℕ))) (above : �
   not_here (x ∷ []) (RightTerm.With o gens) g ts k d a h = λ s. s
   not_here (x ∷ []) (RightTerm.Parted frame base cell (parted.Modarray y) parts) g ts k d a h = λ s. s
   not_here (x ∷ []) (RightTerm.Parted frame base cell (parted.Fold o y) parts) g ts k d a h = λ s. s
-  not_here (x ∷ []) (RightTerm.Parted frame base cell parted.Genarray parts) g ts k d a h = λ s. h (mergeable calls above k frame base cell parts d.2.3.shape.rank a.0 a.1 s)
+  not_here (x ∷ []) (RightTerm.Parted frame base cell parted.Genarray parts) g ts k d a h = λ s. h (mergeable core calls above k frame base cell parts g ts d a s)
 
   mutual
     none_block : (b : BlockTerm) (g : Bases) (ts : List Base) (k : Facts) → BlockBases core g b ts → Axes b → NoneMergeable calls above b k → NoneIn calls above b k

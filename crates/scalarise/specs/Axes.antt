@@ -1,6 +1,7 @@
--- Functions in which no loop is scalarisable, and blocks whose grids have no more axes than the frames of their loops.
-use Rattle.std.specs.Prelude.{◌≤◌, ℕ, List, [], ◌∷◌, length, All, Option}
+-- Functions in which no loop is scalarisable, and blocks whose grids without members have no more axes than the frames of their loops.
+use Rattle.std.specs.Prelude.{◌≡◌, ◌⊎◌, ◌≤◌, ℕ, List, [], ◌∷◌, length, All, ℤ, true, Option}
 use Rattle.sac_base.specs.declared.grid.Grid1.{Grid1}
+use Rattle.sac_base.specs.Grids.{has_vector}
 use Rattle.core_ir.specs.declared.tree.Var.{Var}
 use Rattle.core_ir.specs.declared.tree.PartedOp.TheVariants as parted
 use Rattle.core_ir.specs.Terms.{BlockTerm, RightTerm, GensTerm, PartsTerm, FunTerm, CoreTerm, Gives, Bind, Plain, NoGens, Gen, NoParts, Part}
@@ -49,9 +50,9 @@ NoneScalarisable core = All (λ (f : FunTerm). NoneIn (called core) (above_funct
 
 -- ---- axes
 
--- a grid of at most so many axes
+-- a grid of at most so many axes, or one that has a member
 abbrev pub HasAxes : ℕ → List Grid1 → Type 0
-HasAxes n grid = length grid ≤ n
+HasAxes n grid = (length grid ≤ n) ⊎ ((v : List ℤ) × (has_vector grid v ≡ true))
 
 abbrev mutual
   pub Axes : BlockTerm → Type 0
@@ -79,6 +80,6 @@ CoreAxes core = All (λ (f : FunTerm). Axes f.body) core.functions
 
 -- ---- the law
 
--- where no grid of a well-formed core, with members or without, has more axes than its frame, no scalarisable loop is left either
+-- where no grid without members of a well-formed core has more axes than its loop's frame, no scalarisable loop is left either
 abbrev pub AxesSuffice : Type 0
 AxesSuffice = (core : CoreTerm) → IsWellFormed core → CoreAxes core → NoneLeft core → NoneScalarisable core
