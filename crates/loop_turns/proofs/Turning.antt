@@ -1,5 +1,6 @@
 -- Turns of normalising and folding, one after another.
-use Rattle.std.proofs.Common.{◌≡◌, ℕ, ◌+◌, List, [], ◌∷◌, length, refl, sym, ap, subst, ◌∙◌, arith}
+use Rattle.std.proofs.Common.{◌≡◌, ℕ, ◌+◌, true, eqb, List, [], ◌∷◌, length, refl, sym, ap, subst, ◌∙◌, arith}
+use Rattle.std.proofs.lemmas.Bool.{eqb-true}
 use Rattle.std.proofs.lemmas.List.{length-map}
 use Rattle.core_ir.specs.Outcome.{SameHeads, SameOutside}
 use Rattle.core_ir.specs.Terms.{FunTerm, CoreTerm}
@@ -10,7 +11,15 @@ use Rattle.core_fold_forms.specs.Walks.{FoldSteps}
 use Rattle.fold_walk.specs.declared.state.Fold.{Fold}
 use Rattle.with_norm.specs.Normed.{AllNormal}
 use Rattle.wl_folding.specs.Folded.{HasNoPairs, entries_of, entry_of}
-use Rattle.loop_turns.specs.Steps.{AreSettled, Kept, Turned, Turns, no_turn, turn}
+use Rattle.loop_turns.specs.Steps.{AreSettled, Turned, Turns, no_turn, turn}
+
+none_left : {A : Type 0} (len : ℕ) (items : List A) → len ≡ 0 → len ≡ length items → items ≡ []
+none_left len [] p q = refl
+none_left len (x ∷ xs) p q = absurd (omega arith)
+
+-- an empty vector has no items
+pub empty : {A : Type 0} (len : ℕ) (items : List A) → eqb len 0 ≡ true → len ≡ length items → items ≡ []
+empty len items e p = none_left len items (eqb-true len 0 e) p
 
 heads_itself : (fs : List FunTerm) → SameHeads fs fs
 heads_itself [] = tt
