@@ -1,6 +1,4 @@
-use crate::sources::{cleaned, core_of, folded, folded_in, has_text, normal};
-use core_ir::Core;
-use std::alloc::Global;
+use crate::sources::folded_in;
 
 const PAIR: &str = "int[*] main() {
   a = with { ([0] <= iv < [16]) : iv[0] * 2; } : genarray([16], 0);
@@ -12,13 +10,6 @@ const MOVED: &str = "int[*] main() {
   a = with { ([0] <= iv < [5]) : iv[0]; ([5] <= iv < [10]) : 10; } : genarray([10], 0);
   b = with { ([1] <= iv < [9]) : a[iv - [1]] + a[iv + [1]]; } : genarray([10], -1);
   return (b);
-}";
-
-const CHAIN: &str = "int[*] main() {
-  a = with { ([0] <= iv < [9]) : iv[0]; } : genarray([9], 0);
-  b = with { ([0] <= iv < [9]) : a[iv] + 1; } : genarray([9], 0);
-  c = with { ([0] <= iv < [9]) : b[iv] * 2; } : genarray([9], 0);
-  return (c);
 }";
 
 // The producer has a cell that faults, which the consumer does not select.
@@ -35,31 +26,11 @@ const KEPT: &str = "int[*], int[*] main() {
   return (a, b);
 }";
 
-const BEFORE: &str = "";
-
-const AFTER: &str = "";
-
-fn normal_core(alloc: Global, source: &str) -> Option<Core> {
-    normal(alloc, cleaned(alloc, core_of(alloc, source)?)?)
-}
-
-fn folded_core(alloc: Global, source: &str) -> Option<Core> {
-    folded(alloc, normal_core(alloc, source)?)
-}
-
-#[test]
-fn a_pair_becomes_one_loop(rt: HostRuntime) {
-    let alloc = rt.alloc();
-    assert!(rt; has_text(alloc, normal_core(alloc, PAIR), BEFORE));
-    assert!(rt; has_text(alloc, folded_core(alloc, PAIR), AFTER));
-}
-
 #[test]
 fn pairs_are_folded(rt: HostRuntime) {
     let alloc = rt.alloc();
     assert_eq!(rt; folded_in(alloc, PAIR), Some(1));
     assert_eq!(rt; folded_in(alloc, MOVED), Some(1));
-    assert_eq!(rt; folded_in(alloc, CHAIN), Some(2));
     assert_eq!(rt; folded_in(alloc, FAULTY), Some(0));
     assert_eq!(rt; folded_in(alloc, KEPT), Some(0));
 }
