@@ -1,6 +1,4 @@
-use crate::sources::{cleaned, core_of, folded, folded_in, has_text, normal};
-use core_ir::Core;
-use std::alloc::Global;
+use crate::sources::folded_in;
 
 const PAIR: &str = "int[*] main() {
   a = with { ([0] <= iv < [16]) : iv[0] * 2; } : genarray([16], 0);
@@ -34,25 +32,6 @@ const KEPT: &str = "int[*], int[*] main() {
   b = with { ([0] <= iv < [9]) : a[iv] + 1; } : genarray([9], 0);
   return (a, b);
 }";
-
-const BEFORE: &str = "";
-
-const AFTER: &str = "";
-
-fn normal_core(alloc: Global, source: &str) -> Option<Core> {
-    normal(alloc, cleaned(alloc, core_of(alloc, source)?)?)
-}
-
-fn folded_core(alloc: Global, source: &str) -> Option<Core> {
-    folded(alloc, normal_core(alloc, source)?)
-}
-
-#[test]
-fn a_pair_becomes_one_loop(rt: HostRuntime) {
-    let alloc = rt.alloc();
-    assert!(rt; has_text(alloc, normal_core(alloc, PAIR), BEFORE));
-    assert!(rt; has_text(alloc, folded_core(alloc, PAIR), AFTER));
-}
 
 #[test]
 fn pairs_are_folded(rt: HostRuntime) {
