@@ -1,0 +1,3 @@
+mod MarkArms
+mod MarkTurns
+mod Unmarked
