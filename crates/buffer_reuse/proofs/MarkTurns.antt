@@ -81,15 +81,17 @@ module _ (g : Given) where
   told_on k k' xs s r l rest = λ i. told_block g (core_of rest) (l i)
 
   -- one step of several
-  pub turn : (k k' : Known) (m m' : Made) (x : CodeStep) (before rest : List CodeStep) (results : List Var) (whole : CodeTerm) → before ≡ x ∷ rest →
-      made_with g m' k' (steps_before rest (Giving results)) ≡ made_with g m k (step_term x (steps_before rest (Giving results))) →
+  pub turn : (k k' : Known) (m m' : Made) (x : CodeStep) (before later rest : List CodeStep) (results : List Var) (whole : CodeTerm) → before ≡ x ∷ later → rest ≡ later →
+      made_with g m' k' (steps_before later (Giving results)) ≡ made_with g m k (step_term x (steps_before later (Giving results))) →
       made_with g m k (steps_before before (Giving results)) ≡ whole → made_with g m' k' (steps_before rest (Giving results)) ≡ whole
-  turn k k' m m' x before rest results whole b e h = e ∙ (λ i. made_with g m k (steps_before (sym b i) (Giving results))) ∙ h
+  turn k k' m m' x before later rest results whole b l e h =
+      (λ i. made_with g m' k' (steps_before (l i) (Giving results))) ∙ e ∙ (λ i. made_with g m k (steps_before (sym b i) (Giving results))) ∙ h
 
-  pub told_turn : (k k' : Known) (x : CodeStep) (before rest : List CodeStep) (end : CodeTerm) (whole : Told) → before ≡ x ∷ rest →
-      told_block g (core_of (steps_before rest end)) k' ≡ told_block g (core_of (step_term x (steps_before rest end))) k →
+  pub told_turn : (k k' : Known) (x : CodeStep) (before later rest : List CodeStep) (end : CodeTerm) (whole : Told) → before ≡ x ∷ later → rest ≡ later →
+      told_block g (core_of (steps_before later end)) k' ≡ told_block g (core_of (step_term x (steps_before later end))) k →
       told_block g (core_of (steps_before before end)) k ≡ whole → told_block g (core_of (steps_before rest end)) k' ≡ whole
-  told_turn k k' x before rest end whole b e h = e ∙ (λ i. told_block g (core_of (steps_before (sym b i) end)) k) ∙ h
+  told_turn k k' x before later rest end whole b l e h =
+      (λ i. told_block g (core_of (steps_before (l i) end)) k') ∙ e ∙ (λ i. told_block g (core_of (steps_before (sym b i) end)) k) ∙ h
 
   -- the whole block
   pub block_marked : (k k' : Known) (b : CodeBlock) (made : Made) (out : List Var) (i : ℕ) →

@@ -1,4 +1,10 @@
+use Rattle.buffer_reuse.proofs.MarkFunctions.{begins, function_marked}
+use Rattle.reuse_candidates.specs.Calls.{given_by}
+use Rattle.reuse_candidates.specs.Scopes.{known_in}
 use Rattle.buffer_reuse.proofs.functions.mark_function.Goals as goal
 
 pub returns : goal.returns
-returns c = ?
+returns c =
+    function_marked (given_by c.args.calls.now) c.args.function _ c.in_ok-marked.field-0
+    (begins c.args.function c.deref.result.now (known_in c.new.result) _ c.deref.ensures.value c.new.ensures.facts c.new.ensures.bases c.in_ok-enter_function.ensures.facts c.in_ok-enter_function.ensures.bases)
+    c.in_ok-marked.ensures.marked

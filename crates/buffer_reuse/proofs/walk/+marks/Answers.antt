@@ -23,10 +23,22 @@ mark_block-loop-i-init t c = record {
 
 pub mark_block-loop-i-preserved : goal.mark_block-loop-i-preserved
 mark_block-loop-i-preserved t c =
-    let h = c.in_ok-mark_step.ensures in
-    let h2 = c.index.ensures in
-    let h3 = c.deref.ensures in
-    ?
+    let g = given_by c.args.calls.now in
+    let ss = c.args.block.now.steps.items in
+    let i = c.loop-i.i in
+    let x = c.index-2.result.now in
+    let later = c.index.result.now in
+    let k = known_in c.loop-i.scope in
+    let k' = known_in c.mark_step.new.scope in
+    let before = c.loop-i.invariant in
+    let new = c.in_ok-mark_step.ensures in
+    let rest : drop (i + 1) ss ≡ later = ? in
+    let split : drop i ss ≡ x ∷ later = ? in
+    record {
+      marked = λ results. turn g k k' c.loop-i.made c.mark_step.new.made x (drop i ss) later (drop (i + 1) ss) results _ split rest (new.marked results) (before.marked results);
+      known = λ end. told_turn g k k' x (drop i ss) later (drop (i + 1) ss) end _ split rest (new.known (steps_before later end)) (before.known end);
+      behind = scopes_on c.args.scope.now c.loop-i.scope c.mark_step.new.scope before.behind new.behind;
+    }
 
 pub mark_block-returns-clause-marked : goal.mark_block-returns-clause-marked
 mark_block-returns-clause-marked t c =
@@ -76,7 +88,13 @@ mark_right-returns-in_ok-either_values-in-If-clause-known t c =
     c.in_ok-either_values-in-If.ensures c.in_ok-first-in-If.ensures.known c.in_ok-second-in-If.ensures.known
 
 pub mark_right-returns-in_ok-copy_vars-in-Loop-2-clause-marked : goal.mark_right-returns-in_ok-copy_vars-in-Loop-2-clause-marked
-mark_right-returns-in_ok-copy_vars-in-Loop-2-clause-marked t c = ?
+mark_right-returns-in_ok-copy_vars-in-Loop-2-clause-marked t c =
+    let k = known_in c.args.scope.now in
+    loop_marked (given_by c.args.calls.now) k c.args.right.now c.in-Loop.first_body c.in-Loop.start c.in-Loop.params c.in_ok-copy_vars-in-Loop.field-0 c.in_ok-copy_vars-in-Loop-2.field-0
+    c.in-Loop.test c.in-Loop.body c.in_ok-tested-in-Loop.tested.block c.in_ok-turned-in-Loop.turned.block c.in-Loop.test_site
+    (known_in c.enter_loop.new.self) (known_in c.mark_block-3.new.scope) c.in-Loop.is
+    (c.in_ok-copy_vars-in-Loop.ensures ∙ ?) (c.in_ok-copy_vars-in-Loop-2.ensures ∙ ?)
+    (c.in_ok-enter_loop-in-Loop.ensures.learned ∙ ?) (ap known_in c.in_ok-tested-in-Loop.ensures.scope) c.in_ok-tested-in-Loop.ensures.marked c.in_ok-turned-in-Loop.ensures.marked
 
 pub mark_right-returns-in_ok-mark_with-in-With-clause-known : goal.mark_right-returns-in_ok-mark_with-in-With-clause-known
 mark_right-returns-in_ok-mark_with-in-With-clause-known t c =
