@@ -58,9 +58,9 @@ pub fn mark_block(
         steps: Vec::new(alloc),
         taken: None,
     };
-    for i in 0..block.steps.len() {
-        let later = &block.steps[i + 1..];
-        mark_step(alloc, &block.steps[i], later, calls, scope, &mut made)?;
+    let steps = block.steps.as_slice();
+    for i in 0..steps.len() {
+        mark_step(alloc, &steps[i], &steps[i + 1..], calls, scope, &mut made)?;
     }
     let values = scope.values(alloc, &block.results)?;
     scope.undo(before);

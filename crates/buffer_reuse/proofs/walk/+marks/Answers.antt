@@ -1,5 +1,5 @@
 use Rattle.std.proofs.Common.{rules, refl, sym, ap, ◌≡◌, ◌∙◌, ◌+◌, ◌++◌, [], ◌∷◌, drop, map, take, arith}
-use Rattle.std.proofs.lemmas.List.{drop_more}
+use Rattle.std.proofs.lemmas.List.{drop_more, get_or_default, take_rest}
 use Rattle.counted_code.specs.declared.tree.CodeStep.{CodeStep}
 use Rattle.counted_code.specs.Terms.{Binding, Giving, core_of_right}
 use Rattle.counted_code.specs.View.{code_right_term, step_term, steps_before}
@@ -24,19 +24,20 @@ mark_block-loop-i-init t c = record {
 pub mark_block-loop-i-preserved : goal.mark_block-loop-i-preserved
 mark_block-loop-i-preserved t c =
     let g = given_by c.args.calls.now in
-    let ss = c.args.block.now.steps.items in
+    let ls = c.as_slice-steps.result.now in
+    let same : ls ≡ c.args.block.now.steps.items = c.as_slice-steps.ensures.value in
     let i = c.loop-i.i in
-    let x = c.index-2.result.now in
-    let later = c.index.result.now in
+    let x = c.index-steps-i.result in
     let k = known_in c.loop-i.scope in
     let k' = known_in c.mark_step.new.scope in
     let before = c.loop-i.invariant in
     let new = c.in_ok-mark_step.ensures in
-    let rest : drop (i + 1) ss ≡ later = ? in
-    let split : drop i ss ≡ x ∷ later = ? in
+    let rest : drop (i + 1) c.args.block.now.steps.items ≡ _ = ap (drop (i + 1)) (sym same) ∙ sym (take_rest ls (i + 1)) in
+    let split : drop i c.args.block.now.steps.items ≡ x ∷ _ =
+    ap (drop i) (sym same) ∙ drop_more ls i x c.loop-i-test.true ∙ (λ j. get_or_default ls i x x c.loop-i-test.true j ∷ sym (take_rest ls (i + 1)) j) in
     record {
-      marked = λ results. turn g k k' c.loop-i.made c.mark_step.new.made x (drop i ss) later (drop (i + 1) ss) results _ split rest (new.marked results) (before.marked results);
-      known = λ end. told_turn g k k' x (drop i ss) later (drop (i + 1) ss) end _ split rest (new.known (steps_before later end)) (before.known end);
+      marked = λ results. turn g k k' c.loop-i.made c.mark_step.new.made x (drop i c.args.block.now.steps.items) _ (drop (i + 1) c.args.block.now.steps.items) results _ split rest (new.marked results) (before.marked results);
+      known = λ end. told_turn g k k' x (drop i c.args.block.now.steps.items) _ (drop (i + 1) c.args.block.now.steps.items) end _ split rest (new.known (steps_before _ end)) (before.known end);
       behind = scopes_on c.args.scope.now c.loop-i.scope c.mark_step.new.scope before.behind new.behind;
     }
 
