@@ -1,5 +1,5 @@
-use Rattle.std.proofs.Common.{rules, refl, sym, ap, ◌≡◌, ◌∙◌, ◌+◌, ◌++◌, [], ◌∷◌, drop, map, take, arith}
-use Rattle.std.proofs.lemmas.List.{drop_more, get_or_default, take_rest}
+use Rattle.std.proofs.Common.{rules, refl, sym, ap, ◌≡◌, ◌∙◌, ◌+◌, ◌-◌, ◌++◌, [], ◌∷◌, drop, length, map, take, arith}
+use Rattle.std.proofs.lemmas.List.{drop_more, take_rest}
 use Rattle.counted_code.specs.declared.tree.CodeStep.{CodeStep}
 use Rattle.counted_code.specs.Terms.{Binding, Giving, core_of_right}
 use Rattle.counted_code.specs.View.{code_right_term, step_term, steps_before}
@@ -32,19 +32,20 @@ mark_block-loop-i-preserved t c =
     let k' = known_in c.mark_step.new.scope in
     let before = c.loop-i.invariant in
     let new = c.in_ok-mark_step.ensures in
-    let rest : drop (i + 1) c.args.block.now.steps.items ≡ _ = ap (drop (i + 1)) (sym same) ∙ sym (take_rest ls (i + 1)) in
-    let split : drop i c.args.block.now.steps.items ≡ x ∷ _ =
-    ap (drop i) (sym same) ∙ drop_more ls i x c.loop-i-test.true ∙ (λ j. get_or_default ls i x x c.loop-i-test.true j ∷ sym (take_rest ls (i + 1)) j) in
+    let ss = c.args.block.now.steps.items in
+    let later = take (length ls - (i + 1)) (drop (i + 1) ls) in
+    let rest : drop (i + 1) ss ≡ later = ap (drop (i + 1)) (sym same) ∙ sym (take_rest ls (i + 1)) in
+    let split : drop i ss ≡ x ∷ later = ap (drop i) (sym same) ∙ drop_more ls i x c.loop-i-test.true ∙ (λ j. sym c.index-steps-i.is j ∷ sym (take_rest ls (i + 1)) j) in
     record {
-      marked = λ results. turn g k k' c.loop-i.made c.mark_step.new.made x (drop i c.args.block.now.steps.items) _ (drop (i + 1) c.args.block.now.steps.items) results _ split rest (new.marked results) (before.marked results);
-      known = λ end. told_turn g k k' x (drop i c.args.block.now.steps.items) _ (drop (i + 1) c.args.block.now.steps.items) end _ split rest (new.known (steps_before _ end)) (before.known end);
+      marked = λ results. turn g k k' c.loop-i.made c.mark_step.new.made x (drop i ss) later (drop (i + 1) ss) results _ split rest (new.marked results) (before.marked results);
+      known = λ end. told_turn g k k' x (drop i ss) later (drop (i + 1) ss) end _ split rest (new.known (steps_before later end)) (before.known end);
       behind = scopes_on c.args.scope.now c.loop-i.scope c.mark_step.new.scope before.behind new.behind;
     }
 
 pub mark_block-returns-clause-marked : goal.mark_block-returns-clause-marked
 mark_block-returns-clause-marked t c =
-    block_marked (given_by c.args.calls.now) (known_in c.args.scope.now) (known_in c.loop-i.scope) c.args.block.now c.loop-i.made c.in_ok-copy_vars.field-0.items c.loop-i.i c.loop-i.invariant.marked (omega arith)
-    (c.in_ok-copy_vars.ensures ∙ c.deref-3.ensures.value)
+    block_marked (given_by c.args.calls.now) (known_in c.args.scope.now) (known_in c.loop-i.scope) c.args.block.now c.loop-i.made c.in_ok-copy_vars.field-0.items c.loop-i.i c.loop-i.invariant.marked (omega (arith, ap length c.as_slice-steps.ensures.value))
+    (c.in_ok-copy_vars.ensures ∙ c.deref-2.ensures.value)
 
 -- ---- steps
 
@@ -93,9 +94,10 @@ mark_right-returns-in_ok-copy_vars-in-Loop-2-clause-marked t c =
     let k = known_in c.args.scope.now in
     loop_marked (given_by c.args.calls.now) k c.args.right.now c.in-Loop.first_body c.in-Loop.start c.in-Loop.params c.in_ok-copy_vars-in-Loop.field-0 c.in_ok-copy_vars-in-Loop-2.field-0
     c.in-Loop.test c.in-Loop.body c.in_ok-tested-in-Loop.tested.block c.in_ok-turned-in-Loop.turned.block c.in-Loop.test_site
-    (known_in c.enter_loop.new.self) (known_in c.mark_block-3.new.scope) c.in-Loop.is
-    (c.in_ok-copy_vars-in-Loop.ensures ∙ ?) (c.in_ok-copy_vars-in-Loop-2.ensures ∙ ?)
-    (c.in_ok-enter_loop-in-Loop.ensures.learned ∙ ?) (ap known_in c.in_ok-tested-in-Loop.ensures.scope) c.in_ok-tested-in-Loop.ensures.marked c.in_ok-turned-in-Loop.ensures.marked
+    (known_in c.enter_loop.new.self) (known_in c.mark_block-in-Loop.new.scope) c.in-Loop.is
+    (c.in_ok-copy_vars-in-Loop.ensures ∙ c.deref-in-Loop-3.ensures.value) (c.in_ok-copy_vars-in-Loop-2.ensures ∙ c.deref-in-Loop-4.ensures.value)
+    (c.in_ok-enter_loop-in-Loop.ensures.learned ∙ (λ i. in_loop k (c.deref-in-Loop.ensures.value i) (c.deref-in-Loop-2.ensures.value i)))
+    (ap known_in c.in_ok-tested-in-Loop.ensures.scope) c.in_ok-tested-in-Loop.ensures.marked c.in_ok-turned-in-Loop.ensures.marked
 
 pub mark_right-returns-in_ok-mark_with-in-With-clause-known : goal.mark_right-returns-in_ok-mark_with-in-With-clause-known
 mark_right-returns-in_ok-mark_with-in-With-clause-known t c =
