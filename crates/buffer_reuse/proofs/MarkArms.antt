@@ -1,5 +1,5 @@
 -- Right sides, generators and parts with their marks.
-use Rattle.std.proofs.Common.{◌≡◌, ℕ, ◌≤◌, Bool, List, [], ◌∷◌, length, map, take, take_all, Option, Some, None, refl, sym, ap, ◌∙◌, Vec, Global}
+use Rattle.std.proofs.Common.{◌≡◌, ℕ, ◌≤◌, Bool, List, [], ◌∷◌, length, map, take, take_all, refl, sym, ap, ◌∙◌, Vec, Global}
 use Rattle.sac_base.specs.declared.site.Site.{Site}
 use Rattle.core_ir.specs.declared.tree.Var.{Var}
 use Rattle.counted_code.specs.declared.tree.CodeBlock.{CodeBlock}
@@ -10,11 +10,11 @@ use Rattle.counted_code.specs.declared.tree.CodeRight.TheBlock.{the_data, the_da
 use Rattle.counted_code.specs.declared.tree.CodeRight.TheVariants as right
 use Rattle.counted_code.specs.declared.tree.CodeWith.{CodeWith, CodeWith-F, out-CodeWith, roll-CodeWith}
 use Rattle.counted_code.specs.declared.tree.CodeParted.{CodeParted, CodeParted-F, out-CodeParted, roll-CodeParted}
-use Rattle.counted_code.specs.Terms.{CodeRightTerm, IfCode, LoopCode, WithCode, PartedCode, GenCode, PartCode, core_of, core_of_right}
+use Rattle.counted_code.specs.Terms.{IfCode, LoopCode, WithCode, PartedCode, GenCode, PartCode, core_of, core_of_right}
 use Rattle.counted_code.specs.View.{code_term, code_right_term, code_with_term, code_parted_term}
 use Rattle.counted_marks.specs.Known.{Given, Known, in_loop}
-use Rattle.counted_marks.specs.Marking.{marking, marking_gens, marking_parts, marking_right, with_mark}
-use Rattle.reuse_candidates.specs.Pieces.{CodeGenTerm, CodePartTerm, code_gen_term, code_part_term, code_gens_of, code_parts_of}
+use Rattle.counted_marks.specs.Marking.{marking, marking_gens, marking_parts, marking_right}
+use Rattle.reuse_candidates.specs.Pieces.{code_gen_term, code_part_term, code_gens_of, code_parts_of}
 use Rattle.reuse_candidates.specs.Scopes.{Told, told_block, told_right}
 use Rattle.reuse_candidates.proofs.Trees.{if_term, loop_term, with_out, with_roll, parted_out, parted_roll}
 use Rattle.buffer_reuse.specs.Marked.{marking_gen, marking_part}

@@ -1,7 +1,7 @@
 -- Right sides that are no parted loops, and facts of those without blocks.
 use Rattle.std.proofs.Common.{◌≡◌, Some, refl, sym, ap, ◌∙◌, subst}
 use Rattle.core_ir.specs.declared.tree.Var.{Var}
-use Rattle.core_ir.specs.Terms.{PlainTerm, RightTerm, Plain}
+use Rattle.core_ir.specs.Terms.{RightTerm, Plain}
 use Rattle.core_facts.specs.Facts.{Facts}
 use Rattle.counted_code.specs.declared.tree.CodeParted.{CodeParted}
 use Rattle.counted_code.specs.declared.tree.CodeRight.{CodeRight, CodeRight-F, out-CodeRight, roll-CodeRight, roll-out-CodeRight}

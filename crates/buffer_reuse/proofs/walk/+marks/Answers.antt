@@ -1,7 +1,6 @@
-use Rattle.std.proofs.Common.{rules, refl, sym, ap, ◌≡◌, ◌∙◌, ◌+◌, ◌-◌, ◌++◌, [], ◌∷◌, drop, length, map, take, arith}
+use Rattle.std.proofs.Common.{refl, sym, ap, ◌≡◌, ◌∙◌, ◌+◌, ◌-◌, ◌∷◌, drop, length, take, arith}
 use Rattle.std.proofs.lemmas.List.{drop_more, take_rest}
-use Rattle.counted_code.specs.declared.tree.CodeStep.{CodeStep}
-use Rattle.counted_code.specs.Terms.{Binding, Giving, core_of_right}
+use Rattle.counted_code.specs.Terms.{Binding, Giving}
 use Rattle.counted_code.specs.View.{code_right_term, step_term, steps_before}
 use Rattle.counted_marks.specs.Known.{in_loop}
 use Rattle.counted_marks.specs.Marking.{marking, marking_right, with_mark}
@@ -9,7 +8,7 @@ use Rattle.reuse_candidates.specs.Calls.{given_by}
 use Rattle.reuse_candidates.specs.Scopes.{known_in, told}
 use Rattle.buffer_reuse.specs.Marked.{made_with}
 use Rattle.buffer_reuse.proofs.MarkArms.{if_marked, if_told, loop_marked, with_known, with_marked, parted_known, parted_marked}
-use Rattle.buffer_reuse.proofs.MarkTurns.{block_marked, bound, kept, pushed, scope_stays, scopes_on, told_on, told_turn, turn}
+use Rattle.buffer_reuse.proofs.MarkTurns.{block_marked, bound, kept, pushed, scope_stays, scopes_on, told_turn, turn}
 use Rattle.buffer_reuse.proofs.walk.+marks.Goals as goal
 
 -- ---- blocks
