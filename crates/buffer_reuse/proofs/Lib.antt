@@ -1,0 +1,4 @@
+mod MarkArms
+mod MarkFunctions
+mod MarkTurns
+mod Unmarked
