@@ -83,7 +83,8 @@ fn mark_step(
     scope: &mut Scope,
     made: &mut Made,
 ) -> Result<(), Memory>
-    ensures marked { OnOk result ((results : List Variable) → made_with (given_by calls.now) made.new (known_in scope.new) (steps_before later.now (Giving results))
+    ensures marked { OnOk result ((results : List Variable) →
+        made_with (given_by calls.now) made.new (known_in scope.new) (steps_before later.now (Giving results))
         ≡ made_with (given_by calls.now) made.old (known_in scope.old) (step_term step.now (steps_before later.now (Giving results)))) }
     ensures known { OnOk result ((rest : CodeTerm) → told_block (given_by calls.now) (core_of rest) (known_in scope.new)
         ≡ told_block (given_by calls.now) (core_of (step_term step.now rest)) (known_in scope.old)) }
@@ -108,7 +109,8 @@ fn mark_step(
 /// Appends a release, if it is not that of the array that is taken over.
 fn pass_release(x: Var, made: &mut Made) -> Result<(), Memory>
     ensures { OnOk result ((rest : CodeTerm)
-        → steps_before made.new.steps.items (released_by made.new.taken rest) ≡ steps_before made.old.steps.items (released_by made.old.taken (Releasing x rest))) }
+        → steps_before made.new.steps.items (released_by made.new.taken rest)
+        ≡ steps_before made.old.steps.items (released_by made.old.taken (Releasing x rest))) }
 {
     if is_taken(made.taken, x) {
         made.taken = None;

@@ -59,7 +59,8 @@ pub fn compile(alloc: Global, checked: &Checked, forms: &[Form]) -> Result<Compi
     ensures normal { ProgramFormed (tree checked.now.program) → IfOk result (λ c. HasNormalLoops (code_program c.code)) }
     ensures pairs { ProgramFormed (tree checked.now.program) → IfOk result (λ c. HasNoFoldablePair (code_program c.code)) }
     ensures nests { ProgramFormed (tree checked.now.program) → IfOk result (λ c. HasNoMergeableNest (code_program c.code)) }
-    ensures turns { ProgramFormed (tree checked.now.program) → IfOk result (λ c. CameFrom (tree checked.now.program) forms.now c.folded c.scalarised (code_program c.code)) }
+    ensures turns { ProgramFormed (tree checked.now.program) → IfOk result (λ c.
+        CameFrom (tree checked.now.program) forms.now c.folded c.scalarised (code_program c.code)) }
 {
     let core = to_core(alloc, checked)?;
     let inlined = inline_all(alloc, core)?;

@@ -1,4 +1,4 @@
-use Rattle.std.proofs.Common.{sym}
+use Rattle.std.proofs.Common.{◌∙◌, sym}
 use Rattle.core_ir.specs.View.{core_term}
 use Rattle.loop_turns.proofs.Turning.{turn_made}
 use Rattle.loop_turns.proofs.turns.one_turn.Goals as goal
@@ -14,4 +14,4 @@ returns c =
     (record { outside = normal.outside; well = normal.well; outcome = normal.outcome; steps = normal.steps })
     (record { outside = single.outside; well = single.well; outcome = single.outcome; steps = single.steps })
     (record { outside = merged.outside; well = merged.well; outcome = merged.outcome; steps = merged.steps })
-    normal.normal single.unchanged single.none merged.same merged.none (sym c.in_ok-single.log.folds.ok.0)
+    normal.normal single.unchanged single.none merged.same merged.none (sym (c.len.ensures ∙ c.in_ok-single.log.folds.ok.0))
