@@ -13,6 +13,8 @@ use scalarise::scalarise_all;
 use single_assign::to_core;
 use std::alloc::Global;
 use type_check::{Checked, check};
+use with_norm::normalise;
+use wl_folding::fold_all;
 
 fn parsed(alloc: Global, tokens: &Tokens<'_>) -> Option<Program> {
     parse(alloc, tokens).ok()
@@ -88,4 +90,12 @@ pub fn code_of(alloc: Global, source: &str) -> Option<Code> {
 pub fn folded_in(alloc: Global, source: &str) -> Option<u64> {
     let compiled = built(alloc, &accepted(alloc, source)?)?;
     Some(compiled.folded)
+}
+
+/// A core whose pairs of parted loops were folded.
+pub fn folded(alloc: Global, core: Core) -> Option<Core> {
+    match fold_all(alloc, core) {
+        Ok(new) => Some(new.0),
+        Err(_) => None,
+    }
 }

@@ -1,8 +1,8 @@
 //! The text of a core, for tests and documents: a line for each binding, and nested blocks further in. Where there is no memory, a piece is left out.
 
-use core_ir::{Block, Core, CoreGen, CoreOp, Right, Var, WithLoop};
+use core_ir::{Block, Core, CoreGen, CoreOp, CorePart, PartedLoop, PartedOp, Right, Var, WithLoop};
 use itoa::Buffer;
-use sac_base::{Array, Op};
+use sac_base::{Array, Grid, Op};
 use std::alloc::Global;
 
 pub fn core_text(alloc: Global, core: &Core) -> Vec<u8> {
@@ -132,7 +132,7 @@ fn put_right(right: &Right, depth: usize, text: &mut Vec<u8>) {
         }
         Right::Call { args, .. } => put_form("call", args, text),
         Right::With(with_loop) => put_with(with_loop, depth, text),
-        Right::Parted(_) => put("parted", text),
+        Right::Parted(parted) => put_parted(parted, depth, text),
         Right::Always(_) => put("fault", text),
         Right::Check(x, _) => put_form("check", &[*x], text),
     }
@@ -172,4 +172,49 @@ fn put_generator(g: &CoreGen, depth: usize, text: &mut Vec<u8>) {
     put_maybe(" step ", g.step, text);
     put_maybe(" width ", g.width, text);
     put_block(&g.body, depth.saturating_add(1), text)
+}
+
+#[cycle(text)]
+fn put_parted(parted: &PartedLoop, depth: usize, text: &mut Vec<u8>) {
+    put_parted_operation(parted.op, text);
+    for part in &parted.parts {
+        put_part(part, depth, text);
+    }
+}
+
+fn put_parted_operation(op: PartedOp, text: &mut Vec<u8>) {
+    match op {
+        PartedOp::Genarray => put("parted genarray", text),
+        PartedOp::Modarray { array } => put_form("parted modarray", &[array], text),
+        PartedOp::Fold { op, neutral } => {
+            put("parted fold ", text);
+            put_form(operator(op), &[neutral], text)
+        }
+    }
+}
+
+#[cycle(text)]
+fn put_part(part: &CorePart, depth: usize, text: &mut Vec<u8>) {
+    let depth = depth.saturating_add(1);
+    indent(depth, text);
+    put_form("at", &[part.index], text);
+    put_grid(&part.grid, text);
+    put_block(&part.body, depth.saturating_add(1), text)
+}
+
+fn put_number(word: &str, number: i64, text: &mut Vec<u8>) {
+    put(word, text);
+    put(Buffer::new().format(number), text)
+}
+
+// The bounds of each axis; the step and the width, where there are gaps.
+fn put_grid(grid: &Grid, text: &mut Vec<u8>) {
+    for axis in grid.axes() {
+        put_number(" from ", axis.lo, text);
+        put_number(" to ", axis.hi, text);
+        if axis.step != axis.width {
+            put_number(" step ", axis.step, text);
+            put_number(" width ", axis.width, text);
+        }
+    }
 }
