@@ -8,3 +8,4 @@ pub mod Orderly
 pub mod Phases
 pub mod Neutral
 pub mod Buffers
+pub mod Lent

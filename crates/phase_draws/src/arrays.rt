@@ -1,5 +1,7 @@
 // Phases that store their cells.
-ghost use Rattle.std.specs.Prelude.{◌≡◌, ◌≢◌, ℕ, ◌+◌, ◌*◌, ◌<◌, ◌≤◌, [], None, Ok, Some, Vec, length, map, vec_len, vec_capacity, IfOk, IfSome};
+ghost use Rattle.std.specs.Prelude.{◌≡◌, ◌≢◌, ℕ, ◌+◌, ◌*◌, ◌<◌, ◌≤◌, [], None, Ok, Some, Vec, length, map, vec_len, vec_capacity, IfOk};
+ghost use Rattle.std.specs.Thread.{IsSend, IsSync};
+ghost use Rattle.index_cutter.specs.Cuts.{chunks_of};
 ghost use Rattle.wl_core.specs.declared.setup.Job.TheVariants.{Write as Store};
 ghost use Rattle.chunk_reports.specs.Stops.{first_stop_of};
 ghost use Rattle.count_table.specs.Opening.{present};
@@ -13,18 +15,21 @@ ghost use Rattle.phase_draws.specs.Reports.{IsLent};
 
 use crate::cells::PhaseCells;
 use crate::phase::{TeamEnd, run_phase};
-use crate::rooms::{Rooms, rooms_for};
+use crate::rooms::{Rooms, rooms_for, team_of};
 use crate::share::{ChunkPart, ChunkReport, Share};
 use buffer_parts::Part;
 use chunk_reports::{Report, first_stop};
 use count_table::{Tally, Unopened};
+use index_cutter::{Cutting, cut, lend};
 use phase_team::Gate;
 use sac_base::{Cell, Memory, Stop};
 use std::alloc::Global;
 use std::thread::Threads;
+use wl_core::Job;
 
 /// What a phase goes by beside its cells: where contexts are handed back to, a count for each shared buffer, and the tally.
 /// A phase that lends its buffer has them by value.
+#[derive(Drop)]
 pub struct PhaseBooks<H> {
     pub home: H,
     pub counts: Vec<u64>,
@@ -177,4 +182,131 @@ fn run_parts<H: Send, C: PhaseCells<H>, G: Gate, R: Threads + Sync>(
         tally,
     };
     (parts, ArrayRun { books, end })
+}
+
+// What a buffer's parts are lent with: the cells that are to fill them, who computes them, and the phase's run.
+struct LentRun<'a, H, C, G, R> {
+    rt: &'a R,
+    alloc: Global,
+    cells: &'a C,
+    gate: &'a G,
+    share: Share,
+    team: usize,
+    run: ArrayRun<H>,
+}
+
+// Runs a phase whose chunks fill the parts that were lent, where there is room for its workers' reports.
+fn run_lent<'a, H: Send, C: PhaseCells<H>, G: Gate, R: Threads + Sync>(
+    parts: Vec<Part<Cell>>,
+    lent: LentRun<'a, H, C, G, R>,
+) -> (Vec<Part<Cell>>, LentRun<'a, H, C, G, R>)
+    requires shared { IsSync R.row × IsSync C.row × IsSync G.row × IsSend H.row × IsSend C.Worker.row }
+    requires suits { Suits (C.cell lent.cells.now) (C.positions lent.cells.now) (C.width lent.cells.now) (C.shared lent.cells.now)
+        (length lent.run.books.counts.items) lent.share 0 lent.share.positions }
+    requires job { lent.share.job ≡ Store }
+    requires cut { IsLent lent.share (length parts.items) parts.items }
+    requires team { (1 ≤ lent.team) × (lent.team ≤ 64) }
+    requires home { C.open_home lent.cells.now lent.run.books.home }
+    requires counts { AreReferences lent.run.books.counts.items }
+    ensures places { KeepPlaces parts.items result.0.items }
+    ensures array { IsArray (cells_from (C.cell lent.entry.cells.now) 0 lent.entry.share.positions) (joined result.0.items) result.1.run.end }
+    ensures home { C.open_home lent.entry.cells.now result.1.run.books.home }
+    ensures kept { IfOk result.1.run.end (λ _. Costs (C.cost lent.entry.cells.now) 0 lent.entry.share.positions
+        (C.kept lent.entry.cells.now lent.entry.run.books.home) (C.kept lent.entry.cells.now result.1.run.books.home)) }
+    ensures counts { result.1.run.books.counts.items ≡ lent.entry.run.books.counts.items }
+    ensures tally { IsTallied (length parts.items) lent.entry.run.books.tally result.1.run.books.tally result.1.run.end }
+{
+    let LentRun {
+        rt,
+        alloc,
+        cells,
+        gate,
+        share,
+        team,
+        run,
+    } = lent;
+    let (parts, run) = match array_rooms(alloc, team, parts.len()) {
+        Ok(begun) => run_parts(rt, alloc, cells, gate, share, begun, parts, run),
+        Err(Memory) => {
+            let ArrayRun { books, end: _ } = run;
+            let end = Err(Stop::Memory);
+            (parts, ArrayRun { books, end })
+        }
+    };
+    (
+        parts,
+        LentRun {
+            rt,
+            alloc,
+            cells,
+            gate,
+            share,
+            team,
+            run,
+        },
+    )
+}
+
+/// Computes the cells of a phase into the buffer, each at its place, by workers that draw its chunks. The phase has the
+/// books' count for each shared buffer while it runs.
+///
+/// `Ok` comes where no cell faults, and the buffer has the elements of all cells in order. `Faulted` is the fault of the
+/// least position that faults, whichever worker met its fault first. After `Memory` nothing is known of the buffer.
+pub fn array_phase<H: Send, C: PhaseCells<H>, G: Gate, R: Threads + Sync>(
+    rt: &R,
+    alloc: Global,
+    cells: &C,
+    gate: &G,
+    cutting: Cutting,
+    team: u32,
+    books: PhaseBooks<H>,
+    positions: usize,
+    width: usize,
+    buffer: &mut [Cell],
+) -> (PhaseBooks<H>, Result<(), Stop>)
+    requires team { team ≤ 64 }
+    requires positions { (positions ≤ 16777216) × (positions ≡ C.positions cells.now) × (width ≡ C.width cells.now) }
+    requires held { (p : ℕ) → p < positions → C.cell cells.now p ≢ Ok None }
+    requires counts { AreReferences books.counts.items }
+    requires shared { length books.counts.items ≡ C.shared cells.now }
+    requires home { C.open_home cells.now books.home }
+    requires room { length buffer.old ≡ positions * width }
+    ensures array { IsArray (cells_from (C.cell cells.now) 0 positions) buffer.new result.1 }
+    ensures home { C.open_home cells.now result.0.home }
+    ensures kept { IfOk result.1 (λ _. Costs (C.cost cells.now) 0 positions (C.kept cells.now books.home) (C.kept cells.now result.0.home)) }
+    ensures counts { result.0.counts.items ≡ books.counts.items }
+    ensures tally { IsTallied (chunks_of cutting.workers cutting.chunk positions) books.tally result.0.tally result.1 }
+{
+    let cuts = cut(positions as u64, cutting.workers, cutting.chunk);
+    let share = Share {
+        job: Job::Write,
+        width,
+        positions,
+        size: cuts.size as usize,
+    };
+    let mut lent = LentRun {
+        rt,
+        alloc,
+        cells,
+        gate,
+        share,
+        team: team_of(team, cuts.count),
+        run: ArrayRun {
+            books,
+            end: Err(Stop::Memory),
+        },
+    };
+    // Where no memory is found for the list of parts, the run is as it was, and says so.
+    let _ = lend(alloc, buffer, &cuts, width, &mut lent, run_lent);
+    let LentRun {
+        rt: _,
+        alloc: _,
+        cells: _,
+        gate: _,
+        share: _,
+        team: _,
+        run,
+    } = lent;
+    let ArrayRun { books, end } = run;
+    (books, end)
 }

@@ -17,7 +17,7 @@ mod share;
 mod turns;
 mod worker;
 
-pub use arrays::PhaseBooks;
+pub use arrays::{PhaseBooks, array_phase};
 pub use cells::PhaseCells;
 pub use folds::fold_phase;
 pub use share::ChunkPart;

@@ -1,8 +1,11 @@
-//! Tests of what workers share: the machine of one phase, the table of counts, cuts of indices and parts of buffers.
+//! Tests of what workers share: the machine of one phase, the table of counts, cuts of indices and parts of buffers, and of
+//! whole phases whose workers draw their chunks.
 #![tactic(auto)]
 
 #[cfg(test)]
 mod cutter;
+#[cfg(test)]
+mod drawn;
 #[cfg(test)]
 mod machine;
 #[cfg(test)]

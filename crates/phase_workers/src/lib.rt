@@ -14,6 +14,7 @@ mod parted;
 mod program;
 mod results;
 mod team;
+mod worth;
 
 pub use folds::fold_outside;
 pub use nesting::Nesting;

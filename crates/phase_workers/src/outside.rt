@@ -15,6 +15,7 @@ use crate::folds::fold_outside;
 use crate::part_folds::fold_parts_outside;
 use crate::parted::parts_outside;
 use crate::team::Workers;
+use crate::worth::steps_of_gens;
 use array_with_loops::Plan;
 use counted_code::CodeGen;
 use phase_checks::gens_are_counted;
@@ -85,7 +86,11 @@ pub fn array_outside<G: Gate, R: Threads + Sync>(
     if !gens_are_counted(context.alloc, context.code.get(), &live, gens)? {
         return array_in_order(gens, plan, array, old, context, state);
     }
-    array_by_workers(workers, gens, plan, array, old, context, &live, state)
+    let team = workers.of_phase(
+        plan.frame.count(),
+        steps_of_gens(gens, &live, &state.frames),
+    );
+    array_by_workers(&team, gens, plan, array, old, context, &live, state)
 }
 
 // The same in order.

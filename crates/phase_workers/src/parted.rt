@@ -22,6 +22,7 @@ use crate::alive::alive_in_parts;
 use crate::covered::{CoveredCells, believed};
 use crate::results::{Begun, Books, begin_phase, end_phase, finish_phase, stop_phase};
 use crate::team::{Workers, compute_array};
+use crate::worth::steps_of_parts;
 use array_with_loops::{Frame, Plan};
 use buffer_heap::Heap;
 use core_ir::Var;
@@ -63,7 +64,11 @@ pub fn parts_outside<G: Gate, R: Threads + Sync>(
     if !parts_are_counted(context.alloc, context.code.get(), &live, parts)? {
         return parts_in_order(parts, plan, context, state);
     }
-    parts_by_workers(workers, parts, plan, context, &live, state)
+    let team = workers.of_phase(
+        plan.frame.count(),
+        steps_of_parts(parts, &live, &state.frames),
+    );
+    parts_by_workers(&team, parts, plan, context, &live, state)
 }
 
 // The same in order.
@@ -109,7 +114,8 @@ fn parts_by_workers<G: Gate, R: Threads + Sync>(
     ensures lender { lender_of state.new.heap ≡ lender_of state.old.heap }
 {
     let _code = context.code.get();
-    let begun = begin_phase(context.alloc, &plan.shape, state)?;
+    let positions = plan.frame.count();
+    let begun = begin_phase(context.alloc, &plan.shape, positions, state)?;
     state.heap.own.buffers_are_numbered();
     let Begun { target, mut books } = begun;
     let Target { mut cells, buffer } = target;
@@ -154,7 +160,7 @@ fn part_cells<G: Gate, R: Threads + Sync>(
     requires counted { PartsIn (code_program context.now.code.now) (parts_term parts.now) live.now }
     requires alive { AreAlive heap.now (current frames.now) live.now }
     requires home { books.old.home ≡ new_behind heap.now }
-    ensures booked { IsBooked books.old books.new result }
+    ensures booked { IsBooked (length frame.now) books.old books.new result }
     ensures computed { ComputesAll (cells_from (parts_cell context.now heap.now (current frames.now) parts.now form.now frame.now) 0
         (length frame.now)) heap.now (cost_from (parts_taken context.now heap.now (current frames.now) parts.now frame.now) 0
         (length frame.now)) cells.new (left_in books.new.home result) }
@@ -213,7 +219,7 @@ fn each_cell<G: Gate, R: Threads + Sync>(
         (current covered.now.cells.cells.frames.now) covered.now.cells.cells.parts.now) covered.now.cells.cells.heap.now }
     requires room { length into.old ≡ count * width }
     requires home { books.old.home ≡ new_behind covered.now.cells.cells.heap.now }
-    ensures booked { IsBooked books.old books.new result }
+    ensures booked { IsBooked count books.old books.new result }
     ensures computed { ComputesAll
         (cells_from (λ p. must_be_there
         (parts_cell covered.now.cells.cells.context covered.now.cells.cells.heap.now

@@ -1,0 +1,96 @@
+//! Whether the cells of a phase are worth threads of their own.
+
+use crate::team::Workers;
+use core_ir::Var;
+use counted_code::{CodeBlock, CodeGen, CodePart, CodeRight, CodeStep};
+use phase_team::Gate;
+use run_values::{Frames, RunValue};
+use std::thread::Threads;
+
+/// The most steps of a phase that is run by the thread that met it, where no size of chunks was given. Starting three threads takes as long as some
+/// 800 steps of the evaluator (`docs/DECISIONS.md`).
+const FEW: u64 = 1024;
+
+/// How many elements of an array an operator computes while one step is made.
+const ELEMENTS: u64 = 64;
+
+impl<'a, G: Gate, R: Threads + Sync> Workers<'a, G, R> {
+    /// The workers of a phase of so many cells of so many steps: the thread that met it alone where they are few, and all where a size of chunks
+    /// was given.
+    pub fn of_phase(&self, cells: usize, steps: u64) -> Workers<'a, G, R> {
+        let is_worth = self.chunked || (cells as u64).saturating_mul(steps) > FEW;
+        Workers {
+            rt: self.rt,
+            gate: self.gate,
+            workers: if is_worth { self.workers } else { 1 },
+            chunked: self.chunked,
+            nesting: self.nesting,
+        }
+    }
+}
+
+/// How many steps a cell takes at most that reads these variables, and as many as there are numbers where it has loops or calls.
+pub fn steps_of_gens(gens: &[CodeGen], live: &[Var], frames: &Frames) -> u64 {
+    let mut greatest = 0u64;
+    for generator in gens {
+        greatest = greatest.max(block_steps(&generator.body));
+    }
+    greatest.saturating_mul(operator_steps(live, frames))
+}
+
+/// The same of the parts of a parted loop.
+pub fn steps_of_parts(parts: &[CodePart], live: &[Var], frames: &Frames) -> u64 {
+    let mut greatest = 0u64;
+    for part in parts {
+        greatest = greatest.max(block_steps(&part.body));
+    }
+    greatest.saturating_mul(operator_steps(live, frames))
+}
+
+// How many steps an operator takes whose operands are no larger than the largest of these variables.
+fn operator_steps(live: &[Var], frames: &Frames) -> u64 {
+    let mut greatest = 0u64;
+    for x in live {
+        greatest = greatest.max(elements_of(frames.get(*x)));
+    }
+    greatest / ELEMENTS + 1
+}
+
+// How many elements the value of a variable has.
+fn elements_of(value: RunValue) -> u64 {
+    let mut elements = 1u64;
+    for extent in value.extents().as_slice() {
+        elements = elements.saturating_mul(u64::from(extent.unsigned_abs()));
+    }
+    elements
+}
+
+// How many steps a block makes at most.
+#[cycle(steps)]
+fn block_steps(block: &CodeBlock) -> u64 {
+    let mut steps = 0u64;
+    for step in &block.steps {
+        steps = steps.saturating_add(step_steps(step));
+    }
+    steps
+}
+
+#[cycle(steps)]
+fn step_steps(step: &CodeStep) -> u64 {
+    match step {
+        CodeStep::Bind(binding) => right_steps(&binding.right),
+        CodeStep::Keep(_) | CodeStep::Release(_) => 0,
+    }
+}
+
+#[cycle(steps)]
+fn right_steps(right: &CodeRight) -> u64 {
+    match right {
+        CodeRight::If { yes, no, .. } => block_steps(yes).max(block_steps(no)).saturating_add(1),
+        CodeRight::Loop { .. }
+        | CodeRight::Call { .. }
+        | CodeRight::With(_)
+        | CodeRight::Parted(_) => u64::MAX,
+        _ => 1,
+    }
+}
