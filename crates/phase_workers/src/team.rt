@@ -10,11 +10,14 @@ ghost use Rattle.phase_team.specs.Segments.{cells_from, cost_from};
 use crate::nesting::Nesting;
 use crate::results::Books;
 use buffer_heap::Heap;
+use count_table::Tally;
 use phase_cells::{CellRuns, LentCells};
-use phase_team::{Gate, array_phase, fold_phase};
+use phase_draws::{PhaseBooks, array_phase, fold_phase};
+use phase_team::Gate;
 use run_store::lent_counts;
 use sac_base::{Base, Cell, Op, Stop};
 use std::alloc::Global;
+use std::mem;
 use std::thread::Threads;
 
 /// How many workers a phase has, 1 to 64, where they run, and who is told of it.
@@ -49,30 +52,42 @@ pub fn compute_array<C: CellRuns, G: Gate, R: Threads + Sync>(
     requires lending { IsLending (C.opens cells.now) (C.lends cells.now) }
     requires room { length into.old ≡ positions * width }
     requires home { books.old.home ≡ new_behind (C.lends cells.now) }
-    ensures booked { IsBooked books.old books.new result }
+    ensures booked { IsBooked positions books.old books.new result }
     ensures computed { ComputesAll (cells_from (C.cell cells.now) 0 positions) (C.lends cells.now)
         (cost_from (C.takes cells.now) 0 positions) into.new (left_in books.new.home result) }
 {
     let lends = cells.heap();
-    let Ok(mut counts) = lent_counts(alloc, lends) else {
+    let Ok(counts) = lent_counts(alloc, lends) else {
         return Err(Stop::Memory);
     };
     let lent = LentCells { alloc, cells };
-    let tally = &mut books.count.tally;
-    let end = array_phase(
+    let phase = PhaseBooks {
+        home: mem::replace(&mut books.home, Heap::behind(lends)),
+        counts,
+        tally: mem::replace(&mut books.count.tally, Tally::new()),
+    };
+    let (
+        PhaseBooks {
+            home,
+            counts: _,
+            tally,
+        },
+        end,
+    ) = array_phase(
         team.rt,
         alloc,
         &lent,
         team.gate,
+        books.count.cutting,
         few(team.workers),
-        &mut books.home,
-        &mut counts,
+        phase,
         positions,
         width,
         into,
-        tally,
     );
     let LentCells { alloc: _, cells: _ } = lent;
+    books.home = home;
+    books.count.tally = tally;
     match end {
         Ok(_) => emptied(&books.home),
         Err(stop) => Err(stop),
@@ -100,7 +115,7 @@ pub fn compute_fold<C: CellRuns, G: Gate, R: Threads + Sync>(
     requires lending { IsLending (C.opens cells.now) (C.lends cells.now) }
     requires width { length value.old ≡ C.width cells.now }
     requires home { books.old.home ≡ new_behind (C.lends cells.now) }
-    ensures booked { IsBooked books.old books.new result }
+    ensures booked { IsBooked positions books.old books.new result }
     ensures combined { CombinesAll op (cells_from (C.cell cells.now) 0 positions) (C.lends cells.now)
         (cost_from (C.takes cells.now) 0 positions) value.old value.new (left_in books.new.home result) }
 {
@@ -114,6 +129,7 @@ pub fn compute_fold<C: CellRuns, G: Gate, R: Threads + Sync>(
         alloc,
         &lent,
         team.gate,
+        books.count.cutting,
         few(team.workers),
         &mut books.home,
         &mut counts,

@@ -8,8 +8,8 @@ use Rattle.phase_workers.proofs.Ending.{begun_claim}
 use Rattle.phase_workers.proofs.results.begin_phase.Goals as goal
 
 pub returns-clause-begun : goal.returns-clause-begun
-returns-clause-begun c m n at =
+returns-clause-begun c m n long at =
     let s = c.args.state.now in
     let t : State = record { frames = s.frames; heap = s.heap; phases = c.hand_out-handed_out.new.self } in
-    let counted = count_stands s t true m n refl refl c.hand_out-handed_out.ensures.counted at in
+    let counted = count_stands s t true m n c.args.positions long refl refl c.hand_out-handed_out.ensures.counted at in
     begun_claim (Ok c.in_ok-target.target) t c.claim.new.heap (is_small c.args.shape.now) (size c.args.shape.now) (count_phase true n m) counted.phases (c.in_ok-target.ensures.claimed (count_phase true n m) counted.heap)
