@@ -61,19 +61,14 @@ pub fn compute_array<C: CellRuns, G: Gate, R: Threads + Sync>(
         return Err(Stop::Memory);
     };
     let lent = LentCells { alloc, cells };
+    let home = mem::replace(&mut books.home, Heap::behind(lends));
+    let tally = mem::replace(&mut books.count.tally, Tally::new());
     let phase = PhaseBooks {
-        home: mem::replace(&mut books.home, Heap::behind(lends)),
+        home,
         counts,
-        tally: mem::replace(&mut books.count.tally, Tally::new()),
+        tally,
     };
-    let (
-        PhaseBooks {
-            home,
-            counts: _,
-            tally,
-        },
-        end,
-    ) = array_phase(
+    let (after, end) = array_phase(
         team.rt,
         alloc,
         &lent,
@@ -86,6 +81,11 @@ pub fn compute_array<C: CellRuns, G: Gate, R: Threads + Sync>(
         into,
     );
     let LentCells { alloc: _, cells: _ } = lent;
+    let PhaseBooks {
+        home,
+        counts: _,
+        tally,
+    } = after;
     books.home = home;
     books.count.tally = tally;
     match end {
