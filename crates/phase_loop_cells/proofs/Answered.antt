@@ -1,5 +1,5 @@
 -- What is told of a cell once its value was written and released.
-use Rattle.std.proofs.Common.{◌≡◌, ℕ, zero, suc, ◌%◌, ◌^◌, Bool, true, false, List, ℤ, Option, Some, None, Result, Ok, Err, length, refl, sym, ap, ◌∙◌, subst}
+use Rattle.std.proofs.Common.{◌≡◌, ℕ, zero, suc, Bool, true, false, List, ℤ, Option, Some, None, Result, Ok, Err, refl, sym, subst}
 use Rattle.std.specs.Prelude.{if◌then◌else◌, option_map, OnOk}
 use Rattle.counted_code.specs.Loops.{Source, stored, cell_does, release_rest}
 use Rattle.counted_code.specs.Values.{Heap, Value, Small, Ref, Ended, Done, Failed, give, go_on, fails, apart, count_of, read, release, release_count}

@@ -1,5 +1,5 @@
 -- What a parted loop of workers tells of the machine.
-use Rattle.std.proofs.Common.{◌≡◌, ℕ, ◌+◌, ◌<◌, ◌%◌, ◌^◌, Bool, true, false, List, [], ◌∷◌, length, map, ℤ, Option, Some, None, Result, Ok, Err, refl, ap, ◌∙◌, sym, subst}
+use Rattle.std.proofs.Common.{◌≡◌, ℕ, ◌+◌, ◌<◌, ◌^◌, Bool, true, false, List, [], ◌∷◌, length, map, ℤ, Option, Some, None, Result, Ok, Err, refl, ap, ◌∙◌, sym, subst}
 use Rattle.std.specs.Prelude.{IsTrue, not}
 use Rattle.buffer_heap.specs.declared.heap.BufferId.{BufferId}
 use Rattle.buffer_heap.specs.Heaps.{Held, HeapValue, at}

@@ -2,7 +2,7 @@
 use Rattle.std.proofs.Common.{◌≡◌, ℕ, [], ◌∷◌, ◌++◌, Bool, true, Result, Ok, Err, OnOk, refl, sym, subst}
 use Rattle.counted_code.specs.Loops.{count_phase}
 use Rattle.counted_code.specs.Values.{Heap}
-use Rattle.phase_count.specs.Tallies.{Counts, PhaseNumbers, one_more}
+use Rattle.phase_count.specs.Tallies.{Counts, one_more}
 use Rattle.phase_count.proofs.Tallying.{counts_as, counts_more}
 use Rattle.run_store.specs.Stands.{Stands}
 use Rattle.sac_base.specs.declared.memory.Memory as memory

@@ -1,5 +1,5 @@
 -- The cells of a loop one after another: whatever the other cells come to, it is what all come to.
-use Rattle.std.proofs.Common.{◌≡◌, ℕ, suc, ◌+◌, ◌<◌, ◌≤◌, ◌%◌, ◌^◌, List, [], ◌∷◌, length, get_or, drop, refl, sym, ap, ◌∙◌, subst, Result, Ok, Err, Option}
+use Rattle.std.proofs.Common.{◌≡◌, ℕ, suc, ◌+◌, ◌<◌, ◌≤◌, List, [], ◌∷◌, length, get_or, drop, refl, sym, ap, ◌∙◌, subst, Result, Ok, Err, Option}
 use Rattle.std.specs.Prelude.{ℤ, option_map}
 use Rattle.std.proofs.lemmas.List.{drop_more, drop_all}
 use Rattle.sac_base.specs.declared.form.Form.{Form}

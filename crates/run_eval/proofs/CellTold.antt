@@ -1,5 +1,5 @@
 -- What is told of a cell, and of what follows a loop.
-use Rattle.std.proofs.Common.{◌≡◌, ℕ, zero, suc, ◌%◌, ◌^◌, [], ◌∷◌, length, Bool, true, false, refl, sym, ap, Result, Ok, Err, Option, Some, None}
+use Rattle.std.proofs.Common.{◌≡◌, ℕ, zero, suc, [], ◌∷◌, Bool, true, false, refl, sym, ap, Result, Ok, Err, Option, Some, None}
 use Rattle.std.specs.Prelude.{option_map, if◌then◌else◌}
 use Rattle.sac_base.specs.declared.faults.FaultKind.TheVariants.{F6}
 use Rattle.sac_base.specs.declared.form.Form.{Form}

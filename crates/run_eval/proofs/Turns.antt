@@ -1,6 +1,6 @@
 -- Turns of a loop.
 use Rattle.std.proofs.Common.{◌≡◌, ℕ, zero, suc, ◌-◌, ◌<◌, List, Bool, true, false, refl, sym, ap, ◌∙◌, subst, arith, Option, Some, None, Ok, Err}
-use Rattle.std.specs.Prelude.{if◌then◌else◌, ◌%◌, ◌^◌, length}
+use Rattle.std.specs.Prelude.{if◌then◌else◌}
 use Rattle.sac_base.specs.declared.site.Site.{Site}
 use Rattle.sac_base.specs.declared.faults.Fault.{Fault}
 use Rattle.sac_base.specs.declared.faults.FaultKind.TheVariants.{F3, F9}

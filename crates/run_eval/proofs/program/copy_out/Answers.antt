@@ -1,4 +1,4 @@
-use Rattle.std.proofs.Common.{ap, map, ◌∙◌, ◌%◌, ◌^◌, length, sym}
+use Rattle.std.proofs.Common.{map, sym}
 use Rattle.run_values.specs.Shown.{value_of}
 use Rattle.run_eval.proofs.WholeRuns.{released_phases}
 use Rattle.run_eval.proofs.program.copy_out.Goals as goal

@@ -1,4 +1,4 @@
-use Rattle.std.proofs.Common.{rules, ◌≡◌, ◌<◌, ◌%◌, ◌^◌, ◌∙◌, length, get_or, map, true, false, sym, ap, subst}
+use Rattle.std.proofs.Common.{rules, ◌≡◌, ◌<◌, ◌∙◌, length, get_or, map, true, false, sym, ap, subst}
 use Rattle.std.specs.Prelude.{Ok, Err}
 use Rattle.counted_code.specs.Outcome.{function_does, copied_out}
 use Rattle.counted_code.specs.View.{code_fun_term}
