@@ -9,27 +9,21 @@ It needs a C compiler and a program that is linked dynamically.
 """
 import os
 import pathlib
-import subprocess
 import sys
 import tempfile
+
+import preloaded
 
 ROOT = pathlib.Path(__file__).resolve().parent.parent
 SOURCES = ["sum", "life", "quotients", "histogram", "norms"]
 
 SHIM = r"""
-#define _GNU_SOURCE
 #include <errno.h>
 #include <fcntl.h>
 #include <stdarg.h>
-#include <stdatomic.h>
 #include <stdlib.h>
 #include <string.h>
-#include <sys/syscall.h>
 #include <sys/types.h>
-#include <sys/uio.h>
-#include <unistd.h>
-
-static atomic_long calls;
 
 static long number(const char *name) {
     const char *text = getenv(name);
@@ -70,48 +64,11 @@ static int opened(int folder, const char *path, int flags, mode_t mode) {
 int open(const char *path, int flags, ...) { mode_t mode; MODE(flags, mode); return opened(AT_FDCWD, path, flags, mode); }
 int open64(const char *path, int flags, ...) { mode_t mode; MODE(flags, mode); return opened(AT_FDCWD, path, flags, mode); }
 int openat(int folder, const char *path, int flags, ...) { mode_t mode; MODE(flags, mode); return opened(folder, path, flags, mode); }
-
-// The number of calls goes to descriptor 9.
-static void tell(void) {
-    char text[24];
-    int at = sizeof text;
-    long count = atomic_load(&calls);
-    do { text[--at] = '0' + count % 10; count /= 10; } while (count);
-    syscall(SYS_write, 9, text + at, sizeof text - at);
-}
-
-// A program of this toolchain ends by this call.
-void _exit(int status) {
-    tell();
-    for (;;) syscall(SYS_exit_group, status);
-}
 """
 
 
-def shim(folder):
-    source, made = folder / "shim.c", folder / "shim.so"
-    source.write_text(SHIM)
-    subprocess.run(["cc", "-O1", "-shared", "-fPIC", "-o", made, source], check=True)
-    return made
-
-
 def run(program, made, example, **settings):
-    """Returns the status, the text, and how many calls the run made."""
-    words = [program, f"{example}.sac", "--report"]
-    given = pathlib.Path(f"{example}.in")
-    if given.exists():
-        words += ["--input", str(given)]
-    reader, writer = os.pipe()
-    os.dup2(writer, 9, inheritable=True)
-    os.close(writer)
-    env = {"LD_PRELOAD": str(made)} | {name: str(value) for name, value in settings.items()}
-    try:
-        ended = subprocess.run(words, env=env, capture_output=True, pass_fds=[9], timeout=300)
-    finally:
-        os.close(9)
-    with os.fdopen(reader) as told:
-        calls = told.read()
-    return ended.returncode, ended.stdout, int(calls or 0)
+    return preloaded.run(program, made, example, ["--report"], settings)
 
 
 def may_end(whole, status, text):
@@ -143,7 +100,7 @@ def main():
     program = os.path.abspath(sys.argv[1])
     lost = 0
     with tempfile.TemporaryDirectory() as place:
-        made = shim(pathlib.Path(place))
+        made = preloaded.library(pathlib.Path(place), SHIM)
         for name in sys.argv[2:] or SOURCES:
             calls, ends, wrong = tries(program, made, ROOT / "examples" / name)
             seen = ", ".join(f"{count} in status {status}" for status, count in sorted(ends.items()))

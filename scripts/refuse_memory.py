@@ -8,9 +8,10 @@ It needs a C compiler and a program that is linked dynamically.
 """
 import os
 import pathlib
-import subprocess
 import sys
 import tempfile
+
+import preloaded
 
 ROOT = pathlib.Path(__file__).resolve().parent.parent
 # The first calls are each refused; of the others as many, evenly spread, as come to about this number of runs.
@@ -45,14 +46,9 @@ SMALL = {
 }
 
 SHIM = r"""
-#define _GNU_SOURCE
 #include <errno.h>
-#include <stdatomic.h>
 #include <stdlib.h>
-#include <sys/syscall.h>
-#include <unistd.h>
 
-static atomic_long calls;
 static long refused = -1;
 
 static int refuses(void) {
@@ -80,48 +76,11 @@ int posix_memalign(void **at, size_t align, size_t size) {
     *at = __libc_memalign(align, size);
     return *at ? 0 : ENOMEM;
 }
-
-// The number of calls goes to descriptor 9.
-static void tell(void) {
-    char text[24];
-    int at = sizeof text;
-    long count = atomic_load(&calls);
-    do { text[--at] = '0' + count % 10; count /= 10; } while (count);
-    if (write(9, text + at, sizeof text - at) < 0) return;
-}
-
-// A program of this toolchain ends by this call.
-void _exit(int status) {
-    tell();
-    for (;;) syscall(SYS_exit_group, status);
-}
 """
 
 
-def shim(folder):
-    source, made = folder / "shim.c", folder / "shim.so"
-    source.write_text(SHIM)
-    subprocess.run(["cc", "-O1", "-shared", "-fPIC", "-o", made, source], check=True)
-    return made
-
-
 def run(program, made, example, workers, refused):
-    """Returns the status, the text, and how many allocations the run asked for."""
-    words = [program, f"{example}.sac", "--workers", workers]
-    given = pathlib.Path(f"{example}.in")
-    if given.exists():
-        words += ["--input", str(given)]
-    reader, writer = os.pipe()
-    os.dup2(writer, 9, inheritable=True)
-    os.close(writer)
-    env = {"LD_PRELOAD": str(made), "REFUSED": str(refused)}
-    try:
-        ended = subprocess.run(words, env=env, capture_output=True, pass_fds=[9], timeout=120)
-    finally:
-        os.close(9)
-    with os.fdopen(reader) as told:
-        calls = told.read()
-    return ended.returncode, ended.stdout, int(calls or 0)
+    return preloaded.run(program, made, example, ["--workers", workers], {"REFUSED": refused})
 
 
 def tries(program, made, example, workers):
@@ -152,7 +111,7 @@ def main():
     lost = 0
     with tempfile.TemporaryDirectory() as place:
         folder = pathlib.Path(place)
-        made = shim(folder)
+        made = preloaded.library(folder, SHIM)
         write_small(folder)
         for name in names:
             for workers in ("1", "4"):
