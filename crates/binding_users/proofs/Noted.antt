@@ -82,15 +82,14 @@ module _ {S : Type 0} where
   -- ---- the uses of a right side
 
   pub uses_turn :
-      (m n : HashMap ℕ Place S) (xs : List Var) (i : ℕ) (d x : Var) (place : ℕ) → i < length xs → x ≡ get_or xs i d → Grows m n → may_use (get nat_eq n x.0) place ≡ true →
+      (m n : HashMap ℕ Place S) (xs : List Var) (i : ℕ) (d : Var) (place : ℕ) → i < length xs → Grows m n → may_use (get nat_eq n (get_or xs i d).0) place ≡ true →
       ((y : Var) → may_use (get nat_eq m y.0) place ≡ false → AvoidsAll y (take i xs)) → (y : Var) → may_use (get nat_eq n y.0) place ≡ false → AvoidsAll y (take (i + 1) xs)
-  uses_turn m n xs i d x place lt is grows here so_far y e =
-      subst (AvoidsAll y) (sym (take_more xs i d lt))
-      (joined y (take i xs) (get_or xs i d ∷ []) (so_far y (grows y place e)) (subst (λ (z : Var). eqb y.0 z.0 ≡ false) is (go (eqb y.0 x.0) refl), tt))
+  uses_turn m n xs i d place lt grows here so_far y e =
+      subst (AvoidsAll y) (sym (take_more xs i d lt)) (joined y (take i xs) (get_or xs i d ∷ []) (so_far y (grows y place e)) (go (eqb y.0 (get_or xs i d).0) refl, tt))
     where
-      go : (b : Bool) → eqb y.0 x.0 ≡ b → eqb y.0 x.0 ≡ false
+      go : (b : Bool) → eqb y.0 (get_or xs i d).0 ≡ b → eqb y.0 (get_or xs i d).0 ≡ false
       go false t = t
-      go true t = absurd (never (may_use (get nat_eq n x.0) place) here ((λ i. may_use (get nat_eq n (sym (eqb-true y.0 x.0 t) i)) place) ∙ e))
+      go true t = absurd (never (may_use (get nat_eq n (get_or xs i d).0) place) here ((λ j. may_use (get nat_eq n (sym (eqb-true y.0 (get_or xs i d).0 t) j)) place) ∙ e))
 
   -- ---- all bindings
 
@@ -158,3 +157,13 @@ pub users_set :
     (u v : Users) (ls : List Let) (place : ℕ) (new : Let) → v.are_noted ≡ u.are_noted → Grows u.places v.places → ((x : Var) → may_use (get nat_eq v.places x.0) place ≡ false → AvoidsRight x (right_term new.right)) →
     AreUsers u (map let_term ls) → AreUsers v (map let_term (slice_set ls place new))
 users_set u v ls place new same grows own h k = covers_set u.places v.places ls place new grows own (h (sym same ∙ k))
+
+-- all uses of a right side were noted
+pub uses_end : (xs used : List Var) (i : ℕ) (first : List Var) → length xs ≤ i → xs ≡ first ++ used → first ≡ [] → take i xs ≡ used
+uses_end xs used i first over e f = all_taken xs i over ∙ e ∙ ap (λ ys. ys ++ used) f
+  where
+    all_taken : (ys : List Var) (n : ℕ) → length ys ≤ n → take n ys ≡ ys
+    all_taken [] zero h = refl
+    all_taken [] (suc n) h = refl
+    all_taken (y ∷ ys) zero h = absurd (omega (arith, h))
+    all_taken (y ∷ ys) (suc n) h = ap (λ zs. y ∷ zs) (all_taken ys n (omega (arith, h)))
