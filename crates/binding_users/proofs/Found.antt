@@ -1,7 +1,8 @@
 -- The one binding that uses a variable.
-use Rattle.std.proofs.Common.{◌≡◌, ℕ, zero, suc, ◌+◌, ◌<◌, ◌≤◌, Bool, true, false, List, [], ◌∷◌, ◌++◌, map, length, take, get_or, Option, Some, None, refl, sym, ap, subst, ◌∙◌, ◌⊎◌, inl, inr, append_assoc, arith}
+use Rattle.std.proofs.Common.{◌≡◌, ℕ, zero, suc, ◌+◌, ◌<◌, ◌≤◌, Bool, true, false, not, List, [], ◌∷◌, ◌++◌, map, length, take, get_or, Option, Some, None, refl, sym, ap, subst, ◌∙◌, ◌⊎◌, inl, inr, append_assoc, arith}
 use Rattle.std.specs.Prelude.{slice_get, unwrap_or, IfSome, IfNone}
-use Rattle.std.specs.Option.{is_some}
+use Rattle.std.specs.Option.{is_some, option_map}
+use Rattle.std.proofs.lemmas.Option.{slice_get-map}
 use Rattle.core_ir.specs.declared.tree.Var.{Var}
 use Rattle.core_ir.specs.declared.tree.Let.{Let}
 use Rattle.core_ir.specs.Terms.{LetTerm}
@@ -10,7 +11,8 @@ use Rattle.core_ir.specs.Uses.{AvoidsAll, AvoidsRight}
 use Rattle.core_loops.specs.Pairs.{AvoidsLets}
 use Rattle.core_uses.specs.Tests.{is_avoided_right, none_is}
 use Rattle.core_uses.proofs.Decided.{right_decided, list_decided}
-use Rattle.fold_walk.specs.Pairing.{IsSoleUser}
+use Rattle.std.proofs.lemmas.Bool.Decides.{eqb_tells}
+use Rattle.binding_users.specs.Users.{IsSoleUser, OthersAvoid, UsesAt}
 
 -- ---- lists of bindings
 
@@ -45,8 +47,8 @@ place_in x (b ∷ bs) cs u (suc k) l hb ha e = elim (place_in x bs cs u k l hb.1
   | inr q ↦ inr q
 ]
 
-pub user_at : (x : Var) (lets : List LetTerm) (rs : List Var) (place k : ℕ) (l : LetTerm) → IsSoleUser x lets rs place → slice_get lets k ≡ Some l → (AvoidsRight x l.right → ⊥) → k ≡ place
-user_at x lets rs place k l h e used = elim (place_in x h.before h.after h.user k l h.others.0 h.others.1 ((λ i. slice_get (sym h.whole i) k) ∙ e)) [
+pub user_place : (x : Var) (lets : List LetTerm) (rs : List Var) (place k : ℕ) (l : LetTerm) → IsSoleUser x lets rs place → slice_get lets k ≡ Some l → (AvoidsRight x l.right → ⊥) → k ≡ place
+user_place x lets rs place k l h e used = elim (place_in x h.before h.after h.user k l h.others.0 h.others.1 ((λ i. slice_get (sym h.whole i) k) ∙ e)) [
   | inl q ↦ q ∙ h.at
   | inr q ↦ absurd (used q)
 ]
@@ -147,8 +149,8 @@ pub second_use :
     (place : ℕ) → IsSoleUser x (map let_term ls) rs place → ⊥
 second_use x rs ls i l a inside is t h place sole =
     let first : slice_get (map let_term (take i ls)) (length h.before) ≡ Some h.user = (λ j. slice_get (h.whole j) (length h.before)) ∙ at_length h.before h.after h.user in
-    let one = user_at x (map let_term ls) rs place (length h.before) h.user sole (slice_taken ls i (length h.before) h.user first) h.used in
-    let two = user_at x (map let_term ls) rs place i (let_term l) sole (slice_here ls i l inside is) (not_own x rs h.unreturned ls i l inside is t) in
+    let one = user_place x (map let_term ls) rs place (length h.before) h.user sole (slice_taken ls i (length h.before) h.user first) h.used in
+    let two = user_place x (map let_term ls) rs place i (let_term l) sole (slice_here ls i l inside is) (not_own x rs h.unreturned ls i l inside is t) in
     let count : length (h.before ++ (h.user ∷ h.after)) ≡ i = ap length (sym h.whole) ∙ map_length (take i ls) ∙ take_length ls i (up i (length ls) inside) in
     one_place (length h.before) i (length (h.before ++ (h.user ∷ h.after))) place (within h.before h.after h.user) count one two
 
@@ -204,3 +206,78 @@ inside_of x ls rs place h = less (length h.before) place (length (h.before ++ (h
 pub inside_end : (x : Var) (rs : List Var) (ls : List Let) (i : ℕ) (found : Option ℕ) → length ls ≤ i → SoFar x (map let_term (take i ls)) rs found → IfSome found (λ place. place < length ls)
 inside_end x rs ls i None h s = tt
 inside_end x rs ls i (Some place) h s = inside_of x ls rs place (subst (λ zs. IsSoleUser x (map let_term zs) rs place) (all_taken ls i h) s)
+
+-- ---- by the places of users
+
+some_term : (a b : LetTerm) → ◌≡◌ {A = Option LetTerm} (Some a) (Some b) → a ≡ b
+some_term a b e = ap (λ (o : Option LetTerm). unwrap_or o a) e
+
+pub all_avoid : (x : Var) (lets : List LetTerm) → ((q : ℕ) (l : LetTerm) → slice_get lets q ≡ Some l → AvoidsRight x l.right) → AvoidsLets x lets
+all_avoid x [] h = tt
+all_avoid x (l ∷ ls) h = (h 0 l refl, all_avoid x ls (λ q m e. h (suc q) m e))
+
+-- the one that uses it
+pub sole_at : (x : Var) (lets : List LetTerm) (rs : List Var) (place : ℕ) → OthersAvoid x lets place → UsesAt x lets place → AvoidsAll x rs → IsSoleUser x lets rs place
+sole_at x [] rs place h u a = absurd (let q : ◌≡◌ {A = Option LetTerm} None (Some u.user) = u.at in cc)
+sole_at x (l ∷ ls) rs zero h u a = record {
+  before = [];
+  user = l;
+  after = ls;
+  whole = refl;
+  at = refl;
+  used = λ k. u.used (subst (λ (m : LetTerm). AvoidsRight x m.right) (some_term l u.user u.at) k);
+  others = (tt, all_avoid x ls (λ q m e. h (suc q) m e (λ n. absurd (omega (arith, n)))));
+  unreturned = a;
+}
+sole_at x (l ∷ ls) rs (suc k) h u a =
+    let w = sole_at x ls rs k (λ q m e n. h (suc q) m e (λ i. n (omega (arith, i)))) (record { user = u.user; at = u.at; used = u.used }) a in
+    record {
+      before = l ∷ w.before;
+      user = w.user;
+      after = w.after;
+      whole = ap (λ ms. l ∷ ms) w.whole;
+      at = ap suc w.at;
+      used = w.used;
+      others = ((h 0 l refl (λ n. absurd (omega (arith, n))), w.others.0), w.others.1);
+      unreturned = w.unreturned;
+    }
+
+-- no other one uses it, nor does the one at the place
+pub none_at : (x : Var) (lets : List LetTerm) (rs : List Var) (place : ℕ) → OthersAvoid x lets place → ((l : LetTerm) → slice_get lets place ≡ Some l → AvoidsRight x l.right) → (k : ℕ) → IsSoleUser x lets rs k → ⊥
+none_at x lets rs place h own k sole = no_use x lets rs (all_avoid x lets each) k sole
+  where
+    each : (q : ℕ) (l : LetTerm) → slice_get lets q ≡ Some l → AvoidsRight x l.right
+    each q l e = elim (eqb_tells place q) [
+      | inl w ↦ own l (ap (slice_get lets) w.1 ∙ e)
+      | inr w ↦ h q l e w.1
+    ]
+
+-- two use it
+pub two_at : (x : Var) (lets : List LetTerm) (rs : List Var) (one other : ℕ) → UsesAt x lets one → UsesAt x lets other → (one ≡ other → ⊥) → (place : ℕ) → IsSoleUser x lets rs place → ⊥
+two_at x lets rs one other u v n place sole =
+    n (user_place x lets rs place one u.user sole u.at u.used ∙ sym (user_place x lets rs place other v.user sole v.at v.used))
+
+pub sole_inside : (x : Var) (ls : List Let) (rs : List Var) (place : ℕ) → IsSoleUser x (map let_term ls) rs place → place < length ls
+sole_inside = inside_of
+
+-- ---- the binding at a place
+
+found_term : (ls : List Let) (p : ℕ) (l : Let) → slice_get ls p ≡ Some l → slice_get (map let_term ls) p ≡ Some (let_term l)
+found_term ls p l e = slice_get-map let_term ls p ∙ ap (option_map let_term) e
+
+pub uses_here : (x : Var) (ls : List Let) (p : ℕ) (l : Let) (b : Bool) → slice_get ls p ≡ Some l → b ≡ is_avoided_right x (right_term l.right) → not b ≡ true → UsesAt x (map let_term ls) p
+uses_here x ls p l b e is t = record { user = let_term l; at = found_term ls p l e; used = λ a. go b t (is ∙ (right_decided x (right_term l.right)).1 a) }
+  where
+    go : (b : Bool) → not b ≡ true → b ≡ true → ⊥
+    go b p q = let r : false ≡ true = ap not (sym q) ∙ p in let w : ⊥ = cc in w
+
+pub avoids_here : (x : Var) (ls : List Let) (p : ℕ) (l : Let) (b : Bool) → slice_get ls p ≡ Some l → b ≡ is_avoided_right x (right_term l.right) → not b ≡ false → (m : LetTerm) → slice_get (map let_term ls) p ≡ Some m → AvoidsRight x m.right
+avoids_here x ls p l b e is t m f =
+    subst (λ (k : LetTerm). AvoidsRight x k.right) (some_term (let_term l) m (sym (found_term ls p l e) ∙ f)) ((right_decided x (right_term l.right)).0 (sym is ∙ go b t))
+  where
+    go : (b : Bool) → not b ≡ false → b ≡ true
+    go true t = refl
+    go false t = sym t
+
+pub none_here : (x : Var) (ls : List Let) (p : ℕ) → slice_get ls p ≡ None → (m : LetTerm) → slice_get (map let_term ls) p ≡ Some m → AvoidsRight x m.right
+none_here x ls p e m f = absurd (let q : ◌≡◌ {A = Option LetTerm} None (Some m) = sym (slice_get-map let_term ls p ∙ ap (option_map let_term) e) ∙ f in cc)

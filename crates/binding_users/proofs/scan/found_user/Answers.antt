@@ -2,9 +2,9 @@ use Rattle.std.proofs.Common.{◌≡◌, ◌+◌, sym, subst, map, take, true, f
 use Rattle.core_ir.specs.declared.tree.Let.{Let}
 use Rattle.core_ir.specs.View.{let_term, right_term}
 use Rattle.core_uses.specs.Tests.{is_avoided_right}
-use Rattle.fold_walk.proofs.Users.{SoFar, first_found, inside_end, none_end, passed_on, returned, second_found, some_end}
-use Rattle.fold_walk.proofs.pairing.sole_user.Goals.{then-not-avoids_right+else-is_some, else-not-avoids_right}
-use Rattle.fold_walk.proofs.pairing.sole_user.Goals as goal
+use Rattle.binding_users.proofs.Found.{SoFar, first_found, inside_end, none_end, passed_on, returned, second_found, some_end}
+use Rattle.binding_users.proofs.scan.found_user.Goals.{then-not-avoids_right+else-is_some, else-not-avoids_right}
+use Rattle.binding_users.proofs.scan.found_user.Goals as goal
 
 pub returns-then-not-avoids_all-clause-none : goal.returns-then-not-avoids_all-clause-none
 returns-then-not-avoids_all-clause-none c = returned c.args.x (map let_term c.args.lets.now) c.args.results.now c.if-not-avoids_all.ensures
