@@ -1,67 +1,93 @@
--- A phase whose worker k computes chunk k is a run of the machine.
-use Rattle.std.proofs.Common.{◌≡◌, ◌≢◌, ℕ, zero, suc, ◌+◌, ◌<◌, ◌≤◌, true, false, ℤ, List, [], ◌∷◌, ◌++◌, Option, Some, Ok, Err, refl, sym, ap, subst, ◌∙◌, inl, inr, ⊎_elim, arith}
+-- The workers of a phase, in any order, are a run of the machine.
+use Rattle.std.proofs.Common.{◌≡◌, ◌≢◌, ℕ, zero, suc, ◌<◌, ◌≤◌, ◌⊎◌, Bool, true, false, Some, Ok, Err, refl, sym, subst, ◌∙◌, inl, inr, ⊎_elim, arith}
 use Rattle.std.specs.Prelude.{slice_get}
-use Rattle.std.proofs.lemmas.Bool.{cases_eq}
-use Rattle.sac_base.specs.declared.faults.Fault.{Fault}
-use Rattle.wl_core.specs.declared.events.Event.{Event}
+use Rattle.std.proofs.lemmas.Bool.{cases_eq, cases_lt, true≢false}
+use Rattle.std.proofs.lemmas.Option.{slice_get_cases}
 use Rattle.wl_core.specs.declared.events.Event.TheVariants.{Draw, Write, Stop}
-use Rattle.wl_core.specs.Machine.{SetupValue, StateValue, Steps, Runs, Works, Finished, HoldsNothing, opened, put, first, end, chunks, store, gather}
-use Rattle.wl_core.proofs.Functions.{put_same, put_other}
-use Rattle.phase_team.specs.Schedules.{draws, AllDone, IsAtWork, IsBegun, IsShared}
+use Rattle.wl_core.specs.Facts.{Facts}
+use Rattle.wl_core.specs.Machine.{CellValue, SetupValue, StateValue, ChunksDone, Works, chunks, end}
+use Rattle.phase_team.specs.Schedules.{CanAct, IsThrough, AllThrough}
 
--- one event more
-run_more : (u : SetupValue) (es : List Event) (e : Event) (s t r : StateValue) → Runs u s es t → Steps u t e r → Runs u s (es ++ e ∷ []) r
-run_more u [] e s t r run step = (r, subst (λ (m : StateValue). Steps u m e r) (sym run) step, refl)
-run_more u (d ∷ es) e s t r run step = (run.0, run.1, run_more u es e run.0 t r run.2 step)
+-- a chunk below n on which the worker works, or there is none
+abbrev FoundBelow : SetupValue → StateValue → ℕ → ℕ → Type 0
+FoundBelow u s w n = ((c : ℕ) × Works u s w c) ⊎ ((c : ℕ) → c < n → ¬ Works u s w c)
 
-module _ (u : SetupValue) where
-  -- the state after the draws of n chunks
-  abbrev Drawn : ℕ → StateValue → Type 0
-  Drawn n s = (s.taken ≡ n) × ((c : ℕ) → c < n → (s.owner c ≡ c) × (s.next c ≡ first u c) × (s.stopped c ≡ false)) × ((w b : ℕ) → s.holds w b ≡ 0)
+stopped_or_not : (b : Bool) → (b ≡ true) ⊎ (b ≡ false)
+stopped_or_not true = inl refl
+stopped_or_not false = inr refl
 
-  drawn : chunks u ≤ u.workers → (n : ℕ) → n ≤ chunks u → (s : StateValue) × Runs u (opened u) (draws n) s × Drawn n s
-  drawn few zero le = (opened u, refl, (refl, (λ c lt. absurd (omega arith)), λ w b. refl))
-  drawn few (suc n) le =
-      let before = drawn few n (omega arith) in
-      let s : StateValue = before.0 in
-      let taken : s.taken ≡ n = before.2.0 in
-      let chunk = before.2.1 in
-      let t : StateValue = record s { taken = s.taken + 1; owner = put s.owner s.taken n; next = put s.next s.taken (first u s.taken); stopped = put s.stopped s.taken false } in
-      let idle : (c : ℕ) → ¬ Works u s n c = λ c works. (let o = (chunk c (let l = works.0 in omega arith)).0 in let w = works.1 in let l = works.0 in absurd (omega arith)) in
-      let step : Steps u s (Draw n) t = (omega arith, idle, omega arith, refl) in
-      let here : (c : ℕ) → c < suc n → (t.owner c ≡ c) × (t.next c ≡ first u c) × (t.stopped c ≡ false) = λ c lt. ⊎_elim
-      (λ (e : c ≡ s.taken). (put_same s.owner s.taken n c e ∙ (let k : n ≡ c = omega arith in k), put_same s.next s.taken (first u s.taken) c e ∙ ap (first u) (sym e), put_same s.stopped s.taken false c e))
-      (λ (ne : c ≢ s.taken).
-      let old = chunk c (let q : c ≢ n = (λ e. ne (e ∙ sym taken)) in omega arith) in
-      (put_other s.owner s.taken n c ne ∙ old.0, put_other s.next s.taken (first u s.taken) c ne ∙ old.1, put_other s.stopped s.taken false c ne ∙ old.2))
-      (cases_eq c s.taken) in
-      (t, run_more u (draws n) (Draw n) (opened u) s t before.1 step, (let e : s.taken + 1 ≡ suc n = omega arith in e, here, before.2.2))
+module _ (u : SetupValue) (s : StateValue) (w : ℕ) where
+  -- whether the worker works on a chunk
+  works_on : (c : ℕ) → Works u s w c ⊎ (¬ Works u s w c)
+  works_on c =
+      ⊎_elim
+      (λ (taken : c < s.taken).
+      ⊎_elim
+      (λ (own : s.owner c ≡ w).
+      ⊎_elim
+      (λ (next : s.next c < end u c).
+      ⊎_elim (λ (e : s.stopped c ≡ true). inr (λ works. true≢false (sym e ∙ works.3))) (λ (e : s.stopped c ≡ false). inl (taken, own, next, e)) (stopped_or_not (s.stopped c)))
+      (λ (past : end u c ≤ s.next c). inr (λ works. (let l = works.2 in absurd (omega arith))))
+      (cases_lt (s.next c) (end u c)))
+      (λ (other : s.owner c ≢ w). inr (λ works. other works.1))
+      (cases_eq (s.owner c) w))
+      (λ (not_taken : s.taken ≤ c). inr (λ works. (let l = works.0 in absurd (omega arith))))
+      (cases_lt c s.taken)
 
-  pub begun : chunks u ≤ u.workers → (s : StateValue) × Runs u (opened u) (draws (chunks u)) s × IsBegun u s
-  begun few =
-      let d = drawn few (chunks u) (omega arith) in
-      (d.0, d.1, record { shared = record { taken = d.2.0; owners = λ c lt. (d.2.1 c lt).0 }; next = λ c lt. (d.2.1 c lt).1; going = λ c lt. (d.2.1 c lt).2; holds = d.2.2 })
+  found_below : (n : ℕ) → FoundBelow u s w n
+  found_below zero = inr (λ c lt. absurd (omega arith))
+  found_below (suc n) =
+      ⊎_elim
+      (λ found. inl found)
+      (λ none. ⊎_elim (λ works. inl (n, works)) (λ (not : ¬ Works u s w n). inr (λ c lt works. ⊎_elim (λ (e : c ≡ n). not (subst (λ (d : ℕ). Works u s w d) e works)) (λ (ne : c ≢ n). none c (omega arith) works) (cases_eq c n))) (works_on n))
+      (found_below n)
 
-  module _ (s : StateValue) (shared : IsShared u s) (w : ℕ) (few : chunks u ≤ u.workers) (at_work : IsAtWork u s w) where
-    works : Works u s w w
-    works = (let t = shared.taken in let l = at_work.chunk in omega arith, shared.owners w at_work.chunk, at_work.next, at_work.going)
+  -- the next cell of a chunk is written, or stops it
+  act_on : (c : ℕ) → w < u.workers → Works u s w c → CanAct u s w
+  act_on c few works =
+      ⊎_elim
+      (λ there. act_at there.0 there.2)
+      (λ past. (let l = works.2 in let p = past.0 in absurd (omega arith)))
+      (slice_get_cases u.cells (s.next c)).1
+    where
+      act_at : (x : CellValue) → slice_get u.cells (s.next c) ≡ Some x → CanAct u s w
+      act_at (Ok value) is = (Write w, _, refl, (few, (c, value, works, is, refl)))
+      act_at (Err fault) is = (Stop w, _, refl, (few, (c, fault, works, is, refl)))
 
-    pub writes : (value : Option (List ℤ)) → slice_get u.cells (s.next w) ≡ Some (Ok value)
-        → (t : StateValue) × Steps u s (Write w) t × IsShared u t × (t.next ≡ put s.next w (s.next w + 1)) × (t.stopped ≡ s.stopped) × (t.holds ≡ s.holds)
-    writes value is =
-        let t : StateValue = record s { next = put s.next w (s.next w + 1); written = put s.written (s.next w) (s.written (s.next w) ++ w ∷ []); stored = store u.job s.stored (s.next w) value; partial = gather u.job s.partial w value } in
-        (t, (let l = at_work.chunk in omega arith, (w, value, works, is, refl)), record { taken = shared.taken; owners = shared.owners }, refl, refl, refl)
+  -- a worker acts, or it is through
+  pub acts : w < u.workers → CanAct u s w ⊎ IsThrough u s w
+  acts few =
+      ⊎_elim
+      (λ found. inl (act_on found.0 few found.1))
+      (λ none.
+      let idle : (c : ℕ) → ¬ Works u s w c = λ c works. none c works.0 works in
+      ⊎_elim (λ (left : s.taken < chunks u). inl (Draw w, _, refl, (few, idle, left, refl))) (λ (all : chunks u ≤ s.taken). inr (record { idle = idle; none_left = inl all })) (cases_lt s.taken (chunks u)))
+      (found_below s.taken)
 
-    pub stops : (fault : Fault) → slice_get u.cells (s.next w) ≡ Some (Err fault)
-        → (t : StateValue) × Steps u s (Stop w) t × IsShared u t × (t.next ≡ s.next) × (t.stopped ≡ put s.stopped w true) × (t.holds ≡ s.holds)
-    stops fault is =
-        let t : StateValue = record s { stopped = put s.stopped w true } in
-        (t, (let l = at_work.chunk in omega arith, (w, fault, works, is, refl)), record { taken = shared.taken; owners = shared.owners }, refl, refl, refl)
+module _ (u : SetupValue) (s : StateValue) (facts : Facts u s) (all : AllThrough u s) where
+  -- a taken chunk has ended or stopped
+  done : (c : ℕ) → c < s.taken → (s.next c ≡ end u c) ⊎ (s.stopped c ≡ true)
+  done c taken =
+      ⊎_elim
+      (λ (e : s.stopped c ≡ true). inr e)
+      (λ (going : s.stopped c ≡ false).
+      ⊎_elim
+      (λ (next : s.next c < end u c). absurd ((all (s.owner c) (facts.owners c taken)).idle c (taken, refl, next, going)))
+      (λ (past : end u c ≤ s.next c). inl (let most = (facts.within c taken).1 in omega arith))
+      (cases_lt (s.next c) (end u c)))
+      (stopped_or_not (s.stopped c))
 
-  pub finished : (s : StateValue) → IsShared u s → AllDone u s → HoldsNothing u s → Finished u s
-  finished s shared done nothing = (
-    nothing,
-    λ c lt.
-        let taken : c < s.taken = (let t = shared.taken in omega arith) in
-        ⊎_elim (λ (e : s.next c ≡ end u c). inl (taken, e)) (λ (e : s.stopped c ≡ true). inr (inl (taken, e))) (done c lt),
-  )
+  taken_done : (c : ℕ) → c < s.taken → ((c < s.taken) × (s.next c ≡ end u c)) ⊎ (((c < s.taken) × (s.stopped c ≡ true)) ⊎ ((d : ℕ) × (d < c) × (d < s.taken) × (s.stopped d ≡ true)))
+  taken_done c taken = ⊎_elim (λ e. inl (taken, e)) (λ e. inr (inl (taken, e))) (done c taken)
+
+  -- where all are through, and there is a worker, every chunk is done
+  pub chunks_done : 1 ≤ u.workers → ChunksDone u s
+  chunks_done some c there =
+      ⊎_elim
+      (λ (taken : c < s.taken). taken_done c taken)
+      (λ (not_taken : s.taken ≤ c).
+      ⊎_elim
+      (λ (none : chunks u ≤ s.taken). absurd (omega arith))
+      (λ stopped. inr (inr (stopped.0, (let l = stopped.1 in omega arith), stopped.1, stopped.2)))
+      (all 0 (omega arith)).none_left)
+      (cases_lt c s.taken)

@@ -1,9 +1,5 @@
 -- One cell more.
-use Rattle.std.proofs.Common.{◌≡◌, ℕ, suc, ◌+◌, ◌-◌, ◌*◌, ◌<◌, ◌≤◌, List, [], ◌∷◌, ◌++◌, ℤ, length, take, Option, Some, None, Ok, Err, refl, sym, ap, ◌∙◌, arith}
-use Rattle.std.proofs.lemmas.List.{length-take-le}
-use Rattle.std.proofs.Math.Seq.{take-append_seam, take-append-add}
-use Rattle.std.proofs.Math.Nat.{suc-mul}
-use borrow.Rule.Slice.PartMut.{put_mid, post_of}
+use Rattle.std.proofs.Common.{◌≡◌, ℕ, ◌+◌, ◌-◌, ◌<◌, List, [], ◌∷◌, ◌++◌, ℤ, length, Option, Some, None, Ok, Err, refl, sym, ap, ◌∙◌, arith}
 use Rattle.sac_base.specs.declared.faults.Fault.{Fault}
 use Rattle.sac_base.specs.declared.op.Op.{Op}
 use Rattle.sac_base.specs.Verdict.{each, present, joined, combined}
@@ -70,16 +66,3 @@ costs_more cost start k a b c so_far next kind =
 
 pub costs_none : (cost : ℕ → ℕ → ℕ) (start : ℕ) (a b : ℕ → ℕ) → ((kind : ℕ) → b kind ≡ a kind) → Costs cost start 0 a b
 costs_none cost start a b e kind = let z : a kind + 0 ≡ a kind = omega arith in same_of kind (b kind) (a kind + 0) (e kind ∙ sym z)
-
--- the elements before a part that was written, and that part
-pub put_front : (a k w : ℕ) (xs ys : List ℤ) → a ≤ length xs → length ys ≡ w → take (a + w) (put_mid a k xs ys) ≡ take a xs ++ ys
-put_front a k w xs ys le len =
-    let front : List ℤ = take a xs in
-    let rest : List ℤ = ys ++ post_of a k xs in
-    let len_front : length front ≡ a = length-take-le a xs le in
-    ap (λ (n : ℕ). take (n + w) (front ++ rest)) (sym len_front) ∙ take-append-add front rest w ∙ ap (λ (l : List ℤ). front ++ l) (ap (λ (n : ℕ). take n rest) (sym len) ∙ take-append_seam ys (post_of a k xs))
-
-pub row_written : (i k w : ℕ) (xs ys : List ℤ) → i * w ≤ length xs → length ys ≡ w → take ((i + 1) * w) (put_mid (i * w) k xs ys) ≡ take (i * w) xs ++ ys
-row_written i k w xs ys le len =
-    let e : (i + 1) * w ≡ i * w + w = (let a : (i + 1) * w ≡ suc i * w = ap (λ (n : ℕ). n * w) (let q : i + 1 ≡ suc i = omega arith in q) in a ∙ suc-mul i w) in
-    ap (λ (n : ℕ). take n (put_mid (i * w) k xs ys)) e ∙ put_front (i * w) k w xs ys le len

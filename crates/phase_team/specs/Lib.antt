@@ -1,5 +1,3 @@
 pub mod Segments
-pub mod Crews
 pub mod Endings
-pub mod Samples
 pub mod Schedules

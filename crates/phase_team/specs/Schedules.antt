@@ -1,32 +1,25 @@
--- A phase whose worker k computes chunk k, as a run of the machine of a parallel phase. The draws come first, in the order of the chunks,
--- and then each worker's writes and its stop, whatever their order among the workers.
-use Rattle.std.specs.Prelude.{◌≡◌, ℕ, ◌<◌, ◌⊎◌, true, false, List}
+-- The workers of a phase in any order: each draws a chunk where it has none, writes the cells of its chunk one after another, and stops at a fault.
+use Rattle.std.specs.Prelude.{◌≡◌, ℕ, ◌<◌, ◌≤◌, ◌⊎◌, true}
 use Rattle.wl_core.specs.declared.events.Event.{Event}
-use Rattle.wl_core.specs.declared.events.Event.TheVariants.{Draw}
-use Rattle.wl_core.specs.Machine.{SetupValue, StateValue, first, end, chunks, listed}
+use Rattle.wl_core.specs.declared.events.Event.TheVariants.{Draw, Keep, Release, Write, Stop}
+use Rattle.wl_core.specs.Machine.{SetupValue, StateValue, Steps, Works, chunks}
 
--- the draws of n chunks
-abbrev pub draws : ℕ → List Event
-draws n = listed (λ c. Draw c) n
+-- the worker draws a chunk, writes a cell or stops
+abbrev pub IsActOf : ℕ → Event → Type 0
+IsActOf w (Draw v) = v ≡ w
+IsActOf w (Write v) = v ≡ w
+IsActOf w (Stop v) = v ≡ w
+IsActOf w (Keep v b) = ⊥
+IsActOf w (Release v b) = ⊥
 
--- each worker took its own chunk
-pub record IsShared (u : SetupValue) (s : StateValue) : Type 0 where
-  pub taken : s.taken ≡ chunks u
-  pub owners : (c : ℕ) → c < chunks u → s.owner c ≡ c
+-- an act of the worker is an event that the machine accepts
+abbrev pub CanAct : SetupValue → StateValue → ℕ → Type 0
+CanAct u s w = (e : Event) × (t : StateValue) × IsActOf w e × Steps u s e t
 
--- and has not begun it
-pub record IsBegun (u : SetupValue) (s : StateValue) : Type 0 where
-  pub shared : IsShared u s
-  pub next : (c : ℕ) → c < chunks u → s.next c ≡ first u c
-  pub going : (c : ℕ) → c < chunks u → s.stopped c ≡ false
-  pub holds : (w b : ℕ) → s.holds w b ≡ 0
+-- the worker is through: it has no chunk that has neither ended nor stopped, and there is none to be drawn, or a chunk has stopped
+pub record IsThrough (u : SetupValue) (s : StateValue) (w : ℕ) : Type 0 where
+  pub idle : (c : ℕ) → ¬ Works u s w c
+  pub none_left : (chunks u ≤ s.taken) ⊎ ((c : ℕ) × (c < s.taken) × (s.stopped c ≡ true))
 
--- the worker has neither ended nor stopped its chunk
-pub record IsAtWork (u : SetupValue) (s : StateValue) (w : ℕ) : Type 0 where
-  pub chunk : w < chunks u
-  pub next : s.next w < end u w
-  pub going : s.stopped w ≡ false
-
--- each worker has ended its chunk, or stopped it
-abbrev pub AllDone : SetupValue → StateValue → Type 0
-AllDone u s = (c : ℕ) → c < chunks u → (s.next c ≡ end u c) ⊎ (s.stopped c ≡ true)
+abbrev pub AllThrough : SetupValue → StateValue → Type 0
+AllThrough u s = (w : ℕ) → w < u.workers → IsThrough u s w

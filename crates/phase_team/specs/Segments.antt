@@ -1,6 +1,5 @@
 -- What workers make of the cells of positions that follow one another.
 use Rattle.std.specs.Prelude.{◌≡◌, ℕ, zero, suc, ◌+◌, ◌*◌, ◌%◌, ◌^◌, ◌≤◌, ℤ, List, [], ◌∷◌, length, take, drop, All, Bool, true, cond, Option, Some, None, Result, Ok, Err}
-use Rattle.std.specs.Int.{div_ceil}
 use Rattle.sac_base.specs.Verdict.{each, present, joined, combined}
 use Rattle.sac_base.specs.declared.op.Op.{Op}
 use Rattle.wl_core.specs.declared.setup.Job.{Job}
@@ -47,10 +46,6 @@ Same (suc kind) a b = a % 2 ^ 64 ≡ b % 2 ^ 64
 abbrev pub Costs : (ℕ → ℕ → ℕ) → ℕ → ℕ → (ℕ → ℕ) → (ℕ → ℕ) → Type 0
 Costs cost start n before after = (kind : ℕ) → Same kind (after kind) (before kind + cost_from (cost kind) start n)
 
--- what two have counted rose together by the cost of n positions
-abbrev pub CostBoth : (ℕ → ℕ → ℕ) → ℕ → ℕ → (ℕ → ℕ) → (ℕ → ℕ) → (ℕ → ℕ) → (ℕ → ℕ) → Type 0
-CostBoth cost start n a b a' b' = (kind : ℕ) → Same kind (a' kind + b' kind) ((a kind + b kind) + cost_from (cost kind) start n)
-
 -- a value that may be missing
 abbrev pub value_if : Bool → List ℤ → Option (List ℤ)
 value_if held value = cond held (Some value) None
@@ -82,16 +77,6 @@ Gathered op width cells value (Ok held) = (values : List (Option (List ℤ))) ×
     × (combined (combine op) (present values) ≡ value_if held value) × HaveWidth width values
 Gathered op width cells value (Err (Faulted fault)) = each cells ≡ Err fault
 Gathered op width cells value (Err Memory) = Unit {0}
-
--- so many elements have room for what one worker makes of n positions: their elements, or a row for the value and a spare one
-abbrev pub ChunkRoom : Job → ℕ → ℕ → ℕ → Type 0
-ChunkRoom Store width n len = len ≡ n * width
-ChunkRoom (Fold base op) width n len = len ≡ width + width
-
--- so many elements have room for what is made of so many positions. A fold has two rows for each chunk
-abbrev pub HasRoom : Job → ℕ → ℕ → ℕ → ℕ → Type 0
-HasRoom Store width size left len = len ≡ left * width
-HasRoom (Fold base op) width size left len = len ≡ div_ceil left size * (width + width)
 
 -- where values are combined, there is a row on both sides
 abbrev pub HasRows : Job → ℕ → ℕ → ℕ → Type 0

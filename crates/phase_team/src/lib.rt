@@ -1,22 +1,11 @@
-//! One with-loop's cells, computed by 1 to 64 workers.
-//!
-//! The positions are cut into at most as many chunks as there are workers, and worker k computes chunk k, in a thread of
-//! its own. Each worker has a context and a seat of its own. Whatever the schedule, the answer is that of the cells taken
-//! one after another.
+//! What the workers of a phase make of its cells: the end of one cell, who is told of the chunks that begin, the cells of positions that follow
+//! one another, and laws that tie these to the machine of a parallel phase.
 #![tactic(auto)]
 
 mod cells;
-mod crew;
 mod gates;
 mod law;
-mod phases;
-mod share;
-mod worker;
 
-pub use cells::{CellEnd, PhaseCells};
+pub use cells::CellEnd;
 pub use gates::{Gate, NoGate};
 pub use law::{answers_are_verdicts, each_schedule_is_a_run};
-pub use phases::{array_phase, fold_phase};
-
-#[cfg(test)]
-mod tests;

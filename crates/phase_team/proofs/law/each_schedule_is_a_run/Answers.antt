@@ -1,10 +1,14 @@
-use Rattle.phase_team.proofs.Runs.{begun, writes, stops, finished}
+use Rattle.wl_core.proofs.Kept.{reached_facts}
+use Rattle.wl_core.proofs.Verdicts.{settled}
+use Rattle.wl_core.specs.Machine.{Finished}
+use Rattle.phase_team.proofs.Runs.{acts, chunks_done}
 use Rattle.phase_team.proofs.law.each_schedule_is_a_run.Goals as goal
 
 pub returns : goal.returns
 returns c = record {
-  draws = begun;
-  writes = λ u s w value shared few at_work is. writes u s shared w few at_work value is;
-  stops = λ u s w fault shared few at_work is. stops u s shared w few at_work fault is;
-  finished = finished;
+  acts = λ u s w few. acts u s w few;
+  ends = λ u s setup reached some all nothing.
+      let facts = reached_facts u s setup reached in
+      let finished : Finished u s = (nothing, chunks_done u s facts all some) in
+      (finished, settled u s setup facts finished);
 }
