@@ -75,14 +75,14 @@ module _ (context : Context) (x : Var) (v : RunValue) (s t : State) (m : Heap) (
   pub keep_goes : Stands t.heap (keep (value_of v) m) → Reaches context (step.Keep x ∷ []) s m [] t
   keep_goes stands = record {
     heap = keep (value_of v) m;
-    stands = record { heap = stands; phases = counts_as _ _ _ _ phases (sym (keep_phases (value_of v) m)) at.phases };
+    stands = record { heap = stands; phases = counts_as s.phases t.phases m.phases (keep (value_of v) m).phases phases (sym (keep_phases (value_of v) m)) at.phases };
     goes_on = λ (rest : CodeTerm). λ i. does_in context rest (current (sym frames i)) (keep (sym is i) m);
   }
 
   pub release_goes : Stands t.heap (release (value_of v) m) → Reaches context (step.Release x ∷ []) s m [] t
   release_goes stands = record {
     heap = release (value_of v) m;
-    stands = record { heap = stands; phases = counts_as _ _ _ _ phases (sym (release_phases (value_of v) m)) at.phases };
+    stands = record { heap = stands; phases = counts_as s.phases t.phases m.phases (release (value_of v) m).phases phases (sym (release_phases (value_of v) m)) at.phases };
     goes_on = λ (rest : CodeTerm). λ i. does_in context rest (current (sym frames i)) (release (sym is i) m);
   }
 

@@ -65,7 +65,7 @@ module _ {X Y : Type 0} (make : Making X Y) (form : Form) (source : List ℤ →
             ∙ ap (λ e. go_on e (λ c. then_go (cells_run form source (drop (k + 1) indices)) (λ cs. give (c ∷ cs)))) (cell_is form (source v) c.heap ∙ ap (λ e. go_on e (λ w h. Done (option_map (read h) w) (release_rest w h))) is) in
             record {
               heap = release_rest w h;
-              stands = record { heap = subst (λ w. Stands s2.heap (release_rest w h)) told.0 p.1; phases = counts_as _ _ _ _ same (sym (rest_phases w h)) told.1.phases };
+              stands = record { heap = subst (λ w. Stands s2.heap (release_rest w h)) told.0 p.1; phases = counts_as s1.phases s2.phases h.phases (release_rest w h).phases same (sym (rest_phases w h)) told.1.phases };
               carries = λ r t y rest. c.carries r t y (subst (λ e. Told (Makes make x k y) r t e) (sym here) (grown r t y cell (cells_run form source (drop (k + 1) indices) (release_rest w h)) eq rest));
             }
 

@@ -25,7 +25,7 @@ use Rattle.phase_count.proofs.Tallying.{counts_as}
 
 -- other variables do not matter
 pub moved : (s t : State) (m : Heap) → t.heap ≡ s.heap → t.phases ≡ s.phases → IsAt s m → IsAt t m
-moved s t m heap phases at = record { heap = subst (λ h. Stands h m) (sym heap) at.heap; phases = counts_as _ _ _ _ phases refl at.phases }
+moved s t m heap phases at = record { heap = subst (λ h. Stands h m) (sym heap) at.heap; phases = counts_as s.phases t.phases m.phases m.phases phases refl at.phases }
 
 -- ---- ends
 
@@ -127,7 +127,7 @@ plain_scopes (Err e) f = tt
 
 -- a right side that leaves variables and phases alone
 pub plain_given : (v : RunValue) (s t : State) (m k : Heap) → t.phases ≡ s.phases → IsAt s m → Stands t.heap k → k.phases ≡ m.phases → Told IsOnly (Ok v) t (Done (value_of v ∷ []) k)
-plain_given v s t m k phases at stands same = (refl, record { heap = stands; phases = counts_as _ _ _ _ phases (sym same) at.phases })
+plain_given v s t m k phases at stands same = (refl, record { heap = stands; phases = counts_as s.phases t.phases m.phases k.phases phases (sym same) at.phases })
 
 pub plain_failed : (f : Fault) (s t : State) (m : Heap) → t.phases ≡ s.phases → IsAt s m → ToldStop {B = List Value} (Faulted f) t (Failed f m.phases)
-plain_failed f s t m phases at = (refl, counts_as _ _ _ _ phases refl at.phases)
+plain_failed f s t m phases at = (refl, counts_as s.phases t.phases m.phases m.phases phases refl at.phases)

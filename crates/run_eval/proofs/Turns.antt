@@ -73,7 +73,7 @@ truth_told false site v h e = ap (λ o. choose_does site o (give true) (give fal
 
 truth_stops : (stop : Stop) (t : State) (site : Site) (v : Value) (h : Heap) → SaysTruth (Err stop) site (condition (read h v)) → IsAt t h → ToldStop stop t (truth_of site v h)
 truth_stops (Faulted f) t site v h e at =
-    subst (λ o. ToldStop (Faulted f) t (choose_does site o (give true) (give false) (release v h))) (sym e.0) (e.1, counts_on _ _ _ (sym (release_phases v h)) at.phases)
+    subst (λ o. ToldStop (Faulted f) t (choose_does site o (give true) (give false) (release v h))) (sym e.0) (e.1, counts_on t.phases h.phases (release v h).phases (sym (release_phases v h)) at.phases)
 truth_stops Memory t site v h e at = tt
 
 pub test_ends : (truth : Bool) (site : Site) (v : RunValue) (s t : State) (end : Ended Value) → Told IsValue (Ok v) s end → ((m : Heap) → SaysTruth (Ok truth) site (condition (read m (value_of v)))) → ((m : Heap) → Stands s.heap m → Stands t.heap (release (value_of v) m)) → t.phases ≡ s.phases → Told (λ b c. b ≡ c) (Ok truth) t (go_on end (truth_of site))
@@ -81,7 +81,7 @@ test_ends truth site v s t (Done w k) told says frees phases =
     subst (λ w. Told (λ b c. b ≡ c) (Ok truth) t (truth_of site w k)) told.0
     (tell (λ b c. b ≡ c) truth t (truth_of site (value_of v) k) truth (release (value_of v) k) (truth_told truth site (value_of v) k (says k)) refl (record {
       heap = frees k told.1.heap;
-      phases = counts_as _ _ _ _ phases (sym (release_phases (value_of v) k)) told.1.phases;
+      phases = counts_as s.phases t.phases k.phases (release (value_of v) k).phases phases (sym (release_phases (value_of v) k)) told.1.phases;
     }))
 test_ends truth site v s t (Failed f ps) told says frees phases = absurd told
 

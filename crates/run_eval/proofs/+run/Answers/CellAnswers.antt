@@ -314,7 +314,7 @@ run_cell-returns g t c =
     let inside = bound.inside ∙ (λ i. body_env (c.in_ok-enter.ensures.current i) b v) in
     record {
       told = λ m at.
-          cell_tells answer c.formed.result st new m (first_value (does_in ctx (code_term b.block) (body_env (current s.frames) b v))) a.form.now b.site refl (counts_as _ _ _ _ c.enter_cell-outer.ensures.outer refl at.phases) c.formed.ensures.told
+          cell_tells answer c.formed.result st new m (first_value (does_in ctx (code_term b.block) (body_env (current s.frames) b v))) a.form.now b.site refl (counts_as s.phases c.enter_cell-outer.result m.phases m.phases c.enter_cell-outer.ensures.outer refl at.phases) c.formed.ensures.told
           (subst (λ e. Told IsValue answer st (first_value (does_in ctx (code_term b.block) e) m)) inside (c.run_first-answer.ensures.told m (moved s mid m bound.heap (bound.phases ∙ c.enter_cell-outer.ensures.same) at)));
       scopes = cell_scopes answer c.formed.result s.frames mid.frames st.frames c.formed.ensures.same c.run_first-answer.ensures.scopes (bound.outside ∙ c.in_ok-enter.ensures.outer);
       lender = c.run_first-answer.ensures.lender ∙ c.in_ok-bind_index.ensures.lender;

@@ -43,7 +43,7 @@ returns-in_err-run_function-clause-told g c m at =
     let p = placing c.args.args.items vs c.place_all.new.heap m (c.in_ok-placed.ensures.placed m at.heap) in
     let s : State = record { frames = c.args.state.now.frames; heap = c.place_all.new.heap; phases = c.args.state.now.phases } in
     let fits = fits_as main c.deref-2.result.now vs c.deref-3.result.now c.args.args.items p.after c.all_fit.result true c.deref-2.ensures.value c.deref-3.ensures.value p.reads (c.all_fit.ensures p.after) c.if-not-all_fit.false in
-    let at_after : IsAt s p.after = record { heap = p.stands; phases = counts_on _ _ _ (sym p.phases) at.phases } in
+    let at_after : IsAt s p.after = record { heap = p.stands; phases = counts_on c.args.state.now.phases m.phases p.after.phases (sym p.phases) at.phases } in
     let t = c.run_function.new.state in
     let stop = c.in_err-run_function.field-0.0 in
     let result : c.from_residual-in_err-run_function.result ≡ Err stop = search rules in
@@ -68,7 +68,7 @@ returns-clause-told g c m at =
     let p = placing c.args.args.items vs c.place_all.new.heap m (c.in_ok-placed.ensures.placed m at.heap) in
     let s : State = record { frames = c.args.state.now.frames; heap = c.place_all.new.heap; phases = c.args.state.now.phases } in
     let fits = fits_as main c.deref-2.result.now vs c.deref-3.result.now c.args.args.items p.after c.all_fit.result true c.deref-2.ensures.value c.deref-3.ensures.value p.reads (c.all_fit.ensures p.after) c.if-not-all_fit.false in
-    let at_after : IsAt s p.after = record { heap = p.stands; phases = counts_on _ _ _ (sym p.phases) at.phases } in
+    let at_after : IsAt s p.after = record { heap = p.stands; phases = counts_on c.args.state.now.phases m.phases p.after.phases (sym p.phases) at.phases } in
     let t = c.run_function.new.state in
     let old = c.new-values.result.items in
     let values = c.run_function.new.values.items in
