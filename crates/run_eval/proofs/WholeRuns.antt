@@ -298,10 +298,13 @@ cut_alike p w c workers chunk same even alike n = (λ i. chunks_of (same i) (eve
 
 -- ---- the answer, once the tally has come back
 
-pub same_or_memory : {A : Type 0} (answer : Result A Stop) (P : Type 0) → P → OrMemory answer answer P
+same_or_memory : {A : Type 0} (answer : Result A Stop) (P : Type 0) → P → OrMemory answer answer P
 same_or_memory (Ok a) P holds = (refl, holds)
 same_or_memory (Err (Faulted f)) P holds = (refl, holds)
 same_or_memory (Err Memory) P holds = tt
+
+pub all_or_memory : {A : Type 0} (answer : Result A Stop) (P Q R : Type 0) → P → Q × R → OrMemory answer answer (P × Q × R)
+all_or_memory answer P Q R p q = same_or_memory answer (P × Q × R) (p, q.0, q.1)
 
 pub ended_told : {A : Type 0} (answer result : Result A Stop) (P : Type 0) → OrMemory answer result P → (Q : Result A Stop → Type 0) → Q (Err Memory) → (P → Q answer) → Q result
 ended_told answer (Ok a) P ended Q none some = subst Q ended.0 (some ended.1)
