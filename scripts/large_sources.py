@@ -56,6 +56,16 @@ def many_generators(step):
     return f"int[*] main() {{ a = with {{ {grids} }} : genarray([10], 0); return (shape(a)); }}\n"
 
 
+def points(name):
+    return " ".join(f"([{k}] <= [{name}] <= [{k}]) : 0;" for k in range(1, 62, 2))
+
+
+def nest_in_parts(additions):
+    """A loop in a loop, each cut into 63 parts by 31 points, of which 32 have a copy of the body. Where generators hold the same index, the first one counts."""
+    inner = f"with {{ {points('j')} ([0] <= [j] < [63]) {{ s = j; {'s=s+j;' * additions} }} : s; }} : fold(+, 0)"
+    return f"with {{ {points('i')} ([0] <= [i] < [63]) : {inner}; }} : fold(+, 0)"
+
+
 def chains_of_inline():
     one = "inline int f0(int x) { return (x + 1); }\n"
     return one + "".join(f"inline int f{k}(int x) {{ return (f{k - 1}(x) + f{k - 1}(x)); }}\n" for k in range(1, 4_000)) + main_of("", "f12(0)")
@@ -83,6 +93,8 @@ KINDS = {
     "8,000 grids of steps that fit": lambda: many_generators(lambda k: 1 + k % 4),
     "8,000 grids of too fine a period": lambda: many_generators(lambda k: 2 * k + 1),
     "4,000 inline functions that double": chains_of_inline,
+    "a nest whose parts make 218,000 variables": lambda: main_of("", nest_in_parts(200)),
+    "three whose parts make 2,100,000 each": lambda: main_of("", " + ".join([nest_in_parts(2_000)] * 3)),
     "30,000 sums": longest_sum,
     "one comment": comments,
     "blank lines": blanks,
