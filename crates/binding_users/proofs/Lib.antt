@@ -1,0 +1,4 @@
+pub mod Avoided
+pub mod Collected
+pub mod Found
+pub mod Noted
