@@ -8,9 +8,9 @@ use Rattle.core_ir.specs.Terms.{BlockTerm, LetTerm, Gives, Bind, chain}
 use Rattle.core_ir.specs.Uses.{AvoidsAll, Avoids, AvoidsRight}
 use Rattle.core_ir.specs.View.{let_term}
 use Rattle.core_loops.specs.Pairs.{AvoidsLets}
-use Rattle.fold_walk.specs.Pairing.{IsSoleUser}
+use Rattle.binding_users.specs.Users.{IsSoleUser}
 use Rattle.fold_walk.proofs.Learned.{reverse_cons}
-use Rattle.fold_walk.proofs.Users.{lets_both}
+use Rattle.binding_users.proofs.Found.{lets_both}
 
 -- ---- bindings the other way round
 

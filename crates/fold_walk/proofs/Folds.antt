@@ -23,7 +23,8 @@ use Rattle.foldable_pairs.specs.Pairs.{CanProduce, producer_of, IsNear, IsPlanne
 use Rattle.fold_laws.specs.Made.{FoldMade, FoldMadeOf}
 use Rattle.fold_walk.specs.Left.{IsNearProducer, IsPairAt, NoPairAt}
 use Rattle.fold_walk.specs.Making.{CannotTake, GetsMany}
-use Rattle.fold_walk.specs.Pairing.{BindsLoop, BindsNoLoop, IsSoleUser, loop_let}
+use Rattle.fold_walk.specs.Pairing.{BindsLoop, BindsNoLoop, loop_let}
+use Rattle.binding_users.specs.Users.{IsSoleUser}
 use Rattle.fold_walk.specs.Walking.{State, facts_behind, ConsumerMade, FirstFolded, NoConsumer}
 use Rattle.fold_walk.proofs.Consumers.{bound_let}
 use Rattle.fold_walk.proofs.Firsts.{Behind, after_is, avoids_lets, behind, chain_avoids, reverse_lets, same_user, user_at}

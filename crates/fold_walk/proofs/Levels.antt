@@ -14,6 +14,9 @@ use Rattle.core_facts.specs.Facts.{Facts, note_all, right_facts}
 use Rattle.core_loops.specs.Steps.{facts_after}
 use Rattle.fact_table.specs.Notes.{Note}
 use Rattle.fact_table.specs.Table.{facts_of}
+use Rattle.binding_users.specs.declared.users.Users.{Users}
+use Rattle.binding_users.specs.Users.{AreUsers}
+use Rattle.binding_users.proofs.Noted.{users_less}
 use Rattle.fold_walk.specs.Left.{EachBegun, EachBinding, NoPairAt}
 use Rattle.fold_walk.specs.Walking.{State, BlockWalked, FirstFolded, LevelFolded, TurnFolded, TurnKept, Walked, stays, goes}
 use Rattle.fold_walk.proofs.Firsts.{bindings_in, bindings_of, chain_both}
@@ -60,6 +63,11 @@ turned : (before after : List LetTerm) (user : LetTerm) (end : BlockTerm) → ch
 turned before after user end =
     ap (λ ls. chain ls end) (reverse-append before (user ∷ after) ∙ ap (λ zs. zs ++ reverse before) (reverse_cons user after)) ∙ chain_both (reverse after ++ (user ∷ [])) (reverse before) end
     ∙ chain_snoc (reverse after) user (chain (reverse before) end)
+
+-- the uses that are noted of what is left of the bindings, without the first one
+pub users_behind : (u : Users) (behind rest slice : List Let) (x : Let) → behind ≡ rest ++ (x ∷ []) → slice ≡ rest → AreUsers u (map let_term behind) → AreUsers u (map let_term slice)
+users_behind u behind rest slice x e s h =
+    subst (λ (ls : List Let). AreUsers u (map let_term ls)) (sym s) (users_less u rest (x ∷ []) (subst (λ (ls : List Let). AreUsers u (map let_term ls)) e h))
 
 module _ (called : ℕ → List (Option (List ℕ))) (function : ℕ) (k : Facts) (p : State) (rs : List Var) where
   abbrev end : BlockTerm

@@ -1,6 +1,6 @@
 -- The binding at a place behind a producer, by what was learned up to it.
-use Rattle.std.proofs.Common.{◌≡◌, ℕ, zero, suc, ◌+◌, ◌-◌, ◌<◌, ◌≤◌, List, [], ◌∷◌, map, length, take, drop, get_or, reverse, Option, Some, None, refl, sym, ap, subst, ◌∙◌, arith}
-use Rattle.std.specs.Prelude.{IfNone, IfSome, slice_get}
+use Rattle.std.proofs.Common.{◌≡◌, ℕ, zero, suc, ◌+◌, ◌-◌, ◌<◌, ◌≤◌, List, [], ◌∷◌, map, length, take, drop, get_or, reverse, true, Option, Some, None, refl, sym, ap, subst, ◌∙◌, arith}
+use Rattle.std.specs.Prelude.{IfNone, IfSome, is_none, slice_get}
 use Rattle.core_ir.specs.declared.tree.Let.{Let}
 use Rattle.core_ir.specs.Terms.{LetTerm}
 use Rattle.core_ir.specs.View.{let_term}
@@ -25,6 +25,14 @@ drop_length (x ∷ xs) (suc n) = let h = drop_length xs n in omega (arith, h)
 pub rest_whole : {A : Type 0} (xs : List A) (n : ℕ) → take (length xs - n) (drop n xs) ≡ drop n xs
 rest_whole xs n = take_whole (drop n xs) (length xs - n) (drop_length xs n)
 
+pub user_there : (behind : List Let) (place : ℕ) (u : Let) → place < length behind → u ≡ get_or behind place u → (user : LetTerm) → slice_get (map let_term behind) place ≡ Some user → let_term u ≡ user
+user_there behind place u inside is user e = some_let (let_term u) user (ap (λ (v : Let). Some (let_term v)) is ∙ sym (get_here behind place u inside) ∙ e)
+
+-- what holds where nothing was found
+pub when_none : {A : Type 0} (o : Option A) (P : Type 0) → true ≡ is_none o → IfNone o P → P
+when_none None P e h = h
+when_none (Some x) P e h = absurd (cc)
+
 module _ (called : ℕ → List (Option (List ℕ))) (function : ℕ) (k f g : Facts) (l : LetTerm) (behind : List Let) (place : ℕ) (u : Let) (inside : place < length behind) (is : u ≡ get_or behind place u) (first : f ≡ note_all k l.targets (right_facts called l.right k))
     (learned : g ≡ facts_after called (reverse (map let_term (take (length behind - (place + 1)) (drop (place + 1) behind)))) f) (p q : State) (source : Source) where
   facts_are : g ≡ facts_behind called l (map let_term behind) place k
@@ -33,7 +41,7 @@ module _ (called : ℕ → List (Option (List ℕ))) (function : ℕ) (k f g : F
       ∙ (λ i. facts_after called (reverse (map_drop behind (place + 1) i)) (note_all k l.targets (right_facts called l.right k)))
 
   user_here : (user : LetTerm) → slice_get (map let_term behind) place ≡ Some user → let_term u ≡ user
-  user_here user e = some_let (let_term u) user (ap (λ (v : Let). Some (let_term v)) is ∙ sym (get_here behind place u inside) ∙ e)
+  user_here = user_there behind place u inside is
 
   pub at_made : (found : Option Let) → IfSome found (λ new. ConsumerMade called function g p q source (let_term u) (let_term new)) →
       IfSome found (λ new. (user : LetTerm) → slice_get (map let_term behind) place ≡ Some user → ConsumerMade called function (facts_behind called l (map let_term behind) place k) p q source user (let_term new))

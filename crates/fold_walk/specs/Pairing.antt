@@ -1,4 +1,4 @@
--- A producer, and the one binding behind it that uses it.
+-- A binding of a parted loop, and the loop as a producer.
 use Rattle.std.specs.Prelude.{◌≡◌, ℕ, List, [], ◌∷◌, ◌++◌, length}
 use Rattle.core_ir.specs.declared.tree.Var.{Var}
 use Rattle.core_ir.specs.declared.tree.PartedLoop.{PartedLoop, out-PartedLoop}
@@ -28,17 +28,6 @@ BindsNoLoop l = (x : Var) (s : Site) (frame : List Grid1) (base : Base) (op : Pa
 -- the loop with other parts
 abbrev pub loop_with : PartedLoop → PartsTerm → RightTerm
 loop_with p parts = let loop = out-PartedLoop p in Parted loop.frame loop.base loop.cell loop.op parts
-
--- the binding at this place uses the variable, and no other one does, nor do the results
-pub record IsSoleUser (x : Var) (lets : List LetTerm) (results : List Var) (place : ℕ) : Type 0 where
-  pub before : List LetTerm
-  pub user : LetTerm
-  pub after : List LetTerm
-  pub whole : lets ≡ before ++ (user ∷ after)
-  pub at : length before ≡ place
-  pub used : AvoidsRight x user.right → ⊥
-  pub others : AvoidsLets x before × AvoidsLets x after
-  pub unreturned : AvoidsAll x results
 
 -- the loop as a producer
 pub record IsSource (s : Source) (x : Var) (p : PartedLoop) : Type 0 where

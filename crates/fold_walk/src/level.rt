@@ -9,15 +9,17 @@ ghost use Rattle.core_loops.specs.Steps.{facts_after};
 ghost use Rattle.fact_table.specs.Table.{facts_of};
 ghost use Rattle.plain_facts.specs.Called.{shapes_of};
 ghost use Rattle.core_ir.specs.Terms.{parts_of as parts_in};
+ghost use Rattle.binding_users.specs.Users.{AreUsers};
 ghost use Rattle.fold_walk.specs.Making.{CannotTake, PiecesPlanned};
 ghost use Rattle.fold_walk.specs.Pairing.{loop_with, IsSource};
 ghost use Rattle.fold_walk.specs.Walking.{facts_behind, state_of, ConsumerMade, FirstFolded, LevelFolded, NoConsumer, TurnFolded, TurnKept};
 ghost use Rattle.fold_walk.specs.Left.{NoPairAt};
 
 use crate::making::{all_parts, all_pieces, are_few};
-use crate::pairing::{bound_loop, learn_bindings, sole_user};
+use crate::pairing::{bound_loop, learn_bindings};
 use crate::state::{Folding, Given};
 use crate::values::learn_binding;
+use binding_users::Users;
 use core_ir::{CorePart, Let, PartedLoop, PartedOp, Right, Var};
 use fact_table::FactTable;
 use foldable_pairs::{Producer, can_produce, fold_plan};
@@ -42,10 +44,21 @@ pub fn fold_level(
 {
     let mut behind = lets;
     behind.reverse();
+    let mut users = Users::new(given.alloc);
     let mut done = Vec::new(given.alloc);
     while let Some(binding) = behind.pop() {
-        let found = fold_first(&binding, &behind, results, given, table, folding)?;
-        take_turn(binding, found, given, table, &mut behind, &mut done)?;
+        let found = fold_first(
+            &binding, &behind, results, given, table, folding, &mut users,
+        )?;
+        take_turn(
+            binding,
+            found,
+            given,
+            table,
+            &mut users,
+            &mut behind,
+            &mut done,
+        )?;
     }
     Ok(done)
 }
@@ -56,6 +69,7 @@ fn take_turn(
     found: Option<(usize, Let)>,
     given: &Given<'_>,
     table: &mut FactTable,
+    users: &mut Users,
     behind: &mut Vec<Let>,
     done: &mut Vec<Let>,
 ) -> Result<(), Memory>
@@ -66,9 +80,11 @@ fn take_turn(
         (facts_of table.old) (facts_of table.new))) }
     ensures earlier { OnOk result (drop (length table.new - length table.old) table.new ≡ table.old) }
     ensures count { vec_len behind.new ≡ vec_len behind.old }
+    ensures users { OnOk result (AreUsers users.old (map let_term behind.old.items) → AreUsers users.new (map let_term behind.new.items)) }
 {
     match found {
         Some((place, consumer)) => {
+            users.replace(given.alloc, place, &consumer)?;
             put(behind, place, consumer);
             Ok(())
         }
@@ -110,13 +126,16 @@ fn fold_first(
     given: &Given<'_>,
     table: &mut FactTable,
     folding: &mut Folding,
+    users: &mut Users,
 ) -> Result<Option<(usize, Let)>, Memory>
+    requires { AreUsers users.old (map let_term behind.now) }
     ensures some { IfOk result (λ found. IfSome found (λ new. FirstFolded (shapes_of given.now.called.now) given.now.function (facts_of table.old)
         (state_of folding.old) (state_of folding.new) (let_term binding.now) (map let_term behind.now) results.now new.0 (let_term new.1))) }
     ensures stays { IfOk result (λ found. IfNone found (state_of folding.new ≡ state_of folding.old)) }
     ensures none { IfOk result (λ found. IfNone found (NoPairAt (shapes_of given.now.called.now) (state_of folding.old).next (facts_of table.old)
         (chain (let_term binding.now ∷ reversed (map let_term behind.now)) (Gives results.now)))) }
     ensures table { OnOk result (table.new ≡ table.old) }
+    ensures users { OnOk result (AreUsers users.new (map let_term behind.now)) }
 {
     let Some((var, parted)) = bound_loop(binding) else {
         return Ok(None);
@@ -124,7 +143,8 @@ fn fold_first(
     if !can_produce(given.alloc, parted.op, &parted.parts, given.called, table)? {
         return Ok(None);
     }
-    let Some(place) = sole_user(var, behind, results) else {
+    let user = users.sole_user(given.alloc, var, behind, results)?;
+    let Some(place) = user else {
         return Ok(None);
     };
     let producer = source_of(var, parted);
@@ -167,6 +187,9 @@ fn fold_at(
         (state_of folding.old).next producer.now user)) }
     ensures table { OnOk result (table.new ≡ table.old) }
 {
+    if bound_loop(&behind[place]).is_none() {
+        return Ok(None);
+    }
     let before = table.mark();
     learn_binding(given.alloc, binding, given.called, table)?;
     learn_bindings(given.alloc, &behind[place + 1..], given.called, table)?;

@@ -1,15 +1,14 @@
-//! A producer, its consumer, and what the consumer becomes.
+//! A binding of a parted loop, and what bindings tell.
 
 ghost use Rattle.std.specs.Prelude.{◌≡◌, ℕ, ◌<◌, ◌≤◌, ◌-◌, ◌+◌, ◌^◌, [], ◌∷◌, IfOk, IfSome, IfNone, OnOk, map, drop, length, reverse as reversed};
 ghost use Rattle.core_ir.specs.View.{let_term, part_term};
 ghost use Rattle.core_loops.specs.Steps.{facts_after};
 ghost use Rattle.fact_table.specs.Table.{facts_of};
 ghost use Rattle.plain_facts.specs.Called.{shapes_of};
-ghost use Rattle.fold_walk.specs.Pairing.{BindsLoop, BindsNoLoop, IsSoleUser};
+ghost use Rattle.fold_walk.specs.Pairing.{BindsLoop, BindsNoLoop};
 
 use crate::values::learn_binding;
 use core_ir::{Let, PartedLoop, Right, Var};
-use core_uses::{avoids_all, avoids_right};
 use fact_table::FactTable;
 use plain_facts::CalledShapes;
 use sac_base::Memory;
@@ -31,27 +30,6 @@ pub fn bound_loop(binding: &Let) -> Option<(Var, &PartedLoop)>
     } else {
         None
     }
-}
-
-/// The place of the one binding that uses a variable, if the results do not.
-pub fn sole_user(x: Var, lets: &[Let], results: &[Var]) -> Option<usize>
-    ensures some { IfSome result (λ place. IsSoleUser x (map let_term lets.now) results.now place) }
-    ensures inside { IfSome result (λ place. place < length lets.now) }
-    ensures none { IfNone result ((place : ℕ) → IsSoleUser x (map let_term lets.now) results.now place → ⊥) }
-{
-    if !avoids_all(x, results) {
-        return None;
-    }
-    let mut found = None;
-    for place in 0..lets.len() {
-        if !avoids_right(x, &lets[place].right) {
-            if found.is_some() {
-                return None;
-            }
-            found = Some(place);
-        }
-    }
-    found
 }
 
 /// The table learns what bindings tell, the last of which comes first.
