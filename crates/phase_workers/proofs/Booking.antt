@@ -51,4 +51,4 @@ stopped_has n before after p end f will booked is = closed n before.count after.
 -- a fault is told of each state with as many phases
 pub stop_moved : {B : Type 0} (f : Fault) (s t : State) (w : Ended B) → t.phases ≡ s.phases → ToldStop (Faulted f) s w → ToldStop (Faulted f) t w
 stop_moved f s t (Done b k) same told = absurd told
-stop_moved f s t (Failed g phases) same told = (told.0, counts_as _ _ _ _ same refl told.1)
+stop_moved f s t (Failed g phases) same told = (told.0, counts_as s.phases t.phases phases phases same refl told.1)

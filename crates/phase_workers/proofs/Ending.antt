@@ -1,5 +1,5 @@
 -- What a phase of workers tells of the machine.
-use Rattle.std.proofs.Common.{◌≡◌, ℕ, Bool, true, false, List, ◌++◌, length, take, ℤ, Option, Some, None, Result, Ok, Err, refl, ap, ◌∙◌, sym, subst}
+use Rattle.std.proofs.Common.{◌≡◌, ℕ, Bool, true, false, List, [], ◌∷◌, ◌++◌, length, take, ℤ, Option, Some, None, Result, Ok, Err, refl, ap, ◌∙◌, sym, subst}
 use Rattle.std.specs.Prelude.{IfOk, IsSomeAnd, IsTrue, not}
 use Rattle.std.proofs.Math.ListN.{get_or}
 use Rattle.std.proofs.Math.Seq.{take-append_seam}
@@ -100,7 +100,7 @@ begun_claim (Err e) s h small n k phases claimed = tt
 begun_claim (Ok t) s h small n k phases claimed = record {
   target = claimed.target;
   rest = claimed.rest;
-  stands = record { heap = claimed.heap; phases = counts_on _ _ _ (sym (claim_phases small n k)) phases };
+  stands = record { heap = claimed.heap; phases = counts_on s.phases k.phases (claim small None n k).heap.phases (sym (claim_phases small n k)) phases };
 }
 
 -- ---- cells, in the words of both
@@ -153,11 +153,11 @@ module _ (context : Context) (e : Values) (gens : List CodeGen) (p : Plan) (b : 
         subst (Told IsValue r s3) (sym (ends.ends ∙ ap (λ c. settled c (made es) ends.heap) (sym is.target)))
         (finished ends.heap (record {
           heap = subst (λ k. Stands k ends.heap) (sym heap) (main_stands (handed h home) ends.heap there);
-          phases = counts_as _ _ _ _ phases (sym ends.passed.phases) is.stands.phases;
+          phases = counts_as s.phases s2.phases (begun job m).heap.phases ends.heap.phases phases (sym ends.passed.phases) is.stands.phases;
         }))
 
     -- the fault of the least position
     pub array_faulted : (es : List ℤ) (f : Fault) → ComputesAll (cells_from (gens_cell context h e gens p (Some b)) 0 (length p.frame)) h spent es (Err (Faulted f)) → ToldStop (Faulted f) s (job_does None job m)
     array_faulted es f faulted =
         subst (ToldStop (Faulted f) s) (sym (array_ends stands_here es (Err (Faulted f)) faulted))
-        (refl, counts_on _ _ _ (claim_phases (is_small p.shape) (size p.shape) (count_phase true (length p.frame) m)) is.stands.phases)
+        (refl, counts_on s.phases (begun job m).heap.phases (m.phases ++ length p.frame ∷ []) (claim_phases (is_small p.shape) (size p.shape) (count_phase true (length p.frame) m)) is.stands.phases)

@@ -1,5 +1,5 @@
 -- What a fold of workers tells of the machine.
-use Rattle.std.proofs.Common.{◌≡◌, ℕ, Bool, true, false, List, length, ℤ, Option, Some, None, Result, Ok, Err, refl, ap, ◌∙◌, sym, subst}
+use Rattle.std.proofs.Common.{◌≡◌, ℕ, Bool, true, false, List, [], ◌∷◌, ◌++◌, length, ℤ, Option, Some, None, Result, Ok, Err, refl, ap, ◌∙◌, sym, subst}
 use Rattle.std.specs.Prelude.{IsTrue, ◌&&◌}
 use Rattle.std.proofs.lemmas.Slice.Eq.{bytes_eq-Decides}
 use Rattle.buffer_heap.specs.declared.heap.BufferId.{BufferId}
@@ -108,14 +108,14 @@ module _ (job : Job) (m : Heap) (base : Base) (shape : List ℕ) (n : ℕ) (t : 
       subst (Told IsValue r s3) (sym (ends.ends ∙ ap (λ c. settled c (made es) ends.heap) (sym is.target)))
       (finished ends.heap (record {
         heap = subst (λ k. Stands k ends.heap) (sym heap) (main_stands (handed h home) ends.heap there);
-        phases = counts_as _ _ _ _ phases (sym ends.passed.phases) is.stands.phases;
+        phases = counts_as s.phases s2.phases (begun job m).heap.phases ends.heap.phases phases (sym ends.passed.phases) is.stands.phases;
       }))
 
   -- the fault of the least position. The phase is counted
   pub phase_faulted : (es : List ℤ) (f : Fault) → PhaseEnds job base shape n m es (Err (Faulted f)) → ToldStop (Faulted f) s (job_does None job m)
   phase_faulted es f faulted =
       subst (ToldStop (Faulted f) s) (sym faulted)
-      (refl, counts_on _ _ _ (claim_phases (is_small job.shape) (size job.shape) (count_phase true (length job.indices) m)) is.stands.phases)
+      (refl, counts_on s.phases (begun job m).heap.phases (m.phases ++ length job.indices ∷ []) (claim_phases (is_small job.shape) (size job.shape) (count_phase true (length job.indices) m)) is.stands.phases)
 
 -- ---- with-loops
 
