@@ -6,7 +6,7 @@ use Rattle.buffer_heap.specs.Heaps.{HeapValue}
 use Rattle.count_table.specs.Seats.{PhaseId, WorkerState}
 use Rattle.count_table.specs.Views.{times, without}
 use Rattle.count_table.proofs.Totals.{times-length, times-without, length-without}
-use Rattle.run_store.specs.Lents.{IsCounted, LentValue, held_once_less, holds_at}
+use Rattle.run_store.specs.Lents.{ChunkPart, IsCounted, LentValue, held_once_less, holds_at}
 
 -- what stands at a place of a list, whatever is said where there is none
 pub there_within : (ns : List ℕ) (b d : ℕ) → b < length ns → slice_index_or ns b d ≡ slice_index_or ns b 0
@@ -58,14 +58,14 @@ module _ (hs ns : List ℕ) (b : ℕ) (held : (c : ℕ) → times c hs ≡ slice
           omega (arith, none, other, there, less)
 
 -- one hold is one of all
-pub few_held : (h : HeapValue) (p : PhaseId (Unit {0})) (s : WorkerState (Unit {0})) (ns : List ℕ) (all b : ℕ) → IsCounted h p s ns all → slice_index_or ns b 0 ≤ all
+pub few_held : (h : HeapValue) (p : PhaseId ChunkPart) (s : WorkerState ChunkPart) (ns : List ℕ) (all b : ℕ) → IsCounted h p s ns all → slice_index_or ns b 0 ≤ all
 few_held h p s ns all b counted =
     let held = counted.held b in
     let most = times-length b s.holds in
     let are = counted.all_are in
     omega (arith, held, most, are)
 
-pub counted_more : (h : HeapValue) (p : PhaseId (Unit {0})) (s : WorkerState (Unit {0})) (ns : List ℕ) (all b : ℕ) → IsCounted h p s ns all → b < length h.places
+pub counted_more : (h : HeapValue) (p : PhaseId ChunkPart) (s : WorkerState ChunkPart) (ns : List ℕ) (all b : ℕ) → IsCounted h p s ns all → b < length h.places
     → IsCounted h p (record s { holds = b ∷ s.holds }) (slice_set ns b (slice_index_or ns b 0 + 1)) (all + 1)
 counted_more h p s ns all b counted within = record {
   phase_is = counted.phase_is;
@@ -75,7 +75,7 @@ counted_more h p s ns all b counted within = record {
   all_are = (let are = counted.all_are in omega (arith, are));
 }
 
-pub counted_less : (h : HeapValue) (p : PhaseId (Unit {0})) (s : WorkerState (Unit {0})) (ns : List ℕ) (all b : ℕ) → IsCounted h p s ns all → b < length h.places → 1 ≤ slice_index_or ns b 0
+pub counted_less : (h : HeapValue) (p : PhaseId ChunkPart) (s : WorkerState ChunkPart) (ns : List ℕ) (all b : ℕ) → IsCounted h p s ns all → b < length h.places → 1 ≤ slice_index_or ns b 0
     → IsCounted h p (record s { holds = without b s.holds }) (slice_set ns b (slice_index_or ns b 0 - 1)) (all - 1)
 counted_less h p s ns all b counted within some =
     let there = counted.held b in
@@ -94,7 +94,7 @@ none_of : (hs : List ℕ) → ((b : ℕ) → times b hs ≡ 0) → hs ≡ []
 none_of [] none = refl
 none_of (h ∷ hs) none = absurd (let here = none h in let one = ap (λ r. cond {A = ℕ} r 1 0) (eq-eqb h h refl) in omega (arith, here, one))
 
-pub none_held : (h : HeapValue) (p : PhaseId (Unit {0})) (s : WorkerState (Unit {0})) (ns : List ℕ) (all : ℕ) → IsCounted h p s ns all → ((b : ℕ) → slice_index_or ns b 0 ≡ 0) → s.holds ≡ []
+pub none_held : (h : HeapValue) (p : PhaseId ChunkPart) (s : WorkerState ChunkPart) (ns : List ℕ) (all : ℕ) → IsCounted h p s ns all → ((b : ℕ) → slice_index_or ns b 0 ≡ 0) → s.holds ≡ []
 none_held h p s ns all counted none = none_of s.holds (λ b. counted.held b ∙ none b)
 
 pub all_zero : (ns : List ℕ) → ((b : ℕ) → slice_index_or ns b 0 ≡ 0) → ns ≡ replicate (length ns) 0

@@ -1,23 +1,28 @@
 -- What a contract sees of buffers that are lent, and of a store.
-use Rattle.std.specs.Prelude.{◌≡◌, ℕ, ◌+◌, ◌-◌, List, [], ◌∷◌, length, slice_index_or, slice_set, Option, cond, nat_eq, map}
+use Rattle.std.specs.Prelude.{◌≡◌, ℕ, ℤ, ◌+◌, ◌-◌, List, [], ◌∷◌, length, slice_index_or, slice_set, Option, cond, nat_eq, map}
 use Rattle.buffer_heap.specs.Heaps.{Held, HeapValue, count_of}
 use Rattle.count_table.specs.Seats.{PhaseId, WorkerState}
+use Rattle.buffer_parts.specs.Spans.{Span}
 use Rattle.count_table.specs.Views.{times, without}
+
+-- what the table of a phase has for a chunk: the part of a buffer that it fills. A fold has none
+abbrev pub ChunkPart : Type 0
+ChunkPart = Option (Span ℤ)
 
 -- the heap that lends, the seat, and how often it holds the buffer at each place
 pub record LentValue : Type 0 where
   pub heap : HeapValue
-  pub seat : WorkerState (Unit {0})
+  pub seat : WorkerState ChunkPart
   pub holds : List ℕ
 
-abbrev pub lent_value : HeapValue → WorkerState (Unit {0}) → List ℕ → LentValue
+abbrev pub lent_value : HeapValue → WorkerState ChunkPart → List ℕ → LentValue
 lent_value heap seat holds = record { heap = heap; seat = seat; holds = holds }
 
 abbrev pub holds_at : LentValue → ℕ → ℕ
 holds_at l b = slice_index_or l.holds b 0
 
 -- the seat is one of the phase, which has a count for each place, and the holds are the seat's
-pub record IsCounted (heap : HeapValue) (phase : PhaseId (Unit {0})) (seat : WorkerState (Unit {0})) (holds : List ℕ) (all : ℕ) : Type 0 where
+pub record IsCounted (heap : HeapValue) (phase : PhaseId ChunkPart) (seat : WorkerState ChunkPart) (holds : List ℕ) (all : ℕ) : Type 0 where
   pub phase_is : seat.phase ≡ phase
   pub places : phase.buffers ≡ length heap.places
   pub each : length holds ≡ length heap.places
@@ -36,7 +41,7 @@ held_once_less l b =
 -- the heap that lends and the seat as it was when it held nothing
 pub record Lender : Type 0 where
   pub heap : HeapValue
-  pub seat : WorkerState (Unit {0})
+  pub seat : WorkerState ChunkPart
 
 abbrev pub lender_as : LentValue → Lender
 lender_as l = record { heap = l.heap; seat = record l.seat { holds = [] } }

@@ -6,11 +6,15 @@ ghost use Rattle.count_table.specs.Seats.{AreReferences};
 ghost use Rattle.run_store.specs.Lents.{held_once_more, held_once_less, holds_at, lender_as, opening_counts};
 
 use buffer_heap::{BufferId, Heap};
+use buffer_parts::Part;
 use count_table::{Phase, WorkerSeat};
 use sac_base::{Cell, MOST_REFERENCES, Memory};
 use std::alloc::Global;
 use std::marker::Model;
 use wl_core::MOST_HOLDS;
+
+/// What the table of a phase has for a chunk: the part of the result's buffer that the chunk fills. A fold has none.
+pub type ChunkPart = Option<Part<Cell>>;
 
 /// The counts that a phase is opened with which lends the buffers of a heap: at each place that of its buffer, and 1 where
 /// there is none.
@@ -34,8 +38,8 @@ pub fn lent_counts(alloc: Global, heap: &Heap) -> Result<Vec<u64>, Memory>
 #[derive(Drop)]
 pub struct Lent<'a> {
     heap: &'a Heap,
-    table: &'a Phase<()>,
-    seat: WorkerSeat<()>,
+    table: &'a Phase<ChunkPart>,
+    seat: WorkerSeat<ChunkPart>,
     // how often the seat holds the buffer at each place, and how many holds it has in all
     holds: Vec<u64>,
     all: u64,
@@ -55,8 +59,8 @@ impl<'a> Lent<'a> {
     /// The buffers of a heap, none of which the seat holds so far.
     pub fn new(
         heap: &'a Heap,
-        table: &'a Phase<()>,
-        seat: WorkerSeat<()>,
+        table: &'a Phase<ChunkPart>,
+        seat: WorkerSeat<ChunkPart>,
         holds: Vec<u64>,
     ) -> Lent<'a>
         requires seat { (seat.phase ≡ table.now) × (seat.holds ≡ []) }
@@ -169,7 +173,7 @@ impl<'a> Lent<'a> {
     }
 
     /// The seat and the list of its holds, of which there are none.
-    pub fn into_parts(self) -> (WorkerSeat<()>, Vec<u64>)
+    pub fn into_parts(self) -> (WorkerSeat<ChunkPart>, Vec<u64>)
         requires { (b : ℕ) → holds_at self b ≡ 0 }
         ensures seat { result.0 ≡ (lender_as self.entry).seat }
         ensures holds { result.1.items ≡ replicate (length self.entry.heap.places) 0 }

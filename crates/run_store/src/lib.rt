@@ -12,7 +12,7 @@ mod target;
 
 pub use access::{buffer_cells, keep, release};
 pub use arrays::{array_of, place_array, place_cells, place_own, place_result, read_array};
-pub use lent::{Lent, lent_counts};
+pub use lent::{ChunkPart, Lent, lent_counts};
 pub use select::select_value;
 pub use store::Store;
 pub use target::{Target, claim, copy_into, fits, is_small, overwrite, same_sizes, settle, write};

@@ -4,7 +4,7 @@ ghost use Rattle.std.specs.Prelude.{◌≡◌, None, Some, length, replicate};
 ghost use Rattle.run_store.specs.Lents.{Lender, lender_as};
 ghost use Rattle.run_store.specs.Stands.{lender_of};
 
-use crate::lent::Lent;
+use crate::lent::{ChunkPart, Lent};
 use buffer_heap::Heap;
 use count_table::WorkerSeat;
 
@@ -37,7 +37,7 @@ impl<'a> Store<'a> {
     }
 
     /// The own heap, and the seat and the list of its holds, which it has given up.
-    pub fn close(self) -> (Heap, WorkerSeat<()>, Vec<u64>)
+    pub fn close(self) -> (Heap, WorkerSeat<ChunkPart>, Vec<u64>)
         requires { (l : Lender) × (lender_of self ≡ Some l) }
         ensures own { result.0 ≡ self.entry.own }
         ensures seat { (l : Lender) → lender_of self.entry ≡ Some l → result.1 ≡ l.seat }
@@ -54,7 +54,7 @@ impl<'a> Store<'a> {
     }
 }
 
-fn close_lent(mut lent: Lent<'_>) -> (WorkerSeat<()>, Vec<u64>)
+fn close_lent(mut lent: Lent<'_>) -> (WorkerSeat<ChunkPart>, Vec<u64>)
     ensures seat { result.0 ≡ (lender_as lent.entry).seat }
     ensures holds { result.1.items ≡ replicate (length lent.entry.heap.places) 0 }
 {
