@@ -1,6 +1,6 @@
 -- A store in which a buffer is written over.
-use Rattle.std.proofs.Common.{◌≡◌, ℕ, zero, suc, ◌+◌, ◌<◌, ◌%◌, ◌^◌, Bool, true, List, [], ◌∷◌, ◌++◌, length, ℤ, Option, Some, None, refl, ap, ◌∙◌, sym, subst, slice_index_or, slice_set, arith}
-use Rattle.std.specs.Prelude.{◌==◌, IsSomeAnd, IsTrue}
+use Rattle.std.proofs.Common.{◌≡◌, ℕ, zero, suc, ◌+◌, ◌<◌, ◌%◌, ◌^◌, true, List, [], ◌∷◌, ◌++◌, length, ℤ, Option, Some, None, refl, ap, ◌∙◌, sym, subst, slice_index_or, slice_set, arith}
+use Rattle.std.specs.Prelude.{◌==◌, IsSomeAnd}
 use Rattle.std.proofs.lemmas.Bool.{eqb-true}
 use Rattle.std.proofs.lemmas.List.{set-get_or, get_or-set_same}
 use Rattle.std.proofs.Math.Nat.{add-mod-mod, mod-add-mod}
