@@ -14,3 +14,7 @@ least_size positions = div_ceil positions MOST_CHUNKS
 
 abbrev pub chunk_size : ℕ → ℕ → Option ℕ → ℕ
 chunk_size positions workers chunk = max 1 (max (wish positions workers chunk) (least_size positions))
+
+-- and how many chunks there are then
+abbrev pub chunks_of : ℕ → Option ℕ → ℕ → ℕ
+chunks_of workers chunk positions = div_ceil positions (chunk_size positions workers chunk)

@@ -3,7 +3,9 @@
 #![tactic(auto)]
 
 mod cuts;
+mod cutting;
 mod lends;
 
 pub use cuts::{Cuts, cut};
+pub use cutting::Cutting;
 pub use lends::lend;

@@ -4,7 +4,9 @@ ghost use Rattle.phase_cells.specs.Idle.{IsAsLent};
 use crate::{CellRuns, LentCells};
 use buffer_heap::Heap;
 use count_table::Tally;
-use phase_team::{CellEnd, NoGate, array_phase};
+use index_cutter::Cutting;
+use phase_draws::{PhaseBooks, array_phase};
+use phase_team::{CellEnd, NoGate};
 use run_store::Store;
 use sac_base::{Cell, Memory, Stop};
 use std::alloc::Global;
@@ -72,9 +74,8 @@ fn numbered<R: Threads + Sync>(
     lends: &Heap,
     alone: usize,
     workers: u32,
-    home: &mut Heap,
     buffer: &mut [Cell],
-) -> Result<(), Stop>
+) -> (PhaseBooks<Heap>, Result<(), Stop>)
     requires workers { (1 ≤ workers) × (workers ≤ 64) }
     requires lends { lends.now ≡ record { places = []; births = 0; taken = 0; given = 0; reused = 0 } }
     requires room { length buffer.old ≡ 10 }
@@ -84,18 +85,22 @@ fn numbered<R: Threads + Sync>(
         alloc,
         cells: &numbers,
     };
+    let books = PhaseBooks {
+        home: Heap::behind(lends),
+        counts: Vec::new(alloc),
+        tally: Tally::new(),
+    };
     array_phase(
         rt,
         alloc,
         &cells,
         &NoGate,
+        Cutting::of(workers, Some(3)),
         workers,
-        home,
-        &mut [],
+        books,
         10,
         1,
         buffer,
-        &mut Tally::new(),
     )
 }
 
@@ -103,15 +108,13 @@ fn numbered<R: Threads + Sync>(
 fn cells_are_computed_on_lent_buffers(rt: HostRuntime) -> Result<(), Fail> {
     let lends = Heap::new(rt.alloc());
     for (workers, alone) in [(1, 0), (2, 3), (64, 6), (2, 10)] {
-        let mut home = Heap::behind(&lends);
         let mut buffer = [7; 10];
-        let end = numbered(
+        let (PhaseBooks { home, .. }, end) = numbered(
             &rt,
             rt.alloc(),
             &lends,
             alone,
             workers,
-            &mut home,
             &mut buffer,
         );
         assert!(rt; end.is_ok());

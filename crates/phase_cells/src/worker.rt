@@ -8,7 +8,8 @@ ghost use Rattle.phase_team.specs.Segments.{IsComputed, Tells};
 use crate::runs::CellRuns;
 use buffer_heap::Heap;
 use count_table::{Phase, WorkerSeat};
-use phase_team::{CellEnd, PhaseCells};
+use phase_draws::{ChunkPart, PhaseCells};
+use phase_team::CellEnd;
 use run_store::{Lent, Store};
 use sac_base::{Cell, Memory, Stop};
 use std::alloc::Global;
@@ -65,8 +66,8 @@ impl<'a, C: CellRuns> PhaseCells<Heap> for LentCells<'a, C> {
     fn cell(
         &self,
         worker: &mut CellWorker<C::Scratch>,
-        table: &Phase<()>,
-        seat: &mut Option<WorkerSeat<()>>,
+        table: &Phase<ChunkPart>,
+        seat: &mut Option<WorkerSeat<ChunkPart>>,
         position: usize,
         into: &mut [Cell],
     ) -> CellEnd {

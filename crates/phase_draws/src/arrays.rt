@@ -1,8 +1,7 @@
 // Phases that store their cells.
-ghost use Rattle.std.specs.Prelude.{◌≡◌, ◌≢◌, ℕ, ◌+◌, ◌*◌, ◌<◌, ◌≤◌, [], None, Ok, Some, Vec, length, map, vec_len, vec_capacity, IfOk, IfSome};
-ghost use Rattle.std.specs.Int.{div_ceil};
+ghost use Rattle.std.specs.Prelude.{◌≡◌, ◌≢◌, ℕ, ◌+◌, ◌*◌, ◌<◌, ◌≤◌, [], None, Ok, Some, Vec, length, map, vec_len, vec_capacity, IfOk};
 ghost use Rattle.std.specs.Thread.{IsSend, IsSync};
-ghost use Rattle.index_cutter.specs.Cuts.{chunk_size};
+ghost use Rattle.index_cutter.specs.Cuts.{chunks_of};
 ghost use Rattle.wl_core.specs.declared.setup.Job.TheVariants.{Write as Store};
 ghost use Rattle.chunk_reports.specs.Stops.{first_stop_of};
 ghost use Rattle.count_table.specs.Opening.{present};
@@ -21,7 +20,7 @@ use crate::share::{ChunkPart, ChunkReport, Share};
 use buffer_parts::Part;
 use chunk_reports::{Report, first_stop};
 use count_table::{Tally, Unopened};
-use index_cutter::{cut, lend};
+use index_cutter::{Cutting, cut, lend};
 use phase_team::Gate;
 use sac_base::{Cell, Memory, Stop};
 use std::alloc::Global;
@@ -248,8 +247,8 @@ fn run_lent<'a, H: Send, C: PhaseCells<H>, G: Gate, R: Threads + Sync>(
     )
 }
 
-/// Computes the cells of a phase into the buffer, each at its place, by at most so many workers, which draw chunks of the
-/// size that is given, or of an equal share for each. The phase has the books' count for each shared buffer while it runs.
+/// Computes the cells of a phase into the buffer, each at its place, by workers that draw its chunks. The phase has the
+/// books' count for each shared buffer while it runs.
 ///
 /// `Ok` comes where no cell faults, and the buffer has the elements of all cells in order. `Faulted` is the fault of the
 /// least position that faults, whichever worker met its fault first. After `Memory` nothing is known of the buffer.
@@ -258,15 +257,14 @@ pub fn array_phase<H: Send, C: PhaseCells<H>, G: Gate, R: Threads + Sync>(
     alloc: Global,
     cells: &C,
     gate: &G,
-    workers: u32,
-    chunk: Option<u64>,
+    cutting: Cutting,
+    team: u32,
     books: PhaseBooks<H>,
     positions: usize,
     width: usize,
     buffer: &mut [Cell],
 ) -> (PhaseBooks<H>, Result<(), Stop>)
-    requires workers { (1 ≤ workers) × (workers ≤ 64) }
-    requires chunk { IfSome chunk (λ size. 1 ≤ size) }
+    requires team { team ≤ 64 }
     requires positions { (positions ≤ 16777216) × (positions ≡ C.positions cells.now) × (width ≡ C.width cells.now) }
     requires held { (p : ℕ) → p < positions → C.cell cells.now p ≢ Ok None }
     requires counts { AreReferences books.counts.items }
@@ -277,9 +275,9 @@ pub fn array_phase<H: Send, C: PhaseCells<H>, G: Gate, R: Threads + Sync>(
     ensures home { C.open_home cells.now result.0.home }
     ensures kept { IfOk result.1 (λ _. Costs (C.cost cells.now) 0 positions (C.kept cells.now books.home) (C.kept cells.now result.0.home)) }
     ensures counts { result.0.counts.items ≡ books.counts.items }
-    ensures tally { IsTallied (div_ceil positions (chunk_size positions workers chunk)) books.tally result.0.tally result.1 }
+    ensures tally { IsTallied (chunks_of cutting.workers cutting.chunk positions) books.tally result.0.tally result.1 }
 {
-    let cuts = cut(positions as u64, workers, chunk);
+    let cuts = cut(positions as u64, cutting.workers, cutting.chunk);
     let share = Share {
         job: Job::Write,
         width,
@@ -292,7 +290,7 @@ pub fn array_phase<H: Send, C: PhaseCells<H>, G: Gate, R: Threads + Sync>(
         cells,
         gate,
         share,
-        team: team_of(workers, cuts.count),
+        team: team_of(team, cuts.count),
         run: ArrayRun {
             books,
             end: Err(Stop::Memory),

@@ -1,9 +1,8 @@
 // Phases that combine their cells.
-ghost use Rattle.std.specs.Prelude.{◌≡◌, ℕ, ◌+◌, ◌*◌, ◌<◌, ◌≤◌, IsTrue, None, length, replicate, IfOk, IfSome};
-ghost use Rattle.std.specs.Int.{div_ceil};
+ghost use Rattle.std.specs.Prelude.{◌≡◌, ℕ, ◌+◌, ◌*◌, ◌<◌, ◌≤◌, IsTrue, None, length, replicate, IfOk};
 ghost use Rattle.chunk_reports.specs.Stops.{first_stop_of};
 ghost use Rattle.count_table.specs.Seats.{AreReferences};
-ghost use Rattle.index_cutter.specs.Cuts.{chunk_size};
+ghost use Rattle.index_cutter.specs.Cuts.{chunks_of};
 ghost use Rattle.sac_base.specs.Verdict.{folds};
 ghost use Rattle.phase_team.specs.Endings.{IsCombined};
 ghost use Rattle.phase_team.specs.Segments.{cells_from, Costs};
@@ -17,7 +16,7 @@ use crate::share::{ChunkPart, Share};
 use crate::worker::combine_held;
 use chunk_reports::first_stop;
 use count_table::Tally;
-use index_cutter::{Cuts, cut};
+use index_cutter::{Cuts, Cutting, cut};
 use phase_team::Gate;
 use sac_base::{Base, Cell, Memory, Op, Stop};
 use std::alloc::Global;
@@ -46,9 +45,9 @@ fn fold_rooms(alloc: Global, team: usize, chunks: usize, width: usize) -> Result
     })
 }
 
-/// Combines the cells of a phase that are held with a neutral value, by at most so many workers, which draw chunks of the
-/// size that is given, or of an equal share for each. Each worker combines its own cells, and their values are combined with
-/// the neutral one, which is taken once. The phase has this count for each shared buffer while it runs.
+/// Combines the cells of a phase that are held with a neutral value, by workers that draw its chunks. Each worker
+/// combines its own cells, and their values are combined with the neutral one, which is taken once. The phase has this
+/// count for each shared buffer while it runs.
 ///
 /// `Ok` comes where no cell faults, and the value is that of the neutral one and the held cells combined in order, each of
 /// which has as many elements as the neutral one. `Faulted` is the fault of the least position that faults. After any error
@@ -58,8 +57,8 @@ pub fn fold_phase<H: Send, C: PhaseCells<H>, G: Gate, R: Threads + Sync>(
     alloc: Global,
     cells: &C,
     gate: &G,
-    workers: u32,
-    chunk: Option<u64>,
+    cutting: Cutting,
+    team: u32,
     home: &mut H,
     counts: &mut [u64],
     positions: usize,
@@ -68,8 +67,7 @@ pub fn fold_phase<H: Send, C: PhaseCells<H>, G: Gate, R: Threads + Sync>(
     value: &mut [Cell],
     tally: &mut Tally,
 ) -> Result<(), Stop>
-    requires workers { (1 ≤ workers) × (workers ≤ 64) }
-    requires chunk { IfSome chunk (λ size. 1 ≤ size) }
+    requires team { team ≤ 64 }
     requires positions { (positions ≤ 16777216) × (positions ≡ C.positions cells.now) }
     requires op { IsTrue (folds base op) }
     requires counts { AreReferences counts.old }
@@ -80,10 +78,10 @@ pub fn fold_phase<H: Send, C: PhaseCells<H>, G: Gate, R: Threads + Sync>(
     ensures home { C.open_home cells.now home.new }
     ensures kept { IfOk result (λ _. Costs (C.cost cells.now) 0 positions (C.kept cells.now home.old) (C.kept cells.now home.new)) }
     ensures counts { counts.new ≡ counts.old }
-    ensures tally { IsTallied (div_ceil positions (chunk_size positions workers chunk)) tally.old tally.new result }
+    ensures tally { IsTallied (chunks_of cutting.workers cutting.chunk positions) tally.old tally.new result }
 {
-    let cuts = cut(positions as u64, workers, chunk);
-    let team = team_of(workers, cuts.count);
+    let cuts = cut(positions as u64, cutting.workers, cutting.chunk);
+    let team = team_of(team, cuts.count);
     let begun = fold_rooms(alloc, team, cuts.count as usize, value.len());
     let Ok(
         FoldRooms {

@@ -15,11 +15,11 @@ pub(crate) struct Rooms {
 }
 
 /// How many workers begin: as many as there may be, but no more than chunks.
-pub(crate) fn team_of(workers: u32, chunks: u64) -> usize
-    requires { workers ≤ 64 }
+pub(crate) fn team_of(most: u32, chunks: u64) -> usize
+    requires { most ≤ 64 }
     ensures { (1 ≤ result) × (result ≤ 64) }
 {
-    (workers as u64).min(chunks).max(1) as usize
+    (most as u64).min(chunks).max(1) as usize
 }
 
 /// Room for so many workers, each of which may draw all chunks.

@@ -1,5 +1,5 @@
 -- What is told of a cell once its value was written and released.
-use Rattle.std.proofs.Common.{◌≡◌, ℕ, zero, suc, ◌%◌, ◌^◌, Bool, true, false, List, ℤ, Option, Some, None, Result, Ok, Err, length, refl, sym, ap, ◌∙◌, subst}
+use Rattle.std.proofs.Common.{◌≡◌, ℕ, zero, suc, Bool, true, false, List, ℤ, Option, Some, None, Result, Ok, Err, refl, sym, subst}
 use Rattle.std.specs.Prelude.{if◌then◌else◌, option_map, OnOk}
 use Rattle.counted_code.specs.Loops.{Source, stored, cell_does, release_rest}
 use Rattle.counted_code.specs.Values.{Heap, Value, Small, Ref, Ended, Done, Failed, give, go_on, fails, apart, count_of, read, release, release_count}
@@ -16,6 +16,7 @@ use Rattle.phase_loop_cells.specs.Cells.{elements_or, IsPut, ToldCell}
 use Rattle.run_eval.specs.Loops.{IsPresent, unreleased}
 use Rattle.run_eval.specs.Running.{Told, formed}
 use Rattle.run_eval.specs.declared.state.State.{State}
+use Rattle.phase_count.proofs.Tallying.{counts_as}
 
 count_phases : (b n : ℕ) (h : Heap) → (release_count b n h).phases ≡ h.phases
 count_phases b zero h = refl
@@ -48,7 +49,7 @@ put_told fill into written o s t form source m told put same = subst (λ end. To
     go (Done w h) told =
         let p = put h told.1.heap in (
           subst (λ w. elements_or fill (option_map (read h) w) ≡ value_if written into) told.0 p.elements,
-          record { heap = subst (λ w. Stands t.heap (release_rest w h)) told.0 p.stands; phases = same ∙ told.1.phases ∙ ap (λ ps. length ps % 2 ^ 64) (sym (rest_phases w h)) },
+          record { heap = subst (λ w. Stands t.heap (release_rest w h)) told.0 p.stands; phases = counts_as _ _ _ _ same (sym (rest_phases w h)) told.1.phases },
         )
 
 stop_told : (fill : Option (List ℤ)) (into : List ℤ) (stop : Stop) (s : State) (form : Form) (source : Option Source) (m : Heap) → Told {A = Option RunValue} IsPresent (Err stop) s (unreleased form source m) → ToldCell fill into (Err stop) s (cell_does form source m)

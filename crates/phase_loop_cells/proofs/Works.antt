@@ -25,20 +25,21 @@ use Rattle.phase_loop_cells.specs.Cells.{ToldCell, end_of, fill_at, index_at, ge
 use Rattle.phase_checks.specs.Terms.{gens_term, parts_term}
 use Rattle.phase_loop_cells.specs.Opened.{GensIn, PartsIn, OpenGens, OpenParts, meaning_in, lent_env}
 use Rattle.run_eval.specs.Loops.{source_in, part_source_in}
+use Rattle.phase_count.proofs.Tallying.{counts_none}
 use Rattle.run_eval.specs.Running.{IsAt}
 use Rattle.phase_loop_cells.proofs.Afters.{stands_quiet, cell_told, cell_left}
 use Rattle.phase_loop_cells.proofs.Sources.{quiet, gens_alone, gens_grown, parts_alone, parts_grown}
 
 -- a worker's state stands for the heap without phases
-at_quiet : (s : State) (store : Store) (k : Heap) → s.heap ≡ store → s.phases ≡ 0 → Stands store k → IsAt s (quiet k)
-at_quiet s store k heap phases stands = record { heap = stands_quiet s.heap k (subst (λ x. Stands x k) (sym heap) stands); phases = phases }
+at_quiet : (s : State) (store : Store) (k : Heap) → s.heap ≡ store → (s.phases.number ≡ 0) × (s.phases.draws ≡ 0) → Stands store k → IsAt s (quiet k)
+at_quiet s store k heap phases stands = record { heap = stands_quiet s.heap k (subst (λ x. Stands x k) (sym heap) stands); phases = counts_none s.phases phases.0 phases.1 }
 
 module _ (context : Context) (lends : HeapValue) (e : Values) (gens : List CodeGen) (p : Plan) (background : Option Background) (place : ℕ) (s t : State) (into : List ℤ) (r : Result Bool Stop) where
   abbrev pub GensTold : Type 0
   GensTold =
       (m : Heap) → IsAt s m → ToldCell (fill_at background place) into r t (cell_does p.form (source_in context (current s.frames) gens p.ranges.items (index_at p.frame place)) m)
 
-  module _ (store : Store) (k : Heap) (is : OpenGens context lends e gens k) (heap : s.heap ≡ store) (frames : current s.frames ≡ e) (phases : s.phases ≡ 0) (stands : Stands store k) (told : GensTold) where
+  module _ (store : Store) (k : Heap) (is : OpenGens context lends e gens k) (heap : s.heap ≡ store) (frames : current s.frames ≡ e) (phases : (s.phases.number ≡ 0) × (s.phases.draws ≡ 0)) (stands : Stands store k) (told : GensTold) where
     gens_here : ToldCell (fill_at background place) into r t (cell_does p.form (source_in context e gens p.ranges.items (index_at p.frame place)) (quiet k))
     gens_here = subst (λ e. ToldCell (fill_at background place) into r t (cell_does p.form (source_in context e gens p.ranges.items (index_at p.frame place)) (quiet k))) frames (told (quiet k) (at_quiet s store k heap phases stands))
 
@@ -57,7 +58,7 @@ module _ (context : Context) (lends : HeapValue) (e : Values) (parts : List Code
   PartsTold =
       (m : Heap) → IsAt s m → ToldCell None into r t (cell_does form (part_source_in context (current s.frames) parts (index_at indices place)) m)
 
-  module _ (store : Store) (k : Heap) (is : OpenParts context lends e parts k) (heap : s.heap ≡ store) (frames : current s.frames ≡ e) (phases : s.phases ≡ 0) (stands : Stands store k) (told : PartsTold) where
+  module _ (store : Store) (k : Heap) (is : OpenParts context lends e parts k) (heap : s.heap ≡ store) (frames : current s.frames ≡ e) (phases : (s.phases.number ≡ 0) × (s.phases.draws ≡ 0)) (stands : Stands store k) (told : PartsTold) where
     parts_here : ToldCell None into r t (cell_does form (part_source_in context e parts (index_at indices place)) (quiet k))
     parts_here = subst (λ e. ToldCell None into r t (cell_does form (part_source_in context e parts (index_at indices place)) (quiet k))) frames (told (quiet k) (at_quiet s store k heap phases stands))
 

@@ -1,6 +1,7 @@
 ghost use Rattle.std.specs.Prelude.{◌≡◌, ℕ, ◌+◌, ◌%◌, ◌≤◌, pos, [], ◌∷◌, length, Some, Ok, IfSome};
 
 use count_table::{Phase, Tally, WorkerSeat};
+use index_cutter::Cutting;
 use phase_draws::{ChunkPart, PhaseBooks, PhaseCells, array_phase, fold_phase};
 use phase_team::{CellEnd, Gate, NoGate};
 use sac_base::{Base, Cell, Memory, Op, Stop};
@@ -84,7 +85,16 @@ fn stored<G: Gate, R: Threads + Sync>(
     };
     let numbers = Numbers { count };
     Ok(array_phase(
-        rt, alloc, &numbers, gate, workers, chunk, books, count, 1, buffer,
+        rt,
+        alloc,
+        &numbers,
+        gate,
+        Cutting::of(workers, chunk),
+        workers,
+        books,
+        count,
+        1,
+        buffer,
     ))
 }
 
@@ -117,8 +127,8 @@ fn drawn_cells_are_added_to_the_neutral_value(rt: HostRuntime) -> Result<(), Fai
             rt.alloc(),
             &Numbers { count: 10 },
             &NoGate,
+            Cutting::of(workers, chunk),
             workers,
-            chunk,
             &mut home,
             &mut [1],
             10,

@@ -1,5 +1,5 @@
 -- What a phase of workers tells of the machine.
-use Rattle.std.proofs.Common.{◌≡◌, ℕ, ◌%◌, ◌^◌, Bool, true, false, List, ◌++◌, length, take, ℤ, Option, Some, None, Result, Ok, Err, refl, ap, ◌∙◌, sym, subst}
+use Rattle.std.proofs.Common.{◌≡◌, ℕ, Bool, true, false, List, ◌++◌, length, take, ℤ, Option, Some, None, Result, Ok, Err, refl, ap, ◌∙◌, sym, subst}
 use Rattle.std.specs.Prelude.{IfOk, IsSomeAnd, IsTrue, not}
 use Rattle.std.proofs.Math.ListN.{get_or}
 use Rattle.std.proofs.Math.Seq.{take-append_seam}
@@ -52,6 +52,8 @@ use Rattle.phase_workers.specs.Alive.{AreAlive, IsAlive}
 use Rattle.phase_workers.specs.Homes.{ComputesAll, handed}
 use Rattle.phase_workers.proofs.Handing.{handed_stands}
 use Rattle.phase_workers.proofs.Openings.{AreReferred, alone_gens}
+use Rattle.phase_count.specs.Tallies.{Counts}
+use Rattle.phase_count.proofs.Tallying.{counts_as, counts_on}
 
 -- ---- variables that stay alive
 
@@ -93,12 +95,12 @@ claim_phases : (small : Bool) (n : ℕ) (k : Heap) → (claim small None n k).he
 claim_phases true n k = refl
 claim_phases false n k = refl
 
-pub begun_claim : (r : Result Target memory.Memory) (s : State) (h : Store) (small : Bool) (n : ℕ) (k : Heap) → s.phases ≡ length k.phases % 2 ^ 64 → IfOk r (λ t. IsClaimed t h (claim small None n k)) → IfOk r (λ t. IsBegun (target_of t) (record s { heap = h }) (claim small None n k))
+pub begun_claim : (r : Result Target memory.Memory) (s : State) (h : Store) (small : Bool) (n : ℕ) (k : Heap) → Counts s.phases k.phases → IfOk r (λ t. IsClaimed t h (claim small None n k)) → IfOk r (λ t. IsBegun (target_of t) (record s { heap = h }) (claim small None n k))
 begun_claim (Err e) s h small n k phases claimed = tt
 begun_claim (Ok t) s h small n k phases claimed = record {
   target = claimed.target;
   rest = claimed.rest;
-  stands = record { heap = claimed.heap; phases = phases ∙ ap (λ (ps : List ℕ). length ps % 2 ^ 64) (sym (claim_phases small n k)) };
+  stands = record { heap = claimed.heap; phases = counts_on _ _ _ (sym (claim_phases small n k)) phases };
 }
 
 -- ---- cells, in the words of both
@@ -151,11 +153,11 @@ module _ (context : Context) (e : Values) (gens : List CodeGen) (p : Plan) (b : 
         subst (Told IsValue r s3) (sym (ends.ends ∙ ap (λ c. settled c (made es) ends.heap) (sym is.target)))
         (finished ends.heap (record {
           heap = subst (λ k. Stands k ends.heap) (sym heap) (main_stands (handed h home) ends.heap there);
-          phases = phases ∙ is.stands.phases ∙ ap (λ (ps : List ℕ). length ps % 2 ^ 64) (sym ends.passed.phases);
+          phases = counts_as _ _ _ _ phases (sym ends.passed.phases) is.stands.phases;
         }))
 
     -- the fault of the least position
     pub array_faulted : (es : List ℤ) (f : Fault) → ComputesAll (cells_from (gens_cell context h e gens p (Some b)) 0 (length p.frame)) h spent es (Err (Faulted f)) → ToldStop (Faulted f) s (job_does None job m)
     array_faulted es f faulted =
         subst (ToldStop (Faulted f) s) (sym (array_ends stands_here es (Err (Faulted f)) faulted))
-        (refl, is.stands.phases ∙ ap (λ (ps : List ℕ). length ps % 2 ^ 64) (claim_phases (is_small p.shape) (size p.shape) (count_phase true (length p.frame) m)))
+        (refl, counts_on _ _ _ (claim_phases (is_small p.shape) (size p.shape) (count_phase true (length p.frame) m)) is.stands.phases)

@@ -1,5 +1,5 @@
 -- What a fold of workers tells of the machine.
-use Rattle.std.proofs.Common.{◌≡◌, ℕ, ◌%◌, ◌^◌, Bool, true, false, List, length, ℤ, Option, Some, None, Result, Ok, Err, refl, ap, ◌∙◌, sym, subst}
+use Rattle.std.proofs.Common.{◌≡◌, ℕ, Bool, true, false, List, length, ℤ, Option, Some, None, Result, Ok, Err, refl, ap, ◌∙◌, sym, subst}
 use Rattle.std.specs.Prelude.{IsTrue, ◌&&◌}
 use Rattle.std.proofs.lemmas.Slice.Eq.{bytes_eq-Decides}
 use Rattle.buffer_heap.specs.declared.heap.BufferId.{BufferId}
@@ -53,6 +53,7 @@ use Rattle.phase_workers.specs.Alive.{AreAlive}
 use Rattle.phase_workers.specs.Homes.{CombinesAll, IsBehind, handed}
 use Rattle.phase_workers.proofs.Handing.{handed_stands}
 use Rattle.phase_workers.proofs.Openings.{AreReferred, alone_gens}
+use Rattle.phase_count.proofs.Tallying.{counts_as, counts_on}
 
 -- ---- the neutral value
 
@@ -107,14 +108,14 @@ module _ (job : Job) (m : Heap) (base : Base) (shape : List ℕ) (n : ℕ) (t : 
       subst (Told IsValue r s3) (sym (ends.ends ∙ ap (λ c. settled c (made es) ends.heap) (sym is.target)))
       (finished ends.heap (record {
         heap = subst (λ k. Stands k ends.heap) (sym heap) (main_stands (handed h home) ends.heap there);
-        phases = phases ∙ is.stands.phases ∙ ap (λ (ps : List ℕ). length ps % 2 ^ 64) (sym ends.passed.phases);
+        phases = counts_as _ _ _ _ phases (sym ends.passed.phases) is.stands.phases;
       }))
 
   -- the fault of the least position. The phase is counted
   pub phase_faulted : (es : List ℤ) (f : Fault) → PhaseEnds job base shape n m es (Err (Faulted f)) → ToldStop (Faulted f) s (job_does None job m)
   phase_faulted es f faulted =
       subst (ToldStop (Faulted f) s) (sym faulted)
-      (refl, is.stands.phases ∙ ap (λ (ps : List ℕ). length ps % 2 ^ 64) (claim_phases (is_small job.shape) (size job.shape) (count_phase true (length job.indices) m)))
+      (refl, counts_on _ _ _ (claim_phases (is_small job.shape) (size job.shape) (count_phase true (length job.indices) m)) is.stands.phases)
 
 -- ---- with-loops
 

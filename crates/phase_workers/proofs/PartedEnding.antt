@@ -1,5 +1,5 @@
 -- What a parted loop of workers tells of the machine.
-use Rattle.std.proofs.Common.{◌≡◌, ℕ, ◌+◌, ◌<◌, ◌%◌, ◌^◌, Bool, true, false, List, [], ◌∷◌, length, map, ℤ, Option, Some, None, Result, Ok, Err, refl, ap, ◌∙◌, sym, subst}
+use Rattle.std.proofs.Common.{◌≡◌, ℕ, ◌+◌, ◌<◌, ◌^◌, Bool, true, false, List, [], ◌∷◌, length, map, ℤ, Option, Some, None, Result, Ok, Err, refl, ap, ◌∙◌, sym, subst}
 use Rattle.std.specs.Prelude.{IsTrue, not}
 use Rattle.buffer_heap.specs.declared.heap.BufferId.{BufferId}
 use Rattle.buffer_heap.specs.Heaps.{Held, HeapValue, at}
@@ -54,6 +54,7 @@ use Rattle.phase_workers.proofs.Handing.{handed_stands}
 use Rattle.phase_kernels.proofs.Named.{AreSingle}
 use Rattle.phase_workers.proofs.Machines.{machine_of, stands_for_machine}
 use Rattle.phase_workers.proofs.Openings.{AreReferred, readable_here}
+use Rattle.phase_count.proofs.Tallying.{counts_as, counts_on}
 
 -- ---- cells, in the words of both
 
@@ -152,11 +153,11 @@ module _ (context : Context) (e : Values) (parts : List CodePart) (frame : List 
         subst (Told IsValue r s3) (sym (ends.ends ∙ ap (λ c. settled c (made es) ends.heap) (sym is.target)))
         (finished ends.heap (record {
           heap = subst (λ k. Stands k ends.heap) (sym heap) (main_stands (handed h home) ends.heap there);
-          phases = phases ∙ is.stands.phases ∙ ap (λ (ps : List ℕ). length ps % 2 ^ 64) (sym ends.passed.phases);
+          phases = counts_as _ _ _ _ phases (sym ends.passed.phases) is.stands.phases;
         }))
 
     -- the fault of the least position
     pub parts_faulted : (es : List ℤ) (f : Fault) → Computed es (Err (Faulted f)) → ToldStop (Faulted f) s (job_does None job m)
     parts_faulted es f faulted =
         subst (ToldStop (Faulted f) s) (sym (parts_end stands_here es (Err (Faulted f)) faulted))
-        (refl, is.stands.phases ∙ ap (λ (ps : List ℕ). length ps % 2 ^ 64) (claim_phases (is_small shape) (size shape) (count_phase true (length frame) m)))
+        (refl, counts_on _ _ _ (claim_phases (is_small shape) (size shape) (count_phase true (length frame) m)) is.stands.phases)

@@ -5,8 +5,10 @@ use Rattle.sac_base.specs.declared.op.Op.{Op}
 use Rattle.wl_core.specs.Machine.{CellValue}
 use Rattle.sac_base.specs.declared.stop.Stop.{Stop}
 use Rattle.sac_base.specs.declared.stop.Stop.TheVariants.{Faulted, Memory}
-use Rattle.phase_team.specs.Endings.{IsArray, IsCombined, IsTallied, one_phase}
-use Rattle.phase_count.specs.Tallies.{counted_in}
+use Rattle.index_cutter.specs.Cuts.{chunks_of}
+use Rattle.phase_team.specs.Endings.{IsArray, IsCombined}
+use Rattle.phase_draws.specs.Endings.{IsTallied, one_phase}
+use Rattle.phase_count.specs.Tallies.{PhaseNumbers, counted_in}
 use Rattle.phase_count.specs.declared.OpenTally.{OpenTally}
 use Rattle.phase_workers.specs.declared.results.Books.{Books}
 
@@ -56,15 +58,19 @@ OrNoMemory (Err (Faulted fault)) = ⊥
 
 -- ---- the tally
 
--- one phase was closed into the tally, after a fault too
-pub record IsBooked (before after : Books) (end : Result (Unit {0}) Stop) : Type 0 where
-  pub tally : IsTallied before.count.tally after.count.tally end
+-- how many chunks a phase of so many positions has
+abbrev pub chunks_in : OpenTally → ℕ → ℕ
+chunks_in o positions = chunks_of o.cutting.workers o.cutting.chunk positions
+
+-- one phase of so many positions was closed into the tally, after a fault too, and all its chunks were drawn
+pub record IsBooked (positions : ℕ) (before after : Books) (end : Result (Unit {0}) Stop) : Type 0 where
+  pub tally : IsTallied (chunks_in before.count positions) before.count.tally after.count.tally end
   pub begun : after.count.before ≡ before.count.before
 
 -- once one phase more is closed into it, the tally has so many
-abbrev pub WillHave : OpenTally → ℕ → Type 0
-WillHave o n = one_phase o.tally ≡ counted_in o.before.phases o.before.draws n
+abbrev pub WillHave : ℕ → OpenTally → PhaseNumbers → Type 0
+WillHave positions o p = one_phase (chunks_in o positions) o.tally ≡ counted_in o.before.phases o.before.draws p
 
 -- the tally has so many
-abbrev pub Has : OpenTally → ℕ → Type 0
-Has o n = o.tally ≡ counted_in o.before.phases o.before.draws n
+abbrev pub Has : OpenTally → PhaseNumbers → Type 0
+Has o p = o.tally ≡ counted_in o.before.phases o.before.draws p

@@ -58,7 +58,8 @@ pub fn array_by_workers<G: Gate, R: Threads + Sync>(
         return Err(Stop::Memory);
     };
     let _code = context.code.get();
-    let begun = begin_phase(context.alloc, &plan.shape, state)?;
+    let positions = plan.frame.count();
+    let begun = begin_phase(context.alloc, &plan.shape, positions, state)?;
     state.heap.own.buffers_are_numbered();
     let Begun { target, mut books } = begun;
     let Target { mut cells, buffer } = target;
@@ -109,7 +110,7 @@ fn array_cells<G: Gate, R: Threads + Sync>(
     requires alive { AreAlive heap.now (current frames.now) live.now }
     requires size { background.size ≡ size plan.now.form.shape }
     requires home { books.old.home ≡ new_behind heap.now }
-    ensures booked { IsBooked books.old books.new result }
+    ensures booked { IsBooked (length plan.now.frame) books.old books.new result }
     ensures computed { ComputesAll (cells_from (gens_cell context.now heap.now (current frames.now) gens.now plan.now (Some background.entry)) 0
         (length plan.now.frame)) heap.now (cost_from (gens_taken context.now heap.now (current frames.now) gens.now plan.now) 0
         (length plan.now.frame)) cells.new (left_in books.new.home result) }
@@ -164,7 +165,7 @@ fn each_cell<G: Gate, R: Threads + Sync>(
         (current kernel_cells.now.cells.frames.now) kernel_cells.now.cells.gens.now) kernel_cells.now.cells.heap.now }
     requires room { length cells.old ≡ count * width }
     requires home { books.old.home ≡ new_behind kernel_cells.now.cells.heap.now }
-    ensures booked { IsBooked books.old books.new result }
+    ensures booked { IsBooked count books.old books.new result }
     ensures computed { ComputesAll
         (cells_from (gens_cell kernel_cells.now.cells.context kernel_cells.now.cells.heap.now
         (current kernel_cells.now.cells.frames.now) kernel_cells.now.cells.gens.now kernel_cells.now.cells.plan.now kernel_cells.now.cells.background) 0 count)

@@ -140,7 +140,8 @@ pub fn fold_by_workers<G: Gate, R: Threads + Sync>(
     let _code = context.code.get();
     let _cells = neutral.cells();
     let mut value = neutral.into_cells();
-    let begun = begin_phase(context.alloc, &plan.shape, state)?;
+    let positions = plan.frame.count();
+    let begun = begin_phase(context.alloc, &plan.shape, positions, state)?;
     let Begun { target, mut books } = begun;
     let Target { cells: _, buffer } = target;
     state.heap.own.buffers_are_numbered();
@@ -191,7 +192,7 @@ fn fold_cells<'a, G: Gate, R: Threads + Sync>(
     requires op { IsTrue (folds_value plan.now.form.base op) }
     requires width { length value.old ≡ size plan.now.form.shape }
     requires home { books.old.home ≡ new_behind heap.now }
-    ensures booked { IsBooked books.old books.new result }
+    ensures booked { IsBooked (length plan.now.frame) books.old books.new result }
     ensures combined { CombinesAll op (cells_from (gens_cell context.entry heap.now (current frames.now) gens.now plan.now None) 0
         (length plan.now.frame)) heap.now (cost_from (gens_taken context.entry heap.now (current frames.now) gens.now plan.now) 0
         (length plan.now.frame)) value.old value.new (left_in books.new.home result) }
@@ -242,7 +243,7 @@ fn each_fold<G: Gate, R: Threads + Sync>(
         (current cells.now.cells.frames.now) cells.now.cells.gens.now) cells.now.cells.heap.now }
     requires width { length value.old ≡ size cells.now.cells.plan.now.form.shape }
     requires home { books.old.home ≡ new_behind cells.now.cells.heap.now }
-    ensures booked { IsBooked books.old books.new result }
+    ensures booked { IsBooked count books.old books.new result }
     ensures combined { CombinesAll op
         (cells_from (gens_cell cells.now.cells.context cells.now.cells.heap.now
         (current cells.now.cells.frames.now) cells.now.cells.gens.now cells.now.cells.plan.now cells.now.cells.background) 0 count) cells.now.cells.heap.now

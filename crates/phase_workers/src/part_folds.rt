@@ -131,7 +131,8 @@ fn fold_parts_by_workers<G: Gate, R: Threads + Sync>(
     let _code = context.code.get();
     let _cells = neutral.cells();
     let mut value = neutral.into_cells();
-    let begun = begin_phase(context.alloc, &plan.shape, state)?;
+    let positions = plan.frame.count();
+    let begun = begin_phase(context.alloc, &plan.shape, positions, state)?;
     let Begun { target, mut books } = begun;
     let Target { cells: _, buffer } = target;
     state.heap.own.buffers_are_numbered();
@@ -184,7 +185,7 @@ fn fold_part_cells<G: Gate, R: Threads + Sync>(
     requires op { IsTrue (folds_value form.now.base op) }
     requires width { length value.old ≡ size form.now.shape }
     requires home { books.old.home ≡ new_behind heap.now }
-    ensures booked { IsBooked books.old books.new result }
+    ensures booked { IsBooked (length frame.now) books.old books.new result }
     ensures combined { CombinesAll op (cells_from (parts_cell context.now heap.now (current frames.now) parts.now form.now frame.now) 0
         (length frame.now)) heap.now (cost_from (parts_taken context.now heap.now (current frames.now) parts.now frame.now) 0
         (length frame.now)) value.old value.new (left_in books.new.home result) }
@@ -235,7 +236,7 @@ fn each_part_fold<G: Gate, R: Threads + Sync>(
         (current cells.now.cells.frames.now) cells.now.cells.parts.now) cells.now.cells.heap.now }
     requires width { length value.old ≡ size cells.now.cells.form.now.shape }
     requires home { books.old.home ≡ new_behind cells.now.cells.heap.now }
-    ensures booked { IsBooked books.old books.new result }
+    ensures booked { IsBooked count books.old books.new result }
     ensures combined { CombinesAll op
         (cells_from (parts_cell cells.now.cells.context cells.now.cells.heap.now
         (current cells.now.cells.frames.now) cells.now.cells.parts.now cells.now.cells.form.now cells.now.cells.frame.now) 0 count) cells.now.cells.heap.now

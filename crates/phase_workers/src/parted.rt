@@ -114,7 +114,8 @@ fn parts_by_workers<G: Gate, R: Threads + Sync>(
     ensures lender { lender_of state.new.heap ≡ lender_of state.old.heap }
 {
     let _code = context.code.get();
-    let begun = begin_phase(context.alloc, &plan.shape, state)?;
+    let positions = plan.frame.count();
+    let begun = begin_phase(context.alloc, &plan.shape, positions, state)?;
     state.heap.own.buffers_are_numbered();
     let Begun { target, mut books } = begun;
     let Target { mut cells, buffer } = target;
@@ -159,7 +160,7 @@ fn part_cells<G: Gate, R: Threads + Sync>(
     requires counted { PartsIn (code_program context.now.code.now) (parts_term parts.now) live.now }
     requires alive { AreAlive heap.now (current frames.now) live.now }
     requires home { books.old.home ≡ new_behind heap.now }
-    ensures booked { IsBooked books.old books.new result }
+    ensures booked { IsBooked (length frame.now) books.old books.new result }
     ensures computed { ComputesAll (cells_from (parts_cell context.now heap.now (current frames.now) parts.now form.now frame.now) 0
         (length frame.now)) heap.now (cost_from (parts_taken context.now heap.now (current frames.now) parts.now frame.now) 0
         (length frame.now)) cells.new (left_in books.new.home result) }
@@ -218,7 +219,7 @@ fn each_cell<G: Gate, R: Threads + Sync>(
         (current covered.now.cells.cells.frames.now) covered.now.cells.cells.parts.now) covered.now.cells.cells.heap.now }
     requires room { length into.old ≡ count * width }
     requires home { books.old.home ≡ new_behind covered.now.cells.cells.heap.now }
-    ensures booked { IsBooked books.old books.new result }
+    ensures booked { IsBooked count books.old books.new result }
     ensures computed { ComputesAll
         (cells_from (λ p. must_be_there
         (parts_cell covered.now.cells.cells.context covered.now.cells.cells.heap.now

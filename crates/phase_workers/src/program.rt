@@ -6,7 +6,7 @@ ghost use Rattle.counted_code.specs.Outcome.{cost_of, outcome_of, whole_run};
 ghost use Rattle.counted_code.specs.View.{code_program};
 ghost use Rattle.phase_workers.specs.Calls.{IsRun};
 ghost use Rattle.run_eval.specs.Jobs.{job_of};
-ghost use Rattle.run_eval.specs.Outcomes.{new_heap, IsCleared, HasCounters, KeepsChanges, TellsCost, TellsTally};
+ghost use Rattle.run_eval.specs.Outcomes.{new_heap, IsCleared, HasCounters, KeepsChanges, TellsCost, TellsTally, draws_under};
 ghost use Rattle.array_ops.specs.Tells.{TellsItems};
 
 use crate::calls::LoopCall;
@@ -43,7 +43,8 @@ pub fn run<G: Gate, R: Threads + Sync>(
     ensures outcome { TellsItems result (outcome_of (whole_run (code_program code.now) args.items plan.caps)) }
     ensures cleared { IsCleared heap.new }
     ensures cost { TellsCost result trace.new (cost_of (whole_run (code_program code.now) args.items plan.caps)) }
-    ensures tally { TellsTally result trace.old.tally trace.new.tally (cost_of (whole_run (code_program code.now) args.items plan.caps)) }
+    ensures tally { TellsTally result trace.old.tally trace.new.tally (cost_of (whole_run (code_program code.now) args.items plan.caps))
+        (draws_under plan (whole_run (code_program code.now) args.items plan.caps)) }
     ensures counters { HasCounters trace.new heap.new }
     ensures kept { KeepsChanges trace.old trace.new }
 {

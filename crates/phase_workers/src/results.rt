@@ -33,18 +33,23 @@ pub struct Begun {
     pub books: Books,
 }
 
-/// Begins a phase, which is counted.
-pub fn begin_phase(alloc: Global, shape: &Shape, state: &mut State<'_>) -> Result<Begun, Memory>
-    ensures begun { (m : MachineHeap) (n : ℕ) → IsAt state.old m
+/// Begins a phase of so many positions, which is counted.
+pub fn begin_phase(
+    alloc: Global,
+    shape: &Shape,
+    positions: usize,
+    state: &mut State<'_>,
+) -> Result<Begun, Memory>
+    ensures begun { (m : MachineHeap) (n : ℕ) → n ≡ positions → IsAt state.old m
         → IfOk result (λ b. IsBegun (target_of b.target) state.new
         (claimed (is_small_shape shape.now) None (size shape.now) (count_phase true n m))) }
     ensures home { IfOk result (λ b. b.books.home ≡ new_behind state.new.heap.own) }
-    ensures tally { IfOk result (λ b. WillHave b.books.count state.new.phases) }
+    ensures tally { (n : ℕ) → n ≡ positions → IfOk result (λ b. WillHave n b.books.count state.new.phases) }
     ensures others { (b : ℕ) (x : Held) → at state.old.heap.own b ≡ Some x → at state.new.heap.own b ≡ Some x }
     ensures frames { state.new.frames ≡ state.old.frames }
     ensures lender { lender_of state.new.heap ≡ lender_of state.old.heap }
 {
-    let handed_out = state.phases.hand_out();
+    let handed_out = state.phases.hand_out(positions);
     let target = claim(alloc, &mut state.heap, shape)?;
     let Some(count) = handed_out else {
         return Err(Memory);

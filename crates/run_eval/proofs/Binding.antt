@@ -1,6 +1,5 @@
 -- Bindings of variables.
 use Rattle.std.proofs.Common.{◌≡◌, ℕ, zero, suc, ◌+◌, ◌<◌, ◌≤◌, List, [], ◌∷◌, length, get_or, drop, refl, sym, ap, ◌∙◌, arith, Err}
-use Rattle.std.specs.Prelude.{◌%◌, ◌^◌}
 use Rattle.std.proofs.lemmas.List.{drop_more, drop_all, drop-drop, length-map}
 use Rattle.core_ir.specs.declared.tree.Var.{Var}
 use Rattle.counted_code.specs.declared.tree.CodeLet.{CodeLet}
@@ -19,6 +18,7 @@ use Rattle.run_eval.specs.declared.state.State.{State}
 use Rattle.sac_base.specs.declared.types.ArrayType.{ArrayType}
 use Rattle.run_eval.specs.Running.{vars_of, does_in, right_in, IsAt, ToldStop, Reaches, ToldSteps}
 use Rattle.run_eval.proofs.Steps.{steps_stop}
+use Rattle.phase_count.proofs.Tallying.{counts_as}
 
 -- ---- several variables
 
@@ -75,14 +75,14 @@ module _ (context : Context) (x : Var) (v : RunValue) (s t : State) (m : Heap) (
   pub keep_goes : Stands t.heap (keep (value_of v) m) → Reaches context (step.Keep x ∷ []) s m [] t
   keep_goes stands = record {
     heap = keep (value_of v) m;
-    stands = record { heap = stands; phases = phases ∙ at.phases ∙ ap (λ ps. length ps % 2 ^ 64) (sym (keep_phases (value_of v) m)) };
+    stands = record { heap = stands; phases = counts_as _ _ _ _ phases (sym (keep_phases (value_of v) m)) at.phases };
     goes_on = λ (rest : CodeTerm). λ i. does_in context rest (current (sym frames i)) (keep (sym is i) m);
   }
 
   pub release_goes : Stands t.heap (release (value_of v) m) → Reaches context (step.Release x ∷ []) s m [] t
   release_goes stands = record {
     heap = release (value_of v) m;
-    stands = record { heap = stands; phases = phases ∙ at.phases ∙ ap (λ ps. length ps % 2 ^ 64) (sym (release_phases (value_of v) m)) };
+    stands = record { heap = stands; phases = counts_as _ _ _ _ phases (sym (release_phases (value_of v) m)) at.phases };
     goes_on = λ (rest : CodeTerm). λ i. does_in context rest (current (sym frames i)) (release (sym is i) m);
   }
 

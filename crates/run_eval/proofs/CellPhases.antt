@@ -1,23 +1,23 @@
 -- Phases that are counted.
-use Rattle.std.proofs.Common.{◌≡◌, ℕ, ◌+◌, ◌%◌, ◌^◌, List, [], ◌∷◌, ◌++◌, length, Bool, true, Result, Ok, Err, OnOk, sym, ap, ◌∙◌, subst}
-use Rattle.std.proofs.Math.Nat.{mod-add-mod}
-use Rattle.std.proofs.lemmas.List.{length-append}
+use Rattle.std.proofs.Common.{◌≡◌, ℕ, [], ◌∷◌, ◌++◌, Bool, true, Result, Ok, Err, OnOk, refl, sym, subst}
 use Rattle.counted_code.specs.Loops.{count_phase}
 use Rattle.counted_code.specs.Values.{Heap}
+use Rattle.phase_count.specs.Tallies.{Counts, one_more}
+use Rattle.phase_count.proofs.Tallying.{counts_as, counts_more}
 use Rattle.run_store.specs.Stands.{Stands}
 use Rattle.sac_base.specs.declared.memory.Memory as memory
 use Rattle.run_eval.specs.declared.state.State.{State}
 use Rattle.run_eval.specs.Running.{IsAt}
 use Rattle.run_store.proofs.Targets.{phases_stand}
 
-count_next : (p n : ℕ) (ps : List ℕ) → p ≡ length ps % 2 ^ 64 → (p + 1) % 2 ^ 64 ≡ length (ps ++ n ∷ []) % 2 ^ 64
-count_next p n ps is = ap (λ q. (q + 1) % 2 ^ 64) is ∙ mod-add-mod (length ps) (2 ^ 64) 1 ∙ ap (λ l. l % 2 ^ 64) (sym (length-append ps (n ∷ [])))
-
-pub count_stands : (s t : State) (b : Bool) (m : Heap) (n : ℕ) → b ≡ true → t.heap ≡ s.heap → t.phases ≡ (s.phases + 1) % 2 ^ 64 → IsAt s m → IsAt t (count_phase b n m)
-count_stands s t b m n is heap phases at =
+pub count_stands : (s t : State) (b : Bool) (m : Heap) (n k : ℕ) → n ≡ k → b ≡ true → t.heap ≡ s.heap → t.phases ≡ one_more k s.phases → IsAt s m → IsAt t (count_phase b n m)
+count_stands s t b m n k long is heap phases at =
     subst (λ b. IsAt t (count_phase b n m)) (sym is)
-    (record { heap = subst (λ h. Stands h (record m { phases = m.phases ++ n ∷ [] })) (sym heap) (phases_stand s.heap m (m.phases ++ n ∷ []) at.heap); phases = phases ∙ count_next s.phases n m.phases at.phases })
+    (record {
+      heap = subst (λ h. Stands h (record m { phases = m.phases ++ n ∷ [] })) (sym heap) (phases_stand s.heap m (m.phases ++ n ∷ []) at.heap);
+      phases = subst (λ (i : ℕ). Counts t.phases (m.phases ++ i ∷ [])) (sym long) (counts_as (one_more k s.phases) t.phases (m.phases ++ k ∷ []) (m.phases ++ k ∷ []) phases refl (counts_more s.phases m.phases k at.phases));
+    })
 
-pub counted_stands : (r : Result (Unit {0}) memory.Memory) (s t : State) (b : Bool) (m : Heap) (n : ℕ) → b ≡ true → t.heap ≡ s.heap → OnOk r (t.phases ≡ (s.phases + 1) % 2 ^ 64) → IsAt s m → OnOk r (IsAt t (count_phase b n m))
-counted_stands (Ok done) s t b m n is heap phases at = count_stands s t b m n is heap phases at
-counted_stands (Err e) s t b m n is heap phases at = tt
+pub counted_stands : (r : Result (Unit {0}) memory.Memory) (s t : State) (b : Bool) (m : Heap) (n k : ℕ) → n ≡ k → b ≡ true → t.heap ≡ s.heap → OnOk r (t.phases ≡ one_more k s.phases) → IsAt s m → OnOk r (IsAt t (count_phase b n m))
+counted_stands (Ok done) s t b m n k long is heap phases at = count_stands s t b m n k long is heap phases at
+counted_stands (Err e) s t b m n k long is heap phases at = tt

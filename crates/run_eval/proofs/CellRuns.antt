@@ -1,5 +1,5 @@
 -- The cells of a loop one after another: whatever the other cells come to, it is what all come to.
-use Rattle.std.proofs.Common.{◌≡◌, ℕ, suc, ◌+◌, ◌<◌, ◌≤◌, ◌%◌, ◌^◌, List, [], ◌∷◌, length, get_or, drop, refl, sym, ap, ◌∙◌, subst, Result, Ok, Err, Option}
+use Rattle.std.proofs.Common.{◌≡◌, ℕ, suc, ◌+◌, ◌<◌, ◌≤◌, List, [], ◌∷◌, length, get_or, drop, refl, sym, ap, ◌∙◌, subst, Result, Ok, Err, Option}
 use Rattle.std.specs.Prelude.{ℤ, option_map}
 use Rattle.std.proofs.lemmas.List.{drop_more, drop_all}
 use Rattle.sac_base.specs.declared.form.Form.{Form}
@@ -15,6 +15,7 @@ use Rattle.run_eval.specs.declared.state.State.{State}
 use Rattle.run_eval.specs.Running.{IsAt, Told, ToldStop}
 use Rattle.run_eval.specs.Loops.{unreleased, IsPresent, cells_run}
 use Rattle.run_eval.proofs.CellTold.{cell_is, rest_phases}
+use Rattle.phase_count.proofs.Tallying.{counts_as}
 
 abbrev pub Cells : Type 0
 Cells = List (Option ArrayValue)
@@ -64,7 +65,7 @@ module _ {X Y : Type 0} (make : Making X Y) (form : Form) (source : List ℤ →
             ∙ ap (λ e. go_on e (λ c. then_go (cells_run form source (drop (k + 1) indices)) (λ cs. give (c ∷ cs)))) (cell_is form (source v) c.heap ∙ ap (λ e. go_on e (λ w h. Done (option_map (read h) w) (release_rest w h))) is) in
             record {
               heap = release_rest w h;
-              stands = record { heap = subst (λ w. Stands s2.heap (release_rest w h)) told.0 p.1; phases = same ∙ told.1.phases ∙ ap (λ ps. length ps % 2 ^ 64) (sym (rest_phases w h)) };
+              stands = record { heap = subst (λ w. Stands s2.heap (release_rest w h)) told.0 p.1; phases = counts_as _ _ _ _ same (sym (rest_phases w h)) told.1.phases };
               carries = λ r t y rest. c.carries r t y (subst (λ e. Told (Makes make x k y) r t e) (sym here) (grown r t y cell (cells_run form source (drop (k + 1) indices) (release_rest w h)) eq rest));
             }
 

@@ -1,5 +1,5 @@
 -- A cell in a scope of its own.
-use Rattle.std.proofs.Common.{◌≡◌, ◌%◌, ◌^◌, ◌∷◌, length, sym, ap, ◌∙◌, subst, Result, Ok, Err}
+use Rattle.std.proofs.Common.{◌≡◌, ◌∷◌, sym, ap, ◌∙◌, subst, Result, Ok, Err}
 use Rattle.std.specs.Prelude.{IfOk, OnOk}
 use Rattle.sac_base.specs.declared.form.Form.{Form}
 use Rattle.sac_base.specs.declared.site.Site.{Site}
@@ -13,6 +13,7 @@ use Rattle.run_eval.specs.declared.state.State.{State}
 use Rattle.run_eval.specs.Running.{EndsScope, IsValue, SameScopes, Told, formed}
 use Rattle.run_eval.proofs.CellTold.{apart_told}
 use Rattle.run_store.proofs.Targets.{phases_stand}
+use Rattle.phase_count.specs.Tallies.{Counts}
 
 pub scopes_after : (f g h : Frames) → SameScopes f g → SameScopes g h → SameScopes f h
 scopes_after f g h s t = (t.0 ∙ s.0, t.1 ∙ s.1)
@@ -29,7 +30,7 @@ cell_scopes answer (Ok v) f f1 g same ends at =
 
 -- its loops are no phases, and it must have its form
 pub cell_tells : (answer result : Result RunValue Stop) (s t : State) (m : Heap) (cell : Doing Value) (form : Form) (site : Site)
-    → t.heap ≡ s.heap → t.phases ≡ length m.phases % 2 ^ 64
+    → t.heap ≡ s.heap → Counts t.phases m.phases
     → ((u : State) (e : Ended Value) → Told IsValue answer u e → Told IsValue result u (go_on e (formed form site)))
     → Told IsValue answer s (cell m) → Told IsValue result t (then_go (apart cell) (formed form site) m)
 cell_tells answer result s t m cell form site heap phases formed' told =

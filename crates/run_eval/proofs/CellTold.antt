@@ -1,5 +1,5 @@
 -- What is told of a cell, and of what follows a loop.
-use Rattle.std.proofs.Common.{◌≡◌, ℕ, zero, suc, ◌%◌, ◌^◌, [], ◌∷◌, length, Bool, true, false, refl, sym, ap, Result, Ok, Err, Option, Some, None}
+use Rattle.std.proofs.Common.{◌≡◌, ℕ, zero, suc, [], ◌∷◌, Bool, true, false, refl, sym, ap, Result, Ok, Err, Option, Some, None}
 use Rattle.std.specs.Prelude.{option_map, if◌then◌else◌}
 use Rattle.sac_base.specs.declared.faults.FaultKind.TheVariants.{F6}
 use Rattle.sac_base.specs.declared.form.Form.{Form}
@@ -13,6 +13,7 @@ use Rattle.run_values.specs.declared.value.RunValue.{RunValue}
 use Rattle.run_eval.specs.declared.state.State.{State}
 use Rattle.run_eval.specs.Running.{IsAt, Told, IsValue, IsOnly, formed}
 use Rattle.run_eval.specs.Loops.{unreleased, IsPresent}
+use Rattle.phase_count.specs.Tallies.{Counts}
 
 -- ---- releases
 
@@ -55,7 +56,7 @@ followed R Q a s (Failed f phases) next r t then' told = absurd told
 
 -- with-loops in a cell are no phases
 pub apart_told : {A B : Type 0} (R : A → B → Type 0) (r : Result A Stop) (s t : State) (h : Heap) (end : Ended B)
-    → ((k : Heap) → Stands s.heap k → Stands t.heap (record k { phases = h.phases })) → t.phases ≡ length h.phases % 2 ^ 64 → Told R r s end → Told R r t (phases_as h.phases end)
+    → ((k : Heap) → Stands s.heap k → Stands t.heap (record k { phases = h.phases })) → Counts t.phases h.phases → Told R r s end → Told R r t (phases_as h.phases end)
 apart_told R (Ok a) s t h (Done b k) stands counted told = (told.0, record { heap = stands k told.1.heap; phases = counted })
 apart_told R (Ok a) s t h (Failed f phases) stands counted told = absurd told
 apart_told R (Err (Faulted f)) s t h (Done b k) stands counted told = absurd told

@@ -1,6 +1,6 @@
 -- One step after another, as the machine makes them.
-use Rattle.std.proofs.Common.{◌≡◌, ℕ, List, [], ◌∷◌, ◌++◌, length, map, refl, sym, ap, ◌∙◌, subst, Result, Ok, Err}
-use Rattle.std.specs.Prelude.{OnOk, ◌%◌, ◌^◌}
+use Rattle.std.proofs.Common.{◌≡◌, ℕ, List, [], ◌∷◌, ◌++◌, map, refl, sym, ap, ◌∙◌, subst, Result, Ok, Err}
+use Rattle.std.specs.Prelude.{OnOk}
 use Rattle.std.proofs.lemmas.List.{map-append}
 use Rattle.sac_base.specs.declared.faults.Fault.{Fault}
 use Rattle.core_ir.specs.declared.tree.Var.{Var}
@@ -19,12 +19,13 @@ use Rattle.run_values.specs.Shown.{value_of}
 use Rattle.run_eval.specs.declared.state.Context.{Context}
 use Rattle.run_eval.specs.declared.state.State.{State}
 use Rattle.run_eval.specs.Running.{does_in, IsAt, Told, ToldStop, IsValue, IsFirst, IsOnly, Reaches, ToldSteps, SameScopes}
+use Rattle.phase_count.proofs.Tallying.{counts_as}
 
 -- ---- states
 
 -- other variables do not matter
 pub moved : (s t : State) (m : Heap) → t.heap ≡ s.heap → t.phases ≡ s.phases → IsAt s m → IsAt t m
-moved s t m heap phases at = record { heap = subst (λ h. Stands h m) (sym heap) at.heap; phases = phases ∙ at.phases }
+moved s t m heap phases at = record { heap = subst (λ h. Stands h m) (sym heap) at.heap; phases = counts_as _ _ _ _ phases refl at.phases }
 
 -- ---- ends
 
@@ -126,7 +127,7 @@ plain_scopes (Err e) f = tt
 
 -- a right side that leaves variables and phases alone
 pub plain_given : (v : RunValue) (s t : State) (m k : Heap) → t.phases ≡ s.phases → IsAt s m → Stands t.heap k → k.phases ≡ m.phases → Told IsOnly (Ok v) t (Done (value_of v ∷ []) k)
-plain_given v s t m k phases at stands same = (refl, record { heap = stands; phases = phases ∙ at.phases ∙ ap (λ ps. length ps % 2 ^ 64) (sym same) })
+plain_given v s t m k phases at stands same = (refl, record { heap = stands; phases = counts_as _ _ _ _ phases (sym same) at.phases })
 
 pub plain_failed : (f : Fault) (s t : State) (m : Heap) → t.phases ≡ s.phases → IsAt s m → ToldStop {B = List Value} (Faulted f) t (Failed f m.phases)
-plain_failed f s t m phases at = (refl, phases ∙ at.phases)
+plain_failed f s t m phases at = (refl, counts_as _ _ _ _ phases refl at.phases)

@@ -1,6 +1,6 @@
 -- Turns of a loop.
 use Rattle.std.proofs.Common.{◌≡◌, ℕ, zero, suc, ◌-◌, ◌<◌, List, Bool, true, false, refl, sym, ap, ◌∙◌, subst, arith, Option, Some, None, Ok, Err}
-use Rattle.std.specs.Prelude.{if◌then◌else◌, ◌%◌, ◌^◌, length}
+use Rattle.std.specs.Prelude.{if◌then◌else◌}
 use Rattle.sac_base.specs.declared.site.Site.{Site}
 use Rattle.sac_base.specs.declared.faults.Fault.{Fault}
 use Rattle.sac_base.specs.declared.faults.FaultKind.TheVariants.{F3, F9}
@@ -16,6 +16,7 @@ use Rattle.run_values.specs.declared.value.RunValue.{RunValue}
 use Rattle.run_values.specs.Shown.{value_of}
 use Rattle.run_eval.proofs.Binding.{release_phases}
 use Rattle.run_eval.proofs.Steps.{given, tell, same_stop, stop_then}
+use Rattle.phase_count.proofs.Tallying.{counts_as, counts_on}
 
 -- ---- what a condition says
 
@@ -72,7 +73,7 @@ truth_told false site v h e = ap (λ o. choose_does site o (give true) (give fal
 
 truth_stops : (stop : Stop) (t : State) (site : Site) (v : Value) (h : Heap) → SaysTruth (Err stop) site (condition (read h v)) → IsAt t h → ToldStop stop t (truth_of site v h)
 truth_stops (Faulted f) t site v h e at =
-    subst (λ o. ToldStop (Faulted f) t (choose_does site o (give true) (give false) (release v h))) (sym e.0) (e.1, at.phases ∙ ap (λ ps. length ps % 2 ^ 64) (sym (release_phases v h)))
+    subst (λ o. ToldStop (Faulted f) t (choose_does site o (give true) (give false) (release v h))) (sym e.0) (e.1, counts_on _ _ _ (sym (release_phases v h)) at.phases)
 truth_stops Memory t site v h e at = tt
 
 pub test_ends : (truth : Bool) (site : Site) (v : RunValue) (s t : State) (end : Ended Value) → Told IsValue (Ok v) s end → ((m : Heap) → SaysTruth (Ok truth) site (condition (read m (value_of v)))) → ((m : Heap) → Stands s.heap m → Stands t.heap (release (value_of v) m)) → t.phases ≡ s.phases → Told (λ b c. b ≡ c) (Ok truth) t (go_on end (truth_of site))
@@ -80,7 +81,7 @@ test_ends truth site v s t (Done w k) told says frees phases =
     subst (λ w. Told (λ b c. b ≡ c) (Ok truth) t (truth_of site w k)) told.0
     (tell (λ b c. b ≡ c) truth t (truth_of site (value_of v) k) truth (release (value_of v) k) (truth_told truth site (value_of v) k (says k)) refl (record {
       heap = frees k told.1.heap;
-      phases = phases ∙ told.1.phases ∙ ap (λ ps. length ps % 2 ^ 64) (sym (release_phases (value_of v) k));
+      phases = counts_as _ _ _ _ phases (sym (release_phases (value_of v) k)) told.1.phases;
     }))
 test_ends truth site v s t (Failed f ps) told says frees phases = absurd told
 

@@ -1,10 +1,11 @@
 -- A whole run, from what its parts tell.
 use Rattle.std.proofs.Common.{◌≡◌, ℕ, ℤ, zero, suc, ◌+◌, ◌<◌, ◌≤◌, ◌%◌, ◌^◌, Bool, true, false, List, [], ◌∷◌, ◌++◌, drop, get_or, length, map, take, Some, None, refl, sym, ap, ◌∙◌, subst, arith}
-use Rattle.std.specs.Prelude.{Result, Ok, Err, Vec, slice_get, if◌then◌else◌}
+use Rattle.std.specs.Prelude.{Option, Result, Ok, Err, Vec, slice_get, if◌then◌else◌}
 use Rattle.std.specs.declared.alloc.Global.{Global}
 use Rattle.std.proofs.lemmas.List.{append_assoc, append-nil, drop_more, get_or-map, get_or_append_left, get_or_push, length-map, length_push, map-append, take_more}
 use Rattle.std.proofs.lemmas.Option.{slice_get-get_or}
 use Rattle.std.proofs.Math.ListN.{drop_of_length-le}
+use Rattle.std.proofs.Math.Nat.{add-mod-mod}
 use Rattle.sac_base.specs.declared.faults.Caps.{Caps}
 use Rattle.sac_base.specs.declared.faults.FaultKind.TheVariants.{F7}
 use Rattle.sac_base.specs.declared.types.ArrayType.{ArrayType}
@@ -15,7 +16,7 @@ use Rattle.core_ir.specs.Outcome.{start_of_source}
 use Rattle.count_table.specs.Tallied.{PhaseTotals}
 use Rattle.counted_code.specs.declared.tree.Code.{Code}
 use Rattle.counted_code.specs.declared.tree.CodeFun.{CodeFun}
-use Rattle.counted_code.specs.Outcome.{call_does, deeper_does, inline_does, code_param_types, function_does, main_does, copied_out, whole_run, outcome_of, cost_of}
+use Rattle.counted_code.specs.Outcome.{call_does, deeper_does, inline_does, code_param_types, function_does, main_does, copied_out, whole_run, outcome_of, cost_of, phases_of}
 use Rattle.counted_code.specs.Terms.{CodeFunTerm}
 use Rattle.counted_code.specs.Values.{Buffer, Heap, Value, Small, Ref, Ended, Done, Failed, give, go_on, then_go, fails, read, buffer_at, cells_of, no_buffer, is_small, place_as, place_value, place_all, take_buffer, release, release_count, release_all, empty_heap}
 use Rattle.counted_code.specs.View.{code_program, code_fun_term}
@@ -29,7 +30,9 @@ use Rattle.run_types.specs.Choosing.{types_of}
 use Rattle.run_types.specs.Reading.{arrays_in}
 use Rattle.run_values.specs.declared.value.RunValue.{RunValue}
 use Rattle.run_values.specs.Shown.{value_of}
-use Rattle.phase_count.specs.Tallies.{counted_in}
+use Rattle.index_cutter.specs.Cuts.{chunks_of}
+use Rattle.phase_count.specs.Tallies.{Counts, PhaseNumbers, counted_in, draws_of}
+use Rattle.phase_count.proofs.Tallying.{counts_none, draws_same}
 use Rattle.run_eval.specs.declared.state.Context.{Context}
 use Rattle.run_eval.specs.declared.state.State.{State}
 use Rattle.run_eval.specs.declared.trace.Trace.{Trace}
@@ -176,7 +179,7 @@ released_phases (v ∷ vs) m = released_phases vs (release v m) ∙ release_phas
 
 module _ (context : Context) (args : List ArrayValue) (m : Heap) where
   -- there is none
-  pub no_main : (s : State) → slice_get (code_program context.code.now).functions context.code.now.main ≡ None → s.phases ≡ length m.phases % 2 ^ 64 → Told AreArrays (Err (Faulted (record { kind = F7; site = start_of_source }))) s (main_in context args m)
+  pub no_main : (s : State) → slice_get (code_program context.code.now).functions context.code.now.main ≡ None → Counts s.phases m.phases → Told AreArrays (Err (Faulted (record { kind = F7; site = start_of_source }))) s (main_in context args m)
   no_main s none phases =
       subst (λ o. Told AreArrays (Err (Faulted (record { kind = F7; site = start_of_source }))) s (main_does context.turns (calls_in context) o args m)) (sym none) (refl, phases)
 
@@ -185,7 +188,7 @@ module _ (context : Context) (args : List ArrayValue) (m : Heap) where
     goes_on b = (if b then then_go (place_all args) (λ vs. then_go (function_does context.turns (calls_in context) f vs) copied_out) else fails F7 f.site) m
 
     -- it does not take the arguments
-    pub misfit : (s : State) → all_have (code_param_types f) args ≡ false → s.phases ≡ length m.phases % 2 ^ 64 → Told AreArrays (Err (Faulted (record { kind = F7; site = f.site }))) s (main_in context args m)
+    pub misfit : (s : State) → all_have (code_param_types f) args ≡ false → Counts s.phases m.phases → Told AreArrays (Err (Faulted (record { kind = F7; site = f.site }))) s (main_in context args m)
     misfit s fits phases =
         subst (λ e. Told AreArrays (Err (Faulted (record { kind = F7; site = f.site }))) s e)
         (sym (ap (λ o. main_does context.turns (calls_in context) o args m) here ∙ ap goes_on fits))
@@ -233,8 +236,8 @@ fits_as main params vs us args k b c p u reads told is =
 
 -- ---- the whole
 
-pub starts : (s : State) → s.heap.own ≡ new_heap → s.heap.lent ≡ None → s.phases ≡ 0 → IsAt s empty_heap
-starts s fresh alone none = record { heap = subst (λ (h : Store). Stands h empty_heap) (λ i. record { own = sym fresh i; lent = sym alone i }) new_stands; phases = none }
+pub starts : (s : State) → s.heap.own ≡ new_heap → s.heap.lent ≡ None → (s.phases.number ≡ 0) × (s.phases.draws ≡ 0) → IsAt s empty_heap
+starts s fresh alone none = record { heap = subst (λ (h : Store). Stands h empty_heap) (λ i. record { own = sym fresh i; lent = sym alone i }) new_stands; phases = counts_none s.phases none.0 none.1 }
 
 abbrev main_of : Code → List ArrayValue → Caps → ℕ → Ended (List ArrayValue)
 main_of code args caps nest =
@@ -254,35 +257,44 @@ outcome_told (Err (Faulted f)) s (Done ws k) told = elim told [ ]
 outcome_told (Err (Faulted f)) s (Failed g p) told = ap Err (sym told.0)
 outcome_told (Err Memory) s w told = tt
 
-pub cost_told : (r : Result (Vec ArrayValue Global) Stop) (s : State) (t : Trace) (w : Ended (List ArrayValue)) → Told AreArrays r s w → lender_of s.heap ≡ None → (cost_of w).given ≡ (cost_of w).taken → t.taken ≡ s.heap.own.taken → t.given ≡ t.taken → t.reused ≡ s.heap.own.reused → t.phases ≡ s.phases → TellsCost r t (cost_of w)
+pub cost_told : (r : Result (Vec ArrayValue Global) Stop) (s : State) (t : Trace) (w : Ended (List ArrayValue)) → Told AreArrays r s w → lender_of s.heap ≡ None → (cost_of w).given ≡ (cost_of w).taken → t.taken ≡ s.heap.own.taken → t.given ≡ t.taken → t.reused ≡ s.heap.own.reused → t.phases ≡ s.phases.number → TellsCost r t (cost_of w)
 cost_told (Ok v) s t (Done ws k) told alone even taken given reused phases =
     let same = taken ∙ taken_stands s.heap k alone told.1.heap in
-    (same, given ∙ same ∙ sym even, reused ∙ reused_stands s.heap k alone told.1.heap, phases ∙ told.1.phases)
+    (same, given ∙ same ∙ sym even, reused ∙ reused_stands s.heap k alone told.1.heap, phases ∙ ap (λ (p : PhaseNumbers). p.number) told.1.phases)
 cost_told (Ok v) s t (Failed f p) told alone even taken given reused phases = elim told [ ]
 cost_told (Err (Faulted f)) s t (Done ws k) told alone even taken given reused phases = elim told [ ]
-cost_told (Err (Faulted f)) s t (Failed g p) told alone even taken given reused phases = phases ∙ told.1
+cost_told (Err (Faulted f)) s t (Failed g p) told alone even taken given reused phases = phases ∙ ap (λ (p : PhaseNumbers). p.number) told.1
 cost_told (Err Memory) s t w told alone even taken given reused phases = tt
 
--- so many phases are added to a tally
-abbrev Tallied : PhaseTotals → ℕ → PhaseTotals → Type 0
-Tallied old n new = new ≡ counted_in old.phases old.draws n
+-- what is counted of phases is added to a tally
+abbrev Tallied : PhaseTotals → PhaseNumbers → PhaseTotals → Type 0
+Tallied old p new = new ≡ counted_in old.phases old.draws p
 
-tally_rises : (old new : PhaseTotals) (n p : ℕ) → Tallied old n new → n ≡ p → (new.phases ≡ (old.phases + p) % 2 ^ 64) × (new.draws ≡ old.draws)
-tally_rises old new n p is same = (
-  ap (λ (t : PhaseTotals). t.phases) is ∙ ap (λ k. (old.phases + k) % 2 ^ 64) same,
-  ap (λ (t : PhaseTotals). t.draws) is,
-)
+module _ (workers : ℕ) (chunk : Option ℕ) (old new : PhaseTotals) where
+  tally_rises : (p : PhaseNumbers) (ns : List ℕ) → ((n : ℕ) → chunks_of p.workers p.chunk n ≡ chunks_of workers chunk n) → Tallied old p new → Counts p ns
+      → (new.phases ≡ (old.phases + length ns % 2 ^ 64) % 2 ^ 64) × (new.draws ≡ (old.draws + draws_of workers chunk ns) % 2 ^ 64)
+  tally_rises p ns alike is counts = (
+    ap (λ (t : PhaseTotals). t.phases) is ∙ ap (λ (q : PhaseNumbers). (old.phases + q.number) % 2 ^ 64) counts,
+    ap (λ (t : PhaseTotals). t.draws) is ∙ ap (λ (q : PhaseNumbers). (old.draws + q.draws) % 2 ^ 64) counts
+        ∙ add-mod-mod old.draws (draws_of p.workers p.chunk ns) (2 ^ 64) ∙ ap (λ k. (old.draws + k) % 2 ^ 64) (draws_same p.workers workers p.chunk chunk alike ns),
+  )
 
-pub tally_told : (r : Result (Vec ArrayValue Global) Stop) (s : State) (old new : PhaseTotals) (w : Ended (List ArrayValue)) → Told AreArrays r s w → Tallied old s.phases new → TellsTally r old new (cost_of w)
-tally_told (Ok v) s old new (Done ws k) told is = tally_rises old new s.phases (length k.phases % 2 ^ 64) is told.1.phases
-tally_told (Ok v) s old new (Failed f p) told is = elim told [ ]
-tally_told (Err (Faulted f)) s old new (Done ws k) told is = elim told [ ]
-tally_told (Err (Faulted f)) s old new (Failed g p) told is = tally_rises old new s.phases (length p % 2 ^ 64) is told.1
-tally_told (Err Memory) s old new w told is = tt
+  pub tally_told : (r : Result (Vec ArrayValue Global) Stop) (s : State) (w : Ended (List ArrayValue)) → ((n : ℕ) → chunks_of s.phases.workers s.phases.chunk n ≡ chunks_of workers chunk n)
+      → Told AreArrays r s w → Tallied old s.phases new → TellsTally r old new (cost_of w) (draws_of workers chunk (phases_of w))
+  tally_told (Ok v) s (Done ws k) alike told is = tally_rises s.phases k.phases alike is told.1.phases
+  tally_told (Ok v) s (Failed f p) alike told is = elim told [ ]
+  tally_told (Err (Faulted f)) s (Done ws k) alike told is = elim told [ ]
+  tally_told (Err (Faulted f)) s (Failed g p) alike told is = tally_rises s.phases p alike is told.1
+  tally_told (Err Memory) s w alike told is = tt
 
 -- what the tally had is what is kept of it
-pub tallied_in : (phases draws n : ℕ) (old new : PhaseTotals) → phases ≡ old.phases → draws ≡ old.draws → new ≡ counted_in phases draws n → Tallied old n new
-tallied_in phases draws n old new same even is = is ∙ (λ i. counted_in (same i) (even i) n)
+pub tallied_in : (phases draws : ℕ) (p : PhaseNumbers) (old new : PhaseTotals) → phases ≡ old.phases → draws ≡ old.draws → new ≡ counted_in phases draws p → Tallied old p new
+tallied_in phases draws p old new same even is = is ∙ (λ i. counted_in (same i) (even i) p)
+
+-- phases that are cut as a plan says
+pub cut_alike : (p : PhaseNumbers) (w : ℕ) (c : Option ℕ) (workers : ℕ) (chunk : Option ℕ) → p.workers ≡ w → p.chunk ≡ c → ((n : ℕ) → chunks_of w c n ≡ chunks_of workers chunk n)
+    → (n : ℕ) → chunks_of p.workers p.chunk n ≡ chunks_of workers chunk n
+cut_alike p w c workers chunk same even alike n = (λ i. chunks_of (same i) (even i) n) ∙ alike n
 
 -- ---- the answer, once the tally has come back
 

@@ -5,9 +5,10 @@ use Rattle.sac_base.specs.Arrays.{ArrayValue}
 use Rattle.buffer_heap.specs.Heaps.{HeapValue, at}
 use Rattle.count_table.specs.Tallied.{PhaseTotals}
 use Rattle.counted_code.specs.declared.tree.Cost.{Cost}
-use Rattle.counted_code.specs.Outcome.{main_does}
+use Rattle.counted_code.specs.Outcome.{main_does, phases_of}
 use Rattle.counted_code.specs.Values.{Value, Ended, Done, Failed, Doing}
 use Rattle.counted_code.specs.View.{code_program}
+use Rattle.phase_count.specs.Tallies.{draws_of}
 use Rattle.run_store.specs.Stands.{Stands}
 use Rattle.run_store.specs.declared.store.Store.{Store}
 use Rattle.run_values.specs.declared.value.RunValue.{RunValue}
@@ -15,6 +16,7 @@ use Rattle.run_values.specs.Shown.{value_of}
 use Rattle.sac_base.specs.declared.stop.Stop.{Stop}
 use Rattle.sac_base.specs.declared.stop.Stop.TheVariants.{Faulted, Memory}
 use Rattle.run_eval.specs.Running.{calls_in}
+use Rattle.run_eval.specs.declared.program.Plan.{Plan}
 use Rattle.run_eval.specs.declared.state.Context.{Context}
 use Rattle.run_eval.specs.declared.trace.Trace.{Trace}
 
@@ -40,11 +42,15 @@ TellsCost (Ok _) t cost = (t.taken ≡ cost.taken) × (t.given ≡ cost.given) �
 TellsCost (Err (Faulted f)) t cost = t.phases ≡ cost.phases
 TellsCost (Err Memory) t cost = ⊤
 
--- with results and with a fault so many phases more were counted, modulo 2^64, and no draw; want of memory says nothing
-abbrev pub TellsTally : {A : Type 0} → Result A Stop → PhaseTotals → PhaseTotals → Cost → Type 0
-TellsTally (Ok _) old new cost = (new.phases ≡ (old.phases + cost.phases) % 2 ^ 64) × (new.draws ≡ old.draws)
-TellsTally (Err (Faulted f)) old new cost = (new.phases ≡ (old.phases + cost.phases) % 2 ^ 64) × (new.draws ≡ old.draws)
-TellsTally (Err Memory) old new cost = ⊤
+-- with results and with a fault so many phases more were counted, and so many draws, both modulo 2^64; want of memory says nothing
+abbrev pub TellsTally : {A : Type 0} → Result A Stop → PhaseTotals → PhaseTotals → Cost → ℕ → Type 0
+TellsTally (Ok _) old new cost draws = (new.phases ≡ (old.phases + cost.phases) % 2 ^ 64) × (new.draws ≡ (old.draws + draws) % 2 ^ 64)
+TellsTally (Err (Faulted f)) old new cost draws = (new.phases ≡ (old.phases + cost.phases) % 2 ^ 64) × (new.draws ≡ (old.draws + draws) % 2 ^ 64)
+TellsTally (Err Memory) old new cost draws = ⊤
+
+-- the draws of a run under a plan: the chunks of all its phases
+abbrev pub draws_under : Plan → Ended (List ArrayValue) → ℕ
+draws_under plan end = draws_of plan.workers plan.chunk (phases_of end)
 
 -- the same answer, and this holds, or there is no memory
 abbrev pub OrMemory : {A : Type 0} → Result A Stop → Result A Stop → Type 0 → Type 0

@@ -1,5 +1,5 @@
 -- What the evaluator's functions tell of the machine.
-use Rattle.std.specs.Prelude.{◌≡◌, ℕ, ◌+◌, ◌%◌, ◌^◌, ◌++◌, Bool, true, false, List, [], ◌∷◌, ℤ, length, map, fold, Option, Some, None, Result, Ok}
+use Rattle.std.specs.Prelude.{◌≡◌, ℕ, ◌+◌, ◌++◌, Bool, true, false, List, [], ◌∷◌, ℤ, length, map, fold, Option, Some, None, Result, Ok}
 use Rattle.std.specs.Prelude.{Err, if◌then◌else◌, ⊤}
 use Rattle.sac_base.specs.declared.base.Base.TheVariants.{Int}
 use Rattle.sac_base.specs.declared.faults.FaultKind.TheVariants.{F3, F6, F10}
@@ -26,6 +26,7 @@ use Rattle.counted_code.specs.View.{code_program, code_term, steps_before}
 use Rattle.array_with_loops.specs.Cells.{array_from}
 use Rattle.sac_base.specs.declared.stop.Stop.{Stop}
 use Rattle.sac_base.specs.declared.stop.Stop.TheVariants.{Faulted, Memory}
+use Rattle.phase_count.specs.Tallies.{Counts}
 use Rattle.run_store.specs.Stands.{Stands}
 use Rattle.run_values.specs.declared.frames.Frames.{Frames}
 use Rattle.run_values.specs.declared.value.RunValue.{RunValue}
@@ -76,11 +77,11 @@ part_in context head body form index e =
 -- the state stands for a heap of the machine
 pub record IsAt (s : State) (m : Heap) : Type 0 where
   pub heap : Stands s.heap m
-  pub phases : s.phases ≡ length m.phases % 2 ^ 64
+  pub phases : Counts s.phases m.phases
 
 -- the machine has the same fault, and as many phases; want of memory says nothing
 abbrev pub ToldStop : {B : Type 0} → Stop → State → Ended B → Type 0
-ToldStop (Faulted f) s (Failed g phases) = (f ≡ g) × (s.phases ≡ length phases % 2 ^ 64)
+ToldStop (Faulted f) s (Failed g phases) = (f ≡ g) × Counts s.phases phases
 ToldStop Memory s m = ⊤
 ToldStop _ _ _ = ⊥
 
@@ -138,7 +139,7 @@ pub record Reaches (context : Context) (steps : List CodeStep) (s : State) (m : 
 -- the machine fails in these steps, whatever comes
 pub record FailsIn (context : Context) (steps : List CodeStep) (s : State) (m : Heap) (f : Fault) (t : State) : Type 0 where
   pub phases : List ℕ
-  pub counted : t.phases ≡ length phases % 2 ^ 64
+  pub counted : Counts t.phases phases
   pub always : (rest : CodeTerm) → does_in context (steps_before steps rest) (current s.frames) m ≡ Failed f phases
 
 -- these steps are made, or the machine fails in them

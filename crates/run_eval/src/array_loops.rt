@@ -185,7 +185,8 @@ fn run_array<P: Phases>(
     ensures scopes { OnOk result (SameScopes state.old.frames state.new.frames) }
     ensures lender { lender_of state.new.heap ≡ lender_of state.old.heap }
 {
-    let mut target = begin(&work.plan.shape, context, state)?;
+    let positions = work.plan.frame.count();
+    let mut target = begin(&work.plan.shape, positions, context, state)?;
     fill(work, background, context, outside, state, &mut target.cells)?;
     finish(target, base, &work.plan.shape, state)
 }
@@ -239,7 +240,8 @@ fn run_fold<P: Phases>(
     ensures scopes { OnOk result (SameScopes state.old.frames state.new.frames) }
     ensures lender { lender_of state.new.heap ≡ lender_of state.old.heap }
 {
-    let target = begin_fold(&work.plan.shape, context, state)?;
+    let positions = work.plan.frame.count();
+    let target = begin_fold(&work.plan.shape, positions, context, state)?;
     let first = start(neutral)?;
     let sum = fold_cells(work, op, first, context, outside, state)?;
     finish_fold(sum, target, state)

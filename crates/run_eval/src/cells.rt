@@ -37,28 +37,38 @@ pub fn count_elements(shape: &Shape) -> Result<usize, Memory>
     }
 }
 
-/// Counts a phase, if it is one.
-pub fn count(alloc: Global, state: &mut State<'_>, counts: bool) -> Result<(), Memory>
-    ensures stands { (m : MachineHeap) (n : ℕ) → IsAt state.old m → OnOk result (IsAt state.new (count_phase counts n m)) }
+/// Counts a phase of so many positions, if it is one.
+pub fn count(
+    alloc: Global,
+    positions: usize,
+    state: &mut State<'_>,
+    counts: bool,
+) -> Result<(), Memory>
+    ensures stands { (m : MachineHeap) (n : ℕ) → n ≡ positions → IsAt state.old m → OnOk result (IsAt state.new (count_phase counts n m)) }
     ensures frames { state.new.frames ≡ state.old.frames }
     ensures lender { lender_of state.new.heap ≡ lender_of state.old.heap }
 {
     if !counts {
         return Ok(());
     }
-    state.phases.count(alloc)
+    state.phases.count(alloc, positions)
 }
 
-/// A result of this shape that has no cell yet. It is a phase, if it is not small.
-pub fn begin(shape: &Shape, context: &Context<'_>, state: &mut State<'_>) -> Result<Target, Memory>
+/// A result of this shape that has no cell yet. It is a phase of so many positions, if it is not small.
+pub fn begin(
+    shape: &Shape,
+    positions: usize,
+    context: &Context<'_>,
+    state: &mut State<'_>,
+) -> Result<Target, Memory>
     ensures cells { IfOk result (λ t. t.cells.items ≡ []) }
-    ensures begun { (m : MachineHeap) (n : ℕ) → IsAt state.old m
+    ensures begun { (m : MachineHeap) (n : ℕ) → n ≡ positions → IsAt state.old m
         → IfOk result (λ t. IsBegun (target_of t) state.new
         (claimed (is_small_shape shape.now) None (size shape.now) (count_phase (not (is_small_shape shape.now)) n m))) }
     ensures frames { OnOk result (state.new.frames ≡ state.old.frames) }
     ensures lender { lender_of state.new.heap ≡ lender_of state.old.heap }
 {
-    count(context.alloc, state, !is_small(shape))?;
+    count(context.alloc, positions, state, !is_small(shape))?;
     let mut target = claim(context.alloc, &mut state.heap, shape)?;
     target.cells.clear();
     Ok(target)

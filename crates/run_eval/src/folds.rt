@@ -36,18 +36,19 @@ pub fn start(neutral: &Array) -> Result<Sum, Memory>
     }
 }
 
-/// A place for the result of a fold, if it is not small. It is a phase.
+/// A place for the result of a fold, if it is not small. It is a phase of so many positions.
 pub fn begin_fold(
     shape: &Shape,
+    positions: usize,
     context: &Context<'_>,
     state: &mut State<'_>,
 ) -> Result<Option<Target>, Memory>
-    ensures begun { (m : MachineHeap) (n : ℕ) → IsAt state.old m
+    ensures begun { (m : MachineHeap) (n : ℕ) → n ≡ positions → IsAt state.old m
         → IfOk result (λ t. IsBegun (fold_target t) state.new (claimed (is_small_shape shape.now) None (size shape.now) (count_phase true n m))) }
     ensures frames { OnOk result (state.new.frames ≡ state.old.frames) }
     ensures lender { lender_of state.new.heap ≡ lender_of state.old.heap }
 {
-    count(context.alloc, state, true)?;
+    count(context.alloc, positions, state, true)?;
     if is_small(shape) {
         return Ok(None);
     }

@@ -1,11 +1,11 @@
 //! A whole program.
 
-ghost use Rattle.std.specs.Prelude.{◌≡◌, IfOk, OnOk, map};
+ghost use Rattle.std.specs.Prelude.{◌≡◌, ◌≤◌, IfOk, OnOk, map};
 ghost use Rattle.counted_code.specs.Counts.{IsWellCounted, IsUnmarked};
 ghost use Rattle.counted_code.specs.Outcome.{copied_out, cost_of, outcome_of, whole_run};
 ghost use Rattle.counted_code.specs.Values.{Heap as MachineHeap, place_all as all_placed, read, release_all as all_released};
 ghost use Rattle.counted_code.specs.View.{code_program};
-ghost use Rattle.run_eval.specs.Outcomes.{new_heap, main_in, AreArrays, ArePlaced, IsCleared, HasCounters, KeepsChanges, OrMemory, TellsCost, TellsTally};
+ghost use Rattle.run_eval.specs.Outcomes.{new_heap, main_in, AreArrays, ArePlaced, IsCleared, HasCounters, KeepsChanges, OrMemory, TellsCost, TellsTally, draws_under};
 ghost use Rattle.run_eval.specs.Running.{IsAt, Told};
 ghost use Rattle.phase_count.specs.Tallies.{counted_in};
 ghost use Rattle.run_store.specs.Stands.{Stands, lender_of};
@@ -19,6 +19,7 @@ use crate::trace::Trace;
 use buffer_heap::Heap;
 use count_table::Tally;
 use counted_code::Code;
+use index_cutter::Cutting;
 use phase_count::{PhaseCount, Totals, numbers_of};
 use run_store::{Store, place_own, read_array, release};
 use run_types::all_fit;
@@ -47,13 +48,15 @@ pub fn run(
     plan: Plan,
     trace: &mut Trace,
 ) -> Result<Vec<Array>, Stop>
+    requires workers { (1 ≤ plan.workers) × (plan.workers ≤ 64) }
     requires counted { IsWellCounted (code_program code.now) }
     requires unmarked { IsUnmarked (code_program code.now) }
     requires new { heap.old ≡ new_heap }
     ensures outcome { TellsItems result (outcome_of (whole_run (code_program code.now) args.items plan.caps)) }
     ensures cleared { IsCleared heap.new }
     ensures cost { TellsCost result trace.new (cost_of (whole_run (code_program code.now) args.items plan.caps)) }
-    ensures tally { TellsTally result trace.old.tally trace.new.tally (cost_of (whole_run (code_program code.now) args.items plan.caps)) }
+    ensures tally { TellsTally result trace.old.tally trace.new.tally (cost_of (whole_run (code_program code.now) args.items plan.caps))
+        (draws_under plan (whole_run (code_program code.now) args.items plan.caps)) }
     ensures counters { HasCounters trace.new heap.new }
     ensures kept { KeepsChanges trace.old trace.new }
 {
@@ -73,13 +76,15 @@ pub fn run_with_phases<P: Phases + Drop>(
     trace: &mut Trace,
 ) -> Result<Vec<Array>, Stop>
     requires runs { P.runs phases }
+    requires workers { (1 ≤ plan.workers) × (plan.workers ≤ 64) }
     requires counted { IsWellCounted (code_program code.now) }
     requires unmarked { IsUnmarked (code_program code.now) }
     requires new { heap.old ≡ new_heap }
     ensures outcome { TellsItems result (outcome_of (whole_run (code_program code.now) args.items plan.caps)) }
     ensures cleared { IsCleared heap.new }
     ensures cost { TellsCost result trace.new (cost_of (whole_run (code_program code.now) args.items plan.caps)) }
-    ensures tally { TellsTally result trace.old.tally trace.new.tally (cost_of (whole_run (code_program code.now) args.items plan.caps)) }
+    ensures tally { TellsTally result trace.old.tally trace.new.tally (cost_of (whole_run (code_program code.now) args.items plan.caps))
+        (draws_under plan (whole_run (code_program code.now) args.items plan.caps)) }
     ensures counters { HasCounters trace.new heap.new }
     ensures kept { KeepsChanges trace.old trace.new }
 {
@@ -97,17 +102,20 @@ fn run_code<P: Phases>(
     outside: Option<&Outside<P>>,
     trace: &mut Trace,
 ) -> Result<Vec<Array>, Stop>
+    requires workers { (1 ≤ plan.workers) × (plan.workers ≤ 64) }
     requires counted { IsWellCounted (code_program code.now) }
     requires unmarked { IsUnmarked (code_program code.now) }
     requires new { heap.old ≡ new_heap }
     ensures outcome { TellsItems result (outcome_of (whole_run (code_program code.now) args.items plan.caps)) }
     ensures cleared { IsCleared heap.new }
     ensures cost { TellsCost result trace.new (cost_of (whole_run (code_program code.now) args.items plan.caps)) }
-    ensures tally { TellsTally result trace.old.tally trace.new.tally (cost_of (whole_run (code_program code.now) args.items plan.caps)) }
+    ensures tally { TellsTally result trace.old.tally trace.new.tally (cost_of (whole_run (code_program code.now) args.items plan.caps))
+        (draws_under plan (whole_run (code_program code.now) args.items plan.caps)) }
     ensures counters { HasCounters trace.new heap.new }
     ensures kept { KeepsChanges trace.old trace.new }
 {
-    let (phases, before) = begin_phases(&mut trace.tally);
+    let cutting = Cutting::of(plan.workers, plan.chunk);
+    let (phases, before) = begin_phases(&mut trace.tally, cutting);
     let mut state = State {
         frames: Frames::new(alloc),
         heap: Store::of(mem::replace(heap, Heap::new(alloc))),
@@ -133,16 +141,16 @@ fn run_code<P: Phases>(
     trace.given = heap.given();
     trace.reused = heap.reused();
     trace.phases = phases.number();
-    give_back(answer, phases, before, &mut trace.tally)
+    give_back(answer, phases, before, cutting, &mut trace.tally)
 }
 
 // The phases of a run, which are closed into a tally until it is given back, and what the tally had before.
-fn begin_phases(tally: &mut Tally) -> (PhaseCount, Totals)
-    ensures phases { result.0 ≡ 0 }
+fn begin_phases(tally: &mut Tally, cutting: Cutting) -> (PhaseCount, Totals)
+    ensures phases { (result.0.number ≡ 0) × (result.0.draws ≡ 0) }
     ensures before { (result.1.phases ≡ tally.old.phases) × (result.1.draws ≡ tally.old.draws) }
 {
     let before = numbers_of(tally);
-    let phases = PhaseCount::of(mem::replace(tally, Tally::new()));
+    let phases = PhaseCount::of(mem::replace(tally, Tally::new()), cutting);
     (phases, before)
 }
 
@@ -152,11 +160,13 @@ fn give_back(
     answer: Result<Vec<Array>, Stop>,
     phases: PhaseCount,
     before: Totals,
+    cutting: Cutting,
     tally: &mut Tally,
 ) -> Result<Vec<Array>, Stop>
-    ensures { OrMemory answer result (tally.new ≡ counted_in before.phases before.draws phases) }
+    ensures { OrMemory answer result ((tally.new ≡ counted_in before.phases before.draws phases)
+        × (phases.workers ≡ cutting.workers) × (phases.chunk ≡ cutting.chunk)) }
 {
-    match phases.into_tally(before) {
+    match phases.into_tally(before, cutting) {
         Some(own) => {
             *tally = own;
             answer

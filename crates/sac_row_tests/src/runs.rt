@@ -14,12 +14,13 @@ use std::thread::Threads;
 /// More bytes than any text of these cases has.
 const ROOM: u64 = 1_000_000;
 
-// What a run leaves: its exit status, how many buffers its heap holds, and how many phases its tally counts.
+// What a run leaves: its exit status, how many buffers its heap holds, and how many phases and draws its tally counts.
 #[derive(Clone, Copy)]
 struct Ran {
     status: u8,
     live: u64,
     phases: u64,
+    draws: u64,
 }
 
 // Runs the words over files and a sink.
@@ -46,6 +47,7 @@ fn run_behind<G: Gate, R: Threads + Sync>(
         status: status.code(),
         live: heap.live(),
         phases: trace.tally.phases(),
+        draws: trace.tally.draws(),
     })
 }
 
@@ -131,7 +133,7 @@ pub fn of_meeting<R: Threads + Sync + Print>(rt: &R, alloc: Global, case: &Case)
 }
 
 /// Runs the case where one chunk waits until another one has begun, by the numbers of the two chunks and of the workers, and
-/// prints how often it saw that one begin.
+/// prints how often it saw that one begin, and the phases and draws of the tally.
 pub fn of_holding<R: Threads + Sync + Print>(
     rt: &R,
     alloc: Global,
@@ -149,7 +151,9 @@ pub fn of_holding<R: Threads + Sync + Print>(
     let ran = run_behind(rt, alloc, words, workers, &mut files, &mut sink, &gate)?;
     show(rt, &sink, &ran)?;
     let seen = gate.seen();
-    println!(rt; "seen {seen}").ok()
+    println!(rt; "seen {seen}").ok()?;
+    let (phases, draws) = (ran.phases, ran.draws);
+    println!(rt; "phases {phases}, draws {draws}").ok()
 }
 
 /// Runs the case over files of which this fetch fails, and a sink of 8 bytes a call, of which this call fails.

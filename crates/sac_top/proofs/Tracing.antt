@@ -5,7 +5,6 @@ use Rattle.std.specs.Prelude.{Vec}
 use Rattle.std.specs.declared.alloc.Global.{Global}
 use Rattle.sac_base.specs.Arrays.{ArrayValue, form_of}
 use Rattle.sac_base.specs.Outcomes.{Ends}
-use Rattle.sac_base.specs.declared.faults.Caps.{Caps}
 use Rattle.sac_base.specs.declared.memory.Memory.{Memory as NoMemory}
 use Rattle.sac_base.specs.declared.outcome.Outcome.{Outcome}
 use Rattle.sac_io.specs.Files.{Contents, Holds}
@@ -32,7 +31,7 @@ use Rattle.sac_due.specs.Input.{IsText, arguments}
 use Rattle.sac_due.specs.Source.{IsProgramOf}
 use Rattle.sac_due.specs.Due.{Ending, ended, run_on}
 use Rattle.sac_due.specs.Answer.{Finds}
-use Rattle.sac_top.specs.Traced.{numbers_of, IsRunStatus, HasCost, IsCodeFor, IsRunTraced, IsGivenTraced, IsProgramTraced, IsTraced}
+use Rattle.sac_top.specs.Traced.{draws_asked, numbers_of, IsRunStatus, HasCost, IsCodeFor, IsRunTraced, IsGivenTraced, IsProgramTraced, IsTraced}
 use Rattle.sac_top.specs.Steps.{ending, ends_of, HasEnded}
 use Rattle.sac_top.specs.Sessions.{IsLeft}
 use Rattle.sac_top.specs.declared.line.Answer.{Answer}
@@ -63,31 +62,31 @@ after_results : (ended : Ends (List ArrayValue)) (t : Trace) (cost : Cost) (m : 
 after_results ended t cost m is h = subst (λ o. IfOk o (λ results. HasCost t cost)) is h
 
 -- whatever ended the run but want of memory
-pub run_traced : (p : ProgramTree) (args : List ArrayValue) (caps : Caps) (code : Code) (r : Result (Vec ArrayValue Global) Stop) (before : PhaseTotals) (t : Trace) (h : HeapValue) (folded scalarised : ℕ)
-    → AreArrays args → IsCodeFor p (map form_of args) (code_program code) → TellsItems r (outcome_of (whole_run (code_program code) args caps)) → TellsCost r t (cost_of (whole_run (code_program code) args caps))
-    → TellsTally r before t.tally (cost_of (whole_run (code_program code) args caps)) → HasCounters t h → CameFrom p (map form_of args) folded scalarised (code_program code) → HasEnded r
-    → IsRunTraced p args caps before (record t { code = Some code; folded = folded; scalarised = scalarised }) h
-run_traced p args caps code (Ok v) before t h folded scalarised arrays sound tells cost tally counters turns other = record {
+pub run_traced : (asked : Meant) (p : ProgramTree) (args : List ArrayValue) (code : Code) (r : Result (Vec ArrayValue Global) Stop) (before : PhaseTotals) (t : Trace) (h : HeapValue) (folded scalarised : ℕ)
+    → AreArrays args → IsCodeFor p (map form_of args) (code_program code) → TellsItems r (outcome_of (whole_run (code_program code) args asked.caps)) → TellsCost r t (cost_of (whole_run (code_program code) args asked.caps))
+    → TellsTally r before t.tally (cost_of (whole_run (code_program code) args asked.caps)) (draws_asked asked (code_program code) args) → HasCounters t h → CameFrom p (map form_of args) folded scalarised (code_program code) → HasEnded r
+    → IsRunTraced asked p args before (record t { code = Some code; folded = folded; scalarised = scalarised }) h
+run_traced asked p args code (Ok v) before t h folded scalarised arrays sound tells cost tally counters turns other = record {
   code = code;
   kept = refl;
   sound = sound;
   turns = turns;
-  cost = after_results (outcome p args caps) t (cost_of (whole_run (code_program code) args caps)) (Ok v.items) (sym tells ∙ sound.outcome args caps arrays refl) cost;
+  cost = after_results (outcome p args asked.caps) t (cost_of (whole_run (code_program code) args asked.caps)) (Ok v.items) (sym tells ∙ sound.outcome args asked.caps arrays refl) cost;
   phases = cost.3;
   tally = tally;
   counters = counters;
 }
-run_traced p args caps code (Err (stop.Faulted e)) before t h folded scalarised arrays sound tells cost tally counters turns other = record {
+run_traced asked p args code (Err (stop.Faulted e)) before t h folded scalarised arrays sound tells cost tally counters turns other = record {
   code = code;
   kept = refl;
   sound = sound;
   turns = turns;
-  cost = after_results (outcome p args caps) t (cost_of (whole_run (code_program code) args caps)) (Err e) (sym tells ∙ sound.outcome args caps arrays refl) tt;
+  cost = after_results (outcome p args asked.caps) t (cost_of (whole_run (code_program code) args asked.caps)) (Err e) (sym tells ∙ sound.outcome args asked.caps arrays refl) tt;
   phases = cost;
   tally = tally;
   counters = counters;
 }
-run_traced p args caps code (Err stop.Memory) before t h folded scalarised arrays sound tells cost tally counters turns other = absurd other
+run_traced asked p args code (Err stop.Memory) before t h folded scalarised arrays sound tells cost tally counters turns other = absurd other
 
 -- what holds whatever the answer
 pub whatever : {T E : Type 0} (r : Result T E) (P : Type 0) → P → IfOk r (λ x. P)
@@ -112,7 +111,7 @@ not_run r end X other h =
 -- ---- the arguments, the input and the source
 
 pub given_traced : (r : Result Answer NoMemory) (asked : Meant) (p : ProgramTree) (given : Result (List ArrayValue) Refusal) (args : List ArrayValue) (before : PhaseTotals) (t : Trace) (h : HeapValue) → given ≡ Ok args
-    → IfOk r (λ a. ending a ≡ ended asked (numbers_of t) (outcome p args asked.caps)) → IfOk r (λ a. IsRunTraced p args asked.caps before t h)
+    → IfOk r (λ a. ending a ≡ ended asked (numbers_of t) (outcome p args asked.caps)) → IfOk r (λ a. IsRunTraced asked p args before t h)
     → IfOk r (λ a. IsRunStatus a.status → IsGivenTraced asked p given (ending a) before t h)
 given_traced (Err e) asked p given args before t h are ends run = tt
 given_traced (Ok a) asked p given args before t h are ends run = λ is. record { args = args; are = are; ends = ends; run = run }

@@ -16,7 +16,8 @@ use Rattle.counted_code.specs.Terms.{CodeProgram}
 use Rattle.counted_code.specs.View.{code_program}
 use Rattle.counted_code.specs.Counts.{IsWellCounted, IsUnmarked}
 use Rattle.counted_code.specs.Prompt.{IsPrompt}
-use Rattle.counted_code.specs.Outcome.{whole_run, outcome_of, cost_of}
+use Rattle.counted_code.specs.Outcome.{whole_run, outcome_of, cost_of, phases_of}
+use Rattle.phase_count.specs.Tallies.{draws_of}
 use Rattle.run_eval.specs.declared.trace.Trace.{Trace}
 use Rattle.run_eval.specs.Outcomes.{HasCounters}
 use Rattle.sac_words.specs.Meaning.{Meant, file}
@@ -64,20 +65,24 @@ pub record IsCodeFor (p : ProgramTree) (forms : List Form) (code : CodeProgram) 
 abbrev pub HasCost : Trace → Cost → Type 0
 HasCost t cost = (t.taken ≡ cost.taken) × (t.given ≡ cost.given) × (t.reused ≡ cost.reused) × (t.phases ≡ cost.phases)
 
--- a tally has risen by so many phases, modulo 2 ^ 64, and by no draw
-abbrev pub HasRisen : PhaseTotals → PhaseTotals → ℕ → Type 0
-HasRisen before after phases = (after.phases ≡ (before.phases + phases) % 2 ^ 64) × (after.draws ≡ before.draws)
+-- a tally has risen by so many phases and draws, both modulo 2 ^ 64
+abbrev pub HasRisen : PhaseTotals → PhaseTotals → ℕ → ℕ → Type 0
+HasRisen before after phases draws = (after.phases ≡ (before.phases + phases) % 2 ^ 64) × (after.draws ≡ (before.draws + draws) % 2 ^ 64)
+
+-- the draws that the words ask for: the chunks of all phases of the run, cut for their workers and their size of chunks
+abbrev pub draws_asked : Meant → CodeProgram → List ArrayValue → ℕ
+draws_asked asked code args = draws_of asked.workers asked.chunk (phases_of (whole_run code args asked.caps))
 
 -- The trace has code for the program, and what the run of that code on these arguments costs on the machine: after results all of it, after a fault
--- the phases. By as many phases its tally has risen from what it was before. The heap's counters are the trace's.
-pub record IsRunTraced (p : ProgramTree) (args : List ArrayValue) (caps : Caps) (before : PhaseTotals) (trace : Trace) (heap : HeapValue) : Type 0 where
+-- the phases. By as many phases its tally has risen from what it was before, and by the draws that the words ask for. The heap's counters are the trace's.
+pub record IsRunTraced (asked : Meant) (p : ProgramTree) (args : List ArrayValue) (before : PhaseTotals) (trace : Trace) (heap : HeapValue) : Type 0 where
   pub code : Code
   pub kept : trace.code ≡ Some code
   pub sound : IsCodeFor p (map form_of args) (code_program code)
   pub turns : CameFrom p (map form_of args) trace.folded trace.scalarised (code_program code)
-  pub cost : IfOk (outcome p args caps) (λ results. HasCost trace (cost_of (whole_run (code_program code) args caps)))
-  pub phases : trace.phases ≡ (cost_of (whole_run (code_program code) args caps)).phases
-  pub tally : HasRisen before trace.tally (cost_of (whole_run (code_program code) args caps)).phases
+  pub cost : IfOk (outcome p args asked.caps) (λ results. HasCost trace (cost_of (whole_run (code_program code) args asked.caps)))
+  pub phases : trace.phases ≡ (cost_of (whole_run (code_program code) args asked.caps)).phases
+  pub tally : HasRisen before trace.tally (cost_of (whole_run (code_program code) args asked.caps)).phases (draws_asked asked (code_program code) args)
   pub counters : HasCounters trace heap
 
 -- the input gave arguments, what is written is the outcome on them, with the numbers of the trace, and the trace tells that run
@@ -86,7 +91,7 @@ pub record IsGivenTraced (asked : Meant) (p : ProgramTree) (given : Result (List
   pub args : List ArrayValue
   pub are : given ≡ Ok args
   pub ends : end ≡ ended asked (numbers_of trace) (outcome p args asked.caps)
-  pub run : IsRunTraced p args asked.caps before trace heap
+  pub run : IsRunTraced asked p args before trace heap
 
 -- the same for what stands under the input's name
 pub record IsProgramTraced (asked : Meant) (p : ProgramTree) (files : Option Contents) (end : Ending)

@@ -54,7 +54,7 @@ impl<'a, G: Gate, R: Threads + Sync> Session<'a, G, R> {
         requires new { self.old.heap.now ≡ new_heap }
         requires arrays { AreArrays args.items }
         ensures outcome { IfOk result (λ o. ends_of o ≡ outcome (program_of job.now) args.items (asked_of job.now).caps) }
-        ensures traced { IfOk result (λ o. IsRunTraced (program_of job.now) args.items (asked_of job.now).caps
+        ensures traced { IfOk result (λ o. IsRunTraced (asked_of job.now) (program_of job.now) args.items
             self.old.trace.now.tally self.new.trace.now self.new.heap.now) }
         ensures left { IsLeft self.old self.new }
     {
@@ -87,7 +87,7 @@ impl<'a, G: Gate, R: Threads + Sync> Session<'a, G, R> {
         requires arrays { AreArrays args.items }
         ensures answer { EndsWith result (ended (asked_of job.now) (numbers_of self.new.trace.now)
             (outcome (program_of job.now) args.items (asked_of job.now).caps)) }
-        ensures traced { IfOk result (λ answer. IsRunTraced (program_of job.now) args.items (asked_of job.now).caps
+        ensures traced { IfOk result (λ answer. IsRunTraced (asked_of job.now) (program_of job.now) args.items
             self.old.trace.now.tally self.new.trace.now self.new.heap.now) }
         ensures left { IsLeft self.old self.new }
     {

@@ -30,7 +30,7 @@ pub returns-clause-tally : goal.returns-clause-tally
 returns-clause-tally g c =
     let cuts = c.cut-cuts.result in
     let own = c.cut-cuts.ensures in
-    let n : ℕ = div_ceil c.args.positions (chunk_size c.args.positions c.args.workers c.args.chunk) in
+    let n : ℕ = div_ceil c.args.positions (chunk_size c.args.positions c.args.cutting.workers c.args.cutting.chunk) in
     let before = c.args.books.tally in
     let after = c.lend.new.state.run in
     let many : cuts.count ≡ n = own.count ∙ ap (λ (size : ℕ). div_ceil c.args.positions size) own.size in

@@ -34,7 +34,7 @@ returns-in-Ok-clause-told g c m at =
     let alive : AreAlive h e a.live.now = alive_after s0.heap.own h c.begin_phase.ensures.others e a.live.now (subst (λ f. AreAlive s0.heap.own (current f) a.live.now) (sym frames) c.requires.alive) in
     let none : s.heap.lent ≡ None = none_lent s.heap.lent (c.begin_phase.ensures.lender ∙ ap lender_in c.requires.alone) in
     let home = c.fold_part_cells-end.new.books.home in
-    let begun = c.in_ok-begun.ensures.begun m (length indices) at in
+    let begun = c.in_ok-begun.ensures.begun m (length indices) (sym c.count-positions.ensures) at in
     let s2 : State = c.end_phase.new.state in
     subst (λ f. Told IsValue c.finish_phase.result c.finish_phase.new.state (job_does None (fold_parts_job context (current f) a.parts.now indices form a.plan.now.shape a.op a.neutral) m)) frames
     (parts_finished context h e a.parts.now a.live.now c.get-code.ensures.counted c.get-code.ensures.unmarked c.requires.counted alive c.buffers_are_numbered.ensures.referred form indices a.plan.now.shape a.op a.neutral c.requires.op c.requires.form full m
@@ -60,7 +60,7 @@ returns-in-Err-Faulted-clause-told g c m at =
     let start : c.deref_mut.result.now ≡ a.neutral.cells = search rules in
     let alive : AreAlive h e a.live.now = alive_after s0.heap.own h c.begin_phase.ensures.others e a.live.now (subst (λ f. AreAlive s0.heap.own (current f) a.live.now) (sym frames) c.requires.alive) in
     let none : s.heap.lent ≡ None = none_lent s.heap.lent (c.begin_phase.ensures.lender ∙ ap lender_in c.requires.alone) in
-    let begun = c.in_ok-begun.ensures.begun m (length indices) at in
+    let begun = c.in_ok-begun.ensures.begun m (length indices) (sym c.count-positions.ensures) at in
     let fault = c.in-Err-Faulted.fault in
     let same : c.fold_part_cells-end.result ≡ Err (Faulted fault) = search rules in
     let home = c.fold_part_cells-end.new.books.home in
@@ -72,8 +72,8 @@ returns-in-Err-Faulted-clause-told g c m at =
 
 pub end_phase-requires-clause-tally : goal.end_phase-requires-clause-tally
 end_phase-requires-clause-tally g c =
-    done_has c.in_ok-begun.begun.books c.fold_part_cells-end.new.books c.begin_phase.new.state.phases c.fold_part_cells-end.result c.in_ok-begun.ensures.tally c.fold_part_cells-end.ensures.booked (search rules)
+    done_has (length c.args.plan.now.frame) c.in_ok-begun.begun.books c.fold_part_cells-end.new.books c.begin_phase.new.state.phases c.fold_part_cells-end.result (c.in_ok-begun.ensures.tally (length c.args.plan.now.frame) (sym c.count-positions.ensures)) c.fold_part_cells-end.ensures.booked (search rules)
 
 pub stop_phase-requires : goal.stop_phase-requires
 stop_phase-requires g c =
-    record { tally = stopped_has c.in_ok-begun.begun.books c.fold_part_cells-end.new.books c.begin_phase.new.state.phases c.fold_part_cells-end.result c.in-Err-Faulted.fault c.in_ok-begun.ensures.tally c.fold_part_cells-end.ensures.booked (search rules) }
+    record { tally = stopped_has (length c.args.plan.now.frame) c.in_ok-begun.begun.books c.fold_part_cells-end.new.books c.begin_phase.new.state.phases c.fold_part_cells-end.result c.in-Err-Faulted.fault (c.in_ok-begun.ensures.tally (length c.args.plan.now.frame) (sym c.count-positions.ensures)) c.fold_part_cells-end.ensures.booked (search rules) }

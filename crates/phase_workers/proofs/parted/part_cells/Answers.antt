@@ -1,8 +1,8 @@
-use Rattle.std.proofs.Common.{length, subst}
+use Rattle.std.proofs.Common.{ℕ, length, subst}
 use Rattle.run_values.specs.Scopes.{current}
 use Rattle.phase_loop_cells.specs.Cells.{parts_cell, parts_taken}
 use Rattle.phase_workers.specs.Covered.{AreCovered, must_be_there}
-use Rattle.phase_workers.specs.Homes.{ComputesAll, left_in}
+use Rattle.phase_workers.specs.Homes.{ComputesAll, IsBooked, left_in}
 use Rattle.phase_team.specs.Segments.{cells_from, cost_from}
 use Rattle.phase_workers.proofs.Booking.{booked_if, left_if}
 use Rattle.phase_workers.proofs.Covering.{all_believed, parts_there}
@@ -35,4 +35,5 @@ returns-clause-computed g c =
 pub returns-clause-booked : goal.returns-clause-booked
 returns-clause-booked g c =
     let a = c.args in
-    booked_if (AreCovered a.parts.now a.frame.now) a.books.now c.each_cell-end.new.books c.each_cell-end.result c.believed.result c.believed.ensures c.each_cell-end.ensures.booked
+    booked_if (AreCovered a.parts.now a.frame.now) (length a.frame.now) a.books.now c.each_cell-end.new.books c.each_cell-end.result c.believed.result c.believed.ensures
+    (subst (λ (k : ℕ). IsBooked k a.books.now c.each_cell-end.new.books c.each_cell-end.result) c.count-count.ensures c.each_cell-end.ensures.booked)

@@ -1,15 +1,19 @@
-use Rattle.std.proofs.Common.{true, Ok, refl}
+use Rattle.std.proofs.Common.{ℕ, true, Ok, refl, subst, sym}
 use Rattle.counted_code.specs.Loops.{count_phase}
 use Rattle.counted_code.specs.Values.{is_small}
 use Rattle.run_eval.proofs.CellPhases.{count_stands}
 use Rattle.run_eval.specs.declared.state.State.{State}
 use Rattle.sac_base.specs.Arrays.{size}
+use Rattle.phase_workers.specs.Homes.{WillHave}
 use Rattle.phase_workers.proofs.Ending.{begun_claim}
 use Rattle.phase_workers.proofs.results.begin_phase.Goals as goal
 
 pub returns-clause-begun : goal.returns-clause-begun
-returns-clause-begun c m n at =
+returns-clause-begun c m n long at =
     let s = c.args.state.now in
     let t : State = record { frames = s.frames; heap = s.heap; phases = c.hand_out-handed_out.new.self } in
-    let counted = count_stands s t true m n refl refl c.hand_out-handed_out.ensures.counted at in
+    let counted = count_stands s t true m n c.args.positions long refl refl c.in-Some.ensures.counted at in
     begun_claim (Ok c.in_ok-target.target) t c.claim.new.heap (is_small c.args.shape.now) (size c.args.shape.now) (count_phase true n m) counted.phases (c.in_ok-target.ensures.claimed (count_phase true n m) counted.heap)
+
+pub returns-clause-tally : goal.returns-clause-tally
+returns-clause-tally c n long = subst (λ (k : ℕ). WillHave k c.in-Some.count c.hand_out-handed_out.new.self) (sym long) c.in-Some.ensures.tally

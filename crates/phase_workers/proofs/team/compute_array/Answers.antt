@@ -1,5 +1,5 @@
-use Rattle.std.proofs.Common.{refl}
 use Rattle.phase_team.specs.Segments.{cells_from}
+use Rattle.phase_workers.specs.Homes.{chunks_in}
 use Rattle.phase_workers.proofs.Booking.{emptied_tally}
 use Rattle.phase_workers.proofs.Counters.{computes}
 use Rattle.phase_workers.proofs.team.compute_array.Goals as goal
@@ -8,9 +8,11 @@ pub returns-in-Ok-end-clause-computed : goal.returns-in-Ok-end-clause-computed
 returns-in-Ok-end-clause-computed g c =
     let cells = c.args.cells.now in
     let end = c.in-Ok-end.ensures in
-    computes (g.C.CellRuns.lends cells) c.args.books.now.home c.array_phase-end.new.home (g.C.CellRuns.takes cells) c.args.positions c.emptied.result c.requires.home
-    end.kept c.emptied.ensures.empty c.emptied.ensures.stop (cells_from (g.C.CellRuns.cell cells) 0 c.args.positions) c.array_phase-end.new.buffer end.array
+    computes (g.C.CellRuns.lends cells) c.args.books.now.home c.store_cells-end.new.books.home (g.C.CellRuns.takes cells) c.args.positions c.emptied.result c.requires.home
+    end.kept c.emptied.ensures.empty c.emptied.ensures.stop (cells_from (g.C.CellRuns.cell cells) 0 c.args.positions) c.store_cells-end.new.into end.array
 
 pub returns-in-Ok-end-clause-booked : goal.returns-in-Ok-end-clause-booked
 returns-in-Ok-end-clause-booked g c =
-    record { tally = emptied_tally c.args.books.now.count.tally c.array_phase-end.new.tally c.emptied.result c.emptied.ensures.stop c.in-Ok-end.ensures.tally; begun = refl }
+    let before = c.args.books.now.count in
+    let after = c.store_cells-end.new.books.count in
+    record { tally = emptied_tally (chunks_in before c.args.positions) before.tally after.tally c.emptied.result c.emptied.ensures.stop c.in-Ok-end.ensures.tally; begun = c.store_cells-end.ensures.begun }

@@ -1,5 +1,6 @@
 use Rattle.std.proofs.Common.{refl}
 use Rattle.phase_team.specs.Segments.{cells_from}
+use Rattle.phase_workers.specs.Homes.{chunks_in}
 use Rattle.phase_workers.proofs.Booking.{emptied_tally}
 use Rattle.phase_workers.proofs.Counters.{combines}
 use Rattle.phase_workers.proofs.team.compute_fold.Goals as goal
@@ -13,4 +14,4 @@ returns-in-Ok-end-clause-combined g c =
 
 pub returns-in-Ok-end-clause-booked : goal.returns-in-Ok-end-clause-booked
 returns-in-Ok-end-clause-booked g c =
-    record { tally = emptied_tally c.args.books.now.count.tally c.fold_phase-end.new.tally c.emptied.result c.emptied.ensures.stop c.in-Ok-end.ensures.tally; begun = refl }
+    record { tally = emptied_tally (chunks_in c.args.books.now.count c.args.positions) c.args.books.now.count.tally c.fold_phase-end.new.tally c.emptied.result c.emptied.ensures.stop c.in-Ok-end.ensures.tally; begun = refl }

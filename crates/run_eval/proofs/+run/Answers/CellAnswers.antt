@@ -22,6 +22,7 @@ use Rattle.run_eval.proofs.CellRuns.{carried_start}
 use Rattle.run_eval.proofs.CellScopes.{cell_scopes, cell_tells, scopes_after, scopes_join}
 use Rattle.run_eval.proofs.CellTold.{present_told}
 use Rattle.run_eval.proofs.CellBodies.{bodies_are, body_smaller}
+use Rattle.phase_count.proofs.Tallying.{counts_as}
 
 pub run_cell_loop-run_array-requires : goal.array_loops::run_cell_loop-run_array-requires
 run_cell_loop-run_array-requires g t c κs p =
@@ -313,7 +314,7 @@ run_cell-returns g t c =
     let inside = bound.inside ∙ (λ i. body_env (c.in_ok-enter.ensures.current i) b v) in
     record {
       told = λ m at.
-          cell_tells answer c.formed.result st new m (first_value (does_in ctx (code_term b.block) (body_env (current s.frames) b v))) a.form.now b.site refl (c.enter_cell-outer.ensures.outer ∙ at.phases) c.formed.ensures.told
+          cell_tells answer c.formed.result st new m (first_value (does_in ctx (code_term b.block) (body_env (current s.frames) b v))) a.form.now b.site refl (counts_as _ _ _ _ c.enter_cell-outer.ensures.outer refl at.phases) c.formed.ensures.told
           (subst (λ e. Told IsValue answer st (first_value (does_in ctx (code_term b.block) e) m)) inside (c.run_first-answer.ensures.told m (moved s mid m bound.heap (bound.phases ∙ c.enter_cell-outer.ensures.same) at)));
       scopes = cell_scopes answer c.formed.result s.frames mid.frames st.frames c.formed.ensures.same c.run_first-answer.ensures.scopes (bound.outside ∙ c.in_ok-enter.ensures.outer);
       lender = c.run_first-answer.ensures.lender ∙ c.in_ok-bind_index.ensures.lender;
@@ -335,7 +336,7 @@ run_array-returns-in_err-fill g t c =
     record {
       told = λ m at.
           handed IsValue c.from_residual-in_err-fill.result stop s1 (job_does None (cells_job ctx (current s.frames) m w false result) m) is
-          (loop_stops ctx w s s0 (target_of target) m c.in_ok-target.ensures.frames (target_nothing target) false result (c.in_ok-target.ensures.begun m (length p.frame) at) stop s1 c.in_err-fill.ensures.told);
+          (loop_stops ctx w s s0 (target_of target) m c.in_ok-target.ensures.frames (target_nothing target) false result (c.in_ok-target.ensures.begun m (length p.frame) (sym c.count-positions.ensures) at) stop s1 c.in_err-fill.ensures.told);
       scopes = no_scopes (SameScopes s.frames s1.frames) c.from_residual-in_err-fill.result stop is;
       lender = c.in_err-fill.ensures.lender ∙ c.in_ok-target.ensures.lender;
     }
@@ -356,7 +357,7 @@ run_array-returns g t c =
     let result = array_over a.base p.shape a.background in
     record {
       told = λ m at.
-          loop_tells ctx w s s0 (target_of target) m c.in_ok-target.ensures.frames (target_nothing target) false result (c.in_ok-target.ensures.begun m (length p.frame) at)
+          loop_tells ctx w s s0 (target_of target) m c.in_ok-target.ensures.frames (target_nothing target) false result (c.in_ok-target.ensures.begun m (length p.frame) (sym c.count-positions.ensures) at)
           {A = Unit {0}} (λ _ found. items ≡ target.cells.items ++ cells_over a.background 0 found) tt (record { base = a.base; shape = p.shape; cells = items }) r s1 s2
           (λ found is. λ i. record { base = a.base; shape = p.shape; cells = (is ∙ ap (λ b. b ++ cells_over a.background 0 found) c.in_ok-target.ensures.cells) i })
           c.in_ok-fill.ensures.told c.finish.ensures.told;
@@ -380,7 +381,7 @@ run_fold-returns-in_err-sum g t c =
     record {
       told = λ m at.
           handed IsValue c.from_residual-in_err-sum.result stop s1 (job_does None (cells_job ctx (current s.frames) m w true result) m) is
-          (loop_stops ctx w s s0 (fold_target target) m c.in_ok-target.ensures.frames (fold_nothing target) true result (c.in_ok-target.ensures.begun m (length p.frame) at) stop s1 c.in_err-sum.ensures.told);
+          (loop_stops ctx w s s0 (fold_target target) m c.in_ok-target.ensures.frames (fold_nothing target) true result (c.in_ok-target.ensures.begun m (length p.frame) (sym c.count-positions.ensures) at) stop s1 c.in_err-sum.ensures.told);
       scopes = no_scopes (SameScopes s.frames s1.frames) c.from_residual-in_err-sum.result stop is;
       lender = c.in_err-sum.ensures.lender ∙ c.in_ok-target.ensures.lender;
     }
@@ -401,7 +402,7 @@ run_fold-returns g t c =
     let result = fold (combined a.op) a.neutral.now in
     record {
       told = λ m at.
-          loop_tells ctx w s s0 (fold_target target) m c.in_ok-target.ensures.frames (fold_nothing target) true result (c.in_ok-target.ensures.begun m (length p.frame) at)
+          loop_tells ctx w s s0 (fold_target target) m c.in_ok-target.ensures.frames (fold_nothing target) true result (c.in_ok-target.ensures.begun m (length p.frame) (sym c.count-positions.ensures) at)
           (λ b found. array_of b ≡ fold (combined a.op) (array_of first) found) c.in_ok-sum.sum (array_of c.in_ok-sum.sum) r s1 s2
           (λ found is. is ∙ ap (λ n. fold (combined a.op) n found) c.in_ok-first.ensures) c.in_ok-sum.ensures.told c.finish_fold.ensures.told;
       scopes = on_ok r (λ q. scopes_join s.frames s0.frames s1.frames s2.frames c.in_ok-target.ensures.frames c.in_ok-sum.ensures.scopes q) c.finish_fold.ensures.frames;

@@ -8,9 +8,9 @@ use Rattle.run_store.specs.Stands.{lender_in}
 use Rattle.run_eval.specs.declared.state.State.{State}
 use Rattle.run_eval.specs.declared.trace.Trace.{Trace}
 use Rattle.array_ops.specs.Tells.{TellsItems}
-use Rattle.run_eval.specs.Outcomes.{AreArrays, TellsCost, TellsTally}
+use Rattle.run_eval.specs.Outcomes.{AreArrays, TellsCost, TellsTally, draws_under}
 use Rattle.run_eval.specs.Running.{IsAt, Told}
-use Rattle.run_eval.proofs.WholeRuns.{starts, whole_is, outcome_told, cost_told, ended_told, tallied_in, tally_told}
+use Rattle.run_eval.proofs.WholeRuns.{starts, whole_is, outcome_told, cost_told, cut_alike, ended_told, tallied_in, tally_told}
 use Rattle.run_eval.proofs.program.run_code.Goals as goal
 
 pub returns-clause-outcome : goal.returns-clause-outcome
@@ -54,7 +54,11 @@ returns-clause-tally g c =
     let count : c.len.result ≡ length code.functions.items = omega (arith, c.len.ensures, code.functions.ok.0) in
     let told = subst (λ e. Told AreArrays c.run_main-answer.result c.run_main-answer.new.state e) (whole_is c.of-counted.result code c.args.args.items caps c.len.result c.of-counted.ensures count) (c.run_main-answer.ensures.told empty_heap at) in
     let whole = whole_run (code_program code) c.args.args.items caps in
+    let plan = c.args.plan in
     let old = c.args.trace.now.tally in
     let before = c.begin_phases-phases.ensures.before in
-    ended_told c.run_main-answer.result c.give_back.result _ c.give_back.ensures (λ r. TellsTally r old c.give_back.new.tally (cost_of whole)) tt
-    (λ holds. tally_told c.run_main-answer.result c.run_main-answer.new.state old c.give_back.new.tally whole told (tallied_in _ _ c.run_main-answer.new.state.phases old c.give_back.new.tally before.0 before.1 holds))
+    ended_told c.run_main-answer.result c.give_back.result _ c.give_back.ensures (λ r. TellsTally r old c.give_back.new.tally (cost_of whole) (draws_under plan whole)) tt
+    (λ holds.
+    let alike = cut_alike c.run_main-answer.new.state.phases c.of-cutting.result.workers c.of-cutting.result.chunk plan.workers plan.chunk holds.1 holds.2 c.of-cutting.ensures in
+    tally_told plan.workers plan.chunk old c.give_back.new.tally c.run_main-answer.result c.run_main-answer.new.state whole alike told
+    (tallied_in _ _ c.run_main-answer.new.state.phases old c.give_back.new.tally before.0 before.1 holds.0))

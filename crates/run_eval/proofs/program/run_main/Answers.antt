@@ -1,4 +1,4 @@
-use Rattle.std.proofs.Common.{rules, ◌≡◌, ◌<◌, ◌%◌, ◌^◌, ◌∙◌, length, get_or, map, true, false, sym, ap, subst}
+use Rattle.std.proofs.Common.{rules, ◌≡◌, ◌<◌, ◌∙◌, length, get_or, map, true, false, sym, ap, subst}
 use Rattle.std.specs.Prelude.{Ok, Err}
 use Rattle.counted_code.specs.Outcome.{function_does, copied_out}
 use Rattle.counted_code.specs.View.{code_fun_term}
@@ -8,6 +8,7 @@ use Rattle.run_eval.specs.Outcomes.{main_in, AreArrays}
 use Rattle.run_eval.specs.Running.{calls_in, IsAt, Told, ToldStop, Appends}
 use Rattle.run_eval.proofs.WholeRuns.{placing, function_at, main_same, main_within, fits_as, misfit, fitting, then_copied, then_stops}
 use Rattle.run_eval.proofs.program.run_main.Goals as goal
+use Rattle.phase_count.proofs.Tallying.{counts_on}
 
 pub returns-then-not-all_fit-clause-told : goal.returns-then-not-all_fit-clause-told
 returns-then-not-all_fit-clause-told g c m at =
@@ -42,7 +43,7 @@ returns-in_err-run_function-clause-told g c m at =
     let p = placing c.args.args.items vs c.place_all.new.heap m (c.in_ok-placed.ensures.placed m at.heap) in
     let s : State = record { frames = c.args.state.now.frames; heap = c.place_all.new.heap; phases = c.args.state.now.phases } in
     let fits = fits_as main c.deref-2.result.now vs c.deref-3.result.now c.args.args.items p.after c.all_fit.result true c.deref-2.ensures.value c.deref-3.ensures.value p.reads (c.all_fit.ensures p.after) c.if-not-all_fit.false in
-    let at_after : IsAt s p.after = record { heap = p.stands; phases = at.phases ∙ ap (λ ps. length ps % 2 ^ 64) (sym p.phases) } in
+    let at_after : IsAt s p.after = record { heap = p.stands; phases = counts_on _ _ _ (sym p.phases) at.phases } in
     let t = c.run_function.new.state in
     let stop = c.in_err-run_function.field-0.0 in
     let result : c.from_residual-in_err-run_function.result ≡ Err stop = search rules in
@@ -67,7 +68,7 @@ returns-clause-told g c m at =
     let p = placing c.args.args.items vs c.place_all.new.heap m (c.in_ok-placed.ensures.placed m at.heap) in
     let s : State = record { frames = c.args.state.now.frames; heap = c.place_all.new.heap; phases = c.args.state.now.phases } in
     let fits = fits_as main c.deref-2.result.now vs c.deref-3.result.now c.args.args.items p.after c.all_fit.result true c.deref-2.ensures.value c.deref-3.ensures.value p.reads (c.all_fit.ensures p.after) c.if-not-all_fit.false in
-    let at_after : IsAt s p.after = record { heap = p.stands; phases = at.phases ∙ ap (λ ps. length ps % 2 ^ 64) (sym p.phases) } in
+    let at_after : IsAt s p.after = record { heap = p.stands; phases = counts_on _ _ _ (sym p.phases) at.phases } in
     let t = c.run_function.new.state in
     let old = c.new-values.result.items in
     let values = c.run_function.new.values.items in

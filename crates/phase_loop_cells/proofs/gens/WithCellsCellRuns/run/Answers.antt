@@ -18,7 +18,7 @@ returns-clause-tells c k stands is =
     let heap : s.heap ≡ a.store.now = search rules in
     let frames : s.frames ≡ a.scratch.now.frames = search rules in
     subst (Tells (gens_cell self.context self.heap.now e self.gens.now self.plan.now self.background a.position) c.gens_at-answer.new.into) (sym c.ended.ensures)
-    (gens_tell self.context self.heap.now e self.gens.now self.plan.now self.background a.position s c.gens_at-answer.new.state c.gens_at-answer.new.into c.gens_at-answer.result a.store.now k is heap (ap current frames ∙ c.requires.ready) c.within_cell.ensures stands c.gens_at-answer.ensures.told)
+    (gens_tell self.context self.heap.now e self.gens.now self.plan.now self.background a.position s c.gens_at-answer.new.state c.gens_at-answer.new.into c.gens_at-answer.result a.store.now k is heap (ap current frames ∙ c.requires.ready) (c.within_cell.ensures.number, c.within_cell.ensures.draws) stands c.gens_at-answer.ensures.told)
 
 pub returns-clause-left : goal.returns-clause-left
 returns-clause-left c k stands is computed =
@@ -29,7 +29,7 @@ returns-clause-left c k stands is computed =
     let heap : s.heap ≡ a.store.now = search rules in
     let frames : s.frames ≡ a.scratch.now.frames = search rules in
     subst (IsLeft (OpenGens self.context self.heap.now e self.gens.now) self.heap.now (gens_taken self.context self.heap.now e self.gens.now self.plan.now a.position) k) (sym c.into_parts-frames.ensures.heap)
-    (gens_left self.context self.heap.now e self.gens.now self.plan.now self.background a.position s c.gens_at-answer.new.state c.gens_at-answer.new.into c.gens_at-answer.result a.store.now k is heap (ap current frames ∙ c.requires.ready) c.within_cell.ensures stands c.gens_at-answer.ensures.told (subst IsComputed c.ended.ensures computed))
+    (gens_left self.context self.heap.now e self.gens.now self.plan.now self.background a.position s c.gens_at-answer.new.state c.gens_at-answer.new.into c.gens_at-answer.result a.store.now k is heap (ap current frames ∙ c.requires.ready) (c.within_cell.ensures.number, c.within_cell.ensures.draws) stands c.gens_at-answer.ensures.told (subst IsComputed c.ended.ensures computed))
 
 pub returns-clause-ready : goal.returns-clause-ready
 returns-clause-ready c computed =

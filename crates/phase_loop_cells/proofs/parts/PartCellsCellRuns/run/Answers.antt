@@ -18,7 +18,7 @@ returns-clause-tells c k stands is =
     let heap : s.heap ≡ a.store.now = search rules in
     let frames : s.frames ≡ a.scratch.now.frames = search rules in
     subst (Tells (parts_cell self.context self.heap.now e self.parts.now self.form.now self.frame.now a.position) c.parts_at-answer.new.into) (sym c.ended.ensures)
-    (parts_tell self.context self.heap.now e self.parts.now self.form.now self.frame.now a.position s c.parts_at-answer.new.state c.parts_at-answer.new.into c.parts_at-answer.result a.store.now k is heap (ap current frames ∙ c.requires.ready) c.within_cell.ensures stands c.parts_at-answer.ensures.told)
+    (parts_tell self.context self.heap.now e self.parts.now self.form.now self.frame.now a.position s c.parts_at-answer.new.state c.parts_at-answer.new.into c.parts_at-answer.result a.store.now k is heap (ap current frames ∙ c.requires.ready) (c.within_cell.ensures.number, c.within_cell.ensures.draws) stands c.parts_at-answer.ensures.told)
 
 pub returns-clause-left : goal.returns-clause-left
 returns-clause-left c k stands is computed =
@@ -29,7 +29,7 @@ returns-clause-left c k stands is computed =
     let heap : s.heap ≡ a.store.now = search rules in
     let frames : s.frames ≡ a.scratch.now.frames = search rules in
     subst (IsLeft (OpenParts self.context self.heap.now e self.parts.now) self.heap.now (parts_taken self.context self.heap.now e self.parts.now self.frame.now a.position) k) (sym c.into_parts-frames.ensures.heap)
-    (parts_left self.context self.heap.now e self.parts.now self.form.now self.frame.now a.position s c.parts_at-answer.new.state c.parts_at-answer.new.into c.parts_at-answer.result a.store.now k is heap (ap current frames ∙ c.requires.ready) c.within_cell.ensures stands c.parts_at-answer.ensures.told (subst IsComputed c.ended.ensures computed))
+    (parts_left self.context self.heap.now e self.parts.now self.form.now self.frame.now a.position s c.parts_at-answer.new.state c.parts_at-answer.new.into c.parts_at-answer.result a.store.now k is heap (ap current frames ∙ c.requires.ready) (c.within_cell.ensures.number, c.within_cell.ensures.draws) stands c.parts_at-answer.ensures.told (subst IsComputed c.ended.ensures computed))
 
 pub returns-clause-ready : goal.returns-clause-ready
 returns-clause-ready c computed =

@@ -5,7 +5,7 @@ use Rattle.counted_code.specs.View.{code_program}
 use Rattle.core_source_laws.proofs.Cores.{source_formed}
 use Rattle.sac_build.specs.Loops.{CameFrom}
 use Rattle.sac_build.specs.Mains.{MainTakesForms}
-use Rattle.sac_top.specs.Sessions.{program_of}
+use Rattle.sac_top.specs.Sessions.{asked_of, program_of}
 use Rattle.sac_top.proofs.Tracing.{stays, run_traced, ends_with}
 use Rattle.sac_top.proofs.session.Session.outcome_of.Goals as goal
 
@@ -26,7 +26,7 @@ pub returns-clause-traced : goal.returns-clause-traced
 returns-clause-traced g c =
     let formed = source_formed c.requires.ready.read.0 _ c.requires.ready.read.1 in
     let forms = ap (map form_of) (sym c.deref.ensures.value) ∙ sym c.in_ok-forms.ensures ∙ sym c.deref-2.ensures.value in
-    IfOk-weaker c.outcome_told.result _ _ (λ o ended. run_traced _ _ _ _ c.run-result.result _ _ _ _ _ c.requires.arrays
+    IfOk-weaker c.outcome_told.result _ _ (λ o ended. run_traced (asked_of c.args.job.now) _ _ _ c.run-result.result _ _ _ _ _ c.requires.arrays
     (record {
       counted = c.in_ok-compiled.ensures.counted formed;
       prompt = c.in_ok-compiled.ensures.prompt formed;
