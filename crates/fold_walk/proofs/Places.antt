@@ -1,6 +1,6 @@
 -- The binding at a place behind a producer, by what was learned up to it.
-use Rattle.std.proofs.Common.{◌≡◌, ℕ, zero, suc, ◌+◌, ◌-◌, ◌<◌, ◌≤◌, List, [], ◌∷◌, map, length, take, drop, get_or, reverse, true, Option, Some, None, refl, sym, ap, subst, ◌∙◌, arith}
-use Rattle.std.specs.Prelude.{IfNone, IfSome, is_none, slice_get}
+use Rattle.std.proofs.Common.{◌≡◌, ℕ, zero, suc, ◌+◌, ◌-◌, ◌<◌, ◌≤◌, List, [], ◌∷◌, map, length, take, drop, get_or, reverse, true, false, Option, Some, None, refl, sym, ap, subst, ◌∙◌, arith}
+use Rattle.std.specs.Prelude.{IfNone, IfSome, is_some, slice_get}
 use Rattle.core_ir.specs.declared.tree.Let.{Let}
 use Rattle.core_ir.specs.Terms.{LetTerm}
 use Rattle.core_ir.specs.View.{let_term}
@@ -29,9 +29,9 @@ pub user_there : (behind : List Let) (place : ℕ) (u : Let) → place < length 
 user_there behind place u inside is user e = some_let (let_term u) user (ap (λ (v : Let). Some (let_term v)) is ∙ sym (get_here behind place u inside) ∙ e)
 
 -- what holds where nothing was found
-pub when_none : {A : Type 0} (o : Option A) (P : Type 0) → true ≡ is_none o → IfNone o P → P
+pub when_none : {A : Type 0} (o : Option A) (P : Type 0) → is_some o ≡ false → IfNone o P → P
 when_none None P e h = h
-when_none (Some x) P e h = absurd (cc)
+when_none (Some x) P e h = absurd (let q : true ≡ false = e in cc)
 
 module _ (called : ℕ → List (Option (List ℕ))) (function : ℕ) (k f g : Facts) (l : LetTerm) (behind : List Let) (place : ℕ) (u : Let) (inside : place < length behind) (is : u ≡ get_or behind place u) (first : f ≡ note_all k l.targets (right_facts called l.right k))
     (learned : g ≡ facts_after called (reverse (map let_term (take (length behind - (place + 1)) (drop (place + 1) behind)))) f) (p q : State) (source : Source) where
