@@ -5,8 +5,8 @@ use crate::making::{few, vector};
 use buffer_heap::Heap;
 use count_table::{Phase, Tally};
 use run_store::{
-    Lent, Store, claim, copy_into, fits, keep, lent_counts, overwrite, place_array, place_own,
-    read_array, release, select_value, settle, write,
+    ChunkPart, Lent, Store, claim, copy_into, fits, keep, lent_counts, overwrite, place_array,
+    place_own, read_array, release, select_value, settle, write,
 };
 use run_values::RunValue;
 use sac_base::{Array, Base, Cell, FaultKind, Memory, Shape, Site, Stop};
@@ -98,7 +98,10 @@ fn in_phase(
 ) -> Result<([bool; 5], u64, Vec<u64>), Memory> {
     let mut counts = lent_counts(alloc, heap)?;
     let holds = vec![in alloc; 0; heap.places()]?;
-    let (table, mut frame) = Phase::open(alloc, &counts, 0)?;
+    let no_parts: Vec<ChunkPart> = Vec::new(alloc);
+    let Ok((table, mut frame)) = Phase::open_parts(alloc, &counts, no_parts) else {
+        return Err(Memory);
+    };
     let seat = table.seat(&mut frame);
     let lent = Lent::new(heap, &table, seat, holds);
     let mut store = Store::with(Heap::behind(heap), lent);
