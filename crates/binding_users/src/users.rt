@@ -69,7 +69,8 @@ impl Users {
     ///
     /// `Memory`: there is none for its uses.
     pub fn replace(&mut self, alloc: Global, place: usize, new: &Let) -> Result<(), Memory>
-        ensures { OnOk result ((lets : List Binding) → AreUsers self.old (map let_term lets) → AreUsers self.new (map let_term (slice_set lets place new.now))) }
+        ensures { OnOk result ((lets : List Binding) → AreUsers self.old (map let_term lets)
+            → AreUsers self.new (map let_term (slice_set lets place new.now))) }
     {
         self.note_uses(alloc, place, &new.right)?;
         Ok(())

@@ -96,11 +96,11 @@ abbrev pub release_rest : Option Value → Heap → Heap
 release_rest None heap = heap
 release_rest (Some v) heap = release v heap
 
--- the result as a value
+-- the result as a value; in an old buffer it is what the cells have written
 abbrev pub settled : Target → ArrayValue → Heap → Ended Value
 settled Inside r heap = Done (Small r) heap
 settled (Fresh buffer) r heap = Done (Ref buffer r.base r.shape) (with_cells heap buffer r.cells)
-settled (Old buffer) r heap = Done (Ref buffer r.base r.shape) (with_cells heap buffer r.cells)
+settled (Old buffer) r heap = Done (Ref buffer r.base r.shape) heap
 
 -- a phase is counted, with its positions, where the loop is a fold or has a buffer as result
 abbrev pub count_phase : Bool → ℕ → Heap → Heap

@@ -36,3 +36,8 @@ MarkingLeavesNone =
 abbrev pub MarkingKeepsTheCore : Type 0
 MarkingKeepsTheCore =
     (code : CodeProgram) → core_of_code (marking_code code) ≡ core_of_code code
+
+-- code without marks is well marked
+abbrev pub UnmarkedIsWellMarked : Type 0
+UnmarkedIsWellMarked =
+    (code : CodeProgram) → IsUnmarked code → IsWellMarked code

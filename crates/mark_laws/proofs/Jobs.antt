@@ -1,13 +1,14 @@
 -- A loop over cells with a mark does what its core means.
 use Rattle.std.proofs.Common.{◌≡◌, ℕ, ◌+◌, ◌<◌, Bool, true, false, cond, drop, List, [], ◌∷◌, length, ℤ, pos, Option, Some, None, Ok, Err, refl, ap, ◌∙◌, sym, subst, arith}
 use Rattle.std.specs.Prelude.{◌==◌, ◌||◌, not, replicate}
+use Rattle.std.specs.List.{flat_map}
 use Rattle.std.proofs.lemmas.Bool.{eqb-true, eq-eqb}
 use Rattle.sac_base.specs.declared.base.Base.{Base}
 use Rattle.sac_base.specs.Arrays.{ArrayValue, size}
 use Rattle.sac_base.specs.Outcomes.{Ends, and_then}
 use Rattle.sac_base.specs.Places.{vector_at}
 use Rattle.sac_base.specs.WithLoops.{each}
-use Rattle.core_ir.specs.Meaning.{Answer, one}
+use Rattle.core_ir.specs.Meaning.{Answer, elements_of, one}
 use Rattle.counted_code.specs.Values.{Heap, Value, Small, Ref, Ended, Done, Failed, give, go_on, is_small, count_of, cells_of, release, take_buffer}
 use Rattle.counted_code.specs.Loops.{Job, cells_do, Target, Inside, Fresh, Old, write_cell, settled, claim, claim_new, claim_old, count_phase, claimed_does, job_does}
 use Rattle.counted_code.specs.Machine.{one_value}
@@ -54,16 +55,57 @@ with_rest j t w l h others a r =
 abbrev pub reusing : Bool → ℕ → Heap → Heap
 reusing phase n h = record (count_phase phase n h) { reused = (count_phase phase n h).reused + 1 }
 
+-- ---- for those who run such a loop
+
+-- the array's buffer is not taken over
+abbrev pub IsSpared : Bool → Heap → Value → Type 0
+IsSpared true h w = Unit {0}
+IsSpared false h (Small a) = Unit {0}
+IsSpared false h (Ref buffer base shape) = (count_of h buffer == 1) ≡ false
+
+phase_count : (phase : Bool) (n : ℕ) (h : Heap) (buffer : ℕ) → count_of (count_phase phase n h) buffer ≡ count_of h buffer
+phase_count true n h buffer = refl
+phase_count false n h buffer = refl
+
+-- then the loop does what it does without the mark, whose reference is released after it
+pub job_rest : (j : Job) (w : Value) (h : Heap) → IsSpared (is_small j.shape) h w → job_does (Some w) j h ≡ go_on (job_does None j h) (λ v after. Done v (release w after))
+job_rest j w h spared = go (is_small j.shape) (j.folds || not (is_small j.shape)) w spared
+  where
+    new : (phase : Bool) (w : Value) → claimed_does j (claim_new (size j.shape) (Some w) (count_phase phase (length j.indices) h)) ≡ go_on (claimed_does j (claim_new (size j.shape) None (count_phase phase (length j.indices) h))) (λ v after. Done v (release w after))
+    new phase w =
+        let l = count_phase phase (length j.indices) h in
+        claimed_rest j (Fresh (length l.buffers)) w (take_buffer (replicate (size j.shape) (pos 0)) l)
+
+    go : (small phase : Bool) (w : Value) → IsSpared small h w → claimed_does j (claim small (Some w) (size j.shape) (count_phase phase (length j.indices) h)) ≡ go_on (claimed_does j (claim small None (size j.shape) (count_phase phase (length j.indices) h))) (λ v after. Done v (release w after))
+    go true phase w spared = claimed_rest j Inside w (count_phase phase (length j.indices) h)
+    go false phase (Small a) spared = new phase (Small a)
+    go false phase (Ref buffer base shape) spared =
+        ap (λ sole. claimed_does j (claim_old sole buffer (Ref buffer base shape) (size j.shape) (count_phase phase (length j.indices) h))) (ap (λ n. n == 1) (phase_count phase (length j.indices) h buffer) ∙ spared)
+        ∙ new phase (Ref buffer base shape)
+
+-- where it is, the cells are written into it, and the value is a reference to it
+pub job_over : (j : Job) (buffer : ℕ) (base : Base) (shape : List ℕ) (h : Heap) → is_small j.shape ≡ false → (count_of h buffer == 1) ≡ true
+    → job_does (Some (Ref buffer base shape)) j h ≡ go_on (cells_do j.form j.source (write_cell (Old buffer)) 0 j.indices (reusing true (length j.indices) h)) (λ found after. Done (Ref buffer (j.result found).base (j.result found).shape) after)
+job_over j buffer base shape h small sole =
+    (λ i. claimed_does j (claim (small i) (Some (Ref buffer base shape)) (size j.shape) (count_phase (j.folds || not (small i)) (length j.indices) h)))
+    ∙ ap (λ phase. claimed_does j (claim false (Some (Ref buffer base shape)) (size j.shape) (count_phase phase (length j.indices) h))) (always j.folds)
+    ∙ ap (λ one. claimed_does j (claim_old one buffer (Ref buffer base shape) (size j.shape) (count_phase true (length j.indices) h))) sole
+  where
+    always : (folds : Bool) → (folds || true) ≡ true
+    always true = refl
+    always false = refl
+
 module _ (j : Job) (core_cell : List ℤ → Ends (Option ArrayValue)) (h : Heap) (others : ℕ → ℕ) where
   -- what the loop comes to
   abbrev meaning : Answer
   meaning = one (and_then (each core_cell j.indices) (λ found. Ok (j.result found)))
 
-  -- the cells may be written over the buffer
+  -- the cells may be written over the buffer, which becomes the result
   abbrev pub CanTakeOver : ℕ → Type 0
   CanTakeOver buffer =
-      (vacant : others buffer ≡ 0) → (ns : List ℕ) × ((form : j.form.shape ≡ []) × (From ns 0 j.indices × (
-      (p : ℕ) (v : List ℤ) → p < size ns → v ≡ vector_at ns p → LinkedOver buffer others vacant h ns j.form form p (j.source v) (core_cell v))))
+      (length (cells_of h buffer) ≡ length j.indices) × ((found : List (Option ArrayValue)) → (j.result found).cells ≡ flat_map elements_of found)
+      × ((vacant : others buffer ≡ 0) → (ns : List ℕ) × ((form : j.form.shape ≡ []) × (From ns 0 j.indices × (
+      (p : ℕ) (v : List ℤ) → p < size ns → v ≡ vector_at ns p → LinkedOver buffer others vacant h ns j.form form p (j.source v) (core_cell v)))))
 
   sole : (buffer : ℕ) (base : Base) (shape : List ℕ) → Owns h (Ref buffer base shape ∷ []) others → count_of h buffer ≡ 1 → others buffer ≡ 0
   sole buffer base shape owns is =
@@ -83,9 +125,10 @@ module _ (j : Job) (core_cell : List ℤ → Ends (Option ArrayValue)) (h : Heap
 
       over : (k : Heap) → Owns k [] (holding buffer others vacant) → SameCells others h k → cells_of k buffer ≡ cells_of h buffer → Matches 1 others h (go_on (claimed_does j (record { target = Old buffer; rest = None; heap = k })) (λ v. give (v ∷ []))) meaning
       over k owned same cells =
-          let c = can vacant in
-          over_matches buffer others vacant h k j.result (cells_do j.form j.source (write_cell (Old buffer)) 0 j.indices k) (each core_cell j.indices) same
-          (cells_over buffer others vacant h c.0 j.form c.1.0 j.source core_cell c.1.1.1 j.indices 0 k c.1.1.0 owned same (ap (drop 0) cells))
+          let c = can.2 vacant in
+          let long = ap length cells ∙ can.0 in
+          let run = cells_over buffer others vacant h c.0 j.form c.1.0 j.source core_cell c.1.1.1 j.indices 0 k c.1.1.0 owned same (ap (drop 0) cells) (omega (arith, long)) in
+          over_matches buffer others vacant h k j.result can.1 (cells_do j.form j.source (write_cell (Old buffer)) 0 j.indices k) (each core_cell j.indices) same run.0 run.1
 
       go : (phase : Bool) → Matches 1 others h (go_on (claimed_does j (record { target = Old buffer; rest = None; heap = reusing phase (length j.indices) h })) (λ v. give (v ∷ []))) meaning
       go true = over (reusing true (length j.indices) h) held_now (λ b le. refl) refl

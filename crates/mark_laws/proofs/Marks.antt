@@ -14,7 +14,7 @@ use Rattle.core_ir.specs.declared.tree.PartedOp.{PartedOp}
 use Rattle.core_ir.specs.declared.tree.PartedOp.TheVariants as parted
 use Rattle.core_ir.specs.Terms.{CoreTerm, PartHead}
 use Rattle.core_ir.specs.Meaning.{Env, Answer, CallMeaning, bind, bind_all, extents, first, with_index, run, right_value}
-use Rattle.core_ir.specs.WellFormed.{Bases, BlockBases, RightBases, GensBases, PartsBases, PartedFits, part_grids, ints}
+use Rattle.core_ir.specs.WellFormed.{Bases, BlockBases, RightBases, GensBases, PartsBases, Covered, PartedFits, part_grids, ints}
 use Rattle.core_ir.proofs.Variables.{same_number}
 use Rattle.core_facts.specs.Facts.{Facts, ShapeIs, note_all, DescribeAll, AreSound, right_facts, CallsFit}
 use Rattle.core_facts.specs.Facts
@@ -47,6 +47,11 @@ box_frame : (op : PartedOp) (frame : List Grid1) (cell : List ℕ) (grids : List
 box_frame parted.Genarray frame cell grids makes fits = record { low = fits.3.low; dense = fits.0.dense }
 box_frame (parted.Modarray x) frame cell grids makes fits = record { low = fits.3.low; dense = fits.0.dense }
 box_frame (parted.Fold o x) frame cell grids makes fits = absurd makes
+
+box_covered : (op : PartedOp) (frame : List Grid1) (cell : List ℕ) (grids : List (List Grid1)) → Makes op → PartedFits op frame cell grids → Covered frame grids
+box_covered parted.Genarray frame cell grids makes fits = fits.2
+box_covered (parted.Modarray x) frame cell grids makes fits = fits.2
+box_covered (parted.Fold o x) frame cell grids makes fits = absurd makes
 
 -- each index of a part is one of the frame, and its components are of 32 bits
 abbrev InWords : List Grid1 → Type 0
@@ -243,7 +248,10 @@ module _ (core : CoreTerm) (results_of : ℕ → ℕ) (g : Given) (calls : CallM
           record {
             frame_is_box = box_frame op frame cell (part_grids (core_of_parts parts)) may.makes bases.2;
             scalars = may.scalars;
+            makes = may.makes;
+            covered = box_covered op frame cell (part_grids (core_of_parts parts)) may.makes bases.2;
             shape = ap (λ (a : ArrayValue). a.shape) (seen.same.others v other) ∙ shape;
+            full = subst IsFull (sym (seen.same.others v other)) (seen.sound v).full;
           },
           over_hold parts k over own m e f v (after ++ outer) mine b base counted.3 kept counted.1 well.2 bases.1 w (words_inside op frame cell (part_grids (core_of_parts parts)) may.makes bases.2) seen
               (alike.own_parted calls turns g.shapes fit over own seen.fits frame base cell op parts (Some v) k.facts m only).1 may.own,

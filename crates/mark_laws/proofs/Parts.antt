@@ -1,6 +1,7 @@
 -- Parted loops, marked or not, do what their core means, where marks are right.
-use Rattle.std.proofs.Common.{◌≡◌, ℕ, suc, ◌+◌, ◌<◌, ◌≤◌, Bool, true, false, cond, eqb, List, [], ◌∷◌, ◌++◌, map, length, ℤ, Some, None, Ok, refl, ap, ◌∙◌, sym, subst, arith}
-use Rattle.std.specs.Prelude.{if◌then◌else◌, fold}
+use Rattle.std.proofs.Common.{◌≡◌, ℕ, zero, suc, ◌+◌, ◌<◌, ◌≤◌, Bool, true, false, true≢false, cond, eqb, List, [], ◌∷◌, ◌++◌, map, length, get_or, ℤ, Option, Some, None, Ok, refl, ap, ◌∙◌, sym, subst, arith}
+use Rattle.std.specs.Prelude.{if◌then◌else◌, fold, Contains}
+use Rattle.std.specs.List.{flat_map}
 use Rattle.std.proofs.lemmas.Bool.{eq-eqb}
 use Rattle.sac_base.specs.declared.base.Base.{Base}
 use Rattle.sac_base.specs.declared.base.Base.TheVariants.{Int}
@@ -9,7 +10,7 @@ use Rattle.sac_base.specs.declared.form.Form.{Form}
 use Rattle.sac_base.specs.declared.grid.Grid1.{Grid1}
 use Rattle.sac_base.specs.declared.op.Op.{Op}
 use Rattle.sac_base.specs.declared.site.Site.{Site}
-use Rattle.sac_base.specs.Arrays.{ArrayValue, size, vector, same_form}
+use Rattle.sac_base.specs.Arrays.{ArrayValue, IsFull, size, vector, same_form}
 use Rattle.sac_base.specs.Grids.{has_vector, members}
 use Rattle.sac_base.specs.Outcomes.{Ends, and_then, fault}
 use Rattle.sac_base.specs.Parts.{select}
@@ -21,9 +22,11 @@ use Rattle.core_ir.specs.declared.tree.PartedOp.TheVariants as parted
 use Rattle.core_ir.specs.Binders.{is_in}
 use Rattle.core_ir.specs.Scopes.{AllIn, parted_uses}
 use Rattle.core_ir.specs.Terms.{PartHead}
-use Rattle.core_ir.specs.Meaning.{Env, CallMeaning, one, first, bind, cell_form, cell_at, extents, run, cells, neutral_fits, made_of, right_value}
+use Rattle.core_ir.specs.Meaning.{Env, CallMeaning, one, first, bind, cell_form, cell_at, elements_of, extents, run, cells, neutral_fits, made_of, right_value}
 use Rattle.core_ir.specs.Meaning as core
+use Rattle.core_ir.specs.WellFormed.{part_grids}
 use Rattle.core_ir.proofs.Variables.{same_number}
+use Rattle.core_loops.specs.Pairs.{Makes}
 use Rattle.counted_code.specs.Terms.{CodeTerm, CodePartsTerm, PartedCode, NoCodeParts, PartCode, core_of, core_of_right, core_of_parts}
 use Rattle.counted_code.specs.Values.{Heap, Small, Ref, give, go_on, pure_end, read, cells_of}
 use Rattle.counted_code.specs.Loops.{Job, CodeCells, part_holder, parted_folds, parted_shape, parted_job, job_does}
@@ -41,7 +44,7 @@ use Rattle.mark_laws.proofs.Blocks.{RightDoes, BlockDoes}
 use Rattle.mark_laws.proofs.Gens.{first_matches}
 use Rattle.mark_laws.proofs.Jobs.{CanTakeOver, marked_job}
 use Rattle.mark_laws.proofs.Over.{holding, OwnIs, LinkedOver}
-use Rattle.mark_laws.proofs.Places.{frame_from, own_element}
+use Rattle.mark_laws.proofs.Places.{frame_from, frame_size, place_inside, own_element}
 
 -- each part's body does what it means
 abbrev pub PartsDo : (results_of : ℕ → ℕ) (does_calls : DoesCalls) (calls : CallMeaning) (turns : ℕ) → CodePartsTerm → Type 0
@@ -64,6 +67,31 @@ job_same : (h : Heap) (e : Values) (ρ : Env) (live : List Var) (f : List Grid1)
 job_same h e ρ live f b c parted.Genarray ps s shows u = refl
 job_same h e ρ live f b c (parted.Modarray x) ps s shows u = refl
 job_same h e ρ live f b c (parted.Fold op x) ps s shows u = λ i. fold_job f b c op x ps s (shown_at h e ρ x live shows u.0 i)
+
+-- a loop that makes an array puts its cells one after another
+all_joined : (f : List Grid1) (b : Base) (c : List ℕ) (op : PartedOp) (e : Env) → Makes op → (found : List (Option ArrayValue)) → (made_of f b c op e found).cells ≡ flat_map elements_of found
+all_joined f b c parted.Genarray e makes found = refl
+all_joined f b c (parted.Modarray x) e makes found = refl
+all_joined f b c (parted.Fold op x) e makes found = elim makes [ ]
+
+-- ---- grids
+
+-- the index lies in one of the grids
+abbrev IsHeld : List (List Grid1) → List ℤ → Type 0
+IsHeld grids index = (g : List Grid1) × (Contains grids g × (has_vector g index ≡ true))
+
+none_held : (index : List ℤ) → IsHeld [] index → ⊥
+none_held index held = let lt = held.1.0.1 in omega (arith, lt)
+
+held_later : (g : List Grid1) (grids : List (List Grid1)) (index : List ℤ) → has_vector g index ≡ false → IsHeld (g ∷ grids) index → IsHeld grids index
+held_later g grids index outside held = go held.1.0.0 held.1.0.1 held.1.0.2
+  where
+    both : {b : Bool} → b ≡ true → b ≡ false → ⊥
+    both p q = true≢false (sym p ∙ q)
+
+    go : (i : ℕ) → i < length (g ∷ grids) → get_or (g ∷ grids) i held.0 ≡ held.0 → IsHeld grids index
+    go zero lt is = absurd (both held.1.1 (ap (λ c. has_vector c index) (sym is) ∙ outside))
+    go (suc i) lt is = (held.0, ((i, omega (arith, lt), is), held.1.1))
 
 module _ (results_of : ℕ → ℕ) (does_calls : DoesCalls) (calls : CallMeaning) (turns : ℕ) (h : Heap) (e : Values) (ρ : Env) where
   -- ---- bodies in heaps that keep what others hold
@@ -90,6 +118,10 @@ module _ (results_of : ℕ → ℕ) (does_calls : DoesCalls) (calls : CallMeanin
   module _ (others : ℕ → ℕ) (v : Var) (mine rest : List Var) (order : Reordered mine (v ∷ [])) (backed : AllBacked others e rest) (shows : Shows h e ρ (mine ++ rest)) where
     array_shown : read h (e v) ≡ ρ v
     array_shown = (shows_reordered h e ρ order (shows_front h e ρ mine rest shows)).0
+
+    -- the array's buffer has as many cells as its shape says
+    pub array_long : (buffer : ℕ) (base : Base) (shape : List ℕ) → e v ≡ Ref buffer base shape → IsFull (ρ v) → length (cells_of h buffer) ≡ size (ρ v).shape
+    array_long buffer base shape is full = ap (λ (a : ArrayValue). length a.cells) (sym (ap (read h) is) ∙ array_shown) ∙ full
 
     module _ (buffer : ℕ) (base : Base) (shape : List ℕ) (is : e v ≡ Ref buffer base shape) (vacant : others buffer ≡ 0) where
       all_backed : AllBacked (holding buffer others vacant) e (mine ++ rest)
@@ -139,10 +171,11 @@ module _ (results_of : ℕ → ℕ) (does_calls : DoesCalls) (calls : CallMeanin
             go true = refl
             go false = ap (λ b. select (cond b (read k (e v)) (ρ v)) (vector Int index)) (eq-eqb v.0 v.0 refl) ∙ same_element k p index lt at own
 
-        pub over_linked : (parts : CodePartsTerm) → PartsDo results_of does_calls calls turns parts → CountedParts results_of (mine ++ rest) parts → MarksHoldOver calls turns v parts ρ → (p : ℕ) (index : List ℤ) → p < size ns → index ≡ vector_at ns p
+        pub over_linked : (parts : CodePartsTerm) → PartsDo results_of does_calls calls turns parts → CountedParts results_of (mine ++ rest) parts → MarksHoldOver calls turns v parts ρ → (p : ℕ) (index : List ℤ) → p < size ns → index ≡ vector_at ns p → IsHeld (part_grids (core_of_parts parts)) index
             → LinkedOver buffer others vacant h ns form is_scalar p (part_holder (code_cells does_calls turns parts e) index) (cell_at (cell_form form.base form.shape) (cells calls turns (core_of_parts parts) ρ) index)
-        over_linked NoCodeParts blocks counted marks p index lt at = refl
-        over_linked (PartCode g b behind) blocks counted marks p index lt at = go (has_vector g.grid index) refl (over_linked behind blocks.1 counted.2 marks.1 p index lt at)
+        over_linked NoCodeParts blocks counted marks p index lt at held = absurd (none_held index held)
+        over_linked (PartCode g b behind) blocks counted marks p index lt at held =
+            go (has_vector g.grid index) refl (λ outside. over_linked behind blocks.1 counted.2 marks.1 p index lt at (held_later g.grid (part_grids (core_of_parts behind)) index outside held))
           where
             runs : has_vector g.grid index ≡ true → (k : Heap) → Owns k [] (holding buffer others vacant) → SameCells others h k → OwnIs buffer others vacant h ns form is_scalar p k
                 → MatchesOne (holding buffer others vacant) k (first_value (does does_calls turns b (bind_value e g.index (Small (vector Int index)))) k) (first (run calls turns (core_of b) (bind ρ g.index (vector Int index))))
@@ -156,11 +189,11 @@ module _ (results_of : ℕ → ℕ) (does_calls : DoesCalls) (calls : CallMeanin
                 (turn_ready k e (now k same) held_by (mine ++ rest) (g.index ∷ []) (Small (vector Int index) ∷ []) all_backed (all_shown k same) refl (refl, tt) (counted.0, tt) ((λ c. (let o = owns.0 c in omega (arith, o))), owns.1)) both.1))
 
             go : (inside : Bool) → has_vector g.grid index ≡ inside
-                → LinkedOver buffer others vacant h ns form is_scalar p (part_holder (code_cells does_calls turns behind e) index) (cell_at (cell_form form.base form.shape) (cells calls turns (core_of_parts behind) ρ) index)
+                → (has_vector g.grid index ≡ false → LinkedOver buffer others vacant h ns form is_scalar p (part_holder (code_cells does_calls turns behind e) index) (cell_at (cell_form form.base form.shape) (cells calls turns (core_of_parts behind) ρ) index))
                 → LinkedOver buffer others vacant h ns form is_scalar p (if inside then Some (record { cell = first_value (does does_calls turns b (bind_value e g.index (Small (vector Int index)))); site = g.site }) else part_holder (code_cells does_calls turns behind e) index)
                 (if inside then and_then (first (run calls turns (core_of b) (bind ρ g.index (vector Int index)))) (core.held (cell_form form.base form.shape) g.site) else cell_at (cell_form form.base form.shape) (cells calls turns (core_of_parts behind) ρ) index)
             go true q l = (first (run calls turns (core_of b) (bind ρ g.index (vector Int index))), refl, (marks.0 index q).1, runs q)
-            go false q l = l
+            go false q l = l q
 
 -- ---- parted loops
 
@@ -221,16 +254,24 @@ module _ (results_of : ℕ → ℕ) (does_calls : DoesCalls) (calls : CallMeanin
       linked index = parts_linked results_of does_calls calls turns h e ρ (λ d. refers d (e v) + others d) (mine ++ (after ++ outer)) backed ready.shows parts blocks counted.3 (unchanged v parts ρ marks.1) b c index
 
       taken : (buffer : ℕ) (base : Base) (shape : List ℕ) → e v ≡ Ref buffer base shape → CanTakeOver (parted_of f b c op (code_cells does_calls turns parts e) ρ) (cell_at (cell_form b c) (cells calls turns (core_of_parts parts) ρ)) h others buffer
-      taken buffer base shape is vacant = (
-        extents f,
-        (
-          marks.0.scalars,
-          (
-            frame_from f marks.0.frame_is_box,
-            (λ p index lt at. over_linked results_of does_calls calls turns h e ρ others v mine (after ++ outer) counted.1 ready.backed ready.shows buffer base shape is vacant (extents f) marks.0.shape (record { base = b; shape = c }) marks.0.scalars parts blocks counted.3 marks.1 p index lt at),
-          ),
-        ),
-      )
+      taken buffer base shape is =
+          let can = marks.0 in
+          let long = array_long results_of does_calls calls turns h e ρ others v mine (after ++ outer) counted.1 ready.backed ready.shows buffer base shape is can.full in (
+            long ∙ ap size can.shape ∙ sym (frame_size f can.frame_is_box),
+            all_joined f b c op ρ can.makes,
+            (λ vacant. (
+              extents f,
+              (
+                can.scalars,
+                (
+                  frame_from f can.frame_is_box,
+                  (λ p index lt at.
+                      over_linked results_of does_calls calls turns h e ρ others v mine (after ++ outer) counted.1 ready.backed ready.shows buffer base shape is vacant (extents f) can.shape (record { base = b; shape = c }) can.scalars parts blocks counted.3 marks.1 p index lt at
+                      (can.covered index (ap (has_vector f) at ∙ place_inside f can.frame_is_box p lt))),
+                ),
+              ),
+            )),
+          )
 
       go : (fits : Bool) → Matches 1 others h (go_on (go_on (pure_end (if fits then Ok (parted_of f b c op (code_cells does_calls turns parts e) ρ) else fault F6 s) h) (job_does (Some (e v)))) (λ u. give (u ∷ []))) (one (if fits then and_then (each (cell_at (cell_form b c) (cells calls turns (core_of_parts parts) ρ)) (members f)) (λ found. Ok (made_of f b c op ρ found)) else fault F6 s))
       go true = marked_job (parted_of f b c op (code_cells does_calls turns parts e) ρ) (cell_at (cell_form b c) (cells calls turns (core_of_parts parts) ρ)) h others (e v) owns linked taken

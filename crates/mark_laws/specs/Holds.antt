@@ -6,12 +6,15 @@ use Rattle.sac_base.specs.declared.grid.Grid1.{Grid1}
 use Rattle.sac_base.specs.declared.site.Site.{Site}
 use Rattle.sac_base.specs.Arrays.{ArrayValue, IsFull, vector}
 use Rattle.sac_base.specs.Grids.{has_vector}
+use Rattle.core_ir.specs.declared.tree.PartedOp.{PartedOp}
 use Rattle.core_ir.specs.declared.tree.Var.{Var}
 use Rattle.core_ir.specs.Meaning.{Env, Answer, CallMeaning, bind, bind_all, extents, first, with_index, run, right_value}
+use Rattle.core_ir.specs.WellFormed.{Covered, part_grids}
 use Rattle.core_facts.specs.Facts.{DescribeAll}
 use Rattle.core_fold.specs.Cells.{IsBox}
+use Rattle.core_loops.specs.Pairs.{Makes}
 use Rattle.counted_code.specs.Terms.{CodeTerm, CodeRightTerm, CodeGensTerm, CodePartsTerm, Giving, Binding, Keeping, Releasing, PlainCode, IfCode}
-use Rattle.counted_code.specs.Terms.{LoopCode, CallCode, WithCode, PartedCode, NoCodeGens, GenCode, NoCodeParts, PartCode, core_of, core_of_right}
+use Rattle.counted_code.specs.Terms.{LoopCode, CallCode, WithCode, PartedCode, NoCodeGens, GenCode, NoCodeParts, PartCode, core_of, core_of_right, core_of_parts}
 use Rattle.counted_code.specs.Values.{Heap, Value, read}
 use Rattle.counted_code.specs.Machine.{DoesCalls}
 use Rattle.counted_laws.specs.Simulation.{Owns, Matches}
@@ -22,11 +25,15 @@ pub data Reached (start : List ArrayValue) (body : List ArrayValue → Answer) :
   at_start : Reached start body start
   after_turn : {vs ws : List ArrayValue} → Reached start body vs → body vs ≡ Ok ws → Reached start body ws
 
--- a loop of scalar cells over a frame that begins at 0 may write over this array
-pub record CanHold (frame : List Grid1) (cell : List ℕ) (a : ArrayValue) : Type 0 where
+-- A loop that makes an array of scalar cells may write over this array: the frame begins at 0, each of its indices has a part, and the array is as
+-- large.
+pub record CanHold (frame : List Grid1) (cell : List ℕ) (op : PartedOp) (grids : List (List Grid1)) (a : ArrayValue) : Type 0 where
   pub frame_is_box : IsBox frame
   pub scalars : cell ≡ []
+  pub makes : Makes op
+  pub covered : Covered frame grids
   pub shape : a.shape ≡ extents frame
+  pub full : IsFull a
 
 module _ (calls : CallMeaning) (turns : ℕ) where
   abbrev mutual
@@ -47,7 +54,7 @@ module _ (calls : CallMeaning) (turns : ℕ) where
     MarksHoldRight (CallCode g xs) e = DescribeAll [] (map e xs)
     MarksHoldRight (WithCode op gens) e = MarksHoldGens gens e
     MarksHoldRight (PartedCode f b c op parts None) e = MarksHoldParts parts e
-    MarksHoldRight (PartedCode f b c op parts (Some v)) e = CanHold f c (e v) × MarksHoldOver v parts e
+    MarksHoldRight (PartedCode f b c op parts (Some v)) e = CanHold f c op (part_grids (core_of_parts parts)) (e v) × MarksHoldOver v parts e
 
     pub MarksHoldGens : CodeGensTerm → Env → Type 0
     MarksHoldGens NoCodeGens e = Unit {0}

@@ -166,7 +166,7 @@ claim_grown false (Some (Ref b base shape)) n h = go (count_of h b == 1)
 settled_grows : (target : Target) (a : ArrayValue) → Grows (settled target a)
 settled_grows Inside a h = refl
 settled_grows (Fresh b) a h = set_grown h b (record { count = count_of h b; cells = a.cells })
-settled_grows (Old b) a h = set_grown h b (record { count = count_of h b; cells = a.cells })
+settled_grows (Old b) a h = refl
 
 rest_grows : (rest : Option Value) (v : Value) → Grows (λ k. Done v (release_rest rest k))
 rest_grows None v h = refl
