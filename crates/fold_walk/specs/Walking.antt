@@ -63,15 +63,6 @@ module _ (called : ℕ → List (Option (List ℕ))) (function : ℕ) where
     pub walked : (rest : BlockTerm) → Walked k p q (Bind l.targets l.site l.right rest) (Bind m.targets m.site m.right rest)
     pub none : q.folds ≡ p.folds → EachInRight called (NoPairAt called p.next) l.right k
 
-  pub record GensWalked (k : Facts) (p q : State) (g h : GensTerm) : Type 0 where
-    pub walked : (xs : List Var) (s : Site) (op : CoreOp) (rest : BlockTerm) → Walked k p q (Bind xs s (With op g) rest) (Bind xs s (With op h) rest)
-    pub none : q.folds ≡ p.folds → EachInGens called (NoPairAt called p.next) g k
-
-  pub record PartsWalked (k : Facts) (p q : State) (g h : PartsTerm) : Type 0 where
-    pub walked : (xs : List Var) (s : Site) (f : List Grid1) (t : Base) (c : List ℕ) (op : PartedOp) (rest : BlockTerm) →
-        Walked k p q (Bind xs s (Parted f t c op g) rest) (Bind xs s (Parted f t c op h) rest)
-    pub none : q.folds ≡ p.folds → EachInParts called (NoPairAt called p.next) g k
-
   -- the body of a generator alone, and that of a part
   pub record GenWalked (k : Facts) (p q : State) (g h : GenTerm) : Type 0 where
     pub head : h.head ≡ g.head
