@@ -1,2 +1,3 @@
+pub mod Exact
 pub mod Heights
-pub mod Walks
+pub mod Trees

@@ -1,10 +1,11 @@
 //! A test at run time whether counted code has marks.
 #![tactic(auto)]
 
-ghost use Rattle.std.specs.Prelude.{IsTrue, map};
-ghost use Rattle.counted_code.specs.Counts.{IsUnmarked, Unmarked, UnmarkedFunctions, UnmarkedRight, UnmarkedGens, UnmarkedParts};
+ghost use Rattle.std.specs.Prelude.{◌≡◌, IsTrue, map};
+ghost use Rattle.std.specs.List.{list_all};
+ghost use Rattle.counted_code.specs.Counts.{IsUnmarked};
 ghost use Rattle.counted_code.specs.View.{code_fun_term, code_program, code_term, code_right_term, code_with_term, code_parted_term};
-ghost use Rattle.mark_checks.specs.Steps.{LeavesUnmarked, LeaveUnmarked};
+ghost use Rattle.mark_checks.specs.Marks.{no_mark_in, no_mark_in_right, no_mark_in_gens, no_mark_in_parts, no_mark_in_step, no_mark_in_functions};
 ghost use Rattle.phase_checks.specs.Terms.{gens_term, parts_term};
 
 use counted_code::{
@@ -13,13 +14,14 @@ use counted_code::{
 
 /// Whether no loop of the code is marked.
 pub fn is_unmarked(code: &Code) -> bool
-    ensures { IsTrue result → IsUnmarked (code_program code.now) }
+    ensures unmarked { IsTrue result → IsUnmarked (code_program code.now) }
+    ensures exact { IsUnmarked (code_program code.now) → IsTrue result }
 {
     functions_are_unmarked(&code.functions)
 }
 
 fn functions_are_unmarked(functions: &[CodeFun]) -> bool
-    ensures { IsTrue result → UnmarkedFunctions (map code_fun_term functions.now) }
+    ensures { result ≡ no_mark_in_functions (map code_fun_term functions.now) }
 {
     for function in functions {
         if !block_is_unmarked(&function.body) {
@@ -31,14 +33,14 @@ fn functions_are_unmarked(functions: &[CodeFun]) -> bool
 
 #[cycle(walk)]
 fn block_is_unmarked(block: &CodeBlock) -> bool
-    ensures { IsTrue result → Unmarked (code_term block.now) }
+    ensures { result ≡ no_mark_in (code_term block.now) }
 {
     steps_are_unmarked(&block.steps)
 }
 
 #[cycle(walk)]
 fn steps_are_unmarked(steps: &[CodeStep]) -> bool
-    ensures { IsTrue result → LeaveUnmarked steps.now }
+    ensures { result ≡ list_all no_mark_in_step steps.now }
 {
     for step in steps {
         if !step_is_unmarked(step) {
@@ -50,7 +52,7 @@ fn steps_are_unmarked(steps: &[CodeStep]) -> bool
 
 #[cycle(walk)]
 fn step_is_unmarked(step: &CodeStep) -> bool
-    ensures { IsTrue result → LeavesUnmarked step.now }
+    ensures { result ≡ no_mark_in_step step.now }
 {
     match step {
         CodeStep::Bind(binding) => right_is_unmarked(&binding.right),
@@ -61,7 +63,7 @@ fn step_is_unmarked(step: &CodeStep) -> bool
 
 #[cycle(walk)]
 fn right_is_unmarked(right: &CodeRight) -> bool
-    ensures { IsTrue result → UnmarkedRight (code_right_term right.now) }
+    ensures { result ≡ no_mark_in_right (code_right_term right.now) }
 {
     match right {
         CodeRight::If { yes, no, .. } => block_is_unmarked(yes) && block_is_unmarked(no),
@@ -74,14 +76,14 @@ fn right_is_unmarked(right: &CodeRight) -> bool
 
 #[cycle(walk)]
 fn with_is_unmarked(with: &CodeWith) -> bool
-    ensures { IsTrue result → UnmarkedRight (code_with_term with.now) }
+    ensures { result ≡ no_mark_in_right (code_with_term with.now) }
 {
     gens_are_unmarked(&with.gens)
 }
 
 #[cycle(walk)]
 fn parted_is_unmarked(parted: &CodeParted) -> bool
-    ensures { IsTrue result → UnmarkedRight (code_parted_term parted.now) }
+    ensures { result ≡ no_mark_in_right (code_parted_term parted.now) }
 {
     if parted.reuse.is_some() {
         return false;
@@ -91,7 +93,7 @@ fn parted_is_unmarked(parted: &CodeParted) -> bool
 
 #[cycle(walk)]
 fn gens_are_unmarked(gens: &[CodeGen]) -> bool
-    ensures { IsTrue result → UnmarkedGens (gens_term gens.now) }
+    ensures { result ≡ no_mark_in_gens (gens_term gens.now) }
 {
     for generator in gens {
         if !block_is_unmarked(&generator.body) {
@@ -103,7 +105,7 @@ fn gens_are_unmarked(gens: &[CodeGen]) -> bool
 
 #[cycle(walk)]
 fn parts_are_unmarked(parts: &[CodePart]) -> bool
-    ensures { IsTrue result → UnmarkedParts (parts_term parts.now) }
+    ensures { result ≡ no_mark_in_parts (parts_term parts.now) }
 {
     for part in parts {
         if !block_is_unmarked(&part.body) {

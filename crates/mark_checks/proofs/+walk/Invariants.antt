@@ -1,13 +1,13 @@
-use Rattle.std.proofs.Common.{◌+◌, ◌*◌, drop}
+use Rattle.std.proofs.Common.{◌≡◌, ◌+◌, ◌*◌, drop}
+use Rattle.std.specs.List.{list_all}
 use Rattle.counted_code.specs.declared.tree.CodeBlock.{size-CodeBlock}
 use Rattle.counted_code.specs.declared.tree.CodeParted.{size-CodeParted}
 use Rattle.counted_code.specs.declared.tree.CodeRight.{size-CodeRight}
 use Rattle.counted_code.specs.declared.tree.CodeStep.{size-CodeStep}
 use Rattle.counted_code.specs.declared.tree.CodeWith.{size-CodeWith}
-use Rattle.counted_code.specs.Counts.{UnmarkedGens, UnmarkedParts}
 use Rattle.phase_checks.proofs.Sizes.{gens_size, parts_size}
 use Rattle.phase_checks.specs.Terms.{gens_term, parts_term}
-use Rattle.mark_checks.specs.Steps.{LeaveUnmarked}
+use Rattle.mark_checks.specs.Marks.{no_mark_in_gens, no_mark_in_parts, no_mark_in_step}
 use Rattle.mark_checks.proofs.Heights.{steps_size}
 use Rattle.mark_checks.proofs.+walk.Given as goal
 
@@ -36,10 +36,10 @@ abbrev pub decreases-parts_are_unmarked : goal.decreases-parts_are_unmarked
 decreases-parts_are_unmarked l = 8 * parts_size l.parts.now + 4
 
 abbrev pub invariant-steps_are_unmarked-loop-step : goal.invariant-steps_are_unmarked-loop-step
-invariant-steps_are_unmarked-loop-step l = LeaveUnmarked (drop l.step-index l.steps) → LeaveUnmarked l.steps
+invariant-steps_are_unmarked-loop-step l = list_all no_mark_in_step (drop l.step-index l.steps) ≡ list_all no_mark_in_step l.steps
 
 abbrev pub invariant-gens_are_unmarked-loop-generator : goal.invariant-gens_are_unmarked-loop-generator
-invariant-gens_are_unmarked-loop-generator l = UnmarkedGens (gens_term (drop l.generator-index l.gens)) → UnmarkedGens (gens_term l.gens)
+invariant-gens_are_unmarked-loop-generator l = no_mark_in_gens (gens_term (drop l.generator-index l.gens)) ≡ no_mark_in_gens (gens_term l.gens)
 
 abbrev pub invariant-parts_are_unmarked-loop-part : goal.invariant-parts_are_unmarked-loop-part
-invariant-parts_are_unmarked-loop-part l = UnmarkedParts (parts_term (drop l.part-index l.parts)) → UnmarkedParts (parts_term l.parts)
+invariant-parts_are_unmarked-loop-part l = no_mark_in_parts (parts_term (drop l.part-index l.parts)) ≡ no_mark_in_parts (parts_term l.parts)
