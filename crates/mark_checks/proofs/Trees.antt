@@ -1,12 +1,11 @@
 -- Whether a tree has no mark, by the lists that it holds.
-use Rattle.std.proofs.Common.{◌≡◌, ℕ, ◌+◌, ◌<◌, Bool, true, false, ◌&&◌, not, List, [], ◌∷◌, length, drop, get_or, Vec, Global, refl, ap, sym, ◌∙◌}
+use Rattle.std.proofs.Common.{◌≡◌, Bool, true, false, ◌&&◌, not, List, [], ◌∷◌, Vec, Global, refl, ap, sym, ◌∙◌}
 use Rattle.std.specs.List.{list_all}
 use Rattle.std.specs.Prelude.{is_some}
 use Rattle.sac_base.specs.declared.site.Site.{Site}
 use Rattle.core_ir.specs.declared.tree.Var.{Var}
 use Rattle.counted_code.specs.declared.tree.CodeBlock.{CodeBlock}
 use Rattle.counted_code.specs.declared.tree.CodeParted.{CodeParted, out-CodeParted}
-use Rattle.counted_code.specs.declared.tree.CodeRight.{CodeRight}
 use Rattle.counted_code.specs.declared.tree.CodeRight.TheVariants as right
 use Rattle.counted_code.specs.declared.tree.CodeStep.{CodeStep}
 use Rattle.counted_code.specs.declared.tree.CodeStep.TheVariants as step
@@ -38,5 +37,19 @@ loop_adds first start params test body s = ap no_mark_in_right (loop_term first 
 pub with_adds : (w : CodeWith) → no_mark_in_right (code_with_term w) ≡ no_mark_in_gens (gens_term (out-CodeWith w).gens.items)
 with_adds w = ap no_mark_in_right (with_out w)
 
-pub parted_adds : (p : CodeParted) → no_mark_in_right (code_parted_term p) ≡ (not (is_some (out-CodeParted p).reuse) && no_mark_in_parts (parts_term (out-CodeParted p).parts.items))
+parted_adds : (p : CodeParted) → no_mark_in_right (code_parted_term p) ≡ (not (is_some (out-CodeParted p).reuse) && no_mark_in_parts (parts_term (out-CodeParted p).parts.items))
 parted_adds p = ap no_mark_in_right (parted_out p)
+
+pub parted_marked : (p : CodeParted) → is_some (out-CodeParted p).reuse ≡ true → false ≡ no_mark_in_right (code_parted_term p)
+parted_marked p e = sym (parted_adds p ∙ ap (λ b. not b && no_mark_in_parts (parts_term (out-CodeParted p).parts.items)) e)
+
+pub parted_unmarked : (p : CodeParted) → is_some (out-CodeParted p).reuse ≡ false → no_mark_in_parts (parts_term (out-CodeParted p).parts.items) ≡ no_mark_in_right (code_parted_term p)
+parted_unmarked p e = sym (parted_adds p ∙ ap (λ b. not b && no_mark_in_parts (parts_term (out-CodeParted p).parts.items)) e)
+
+-- ---- two blocks, of which the second is looked at where the first has no mark
+
+pub second_says : (x y a b r : Bool) → x ≡ a → x ≡ true → y ≡ b → r ≡ (a && b) → y ≡ r
+second_says x y a b r is t says both = says ∙ sym (both ∙ ap (λ a. a && b) (sym is ∙ t))
+
+pub first_says : (x a b r : Bool) → x ≡ a → x ≡ false → r ≡ (a && b) → x ≡ r
+first_says x a b r is f both = f ∙ sym (both ∙ ap (λ a. a && b) (sym is ∙ f))

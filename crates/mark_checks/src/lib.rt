@@ -1,10 +1,11 @@
 //! A test at run time whether counted code has marks.
 #![tactic(auto)]
 
-ghost use Rattle.std.specs.Prelude.{◌≡◌, IsTrue, map};
+ghost use Rattle.std.specs.Prelude.{◌≡◌, IsTrue, is_some, map};
 ghost use Rattle.std.specs.List.{list_all};
 ghost use Rattle.counted_code.specs.Counts.{IsUnmarked};
 ghost use Rattle.counted_code.specs.View.{code_fun_term, code_program, code_term, code_right_term, code_with_term, code_parted_term};
+ghost use Rattle.counted_code.specs.declared.tree.CodeParted.{out-CodeParted};
 ghost use Rattle.mark_checks.specs.Marks.{no_mark_in, no_mark_in_right, no_mark_in_gens, no_mark_in_parts, no_mark_in_step, no_mark_in_functions};
 ghost use Rattle.phase_checks.specs.Terms.{gens_term, parts_term};
 
@@ -85,10 +86,16 @@ fn with_is_unmarked(with: &CodeWith) -> bool
 fn parted_is_unmarked(parted: &CodeParted) -> bool
     ensures { result ≡ no_mark_in_right (code_parted_term parted.now) }
 {
-    if parted.reuse.is_some() {
+    if is_marked(parted) {
         return false;
     }
     parts_are_unmarked(&parted.parts)
+}
+
+fn is_marked(parted: &CodeParted) -> bool
+    ensures { result ≡ is_some (out-CodeParted parted.now).reuse }
+{
+    parted.reuse.is_some()
 }
 
 #[cycle(walk)]
