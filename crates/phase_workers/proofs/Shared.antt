@@ -2,7 +2,7 @@
 use denote.Param.Send.{IsSync, shr_sync, shr_slice_sync, view_sync, sendable}
 use denote.Param.SendFields.{as_row_sync, declared_sync}
 use denote.Hole.{as_row}
-use denote.Struct.Field.{shr_ref_field, shr_slice_field}
+use denote.Struct.Field.{bool-field, shr_ref_field, shr_slice_field}
 use Rattle.buffer_heap.specs.contracts.heap.Heap as heap
 use Rattle.buffer_heap.proofs.heap.Heap.TheSendSync as heap_shared
 use Rattle.run_values.specs.contracts.frames.Frames as frames
@@ -22,7 +22,7 @@ use Rattle.core_ir.specs.contracts.tree.Var as var
 use Rattle.phase_kernels.specs.contracts.gens.KernelCells as kernels
 
 counted_sync : IsSync code.the_row → (l : _) → IsSync (counted.the_row l)
-counted_sync code_sync l = view_sync (inside.the_row l) _ _ _ _ (declared_sync (inside.the_type l) (as_row_sync (shr_ref_field l code.the_row tt) (shr_sync _ _ code.the_row code_sync), tt))
+counted_sync code_sync l = view_sync (inside.the_row l) _ _ _ _ (declared_sync (inside.the_type l) (as_row_sync (shr_ref_field l code.the_row tt) (shr_sync _ _ code.the_row code_sync), (as_row_sync bool-field (search (sendable)), tt)))
 
 pub context_sync : IsSync code.the_row → (l : _) → IsSync (as_row (context.the_field l))
 context_sync code_sync l = as_row_sync (context.the_field l) (search (sendable, counted_sync code_sync l) depth 14)

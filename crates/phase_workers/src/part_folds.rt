@@ -2,6 +2,7 @@
 
 ghost use Rattle.std.specs.Prelude.{◌≡◌, ◌≤◌, IsTrue, None, length, OnOk};
 ghost use Rattle.phase_cells.specs.Idle.{IsLending};
+ghost use Rattle.counted_code.specs.Counts.{IsUnmarked};
 ghost use Rattle.counted_code.specs.Loops.{job_does};
 ghost use Rattle.counted_code.specs.Values.{Heap as MachineHeap};
 ghost use Rattle.counted_code.specs.View.{code_program};
@@ -48,6 +49,7 @@ pub fn fold_parts_outside<G: Gate, R: Threads + Sync>(
     context: &Context<'_>,
     state: &mut State<'_>,
 ) -> Result<RunValue, Stop>
+    requires unmarked { IsUnmarked (code_program context.now.code.now) }
     ensures told { (m : MachineHeap) → IsAt state.old m
         → Told IsValue result state.new
         (job_does None (fold_parts_job context.now (current state.old.frames) parts.now plan.now.frame plan.now.form plan.now.shape op neutral) m) }
@@ -117,6 +119,7 @@ fn fold_parts_by_workers<G: Gate, R: Threads + Sync>(
     live: &[Var],
     state: &mut State<'_>,
 ) -> Result<RunValue, Stop>
+    requires unmarked { IsUnmarked (code_program context.now.code.now) }
     requires counted { PartsIn (code_program context.now.code.now) (parts_term parts.now) live.now }
     requires alive { AreAlive state.old.heap.own (current state.old.frames) live.now }
     requires alone { state.old.heap.lent ≡ None }
@@ -180,6 +183,7 @@ fn fold_part_cells<G: Gate, R: Threads + Sync>(
     value: &mut [Cell],
     books: &mut Books,
 ) -> Result<(), Stop>
+    requires unmarked { IsUnmarked (code_program context.now.code.now) }
     requires counted { PartsIn (code_program context.now.code.now) (parts_term parts.now) live.now }
     requires alive { AreAlive heap.now (current frames.now) live.now }
     requires op { IsTrue (folds_value form.now.base op) }

@@ -1,9 +1,10 @@
 //! A whole program, with its phases run by workers.
 
 ghost use Rattle.std.specs.Prelude.{◌≡◌, ◌≤◌};
-ghost use Rattle.counted_code.specs.Counts.{IsWellCounted, IsUnmarked};
+ghost use Rattle.counted_code.specs.Counts.{IsWellCounted};
 ghost use Rattle.counted_code.specs.Outcome.{cost_of, outcome_of, whole_run};
 ghost use Rattle.counted_code.specs.View.{code_program};
+ghost use Rattle.counted_marks.specs.Marks.{IsWellMarked};
 ghost use Rattle.phase_workers.specs.Calls.{IsRun};
 ghost use Rattle.run_eval.specs.Jobs.{job_of};
 ghost use Rattle.run_eval.specs.Outcomes.{new_heap, IsCleared, HasCounters, KeepsChanges, TellsCost, TellsTally, draws_under};
@@ -38,7 +39,7 @@ pub fn run<G: Gate, R: Threads + Sync>(
 ) -> Result<Vec<Array>, Stop>
     requires workers { (1 ≤ plan.workers) × (plan.workers ≤ 64) }
     requires counted { IsWellCounted (code_program code.now) }
-    requires unmarked { IsUnmarked (code_program code.now) }
+    requires marked { IsWellMarked (code_program code.now) }
     requires new { heap.old ≡ new_heap }
     ensures outcome { TellsItems result (outcome_of (whole_run (code_program code.now) args.items plan.caps)) }
     ensures cleared { IsCleared heap.new }

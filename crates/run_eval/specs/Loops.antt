@@ -1,4 +1,4 @@
--- Loops over cells as the evaluator runs them: nothing is written into the heap before the last cell.
+-- Loops over cells as the evaluator runs them: nothing is written into the heap before the last cell, but where the loop is marked.
 use Rattle.std.specs.Prelude.{◌≡◌, ◌≤ℤ◌, pos, negsuc, ℕ, List, [], ◌∷◌, ◌++◌, ℤ, Option, Some, None, if◌then◌else◌, map, option_map}
 use Rattle.sac_base.specs.declared.base.Base.{Base}
 use Rattle.sac_base.specs.declared.base.Base.TheVariants.{Int}
@@ -16,7 +16,7 @@ use Rattle.counted_code.specs.declared.tree.CodeBlock.{CodeBlock}
 use Rattle.counted_code.specs.declared.tree.CodeGen.{CodeGen}
 use Rattle.counted_code.specs.declared.tree.CodePart.{CodePart}
 use Rattle.counted_code.specs.Loops as machine
-use Rattle.counted_code.specs.Loops.{Source, Claimed, Inside, cell_does}
+use Rattle.counted_code.specs.Loops.{Source, Claimed, Inside, Old, cell_does, cells_do, write_cell}
 use Rattle.counted_code.specs.Machine.{Values, bind_value, bind_values, with_index_value, first_value}
 use Rattle.counted_code.specs.Values.{Value, Small, Doing, give, then_go, apart}
 use Rattle.counted_code.specs.View.{code_term}
@@ -114,6 +114,10 @@ cells_run form source (v ∷ vs) = then_go (cell_does form (source v)) (λ c. th
 
 abbrev pub loop_cells : Context → Values → CellLoop → Doing (List (Option ArrayValue))
 loop_cells context e work = cells_run work.plan.now.form (loop_source context e work) work.plan.now.frame
+
+-- the same where each cell is written into the buffer of the marked variable before the next one is computed
+abbrev pub cells_written : ℕ → Context → Values → CellLoop → Doing (List (Option ArrayValue))
+cells_written buffer context e work = cells_do work.plan.now.form (loop_source context e work) (write_cell (Old buffer)) 0 work.plan.now.frame
 
 -- a cell that has its form, of a body
 abbrev pub body_cell : Context → Body → Form → List ℤ → Values → Doing Value

@@ -17,6 +17,7 @@ use crate::bounds::{all_bounds, parted_plan};
 use crate::cell_loop::{CellBody, CellLoop, CellSource, LoopResult, body_at};
 use crate::cells::{Background, begin, count_elements, finish, formed, put_cell};
 use crate::folds::{Sum, add_cell, begin_fold, finish_fold, start};
+use crate::marked_loops::run_marked;
 use crate::phases::{Outside, Phases};
 use crate::state::{Context, State};
 use array_with_loops::{IndexVector, Range, fold_plan, genarray_plan, modarray_plan};
@@ -90,7 +91,7 @@ pub fn run_with<P: Phases>(
     }
 }
 
-/// The result of a parted loop. A marked one counts as want of memory.
+/// The result of a parted loop.
 #[cycle(run)]
 pub fn run_parted<P: Phases>(
     parted: &CodeParted,
@@ -105,7 +106,7 @@ pub fn run_parted<P: Phases>(
     ensures lender { lender_of state.new.heap ≡ lender_of state.old.heap }
 {
     if parted.reuse.is_some() {
-        return Err(Stop::Memory);
+        return run_marked(parted, site, context, outside, state);
     }
     let alloc = context.alloc;
     let plan = parted_plan(alloc, &parted.frame, parted.base, &parted.cell, parted.op)?;

@@ -11,6 +11,7 @@ mod folds;
 mod holders;
 mod in_order;
 mod levels;
+mod marked_loops;
 mod phases;
 mod program;
 mod state;

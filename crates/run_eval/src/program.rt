@@ -1,10 +1,11 @@
 //! A whole program.
 
 ghost use Rattle.std.specs.Prelude.{◌≡◌, ◌≤◌, IfOk, OnOk, map};
-ghost use Rattle.counted_code.specs.Counts.{IsWellCounted, IsUnmarked};
+ghost use Rattle.counted_code.specs.Counts.{IsWellCounted};
 ghost use Rattle.counted_code.specs.Outcome.{copied_out, cost_of, outcome_of, whole_run};
 ghost use Rattle.counted_code.specs.Values.{Heap as MachineHeap, place_all as all_placed, read, release_all as all_released};
 ghost use Rattle.counted_code.specs.View.{code_program};
+ghost use Rattle.counted_marks.specs.Marks.{IsWellMarked};
 ghost use Rattle.run_eval.specs.Outcomes.{new_heap, main_in, AreArrays, ArePlaced, IsCleared, HasCounters, KeepsChanges, OrMemory, TellsCost, TellsTally, draws_under};
 ghost use Rattle.run_eval.specs.Running.{IsAt, Told};
 ghost use Rattle.phase_count.specs.Tallies.{counted_in};
@@ -50,7 +51,7 @@ pub fn run(
 ) -> Result<Vec<Array>, Stop>
     requires workers { (1 ≤ plan.workers) × (plan.workers ≤ 64) }
     requires counted { IsWellCounted (code_program code.now) }
-    requires unmarked { IsUnmarked (code_program code.now) }
+    requires marked { IsWellMarked (code_program code.now) }
     requires new { heap.old ≡ new_heap }
     ensures outcome { TellsItems result (outcome_of (whole_run (code_program code.now) args.items plan.caps)) }
     ensures cleared { IsCleared heap.new }
@@ -78,7 +79,7 @@ pub fn run_with_phases<P: Phases + Drop>(
     requires runs { P.runs phases }
     requires workers { (1 ≤ plan.workers) × (plan.workers ≤ 64) }
     requires counted { IsWellCounted (code_program code.now) }
-    requires unmarked { IsUnmarked (code_program code.now) }
+    requires marked { IsWellMarked (code_program code.now) }
     requires new { heap.old ≡ new_heap }
     ensures outcome { TellsItems result (outcome_of (whole_run (code_program code.now) args.items plan.caps)) }
     ensures cleared { IsCleared heap.new }
@@ -104,7 +105,7 @@ fn run_code<P: Phases>(
 ) -> Result<Vec<Array>, Stop>
     requires workers { (1 ≤ plan.workers) × (plan.workers ≤ 64) }
     requires counted { IsWellCounted (code_program code.now) }
-    requires unmarked { IsUnmarked (code_program code.now) }
+    requires marked { IsWellMarked (code_program code.now) }
     requires new { heap.old ≡ new_heap }
     ensures outcome { TellsItems result (outcome_of (whole_run (code_program code.now) args.items plan.caps)) }
     ensures cleared { IsCleared heap.new }

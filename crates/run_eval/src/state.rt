@@ -1,11 +1,13 @@
 //! The state of a run, and the code that runs.
 
-ghost use Rattle.std.specs.Prelude.{◌≡◌};
+ghost use Rattle.std.specs.Prelude.{◌≡◌, IsTrue};
 ghost use Rattle.counted_code.specs.Counts.{IsWellCounted, IsUnmarked};
 ghost use Rattle.counted_code.specs.View.{code_program};
+ghost use Rattle.counted_marks.specs.Marks.{IsWellMarked};
 
 use core_ir::Var;
 use counted_code::{Code, CodeBlock};
+use mark_checks::is_unmarked;
 use phase_count::PhaseCount;
 use run_store::Store;
 use run_values::Frames;
@@ -13,15 +15,19 @@ use sac_base::Site;
 use std::alloc::Global;
 use std::marker::Model;
 
-/// Code that is well counted and has no mark.
+/// Code that is well counted and well marked.
 #[derive(Drop)]
 pub struct CountedCode<'a> {
     code: &'a Code,
+    // whether it was seen to have no mark
+    unmarked: bool,
 }
 
 impl<'a> Model for CountedCode<'a> {
+    ghost use Rattle.std.specs.Prelude.{IsTrue};
     ghost use Rattle.counted_code.specs.Counts.{IsWellCounted, IsUnmarked};
     ghost use Rattle.counted_code.specs.View.{code_program};
+    ghost use Rattle.counted_marks.specs.Marks.{IsWellMarked};
     ghost use Rattle.counted_code.specs.contracts.tree.Code as tree;
     ghost use Rattle.counted_code.specs.declared.tree.Code.{Code};
 
@@ -31,26 +37,35 @@ impl<'a> Model for CountedCode<'a> {
 
     ghost view = { λ c. c.code.now };
 
-    ghost invariant = { λ c. IsWellCounted (code_program c.code.now) × IsUnmarked (code_program c.code.now) };
+    ghost invariant = { λ c. IsWellCounted (code_program c.code.now) × IsWellMarked (code_program c.code.now)
+        × (IsTrue c.unmarked → IsUnmarked (code_program c.code.now)) };
 }
 
 impl<'a> CountedCode<'a> {
     /// This code.
     pub fn of(code: &'a Code) -> CountedCode<'a>
         requires counted { IsWellCounted (code_program code.now) }
-        requires unmarked { IsUnmarked (code_program code.now) }
+        requires marked { IsWellMarked (code_program code.now) }
         ensures { result ≡ code.now }
     {
-        CountedCode { code }
+        let unmarked = is_unmarked(code);
+        CountedCode { code, unmarked }
     }
 
     /// The code.
     pub fn get(&self) -> &'a Code
         ensures same { result.now ≡ self.now }
         ensures counted { IsWellCounted (code_program self.now) }
-        ensures unmarked { IsUnmarked (code_program self.now) }
+        ensures marked { IsWellMarked (code_program self.now) }
     {
         self.code
+    }
+
+    /// Whether the code was seen to have no mark.
+    pub fn is_unmarked(&self) -> bool
+        ensures { IsTrue result → IsUnmarked (code_program self.now) }
+    {
+        self.unmarked
     }
 }
 

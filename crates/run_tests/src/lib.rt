@@ -11,6 +11,8 @@ mod heaps;
 #[cfg(test)]
 mod making;
 #[cfg(test)]
+mod marked_loops;
+#[cfg(test)]
 mod operators;
 #[cfg(test)]
 mod orders;

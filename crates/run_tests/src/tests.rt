@@ -1,6 +1,7 @@
 ghost use Rattle.std.specs.Prelude.{◌≡◌, ◌<◌, IfOk, length};
-ghost use Rattle.counted_code.specs.Counts.{IsWellCounted, IsUnmarked};
+ghost use Rattle.counted_code.specs.Counts.{IsWellCounted};
 ghost use Rattle.counted_code.specs.View.{code_program};
+ghost use Rattle.counted_marks.specs.Marks.{IsWellMarked};
 
 use buffer_heap::Heap;
 use core_ir::Var;
@@ -24,7 +25,7 @@ const PLAN: Plan = Plan {
 /// The code of a function `main` that gives its argument back.
 fn identity(alloc: Global) -> Result<Code, Fail>
     ensures counted { IfOk result (λ code. IsWellCounted (code_program code)) }
-    ensures unmarked { IfOk result (λ code. IsUnmarked (code_program code)) }
+    ensures marked { IfOk result (λ code. IsWellMarked (code_program code)) }
 {
     let mut functions = Vec::new(alloc);
     functions.push(CodeFun {

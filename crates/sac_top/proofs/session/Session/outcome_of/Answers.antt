@@ -2,6 +2,7 @@ use Rattle.std.proofs.Common.{sym, ap, map, subst, ◌∙◌}
 use Rattle.std.proofs.lemmas.Result.{IfOk-weaker}
 use Rattle.sac_base.specs.Arrays.{form_of}
 use Rattle.counted_code.specs.View.{code_program}
+use Rattle.counted_marks.proofs.WithoutMarks.{unmarked_well}
 use Rattle.core_source_laws.proofs.Cores.{source_formed}
 use Rattle.sac_build.specs.Loops.{CameFrom}
 use Rattle.sac_build.specs.Mains.{MainTakesForms}
@@ -14,6 +15,9 @@ returns-in_err-compiled-clause-left g c = stays _ c.requires.new
 
 pub run-result-requires-clause-counted : goal.run-result-requires-clause-counted
 run-result-requires-clause-counted g c κs within = c.in_ok-compiled.ensures.counted (source_formed c.requires.ready.read.0 _ c.requires.ready.read.1)
+
+pub run-result-requires-clause-marked : goal.run-result-requires-clause-marked
+run-result-requires-clause-marked g c κs within = unmarked_well (code_program c.in_ok-compiled.compiled.code) c.in_ok-compiled.ensures.unmarked
 
 pub returns-clause-outcome : goal.returns-clause-outcome
 returns-clause-outcome g c =

@@ -1,0 +1,193 @@
+//! Parted loops that write their result over the array of the marked variable.
+
+ghost use Rattle.counted_code.specs.Loops.{Old, count_phase, job_does, release_rest, write_cell};
+ghost use Rattle.counted_code.specs.Values.{Heap as MachineHeap, count_of, is_small as is_small_shape, read};
+ghost use Rattle.counted_code.specs.View.{code_parted_term};
+ghost use Rattle.run_eval.specs.Jobs.{cells_job, job_of};
+ghost use Rattle.run_eval.specs.Loops.{cells_written};
+ghost use Rattle.run_eval.specs.Running.{right_in, IsAt, Told, IsOnly, IsValue, SameScopes};
+ghost use Rattle.run_over.specs.Soles.{is_only};
+ghost use Rattle.run_store.specs.Stands.{Stands, lender_of};
+ghost use Rattle.run_values.specs.Numbers.{numbers};
+ghost use Rattle.run_values.specs.Scopes.{current};
+ghost use Rattle.run_values.specs.Shown.{value_of};
+ghost use Rattle.core_ir.specs.Meaning.{joined};
+ghost use Rattle.std.specs.Prelude.{◌≡◌, ◌+◌, ℕ, false, true, map, option_map, unsigned_abs, OnOk};
+
+use crate::array_loops::{loop_cell, run_cell_loop};
+use crate::bounds::parted_plan;
+use crate::cell_loop::{CellLoop, CellSource, LoopResult};
+use crate::cells::count;
+use crate::phases::{Outside, Phases};
+use crate::state::{Context, State};
+use array_with_loops::IndexVector;
+use buffer_heap::BufferId;
+use core_ir::PartedOp;
+use counted_code::CodeParted;
+use run_over::{claim_over, is_sole, write_over};
+use run_store::{Store, is_small, release, same_sizes};
+use run_values::{Few, RunValue};
+use sac_base::{Memory, Shape, Site, Stop};
+
+/// The result of a marked loop. A loop without a mark and a fold, which well-marked code has none of, count as want of
+/// memory.
+#[cycle(run)]
+pub fn run_marked<P: Phases>(
+    parted: &CodeParted,
+    site: Site,
+    context: &Context<'_>,
+    outside: Option<&Outside<P>>,
+    state: &mut State<'_>,
+) -> Result<RunValue, Stop>
+    ensures told { (m : MachineHeap) → IsAt state.old m
+        → Told IsOnly result state.new (right_in context.now (code_parted_term parted.now) site (current state.old.frames) m) }
+    ensures scopes { OnOk result (SameScopes state.old.frames state.new.frames) }
+    ensures lender { lender_of state.new.heap ≡ lender_of state.old.heap }
+{
+    let Some(mark) = parted.reuse else {
+        return Err(Stop::Memory);
+    };
+    if let PartedOp::Fold { .. } = parted.op {
+        return Err(Stop::Memory);
+    }
+    let plan = parted_plan(
+        context.alloc,
+        &parted.frame,
+        parted.base,
+        &parted.cell,
+        parted.op,
+    )?;
+    let source = CellSource::Parts(&parted.parts);
+    let result = LoopResult::Joined;
+    let work = CellLoop {
+        source,
+        plan: &plan,
+        result,
+    };
+    let array = state.frames.get(mark);
+    run_marked_loop(&work, array, context, outside, state)
+}
+
+/// The result of a loop with a mark, whose checks have passed. The marked variable's reference ends with the loop.
+#[cycle(run)]
+fn run_marked_loop<P: Phases>(
+    work: &CellLoop<'_>,
+    array: RunValue,
+    context: &Context<'_>,
+    outside: Option<&Outside<P>>,
+    state: &mut State<'_>,
+) -> Result<RunValue, Stop>
+    ensures told { (m : MachineHeap) → IsAt state.old m
+        → Told IsValue result state.new (job_does (Some (value_of array)) (job_of context.now (current state.old.frames) m work.now) m) }
+    ensures scopes { OnOk result (SameScopes state.old.frames state.new.frames) }
+    ensures lender { lender_of state.new.heap ≡ lender_of state.old.heap }
+{
+    if is_small(&work.plan.shape) || !is_sole(&state.heap, &array)? {
+        let value = run_cell_loop(work, context, outside, state)?;
+        release(&mut state.heap, array)?;
+        return Ok(value);
+    }
+    match work.result {
+        LoopResult::Joined => run_in_place(work, array, context, outside, state),
+        _ => Err(Stop::Memory),
+    }
+}
+
+/// An array of the cells alone, over that of a value which is the only reference to its buffer.
+#[cycle(run)]
+fn run_in_place<P: Phases>(
+    work: &CellLoop<'_>,
+    array: RunValue,
+    context: &Context<'_>,
+    outside: Option<&Outside<P>>,
+    state: &mut State<'_>,
+) -> Result<RunValue, Stop>
+    ensures told { (m : MachineHeap) → IsAt state.old m → is_small_shape work.now.plan.now.shape ≡ false → is_only m (value_of array) ≡ true
+        → Told IsValue result state.new (job_does (Some (value_of array))
+        (cells_job context.now (current state.old.frames) m work.now false (joined work.now.plan.now.form.base work.now.plan.now.shape)) m) }
+    ensures scopes { OnOk result (SameScopes state.old.frames state.new.frames) }
+    ensures lender { lender_of state.new.heap ≡ lender_of state.old.heap }
+{
+    let RunValue::Buffer(_, buffer, extents) = array else {
+        return Err(Stop::Memory);
+    };
+    if !has_shape(&extents, &work.plan.shape) {
+        return Err(Stop::Memory);
+    }
+    begin_in_place(work.plan.frame.count(), buffer, context, state)?;
+    fill_in_place(work, buffer, context, outside, state)?;
+    Ok(RunValue::Buffer(work.plan.form.base, buffer, extents))
+}
+
+/// Writes the cells of all indices into a buffer, each before the next one is computed.
+#[cycle(run)]
+fn fill_in_place<P: Phases>(
+    work: &CellLoop<'_>,
+    buffer: BufferId,
+    context: &Context<'_>,
+    outside: Option<&Outside<P>>,
+    state: &mut State<'_>,
+) -> Result<(), Stop>
+    ensures told { (m : MachineHeap) → IsAt state.old m
+        → Told (λ _ found. Unit {0}) result state.new (cells_written buffer.born context.now (current state.old.frames) work.now m) }
+    ensures scopes { OnOk result (SameScopes state.old.frames state.new.frames) }
+    ensures lender { lender_of state.new.heap ≡ lender_of state.old.heap }
+{
+    let mut index = IndexVector::new(context.alloc);
+    for place in 0..work.plan.frame.count() {
+        work.plan.frame.index(place, &mut index)?;
+        let value = loop_cell(
+            &work.source,
+            &work.plan.ranges,
+            &work.plan.form,
+            index.components(),
+            context,
+            outside,
+            state,
+        )?;
+        put_in_place(&mut state.heap, value, buffer, place)?;
+    }
+    Ok(())
+}
+
+/// Whether these are the extents of the shape.
+fn has_shape(extents: &Few, shape: &Shape) -> bool
+    ensures { result ≡ true → map unsigned_abs (numbers extents.now) ≡ shape.now }
+{
+    same_sizes(extents.as_slice(), shape.extents())
+}
+
+/// Takes over a buffer to which there is one reference, for a phase of so many positions.
+fn begin_in_place(
+    positions: usize,
+    buffer: BufferId,
+    context: &Context<'_>,
+    state: &mut State<'_>,
+) -> Result<(), Memory>
+    ensures begun { (m : MachineHeap) (n : ℕ) → n ≡ positions → IsAt state.old m
+        → OnOk result (IsAt state.new (record (count_phase true n m) { reused = m.reused + 1 })) }
+    ensures frames { OnOk result (state.new.frames ≡ state.old.frames) }
+    ensures lender { lender_of state.new.heap ≡ lender_of state.old.heap }
+{
+    count(context.alloc, positions, state, true)?;
+    claim_over(&mut state.heap, buffer)
+}
+
+/// Writes a scalar cell at its place into a buffer that was taken over. A cell that is none, and an index without a cell, which
+/// loops of well-marked code do not have, count as want of memory.
+fn put_in_place(
+    heap: &mut Store<'_>,
+    value: Option<RunValue>,
+    buffer: BufferId,
+    place: usize,
+) -> Result<(), Memory>
+    ensures put { (m : MachineHeap) → Stands heap.old m
+        → OnOk result (Stands heap.new (write_cell (Old buffer.born) place (option_map (read m) (option_map value_of value))
+        (release_rest (option_map value_of value) m))) }
+    ensures lender { lender_of heap.new ≡ lender_of heap.old }
+{
+    match value {
+        Some(RunValue::Word(_, element)) => write_over(heap, buffer, place, element),
+        _ => Err(Memory),
+    }
+}
