@@ -1,6 +1,6 @@
 -- Loops with a mark, from what is told of their parts.
-use Rattle.std.proofs.Common.{◌≡◌, ℕ, List, map, Bool, true, false, refl, sym, ap, ◌∙◌, subst, Result, Ok, Err, Option, Some, None}
-use Rattle.std.specs.Prelude.{ℤ, ◌==◌, ◌++◌, length}
+use Rattle.std.proofs.Common.{◌≡◌, ℕ, List, map, Bool, true, false, true≢false, refl, sym, ap, ◌∙◌, subst, Result, Ok, Some, None}
+use Rattle.std.specs.Prelude.{ℤ, ◌++◌, ◌&&◌, not, length}
 use Rattle.sac_base.specs.declared.base.Base.{Base}
 use Rattle.sac_base.specs.declared.grid.Grid1.{Grid1}
 use Rattle.sac_base.specs.declared.op.Op.{Op}
@@ -14,7 +14,7 @@ use Rattle.core_ir.specs.Meaning.{extents, joined}
 use Rattle.counted_code.specs.declared.tree.CodePart.{CodePart}
 use Rattle.counted_code.specs.Loops.{Job, Old, cells_do, job_does, loop_does, parted_job, write_cell}
 use Rattle.counted_code.specs.Machine.{Values, one_value, reads}
-use Rattle.counted_code.specs.Values.{Heap, Value, Small, Ref, Ended, Done, Failed, count_of, go_on, is_small, pure_end, release}
+use Rattle.counted_code.specs.Values.{Heap, Value, Small, Ref, Ended, Done, go_on, is_small, pure_end, release}
 use Rattle.array_with_loops.specs.Plans.{plan_of}
 use Rattle.mark_laws.proofs.Jobs.{IsSpared, job_over, job_rest, reusing}
 use Rattle.phase_count.proofs.Tallying.{counts_as}
@@ -40,14 +40,10 @@ use Rattle.run_eval.proofs.WrittenRuns.{Written}
 
 -- ---- an array that is not taken over
 
--- a small result, and an array that has another reference
-pub spared_small : (h : Heap) (w : Value) (small : Bool) → small ≡ true → IsSpared small h w
-spared_small h w small is = subst (λ s. IsSpared s h w) (sym is) tt
-
-pub spared_shared : (h : Heap) (w : Value) (small : Bool) → is_only h w ≡ false → IsSpared small h w
-spared_shared h w true only = tt
-spared_shared h (Small a) false only = tt
-spared_shared h (Ref b base shape) false only = only
+pub is_spared : (h : Heap) (w : Value) (small : Bool) → (not small && is_only h w) ≡ false → IsSpared small h w
+is_spared h w true over = tt
+is_spared h (Small a) false over = tt
+is_spared h (Ref b base shape) false over = over
 
 -- the loop is run as without the mark
 module _ (j : Job) (w : Value) (m : Heap) (spared : IsSpared (is_small j.shape) m w) where
@@ -63,6 +59,14 @@ module _ (j : Job) (w : Value) (m : Heap) (spared : IsSpared (is_small j.shape) 
       (λ u h is at. (is, record { heap = released h at.heap; phases = counts_as s.phases t.phases h.phases (release w h).phases phases (sym (release_phases w h)) at.phases })) told)
 
 -- ---- an array that is taken over
+
+pub not_small : (small only : Bool) → (not small && only) ≡ true → small ≡ false
+not_small true only over = absurd (true≢false (sym over))
+not_small false only over = refl
+
+pub only_one : (small only : Bool) → (not small && only) ≡ true → only ≡ true
+only_one true only over = absurd (true≢false (sym over))
+only_one false only over = over
 
 module _ (context : Context) (w : CellLoop) (s s0 : State) (m : Heap) (frames : s0.frames ≡ s.frames) (small : is_small w.plan.now.shape ≡ false)
     (v : Value) (b : ℕ) (base : Base) (shape : List ℕ) (value : v ≡ Ref b base shape) (only : is_only m v ≡ true) where

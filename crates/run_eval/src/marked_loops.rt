@@ -12,7 +12,7 @@ ghost use Rattle.run_values.specs.Numbers.{numbers};
 ghost use Rattle.run_values.specs.Scopes.{current};
 ghost use Rattle.run_values.specs.Shown.{value_of};
 ghost use Rattle.core_ir.specs.Meaning.{joined};
-ghost use Rattle.std.specs.Prelude.{◌≡◌, ◌+◌, ℕ, false, true, map, option_map, unsigned_abs, OnOk};
+ghost use Rattle.std.specs.Prelude.{◌≡◌, ◌+◌, ◌&&◌, ℕ, false, true, map, not, option_map, unsigned_abs, IfOk, OnOk};
 
 use crate::array_loops::{loop_cell, run_cell_loop};
 use crate::bounds::parted_plan;
@@ -82,7 +82,8 @@ fn run_marked_loop<P: Phases>(
     ensures scopes { OnOk result (SameScopes state.old.frames state.new.frames) }
     ensures lender { lender_of state.new.heap ≡ lender_of state.old.heap }
 {
-    if is_small(&work.plan.shape) || !is_sole(&state.heap, &array)? {
+    let over = is_written_over(&state.heap, &work.plan.shape, &array)?;
+    if !over {
         let value = run_cell_loop(work, context, outside, state)?;
         release(&mut state.heap, array)?;
         return Ok(value);
@@ -148,6 +149,17 @@ fn fill_in_place<P: Phases>(
         put_in_place(&mut state.heap, value, buffer, place)?;
     }
     Ok(())
+}
+
+/// Whether a result of this shape is written over the buffer of an array.
+fn is_written_over(heap: &Store<'_>, shape: &Shape, array: &RunValue) -> Result<bool, Memory>
+    ensures { (m : MachineHeap) → Stands heap.now m
+        → IfOk result (λ over. over ≡ (not (is_small_shape shape.now) && is_only m (value_of array.now))) }
+{
+    if is_small(shape) {
+        return Ok(false);
+    }
+    is_sole(heap, array)
 }
 
 /// Whether these are the extents of the shape.
