@@ -400,8 +400,8 @@ marked_loops::fill_in_place-loop_cell-requires = marked_answers.fill_in_place-lo
 pub marked_loops::run_marked-returns : goal.marked_loops::run_marked-returns
 marked_loops::run_marked-returns = marked_answers.run_marked-returns
 
-pub marked_loops::run_marked_loop-returns-in_err-value-then-not-over : goal.marked_loops::run_marked_loop-returns-in_err-value-then-not-over
-marked_loops::run_marked_loop-returns-in_err-value-then-not-over = marked_answers.run_marked_loop-returns-in_err-value-then-not-over
+pub marked_loops::run_marked_loop-returns-in_err-value : goal.marked_loops::run_marked_loop-returns-in_err-value
+marked_loops::run_marked_loop-returns-in_err-value = marked_answers.run_marked_loop-returns-in_err-value
 
 pub marked_loops::run_marked_loop-returns-then-not-over : goal.marked_loops::run_marked_loop-returns-then-not-over
 marked_loops::run_marked_loop-returns-then-not-over = marked_answers.run_marked_loop-returns-then-not-over

@@ -65,13 +65,13 @@ run_marked-returns g t c =
           let meant = parted_means ctx e a.parted.now a.site m ∙ (λ j. one_value (loop_does (λ k. parted_job p.frame p.base p.cell p.op (map (cells_in ctx e) p.parts.items) a.site (reads k e)) (reused j)) m) in
           subst (Told IsOnly r st) (sym meant)
           (marked_parts_tell ctx e m p.frame p.base p.cell p.parts.items a.site mark p.op (plan_of c.in_ok-plan.plan) c.deref.result.now r st
-          (λ o x is. c.not-Fold o x is) c.in_ok-plan.ensures c.deref.ensures.value (c.run_marked_loop.ensures.told m at));
+          (λ o x is. c.in_default-op.not-Fold o x is) c.in_ok-plan.ensures c.deref.ensures.value (c.run_marked_loop.ensures.told m at));
       scopes = c.run_marked_loop.ensures.scopes;
       lender = c.run_marked_loop.ensures.lender;
     }
 
-pub run_marked_loop-returns-in_err-value-then-not-over : goal.marked_loops::run_marked_loop-returns-in_err-value-then-not-over
-run_marked_loop-returns-in_err-value-then-not-over g t c =
+pub run_marked_loop-returns-in_err-value : goal.marked_loops::run_marked_loop-returns-in_err-value
+run_marked_loop-returns-in_err-value g t c =
     let a = c.args in
     let w = a.work.now in
     let s = a.state.now in
@@ -79,14 +79,14 @@ run_marked_loop-returns-in_err-value-then-not-over g t c =
     let mark = value_of a.array in
     let st = c.run_cell_loop.new.state in
     let stop = c.in_err-value.field-0.0 in
-    let is : c.from_residual.result ≡ Err stop = search rules in
+    let is : c.from_residual-in_err-value.result ≡ Err stop = search rules in
     record {
       told = λ m at.
           let j = job_of a.context.now e m w in
           let over = sym (c.in_ok-over.ensures m at.heap) ∙ c.if-not-over.true in
-          handed IsValue c.from_residual.result stop st (job_does (Some mark) j m) is
+          handed IsValue c.from_residual-in_err-value.result stop st (job_does (Some mark) j m) is
           (spared_stops j mark m (is_spared m mark (is_small w.plan.now.shape) over) stop st (c.in_err-value.ensures.told m at));
-      scopes = no_scopes (SameScopes s.frames st.frames) c.from_residual.result stop is;
+      scopes = no_scopes (SameScopes s.frames st.frames) c.from_residual-in_err-value.result stop is;
       lender = c.in_err-value.ensures.lender;
     }
 
