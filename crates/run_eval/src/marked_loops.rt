@@ -198,8 +198,11 @@ fn put_in_place(
         (release_rest (option_map value_of value) m))) }
     ensures lender { lender_of heap.new ≡ lender_of heap.old }
 {
-    match value {
-        Some(RunValue::Word(_, element)) => write_over(heap, buffer, place, element),
-        _ => Err(Memory),
-    }
+    let Some(cell) = value else {
+        return Err(Memory);
+    };
+    let RunValue::Word(_, element) = cell else {
+        return Err(Memory);
+    };
+    write_over(heap, buffer, place, element)
 }
