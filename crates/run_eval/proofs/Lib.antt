@@ -9,6 +9,8 @@ pub mod CellRuns
 pub mod CellScopes
 pub mod CellTold
 pub mod Found
+pub mod InPlace
+pub mod MarkedJobs
 pub mod Measures
 pub mod PartFrames
 pub mod PartJobs
@@ -20,3 +22,4 @@ pub mod WholeRuns
 pub mod WithHolders
 pub mod WithJobs
 pub mod WithTerms
+pub mod WrittenRuns

@@ -109,6 +109,10 @@ pub on_ok : {A E X Y : Type 0} (r : Result A E) → (X → Y) → OnOk r X → O
 on_ok (Ok a) f x = f x
 on_ok (Err e) f x = tt
 
+pub always_on_ok : {A E X : Type 0} (r : Result A E) → X → OnOk r X
+always_on_ok (Ok a) x = x
+always_on_ok (Err e) x = tt
+
 -- values that are appended to others
 pub appended : (old own new : List RunValue) (ws : List Value) → new ≡ old ++ own → map value_of own ≡ ws → map value_of new ≡ map value_of old ++ ws
 appended old own new ws e f = ap (map value_of) e ∙ map-append value_of old own ∙ ap (λ us. map value_of old ++ us) f

@@ -1,6 +1,6 @@
 -- A whole run, from what its parts tell.
 use Rattle.std.proofs.Common.{◌≡◌, ℕ, ℤ, zero, suc, ◌+◌, ◌<◌, ◌≤◌, ◌%◌, ◌^◌, Bool, true, false, List, [], ◌∷◌, ◌++◌, drop, get_or, length, map, take, Some, None, refl, sym, ap, ◌∙◌, subst, arith}
-use Rattle.std.specs.Prelude.{Option, Result, Ok, Err, Vec, slice_get, if◌then◌else◌}
+use Rattle.std.specs.Prelude.{Option, OnOk, Result, Ok, Err, Vec, slice_get, if◌then◌else◌}
 use Rattle.std.specs.declared.alloc.Global.{Global}
 use Rattle.std.proofs.lemmas.List.{append_assoc, append-nil, drop_more, get_or-map, get_or_append_left, get_or_push, length-map, length_push, map-append, take_more}
 use Rattle.std.proofs.lemmas.Option.{slice_get-get_or}
@@ -257,7 +257,7 @@ outcome_told (Err (Faulted f)) s (Done ws k) told = elim told [ ]
 outcome_told (Err (Faulted f)) s (Failed g p) told = ap Err (sym told.0)
 outcome_told (Err Memory) s w told = tt
 
-pub cost_told : (r : Result (Vec ArrayValue Global) Stop) (s : State) (t : Trace) (w : Ended (List ArrayValue)) → Told AreArrays r s w → lender_of s.heap ≡ None → (cost_of w).given ≡ (cost_of w).taken → t.taken ≡ s.heap.own.taken → t.given ≡ t.taken → t.reused ≡ s.heap.own.reused → t.phases ≡ s.phases.number → TellsCost r t (cost_of w)
+pub cost_told : (r : Result (Vec ArrayValue Global) Stop) (s : State) (t : Trace) (w : Ended (List ArrayValue)) → Told AreArrays r s w → lender_of s.heap ≡ None → OnOk r ((cost_of w).given ≡ (cost_of w).taken) → t.taken ≡ s.heap.own.taken → t.given ≡ t.taken → t.reused ≡ s.heap.own.reused → t.phases ≡ s.phases.number → TellsCost r t (cost_of w)
 cost_told (Ok v) s t (Done ws k) told alone even taken given reused phases =
     let same = taken ∙ taken_stands s.heap k alone told.1.heap in
     (same, given ∙ same ∙ sym even, reused ∙ reused_stands s.heap k alone told.1.heap, phases ∙ ap (λ (p : PhaseNumbers). p.number) told.1.phases)

@@ -12,7 +12,7 @@ ghost use Rattle.run_values.specs.Numbers.{numbers};
 ghost use Rattle.run_values.specs.Scopes.{current};
 ghost use Rattle.run_values.specs.Shown.{value_of};
 ghost use Rattle.core_ir.specs.Meaning.{joined};
-ghost use Rattle.std.specs.Prelude.{◌≡◌, ◌+◌, ℕ, false, true, map, option_map, unsigned_abs, OnOk};
+ghost use Rattle.std.specs.Prelude.{◌≡◌, ◌+◌, ◌&&◌, ℕ, false, true, map, not, option_map, unsigned_abs, IfOk, OnOk};
 
 use crate::array_loops::{loop_cell, run_cell_loop};
 use crate::bounds::parted_plan;
@@ -82,7 +82,8 @@ fn run_marked_loop<P: Phases>(
     ensures scopes { OnOk result (SameScopes state.old.frames state.new.frames) }
     ensures lender { lender_of state.new.heap ≡ lender_of state.old.heap }
 {
-    if is_small(&work.plan.shape) || !is_sole(&state.heap, &array)? {
+    let over = is_written_over(&state.heap, &work.plan.shape, &array)?;
+    if !over {
         let value = run_cell_loop(work, context, outside, state)?;
         release(&mut state.heap, array)?;
         return Ok(value);
@@ -150,6 +151,17 @@ fn fill_in_place<P: Phases>(
     Ok(())
 }
 
+/// Whether a result of this shape is written over the buffer of an array.
+fn is_written_over(heap: &Store<'_>, shape: &Shape, array: &RunValue) -> Result<bool, Memory>
+    ensures { (m : MachineHeap) → Stands heap.now m
+        → IfOk result (λ over. over ≡ (not (is_small_shape shape.now) && is_only m (value_of array.now))) }
+{
+    if is_small(shape) {
+        return Ok(false);
+    }
+    is_sole(heap, array)
+}
+
 /// Whether these are the extents of the shape.
 fn has_shape(extents: &Few, shape: &Shape) -> bool
     ensures { result ≡ true → map unsigned_abs (numbers extents.now) ≡ shape.now }
@@ -186,8 +198,11 @@ fn put_in_place(
         (release_rest (option_map value_of value) m))) }
     ensures lender { lender_of heap.new ≡ lender_of heap.old }
 {
-    match value {
-        Some(RunValue::Word(_, element)) => write_over(heap, buffer, place, element),
-        _ => Err(Memory),
-    }
+    let Some(cell) = value else {
+        return Err(Memory);
+    };
+    let RunValue::Word(_, element) = cell else {
+        return Err(Memory);
+    };
+    write_over(heap, buffer, place, element)
 }

@@ -1,6 +1,7 @@
 //! A whole program.
 
 ghost use Rattle.std.specs.Prelude.{◌≡◌, ◌≤◌, IfOk, OnOk, map};
+ghost use Rattle.core_calls.specs.Arrays.{AllFull};
 ghost use Rattle.counted_code.specs.Counts.{IsWellCounted};
 ghost use Rattle.counted_code.specs.Outcome.{copied_out, cost_of, outcome_of, whole_run};
 ghost use Rattle.counted_code.specs.Values.{Heap as MachineHeap, place_all as all_placed, read, release_all as all_released};
@@ -187,6 +188,7 @@ fn run_main<P: Phases>(
     state: &mut State<'_>,
 ) -> Result<Vec<Array>, Stop>
     ensures told { (m : MachineHeap) → IsAt state.old m → Told AreArrays result state.new (main_in context.now args.items m) }
+    ensures full { OnOk result (AllFull args.items) }
     ensures lender { lender_of state.new.heap ≡ lender_of state.old.heap }
 {
     let code = context.code.get();
@@ -209,10 +211,12 @@ fn place_all(
     arrays: Vec<Array>,
 ) -> Result<Vec<RunValue>, Memory>
     ensures placed { (m : MachineHeap) → Stands heap.old m → IfOk result (λ v. ArePlaced v.items heap.new (all_placed arrays.items m)) }
+    ensures full { OnOk result (AllFull arrays.items) }
     ensures lender { lender_of heap.new ≡ lender_of heap.old }
 {
     let mut values = Vec::new(alloc);
     for array in arrays {
+        let _ = array.cells();
         values.push(place_own(heap, array)?)?;
     }
     Ok(values)

@@ -1,12 +1,14 @@
 -- The answers of the cycle, which stand by topic in the folder of this file's name.
 mod BlockAnswers
 mod CellAnswers
+mod MarkedAnswers
 mod RightAnswers
 mod TurnAnswers
 mod WithAnswers
 use Rattle.run_eval.proofs.+run.Goals as goal
 use Rattle.run_eval.proofs.+run.Answers.BlockAnswers as block_answers
 use Rattle.run_eval.proofs.+run.Answers.CellAnswers as cell_answers
+use Rattle.run_eval.proofs.+run.Answers.MarkedAnswers as marked_answers
 use Rattle.run_eval.proofs.+run.Answers.RightAnswers as right_answers
 use Rattle.run_eval.proofs.+run.Answers.TurnAnswers as turn_answers
 use Rattle.run_eval.proofs.+run.Answers.WithAnswers as with_answers
@@ -376,3 +378,51 @@ array_loops::run_parted-returns-in-Fold-clause-told = with_answers.run_parted-re
 
 pub array_loops::run_parted-returns : goal.array_loops::run_parted-returns
 array_loops::run_parted-returns = with_answers.run_parted-returns
+
+pub array_loops::run_parted-run_marked-requires : goal.array_loops::run_parted-run_marked-requires
+array_loops::run_parted-run_marked-requires = marked_answers.run_parted-run_marked-requires
+
+pub marked_loops::run_marked-run_marked_loop-requires : goal.marked_loops::run_marked-run_marked_loop-requires
+marked_loops::run_marked-run_marked_loop-requires = marked_answers.run_marked-run_marked_loop-requires
+
+pub marked_loops::run_marked_loop-run_cell_loop-requires : goal.marked_loops::run_marked_loop-run_cell_loop-requires
+marked_loops::run_marked_loop-run_cell_loop-requires = marked_answers.run_marked_loop-run_cell_loop-requires
+
+pub marked_loops::run_marked_loop-run_in_place-requires : goal.marked_loops::run_marked_loop-run_in_place-requires
+marked_loops::run_marked_loop-run_in_place-requires = marked_answers.run_marked_loop-run_in_place-requires
+
+pub marked_loops::run_in_place-fill_in_place-requires : goal.marked_loops::run_in_place-fill_in_place-requires
+marked_loops::run_in_place-fill_in_place-requires = marked_answers.run_in_place-fill_in_place-requires
+
+pub marked_loops::fill_in_place-loop_cell-requires : goal.marked_loops::fill_in_place-loop_cell-requires
+marked_loops::fill_in_place-loop_cell-requires = marked_answers.fill_in_place-loop_cell-requires
+
+pub marked_loops::run_marked-returns : goal.marked_loops::run_marked-returns
+marked_loops::run_marked-returns = marked_answers.run_marked-returns
+
+pub marked_loops::run_marked_loop-returns-in_err-value : goal.marked_loops::run_marked_loop-returns-in_err-value
+marked_loops::run_marked_loop-returns-in_err-value = marked_answers.run_marked_loop-returns-in_err-value
+
+pub marked_loops::run_marked_loop-returns-then-not-over : goal.marked_loops::run_marked_loop-returns-then-not-over
+marked_loops::run_marked_loop-returns-then-not-over = marked_answers.run_marked_loop-returns-then-not-over
+
+pub marked_loops::run_marked_loop-returns-in-Joined : goal.marked_loops::run_marked_loop-returns-in-Joined
+marked_loops::run_marked_loop-returns-in-Joined = marked_answers.run_marked_loop-returns-in-Joined
+
+pub marked_loops::run_in_place-returns-in_err-fill_in_place : goal.marked_loops::run_in_place-returns-in_err-fill_in_place
+marked_loops::run_in_place-returns-in_err-fill_in_place = marked_answers.run_in_place-returns-in_err-fill_in_place
+
+pub marked_loops::run_in_place-returns : goal.marked_loops::run_in_place-returns
+marked_loops::run_in_place-returns = marked_answers.run_in_place-returns
+
+pub marked_loops::fill_in_place-loop-place-init : goal.marked_loops::fill_in_place-loop-place-init
+marked_loops::fill_in_place-loop-place-init = marked_answers.fill_in_place-loop-place-init
+
+pub marked_loops::fill_in_place-returns-in_err-value : goal.marked_loops::fill_in_place-returns-in_err-value
+marked_loops::fill_in_place-returns-in_err-value = marked_answers.fill_in_place-returns-in_err-value
+
+pub marked_loops::fill_in_place-loop-place-preserved : goal.marked_loops::fill_in_place-loop-place-preserved
+marked_loops::fill_in_place-loop-place-preserved = marked_answers.fill_in_place-loop-place-preserved
+
+pub marked_loops::fill_in_place-returns : goal.marked_loops::fill_in_place-returns
+marked_loops::fill_in_place-returns = marked_answers.fill_in_place-returns

@@ -18,6 +18,7 @@ use Rattle.counted_code.specs.declared.tree.CodeWith.{size-CodeWith}
 use Rattle.run_eval.specs.Loops.{array_of, loop_source}
 use Rattle.run_eval.proofs.CellMakings.{covering, folding}
 use Rattle.run_eval.proofs.CellLoops.{Carried}
+use Rattle.run_eval.proofs.WrittenRuns.{Carried as Written}
 
 abbrev pub decreases-blocks::run_steps : goal.decreases-blocks::run_steps
 decreases-blocks::run_steps g l = rank_of l.context.now + 8 * steps_size l.steps.now + 2
@@ -88,7 +89,19 @@ abbrev pub decreases-array_loops::run_with : goal.decreases-array_loops::run_wit
 decreases-array_loops::run_with g l = rank_of l.context.now + 8 * size-CodeWith l.with.now + 1
 
 abbrev pub decreases-array_loops::run_parted : goal.decreases-array_loops::run_parted
-decreases-array_loops::run_parted g l = rank_of l.context.now + 8 * size-CodeParted l.parted.now + 1
+decreases-array_loops::run_parted g l = rank_of l.context.now + 8 * size-CodeParted l.parted.now + 2
+
+abbrev pub decreases-marked_loops::run_marked : goal.decreases-marked_loops::run_marked
+decreases-marked_loops::run_marked g l = rank_of l.context.now + 8 * size-CodeParted l.parted.now + 1
+
+abbrev pub decreases-marked_loops::run_marked_loop : goal.decreases-marked_loops::run_marked_loop
+decreases-marked_loops::run_marked_loop g l = rank_of l.context.now + 8 * source_size l.work.now.source + 8
+
+abbrev pub decreases-marked_loops::run_in_place : goal.decreases-marked_loops::run_in_place
+decreases-marked_loops::run_in_place g l = rank_of l.context.now + 8 * source_size l.work.now.source + 7
+
+abbrev pub decreases-marked_loops::fill_in_place : goal.decreases-marked_loops::fill_in_place
+decreases-marked_loops::fill_in_place g l = rank_of l.context.now + 8 * source_size l.work.now.source + 6
 
 abbrev pub decreases-array_loops::run_cell_loop : goal.decreases-array_loops::run_cell_loop
 decreases-array_loops::run_cell_loop g l = rank_of l.context.now + 8 * source_size l.work.now.source + 7
@@ -121,6 +134,13 @@ invariant-array_loops::fill-loop-place g l = record {
 abbrev pub invariant-array_loops::fold_cells-loop-place : goal.invariant-array_loops::fold_cells-loop-place
 invariant-array_loops::fold_cells-loop-place g l = record {
   carried : Carried (folding l.op) l.work.plan.now.form (λ (e : Values). loop_source l.context e l.work) l.work.plan.now.frame (array_of l.initial.sum) l.initial.state l.state (array_of l.sum) l.place;
+  scopes : SameScopes l.initial.state.frames l.state.frames;
+  lender : lender_of l.state.heap ≡ lender_of l.initial.state.heap;
+}
+
+abbrev pub invariant-marked_loops::fill_in_place-loop-place : goal.invariant-marked_loops::fill_in_place-loop-place
+invariant-marked_loops::fill_in_place-loop-place g l = record {
+  carried : Written l.buffer.born l.work.plan.now.form (λ (e : Values). loop_source l.context e l.work) l.work.plan.now.frame l.initial.state l.state l.place;
   scopes : SameScopes l.initial.state.frames l.state.frames;
   lender : lender_of l.state.heap ≡ lender_of l.initial.state.heap;
 }

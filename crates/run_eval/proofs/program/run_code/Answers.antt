@@ -3,13 +3,15 @@ use Rattle.buffer_heap.specs.Heaps.{HeapValue}
 use Rattle.counted_code.specs.Values.{empty_heap}
 use Rattle.counted_code.specs.Outcome.{cost_of, outcome_of, whole_run}
 use Rattle.counted_code.specs.View.{code_program}
-use Rattle.counted_laws.proofs.Outcomes.{ends_as_core, even_cost}
+use Rattle.counted_laws.proofs.Outcomes.{even_cost}
+use Rattle.mark_laws.proofs.Outcomes.{ends_as_core}
 use Rattle.run_store.specs.Stands.{lender_in}
 use Rattle.run_eval.specs.declared.state.State.{State}
 use Rattle.run_eval.specs.declared.trace.Trace.{Trace}
 use Rattle.array_ops.specs.Tells.{TellsItems}
 use Rattle.run_eval.specs.Outcomes.{AreArrays, TellsCost, TellsTally, draws_under}
 use Rattle.run_eval.specs.Running.{IsAt, Told}
+use Rattle.run_eval.proofs.Steps.{on_ok}
 use Rattle.run_eval.proofs.WholeRuns.{starts, whole_is, outcome_told, cost_told, cut_alike, ended_told, tallied_in, tally_told}
 use Rattle.run_eval.proofs.program.run_code.Goals as goal
 
@@ -39,7 +41,7 @@ returns-clause-cost g c =
     ended_told c.run_main-answer.result c.give_back.result _ c.give_back.ensures (λ r. TellsCost r trace (cost_of whole)) tt
     (λ holds. cost_told c.run_main-answer.result c.run_main-answer.new.state trace whole told
     (c.run_main-answer.ensures.lender ∙ ap lender_in c.of.ensures.lent)
-    (even_cost whole (ends_as_core (code_program code) c.requires.counted c.requires.unmarked c.args.args.items caps).2)
+    (on_ok c.run_main-answer.result (λ full. even_cost whole (ends_as_core (code_program code) c.requires.counted c.requires.marked c.args.args.items full caps).2) c.run_main-answer.ensures.full)
     (c.taken-trace.ensures ∙ ap (λ (h : HeapValue). h.taken) c.clear.ensures.heap)
     (c.given-trace.ensures ∙ c.clear.ensures.balanced ∙ sym c.taken-trace.ensures)
     (c.reused-trace.ensures ∙ ap (λ (h : HeapValue). h.reused) c.clear.ensures.heap)

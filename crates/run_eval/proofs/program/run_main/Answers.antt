@@ -6,6 +6,7 @@ use Rattle.run_values.specs.Shown.{value_of}
 use Rattle.run_eval.specs.declared.state.State.{State}
 use Rattle.run_eval.specs.Outcomes.{main_in, AreArrays}
 use Rattle.run_eval.specs.Running.{calls_in, IsAt, Told, ToldStop, Appends}
+use Rattle.run_eval.proofs.Steps.{always_on_ok}
 use Rattle.run_eval.proofs.WholeRuns.{placing, function_at, main_same, main_within, fits_as, misfit, fitting, then_copied, then_stops}
 use Rattle.run_eval.proofs.program.run_main.Goals as goal
 use Rattle.phase_count.proofs.Tallying.{counts_on}
@@ -78,3 +79,6 @@ returns-clause-told g c m at =
     fitting context c.args.args.items m (code_fun_term main) here vs c.place_all.new.heap c.copy_out.result c.copy_out.new.state fits p
     (then_copied unit values old t c.copy_out.new.state c.copy_out.result (function_does context.turns (calls_in context) (code_fun_term main) (map value_of vs) p.after) c.new-values.ensures.items told
     (λ k at_k. subst (λ us. Told AreArrays c.copy_out.result c.copy_out.new.state (copied_out (map value_of us) k)) c.deref-5.ensures.value (c.copy_out.ensures.told k at_k)))
+
+pub returns-clause-full : goal.returns-clause-full
+returns-clause-full g c = always_on_ok c.copy_out.result c.in_ok-placed.ensures.full
