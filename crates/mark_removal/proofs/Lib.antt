@@ -1,0 +1,4 @@
+pub mod Agreeing
+pub mod Reached
+pub mod Removed
+pub mod Rows
