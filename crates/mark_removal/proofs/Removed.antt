@@ -49,13 +49,13 @@ released_core None t = refl
 released_core (Some v) t = refl
 
 mutual
-  block_core : (t : CodeTerm) → core_of (unmark t) ≡ core_of t
+  pub block_core : (t : CodeTerm) → core_of (unmark t) ≡ core_of t
   block_core (Giving xs) = refl
   block_core (Binding xs s r b) = λ i. Bind xs s (right_core r i) ((released_core (mark_of r) (unmark b) ∙ block_core b) i)
   block_core (Keeping x b) = block_core b
   block_core (Releasing x b) = block_core b
 
-  right_core : (r : CodeRightTerm) → core_of_right (unmark_right r) ≡ core_of_right r
+  pub right_core : (r : CodeRightTerm) → core_of_right (unmark_right r) ≡ core_of_right r
   right_core (PlainCode p) = refl
   right_core (IfCode c a b) = λ i. RightTerm.If c (block_core a i) (block_core b i)
   right_core (LoopCode first start params test body s) = λ i. RightTerm.Loop first start params (block_core test i) (block_core body i) s
