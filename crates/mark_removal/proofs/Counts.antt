@@ -1,5 +1,5 @@
 -- Code without its marks is well counted.
-use Rattle.std.proofs.Common.{◌≡◌, ℕ, suc, true, List, [], ◌∷◌, ◌++◌, map, length, Option, Some, None, All, arith, subst, sym, refl, inl, inr}
+use Rattle.std.proofs.Common.{◌≡◌, ℕ, suc, true, List, [], ◌∷◌, ◌++◌, map, length, Option, Some, None, All, arith, subst, sym, true≢false, inl, inr}
 use Rattle.sac_base.specs.declared.site.Site.{Site}
 use Rattle.core_ir.specs.declared.tree.Var.{Var}
 use Rattle.core_ir.specs.Binders.{is_in, NoneIn}
@@ -44,7 +44,7 @@ module _ (scope : List Var) where
   released_within x refs after outer r w = behind_mine (x ∷ []) (after ++ outer) (turned_within (x ∷ after) refs outer (reversed r) w)
 
 params_within : (xs : List Var) → Within (xs ++ []) xs
-params_within xs x p = elim (in_either x xs [] p) [ inl q ↦ q | inr q ↦ in_back x xs [] q ]
+params_within xs x p = elim (in_either x xs [] p) [ inl q ↦ q | inr q ↦ elim (true≢false (sym q)) [ ] ]
 
 -- ---- blocks
 
@@ -64,9 +64,7 @@ module _ (results_of : ℕ → ℕ) where
     f.1,
     d,
     none_less xs (v ∷ (after ++ outer)) scope (turned_within scope (v ∷ []) mine (after ++ outer) (reversed f.0) w) k,
-    xs ++ after,
-    to_front xs v after,
-    c,
+    (xs ++ after, to_front xs v after, c),
   )
 
   mutual
@@ -95,10 +93,12 @@ module _ (results_of : ℕ → ℕ) where
         let there = within_order (before (after ++ outer) c.1) in
         let back = within_order (before (after ++ outer) (reversed c.1)) in (
           c.1,
-          c.0,
-          none,
-          all_more (parted_uses o) (mine ++ (after ++ outer)) (v ∷ (after ++ outer)) there c.2,
-          parts_moved results_of (unmark_parts parts) (mine ++ (after ++ outer)) (v ∷ (after ++ outer)) there back (parts_counted parts (mine ++ (after ++ outer)) scope w s.1 c.3),
+          (
+            c.0,
+            none,
+            all_more (parted_uses o) (mine ++ (after ++ outer)) (v ∷ (after ++ outer)) there c.2,
+            parts_moved results_of (unmark_parts parts) (mine ++ (after ++ outer)) (v ∷ (after ++ outer)) there back (parts_counted parts (mine ++ (after ++ outer)) scope w s.1 c.3),
+          ),
         )
 
     gens_counted : (gens : CodeGensTerm) (outer scope : List Var) → Within outer scope → ScopedGens scope (core_of_gens gens) → CountedGens results_of outer gens → CountedGens results_of outer (unmark_gens gens)
