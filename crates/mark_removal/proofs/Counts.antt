@@ -6,7 +6,7 @@ use Rattle.core_ir.specs.Binders.{is_in, NoneIn}
 use Rattle.core_ir.specs.Scopes.{Scoped, ScopedRight, ScopedGens, ScopedParts, parted_uses}
 use Rattle.core_ir.specs.Terms.{CoreTerm}
 use Rattle.core_ir.specs.WellFormed.{Distinct, IsFunction, IsWellFormed}
-use Rattle.counted_code.specs.Counts.{Reordered, none, stays, through, Counted, CountedRight, CountedGens, CountedParts, CountedFunctions, IsWellCounted, group_results}
+use Rattle.counted_code.specs.Counts.{Reordered, none, through, Counted, CountedRight, CountedGens, CountedParts, CountedFunctions, IsWellCounted, group_results}
 use Rattle.counted_code.specs.Outcome.{code_param_vars}
 use Rattle.counted_code.specs.Terms.{CodeTerm, CodeRightTerm, CodeGensTerm, CodePartsTerm, CodeFunTerm, CodeProgram, Giving, Binding, Keeping, Releasing, PlainCode, IfCode, LoopCode, CallCode, WithCode, PartedCode, NoCodeGens, GenCode, NoCodeParts, PartCode, core_of, core_of_right, core_of_gens, core_of_parts, core_of_fun, core_of_code}
 use Rattle.counted_placing.proofs.Lists.{Within, all_in, within_of, none_less, in_back, in_either, append_assoc}

@@ -8,7 +8,7 @@ use Rattle.core_ir.specs.Outcome.{chosen, group_at, instances}
 use Rattle.core_calls.specs.Nests.{CallsAll, CallsAllGens, CallsAllParts, StandsIn}
 use Rattle.core_calls.proofs.Agreeing.{weaker, weaker_gens, weaker_parts}
 use Rattle.core_calls.proofs.Nested.{chosen_in}
-use Rattle.counted_code.specs.Machine.{DoesCalls, no_values, bind_values, does, code_generators, code_cells}
+use Rattle.counted_code.specs.Machine.{no_values, bind_values, does, code_generators, code_cells}
 use Rattle.counted_code.specs.Outcome.{DoesRun, code_param_vars, results_do, body_does, run_does, chosen_does, call_does, call_does_at, inline_does, deeper_does}
 use Rattle.counted_code.specs.Terms.{CodeTerm, CodeGensTerm, CodePartsTerm, CodeFunTerm, CodeProgram, core_of, core_of_gens, core_of_parts, core_of_code}
 use Rattle.counted_code.specs.Values.{Heap, Value, then_go, read}

@@ -1,6 +1,6 @@
 -- Worked examples, computed: a marked loop in main, and a phase whose cells call a function without marks.
-use Rattle.std.proofs.Common.{◌≡◌, ℕ, Bool, true, false, List, [], ◌∷◌, refl, pos, rules}
-use Rattle.std.specs.Prelude.{◌≤ℤ◌, ◌==◌, Option, Some, None, Ok}
+use Rattle.std.proofs.Common.{◌≡◌, ℕ, zero, suc, Bool, true, false, List, [], ◌∷◌, refl, ap, ◌∙◌, sym, subst, pos, rules, true≢false, inl, inr}
+use Rattle.std.specs.Prelude.{◌≤ℤ◌, Option, Some, None, Ok, slice_get}
 use Rattle.std.specs.Int.{int_wrap}
 use Rattle.sac_base.specs.declared.base.Base.TheVariants.{Int}
 use Rattle.sac_base.specs.declared.faults.Caps.{Caps}
@@ -8,19 +8,22 @@ use Rattle.sac_base.specs.declared.grid.Grid1.{Grid1}
 use Rattle.sac_base.specs.declared.name.Name.{Name}
 use Rattle.sac_base.specs.declared.op.Op.TheVariants.{Add}
 use Rattle.sac_base.specs.declared.site.Site.{Site}
-use Rattle.sac_base.specs.declared.types.ArrayType.{ArrayType}
 use Rattle.sac_base.specs.declared.types.Part.TheVariants.{Known, Star}
 use Rattle.sac_base.specs.Grids.{has_index, within}
 use Rattle.sac_base.specs.Arrays.{ArrayValue, scalar, vector}
 use Rattle.core_ir.specs.declared.tree.Var.{Var}
 use Rattle.core_ir.specs.declared.tree.PartedOp.TheVariants as parted
+use Rattle.core_ir.specs.Outcome.{group_at}
 use Rattle.core_ir.specs.Terms.{PlainTerm}
-use Rattle.core_calls.specs.Nests.{CallsAll}
+use Rattle.core_calls.specs.Nests.{CallsAll, StandsIn}
 use Rattle.counted_code.specs.Counts.{Unmarked}
+use Rattle.counted_code.specs.Machine.{does}
 use Rattle.counted_code.specs.Outcome.{whole_run, outcome_of, cost_of}
-use Rattle.counted_code.specs.Terms.{CodeTerm, CodeFunTerm, CodeProgram, Giving, Binding, Keeping, Releasing, PlainCode, CallCode, PartedCode, NoCodeParts, PartCode, core_of}
-use Rattle.mark_removal.specs.Reached.{IsOne}
+use Rattle.counted_code.specs.Terms.{CodeTerm, CodeFunTerm, CodeProgram, Giving, Binding, Releasing, PlainCode, CallCode, PartedCode, NoCodeParts, PartCode, core_of, core_of_code}
+use Rattle.mark_removal.specs.Reached.{IsOne, ReachesNone}
 use Rattle.mark_removal.specs.Removal.{without_marks}
+use Rattle.mark_removal.specs.Statements.{calls_with}
+use Rattle.mark_removal.proofs.Reached.{block_same}
 
 abbrev here : Site
 here = record { line = 1; col = 1 }
@@ -117,7 +120,8 @@ removed_cost name = refl
 
 -- the group that the second loop's cells call
 abbrev zeroth : ℕ → Bool
-zeroth g = g == 0
+zeroth zero = true
+zeroth (suc g) = false
 
 -- its function and the cells have no mark, and call no other group
 function_clear : Unmarked plus × CallsAll (IsOne zeroth) (core_of plus)
@@ -125,3 +129,23 @@ function_clear = search rules
 
 cells_clear : Unmarked called × CallsAll (IsOne zeroth) (core_of called)
 cells_clear = ((tt, (tt, tt)), (tt, (refl, tt)))
+
+abbrev found_or : CodeFunTerm → Option CodeFunTerm → CodeFunTerm
+found_or f None = f
+found_or f (Some g) = g
+
+-- no other function is in the group
+only_plus : (name : Name) (group place : ℕ) (f : CodeFunTerm) → IsOne zeroth group → StandsIn (group_at (core_of_code (marked name)) group) place → slice_get (marked name).functions place ≡ Some f → function name 50 [] plus ≡ f
+only_plus name (suc g) place f is stands there = elim (true≢false (sym is)) [ ]
+only_plus name zero place f is (inl e) there = ap (found_or f) (ap (slice_get (marked name).functions) e ∙ there)
+only_plus name zero place f is (inr none) there = elim none [ ]
+
+program_clear : (name : Name) → ReachesNone (marked name) zeroth
+program_clear name = record {
+  unmarked = λ group place f is stands there. subst (λ (g : CodeFunTerm). Unmarked g.body) (only_plus name group place f is stands there) function_clear.0;
+  calls = λ group place f is stands there. subst (λ (g : CodeFunTerm). CallsAll (IsOne zeroth) (core_of g.body)) (only_plus name group place f is stands there) function_clear.1;
+}
+
+-- so the cells of the second loop do the same without the mark of the first
+cells_do_the_same : (name : Name) (turns left nest : ℕ) → does (calls_with (marked name) turns left nest) turns called ≡ does (calls_with (without_marks (marked name)) turns left nest) turns called
+cells_do_the_same name turns left nest = block_same (marked name) zeroth (program_clear name) turns left nest called cells_clear.1
