@@ -1,10 +1,13 @@
 -- What code without its marks keeps, and what does the same without them.
-use Rattle.std.specs.Prelude.{◌≡◌, ℕ, Bool}
+use Rattle.std.specs.Prelude.{◌≡◌, ℕ, Bool, List}
+use Rattle.sac_base.specs.WithLoops.{Range}
 use Rattle.core_calls.specs.Nests.{CallsAll, CallsAllGens, CallsAllParts}
 use Rattle.counted_code.specs.Counts.{IsWellCounted, IsUnmarked}
-use Rattle.counted_code.specs.Machine.{DoesCalls, does, code_generators, code_cells}
+use Rattle.counted_code.specs.Loops.{holder, part_holder}
+use Rattle.counted_code.specs.Machine.{DoesCalls, Values, does, code_generators, code_cells}
 use Rattle.counted_code.specs.Outcome.{call_does, call_does_at, deeper_does, inline_does}
 use Rattle.counted_code.specs.Terms.{CodeTerm, CodeGensTerm, CodePartsTerm, CodeProgram, core_of, core_of_gens, core_of_parts, core_of_code}
+use Rattle.counted_code.specs.Values.{Heap}
 use Rattle.mark_removal.specs.Reached.{IsOne, ReachesNone}
 use Rattle.mark_removal.specs.Removal.{without_marks}
 
@@ -86,3 +89,19 @@ PartsDoTheSame =
     (code : CodeProgram) (reached : ℕ → Bool) → ReachesNone code reached → (turns left nest : ℕ) (parts : CodePartsTerm) →
     CallsAllParts (IsOne reached) (core_of_parts parts) →
     code_cells (calls_with code turns left nest) turns parts ≡ code_cells (calls_with (without_marks code) turns left nest) turns parts
+
+-- so the cell at each index of a with-loop
+abbrev pub WithCellsDoTheSame : Type 0
+WithCellsDoTheSame =
+    (code : CodeProgram) (reached : ℕ → Bool) → ReachesNone code reached → (turns left nest : ℕ) (gens : CodeGensTerm) →
+    CallsAllGens (IsOne reached) (core_of_gens gens) → (e : Values) (h : Heap) (ranges : List Range) →
+    holder (code_generators (calls_with code turns left nest) turns gens e h) ranges
+    ≡ holder (code_generators (calls_with (without_marks code) turns left nest) turns gens e h) ranges
+
+-- and of a parted loop
+abbrev pub PartedCellsDoTheSame : Type 0
+PartedCellsDoTheSame =
+    (code : CodeProgram) (reached : ℕ → Bool) → ReachesNone code reached → (turns left nest : ℕ) (parts : CodePartsTerm) →
+    CallsAllParts (IsOne reached) (core_of_parts parts) → (e : Values) →
+    part_holder (code_cells (calls_with code turns left nest) turns parts e)
+    ≡ part_holder (code_cells (calls_with (without_marks code) turns left nest) turns parts e)

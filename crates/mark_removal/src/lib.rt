@@ -5,6 +5,7 @@ ghost use Rattle.mark_removal.specs.Statements.{NoneIsLeft, TheCoreStays, TheCou
 ghost use Rattle.mark_removal.specs.Statements.{BlocksFollowCalls, GeneratorsFollowCalls, PartsFollowCalls};
 ghost use Rattle.mark_removal.specs.Statements.{CallsDoTheSame, CallsOfEachLevelDoTheSame};
 ghost use Rattle.mark_removal.specs.Statements.{BlocksDoTheSame, GeneratorsDoTheSame, PartsDoTheSame};
+ghost use Rattle.mark_removal.specs.Statements.{WithCellsDoTheSame, PartedCellsDoTheSame};
 
 /// Law: code whose marks are turned back into releases has no marks, and the same core. It is well counted where the code was, and code without marks
 /// stays as it is.
@@ -28,10 +29,12 @@ pub fn calls_reach_no_mark()
     ensures levels { CallsOfEachLevelDoTheSame }
 {}
 
-/// Law: a block does the same with the calls of code without its marks, where it calls groups from which no mark is reached. So do the cells of a
-/// with-loop and of a parted loop.
+/// Law: a block does the same with the calls of code without its marks, where it calls groups from which no mark is reached. So do the generators of a
+/// with-loop, the parts of a parted loop, and the cells of both.
 pub fn cells_reach_no_mark()
     ensures blocks { BlocksDoTheSame }
     ensures generators { GeneratorsDoTheSame }
     ensures parts { PartsDoTheSame }
+    ensures with_cells { WithCellsDoTheSame }
+    ensures parted_cells { PartedCellsDoTheSame }
 {}
