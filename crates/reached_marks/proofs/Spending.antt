@@ -1,10 +1,9 @@
 -- Code without its marks spends on arrays what the code spends.
-use Rattle.std.proofs.Common.{◌≡◌, ℕ, zero, suc, List, [], ◌∷◌, map, length, ℤ, Option, Some, None, refl, ◌∙◌, sym}
+use Rattle.std.proofs.Common.{◌≡◌, ℕ, zero, suc, List, [], ◌∷◌, map, length, ℤ, Option, Some, None, refl, ◌∙◌}
 use Rattle.std.specs.Prelude.{if◌then◌else◌, option_map, slice_get}
 use Rattle.std.proofs.lemmas.List.{length-map}
 use Rattle.std.proofs.lemmas.Option.{slice_get-map}
 use Rattle.sac_base.specs.declared.base.Base.TheVariants.{Int}
-use Rattle.sac_base.specs.declared.site.Site.{Site}
 use Rattle.sac_base.specs.Arrays.{ArrayValue, vector}
 use Rattle.sac_base.specs.Grids.{has_vector, members}
 use Rattle.sac_base.specs.Parts.{condition}
@@ -17,7 +16,7 @@ use Rattle.counted_code.specs.Outcome.{code_param_vars}
 use Rattle.counted_code.specs.Terms.{CodeTerm, CodeRightTerm, CodeGensTerm, CodePartsTerm, CodeFunTerm, CodeProgram, Giving, Binding, Keeping, Releasing, PlainCode, IfCode, LoopCode, CallCode, WithCode, PartedCode, NoCodeGens, GenCode, NoCodeParts, PartCode, core_of_code}
 use Rattle.mark_removal.specs.Removal.{mark_of, released, unmark, unmark_right, unmark_gens, unmark_parts, unmark_fun, without_marks}
 use Rattle.mark_removal.proofs.Removed.{block_core, right_core, gens_core, code_core}
-use Rattle.phase_laws.specs.Spending.{CallSpending, RunSpending, Spending, nothing, both, after, choice, turns_spend, cells_spend, spends, right_spends, gens_take, parts_take, body_spends, run_spends, chosen_spends, calls_spend, inline_spends, deeper_spends}
+use Rattle.phase_laws.specs.Spending.{CallSpending, RunSpending, nothing, both, after, choice, turns_spend, cells_spend, spends, right_spends, gens_take, parts_take, body_spends, run_spends, chosen_spends, calls_spend, inline_spends, deeper_spends}
 use Rattle.phase_loop_laws.specs.Levels.{means_at, spends_at}
 
 -- ---- blocks

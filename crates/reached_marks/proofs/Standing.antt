@@ -1,5 +1,5 @@
 -- Cells that reach no mark stand alone.
-use Rattle.std.proofs.Common.{◌≡◌, ℕ, Bool, List, map, ℤ, Option, ap, sym, subst}
+use Rattle.std.proofs.Common.{ℕ, Bool, List, map, sym, subst}
 use Rattle.sac_base.specs.declared.base.Base.{Base}
 use Rattle.sac_base.specs.declared.form.Form.{Form}
 use Rattle.sac_base.specs.declared.site.Site.{Site}
@@ -11,7 +11,7 @@ use Rattle.core_ir.specs.Terms.{CoreTerm}
 use Rattle.core_calls.specs.Nests.{CallsAllGens, CallsAllParts}
 use Rattle.counted_code.specs.Counts.{IsWellCounted, IsUnmarked, UnmarkedGens, UnmarkedParts, CountedGens, CountedParts, group_results}
 use Rattle.counted_code.specs.Loops.{CodeCells, CodeGenerator, holder, part_holder}
-use Rattle.counted_code.specs.Machine.{DoesCalls, Values, code_cells, code_generators}
+use Rattle.counted_code.specs.Machine.{Values, code_cells, code_generators}
 use Rattle.counted_code.specs.Outcome.{deeper_does, inline_does}
 use Rattle.counted_code.specs.Terms.{CodeGensTerm, CodePartsTerm, CodeProgram, core_of_code, core_of_gens, core_of_parts}
 use Rattle.counted_code.specs.Values.{Doing, Heap, Value, read, count_of}
