@@ -1,0 +1,5 @@
+pub mod Agreeing
+pub mod Counts
+pub mod Reached
+pub mod Removed
+pub mod Rows
