@@ -31,6 +31,7 @@ const TOO_LONG: Fault = Fault {
 type Line = (u32, Op, u32, u32);
 
 // A loop over the parameters 10, 11 and so on. Its test says what the last line of it gives, and its value is what the first parameter has at the end.
+#[derive(Clone, Copy)]
 struct Turning<'a> {
     first_body: bool,
     start: &'a [u32],
