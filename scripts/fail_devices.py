@@ -1,12 +1,13 @@
 #!/usr/bin/env python3
-"""fail_devices.py PROGRAM: runs the program with each call on a file failing in turn, and with each read and write cut short.
+"""fail_devices.py PROGRAM [NAME ..]: runs the program with each call on a file failing in turn, and with reads and writes cut short.
 
-The Nth call of open, read or write fails with EIO, for N = 1, 2, .. until a run makes fewer calls. Each run has to end as one of these: the run's own text and
-status, where what failed did not matter; `read fault source` or `read fault input` with status 5; a front of the run's own text with status 6; or nothing
-with status 8. Where every read and write moves one byte alone, a run has to end with its own text and status.
-Prints a line for each source, and each run that ends otherwise.
-It needs a C compiler and a program that is linked dynamically.
+The Nth call of open, read or write fails, for N = 1, 2, .. until a run makes fewer calls: with EIO, EINTR or ENOSPC, and a write also by taking nothing. Each run has to end by
+what that call was of: of the source in status 5 with `read fault source`, of the input in status 5 with `read fault input`, of standard output in status 6 with what the
+calls before took, and of any other file as a run without a failure does. The Nth read or write moves one byte alone, or each of them does: a run ends as one that is not cut
+short. Where each write moves one byte, each of the first WRITES of them fails in turn. Prints a line for each source, and each run that ends otherwise.
+A NAME is one of `preloaded.SMALL`, or of an example. It needs a C compiler and a program that is linked dynamically.
 """
+import errno
 import os
 import pathlib
 import sys
@@ -14,8 +15,10 @@ import tempfile
 
 import preloaded
 
-ROOT = pathlib.Path(__file__).resolve().parent.parent
-SOURCES = ["sum", "life", "quotients", "histogram", "norms"]
+# Of writes of one byte, so many fail in turn.
+WRITES = 40
+# What a call fails with. A write that takes nothing has no error number.
+ERRORS = {"EIO": errno.EIO, "EINTR": errno.EINTR, "ENOSPC": errno.ENOSPC, "nothing taken": 0}
 
 SHIM = r"""
 #include <errno.h>
@@ -27,36 +30,48 @@ SHIM = r"""
 
 static long number(const char *name) {
     const char *text = getenv(name);
-    return text ? atol(text) : 0;
+    return text ? atol(text) : -1;
 }
 
-// What the next call meets: 0 nothing, else an error number.
-static int meets(void) {
-    long call = atomic_fetch_add(&calls, 1) + 1;
-    return call == number("FAILED") ? EIO : 0;
+// What each descriptor is of: S the source, I the input, W standard output, 0 anything else.
+static char kinds[1024] = {[1] = 'W'};
+
+static char kind_of(int at) { return at >= 0 && at < 1024 ? kinds[at] : 0; }
+
+// Counts a call, and tells what it is of. Returns its number.
+static long counted(char kind) {
+    if (kind && number("TOLD") > 0) syscall(SYS_write, 9, &kind, 1);
+    return kind ? atomic_fetch_add(&calls, 1) + 1 : 0;
 }
 
 static ssize_t moved(long call, int at, const void *bytes, size_t count) {
-    // The descriptors of the standard streams and of files alike.
-    int error = meets();
-    if (error) {
-        errno = error;
-        return -1;
+    long now = counted(kind_of(at));
+    if (now && now == number("FAILED")) {
+        errno = number("ERROR");
+        return errno ? -1 : 0;
     }
-    if (number("SHORT") && count > 1) count = 1;
+    long cut = number("SHORT");
+    if (now && count > 1 && (cut == 0 || cut == now)) count = 1;
     return syscall(call, at, bytes, count);
 }
 
 ssize_t read(int at, void *bytes, size_t count) { return moved(SYS_read, at, bytes, count); }
 ssize_t write(int at, const void *bytes, size_t count) { return moved(SYS_write, at, bytes, count); }
 
+static char named(const char *path) {
+    const char *end = strrchr(path, '.');
+    return end && !strcmp(end, ".sac") ? 'S' : end && !strcmp(end, ".in") ? 'I' : 0;
+}
+
 static int opened(int folder, const char *path, int flags, mode_t mode) {
-    int error = strncmp(path, "/proc", 5) && strncmp(path, "/sys", 4) ? meets() : 0;
-    if (error) {
-        errno = error;
+    long now = counted(named(path));
+    if (now && now == number("FAILED")) {
+        errno = number("ERROR");
         return -1;
     }
-    return syscall(SYS_openat, folder, path, flags, mode);
+    int at = syscall(SYS_openat, folder, path, flags, mode);
+    if (at >= 0 && at < 1024) kinds[at] = named(path);
+    return at;
 }
 
 #define MODE(flags, mode) do { va_list rest; va_start(rest, flags); mode = (flags) & O_CREAT ? va_arg(rest, mode_t) : 0; va_end(rest); } while (0)
@@ -71,43 +86,58 @@ def run(program, made, example, **settings):
     return preloaded.run(program, made, example, ["--report"], settings)
 
 
-def may_end(whole, status, text):
-    own_status, own_text = whole
-    return (
-        (status, text) == whole
-        or status == 5 and text in (b"read fault source\n", b"read fault input\n")
-        or status == 6 and own_text.startswith(text)
-        or (status, text) == (8, b"")
-    )
+class Tried:
+    """What was seen of a source: the calls of a run, what the runs ended in, and the runs that ended otherwise than they may."""
+
+    def __init__(self, kinds):
+        self.kinds, self.ends, self.wrong = kinds, {}, []
+
+    def judge(self, what, due, ended):
+        """Counts a run that ended, against the status and the text that are due."""
+        status, text = ended[:2]
+        self.ends[status] = self.ends.get(status, 0) + 1
+        if (status, text) != due:
+            self.wrong.append(f"{what}: status {status}, {text[:60]!r}, due {due[0]}, {due[1][:60]!r}")
+
+
+def due_of(kind, taken):
+    return {"S": (5, b"read fault source\n"), "I": (5, b"read fault input\n"), "W": (6, taken)}[kind]
 
 
 def tries(program, made, example):
-    """Returns the number of calls, the ends that were seen with how often, and those that may not be."""
-    status, text, calls = run(program, made, example)
-    ends, wrong = {}, []
-    for number in range(1, calls + 1):
-        now, written, _ = run(program, made, example, FAILED=number)
-        ends[now] = ends.get(now, 0) + 1
-        if not may_end((status, text), now, written):
-            wrong.append((f"call {number} fails", now, written[:60]))
-    now, written, _ = run(program, made, example, SHORT=1)
-    if (now, written) != (status, text):
-        wrong.append(("one byte a call", now, written[:60]))
-    return calls, ends, wrong
+    """Runs the source with each call failing in turn, and with each cut short."""
+    status, text, kinds, *_ = run(program, made, example, TOLD=1)
+    tried = Tried(kinds)
+    for number, kind in enumerate(kinds, 1):
+        for name, error in ERRORS.items():
+            if error or kind == "W":
+                ended = run(program, made, example, FAILED=number, ERROR=error)
+                # Before a later write some front was taken, of a length that the system chose.
+                taken = ended[1] if "W" in kinds[: number - 1] and text.startswith(ended[1]) else b""
+                tried.judge(f"call {number} fails by {name}", due_of(kind, taken), ended)
+        tried.judge(f"call {number} moves a byte", (status, text), run(program, made, example, SHORT=number))
+    tried.judge("one byte a call", (status, text), run(program, made, example, SHORT=0))
+    calls = run(program, made, example, SHORT=0)[3]
+    for taken in range(min(WRITES, len(text))):
+        number = calls - len(text) + taken + 1
+        tried.judge(f"write {taken + 1} of one byte fails", (6, text[:taken]), run(program, made, example, SHORT=0, FAILED=number, ERROR=errno.EIO))
+    return tried
 
 
 def main():
     program = os.path.abspath(sys.argv[1])
     lost = 0
     with tempfile.TemporaryDirectory() as place:
-        made = preloaded.library(pathlib.Path(place), SHIM)
-        for name in sys.argv[2:] or SOURCES:
-            calls, ends, wrong = tries(program, made, ROOT / "examples" / name)
-            seen = ", ".join(f"{count} in status {status}" for status, count in sorted(ends.items()))
-            print(f"{name}: {calls} calls, each failing in turn: {seen}; {len(wrong)} wrong")
-            for what, status, written in wrong[:5]:
-                print(f"    {what}: status {status}, {written!r}")
-            lost += len(wrong)
+        folder = pathlib.Path(place)
+        made = preloaded.library(folder, SHIM)
+        preloaded.write_small(folder)
+        for name in sys.argv[2:] or preloaded.names():
+            tried = tries(program, made, preloaded.place_of(folder, name))
+            seen = ", ".join(f"{count} in status {status}" for status, count in sorted(tried.ends.items()))
+            print(f"{name}: {len(tried.kinds)} calls ({tried.kinds}), {sum(tried.ends.values())} runs: {seen}; {len(tried.wrong)} wrong", flush=True)
+            for line in tried.wrong[:5]:
+                print(f"    {line}")
+            lost += len(tried.wrong)
     return 1 if lost else 0
 
 

@@ -1,22 +1,52 @@
-"""A program run with a small C library in front of the system's, which counts calls and makes some of them fail."""
+"""A program run with a small C library in front of the system's, which counts calls and makes some of them fail, and the small sources that it is run on."""
 import os
 import pathlib
 import subprocess
 
-# A program of this toolchain ends by `_exit`, at which the number of calls goes to descriptor 9. The library counts them in `calls`.
+ROOT = pathlib.Path(__file__).resolve().parent.parent
+
+# One source of each kind: a single value, two loops of which one reads the other, a few cells of an array replaced, a loop in each cell, a fault in a cell.
+SMALL = {
+    "value": ("int main() { return (2 + 3 * 4); }", None),
+    "loop_of_a_loop": ("""int[*] main() {
+  a = with { ([0] <= iv < [16]) : iv[0] * 2; } : genarray([16], 0);
+  b = with { ([0] <= iv < [16]) : a[iv] + 1; } : genarray([16], 0);
+  return (b);
+}
+""", None),
+    "first_cells": ("""int[*] main(int[.] a) {
+  b = with { ([0] <= iv < [4]) : a[iv] + 100; } : modarray(a);
+  return (b);
+}
+""", "int[16]: 0 1 2 3 4 5 6 7 8 9 10 11 12 13 14 15"),
+    "loop_in_each_cell": ("""int[*] main() {
+  return (with { ([0] <= iv < [4]) :
+      with { ([0] <= jv < [5]) : iv[0] * 10 + jv[0]; } : genarray([5], 0);
+    } : genarray([4], [0, 0, 0, 0, 0]));
+}
+""", None),
+    "fault_in_a_cell": ("""int[*] main() {
+  return (with {
+    ([0] <= iv < [4]) { x = 1 / (iv[0] - 1); } : with { } : genarray([0], x);
+  } : genarray([4], []));
+}
+""", None),
+}
+
+# A program of this toolchain ends by `_exit`, at which descriptor 9 is told the number of calls and how many of what they gave were not given back. The library counts
+# them in `calls` and `live`, and may have told more before.
 TELLS = r"""
 #include <stdatomic.h>
+#include <stdio.h>
 #include <sys/syscall.h>
 #include <unistd.h>
 
-static atomic_long calls;
+static atomic_long calls, live;
 
 static void tell(void) {
-    char text[24];
-    int at = sizeof text;
-    long count = atomic_load(&calls);
-    do { text[--at] = '0' + count % 10; count /= 10; } while (count);
-    syscall(SYS_write, 9, text + at, sizeof text - at);
+    char text[64];
+    int length = snprintf(text, sizeof text, " %ld %ld", atomic_load(&calls), atomic_load(&live));
+    syscall(SYS_write, 9, text, length);
 }
 
 void _exit(int status) {
@@ -34,8 +64,24 @@ def library(folder, text):
     return made
 
 
+def write_small(folder):
+    for name, (source, given) in SMALL.items():
+        (folder / f"{name}.sac").write_text(source)
+        if given:
+            (folder / f"{name}.in").write_text(given)
+
+
+def names():
+    """The small sources, and behind them the examples."""
+    return [*SMALL, *sorted(it.stem for it in (ROOT / "examples").glob("*.sac"))]
+
+
+def place_of(folder, name):
+    return (folder if name in SMALL else ROOT / "examples") / name
+
+
 def run(program, made, example, words, settings):
-    """Returns the status, the text, and how many calls the run made."""
+    """Returns the status, the text, and what the library told: of each call, how many there were, and how many are live. A run that is killed tells less."""
     words = [program, f"{example}.sac", *words]
     given = pathlib.Path(f"{example}.in")
     if given.exists():
@@ -49,5 +95,5 @@ def run(program, made, example, words, settings):
     finally:
         os.close(9)
     with os.fdopen(reader) as told:
-        calls = told.read()
-    return ended.returncode, ended.stdout, int(calls or 0)
+        each, calls, live = (told.read().split(" ") + ["", "", ""])[:3]
+    return ended.returncode, ended.stdout, each, int(calls or 0), int(live or 0)
