@@ -18,6 +18,7 @@ use core_ir::{PartedOp, Var};
 use core_uses::avoids_all;
 use counted_code::{CodeParted, CodeRight, CodeStep};
 use plain_facts::parted_shape;
+use reuse_rules::lesser;
 use sac_base::{Base, Grid, Memory, Shape, same_base, same_shape};
 use std::alloc::Global;
 
@@ -206,14 +207,4 @@ fn lesser_if(fits: bool, x: Var, found: Option<Var>) -> Option<Var>
     ensures { result ≡ (if fits then lesser_of x found else found) }
 {
     if fits { lesser(x, found) } else { found }
-}
-
-/// The lesser of a variable and of one that was found before.
-fn lesser(x: Var, found: Option<Var>) -> Option<Var>
-    ensures { result ≡ lesser_of x found }
-{
-    match found {
-        Some(y) if y.0 <= x.0 => Some(y),
-        _ => Some(x),
-    }
 }

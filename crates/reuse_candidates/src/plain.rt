@@ -1,15 +1,12 @@
 //! Uses of an array in right sides without blocks, and what is known of their values where it is used at the own index alone.
 
-ghost use Rattle.std.specs.List.{list_all};
-ghost use Rattle.std.specs.Ordering.{int_eq};
-ghost use Rattle.std.specs.Prelude.{◌≡◌, ◌&&◌, ◌∷◌, [], Some, IfOk, map, pos};
+ghost use Rattle.std.specs.Prelude.{◌≡◌, ◌&&◌, ◌∷◌, [], Some, IfOk, map};
 ghost use Rattle.core_facts.specs.Facts.{shape_fact};
 ghost use Rattle.core_uses.specs.Tests.{none_is};
 ghost use Rattle.counted_code.specs.Terms.{core_of_right};
 ghost use Rattle.counted_code.specs.View.{code_right_term};
-ghost use Rattle.counted_marks.specs.Marks.{is_own_index};
 ghost use Rattle.fact_table.specs.Table.{fact_of, facts_of};
-ghost use Rattle.index_table.specs.Table.{index_of, indices_of};
+ghost use Rattle.index_table.specs.Table.{indices_of};
 ghost use Rattle.plain_facts.specs.Called.{shapes_of};
 ghost use Rattle.plain_facts.specs.Rights.{fact_of_right};
 ghost use Rattle.reuse_candidates.specs.Plain.{is_own_plain, plain_core};
@@ -20,8 +17,9 @@ use core_ir::Var;
 use core_uses::avoids_all;
 use counted_code::CodeRight;
 use fact_table::{FactTable, Known};
-use index_table::{IndexTable, Relation};
+use index_table::IndexTable;
 use plain_facts::{CalledShapes, known_of, plain_fact};
+use reuse_rules::is_own;
 use sac_base::Memory;
 use std::alloc::Global;
 
@@ -108,25 +106,4 @@ fn own_plain(right: &CodeRight, array: Var, indices: &IndexTable) -> bool
         | CodeRight::Parted(_) => false,
         other => avoids_all(array, other.operands().as_slice()),
     }
-}
-
-/// Whether a variable is the index, with nothing added.
-fn is_own(relation: &Relation) -> bool
-    ensures { result ≡ is_own_index (index_of relation.now) }
-{
-    match relation {
-        Relation::Plus(numbers) => are_zero(numbers),
-        _ => false,
-    }
-}
-
-fn are_zero(numbers: &[i32]) -> bool
-    ensures { result ≡ list_all (λ z. int_eq z (pos 0)) numbers.now }
-{
-    for number in numbers {
-        if *number != 0 {
-            return false;
-        }
-    }
-    true
 }

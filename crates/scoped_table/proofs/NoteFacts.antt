@@ -16,17 +16,17 @@ none_below n less = omega (arith, less)
 
 module _ {T : Type 0} where
   -- the latest note of a variable is what stands in its slot
-  held : (n : ℕ) (k : Var → Option T) (rest : List (Hidden T)) → Rests n k rest → (x : Var) → k x ≡ noted (notes k rest) x
-  held n k [] r x = r x
-  held n k (h ∷ rest) r x = go (held n (with_entry k h.variable h.entry) rest r.1 x) (eqb h.variable.0 x.0) refl
+  noted_in : (made : Var → Type 0) (k : Var → Option T) (rest : List (Hidden T)) → Rests made k rest → (x : Var) → k x ≡ noted (notes k rest) x
+  noted_in made k [] r x = r x
+  noted_in made k (h ∷ rest) r x = go (noted_in made (with_entry k h.variable h.entry) rest r.1 x) (eqb h.variable.0 x.0) refl
     where
       go : with_entry k h.variable h.entry x ≡ noted (notes (with_entry k h.variable h.entry) rest) x → (same : Bool) → eqb h.variable.0 x.0 ≡ same
           → k x ≡ cond same (k h.variable) (noted (notes (with_entry k h.variable h.entry) rest) x)
       go behind true e = ap k (same_var x h.variable (sym (eqb-true h.variable.0 x.0 e)))
       go behind false e = ap (λ t. cond t h.entry (k x)) (sym e) ∙ behind
 
-  pub found : (n : ℕ) (k : Var → Option T) (us : List (Hidden T)) (v : List (Note T)) → Rests n k (reverse us) → notes k (reverse us) ≡ v → (x : Var) → k x ≡ noted v x
-  found n k us v r view x = held n k (reverse us) r x ∙ ap (λ (ns : List (Note T)). noted ns x) view
+  pub found : (made : Var → Type 0) (k : Var → Option T) (us : List (Hidden T)) (v : List (Note T)) → Rests made k (reverse us) → notes k (reverse us) ≡ v → (x : Var) → k x ≡ noted v x
+  found made k us v r view x = noted_in made k (reverse us) r x ∙ ap (λ (ns : List (Note T)). noted ns x) view
 
   -- as many notes as the trail is long
   as_many : (k : Var → Option T) (rest : List (Hidden T)) → length rest ≡ length (notes k rest)
@@ -37,9 +37,9 @@ module _ {T : Type 0} where
   counted k us v view = sym (length-reverse us) ∙ as_many k (reverse us) ∙ ap length view
 
   -- more slots
-  pub further : (n m : ℕ) (k : Var → Option T) (rest : List (Hidden T)) → n ≤ m → Rests n k rest → Rests m k rest
-  further n m k [] le r = r
-  further n m k (h ∷ rest) le r = (let low = r.0 in omega (arith, le, low), further n m (with_entry k h.variable h.entry) rest le r.1)
+  pub further : (made more : Var → Type 0) (k : Var → Option T) (rest : List (Hidden T)) → ((x : Var) → made x → more x) → Rests made k rest → Rests more k rest
+  further made more k [] keeps r = r
+  further made more k (h ∷ rest) keeps r = (keeps h.variable r.0, further made more (with_entry k h.variable h.entry) rest keeps r.1)
 
   latest : (us ts : List (Hidden T)) (h : Hidden T) → us ≡ ts ++ h ∷ [] → reverse us ≡ h ∷ reverse ts
   latest us ts h is = ap reverse is ∙ reverse-append ts (h ∷ [])
@@ -68,15 +68,27 @@ module _ {T : Type 0} where
         ∙ (λ i. record { variable = x; value = seen i } ∷ notes (back (with_entry now x hidden) refl i) (reverse ts))
         ∙ ap (λ (ns : List (Note T)). record { variable = x; value = o } ∷ ns) view
 
-    pub rests_learned : (n m : ℕ) (us ts : List (Hidden T)) → us ≡ ts ++ record { variable = x; entry = hidden } ∷ [] → n ≤ m → x.0 < m → Rests n k (reverse ts) → Rests m now (reverse us)
-    rests_learned n m us ts is le there r =
-        subst (Rests m now) (sym (latest us ts (record { variable = x; entry = hidden }) is))
-        (there, subst (λ (g : Var → Option T). Rests m g (reverse ts)) (sym (back (with_entry now x hidden) refl)) (further n m k (reverse ts) le r))
+    pub rests_learned : (made more : Var → Type 0) (us ts : List (Hidden T)) → us ≡ ts ++ record { variable = x; entry = hidden } ∷ [] → ((y : Var) → made y → more y) → more x
+        → Rests made k (reverse ts) → Rests more now (reverse us)
+    rests_learned made more us ts is keeps there r =
+        subst (Rests more now) (sym (latest us ts (record { variable = x; entry = hidden }) is))
+        (there, subst (λ (g : Var → Option T). Rests more g (reverse ts)) (sym (back (with_entry now x hidden) refl)) (further made more k (reverse ts) keeps r))
 
   -- the slots are as before, but perhaps more
-  pub rests_kept : (n m : ℕ) (k again : Var → Option T) (us ts : List (Hidden T)) → again ≡ k → us ≡ ts → n ≤ m → Rests n k (reverse ts) → Rests m again (reverse us)
-  rests_kept n m k again us ts e is le r =
-      subst (λ (g : Var → Option T). Rests m g (reverse us)) (sym e) (subst (λ (rs : List (Hidden T)). Rests m k (reverse rs)) (sym is) (further n m k (reverse ts) le r))
+  pub rests_kept : (made more : Var → Type 0) (k again : Var → Option T) (us ts : List (Hidden T)) → again ≡ k → us ≡ ts → ((y : Var) → made y → more y)
+      → Rests made k (reverse ts) → Rests more again (reverse us)
+  rests_kept made more k again us ts e is keeps r =
+      subst (λ (g : Var → Option T). Rests more g (reverse us)) (sym e) (subst (λ (rs : List (Hidden T)). Rests more k (reverse rs)) (sym is) (further made more k (reverse ts) keeps r))
+
+  -- the last note goes
+  pub rests_undone : (made more : Var → Type 0) (k again : Var → Option T) (us ts : List (Hidden T)) (h : Hidden T) → us ≡ ts ++ h ∷ [] → again ≡ with_entry k h.variable h.entry
+      → ((y : Var) → made y → more y) → Rests made k (reverse us) → Rests more again (reverse ts)
+  rests_undone made more k again us ts h is put keeps r =
+      subst (λ (g : Var → Option T). Rests more g (reverse ts)) (sym put)
+      (further made more (with_entry k h.variable h.entry) (reverse ts) keeps (subst (λ (rs : List (Hidden T)). Rests made k rs) (latest us ts h is) r).1)
+
+  pub last_is_made : (made : Var → Type 0) (k : Var → Option T) (us ts : List (Hidden T)) (h : Hidden T) → us ≡ ts ++ h ∷ [] → Rests made k (reverse us) → made h.variable
+  last_is_made made k us ts h is r = (subst (λ (rs : List (Hidden T)). Rests made k rs) (latest us ts h is) r).0
 
   pub kept : (k again : Var → Option T) (us ts : List (Hidden T)) (v : List (Note T)) → again ≡ k → us ≡ ts → notes k (reverse ts) ≡ v → notes again (reverse us) ≡ v
   kept k again us ts v e is view = (λ i. notes (e i) (reverse (is i))) ∙ view

@@ -3,7 +3,7 @@
 ghost use Rattle.std.specs.Prelude.{◌≡◌, ◌-◌, [], ◌∷◌, Some, length, drop, option_copied, OnOk, OnErr};
 ghost use Rattle.scoped_table.specs.Notes.{Note, noted};
 
-use crate::slots::{exchange, put_back, reach};
+use crate::slots::Slots;
 use core_ir::Var;
 use sac_base::Memory;
 use std::alloc::Global;
@@ -18,25 +18,25 @@ struct Hidden<T> {
 
 /// What is noted of variables: a list of notes, the latest first, of which the first one of a variable counts.
 ///
-/// Each variable has a slot at its number, so a look-up takes the same time however many there are.
+/// Each variable has a slot by its number, so a look-up takes the same time however many there are.
 #[derive(Drop)]
 pub struct ScopedTable<T> {
-    slots: Vec<Option<T>>,
+    slots: Slots<T>,
     // what the notes hide, the latest last
     trail: Vec<Hidden<T>>,
 }
 
 impl<T> Model for ScopedTable<T> {
-    ghost use Rattle.std.specs.Prelude.{List, length, reverse};
+    ghost use Rattle.std.specs.Prelude.{List, reverse};
     ghost use Rattle.scoped_table.specs.Notes.{Note};
 
     ghost Value = { List (Note T) };
 
-    ghost use Rattle.scoped_table.specs.Slots.{entries, notes, Rests};
+    ghost use Rattle.scoped_table.specs.Slots.{held, notes, IsMade, Rests};
 
-    ghost view = { λ t. notes (entries t.slots.items) (reverse t.trail.items) };
+    ghost view = { λ t. notes (held t.slots) (reverse t.trail.items) };
 
-    ghost invariant = { λ t. Rests (length t.slots.items) (entries t.slots.items) (reverse t.trail.items) };
+    ghost invariant = { λ t. Rests (IsMade t.slots) (held t.slots) (reverse t.trail.items) };
 }
 
 impl<T: Drop> ScopedTable<T> {
@@ -45,7 +45,7 @@ impl<T: Drop> ScopedTable<T> {
         ensures { result ≡ [] }
     {
         ScopedTable {
-            slots: Vec::new(alloc),
+            slots: Slots::new(alloc),
             trail: Vec::new(alloc),
         }
     }
@@ -54,10 +54,7 @@ impl<T: Drop> ScopedTable<T> {
     pub fn get(&self, x: Var) -> Option<&T>
         ensures { option_copied result ≡ noted self.now x }
     {
-        match self.slots.get(x.0 as usize) {
-            Some(slot) => slot.as_ref(),
-            None => None,
-        }
+        self.slots.get(x)
     }
 
     /// How many notes there are: the mark to go back to.
@@ -76,12 +73,12 @@ impl<T: Drop> ScopedTable<T> {
         ensures noted { OnOk result (self.new ≡ record { variable = x; value = Some value } ∷ self.old) }
         ensures unchanged { OnErr result (self.new ≡ self.old) }
     {
-        reach(&mut self.slots, x)?;
-        let entry = exchange(&mut self.slots, x, Some(value));
+        self.slots.reach(x)?;
+        let entry = self.slots.exchange(x, Some(value));
         match self.trail.push(Hidden { variable: x, entry }) {
             Ok(()) => Ok(()),
             Err(failed) => {
-                put_back(&mut self.slots, x, failed.value.entry);
+                self.slots.put_back(x, failed.value.entry);
                 Err(Memory)
             }
         }
@@ -101,7 +98,7 @@ impl<T: Drop> ScopedTable<T> {
         ensures { self.new ≡ drop 1 self.old }
     {
         match self.trail.pop() {
-            Some(hidden) => put_back(&mut self.slots, hidden.variable, hidden.entry),
+            Some(hidden) => self.slots.put_back(hidden.variable, hidden.entry),
             None => {}
         }
     }

@@ -1,5 +1,5 @@
 use Rattle.std.proofs.Common.{rules, ◌≡◌, length, ◌∙◌}
-use Rattle.scoped_table.specs.Slots.{entries}
+use Rattle.scoped_table.specs.Slots.{held}
 use Rattle.scoped_table.proofs.NoteFacts.{counted}
 use Rattle.scoped_table.proofs.table.ScopedTable.mark.Goals as goal
 
@@ -7,4 +7,4 @@ pub returns : goal.returns
 returns g c =
     let t = c.self.inside in
     let long : c.len.result ≡ length t.trail.items = search rules in
-    long ∙ counted (entries t.slots.items) t.trail.items c.args.self.now c.self.view_is
+    long ∙ counted (held t.slots) t.trail.items c.args.self.now c.self.view_is
