@@ -1,7 +1,7 @@
 -- A worker and the others.
 use Rattle.std.proofs.Common.{◌≡◌, ℕ, zero, suc, ◌+◌, ◌-◌, ◌*◌, ◌<◌, ◌≤◌, Bool, false, ℤ, List, [], ◌∷◌, ◌++◌, length, length-append, append-nil, Option, None, Some, Result, Ok, Err, IfOk, refl, sym, ap, subst, ◌∙◌, arith, map, Vec, vec_capacity, vec_len}
 use Rattle.std.specs.Global.{Global}
-use Rattle.std.proofs.lemmas.List.{take-append-le, append_assoc}
+use Rattle.std.proofs.lemmas.List.{take-append-le, append_assoc, length_push}
 use Rattle.std.proofs.Math.Nat.{suc-mul}
 use Rattle.sac_base.specs.Verdict.{fold_op}
 use Rattle.sac_base.specs.declared.memory.Memory.{Memory}
@@ -174,9 +174,12 @@ places_seated cell share table roster f has seated =
 
 -- a room is taken for one worker
 pub places_popped : (cell : ℕ → CellValue) (share : Share) (table : PhaseId ChunkPart) (roster : Roster) (rooms : Vec (Vec ChunkReport Global) Global) (room : Vec ChunkReport Global)
-    → HasPlaces cell share table (vec_len roster.rooms) roster → roster.rooms.items ≡ rooms.items ++ room ∷ [] → vec_len roster.rooms ≡ vec_len rooms + 1
-    → HasPlaces cell share table (vec_len rooms + 1) (record roster { rooms = rooms })
-places_popped cell share table roster rooms room has items len =
+    → HasPlaces cell share table (vec_len roster.rooms) roster → roster.rooms.items ≡ rooms.items ++ room ∷ [] → HasPlaces cell share table (vec_len rooms + 1) (record roster { rooms = rooms })
+places_popped cell share table roster rooms room has items =
+    let long = ap (λ (l : List (Vec ChunkReport Global)). length l) items ∙ length_push rooms.items room in
+    let a = roster.rooms.ok.0 in
+    let b = rooms.ok.0 in
+    let len : vec_len roster.rooms ≡ vec_len rooms + 1 = omega arith in
     let at = subst (λ (n : ℕ). HasPlaces cell share table n roster) len has in
     record {
       phase = at.phase;
@@ -201,8 +204,8 @@ back_settled cell share table n begun roster mid after mine same back done few i
     let more = one_more n (length table.parts) in
     let old = ap (λ (v : Vec ChunkReport Global). vec_len v) same in
     let long = ap (λ (l : List ChunkReport). length l) items ∙ length-append mid.reports.items mine.items in
-    let a = after.reports.ok in
-    let b = mid.reports.ok in
+    let a = after.reports.ok.0 in
+    let b = mid.reports.ok.0 in
     record {
       done = subst (λ (l : List ChunkReport). AreDone cell share table.parts l) (sym items) (done_both cell share table.parts mid.reports.items mine.items back.done done);
       frames = frames;

@@ -69,8 +69,8 @@ abbrev pub Told : (ℕ → CellValue) → (ℕ → ℕ → ℕ) → Share → Li
 Told cell cost share more before after held rows =
     AllOk more → CostOf cost share more before after × AreCombined cell share more held rows
 
--- More reports came behind those that were there. Where none of them stopped, this is what their cells cost, and the first row of a fold has their values
--- combined
+-- More reports came behind those that were there. Where none of them stopped, this is what their cells cost, and the first row of a
+-- fold has their values combined
 abbrev pub Grew : (ℕ → CellValue) → (ℕ → ℕ → ℕ) → Share → List ChunkReport → List ChunkReport → (ℕ → ℕ) → (ℕ → ℕ) → List ℤ
     → Result Bool Memory → Type 0
 Grew cell cost share old new before after rows result =

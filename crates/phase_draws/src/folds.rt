@@ -89,14 +89,15 @@ pub fn fold_phase<H: Send, C: PhaseCells<H>, G: Gate, R: Threads + Sync>(
         return Err(Stop::Memory);
     };
     let FoldRooms { begun, mut rows } = rooms;
+    let rows = rows.as_mut_slice();
     let share = Share {
         job: Job::Fold(base, op),
         width: value.len(),
         positions: phase.positions,
         size: cuts.size as usize,
     };
-    match run_phase(&phase, share, begun, &mut rows, home, counts, tally) {
-        Ok(end) => with_neutral(op, &end, &rows, value),
+    match run_phase(&phase, share, begun, rows, home, counts, tally) {
+        Ok(end) => with_neutral(op, &end, rows, value),
         Err(_) => Err(Stop::Memory),
     }
 }

@@ -60,8 +60,7 @@ run_team-returns-in-Ok-clause-grew g t c =
 pub run_others-run_team-requires-clause-places : goal.run_others-run_team-requires-clause-places
 run_others-run_team-requires-clause-places g t c κs within =
     let work = c.args.team.now.work in
-    let len : vec_len c.args.roster.now.rooms ≡ vec_len c.pop.new.self + 1 = omega arith in
-    places_popped (g.C.PhaseCells.cell work.cells.now) work.share work.table.now c.args.roster.now c.pop.new.self c.in-Some.room c.requires.places c.in-Some.ensures.items len
+    places_popped (g.C.PhaseCells.cell work.cells.now) work.share work.table.now c.args.roster.now c.pop.new.self c.in-Some.room c.requires.places c.in-Some.ensures.items
 
 pub run_others-run_team-requires-clause-room : goal.run_others-run_team-requires-clause-room
 run_others-run_team-requires-clause-room g t c κs within =
