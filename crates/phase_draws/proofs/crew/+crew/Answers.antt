@@ -25,7 +25,7 @@ run_team-run_first-end-requires-clause-begins g t c κs within =
     }
 
 pub run_team-settle_member-requires-clause-room : goal.run_team-settle_member-requires-clause-room
-run_team-settle_member-requires-clause-room g t c =
+run_team-settle_member-requires-clause-room g t c κs within =
     let work = c.args.team.now.work in
     room_for (g.C.PhaseCells.cell work.cells.now) work.share work.table.now (vec_len c.args.roster.now.rooms) _ c.args.roster.now c.run_first-end.new.roster
     (length c.run_first-end.new.member.reports.items) refl c.requires.places c.run_first-end.ensures.back c.run_first-end.ensures.through.few

@@ -16,6 +16,9 @@ run_drawn-report-requires-clause-within g c κs within = (c.requires.suits.parts
 
 pub push_reserved-requires : goal.push_reserved-requires
 push_reserved-requires g c =
+    let reports : c.if-going.member.reports ≡ c.loop-drawn.member.reports = elim c.if-going.branch [ then-going w ↦ ap (λ m. m.reports) w.member-is | else-going w ↦ ap (λ m. m.reports) w.member-is ] in
+    let len = ap (λ v. v.len) reports in
+    let cap = ap (λ v. v.cap) reports in
     let i = c.loop-drawn.invariant in
     let b = bound_under (drawn_by c.loop-drawn.member.worker.seat) c.in-Some.drawn.chunk c.in-Some.ensures.later in
     let n = ap (λ (l : List ℕ). length l) i.drawn in
@@ -47,7 +50,9 @@ loop-drawn-preserved g c =
     let rs : List ChunkReport = c.loop-drawn.member.reports.items in
     let r : ChunkReport = c.if-going.report in
     let chunk : ℕ = c.in-Some.drawn.chunk in
-    let items : c.push_reserved.new.self.items ≡ rs ++ r ∷ [] = c.push_reserved.ensures.items in
+    let reports : c.if-going.member.reports ≡ c.loop-drawn.member.reports = elim c.if-going.branch [ then-going w ↦ ap (λ m. m.reports) w.member-is | else-going w ↦ ap (λ m. m.reports) w.member-is ] in
+    let cap = ap (λ v. v.cap) reports in
+    let items : c.push_reserved.new.self.items ≡ rs ++ r ∷ [] = c.push_reserved.ensures.items ∙ ap (λ v. v.items ++ r ∷ []) reports in
     let same : c.if-going.member.worker.seat ≡ c.draw_next.new.seat = elim c.if-going.branch [ then-going w ↦ ap (λ m. m.worker.seat) w.member-is ∙ w.run_drawn-report.ensures.seat | else-going w ↦ ap (λ m. m.worker.seat) w.member-is ] in
     let list : drawn_by c.if-going.member.worker.seat ≡ drawn_by c.loop-drawn.member.worker.seat ++ chunk ∷ [] = ap drawn_by same ∙ c.in-Some.ensures.drawn in
     let own : r.chunk ≡ chunk = elim c.if-going.branch [ then-going w ↦ ap (λ (x : ChunkReport). x.chunk) w.report-is ∙ w.run_drawn-report.ensures.chunk | else-going w ↦ ap (λ (x : ChunkReport). x.chunk) w.report-is ∙ w.handed_back-report.ensures.0 ] in
