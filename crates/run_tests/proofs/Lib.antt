@@ -1,1 +1,2 @@
 mod Identity
+pub mod Sources

@@ -89,8 +89,8 @@ fn marked_code(alloc: Global, source: &[u8], forms: &[Form]) -> Result<Code, Mem
     ensures counted { IfOk result (λ code. IsWellCounted (code_program code)) }
     ensures marked { IfOk result (λ code. IsWellMarked (code_program code)) }
 {
-    let program = program(alloc, source)?;
-    let checked = match check(alloc, program) {
+    let parsed = program(alloc, source)?;
+    let checked = match check(alloc, parsed) {
         Ok(checked) => checked,
         Err(_) => return Err(Memory),
     };
