@@ -1,11 +1,10 @@
 -- Answers for loops with a mark.
-use Rattle.std.proofs.Common.{rules, ◌≡◌, true, false, [], Ok, Err, Some, ap, sym, ◌∙◌, subst, arith, refl, ◌<◌, length, get_or, map}
+use Rattle.std.proofs.Common.{rules, ◌≡◌, false, [], Ok, Err, Some, ap, sym, ◌∙◌, subst, arith, refl, ◌<◌, length, get_or, map}
 use Rattle.std.specs.Prelude.{option_map, unsigned_abs}
 use Rattle.counted_code.specs.declared.tree.CodeParted.{out-CodeParted}
 use Rattle.counted_code.specs.Loops.{job_does, loop_does, parted_job}
 use Rattle.counted_code.specs.Machine.{Values, one_value, reads}
 use Rattle.counted_code.specs.Values.{Ref, is_small}
-use Rattle.counted_code.specs.View.{code_parted_term}
 use Rattle.core_ir.specs.Meaning.{joined}
 use Rattle.array_with_loops.specs.Plans.{plan_of}
 use Rattle.run_over.specs.Soles.{is_only}
@@ -15,7 +14,7 @@ use Rattle.run_values.specs.Scopes.{current}
 use Rattle.run_values.specs.Shown.{value_of}
 use Rattle.run_eval.specs.Jobs.{cells_job, job_of}
 use Rattle.run_eval.specs.Loops.{IsPresent, cells_written, loop_source, source_at, unreleased}
-use Rattle.run_eval.specs.Running.{right_in, Told, ToldStop, IsValue, IsOnly, SameScopes, cells_in}
+use Rattle.run_eval.specs.Running.{Told, ToldStop, IsValue, IsOnly, SameScopes, cells_in}
 use Rattle.run_eval.proofs.CellScopes.{scopes_after, scopes_join}
 use Rattle.run_eval.proofs.MarkedJobs.{is_spared, joined_as, marked_parts_tell, not_small, only_one, over_stops, over_tells, spared_stops, spared_tells}
 use Rattle.run_eval.proofs.Measures.{parts_size}
