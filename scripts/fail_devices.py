@@ -2,8 +2,8 @@
 """fail_devices.py PROGRAM [NAME ..]: runs the program with each call on a file failing in turn, and with reads and writes cut short.
 
 The Nth call of open, read or write fails, for N = 1, 2, .. until a run makes fewer calls: with EIO, EINTR or ENOSPC, and a write also by taking nothing. Each run has to end by
-what that call was of: of the source in status 5 with `read fault source`, of the input in status 5 with `read fault input`, of standard output in status 6 with what the
-calls before took, and of any other file as a run without a failure does. The Nth read or write moves one byte alone, or each of them does: a run ends as one that is not cut
+what that call was of: of the source in status 5 with `read fault source`, of the input in status 5 with `read fault input`, and of standard output in status 6 with what the
+calls before took; an `open` that is interrupted is made again. The Nth read or write moves one byte alone, or each of them does: a run ends as one that is not cut
 short. Where each write moves one byte, each of the first WRITES of them fails in turn. Prints a line for each source, and each run that ends otherwise.
 A NAME is one of `preloaded.SMALL`, or of an example. It needs a C compiler and a program that is linked dynamically.
 """
@@ -33,7 +33,7 @@ static long number(const char *name) {
     return text ? atol(text) : -1;
 }
 
-// What each descriptor is of: S the source, I the input, W standard output, 0 anything else.
+// What each descriptor is of: S the source, I the input, W standard output, 0 anything else. A call that opens is told in a small letter.
 static char kinds[1024] = {[1] = 'W'};
 
 static char kind_of(int at) { return at >= 0 && at < 1024 ? kinds[at] : 0; }
@@ -64,13 +64,14 @@ static char named(const char *path) {
 }
 
 static int opened(int folder, const char *path, int flags, mode_t mode) {
-    long now = counted(named(path));
+    char kind = named(path);
+    long now = counted(kind ? kind - 'A' + 'a' : 0);
     if (now && now == number("FAILED")) {
         errno = number("ERROR");
         return -1;
     }
     int at = syscall(SYS_openat, folder, path, flags, mode);
-    if (at >= 0 && at < 1024) kinds[at] = named(path);
+    if (at >= 0 && at < 1024) kinds[at] = kind;
     return at;
 }
 
@@ -101,7 +102,7 @@ class Tried:
 
 
 def due_of(kind, taken):
-    return {"S": (5, b"read fault source\n"), "I": (5, b"read fault input\n"), "W": (6, taken)}[kind]
+    return {"S": (5, b"read fault source\n"), "I": (5, b"read fault input\n"), "W": (6, taken)}[kind.upper()]
 
 
 def tries(program, made, example):
@@ -114,7 +115,8 @@ def tries(program, made, example):
                 ended = run(program, made, example, FAILED=number, ERROR=error)
                 # Before a later write some front was taken, of a length that the system chose.
                 taken = ended[1] if "W" in kinds[: number - 1] and text.startswith(ended[1]) else b""
-                tried.judge(f"call {number} fails by {name}", due_of(kind, taken), ended)
+                due = (status, text) if kind.islower() and name == "EINTR" else due_of(kind, taken)
+                tried.judge(f"call {number} fails by {name}", due, ended)
         tried.judge(f"call {number} moves a byte", (status, text), run(program, made, example, SHORT=number))
     tried.judge("one byte a call", (status, text), run(program, made, example, SHORT=0))
     calls = run(program, made, example, SHORT=0)[3]

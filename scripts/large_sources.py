@@ -2,7 +2,7 @@
 """large_sources.py PROGRAM [NUMBER ..]: the time that the program takes for the largest sources and inputs of several kinds, whose runs do little.
 
 Each source is near 1,048,576 bytes, or near the limit of 200,000 tokens or of nesting, where that comes first; each input has 67,108,864 bytes. Prints a row of a table for each:
-its number, its bytes, the exit status, the first line of the text, the elapsed seconds, and the most memory that a run up to it held. A NUMBER runs this source alone. The status is 0
+its number, its bytes, the exit status, the first line of the text, the elapsed and the processor seconds, and the most memory that a run up to it held. A NUMBER runs this source alone. The status is 0
 where each has the answer that is due, or is answered by want of memory, in less than MOST seconds.
 """
 import os
@@ -228,9 +228,11 @@ INPUTS = [
 
 
 def held_by(source, given):
-    """Runs the program on a source and an input, and returns its answer, and the MB that this run or one before it held at most."""
+    """Runs the program on a source and an input. Returns its answer, the processor seconds that it took, and the MB that this run or one before it held at most."""
+    before = resource.getrusage(resource.RUSAGE_CHILDREN)
     answer = plain_runs.run(os.path.abspath(sys.argv[1]), source, given, seconds=MOST)
-    return answer, resource.getrusage(resource.RUSAGE_CHILDREN).ru_maxrss / 1024
+    after = resource.getrusage(resource.RUSAGE_CHILDREN)
+    return answer, after.ru_utime + after.ru_stime - before.ru_utime - before.ru_stime, after.ru_maxrss / 1024
 
 
 def main():
@@ -238,17 +240,17 @@ def main():
     cases += [(f"an input of {name}", lambda: SAME.encode(), given, due) for name, given, due in INPUTS]
     chosen = {int(word) for word in sys.argv[2:]}
     lost = 0
-    print("| | Source | Bytes | Status | Text | Seconds | Memory |\n|---|---|---|---|---|---|---|")
+    print("| | Source | Bytes | Status | Text | Seconds | Of a processor | Memory |\n|---|---|---|---|---|---|---|---|")
     for number, (name, source, given, due) in enumerate(cases, 1):
         if chosen and number not in chosen:
             continue
         texts = source(), given() if given else None
-        answer, most = held_by(*texts)
+        answer, processor, most = held_by(*texts)
         first = answer.text.split("\n", 1)[0][:40]
         right = answer.status is not None and (due == first or answer.status == 8)
         lost += not right
         size = len(texts[1] if given else texts[0])
-        print(f"| {number} | {name} | {size:,} | {answer.status} | {first} | {answer.seconds:.2f} | {most:.0f} MB |{'' if right else f' wrong, due {due}'}", flush=True)
+        print(f"| {number} | {name} | {size:,} | {answer.status} | {first} | {answer.seconds:.2f} | {processor:.2f} | {most:.0f} MB |{'' if right else f' wrong, due {due}'}", flush=True)
     return 1 if lost else 0
 
 
