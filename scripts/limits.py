@@ -83,7 +83,7 @@ def main():
     for number, (name, source, text, status, given, words) in enumerate(cases(), 1):
         if chosen and number not in chosen:
             continue
-        answer = plain_runs.run(program, source.encode(), given and given.encode(), words)
+        answer = plain_runs.run(program, source.encode(), given and given.encode(), words, seconds=1_200, processor=120)
         right = (answer.status, answer.text) == (status, text)
         lost += not right
         print(f"| {number} | {name} | {answer.status} | {answer.text[:40].strip()} | {answer.seconds:.2f} |{'' if right else f' wrong, due {status}, {text!r}'}", flush=True)

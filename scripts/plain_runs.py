@@ -1,6 +1,8 @@
 """A run of the program on a source and an input in a folder of its own, and the forms that its answers may have."""
 import os
 import re
+import resource
+import signal
 import subprocess
 import tempfile
 import time
@@ -32,8 +34,8 @@ class Answer:
         return f"status {self.status}, {self.text[:70]!r}"
 
 
-def run(program, source, given=None, words=(), seconds=120):
-    """Runs the program on the bytes of a source and of an input. A run that does not end in this time has no status."""
+def run(program, source, given=None, words=(), seconds=120, processor=resource.RLIM_INFINITY):
+    """Runs the program on the bytes of a source and of an input. A run that does not end in so many seconds, or so many of a processor, has no status."""
     with tempfile.TemporaryDirectory() as place:
         all_words = [program, "p.sac", *words]
         texts = {"p.sac": source} if given is None else {"p.sac": source, "p.in": given}
@@ -44,8 +46,11 @@ def run(program, source, given=None, words=(), seconds=120):
             all_words += ["--input", "p.in"]
         start = time.monotonic()
         try:
-            ended = subprocess.run(all_words, cwd=place, stdin=subprocess.DEVNULL, capture_output=True, timeout=seconds)
+            how = {"preexec_fn": lambda: resource.setrlimit(resource.RLIMIT_CPU, (processor, processor))} if processor != resource.RLIM_INFINITY else {}
+            ended = subprocess.run(all_words, cwd=place, stdin=subprocess.DEVNULL, capture_output=True, timeout=seconds, **how)
             status, text = ended.returncode, ended.stdout.decode("latin-1")
+            if how and status in (-signal.SIGXCPU, -signal.SIGKILL):
+                status = None
         except subprocess.TimeoutExpired:
             status, text = None, ""
         return Answer(status, text, time.monotonic() - start)

@@ -5,7 +5,10 @@ import subprocess
 
 ROOT = pathlib.Path(__file__).resolve().parent.parent
 
-# One source of each kind: a single value, two loops of which one reads the other, a few cells of an array replaced, a loop in each cell, a fault in a cell.
+# A loop in a loop, 47 deep, around a value.
+DEEP = "with { ([0] <= iv < [1]) : " * 47, "; } : fold(+, 0)" * 47
+
+# One source of each kind: a single value, two loops of which one reads the other, a few cells of an array replaced, a loop in each cell, a fault in a cell, deep nests of calls.
 SMALL = {
     "value": ("int main() { return (2 + 3 * 4); }", None),
     "loop_of_a_loop": ("""int[*] main() {
@@ -31,6 +34,9 @@ SMALL = {
   } : genarray([4], []));
 }
 """, None),
+    "deep_calls": (f"""int f(int n) {{ r = 0; if (n > 0) {{ r = {DEEP[0]}f(n - 1){DEEP[1]}; }} return (r); }}
+int main(int n) {{ return (f(n)); }}
+""", "int[]: 99"),
 }
 
 # A program of this toolchain ends by `_exit`, at which descriptor 9 is told the number of calls and how many of what they gave were not given back. The library counts
