@@ -123,7 +123,7 @@ fn run_code<P: Phases>(
         heap: Store::of(mem::replace(heap, Heap::new(alloc))),
         phases,
     };
-    let counted = CountedCode::of(code);
+    let counted = CountedCode::of(alloc, code);
     let context = Context {
         alloc,
         code: &counted,
