@@ -1,0 +1,26 @@
+import os,time
+WANT={'base':-1,'base2':-9,'final':-9,'edits':-6,'marks':6,'checks':2,'unmark':6,'edges':2,'loops':4,'draws':5}
+CRATE={'sac_main':-17,'run_tests':-14,'reuse_candidates':-17,'dense_variables':-13,'core_tests':-9,'kernel_tests':-9,'grid_ranges':-16,'kernel_lower':-14,'kernel_rows':-13,'core_fold_forms':-13,'fold_laws':-13,'merged_parts':-13,'planned_merges':-13,'phase_count':-16,'partable_loops':-13,'variable_bases':-12,'core_settled_forms':-10,'value_meaning':-9,'unreached_functions':-9,'inline_calls':-12,'known_calls':-9,'specialise':-12,'const_shape':-16,'copy_propagation':-15,'unused_bindings':-9,'vector_selections':-14,'mark_removal':-8,'index_table':-14,'plain_facts':-14,'total_cells':-14,'loop_selections':-13,'folded_parts':-12,'scalarisable_loops':-13,'merge_plans':-13,'merged_parts':-12,'planned_merges':-12,'core_fold_forms':-12,'core_cleaning':-10,'parted_bodies':-10,'norm_walk':-15,'merge_walk':-12,'scalarise':-13,'with_norm':-16,'core_scopes':-14,'sac_descent':-16,'check_walk':-16,'type_check':-16,'single_assign':-15,'sac_parse':-16,'core_norm_forms':-12,'core_norm_steps':-12,'core_fold_steps':-12,'foldable_pairs':-12,'fold_laws':-12,'binding_users':-12,'fold_walk':-13,'run_eval':-16,'sac_build':-16,'sac_top':-16,'phase_workers':-17,'wl_folding':-16,'loop_turns':-16,'phase_loop_cells':-15,'phase_kernels':-16,'phase_cells':-12,'source_meaning':-10,'sac_bases':-10,'phase_checks':-10,'mark_laws':-14,'mark_checks':-15,'phase_tests':-3,'buffer_reuse':-17,'core_inlined_bodies':-12,'core_edits':-12}
+done={}
+def clone(n):
+    cwd=os.readlink(f'/proc/{n}/cwd').split('/')
+    c=cwd[2] if len(cwd)>2 and cwd[1]=='work' else ('edits' if len(cwd)>2 and cwd[2].startswith('rt-copy-') else '')
+    return c,cwd[-1]
+while True:
+    for n in os.listdir('/proc'):
+        if not n.isdigit(): continue
+        try:
+            w=open(f'/proc/{n}/cmdline','rb').read().split(b'\0')
+            if any(x.endswith(b'seed.py') for x in w[:3]): v=-14
+            elif w[0].endswith((b'/rattle',b'/rattle-try')) or (len(w)>2 and w[1].endswith(b'bin/rt')):
+                c,crate=clone(n)
+                if c not in WANT: continue
+                v=CRATE.get(crate,WANT[c]) if c in ('edits','final') and not w[1:2]==[b'fmt'] else WANT[c]
+                if b'--test' in w and v<-6: v=-6
+                if len(w)>2 and w[1].endswith(b'bin/rt'): v=-15 if w[2]==b'ci' else min(v,-5)
+            else: continue
+            for t in os.listdir(f'/proc/{n}/task'):
+                if done.get(t)==v: continue
+                os.setpriority(os.PRIO_PROCESS,int(t),v); done[t]=v
+        except OSError: pass
+    time.sleep(1)
