@@ -47,7 +47,7 @@ pub struct Compiled {
 ///
 /// # Errors
 ///
-/// `Memory`, also where the program has 2^32 functions or more, or would have as many variables in one of them, and where more than 4,194,304 bindings
+/// `Memory`, also where the program has 2^32 functions or more, or would have as many variables in one of them, and where more than 1,048,576 bindings
 /// would be put into functions by inlining.
 pub fn compile(alloc: Global, checked: &Checked, forms: &[Form]) -> Result<Compiled, Memory>
     ensures counted { ProgramFormed (tree checked.now.program) → IfOk result (λ c. IsWellCounted (code_program c.code)) }
