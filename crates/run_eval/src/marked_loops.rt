@@ -3,7 +3,7 @@
 ghost use Rattle.counted_code.specs.Loops.{Old, count_phase, job_does, release_rest, write_cell};
 ghost use Rattle.counted_code.specs.Values.{Heap as MachineHeap, count_of, is_small as is_small_shape, read};
 ghost use Rattle.counted_code.specs.View.{code_parted_term};
-ghost use Rattle.run_eval.specs.Jobs.{cells_job, job_of};
+ghost use Rattle.run_eval.specs.Jobs.{job_of, over_does, IsOver};
 ghost use Rattle.run_eval.specs.Loops.{cells_written};
 ghost use Rattle.run_eval.specs.Running.{right_in, IsAt, Told, IsOnly, IsValue, SameScopes};
 ghost use Rattle.run_over.specs.Soles.{is_only};
@@ -11,7 +11,6 @@ ghost use Rattle.run_store.specs.Stands.{Stands, lender_of};
 ghost use Rattle.run_values.specs.Numbers.{numbers};
 ghost use Rattle.run_values.specs.Scopes.{current};
 ghost use Rattle.run_values.specs.Shown.{value_of};
-ghost use Rattle.core_ir.specs.Meaning.{joined};
 ghost use Rattle.std.specs.Prelude.{◌≡◌, ◌+◌, ◌&&◌, ℕ, false, true, map, not, option_map, unsigned_abs, IfOk, OnOk};
 
 use crate::array_loops::{loop_cell, run_cell_loop};
@@ -89,12 +88,32 @@ fn run_marked_loop<P: Phases>(
         return Ok(value);
     }
     match work.result {
-        LoopResult::Joined => run_in_place(work, array, context, outside, state),
+        LoopResult::Joined => run_over(work, array, context, outside, state),
         _ => Err(Stop::Memory),
     }
 }
 
 /// An array of the cells alone, over that of a value which is the only reference to its buffer.
+#[cycle(run)]
+pub fn run_over<P: Phases>(
+    work: &CellLoop<'_>,
+    array: RunValue,
+    context: &Context<'_>,
+    outside: Option<&Outside<P>>,
+    state: &mut State<'_>,
+) -> Result<RunValue, Stop>
+    ensures told { (m : MachineHeap) → IsAt state.old m → IsOver work.now (value_of array) m
+        → Told IsValue result state.new (over_does context.now (current state.old.frames) work.now (value_of array) m) }
+    ensures scopes { OnOk result (SameScopes state.old.frames state.new.frames) }
+    ensures lender { lender_of state.new.heap ≡ lender_of state.old.heap }
+{
+    match outside {
+        Some(phases) => phases.run_over(work, array, context, state),
+        None => run_in_place(work, array, context, outside, state),
+    }
+}
+
+/// The same on this thread, each cell written before the next one is computed.
 #[cycle(run)]
 fn run_in_place<P: Phases>(
     work: &CellLoop<'_>,
@@ -103,9 +122,8 @@ fn run_in_place<P: Phases>(
     outside: Option<&Outside<P>>,
     state: &mut State<'_>,
 ) -> Result<RunValue, Stop>
-    ensures told { (m : MachineHeap) → IsAt state.old m → is_small_shape work.now.plan.now.shape ≡ false → is_only m (value_of array) ≡ true
-        → Told IsValue result state.new (job_does (Some (value_of array))
-        (cells_job context.now (current state.old.frames) m work.now false (joined work.now.plan.now.form.base work.now.plan.now.shape)) m) }
+    ensures told { (m : MachineHeap) → IsAt state.old m → IsOver work.now (value_of array) m
+        → Told IsValue result state.new (over_does context.now (current state.old.frames) work.now (value_of array) m) }
     ensures scopes { OnOk result (SameScopes state.old.frames state.new.frames) }
     ensures lender { lender_of state.new.heap ≡ lender_of state.old.heap }
 {
