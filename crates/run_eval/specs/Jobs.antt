@@ -1,9 +1,12 @@
 -- The machine's job of a loop whose checks have passed.
 use Rattle.std.specs.Prelude.{◌≡◌, ℕ, Bool, true, false, List, ℤ, map, fold, Option, Some, None, flat_map}
 use Rattle.sac_base.specs.declared.base.Base.{Base}
+use Rattle.sac_base.specs.declared.grid.Grid1.{Grid1}
 use Rattle.sac_base.specs.Arrays.{ArrayValue}
+use Rattle.sac_base.specs.Grids.{members}
 use Rattle.sac_base.specs.WithLoops.{Plan, Range, combined}
-use Rattle.core_ir.specs.Meaning.{elements_of, joined}
+use Rattle.core_fold.specs.Cells.{IsBox}
+use Rattle.core_ir.specs.Meaning.{elements_of, extents, joined}
 use Rattle.counted_code.specs.Loops.{Job, Source, holder, job_does, part_holder}
 use Rattle.counted_code.specs.Machine.{Values}
 use Rattle.counted_code.specs.Values.{Heap, Value, Ended, is_small}
@@ -51,9 +54,18 @@ job_of context e k work = cells_job context e k work (folds_of work.result) (res
 
 -- ---- arrays over that of a marked variable
 
--- the result is no small one, and the value is the only reference to its buffer
-abbrev pub IsOver : CellLoop → Value → Heap → Type 0
-IsOver work w m = (is_small work.plan.now.shape ≡ false) × (is_only m w ≡ true)
+-- these are the indices of a shape, in row-major order
+pub record AreIndicesOf (shape : List ℕ) (indices : List (List ℤ)) : Type 0 where
+  pub frame : List Grid1
+  pub box : IsBox frame
+  pub shape_is : shape ≡ extents frame
+  pub indices_are : indices ≡ members frame
+
+-- the result is no small one, the cells are its elements in order, and the value is the only reference to its buffer
+pub record IsOver (work : CellLoop) (w : Value) (m : Heap) : Type 0 where
+  pub large : is_small work.plan.now.shape ≡ false
+  pub only : is_only m w ≡ true
+  pub in_order : AreIndicesOf work.plan.now.shape work.plan.now.frame
 
 -- an array of the cells alone, by the machine's loop with a mark
 abbrev pub over_does : Context → Values → CellLoop → Value → Heap → Ended Value

@@ -3,7 +3,9 @@
 ghost use Rattle.counted_code.specs.Loops.{Old, count_phase, job_does, release_rest, write_cell};
 ghost use Rattle.counted_code.specs.Values.{Heap as MachineHeap, count_of, is_small as is_small_shape, read};
 ghost use Rattle.counted_code.specs.View.{code_parted_term};
-ghost use Rattle.run_eval.specs.Jobs.{job_of, over_does, IsOver};
+ghost use Rattle.run_eval.specs.Jobs.{job_of, over_does, AreIndicesOf, IsOver};
+ghost use Rattle.run_eval.specs.declared.cell_loop.LoopResult.TheVariants.{Joined};
+ghost use Rattle.core_fold.specs.Cells.{IsBox};
 ghost use Rattle.run_eval.specs.Loops.{cells_written};
 ghost use Rattle.run_eval.specs.Running.{right_in, IsAt, Told, IsOnly, IsValue, SameScopes};
 ghost use Rattle.run_over.specs.Soles.{is_only};
@@ -26,7 +28,7 @@ use counted_code::CodeParted;
 use run_over::{claim_over, is_sole, write_over};
 use run_store::{Store, is_small, release, same_sizes};
 use run_values::{Few, RunValue};
-use sac_base::{Memory, Shape, Site, Stop};
+use sac_base::{Grid, Memory, Shape, Site, Stop};
 
 /// The result of a marked loop. A loop without a mark and a fold, which well-marked code has none of, count as want of
 /// memory.
@@ -64,7 +66,8 @@ pub fn run_marked<P: Phases>(
         result,
     };
     let array = state.frames.get(mark);
-    run_marked_loop(&work, array, context, outside, state)
+    let in_order = parted.cell.rank() == 0 && is_box(&parted.frame);
+    run_marked_loop(&work, array, in_order, context, outside, state)
 }
 
 /// The result of a loop with a mark, whose checks have passed. The marked variable's reference ends with the loop.
@@ -72,10 +75,12 @@ pub fn run_marked<P: Phases>(
 fn run_marked_loop<P: Phases>(
     work: &CellLoop<'_>,
     array: RunValue,
+    in_order: bool,
     context: &Context<'_>,
     outside: Option<&Outside<P>>,
     state: &mut State<'_>,
 ) -> Result<RunValue, Stop>
+    requires rows { work.now.result ≡ Joined → in_order ≡ true → AreIndicesOf work.now.plan.now.shape work.now.plan.now.frame }
     ensures told { (m : MachineHeap) → IsAt state.old m
         → Told IsValue result state.new (job_does (Some (value_of array)) (job_of context.now (current state.old.frames) m work.now) m) }
     ensures scopes { OnOk result (SameScopes state.old.frames state.new.frames) }
@@ -88,7 +93,8 @@ fn run_marked_loop<P: Phases>(
         return Ok(value);
     }
     match work.result {
-        LoopResult::Joined => run_over(work, array, context, outside, state),
+        LoopResult::Joined if in_order => run_over(work, array, context, outside, state),
+        LoopResult::Joined => run_in_place(work, array, context, outside, state),
         _ => Err(Stop::Memory),
     }
 }
@@ -122,7 +128,7 @@ fn run_in_place<P: Phases>(
     outside: Option<&Outside<P>>,
     state: &mut State<'_>,
 ) -> Result<RunValue, Stop>
-    ensures told { (m : MachineHeap) → IsAt state.old m → IsOver work.now (value_of array) m
+    ensures told { (m : MachineHeap) → IsAt state.old m → is_small_shape work.now.plan.now.shape ≡ false → is_only m (value_of array) ≡ true
         → Told IsValue result state.new (over_does context.now (current state.old.frames) work.now (value_of array) m) }
     ensures scopes { OnOk result (SameScopes state.old.frames state.new.frames) }
     ensures lender { lender_of state.new.heap ≡ lender_of state.old.heap }
@@ -167,6 +173,16 @@ fn fill_in_place<P: Phases>(
         put_in_place(&mut state.heap, value, buffer, place)?;
     }
     Ok(())
+}
+
+/// Whether a frame begins at 0 and has each number of an axis.
+fn is_box(frame: &Grid) -> bool
+    ensures { result ≡ true → IsBox frame.now }
+{
+    frame
+        .axes()
+        .iter()
+        .all(|axis| axis.lo == 0 && axis.step == 1)
 }
 
 /// Whether a result of this shape is written over the buffer of an array.
