@@ -1,5 +1,5 @@
 -- One cell that stands alone, in a heap whose numbers may be any.
-use Rattle.std.proofs.Common.{◌≡◌, ℕ, ◌+◌, List, [], ◌∷◌, ℤ, Option, Ok, Err, refl, ap, subst, arith}
+use Rattle.std.proofs.Common.{◌≡◌, ℕ, ◌+◌, List, [], ◌∷◌, ℤ, Option, Ok, Err, ap, subst, arith}
 use Rattle.sac_base.specs.declared.form.Form.{Form}
 use Rattle.sac_base.specs.Arrays.{ArrayValue}
 use Rattle.sac_base.specs.Operators.{all_of}

@@ -1,5 +1,5 @@
 -- Variables in a heap where another array stands in the buffer of one of them.
-use Rattle.std.proofs.Common.{◌≡◌, ℕ, ◌<◌, ◌≤◌, Bool, true, false, cond, eqb, List, [], ◌∷◌, take, drop, ℤ, refl, ap, ◌∙◌, sym, subst}
+use Rattle.std.proofs.Common.{◌≡◌, ℕ, ◌<◌, ◌≤◌, Bool, true, false, cond, eqb, List, [], ◌∷◌, take, ℤ, refl, ap, ◌∙◌, sym, subst}
 use Rattle.std.specs.Prelude.{◌||◌}
 use Rattle.std.proofs.lemmas.Bool.{eq-eqb}
 use Rattle.sac_base.specs.declared.base.Base.{Base}
@@ -12,7 +12,7 @@ use Rattle.core_ir.specs.Binders.{is_in}
 use Rattle.core_ir.specs.Meaning.{Env, bind}
 use Rattle.core_ir.proofs.Variables.{same_number, or_right}
 use Rattle.counted_code.specs.Machine.{Values}
-use Rattle.counted_code.specs.Values.{Buffer, Heap, Value, Small, Ref, read, count_of, cells_of}
+use Rattle.counted_code.specs.Values.{Heap, Value, Small, Ref, read, count_of, cells_of}
 use Rattle.counted_laws.specs.Simulation.{AllBacked, Backed, Shows}
 use Rattle.mark_laws.proofs.Places.{own_element}
 use Rattle.over_phases.specs.Own.{SameButAt}
@@ -33,11 +33,11 @@ later x y xs is = or_right (eqb x.0 y.0) (is_in y xs) is
 
 pub shown : (h : Heap) (e : Values) (ρ : Env) (xs : List Var) (v : Var) → Shows h e ρ xs → is_in v xs ≡ true → read h (e v) ≡ ρ v
 shown h e ρ [] v shows is = absurd (cc)
-shown h e ρ (x ∷ xs) v shows is = go (eqb x.0 v.0) refl is
+shown h e ρ (x ∷ xs) v shows is = go (eqb x.0 v.0) refl is (shown h e ρ xs v shows.1)
   where
-    go : (same : Bool) → eqb x.0 v.0 ≡ same → (same || is_in v xs) ≡ true → read h (e v) ≡ ρ v
-    go true same is = let one = same_number x v same in sym (λ i. read h (e (one i))) ∙ shows.0 ∙ ap ρ one
-    go false same is = shown h e ρ xs v shows.1 is
+    go : (same : Bool) → eqb x.0 v.0 ≡ same → (same || is_in v xs) ≡ true → (is_in v xs ≡ true → read h (e v) ≡ ρ v) → read h (e v) ≡ ρ v
+    go true same is behind = let one = same_number x v same in sym (λ i. read h (e (one i))) ∙ shows.0 ∙ ap ρ one
+    go false same is behind = behind is
 
 one_of : (b n : ℕ) → cond (eqb b b) 1 0 ≤ n → 1 ≤ n
 one_of b n le = subst (λ t. cond t 1 0 ≤ n) (eq-eqb b b refl) le

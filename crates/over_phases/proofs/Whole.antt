@@ -1,7 +1,6 @@
 -- Phases whose result is written over an array.
 use Rattle.std.proofs.Common.{◌≡◌, ℕ, ◌+◌, ◌<◌, ◌++◌, Bool, true, false, eqb, List, [], ◌∷◌, length, get_or, ℤ, Option, Some, Result, Ok, Err, refl, ap, ◌∙◌, sym, subst, arith}
 use Rattle.std.specs.Prelude.{◌==◌}
-use Rattle.std.specs.List.{flat_map}
 use Rattle.sac_base.specs.declared.base.Base.{Base}
 use Rattle.sac_base.specs.declared.form.Form.{Form}
 use Rattle.sac_base.specs.declared.grid.Grid1.{Grid1}
@@ -14,7 +13,7 @@ use Rattle.sac_base.specs.Places.{vector_at}
 use Rattle.sac_base.specs.WithLoops.{each}
 use Rattle.core_ir.specs.declared.tree.Var.{Var}
 use Rattle.core_ir.specs.Binders.{is_in}
-use Rattle.core_ir.specs.Meaning.{CallMeaning, Env, cells, cell_at, cell_form, extents, joined}
+use Rattle.core_ir.specs.Meaning.{Env, cells, cell_at, cell_form, extents, joined}
 use Rattle.core_calls.specs.Nests.{CallsAllParts}
 use Rattle.core_fold.specs.Cells.{IsBox}
 use Rattle.core_fold.proofs.Places.{members_are, index_of_place}
@@ -22,12 +21,12 @@ use Rattle.counted_code.specs.Counts.{IsWellCounted, UnmarkedParts, CountedParts
 use Rattle.counted_code.specs.Loops.{Job, Source, Old, cell_does, cells_do, job_does, part_holder, write_cell}
 use Rattle.counted_code.specs.Machine.{Values, code_cells}
 use Rattle.counted_code.specs.Terms.{CodePartsTerm, CodeProgram, core_of_code, core_of_parts}
-use Rattle.counted_code.specs.Values.{Heap, Value, Ref, Ended, Done, Failed, go_on, is_small, count_of, cells_of}
+use Rattle.counted_code.specs.Values.{Heap, Ref, Ended, Done, Failed, go_on, is_small, count_of, cells_of}
 use Rattle.counted_laws.specs.Simulation.{AllBacked, Shows}
 use Rattle.mark_removal.specs.Reached.{IsOne, ReachesNone}
 use Rattle.mark_laws.proofs.Jobs.{job_over}
 use Rattle.mark_laws.proofs.Places.{frame_size}
-use Rattle.phase_laws.specs.Spending.{CallSpending, parts_take, total}
+use Rattle.phase_laws.specs.Spending.{parts_take, total}
 use Rattle.phase_loop_laws.specs.Levels.{does_at, means_at, spends_at}
 use Rattle.phase_loop_laws.specs.Worked.{IsResult}
 use Rattle.phase_loop_laws.proofs.Cells.{EndsAs}

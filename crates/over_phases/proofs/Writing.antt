@@ -96,18 +96,18 @@ module _ (b : ℕ) (h : Heap) (sole : count_of h b ≡ 1) where
     -- what passes after it
     with_rest : (rest : List ℤ) (n2 : ℕ) (z : Heap) → PassedOver b (take (suc p) (cells_of after b) ++ rest) n2 after z → PassedOver b (take p (cells_of k b) ++ (a.cells ++ rest)) (n + n2) k z
     with_rest rest n2 z later = record {
-      taken = summed passed.taken later.taken;
-      given = summed passed.given later.given;
+      taken = summed k.taken l.taken z.taken passed.taken later.taken;
+      given = summed k.given l.given z.given passed.given later.given;
       reused = later.reused ∙ passed.reused;
       phases = later.phases ∙ passed.phases;
-      places = summed passed.places (later.places ∙ ap (λ x. x + n2) (same_places l b new_cells live));
+      places = summed (length k.buffers) (length l.buffers) (length z.buffers) passed.places (later.places ∙ ap (λ x. x + n2) (same_places l b new_cells live));
       counts = λ c. later.counts c ∙ same_count l b new_cells live c ∙ passed.counts c;
       written = later.written ∙ ap (λ xs. xs ++ rest) taken_so_far ∙ append_assoc (take p (cells_of k b)) a.cells rest;
       buffers = λ c e le. later.buffers c e (live_after c le) ∙ other_buffer l b new_cells live c e ∙ passed.buffers c le;
     }
       where
-        summed : {x y z : ℕ} → y ≡ x + n → z ≡ y + n2 → z ≡ x + (n + n2)
-        summed {x} {y} {z} e f = omega (arith, e, f)
+        summed : (x y z : ℕ) → y ≡ x + n → z ≡ y + n2 → z ≡ x + (n + n2)
+        summed x y z e f = omega (arith, e, f)
 
         live_after : (c : ℕ) → 1 ≤ count_of k c → 1 ≤ count_of after c
         live_after c le = let e = same_count l b new_cells live c in let f = passed.counts c in omega (arith, e, f, le)
