@@ -1,10 +1,10 @@
 -- Variables in a heap where another array stands in the buffer of one of them.
-use Rattle.std.proofs.Common.{◌≡◌, ℕ, ◌<◌, ◌≤◌, Bool, true, false, cond, eqb, List, [], ◌∷◌, take, ℤ, refl, ap, ◌∙◌, sym, subst}
+use Rattle.std.proofs.Common.{◌≡◌, ℕ, ◌<◌, ◌≤◌, Bool, true, false, cond, eqb, List, [], ◌∷◌, length, take, ℤ, refl, ap, ◌∙◌, sym, subst}
 use Rattle.std.specs.Prelude.{◌||◌}
 use Rattle.std.proofs.lemmas.Bool.{eq-eqb}
 use Rattle.sac_base.specs.declared.base.Base.{Base}
 use Rattle.sac_base.specs.declared.base.Base.TheVariants.{Int}
-use Rattle.sac_base.specs.Arrays.{ArrayValue, size, vector}
+use Rattle.sac_base.specs.Arrays.{ArrayValue, IsFull, size, vector}
 use Rattle.sac_base.specs.Parts.{select}
 use Rattle.sac_base.specs.Places.{vector_at}
 use Rattle.core_ir.specs.declared.tree.Var.{Var}
@@ -71,7 +71,7 @@ module _ (m : Heap) (e : Values) (ρ : Env) (v : Var) (b : ℕ) (sole : count_of
         go false same = reads_apart (e x) (apart x (itself x xs) same) backed.0 ∙ shows.0
 
     -- what a cell at the place reads of the array is what it read before
-    module _ (live : List Var) (inside : is_in v live ≡ true) (shows : Shows m e ρ live) (w : List ℤ) (lt : p < size shape) (at : w ≡ vector_at shape p) where
+    module _ (live : List Var) (inside : is_in v live ≡ true) (shows : Shows m e ρ live) (long : length (cells_of m b) ≡ size shape) (w : List ℤ) (lt : p < size shape) (at : w ≡ vector_at shape p) where
       array_now : env_at k v ≡ now k
       array_now = ap (λ t. cond {A = ArrayValue} t (now k) (ρ v)) (eq-eqb v.0 v.0 refl)
 
@@ -84,4 +84,5 @@ module _ (m : Heap) (e : Values) (ρ : Env) (v : Var) (b : ℕ) (sole : count_of
         element = ap (λ a. select a (vector Int w)) array_now ∙ own_element old shape p w (cells_of k b) (cells_of m b) lt at (ap (take 1) before.left) ∙ sym (ap (λ a. select a (vector Int w)) array_then);
         base = ap (λ (a : ArrayValue). a.base) array_now ∙ sym (ap (λ (a : ArrayValue). a.base) array_then);
         shape = ap (λ (a : ArrayValue). a.shape) array_now ∙ sym (ap (λ (a : ArrayValue). a.shape) array_then);
+        full = subst IsFull (sym array_now) (before.long ∙ long);
       }

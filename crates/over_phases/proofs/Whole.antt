@@ -93,28 +93,28 @@ module _ (code : CodeProgram) (counted : IsWellCounted code) (reached : ℕ → 
           subst (λ ns. (p < size ns) × (get_or (members frame) p [] ≡ vector_at ns p)) (sym spans)
           (below, ap (λ vs. get_or vs p []) (members_are frame box) ∙ index_of_place (extents frame) p [] below)
 
-      -- is the cell on the array as it was
-      ready : (p : ℕ) → p < length (members frame) → IsReady b m sole form source (cell ρ) (takes ρ) p (get_or (members frame) p [])
-      ready p lt = (
-        (λ k before.
-            (let w = get_or (members frame) p [] in
-            let f = env_at m e ρ v b sole old shape is k in
-            let index = index_is p lt in
-            let same = own p f lt (same_but m e ρ v b sole old shape is p k before live inside shows w index.0 index.1) in
-            subst (λ n. EndsAs n k (cell_does form (source w) k) (cell ρ w)) same.1
-            (subst (λ r. EndsAs (takes f w) k (cell_does form (source w) k) r) same.0 (cell_now p w k before)))),
-        elements p lt,
-      )
-
-      all_ready : AreReady b m sole form source (cell ρ) (takes ρ) 0 (members frame)
-      all_ready =
-          ready_each b m sole form source (cell ρ) (takes ρ) (members frame) 0
-          (λ i q e lt. subst (λ t. IsReady b m sole form source (cell ρ) (takes ρ) t (get_or (members frame) i [])) (sym (from_zero i q e)) (ready i lt))
-        where
-          from_zero : (i q : ℕ) → q ≡ 0 + i → q ≡ i
-          from_zero i q e = omega (arith, e)
-
       module _ (long : length (cells_of m b) ≡ size shape) (large : is_small shape ≡ false) (es : List ℤ) (end : Result (Unit {0}) Stop) (result : IsResult (joined base shape) base shape (each (cell ρ) (members frame)) es end) where
+        -- is the cell on the array as it was
+        ready : (p : ℕ) → p < length (members frame) → IsReady b m sole form source (cell ρ) (takes ρ) p (get_or (members frame) p [])
+        ready p lt = (
+          (λ k before.
+              (let w = get_or (members frame) p [] in
+              let f = env_at m e ρ v b sole old shape is k in
+              let index = index_is p lt in
+              let same = own p f lt (same_but m e ρ v b sole old shape is p k before live inside shows long w index.0 index.1) in
+              subst (λ n. EndsAs n k (cell_does form (source w) k) (cell ρ w)) same.1
+              (subst (λ r. EndsAs (takes f w) k (cell_does form (source w) k) r) same.0 (cell_now p w k before)))),
+          elements p lt,
+        )
+
+        all_ready : AreReady b m sole form source (cell ρ) (takes ρ) 0 (members frame)
+        all_ready =
+            ready_each b m sole form source (cell ρ) (takes ρ) (members frame) 0
+            (λ i q e lt. subst (λ t. IsReady b m sole form source (cell ρ) (takes ρ) t (get_or (members frame) i [])) (sym (from_zero i q e)) (ready i lt))
+          where
+            from_zero : (i q : ℕ) → q ≡ 0 + i → q ≡ i
+            from_zero i q e = omega (arith, e)
+
         abbrev job : Job
         job = parts_job code turns left nest parts e base shape frame
 
@@ -127,7 +127,7 @@ module _ (code : CodeProgram) (counted : IsWellCounted code) (reached : ℕ → 
         written : EndsWritten b m sole 0 (total (takes ρ) (members frame)) begun (cells_do form source (write_cell (Old b)) 0 (members frame) begun) (each (cell ρ) (members frame))
         written =
             cells_written b m sole form source (cell ρ) (takes ρ) (members frame) 0 begun all_ready
-            (record { counts = λ c. refl; buffers = λ c e le. refl; left = refl }) as_long
+            (record { counts = λ c. refl; buffers = λ c e le. refl; left = refl; long = refl }) as_long
 
         over : EndsOver job (Ref b old shape) b (total (takes ρ) (members frame)) m es end
         over =

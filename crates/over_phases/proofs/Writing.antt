@@ -47,6 +47,7 @@ module _ (b : ℕ) (h : Heap) (sole : count_of h b ≡ 1) where
     pub counts : (c : ℕ) → count_of k c ≡ count_of h c
     pub buffers : (c : ℕ) → eqb b c ≡ false → 1 ≤ count_of h c → buffer_at k c ≡ buffer_at h c
     pub left : drop p (cells_of k b) ≡ drop p (cells_of h b)
+    pub long : length (cells_of k b) ≡ length (cells_of h b)
 
   -- what a run of the cells from a place on ends with, by what they come to
   abbrev pub EndsWritten : ℕ → ℕ → Heap → Ended (List (Option ArrayValue)) → Ends (List (Option ArrayValue)) → Type 0
@@ -91,6 +92,7 @@ module _ (b : ℕ) (h : Heap) (sole : count_of h b ≡ 1) where
       counts = λ c. same_count l b new_cells live c ∙ passed.counts c ∙ before.counts c;
       buffers = λ c e le. other_buffer l b new_cells live c e ∙ passed.buffers c (live_there c le) ∙ before.buffers c e le;
       left = ap (drop (suc p)) here ∙ written_left p a.cells (cells_of l b) one ∙ ap (drop (suc p)) same ∙ same_later p (cells_of k b) (cells_of h b) before.left;
+      long = still_long ∙ before.long;
     }
 
     -- what passes after it

@@ -2,7 +2,7 @@
 use Rattle.std.specs.Prelude.{◌≡◌, ℕ, ◌<◌, false, eqb, List, [], length, get_or, ℤ, Option}
 use Rattle.sac_base.specs.declared.base.Base.{Base}
 use Rattle.sac_base.specs.declared.base.Base.TheVariants.{Int}
-use Rattle.sac_base.specs.Arrays.{ArrayValue, vector}
+use Rattle.sac_base.specs.Arrays.{ArrayValue, IsFull, vector}
 use Rattle.sac_base.specs.Outcomes.{Ends}
 use Rattle.sac_base.specs.Parts.{select}
 use Rattle.core_ir.specs.declared.tree.Var.{Var}
@@ -16,6 +16,7 @@ pub record SameButAt (v : Var) (index : List ℤ) (e f : Env) : Type 0 where
   pub element : select (f v) (vector Int index) ≡ select (e v) (vector Int index)
   pub base : (f v).base ≡ (e v).base
   pub shape : (f v).shape ≡ (e v).shape
+  pub full : IsFull (f v)
 
 -- the cell at each index of the frame, and how many buffers it takes, are the same whatever other elements the variable's array has
 abbrev pub CellsReadOwn : (Env → List ℤ → Ends (Option ArrayValue)) → (Env → List ℤ → ℕ) → Var → List (List ℤ) → Env → Type 0
