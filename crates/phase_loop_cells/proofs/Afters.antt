@@ -56,7 +56,6 @@ module _ (CountedIn : List Var → Type 0) (code : CodeProgram) (lends : HeapVal
   pub opens_again : (n : ℕ) (l : Heap) → LeftAs is.holding is.taken n (quiet k) l → IsOpen CountedIn code lends e l
   opens_again n l u = record {
     counted = is.counted;
-    unmarked = is.unmarked;
     live = is.live;
     counted_here = is.counted_here;
     holding = is.holding;

@@ -1,6 +1,5 @@
 mod Afters
 mod Answered
-pub mod Levels
 mod Numbered
 pub mod Sources
 mod Works

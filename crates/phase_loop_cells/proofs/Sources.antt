@@ -17,8 +17,8 @@ use Rattle.phase_laws.specs.Numbers.{SourceIsBlind}
 use Rattle.phase_laws.specs.Spending.{gens_take, parts_take}
 use Rattle.phase_laws.proofs.Blind.{gens_blind, parts_blind, calls_blind}
 use Rattle.phase_laws.proofs.Growing.{cell_grows, gens_grow, parts_grow, calls_grow}
-use Rattle.phase_laws.proofs.Loops.{gens_leave, parts_leave, readable_in}
-use Rattle.phase_laws.proofs.Whole.{gens_spend, parts_spend}
+use Rattle.phase_laws.proofs.Loops.{readable_in}
+use Rattle.reached_marks.proofs.Standing.{clear_gens_alone, clear_parts_alone}
 use Rattle.sac_base.specs.declared.form.Form.{Form}
 use Rattle.sac_base.specs.Grids.{has_vector}
 use Rattle.sac_base.specs.WithLoops.{Range, holds, cell_at as with_cell_at}
@@ -27,7 +27,6 @@ use Rattle.phase_checks.specs.Terms.{gens_term, parts_term}
 use Rattle.phase_loop_cells.specs.Opened.{IsOpen, GensIn, PartsIn, OpenGens, OpenParts, meaning_in, spending_in, lent_env}
 use Rattle.run_eval.specs.Loops.{held, part_held, gen_source, part_source, source_in, part_source_in}
 use Rattle.run_eval.specs.Running.{calls_in}
-use Rattle.phase_loop_cells.proofs.Levels.{level}
 use Rattle.phase_loop_cells.proofs.Numbered.{LeavesAs, leaves_as, cell_blind}
 
 -- the heap without phases
@@ -72,9 +71,12 @@ module _ (context : Context) (lends : HeapValue) (e : Values) (gens : List CodeG
 
   gens_leave_quiet : (form : Form) (ranges : List Range) (v : List ℤ) → Leaves is.holding (gens_take (meaning_in context) context.turns (spending_in context) (gens_term gens) (lent_env lends e) ranges v) (record k { taken = is.taken; phases = [] }) (cell_does form (source_in context e gens ranges v) (record k { taken = is.taken; phases = [] })) (with_cell_at form (generators (meaning_in context) context.turns (core_of_gens (gens_term gens)) (lent_env lends e)) ranges v)
   gens_leave_quiet form ranges v =
-      let c = level gens_code is.counted is.unmarked context.turns context.left context.nest in
+      let clear = is.counted_here.0 in
+      let heap = record k { taken = is.taken; phases = [] } in
+      let readable = readable_quiet (GensIn gens_code (gens_term gens)) gens_code lends e k is in
       subst (λ s. Leaves is.holding (gens_take (meaning_in context) context.turns (spending_in context) (gens_term gens) (lent_env lends e) ranges v) (record k { taken = is.taken; phases = [] }) (cell_does form s (record k { taken = is.taken; phases = [] })) (with_cell_at form (generators (meaning_in context) context.turns (core_of_gens (gens_term gens)) (lent_env lends e)) ranges v)) (gens_same context e gens k ranges v)
-      (gens_leave c (gens_term gens) (gens_spend c (gens_term gens) is.counted_here.0) is.live is.counted_here.1 k (record k { taken = is.taken; phases = [] }) e (lent_env lends e) is.holding (readable_quiet (GensIn gens_code (gens_term gens)) gens_code lends e k is) form ranges v)
+      (clear_gens_alone gens_code is.counted clear.0 clear.1 context.turns context.left context.nest (gens_term gens) clear.2 clear.3 is.live is.counted_here.1
+      (lent_env lends e) form ranges heap k e is.holding readable v heap readable.owns (λ b le. refl))
 
   pub gens_alone : (form : Form) (ranges : List Range) (v : List ℤ) → LeavesAs is.holding is.taken (gens_take (meaning_in context) context.turns (spending_in context) (gens_term gens) (lent_env lends e) ranges v) (quiet k) (cell_does form (source_in context e gens ranges v) (quiet k)) (with_cell_at form (generators (meaning_in context) context.turns (core_of_gens (gens_term gens)) (lent_env lends e)) ranges v)
   gens_alone form ranges v =
@@ -97,9 +99,12 @@ module _ (context : Context) (lends : HeapValue) (e : Values) (parts : List Code
 
   parts_leave_quiet : (form : Form) (v : List ℤ) → Leaves is.holding (parts_take (meaning_in context) context.turns (spending_in context) (parts_term parts) (lent_env lends e) v) (record k { taken = is.taken; phases = [] }) (cell_does form (part_source_in context e parts v) (record k { taken = is.taken; phases = [] })) (part_cell_at (cell_form form.base form.shape) (cells (meaning_in context) context.turns (core_of_parts (parts_term parts)) (lent_env lends e)) v)
   parts_leave_quiet form v =
-      let c = level parts_code is.counted is.unmarked context.turns context.left context.nest in
+      let clear = is.counted_here.0 in
+      let heap = record k { taken = is.taken; phases = [] } in
+      let readable = readable_quiet (PartsIn parts_code (parts_term parts)) parts_code lends e k is in
       subst (λ s. Leaves is.holding (parts_take (meaning_in context) context.turns (spending_in context) (parts_term parts) (lent_env lends e) v) (record k { taken = is.taken; phases = [] }) (cell_does form s (record k { taken = is.taken; phases = [] })) (part_cell_at (cell_form form.base form.shape) (cells (meaning_in context) context.turns (core_of_parts (parts_term parts)) (lent_env lends e)) v)) (parts_same context e parts v)
-      (parts_leave c (parts_term parts) (parts_spend c (parts_term parts) is.counted_here.0) is.live is.counted_here.1 (record k { taken = is.taken; phases = [] }) e (lent_env lends e) is.holding (readable_quiet (PartsIn parts_code (parts_term parts)) parts_code lends e k is) form.base form.shape v)
+      (clear_parts_alone parts_code is.counted clear.0 clear.1 context.turns context.left context.nest (parts_term parts) clear.2 clear.3 is.live is.counted_here.1
+      (lent_env lends e) form.base form.shape heap e is.holding readable v heap readable.owns (λ b le. refl))
 
   pub parts_alone : (form : Form) (v : List ℤ) → LeavesAs is.holding is.taken (parts_take (meaning_in context) context.turns (spending_in context) (parts_term parts) (lent_env lends e) v) (quiet k) (cell_does form (part_source_in context e parts v) (quiet k)) (part_cell_at (cell_form form.base form.shape) (cells (meaning_in context) context.turns (core_of_parts (parts_term parts)) (lent_env lends e)) v)
   parts_alone form v =

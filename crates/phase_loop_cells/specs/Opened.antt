@@ -7,11 +7,12 @@ use Rattle.core_ir.specs.Meaning.{Env, CallMeaning}
 use Rattle.core_ir.specs.Outcome.{call_by, run_deeper, run_inline}
 use Rattle.counted_code.specs.declared.tree.CodeGen.{CodeGen}
 use Rattle.counted_code.specs.declared.tree.CodePart.{CodePart}
-use Rattle.counted_code.specs.Counts.{IsWellCounted, IsUnmarked, UnmarkedGens, UnmarkedParts, CountedGens, CountedParts, group_results}
+use Rattle.counted_code.specs.Counts.{IsWellCounted, CountedGens, CountedParts, group_results}
 use Rattle.counted_code.specs.Machine.{Values}
 use Rattle.counted_code.specs.Terms.{CodeGensTerm, CodePartsTerm, CodeProgram, core_of_code}
 use Rattle.counted_code.specs.Values.{Heap, Value, Small, Ref}
 use Rattle.counted_code.specs.View.{code_program}
+use Rattle.reach_checks.specs.Loops.{ClearGens, ClearParts}
 use Rattle.phase_laws.specs.Alone.{Readable}
 use Rattle.phase_laws.specs.Spending.{CallSpending, calls_spend, deeper_spends, inline_spends}
 use Rattle.sac_base.specs.Arrays.{ArrayValue}
@@ -58,12 +59,11 @@ lent_env h e x = lent_array h (e x)
 
 -- ---- heaps of the machine
 
--- The code is well-counted and without marks. In this heap the variables that the cells read are the arrays of the heap that lends, and each of that
+-- The code is well-counted. In this heap the variables that the cells read are the arrays of the heap that lends, and each of that
 -- heap's buffers has as many references as there. How many buffers were taken has no say in what a cell does: `taken` is the number at which none
 -- was lost, and `holding` counts the references to every buffer.
 pub record IsOpen (CountedIn : List Var → Type 0) (code : CodeProgram) (lends : HeapValue) (e : Values) (k : Heap) : Type 0 where
   pub counted : IsWellCounted code
-  pub unmarked : IsUnmarked code
   pub live : List Var
   pub counted_here : CountedIn live
   pub holding : ℕ → ℕ
@@ -72,10 +72,10 @@ pub record IsOpen (CountedIn : List Var → Type 0) (code : CodeProgram) (lends 
   pub lent : IsAsLent lends k
 
 abbrev pub GensIn : CodeProgram → CodeGensTerm → List Var → Type 0
-GensIn code gens live = UnmarkedGens gens × CountedGens (group_results (core_of_code code)) live gens
+GensIn code gens live = ClearGens code gens × CountedGens (group_results (core_of_code code)) live gens
 
 abbrev pub PartsIn : CodeProgram → CodePartsTerm → List Var → Type 0
-PartsIn code parts live = UnmarkedParts parts × CountedParts (group_results (core_of_code code)) live parts
+PartsIn code parts live = ClearParts code parts × CountedParts (group_results (core_of_code code)) live parts
 
 abbrev pub OpenGens : Context → HeapValue → Values → List CodeGen → Heap → Type 0
 OpenGens context lends e gens k =

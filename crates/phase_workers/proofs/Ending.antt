@@ -8,7 +8,7 @@ use Rattle.buffer_heap.specs.Heaps.{Held, HeapValue, at, IsLive, IsNamed}
 use Rattle.core_ir.specs.declared.tree.Var.{Var}
 use Rattle.core_ir.specs.Meaning.{generators}
 use Rattle.counted_code.specs.declared.tree.CodeGen.{CodeGen}
-use Rattle.counted_code.specs.Counts.{IsWellCounted, IsUnmarked}
+use Rattle.counted_code.specs.Counts.{IsWellCounted}
 use Rattle.counted_code.specs.Loops.{Job, claim, count_phase, job_does, settled}
 use Rattle.counted_code.specs.Machine.{Values}
 use Rattle.counted_code.specs.Terms.{core_of_gens}
@@ -112,7 +112,7 @@ same_cell fill (Err f) = refl
 
 -- ---- with-loops
 
-module _ (context : Context) (e : Values) (gens : List CodeGen) (p : Plan) (b : Background) (xs : List Var) (counted : IsWellCounted (code_program context.code.now)) (unmarked : IsUnmarked (code_program context.code.now)) (here : GensIn (code_program context.code.now) (gens_term gens) xs) (h : HeapValue) (alive : AreAlive h e xs) (referred : AreReferred h) (width : b.size ≡ size p.form.shape) (large : is_small p.shape ≡ false) (m : Heap) where
+module _ (context : Context) (e : Values) (gens : List CodeGen) (p : Plan) (b : Background) (xs : List Var) (counted : IsWellCounted (code_program context.code.now)) (here : GensIn (code_program context.code.now) (gens_term gens) xs) (h : HeapValue) (alive : AreAlive h e xs) (referred : AreReferred h) (width : b.size ≡ size p.form.shape) (large : is_small p.shape ≡ false) (m : Heap) where
   abbrev pub job : Job
   job = array_job context e m gens (plan_of p) b.array.now b.old
 
@@ -132,7 +132,7 @@ module _ (context : Context) (e : Values) (gens : List CodeGen) (p : Plan) (b : 
     pub array_ends : (es : List ℤ) (end : Result (Unit {0}) Stop) → IsArray (cells_from (gens_cell context h e gens p (Some b)) 0 (length p.frame)) es end → PhaseEnds job b.array.now.base p.shape spent m es end
     array_ends es end is =
         subst (λ n. PhaseEnds job b.array.now.base p.shape n m es end) (sym (costs_in_all takes p.frame))
-        (phase_ends m job is_a_phase cell takes (alone_gens context h e gens xs counted unmarked here alive referred (begun job m).heap m stands p.form p.ranges.items) b.array.now.base p.shape es end
+        (phase_ends m job is_a_phase cell takes (alone_gens context h e gens xs counted here alive referred (begun job m).heap m stands p.form p.ranges.items) b.array.now.base p.shape es end
         (array_made cell p.frame b.old b.array.now (plan_of p) b.size width es end
         (subst (λ (f : ℕ → CellValue). IsArray (cells_from f 0 (length p.frame)) es end) (λ i place. same_cell (filled b.old b.array.now b.size place) (cell (worked.index_at p.frame place)) i) is)))
 

@@ -7,7 +7,7 @@ use Rattle.buffer_heap.specs.Heaps.{HeapValue}
 use Rattle.core_ir.specs.declared.tree.Var.{Var}
 use Rattle.core_ir.specs.Meaning.{generators}
 use Rattle.counted_code.specs.declared.tree.CodeGen.{CodeGen}
-use Rattle.counted_code.specs.Counts.{IsWellCounted, IsUnmarked}
+use Rattle.counted_code.specs.Counts.{IsWellCounted}
 use Rattle.counted_code.specs.Loops.{Job, claim, count_phase, job_does, settled}
 use Rattle.counted_code.specs.Machine.{Values}
 use Rattle.counted_code.specs.Terms.{core_of_gens}
@@ -119,7 +119,7 @@ module _ (job : Job) (m : Heap) (base : Base) (shape : List ℕ) (n : ℕ) (t : 
 
 -- ---- with-loops
 
-module _ (context : Context) (e : Values) (gens : List CodeGen) (p : Plan) (op : Op) (neutral : ArrayValue) (xs : List Var) (counted : IsWellCounted (code_program context.code.now)) (unmarked : IsUnmarked (code_program context.code.now)) (here : GensIn (code_program context.code.now) (gens_term gens) xs) (h : HeapValue) (alive : AreAlive h e xs) (referred : AreReferred h) (allowed : IsTrue (folds p.form.base op)) (fits : IsTrue (fits_form p.form neutral)) (full : IsFull neutral) (m : Heap) where
+module _ (context : Context) (e : Values) (gens : List CodeGen) (p : Plan) (op : Op) (neutral : ArrayValue) (xs : List Var) (counted : IsWellCounted (code_program context.code.now)) (here : GensIn (code_program context.code.now) (gens_term gens) xs) (h : HeapValue) (alive : AreAlive h e xs) (referred : AreReferred h) (allowed : IsTrue (folds p.form.base op)) (fits : IsTrue (fits_form p.form neutral)) (full : IsFull neutral) (m : Heap) where
   abbrev job : Job
   job = fold_job context e m gens (plan_of p) op neutral
 
@@ -138,7 +138,7 @@ module _ (context : Context) (e : Values) (gens : List CodeGen) (p : Plan) (op :
   fold_ends : StandsFor h (begun job m).heap → (es : List ℤ) (end : Result (Unit {0}) Stop) → IsCombined op computed neutral.cells es end → PhaseEnds job p.form.base p.form.shape spent m es end
   fold_ends stands es end is =
       subst (λ n. PhaseEnds job p.form.base p.form.shape n m es end) (sym (costs_in_all takes p.frame))
-      (phase_ends m job refl cell takes (alone_gens context h e gens xs counted unmarked here alive referred (begun job m).heap m stands p.form p.ranges.items) p.form.base p.form.shape es end
+      (phase_ends m job refl cell takes (alone_gens context h e gens xs counted here alive referred (begun job m).heap m stands p.form p.ranges.items) p.form.base p.form.shape es end
       (fold_made p.form.base op allowed p.form.shape neutral (whole_of p.form neutral fits full) cell (with_forms p.form (generators (meaning_in context) context.turns (core_of_gens (gens_term gens)) (lent_env h e)) p.ranges.items) p.frame es end
       (subst (λ (f : ℕ → CellValue). IsCombined op (cells_from f 0 (length p.frame)) neutral.cells es end) (λ i place. same_cell (cell (worked.index_at p.frame place)) i) is)))
 

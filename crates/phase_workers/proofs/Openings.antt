@@ -6,7 +6,7 @@ use Rattle.phase_cells.specs.Idle.{IsAsLent, IsLending}
 use Rattle.core_ir.specs.declared.tree.Var.{Var}
 use Rattle.core_ir.specs.Meaning.{generators}
 use Rattle.counted_code.specs.declared.tree.CodeGen.{CodeGen}
-use Rattle.counted_code.specs.Counts.{IsWellCounted, IsUnmarked}
+use Rattle.counted_code.specs.Counts.{IsWellCounted}
 use Rattle.counted_code.specs.Loops.{holder}
 use Rattle.counted_code.specs.Machine.{Values, code_generators}
 use Rattle.counted_code.specs.Terms.{core_of_gens}
@@ -15,10 +15,7 @@ use Rattle.counted_code.specs.View.{code_program}
 use Rattle.counted_laws.specs.Simulation.{live, Backed, AllBacked, Shows}
 use Rattle.phase_laws.specs.Alone.{Readable}
 use Rattle.phase_laws.specs.Spending.{gens_take}
-use Rattle.phase_laws.proofs.Blind.{gens_blind, calls_blind}
-use Rattle.phase_laws.proofs.Growing.{gens_grow, calls_grow}
-use Rattle.phase_laws.proofs.Loops.{gens_leave, readable_in}
-use Rattle.phase_laws.proofs.Whole.{gens_spend}
+use Rattle.reached_marks.proofs.Standing.{clear_gens_stand}
 use Rattle.run_store.specs.Stands.{HasContent, StandsFor}
 use Rattle.sac_base.specs.declared.form.Form.{Form}
 use Rattle.sac_base.specs.WithLoops.{Range, cell_at as with_cell_at}
@@ -27,7 +24,6 @@ use Rattle.run_eval.specs.Running.{calls_in, generator_in}
 use Rattle.phase_checks.specs.Terms.{gens_term}
 use Rattle.phase_loop_laws.specs.Ordered.{StandsAlone, balanced}
 use Rattle.phase_loop_cells.specs.Opened.{GensIn, OpenGens, named, cells_in, lent_array, lent_env, meaning_in, spending_in}
-use Rattle.phase_loop_cells.proofs.Levels.{level}
 use Rattle.phase_workers.specs.Alive.{IsAlive, AreAlive}
 use Rattle.phase_kernels.proofs.Named.{AreSingle, named_there, some_there}
 use Rattle.phase_workers.proofs.Machines.{machine_of, stands_for_machine}
@@ -76,11 +72,11 @@ module _ (h : HeapValue) (m : Heap) (stands : StandsFor h m) where
         go true e = subst (λ n. 1 ≤ count_of m n) (eqb-true c b e) (some_references c alive)
         go false e = omega arith
 
-    all_backed : (e : Values) (xs : List Var) → AreAlive h e xs → AllBacked (λ b. count_of m b) e xs
+    pub all_backed : (e : Values) (xs : List Var) → AreAlive h e xs → AllBacked (λ b. count_of m b) e xs
     all_backed e [] alive = tt
     all_backed e (x ∷ xs) alive = (backed_value (e x) (first_alive h e x xs alive), all_backed e xs (rest_alive h e x xs alive))
 
-    all_shown : (e : Values) (xs : List Var) → AreAlive h e xs → Shows m e (lent_env h e) xs
+    pub all_shown : (e : Values) (xs : List Var) → AreAlive h e xs → Shows m e (lent_env h e) xs
     all_shown e [] alive = tt
     all_shown e (x ∷ xs) alive = (shows_value (e x) (first_alive h e x xs alive), all_shown e xs (rest_alive h e x xs alive))
 
@@ -107,11 +103,10 @@ module _ (h : HeapValue) (m : Heap) (stands : StandsFor h m) where
 
 -- ---- with-loops
 
-module _ (context : Context) (h : HeapValue) (e : Values) (gens : List CodeGen) (xs : List Var) (counted : IsWellCounted (code_program context.code.now)) (unmarked : IsUnmarked (code_program context.code.now)) (here : GensIn (code_program context.code.now) (gens_term gens) xs) (alive : AreAlive h e xs) (referred : AreReferred h) where
+module _ (context : Context) (h : HeapValue) (e : Values) (gens : List CodeGen) (xs : List Var) (counted : IsWellCounted (code_program context.code.now)) (here : GensIn (code_program context.code.now) (gens_term gens) xs) (alive : AreAlive h e xs) (referred : AreReferred h) where
   pub open_gens : (m : Heap) → StandsFor h m → OpenGens context h e gens m
   open_gens m stands = record {
     counted = counted;
-    unmarked = unmarked;
     live = xs;
     counted_here = here;
     holding = λ b. count_of m b;
@@ -136,11 +131,7 @@ module _ (context : Context) (h : HeapValue) (e : Values) (gens : List CodeGen) 
       → StandsAlone m form (holder (map (generator_in context e k) gens) ranges) (with_cell_at form (generators (meaning_in context) context.turns (core_of_gens (gens_term gens)) (lent_env h e)) ranges) (gens_take (meaning_in context) context.turns (spending_in context) (gens_term gens) (lent_env h e) ranges)
   alone_gens m k stands form ranges =
       let code = code_program context.code.now in
-      let c = level code counted unmarked context.turns context.left context.nest in
-      let readable = readable_here h m stands referred e xs alive in
+      let clear = here.0 in
       subst (λ gs. StandsAlone m form (holder gs ranges) (with_cell_at form (generators (meaning_in context) context.turns (core_of_gens (gens_term gens)) (lent_env h e)) ranges) (gens_take (meaning_in context) context.turns (spending_in context) (gens_term gens) (lent_env h e) ranges)) (generators_same gens k)
-      (record {
-        alone = λ v l owns same. gens_leave c (gens_term gens) (gens_spend c (gens_term gens) here.0) xs here.1 k l e (lent_env h e) (λ b. count_of m b) (readable_in (balanced m) l e (lent_env h e) (λ b. count_of m b) xs readable owns same) form ranges v;
-        blind = λ v. gens_blind (calls_in context) context.turns (calls_blind code context.turns context.left context.nest) (gens_term gens) e k ranges v;
-        grows = λ v. gens_grow (calls_in context) context.turns (calls_grow code context.turns context.left context.nest) (gens_term gens) e k ranges v;
-      })
+      (clear_gens_stand code counted clear.0 clear.1 context.turns context.left context.nest (gens_term gens) clear.2 clear.3 xs here.1 (lent_env h e) form ranges m k e
+      (all_backed h m stands referred e xs alive) (all_shown h m stands referred e xs alive))

@@ -6,7 +6,7 @@ use Rattle.buffer_heap.specs.Heaps.{HeapValue}
 use Rattle.core_ir.specs.declared.tree.Var.{Var}
 use Rattle.core_ir.specs.Meaning.{cells, cell_at, cell_form}
 use Rattle.counted_code.specs.declared.tree.CodePart.{CodePart}
-use Rattle.counted_code.specs.Counts.{IsWellCounted, IsUnmarked}
+use Rattle.counted_code.specs.Counts.{IsWellCounted}
 use Rattle.counted_code.specs.Loops.{Job, job_does, settled}
 use Rattle.counted_code.specs.Machine.{Values}
 use Rattle.counted_code.specs.Terms.{core_of_parts}
@@ -48,7 +48,7 @@ use Rattle.phase_workers.proofs.FoldEnding.{phase_faulted, phase_finished, same_
 use Rattle.phase_workers.proofs.Openings.{AreReferred}
 use Rattle.phase_workers.proofs.PartedEnding.{alone_parts}
 
-module _ (context : Context) (h : HeapValue) (e : Values) (parts : List CodePart) (xs : List Var) (counted : IsWellCounted (code_program context.code.now)) (unmarked : IsUnmarked (code_program context.code.now)) (here : PartsIn (code_program context.code.now) (parts_term parts) xs) (alive : AreAlive h e xs) (referred : AreReferred h) where
+module _ (context : Context) (h : HeapValue) (e : Values) (parts : List CodePart) (xs : List Var) (counted : IsWellCounted (code_program context.code.now)) (here : PartsIn (code_program context.code.now) (parts_term parts) xs) (alive : AreAlive h e xs) (referred : AreReferred h) where
   module _ (form : Form) (indices : List (List ℤ)) (shape : List ℕ) (op : Op) (neutral : ArrayValue) (allowed : IsTrue (folds form.base op)) (fits : IsTrue (fits_form form neutral)) (full : IsFull neutral) (m : Heap) where
     abbrev job : Job
     job = fold_parts_job context e parts indices form shape op neutral
@@ -68,7 +68,7 @@ module _ (context : Context) (h : HeapValue) (e : Values) (parts : List CodePart
     fold_ends : StandsFor h (begun job m).heap → (es : List ℤ) (end : Result (Unit {0}) Stop) → IsCombined op computed neutral.cells es end → PhaseEnds job form.base form.shape spent m es end
     fold_ends stands es end is =
         subst (λ n. PhaseEnds job form.base form.shape n m es end) (sym (costs_in_all takes indices))
-        (phase_ends m job refl cell takes (alone_parts context h e parts xs counted unmarked here alive referred (begun job m).heap stands form) form.base form.shape es end
+        (phase_ends m job refl cell takes (alone_parts context h e parts xs counted here alive referred (begun job m).heap stands form) form.base form.shape es end
         (fold_made form.base op allowed form.shape neutral (whole_of form neutral fits full) cell (part_forms form.base form.shape (cells (meaning_in context) context.turns (core_of_parts (parts_term parts)) (lent_env h e))) indices es end
         (subst (λ (f : ℕ → CellValue). IsCombined op (cells_from f 0 (length indices)) neutral.cells es end) (λ i place. same_cell (cell (worked.index_at indices place)) i) is)))
 

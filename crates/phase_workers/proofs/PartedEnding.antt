@@ -7,7 +7,7 @@ use Rattle.phase_cells.specs.Idle.{IsLending}
 use Rattle.core_ir.specs.declared.tree.Var.{Var}
 use Rattle.core_ir.specs.Meaning.{cells, cell_form, cell_at}
 use Rattle.counted_code.specs.declared.tree.CodePart.{CodePart}
-use Rattle.counted_code.specs.Counts.{IsWellCounted, IsUnmarked}
+use Rattle.counted_code.specs.Counts.{IsWellCounted}
 use Rattle.counted_code.specs.Loops.{CodeCells, Job, claim, count_phase, job_does, part_holder, settled}
 use Rattle.counted_code.specs.Machine.{Values, code_cells}
 use Rattle.counted_code.specs.Terms.{core_of_parts}
@@ -15,10 +15,7 @@ use Rattle.counted_code.specs.Values.{Heap, count_of, is_small}
 use Rattle.counted_code.specs.View.{code_program}
 use Rattle.counted_laws.specs.Simulation.{live}
 use Rattle.phase_laws.specs.Spending.{parts_take}
-use Rattle.phase_laws.proofs.Blind.{parts_blind, calls_blind}
-use Rattle.phase_laws.proofs.Growing.{parts_grow, calls_grow}
-use Rattle.phase_laws.proofs.Loops.{parts_leave, readable_in}
-use Rattle.phase_laws.proofs.Whole.{parts_spend}
+use Rattle.reached_marks.proofs.Standing.{clear_parts_stand}
 use Rattle.run_store.specs.Stands.{StandsFor, Stands}
 use Rattle.run_store.specs.Targets.{target_at}
 use Rattle.run_store.proofs.Opening.{main_stands}
@@ -46,14 +43,13 @@ use Rattle.phase_loop_laws.proofs.Places.{costs_in_all}
 use Rattle.phase_loop_laws.proofs.Results.{parts_made}
 use Rattle.phase_loop_cells.specs.Cells.{as_cell, parts_cell, parts_taken}
 use Rattle.phase_loop_cells.specs.Opened.{OpenParts, PartsIn, lent_env, meaning_in, spending_in}
-use Rattle.phase_loop_cells.proofs.Levels.{level}
 use Rattle.phase_workers.specs.Alive.{AreAlive}
 use Rattle.phase_workers.specs.Homes.{ComputesAll, handed}
 use Rattle.phase_workers.proofs.Ending.{own_stands}
 use Rattle.phase_workers.proofs.Handing.{handed_stands}
 use Rattle.phase_kernels.proofs.Named.{AreSingle}
 use Rattle.phase_workers.proofs.Machines.{machine_of, stands_for_machine}
-use Rattle.phase_workers.proofs.Openings.{AreReferred, readable_here}
+use Rattle.phase_workers.proofs.Openings.{all_backed, all_shown, AreReferred, readable_here}
 use Rattle.phase_count.proofs.Tallying.{counts_as, counts_on}
 
 -- ---- cells, in the words of both
@@ -65,11 +61,10 @@ same_cell (Err f) = refl
 
 -- ---- from where cells may be computed
 
-module _ (context : Context) (h : HeapValue) (e : Values) (parts : List CodePart) (xs : List Var) (counted : IsWellCounted (code_program context.code.now)) (unmarked : IsUnmarked (code_program context.code.now)) (here : PartsIn (code_program context.code.now) (parts_term parts) xs) (alive : AreAlive h e xs) (referred : AreReferred h) where
+module _ (context : Context) (h : HeapValue) (e : Values) (parts : List CodePart) (xs : List Var) (counted : IsWellCounted (code_program context.code.now)) (here : PartsIn (code_program context.code.now) (parts_term parts) xs) (alive : AreAlive h e xs) (referred : AreReferred h) where
   pub open_parts : (m : Heap) → StandsFor h m → OpenParts context h e parts m
   open_parts m stands = record {
     counted = counted;
-    unmarked = unmarked;
     live = xs;
     counted_here = here;
     holding = λ b. count_of m b;
@@ -94,18 +89,14 @@ module _ (context : Context) (h : HeapValue) (e : Values) (parts : List CodePart
       → StandsAlone m form (part_holder (map (running.cells_in context e) parts)) (cell_at (cell_form form.base form.shape) (cells (meaning_in context) context.turns (core_of_parts (parts_term parts)) (lent_env h e))) (parts_take (meaning_in context) context.turns (spending_in context) (parts_term parts) (lent_env h e))
   alone_parts m stands form =
       let code = code_program context.code.now in
-      let c = level code counted unmarked context.turns context.left context.nest in
-      let readable = readable_here h m stands referred e xs alive in
+      let clear = here.0 in
       subst (λ (ps : List CodeCells). StandsAlone m form (part_holder ps) (cell_at (cell_form form.base form.shape) (cells (meaning_in context) context.turns (core_of_parts (parts_term parts)) (lent_env h e))) (parts_take (meaning_in context) context.turns (spending_in context) (parts_term parts) (lent_env h e))) (cells_same parts)
-      (record {
-        alone = λ v k owns same. parts_leave c (parts_term parts) (parts_spend c (parts_term parts) here.0) xs here.1 k e (lent_env h e) (λ b. count_of m b) (readable_in (balanced m) k e (lent_env h e) (λ b. count_of m b) xs readable owns same) form.base form.shape v;
-        blind = λ v. parts_blind (calls_in context) context.turns (calls_blind code context.turns context.left context.nest) (parts_term parts) e v;
-        grows = λ v. parts_grow (calls_in context) context.turns (calls_grow code context.turns context.left context.nest) (parts_term parts) e v;
-      })
+      (clear_parts_stand code counted clear.0 clear.1 context.turns context.left context.nest (parts_term parts) clear.2 clear.3 xs here.1 (lent_env h e) form.base form.shape m e
+      (all_backed h m stands referred e xs alive) (all_shown h m stands referred e xs alive))
 
 -- ---- endings
 
-module _ (context : Context) (e : Values) (parts : List CodePart) (frame : List (List ℤ)) (form : Form) (shape : List ℕ) (xs : List Var) (counted : IsWellCounted (code_program context.code.now)) (unmarked : IsUnmarked (code_program context.code.now)) (here : PartsIn (code_program context.code.now) (parts_term parts) xs) (h : HeapValue) (alive : AreAlive h e xs) (referred : AreReferred h) (large : is_small shape ≡ false) (m : Heap) where
+module _ (context : Context) (e : Values) (parts : List CodePart) (frame : List (List ℤ)) (form : Form) (shape : List ℕ) (xs : List Var) (counted : IsWellCounted (code_program context.code.now)) (here : PartsIn (code_program context.code.now) (parts_term parts) xs) (h : HeapValue) (alive : AreAlive h e xs) (referred : AreReferred h) (large : is_small shape ≡ false) (m : Heap) where
   abbrev pub job : Job
   job = parts_job context e parts frame form shape
 
@@ -128,7 +119,7 @@ module _ (context : Context) (e : Values) (parts : List CodePart) (frame : List 
     pub parts_end : (es : List ℤ) (end : Result (Unit {0}) Stop) → IsArray (cells_from (parts_cell context h e parts form frame) 0 (length frame)) es end → PhaseEnds job form.base shape spent m es end
     parts_end es end is =
         subst (λ n. PhaseEnds job form.base shape n m es end) (sym (costs_in_all takes frame))
-        (phase_ends m job is_a_phase cell takes (alone_parts context h e parts xs counted unmarked here alive referred (begun job m).heap stands form) form.base shape es end
+        (phase_ends m job is_a_phase cell takes (alone_parts context h e parts xs counted here alive referred (begun job m).heap stands form) form.base shape es end
         (parts_made cell frame form.base shape es end
         (subst (λ (f : ℕ → CellValue). IsArray (cells_from f 0 (length frame)) es end) (λ i place. same_cell (cell (worked.index_at frame place)) i) is)))
 

@@ -3,7 +3,6 @@
 ghost use denote.Param.Send.{IsSync};
 ghost use Rattle.std.specs.Prelude.{◌≡◌, ◌≢◌, ℕ, ◌*◌, ◌<◌, ◌≤◌, None, Some, Ok, false, length, OnOk};
 ghost use Rattle.phase_cells.specs.Idle.{IsLending};
-ghost use Rattle.counted_code.specs.Counts.{IsUnmarked};
 ghost use Rattle.counted_code.specs.Loops.{job_does};
 ghost use Rattle.counted_code.specs.Values.{Heap as MachineHeap, is_small};
 ghost use Rattle.counted_code.specs.View.{code_program};
@@ -45,7 +44,6 @@ pub fn array_by_workers<G: Gate, R: Threads + Sync>(
     live: &[Var],
     state: &mut State<'_>,
 ) -> Result<RunValue, Stop>
-    requires unmarked { IsUnmarked (code_program context.now.code.now) }
     requires counted { GensIn (code_program context.now.code.now) (gens_term gens.now) live.now }
     requires alive { AreAlive state.old.heap.own (current state.old.frames) live.now }
     requires alone { state.old.heap.lent ≡ None }
@@ -108,7 +106,6 @@ fn array_cells<G: Gate, R: Threads + Sync>(
     cells: &mut [Cell],
     books: &mut Books,
 ) -> Result<(), Stop>
-    requires unmarked { IsUnmarked (code_program context.now.code.now) }
     requires counted { GensIn (code_program context.now.code.now) (gens_term gens.now) live.now }
     requires alive { AreAlive heap.now (current frames.now) live.now }
     requires size { background.size ≡ size plan.now.form.shape }

@@ -3,7 +3,6 @@
 ghost use Rattle.std.specs.Thread.{IsSync};
 ghost use Rattle.std.specs.Prelude.{◌≡◌, ◌≤◌, IsTrue, None, length, OnOk};
 ghost use Rattle.phase_cells.specs.Idle.{IsLending};
-ghost use Rattle.counted_code.specs.Counts.{IsUnmarked};
 ghost use Rattle.counted_code.specs.Loops.{job_does};
 ghost use Rattle.counted_code.specs.Values.{Heap as MachineHeap};
 ghost use Rattle.counted_code.specs.View.{code_program};
@@ -53,7 +52,6 @@ pub fn fold_outside<G: Gate, R: Threads + Sync>(
     context: &Context<'_>,
     state: &mut State<'_>,
 ) -> Result<RunValue, Stop>
-    requires unmarked { IsUnmarked (code_program context.now.code.now) }
     ensures told { (m : MachineHeap) → IsAt state.old m
         → Told IsValue result state.new (job_does None (fold_job context.now (current state.old.frames) m gens.now (plan_of plan.now) op neutral) m) }
     ensures scopes { OnOk result (SameScopes state.old.frames state.new.frames) }
@@ -62,6 +60,7 @@ pub fn fold_outside<G: Gate, R: Threads + Sync>(
     if state.heap.lent.is_some()
         || !is_fold(plan, op, &neutral)
         || !workers.nesting.has_room_for_gens(gens, context.code.get())
+        || !context.code.gens_reach_none(gens)
     {
         return fold_in_order(gens, plan, op, &neutral, context, state);
     }
@@ -129,7 +128,6 @@ pub fn fold_by_workers<G: Gate, R: Threads + Sync>(
     live: &[Var],
     state: &mut State<'_>,
 ) -> Result<RunValue, Stop>
-    requires unmarked { IsUnmarked (code_program context.now.code.now) }
     requires counted { GensIn (code_program context.now.code.now) (gens_term gens.now) live.now }
     requires alive { AreAlive state.old.heap.own (current state.old.frames) live.now }
     requires alone { state.old.heap.lent ≡ None }
@@ -190,7 +188,6 @@ fn fold_cells<'a, G: Gate, R: Threads + Sync>(
     value: &mut [Cell],
     books: &mut Books,
 ) -> Result<(), Stop>
-    requires unmarked { IsUnmarked (code_program context.code.now) }
     requires counted { GensIn (code_program context.code.now) (gens_term gens.now) live.now }
     requires alive { AreAlive heap.now (current frames.now) live.now }
     requires op { IsTrue (folds_value plan.now.form.base op) }

@@ -1,10 +1,8 @@
 //! Loops over cells that stand outside of cells.
 
 ghost use Rattle.std.specs.Prelude.{◌≡◌, None, OnOk};
-ghost use Rattle.counted_code.specs.Counts.{IsUnmarked};
 ghost use Rattle.counted_code.specs.Loops.{job_does};
 ghost use Rattle.counted_code.specs.Values.{Heap as MachineHeap};
-ghost use Rattle.counted_code.specs.View.{code_program};
 ghost use Rattle.run_eval.specs.Jobs.{job_of};
 ghost use Rattle.run_eval.specs.Running.{IsAt, IsValue, SameScopes, Told, array_job};
 ghost use Rattle.run_store.specs.Stands.{lender_of};
@@ -28,8 +26,8 @@ use run_values::RunValue;
 use sac_base::{Array, Stop, copy_array};
 use std::thread::Threads;
 
-/// The result of a loop whose checks have passed. It is run by the workers where the code has no marks, it is a phase, its
-/// cells are known to stand alone and none nests too deep, and else in order.
+/// The result of a loop whose checks have passed. It is run by the workers where it is a phase, its cells are known to stand
+/// alone, which cells that reach a mark do not, and none nests too deep, and else in order.
 pub fn loop_outside<G: Gate, R: Threads + Sync>(
     workers: &Workers<'_, G, R>,
     work: &CellLoop<'_>,
@@ -41,9 +39,6 @@ pub fn loop_outside<G: Gate, R: Threads + Sync>(
     ensures scopes { OnOk result (SameScopes state.old.frames state.new.frames) }
     ensures lender { lender_of state.new.heap ≡ lender_of state.old.heap }
 {
-    if !context.code.is_unmarked() {
-        return run_in_order(work, context, state);
-    }
     let plan = work.plan;
     match (work.source, work.result) {
         (CellSource::Generators(gens), LoopResult::Filled { array, old }) => {
@@ -75,7 +70,6 @@ pub fn array_outside<G: Gate, R: Threads + Sync>(
     context: &Context<'_>,
     state: &mut State<'_>,
 ) -> Result<RunValue, Stop>
-    requires unmarked { IsUnmarked (code_program context.now.code.now) }
     ensures told { (m : MachineHeap) → IsAt state.old m
         → Told IsValue result state.new
         (job_does None (array_job context.now (current state.old.frames) m gens.now (plan_of plan.now) array.now old) m) }
@@ -85,6 +79,7 @@ pub fn array_outside<G: Gate, R: Threads + Sync>(
     if is_small(&plan.shape)
         || state.heap.lent.is_some()
         || !workers.nesting.has_room_for_gens(gens, context.code.get())
+        || !context.code.gens_reach_none(gens)
     {
         return array_in_order(gens, plan, array, old, context, state);
     }

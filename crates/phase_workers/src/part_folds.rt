@@ -2,7 +2,6 @@
 
 ghost use Rattle.std.specs.Prelude.{◌≡◌, ◌≤◌, IsTrue, None, length, OnOk};
 ghost use Rattle.phase_cells.specs.Idle.{IsLending};
-ghost use Rattle.counted_code.specs.Counts.{IsUnmarked};
 ghost use Rattle.counted_code.specs.Loops.{job_does};
 ghost use Rattle.counted_code.specs.Values.{Heap as MachineHeap};
 ghost use Rattle.counted_code.specs.View.{code_program};
@@ -49,7 +48,6 @@ pub fn fold_parts_outside<G: Gate, R: Threads + Sync>(
     context: &Context<'_>,
     state: &mut State<'_>,
 ) -> Result<RunValue, Stop>
-    requires unmarked { IsUnmarked (code_program context.now.code.now) }
     ensures told { (m : MachineHeap) → IsAt state.old m
         → Told IsValue result state.new
         (job_does None (fold_parts_job context.now (current state.old.frames) parts.now plan.now.frame plan.now.form plan.now.shape op neutral) m) }
@@ -61,6 +59,7 @@ pub fn fold_parts_outside<G: Gate, R: Threads + Sync>(
         || !workers
             .nesting
             .has_room_for_parts(parts, context.code.get())
+        || !context.code.parts_reach_none(parts)
     {
         return fold_parts_in_order(parts, plan, op, &neutral, context, state);
     }
@@ -119,7 +118,6 @@ fn fold_parts_by_workers<G: Gate, R: Threads + Sync>(
     live: &[Var],
     state: &mut State<'_>,
 ) -> Result<RunValue, Stop>
-    requires unmarked { IsUnmarked (code_program context.now.code.now) }
     requires counted { PartsIn (code_program context.now.code.now) (parts_term parts.now) live.now }
     requires alive { AreAlive state.old.heap.own (current state.old.frames) live.now }
     requires alone { state.old.heap.lent ≡ None }
@@ -183,7 +181,6 @@ fn fold_part_cells<G: Gate, R: Threads + Sync>(
     value: &mut [Cell],
     books: &mut Books,
 ) -> Result<(), Stop>
-    requires unmarked { IsUnmarked (code_program context.now.code.now) }
     requires counted { PartsIn (code_program context.now.code.now) (parts_term parts.now) live.now }
     requires alive { AreAlive heap.now (current frames.now) live.now }
     requires op { IsTrue (folds_value form.now.base op) }

@@ -2,7 +2,6 @@
 
 ghost use Rattle.std.specs.Prelude.{◌≡◌, ◌≤◌, ◌*◌, None, false, length, OnOk};
 ghost use Rattle.phase_cells.specs.Idle.{IsLending};
-ghost use Rattle.counted_code.specs.Counts.{IsUnmarked};
 ghost use Rattle.counted_code.specs.Loops.{job_does};
 ghost use Rattle.counted_code.specs.Values.{Heap as MachineHeap, is_small as is_small_shape};
 ghost use Rattle.counted_code.specs.View.{code_program};
@@ -47,7 +46,6 @@ pub fn parts_outside<G: Gate, R: Threads + Sync>(
     context: &Context<'_>,
     state: &mut State<'_>,
 ) -> Result<RunValue, Stop>
-    requires unmarked { IsUnmarked (code_program context.now.code.now) }
     ensures told { (m : MachineHeap) → IsAt state.old m
         → Told IsValue result state.new
         (job_does None (parts_job context.now (current state.old.frames) parts.now plan.now.frame plan.now.form plan.now.shape) m) }
@@ -59,6 +57,7 @@ pub fn parts_outside<G: Gate, R: Threads + Sync>(
         || !workers
             .nesting
             .has_room_for_parts(parts, context.code.get())
+        || !context.code.parts_reach_none(parts)
     {
         return parts_in_order(parts, plan, context, state);
     }
@@ -105,7 +104,6 @@ fn parts_by_workers<G: Gate, R: Threads + Sync>(
     live: &[Var],
     state: &mut State<'_>,
 ) -> Result<RunValue, Stop>
-    requires unmarked { IsUnmarked (code_program context.now.code.now) }
     requires counted { PartsIn (code_program context.now.code.now) (parts_term parts.now) live.now }
     requires alive { AreAlive state.old.heap.own (current state.old.frames) live.now }
     requires alone { state.old.heap.lent ≡ None }
@@ -160,7 +158,6 @@ fn part_cells<G: Gate, R: Threads + Sync>(
     cells: &mut [Cell],
     books: &mut Books,
 ) -> Result<(), Stop>
-    requires unmarked { IsUnmarked (code_program context.now.code.now) }
     requires counted { PartsIn (code_program context.now.code.now) (parts_term parts.now) live.now }
     requires alive { AreAlive heap.now (current frames.now) live.now }
     requires home { books.old.home ≡ new_behind heap.now }

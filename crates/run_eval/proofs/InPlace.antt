@@ -1,5 +1,5 @@
 -- What is written into a buffer that was taken over.
-use Rattle.std.proofs.Common.{◌≡◌, ℕ, ◌+◌, ◌*◌, List, [], ◌∷◌, refl, sym, Result, Ok, Err, OnOk, Some}
+use Rattle.std.proofs.Common.{◌≡◌, ℕ, ◌+◌, [], ◌∷◌, refl, sym, Result, Ok, Err, OnOk, Some}
 use Rattle.std.specs.Prelude.{ℤ}
 use Rattle.std.proofs.Math.Nat.{mul-one}
 use Rattle.sac_base.specs.declared.base.Base.{Base}

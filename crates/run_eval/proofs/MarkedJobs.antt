@@ -1,6 +1,6 @@
 -- Loops with a mark, from what is told of their parts.
 use Rattle.std.proofs.Common.{◌≡◌, ℕ, List, map, Bool, true, false, true≢false, refl, sym, ap, ◌∙◌, subst, Result, Ok, Some, None}
-use Rattle.std.specs.Prelude.{ℤ, ◌++◌, ◌&&◌, not, length}
+use Rattle.std.specs.Prelude.{◌++◌, ◌&&◌, not, length}
 use Rattle.sac_base.specs.declared.base.Base.{Base}
 use Rattle.sac_base.specs.declared.grid.Grid1.{Grid1}
 use Rattle.sac_base.specs.declared.op.Op.{Op}
@@ -26,7 +26,6 @@ use Rattle.run_values.specs.Scopes.{current}
 use Rattle.run_values.specs.Shown.{value_of}
 use Rattle.sac_base.specs.declared.stop.Stop.{Stop}
 use Rattle.run_eval.specs.declared.cell_loop.CellLoop.{CellLoop}
-use Rattle.run_eval.specs.declared.cell_loop.LoopResult.{LoopResult}
 use Rattle.run_eval.specs.declared.cell_loop.LoopResult.TheVariants.{Joined}
 use Rattle.run_eval.specs.declared.state.Context.{Context}
 use Rattle.run_eval.specs.declared.state.State.{State}

@@ -1,5 +1,5 @@
 -- The cells of a loop one after another, where each is written before the next one is computed: whatever the other cells come to, it is what all come to.
-use Rattle.std.proofs.Common.{◌≡◌, ℕ, suc, ◌+◌, ◌<◌, ◌≤◌, List, [], ◌∷◌, length, get_or, drop, sym, ap, ◌∙◌, subst, refl, Result, Ok, Err, Option, Some, None}
+use Rattle.std.proofs.Common.{◌≡◌, ℕ, ◌+◌, ◌<◌, ◌≤◌, List, [], ◌∷◌, length, get_or, drop, sym, ap, ◌∙◌, subst, refl, Result, Ok, Err, Option, Some, None}
 use Rattle.std.specs.Prelude.{ℤ, option_map}
 use Rattle.std.proofs.lemmas.List.{drop_more, drop_all}
 use Rattle.std.proofs.Math.Numerals.{add-one}
@@ -7,7 +7,7 @@ use Rattle.sac_base.specs.declared.form.Form.{Form}
 use Rattle.sac_base.specs.Arrays.{ArrayValue}
 use Rattle.counted_code.specs.Loops.{Source, Old, cells_do, release_rest, write_cell}
 use Rattle.counted_code.specs.Machine.{Values}
-use Rattle.counted_code.specs.Values.{Heap, Value, Ended, Done, Failed, give, go_on, then_go, read}
+use Rattle.counted_code.specs.Values.{Heap, Value, Ended, Done, Failed, give, go_on, read}
 use Rattle.sac_base.specs.declared.stop.Stop.{Stop}
 use Rattle.sac_base.specs.declared.stop.Stop.TheVariants.{Faulted, Memory}
 use Rattle.run_store.specs.Stands.{Stands}

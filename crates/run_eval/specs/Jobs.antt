@@ -1,12 +1,15 @@
 -- The machine's job of a loop whose checks have passed.
-use Rattle.std.specs.Prelude.{ℕ, Bool, true, false, List, ℤ, map, fold, Option, Some, None, flat_map}
+use Rattle.std.specs.Prelude.{◌≡◌, ℕ, Bool, true, false, List, ℤ, map, fold, Option, Some, None, flat_map}
 use Rattle.sac_base.specs.declared.base.Base.{Base}
+use Rattle.sac_base.specs.declared.grid.Grid1.{Grid1}
 use Rattle.sac_base.specs.Arrays.{ArrayValue}
+use Rattle.sac_base.specs.Grids.{members}
 use Rattle.sac_base.specs.WithLoops.{Plan, Range, combined}
-use Rattle.core_ir.specs.Meaning.{elements_of, joined}
-use Rattle.counted_code.specs.Loops.{Job, Source, holder, part_holder}
+use Rattle.core_fold.specs.Cells.{IsBox}
+use Rattle.core_ir.specs.Meaning.{elements_of, extents, joined}
+use Rattle.counted_code.specs.Loops.{Job, Source, holder, job_does, part_holder}
 use Rattle.counted_code.specs.Machine.{Values}
-use Rattle.counted_code.specs.Values.{Heap}
+use Rattle.counted_code.specs.Values.{Heap, Value, Ended, is_small}
 use Rattle.array_with_loops.specs.Cells.{array_from, cell_from, cells_from}
 use Rattle.array_with_loops.specs.Plans.{plan_of}
 use Rattle.run_eval.specs.declared.cell_loop.CellLoop.{CellLoop}
@@ -17,6 +20,7 @@ use Rattle.run_eval.specs.declared.cell_loop.LoopResult.TheVariants.{Filled, Joi
 use Rattle.run_eval.specs.declared.cells.Background.{Background}
 use Rattle.run_eval.specs.declared.state.Context.{Context}
 use Rattle.run_eval.specs.Running.{cells_in, generator_in}
+use Rattle.run_over.specs.Soles.{is_only}
 
 -- where the machine's cells come from
 abbrev pub source_of : Context → Values → Heap → CellSource → List Range → List ℤ → Option Source
@@ -47,6 +51,26 @@ cells_job context e k work folds result =
 
 abbrev pub job_of : Context → Values → Heap → CellLoop → Job
 job_of context e k work = cells_job context e k work (folds_of work.result) (result_of work.result (plan_of work.plan.now))
+
+-- ---- arrays over that of a marked variable
+
+-- these are the indices of a shape, in row-major order
+pub record AreIndicesOf (shape : List ℕ) (indices : List (List ℤ)) : Type 0 where
+  pub frame : List Grid1
+  pub box : IsBox frame
+  pub shape_is : shape ≡ extents frame
+  pub indices_are : indices ≡ members frame
+
+-- the result is no small one, the cells are its elements in order, and the value is the only reference to its buffer
+pub record IsOver (work : CellLoop) (w : Value) (m : Heap) : Type 0 where
+  pub large : is_small work.plan.now.shape ≡ false
+  pub only : is_only m w ≡ true
+  pub in_order : AreIndicesOf work.plan.now.shape work.plan.now.frame
+
+-- an array of the cells alone, by the machine's loop with a mark
+abbrev pub over_does : Context → Values → CellLoop → Value → Heap → Ended Value
+over_does context e work w m =
+    job_does (Some w) (cells_job context e m work false (joined work.plan.now.form.base work.plan.now.shape)) m
 
 -- ---- arrays over a background, or with nothing where there is no cell
 

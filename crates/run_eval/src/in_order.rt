@@ -2,15 +2,17 @@
 
 ghost use Rattle.counted_code.specs.Loops.{job_does};
 ghost use Rattle.counted_code.specs.Values.{Heap as MachineHeap};
-ghost use Rattle.run_eval.specs.Jobs.{job_of};
+ghost use Rattle.run_eval.specs.Jobs.{job_of, over_does, IsOver};
 ghost use Rattle.run_eval.specs.Loops.{IsPresent, source_at, unreleased};
 ghost use Rattle.run_eval.specs.Running.{IsAt, IsValue, SameScopes, Told};
 ghost use Rattle.run_store.specs.Stands.{lender_of};
 ghost use Rattle.run_values.specs.Scopes.{current};
+ghost use Rattle.run_values.specs.Shown.{value_of};
 ghost use Rattle.std.specs.Prelude.{◌≡◌, None, OnOk};
 
 use crate::array_loops::{loop_cell, run_cell_loop};
 use crate::cell_loop::{CellLoop, CellSource};
+use crate::marked_loops::run_over;
 use crate::phases::Never;
 use crate::state::{Context, State};
 use array_with_loops::Range;
@@ -29,6 +31,21 @@ pub fn run_in_order(
     ensures lender { lender_of state.new.heap ≡ lender_of state.old.heap }
 {
     run_cell_loop::<Never>(work, context, None, state)
+}
+
+/// The result of an array of the cells alone, over that of a value which is the only reference to its buffer.
+pub fn run_over_in_order(
+    work: &CellLoop<'_>,
+    array: RunValue,
+    context: &Context<'_>,
+    state: &mut State<'_>,
+) -> Result<RunValue, Stop>
+    ensures told { (m : MachineHeap) → IsAt state.old m → IsOver work.now (value_of array) m
+        → Told IsValue result state.new (over_does context.now (current state.old.frames) work.now (value_of array) m) }
+    ensures scopes { OnOk result (SameScopes state.old.frames state.new.frames) }
+    ensures lender { lender_of state.new.heap ≡ lender_of state.old.heap }
+{
+    run_over::<Never>(work, array, context, None, state)
 }
 
 /// The cell of an index, if it has one, which must have a form. The ranges are those of generators.

@@ -18,7 +18,7 @@ mod state;
 mod trace;
 
 pub use cell_loop::{CellLoop, CellSource, LoopResult};
-pub use in_order::{cell_in_order, run_in_order};
+pub use in_order::{cell_in_order, run_in_order, run_over_in_order};
 pub use phases::{Never, Outside, Phases};
 pub use program::{Plan, run, run_with_phases};
 pub use sac_base::Stop;

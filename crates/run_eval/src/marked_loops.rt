@@ -3,7 +3,9 @@
 ghost use Rattle.counted_code.specs.Loops.{Old, count_phase, job_does, release_rest, write_cell};
 ghost use Rattle.counted_code.specs.Values.{Heap as MachineHeap, count_of, is_small as is_small_shape, read};
 ghost use Rattle.counted_code.specs.View.{code_parted_term};
-ghost use Rattle.run_eval.specs.Jobs.{cells_job, job_of};
+ghost use Rattle.run_eval.specs.Jobs.{job_of, over_does, AreIndicesOf, IsOver};
+ghost use Rattle.run_eval.specs.declared.cell_loop.LoopResult.TheVariants.{Joined};
+ghost use Rattle.core_fold.specs.Cells.{IsBox};
 ghost use Rattle.run_eval.specs.Loops.{cells_written};
 ghost use Rattle.run_eval.specs.Running.{right_in, IsAt, Told, IsOnly, IsValue, SameScopes};
 ghost use Rattle.run_over.specs.Soles.{is_only};
@@ -11,7 +13,6 @@ ghost use Rattle.run_store.specs.Stands.{Stands, lender_of};
 ghost use Rattle.run_values.specs.Numbers.{numbers};
 ghost use Rattle.run_values.specs.Scopes.{current};
 ghost use Rattle.run_values.specs.Shown.{value_of};
-ghost use Rattle.core_ir.specs.Meaning.{joined};
 ghost use Rattle.std.specs.Prelude.{◌≡◌, ◌+◌, ◌&&◌, ℕ, false, true, map, not, option_map, unsigned_abs, IfOk, OnOk};
 
 use crate::array_loops::{loop_cell, run_cell_loop};
@@ -27,7 +28,7 @@ use counted_code::CodeParted;
 use run_over::{claim_over, is_sole, write_over};
 use run_store::{Store, is_small, release, same_sizes};
 use run_values::{Few, RunValue};
-use sac_base::{Memory, Shape, Site, Stop};
+use sac_base::{Grid, Memory, Shape, Site, Stop};
 
 /// The result of a marked loop. A loop without a mark and a fold, which well-marked code has none of, count as want of
 /// memory.
@@ -65,7 +66,8 @@ pub fn run_marked<P: Phases>(
         result,
     };
     let array = state.frames.get(mark);
-    run_marked_loop(&work, array, context, outside, state)
+    let in_order = parted.cell.rank() == 0 && is_box(&parted.frame);
+    run_marked_loop(&work, array, in_order, context, outside, state)
 }
 
 /// The result of a loop with a mark, whose checks have passed. The marked variable's reference ends with the loop.
@@ -73,10 +75,12 @@ pub fn run_marked<P: Phases>(
 fn run_marked_loop<P: Phases>(
     work: &CellLoop<'_>,
     array: RunValue,
+    in_order: bool,
     context: &Context<'_>,
     outside: Option<&Outside<P>>,
     state: &mut State<'_>,
 ) -> Result<RunValue, Stop>
+    requires rows { work.now.result ≡ Joined → in_order ≡ true → AreIndicesOf work.now.plan.now.shape work.now.plan.now.frame }
     ensures told { (m : MachineHeap) → IsAt state.old m
         → Told IsValue result state.new (job_does (Some (value_of array)) (job_of context.now (current state.old.frames) m work.now) m) }
     ensures scopes { OnOk result (SameScopes state.old.frames state.new.frames) }
@@ -89,12 +93,33 @@ fn run_marked_loop<P: Phases>(
         return Ok(value);
     }
     match work.result {
+        LoopResult::Joined if in_order => run_over(work, array, context, outside, state),
         LoopResult::Joined => run_in_place(work, array, context, outside, state),
         _ => Err(Stop::Memory),
     }
 }
 
 /// An array of the cells alone, over that of a value which is the only reference to its buffer.
+#[cycle(run)]
+pub fn run_over<P: Phases>(
+    work: &CellLoop<'_>,
+    array: RunValue,
+    context: &Context<'_>,
+    outside: Option<&Outside<P>>,
+    state: &mut State<'_>,
+) -> Result<RunValue, Stop>
+    ensures told { (m : MachineHeap) → IsAt state.old m → IsOver work.now (value_of array) m
+        → Told IsValue result state.new (over_does context.now (current state.old.frames) work.now (value_of array) m) }
+    ensures scopes { OnOk result (SameScopes state.old.frames state.new.frames) }
+    ensures lender { lender_of state.new.heap ≡ lender_of state.old.heap }
+{
+    match outside {
+        Some(phases) => phases.run_over(work, array, context, state),
+        None => run_in_place(work, array, context, outside, state),
+    }
+}
+
+/// The same on this thread, each cell written before the next one is computed.
 #[cycle(run)]
 fn run_in_place<P: Phases>(
     work: &CellLoop<'_>,
@@ -104,8 +129,7 @@ fn run_in_place<P: Phases>(
     state: &mut State<'_>,
 ) -> Result<RunValue, Stop>
     ensures told { (m : MachineHeap) → IsAt state.old m → is_small_shape work.now.plan.now.shape ≡ false → is_only m (value_of array) ≡ true
-        → Told IsValue result state.new (job_does (Some (value_of array))
-        (cells_job context.now (current state.old.frames) m work.now false (joined work.now.plan.now.form.base work.now.plan.now.shape)) m) }
+        → Told IsValue result state.new (over_does context.now (current state.old.frames) work.now (value_of array) m) }
     ensures scopes { OnOk result (SameScopes state.old.frames state.new.frames) }
     ensures lender { lender_of state.new.heap ≡ lender_of state.old.heap }
 {
@@ -149,6 +173,16 @@ fn fill_in_place<P: Phases>(
         put_in_place(&mut state.heap, value, buffer, place)?;
     }
     Ok(())
+}
+
+/// Whether a frame begins at 0 and has each number of an axis.
+fn is_box(frame: &Grid) -> bool
+    ensures { result ≡ true → IsBox frame.now }
+{
+    frame
+        .axes()
+        .iter()
+        .all(|axis| axis.lo == 0 && axis.step == 1)
 }
 
 /// Whether a result of this shape is written over the buffer of an array.

@@ -2,10 +2,11 @@
 
 ghost use Rattle.counted_code.specs.Loops.{job_does};
 ghost use Rattle.counted_code.specs.Values.{Heap as MachineHeap};
-ghost use Rattle.run_eval.specs.Jobs.{job_of};
+ghost use Rattle.run_eval.specs.Jobs.{job_of, over_does, IsOver};
 ghost use Rattle.run_eval.specs.Running.{IsAt, IsValue, SameScopes, Told};
 ghost use Rattle.run_store.specs.Stands.{lender_of};
 ghost use Rattle.run_values.specs.Scopes.{current};
+ghost use Rattle.run_values.specs.Shown.{value_of};
 ghost use Rattle.std.specs.Prelude.{◌≡◌, None, OnOk, ⊤};
 
 use crate::cell_loop::CellLoop;
@@ -31,6 +32,20 @@ pub trait Phases {
             → Told IsValue result state.new (job_does None (job_of context.now (current state.old.frames) m work.now) m) }
         ensures scopes { OnOk result (SameScopes state.old.frames state.new.frames) }
         ensures lender { lender_of state.new.heap ≡ lender_of state.old.heap };
+
+    /// The result of an array of the cells alone, over that of a value which is the only reference to its buffer.
+    fn run_over(
+        &self,
+        work: &CellLoop<'_>,
+        array: RunValue,
+        context: &Context<'_>,
+        state: &mut State<'_>,
+    ) -> Result<RunValue, Stop>
+        requires { runs self.now }
+        ensures told { (m : MachineHeap) → IsAt state.old m → IsOver work.now (value_of array) m
+            → Told IsValue result state.new (over_does context.now (current state.old.frames) work.now (value_of array) m) }
+        ensures scopes { OnOk result (SameScopes state.old.frames state.new.frames) }
+        ensures lender { lender_of state.new.heap ≡ lender_of state.old.heap };
 }
 
 /// Runs none.
@@ -43,6 +58,16 @@ impl Phases for Never {
     fn run(
         &self,
         _work: &CellLoop<'_>,
+        _context: &Context<'_>,
+        _state: &mut State<'_>,
+    ) -> Result<RunValue, Stop> {
+        Err(Stop::Memory)
+    }
+
+    fn run_over(
+        &self,
+        _work: &CellLoop<'_>,
+        _array: RunValue,
         _context: &Context<'_>,
         _state: &mut State<'_>,
     ) -> Result<RunValue, Stop> {
@@ -85,5 +110,21 @@ impl<P: Phases> Outside<P> {
         ensures lender { lender_of state.new.heap ≡ lender_of state.old.heap }
     {
         self.phases.run(work, context, state)
+    }
+
+    /// The result of an array of the cells alone, over that of a value which is the only reference to its buffer.
+    pub fn run_over(
+        &self,
+        work: &CellLoop<'_>,
+        array: RunValue,
+        context: &Context<'_>,
+        state: &mut State<'_>,
+    ) -> Result<RunValue, Stop>
+        ensures told { (m : MachineHeap) → IsAt state.old m → IsOver work.now (value_of array) m
+            → Told IsValue result state.new (over_does context.now (current state.old.frames) work.now (value_of array) m) }
+        ensures scopes { OnOk result (SameScopes state.old.frames state.new.frames) }
+        ensures lender { lender_of state.new.heap ≡ lender_of state.old.heap }
+    {
+        self.phases.run_over(work, array, context, state)
     }
 }

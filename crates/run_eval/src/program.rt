@@ -7,7 +7,8 @@ ghost use Rattle.counted_code.specs.Outcome.{copied_out, cost_of, outcome_of, wh
 ghost use Rattle.counted_code.specs.Values.{Heap as MachineHeap, place_all as all_placed, read, release_all as all_released};
 ghost use Rattle.counted_code.specs.View.{code_program};
 ghost use Rattle.counted_marks.specs.Marks.{IsWellMarked};
-ghost use Rattle.run_eval.specs.Outcomes.{new_heap, main_in, AreArrays, ArePlaced, IsCleared, HasCounters, KeepsChanges, OrMemory, TellsCost, TellsTally, draws_under};
+ghost use Rattle.run_eval.specs.Outcomes.{new_heap, main_in, AreArrays, ArePlaced, IsCleared, HasCounters, KeepsChanges, OrMemory};
+ghost use Rattle.run_eval.specs.Outcomes.{TellsCost, TellsTally, draws_under};
 ghost use Rattle.run_eval.specs.Running.{IsAt, Told};
 ghost use Rattle.phase_count.specs.Tallies.{counted_in};
 ghost use Rattle.run_store.specs.Stands.{Stands, lender_of};
@@ -123,7 +124,7 @@ fn run_code<P: Phases>(
         heap: Store::of(mem::replace(heap, Heap::new(alloc))),
         phases,
     };
-    let counted = CountedCode::of(code);
+    let counted = CountedCode::of(alloc, code);
     let context = Context {
         alloc,
         code: &counted,

@@ -1,17 +1,19 @@
 //! The state of a run, and the code that runs.
 
 ghost use Rattle.std.specs.Prelude.{◌≡◌, IsTrue};
-ghost use Rattle.counted_code.specs.Counts.{IsWellCounted, IsUnmarked};
+ghost use Rattle.counted_code.specs.Counts.{IsWellCounted};
 ghost use Rattle.counted_code.specs.View.{code_program};
 ghost use Rattle.counted_marks.specs.Marks.{IsWellMarked};
+ghost use Rattle.phase_checks.specs.Terms.{gens_term, parts_term};
+ghost use Rattle.reach_checks.specs.Loops.{ClearGens, ClearParts};
 
 use core_ir::Var;
-use counted_code::{Code, CodeBlock};
-use mark_checks::is_unmarked;
+use counted_code::{Code, CodeBlock, CodeGen, CodePart};
 use phase_count::PhaseCount;
+use reach_checks::{cells_are_clear, clear_groups, parted_cells_are_clear};
 use run_store::Store;
 use run_values::Frames;
-use sac_base::Site;
+use sac_base::{Memory, Site};
 use std::alloc::Global;
 use std::marker::Model;
 
@@ -19,15 +21,18 @@ use std::marker::Model;
 #[derive(Drop)]
 pub struct CountedCode<'a> {
     code: &'a Code,
-    // whether it was seen to have no mark
-    unmarked: bool,
+    // which groups reach no mark, if there was memory to see it
+    clear: Vec<bool>,
+    seen: bool,
 }
 
 impl<'a> Model for CountedCode<'a> {
     ghost use Rattle.std.specs.Prelude.{IsTrue};
-    ghost use Rattle.counted_code.specs.Counts.{IsWellCounted, IsUnmarked};
+    ghost use Rattle.counted_code.specs.Counts.{IsWellCounted};
     ghost use Rattle.counted_code.specs.View.{code_program};
     ghost use Rattle.counted_marks.specs.Marks.{IsWellMarked};
+    ghost use Rattle.mark_removal.specs.Reached.{ReachesNone};
+    ghost use Rattle.reach_checks.specs.Groups.{clear_in};
     ghost use Rattle.counted_code.specs.contracts.tree.Code as tree;
     ghost use Rattle.counted_code.specs.declared.tree.Code.{Code};
 
@@ -38,18 +43,28 @@ impl<'a> Model for CountedCode<'a> {
     ghost view = { λ c. c.code.now };
 
     ghost invariant = { λ c. IsWellCounted (code_program c.code.now) × IsWellMarked (code_program c.code.now)
-        × (IsTrue c.unmarked → IsUnmarked (code_program c.code.now)) };
+        × (IsTrue c.seen → ReachesNone (code_program c.code.now) (clear_in c.clear.items)) };
 }
 
 impl<'a> CountedCode<'a> {
     /// This code.
-    pub fn of(code: &'a Code) -> CountedCode<'a>
+    pub fn of(alloc: Global, code: &'a Code) -> CountedCode<'a>
         requires counted { IsWellCounted (code_program code.now) }
         requires marked { IsWellMarked (code_program code.now) }
         ensures { result ≡ code.now }
     {
-        let unmarked = is_unmarked(code);
-        CountedCode { code, unmarked }
+        match clear_groups(alloc, code) {
+            Ok(clear) => CountedCode {
+                code,
+                clear,
+                seen: true,
+            },
+            Err(Memory) => CountedCode {
+                code,
+                clear: Vec::new(alloc),
+                seen: false,
+            },
+        }
     }
 
     /// The code.
@@ -61,11 +76,18 @@ impl<'a> CountedCode<'a> {
         self.code
     }
 
-    /// Whether the code was seen to have no mark.
-    pub fn is_unmarked(&self) -> bool
-        ensures { IsTrue result → IsUnmarked (code_program self.now) }
+    /// Whether the cells of a with-loop were seen to reach no mark.
+    pub fn gens_reach_none(&self, gens: &[CodeGen]) -> bool
+        ensures { IsTrue result → ClearGens (code_program self.now) (gens_term gens.now) }
     {
-        self.unmarked
+        self.seen && cells_are_clear(gens, &self.clear)
+    }
+
+    /// The same of a parted loop.
+    pub fn parts_reach_none(&self, parts: &[CodePart]) -> bool
+        ensures { IsTrue result → ClearParts (code_program self.now) (parts_term parts.now) }
+    {
+        self.seen && parted_cells_are_clear(parts, &self.clear)
     }
 }
 

@@ -388,8 +388,11 @@ marked_loops::run_marked-run_marked_loop-requires = marked_answers.run_marked-ru
 pub marked_loops::run_marked_loop-run_cell_loop-requires : goal.marked_loops::run_marked_loop-run_cell_loop-requires
 marked_loops::run_marked_loop-run_cell_loop-requires = marked_answers.run_marked_loop-run_cell_loop-requires
 
-pub marked_loops::run_marked_loop-run_in_place-requires : goal.marked_loops::run_marked_loop-run_in_place-requires
-marked_loops::run_marked_loop-run_in_place-requires = marked_answers.run_marked_loop-run_in_place-requires
+pub marked_loops::run_marked_loop-run_over-requires : goal.marked_loops::run_marked_loop-run_over-requires
+marked_loops::run_marked_loop-run_over-requires = marked_answers.run_marked_loop-run_over-requires
+
+pub marked_loops::run_over-run_in_place-requires : goal.marked_loops::run_over-run_in_place-requires
+marked_loops::run_over-run_in_place-requires = marked_answers.run_over-run_in_place-requires
 
 pub marked_loops::run_in_place-fill_in_place-requires : goal.marked_loops::run_in_place-fill_in_place-requires
 marked_loops::run_in_place-fill_in_place-requires = marked_answers.run_in_place-fill_in_place-requires

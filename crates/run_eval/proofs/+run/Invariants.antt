@@ -97,11 +97,14 @@ decreases-marked_loops::run_marked g l = rank_of l.context.now + 8 * size-CodePa
 abbrev pub decreases-marked_loops::run_marked_loop : goal.decreases-marked_loops::run_marked_loop
 decreases-marked_loops::run_marked_loop g l = rank_of l.context.now + 8 * source_size l.work.now.source + 8
 
+abbrev pub decreases-marked_loops::run_over : goal.decreases-marked_loops::run_over
+decreases-marked_loops::run_over g l = rank_of l.context.now + 8 * source_size l.work.now.source + 7
+
 abbrev pub decreases-marked_loops::run_in_place : goal.decreases-marked_loops::run_in_place
-decreases-marked_loops::run_in_place g l = rank_of l.context.now + 8 * source_size l.work.now.source + 7
+decreases-marked_loops::run_in_place g l = rank_of l.context.now + 8 * source_size l.work.now.source + 6
 
 abbrev pub decreases-marked_loops::fill_in_place : goal.decreases-marked_loops::fill_in_place
-decreases-marked_loops::fill_in_place g l = rank_of l.context.now + 8 * source_size l.work.now.source + 6
+decreases-marked_loops::fill_in_place g l = rank_of l.context.now + 8 * source_size l.work.now.source + 5
 
 abbrev pub decreases-array_loops::run_cell_loop : goal.decreases-array_loops::run_cell_loop
 decreases-array_loops::run_cell_loop g l = rank_of l.context.now + 8 * source_size l.work.now.source + 7

@@ -36,7 +36,7 @@ returns-in-Ok-clause-told g c m at =
     let begun = c.in_ok-begun.ensures.begun m (length p.frame) (sym c.count-positions.ensures) at in
     let s2 : State = c.end_phase.new.state in
     subst (λ f. Told IsValue c.finish_phase.result c.finish_phase.new.state (job_does None (fold_job context (current f) m a.gens.now (plan_of p) a.op a.neutral) m)) frames
-    (fold_finished context e a.gens.now p a.op a.neutral a.live.now c.get-code.ensures.counted c.requires.unmarked c.requires.counted h alive c.buffers_are_numbered.ensures.referred c.requires.op c.requires.form full m
+    (fold_finished context e a.gens.now p a.op a.neutral a.live.now c.get-code.ensures.counted c.requires.counted h alive c.buffers_are_numbered.ensures.referred c.requires.op c.requires.form full m
     c.in_ok-begun.begun.target.buffer s begun (own_stands s.heap _ none begun.stands.heap) c.fold_cells-end.new.value home
     (combined_as a.op (cells_from (gens_cell context h e a.gens.now p None) 0 (length p.frame)) h (cost_from (gens_taken context h e a.gens.now p) 0 (length p.frame)) c.deref_mut.result.now a.neutral.cells c.fold_cells-end.new.value (Ok home) (Ok home) refl start c.in-Ok.ensures.combined)
     s2 c.finish_phase.new.state c.finish_phase.result (c.end_phase.ensures.heap ∙ (λ i. record { own = handed h home; lent = none i })) c.end_phase.ensures.phases
@@ -64,7 +64,7 @@ returns-in-Err-Faulted-clause-told g c m at =
     let home = c.fold_cells-end.new.books.home in
     stop_moved fault s c.stop_phase.new.state _ c.stop_phase.ensures.phases
     (subst (λ f. ToldStop (Faulted fault) s (job_does None (fold_job context (current f) m a.gens.now (plan_of p) a.op a.neutral) m)) frames
-    (fold_faulted context e a.gens.now p a.op a.neutral a.live.now c.get-code.ensures.counted c.requires.unmarked c.requires.counted h alive c.buffers_are_numbered.ensures.referred c.requires.op c.requires.form full m
+    (fold_faulted context e a.gens.now p a.op a.neutral a.live.now c.get-code.ensures.counted c.requires.counted h alive c.buffers_are_numbered.ensures.referred c.requires.op c.requires.form full m
     c.in_ok-begun.begun.target.buffer s begun (own_stands s.heap _ none begun.stands.heap) c.fold_cells-end.new.value fault
     (combined_as a.op (cells_from (gens_cell context h e a.gens.now p None) 0 (length p.frame)) h (cost_from (gens_taken context h e a.gens.now p) 0 (length p.frame)) c.deref_mut.result.now a.neutral.cells c.fold_cells-end.new.value (left_in home c.fold_cells-end.result) (Err (Faulted fault)) (ap (left_in home) same) start c.fold_cells-end.ensures.combined)))
 

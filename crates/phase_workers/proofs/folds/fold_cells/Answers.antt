@@ -8,7 +8,7 @@ pub each_fold-end-requires-clause-lending : goal.each_fold-end-requires-clause-l
 each_fold-end-requires-clause-lending g c κs within =
     let a = c.args in
     let numbered = c.buffers_are_numbered.ensures in
-    lending_gens a.context a.heap.now (current a.frames.now) a.gens.now a.live.now c.get-code.ensures.counted c.requires.unmarked c.requires.counted c.requires.alive numbered.referred numbered.below numbered.single numbered.counters
+    lending_gens a.context a.heap.now (current a.frames.now) a.gens.now a.live.now c.get-code.ensures.counted c.requires.counted c.requires.alive numbered.referred numbered.below numbered.single numbered.counters
 
 pub returns-clause-booked : goal.returns-clause-booked
 returns-clause-booked g c =

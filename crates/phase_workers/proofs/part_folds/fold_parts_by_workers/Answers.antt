@@ -37,7 +37,7 @@ returns-in-Ok-clause-told g c m at =
     let begun = c.in_ok-begun.ensures.begun m (length indices) (sym c.count-positions.ensures) at in
     let s2 : State = c.end_phase.new.state in
     subst (λ f. Told IsValue c.finish_phase.result c.finish_phase.new.state (job_does None (fold_parts_job context (current f) a.parts.now indices form a.plan.now.shape a.op a.neutral) m)) frames
-    (parts_finished context h e a.parts.now a.live.now c.get-code.ensures.counted c.requires.unmarked c.requires.counted alive c.buffers_are_numbered.ensures.referred form indices a.plan.now.shape a.op a.neutral c.requires.op c.requires.form full m
+    (parts_finished context h e a.parts.now a.live.now c.get-code.ensures.counted c.requires.counted alive c.buffers_are_numbered.ensures.referred form indices a.plan.now.shape a.op a.neutral c.requires.op c.requires.form full m
     c.in_ok-begun.begun.target.buffer s begun (own_stands s.heap _ none begun.stands.heap) c.fold_part_cells-end.new.value home
     (combined_as a.op (cells_from (parts_cell context h e a.parts.now form indices) 0 (length indices)) h (cost_from (parts_taken context h e a.parts.now indices) 0 (length indices)) c.deref_mut.result.now a.neutral.cells c.fold_part_cells-end.new.value (Ok home) (Ok home) refl start c.in-Ok.ensures.combined)
     s2 c.finish_phase.new.state c.finish_phase.result (c.end_phase.ensures.heap ∙ (λ i. record { own = handed h home; lent = none i })) c.end_phase.ensures.phases
@@ -66,7 +66,7 @@ returns-in-Err-Faulted-clause-told g c m at =
     let home = c.fold_part_cells-end.new.books.home in
     stop_moved fault s c.stop_phase.new.state _ c.stop_phase.ensures.phases
     (subst (λ f. ToldStop (Faulted fault) s (job_does None (fold_parts_job context (current f) a.parts.now indices form a.plan.now.shape a.op a.neutral) m)) frames
-    (parts_faulted context h e a.parts.now a.live.now c.get-code.ensures.counted c.requires.unmarked c.requires.counted alive c.buffers_are_numbered.ensures.referred form indices a.plan.now.shape a.op a.neutral c.requires.op c.requires.form full m
+    (parts_faulted context h e a.parts.now a.live.now c.get-code.ensures.counted c.requires.counted alive c.buffers_are_numbered.ensures.referred form indices a.plan.now.shape a.op a.neutral c.requires.op c.requires.form full m
     c.in_ok-begun.begun.target.buffer s begun (own_stands s.heap _ none begun.stands.heap) c.fold_part_cells-end.new.value fault
     (combined_as a.op (cells_from (parts_cell context h e a.parts.now form indices) 0 (length indices)) h (cost_from (parts_taken context h e a.parts.now indices) 0 (length indices)) c.deref_mut.result.now a.neutral.cells c.fold_part_cells-end.new.value (left_in home c.fold_part_cells-end.result) (Err (Faulted fault)) (ap (left_in home) same) start c.fold_part_cells-end.ensures.combined)))
 

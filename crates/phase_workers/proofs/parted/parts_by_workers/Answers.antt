@@ -30,7 +30,7 @@ returns-in-Ok-clause-told g c m at =
     let len : length c.part_cells-end.new.cells ≡ c.in_ok-begun.begun.target.cells.len = search rules in
     let s2 : State = c.end_phase.new.state in
     subst (λ f. Told IsValue c.finish_phase.result c.finish_phase.new.state (job_does None (parts_job context (current f) a.parts.now a.plan.now.frame a.plan.now.form a.plan.now.shape) m)) frames
-    (parts_finished context e a.parts.now a.plan.now.frame a.plan.now.form a.plan.now.shape a.live.now c.get-code.ensures.counted c.requires.unmarked c.requires.counted h alive c.buffers_are_numbered.ensures.referred c.requires.large m
+    (parts_finished context e a.parts.now a.plan.now.frame a.plan.now.form a.plan.now.shape a.live.now c.get-code.ensures.counted c.requires.counted h alive c.buffers_are_numbered.ensures.referred c.requires.large m
     c.in_ok-begun.begun.target.buffer s (c.in_ok-begun.ensures.begun m (length a.plan.now.frame) (sym c.count-positions.ensures) at) none refl c.part_cells-end.new.cells home c.in-Ok.ensures.computed s2 c.finish_phase.new.state c.finish_phase.result (c.end_phase.ensures.heap ∙ (λ i. record { own = handed h home; lent = none i })) c.end_phase.ensures.phases
     (λ k at2.
     subst (λ (zs : List ℤ). Told IsValue c.finish_phase.result c.finish_phase.new.state (settled (target_at c.in_ok-begun.begun.target.buffer) (record { base = a.plan.now.form.base; shape = a.plan.now.shape; cells = zs }) k)) (taken_back _ c.in_ok-begun.begun.target.cells.len c.part_cells-end.new.cells len)
@@ -51,7 +51,7 @@ returns-in-Err-Faulted-clause-told g c m at =
     let home = c.part_cells-end.new.books.home in
     stop_moved c.in-Err-Faulted.fault s c.stop_phase.new.state _ c.stop_phase.ensures.phases
     (subst (λ f. ToldStop (Faulted c.in-Err-Faulted.fault) s (job_does None (parts_job context (current f) a.parts.now a.plan.now.frame a.plan.now.form a.plan.now.shape) m)) frames
-    (parts_faulted context e a.parts.now a.plan.now.frame a.plan.now.form a.plan.now.shape a.live.now c.get-code.ensures.counted c.requires.unmarked c.requires.counted h alive c.buffers_are_numbered.ensures.referred c.requires.large m
+    (parts_faulted context e a.parts.now a.plan.now.frame a.plan.now.form a.plan.now.shape a.live.now c.get-code.ensures.counted c.requires.counted h alive c.buffers_are_numbered.ensures.referred c.requires.large m
     c.in_ok-begun.begun.target.buffer s (c.in_ok-begun.ensures.begun m (length a.plan.now.frame) (sym c.count-positions.ensures) at) none refl c.part_cells-end.new.cells c.in-Err-Faulted.fault
     (computed_as (cells_from (parts_cell context h e a.parts.now a.plan.now.form a.plan.now.frame) 0 (length a.plan.now.frame)) h (cost_from (parts_taken context h e a.parts.now a.plan.now.frame) 0 (length a.plan.now.frame)) c.part_cells-end.new.cells (left_in home c.part_cells-end.result) (Err (Faulted c.in-Err-Faulted.fault)) (ap (left_in home) same) c.part_cells-end.ensures.computed)))
 

@@ -1,11 +1,10 @@
 -- Answers for loops with a mark.
-use Rattle.std.proofs.Common.{rules, ◌≡◌, true, false, [], Ok, Err, Some, ap, sym, ◌∙◌, subst, arith, refl, ◌<◌, length, get_or, map}
+use Rattle.std.proofs.Common.{rules, ◌≡◌, false, [], Ok, Err, Some, ap, sym, ◌∙◌, subst, arith, refl, ◌<◌, length, get_or, map}
 use Rattle.std.specs.Prelude.{option_map, unsigned_abs}
 use Rattle.counted_code.specs.declared.tree.CodeParted.{out-CodeParted}
 use Rattle.counted_code.specs.Loops.{job_does, loop_does, parted_job}
 use Rattle.counted_code.specs.Machine.{Values, one_value, reads}
 use Rattle.counted_code.specs.Values.{Ref, is_small}
-use Rattle.counted_code.specs.View.{code_parted_term}
 use Rattle.core_ir.specs.Meaning.{joined}
 use Rattle.array_with_loops.specs.Plans.{plan_of}
 use Rattle.run_over.specs.Soles.{is_only}
@@ -15,7 +14,7 @@ use Rattle.run_values.specs.Scopes.{current}
 use Rattle.run_values.specs.Shown.{value_of}
 use Rattle.run_eval.specs.Jobs.{cells_job, job_of}
 use Rattle.run_eval.specs.Loops.{IsPresent, cells_written, loop_source, source_at, unreleased}
-use Rattle.run_eval.specs.Running.{right_in, Told, ToldStop, IsValue, IsOnly, SameScopes, cells_in}
+use Rattle.run_eval.specs.Running.{Told, ToldStop, IsValue, IsOnly, SameScopes, cells_in}
 use Rattle.run_eval.proofs.CellScopes.{scopes_after, scopes_join}
 use Rattle.run_eval.proofs.MarkedJobs.{is_spared, joined_as, marked_parts_tell, not_small, only_one, over_stops, over_tells, spared_stops, spared_tells}
 use Rattle.run_eval.proofs.Measures.{parts_size}
@@ -37,8 +36,12 @@ pub run_marked_loop-run_cell_loop-requires : goal.marked_loops::run_marked_loop-
 run_marked_loop-run_cell_loop-requires g t c κs p =
     (omega (arith, c.decreases), p)
 
-pub run_marked_loop-run_in_place-requires : goal.marked_loops::run_marked_loop-run_in_place-requires
-run_marked_loop-run_in_place-requires g t c κs p =
+pub run_marked_loop-run_over-requires : goal.marked_loops::run_marked_loop-run_over-requires
+run_marked_loop-run_over-requires g t c κs p =
+    (omega (arith, c.decreases), p)
+
+pub run_over-run_in_place-requires : goal.marked_loops::run_over-run_in_place-requires
+run_over-run_in_place-requires g t c κs p =
     (omega (arith, c.decreases), p)
 
 pub run_in_place-fill_in_place-requires : goal.marked_loops::run_in_place-fill_in_place-requires
@@ -118,10 +121,10 @@ run_marked_loop-returns-in-Joined g t c =
       told = λ m at.
           let over = sym (c.in_ok-over.ensures m at.heap) ∙ c.if-not-over.false in
           let small = not_small (is_small w.plan.now.shape) (is_only m mark) over in
-          joined_as a.context.now e m w c.run_in_place.result c.run_in_place.new.state mark c.in-Joined.is
-          (c.run_in_place.ensures.told m at small (only_one (is_small w.plan.now.shape) (is_only m mark) over));
-      scopes = c.run_in_place.ensures.scopes;
-      lender = c.run_in_place.ensures.lender;
+          joined_as a.context.now e m w c.run_over.result c.run_over.new.state mark c.in-Joined.is
+          (c.run_over.ensures.told m at (small, only_one (is_small w.plan.now.shape) (is_only m mark) over));
+      scopes = c.run_over.ensures.scopes;
+      lender = c.run_over.ensures.lender;
     }
 
 pub run_in_place-returns-in_err-fill_in_place : goal.marked_loops::run_in_place-returns-in_err-fill_in_place
@@ -137,9 +140,9 @@ run_in_place-returns-in_err-fill_in_place g t c =
     let stop = c.in_err-fill_in_place.field-0.0 in
     let is : c.from_residual-in_err-fill_in_place.result ≡ Err stop = search rules in
     record {
-      told = λ m at small only.
+      told = λ m at over.
           handed IsValue c.from_residual-in_err-fill_in_place.result stop s1 (job_does (Some (value_of a.array)) (cells_job ctx (current s.frames) m w false (joined p.form.base p.shape)) m) is
-          (over_stops ctx w s s0 m c.in_ok-begin_in_place.ensures.frames small (value_of a.array) i.buffer.born i.field-0 (map unsigned_abs (numbers i.extents)) (ap value_of i.is) only
+          (over_stops ctx w s s0 m c.in_ok-begin_in_place.ensures.frames over.0 (value_of a.array) i.buffer.born i.field-0 (map unsigned_abs (numbers i.extents)) (ap value_of i.is) over.1
           stop s1 (c.in_ok-begin_in_place.ensures.begun m (length p.frame) (sym c.count.ensures) at) c.in_err-fill_in_place.ensures.told);
       scopes = no_scopes (SameScopes s.frames s1.frames) c.from_residual-in_err-fill_in_place.result stop is;
       lender = c.in_err-fill_in_place.ensures.lender ∙ c.in_ok-begin_in_place.ensures.lender;
@@ -156,8 +159,8 @@ run_in_place-returns g t c =
     let s1 = c.fill_in_place.new.state in
     let i = c.in-Buffer in
     record {
-      told = λ m at small only.
-          over_tells ctx w s s0 m c.in_ok-begin_in_place.ensures.frames small (value_of a.array) i.buffer.born i.field-0 (map unsigned_abs (numbers i.extents)) (ap value_of i.is) only
+      told = λ m at over.
+          over_tells ctx w s s0 m c.in_ok-begin_in_place.ensures.frames over.0 (value_of a.array) i.buffer.born i.field-0 (map unsigned_abs (numbers i.extents)) (ap value_of i.is) over.1
           c.in_ok-fill_in_place.field-0 (Buffer p.form.base i.buffer i.extents) s1 (c.in_ok-begin_in_place.ensures.begun m (length p.frame) (sym c.count.ensures) at)
           (λ j. Ref i.buffer.born p.form.base (c.has_shape.ensures c.if-not-has_shape.false j)) c.in_ok-fill_in_place.ensures.told;
       scopes = scopes_join s.frames s0.frames s1.frames s1.frames c.in_ok-begin_in_place.ensures.frames c.in_ok-fill_in_place.ensures.scopes refl;

@@ -1,0 +1,4 @@
+pub mod Closed
+pub mod Exact
+pub mod Heights
+pub mod Trees
