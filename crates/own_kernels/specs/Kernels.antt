@@ -22,10 +22,14 @@ is_own_kernel rank buffer (Some k) = nat_eq k.rank rank && is_own k.rank buffer 
 abbrev pub kernels_own : List (Option CellKernel) → (rank buffer : ℕ) → Bool
 kernels_own kernels rank buffer = list_all (is_own_kernel rank buffer) kernels
 
+-- an array is held in the buffer
+abbrev pub is_in : ℕ → Held → Bool
+is_in buffer (Whole base rank b) = nat_eq b buffer
+is_in buffer h = false
+
 -- the entry is the variable's, or holds no array in the buffer
 abbrev pub is_apart : Var → ℕ → Var × Held → Bool
-is_apart v buffer (x, Whole base rank b) = not (nat_eq b buffer) || nat_eq x.0 v.0
-is_apart v buffer (x, h) = true
+is_apart v buffer entry = not (is_in buffer entry.1) || nat_eq entry.0.0 v.0
 
 -- no other variable has its array in the buffer
 abbrev pub holds_alone : Known → Var → ℕ → Bool

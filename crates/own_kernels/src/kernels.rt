@@ -3,7 +3,7 @@
 ghost use Rattle.std.specs.Prelude.{◌≡◌};
 ghost use Rattle.std.specs.List.{list_all};
 ghost use Rattle.kernel_tree.specs.View.{kernel_term};
-ghost use Rattle.own_kernels.specs.Kernels.{is_apart as apart, is_own_kernel as own_kernel, kernels_own, holds_alone, parts_own};
+ghost use Rattle.own_kernels.specs.Kernels.{is_apart, is_in, is_own_kernel as own_kernel, kernels_own, holds_alone, parts_own};
 ghost use Rattle.own_kernels.specs.Steps.{is_own};
 
 use crate::blocks::is_own_block;
@@ -40,21 +40,28 @@ pub fn all_read_own(kernels: &[Option<CellKernel>], rank: usize, buffer: u8) -> 
         .all(|kernel| is_own_kernel(kernel, rank, buffer))
 }
 
-// Whether an entry is the variable's, or holds no array in the buffer.
-fn is_apart(entry: &(Var, Held), array: Var, buffer: u8) -> bool
-    ensures { result ≡ apart array buffer entry.now }
+// Whether an array is held in a buffer.
+fn is_held_in(place: Held, buffer: u8) -> bool
+    ensures { result ≡ is_in buffer place }
 {
-    match entry.1 {
-        Held::Whole(_, _, other) => other != buffer || entry.0 == array,
-        _ => true,
+    match place {
+        Held::Whole(_, _, other) => other == buffer,
+        _ => false,
     }
+}
+
+// Whether an entry is the variable's, or holds no array in the buffer.
+fn is_entry_apart(entry: &(Var, Held), array: Var, buffer: u8) -> bool
+    ensures { result ≡ is_apart array buffer entry.now }
+{
+    !is_held_in(entry.1, buffer) || entry.0 == array
 }
 
 /// Whether no other variable has its array in a buffer.
 pub fn is_only_holder(known: &[(Var, Held)], array: Var, buffer: u8) -> bool
     ensures { result ≡ holds_alone known.now array buffer }
 {
-    known.iter().all(|entry| is_apart(entry, array, buffer))
+    known.iter().all(|entry| is_entry_apart(entry, array, buffer))
 }
 
 /// Whether each of so many parts has a kernel for indices of so many components, at most 8, that reads of a variable's array the
