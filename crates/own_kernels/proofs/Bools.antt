@@ -1,5 +1,5 @@
 -- Tests one after another.
-use Rattle.std.proofs.Common.{◌≡◌, ℕ, ◌≤◌, Bool, true, false, not, ◌&&◌, ◌||◌, eqb, nat_le, refl, ap, sym, ◌∙◌}
+use Rattle.std.proofs.Common.{◌≡◌, ℕ, ◌≤◌, Bool, true, false, not, ◌&&◌, ◌||◌, nat_le, refl}
 use Rattle.std.proofs.lemmas.Bool.{leb-true}
 
 pub and_left : (a b : Bool) → (a && b) ≡ true → a ≡ true

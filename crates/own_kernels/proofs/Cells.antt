@@ -1,17 +1,15 @@
 -- Cells by kernels that read their own element alone.
-use Rattle.std.proofs.Common.{◌≡◌, ℕ, zero, suc, ◌-◌, ◌<◌, ◌≤◌, ℤ, pos, Bool, true, false, ◌&&◌, nat_eq, nat_le, List, [], ◌∷◌, ◌++◌, length, map, get_or, replicate, Option, Some, None, Ok, Err, length-append, refl, sym, ap, subst, ◌∙◌, arith}
-use Rattle.std.specs.Prelude.{if◌then◌else◌, slice_get, slice_index_or, slice_set, IfSome, All}
-use Rattle.std.specs.List.{list_all}
+use Rattle.std.proofs.Common.{◌≡◌, ℕ, suc, ◌-◌, ◌≤◌, ℤ, pos, true, ◌&&◌, nat_eq, nat_le, List, [], ◌∷◌, ◌++◌, length, map, get_or, replicate, Option, Some, None, Ok, Err, length-append, refl, sym, ap, subst, ◌∙◌, arith}
+use Rattle.std.specs.Prelude.{if◌then◌else◌, slice_set, IfSome, All}
 use Rattle.std.proofs.lemmas.Bool.{eqb-true, leb-true}
 use Rattle.std.proofs.lemmas.List.{get_or_append_left, length-replicate}
 use Rattle.sac_base.specs.declared.base.Base.{Base}
-use Rattle.sac_base.specs.declared.base.Base.TheVariants.{Int}
 use Rattle.sac_base.specs.declared.form.Form.{Form}
-use Rattle.sac_base.specs.Arrays.{ArrayValue, vector}
+use Rattle.sac_base.specs.Arrays.{ArrayValue}
 use Rattle.sac_base.specs.Grids.{has_vector}
 use Rattle.sac_base.specs.Outcomes.{Ends, and_then}
 use Rattle.core_ir.specs.declared.tree.Var.{Var}
-use Rattle.core_ir.specs.Meaning.{Answer, CallMeaning, Env, bind, cell_at, cell_form, cells, first, held, run}
+use Rattle.core_ir.specs.Meaning.{Answer, CallMeaning, Env, cell_at, cell_form, cells, first, held, run}
 use Rattle.counted_code.specs.declared.tree.CodePart.{CodePart}
 use Rattle.counted_code.specs.Terms.{core_of, core_of_parts}
 use Rattle.counted_code.specs.View.{code_term}
@@ -76,7 +74,7 @@ module _ (calls : CallMeaning) (turns : ℕ) (spent : CallSpending) (bs cs : Lis
       let r = registers_of index few in
       let ends : gives turns cs (kernel_term k.block) r.0 ≡ gives turns bs (kernel_term k.block) r.0 = gives_same turns k.rank buffer (kernel_term k.block) index r.0 bs cs reads wanted r.2 same in (
         answers_same form k.result bs cs (body_runs f b) (body_runs e b) (gives turns bs (kernel_term k.block) r.0) old.fits
-        (subst (HoldsCell cs k.result (body_runs f b)) ends (new.cell calls turns r.0 index r.1 wanted r.2)) (old.cell calls turns r.0 index r.1 wanted r.2),
+            (subst (HoldsCell cs k.result (body_runs f b)) ends (new.cell calls turns r.0 index r.1 wanted r.2)) (old.cell calls turns r.0 index r.1 wanted r.2),
         new.takes calls turns spent r.0 index r.1 wanted r.2 ∙ sym (old.takes calls turns spent r.0 index r.1 wanted r.2),
       )
 

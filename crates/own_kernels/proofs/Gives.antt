@@ -1,5 +1,5 @@
 -- A kernel that reads of a buffer its own element alone gives the same whatever other elements the buffer has.
-use Rattle.std.proofs.Common.{◌≡◌, ℕ, zero, suc, ◌-◌, ◌<◌, ◌≤◌, ℤ, pos, Bool, true, false, ◌&&◌, eqb, nat_eq, nat_le, List, [], ◌∷◌, length, get_or-set_other, Result, Ok, Err, refl, ap, sym, ◌∙◌, arith}
+use Rattle.std.proofs.Common.{◌≡◌, ℕ, zero, suc, ◌-◌, ◌≤◌, ℤ, pos, Bool, true, false, ◌&&◌, eqb, nat_eq, nat_le, List, [], ◌∷◌, length, get_or-set_other, Result, Ok, Err, refl, ap, sym, ◌∙◌, arith}
 use Rattle.std.specs.Prelude.{if◌then◌else◌, slice_set}
 use Rattle.std.specs.List.{list_all}
 use Rattle.std.proofs.lemmas.Bool.{eqb-true}
@@ -7,11 +7,10 @@ use Rattle.sac_base.specs.declared.base.Base.TheVariants.{Int}
 use Rattle.sac_base.specs.declared.op.Op.{Op}
 use Rattle.sac_base.specs.declared.op.Op.TheVariants as op
 use Rattle.sac_base.specs.declared.op.ZeroDivisor.{ZeroDivisor}
-use Rattle.sac_base.specs.declared.faults.FaultKind.TheVariants.{F9}
 use Rattle.sac_base.specs.declared.site.Site.{Site}
 use Rattle.sac_base.specs.Arrays.{ArrayValue, is_true, vector}
 use Rattle.sac_base.specs.Operators.{apply_two}
-use Rattle.sac_base.specs.Outcomes.{Ends, and_then, at_site, fault}
+use Rattle.sac_base.specs.Outcomes.{Ends, and_then, at_site}
 use Rattle.sac_base.specs.Parts.{select}
 use Rattle.kernel_tree.specs.declared.tree.KernelStep.{KernelStep}
 use Rattle.kernel_tree.specs.declared.tree.KernelStep.TheVariants as step
@@ -137,12 +136,12 @@ module _ (rank at : ℕ) (index : List ℤ) (long : length index ≡ rank) (bs c
   step_alike (step.Load1 to b x site) r own has =
       load_alike r to b (register r x ∷ []) site (own_load rank at (step.Load1 to b x site)) own
       (λ here. let both = then_other (eqb b at) (nat_eq rank 1 && nat_eq x 0) (and_right (nat_le rank to) (own_load rank at (step.Load1 to b x site)) own) here in
-        one_component index r x (long ∙ eqb-true rank 1 (and_left (nat_eq rank 1) (nat_eq x 0) both)) (eqb-true x 0 (and_right (nat_eq rank 1) (nat_eq x 0) both)) has) has
+      one_component index r x (long ∙ eqb-true rank 1 (and_left (nat_eq rank 1) (nat_eq x 0) both)) (eqb-true x 0 (and_right (nat_eq rank 1) (nat_eq x 0) both)) has) has
   step_alike (step.Load2 to b x y site) r own has =
       load_alike r to b (register r x ∷ register r y ∷ []) site (own_load rank at (step.Load2 to b x y site)) own
       (λ here. let both = then_other (eqb b at) (nat_eq rank 2 && (nat_eq x 0 && nat_eq y 1)) (and_right (nat_le rank to) (own_load rank at (step.Load2 to b x y site)) own) here in
-        let rest = and_right (nat_eq rank 2) (nat_eq x 0 && nat_eq y 1) both in
-        two_components index r x y (long ∙ eqb-true rank 2 (and_left (nat_eq rank 2) (nat_eq x 0 && nat_eq y 1) both)) (eqb-true x 0 (and_left (nat_eq x 0) (nat_eq y 1) rest)) (eqb-true y 1 (and_right (nat_eq x 0) (nat_eq y 1) rest)) has) has
+      let rest = and_right (nat_eq rank 2) (nat_eq x 0 && nat_eq y 1) both in
+      two_components index r x y (long ∙ eqb-true rank 2 (and_left (nat_eq rank 2) (nat_eq x 0 && nat_eq y 1) both)) (eqb-true x 0 (and_left (nat_eq x 0) (nat_eq y 1) rest)) (eqb-true y 1 (and_right (nat_eq x 0) (nat_eq y 1) rest)) has) has
   step_alike (step.Fail kind site) r own has = (refl, tt)
 
   line_alike : (ss : List KernelStep) (r : List ℤ) → list_all (own_step rank at) ss ≡ true → HasIndex r index → Alike index (line_gives cs ss r) (line_gives bs ss r)

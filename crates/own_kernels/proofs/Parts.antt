@@ -1,12 +1,11 @@
 -- Blocks part by part.
-use Rattle.std.proofs.Common.{◌≡◌, ℕ, zero, suc, ◌+◌, ◌<◌, Bool, true, false, ◌&&◌, List, [], ◌∷◌, length, get_or, drop, drop-cons, refl, ap, sym, ◌∙◌, arith}
+use Rattle.std.proofs.Common.{◌≡◌, ℕ, suc, ◌+◌, ◌<◌, Bool, true, false, ◌&&◌, List, length, get_or, drop, drop-cons, refl, ap, sym, ◌∙◌}
 use Rattle.std.proofs.Math.Numerals.{add-one}
 use Rattle.std.specs.List.{list_all}
 use Rattle.sac_base.specs.declared.site.Site.{Site}
 use Rattle.kernel_tree.specs.declared.tree.KernelBlock.{KernelBlock}
 use Rattle.kernel_tree.specs.declared.tree.KernelPart.{KernelPart}
 use Rattle.kernel_tree.specs.declared.tree.KernelPart.TheVariants as part
-use Rattle.kernel_tree.specs.declared.tree.KernelStep.{KernelStep}
 use Rattle.kernel_tree.specs.Terms.{KernelTerm, Over}
 use Rattle.kernel_tree.specs.View.{kernel_term, part_then, parts_then}
 use Rattle.kernel_tree.proofs.Trees.{if_part, turns_part}

@@ -1,5 +1,5 @@
 -- What the tests of kernels tell.
-use Rattle.std.specs.Prelude.{◌≡◌, ℕ, ◌≤◌, true, false, eqb, List, length, ℤ, All, Option, IsTrue}
+use Rattle.std.specs.Prelude.{◌≡◌, ℕ, true, false, eqb, List, length, ℤ, All, Option, IsTrue}
 use Rattle.sac_base.specs.declared.base.Base.{Base}
 use Rattle.sac_base.specs.declared.base.Base.TheVariants.{Int}
 use Rattle.sac_base.specs.declared.form.Form.{Form}

@@ -61,7 +61,9 @@ fn is_entry_apart(entry: &(Var, Held), array: Var, buffer: u8) -> bool
 pub fn is_only_holder(known: &[(Var, Held)], array: Var, buffer: u8) -> bool
     ensures { result ≡ holds_alone known.now array buffer }
 {
-    known.iter().all(|entry| is_entry_apart(entry, array, buffer))
+    known
+        .iter()
+        .all(|entry| is_entry_apart(entry, array, buffer))
 }
 
 /// Whether each of so many parts has a kernel for indices of so many components, at most 8, that reads of a variable's array the
