@@ -1,6 +1,7 @@
 -- Cells by kernels that read their own element alone.
-use Rattle.std.proofs.Common.{◌≡◌, ℕ, suc, ◌-◌, ◌≤◌, ℤ, pos, true, ◌&&◌, nat_eq, nat_le, List, [], ◌∷◌, ◌++◌, length, map, get_or, replicate, Option, Some, None, Ok, Err, length-append, refl, sym, ap, subst, ◌∙◌, arith}
+use Rattle.std.proofs.Common.{◌≡◌, ℕ, suc, ◌-◌, ◌≤◌, ℤ, pos, Bool, true, false, ◌&&◌, nat_eq, nat_le, List, [], ◌∷◌, ◌++◌, length, map, get_or, replicate, Option, Some, None, Ok, Err, length-append, refl, sym, ap, subst, ◌∙◌, arith}
 use Rattle.std.specs.Prelude.{if◌then◌else◌, slice_set, IfSome, All}
+use Rattle.std.specs.List.{list_all}
 use Rattle.std.proofs.lemmas.Bool.{eqb-true, leb-true}
 use Rattle.std.proofs.lemmas.List.{get_or_append_left, length-replicate}
 use Rattle.sac_base.specs.declared.base.Base.{Base}
@@ -22,13 +23,13 @@ use Rattle.kernel_rows.specs.declared.kernels.CellKernel.{CellKernel}
 use Rattle.kernel_rows.specs.Kernels.{AreCellKernels, Body, HasCellForm, HasIndex, HoldsCell, IsCellKernel, IsScope, body_env}
 use Rattle.phase_checks.specs.Terms.{parts_term}
 use Rattle.phase_laws.specs.Spending.{CallSpending, parts_take, spends}
-use Rattle.own_kernels.specs.Kernels.{ArePartKernels, holds_alone, is_own_kernel, kernels_own, own_in, part_body, parts_own}
+use Rattle.own_kernels.specs.Kernels.{ArePartKernels, holds_alone, is_kernel_for, is_own_kernel, kernels_own, own_in, part_body, parts_own}
 use Rattle.own_kernels.specs.Own.{PartsReadOwn, SameButAt}
 use Rattle.own_kernels.specs.Statements.{SameAt}
 use Rattle.own_kernels.specs.Steps.{is_own}
 use Rattle.own_kernels.proofs.Bools.{and_left, and_right}
 use Rattle.own_kernels.proofs.Gives.{gives_same}
-use Rattle.own_kernels.proofs.Scopes.{same_at, scope_set}
+use Rattle.own_kernels.proofs.Scopes.{same_at, scope_set, scope_unknown}
 
 -- ---- one kernel
 
@@ -58,7 +59,11 @@ answers_same form h bs cs (Err g) (Err k) (Err f) has one other = ap (λ x. Err 
 answers_same form h bs cs (Err g) (Ok ws) (Err f) has one other = absurd other
 answers_same form h bs cs (Ok us) n (Err f) has one other = absurd one
 
-module _ (calls : CallMeaning) (turns : ℕ) (spent : CallSpending) (bs cs : List ArrayValue) (e f : Env) (index : List ℤ) (few : length index ≤ 8) (rank buffer : ℕ) (long : length index ≡ rank) (same : SameAt buffer index bs cs) (form : Form) where
+-- the kernel is for indices of so many components, and gives the same of both lists of buffers
+abbrev GivesTheSame : (turns rank : ℕ) → (index : List ℤ) → (bs cs : List ArrayValue) → CellKernel → Type 0
+GivesTheSame turns rank index bs cs k = (k.rank ≡ rank) × ((r : List ℤ) → HasIndex r index → gives turns cs (kernel_term k.block) r ≡ gives turns bs (kernel_term k.block) r)
+
+module _ (calls : CallMeaning) (turns : ℕ) (spent : CallSpending) (bs cs : List ArrayValue) (e f : Env) (index : List ℤ) (few : length index ≤ 8) (rank : ℕ) (long : length index ≡ rank) (form : Form) where
   -- what the body's block comes to, and takes
   abbrev body_runs : Env → Body → Answer
   body_runs ρ b = run calls turns (core_of (code_term b.block)) (body_env ρ b index)
@@ -66,48 +71,55 @@ module _ (calls : CallMeaning) (turns : ℕ) (spent : CallSpending) (bs cs : Lis
   abbrev body_takes : Env → Body → ℕ
   body_takes ρ b = (spends calls turns spent (code_term b.block) (body_env ρ b index)).taken
 
-  body_same : (b : Body) (k : CellKernel) → is_own_kernel rank buffer (Some k) ≡ true → IsCellKernel bs e form b k → IsCellKernel cs f form b k → (body_runs f b ≡ body_runs e b) × (body_takes f b ≡ body_takes e b)
-  body_same b k own old new =
-      let ranked : k.rank ≡ rank = eqb-true k.rank rank (and_left (nat_eq k.rank rank) (is_own k.rank buffer (kernel_term k.block)) own) in
-      let reads : is_own k.rank buffer (kernel_term k.block) ≡ true = and_right (nat_eq k.rank rank) (is_own k.rank buffer (kernel_term k.block)) own in
-      let wanted : length index ≡ k.rank = long ∙ sym ranked in
-      let r = registers_of index few in
-      let ends : gives turns cs (kernel_term k.block) r.0 ≡ gives turns bs (kernel_term k.block) r.0 = gives_same turns k.rank buffer (kernel_term k.block) index r.0 bs cs reads wanted r.2 same in (
+  body_same : (b : Body) (k : CellKernel) → GivesTheSame turns rank index bs cs k → IsCellKernel bs e form b k → IsCellKernel cs f form b k → (body_runs f b ≡ body_runs e b) × (body_takes f b ≡ body_takes e b)
+  body_same b k alike old new =
+      let wanted : length index ≡ k.rank = long ∙ sym alike.0 in
+      let r = registers_of index few in (
         answers_same form k.result bs cs (body_runs f b) (body_runs e b) (gives turns bs (kernel_term k.block) r.0) old.fits
-            (subst (HoldsCell cs k.result (body_runs f b)) ends (new.cell calls turns r.0 index r.1 wanted r.2)) (old.cell calls turns r.0 index r.1 wanted r.2),
+            (subst (HoldsCell cs k.result (body_runs f b)) (alike.1 r.0 r.2) (new.cell calls turns r.0 index r.1 wanted r.2)) (old.cell calls turns r.0 index r.1 wanted r.2),
         new.takes calls turns spent r.0 index r.1 wanted r.2 ∙ sym (old.takes calls turns spent r.0 index r.1 wanted r.2),
       )
 
-  -- the kernel of a body that is there
-  kernel_same : (b : Body) (o : Option CellKernel) → is_own_kernel rank buffer o ≡ true → IfSome o (λ k. (c : Body) × (◌≡◌ {A = Option Body} (Some b) (Some c)) × IsCellKernel bs e form c k)
-      → IfSome o (λ k. (c : Body) × (◌≡◌ {A = Option Body} (Some b) (Some c)) × IsCellKernel cs f form c k) → (body_runs f b ≡ body_runs e b) × (body_takes f b ≡ body_takes e b)
-  kernel_same b None own old new = absurd (cc)
-  kernel_same b (Some k) own old new =
-      let was : old.0 ≡ b = some_body b old.0 old.1 in
-      let is : new.0 ≡ b = some_body b new.0 new.1 in
-      body_same b k own (subst (λ (c : Body). IsCellKernel bs e form c k) was old.2) (subst (λ (c : Body). IsCellKernel cs f form c k) is new.2)
+  module _ (passes : Option CellKernel → Bool) (some : passes None ≡ true → ⊥) (alike : (k : CellKernel) → passes (Some k) ≡ true → GivesTheSame turns rank index bs cs k) where
+    -- the kernel of a body that is there
+    kernel_same : (b : Body) (o : Option CellKernel) → passes o ≡ true → IfSome o (λ k. (c : Body) × (◌≡◌ {A = Option Body} (Some b) (Some c)) × IsCellKernel bs e form c k)
+        → IfSome o (λ k. (c : Body) × (◌≡◌ {A = Option Body} (Some b) (Some c)) × IsCellKernel cs f form c k) → (body_runs f b ≡ body_runs e b) × (body_takes f b ≡ body_takes e b)
+    kernel_same b None pass old new = absurd (some pass)
+    kernel_same b (Some k) pass old new =
+        let was : old.0 ≡ b = some_body b old.0 old.1 in
+        let is : new.0 ≡ b = some_body b new.0 new.1 in
+        body_same b k (alike k pass) (subst (λ (c : Body). IsCellKernel bs e form c k) was old.2) (subst (λ (c : Body). IsCellKernel cs f form c k) is new.2)
 
-  module _ (shape : ArrayValue) where
-    abbrev loop_cell : Env → List CodePart → Ends (Option ArrayValue)
-    loop_cell ρ parts = cell_at shape (cells calls turns (core_of_parts (parts_term parts)) ρ) index
+    module _ (shape : ArrayValue) where
+      abbrev loop_cell : Env → List CodePart → Ends (Option ArrayValue)
+      loop_cell ρ parts = cell_at shape (cells calls turns (core_of_parts (parts_term parts)) ρ) index
 
-    abbrev loop_takes : Env → List CodePart → ℕ
-    loop_takes ρ parts = parts_take calls turns spent (parts_term parts) ρ index
+      abbrev loop_takes : Env → List CodePart → ℕ
+      loop_takes ρ parts = parts_take calls turns spent (parts_term parts) ρ index
 
-    -- the parts one by one
-    pub parts_same : (parts : List CodePart) (kernels : List (Option CellKernel)) → length kernels ≡ length parts → kernels_own kernels rank buffer ≡ true
-        → AreCellKernels bs e form (map part_body parts) kernels → AreCellKernels cs f form (map part_body parts) kernels
-        → (loop_cell f parts ≡ loop_cell e parts) × (loop_takes f parts ≡ loop_takes e parts)
-    parts_same [] kernels many own old new = (refl, refl)
-    parts_same (p ∷ parts) [] many own old new = absurd (omega (arith, many))
-    parts_same (p ∷ parts) (o ∷ kernels) many own old new =
-        let here = kernel_same (part_body p) o (and_left (is_own_kernel rank buffer o) (kernels_own kernels rank buffer) own) (old 0) (new 0) in
-        let rest = parts_same parts kernels (omega (arith, many)) (and_right (is_own_kernel rank buffer o) (kernels_own kernels rank buffer) own) (λ k. old (suc k)) (λ k. new (suc k)) in (
-          (λ i. if has_vector p.grid index then and_then (first (here.0 i)) (held shape p.site) else rest.0 i),
-          (λ i. if has_vector p.grid index then here.1 i else rest.1 i),
-        )
+      -- the parts one by one
+      pub parts_same : (parts : List CodePart) (kernels : List (Option CellKernel)) → length kernels ≡ length parts → list_all passes kernels ≡ true
+          → AreCellKernels bs e form (map part_body parts) kernels → AreCellKernels cs f form (map part_body parts) kernels
+          → (loop_cell f parts ≡ loop_cell e parts) × (loop_takes f parts ≡ loop_takes e parts)
+      parts_same [] kernels many all old new = (refl, refl)
+      parts_same (p ∷ parts) [] many all old new = absurd (omega (arith, many))
+      parts_same (p ∷ parts) (o ∷ kernels) many all old new =
+          let here = kernel_same (part_body p) o (and_left (passes o) (list_all passes kernels) all) (old 0) (new 0) in
+          let rest = parts_same parts kernels (omega (arith, many)) (and_right (passes o) (list_all passes kernels) all) (λ k. old (suc k)) (λ k. new (suc k)) in (
+            (λ i. if has_vector p.grid index then and_then (first (here.0 i)) (held shape p.site) else rest.0 i),
+            (λ i. if has_vector p.grid index then here.1 i else rest.1 i),
+          )
 
 -- ---- all kernels
+
+own_gives : (turns rank buffer : ℕ) (index : List ℤ) (bs cs : List ArrayValue) → length index ≡ rank → SameAt buffer index bs cs → (k : CellKernel) → is_own_kernel rank buffer (Some k) ≡ true → GivesTheSame turns rank index bs cs k
+own_gives turns rank buffer index bs cs long same k own =
+    let reads = is_own k.rank buffer (kernel_term k.block) in
+    let ranked : k.rank ≡ rank = eqb-true k.rank rank (and_left (nat_eq k.rank rank) reads own) in
+    (ranked, λ r has. gives_same turns k.rank buffer (kernel_term k.block) index r bs cs (and_right (nat_eq k.rank rank) reads own) (long ∙ sym ranked) has same)
+
+none_fails : false ≡ true → ⊥
+none_fails e = cc
 
 own_parts : (calls : CallMeaning) (turns : ℕ) (spent : CallSpending) (parts : List CodePart) (form : Form) (known : Known) (kernels : List (Option CellKernel)) → ArePartKernels known form parts kernels
     → (v : Var) (rank : ℕ) (o : Option Held) → found v known ≡ o → length kernels ≡ length parts → rank ≤ 8 → own_in kernels known v rank o ≡ true
@@ -117,8 +129,12 @@ own_parts : (calls : CallMeaning) (turns : ℕ) (spent : CallSpending) (parts : 
 own_parts calls turns spent parts form known kernels are v rank (Some (Whole base r b)) there many few own bs e scope shape index long f same =
     let alone = and_left (holds_alone known v b) (kernels_own kernels rank b) own in
     let cs = slice_set bs b (f v) in
-    parts_same calls turns spent bs cs e f index (omega (arith, long, few)) rank b long (same_at bs e f known v index base r b scope there same) form shape parts kernels many
+    parts_same calls turns spent bs cs e f index (omega (arith, long, few)) rank long form (is_own_kernel rank b) none_fails
+    (own_gives turns rank b index bs cs long (same_at bs e f known v index base r b scope there same)) shape parts kernels many
     (and_right (holds_alone known v b) (kernels_own kernels rank b) own) (are bs e scope) (are cs f (scope_set bs e f known v index base r b scope there same alone))
+own_parts calls turns spent parts form known kernels are v rank None unknown many few own bs e scope shape index long f same =
+    parts_same calls turns spent bs bs e f index (omega (arith, long, few)) rank long form (is_kernel_for rank) none_fails (λ k ranked. (eqb-true k.rank rank ranked, λ r has. refl)) shape parts kernels many
+    own (are bs e scope) (are bs f (scope_unknown bs e f known v index scope unknown same))
 own_parts calls turns spent parts form known kernels are v rank o there many few own bs e scope shape index long f same = absurd (cc)
 
 pub cells_read_own : (calls : CallMeaning) (turns : ℕ) (spent : CallSpending) (parts : List CodePart) (form : Form) (known : Known) (kernels : List (Option CellKernel)) → ArePartKernels known form parts kernels

@@ -1,5 +1,6 @@
 mod Bools
-mod Cells
-mod Gives
+pub mod Cells
+pub mod Gives
+pub mod Members
 mod Parts
 mod Scopes

@@ -100,3 +100,11 @@ module _ (bs : List ArrayValue) (e f : Env) (known : Known) (v : Var) (index : L
           let old = scope x h is in
           let kept = fixed_set h old.0 (other_buffer v b x h known alone e1 is) in
           (kept.0, λ r. same.others x e1 ∙ old.1 r ∙ sym (kept.1 r))
+
+-- nothing is known of the variable
+pub scope_unknown : (bs : List ArrayValue) (e f : Env) (known : Known) (v : Var) (index : List ℤ) → IsScope bs e known → found v known ≡ None → SameButAt v index e f → IsScope bs f known
+scope_unknown bs e f known v index scope unknown same x h is = choice (eqb v.0 x.0) refl
+  where
+    choice : (t : Bool) → eqb v.0 x.0 ≡ t → IsFixed bs h × ((r : List ℤ) → f x ≡ array_of r bs h)
+    choice true e1 = absurd (no_held h (sym unknown ∙ ap (λ y. found y known) (same_number v x e1) ∙ is))
+    choice false e1 = let old = scope x h is in (old.0, λ r. same.others x e1 ∙ old.1 r)

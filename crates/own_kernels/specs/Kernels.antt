@@ -35,9 +35,16 @@ is_apart v buffer entry = not (is_in buffer entry.1) || nat_eq entry.0.0 v.0
 abbrev pub holds_alone : Known → Var → ℕ → Bool
 holds_alone known v buffer = list_all (is_apart v buffer) known
 
--- the variable alone has the buffer in which its array is held, of which the kernels read their own elements
+-- a kernel is there, and is for indices of so many components
+abbrev pub is_kernel_for : (rank : ℕ) → Option CellKernel → Bool
+is_kernel_for rank None = false
+is_kernel_for rank (Some k) = nat_eq k.rank rank
+
+-- the variable alone has the buffer in which its array is held, of which the kernels read their own elements; or they cannot read the array, since it
+-- is not held
 abbrev pub own_in : List (Option CellKernel) → Known → Var → ℕ → Option Held → Bool
 own_in kernels known v rank (Some (Whole base r buffer)) = holds_alone known v buffer && kernels_own kernels rank buffer
+own_in kernels known v rank None = list_all (is_kernel_for rank) kernels
 own_in kernels known v rank h = false
 
 -- each of so many parts has a kernel for indices of so many components that reads of the variable's array its own element alone

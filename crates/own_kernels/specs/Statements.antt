@@ -26,8 +26,8 @@ pub record SameAt (at : ℕ) (index : List ℤ) (bs cs : List ArrayValue) : Type
 -- a kernel that reads of a buffer its own element alone gives the same, whatever other elements the buffer has
 abbrev pub OwnKernelsGiveTheSame : Type 0
 OwnKernelsGiveTheSame =
-    (turns rank at : ℕ) (k : KernelTerm) (index r : List ℤ) (bs cs : List ArrayValue) → is_own rank at k ≡ true → length index ≡ rank → HasIndex r index
-    → SameAt at index bs cs → gives turns cs k r ≡ gives turns bs k r
+    (turns rank at : ℕ) (k : KernelTerm) (index r : List ℤ) (bs cs : List ArrayValue) → is_own rank at k ≡ true → length index ≡ rank
+    → HasIndex r index → SameAt at index bs cs → gives turns cs k r ≡ gives turns bs k r
 
 -- parts with kernels that read of a variable's array their own element alone: so do their cells
 abbrev pub OwnKernelsReadOwn : Type 0

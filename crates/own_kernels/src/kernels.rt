@@ -3,7 +3,7 @@
 ghost use Rattle.std.specs.Prelude.{◌≡◌};
 ghost use Rattle.std.specs.List.{list_all};
 ghost use Rattle.kernel_tree.specs.View.{kernel_term};
-ghost use Rattle.own_kernels.specs.Kernels.{is_apart, is_in, is_own_kernel as own_kernel, kernels_own, holds_alone, parts_own};
+ghost use Rattle.own_kernels.specs.Kernels.{is_apart, is_in, is_kernel_for as kernel_for, is_own_kernel as own_kernel, kernels_own, holds_alone, parts_own};
 ghost use Rattle.own_kernels.specs.Steps.{is_own};
 
 use crate::blocks::is_own_block;
@@ -28,6 +28,22 @@ fn is_own_kernel(kernel: &Option<CellKernel>, rank: usize, buffer: u8) -> bool
         Some(kernel) => kernel.rank == rank && reads_own(kernel, buffer),
         None => false,
     }
+}
+
+// Whether there is a kernel, for indices of so many components.
+fn is_kernel_for(kernel: &Option<CellKernel>, rank: usize) -> bool
+    ensures { result ≡ kernel_for rank kernel.now }
+{
+    match kernel {
+        Some(kernel) => kernel.rank == rank,
+        None => false,
+    }
+}
+
+fn all_are_for(kernels: &[Option<CellKernel>], rank: usize) -> bool
+    ensures { result ≡ list_all (kernel_for rank) kernels.now }
+{
+    kernels.iter().all(|kernel| is_kernel_for(kernel, rank))
 }
 
 /// Whether all of these kernels are there, are for indices of so many components, and read of a buffer the element at their own index
@@ -67,7 +83,7 @@ pub fn is_only_holder(known: &[(Var, Held)], array: Var, buffer: u8) -> bool
 }
 
 /// Whether each of so many parts has a kernel for indices of so many components, at most 8, that reads of a variable's array the
-/// element at its own index alone: the array is in a buffer that no other variable has.
+/// element at its own index alone: the array is in a buffer that no other variable has, or is not known to the kernels.
 pub fn parts_read_own(
     kernels: &[Option<CellKernel>],
     count: usize,
@@ -84,6 +100,7 @@ pub fn parts_read_own(
         Some(Held::Whole(_, _, buffer)) => {
             is_only_holder(known, array, buffer) && all_read_own(kernels, rank, buffer)
         }
+        None => all_are_for(kernels, rank),
         _ => false,
     }
 }
