@@ -24,10 +24,6 @@ steps_items : {n : _} → (k : Row_of-CodeStep n) (rs : List Var) → steps_term
 steps_items end_of-CodeStep rs = refl
 steps_items (more_of-CodeStep s rest) rs = ap (step_term s) (steps_items rest rs)
 
-pub steps_append : (xs ys : List CodeStep) (t : CodeTerm) → steps_before (xs ++ ys) t ≡ steps_before xs (steps_before ys t)
-steps_append [] ys t = refl
-steps_append (x ∷ xs) ys t = ap (step_term x) (steps_append xs ys t)
-
 pub block_hidden : (b : CodeBlock) → steps_term (hidden-the_row-CodeStep-0 b.steps) b.results.items ≡ code_term b
 block_hidden b = steps_items (hidden-the_row-CodeStep-0 b.steps) b.results.items ∙ ap (λ ss. steps_before ss (Giving b.results.items)) (items_hidden-the_row-CodeStep-0 b.steps)
 
