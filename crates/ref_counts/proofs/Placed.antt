@@ -83,11 +83,11 @@ ends_as (RightTerm.Parted f b c op parts) later x p = refl
 -- tests that agree where a third one holds
 filter_as : (u p q : Var → Bool) → ((x : Var) → u x ≡ true → p x ≡ q x) → (xs : List Var) → filter p (filter u xs) ≡ filter q (filter u xs)
 filter_as u p q same [] = refl
-filter_as u p q same (x ∷ xs) = go (u x) refl
+filter_as u p q same (x ∷ xs) = go (u x) refl (filter_as u p q same xs)
   where
-    go : (b : Bool) → u x ≡ b → filter p (cond b (x ∷ filter u xs) (filter u xs)) ≡ filter q (cond b (x ∷ filter u xs) (filter u xs))
-    go true e = (λ i. cond (same x e i) (x ∷ filter_as u p q same xs i) (filter_as u p q same xs i))
-    go false e = filter_as u p q same xs
+    go : (b : Bool) → u x ≡ b → filter p (filter u xs) ≡ filter q (filter u xs) → filter p (cond b (x ∷ filter u xs) (filter u xs)) ≡ filter q (cond b (x ∷ filter u xs) (filter u xs))
+    go true e rest = λ i. cond (same x e i) (x ∷ rest i) (rest i)
+    go false e rest = rest
 
 module _ {S : Type 0} where
   -- ---- the tests
@@ -124,10 +124,10 @@ module _ {S : Type 0} where
       let l = ended.left ∙ used_as last us from (uses_right r ++ later) (owned_vars owned) known e in
       let d = ended.taken ∙ unused_as last us from (uses_right r ++ later) (owned_vars owned) known e in
       let read = known_at last us (read_place r from to) (read_after r ++ later) known (read_places us from to r later e at lt) in
-      let as (x : Var) (i : is_in x (uses_right r ++ later) ≡ true) = ap (λ b. ends_some r && not b) (read x) ∙ ends_as r later x i in
+      let same : (x : Var) → is_in x (uses_right r ++ later) ≡ true → ends_in last r from to x ≡ takes r later x = λ x i. ap (λ b. ends_some r && not b) (read x) ∙ ends_as r later x i in
       let live_as = filter_as (λ x. is_in x (uses_right r ++ later)) in
-      let m = passed.taken ∙ ap (filter (ends_in last r from to)) l ∙ live_as (ends_in last r from to) (takes r later) as (owned_vars owned) in
-      let s = passed.left ∙ ap (filter (λ x. not (ends_in last r from to x))) l ∙ live_as (λ x. not (ends_in last r from to x)) (λ x. not (takes r later x)) (λ x i. ap not (as x i)) (owned_vars owned) in
+      let m = passed.taken ∙ ap (filter (ends_in last r from to)) l ∙ live_as (ends_in last r from to) (takes r later) same (owned_vars owned) in
+      let s = passed.left ∙ ap (filter (λ x. not (ends_in last r from to x))) l ∙ live_as (λ x. not (ends_in last r from to x)) (λ x. not (takes r later x)) (λ x i. ap not (same x i)) (owned_vars owned) in
       let k = mores ∙ (λ i. surplus (handeds i) (m i)) in
       let w = rights ∙ (λ i. placing_right (m i) r) in
       let o = outs ∙ ap (λ ys. targets ++ ys) s in

@@ -10,7 +10,7 @@ use Rattle.counted_code.specs.declared.tree.Code.{Code}
 use Rattle.counted_code.specs.declared.tree.CodeStep.{CodeStep}
 use Rattle.counted_code.specs.Outcome.{whole_run, outcome_of}
 use Rattle.counted_code.specs.Prompt.{uses, uses_right}
-use Rattle.counted_code.specs.Terms.{CodeTerm, Giving}
+use Rattle.counted_code.specs.Terms.{Giving}
 use Rattle.counted_code.specs.View.{code_program, steps_before}
 use Rattle.counted_laws.specs.Simulation.{LeavesNothing}
 use Rattle.counted_placing.specs.Placing.{placing}
