@@ -98,7 +98,8 @@ fn take_given(
     to: usize,
     mine: &mut Vec<Var>,
 ) -> Result<Owned, Memory>
-    ensures { IsSound last.now live → IfOk result (λ t. EndsOf last.now (ends_in last.now (right_term right.now) from to) live t mine.old.items mine.new.items) }
+    ensures { IsSound last.now live → IfOk result (λ t.
+        EndsOf last.now (ends_in last.now (right_term right.now) from to) live t mine.old.items mine.new.items) }
 {
     if !may_end(right) {
         return Ok(live);
