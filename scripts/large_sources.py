@@ -95,6 +95,12 @@ def most_parameters():
     return f"int f({','.join(f'int a{k}' for k in range(count))}) {{ return (a{count - 1}); }}\n" + main_of("", "1")
 
 
+def many_arguments(count):
+    """A call whose arguments are variables that it uses last."""
+    named = "".join(f"x{k}=0;" for k in range(count))
+    return f"int f({','.join(f'int a{k}' for k in range(count))}) {{ return (1); }}\n" + main_of(f"{named}y=f({','.join(f'x{k}' for k in range(count))});", "y")
+
+
 def most_results():
     count = 30_000
     heads, zeros, names = ",".join(["int"] * count), ",".join("0" * count), ",".join(f"a{k}" for k in range(count))
@@ -182,6 +188,8 @@ SOURCES = [
     ("40 conditionals in one another, 40,000 variables inside", lambda: nested_blocks("if(c){", "else{}"), "int[]: 0"),
     ("40 while loops in one another, 40,000 variables inside", lambda: nested_blocks("while(c){", ""), "int[]: 0"),
     ("40 do loops in one another, 40,000 variables inside", lambda: nested_blocks("do{", "while(c);"), "int[]: 40"),
+    ("a do loop of 40,000 variables", lambda: main_of("x=0;do{" + "".join(f"y{k}=x;" for k in range(40_000)) + "}while(false);", "x"), "int[]: 0"),
+    ("a call of 20,000 arguments", lambda: many_arguments(20_000), "int[]: 1"),
     ("150 nests of 47 with-loops", deepest_loops, "int[]: 150"),
     ("8,000 grids of steps that fit", lambda: many_generators(lambda k: 1 + k % 4), "int[1]: 10"),
     ("8,000 grids of too fine a period", lambda: many_generators(lambda k: 2 * k + 1), "int[1]: 10"),

@@ -14,7 +14,7 @@ use Rattle.counted_code.specs.View.{steps_before}
 use Rattle.counted_placing.specs.Placing.{placing}
 use Rattle.counted_placing.proofs.Lists.{append_assoc}
 use Rattle.ref_counts.proofs.Collected.{let_uses, lets_used, block_used}
-use Rattle.ref_counts.proofs.Taken.{drop_here}
+use Rattle.ref_rules.proofs.Taken.{drop_here}
 
 -- places stay within the list
 pub fits : (us : List Var) (from to : ℕ) (xs ys : List Var) → from ≤ length us → drop from us ≡ xs ++ ys → to ≡ from + length xs → to ≤ length us

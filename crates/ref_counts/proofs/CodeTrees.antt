@@ -11,7 +11,6 @@ use Rattle.core_ir.specs.View.{block_term, with_term, parted_term, gen_term, par
 use Rattle.core_ir.proofs.Trees as core
 use Rattle.core_ir.specs.Terms.{BlockTerm, GenTerm, PartTerm, gens_of, parts_of}
 use Rattle.counted_code.specs.declared.tree.CodeBlock.{CodeBlock, Row_of-CodeStep, end_of-CodeStep, more_of-CodeStep, items-the_row-CodeStep, items_shown-the_row-CodeStep-0, items_hidden-the_row-CodeStep-0}
-use Rattle.counted_code.specs.declared.tree.CodeStep.{CodeStep}
 use Rattle.counted_code.specs.declared.tree.CodeRight.TheBlock.{the_data, the_data-1, the_data-2, the_data-3, the_data-4, the_data-5, the_data-6, the_data-7, hidden-the_row-CodeStep-0}
 use Rattle.counted_code.specs.declared.tree.CodeWith.{CodeWith, CodeWith', CodeWith-F, out-CodeWith, roll-CodeWith, out-roll-CodeWith, outs-CodeWith', Row_of-CodeGen, end_of-CodeGen, more_of-CodeGen, items-the_row-CodeGen, items_shown-the_row-CodeGen-2}
 use Rattle.counted_code.specs.declared.tree.CodeParted.{CodeParted, CodeParted', CodeParted-F, out-CodeParted, roll-CodeParted, out-roll-CodeParted, outs-CodeParted', Row_of-CodePart, end_of-CodePart, more_of-CodePart, items-the_row-CodePart, items_shown-the_row-CodePart-1}
@@ -23,10 +22,6 @@ use Rattle.counted_placing.specs.Placing.{placing, placing_right, placing_gens, 
 steps_items : {n : _} → (k : Row_of-CodeStep n) (rs : List Var) → steps_term k rs ≡ steps_before (items-the_row-CodeStep n k) (Giving rs)
 steps_items end_of-CodeStep rs = refl
 steps_items (more_of-CodeStep s rest) rs = ap (step_term s) (steps_items rest rs)
-
-pub steps_append : (xs ys : List CodeStep) (t : CodeTerm) → steps_before (xs ++ ys) t ≡ steps_before xs (steps_before ys t)
-steps_append [] ys t = refl
-steps_append (x ∷ xs) ys t = ap (step_term x) (steps_append xs ys t)
 
 pub block_hidden : (b : CodeBlock) → steps_term (hidden-the_row-CodeStep-0 b.steps) b.results.items ≡ code_term b
 block_hidden b = steps_items (hidden-the_row-CodeStep-0 b.steps) b.results.items ∙ ap (λ ss. steps_before ss (Giving b.results.items)) (items_hidden-the_row-CodeStep-0 b.steps)

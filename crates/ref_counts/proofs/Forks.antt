@@ -1,16 +1,18 @@
 -- Trees of variables, and those that are taken out of them.
 use Rattle.std.proofs.Common.{◌≡◌, ℕ, ◌+◌, ◌-◌, ◌^◌, ◌<◌, Bool, true, false, cond, eqb, not, List, [], ◌∷◌, ◌++◌, Some, refl, ap, ◌∙◌, sym, subst, arith, true≢false, inl, inr}
-use Rattle.std.specs.Prelude.{◌&&◌, ◌||◌, ◌⊎◌, filter, min, nat_eq}
+use Rattle.std.specs.Prelude.{◌&&◌, ◌⊎◌, filter, min, nat_eq, Result, Ok, Err, IfOk}
 use Rattle.std.specs.HashMap.{get, HashMap}
 use Rattle.std.proofs.lemmas.Bool.{le-leb}
 use Rattle.std.proofs.lemmas.List.Elements.{filter-append}
 use Rattle.core_ir.specs.declared.tree.Var.{Var}
 use Rattle.core_ir.specs.Binders.{is_in}
 use Rattle.counted_placing.proofs.Lists.{same_var, self, or_left, or_right, or_either, append_assoc}
+use Rattle.core_ir.specs.Terms.{RightTerm}
 use Rattle.ref_counts.specs.declared.held.Owned.{Owned, Gone, One}
-use Rattle.ref_counts.specs.Latest.{reaches, is_used}
+use Rattle.ref_rules.specs.Latest.{reaches, is_used}
+use Rattle.ref_counts.specs.Endings.{ends_some, ends_in, read_place}
 use Rattle.ref_counts.specs.Owning.{owned_vars, IsBound, IsSound, ends, EndsOf}
-use Rattle.ref_counts.proofs.Recorded.{in_append}
+use Rattle.ref_rules.proofs.Recorded.{in_append}
 
 append_nil : (xs : List Var) → xs ++ [] ≡ xs
 append_nil [] = refl
@@ -35,10 +37,6 @@ filter_none e (x ∷ xs) h = ap (λ b. cond b (x ∷ filter e xs) (filter e xs))
 filter_whole : (e : Var → Bool) (xs : List Var) → Fails e xs → filter (λ x. not (e x)) xs ≡ xs
 filter_whole e [] h = refl
 filter_whole e (x ∷ xs) h = ap (λ b. cond (not b) (x ∷ filter (λ x. not (e x)) xs) (filter (λ x. not (e x)) xs)) (fails_first e x xs h) ∙ ap (λ ys. x ∷ ys) (filter_whole e xs (fails_rest e x xs h))
-
-used_stays : (p u : Bool) → u ≡ true → (p && not u) ≡ false
-used_stays true u h = ap not h
-used_stays false u h = refl
 
 module _ {S : Type 0} where
   -- ---- places before which variables are used
@@ -88,12 +86,12 @@ module _ {S : Type 0} where
     sound = tt;
   }
 
-  pub all_stay : (last : HashMap ℕ ℕ S) (from : ℕ) (all : Bool) (handed : List Var) (tree : Owned) (n : ℕ) (out : List Var) → IsSound last tree → IsBound last (owned_vars tree) n → from < n → EndsOf last (ends last from all handed) tree tree out out
-  all_stay last from all handed tree n out sound bound lt =
-      let fails : Fails (ends last from all handed) (owned_vars tree) = λ x i. used_stays (all || is_in x handed) (is_used last from x) (bound x from i lt) in
+  pub all_stay : (last : HashMap ℕ ℕ S) (from : ℕ) (tree : Owned) (n : ℕ) (out : List Var) → IsSound last tree → IsBound last (owned_vars tree) n → from < n → EndsOf last (ends last from) tree tree out out
+  all_stay last from tree n out sound bound lt =
+      let fails : Fails (ends last from) (owned_vars tree) = λ x i. ap not (bound x from i lt) in
       record {
-        taken = sym (append_nil out) ∙ ap (λ xs. out ++ xs) (sym (filter_none (ends last from all handed) (owned_vars tree) fails));
-        left = sym (filter_whole (ends last from all handed) (owned_vars tree) fails);
+        taken = sym (append_nil out) ∙ ap (λ xs. out ++ xs) (sym (filter_none (ends last from) (owned_vars tree) fails));
+        left = sym (filter_whole (ends last from) (owned_vars tree) fails);
         sound = sound;
       }
 
@@ -105,10 +103,10 @@ module _ {S : Type 0} where
   }
 
   -- where each variable is used once more, nothing is taken out
-  pub pruned : (last : HashMap ℕ ℕ S) (from : ℕ) (all : Bool) (handed : List Var) (tree rest : Owned) (n : ℕ) (out : List Var) → tree ≡ rest → (IsSound last rest → IsBound last (owned_vars rest) n) → from < n → IsSound last tree → EndsOf last (ends last from all handed) tree rest out out
-  pruned last from all handed tree rest n out e bound lt sound =
+  pub pruned : (last : HashMap ℕ ℕ S) (from : ℕ) (tree rest : Owned) (n : ℕ) (out : List Var) → tree ≡ rest → (IsSound last rest → IsBound last (owned_vars rest) n) → from < n → IsSound last tree → EndsOf last (ends last from) tree rest out out
+  pruned last from tree rest n out e bound lt sound =
       let s = subst (IsSound last) e sound in
-      subst (λ a. EndsOf last (ends last from all handed) a rest out out) (sym e) (all_stay last from all handed rest n out s (bound s) lt)
+      subst (λ a. EndsOf last (ends last from) a rest out out) (sym e) (all_stay last from rest n out s (bound s) lt)
 
   pub fork_sound : (last : HashMap ℕ ℕ S) (a b first second : Owned) (m n k : ℕ) → first ≡ a → second ≡ b → (IsSound last a → IsBound last (owned_vars a) m) → (IsSound last b → IsBound last (owned_vars b) n) → k ≡ min m n → IsSound last a → IsSound last b →
       IsBound last (owned_vars first ++ owned_vars second) k × IsSound last first × IsSound last second
@@ -117,3 +115,22 @@ module _ {S : Type 0} where
     subst (IsSound last) (sym p) sound_a,
     subst (IsSound last) (sym q) sound_b,
   )
+
+  -- ---- in a right side
+
+  -- nothing ends in one that neither hands on nor branches
+  pub none_given : (last : HashMap ℕ ℕ S) (r : RightTerm) (from to : ℕ) (tree : Owned) (out : List Var) → ends_some r ≡ false → IsSound last tree → EndsOf last (ends_in last r from to) tree tree out out
+  none_given last r from to tree out none sound =
+      let fails : Fails (ends_in last r from to) (owned_vars tree) = λ x i. ap (λ b. b && ends last (read_place r from to) x) none in
+      record {
+        taken = sym (append_nil out) ∙ ap (λ xs. out ++ xs) (sym (filter_none (ends_in last r from to) (owned_vars tree) fails));
+        left = sym (filter_whole (ends_in last r from to) (owned_vars tree) fails);
+        sound = sound;
+      }
+
+  -- and in any other what is not used from its reading on
+  pub some_given : {E : Type 0} (answer : Result Owned E) (last : HashMap ℕ ℕ S) (r : RightTerm) (from to read : ℕ) (tree : Owned) (out after : List Var) → ends_some r ≡ true → read ≡ read_place r from to →
+      (IsSound last tree → IfOk answer (λ t. EndsOf last (ends last read) tree t out after)) → IsSound last tree → IfOk answer (λ t. EndsOf last (ends_in last r from to) tree t out after)
+  some_given (Ok t) last r from to read tree out after some at ended sound =
+      subst (λ b. EndsOf last (λ x. b && ends last (read_place r from to) x) tree t out after) (sym some) (subst (λ n. EndsOf last (ends last n) tree t out after) at (ended sound))
+  some_given (Err why) last r from to read tree out after some at ended sound = ended sound

@@ -1,9 +1,6 @@
-pub mod Appended
 pub mod Blocks
 pub mod CodeTrees
 pub mod Collected
 pub mod Forks
 pub mod Placed
-pub mod Recorded
-pub mod Taken
 pub mod Whole

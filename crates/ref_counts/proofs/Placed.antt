@@ -1,5 +1,5 @@
 -- Steps that are appended are those of the placing.
-use Rattle.std.proofs.Common.{◌≡◌, ℕ, ◌+◌, ◌-◌, ◌^◌, ◌<◌, Bool, true, false, not, List, [], ◌∷◌, ◌++◌, length, drop, refl, ap, ◌∙◌, sym, subst, arith}
+use Rattle.std.proofs.Common.{◌≡◌, ℕ, ◌+◌, ◌-◌, ◌^◌, ◌<◌, Bool, true, false, cond, not, List, [], ◌∷◌, ◌++◌, length, drop, refl, ap, ◌∙◌, sym, subst, arith}
 use Rattle.std.specs.Prelude.{◌&&◌, ◌||◌, filter, min, Result, Ok, Err, IfOk}
 use Rattle.std.specs.HashMap.{HashMap}
 use lib.Seq.{drop-drop, drop-append_seam}
@@ -7,16 +7,18 @@ use Rattle.sac_base.specs.declared.site.Site.{Site}
 use Rattle.core_ir.specs.declared.tree.Var.{Var}
 use Rattle.core_ir.specs.Binders.{is_in}
 use Rattle.core_ir.specs.declared.tree.Let.{Let}
-use Rattle.core_ir.specs.Terms.{BlockTerm, RightTerm, Gives, Bind, Plain, chain}
+use Rattle.core_ir.specs.Terms.{PlainTerm, BlockTerm, RightTerm, Gives, Bind, Plain, chain}
 use Rattle.core_ir.specs.View.{let_term, right_term}
 use Rattle.counted_code.specs.declared.tree.CodeStep.{CodeStep}
 use Rattle.counted_code.specs.Prompt.{uses, uses_right, hands}
 use Rattle.counted_code.specs.Terms.{CodeTerm, CodeRightTerm, Giving, Binding}
 use Rattle.counted_code.specs.View.{steps_before}
 use Rattle.ref_counts.specs.declared.held.Owned.{Owned}
-use Rattle.ref_counts.specs.Latest.{is_used, AreLast, read_place}
+use Rattle.ref_rules.specs.Latest.{is_used, AreLast}
+use Rattle.ref_rules.proofs.Recorded.{in_append}
+use Rattle.ref_counts.specs.Endings.{ends_some, ends_in, read_place}
 use Rattle.ref_counts.specs.Owning.{owned_vars, IsSound, ends, EndsOf}
-use Rattle.counted_placing.specs.Placing.{keeps, releases, used, unused, surplus, read_after, is_conditional, left, placing, placing_right}
+use Rattle.counted_placing.specs.Placing.{keeps, releases, used, unused, surplus, read_after, takes, placing, placing_right}
 use Rattle.counted_placing.proofs.Lists.{append_assoc}
 
 -- ---- places in a list of uses
@@ -48,6 +50,45 @@ not_not : (b : Bool) → not (not b) ≡ b
 not_not true = refl
 not_not false = refl
 
+-- ---- what ends in a right side
+
+-- what is handed on, or is used later, ends if it is used no more
+handed_or_used : (h l : Bool) → (h || l) ≡ true → not l ≡ (h && not l)
+handed_or_used true l p = refl
+handed_or_used false l p = ap not p
+
+hands_first : (xs later : List Var) (x : Var) → is_in x (xs ++ later) ≡ true → not (is_in x later) ≡ (is_in x xs && not (is_in x later))
+hands_first xs later x p = handed_or_used (is_in x xs) (is_in x later) (sym (in_append x xs later) ∙ p)
+
+ends_as : (r : RightTerm) (later : List Var) (x : Var) → is_in x (uses_right r ++ later) ≡ true → (ends_some r && not (is_in x (read_after r ++ later))) ≡ takes r later x
+ends_as (Plain (PlainTerm.Const a)) later x p = refl
+ends_as (Plain (PlainTerm.Copy y)) later x p = hands_first (y ∷ []) later x p
+ends_as (Plain (PlainTerm.Unary op y)) later x p = refl
+ends_as (Plain (PlainTerm.Binary op y z)) later x p = refl
+ends_as (Plain (PlainTerm.Literal ys)) later x p = refl
+ends_as (Plain (PlainTerm.Dim y)) later x p = refl
+ends_as (Plain (PlainTerm.ShapeOf y)) later x p = refl
+ends_as (Plain (PlainTerm.Reshape y z)) later x p = refl
+ends_as (Plain (PlainTerm.Select y z)) later x p = refl
+ends_as (Plain (PlainTerm.Replace y z w)) later x p = refl
+ends_as (Plain (PlainTerm.Always k)) later x p = refl
+ends_as (Plain (PlainTerm.Check y t)) later x p = hands_first (y ∷ []) later x p
+ends_as (RightTerm.If c a b) later x p = refl
+ends_as (RightTerm.Loop first start params test body s) later x p =
+    hands_first start ((uses test ++ uses body) ++ later) x (ap (is_in x) (append_assoc start (uses test ++ uses body) later) ∙ p)
+ends_as (RightTerm.Call g xs) later x p = hands_first xs later x p
+ends_as (RightTerm.With op gens) later x p = refl
+ends_as (RightTerm.Parted f b c op parts) later x p = refl
+
+-- tests that agree where a third one holds
+filter_as : (u p q : Var → Bool) → ((x : Var) → u x ≡ true → p x ≡ q x) → (xs : List Var) → filter p (filter u xs) ≡ filter q (filter u xs)
+filter_as u p q same [] = refl
+filter_as u p q same (x ∷ xs) = go (u x) refl (filter_as u p q same xs)
+  where
+    go : (b : Bool) → u x ≡ b → filter p (filter u xs) ≡ filter q (filter u xs) → filter p (cond b (x ∷ filter u xs) (filter u xs)) ≡ filter q (cond b (x ∷ filter u xs) (filter u xs))
+    go true e rest = λ i. cond (same x e i) (x ∷ rest i) (rest i)
+    go false e rest = rest
+
 module _ {S : Type 0} where
   -- ---- the tests
 
@@ -62,7 +103,7 @@ module _ {S : Type 0} where
 
   -- ---- before the results
 
-  pub results_placed : (last : HashMap ℕ ℕ S) (us : List Var) (from : ℕ) (results live dead more : List Var) (owned left : Owned) (s0 s1 s2 : List CodeStep) → AreLast last us → drop from us ≡ results → EndsOf last (ends last from true []) owned left [] dead → live ≡ owned_vars left → more ≡ surplus results live → ((t : CodeTerm) → steps_before s1 t ≡ steps_before s0 (releases dead t)) → ((t : CodeTerm) → steps_before s2 t ≡ steps_before s1 (keeps more t)) → steps_before s2 (Giving results) ≡ steps_before s0 (placing (owned_vars owned) (Gives results))
+  pub results_placed : (last : HashMap ℕ ℕ S) (us : List Var) (from : ℕ) (results live dead more : List Var) (owned left : Owned) (s0 s1 s2 : List CodeStep) → AreLast last us → drop from us ≡ results → EndsOf last (ends last from) owned left [] dead → live ≡ owned_vars left → more ≡ surplus results live → ((t : CodeTerm) → steps_before s1 t ≡ steps_before s0 (releases dead t)) → ((t : CodeTerm) → steps_before s2 t ≡ steps_before s1 (keeps more t)) → steps_before s2 (Giving results) ≡ steps_before s0 (placing (owned_vars owned) (Gives results))
   results_placed last us from results live dead more owned left s0 s1 s2 known e ended lives mores first second =
       let l = lives ∙ ended.left ∙ used_as last us from results (owned_vars owned) known e in
       let d = ended.taken ∙ unused_as last us from results (owned_vars owned) known e in
@@ -71,20 +112,22 @@ module _ {S : Type 0} where
 
   -- ---- before and at a binding
 
-  pub binding_placed : (last : HashMap ℕ ℕ S) (us : List Var) (from to : ℕ) (r : RightTerm) (targets : List Var) (site : Site) (rest : BlockTerm) (dead handed mine more : List Var) (owned live stay out : Owned) (all : Bool) (q : CodeRightTerm) (s0 s1 s2 s3 : List CodeStep) →
+  pub binding_placed : (last : HashMap ℕ ℕ S) (us : List Var) (from to : ℕ) (r : RightTerm) (targets : List Var) (site : Site) (rest : BlockTerm) (dead handed mine more : List Var) (owned live stay out : Owned) (q : CodeRightTerm) (s0 s1 s2 s3 : List CodeStep) →
       AreLast last us → drop from us ≡ uses_right r ++ uses rest → to ≡ from + length (uses_right r) → to < 2 ^ 64 →
-      EndsOf last (ends last from true []) owned live [] dead → handed ≡ hands r → all ≡ is_conditional r →
-      EndsOf last (ends last (read_place r from to) all handed) live stay [] mine →
+      EndsOf last (ends last from) owned live [] dead → handed ≡ hands r →
+      EndsOf last (ends_in last r from to) live stay [] mine →
       more ≡ surplus handed mine → q ≡ placing_right mine r → owned_vars out ≡ targets ++ owned_vars stay →
       ((t : CodeTerm) → steps_before s1 t ≡ steps_before s0 (releases dead t)) → ((t : CodeTerm) → steps_before s2 t ≡ steps_before s1 (keeps more t)) → ((t : CodeTerm) → steps_before s3 t ≡ steps_before s2 (Binding targets site q t)) →
       steps_before s3 (placing (owned_vars out) rest) ≡ steps_before s0 (placing (owned_vars owned) (Bind targets site r rest))
-  binding_placed last us from to r targets site rest dead handed mine more owned live stay out all q s0 s1 s2 s3 known e at lt ended handeds alls passed mores rights outs first second third =
+  binding_placed last us from to r targets site rest dead handed mine more owned live stay out q s0 s1 s2 s3 known e at lt ended handeds passed mores rights outs first second third =
       let later = uses rest in
       let l = ended.left ∙ used_as last us from (uses_right r ++ later) (owned_vars owned) known e in
       let d = ended.taken ∙ unused_as last us from (uses_right r ++ later) (owned_vars owned) known e in
       let read = known_at last us (read_place r from to) (read_after r ++ later) known (read_places us from to r later e at lt) in
-      let m = passed.taken ∙ (λ i. filter (λ x. (alls i || is_in x (handeds i)) && not (read x i)) (l i)) in
-      let s = passed.left ∙ (λ i. filter (λ x. not ((alls i || is_in x (handeds i)) && not (read x i))) (l i)) in
+      let same : (x : Var) → is_in x (uses_right r ++ later) ≡ true → ends_in last r from to x ≡ takes r later x = λ x i. ap (λ b. ends_some r && not b) (read x) ∙ ends_as r later x i in
+      let live_as = filter_as (λ x. is_in x (uses_right r ++ later)) in
+      let m = passed.taken ∙ ap (filter (ends_in last r from to)) l ∙ live_as (ends_in last r from to) (takes r later) same (owned_vars owned) in
+      let s = passed.left ∙ ap (filter (λ x. not (ends_in last r from to x))) l ∙ live_as (λ x. not (ends_in last r from to x)) (λ x. not (takes r later x)) (λ x i. ap not (same x i)) (owned_vars owned) in
       let k = mores ∙ (λ i. surplus (handeds i) (m i)) in
       let w = rights ∙ (λ i. placing_right (m i) r) in
       let o = outs ∙ ap (λ ys. targets ++ ys) s in
@@ -95,34 +138,32 @@ module _ {S : Type 0} where
 
   pub results_done : {E : Type 0} (r : Result (Unit {0}) E) (last : HashMap ℕ ℕ S) (us : List Var) (from : ℕ) (results none dead released none_live live found more kept : List Var) (owned left : Owned) (s0 s1 s2 : List CodeStep) →
       AreLast last us → IsSound last owned → drop from us ≡ results →
-      none ≡ [] → (IsSound last owned → EndsOf last (ends last from true []) owned left none dead) → released ≡ dead → ((t : CodeTerm) → steps_before s1 t ≡ steps_before s0 (releases released t)) →
+      none ≡ [] → (IsSound last owned → EndsOf last (ends last from) owned left none dead) → released ≡ dead → ((t : CodeTerm) → steps_before s1 t ≡ steps_before s0 (releases released t)) →
       none_live ≡ [] → live ≡ none_live ++ owned_vars left → found ≡ live → more ≡ surplus results found → kept ≡ more →
       IfOk r (λ done. (t : CodeTerm) → steps_before s2 t ≡ steps_before s1 (keeps kept t)) → IfOk r (λ done. steps_before s2 (Giving results) ≡ steps_before s0 (placing (owned_vars owned) (Gives results)))
   results_done (Ok done) last us from results none dead released none_live live found more kept owned left s0 s1 s2 known sound e empty ended out first empty_live lives founds mores keeping second =
       results_placed last us from results found released kept owned left s0 s1 s2 known e
-      (subst (λ d. EndsOf last (ends last from true []) owned left [] d) (sym out) (subst (λ n. EndsOf last (ends last from true []) owned left n dead) empty (ended sound)))
+      (subst (λ d. EndsOf last (ends last from) owned left [] d) (sym out) (subst (λ n. EndsOf last (ends last from) owned left n dead) empty (ended sound)))
       (founds ∙ lives ∙ ap (λ n. n ++ owned_vars left) empty_live) (keeping ∙ mores) first second
   results_done (Err why) last us from results none dead released none_live live found more kept owned left s0 s1 s2 known sound e empty ended out first empty_live lives founds mores keeping second = second
 
-  pub let_done : {E : Type 0} (r : Result Owned E) (last : HashMap ℕ ℕ S) (us : List Var) (from to read : ℕ) (b : Let) (rest : BlockTerm) (none dead released handed passing placing_in none_mine mine own branch_own more kept names targets fronts : List Var) (owned live stay : Owned) (all : Bool) (q : CodeRightTerm) (s0 s1 s2 s3 : List CodeStep) →
+  pub let_done : {E : Type 0} (r : Result Owned E) (last : HashMap ℕ ℕ S) (us : List Var) (from to : ℕ) (b : Let) (rest : BlockTerm) (none dead released handed placing_in none_mine mine own branch_own more kept names targets fronts : List Var) (owned live stay : Owned) (q : CodeRightTerm) (s0 s1 s2 s3 : List CodeStep) →
       AreLast last us → IsSound last owned → drop from us ≡ uses_right (right_term b.right) ++ uses rest → to ≡ from + length (uses_right (right_term b.right)) → to < 2 ^ 64 →
-      none ≡ [] → (IsSound last owned → EndsOf last (ends last from true []) owned live none dead) → released ≡ dead → ((t : CodeTerm) → steps_before s1 t ≡ steps_before s0 (releases released t)) →
-      handed ≡ hands (right_term b.right) → read ≡ read_place (right_term b.right) from to → all ≡ is_conditional (right_term b.right) →
-      none_mine ≡ [] → passing ≡ handed → (IsSound last live → EndsOf last (ends last read all passing) live stay none_mine mine) →
+      none ≡ [] → (IsSound last owned → EndsOf last (ends last from) owned live none dead) → released ≡ dead → ((t : CodeTerm) → steps_before s1 t ≡ steps_before s0 (releases released t)) →
+      handed ≡ hands (right_term b.right) →
+      none_mine ≡ [] → (IsSound last live → EndsOf last (ends_in last (right_term b.right) from to) live stay none_mine mine) →
       placing_in ≡ handed → own ≡ mine → more ≡ surplus placing_in own → kept ≡ more → ((t : CodeTerm) → steps_before s2 t ≡ steps_before s1 (keeps kept t)) →
       branch_own ≡ mine → q ≡ placing_right branch_own (right_term b.right) → names ≡ b.targets.items → targets ≡ names → ((t : CodeTerm) → steps_before s3 t ≡ steps_before s2 (Binding targets b.site q t)) →
       fronts ≡ b.targets.items → IfOk r (λ out. owned_vars out ≡ fronts ++ owned_vars stay) → (IsSound last stay → IfOk r (λ out. IsSound last out)) →
       IfOk r (λ out. IsSound last out × (steps_before s3 (placing (owned_vars out) rest) ≡ steps_before s0 (placing (owned_vars owned) (chain (let_term b ∷ []) rest))))
-  let_done (Ok out) last us from to read b rest none dead released handed passing placing_in none_mine mine own branch_own more kept names targets fronts owned live stay all q s0 s1 s2 s3 known sound e at lt empty ended outs first handeds reads alls empty_mine passings passed ins owns mores keeping second branches rights same_names names_are third front vars sounds =
+  let_done (Ok out) last us from to b rest none dead released handed placing_in none_mine mine own branch_own more kept names targets fronts owned live stay q s0 s1 s2 s3 known sound e at lt empty ended outs first handeds empty_mine passed ins owns mores keeping second branches rights same_names names_are third front vars sounds =
       let r = right_term b.right in
-      let dead_end = subst (λ d. EndsOf last (ends last from true []) owned live [] d) (sym outs) (subst (λ n. EndsOf last (ends last from true []) owned live n dead) empty (ended sound)) in
+      let dead_end = subst (λ d. EndsOf last (ends last from) owned live [] d) (sym outs) (subst (λ n. EndsOf last (ends last from) owned live n dead) empty (ended sound)) in
       let given_end = passed dead_end.sound in (
         sounds given_end.sound,
-        binding_placed last us from to r b.targets.items b.site rest released handed mine kept owned live stay out all q s0 s1 s2 s3 known e at lt dead_end handeds alls
-            (subst (λ n. EndsOf last (ends last (read_place r from to) all handed) live stay n mine) empty_mine
-            (subst (λ h. EndsOf last (ends last (read_place r from to) all h) live stay none_mine mine) passings
-            (subst (λ n. EndsOf last (ends last n all passing) live stay none_mine mine) reads given_end)))
+        binding_placed last us from to r b.targets.items b.site rest released handed mine kept owned live stay out q s0 s1 s2 s3 known e at lt dead_end handeds
+            (subst (λ n. EndsOf last (ends_in last r from to) live stay n mine) empty_mine given_end)
             (keeping ∙ mores ∙ (λ i. surplus (ins i) (owns i))) (rights ∙ ap (λ xs. placing_right xs r) branches) (vars ∙ ap (λ xs. xs ++ owned_vars stay) front) first second
             (subst (λ xs. (t : CodeTerm) → steps_before s3 t ≡ steps_before s2 (Binding xs b.site q t)) (names_are ∙ same_names) third),
       )
-  let_done (Err why) last us from to read b rest none dead released handed passing placing_in none_mine mine own branch_own more kept names targets fronts owned live stay all q s0 s1 s2 s3 known sound e at lt empty ended outs first handeds reads alls empty_mine passings passed ins owns mores keeping second branches rights same_names names_are third front vars sounds = vars
+  let_done (Err why) last us from to b rest none dead released handed placing_in none_mine mine own branch_own more kept names targets fronts owned live stay q s0 s1 s2 s3 known sound e at lt empty ended outs first handeds empty_mine passed ins owns mores keeping second branches rights same_names names_are third front vars sounds = vars

@@ -1,22 +1,25 @@
--- Whose references may end at a place.
-use Rattle.std.specs.Prelude.{ℕ, Bool, true, false, List, []}
+-- Whose references end in a right side.
+use Rattle.std.specs.Prelude.{◌+◌, ◌-◌, ◌^◌, ◌&&◌, min, length, ℕ, Bool, true, false}
 use Rattle.std.specs.HashMap.{HashMap}
 use Rattle.core_ir.specs.declared.tree.Var.{Var}
-use Rattle.ref_counts.specs.declared.held.Among.{Among}
-use Rattle.ref_counts.specs.declared.held.Among.TheVariants.{All, These}
+use Rattle.core_ir.specs.Terms.{PlainTerm, RightTerm, Plain}
 use Rattle.ref_counts.specs.Owning.{ends}
 
--- those of all variables
-abbrev pub takes_all : Among → Bool
-takes_all All = true
-takes_all (These vars) = false
+-- it hands on what it uses first, or is a conditional
+abbrev pub ends_some : RightTerm → Bool
+ends_some (Plain (PlainTerm.Copy x)) = true
+ends_some (Plain (PlainTerm.Check x t)) = true
+ends_some (RightTerm.If c a b) = true
+ends_some (RightTerm.Loop first start params test body s) = true
+ends_some (RightTerm.Call g xs) = true
+ends_some _ = false
 
--- or those of a list
-abbrev pub among_list : Among → List Var
-among_list All = []
-among_list (These vars) = vars.now
+-- the place of the first use that a right side does not hand on, where its uses lie between these places
+abbrev pub read_place : RightTerm → ℕ → ℕ → ℕ
+read_place (RightTerm.Loop first start params test body s) from to = min (from + length start) (2 ^ 64 - 1)
+read_place _ from to = to
 
 module _ {S : Type 0} where
-  -- the variable is one of these, and is not used at this place or later
-  abbrev pub ends_among : HashMap ℕ ℕ S → ℕ → Among → Var → Bool
-  ends_among last from among = ends last from (takes_all among) (among_list among)
+  -- of the variables that are used by the right side or later, those that it does not leave to what follows
+  abbrev pub ends_in : HashMap ℕ ℕ S → RightTerm → (from to : ℕ) → Var → Bool
+  ends_in last r from to x = ends_some r && ends last (read_place r from to) x

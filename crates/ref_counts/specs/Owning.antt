@@ -1,10 +1,10 @@
 -- The variables of a tree, and those whose references end.
-use Rattle.std.specs.Prelude.{◌≡◌, ◌<◌, ℕ, Bool, true, not, ◌&&◌, ◌||◌, filter, List, [], ◌∷◌, ◌++◌}
+use Rattle.std.specs.Prelude.{◌≡◌, ◌<◌, ℕ, Bool, true, not, filter, List, [], ◌∷◌, ◌++◌}
 use Rattle.std.specs.HashMap.{HashMap}
 use Rattle.core_ir.specs.declared.tree.Var.{Var}
 use Rattle.core_ir.specs.Binders.{is_in}
 use Rattle.ref_counts.specs.declared.held.Owned.{Owned, Gone, One, Fork'}
-use Rattle.ref_counts.specs.Latest.{is_used}
+use Rattle.ref_rules.specs.Latest.{is_used}
 
 -- from the first to the last
 abbrev pub owned_vars : Owned → List Var
@@ -24,9 +24,9 @@ module _ {S : Type 0} where
   IsSound last (Fork' leaves used_before p first q second) =
       IsBound last (owned_vars first ++ owned_vars second) used_before × IsSound last first × IsSound last second
 
-  -- it passes, and is not used at this place or later
-  abbrev pub ends : HashMap ℕ ℕ S → ℕ → Bool → List Var → Var → Bool
-  ends last from all handed x = (all || is_in x handed) && not (is_used last from x)
+  -- it is not used at this place or later
+  abbrev pub ends : HashMap ℕ ℕ S → ℕ → Var → Bool
+  ends last from x = not (is_used last from x)
 
   -- of a tree's variables, those that end are taken out and appended
   pub record EndsOf (last : HashMap ℕ ℕ S) (end : Var → Bool) (tree rest : Owned) (before after : List Var) : Type 0 where

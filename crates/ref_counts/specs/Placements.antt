@@ -10,17 +10,13 @@ use Rattle.counted_code.specs.declared.tree.Code.{Code}
 use Rattle.counted_code.specs.declared.tree.CodeStep.{CodeStep}
 use Rattle.counted_code.specs.Outcome.{whole_run, outcome_of}
 use Rattle.counted_code.specs.Prompt.{uses, uses_right}
-use Rattle.counted_code.specs.Terms.{CodeTerm, Giving}
+use Rattle.counted_code.specs.Terms.{Giving}
 use Rattle.counted_code.specs.View.{code_program, steps_before}
 use Rattle.counted_laws.specs.Simulation.{LeavesNothing}
 use Rattle.counted_placing.specs.Placing.{placing}
 use Rattle.ref_counts.specs.declared.held.Owned.{Owned}
-use Rattle.ref_counts.specs.Latest.{AreLast}
+use Rattle.ref_rules.specs.Latest.{AreLast}
 use Rattle.ref_counts.specs.Owning.{owned_vars, IsSound}
-
--- the steps that are appended stand before what follows
-abbrev pub Appended : List CodeStep → List CodeStep → (CodeTerm → CodeTerm) → Type 0
-Appended before after step = (t : CodeTerm) → steps_before after t ≡ steps_before before (step t)
 
 module _ {S E : Type 0} where
   -- the steps before a block's results are appended: the uses from this place on are the results

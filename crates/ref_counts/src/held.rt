@@ -1,12 +1,10 @@
 //! The variables whose references a block has at a place.
 
-ghost use Rattle.std.specs.Prelude.{◌≡◌, [], ◌∷◌, ◌++◌, true, IfOk};
-ghost use Rattle.ref_counts.specs.Endings.{ends_among};
+ghost use Rattle.std.specs.Prelude.{◌≡◌, ◌∷◌, ◌++◌, IfOk};
 ghost use Rattle.ref_counts.specs.Owning.{owned_vars, IsSound, IsBound, EndsOf, ends};
 
-use crate::last::{LastUses, is_used_from};
-use crate::split::stands_in;
 use core_ir::Var;
+use ref_rules::{LastUses, is_used_from};
 use sac_base::Memory;
 use std::alloc::Global;
 
@@ -105,49 +103,24 @@ pub fn with_all(alloc: Global, tree: Owned, last: &LastUses, xs: &[Var]) -> Resu
     Ok(tree)
 }
 
-/// All variables, or those of a list.
-#[derive(Clone, Copy)]
-pub enum Among<'a> {
-    All,
-    These(&'a [Var]),
-}
-
-impl Among<'_> {
-    ghost use Rattle.std.specs.Prelude.{◌≡◌, ◌||◌};
-    ghost use Rattle.core_ir.specs.Binders.{is_in};
-    ghost use Rattle.ref_counts.specs.Endings.{takes_all, among_list};
-
-    fn has(self, x: Var) -> bool
-        ensures { result ≡ (takes_all self.entry || is_in x (among_list self.entry)) }
-    {
-        match self {
-            Among::All => true,
-            Among::These(vars) => stands_in(vars, x),
-        }
-    }
-}
-
-/// Takes those of these variables out of the tree that are not used at this place or later, and appends them to `out`.
-pub fn take_ending(
+/// Takes the variables out of the tree that are not used at this place or later, and appends them to `out`.
+pub fn take_unused(
     alloc: Global,
     tree: Owned,
     last: &LastUses,
     from: usize,
-    among: Among<'_>,
     out: &mut Vec<Var>,
 ) -> Result<Owned, Memory>
-    ensures { IsSound last.now tree → IfOk result (λ t. EndsOf last.now (ends_among last.now from among.entry) tree t out.old.items out.new.items) }
+    ensures { IsSound last.now tree → IfOk result (λ t. EndsOf last.now (ends last.now from) tree t out.old.items out.new.items) }
 {
     match tree {
         Owned::Gone => Ok(Owned::Gone),
         Owned::One(x) => {
-            let passes = among.has(x);
-            let used = is_used_from(last, from, x);
-            if passes && !used {
-                out.push(x)?;
-                return Ok(Owned::Gone);
+            if is_used_from(last, from, x) {
+                return Ok(Owned::One(x));
             }
-            Ok(Owned::One(x))
+            out.push(x)?;
+            Ok(Owned::Gone)
         }
         Owned::Fork {
             leaves,
@@ -163,24 +136,11 @@ pub fn take_ending(
                     second,
                 });
             }
-            let first = take_ending(alloc, Box::into_inner(first), last, from, among, out)?;
-            let second = take_ending(alloc, Box::into_inner(second), last, from, among, out)?;
+            let first = take_unused(alloc, Box::into_inner(first), last, from, out)?;
+            let second = take_unused(alloc, Box::into_inner(second), last, from, out)?;
             fork(alloc, last, first, second)
         }
     }
-}
-
-/// Takes all variables out of the tree that are not used at this place or later, and appends them to `out`.
-pub fn take_unused(
-    alloc: Global,
-    tree: Owned,
-    last: &LastUses,
-    from: usize,
-    out: &mut Vec<Var>,
-) -> Result<Owned, Memory>
-    ensures { IsSound last.now tree → IfOk result (λ t. EndsOf last.now (ends last.now from true []) tree t out.old.items out.new.items) }
-{
-    take_ending(alloc, tree, last, from, Among::All, out)
 }
 
 /// Appends the variables of the tree.

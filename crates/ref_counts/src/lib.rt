@@ -3,9 +3,7 @@
 
 mod functions;
 mod held;
-mod last;
 mod place;
-mod split;
 mod steps;
 mod uses;
 

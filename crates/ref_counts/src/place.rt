@@ -3,19 +3,18 @@
 ghost use Rattle.std.specs.Prelude.{◌≡◌, [], IfOk};
 ghost use Rattle.core_ir.specs.View.{block_term, let_term, right_term, with_term, parted_term, gen_term, part_term};
 ghost use Rattle.counted_code.specs.View.{code_term, code_right_term, code_with_term, code_parted_term};
+ghost use Rattle.ref_counts.specs.Endings.{ends_in};
+ghost use Rattle.ref_counts.specs.Owning.{IsSound, EndsOf};
 ghost use Rattle.ref_counts.specs.Pieces.{code_gen_term, code_part_term, placing_gen, placing_part};
 ghost use Rattle.ref_counts.specs.Placements.{ResultsPlaced, LetPlaced};
 ghost use Rattle.counted_placing.specs.Placing.{placing, placing_right};
 
-use crate::held::{Owned, add_vars, take_ending, take_unused, with_all};
-use crate::last::{LastUses, last_uses};
-use crate::split::needing_more;
-use crate::steps::{
-    among, copy_vars, count_uses, handed_on, push_binding, push_keeps, push_releases, read_from,
-};
+use crate::held::{Owned, add_vars, take_unused, with_all};
+use crate::steps::{copy_vars, count_uses, handed_on, may_end, push_binding, read_from};
 use crate::uses::add_uses;
 use core_ir::{Block, CoreGen, CorePart, Let, PartedLoop, Right, Var, WithLoop};
 use counted_code::{CodeBlock, CodeGen, CodePart, CodeParted, CodeRight, CodeStep, CodeWith};
+use ref_rules::{LastUses, last_uses, needing_more, push_keeps, push_releases};
 use sac_base::{Memory, copy_array, copy_type};
 use std::alloc::Global;
 
@@ -78,17 +77,34 @@ fn place_let(
     let mut dead = Vec::new(alloc);
     let live = take_unused(alloc, owned, last, from, &mut dead)?;
     push_releases(&dead, steps)?;
-    let handed = handed_on(alloc, &binding.right)?;
-    let read_from = read_from(&binding.right, from, to);
-    let may_end = among(&binding.right, &handed);
     let mut mine = Vec::new(alloc);
-    let stay = take_ending(alloc, live, last, read_from, may_end, &mut mine)?;
+    let stay = take_given(alloc, &binding.right, live, last, from, to, &mut mine)?;
+    let handed = handed_on(alloc, &binding.right)?;
     let more = needing_more(alloc, &handed, &mine)?;
     push_keeps(&more, steps)?;
     let right = place_right(alloc, &binding.right, &mine)?;
     let targets = copy_vars(alloc, &binding.targets)?;
     push_binding(targets, binding.site, right, steps)?;
     with_all(alloc, stay, last, &binding.targets)
+}
+
+/// Takes the variables out whose references end in the right side, and appends them to `mine`.
+fn take_given(
+    alloc: Global,
+    right: &Right,
+    live: Owned,
+    last: &LastUses,
+    from: usize,
+    to: usize,
+    mine: &mut Vec<Var>,
+) -> Result<Owned, Memory>
+    ensures { IsSound last.now live → IfOk result (λ t.
+        EndsOf last.now (ends_in last.now (right_term right.now) from to) live t mine.old.items mine.new.items) }
+{
+    if !may_end(right) {
+        return Ok(live);
+    }
+    take_unused(alloc, live, last, read_from(right, from, to), mine)
 }
 
 /// The right side, whose branches end the references of `mine`.

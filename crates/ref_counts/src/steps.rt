@@ -5,12 +5,9 @@ ghost use Rattle.core_ir.specs.View.{right_term};
 ghost use Rattle.counted_code.specs.Prompt.{uses_right, hands};
 ghost use Rattle.counted_code.specs.Terms.{Binding};
 ghost use Rattle.counted_code.specs.View.{code_right_term};
-ghost use Rattle.ref_counts.specs.Endings.{takes_all, among_list};
-ghost use Rattle.ref_counts.specs.Latest.{read_place};
-ghost use Rattle.ref_counts.specs.Placements.{Appended};
-ghost use Rattle.counted_placing.specs.Placing.{keeps, releases, is_conditional};
+ghost use Rattle.ref_counts.specs.Endings.{ends_some, read_place};
+ghost use Rattle.ref_rules.specs.Appending.{Appended};
 
-use crate::held::Among;
 use crate::uses::add_right;
 use core_ir::{Right, Var};
 use counted_code::{CodeLet, CodeRight, CodeStep};
@@ -46,15 +43,18 @@ pub fn handed_on(alloc: Global, right: &Right) -> Result<Vec<Var>, Memory>
     }
 }
 
-/// Whose references may end in the right side: those of what it hands on, and in a conditional, whose branches can release them, those of all.
-pub fn among<'a>(right: &Right, handed: &'a [Var]) -> Among<'a>
-    ensures all { takes_all result ≡ is_conditional (right_term right.now) }
-    ensures list { handed.now ≡ hands (right_term right.now) → among_list result ≡ handed.now }
+/// Whether references may end in the right side: it hands all on that it uses before `read_from`, or is a conditional, whose branches can release them.
+pub fn may_end(right: &Right) -> bool
+    ensures { result ≡ ends_some (right_term right.now) }
 {
-    match right {
-        Right::If { .. } => Among::All,
-        _ => Among::These(handed),
-    }
+    matches!(
+        right,
+        Right::Copy(_)
+            | Right::Check(..)
+            | Right::If { .. }
+            | Right::Loop { .. }
+            | Right::Call { .. }
+    )
 }
 
 /// The place of the first use that the right side does not hand on, or of the first use after a right side that hands on all or nothing.
@@ -65,26 +65,6 @@ pub fn read_from(right: &Right, from: usize, to: usize) -> usize
         Right::Loop { start, .. } => from.saturating_add(start.len()),
         _ => to,
     }
-}
-
-/// Appends a Release of each variable.
-pub fn push_releases(vars: &[Var], steps: &mut Vec<CodeStep>) -> Result<(), Memory>
-    ensures { IfOk result (λ done. Appended steps.old.items steps.new.items (releases vars.now)) }
-{
-    for x in vars {
-        steps.push(CodeStep::Release(*x))?;
-    }
-    Ok(())
-}
-
-/// Appends a Keep of each variable.
-pub fn push_keeps(vars: &[Var], steps: &mut Vec<CodeStep>) -> Result<(), Memory>
-    ensures { IfOk result (λ done. Appended steps.old.items steps.new.items (keeps vars.now)) }
-{
-    for x in vars {
-        steps.push(CodeStep::Keep(*x))?;
-    }
-    Ok(())
 }
 
 /// Appends a binding.

@@ -4,8 +4,7 @@ use Rattle.core_ir.specs.declared.tree.CoreGen.{out-CoreGen}
 use Rattle.core_ir.specs.Terms.{Gives, chain}
 use Rattle.core_ir.specs.View.{block_term, let_term, right_term}
 use Rattle.counted_code.specs.Prompt.{uses_right}
-use Rattle.ref_counts.specs.Endings.{takes_all, among_list}
-use Rattle.ref_counts.specs.Latest.{AreLast}
+use Rattle.ref_rules.specs.Latest.{AreLast}
 use Rattle.ref_counts.specs.Owning.{owned_vars}
 use Rattle.counted_placing.specs.Placing.{placing_right}
 use Rattle.ref_counts.proofs.Blocks.{fits, at_binding, at_let, all_uses, at_last, block_done, first_placed, item_here, next_placed}
@@ -68,17 +67,17 @@ place_block-loop-binding-preserved t c =
 
 pub place_let-returns : goal.place_let-returns
 place_let-returns t c us rest known sound e to =
-    let_done c.with_all.result c.args.last.now us c.args.from c.args.to c.read_from-read_from.result c.args.binding.now rest
-    c.new-dead.result.items c.take_unused.new.out.items c.deref.result.now c.in_ok-handed.handed.items (among_list c.among-may_end.result) c.deref-3.result.now c.new-mine.result.items c.take_ending.new.out.items c.deref-4.result.now c.deref-6.result.now
-    c.in_ok-more.more.items c.deref-5.result.now c.deref-7.result.now c.in_ok-targets.targets.items c.deref-8.result.now
-    c.args.owned c.in_ok-live.live c.in_ok-stay.stay (takes_all c.among-may_end.result) _ c.args.steps.now.items c.push_releases.new.steps.items c.push_keeps.new.steps.items c.push_binding.new.steps.items
+    let_done c.with_all.result c.args.last.now us c.args.from c.args.to c.args.binding.now rest
+    c.new-dead.result.items c.take_unused.new.out.items c.deref.result.now c.in_ok-handed.handed.items c.deref-2.result.now c.new-mine.result.items c.take_given.new.mine.items c.deref-3.result.now c.deref-5.result.now
+    c.in_ok-more.more.items c.deref-4.result.now c.deref-6.result.now c.in_ok-targets.targets.items c.deref-7.result.now
+    c.args.owned c.in_ok-live.live c.in_ok-stay.stay _ c.args.steps.now.items c.push_releases.new.steps.items c.push_keeps.new.steps.items c.push_binding.new.steps.items
     known sound e to (omega (arith, c.ranges.to.fits))
     c.new-dead.ensures.items c.in_ok-live.ensures c.deref.ensures.value c.in_ok-push_releases.ensures
-    c.in_ok-handed.ensures c.read_from-read_from.ensures c.among-may_end.ensures.all
-    c.new-mine.ensures.items (c.among-may_end.ensures.list (c.deref-2.ensures.value ∙ c.in_ok-handed.ensures) ∙ c.deref-2.ensures.value) c.in_ok-stay.ensures
-    c.deref-3.ensures.value c.deref-4.ensures.value c.in_ok-more.ensures c.deref-5.ensures.value c.in_ok-push_keeps.ensures
-    c.deref-6.ensures.value c.in_ok-right.ensures c.deref-7.ensures.value c.in_ok-targets.ensures c.in_ok-push_binding.ensures
-    c.deref-8.ensures.value c.with_all.ensures.vars c.with_all.ensures.sound
+    c.in_ok-handed.ensures
+    c.new-mine.ensures.items c.in_ok-stay.ensures
+    c.deref-2.ensures.value c.deref-3.ensures.value c.in_ok-more.ensures c.deref-4.ensures.value c.in_ok-push_keeps.ensures
+    c.deref-5.ensures.value c.in_ok-right.ensures c.deref-6.ensures.value c.in_ok-targets.ensures c.in_ok-push_binding.ensures
+    c.deref-7.ensures.value c.with_all.ensures.vars c.with_all.ensures.sound
 
 pub place_right-returns-in_ok-place_block-in-If-2 : goal.place_right-returns-in_ok-place_block-in-If-2
 place_right-returns-in_ok-place_block-in-If-2 t c =

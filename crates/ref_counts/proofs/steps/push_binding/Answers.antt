@@ -1,4 +1,4 @@
-use Rattle.ref_counts.proofs.Appended.{one_more}
+use Rattle.ref_rules.proofs.Appended.{one_more}
 use Rattle.ref_counts.proofs.steps.push_binding.Goals as goal
 
 pub returns : goal.returns

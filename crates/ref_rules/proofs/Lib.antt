@@ -1,0 +1,4 @@
+pub mod Appended
+pub mod Counted
+pub mod Recorded
+pub mod Taken
