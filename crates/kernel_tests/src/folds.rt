@@ -81,18 +81,8 @@ fn fold(
 // The steps of a body: its index, and one operator of two variables into variable 32.
 fn body(alloc: Global, op: Op, x: u32, y: u32) -> Vec<CodeStep> {
     let mut steps = Vec::new(alloc);
-    bound(
-        alloc,
-        &mut steps,
-        31,
-        CodeRight::Select(Var(30), Var(3)),
-    );
-    bound(
-        alloc,
-        &mut steps,
-        32,
-        CodeRight::Binary(op, Var(x), Var(y)),
-    );
+    bound(alloc, &mut steps, 31, CodeRight::Select(Var(30), Var(3)));
+    bound(alloc, &mut steps, 32, CodeRight::Binary(op, Var(x), Var(y)));
     steps
 }
 
@@ -147,7 +137,12 @@ fn a_fold_has_the_value_of_all_its_cells(rt: HostRuntime) {
 fn the_first_fault_of_a_cell_is_the_fold_s(rt: HostRuntime) {
     let alloc = rt.alloc();
     let mut steps = body(alloc, Op::Sub, 31, 1);
-    bound(alloc, &mut steps, 33, CodeRight::Binary(Op::Div, Var(6), Var(32)));
+    bound(
+        alloc,
+        &mut steps,
+        33,
+        CodeRight::Binary(Op::Div, Var(6), Var(32)),
+    );
     let quotients = fold(alloc, Op::Add, 3, (0, 3), steps, 33);
     assert!(rt;
         gives(
@@ -169,7 +164,12 @@ fn the_first_fault_of_a_cell_is_the_fold_s(rt: HostRuntime) {
         gives(
             alloc,
             elements,
-            &[(0, Ok(23)), (1, Ok(31)), (2, Err(OUTSIDE)), (-1, Err(OUTSIDE))]
+            &[
+                (0, Ok(23)),
+                (1, Ok(31)),
+                (2, Err(OUTSIDE)),
+                (-1, Err(OUTSIDE))
+            ]
         )
     );
 }
@@ -180,10 +180,25 @@ fn a_fold_within_a_fold_is_a_kernel(rt: HostRuntime) {
     let alloc = rt.alloc();
     let mut inner = Vec::new(alloc);
     bound(alloc, &mut inner, 41, CodeRight::Select(Var(30), Var(3)));
-    bound(alloc, &mut inner, 42, CodeRight::Binary(Op::Add, Var(41), Var(32)));
+    bound(
+        alloc,
+        &mut inner,
+        42,
+        CodeRight::Binary(Op::Add, Var(41), Var(32)),
+    );
     let mut steps = body(alloc, Op::Add, 31, 1);
-    bound(alloc, &mut steps, 33, fold(alloc, Op::Add, 3, (0, 2), inner, 42));
-    bound(alloc, &mut steps, 34, CodeRight::Binary(Op::Mul, Var(31), Var(33)));
+    bound(
+        alloc,
+        &mut steps,
+        33,
+        fold(alloc, Op::Add, 3, (0, 2), inner, 42),
+    );
+    bound(
+        alloc,
+        &mut steps,
+        34,
+        CodeRight::Binary(Op::Mul, Var(31), Var(33)),
+    );
     let nested = fold(alloc, Op::Add, 3, (1, 4), steps, 34);
     assert!(rt; gives(alloc, nested, &[(0, Ok(34)), (1, Ok(46))]));
 }
@@ -193,11 +208,21 @@ fn a_fold_within_a_fold_is_a_kernel(rt: HostRuntime) {
 fn a_fold_within_a_loop_is_a_kernel(rt: HostRuntime) {
     let alloc = rt.alloc();
     let mut test = Vec::new(alloc);
-    bound(alloc, &mut test, 50, CodeRight::Binary(Op::Lt, Var(11), Var(1)));
+    bound(
+        alloc,
+        &mut test,
+        50,
+        CodeRight::Binary(Op::Lt, Var(11), Var(1)),
+    );
     let mut turn = Vec::new(alloc);
     let sum = fold(alloc, Op::Add, 10, (1, 3), body(alloc, Op::Mul, 31, 4), 32);
     bound(alloc, &mut turn, 51, sum);
-    bound(alloc, &mut turn, 52, CodeRight::Binary(Op::Add, Var(11), Var(4)));
+    bound(
+        alloc,
+        &mut turn,
+        52,
+        CodeRight::Binary(Op::Add, Var(11), Var(4)),
+    );
     let mut results = one(alloc, Var(51));
     let _ = results.push(Var(52));
     let mut start = one(alloc, Var(3));
