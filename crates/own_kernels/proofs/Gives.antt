@@ -14,7 +14,7 @@ use Rattle.sac_base.specs.Outcomes.{Ends, and_then, at_site}
 use Rattle.sac_base.specs.Parts.{select}
 use Rattle.kernel_tree.specs.declared.tree.KernelStep.{KernelStep}
 use Rattle.kernel_tree.specs.declared.tree.KernelStep.TheVariants as step
-use Rattle.kernel_tree.specs.Terms.{Doing, KernelTerm, Over, LineThen, IfThen, TurnsThen, buffer, gives, line_gives, loop_gives, put, put_element, put_result, put_value, register, step_gives, turns_give, two}
+use Rattle.kernel_tree.specs.Terms.{Doing, KernelTerm, Over, LineThen, IfThen, TurnsThen, EachThen, buffer, each_gives, gives, numbers_between, line_gives, loop_gives, put, put_element, put_result, put_value, register, step_gives, turns_give, two}
 use Rattle.kernel_rows.specs.Kernels.{HasIndex}
 use Rattle.own_kernels.specs.Statements.{SameAt}
 use Rattle.own_kernels.specs.Steps.{is_own, own_load, own_step}
@@ -70,6 +70,11 @@ module _ (index : List ℤ) where
   loop_alike false turns site test test2 c body body2 tests bodies r has = turns_alike turns site test test2 c body body2 tests bodies r has
   loop_alike true turns site test test2 c body body2 tests bodies r has =
       then_alike (body r) (body2 r) _ _ (bodies r has) (turns_alike (turns - 1) site test test2 c body body2 tests bodies)
+
+  each_alike : (at : ℕ) (body body2 : Doing) → length index ≤ at → ((s : List ℤ) → HasIndex s index → Alike (body s) (body2 s)) → (ns r : List ℤ) → HasIndex r index → Alike (each_gives at body ns r) (each_gives at body2 ns r)
+  each_alike at body body2 le bodies [] r has = (refl, has)
+  each_alike at body body2 le bodies (n ∷ ns) r has =
+      then_alike (body (slice_set r at n)) (body2 (slice_set r at n)) _ _ (bodies (slice_set r at n) (put_holds r at n le has)) (each_alike at body body2 le bodies ns)
 
 -- ---- the components of the index
 
@@ -170,6 +175,13 @@ module _ (rank at : ℕ) (index : List ℤ) (long : length index ≡ rank) (bs c
       (loop_alike index first turns site (gives turns cs test) (gives turns bs test) c (gives turns cs body) (gives turns bs body)
       (λ u held. gives_alike turns test u (and_left (is_own rank at test) (is_own rank at body) both) held) (λ u held. gives_alike turns body u (and_right (is_own rank at test) (is_own rank at body) both) held) r has)
       (λ u held. gives_alike turns k u (and_right blocks (is_own rank at k) own) held)
+  gives_alike turns (EachThen i from to body k) r own has =
+      let inner = nat_le rank i && is_own rank at body in
+      let both = and_left inner (is_own rank at k) own in
+      then_alike index (each_gives i (gives turns cs body) (numbers_between from to) r) (each_gives i (gives turns bs body) (numbers_between from to) r) (gives turns cs k) (gives turns bs k)
+      (each_alike index i (gives turns cs body) (gives turns bs body) (le_to i (is_own rank at body) both)
+      (λ u held. gives_alike turns body u (and_right (nat_le rank i) (is_own rank at body) both) held) (numbers_between from to) r has)
+      (λ u held. gives_alike turns k u (and_right inner (is_own rank at k) own) held)
 
 pub gives_same : (turns rank at : ℕ) (k : KernelTerm) (index r : List ℤ) (bs cs : List ArrayValue) → is_own rank at k ≡ true → length index ≡ rank → HasIndex r index → SameAt at index bs cs → gives turns cs k r ≡ gives turns bs k r
 gives_same turns rank at k index r bs cs own long has same = (gives_alike rank at index long bs cs same turns k r own has).0

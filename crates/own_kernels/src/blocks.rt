@@ -1,6 +1,6 @@
 //! Blocks of steps.
 
-ghost use Rattle.std.specs.Prelude.{◌≡◌};
+ghost use Rattle.std.specs.Prelude.{◌≡◌, nat_le};
 ghost use Rattle.kernel_tree.specs.Terms.{Over};
 ghost use Rattle.kernel_tree.specs.View.{kernel_term, part_then};
 ghost use Rattle.own_kernels.specs.Steps.{is_own};
@@ -35,5 +35,15 @@ fn is_own_part(part: &KernelPart, rank: usize, buffer: u8) -> bool
         KernelPart::Turns { test, body, .. } => {
             is_own_block(test, rank, buffer) && is_own_block(body, rank, buffer)
         }
+        KernelPart::Each { index, body, .. } => {
+            is_behind(*index, rank) && is_own_block(body, rank, buffer)
+        }
     }
+}
+
+// Whether a register is none of an index of so many components.
+fn is_behind(register: u8, rank: usize) -> bool
+    ensures { result ≡ nat_le rank register }
+{
+    rank <= usize::from(register)
 }

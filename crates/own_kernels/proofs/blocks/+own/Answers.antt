@@ -3,7 +3,7 @@ use Rattle.kernel_tree.specs.declared.tree.KernelPart.{KernelPart}
 use Rattle.kernel_tree.specs.Terms.{Over}
 use Rattle.kernel_tree.specs.View.{kernel_term, parts_then}
 use Rattle.own_kernels.specs.Steps.{is_own}
-use Rattle.own_kernels.proofs.Parts.{not_own, own_if, own_next, own_turns}
+use Rattle.own_kernels.proofs.Parts.{not_own, own_each, own_if, own_next, own_turns}
 use Rattle.own_kernels.proofs.blocks.+own.Goals as goal
 
 pub is_own_block-returns-then-not-is_own_part : goal.is_own_block-returns-then-not-is_own_part
@@ -45,3 +45,17 @@ is_own_part-returns-else-is_own_block-2 t c =
     let second = is_own c.args.rank c.args.buffer (kernel_term i.body) in
     c.if-is_own_block-2.false
     ∙ sym (own_turns c.args.rank c.args.buffer c.args.part.now i.first_body i.test i.cond i.body i.site i.is ∙ ap (λ b. b && second) (sym c.is_own_block-in-Turns.ensures ∙ c.if-is_own_block-2.false))
+
+pub is_own_part-returns-then-is_behind : goal.is_own_part-returns-then-is_behind
+is_own_part-returns-then-is_behind t c =
+    let i = c.in-Each in
+    let second = is_own c.args.rank c.args.buffer (kernel_term i.body) in
+    c.is_own_block-then-is_behind.ensures
+    ∙ sym (own_each c.args.rank c.args.buffer c.args.part.now i.index i.from i.to i.body i.is ∙ ap (λ b. b && second) (sym c.is_behind.ensures ∙ c.if-is_behind.true))
+
+pub is_own_part-returns-else-is_behind : goal.is_own_part-returns-else-is_behind
+is_own_part-returns-else-is_behind t c =
+    let i = c.in-Each in
+    let second = is_own c.args.rank c.args.buffer (kernel_term i.body) in
+    c.if-is_behind.false
+    ∙ sym (own_each c.args.rank c.args.buffer c.args.part.now i.index i.from i.to i.body i.is ∙ ap (λ b. b && second) (sym c.is_behind.ensures ∙ c.if-is_behind.false))
