@@ -17,7 +17,7 @@ use std::alloc::Global;
 use unreached_functions::empty_unreached;
 
 /// The most bindings that are put into all functions together.
-const MOST_IN_ALL: u64 = 4_194_304;
+const MOST_IN_ALL: u64 = 1_048_576;
 
 /// Inlines calls of inline functions: each becomes checks of the arguments, the function's body with other variables, and checks of its results.
 ///
@@ -31,7 +31,7 @@ const MOST_IN_ALL: u64 = 4_194_304;
 ///
 /// # Errors
 ///
-/// `Memory`, also where more than 4,194,304 bindings would be put into all functions together.
+/// `Memory`, also where more than 1,048,576 bindings would be put into all functions together.
 pub fn inline_all(alloc: Global, core: Core) -> Result<Core, Memory>
     ensures outcome { IsWellFormed (core_term core) → IfOk result (λ c. SameOutcome (core_term core) (core_term c)) }
     ensures outside { IfOk result (λ c. SameOutside (core_term core) (core_term c)) }

@@ -18,7 +18,7 @@ pub struct Given<'a> {
 
 // The most variables that are made in all functions of a core before a with-loop counts as one for which there is no memory. A body is copied for each
 // part of each with-loop around it, so a source of some kilobytes may ask for more than any machine has.
-const MOST_MADE: u64 = 4_194_304;
+const MOST_MADE: u64 = 1_048_576;
 
 impl Given<'_> {
     /// Whether no more with-loops are replaced, where the next variable that is made has this number.

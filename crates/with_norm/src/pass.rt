@@ -29,7 +29,7 @@ use variable_bases::{BaseTable, Signatures};
 /// # Errors
 ///
 /// `Memory`: there is none for a loop or for what is known of a variable, a function would need more than 2^32 variables, or a with-loop could become a
-/// parted loop after more than 4,194,304 variables were made for others in one round.
+/// parted loop after more than 1,048,576 variables were made for others in one round.
 pub fn normalise(alloc: Global, core: Core) -> Result<(Core, u64), Memory>
     ensures outcome { IsWellFormed (core_term core) → IfOk result (λ new. SameOutcomeOnArrays (core_term core) (core_term new.0)) }
     ensures outside { IfOk result (λ new. SameOutside (core_term core) (core_term new.0)) }
