@@ -1,4 +1,4 @@
-//! Programs whose loops are marked, run by one thread.
+//! Compiled programs with loops that may take over an array, run by one thread.
 
 ghost use Rattle.std.specs.Prelude.{IfOk};
 ghost use Rattle.sac_ast.specs.View.{program as tree};
@@ -9,7 +9,6 @@ ghost use Rattle.counted_marks.specs.Marks.{IsWellMarked};
 
 use crate::making::vector;
 use buffer_heap::Heap;
-use buffer_reuse::mark_reuse;
 use counted_code::Code;
 use run_eval::{Plan, Stop, Trace, run};
 use sac_ast::Program;
@@ -84,8 +83,8 @@ fn program(alloc: Global, source: &[u8]) -> Result<Program, Memory>
     }
 }
 
-/// The code of a source for arguments of these forms, with its loops marked.
-fn marked_code(alloc: Global, source: &[u8], forms: &[Form]) -> Result<Code, Memory>
+/// The code of a source for arguments of these forms.
+fn code_of(alloc: Global, source: &[u8], forms: &[Form]) -> Result<Code, Memory>
     ensures counted { IfOk result (λ code. IsWellCounted (code_program code)) }
     ensures marked { IfOk result (λ code. IsWellMarked (code_program code)) }
 {
@@ -94,8 +93,7 @@ fn marked_code(alloc: Global, source: &[u8], forms: &[Form]) -> Result<Code, Mem
         Ok(checked) => checked,
         Err(_) => return Err(Memory),
     };
-    let compiled = compile(alloc, &checked, forms)?;
-    mark_reuse(alloc, compiled.code)
+    Ok(compile(alloc, &checked, forms)?.code)
 }
 
 /// Results, or a fault.
@@ -131,7 +129,7 @@ type Counters = (u64, u64, u64, u64, u64);
 // Whether a program has this answer on the input, and what its run leaves.
 fn ran(alloc: Global, source: &str, wanted: Wanted<'_>) -> Result<(bool, Counters), Memory> {
     let input = vector(alloc, &INPUT)?;
-    let code = marked_code(alloc, source.as_bytes(), &[input.form()])?;
+    let code = code_of(alloc, source.as_bytes(), &[input.form()])?;
     let args = vec![in alloc; input]?;
     let mut heap = Heap::new(alloc);
     let mut trace = Trace::new();

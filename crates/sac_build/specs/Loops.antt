@@ -9,6 +9,7 @@ use Rattle.core_ir.specs.Outcome.{outcome}
 use Rattle.core_ir.specs.Terms.{CoreTerm}
 use Rattle.core_ir.specs.WellFormed.{IsWellFormed}
 use Rattle.counted_code.specs.Terms.{CodeProgram, core_of_code}
+use Rattle.counted_marks.specs.Marks.{HasNoneLeft}
 use Rattle.with_norm.specs.Normed.{AllNormal}
 use Rattle.scalarise.specs.Scalarised.{NoneLeft}
 use Rattle.wl_folding.specs.Folded.{HasNoPairs}
@@ -27,6 +28,10 @@ HasNoFoldablePair code = HasNoPairs (core_of_code code)
 -- In no block is a loop left that can be merged with the ones in its cells, but for those that would get grids of more than 8 axes.
 abbrev pub HasNoMergeableNest : CodeProgram → Type 0
 HasNoMergeableNest code = NoneLeft (core_of_code code)
+
+-- no loop without a mark has an array that it may take over for its result
+abbrev pub HasNoReuseCandidate : CodeProgram → Type 0
+HasNoReuseCandidate code = HasNoneLeft code
 
 -- The code came by turns, with so many fold steps and merge steps in all, from a core that has the outcome of the program on all arguments that are arrays of
 -- these forms.

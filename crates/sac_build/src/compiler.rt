@@ -7,13 +7,15 @@ ghost use Rattle.sac_ast.specs.View.{program as tree};
 ghost use Rattle.source_meaning.specs.Calls.{outcome};
 ghost use Rattle.core_acceptance.specs.Formed.{ProgramFormed};
 ghost use Rattle.counted_code.specs.View.{code_program};
-ghost use Rattle.counted_code.specs.Counts.{IsWellCounted, IsUnmarked};
+ghost use Rattle.counted_code.specs.Counts.{IsWellCounted};
 ghost use Rattle.counted_code.specs.Prompt.{IsPrompt};
 ghost use Rattle.counted_code.specs.Outcome.{whole_run, outcome_of};
+ghost use Rattle.counted_marks.specs.Marks.{IsWellMarked};
 ghost use Rattle.sac_build.specs.Arguments.{AreArrays};
-ghost use Rattle.sac_build.specs.Loops.{CameFrom, HasNoFoldablePair, HasNoMergeableNest, HasNormalLoops};
+ghost use Rattle.sac_build.specs.Loops.{CameFrom, HasNoFoldablePair, HasNoMergeableNest, HasNoReuseCandidate, HasNormalLoops};
 ghost use Rattle.sac_build.specs.Mains.{MainTakesForms};
 
+use buffer_reuse::mark_reuse;
 use const_shape::propagate;
 use counted_code::Code;
 use inline_calls::inline_all;
@@ -37,8 +39,9 @@ pub struct Compiled {
 
 /// Compiles an accepted program for arguments of these forms.
 ///
-/// No loop in the code is marked. Where the program has the form that the grammar gives, the code is well counted and prompt, and on all arguments
-/// that are arrays of these forms and under all limits its outcome on the machine is that of the program, faults and their sites included. Where the
+/// Each mark in the code is an array that its loop may take over for its result, and no loop without a mark has such an array. Where the program has the
+/// form that the grammar gives, the code is well counted and prompt, and on all arguments that are arrays of these forms and under all limits its
+/// outcome on the machine is that of the program, faults and their sites included. Where the
 /// types of the program's main contain these forms, main of the code takes arrays of these forms alone. In a function in which no right side always
 /// faults, no with-loop is left that can become a parted loop. No pair of parted loops is left that can be folded, but for those whose producer has a
 /// bound too far from 0 or a frame with gaps, and those whose consumer would get more than 64 parts. No loop is left that can be merged with the ones
@@ -52,7 +55,8 @@ pub struct Compiled {
 pub fn compile(alloc: Global, checked: &Checked, forms: &[Form]) -> Result<Compiled, Memory>
     ensures counted { ProgramFormed (tree checked.now.program) → IfOk result (λ c. IsWellCounted (code_program c.code)) }
     ensures prompt { ProgramFormed (tree checked.now.program) → IfOk result (λ c. IsPrompt (code_program c.code)) }
-    ensures unmarked { IfOk result (λ c. IsUnmarked (code_program c.code)) }
+    ensures marked { IfOk result (λ c. IsWellMarked (code_program c.code)) }
+    ensures candidates { IfOk result (λ c. HasNoReuseCandidate (code_program c.code)) }
     ensures outcome { ProgramFormed (tree checked.now.program) → (args : List ArrayValue) (caps : Caps) → AreArrays args → map form_of args ≡ forms.now
         → IfOk result (λ c. outcome_of (whole_run (code_program c.code) args caps) ≡ outcome (tree checked.now.program) args caps) }
     ensures main { ProgramFormed (tree checked.now.program) → IfOk result (λ c. MainTakesForms (tree checked.now.program) forms.now (code_program c.code)) }
@@ -67,7 +71,8 @@ pub fn compile(alloc: Global, checked: &Checked, forms: &[Form]) -> Result<Compi
     let special = specialise(alloc, inlined, forms)?;
     let settled = propagate(alloc, special)?;
     let loops = optimise_loops(alloc, settled)?;
-    let code = count_refs(alloc, loops.core)?;
+    let counted = count_refs(alloc, loops.core)?;
+    let code = mark_reuse(alloc, counted)?;
     Ok(Compiled {
         code,
         folded: loops.folded,

@@ -19,6 +19,8 @@ pub enum Directive<'a> {
     Run(&'a str),
     /// Runs the case with each of these numbers of workers, and says how many phases there were.
     Phases(&'a str),
+    /// Runs the case with each of these numbers of workers, and says how many phases there were and how many buffers were taken, given back and reused.
+    Counters(&'a str),
     /// Runs the case with two workers, of which each chunk waits for the other one.
     Meet,
     /// Runs the case with so many workers, where one chunk waits until another one has begun: the numbers of the two chunks, and of the workers.
@@ -53,6 +55,7 @@ impl<'a> Directive<'a> {
             "bytes" => Directive::Bytes(rest),
             "run" => Directive::Run(rest),
             "phases" => Directive::Phases(rest),
+            "counters" => Directive::Counters(rest),
             "hold" => Directive::Hold(rest),
             "devices" => match rest.split_once(' ') {
                 Some((fetch, call)) => Directive::Devices(number(fetch), number(call)),

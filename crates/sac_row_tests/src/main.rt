@@ -47,6 +47,7 @@ fn run_case<R: Threads + Sync + Print>(
     match directive {
         Directive::Run(workers) => runs::with_workers(rt, alloc, case, workers),
         Directive::Phases(workers) => runs::of_phases(rt, alloc, case, workers),
+        Directive::Counters(workers) => runs::of_counters(rt, alloc, case, workers),
         Directive::Meet => runs::of_meeting(rt, alloc, case),
         Directive::Hold(numbers) => runs::of_holding(rt, alloc, case, numbers),
         Directive::Devices(fetch, call) => {

@@ -14,11 +14,15 @@ use std::thread::Threads;
 /// More bytes than any text of these cases has.
 const ROOM: u64 = 1_000_000;
 
-// What a run leaves: its exit status, how many buffers its heap holds, and how many phases and draws its tally counts.
+// What a run leaves: its exit status, how many buffers its heap holds, how many of them its trace says were taken, given back and reused, and how many
+// phases and draws its tally counts.
 #[derive(Clone, Copy)]
 struct Ran {
     status: u8,
     live: u64,
+    taken: u64,
+    given: u64,
+    reused: u64,
     phases: u64,
     draws: u64,
 }
@@ -46,6 +50,9 @@ fn run_behind<G: Gate, R: Threads + Sync>(
     Some(Ran {
         status: status.code(),
         live: heap.live(),
+        taken: trace.taken,
+        given: trace.given,
+        reused: trace.reused,
         phases: trace.tally.phases(),
         draws: trace.tally.draws(),
     })
@@ -88,6 +95,13 @@ fn show_phases<R: Print>(rt: &R, sink: &MemSink, ran: &Ran) -> Option<()> {
     println!(rt; "status {status}, buffers {live}, phases {phases}").ok()
 }
 
+// The same with the numbers of buffers that were taken, given back and reused.
+fn show_counters<R: Print>(rt: &R, sink: &MemSink, ran: &Ran) -> Option<()> {
+    show_phases(rt, sink, ran)?;
+    let (taken, given, reused) = (ran.taken, ran.given, ran.reused);
+    println!(rt; "taken {taken}, given {given}, reused {reused}").ok()
+}
+
 /// Runs the case with each of these numbers of workers.
 pub fn with_workers<R: Threads + Sync + Print>(
     rt: &R,
@@ -116,6 +130,22 @@ pub fn of_phases<R: Threads + Sync + Print>(
         let mut sink = MemSink::new(alloc, ROOM, Vec::new(alloc));
         let ran = run(rt, alloc, case.words.as_str(), count, &mut files, &mut sink)?;
         show_phases(rt, &sink, &ran)?;
+    }
+    Some(())
+}
+
+/// Runs the case with each of these numbers of workers, and prints how many buffers were taken, given back and reused.
+pub fn of_counters<R: Threads + Sync + Print>(
+    rt: &R,
+    alloc: Global,
+    case: &Case,
+    workers: &str,
+) -> Option<()> {
+    for count in workers.split_whitespace() {
+        let mut files = case.files(alloc, Vec::new(alloc))?;
+        let mut sink = MemSink::new(alloc, ROOM, Vec::new(alloc));
+        let ran = run(rt, alloc, case.words.as_str(), count, &mut files, &mut sink)?;
+        show_counters(rt, &sink, &ran)?;
     }
     Some(())
 }

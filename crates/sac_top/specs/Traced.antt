@@ -14,15 +14,16 @@ use Rattle.counted_code.specs.declared.tree.Code.{Code}
 use Rattle.counted_code.specs.declared.tree.Cost.{Cost}
 use Rattle.counted_code.specs.Terms.{CodeProgram}
 use Rattle.counted_code.specs.View.{code_program}
-use Rattle.counted_code.specs.Counts.{IsWellCounted, IsUnmarked}
+use Rattle.counted_code.specs.Counts.{IsWellCounted}
 use Rattle.counted_code.specs.Prompt.{IsPrompt}
 use Rattle.counted_code.specs.Outcome.{whole_run, outcome_of, cost_of, phases_of}
+use Rattle.counted_marks.specs.Marks.{IsWellMarked}
 use Rattle.phase_count.specs.Tallies.{draws_of}
 use Rattle.run_eval.specs.declared.trace.Trace.{Trace}
 use Rattle.run_eval.specs.Outcomes.{HasCounters}
 use Rattle.sac_words.specs.Meaning.{Meant, file}
 use Rattle.sac_build.specs.Arguments.{AreArrays}
-use Rattle.sac_build.specs.Loops.{HasNormalLoops, HasNoFoldablePair, HasNoMergeableNest, CameFrom}
+use Rattle.sac_build.specs.Loops.{HasNormalLoops, HasNoFoldablePair, HasNoMergeableNest, HasNoReuseCandidate, CameFrom}
 use Rattle.sac_build.specs.Mains.{MainTakesForms}
 use Rattle.sac_due.specs.Report.{Numbers}
 use Rattle.sac_due.specs.Source.{IsProgramOf}
@@ -46,20 +47,21 @@ IsRunStatus Faulted = ⊤
 IsRunStatus Limit = ⊤
 IsRunStatus _ = ⊥
 
--- Code for a program and arguments of these forms: it is well counted and prompt, no loop in it is marked, and on all arguments that are arrays of
--- these forms and under all limits its outcome on the machine is that of the program. Where the types of the program's main contain the forms, its main
--- takes arrays of these forms alone. In a function in which no right side always faults, no with-loop is left that can become a parted loop, and in none
--- a pair of parted loops that can be folded, or a loop that can be merged with the ones in its cells, but for the few that HasNoFoldablePair and
--- HasNoMergeableNest name.
+-- Code for a program and arguments of these forms: it is well counted, prompt and well marked, and on all arguments that are arrays of these forms and
+-- under all limits its outcome on the machine is that of the program. Where the types of the program's main contain the forms, its main takes arrays of
+-- these forms alone. In a function in which no right side always faults, no with-loop is left that can become a parted loop, and in none a pair of parted
+-- loops that can be folded, or a loop that can be merged with the ones in its cells, but for the few that HasNoFoldablePair and HasNoMergeableNest name.
+-- No loop without a mark has an array that it may take over for its result.
 pub record IsCodeFor (p : ProgramTree) (forms : List Form) (code : CodeProgram) : Type 0 where
   pub counted : IsWellCounted code
   pub prompt : IsPrompt code
-  pub unmarked : IsUnmarked code
+  pub marked : IsWellMarked code
   pub outcome : (args : List ArrayValue) (caps : Caps) → AreArrays args → map form_of args ≡ forms → outcome_of (whole_run code args caps) ≡ outcome p args caps
   pub main : MainTakesForms p forms code
   pub normal : HasNormalLoops code
   pub pairs : HasNoFoldablePair code
   pub nests : HasNoMergeableNest code
+  pub candidates : HasNoReuseCandidate code
 
 -- the trace's four numbers of a run are the cost
 abbrev pub HasCost : Trace → Cost → Type 0

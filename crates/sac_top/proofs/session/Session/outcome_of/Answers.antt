@@ -2,7 +2,6 @@ use Rattle.std.proofs.Common.{sym, ap, map, subst, ◌∙◌}
 use Rattle.std.proofs.lemmas.Result.{IfOk-weaker}
 use Rattle.sac_base.specs.Arrays.{form_of}
 use Rattle.counted_code.specs.View.{code_program}
-use Rattle.counted_marks.proofs.WithoutMarks.{unmarked_well}
 use Rattle.core_source_laws.proofs.Cores.{source_formed}
 use Rattle.sac_build.specs.Loops.{CameFrom}
 use Rattle.sac_build.specs.Mains.{MainTakesForms}
@@ -17,7 +16,7 @@ pub run-result-requires-clause-counted : goal.run-result-requires-clause-counted
 run-result-requires-clause-counted g c κs within = c.in_ok-compiled.ensures.counted (source_formed c.requires.ready.read.0 _ c.requires.ready.read.1)
 
 pub run-result-requires-clause-marked : goal.run-result-requires-clause-marked
-run-result-requires-clause-marked g c κs within = unmarked_well (code_program c.in_ok-compiled.compiled.code) c.in_ok-compiled.ensures.unmarked
+run-result-requires-clause-marked g c κs within = c.in_ok-compiled.ensures.marked
 
 pub returns-clause-outcome : goal.returns-clause-outcome
 returns-clause-outcome g c =
@@ -34,12 +33,13 @@ returns-clause-traced g c =
     (record {
       counted = c.in_ok-compiled.ensures.counted formed;
       prompt = c.in_ok-compiled.ensures.prompt formed;
-      unmarked = c.in_ok-compiled.ensures.unmarked;
+      marked = c.in_ok-compiled.ensures.marked;
       outcome = λ args caps arrays same. c.in_ok-compiled.ensures.outcome formed args caps arrays (same ∙ forms);
       main = subst (λ fs. MainTakesForms (program_of c.args.job.now) fs (code_program c.in_ok-compiled.compiled.code)) (sym forms) (c.in_ok-compiled.ensures.main formed);
       normal = c.in_ok-compiled.ensures.normal formed;
       pairs = c.in_ok-compiled.ensures.pairs formed;
       nests = c.in_ok-compiled.ensures.nests formed;
+      candidates = c.in_ok-compiled.ensures.candidates;
     })
     c.run-result.ensures.outcome c.run-result.ensures.cost c.run-result.ensures.tally c.run-result.ensures.counters
     (subst (λ fs. CameFrom (program_of c.args.job.now) fs c.in_ok-compiled.compiled.folded c.in_ok-compiled.compiled.scalarised (code_program c.in_ok-compiled.compiled.code)) (sym forms)
