@@ -1,6 +1,6 @@
 //! Loops outside of cells, as a call runs them.
 
-ghost use Rattle.phase_workers.specs.Calls.{IsRun};
+ghost use Rattle.phase_books.specs.Calls.{IsRun};
 ghost use Rattle.run_eval.specs.Jobs.{job_of};
 
 use run_eval::{CellLoop, Context, Phases, State};
