@@ -5,7 +5,7 @@ ghost use Rattle.counted_code.specs.Counts.{IsWellCounted};
 ghost use Rattle.counted_code.specs.Outcome.{cost_of, outcome_of, whole_run};
 ghost use Rattle.counted_code.specs.View.{code_program};
 ghost use Rattle.counted_marks.specs.Marks.{IsWellMarked};
-ghost use Rattle.phase_books.specs.Calls.{IsRun};
+ghost use Rattle.phase_books.specs.Calls.{IsRun, IsRunOver};
 ghost use Rattle.run_eval.specs.Jobs.{job_of};
 ghost use Rattle.run_eval.specs.Outcomes.{new_heap, IsCleared, HasCounters, KeepsChanges, TellsCost, TellsTally, draws_under};
 ghost use Rattle.array_ops.specs.Tells.{TellsItems};
@@ -15,7 +15,7 @@ use buffer_heap::Heap;
 use counted_code::Code;
 use phase_books::{LoopCall, Nesting, Workers};
 use phase_team::Gate;
-use run_eval::{CellLoop, Context, Plan, State, Trace, run_with_phases};
+use run_eval::{CellLoop, Context, Plan, State, Trace, run_over_in_order, run_with_phases};
 use run_values::RunValue;
 use sac_base::{Array, Stop};
 use std::alloc::Global;
@@ -62,6 +62,11 @@ pub fn run<G: Gate, R: Threads + Sync>(
         >
             ensures { IsRun (λ e m. job_of context.now e m work.now) state.old result state.new }
         { loop_outside(&workers, work, context, state) },
+        over: |work: &CellLoop<'_>, array: RunValue, context: &Context<'_>, state: &mut State<
+            '_,
+        >| -> Result<RunValue, Stop>
+            ensures { IsRunOver context.now work.now array state.old result state.new }
+        { run_over_in_order(work, array, context, state) },
     };
     run_with_phases(alloc, code, args, heap, plan, calls, trace)
 }
