@@ -25,7 +25,7 @@ use Rattle.run_eval.specs.Loops.{part_held}
 use Rattle.phase_loop_cells.specs.Cells.{as_cell, index_at, parts_cell}
 use Rattle.phase_loop_cells.specs.Opened.{lent_env, meaning_in}
 use Rattle.phase_workers.specs.Covered.{AreCovered, EndsIf, must_be_there, no_cell}
-use Rattle.phase_workers.specs.Homes.{ComputesAll}
+use Rattle.phase_books.specs.Homes.{ComputesAll}
 
 -- ---- cells that are there
 

@@ -1,6 +1,6 @@
 -- What a phase of workers tells of the machine.
 use Rattle.std.proofs.Common.{◌≡◌, ℕ, Bool, true, false, List, [], ◌∷◌, ◌++◌, length, take, ℤ, Option, Some, None, Result, Ok, Err, refl, ap, ◌∙◌, sym, subst}
-use Rattle.std.specs.Prelude.{IfOk, IsSomeAnd, IsTrue, not}
+use Rattle.std.specs.Prelude.{IsSomeAnd, IsTrue, not}
 use Rattle.std.proofs.Math.ListN.{get_or}
 use Rattle.std.proofs.Math.Seq.{take-append_seam}
 use Rattle.buffer_heap.specs.declared.heap.BufferId.{BufferId}
@@ -17,9 +17,7 @@ use Rattle.counted_code.specs.View.{code_program}
 use Rattle.phase_laws.specs.Spending.{gens_take}
 use Rattle.run_store.specs.Lents.{LentValue, Lender}
 use Rattle.run_store.specs.Stands.{StandsFor, Stands, lender_in}
-use Rattle.run_store.specs.Targets.{IsClaimed, target_at, target_of}
-use Rattle.run_store.specs.declared.target.Target.{Target}
-use Rattle.sac_base.specs.declared.memory.Memory as memory
+use Rattle.run_store.specs.Targets.{target_at}
 use Rattle.run_store.specs.declared.store.Store.{Store}
 use Rattle.run_store.proofs.Opening.{main_stands}
 use Rattle.run_values.specs.declared.value.RunValue.{RunValue}
@@ -48,11 +46,11 @@ use Rattle.phase_loop_laws.proofs.Results.{array_made}
 use Rattle.phase_loop_cells.specs.declared.copies.Background.{Background}
 use Rattle.phase_loop_cells.specs.Cells.{as_cell, gens_cell, gens_taken}
 use Rattle.phase_loop_cells.specs.Opened.{GensIn, lent_env, meaning_in, spending_in}
-use Rattle.phase_workers.specs.Alive.{AreAlive, IsAlive}
-use Rattle.phase_workers.specs.Homes.{ComputesAll, handed}
+use Rattle.phase_books.specs.Alive.{AreAlive, IsAlive}
+use Rattle.phase_books.specs.Homes.{ComputesAll, handed}
+use Rattle.phase_books.proofs.Beginning.{claim_phases}
 use Rattle.phase_workers.proofs.Handing.{handed_stands}
 use Rattle.phase_workers.proofs.Openings.{AreReferred, alone_gens}
-use Rattle.phase_count.specs.Tallies.{Counts}
 use Rattle.phase_count.proofs.Tallying.{counts_as, counts_on}
 
 -- ---- variables that stay alive
@@ -88,20 +86,6 @@ computed_as cells h n es r t same computed = subst (ComputesAll cells h n es) sa
 
 pub taken_back : (rest : List ℤ) (n : ℕ) (cells : List ℤ) → length cells ≡ n → take n (cells ++ rest) ≡ cells
 taken_back rest n cells same = ap (λ k. take k (cells ++ rest)) (sym same) ∙ take-append_seam cells rest
-
--- ---- results that are begun
-
-claim_phases : (small : Bool) (n : ℕ) (k : Heap) → (claim small None n k).heap.phases ≡ k.phases
-claim_phases true n k = refl
-claim_phases false n k = refl
-
-pub begun_claim : (r : Result Target memory.Memory) (s : State) (h : Store) (small : Bool) (n : ℕ) (k : Heap) → Counts s.phases k.phases → IfOk r (λ t. IsClaimed t h (claim small None n k)) → IfOk r (λ t. IsBegun (target_of t) (record s { heap = h }) (claim small None n k))
-begun_claim (Err e) s h small n k phases claimed = tt
-begun_claim (Ok t) s h small n k phases claimed = record {
-  target = claimed.target;
-  rest = claimed.rest;
-  stands = record { heap = claimed.heap; phases = counts_on s.phases k.phases (claim small None n k).heap.phases (sym (claim_phases small n k)) phases };
-}
 
 -- ---- cells, in the words of both
 

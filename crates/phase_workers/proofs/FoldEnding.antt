@@ -49,8 +49,8 @@ use Rattle.phase_loop_laws.proofs.Jobs.{phase_ends}
 use Rattle.phase_loop_laws.proofs.Places.{costs_in_all}
 use Rattle.phase_loop_cells.specs.Cells.{as_cell, gens_cell, gens_taken}
 use Rattle.phase_loop_cells.specs.Opened.{GensIn, lent_env, meaning_in, spending_in}
-use Rattle.phase_workers.specs.Alive.{AreAlive}
-use Rattle.phase_workers.specs.Homes.{CombinesAll, IsBehind, handed}
+use Rattle.phase_books.specs.Alive.{AreAlive}
+use Rattle.phase_books.specs.Homes.{CombinesAll, IsBehind, handed}
 use Rattle.phase_workers.proofs.Handing.{handed_stands}
 use Rattle.phase_workers.proofs.Openings.{AreReferred, alone_gens}
 use Rattle.phase_count.proofs.Tallying.{counts_as, counts_on}

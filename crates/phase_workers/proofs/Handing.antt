@@ -5,7 +5,7 @@ use Rattle.buffer_heap.specs.Heaps.{Held, HeapValue, at}
 use Rattle.counted_code.specs.Values.{Buffer, Heap, buffer_at}
 use Rattle.run_store.specs.Stands.{Stored, StandsFor}
 use Rattle.phase_loop_laws.specs.Ordered.{Passed}
-use Rattle.phase_workers.specs.Homes.{IsBehind, handed}
+use Rattle.phase_books.specs.Homes.{IsBehind, handed}
 use Rattle.phase_workers.proofs.Openings.{AreReferred}
 
 -- counters modulo 2^64 that are added

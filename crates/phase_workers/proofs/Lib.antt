@@ -1,5 +1,4 @@
-mod Booking
-mod Counters
+mod Believing
 mod Covering
 mod Ending
 mod FoldEnding

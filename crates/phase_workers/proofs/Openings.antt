@@ -24,7 +24,7 @@ use Rattle.run_eval.specs.Running.{calls_in, generator_in}
 use Rattle.phase_checks.specs.Terms.{gens_term}
 use Rattle.phase_loop_laws.specs.Ordered.{StandsAlone, balanced}
 use Rattle.phase_loop_cells.specs.Opened.{GensIn, OpenGens, named, cells_in, lent_array, lent_env, meaning_in, spending_in}
-use Rattle.phase_workers.specs.Alive.{IsAlive, AreAlive}
+use Rattle.phase_books.specs.Alive.{IsAlive, AreAlive}
 use Rattle.phase_kernels.proofs.Named.{AreSingle, named_there, some_there}
 use Rattle.phase_workers.proofs.Machines.{machine_of, stands_for_machine}
 

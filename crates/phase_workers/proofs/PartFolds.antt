@@ -42,8 +42,8 @@ use Rattle.phase_loop_laws.proofs.Jobs.{phase_ends}
 use Rattle.phase_loop_laws.proofs.Places.{costs_in_all}
 use Rattle.phase_loop_cells.specs.Cells.{parts_cell, parts_taken}
 use Rattle.phase_loop_cells.specs.Opened.{PartsIn, lent_env, meaning_in, spending_in}
-use Rattle.phase_workers.specs.Alive.{AreAlive}
-use Rattle.phase_workers.specs.Homes.{CombinesAll, handed}
+use Rattle.phase_books.specs.Alive.{AreAlive}
+use Rattle.phase_books.specs.Homes.{CombinesAll, handed}
 use Rattle.phase_workers.proofs.FoldEnding.{phase_faulted, phase_finished, same_cell, whole_of}
 use Rattle.phase_workers.proofs.Openings.{AreReferred}
 use Rattle.phase_workers.proofs.PartedEnding.{alone_parts}

@@ -43,8 +43,8 @@ use Rattle.phase_loop_laws.proofs.Places.{costs_in_all}
 use Rattle.phase_loop_laws.proofs.Results.{parts_made}
 use Rattle.phase_loop_cells.specs.Cells.{as_cell, parts_cell, parts_taken}
 use Rattle.phase_loop_cells.specs.Opened.{OpenParts, PartsIn, lent_env, meaning_in, spending_in}
-use Rattle.phase_workers.specs.Alive.{AreAlive}
-use Rattle.phase_workers.specs.Homes.{ComputesAll, handed}
+use Rattle.phase_books.specs.Alive.{AreAlive}
+use Rattle.phase_books.specs.Homes.{ComputesAll, handed}
 use Rattle.phase_workers.proofs.Ending.{own_stands}
 use Rattle.phase_workers.proofs.Handing.{handed_stands}
 use Rattle.phase_kernels.proofs.Named.{AreSingle}

@@ -1,4 +1,1 @@
-pub mod Alive
-pub mod Calls
 pub mod Covered
-pub mod Homes

@@ -9,8 +9,8 @@ ghost use Rattle.counted_code.specs.View.{code_program};
 ghost use Rattle.phase_loop_cells.specs.Cells.{gens_cell, gens_taken};
 ghost use Rattle.phase_loop_cells.specs.Opened.{GensIn, OpenGens};
 ghost use Rattle.phase_checks.specs.Terms.{gens_term};
-ghost use Rattle.phase_workers.specs.Alive.{AreAlive};
-ghost use Rattle.phase_workers.specs.Homes.{ComputesAll, IsBooked, left_in, new_behind};
+ghost use Rattle.phase_books.specs.Alive.{AreAlive};
+ghost use Rattle.phase_books.specs.Homes.{ComputesAll, IsBooked, left_in, new_behind};
 ghost use Rattle.run_eval.specs.Running.{IsAt, IsValue, Told, SameScopes, array_job};
 ghost use Rattle.run_store.specs.Stands.{lender_of};
 ghost use Rattle.run_values.specs.Scopes.{current};
@@ -18,12 +18,13 @@ ghost use Rattle.sac_base.specs.Arrays.{size};
 ghost use Rattle.array_with_loops.specs.Plans.{plan_of};
 ghost use Rattle.phase_team.specs.Segments.{cells_from, cost_from};
 
-use crate::results::{Begun, Books, begin_phase, end_phase, finish_phase, stop_phase};
-use crate::team::{Workers, compute_array};
 use array_with_loops::Plan;
 use buffer_heap::Heap;
 use core_ir::Var;
 use counted_code::{Code, CodeGen};
+use phase_books::{
+    Begun, Books, Workers, begin_phase, compute_array, end_phase, finish_phase, stop_phase,
+};
 use phase_kernels::KernelCells;
 use phase_loop_cells::{Background, WithCells};
 use phase_team::Gate;

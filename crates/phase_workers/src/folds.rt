@@ -9,8 +9,8 @@ ghost use Rattle.counted_code.specs.View.{code_program};
 ghost use Rattle.phase_loop_cells.specs.Cells.{gens_cell, gens_taken};
 ghost use Rattle.phase_loop_cells.specs.Opened.{GensIn, OpenGens};
 ghost use Rattle.phase_checks.specs.Terms.{gens_term};
-ghost use Rattle.phase_workers.specs.Alive.{AreAlive};
-ghost use Rattle.phase_workers.specs.Homes.{CombinesAll, IsBooked, left_in, new_behind};
+ghost use Rattle.phase_books.specs.Alive.{AreAlive};
+ghost use Rattle.phase_books.specs.Homes.{CombinesAll, IsBooked, left_in, new_behind};
 ghost use Rattle.run_eval.specs.Running.{IsAt, IsValue, Told, SameScopes, fold_job};
 ghost use Rattle.run_store.specs.Stands.{lender_of};
 ghost use Rattle.run_values.specs.Scopes.{current};
@@ -20,14 +20,14 @@ ghost use Rattle.sac_base.specs.WithLoops.{fits_form as fits_form_value};
 ghost use Rattle.array_with_loops.specs.Plans.{plan_of};
 ghost use Rattle.phase_team.specs.Segments.{cells_from, cost_from};
 
-use crate::alive::alive_in_gens;
-use crate::results::{Begun, Books, begin_phase, end_phase, finish_phase, stop_phase};
-use crate::team::{Workers, compute_fold};
-use crate::worth::steps_of_gens;
 use array_with_loops::{Plan, fits_form};
 use buffer_heap::Heap;
 use core_ir::Var;
 use counted_code::CodeGen;
+use phase_books::{
+    Begun, Books, Workers, alive_in_gens, begin_phase, compute_fold, end_phase, finish_phase,
+    steps_of_gens, stop_phase,
+};
 use phase_checks::gens_are_counted;
 use phase_kernels::KernelCells;
 use phase_loop_cells::WithCells;

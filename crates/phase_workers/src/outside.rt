@@ -9,15 +9,13 @@ ghost use Rattle.run_store.specs.Stands.{lender_of};
 ghost use Rattle.run_values.specs.Scopes.{current};
 ghost use Rattle.array_with_loops.specs.Plans.{plan_of};
 
-use crate::alive::alive_in_gens;
 use crate::arrays::array_by_workers;
 use crate::folds::fold_outside;
 use crate::part_folds::fold_parts_outside;
 use crate::parted::parts_outside;
-use crate::team::Workers;
-use crate::worth::steps_of_gens;
 use array_with_loops::Plan;
 use counted_code::CodeGen;
+use phase_books::{Workers, alive_in_gens, steps_of_gens};
 use phase_checks::gens_are_counted;
 use phase_team::Gate;
 use run_eval::{CellLoop, CellSource, Context, LoopResult, State, run_in_order};

@@ -8,9 +8,9 @@ ghost use Rattle.counted_code.specs.View.{code_program};
 ghost use Rattle.phase_loop_cells.specs.Cells.{parts_cell, parts_taken};
 ghost use Rattle.phase_loop_cells.specs.Opened.{OpenParts, PartsIn};
 ghost use Rattle.phase_checks.specs.Terms.{parts_term};
-ghost use Rattle.phase_workers.specs.Alive.{AreAlive};
+ghost use Rattle.phase_books.specs.Alive.{AreAlive};
 ghost use Rattle.phase_workers.specs.Covered.{must_be_there};
-ghost use Rattle.phase_workers.specs.Homes.{ComputesAll, IsBooked, left_in, new_behind};
+ghost use Rattle.phase_books.specs.Homes.{ComputesAll, IsBooked, left_in, new_behind};
 ghost use Rattle.run_eval.specs.Running.{IsAt, IsValue, Told, SameScopes, parts_job};
 ghost use Rattle.run_store.specs.Stands.{lender_of};
 ghost use Rattle.run_values.specs.Scopes.{current};
@@ -18,15 +18,15 @@ ghost use Rattle.sac_base.specs.Arrays.{size};
 ghost use Rattle.std.specs.Thread.{IsSync};
 ghost use Rattle.phase_team.specs.Segments.{cells_from, cost_from};
 
-use crate::alive::alive_in_parts;
 use crate::covered::{CoveredCells, believed};
-use crate::results::{Begun, Books, begin_phase, end_phase, finish_phase, stop_phase};
-use crate::team::{Workers, compute_array};
-use crate::worth::steps_of_parts;
 use array_with_loops::{Frame, Plan};
 use buffer_heap::Heap;
 use core_ir::Var;
 use counted_code::{Code, CodePart};
+use phase_books::{
+    Begun, Books, Workers, alive_in_parts, begin_phase, compute_array, end_phase, finish_phase,
+    steps_of_parts, stop_phase,
+};
 use phase_checks::parts_are_counted;
 use phase_kernels::KernelParts;
 use phase_loop_cells::PartCells;

@@ -1,7 +1,7 @@
 use Rattle.std.proofs.Common.{ℕ, subst}
 use Rattle.run_values.specs.Scopes.{current}
 use Rattle.phase_workers.proofs.Openings.{lending_gens}
-use Rattle.phase_workers.specs.Homes.{IsBooked}
+use Rattle.phase_books.specs.Homes.{IsBooked}
 use Rattle.phase_workers.proofs.arrays.array_cells.Goals as goal
 
 pub each_cell-end-requires-clause-lending : goal.each_cell-end-requires-clause-lending

@@ -10,11 +10,11 @@ use Rattle.array_with_loops.specs.Plans.{plan_of}
 use Rattle.sac_base.specs.declared.stop.Stop.TheVariants.{Faulted}
 use Rattle.phase_loop_cells.specs.Cells.{gens_cell, gens_taken}
 use Rattle.phase_team.specs.Segments.{cells_from, cost_from}
-use Rattle.phase_workers.specs.Alive.{AreAlive}
+use Rattle.phase_books.specs.Alive.{AreAlive}
 use Rattle.phase_workers.proofs.Ending.{alive_after, none_lent, own_stands, taken_back}
 use Rattle.phase_workers.proofs.FoldEnding.{combined_as, fold_finished, fold_faulted}
-use Rattle.phase_workers.specs.Homes.{handed, left_in}
-use Rattle.phase_workers.proofs.Booking.{done_has, stop_moved, stopped_has}
+use Rattle.phase_books.specs.Homes.{handed, left_in}
+use Rattle.phase_books.proofs.Booking.{done_has, stop_moved, stopped_has}
 use Rattle.phase_workers.proofs.folds.fold_by_workers.Goals as goal
 
 pub returns-in-Ok-clause-told : goal.returns-in-Ok-clause-told

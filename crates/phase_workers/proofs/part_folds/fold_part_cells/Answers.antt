@@ -1,7 +1,7 @@
 use Rattle.std.proofs.Common.{ℕ, subst}
 use Rattle.run_values.specs.Scopes.{current}
 use Rattle.phase_workers.proofs.PartedEnding.{lending_parts}
-use Rattle.phase_workers.specs.Homes.{IsBooked}
+use Rattle.phase_books.specs.Homes.{IsBooked}
 use Rattle.phase_workers.proofs.part_folds.fold_part_cells.Goals as goal
 
 pub each_part_fold-end-requires-clause-lending : goal.each_part_fold-end-requires-clause-lending

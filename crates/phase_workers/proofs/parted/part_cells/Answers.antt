@@ -2,9 +2,9 @@ use Rattle.std.proofs.Common.{ℕ, length, subst}
 use Rattle.run_values.specs.Scopes.{current}
 use Rattle.phase_loop_cells.specs.Cells.{parts_cell, parts_taken}
 use Rattle.phase_workers.specs.Covered.{AreCovered, must_be_there}
-use Rattle.phase_workers.specs.Homes.{ComputesAll, IsBooked, left_in}
+use Rattle.phase_books.specs.Homes.{ComputesAll, IsBooked, left_in}
 use Rattle.phase_team.specs.Segments.{cells_from, cost_from}
-use Rattle.phase_workers.proofs.Booking.{booked_if, left_if}
+use Rattle.phase_workers.proofs.Believing.{booked_if, left_if}
 use Rattle.phase_workers.proofs.Covering.{all_believed, parts_there}
 use Rattle.phase_workers.proofs.PartedEnding.{lending_parts}
 use Rattle.phase_workers.proofs.parted.part_cells.Goals as goal

@@ -8,11 +8,11 @@ use Rattle.run_values.specs.Scopes.{current}
 use Rattle.sac_base.specs.declared.stop.Stop.TheVariants.{Faulted}
 use Rattle.phase_loop_cells.specs.Cells.{parts_cell, parts_taken}
 use Rattle.phase_team.specs.Segments.{cells_from, cost_from}
-use Rattle.phase_workers.specs.Alive.{AreAlive}
+use Rattle.phase_books.specs.Alive.{AreAlive}
 use Rattle.phase_workers.proofs.Ending.{alive_after, computed_as, none_lent, taken_back}
 use Rattle.phase_workers.proofs.PartedEnding.{parts_finished, parts_faulted}
-use Rattle.phase_workers.specs.Homes.{handed, left_in}
-use Rattle.phase_workers.proofs.Booking.{done_has, stop_moved, stopped_has}
+use Rattle.phase_books.specs.Homes.{handed, left_in}
+use Rattle.phase_books.proofs.Booking.{done_has, stop_moved, stopped_has}
 use Rattle.phase_workers.proofs.parted.parts_by_workers.Goals as goal
 
 pub returns-in-Ok-clause-told : goal.returns-in-Ok-clause-told

@@ -9,7 +9,7 @@ use Rattle.sac_base.specs.declared.stop.Stop.{Stop}
 use Rattle.sac_base.specs.declared.stop.Stop.TheVariants.{Faulted, Memory}
 use Rattle.phase_team.specs.Endings.{IsArray, IsCombined}
 use Rattle.phase_team.specs.Segments.{Costs, cost_from}
-use Rattle.phase_workers.specs.Homes.{CombinesAll, ComputesAll, IsBehind, OrNoMemory, left_in}
+use Rattle.phase_books.specs.Homes.{CombinesAll, ComputesAll, IsBehind, OrNoMemory, left_in}
 
 -- what costs nothing anywhere
 nothing : (start n : ℕ) → cost_from (λ p. 0) start n ≡ 0

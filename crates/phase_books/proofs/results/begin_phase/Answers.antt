@@ -4,9 +4,9 @@ use Rattle.counted_code.specs.Values.{is_small}
 use Rattle.run_eval.proofs.CellPhases.{count_stands}
 use Rattle.run_eval.specs.declared.state.State.{State}
 use Rattle.sac_base.specs.Arrays.{size}
-use Rattle.phase_workers.specs.Homes.{WillHave}
-use Rattle.phase_workers.proofs.Ending.{begun_claim}
-use Rattle.phase_workers.proofs.results.begin_phase.Goals as goal
+use Rattle.phase_books.specs.Homes.{WillHave}
+use Rattle.phase_books.proofs.Beginning.{begun_claim}
+use Rattle.phase_books.proofs.results.begin_phase.Goals as goal
 
 pub returns-clause-begun : goal.returns-clause-begun
 returns-clause-begun c m n long at =

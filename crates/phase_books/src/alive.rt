@@ -1,7 +1,7 @@
 //! Variables whose values can be read.
 
 ghost use Rattle.std.specs.Prelude.{IfOk, IsTrue};
-ghost use Rattle.phase_workers.specs.Alive.{AreAlive, IsAlive};
+ghost use Rattle.phase_books.specs.Alive.{AreAlive, IsAlive};
 ghost use Rattle.run_values.specs.Scopes.{current};
 ghost use Rattle.run_values.specs.Shown.{value_of};
 

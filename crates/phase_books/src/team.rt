@@ -7,7 +7,7 @@ ghost use Rattle.phase_cells.specs.Idle.{IsLending, counter, raise};
 ghost use Rattle.phase_draws.specs.Endings.{IsTallied};
 ghost use Rattle.phase_team.specs.Endings.{IsArray};
 ghost use Rattle.phase_team.specs.Segments.{Costs, cells_from, cost_from};
-ghost use Rattle.phase_workers.specs.Homes.{CombinesAll, ComputesAll, IsBooked, OrNoMemory, chunks_in, left_in, new_behind};
+ghost use Rattle.phase_books.specs.Homes.{CombinesAll, ComputesAll, IsBooked, OrNoMemory, chunks_in, left_in, new_behind};
 ghost use Rattle.sac_base.specs.Verdict.{folds};
 
 use crate::nesting::Nesting;

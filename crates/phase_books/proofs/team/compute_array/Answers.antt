@@ -1,8 +1,8 @@
 use Rattle.phase_team.specs.Segments.{cells_from}
-use Rattle.phase_workers.specs.Homes.{chunks_in}
-use Rattle.phase_workers.proofs.Booking.{emptied_tally}
-use Rattle.phase_workers.proofs.Counters.{computes}
-use Rattle.phase_workers.proofs.team.compute_array.Goals as goal
+use Rattle.phase_books.specs.Homes.{chunks_in}
+use Rattle.phase_books.proofs.Booking.{emptied_tally}
+use Rattle.phase_books.proofs.Counters.{computes}
+use Rattle.phase_books.proofs.team.compute_array.Goals as goal
 
 pub returns-in-Ok-end-clause-computed : goal.returns-in-Ok-end-clause-computed
 returns-in-Ok-end-clause-computed g c =

@@ -1,12 +1,10 @@
 -- The books of a phase.
 use Rattle.std.proofs.Common.{◌≡◌, ℕ, Result, Ok, Err, refl, ap, ◌∙◌, sym, subst}
-use Rattle.buffer_heap.specs.Heaps.{HeapValue}
 use Rattle.count_table.specs.Tallied.{PhaseTotals}
 use Rattle.counted_code.specs.Values.{Ended, Done, Failed}
 use Rattle.phase_draws.specs.Endings.{IsTallied, one_phase}
-use Rattle.phase_workers.specs.Covered.{EndsIf}
-use Rattle.phase_workers.specs.Homes.{Has, IsBooked, OrNoMemory, WillHave, chunks_in, left_in}
-use Rattle.phase_workers.specs.declared.results.Books.{Books}
+use Rattle.phase_books.specs.Homes.{Has, IsBooked, OrNoMemory, WillHave, chunks_in}
+use Rattle.phase_books.specs.declared.results.Books.{Books}
 use Rattle.run_eval.specs.Running.{ToldStop}
 use Rattle.phase_count.specs.Tallies.{PhaseNumbers, counted_in}
 use Rattle.phase_count.proofs.Tallying.{counts_as}
@@ -22,21 +20,6 @@ pub emptied_tally : (n : ℕ) (before after : PhaseTotals) (r : Result (Unit {0}
 emptied_tally n before after (Ok done) fine is = is
 emptied_tally n before after (Err Memory) fine is = tt
 emptied_tally n before after (Err (Faulted f)) fine is = absurd fine
-
--- an end that is believed only where something is known
-pub left_if : (Known : Type 0) (home : HeapValue) (end r : Result (Unit {0}) Stop) → EndsIf Known end r → EndsIf Known (left_in home end) (left_in home r)
-left_if Known home end (Ok done) is = ap (left_in home) is
-left_if Known home end (Err (Faulted f)) is = (ap (left_in home) is.0, is.1)
-left_if Known home end (Err Memory) is = tt
-
-tallied_if : (Known : Type 0) (n : ℕ) (before after : PhaseTotals) (end r : Result (Unit {0}) Stop) → EndsIf Known end r → IsTallied n before after end → IsTallied n before after r
-tallied_if Known n before after end (Ok done) is t = subst (IsTallied n before after) is t
-tallied_if Known n before after end (Err (Faulted f)) is t = subst (IsTallied n before after) is.0 t
-tallied_if Known n before after end (Err Memory) is t = tt
-
-pub booked_if : (Known : Type 0) (n : ℕ) (before after : Books) (end r : Result (Unit {0}) Stop) → EndsIf Known end r → IsBooked n before after end → IsBooked n before after r
-booked_if Known n before after end r is booked =
-    record { tally = tallied_if Known (chunks_in before.count n) before.count.tally after.count.tally end r is booked.tally; begun = booked.begun }
 
 -- once the phase is closed into it, the tally has the phases that are counted
 closed : (n : ℕ) (before after : OpenTally) (p : PhaseNumbers) → WillHave n before p → after.tally ≡ one_phase (chunks_in before n) before.tally → after.before ≡ before.before → Has after p

@@ -10,7 +10,7 @@ use Rattle.phase_team.specs.Endings.{IsArray, IsCombined}
 use Rattle.phase_draws.specs.Endings.{IsTallied, one_phase}
 use Rattle.phase_count.specs.Tallies.{PhaseNumbers, counted_in}
 use Rattle.phase_count.specs.declared.OpenTally.{OpenTally}
-use Rattle.phase_workers.specs.declared.results.Books.{Books}
+use Rattle.phase_books.specs.declared.results.Books.{Books}
 
 -- The heap that goes on behind the one that lends has no buffer. So many buffers were taken and given back behind it: their numbers are counted
 -- exactly, all else modulo 2^64.

@@ -1,9 +1,9 @@
 use Rattle.std.proofs.Common.{refl}
 use Rattle.phase_team.specs.Segments.{cells_from}
-use Rattle.phase_workers.specs.Homes.{chunks_in}
-use Rattle.phase_workers.proofs.Booking.{emptied_tally}
-use Rattle.phase_workers.proofs.Counters.{combines}
-use Rattle.phase_workers.proofs.team.compute_fold.Goals as goal
+use Rattle.phase_books.specs.Homes.{chunks_in}
+use Rattle.phase_books.proofs.Booking.{emptied_tally}
+use Rattle.phase_books.proofs.Counters.{combines}
+use Rattle.phase_books.proofs.team.compute_fold.Goals as goal
 
 pub returns-in-Ok-end-clause-combined : goal.returns-in-Ok-end-clause-combined
 returns-in-Ok-end-clause-combined g c =

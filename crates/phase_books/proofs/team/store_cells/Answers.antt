@@ -4,8 +4,8 @@ use Rattle.count_table.specs.Tallied.{PhaseTotals}
 use Rattle.phase_cells.specs.Idle.{counter, raise}
 use Rattle.phase_draws.specs.Endings.{IsTallied}
 use Rattle.phase_team.specs.Segments.{Costs}
-use Rattle.phase_workers.specs.Homes.{chunks_in}
-use Rattle.phase_workers.proofs.team.store_cells.Goals as goal
+use Rattle.phase_books.specs.Homes.{chunks_in}
+use Rattle.phase_books.proofs.team.store_cells.Goals as goal
 
 pub returns-clause-kept : goal.returns-clause-kept
 returns-clause-kept g c =

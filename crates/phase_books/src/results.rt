@@ -9,7 +9,7 @@ ghost use Rattle.run_eval.specs.Running.{IsAt, IsValue, Told};
 ghost use Rattle.run_store.specs.Stands.{lender_of};
 ghost use Rattle.run_store.specs.Targets.{target_of};
 ghost use Rattle.sac_base.specs.Arrays.{size};
-ghost use Rattle.phase_workers.specs.Homes.{Has, WillHave, handed, new_behind};
+ghost use Rattle.phase_books.specs.Homes.{Has, WillHave, handed, new_behind};
 
 use buffer_heap::Heap;
 use phase_count::OpenTally;

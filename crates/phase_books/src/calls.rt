@@ -1,6 +1,6 @@
 //! Loops outside of cells, as calls run them.
 
-ghost use Rattle.phase_workers.specs.Calls.{IsRun, IsRunOver};
+ghost use Rattle.phase_books.specs.Calls.{IsRun, IsRunOver};
 ghost use Rattle.run_eval.specs.Jobs.{job_of};
 
 use run_eval::{CellLoop, Context, Phases, State};

@@ -1,0 +1,18 @@
+//! What all phases share: how they begin and end, the team that computes their cells, and which of them are worth one.
+#![tactic(auto)]
+
+mod alive;
+mod calls;
+mod mentions;
+mod nesting;
+mod results;
+mod team;
+mod worth;
+
+pub use alive::{alive_in_gens, alive_in_parts};
+pub use calls::LoopCall;
+pub use nesting::Nesting;
+pub use phase_team::{Gate, NoGate};
+pub use results::{Begun, Books, begin_phase, end_phase, finish_phase, stop_phase};
+pub use team::{Workers, compute_array, compute_fold};
+pub use worth::{steps_of_gens, steps_of_parts};
