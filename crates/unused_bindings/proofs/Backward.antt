@@ -14,8 +14,8 @@ use Rattle.core_cleaning.specs.Unused.{is_unused}
 use Rattle.unused_bindings.specs.declared.swept.SweptLet.{SweptLet}
 use Rattle.unused_bindings.specs.Passed.{passed_term}
 use Rattle.unused_bindings.specs.Swept.{PassedTerm, IsStep, needed_before}
-use Rattle.unused_bindings.specs.Uses.{among, either, is_not_used}
-use Rattle.unused_bindings.proofs.Sets.{lists_of}
+use Rattle.removal_rules.specs.Uses.{among, either, is_not_used}
+use Rattle.removal_rules.proofs.Sets.{lists_of}
 use Rattle.unused_bindings.proofs.Turns.{map_snoc, needed_snoc}
 
 unused_among : (xs all : List Var) → is_not_used xs (among all) ≡ is_unused xs all

@@ -1,6 +1,4 @@
 mod Backward
-mod Index
 mod Loops
 mod Rights
-mod Sets
 mod Turns

@@ -15,8 +15,8 @@ use Rattle.core_subst.specs.Names.{used_in, used_in_right, used_in_gens, used_in
 use Rattle.unused_bindings.specs.declared.swept.SweptGen.{SweptGen}
 use Rattle.unused_bindings.specs.declared.swept.SweptPart.{SweptPart}
 use Rattle.unused_bindings.specs.Passed.{gen_terms, part_terms}
-use Rattle.unused_bindings.specs.Uses.{used_of, among, either, used_in_gen}
-use Rattle.unused_bindings.proofs.Sets.{lists_of, list_in_front}
+use Rattle.removal_rules.specs.Uses.{used_of, among, either, used_in_gen}
+use Rattle.removal_rules.proofs.Sets.{lists_of, list_in_front}
 use Rattle.unused_bindings.proofs.Turns.{map_snoc}
 
 gens_snoc : (gs : List GenTerm) (g : GenTerm) → used_in_gens (gens_of (gs ++ (g ∷ []))) ≡ used_in_gens (gens_of gs) ++ used_in_gen g

@@ -4,7 +4,7 @@ use Rattle.core_ir.specs.Terms.{PlainTerm, RightTerm, Plain}
 use Rattle.core_facts.specs.Facts.{Facts}
 use Rattle.core_cleaning.specs.Unused.{is_removable}
 use Rattle.plain_facts.specs.Rights.{right_shape}
-use Rattle.unused_bindings.specs.Swept.{removable_shaped}
+use Rattle.removal_rules.specs.Total.{removable_shaped}
 
 plain_is : (p : PlainTerm) (k : Facts) → removable_shaped (right_shape (Plain p) k) (Plain p) k ≡ is_removable (Plain p) k
 plain_is (PlainTerm.Const a) k = refl

@@ -1,4 +1,2 @@
 pub mod Passed
 pub mod Swept
-pub mod Total
-pub mod Uses

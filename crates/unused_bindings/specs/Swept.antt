@@ -1,20 +1,12 @@
 -- A binding, a generator, a part and a function alone, without bindings that are not used and whose right side is known to have a value.
-use Rattle.std.specs.Prelude.{◌≡◌, ℕ, Bool, ◌&&◌, ◌||◌, not, List, [], ◌∷◌, reverse, Option}
+use Rattle.std.specs.Prelude.{◌≡◌, ℕ, Bool, List, [], ◌∷◌, ◌++◌, reverse, Option}
 use Rattle.core_ir.specs.declared.tree.Var.{Var}
-use Rattle.core_ir.specs.Terms.{PlainTerm, BlockTerm, RightTerm, LetTerm, GenTerm, PartTerm, FunTerm, Plain, chain}
-use Rattle.core_facts.specs.Facts.{Facts, is_some, note_all, in_part}
-use Rattle.core_loops.specs.Indices.{Other, is_division, no_zero, may_be_row, in_range}
+use Rattle.core_ir.specs.Terms.{BlockTerm, LetTerm, GenTerm, PartTerm, FunTerm, chain}
+use Rattle.core_facts.specs.Facts.{Facts, note_all, in_part}
 use Rattle.core_settled.specs.Called.{params_facts}
 use Rattle.core_subst.specs.Names.{used_in}
-use Rattle.core_cleaning.specs.Unused.{never_faults, bind_if_needed, swept, swept_right}
-use Rattle.unused_bindings.specs.Uses.{among}
-
--- whether the right side is known to have a value, where the shape of its value is known to be this
-abbrev pub removable_shaped : Option (List ℕ) → RightTerm → Facts → Bool
-removable_shaped shape (Plain (PlainTerm.Binary o x y)) k = is_some shape && (not (is_division o) || no_zero (k y).literal)
-removable_shaped shape (Plain (PlainTerm.Literal xs)) k = may_be_row shape
-removable_shaped shape (Plain (PlainTerm.Select x y)) k = in_range [] (k x).shape Other (k y).literal
-removable_shaped shape r k = never_faults r
+use Rattle.core_cleaning.specs.Unused.{bind_if_needed, swept, swept_right}
+use Rattle.removal_rules.specs.Uses.{among}
 
 module _ (called : ℕ → List (Option (List ℕ))) where
   abbrev pub swept_let : LetTerm → Facts → LetTerm

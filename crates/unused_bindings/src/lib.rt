@@ -5,8 +5,6 @@ mod functions;
 mod needed;
 mod right;
 mod swept;
-mod total;
-mod used;
 mod walk;
 
 pub use functions::remove_unused;

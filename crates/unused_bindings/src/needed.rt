@@ -1,16 +1,16 @@
 //! The bindings of a block that are needed, from the end.
 
-ghost use Rattle.std.specs.Prelude.{◌≡◌, ◌&&◌, IfOk, map};
+ghost use Rattle.std.specs.Prelude.{◌≡◌, IfOk, map};
 ghost use Rattle.core_ir.specs.Terms.{Gives};
 ghost use Rattle.core_ir.specs.View.{block_term, let_term};
 ghost use Rattle.unused_bindings.specs.Passed.{passed_term};
 ghost use Rattle.unused_bindings.specs.Swept.{IsStep, needed_before};
-ghost use Rattle.unused_bindings.specs.Uses.{used_of, is_not_used};
+ghost use Rattle.removal_rules.specs.Uses.{used_of};
 
 use crate::swept::{SweptBlock, SweptLet};
-use crate::used::{are_unused, set_of, united};
 use core_ir::{Block, Let, Var};
 use fact_table::Known;
+use removal_rules::{is_needless, set_of, united};
 use sac_base::Memory;
 use std::alloc::Global;
 use std::collections::BTreeSet;
@@ -50,15 +50,9 @@ fn add_needed(
 ) -> Result<BTreeSet<u32>, Memory>
     ensures { IfOk result (λ now. IsStep (passed_term passed) (map let_term needed.old.items) (map let_term needed.new.items) (used_of used) (used_of now)) }
 {
-    if is_needless(&passed, &used) {
+    if is_needless(passed.may_go, &passed.binding.targets, &used) {
         return Ok(used);
     }
     needed.push(passed.binding)?;
     united(passed.used, used)
-}
-
-fn is_needless(passed: &SweptLet, used: &BTreeSet<u32>) -> bool
-    ensures { result ≡ (passed.now.may_go && is_not_used (let_term passed.now.binding).targets (used_of used.now)) }
-{
-    passed.may_go && are_unused(&passed.binding.targets, used)
 }

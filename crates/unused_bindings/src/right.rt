@@ -12,11 +12,10 @@ ghost use Rattle.plain_facts.specs.Rights.{fact_of_right};
 ghost use Rattle.unused_bindings.specs.Passed.{gen_terms, part_terms};
 
 use crate::swept::{SweptBlock, SweptGen, SweptPart, SweptRight};
-use crate::total::has_value;
-use crate::used::{add_all, set_of, united};
 use core_ir::{CoreOp, PartedLoop, PartedOp, Right, Var, WithLoop};
 use fact_table::{FactTable, Known};
 use plain_facts::{common_facts, parted_shape, plain_fact};
+use removal_rules::{add_all, has_value, set_of, united};
 use sac_base::{Base, Grid, Memory, Shape, Site};
 use std::alloc::Global;
 

@@ -3,7 +3,7 @@
 ghost use Rattle.std.specs.Prelude.{◌≡◌};
 ghost use Rattle.core_ir.specs.View.{block_term, let_term, right_term, gen_term, part_term};
 ghost use Rattle.core_subst.specs.Names.{used_in, used_in_right};
-ghost use Rattle.unused_bindings.specs.Uses.{used_of, among, used_in_gen};
+ghost use Rattle.removal_rules.specs.Uses.{used_of, among, used_in_gen};
 
 use core_ir::{Block, CoreGen, CorePart, Let, Right};
 use fact_table::Known;

@@ -11,10 +11,10 @@ ghost use Rattle.unused_bindings.specs.Swept.{swept_let, swept_gen, swept_part};
 use crate::needed::needed_block;
 use crate::right::{call, conditional, parted_loop, plain, repeated, with_loop};
 use crate::swept::{SweptBlock, SweptGen, SweptLet, SweptPart, SweptRight};
-use crate::used::add_head;
 use core_ir::{Block, CoreGen, CorePart, Let, PartedLoop, Right, WithLoop};
 use fact_table::FactTable;
 use plain_facts::{CalledShapes, forget, forget_index, known_of, learn_all, learn_index};
+use removal_rules::add_head;
 use sac_base::Memory;
 use std::alloc::Global;
 

@@ -1,7 +1,7 @@
 use Rattle.std.proofs.Common.{rules, append-nil, ◌∙◌, map}
 use Rattle.core_ir.specs.View.{let_term}
 use Rattle.core_ir.specs.Terms.{Gives}
-use Rattle.unused_bindings.specs.Uses.{used_of}
+use Rattle.removal_rules.specs.Uses.{used_of}
 use Rattle.unused_bindings.proofs.Backward.{step_taken, needed_end, used_end}
 use Rattle.unused_bindings.proofs.needed.needed_block.Goals as goal
 

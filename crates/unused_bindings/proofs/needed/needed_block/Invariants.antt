@@ -4,7 +4,7 @@ use Rattle.core_ir.specs.View.{let_term}
 use Rattle.core_subst.specs.Names.{used_in}
 use Rattle.unused_bindings.specs.Passed.{passed_term}
 use Rattle.unused_bindings.specs.Swept.{needed_before}
-use Rattle.unused_bindings.specs.Uses.{used_of, among}
+use Rattle.removal_rules.specs.Uses.{used_of, among}
 use Rattle.unused_bindings.proofs.needed.needed_block.Given as goal
 
 abbrev pub invariant-loop-last : goal.invariant-loop-last

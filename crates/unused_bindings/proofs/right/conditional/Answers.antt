@@ -1,7 +1,7 @@
 use Rattle.std.proofs.Common.{[], ◌∷◌}
 use Rattle.core_ir.specs.View.{block_term}
 use Rattle.core_subst.specs.Names.{used_in}
-use Rattle.unused_bindings.proofs.Sets.{in_front_of_both}
+use Rattle.removal_rules.proofs.Sets.{in_front_of_both}
 use Rattle.unused_bindings.proofs.right.conditional.Goals as goal
 
 pub invariant_of-result : goal.invariant_of-result

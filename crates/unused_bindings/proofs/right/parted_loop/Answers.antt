@@ -1,7 +1,7 @@
 use Rattle.std.proofs.Common.{◌∙◌, ap}
 use Rattle.core_ir.specs.Scopes.{parted_uses}
 use Rattle.unused_bindings.specs.Passed.{part_terms}
-use Rattle.unused_bindings.specs.Uses.{used_of}
+use Rattle.removal_rules.specs.Uses.{used_of}
 use Rattle.unused_bindings.proofs.Loops.{part_items, part_uses, parted_made, parted_uses_all}
 use Rattle.unused_bindings.proofs.Turns.{none_left}
 use Rattle.unused_bindings.proofs.right.parted_loop.Goals as goal

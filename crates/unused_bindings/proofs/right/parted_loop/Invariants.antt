@@ -4,7 +4,7 @@ use Rattle.core_ir.specs.Terms.{parts_of}
 use Rattle.core_ir.specs.View.{part_term}
 use Rattle.core_subst.specs.Names.{used_in_parts}
 use Rattle.unused_bindings.specs.Passed.{part_terms}
-use Rattle.unused_bindings.specs.Uses.{used_of, among}
+use Rattle.removal_rules.specs.Uses.{used_of, among}
 use Rattle.unused_bindings.proofs.right.parted_loop.Given as goal
 
 abbrev pub invariant-loop-part : goal.invariant-loop-part

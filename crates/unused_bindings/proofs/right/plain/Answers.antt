@@ -1,7 +1,7 @@
 use Rattle.std.proofs.Common.{◌∙◌, ap}
 use Rattle.core_ir.specs.View.{right_term}
 use Rattle.fact_table.specs.Table.{facts_of}
-use Rattle.unused_bindings.specs.Swept.{removable_shaped}
+use Rattle.removal_rules.specs.Total.{removable_shaped}
 use Rattle.unused_bindings.proofs.Rights.{shaped_is}
 use Rattle.core_facts.specs.Facts.{Fact}
 use Rattle.unused_bindings.proofs.right.plain.Goals as goal

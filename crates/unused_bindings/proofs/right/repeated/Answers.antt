@@ -1,8 +1,8 @@
 use Rattle.std.proofs.Common.{◌∙◌}
 use Rattle.core_ir.specs.View.{block_term}
 use Rattle.core_subst.specs.Names.{used_in}
-use Rattle.unused_bindings.specs.Uses.{used_of, either, among}
-use Rattle.unused_bindings.proofs.Sets.{in_front_of_both}
+use Rattle.removal_rules.specs.Uses.{used_of, either, among}
+use Rattle.removal_rules.proofs.Sets.{in_front_of_both}
 use Rattle.unused_bindings.proofs.right.repeated.Goals as goal
 
 pub invariant_of-result : goal.invariant_of-result

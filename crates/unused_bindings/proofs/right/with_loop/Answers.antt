@@ -1,7 +1,7 @@
 use Rattle.std.proofs.Common.{◌∙◌, ap}
 use Rattle.core_ir.specs.Scopes.{op_uses}
 use Rattle.unused_bindings.specs.Passed.{gen_terms}
-use Rattle.unused_bindings.specs.Uses.{used_of}
+use Rattle.removal_rules.specs.Uses.{used_of}
 use Rattle.unused_bindings.proofs.Loops.{gen_items, gen_uses, with_made, with_uses}
 use Rattle.unused_bindings.proofs.Turns.{none_left}
 use Rattle.unused_bindings.proofs.right.with_loop.Goals as goal

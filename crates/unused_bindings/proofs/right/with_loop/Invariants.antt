@@ -4,7 +4,7 @@ use Rattle.core_ir.specs.Terms.{gens_of}
 use Rattle.core_ir.specs.View.{gen_term}
 use Rattle.core_subst.specs.Names.{used_in_gens}
 use Rattle.unused_bindings.specs.Passed.{gen_terms}
-use Rattle.unused_bindings.specs.Uses.{used_of, among}
+use Rattle.removal_rules.specs.Uses.{used_of, among}
 use Rattle.unused_bindings.proofs.right.with_loop.Given as goal
 
 abbrev pub invariant-loop-generator : goal.invariant-loop-generator

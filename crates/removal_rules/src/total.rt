@@ -6,8 +6,8 @@ ghost use Rattle.core_ir.specs.View.{right_term};
 ghost use Rattle.core_loops.specs.Indices.{Other, at_literal as literal_is_index, in_range as is_in_range};
 ghost use Rattle.core_loops.specs.Indices.{is_division as divides, may_be_row as row_fits, no_zero as none_is_zero};
 ghost use Rattle.fact_table.specs.Table.{fact_of, facts_of};
-ghost use Rattle.unused_bindings.specs.Swept.{removable_shaped};
-ghost use Rattle.unused_bindings.specs.Total.{are_components, is_not_zero as is_not_zero_value};
+ghost use Rattle.removal_rules.specs.Total.{removable_shaped};
+ghost use Rattle.removal_rules.specs.Total.{are_components, is_not_zero as is_not_zero_value};
 
 use core_ir::Right;
 use fact_table::FactTable;

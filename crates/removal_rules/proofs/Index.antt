@@ -6,7 +6,7 @@ use Rattle.sac_base.specs.Arrays.{ArrayValue}
 use Rattle.sac_base.specs.Parts.{Part, part_at, further}
 use Rattle.core_facts.specs.Facts.{is_some}
 use Rattle.core_loops.specs.Indices.{at_numbers, at_literal}
-use Rattle.unused_bindings.specs.Total.{are_components}
+use Rattle.removal_rules.specs.Total.{are_components}
 
 further_some : (i : ℕ) (ns : List ℕ) (p : Option Part) → is_some (further i ns p) ≡ is_some p
 further_some i ns None = refl

@@ -1,5 +1,5 @@
-use Rattle.unused_bindings.proofs.Sets.{appended_first, appended_last}
-use Rattle.unused_bindings.proofs.used.appended.Goals as goal
+use Rattle.removal_rules.proofs.Sets.{appended_first, appended_last}
+use Rattle.removal_rules.proofs.used.appended.Goals as goal
 
 pub returns-clause-first : goal.returns-clause-first
 returns-clause-first c = appended_first c.args.more c.args.few c.append.new.self c.in_ok-append.ensures.inserts_all

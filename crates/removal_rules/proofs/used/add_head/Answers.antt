@@ -1,8 +1,8 @@
 use Rattle.std.specs.Prelude.{option_to_list}
 use Rattle.std.proofs.lemmas.Result.{on_ok_weaker}
-use Rattle.unused_bindings.specs.Uses.{used_of}
-use Rattle.unused_bindings.proofs.Sets.{after_all}
-use Rattle.unused_bindings.proofs.used.add_head.Goals as goal
+use Rattle.removal_rules.specs.Uses.{used_of}
+use Rattle.removal_rules.proofs.Sets.{after_all}
+use Rattle.removal_rules.proofs.used.add_head.Goals as goal
 
 pub returns : goal.returns
 returns c =

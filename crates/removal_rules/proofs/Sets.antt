@@ -9,7 +9,7 @@ use Rattle.core_ir.specs.declared.tree.Var.{Var}
 use Rattle.core_ir.specs.Binders.{is_in}
 use Rattle.core_ir.proofs.Variables.{in_more}
 use Rattle.core_subst.specs.Names.{variable}
-use Rattle.unused_bindings.specs.Uses.{used_of, among, either}
+use Rattle.removal_rules.specs.Uses.{used_of, among, either}
 
 or_none : (a : Bool) → (a || false) ≡ a
 or_none true = refl

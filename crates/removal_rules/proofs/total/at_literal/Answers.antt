@@ -1,7 +1,7 @@
 use Rattle.std.proofs.Common.{rules, ◌≤◌, ◌∙◌, ap, sym, length}
 use Rattle.core_loops.specs.Indices.{at_literal}
-use Rattle.unused_bindings.proofs.Index.{literal_is}
-use Rattle.unused_bindings.proofs.total.at_literal.Goals as goal
+use Rattle.removal_rules.proofs.Index.{literal_is}
+use Rattle.removal_rules.proofs.total.at_literal.Goals as goal
 
 pub returns-then-rank-le1 : goal.returns-then-rank-le1
 returns-then-rank-le1 c =

@@ -1,7 +1,7 @@
 //! Variables that are used, as the set of their numbers.
 
-ghost use Rattle.std.specs.Prelude.{◌≡◌, ◌++◌, IfOk, OnOk, option_to_list};
-ghost use Rattle.unused_bindings.specs.Uses.{used_of, among, either, is_not_used};
+ghost use Rattle.std.specs.Prelude.{◌≡◌, ◌++◌, ◌&&◌, IfOk, OnOk, option_to_list};
+ghost use Rattle.removal_rules.specs.Uses.{used_of, among, either, is_not_used};
 
 use core_ir::Var;
 use sac_base::Memory;
@@ -74,8 +74,15 @@ fn appended(more: BTreeSet<u32>, few: BTreeSet<u32>) -> Result<BTreeSet<u32>, Me
     Ok(both)
 }
 
-/// The only variable is not used.
-pub fn are_unused(vars: &[Var], used: &BTreeSet<u32>) -> bool
+/// Whether a binding is needless: it may go, and has one variable alone, which is not used behind it.
+pub fn is_needless(may_go: bool, targets: &[Var], used: &BTreeSet<u32>) -> bool
+    ensures { result ≡ (may_go && is_not_used targets.now (used_of used.now)) }
+{
+    may_go && are_unused(targets, used)
+}
+
+// The only variable is not used.
+fn are_unused(vars: &[Var], used: &BTreeSet<u32>) -> bool
     ensures { result ≡ is_not_used vars.now (used_of used.now) }
 {
     vars.len() == 1 && !used.contains(&vars[0].0)
