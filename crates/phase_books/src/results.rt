@@ -1,6 +1,6 @@
 //! How phases begin and end.
 
-ghost use Rattle.std.specs.Prelude.{◌≡◌, ◌≤◌, ℕ, ◌+◌, ◌%◌, ◌^◌, None, Some, true, IfOk};
+ghost use Rattle.std.specs.Prelude.{◌≡◌, ◌≤◌, ℕ, ◌+◌, ◌%◌, ◌^◌, None, Some, true, IfOk, OnOk};
 ghost use Rattle.buffer_heap.specs.Heaps.{Held, at};
 ghost use Rattle.counted_code.specs.Loops.{claim as claimed, count_phase, settled};
 ghost use Rattle.counted_code.specs.Values.{Heap as MachineHeap, is_small as is_small_shape};
@@ -57,6 +57,21 @@ pub fn begin_phase(
     let home = Heap::behind(&state.heap.own);
     let books = Books { home, count };
     Ok(Begun { target, books })
+}
+
+/// Begins a phase of so many positions that claims no result yet, which is counted.
+pub fn open_books(positions: usize, state: &mut State<'_>) -> Result<Books, Memory>
+    ensures counted { (m : MachineHeap) (n : ℕ) → n ≡ positions → IsAt state.old m → OnOk result (IsAt state.new (count_phase true n m)) }
+    ensures home { IfOk result (λ b. b.home ≡ new_behind state.new.heap.own) }
+    ensures tally { (n : ℕ) → n ≡ positions → IfOk result (λ b. WillHave n b.count state.new.phases) }
+    ensures heap { state.new.heap ≡ state.old.heap }
+    ensures frames { state.new.frames ≡ state.old.frames }
+{
+    let Some(count) = state.phases.hand_out(positions) else {
+        return Err(Memory);
+    };
+    let home = Heap::behind(&state.heap.own);
+    Ok(Books { home, count })
 }
 
 /// Ends a phase without a fault: the main heap takes over the workers' heap, and the tally comes back.
