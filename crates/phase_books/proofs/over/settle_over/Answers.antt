@@ -9,20 +9,20 @@ cells-requires c =
     let h = c.args.heap.now.own in
     named_in h c.args.id.place c.args.id.born (sole_named h c.args.id.place c.args.id.born (c.is_lone.ensures c.if-not-is_lone.false))
 
-pub reuse-_old-requires : goal.reuse-_old-requires
-reuse-_old-requires c = sole_in c.args.heap.now.own c.args.id.place c.args.id.born (c.is_lone.ensures c.if-not-is_lone.false)
+pub reuse-old-requires : goal.reuse-old-requires
+reuse-old-requires c = sole_in c.args.heap.now.own c.args.id.place c.args.id.born (c.is_lone.ensures c.if-not-is_lone.false)
 
 pub settle-requires : goal.settle-requires
 settle-requires c =
     let h = c.args.heap.now.own in
     let id = c.args.id in
-    let old = c.reuse-_old.result.items in
-    out_live h id.place id.born old (c.is_lone.ensures c.if-not-is_lone.false) c.reuse-_old.ensures.cells c.reuse-_old.new.self
-    (ap (λ (h : HeapValue). h.places) c.reuse-_old.ensures.heap) (length c.args.cells.items)
-    ?
+    let old = c.reuse-old.result.items in
+    out_live h id.place id.born old (c.is_lone.ensures c.if-not-is_lone.false) c.reuse-old.ensures.cells c.reuse-old.new.self
+    (ap (λ (h : HeapValue). h.places) c.reuse-old.ensures.heap) (length c.args.cells.items)
+    (sym (sym (ap length (same_in (content_of (at h id.place)) c.cells-1.result.now old c.cells-1.ensures c.reuse-old.ensures.cells)) ∙ c.if-cells-len.false))
 
 pub returns-clause-settled : goal.returns-clause-settled
 returns-clause-settled c =
     let s = c.args.heap.now in
     let id = c.args.id in
-    ap {B = Store} (λ (h : HeapValue). record s { own = h }) (c.settle.ensures ∙ ap (λ (k : HeapValue). with_place k id.place (with_content (at k id.place) (In c.args.cells.items))) c.reuse-_old.ensures.heap)
+    ap {B = Store} (λ (h : HeapValue). record s { own = h }) (c.settle.ensures ∙ ap (λ (k : HeapValue). with_place k id.place (with_content (at k id.place) (In c.args.cells.items))) c.reuse-old.ensures.heap)
