@@ -1,6 +1,7 @@
 -- Cells may be shared among threads.
 use denote.Param.Send.{IsSync, shr_sync, shr_slice_sync, view_sync, sendable}
 use denote.Param.SendFields.{as_row_sync, declared_sync}
+use denote.Builtin.{bool}
 use denote.Hole.{as_row}
 use denote.Struct.Field.{bool-field, shr_ref_field, shr_slice_field}
 use Rattle.buffer_heap.specs.contracts.heap.Heap as heap
@@ -17,12 +18,19 @@ use Rattle.run_eval.specs.contracts.state.CountedCode.TheInside as inside
 use Rattle.phase_loop_cells.proofs.copies.Background.TheSendSync as background_shared
 use Rattle.phase_loop_cells.specs.contracts.copies.Background as background
 use Rattle.std.specs.contracts.option.Option as option
+use Rattle.std_alloc.specs.contracts.vec.Vec as vec
+use Rattle.std_heap.specs.contracts.Global as Heap
+use Rattle.std_heap.specs.contracts.GlobalAllocator.TheImpl.{ghosts}
+use Rattle.std.proofs.Crossing.{Vec-sync}
 use Rattle.phase_loop_cells.specs.contracts.gens.WithCells as cells
 use Rattle.core_ir.specs.contracts.tree.Var as var
 use Rattle.phase_kernels.specs.contracts.gens.KernelCells as kernels
 
 counted_sync : IsSync code.the_row → (l : _) → IsSync (counted.the_row l)
-counted_sync code_sync l = view_sync (inside.the_row l) _ _ _ _ (declared_sync (inside.the_type l) (as_row_sync (shr_ref_field l code.the_row tt) (shr_sync _ _ code.the_row code_sync), (as_row_sync bool-field (search (sendable)), tt)))
+counted_sync code_sync l = view_sync (inside.the_row l) _ _ _ _ (declared_sync (inside.the_type l) (
+  as_row_sync (shr_ref_field l code.the_row tt) (shr_sync _ _ code.the_row code_sync),
+  (as_row_sync (vec.the_field bool Heap.the_row ghosts) (search (Vec-sync, sendable) depth 20), (as_row_sync bool-field (search (sendable)), tt)),
+))
 
 pub context_sync : IsSync code.the_row → (l : _) → IsSync (as_row (context.the_field l))
 context_sync code_sync l = as_row_sync (context.the_field l) (search (sendable, counted_sync code_sync l) depth 14)

@@ -1,12 +1,14 @@
 -- Loops with a mark, from what is told of their parts.
-use Rattle.std.proofs.Common.{◌≡◌, ℕ, List, map, Bool, true, false, true≢false, refl, sym, ap, ◌∙◌, subst, Result, Ok, Some, None}
+use Rattle.std.proofs.Common.{◌≡◌, ℕ, List, [], map, Bool, true, false, true≢false, refl, sym, ap, ◌∙◌, subst, Result, Ok, Some, None}
 use Rattle.std.specs.Prelude.{◌++◌, ◌&&◌, not, length}
+use Rattle.std.proofs.lemmas.List.{append-nil}
 use Rattle.sac_base.specs.declared.base.Base.{Base}
 use Rattle.sac_base.specs.declared.grid.Grid1.{Grid1}
 use Rattle.sac_base.specs.declared.op.Op.{Op}
 use Rattle.sac_base.specs.declared.site.Site.{Site}
 use Rattle.sac_base.specs.Grids.{members}
 use Rattle.sac_base.specs.WithLoops.{Plan}
+use Rattle.core_fold.specs.Cells.{IsBox}
 use Rattle.core_ir.specs.declared.tree.PartedOp.{PartedOp}
 use Rattle.core_ir.specs.declared.tree.PartedOp.TheVariants as parted
 use Rattle.core_ir.specs.declared.tree.Var.{Var}
@@ -29,7 +31,7 @@ use Rattle.run_eval.specs.declared.cell_loop.CellLoop.{CellLoop}
 use Rattle.run_eval.specs.declared.cell_loop.LoopResult.TheVariants.{Joined}
 use Rattle.run_eval.specs.declared.state.Context.{Context}
 use Rattle.run_eval.specs.declared.state.State.{State}
-use Rattle.run_eval.specs.Jobs.{cells_job, folds_of, job_of, result_of}
+use Rattle.run_eval.specs.Jobs.{cells_job, folds_of, job_of, result_of, AreIndicesOf}
 use Rattle.run_eval.specs.Loops.{cells_written, loop_source, plan_of_parts}
 use Rattle.run_eval.specs.Running.{IsAt, IsOnly, IsValue, Told, ToldStop, cells_in, parts_job}
 use Rattle.run_eval.proofs.CellBodies.{loop_source_is}
@@ -128,3 +130,17 @@ module _ (context : Context) (e : Values) (m : Heap) (frame : List Grid1) (base 
       told_as (parted.Modarray x) (parts_job context e qs plan.indices plan.form plan.shape) r t refl
       (λ i. parts_job context e (same i) (is i).indices (is i).form (is i).shape) told
   marked_parts_tell (parted.Fold o x) plan qs r t not is same told = absurd (not o x refl)
+
+-- ---- frames whose cells are the elements of the result
+
+module _ (frame : List Grid1) (base : Base) (cell : List ℕ) where
+  pub rows_of_parts : (op : PartedOp) (plan : Plan) → ((o : Op) (x : Var) → op ≡ parted.Fold o x → ⊥) → plan ≡ plan_of_parts frame base cell op
+      → AreIndicesOf (extents frame ++ cell) (members frame) → AreIndicesOf plan.shape plan.indices
+  rows_of_parts parted.Genarray plan not is rows = subst (λ (p : Plan). AreIndicesOf p.shape p.indices) (sym is) rows
+  rows_of_parts (parted.Modarray x) plan not is rows = subst (λ (p : Plan). AreIndicesOf p.shape p.indices) (sym is) rows
+  rows_of_parts (parted.Fold o x) plan not is rows = absurd (not o x refl)
+
+-- a box of scalars
+pub indices_of : (frame : List Grid1) (cell : List ℕ) → cell ≡ [] → IsBox frame → AreIndicesOf (extents frame ++ cell) (members frame)
+indices_of frame cell none box =
+    record { frame = frame; box = box; shape_is = ap (λ c. extents frame ++ c) none ∙ append-nil (extents frame); indices_are = refl }

@@ -1,5 +1,5 @@
 -- The machine's job of a loop whose checks have passed.
-use Rattle.std.specs.Prelude.{◌≡◌, ℕ, Bool, true, false, List, ℤ, map, fold, Option, Some, None, flat_map}
+use Rattle.std.specs.Prelude.{◌≡◌, ℕ, Bool, true, false, List, ℤ, pos, map, fold, Option, Some, None, flat_map}
 use Rattle.sac_base.specs.declared.base.Base.{Base}
 use Rattle.sac_base.specs.declared.grid.Grid1.{Grid1}
 use Rattle.sac_base.specs.Arrays.{ArrayValue}
@@ -53,6 +53,13 @@ abbrev pub job_of : Context → Values → Heap → CellLoop → Job
 job_of context e k work = cells_job context e k work (folds_of work.result) (result_of work.result (plan_of work.plan.now))
 
 -- ---- arrays over that of a marked variable
+
+abbrev pub BeginsAtZero : Grid1 → Type 0
+BeginsAtZero axis = axis.lo ≡ pos 0
+
+-- each number is a member
+abbrev pub IsDense : Grid1 → Type 0
+IsDense axis = axis.step ≡ pos 1
 
 -- these are the indices of a shape, in row-major order
 pub record AreIndicesOf (shape : List ℕ) (indices : List (List ℤ)) : Type 0 where

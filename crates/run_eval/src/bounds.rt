@@ -1,10 +1,12 @@
 //! The operands of with-loops, and the plans of parted loops.
 
-ghost use Rattle.std.specs.Prelude.{◌≡◌, ◌++◌, ◌-ℤ◌, IfOk, IfSome, IsTrue, All, map, option_map, pos};
+ghost use Rattle.std.specs.Prelude.{◌≡◌, ◌↔◌, ◌++◌, ◌-ℤ◌, [], IfOk, IfSome, IsTrue, All, map, option_map, pos};
+ghost use Rattle.core_fold.specs.Cells.{IsBox};
 ghost use Rattle.core_ir.specs.Meaning.{extents, name_count};
 ghost use Rattle.counted_code.specs.Machine.{bounds_of, reads};
 ghost use Rattle.counted_code.specs.Values.{Heap as MachineHeap};
 ghost use Rattle.array_with_loops.specs.Plans.{plan_of};
+ghost use Rattle.run_eval.specs.Jobs.{AreIndicesOf, BeginsAtZero, IsDense};
 ghost use Rattle.run_eval.specs.Loops.{IsWordAxis, plan_of_parts, shape_of_parts};
 ghost use Rattle.run_eval.specs.Running.{gen_head};
 ghost use Rattle.run_store.specs.Stands.{Stands};
@@ -186,4 +188,49 @@ fn joined_shape(alloc: Global, frame: &Grid, cell: &Shape) -> Result<Shape, Memo
 {
     let outer = outer_shape(alloc, frame)?;
     outer.joined(cell).ok_or(Memory)
+}
+
+/// Whether the cells at the indices of a frame are the elements of the result in order: they are scalars, and the frame is a box
+/// that begins at 0.
+pub fn is_in_order(frame: &Grid, cell: &Shape) -> bool
+    ensures { IsTrue result → AreIndicesOf (extents frame.now ++ cell.now) (members frame.now) }
+{
+    is_scalar(cell) && is_box(frame)
+}
+
+fn is_scalar(shape: &Shape) -> bool
+    ensures { IsTrue result → shape.now ≡ [] }
+{
+    shape.rank() == 0
+}
+
+fn is_box(frame: &Grid) -> bool
+    ensures { IsTrue result → IsBox frame.now }
+{
+    let axes = frame.axes();
+    all_begin_at_zero(axes) && are_dense(axes)
+}
+
+fn all_begin_at_zero(axes: &[Grid1]) -> bool
+    ensures { IsTrue result ↔ All BeginsAtZero axes.now }
+{
+    axes.iter().all(|axis| begins_at_zero(axis))
+}
+
+fn begins_at_zero(axis: &Grid1) -> bool
+    ensures { IsTrue result ↔ BeginsAtZero axis.now }
+{
+    axis.lo == 0
+}
+
+fn are_dense(axes: &[Grid1]) -> bool
+    ensures { IsTrue result ↔ All IsDense axes.now }
+{
+    axes.iter().all(|axis| is_dense(axis))
+}
+
+fn is_dense(axis: &Grid1) -> bool
+    ensures { IsTrue result ↔ IsDense axis.now }
+{
+    axis.step == 1
 }

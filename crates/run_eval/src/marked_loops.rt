@@ -4,8 +4,6 @@ ghost use Rattle.counted_code.specs.Loops.{Old, count_phase, job_does, release_r
 ghost use Rattle.counted_code.specs.Values.{Heap as MachineHeap, count_of, is_small as is_small_shape, read};
 ghost use Rattle.counted_code.specs.View.{code_parted_term};
 ghost use Rattle.run_eval.specs.Jobs.{job_of, over_does, AreIndicesOf, IsOver};
-ghost use Rattle.run_eval.specs.declared.cell_loop.LoopResult.TheVariants.{Joined};
-ghost use Rattle.core_fold.specs.Cells.{IsBox};
 ghost use Rattle.run_eval.specs.Loops.{cells_written};
 ghost use Rattle.run_eval.specs.Running.{right_in, IsAt, Told, IsOnly, IsValue, SameScopes};
 ghost use Rattle.run_over.specs.Soles.{is_only};
@@ -13,10 +11,10 @@ ghost use Rattle.run_store.specs.Stands.{Stands, lender_of};
 ghost use Rattle.run_values.specs.Numbers.{numbers};
 ghost use Rattle.run_values.specs.Scopes.{current};
 ghost use Rattle.run_values.specs.Shown.{value_of};
-ghost use Rattle.std.specs.Prelude.{◌≡◌, ◌+◌, ◌&&◌, ℕ, false, true, map, not, option_map, unsigned_abs, IfOk, OnOk};
+ghost use Rattle.std.specs.Prelude.{◌≡◌, ◌+◌, ◌&&◌, ℕ, false, true, map, not, option_map, unsigned_abs, IfOk, IsTrue, OnOk};
 
 use crate::array_loops::{loop_cell, run_cell_loop};
-use crate::bounds::parted_plan;
+use crate::bounds::{is_in_order, parted_plan};
 use crate::cell_loop::{CellLoop, CellSource, LoopResult};
 use crate::cells::count;
 use crate::phases::{Outside, Phases};
@@ -28,7 +26,7 @@ use counted_code::CodeParted;
 use run_over::{claim_over, is_sole, write_over};
 use run_store::{Store, is_small, release, same_sizes};
 use run_values::{Few, RunValue};
-use sac_base::{Grid, Memory, Shape, Site, Stop};
+use sac_base::{Memory, Shape, Site, Stop};
 
 /// The result of a marked loop. A loop without a mark and a fold, which well-marked code has none of, count as want of
 /// memory.
@@ -66,7 +64,7 @@ pub fn run_marked<P: Phases>(
         result,
     };
     let array = state.frames.get(mark);
-    let in_order = parted.cell.rank() == 0 && is_box(&parted.frame);
+    let in_order = is_in_order(&parted.frame, &parted.cell);
     run_marked_loop(&work, array, in_order, context, outside, state)
 }
 
@@ -80,8 +78,7 @@ fn run_marked_loop<P: Phases>(
     outside: Option<&Outside<P>>,
     state: &mut State<'_>,
 ) -> Result<RunValue, Stop>
-    requires rows { work.now.result ≡ Joined → in_order ≡ true → AreIndicesOf work.now.plan.now.shape work.now.plan.now.frame }
-    ensures told { (m : MachineHeap) → IsAt state.old m
+    ensures told { (m : MachineHeap) → IsAt state.old m → (IsTrue in_order → AreIndicesOf work.now.plan.now.shape work.now.plan.now.frame)
         → Told IsValue result state.new (job_does (Some (value_of array)) (job_of context.now (current state.old.frames) m work.now) m) }
     ensures scopes { OnOk result (SameScopes state.old.frames state.new.frames) }
     ensures lender { lender_of state.new.heap ≡ lender_of state.old.heap }
@@ -93,8 +90,13 @@ fn run_marked_loop<P: Phases>(
         return Ok(value);
     }
     match work.result {
-        LoopResult::Joined if in_order => run_over(work, array, context, outside, state),
-        LoopResult::Joined => run_in_place(work, array, context, outside, state),
+        LoopResult::Joined => {
+            if in_order {
+                run_over(work, array, context, outside, state)
+            } else {
+                run_in_place(work, array, context, outside, state)
+            }
+        }
         _ => Err(Stop::Memory),
     }
 }
@@ -113,10 +115,10 @@ pub fn run_over<P: Phases>(
     ensures scopes { OnOk result (SameScopes state.old.frames state.new.frames) }
     ensures lender { lender_of state.new.heap ≡ lender_of state.old.heap }
 {
-    match outside {
-        Some(phases) => phases.run_over(work, array, context, state),
-        None => run_in_place(work, array, context, outside, state),
+    if let Some(phases) = outside {
+        return phases.run_over(work, array, context, state);
     }
+    run_in_place(work, array, context, outside, state)
 }
 
 /// The same on this thread, each cell written before the next one is computed.
@@ -173,16 +175,6 @@ fn fill_in_place<P: Phases>(
         put_in_place(&mut state.heap, value, buffer, place)?;
     }
     Ok(())
-}
-
-/// Whether a frame begins at 0 and has each number of an axis.
-fn is_box(frame: &Grid) -> bool
-    ensures { result ≡ true → IsBox frame.now }
-{
-    frame
-        .axes()
-        .iter()
-        .all(|axis| axis.lo == 0 && axis.step == 1)
 }
 
 /// Whether a result of this shape is written over the buffer of an array.

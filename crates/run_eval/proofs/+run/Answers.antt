@@ -391,6 +391,9 @@ marked_loops::run_marked_loop-run_cell_loop-requires = marked_answers.run_marked
 pub marked_loops::run_marked_loop-run_over-requires : goal.marked_loops::run_marked_loop-run_over-requires
 marked_loops::run_marked_loop-run_over-requires = marked_answers.run_marked_loop-run_over-requires
 
+pub marked_loops::run_marked_loop-run_in_place-requires : goal.marked_loops::run_marked_loop-run_in_place-requires
+marked_loops::run_marked_loop-run_in_place-requires = marked_answers.run_marked_loop-run_in_place-requires
+
 pub marked_loops::run_over-run_in_place-requires : goal.marked_loops::run_over-run_in_place-requires
 marked_loops::run_over-run_in_place-requires = marked_answers.run_over-run_in_place-requires
 
@@ -409,8 +412,14 @@ marked_loops::run_marked_loop-returns-in_err-value = marked_answers.run_marked_l
 pub marked_loops::run_marked_loop-returns-then-not-over : goal.marked_loops::run_marked_loop-returns-then-not-over
 marked_loops::run_marked_loop-returns-then-not-over = marked_answers.run_marked_loop-returns-then-not-over
 
-pub marked_loops::run_marked_loop-returns-in-Joined : goal.marked_loops::run_marked_loop-returns-in-Joined
-marked_loops::run_marked_loop-returns-in-Joined = marked_answers.run_marked_loop-returns-in-Joined
+pub marked_loops::run_marked_loop-returns-then-in_order : goal.marked_loops::run_marked_loop-returns-then-in_order
+marked_loops::run_marked_loop-returns-then-in_order = marked_answers.run_marked_loop-returns-then-in_order
+
+pub marked_loops::run_marked_loop-returns-else-in_order : goal.marked_loops::run_marked_loop-returns-else-in_order
+marked_loops::run_marked_loop-returns-else-in_order = marked_answers.run_marked_loop-returns-else-in_order
+
+pub marked_loops::run_over-returns-clause-told : goal.marked_loops::run_over-returns-clause-told
+marked_loops::run_over-returns-clause-told = marked_answers.run_over-returns-clause-told
 
 pub marked_loops::run_in_place-returns-in_err-fill_in_place : goal.marked_loops::run_in_place-returns-in_err-fill_in_place
 marked_loops::run_in_place-returns-in_err-fill_in_place = marked_answers.run_in_place-returns-in_err-fill_in_place

@@ -16,7 +16,7 @@ use Rattle.run_eval.specs.Jobs.{cells_job, job_of}
 use Rattle.run_eval.specs.Loops.{IsPresent, cells_written, loop_source, source_at, unreleased}
 use Rattle.run_eval.specs.Running.{Told, ToldStop, IsValue, IsOnly, SameScopes, cells_in}
 use Rattle.run_eval.proofs.CellScopes.{scopes_after, scopes_join}
-use Rattle.run_eval.proofs.MarkedJobs.{is_spared, joined_as, marked_parts_tell, not_small, only_one, over_stops, over_tells, spared_stops, spared_tells}
+use Rattle.run_eval.proofs.MarkedJobs.{is_spared, joined_as, marked_parts_tell, not_small, only_one, over_stops, over_tells, rows_of_parts, spared_stops, spared_tells}
 use Rattle.run_eval.proofs.Measures.{parts_size}
 use Rattle.run_eval.proofs.Sizes.{parts_below}
 use Rattle.run_eval.proofs.Steps.{handed, no_scopes}
@@ -38,6 +38,10 @@ run_marked_loop-run_cell_loop-requires g t c κs p =
 
 pub run_marked_loop-run_over-requires : goal.marked_loops::run_marked_loop-run_over-requires
 run_marked_loop-run_over-requires g t c κs p =
+    (omega (arith, c.decreases), p)
+
+pub run_marked_loop-run_in_place-requires : goal.marked_loops::run_marked_loop-run_in_place-requires
+run_marked_loop-run_in_place-requires g t c κs p =
     (omega (arith, c.decreases), p)
 
 pub run_over-run_in_place-requires : goal.marked_loops::run_over-run_in_place-requires
@@ -68,7 +72,8 @@ run_marked-returns g t c =
           let meant = parted_means ctx e a.parted.now a.site m ∙ (λ j. one_value (loop_does (λ k. parted_job p.frame p.base p.cell p.op (map (cells_in ctx e) p.parts.items) a.site (reads k e)) (reused j)) m) in
           subst (Told IsOnly r st) (sym meant)
           (marked_parts_tell ctx e m p.frame p.base p.cell p.parts.items a.site mark p.op (plan_of c.in_ok-plan.plan) c.deref.result.now r st
-          (λ o x is. c.in_default-op.not-Fold o x is) c.in_ok-plan.ensures c.deref.ensures.value (c.run_marked_loop.ensures.told m at));
+          (λ o x is. c.in_default-op.not-Fold o x is) c.in_ok-plan.ensures c.deref.ensures.value
+          (c.run_marked_loop.ensures.told m at (λ ordered. rows_of_parts p.frame p.base p.cell p.op (plan_of c.in_ok-plan.plan) (λ o x is. c.in_default-op.not-Fold o x is) c.in_ok-plan.ensures (c.is_in_order.ensures ordered))));
       scopes = c.run_marked_loop.ensures.scopes;
       lender = c.run_marked_loop.ensures.lender;
     }
@@ -84,7 +89,7 @@ run_marked_loop-returns-in_err-value g t c =
     let stop = c.in_err-value.field-0.0 in
     let is : c.from_residual-in_err-value.result ≡ Err stop = search rules in
     record {
-      told = λ m at.
+      told = λ m at rows.
           let j = job_of a.context.now e m w in
           let over = sym (c.in_ok-over.ensures m at.heap) ∙ c.if-not-over.true in
           handed IsValue c.from_residual-in_err-value.result stop st (job_does (Some mark) j m) is
@@ -102,7 +107,7 @@ run_marked_loop-returns-then-not-over g t c =
     let mark = value_of a.array in
     let st = c.run_cell_loop.new.state in
     record {
-      told = λ m at.
+      told = λ m at rows.
           let j = job_of a.context.now e m w in
           let over = sym (c.in_ok-over.ensures m at.heap) ∙ c.if-not-over.true in
           spared_tells j mark m (is_spared m mark (is_small w.plan.now.shape) over) c.in_ok-value.value st (record st { heap = c.release.new.heap })
@@ -111,21 +116,42 @@ run_marked_loop-returns-then-not-over g t c =
       lender = c.in_ok-release.ensures.lender ∙ c.in_ok-value.ensures.lender;
     }
 
-pub run_marked_loop-returns-in-Joined : goal.marked_loops::run_marked_loop-returns-in-Joined
-run_marked_loop-returns-in-Joined g t c =
+pub run_marked_loop-returns-then-in_order : goal.marked_loops::run_marked_loop-returns-then-in_order
+run_marked_loop-returns-then-in_order g t c =
     let a = c.args in
     let w = a.work.now in
     let e = current a.state.now.frames in
     let mark = value_of a.array in
     record {
-      told = λ m at.
+      told = λ m at rows.
           let over = sym (c.in_ok-over.ensures m at.heap) ∙ c.if-not-over.false in
-          let small = not_small (is_small w.plan.now.shape) (is_only m mark) over in
           joined_as a.context.now e m w c.run_over.result c.run_over.new.state mark c.in-Joined.is
-          (c.run_over.ensures.told m at (small, only_one (is_small w.plan.now.shape) (is_only m mark) over));
+          (c.run_over.ensures.told m at (record {
+            large = not_small (is_small w.plan.now.shape) (is_only m mark) over;
+            only = only_one (is_small w.plan.now.shape) (is_only m mark) over;
+            in_order = rows c.if-in_order.true;
+          }));
       scopes = c.run_over.ensures.scopes;
       lender = c.run_over.ensures.lender;
     }
+
+pub run_marked_loop-returns-else-in_order : goal.marked_loops::run_marked_loop-returns-else-in_order
+run_marked_loop-returns-else-in_order g t c =
+    let a = c.args in
+    let w = a.work.now in
+    let e = current a.state.now.frames in
+    let mark = value_of a.array in
+    record {
+      told = λ m at rows.
+          let over = sym (c.in_ok-over.ensures m at.heap) ∙ c.if-not-over.false in
+          joined_as a.context.now e m w c.run_in_place.result c.run_in_place.new.state mark c.in-Joined.is
+          (c.run_in_place.ensures.told m at (not_small (is_small w.plan.now.shape) (is_only m mark) over) (only_one (is_small w.plan.now.shape) (is_only m mark) over));
+      scopes = c.run_in_place.ensures.scopes;
+      lender = c.run_in_place.ensures.lender;
+    }
+
+pub run_over-returns-clause-told : goal.marked_loops::run_over-returns-clause-told
+run_over-returns-clause-told g t c = λ m at over. c.run_in_place.ensures.told m at over.large over.only
 
 pub run_in_place-returns-in_err-fill_in_place : goal.marked_loops::run_in_place-returns-in_err-fill_in_place
 run_in_place-returns-in_err-fill_in_place g t c =
@@ -140,9 +166,9 @@ run_in_place-returns-in_err-fill_in_place g t c =
     let stop = c.in_err-fill_in_place.field-0.0 in
     let is : c.from_residual-in_err-fill_in_place.result ≡ Err stop = search rules in
     record {
-      told = λ m at over.
+      told = λ m at small only.
           handed IsValue c.from_residual-in_err-fill_in_place.result stop s1 (job_does (Some (value_of a.array)) (cells_job ctx (current s.frames) m w false (joined p.form.base p.shape)) m) is
-          (over_stops ctx w s s0 m c.in_ok-begin_in_place.ensures.frames over.0 (value_of a.array) i.buffer.born i.field-0 (map unsigned_abs (numbers i.extents)) (ap value_of i.is) over.1
+          (over_stops ctx w s s0 m c.in_ok-begin_in_place.ensures.frames small (value_of a.array) i.buffer.born i.field-0 (map unsigned_abs (numbers i.extents)) (ap value_of i.is) only
           stop s1 (c.in_ok-begin_in_place.ensures.begun m (length p.frame) (sym c.count.ensures) at) c.in_err-fill_in_place.ensures.told);
       scopes = no_scopes (SameScopes s.frames s1.frames) c.from_residual-in_err-fill_in_place.result stop is;
       lender = c.in_err-fill_in_place.ensures.lender ∙ c.in_ok-begin_in_place.ensures.lender;
@@ -159,8 +185,8 @@ run_in_place-returns g t c =
     let s1 = c.fill_in_place.new.state in
     let i = c.in-Buffer in
     record {
-      told = λ m at over.
-          over_tells ctx w s s0 m c.in_ok-begin_in_place.ensures.frames over.0 (value_of a.array) i.buffer.born i.field-0 (map unsigned_abs (numbers i.extents)) (ap value_of i.is) over.1
+      told = λ m at small only.
+          over_tells ctx w s s0 m c.in_ok-begin_in_place.ensures.frames small (value_of a.array) i.buffer.born i.field-0 (map unsigned_abs (numbers i.extents)) (ap value_of i.is) only
           c.in_ok-fill_in_place.field-0 (Buffer p.form.base i.buffer i.extents) s1 (c.in_ok-begin_in_place.ensures.begun m (length p.frame) (sym c.count.ensures) at)
           (λ j. Ref i.buffer.born p.form.base (c.has_shape.ensures c.if-not-has_shape.false j)) c.in_ok-fill_in_place.ensures.told;
       scopes = scopes_join s.frames s0.frames s1.frames s1.frames c.in_ok-begin_in_place.ensures.frames c.in_ok-fill_in_place.ensures.scopes refl;
