@@ -1,5 +1,5 @@
 -- Loops over the array of a marked variable whose cells may all be computed before one of them is written.
-use Rattle.std.specs.Prelude.{◌≡◌, ℕ, true, is_some, [], List, ℤ, length, All}
+use Rattle.std.specs.Prelude.{◌≡◌, ◌≢◌, ℕ, [], List, ℤ, length, All, None, Ok}
 use Rattle.buffer_heap.specs.Heaps.{Held, HeapValue, IsIn, IsLive, len_of}
 use Rattle.core_ir.specs.declared.tree.Var.{Var}
 use Rattle.core_ir.specs.Meaning.{cells, cell_at, cell_form}
@@ -13,7 +13,6 @@ use Rattle.over_phases.specs.Statements.{IsElement}
 use Rattle.phase_checks.specs.Terms.{parts_term}
 use Rattle.phase_loop_cells.specs.Opened.{lent_env, meaning_in, spending_in}
 use Rattle.run_eval.specs.declared.state.Context.{Context}
-use Rattle.run_eval.specs.Loops.{part_held}
 use Rattle.sac_base.specs.declared.base.Base.{Base}
 use Rattle.sac_base.specs.declared.form.Form.{Form}
 use Rattle.sac_base.specs.Arrays.{size}
@@ -22,12 +21,13 @@ use Rattle.sac_base.specs.Arrays.{size}
 abbrev pub IsFilled : ℕ → ℕ → Held → Type 0
 IsFilled b n x = IsIn x × (x.born ≡ b) × (len_of x.content ≡ n)
 
--- at indices of so many components the cells read of the variable's array the element at their own index alone, and the cell of an index that some
--- part has is one element or a fault
+-- at indices of so many components the cells read of the variable's array the element at their own index alone, and a cell that is there is one
+-- element or a fault
 pub record ReadOwn (context : Context) (h : HeapValue) (e : Values) (parts : List CodePart) (form : Form) (x : Var) (rank : ℕ) : Type 0 where
   pub own : (indices : List (List ℤ)) → All (λ index. length index ≡ rank) indices
       → PartsReadOwn (meaning_in context) context.turns (spending_in context) (parts_term parts) form.base x indices (lent_env h e)
-  pub elements : (index : List ℤ) → length index ≡ rank → is_some (part_held parts index) ≡ true
+  pub elements : (index : List ℤ) → length index ≡ rank
+      → cell_at (cell_form form.base []) (cells (meaning_in context) context.turns (core_of_parts (parts_term parts)) (lent_env h e)) index ≢ Ok None
       → IsElement (cell_at (cell_form form.base []) (cells (meaning_in context) context.turns (core_of_parts (parts_term parts)) (lent_env h e)) index)
 
 -- The cells are scalars. The value is the reference of one of these variables alone to a buffer that an array of this shape fills, and the cells read of

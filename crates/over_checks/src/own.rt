@@ -8,7 +8,7 @@ ghost use Rattle.run_values.specs.Shown.{value_of};
 use crate::arrays::{is_array_in, is_filled};
 use crate::holders::only_holder;
 use core_ir::Var;
-use own_kernels::parts_read_own;
+use own_kernels::{own_kernels_read_own, parts_read_own};
 use phase_kernels::{KernelParts, Scope, part_kernels, part_ranges, scope_of};
 use run_values::RunValue;
 use sac_base::{Memory, Shape};
@@ -54,5 +54,6 @@ fn cells_read_own(cells: &KernelParts<'_>, array: Var, rank: usize) -> Result<bo
     let Scope { known, buffers: _ } = scope;
     let ranges = part_ranges(alloc, parts)?;
     let kernels = part_kernels(alloc, parts, &ranges, cells.cells.form, &known)?;
-    Ok(parts_read_own(&kernels, parts.len(), &known, array, rank))
+    own_kernels_read_own()?;
+    Ok(parts_read_own(&kernels, parts.len(), &known, array, rank)?)
 }

@@ -10,24 +10,24 @@ use buffer_heap::{BufferId, Heap};
 use run_store::Store;
 use sac_base::{Cell, Memory};
 
-/// Puts all cells of a result into a buffer that has one reference and as many cells, which counts as reused. What stood there is gone.
+/// Puts all elements of a result into a buffer that has one reference and as many cells, which counts as reused. What stood there is gone.
 ///
 /// # Errors
 ///
 /// `Memory`: the buffer is none of the thread's own that is in and has one reference and so many cells.
-pub fn settle_over(heap: &mut Store<'_>, id: BufferId, cells: Vec<Cell>) -> Result<(), Memory>
+pub fn settle_over(heap: &mut Store<'_>, id: BufferId, elements: Vec<Cell>) -> Result<(), Memory>
     ensures sole { OnOk result (IsLive heap.old.own id.place (IsSoleOf id.born)) }
-    ensures settled { OnOk result (heap.new ≡ record heap.old { own = settled_over heap.old.own id.place cells.items }) }
+    ensures settled { OnOk result (heap.new ≡ record heap.old { own = settled_over heap.old.own id.place elements.items }) }
     ensures lender { lender_of heap.new ≡ lender_of heap.old }
 {
     if !is_lone(&heap.own, id) {
         return Err(Memory);
     }
-    if heap.own.cells(id).len() != cells.len() {
+    if heap.own.cells(id).len() != elements.len() {
         return Err(Memory);
     }
     let _old = heap.own.reuse(id);
-    heap.own.settle(id, cells);
+    heap.own.settle(id, elements);
     Ok(())
 }
 
