@@ -1,0 +1,4 @@
+pub mod Cells
+pub mod Reading
+pub mod Whole
+pub mod Writing

@@ -1,0 +1,10 @@
+//! Laws of phases whose result is written over the array of a marked variable.
+#![tactic(auto)]
+
+ghost use Rattle.over_phases.specs.Statements.{PhasesEndOver};
+
+/// Law: in well-counted code, a marked loop of scalar cells that reach no mark, and read of the marked variable's array their own element alone, ends with
+/// what workers make of the array as it was before, written over it.
+pub fn phases_end_over()
+    ensures { PhasesEndOver }
+{}
