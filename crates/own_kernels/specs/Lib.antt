@@ -1,0 +1,3 @@
+pub mod Kernels
+pub mod Statements
+pub mod Steps
