@@ -1,3 +1,0 @@
-pub mod Kernels
-pub mod Statements
-pub mod Steps
