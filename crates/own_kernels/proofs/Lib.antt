@@ -1,0 +1,5 @@
+mod Bools
+mod Cells
+mod Gives
+mod Parts
+mod Scopes

@@ -1,0 +1,4 @@
+pub mod Kernels
+pub mod Own
+pub mod Statements
+pub mod Steps
