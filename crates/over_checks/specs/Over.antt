@@ -32,7 +32,8 @@ pub record ReadOwn (context : Context) (h : HeapValue) (e : Values) (parts : Lis
 
 -- The cells are scalars. The value is the reference of one of these variables alone to a buffer that an array of this shape fills, and the cells read of
 -- that array the element at their own index alone.
-pub record MayBeOver (context : Context) (h : HeapValue) (e : Values) (parts : List CodePart) (form : Form) (shape : List ℕ) (live : List Var) (w : Value) : Type 0 where
+pub record MayBeOver (context : Context) (h : HeapValue) (e : Values) (parts : List CodePart) (form : Form) (shape : List ℕ) (live : List Var)
+    (w : Value) : Type 0 where
   pub variable : Var
   pub buffer : ℕ
   pub base : Base

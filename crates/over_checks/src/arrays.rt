@@ -19,9 +19,7 @@ pub fn is_array_in(value: RunValue, base: Base, shape: &Shape, id: BufferId) -> 
 {
     match value {
         RunValue::Buffer(other, buffer, extents) => {
-            same_base(other, base)
-                && buffer.born() == id.born()
-                && has_shape(&extents, shape)
+            same_base(other, base) && buffer.born() == id.born() && has_shape(&extents, shape)
         }
         _ => false,
     }

@@ -16,11 +16,7 @@ use sac_base::{Memory, Shape};
 /// Whether all cells of a loop over a value's array may be computed before one of them is written: they are scalars, the value is
 /// the reference of one of the variables that they read to a buffer, of no other of them, and they read of the array the element at their own index
 /// alone.
-pub fn may_be_over(
-    cells: &KernelParts<'_>,
-    shape: &Shape,
-    value: RunValue,
-) -> Result<bool, Memory>
+pub fn may_be_over(cells: &KernelParts<'_>, shape: &Shape, value: RunValue) -> Result<bool, Memory>
     ensures { IfOk result (λ over. IsTrue over
         → MayBeOver cells.now.cells.context cells.now.cells.heap.now (current cells.now.cells.frames.now) cells.now.cells.parts.now cells.now.cells.form.now
         shape.now cells.now.live.now (value_of value)) }
@@ -46,7 +42,8 @@ pub fn may_be_over(
 fn cells_read_own(cells: &KernelParts<'_>, array: Var, rank: usize) -> Result<bool, Memory>
     requires { cells.now.cells.form.now.shape ≡ [] }
     ensures { IfOk result (λ own. IsTrue own
-        → ReadOwn cells.now.cells.context cells.now.cells.heap.now (current cells.now.cells.frames.now) cells.now.cells.parts.now cells.now.cells.form.now array rank) }
+        → ReadOwn cells.now.cells.context cells.now.cells.heap.now (current cells.now.cells.frames.now) cells.now.cells.parts.now
+        cells.now.cells.form.now array rank) }
 {
     let alloc = cells.cells.context.alloc;
     let parts = cells.cells.parts;
@@ -54,6 +51,6 @@ fn cells_read_own(cells: &KernelParts<'_>, array: Var, rank: usize) -> Result<bo
     let Scope { known, buffers: _ } = scope;
     let ranges = part_ranges(alloc, parts)?;
     let kernels = part_kernels(alloc, parts, &ranges, cells.cells.form, &known)?;
-    own_kernels_read_own()?;
-    Ok(parts_read_own(&kernels, parts.len(), &known, array, rank)?)
+    own_kernels_read_own();
+    Ok(parts_read_own(&kernels, parts.len(), &known, array, rank))
 }

@@ -207,11 +207,13 @@ module _ (context : Context) (e : Values) (parts : List CodePart) (frame : List 
         → (v : RunValue) → value_of v ≡ Ref b form.base shape → Told IsValue (Ok v) t (job_does (Some w) job m)
     over_finished es home computed there p sole heap v value =
         let ends = over_ends es (Ok tt) there computed.0 in
-        subst (Told IsValue (Ok v) t) (sym (machine_over ∙ ends.1))
-        (value, record {
-          heap = subst (λ (k : Store). Stands k ends.0) (sym heap) (main_stands (settled_over (handed h home) p es) ends.0 (over_stands h home m ends.0 b spent (length frame) p es referred stands ends.2 computed.1 sole));
-          phases = counts_as s.phases t.phases (m.phases ++ length frame ∷ []) ends.0.phases phases (sym ends.2.phases) is.phases;
-        })
+        subst (Told IsValue (Ok v) t) (sym (machine_over ∙ ends.1)) (
+          value,
+          record {
+            heap = subst (λ (k : Store). Stands k ends.0) (sym heap) (main_stands (settled_over (handed h home) p es) ends.0 (over_stands h home m ends.0 b spent (length frame) p es referred stands ends.2 computed.1 sole));
+            phases = counts_as s.phases t.phases (m.phases ++ length frame ∷ []) ends.0.phases phases (sym ends.2.phases) is.phases;
+          },
+        )
 
     -- the fault of the least position
     pub over_faulted : (es : List ℤ) (f : Fault) → Computed es (Err (Faulted f)) → AllThere → ToldStop (Faulted f) t (job_does (Some w) job m)

@@ -93,7 +93,19 @@ fn is_phase_over(
         },
         live,
     };
-    Ok(may_be_over(&cells, &plan.shape, array)?)
+    let over = may_be_over(&cells, &plan.shape, array);
+    let KernelParts {
+        cells: PartCells {
+            context: _,
+            heap: _,
+            frames: _,
+            parts: _,
+            form: _,
+            frame: _,
+        },
+        live: _,
+    } = cells;
+    Ok(over?)
 }
 
 // The same of a loop that is a phase: the cells are computed from what stands in the array, and then written over it.
