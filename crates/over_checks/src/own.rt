@@ -1,6 +1,6 @@
 //! Cells that read of an array the element at their own index alone.
 
-ghost use Rattle.std.specs.Prelude.{◌≡◌, [], IfOk, IsTrue};
+ghost use Rattle.std.specs.Prelude.{IfOk, IsTrue};
 ghost use Rattle.over_checks.specs.Over.{MayBeOver, ReadOwn};
 ghost use Rattle.run_values.specs.Scopes.{current};
 ghost use Rattle.run_values.specs.Shown.{value_of};
@@ -27,20 +27,20 @@ pub fn may_be_over(cells: &KernelParts<'_>, shape: &Shape, value: RunValue) -> R
     let Some(holder) = only_holder(cells.live, id, cells.cells.frames) else {
         return Ok(false);
     };
-    let is_same = is_array_in(value, base, shape, id)
-        && is_array_in(cells.cells.frames.get(holder), base, shape, id);
-    if !is_same || !is_filled(cells.cells.heap, id, shape) {
+    let frames = cells.cells.frames;
+    if !is_array_in(value, base, shape, id)
+        || !is_array_in(frames.get(holder), base, shape, id)
+        || !is_filled(cells.cells.heap, id, shape)
+        || cells.cells.form.shape.rank() != 0
+    {
         return Ok(false);
     }
-    if cells.cells.form.shape.rank() != 0 {
-        return Ok(false);
-    }
-    cells_read_own(cells, holder, shape.rank())
+    let own = cells_read_own(cells, holder, shape.rank())?;
+    Ok(own)
 }
 
 // Whether each part has a kernel for indices of so many components that reads of a variable's array the element at its own index alone.
 fn cells_read_own(cells: &KernelParts<'_>, array: Var, rank: usize) -> Result<bool, Memory>
-    requires { cells.now.cells.form.now.shape ≡ [] }
     ensures { IfOk result (λ own. IsTrue own
         → ReadOwn cells.now.cells.context cells.now.cells.heap.now (current cells.now.cells.frames.now) cells.now.cells.parts.now
         cells.now.cells.form.now array rank) }
