@@ -46,6 +46,7 @@ use Rattle.run_store.proofs.Changes.{some_there}
 use Rattle.run_store.proofs.Opening.{main_stands}
 use Rattle.run_values.specs.declared.value.RunValue.{RunValue}
 use Rattle.run_values.specs.Shown.{value_of}
+use Rattle.sac_base.specs.declared.base.Base.{Base}
 use Rattle.sac_base.specs.declared.faults.Fault.{Fault}
 use Rattle.sac_base.specs.declared.form.Form.{Form}
 use Rattle.sac_base.specs.declared.grid.Grid1.{Grid1}
@@ -133,6 +134,10 @@ holds_apart b x y (z ∷ xs) e all there other =
 content_length : (c : Content) (zs : List ℤ) → HasContent c zs → length zs ≡ len_of c
 content_length (In cells) zs has = ap length has
 content_length (Out len) zs has = has
+
+-- what two references that are the same have
+pub same_array : (a b : ℕ) (base old : Base) (s t : List ℕ) → Ref a base s ≡ Ref b old t → (a ≡ b) × (s ≡ t)
+same_array a b base old s t e = (cc, cc)
 
 -- ---- the law, of what is known here
 

@@ -136,7 +136,7 @@ fn over_by_workers<G: Gate, R: Threads + Sync>(
     state.heap.own.buffers_are_numbered();
     phases_end_over();
     let positions = plan.frame.count();
-    let mut books = open_books(positions, state)?;
+    let mut books = open_books(&mut state.phases, &state.heap.own, positions)?;
     let mut cells = vec![in context.alloc; 0; positions]?;
     let end = part_cells(
         workers,
