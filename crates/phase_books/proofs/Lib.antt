@@ -1,3 +1,3 @@
-mod Beginning
-mod Booking
+pub mod Beginning
+pub mod Booking
 mod Counters

@@ -1,14 +1,12 @@
 -- Loops with a mark, from what is told of their parts.
-use Rattle.std.proofs.Common.{◌≡◌, ℕ, List, [], map, Bool, true, false, true≢false, refl, sym, ap, ◌∙◌, subst, Result, Ok, Some, None}
+use Rattle.std.proofs.Common.{◌≡◌, ℕ, List, map, Bool, true, false, true≢false, refl, sym, ap, ◌∙◌, subst, Result, Ok, Some, None}
 use Rattle.std.specs.Prelude.{◌++◌, ◌&&◌, not, length}
-use Rattle.std.proofs.lemmas.List.{append-nil}
 use Rattle.sac_base.specs.declared.base.Base.{Base}
 use Rattle.sac_base.specs.declared.grid.Grid1.{Grid1}
 use Rattle.sac_base.specs.declared.op.Op.{Op}
 use Rattle.sac_base.specs.declared.site.Site.{Site}
 use Rattle.sac_base.specs.Grids.{members}
 use Rattle.sac_base.specs.WithLoops.{Plan}
-use Rattle.core_fold.specs.Cells.{IsBox}
 use Rattle.core_ir.specs.declared.tree.PartedOp.{PartedOp}
 use Rattle.core_ir.specs.declared.tree.PartedOp.TheVariants as parted
 use Rattle.core_ir.specs.declared.tree.Var.{Var}
@@ -139,8 +137,3 @@ module _ (frame : List Grid1) (base : Base) (cell : List ℕ) where
   rows_of_parts parted.Genarray plan not is rows = subst (λ (p : Plan). AreIndicesOf p.shape p.indices) (sym is) rows
   rows_of_parts (parted.Modarray x) plan not is rows = subst (λ (p : Plan). AreIndicesOf p.shape p.indices) (sym is) rows
   rows_of_parts (parted.Fold o x) plan not is rows = absurd (not o x refl)
-
--- a box of scalars
-pub indices_of : (frame : List Grid1) (cell : List ℕ) → cell ≡ [] → IsBox frame → AreIndicesOf (extents frame ++ cell) (members frame)
-indices_of frame cell none box =
-    record { frame = frame; box = box; shape_is = ap (λ c. extents frame ++ c) none ∙ append-nil (extents frame); indices_are = refl }

@@ -73,7 +73,7 @@ run_marked-returns g t c =
           subst (Told IsOnly r st) (sym meant)
           (marked_parts_tell ctx e m p.frame p.base p.cell p.parts.items a.site mark p.op (plan_of c.in_ok-plan.plan) c.deref.result.now r st
           (λ o x is. c.in_default-op.not-Fold o x is) c.in_ok-plan.ensures c.deref.ensures.value
-          (c.run_marked_loop.ensures.told m at (λ ordered. rows_of_parts p.frame p.base p.cell p.op (plan_of c.in_ok-plan.plan) (λ o x is. c.in_default-op.not-Fold o x is) c.in_ok-plan.ensures (c.is_in_order.ensures ordered))));
+          (c.run_marked_loop.ensures.told m at (λ ordered. rows_of_parts p.frame p.base p.cell p.op (plan_of c.in_ok-plan.plan) (λ o x is. c.in_default-op.not-Fold o x is) c.in_ok-plan.ensures (c.is_in_order-in_order.ensures ordered))));
       scopes = c.run_marked_loop.ensures.scopes;
       lender = c.run_marked_loop.ensures.lender;
     }

@@ -1,4 +1,4 @@
-use Rattle.std.proofs.Common.{rules, ◌≡◌, ◌∙◌, refl, ap, sym, subst}
+use Rattle.std.proofs.Common.{rules, ◌≡◌, ◌∙◌, ap, sym, subst}
 use Rattle.phase_cells.specs.Idle.{IsLeft}
 use Rattle.run_values.specs.Scopes.{current}
 use Rattle.phase_team.specs.Segments.{IsComputed, Tells}
