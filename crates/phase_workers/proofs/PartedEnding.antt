@@ -35,7 +35,7 @@ use Rattle.run_eval.specs.Loops.{IsBegun}
 use Rattle.run_eval.specs.Running as running
 use Rattle.run_eval.specs.Running.{IsAt, IsValue, Told, ToldStop, calls_in, parts_job}
 use Rattle.phase_checks.specs.Terms.{parts_term}
-use Rattle.phase_loop_laws.specs.Ordered.{StandsAlone, balanced, begun, is_phase}
+use Rattle.phase_loop_laws.specs.Ordered.{StandsAlone, begun, is_phase}
 use Rattle.phase_loop_laws.specs.Worked as worked
 use Rattle.phase_loop_laws.specs.Worked.{PhaseEnds, unfilled}
 use Rattle.phase_loop_laws.proofs.Jobs.{phase_ends}

@@ -18,9 +18,9 @@ use Rattle.run_eval.specs.contracts.state.CountedCode.TheInside as inside
 use Rattle.phase_loop_cells.proofs.copies.Background.TheSendSync as background_shared
 use Rattle.phase_loop_cells.specs.contracts.copies.Background as background
 use Rattle.std.specs.contracts.option.Option as option
-use Rattle.std_alloc.specs.contracts.vec.Vec as vec
-use Rattle.std_heap.specs.contracts.Global as Heap
-use Rattle.std_heap.specs.contracts.GlobalAllocator.TheImpl.{ghosts}
+use Rattle.std.specs.contracts.vec.Vec as vec
+use Rattle.std.specs.contracts.alloc.Global as global
+use Rattle.std.specs.contracts.impls.GlobalAllocator.TheImpl.{ghosts}
 use Rattle.std.proofs.Crossing.{Vec-sync}
 use Rattle.phase_loop_cells.specs.contracts.gens.WithCells as cells
 use Rattle.core_ir.specs.contracts.tree.Var as var
@@ -29,7 +29,7 @@ use Rattle.phase_kernels.specs.contracts.gens.KernelCells as kernels
 counted_sync : IsSync code.the_row → (l : _) → IsSync (counted.the_row l)
 counted_sync code_sync l = view_sync (inside.the_row l) _ _ _ _ (declared_sync (inside.the_type l) (
   as_row_sync (shr_ref_field l code.the_row tt) (shr_sync _ _ code.the_row code_sync),
-  (as_row_sync (vec.the_field bool Heap.the_row ghosts) (search (Vec-sync, sendable) depth 20), (as_row_sync bool-field (search (sendable)), tt)),
+  (as_row_sync (vec.the_field bool global.the_row ghosts) (search (Vec-sync, sendable) depth 20), (as_row_sync bool-field (search (sendable)), tt)),
 ))
 
 pub context_sync : IsSync code.the_row → (l : _) → IsSync (as_row (context.the_field l))
