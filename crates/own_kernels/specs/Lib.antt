@@ -1,4 +1,3 @@
 pub mod Kernels
-pub mod Own
 pub mod Statements
 pub mod Steps

@@ -15,7 +15,7 @@ use Rattle.kernel_rows.specs.Kernels.{HasIndex, IsScope}
 use Rattle.phase_checks.specs.Terms.{parts_term}
 use Rattle.phase_laws.specs.Spending.{CallSpending}
 use Rattle.own_kernels.specs.Kernels.{ArePartKernels, parts_own}
-use Rattle.own_kernels.specs.Own.{PartsReadOwn}
+use Rattle.over_phases.specs.Own.{PartsReadOwn}
 use Rattle.own_kernels.specs.Steps.{is_own}
 
 -- the buffers differ in one alone, which has the same element at the index

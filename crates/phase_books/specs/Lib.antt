@@ -1,3 +1,4 @@
 pub mod Alive
 pub mod Calls
 pub mod Homes
+pub mod Over

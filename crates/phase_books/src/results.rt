@@ -1,9 +1,10 @@
 //! How phases begin and end.
 
-ghost use Rattle.std.specs.Prelude.{◌≡◌, ◌≤◌, ℕ, ◌+◌, ◌%◌, ◌^◌, None, Some, true, IfOk};
+ghost use Rattle.std.specs.Prelude.{◌≡◌, ◌≤◌, ℕ, ◌+◌, ◌%◌, ◌^◌, None, Some, true, IfOk, OnOk};
 ghost use Rattle.buffer_heap.specs.Heaps.{Held, at};
 ghost use Rattle.counted_code.specs.Loops.{claim as claimed, count_phase, settled};
 ghost use Rattle.counted_code.specs.Values.{Heap as MachineHeap, is_small as is_small_shape};
+ghost use Rattle.phase_count.specs.Tallies.{one_more};
 ghost use Rattle.run_eval.specs.Loops.{IsBegun};
 ghost use Rattle.run_eval.specs.Running.{IsAt, IsValue, Told};
 ghost use Rattle.run_store.specs.Stands.{lender_of};
@@ -12,7 +13,7 @@ ghost use Rattle.sac_base.specs.Arrays.{size};
 ghost use Rattle.phase_books.specs.Homes.{Has, WillHave, handed, new_behind};
 
 use buffer_heap::Heap;
-use phase_count::OpenTally;
+use phase_count::{OpenTally, PhaseCount};
 use run_eval::State;
 use run_store::{Target, claim, settle};
 use run_values::RunValue;
@@ -57,6 +58,19 @@ pub fn begin_phase(
     let home = Heap::behind(&state.heap.own);
     let books = Books { home, count };
     Ok(Begun { target, books })
+}
+
+/// Begins a phase of so many positions that claims no result, which is counted.
+pub fn open_books(phases: &mut PhaseCount, heap: &Heap, positions: usize) -> Result<Books, Memory>
+    ensures counted { OnOk result (phases.new ≡ one_more positions phases.old) }
+    ensures home { IfOk result (λ b. b.home ≡ new_behind heap.now) }
+    ensures tally { IfOk result (λ b. WillHave positions b.count phases.new) }
+{
+    let Some(count) = phases.hand_out(positions) else {
+        return Err(Memory);
+    };
+    let home = Heap::behind(heap);
+    Ok(Books { home, count })
 }
 
 /// Ends a phase without a fault: the main heap takes over the workers' heap, and the tally comes back.

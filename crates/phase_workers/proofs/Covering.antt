@@ -1,6 +1,7 @@
 -- Parted loops in which each position has a cell.
-use Rattle.std.proofs.Common.{◌≡◌, ℕ, zero, suc, ◌+◌, ◌<◌, Bool, true, false, List, [], ◌∷◌, length, ℤ, Option, Some, None, Result, Ok, Err, refl, ap, ◌∙◌, subst, arith}
+use Rattle.std.proofs.Common.{◌≡◌, ℕ, zero, suc, ◌+◌, ◌<◌, ◌≤◌, Bool, true, false, eqb, List, [], ◌∷◌, length, ℤ, Option, Some, None, Result, Ok, Err, refl, ap, ◌∙◌, subst, arith}
 use Rattle.std.specs.Prelude.{is_some, if◌then◌else◌}
+use Rattle.std.proofs.lemmas.Bool.{eqb-true, eqb-false}
 use Rattle.buffer_heap.specs.Heaps.{HeapValue}
 use Rattle.core_ir.specs.Meaning.{CallMeaning, Env, bind, first, run, cells, cell_form, cell_at, held}
 use Rattle.counted_code.specs.declared.tree.CodePart.{CodePart}
@@ -24,8 +25,8 @@ use Rattle.run_eval.specs.declared.state.Context.{Context}
 use Rattle.run_eval.specs.Loops.{part_held}
 use Rattle.phase_loop_cells.specs.Cells.{as_cell, index_at, parts_cell}
 use Rattle.phase_loop_cells.specs.Opened.{lent_env, meaning_in}
-use Rattle.phase_workers.specs.Covered.{AreCovered, EndsIf, must_be_there, no_cell}
-use Rattle.phase_books.specs.Homes.{ComputesAll}
+use Rattle.phase_workers.specs.Covered.{AreCovered, EndsIf, IfEnded, must_be_there, no_cell}
+use Rattle.phase_books.specs.Homes.{ComputesAll, left_in}
 
 -- ---- cells that are there
 
@@ -110,6 +111,40 @@ module _ (cell : ℕ → CellValue) where
   all_believed lends n k Known there es end (Err (Faulted f)) computes is =
       let c = subst (ComputesAll (cells_from musts 0 n) lends k es) is.0 computes in
       subst (λ cs. all_of cs ≡ Err f) (same_from 0 n (λ p low. there_same (cell p) (there is.1 p (omega (arith, low))))) c
+
+  -- ---- and so each place has a cell
+
+  first_there : (r : CellValue) (xs : List CellValue) (vs : List (Option (List ℤ))) → all_of (must_be_there r ∷ xs) ≡ Ok vs → r ≡ Ok None → ⊥
+  first_there (Ok None) xs vs e none = err_not_ok no_cell vs e
+  first_there (Ok (Some x)) xs vs e none = some_not_none x none
+  first_there (Err f) xs vs e none = err_not_ok f None none
+
+  rest_there : (r : CellValue) (xs : List CellValue) (vs : List (Option (List ℤ))) → all_of (must_be_there r ∷ xs) ≡ Ok vs → (ws : List (Option (List ℤ))) × (all_of xs ≡ Ok ws)
+  rest_there (Err f) xs vs e = elim (err_not_ok f vs e) [ ]
+  rest_there (Ok None) xs vs e = elim (err_not_ok no_cell vs e) [ ]
+  rest_there (Ok (Some x)) xs vs e = go (all_of xs) refl e
+    where
+      go : (r : Ends (List (Option (List ℤ)))) → all_of xs ≡ r → with_first (Some x) r ≡ Ok vs → (ws : List (Option (List ℤ))) × (all_of xs ≡ Ok ws)
+      go (Ok ws) is e = (ws, is)
+      go (Err f) is e = elim (err_not_ok f vs e) [ ]
+
+  not_none : (start n : ℕ) (vs : List (Option (List ℤ))) → all_of (cells_from musts start n) ≡ Ok vs → (p : ℕ) → start ≤ p → p < start + n → cell p ≡ Ok None → ⊥
+  not_none start zero vs e p from low none = absurd (omega (arith, from, low))
+  not_none start (suc n) vs e p from low none =
+      let rest = rest_there (cell start) (cells_from musts (suc start) n) vs e in
+      go (not_none (suc start) n rest.0 rest.1 p) (eqb start p) refl
+    where
+      go : (suc start ≤ p → p < suc start + n → cell p ≡ Ok None → ⊥) → (r : Bool) → eqb start p ≡ r → ⊥
+      go later true same = first_there (cell start) (cells_from musts (suc start) n) vs e (ap cell (eqb-true start p same) ∙ none)
+      go later false other = let apart = eqb-false start p other in later (omega (arith, from, apart)) (omega (arith, low)) none
+
+  pub all_there : (lends home : HeapValue) (n k : ℕ) (Known : Type 0) → (Known → (p : ℕ) → p < n → cell p ≡ Ok None → ⊥) → (es : List ℤ) (end r : Result (Unit {0}) Stop) → ComputesAll (cells_from musts 0 n) lends k es (left_in home end) → EndsIf Known end r
+      → IfEnded r ((p : ℕ) → p < n → cell p ≡ Ok None → ⊥)
+  all_there lends home n k Known there es end (Ok done) computes is =
+      let c = subst (λ (x : Result (Unit {0}) Stop). ComputesAll (cells_from musts 0 n) lends k es (left_in home x)) is computes in
+      λ p low. not_none 0 n c.0.0 c.0.1 p (omega arith) (omega (arith, low))
+  all_there lends home n k Known there es end (Err Memory) computes is = tt
+  all_there lends home n k Known there es end (Err (Faulted f)) computes is = there is.1
 
 -- ---- the cells of parts
 

@@ -9,7 +9,7 @@ use Rattle.phase_books.specs.Homes.{IsBehind, handed}
 use Rattle.phase_workers.proofs.Openings.{AreReferred}
 
 -- counters modulo 2^64 that are added
-added : (x y a n b : ℕ) → x ≡ a % 2 ^ 64 → y % 2 ^ 64 ≡ n % 2 ^ 64 → b ≡ a + n → (x + y) % 2 ^ 64 ≡ b % 2 ^ 64
+pub added : (x y a n b : ℕ) → x ≡ a % 2 ^ 64 → y % 2 ^ 64 ≡ n % 2 ^ 64 → b ≡ a + n → (x + y) % 2 ^ 64 ≡ b % 2 ^ 64
 added x y a n b first second sum =
     sym (add-mod-mod x y (2 ^ 64))
     ∙ ap (λ k. (x + k) % 2 ^ 64) second

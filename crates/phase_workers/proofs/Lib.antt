@@ -6,6 +6,8 @@ mod Handing
 mod LoopKinds
 mod Machines
 mod Openings
+mod OverEnding
+mod OverHeaps
 mod PartFolds
 mod PartedEnding
 mod PartsShared

@@ -80,7 +80,7 @@ module _ (context : Context) (h : HeapValue) (e : Values) (parts : List CodePart
     opens_first = open_parts (machine_of h) (stands_for_machine h below single counters);
   }
 
-  cells_same : (ps : List CodePart) → code_cells (calls_in context) context.turns (parts_term ps) e ≡ map (running.cells_in context e) ps
+  pub cells_same : (ps : List CodePart) → code_cells (calls_in context) context.turns (parts_term ps) e ≡ map (running.cells_in context e) ps
   cells_same [] = refl
   cells_same (p ∷ ps) = ap (λ rest. running.cells_in context e p ∷ rest) (cells_same ps)
 

@@ -28,3 +28,9 @@ abbrev pub EndsIf : {A : Type 0} → Type 0 → Result A Stop → Result A Stop 
 EndsIf Known end (Ok a) = end ≡ Ok a
 EndsIf Known end (Err (Faulted fault)) = (end ≡ Err (Faulted fault)) × Known
 EndsIf Known end (Err Memory) = Unit {0}
+
+-- what is known where the end says something
+abbrev pub IfEnded : {A : Type 0} → Result A Stop → Type 0 → Type 0
+IfEnded (Ok a) Known = Known
+IfEnded (Err (Faulted fault)) Known = Known
+IfEnded (Err Memory) Known = Unit {0}

@@ -1,6 +1,6 @@
 //! Parted loops that are no folds, of cells that workers compute.
 
-ghost use Rattle.std.specs.Prelude.{◌≡◌, ◌≤◌, ◌*◌, None, false, length, OnOk};
+ghost use Rattle.std.specs.Prelude.{◌≡◌, ◌≢◌, ◌<◌, ◌≤◌, ◌*◌, ℕ, None, Ok, false, length, OnOk};
 ghost use Rattle.phase_cells.specs.Idle.{IsLending};
 ghost use Rattle.counted_code.specs.Loops.{job_does};
 ghost use Rattle.counted_code.specs.Values.{Heap as MachineHeap, is_small as is_small_shape};
@@ -9,7 +9,7 @@ ghost use Rattle.phase_loop_cells.specs.Cells.{parts_cell, parts_taken};
 ghost use Rattle.phase_loop_cells.specs.Opened.{OpenParts, PartsIn};
 ghost use Rattle.phase_checks.specs.Terms.{parts_term};
 ghost use Rattle.phase_books.specs.Alive.{AreAlive};
-ghost use Rattle.phase_workers.specs.Covered.{must_be_there};
+ghost use Rattle.phase_workers.specs.Covered.{must_be_there, IfEnded};
 ghost use Rattle.phase_books.specs.Homes.{ComputesAll, IsBooked, left_in, new_behind};
 ghost use Rattle.run_eval.specs.Running.{IsAt, IsValue, Told, SameScopes, parts_job};
 ghost use Rattle.run_store.specs.Stands.{lender_of};
@@ -145,8 +145,8 @@ fn parts_by_workers<G: Gate, R: Threads + Sync>(
     }
 }
 
-// Computes the cells of all indices, each at its place.
-fn part_cells<G: Gate, R: Threads + Sync>(
+/// Computes the cells of all indices, each at its place.
+pub fn part_cells<G: Gate, R: Threads + Sync>(
     workers: &Workers<'_, G, R>,
     parts: &[CodePart],
     frame: &Frame,
@@ -165,6 +165,8 @@ fn part_cells<G: Gate, R: Threads + Sync>(
     ensures computed { ComputesAll (cells_from (parts_cell context.now heap.now (current frames.now) parts.now form.now frame.now) 0
         (length frame.now)) heap.now (cost_from (parts_taken context.now heap.now (current frames.now) parts.now frame.now) 0
         (length frame.now)) cells.new (left_in books.new.home result) }
+    ensures there { IfEnded result ((place : ℕ) → place < length frame.now
+        → parts_cell context.now heap.now (current frames.now) parts.now form.now frame.now place ≢ Ok None) }
 {
     let _code = context.code.get();
     heap.buffers_are_numbered();

@@ -11,11 +11,12 @@ ghost use Rattle.run_eval.specs.Outcomes.{new_heap, IsCleared, HasCounters, Keep
 ghost use Rattle.array_ops.specs.Tells.{TellsItems};
 
 use crate::outside::loop_outside;
+use crate::over::over_outside;
 use buffer_heap::Heap;
 use counted_code::Code;
 use phase_books::{LoopCall, Nesting, Workers};
 use phase_team::Gate;
-use run_eval::{CellLoop, Context, Plan, State, Trace, run_over_in_order, run_with_phases};
+use run_eval::{CellLoop, Context, Plan, State, Trace, run_with_phases};
 use run_values::RunValue;
 use sac_base::{Array, Stop};
 use std::alloc::Global;
@@ -66,7 +67,7 @@ pub fn run<G: Gate, R: Threads + Sync>(
             '_,
         >| -> Result<RunValue, Stop>
             ensures { IsRunOver context.now work.now array state.old result state.new }
-        { run_over_in_order(work, array, context, state) },
+        { over_outside(&workers, work, array, context, state) },
     };
     run_with_phases(alloc, code, args, heap, plan, calls, trace)
 }

@@ -5,7 +5,7 @@ use Rattle.phase_workers.specs.Covered.{AreCovered, must_be_there}
 use Rattle.phase_books.specs.Homes.{ComputesAll, IsBooked, left_in}
 use Rattle.phase_team.specs.Segments.{cells_from, cost_from}
 use Rattle.phase_workers.proofs.Believing.{booked_if, left_if}
-use Rattle.phase_workers.proofs.Covering.{all_believed, parts_there}
+use Rattle.phase_workers.proofs.Covering.{all_believed, all_there, parts_there}
 use Rattle.phase_workers.proofs.PartedEnding.{lending_parts}
 use Rattle.phase_workers.proofs.parted.part_cells.Goals as goal
 
@@ -37,3 +37,19 @@ returns-clause-booked g c =
     let a = c.args in
     booked_if (AreCovered a.parts.now a.frame.now) (length a.frame.now) a.books.now c.each_cell-end.new.books c.each_cell-end.result c.believed.result c.believed.ensures
     (subst (λ (k : ℕ). IsBooked k a.books.now c.each_cell-end.new.books c.each_cell-end.result) c.count-count.ensures c.each_cell-end.ensures.booked)
+
+pub returns-clause-there : goal.returns-clause-there
+returns-clause-there g c =
+    let a = c.args in
+    let h = a.heap.now in
+    let e = current a.frames.now in
+    let cell = parts_cell a.context.now h e a.parts.now a.form.now a.frame.now in
+    let takes = parts_taken a.context.now h e a.parts.now a.frame.now in
+    let es = c.each_cell-end.new.into in
+    let n = length a.frame.now in
+    let home = c.each_cell-end.new.books.home in
+    all_there cell h home n (cost_from takes 0 n) (AreCovered a.parts.now a.frame.now)
+    (λ covered. parts_there a.context.now h e a.parts.now a.form.now a.frame.now covered)
+    es c.each_cell-end.result c.believed.result
+    (subst (λ k. ComputesAll (cells_from (λ p. must_be_there (cell p)) 0 k) h (cost_from takes 0 k) es (left_in home c.each_cell-end.result)) c.count-count.ensures c.each_cell-end.ensures.computed)
+    c.believed.ensures
