@@ -21,8 +21,8 @@ use Rattle.run_values.specs.Shown.{value_of}
 use Rattle.sac_base.specs.declared.stop.Stop.TheVariants.{Faulted}
 use Rattle.phase_workers.proofs.over.over_by_workers.Goals as goal
 
-pub returns-in-Ok-clause-told : goal.returns-in-Ok-clause-told
-returns-in-Ok-clause-told g c m at large only rows =
+pub returns-in_ok-settle_over-in-Ok-clause-told : goal.returns-in_ok-settle_over-in-Ok-clause-told
+returns-in_ok-settle_over-in-Ok-clause-told g c m at large only rows =
     let a = c.args in
     let s0 : State = a.state.now in
     let h = s0.heap.own in
@@ -39,14 +39,14 @@ returns-in-Ok-clause-told g c m at large only rows =
     c.phases_end_over.ensures c.get-code.ensures.counted c.requires.counted c.requires.alive c.buffers_are_numbered.ensures.referred given m (own_stands s0.heap m none at.heap) large only rows
     s t (count_stands s0 s true m (length a.plan.now.frame) c.count-positions.result (sym c.count-positions.ensures) refl refl c.in_ok-books.ensures.counted at) c.end_phase.ensures.phases
     es home c.in-Ok.ensures.computed c.in-Ok.ensures.there id.place
-    (subst (λ n. IsLive h id.place (IsSoleOf n)) same.0 (subst (λ (st : Store). IsLive st.own id.place (IsSoleOf id.born)) after c.in_ok.ensures.sole))
-    (c.in_ok.ensures.settled
+    (subst (λ n. IsLive h id.place (IsSoleOf n)) same.0 (subst (λ (st : Store). IsLive st.own id.place (IsSoleOf id.born)) after c.in_ok-settle_over-in-Ok.ensures.sole))
+    (c.in_ok-settle_over-in-Ok.ensures.settled
     ∙ (λ i. record { own = settled_over (after i).own id.place (taken_back _ c.in_ok-cells.cells.len es (search rules) i); lent = (after i).lent })
     ∙ (λ i. record { own = settled_over (handed h home) id.place es; lent = none i }))
     (Buffer a.plan.now.form.base id c.in-Buffer.extents) (λ i. Ref (same.0 i) a.plan.now.form.base (same.1 i))
 
-pub returns-in-Err-Faulted-clause-told : goal.returns-in-Err-Faulted-clause-told
-returns-in-Err-Faulted-clause-told g c m at large only rows =
+pub returns-in_ok-claim_over-in-Err-Faulted-clause-told : goal.returns-in_ok-claim_over-in-Err-Faulted-clause-told
+returns-in_ok-claim_over-in-Err-Faulted-clause-told g c m at large only rows =
     let a = c.args in
     let context = a.context.now in
     let s0 : State = a.state.now in
