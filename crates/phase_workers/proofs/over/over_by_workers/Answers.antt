@@ -29,7 +29,7 @@ returns-in_ok-settle_over-in-Ok-clause-told g c m at large only rows =
     let none : s0.heap.lent ≡ None = c.requires.alone in
     let id = c.in-Buffer.buffer in
     let given = c.requires.over in
-    let same = same_array id.born given.buffer c.in-Buffer.base given.base (map unsigned_abs (numbers c.in-Buffer.extents)) a.plan.now.shape (sym (ap value_of c.in-Buffer.is) ∙ given.is) in
+    let same = same_array id.born given.buffer c.in-Buffer.field-0 given.base (map unsigned_abs (numbers c.in-Buffer.extents)) a.plan.now.shape (sym (ap value_of c.in-Buffer.is) ∙ given.is) in
     let home = c.part_cells-end.new.books.home in
     let es = c.part_cells-end.new.cells in
     let s : State = record { frames = s0.frames; heap = s0.heap; phases = c.open_books.new.phases } in
