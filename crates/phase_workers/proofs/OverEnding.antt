@@ -75,7 +75,7 @@ more_long n v vs first rest zero d low = first
 more_long n v vs first rest (suc k) d low = rest k d (omega (arith, low))
 
 kept_long : (grid : List Grid1) (vs : List (List ℤ)) → All (λ (v : List ℤ). length v ≡ length grid) (filter (has_vector grid) vs)
-kept_long grid [] k d low = absurd (omega (arith, low))
+kept_long grid [] = λ k d low. absurd (omega (arith, low))
 kept_long grid (v ∷ vs) = go (kept_long grid vs) (has_vector grid v) refl
   where
     go : All (λ (v : List ℤ). length v ≡ length grid) (filter (has_vector grid) vs) → (r : Bool) → has_vector grid v ≡ r → All (λ (v : List ℤ). length v ≡ length grid) (cond r (v ∷ filter (has_vector grid) vs) (filter (has_vector grid) vs))

@@ -54,7 +54,7 @@ use Rattle.phase_count.proofs.Tallying.{counts_as, counts_on}
 
 -- ---- cells, in the words of both
 
-same_cell : (r : Ends (Option ArrayValue)) → as_cell None r ≡ worked.as_cell None r
+pub same_cell : (r : Ends (Option ArrayValue)) → as_cell None r ≡ worked.as_cell None r
 same_cell (Ok None) = refl
 same_cell (Ok (Some a)) = refl
 same_cell (Err f) = refl

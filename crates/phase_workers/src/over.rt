@@ -31,7 +31,7 @@ use phase_team::Gate;
 use run_eval::{CellLoop, CellSource, Context, State, run_over_in_order};
 use run_over::claim_over;
 use run_values::RunValue;
-use sac_base::Stop;
+use sac_base::{Memory, Stop};
 use std::thread::Threads;
 
 /// The result of an array of the cells alone, over that of a value which is the only reference to its buffer. It is run by the
@@ -78,7 +78,7 @@ fn is_phase_over(
     context: &Context<'_>,
     live: &[Var],
     state: &State<'_>,
-) -> Result<bool, Stop>
+) -> Result<bool, Memory>
     ensures { IfOk result (λ over. IsTrue over →
         MayBeOver context.now state.now.heap.own (current state.now.frames) parts.now plan.now.form plan.now.shape live.now (value_of array)) }
 {
@@ -105,7 +105,7 @@ fn is_phase_over(
         },
         live: _,
     } = cells;
-    Ok(over?)
+    over
 }
 
 // The same of a loop that is a phase: the cells are computed from what stands in the array, and then written over it.

@@ -21,32 +21,34 @@ use Rattle.run_values.specs.Shown.{value_of}
 use Rattle.sac_base.specs.declared.stop.Stop.TheVariants.{Faulted}
 use Rattle.phase_workers.proofs.over.over_by_workers.Goals as goal
 
-pub returns-in-Ok-clause-told : goal.returns-in-Ok-clause-told
-returns-in-Ok-clause-told g c m at large only rows =
+pub returns-in_ok-settle_over-in-Ok-clause-told : goal.returns-in_ok-settle_over-in-Ok-clause-told
+returns-in_ok-settle_over-in-Ok-clause-told g c m at large only rows =
     let a = c.args in
     let s0 : State = a.state.now in
     let h = s0.heap.own in
     let none : s0.heap.lent ≡ None = c.requires.alone in
     let id = c.in-Buffer.buffer in
     let given = c.requires.over in
-    let same = same_array id.born given.buffer c.in-Buffer.base given.base (map unsigned_abs (numbers c.in-Buffer.extents)) a.plan.now.shape (sym (ap value_of c.in-Buffer.is) ∙ given.is) in
+    let same = same_array id.born given.buffer c.in-Buffer.field-0 given.base (map unsigned_abs (numbers c.in-Buffer.extents)) a.plan.now.shape (sym (ap value_of c.in-Buffer.is) ∙ given.is) in
     let home = c.part_cells-end.new.books.home in
     let es = c.part_cells-end.new.cells in
     let s : State = record { frames = s0.frames; heap = s0.heap; phases = c.open_books.new.phases } in
     let t : State = record { frames = c.end_phase.new.state.frames; heap = c.settle_over.new.heap; phases = c.end_phase.new.state.phases } in
     let after = c.end_phase.ensures.heap in
+    let len : length es ≡ c.in_ok-cells.cells.len = search rules in
     over_finished a.context.now (current s0.frames) a.parts.now a.plan.now.frame a.plan.now.form a.plan.now.shape a.live.now (value_of a.array) h
     c.phases_end_over.ensures c.get-code.ensures.counted c.requires.counted c.requires.alive c.buffers_are_numbered.ensures.referred given m (own_stands s0.heap m none at.heap) large only rows
     s t (count_stands s0 s true m (length a.plan.now.frame) c.count-positions.result (sym c.count-positions.ensures) refl refl c.in_ok-books.ensures.counted at) c.end_phase.ensures.phases
     es home c.in-Ok.ensures.computed c.in-Ok.ensures.there id.place
-    (subst (λ n. IsLive h id.place (IsSoleOf n)) same.0 (subst (λ (st : Store). IsLive st.own id.place (IsSoleOf id.born)) after c.in_ok.ensures.sole))
-    (c.in_ok.ensures.settled
-    ∙ (λ i. record { own = settled_over (after i).own id.place (taken_back _ c.in_ok-cells.cells.len es (search rules) i); lent = (after i).lent })
+    (subst (λ n. IsLive h id.place (IsSoleOf n)) same.0 (subst (λ (st : Store). IsLive st.own id.place (IsSoleOf id.born)) after c.in_ok-settle_over-in-Ok.ensures.sole))
+    (subst (λ (zs : List ℤ). c.settle_over.new.heap ≡ record { own = settled_over c.end_phase.new.state.heap.own id.place zs; lent = c.end_phase.new.state.heap.lent }) (taken_back _ c.in_ok-cells.cells.len es len)
+    c.in_ok-settle_over-in-Ok.ensures.settled
+    ∙ (λ i. record { own = settled_over (after i).own id.place es; lent = (after i).lent })
     ∙ (λ i. record { own = settled_over (handed h home) id.place es; lent = none i }))
     (Buffer a.plan.now.form.base id c.in-Buffer.extents) (λ i. Ref (same.0 i) a.plan.now.form.base (same.1 i))
 
-pub returns-in-Err-Faulted-clause-told : goal.returns-in-Err-Faulted-clause-told
-returns-in-Err-Faulted-clause-told g c m at large only rows =
+pub returns-in_ok-claim_over-in-Err-Faulted-clause-told : goal.returns-in_ok-claim_over-in-Err-Faulted-clause-told
+returns-in_ok-claim_over-in-Err-Faulted-clause-told g c m at large only rows =
     let a = c.args in
     let context = a.context.now in
     let s0 : State = a.state.now in
@@ -73,5 +75,7 @@ end_phase-requires-clause-tally g c =
 
 pub stop_phase-requires : goal.stop_phase-requires
 stop_phase-requires g c =
-    record { tally = stopped_has (length c.args.plan.now.frame) c.in_ok-books.books c.part_cells-end.new.books c.open_books.new.phases c.part_cells-end.result c.in-Err-Faulted.fault
-    (subst (λ (k : ℕ). WillHave k c.in_ok-books.books.count c.open_books.new.phases) c.count-positions.ensures c.in_ok-books.ensures.tally) c.part_cells-end.ensures.booked (search rules) }
+    record {
+      tally = stopped_has (length c.args.plan.now.frame) c.in_ok-books.books c.part_cells-end.new.books c.open_books.new.phases c.part_cells-end.result c.in-Err-Faulted.fault
+          (subst (λ (k : ℕ). WillHave k c.in_ok-books.books.count c.open_books.new.phases) c.count-positions.ensures c.in_ok-books.ensures.tally) c.part_cells-end.ensures.booked (search rules);
+    }
