@@ -1,6 +1,7 @@
 -- Cells of parts that have kernels: each is one element, or a fault.
 use Rattle.std.proofs.Common.{◌≡◌, ℕ, zero, suc, ◌-◌, ◌≤◌, ℤ, pos, Bool, true, false, ◌&&◌, nat_eq, nat_le, List, [], ◌∷◌, ◌++◌, length, map, replicate, Option, Some, None, Ok, Err, length-append, refl, sym, subst, ◌∙◌, arith}
 use Rattle.std.specs.Prelude.{if◌then◌else◌, IfSome}
+use Rattle.std.specs.List.{list_all}
 use Rattle.std.proofs.lemmas.Bool.{eqb-true, leb-true}
 use Rattle.std.proofs.lemmas.List.{get_or_append_left, length-replicate}
 use Rattle.sac_base.specs.declared.faults.FaultKind.TheVariants.{F6}
@@ -21,7 +22,7 @@ use Rattle.kernel_tree.specs.View.{kernel_term}
 use Rattle.kernel_lower.specs.Relations.{Known, array_of, found}
 use Rattle.kernel_rows.specs.declared.kernels.CellKernel.{CellKernel}
 use Rattle.kernel_rows.specs.Kernels.{AreCellKernels, Body, HasCellForm, HasIndex, HoldsCell, IsCellKernel, body_env}
-use Rattle.own_kernels.specs.Kernels.{holds_alone, is_own_kernel, kernels_own, own_in, part_body, parts_own}
+use Rattle.own_kernels.specs.Kernels.{holds_alone, is_kernel_for, is_own_kernel, kernels_own, own_in, part_body, parts_own}
 use Rattle.own_kernels.specs.Steps.{is_own}
 use Rattle.over_phases.specs.Statements.{IsElement}
 use Rattle.phase_checks.specs.Terms.{parts_term}
@@ -35,6 +36,22 @@ and_left false b e = e
 and_right : (a b : Bool) → (a && b) ≡ true → b ≡ true
 and_right true b e = e
 and_right false b e = absurd (cc)
+
+both : (a b : Bool) → a ≡ true → b ≡ true → (a && b) ≡ true
+both true b e f = f
+both false b e f = e
+
+-- ---- kernels for indices of so many components
+
+kernel_for : (rank buffer : ℕ) (o : Option CellKernel) → is_own_kernel rank buffer o ≡ true → is_kernel_for rank o ≡ true
+kernel_for rank buffer None own = absurd (cc)
+kernel_for rank buffer (Some k) own = and_left (nat_eq k.rank rank) (is_own k.rank buffer (kernel_term k.block)) own
+
+kernels_for : (rank buffer : ℕ) (ks : List (Option CellKernel)) → kernels_own ks rank buffer ≡ true → list_all (is_kernel_for rank) ks ≡ true
+kernels_for rank buffer [] own = refl
+kernels_for rank buffer (o ∷ ks) own =
+    both (is_kernel_for rank o) (list_all (is_kernel_for rank) ks) (kernel_for rank buffer o (and_left (is_own_kernel rank buffer o) (kernels_own ks rank buffer) own))
+    (kernels_for rank buffer ks (and_right (is_own_kernel rank buffer o) (kernels_own ks rank buffer) own))
 
 -- ---- one part
 
@@ -68,15 +85,15 @@ answer_element shape site form h bs (Err f) (Err g) has holds = tt
 some_body : (b c : Body) → ◌≡◌ {A = Option Body} (Some b) (Some c) → c ≡ b
 some_body b c e = sym (cc)
 
-module _ (calls : CallMeaning) (turns : ℕ) (bs : List ArrayValue) (e : Env) (index : List ℤ) (few : length index ≤ 8) (rank buffer : ℕ) (long : length index ≡ rank) (form : Form) (shape : ArrayValue) where
+module _ (calls : CallMeaning) (turns : ℕ) (bs : List ArrayValue) (e : Env) (index : List ℤ) (few : length index ≤ 8) (rank : ℕ) (long : length index ≡ rank) (form : Form) (shape : ArrayValue) where
   -- the cell that a body has at the index
   abbrev body_cell : Site → Body → Ends (Option ArrayValue)
   body_cell site b = and_then (first (run calls turns (core_of (code_term b.block)) (body_env e b index))) (held shape site)
 
-  body_element : (site : Site) (b : Body) (o : Option CellKernel) → is_own_kernel rank buffer o ≡ true → IfSome o (λ k. (c : Body) × (◌≡◌ {A = Option Body} (Some b) (Some c)) × IsCellKernel bs e form c k) → IsElement (body_cell site b)
+  body_element : (site : Site) (b : Body) (o : Option CellKernel) → is_kernel_for rank o ≡ true → IfSome o (λ k. (c : Body) × (◌≡◌ {A = Option Body} (Some b) (Some c)) × IsCellKernel bs e form c k) → IsElement (body_cell site b)
   body_element site b None own is = absurd (cc)
   body_element site b (Some k) own is =
-      let ranked : k.rank ≡ rank = eqb-true k.rank rank (and_left (nat_eq k.rank rank) (is_own k.rank buffer (kernel_term k.block)) own) in
+      let ranked : k.rank ≡ rank = eqb-true k.rank rank own in
       let r = registers_of index few in
       let this : IsCellKernel bs e form b k = subst (λ (c : Body). IsCellKernel bs e form c k) (some_body b is.0 is.1) is.2 in
       answer_element shape site form k.result bs (run calls turns (core_of (code_term b.block)) (body_env e b index)) (gives turns bs (kernel_term k.block) r.0) this.fits (this.cell calls turns r.0 index r.1 (long ∙ sym ranked) r.2)
@@ -86,15 +103,15 @@ module _ (calls : CallMeaning) (turns : ℕ) (bs : List ArrayValue) (e : Env) (i
   abbrev loop_cell : List CodePart → Ends (Option ArrayValue)
   loop_cell parts = cell_at shape (cells calls turns (core_of_parts (parts_term parts)) e) index
 
-  parts_element : (parts : List CodePart) (kernels : List (Option CellKernel)) → length kernels ≡ length parts → kernels_own kernels rank buffer ≡ true → AreCellKernels bs e form (map part_body parts) kernels
+  parts_element : (parts : List CodePart) (kernels : List (Option CellKernel)) → length kernels ≡ length parts → list_all (is_kernel_for rank) kernels ≡ true → AreCellKernels bs e form (map part_body parts) kernels
       → (loop_cell parts ≡ Ok None → ⊥) → IsElement (loop_cell parts)
   parts_element [] kernels many own are there = elim (there refl) [ ]
   parts_element (p ∷ parts) [] many own are there = absurd (omega (arith, many))
   parts_element (p ∷ parts) (o ∷ kernels) many own are there =
-      go (parts_element parts kernels (omega (arith, many)) (and_right (is_own_kernel rank buffer o) (kernels_own kernels rank buffer) own) (λ k. are (suc k))) (has_vector p.grid index) there
+      go (parts_element parts kernels (omega (arith, many)) (and_right (is_kernel_for rank o) (list_all (is_kernel_for rank) kernels) own) (λ k. are (suc k))) (has_vector p.grid index) there
     where
       go : ((loop_cell parts ≡ Ok None → ⊥) → IsElement (loop_cell parts)) → (inside : Bool) → ((if inside then body_cell p.site (part_body p) else loop_cell parts) ≡ Ok None → ⊥) → IsElement (if inside then body_cell p.site (part_body p) else loop_cell parts)
-      go rest true there = body_element p.site (part_body p) o (and_left (is_own_kernel rank buffer o) (kernels_own kernels rank buffer) own) (are 0)
+      go rest true there = body_element p.site (part_body p) o (and_left (is_kernel_for rank o) (list_all (is_kernel_for rank) kernels) own) (are 0)
       go rest false there = rest there
 
 -- ---- all kernels
@@ -103,7 +120,9 @@ own_elements : (calls : CallMeaning) (turns : ℕ) (parts : List CodePart) (form
     → (x : Var) (rank : ℕ) (o : Option Held) → length kernels ≡ length parts → rank ≤ 8 → own_in kernels known x rank o ≡ true → (shape : ArrayValue) (index : List ℤ) → length index ≡ rank
     → (cell_at shape (cells calls turns (core_of_parts (parts_term parts)) e) index ≡ Ok None → ⊥) → IsElement (cell_at shape (cells calls turns (core_of_parts (parts_term parts)) e) index)
 own_elements calls turns parts form known kernels bs e are x rank (Some (Whole base r b)) many few own shape index long there =
-    parts_element calls turns bs e index (omega (arith, long, few)) rank b long form shape parts kernels many (and_right (holds_alone known x b) (kernels_own kernels rank b) own) are there
+    parts_element calls turns bs e index (omega (arith, long, few)) rank long form shape parts kernels many (kernels_for rank b kernels (and_right (holds_alone known x b) (kernels_own kernels rank b) own)) are there
+own_elements calls turns parts form known kernels bs e are x rank None many few own shape index long there =
+    parts_element calls turns bs e index (omega (arith, long, few)) rank long form shape parts kernels many own are there
 own_elements calls turns parts form known kernels bs e are x rank o many few own shape index long there = absurd (cc)
 
 pub elements_own : (calls : CallMeaning) (turns : ℕ) (parts : List CodePart) (form : Form) (known : Known) (kernels : List (Option CellKernel)) (bs : List ArrayValue) (e : Env) → AreCellKernels bs e form (map part_body parts) kernels
