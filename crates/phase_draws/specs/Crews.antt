@@ -8,13 +8,13 @@ use Rattle.phase_draws.specs.declared.rooms.Rooms.{Rooms}
 use Rattle.wl_core.specs.Machine.{CellValue, IsFold, TakesBase}
 use Rattle.phase_draws.specs.declared.share.Share.{Share}
 
--- a worker may begin at this position with n positions
-pub record Suits (cell : ℕ → CellValue) (positions width shared buffers : ℕ) (share : Share) (start n : ℕ) : Type 0 where
+-- these cells may be computed in such shares, where the table has so many shared buffers
+pub record Suits (cell : ℕ → CellValue) (positions width shared buffers : ℕ) (share : Share) : Type 0 where
   pub shared_is : buffers ≡ shared
   pub width_is : share.width ≡ width
   pub size : 1 ≤ share.size
   pub few : positions ≤ 16777216
-  pub within : start + n ≤ positions
+  pub within : share.positions ≤ positions
   pub takes : TakesBase share.job
   pub held : (p : ℕ) → p < positions → cell p ≡ Ok None → IsFold share.job
 

@@ -13,8 +13,8 @@ use Rattle.phase_draws.specs.declared.phase.TeamEnd.{TeamEnd}
 use Rattle.phase_draws.specs.Chunks.{ChunkPart}
 use Rattle.phase_draws.specs.Reports.{AllOk, AreDone, Combine}
 
--- The workers have left a report of each chunk, in order. Where none of them stopped, this is what all positions cost, and the first row of a fold has the
--- values of all chunks combined.
+-- The workers have left a report of each chunk, in order. Where none of them stopped, this is what all positions cost, and the first
+-- row of a fold has the values of all chunks combined.
 pub record IsEnded (cell : ℕ → CellValue) (cost : ℕ → ℕ → ℕ) (share : Share) (parts : List ChunkPart) (before after : ℕ → ℕ) (rows : List ℤ)
     (end : TeamEnd) : Type 0 where
   pub order : map (λ r. r.chunk) end.reports.items ≡ counting 0 (length parts)

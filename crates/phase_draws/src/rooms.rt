@@ -14,6 +14,13 @@ pub(crate) struct Rooms {
     pub(crate) reports: Vec<ChunkReport>,
 }
 
+/// What a phase begins with: a slot for the part of each chunk, and room for reports.
+#[derive(Drop)]
+pub(crate) struct Begun {
+    pub(crate) slots: Vec<ChunkPart>,
+    pub(crate) rooms: Rooms,
+}
+
 /// How many workers begin: as many as there may be, but no more than chunks.
 pub(crate) fn team_of(most: u32, chunks: u64) -> usize
     requires { most ≤ 64 }

@@ -7,8 +7,8 @@ ghost use Rattle.phase_draws.specs.Chunks.{HasTwoRows, IsDone, IsPartial, PartFi
 ghost use Rattle.phase_draws.specs.Crews.{Suits, IsFresh};
 
 use crate::cells::PhaseCells;
-use crate::share::{ChunkPart, Share, Stretch};
-use count_table::{Phase, WorkerSeat};
+use crate::members::{CellWork, CellWorker};
+use crate::share::{ChunkPart, Stretch};
 use phase_team::CellEnd;
 use sac_base::{Cell, Op, Stop, apply2};
 use wl_core::Job;
@@ -47,32 +47,38 @@ pub(crate) fn combine_held(
 
 // Writes the next cells one after another, at least one of them, or up to the first that stops. Answers how many.
 fn fill_next<H, C: PhaseCells<H>>(
-    cells: &C,
-    table: &Phase<ChunkPart>,
-    seat: &mut Option<WorkerSeat<ChunkPart>>,
-    worker: &mut C::Worker,
-    share: Share,
-    start: usize,
-    count: usize,
+    work: &CellWork<'_, C>,
+    worker: &mut CellWorker<C::Worker>,
+    stretch: Stretch,
     rows: &mut [Cell],
 ) -> Result<usize, Stop>
-    requires suits { Suits (C.cell cells.now) (C.positions cells.now) (C.width cells.now) (C.shared cells.now) table.now.buffers share start count }
-    requires job { share.job ≡ Store }
-    requires seat { IsFresh table.now seat.old }
-    requires worker { C.idle cells.now worker.old }
-    requires some { 1 ≤ count }
-    requires room { length rows.old ≡ count * share.width }
-    ensures stored { StoredNext share.width (C.cell cells.now) start count rows.new result }
-    ensures worker { C.idle cells.now worker.new }
-    ensures spent { IfOk result (λ n. Costs (C.cost cells.now) start n (C.spent cells.now worker.old) (C.spent cells.now worker.new)) }
-    ensures seat { seat.new ≡ seat.old }
+    requires suits { let all = work.now.cells.now in
+        Suits (C.cell all) (C.positions all) (C.width all) (C.shared all) work.now.table.now.buffers work.now.share }
+    requires within { stretch.start + stretch.count ≤ C.positions work.now.cells.now }
+    requires job { work.now.share.job ≡ Store }
+    requires seat { IsFresh work.now.table.now worker.old.seat }
+    requires worker { C.idle work.now.cells.now worker.old.context }
+    requires some { 1 ≤ stretch.count }
+    requires room { length rows.old ≡ stretch.count * work.now.share.width }
+    ensures stored { StoredNext work.now.share.width (C.cell work.now.cells.now) stretch.start stretch.count rows.new result }
+    ensures worker { C.idle work.now.cells.now worker.new.context }
+    ensures spent { let all = work.now.cells.now in
+        IfOk result (λ n. Costs (C.cost all) stretch.start n (C.spent all worker.old.context) (C.spent all worker.new.context)) }
+    ensures seat { worker.new.seat ≡ worker.old.seat }
 {
-    let together = cells.stretch(worker, start, count, rows);
+    let Stretch { start, count } = stretch;
+    let together = work.cells.stretch(&mut worker.context, start, count, rows);
     if together > 0 {
         return Ok(together);
     }
-    let into = &mut rows[0..share.width];
-    match cells.cell(worker, table, seat, start, into) {
+    let into = &mut rows[0..work.share.width];
+    match work.cells.cell(
+        &mut worker.context,
+        work.table,
+        &mut worker.seat,
+        start,
+        into,
+    ) {
         CellEnd::Value => Ok(1),
         CellEnd::NotHeld => unreachable!(),
         CellEnd::Stopped(stop) => Err(stop),
@@ -81,38 +87,32 @@ fn fill_next<H, C: PhaseCells<H>>(
 
 // Writes cells one after another, up to the first that stops.
 fn fill<H, C: PhaseCells<H>>(
-    cells: &C,
-    table: &Phase<ChunkPart>,
-    seat: &mut Option<WorkerSeat<ChunkPart>>,
-    worker: &mut C::Worker,
-    share: Share,
-    start: usize,
-    count: usize,
+    work: &CellWork<'_, C>,
+    worker: &mut CellWorker<C::Worker>,
+    stretch: Stretch,
     rows: &mut [Cell],
 ) -> Result<bool, Stop>
-    requires suits { Suits (C.cell cells.now) (C.positions cells.now) (C.width cells.now) (C.shared cells.now) table.now.buffers share start count }
-    requires job { share.job ≡ Store }
-    requires seat { IsFresh table.now seat.old }
-    requires worker { C.idle cells.now worker.old }
-    requires room { length rows.old ≡ count * share.width }
-    ensures ran { Ran Store share.width (cells_from (C.cell cells.now) start count) rows.new result }
-    ensures worker { C.idle cells.now worker.new }
-    ensures spent { IfOk result (λ _. Costs (C.cost cells.now) start count (C.spent cells.now worker.old) (C.spent cells.now worker.new)) }
-    ensures seat { seat.new ≡ seat.old }
+    requires suits { let all = work.now.cells.now in
+        Suits (C.cell all) (C.positions all) (C.width all) (C.shared all) work.now.table.now.buffers work.now.share }
+    requires within { stretch.start + stretch.count ≤ C.positions work.now.cells.now }
+    requires job { work.now.share.job ≡ Store }
+    requires seat { IsFresh work.now.table.now worker.old.seat }
+    requires worker { C.idle work.now.cells.now worker.old.context }
+    requires room { length rows.old ≡ stretch.count * work.now.share.width }
+    ensures ran { Ran Store work.now.share.width (cells_from (C.cell work.now.cells.now) stretch.start stretch.count) rows.new result }
+    ensures worker { C.idle work.now.cells.now worker.new.context }
+    ensures spent { let all = work.now.cells.now in
+        IfOk result (λ _. Costs (C.cost all) stretch.start stretch.count (C.spent all worker.old.context) (C.spent all worker.new.context)) }
+    ensures seat { worker.new.seat ≡ worker.old.seat }
 {
     let mut done = 0;
-    while done < count {
-        let rest = &mut rows[done * share.width..];
-        match fill_next(
-            cells,
-            table,
-            seat,
-            worker,
-            share,
-            start + done,
-            count - done,
-            rest,
-        ) {
+    while done < stretch.count {
+        let next = Stretch {
+            start: stretch.start + done,
+            count: stretch.count - done,
+        };
+        let rest = &mut rows[done * work.share.width..];
+        match fill_next(work, worker, next, rest) {
             Ok(more) => done += more,
             Err(stop) => return Err(stop),
         }
@@ -122,29 +122,34 @@ fn fill<H, C: PhaseCells<H>>(
 
 // Combines cells one after another into the first row, up to the first that stops.
 fn gather<H, C: PhaseCells<H>>(
-    cells: &C,
-    table: &Phase<ChunkPart>,
-    seat: &mut Option<WorkerSeat<ChunkPart>>,
-    worker: &mut C::Worker,
-    share: Share,
+    work: &CellWork<'_, C>,
+    worker: &mut CellWorker<C::Worker>,
     op: Op,
-    start: usize,
-    count: usize,
+    stretch: Stretch,
     row: &mut [Cell],
     spare: &mut [Cell],
 ) -> Result<bool, Stop>
-    requires suits { Suits (C.cell cells.now) (C.positions cells.now) (C.width cells.now) (C.shared cells.now) table.now.buffers share start count }
-    requires seat { IsFresh table.now seat.old }
-    requires worker { C.idle cells.now worker.old }
-    requires rows { (length row.old ≡ share.width) × (length spare.old ≡ share.width) }
-    ensures ran { Gathered op share.width (cells_from (C.cell cells.now) start count) row.new result }
-    ensures worker { C.idle cells.now worker.new }
-    ensures spent { IfOk result (λ _. Costs (C.cost cells.now) start count (C.spent cells.now worker.old) (C.spent cells.now worker.new)) }
-    ensures seat { seat.new ≡ seat.old }
+    requires suits { let all = work.now.cells.now in
+        Suits (C.cell all) (C.positions all) (C.width all) (C.shared all) work.now.table.now.buffers work.now.share }
+    requires within { stretch.start + stretch.count ≤ C.positions work.now.cells.now }
+    requires seat { IsFresh work.now.table.now worker.old.seat }
+    requires worker { C.idle work.now.cells.now worker.old.context }
+    requires rows { (length row.old ≡ work.now.share.width) × (length spare.old ≡ work.now.share.width) }
+    ensures ran { Gathered op work.now.share.width (cells_from (C.cell work.now.cells.now) stretch.start stretch.count) row.new result }
+    ensures worker { C.idle work.now.cells.now worker.new.context }
+    ensures spent { let all = work.now.cells.now in
+        IfOk result (λ _. Costs (C.cost all) stretch.start stretch.count (C.spent all worker.old.context) (C.spent all worker.new.context)) }
+    ensures seat { worker.new.seat ≡ worker.old.seat }
 {
     let mut held = false;
-    for i in 0..count {
-        match cells.cell(worker, table, seat, start + i, spare) {
+    for i in 0..stretch.count {
+        match work.cells.cell(
+            &mut worker.context,
+            work.table,
+            &mut worker.seat,
+            stretch.start + i,
+            spare,
+        ) {
             CellEnd::Value => held = combine_held(op, row, held, spare, true),
             CellEnd::NotHeld => {}
             CellEnd::Stopped(stop) => return Err(stop),
@@ -155,103 +160,82 @@ fn gather<H, C: PhaseCells<H>>(
 
 // The same in rows of which the first is the value's and the second is spare.
 fn gather_rows<H, C: PhaseCells<H>>(
-    cells: &C,
-    table: &Phase<ChunkPart>,
-    seat: &mut Option<WorkerSeat<ChunkPart>>,
-    worker: &mut C::Worker,
-    share: Share,
+    work: &CellWork<'_, C>,
+    worker: &mut CellWorker<C::Worker>,
     op: Op,
-    start: usize,
-    count: usize,
+    stretch: Stretch,
     rows: &mut [Cell],
 ) -> Result<bool, Stop>
-    requires suits { Suits (C.cell cells.now) (C.positions cells.now) (C.width cells.now) (C.shared cells.now) table.now.buffers share start count }
-    requires seat { IsFresh table.now seat.old }
-    requires worker { C.idle cells.now worker.old }
-    requires rows { length rows.old ≡ share.width + share.width }
-    ensures ran { Gathered op share.width (cells_from (C.cell cells.now) start count) (take share.width rows.new) result }
-    ensures worker { C.idle cells.now worker.new }
-    ensures spent { IfOk result (λ _. Costs (C.cost cells.now) start count (C.spent cells.now worker.old) (C.spent cells.now worker.new)) }
-    ensures seat { seat.new ≡ seat.old }
+    requires suits { let all = work.now.cells.now in
+        Suits (C.cell all) (C.positions all) (C.width all) (C.shared all) work.now.table.now.buffers work.now.share }
+    requires within { stretch.start + stretch.count ≤ C.positions work.now.cells.now }
+    requires seat { IsFresh work.now.table.now worker.old.seat }
+    requires worker { C.idle work.now.cells.now worker.old.context }
+    requires rows { length rows.old ≡ work.now.share.width + work.now.share.width }
+    ensures ran { let width = work.now.share.width in
+        Gathered op width (cells_from (C.cell work.now.cells.now) stretch.start stretch.count) (take width rows.new) result }
+    ensures worker { C.idle work.now.cells.now worker.new.context }
+    ensures spent { let all = work.now.cells.now in
+        IfOk result (λ _. Costs (C.cost all) stretch.start stretch.count (C.spent all worker.old.context) (C.spent all worker.new.context)) }
+    ensures seat { worker.new.seat ≡ worker.old.seat }
 {
-    let (row, spare) = rows.split_at_mut(share.width);
-    gather(
-        cells, table, seat, worker, share, op, start, count, row, spare,
-    )
+    let (row, spare) = rows.split_at_mut(work.share.width);
+    gather(work, worker, op, stretch, row, spare)
 }
 
 // Computes the cells of one chunk into its part, up to the first that stops.
 fn fill_part<H, C: PhaseCells<H>>(
-    cells: &C,
-    table: &Phase<ChunkPart>,
-    seat: &mut Option<WorkerSeat<ChunkPart>>,
-    worker: &mut C::Worker,
-    share: Share,
+    work: &CellWork<'_, C>,
+    worker: &mut CellWorker<C::Worker>,
     stretch: Stretch,
     part: ChunkPart,
 ) -> (ChunkPart, Result<bool, Stop>)
-    requires suits { Suits (C.cell cells.now) (C.positions cells.now) (C.width cells.now) (C.shared cells.now)
-        table.now.buffers share stretch.start stretch.count }
-    requires job { share.job ≡ Store }
-    requires seat { IsFresh table.now seat.old }
-    requires worker { C.idle cells.now worker.old }
-    requires part { PartFits Store (stretch.count * share.width) part }
-    ensures done { IsDone Store share.width (cells_from (C.cell cells.now) stretch.start stretch.count) part result.0 result.1 }
-    ensures worker { C.idle cells.now worker.new }
-    ensures spent { IfOk result.1 (λ _. Costs (C.cost cells.now) stretch.start stretch.count (C.spent cells.now worker.old) (C.spent cells.now worker.new)) }
-    ensures seat { seat.new ≡ seat.old }
+    requires suits { let all = work.now.cells.now in
+        Suits (C.cell all) (C.positions all) (C.width all) (C.shared all) work.now.table.now.buffers work.now.share }
+    requires within { stretch.start + stretch.count ≤ C.positions work.now.cells.now }
+    requires job { work.now.share.job ≡ Store }
+    requires seat { IsFresh work.now.table.now worker.old.seat }
+    requires worker { C.idle work.now.cells.now worker.old.context }
+    requires part { PartFits Store (stretch.count * work.now.share.width) part }
+    ensures done { IsDone Store work.now.share.width (cells_from (C.cell work.now.cells.now) stretch.start stretch.count) part result.0 result.1 }
+    ensures worker { C.idle work.now.cells.now worker.new.context }
+    ensures spent { let all = work.now.cells.now in
+        IfOk result.1 (λ _. Costs (C.cost all) stretch.start stretch.count (C.spent all worker.old.context) (C.spent all worker.new.context)) }
+    ensures seat { worker.new.seat ≡ worker.old.seat }
 {
     let Some(mut own) = part else { unreachable!() };
-    let end = fill(
-        cells,
-        table,
-        seat,
-        worker,
-        share,
-        stretch.start,
-        stretch.count,
-        own.as_mut_slice(),
-    );
+    let end = fill(work, worker, stretch, own.as_mut_slice());
     (Some(own), end)
 }
 
 /// Computes the cells of one chunk, up to the first that stops: into its part, or combined into the first of two rows.
 pub(crate) fn run_chunk<H, C: PhaseCells<H>>(
-    cells: &C,
-    table: &Phase<ChunkPart>,
-    seat: &mut Option<WorkerSeat<ChunkPart>>,
-    worker: &mut C::Worker,
-    share: Share,
+    work: &CellWork<'_, C>,
+    worker: &mut CellWorker<C::Worker>,
     stretch: Stretch,
     part: ChunkPart,
     rows: &mut [Cell],
 ) -> (ChunkPart, Result<bool, Stop>)
-    requires suits { Suits (C.cell cells.now) (C.positions cells.now) (C.width cells.now) (C.shared cells.now)
-        table.now.buffers share stretch.start stretch.count }
-    requires seat { IsFresh table.now seat.old }
-    requires worker { C.idle cells.now worker.old }
-    requires part { PartFits share.job (stretch.count * share.width) part }
-    requires rows { HasTwoRows share.job share.width (length rows.old) }
-    ensures done { IsDone share.job share.width (cells_from (C.cell cells.now) stretch.start stretch.count) part result.0 result.1 }
-    ensures combined { IfOk result.1 (λ held. IsPartial share.job share.width (cells_from (C.cell cells.now) stretch.start stretch.count) held rows.new) }
-    ensures worker { C.idle cells.now worker.new }
-    ensures spent { IfOk result.1 (λ _. Costs (C.cost cells.now) stretch.start stretch.count (C.spent cells.now worker.old) (C.spent cells.now worker.new)) }
-    ensures seat { seat.new ≡ seat.old }
+    requires suits { let all = work.now.cells.now in
+        Suits (C.cell all) (C.positions all) (C.width all) (C.shared all) work.now.table.now.buffers work.now.share }
+    requires within { stretch.start + stretch.count ≤ C.positions work.now.cells.now }
+    requires seat { IsFresh work.now.table.now worker.old.seat }
+    requires worker { C.idle work.now.cells.now worker.old.context }
+    requires part { PartFits work.now.share.job (stretch.count * work.now.share.width) part }
+    requires rows { HasTwoRows work.now.share.job work.now.share.width (length rows.old) }
+    ensures done { let share = work.now.share in
+        IsDone share.job share.width (cells_from (C.cell work.now.cells.now) stretch.start stretch.count) part result.0 result.1 }
+    ensures combined { let share = work.now.share in
+        IfOk result.1 (λ held. IsPartial share.job share.width (cells_from (C.cell work.now.cells.now) stretch.start stretch.count) held rows.new) }
+    ensures worker { C.idle work.now.cells.now worker.new.context }
+    ensures spent { let all = work.now.cells.now in
+        IfOk result.1 (λ _. Costs (C.cost all) stretch.start stretch.count (C.spent all worker.old.context) (C.spent all worker.new.context)) }
+    ensures seat { worker.new.seat ≡ worker.old.seat }
 {
-    match share.job {
-        Job::Write => fill_part(cells, table, seat, worker, share, stretch, part),
+    match work.share.job {
+        Job::Write => fill_part(work, worker, stretch, part),
         Job::Fold(_, op) => {
-            let end = gather_rows(
-                cells,
-                table,
-                seat,
-                worker,
-                share,
-                op,
-                stretch.start,
-                stretch.count,
-                rows,
-            );
+            let end = gather_rows(work, worker, op, stretch, rows);
             (part, end)
         }
     }

@@ -40,9 +40,9 @@ parts_back-requires-clause-room g c =
 
 pub returns-clause-places : goal.returns-clause-places
 returns-clause-places g c =
-    let cell = g.C.PhaseCells.cell c.args.cells.now in
-    let cost = g.C.PhaseCells.cost c.args.cells.now in
-    let kept = g.C.PhaseCells.kept c.args.cells.now in
+    let cell = g.C.PhaseCells.cell c.args.phase.now.cells.now in
+    let cost = g.C.PhaseCells.cost c.args.phase.now.cells.now in
+    let kept = g.C.PhaseCells.kept c.args.phase.now.cells.now in
     let ps : List (Span ℤ) = c.args.parts.items in
     elim c.match-ran.branch [
       | in-Ok b ↦
@@ -56,9 +56,9 @@ returns-clause-places g c =
 
 pub returns-clause-array : goal.returns-clause-array
 returns-clause-array g c =
-    let cell = g.C.PhaseCells.cell c.args.cells.now in
-    let cost = g.C.PhaseCells.cost c.args.cells.now in
-    let kept = g.C.PhaseCells.kept c.args.cells.now in
+    let cell = g.C.PhaseCells.cell c.args.phase.now.cells.now in
+    let cost = g.C.PhaseCells.cost c.args.phase.now.cells.now in
+    let kept = g.C.PhaseCells.kept c.args.phase.now.cells.now in
     let ps : List (Span ℤ) = c.args.parts.items in
     let cells : List CellValue = cells_from cell 0 c.args.share.positions in
     elim c.match-ran.branch [
@@ -73,9 +73,9 @@ returns-clause-array g c =
 
 pub returns-clause-kept : goal.returns-clause-kept
 returns-clause-kept g c =
-    let cell = g.C.PhaseCells.cell c.args.cells.now in
-    let cost = g.C.PhaseCells.cost c.args.cells.now in
-    let kept = g.C.PhaseCells.kept c.args.cells.now in
+    let cell = g.C.PhaseCells.cell c.args.phase.now.cells.now in
+    let cost = g.C.PhaseCells.cost c.args.phase.now.cells.now in
+    let kept = g.C.PhaseCells.kept c.args.phase.now.cells.now in
     let ps : List (Span ℤ) = c.args.parts.items in
     elim c.match-ran.branch [
       | in-Ok b ↦
