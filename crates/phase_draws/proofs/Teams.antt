@@ -13,8 +13,8 @@ use Rattle.wl_core.proofs.FoldLaws.{foldable, elementwise-foldable}
 use Rattle.count_table.specs.Seats.{FrameState, PhaseId}
 use Rattle.phase_team.specs.Segments.{value_if, HasRows, MergesRows, Same}
 use Rattle.phase_team.proofs.Sequences.{same_of}
-use Rattle.phase_draws.specs.declared.share.Share.{Share}
-use Rattle.phase_draws.specs.Chunks.{ChunkPart, ChunkReport, HasThreeRows}
+use Rattle.phase_chunks.specs.declared.shares.Share.{Share}
+use Rattle.phase_chunks.specs.Chunks.{ChunkPart, ChunkReport, HasThreeRows}
 use Rattle.phase_draws.specs.Crews.{AreRooms, IsBack, IsRun, IsSettled}
 use Rattle.phase_draws.specs.Rosters.{CameBack, HasPlaces}
 use Rattle.phase_draws.specs.declared.members.Roster.{Roster}
@@ -155,6 +155,26 @@ pub frames_seated : (f₀ f₁ : FrameState ChunkPart) (rs : List ChunkReport) �
 frames_seated f₀ f₁ rs seated is = is ∙ sym (ap (λ (f : FrameState ChunkPart). map (λ (p : ℕ × ℕ). p.0) f.drawn) seated)
 
 -- ---- the roster
+
+-- a phase was opened, and nobody has begun
+pub places_opened : (cell : ℕ → CellValue) (share : Share) (table : PhaseId ChunkPart) (opening : List ℕ) (n : ℕ) (slots : List ChunkPart) (roster : Roster)
+    → roster.frame ≡ record { phase = table; opening = opening; made = 0; out = 0; drawn = []; nones = 0 } → table.parts ≡ slots → roster.begun ≡ 0 → n ≤ 64 → AreRooms (length slots) roster.rooms.items
+    → roster.reports.items ≡ [] → n * length slots ≤ vec_capacity roster.reports → HasPlaces cell share table n roster
+places_opened cell share table opening n slots roster opened parts none few rooms empty space =
+    let long : length table.parts ≡ length slots = ap (λ (l : List ChunkPart). length l) parts in
+    let all : n * length table.parts ≡ n * length slots = ap (λ (k : ℕ). n * k) long in
+    let len = ap (λ (l : List ChunkReport). length l) empty in
+    let a = roster.reports.ok.0 in
+    let seats = ap (λ (f : FrameState ChunkPart). f.made) opened in
+    record {
+      phase = ap (λ (f : FrameState ChunkPart). f.phase) opened;
+      made = omega arith;
+      begun = omega arith;
+      rooms = subst (λ (k : ℕ). AreRooms k roster.rooms.items) (sym long) rooms;
+      done = subst (λ (l : List ChunkReport). AreDone cell share table.parts l) (sym empty) tt;
+      frames = ap (λ (l : List ChunkReport). map (λ (r : ChunkReport). r.chunk) l) empty ∙ sym (ap (λ (f : FrameState ChunkPart). map (λ (p : ℕ × ℕ). p.0) f.drawn) opened);
+      space = omega arith;
+    }
 
 -- one worker is seated
 pub places_seated : (cell : ℕ → CellValue) (share : Share) (table : PhaseId ChunkPart) (roster : Roster) (f : FrameState ChunkPart) → HasPlaces cell share table (vec_len roster.rooms + 1) roster

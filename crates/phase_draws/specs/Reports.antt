@@ -4,14 +4,14 @@ use Rattle.std.specs.Prelude.{Result, IfOk, IsOk, Bool, Option, None, Some, Matc
 use Rattle.buffer_parts.specs.Spans as spans
 use Rattle.buffer_parts.specs.Spans.{Span}
 use Rattle.count_table.specs.Seats.{FrameState}
-use Rattle.phase_draws.specs.Chunks.{ChunkPart, ChunkReport, cells_of, count_of, partial_of, IsDone, PartFits}
+use Rattle.phase_chunks.specs.Chunks.{ChunkPart, ChunkReport, cells_of, count_of, partial_of, IsDone, PartFits}
 use Rattle.sac_base.specs.declared.memory.Memory.{Memory}
 use Rattle.sac_base.specs.Verdict.{each}
 use Rattle.sac_base.specs.declared.op.Op.{Op}
 use Rattle.wl_core.specs.declared.setup.Job.{Job}
 use Rattle.wl_core.specs.declared.setup.Job.TheVariants.{Write as Store, Fold}
 use Rattle.wl_core.specs.Machine.{CellValue, combine, both}
-use Rattle.phase_draws.specs.declared.share.Share.{Share}
+use Rattle.phase_chunks.specs.declared.shares.Share.{Share}
 use Rattle.phase_team.specs.Segments.{cost_from, value_if, Same}
 
 -- each chunk has a position, and its part is as long as its positions ask

@@ -1,12 +1,13 @@
 -- The workers of a phase, before and after they draw.
-use Rattle.std.specs.Prelude.{◌≡◌, ℕ, ◌+◌, ◌*◌, ◌≤◌, vec_len, vec_capacity, length, map, Bool, false, true, [], Option, Vec}
+use Rattle.std.specs.Prelude.{◌≡◌, ℕ, ◌+◌, ◌*◌, ◌≤◌, vec_len, vec_capacity, length, map, false, true, [], Option, Vec}
 use Rattle.std.specs.Global.{Global}
 use Rattle.count_table.specs.Seats.{PhaseId, WorkerState}
-use Rattle.phase_draws.specs.Chunks.{ChunkPart, ChunkReport}
-use Rattle.phase_draws.specs.Crews.{AreRooms, IsFresh, IsGoing, Suits, drawn_by}
+use Rattle.phase_chunks.specs.Chunks.{ChunkPart, ChunkReport}
+use Rattle.phase_chunks.specs.Seats.{IsFresh, Suits}
+use Rattle.phase_draws.specs.Crews.{AreRooms, IsGoing, drawn_by}
 use Rattle.phase_draws.specs.Reports.{AreDone, AreFrames, PartsFit}
 use Rattle.phase_draws.specs.declared.members.Roster.{Roster}
-use Rattle.phase_draws.specs.declared.share.Share.{Share}
+use Rattle.phase_chunks.specs.declared.shares.Share.{Share}
 use Rattle.wl_core.specs.Machine.{CellValue}
 
 -- these cells may be computed in such shares, and the table has a part for each chunk

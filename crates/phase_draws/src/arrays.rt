@@ -3,24 +3,23 @@ ghost use Rattle.std.specs.Prelude.{◌≡◌, ◌≢◌, ℕ, ◌*◌, ◌<◌,
 ghost use Rattle.std.specs.Thread.{IsSend, IsSync};
 ghost use Rattle.index_cutter.specs.Cuts.{chunks_of};
 ghost use Rattle.wl_core.specs.declared.setup.Job.TheVariants.{Write as Store};
-ghost use Rattle.chunk_reports.specs.Stops.{first_stop_of};
 ghost use Rattle.count_table.specs.Opening.{present};
-ghost use Rattle.buffer_parts.specs.Spans.{Span, KeepPlaces, joined};
+ghost use Rattle.buffer_parts.specs.Spans.{KeepPlaces, joined};
 ghost use Rattle.count_table.specs.Seats.{AreReferences};
 ghost use Rattle.phase_team.specs.Endings.{IsArray};
 ghost use Rattle.phase_team.specs.Segments.{cells_from, Costs};
-ghost use Rattle.phase_draws.specs.Crews.{HaveRoom, Suits};
-ghost use Rattle.phase_draws.specs.Endings.{Answers, IsTallied};
+ghost use Rattle.phase_chunks.specs.Seats.{Suits};
+ghost use Rattle.phase_draws.specs.Crews.{HaveRoom};
+ghost use Rattle.phase_draws.specs.Endings.{IsTallied};
 ghost use Rattle.phase_draws.specs.Reports.{IsLent};
 
-use crate::cells::PhaseCells;
-use crate::phase::{LoopPhase, TeamEnd, run_phase};
+use crate::phase::{LoopPhase, run_phase};
 use crate::rooms::{Begun, rooms_for, team_of};
-use crate::share::{ChunkPart, ChunkReport, Share};
 use buffer_parts::Part;
-use chunk_reports::{Report, first_stop};
+use chunk_reports::Report;
 use count_table::{Tally, Unopened};
 use index_cutter::{cut, lend};
+use phase_chunks::{ChunkPart, ChunkReport, PhaseCells, Share, TeamEnd, answer_of};
 use phase_team::Gate;
 use sac_base::{Cell, Memory, Stop};
 use std::alloc::Global;
@@ -96,16 +95,6 @@ fn empty_slots(slots: Vec<ChunkPart>, parts: &mut Vec<Part<Cell>>)
         if let Some(part) = slot {
             parts.push_reserved(part);
         }
-    }
-}
-
-// What an array's phase answers.
-fn answer_of(end: &TeamEnd) -> Result<(), Stop>
-    ensures { Answers (first_stop_of end.now.reports.items) end.now.held result }
-{
-    match end.held {
-        Ok(_) => first_stop(&end.reports),
-        Err(Memory) => Err(Stop::Memory),
     }
 }
 

@@ -1,18 +1,16 @@
 // The workers of a phase, each in a thread of its own.
-ghost use Rattle.std.specs.Prelude.{◌≡◌, ℕ, ◌+◌, ◌*◌, ◌^◌, ◌<◌, ◌≤◌, [], length, vec_len, vec_capacity};
+ghost use Rattle.std.specs.Prelude.{◌≡◌, ℕ, ◌+◌, ◌^◌, ◌<◌, ◌≤◌, [], length, vec_len, vec_capacity};
 ghost use Rattle.std.specs.Thread.{IsSync, IsSend};
 ghost use Rattle.phase_team.specs.Segments.{HasRows, MergesRows};
-ghost use Rattle.phase_draws.specs.Chunks.{HasThreeRows};
+ghost use Rattle.phase_chunks.specs.Chunks.{HasThreeRows};
 ghost use Rattle.phase_draws.specs.Crews.{IsBack, IsRun};
 ghost use Rattle.phase_draws.specs.Reports.{Grew, GrewBoth, HasRowsFor, Told};
 ghost use Rattle.phase_draws.specs.Rosters.{Begins, CameBack, HasPlaces, IsThrough, SuitsTable};
 
-use crate::cells::PhaseCells;
-use crate::members::{CellWorker, Member, Roster, Team};
+use crate::members::{Member, Roster, Team};
 use crate::settles::settle_member;
-use crate::share::{ChunkReport, Share};
 use crate::turns::run_turns;
-use crate::worker::combine_held;
+use phase_chunks::{CellWorker, ChunkReport, PhaseCells, Share, combine_held};
 use phase_team::Gate;
 use sac_base::{Cell, Memory};
 use std::thread::{Threads, join_mut};

@@ -1,22 +1,18 @@
 // Phases that combine their cells.
 ghost use Rattle.std.specs.Prelude.{◌≡◌, ◌+◌, ◌*◌, ◌≤◌, IsTrue, None, length, replicate, IfOk};
-ghost use Rattle.chunk_reports.specs.Stops.{first_stop_of};
 ghost use Rattle.count_table.specs.Seats.{AreReferences};
 ghost use Rattle.index_cutter.specs.Cuts.{chunks_of};
 ghost use Rattle.sac_base.specs.Verdict.{folds};
 ghost use Rattle.phase_team.specs.Endings.{IsCombined};
 ghost use Rattle.phase_team.specs.Segments.{cells_from, Costs};
 ghost use Rattle.phase_draws.specs.Crews.{HaveRoom};
-ghost use Rattle.phase_draws.specs.Endings.{Finishes, IsTallied};
+ghost use Rattle.phase_draws.specs.Endings.{IsTallied};
 
-use crate::cells::PhaseCells;
-use crate::phase::{LoopPhase, TeamEnd, run_phase};
+use crate::phase::{LoopPhase, run_phase};
 use crate::rooms::{Begun, blank_rows, no_parts, rooms_for, team_of};
-use crate::share::Share;
-use crate::worker::combine_held;
-use chunk_reports::first_stop;
 use count_table::Tally;
 use index_cutter::cut;
+use phase_chunks::{PhaseCells, Share, with_neutral};
 use phase_team::Gate;
 use sac_base::{Base, Cell, Memory, Op, Stop};
 use std::alloc::Global;
@@ -99,22 +95,5 @@ pub fn fold_phase<H: Send, C: PhaseCells<H>, G: Gate, R: Threads + Sync>(
     match run_phase(&phase, share, begun, rows, home, counts, tally) {
         Ok(end) => with_neutral(op, &end, rows, value),
         Err(_) => Err(Stop::Memory),
-    }
-}
-
-// Combines the value of a fold's first row, where it has one, with the neutral value.
-fn with_neutral(op: Op, end: &TeamEnd, rows: &[Cell], value: &mut [Cell]) -> Result<(), Stop>
-    requires { length value.old ≤ length rows.now }
-    ensures { Finishes op (first_stop_of end.now.reports.items) end.now.held rows.now value.old value.new result }
-{
-    if let Err(stop) = first_stop(&end.reports) {
-        return Err(stop);
-    }
-    match end.held {
-        Ok(held) => {
-            let _ = combine_held(op, value, true, &rows[..value.len()], held);
-            Ok(())
-        }
-        Err(Memory) => Err(Stop::Memory),
     }
 }

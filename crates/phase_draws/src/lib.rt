@@ -6,7 +6,6 @@
 #![tactic(auto)]
 
 mod arrays;
-mod cells;
 mod crew;
 mod draws;
 mod folds;
@@ -14,12 +13,9 @@ mod members;
 mod phase;
 mod rooms;
 mod settles;
-mod share;
 mod turns;
-mod worker;
 
 pub use arrays::{PhaseBooks, array_phase};
-pub use cells::PhaseCells;
 pub use folds::fold_phase;
 pub use phase::LoopPhase;
-pub use share::ChunkPart;
+pub use phase_chunks::{ChunkPart, PhaseCells};

@@ -1,14 +1,6 @@
 // Who computes the cells of a phase, and what for.
-use crate::share::{ChunkPart, ChunkReport, Share};
-use count_table::{FrameSeat, Phase, WorkerSeat};
-
-/// What is computed: the cells of the positions that are shared out so, by the phase's table.
-#[derive(Drop)]
-pub(crate) struct CellWork<'a, C> {
-    pub(crate) cells: &'a C,
-    pub(crate) table: &'a Phase<ChunkPart>,
-    pub(crate) share: Share,
-}
+use count_table::FrameSeat;
+use phase_chunks::{CellWork, CellWorker, ChunkPart, ChunkReport};
 
 /// What the workers of a phase have in common: where they run, who is told of each chunk, and what they compute.
 #[derive(Drop)]
@@ -16,12 +8,6 @@ pub(crate) struct Team<'a, C, G, R> {
     pub(crate) rt: &'a R,
     pub(crate) gate: &'a G,
     pub(crate) work: CellWork<'a, C>,
-}
-
-/// What one worker computes cells with: its seat at the table, and a context.
-pub(crate) struct CellWorker<W> {
-    pub(crate) seat: Option<WorkerSeat<ChunkPart>>,
-    pub(crate) context: W,
 }
 
 /// One worker of a team, with the reports of the chunks that it drew.

@@ -1,20 +1,20 @@
 // The table and the workers of a whole phase.
 ghost use Rattle.std.specs.Prelude.{◌≡◌, ℕ, ◌*◌, ◌≤◌, length, IfOk, IfErr};
 ghost use Rattle.count_table.specs.Seats.{AreReferences};
-ghost use Rattle.phase_draws.specs.Crews.{HaveRoom, Suits};
+ghost use Rattle.phase_chunks.specs.Seats.{Suits};
+ghost use Rattle.phase_draws.specs.Crews.{HaveRoom};
 ghost use Rattle.phase_draws.specs.Endings.{one_phase, IsEnded};
 ghost use Rattle.phase_draws.specs.Reports.{HasRowsFor, PartsFit};
 
-use crate::cells::PhaseCells;
 use crate::crew::run_team;
-use crate::members::{CellWork, Roster, Team};
+use crate::members::{Roster, Team};
 use crate::rooms::{Begun, Rooms};
-use crate::share::{ChunkPart, ChunkReport, Share};
 use chunk_reports::put_in_order;
 use count_table::{Phase, Tally, Unopened};
 use index_cutter::Cutting;
+use phase_chunks::{CellWork, ChunkPart, PhaseCells, Share, TeamEnd};
 use phase_team::Gate;
-use sac_base::{Cell, Memory};
+use sac_base::Cell;
 use std::alloc::Global;
 use std::thread::Threads;
 
@@ -29,14 +29,6 @@ pub struct LoopPhase<'a, C, G, R> {
     pub cutting: Cutting,
     pub workers: u32,
     pub positions: usize,
-}
-
-/// What the workers of a phase leave: a report of each chunk, in the order of the chunks, and whether the first row of a
-/// fold has a value.
-#[derive(Drop)]
-pub(crate) struct TeamEnd {
-    pub(crate) reports: Vec<ChunkReport>,
-    pub(crate) held: Result<bool, Memory>,
 }
 
 /// Opens a table with the parts that are in their slots, runs its workers, closes it into the tally, and puts their reports

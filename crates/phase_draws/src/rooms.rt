@@ -2,7 +2,7 @@
 ghost use Rattle.std.specs.Prelude.{◌≡◌, ◌+◌, ◌*◌, ◌<◌, ◌≤◌, None, length, replicate, IfOk};
 ghost use Rattle.phase_draws.specs.Crews.{HaveRoom};
 
-use crate::share::{ChunkPart, ChunkReport};
+use phase_chunks::{ChunkPart, ChunkReport};
 use sac_base::{Cell, Memory};
 use std::alloc::Global;
 

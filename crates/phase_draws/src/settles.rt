@@ -5,9 +5,9 @@ ghost use Rattle.phase_draws.specs.Reports.{AreFrames};
 ghost use Rattle.phase_draws.specs.Rosters.{IsThrough};
 ghost use Rattle.phase_team.specs.Segments.{Same};
 
-use crate::cells::PhaseCells;
-use crate::members::{CellWork, CellWorker, Member, Roster};
+use crate::members::{Member, Roster};
 use crate::turns::gather_reports;
+use phase_chunks::{CellWork, CellWorker, PhaseCells};
 use sac_base::Memory;
 
 /// Takes a worker's seat, its reports and its context back.

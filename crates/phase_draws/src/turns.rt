@@ -2,17 +2,17 @@
 ghost use Rattle.std.specs.Prelude.{◌≡◌, ◌+◌, ◌*◌, ◌<◌, ◌≤◌, ◌++◌, length, IfOk, Err, vec_capacity, vec_len};
 ghost use Rattle.sac_base.specs.declared.stop.Stop.TheVariants.{Memory};
 ghost use Rattle.phase_team.specs.Segments.{Costs};
-ghost use Rattle.phase_draws.specs.Chunks.{cells_of, count_of, HasThreeRows, IsDone, IsMore, PartFits};
-ghost use Rattle.phase_draws.specs.Crews.{IsFresh, Suits};
+ghost use Rattle.phase_chunks.specs.Chunks.{cells_of, count_of, HasThreeRows, IsDone, IsMore, PartFits};
+ghost use Rattle.phase_chunks.specs.Seats.{IsFresh, Suits};
 ghost use Rattle.phase_draws.specs.Reports.{Told};
 ghost use Rattle.phase_draws.specs.Rosters.{Begins, IsThrough, SuitsTable};
 
-use crate::cells::PhaseCells;
 use crate::draws::{Drawn, draw_next};
-use crate::members::{CellWork, CellWorker, Member, Team};
-use crate::share::{ChunkReport, stretch_of};
-use crate::worker::{combine_held, run_chunk};
+use crate::members::{Member, Team};
 use chunk_reports::Report;
+use phase_chunks::{
+    CellWork, CellWorker, ChunkReport, PhaseCells, combine_held, run_chunk, stretch_of,
+};
 use phase_team::Gate;
 use sac_base::{Cell, Stop};
 use wl_core::Job;

@@ -2,8 +2,8 @@ use Rattle.std.proofs.Common.{rules, ◌≡◌, ℕ, ◌*◌, length, refl, ap, 
 use Rattle.std.specs.Int.{div_ceil}
 use Rattle.index_cutter.specs.Cuts.{chunk_size}
 use Rattle.wl_core.specs.declared.setup.Job.TheVariants.{Write as Store}
-use Rattle.phase_draws.specs.Crews.{Suits}
-use Rattle.phase_draws.specs.declared.share.Share.{Share}
+use Rattle.phase_chunks.specs.Seats.{Suits}
+use Rattle.phase_chunks.specs.declared.shares.Share.{Share}
 use Rattle.phase_draws.proofs.Lent.{from_either, lent_parts, many_parts, tallied_as, untallied}
 use Rattle.phase_draws.proofs.arrays.array_phase.Goals as goal
 

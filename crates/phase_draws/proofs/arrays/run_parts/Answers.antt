@@ -8,9 +8,10 @@ use Rattle.phase_team.specs.Segments.{cells_from, Costs}
 use Rattle.chunk_reports.specs.Stops.{first_stop_of}
 use Rattle.wl_core.specs.declared.setup.Job.{Job}
 use Rattle.wl_core.specs.Machine.{CellValue}
-use Rattle.phase_draws.specs.Chunks.{ChunkPart}
+use Rattle.phase_chunks.specs.Chunks.{ChunkPart}
 use Rattle.phase_draws.specs.Crews.{HaveRoom}
-use Rattle.phase_draws.specs.Endings.{one_phase, Answers, IsEnded, IsTallied}
+use Rattle.phase_chunks.specs.Answering.{Answers}
+use Rattle.phase_draws.specs.Endings.{one_phase, IsEnded, IsTallied}
 use Rattle.phase_draws.specs.Reports.{HasRowsFor, PartsFit}
 use Rattle.phase_draws.proofs.Buffers.{as_many, buffer_answer, parts_fit, places_back, places_same}
 use Rattle.phase_draws.proofs.Neutral.{tallied}

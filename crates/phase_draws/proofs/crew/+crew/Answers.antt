@@ -1,9 +1,9 @@
-use Rattle.std.proofs.Common.{◌≡◌, ℕ, ◌-◌, ◌<◌, List, length, refl, sym, ap, subst, ◌∙◌, arith, vec_len}
+use Rattle.std.proofs.Common.{◌≡◌, ℕ, ◌-◌, ◌<◌, length, refl, ap, subst, arith, vec_len}
 use Rattle.std.proofs.lemmas.Bool.Decides.{nat_tests}
-use Rattle.phase_draws.specs.Chunks.{ChunkReport, HasThreeRows}
+use Rattle.phase_chunks.specs.Chunks.{HasThreeRows}
 use Rattle.phase_draws.specs.Reports.{HasRowsFor}
 use Rattle.phase_draws.specs.Crews.{AreRooms}
-use Rattle.phase_draws.proofs.Teams.{back_here, back_nobody, back_settled, grew_alone, grew_both, grew_none, grew_team, places_popped, places_seated, room_for, room_last, rows_apart, rows_within, rows_of_both}
+use Rattle.phase_draws.proofs.Teams.{back_here, back_nobody, back_settled, grew_both, grew_none, grew_team, places_popped, places_seated, room_for, room_last, rows_apart, rows_within, rows_of_both}
 use Rattle.phase_draws.proofs.crew.+crew.Goals as goal
 
 -- ---- a team

@@ -3,8 +3,8 @@ use Rattle.std.proofs.lemmas.List.{length-replicate}
 use Rattle.std.specs.Int.{div_ceil}
 use Rattle.index_cutter.specs.Cuts.{chunk_size}
 use Rattle.wl_core.specs.declared.setup.Job.TheVariants.{Fold}
-use Rattle.phase_draws.specs.declared.share.Share.{Share}
-use Rattle.phase_draws.specs.Chunks.{ChunkPart}
+use Rattle.phase_chunks.specs.declared.shares.Share.{Share}
+use Rattle.phase_chunks.specs.Chunks.{ChunkPart}
 use Rattle.phase_draws.specs.Crews.{HaveRoom}
 use Rattle.phase_draws.specs.Endings.{one_phase}
 use Rattle.phase_draws.specs.Reports.{PartsFit}

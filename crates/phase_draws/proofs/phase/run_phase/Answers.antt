@@ -1,10 +1,10 @@
-use Rattle.std.proofs.Common.{◌≡◌, ◌<◌, List, length, refl, sym, ap, subst, ◌∙◌, arith}
+use Rattle.std.proofs.Common.{◌≡◌, ℕ, ◌+◌, ◌*◌, ◌<◌, ◌≤◌, List, length, refl, sym, ap, subst, ◌∙◌, arith, vec_len, vec_capacity}
 use Rattle.chunk_reports.specs.Orders.{counting}
-use Rattle.phase_draws.specs.Chunks.{ChunkPart, ChunkReport}
-use Rattle.phase_draws.specs.Reports.{AreDone, Grew, PartsFit}
-use Rattle.phase_draws.specs.Rosters.{HasPlaces, SuitsTable}
+use Rattle.phase_chunks.specs.Chunks.{ChunkPart, ChunkReport}
+use Rattle.phase_draws.specs.Reports.{AreDone, Grew, HasRowsFor, PartsFit}
 use Rattle.phase_draws.proofs.Orderly.{done_sorted}
 use Rattle.phase_draws.proofs.Phases.{filled, many, once, once_many, told_sorted}
+use Rattle.phase_draws.proofs.Teams.{places_opened}
 use Rattle.phase_draws.proofs.phase.run_phase.Goals as goal
 
 pub run_team-held-requires-clause-suits : goal.run_team-held-requires-clause-suits
@@ -22,6 +22,24 @@ run_team-held-requires-clause-suits g c = λ κs outlives.
       };
       parts = subst (λ (l : List ChunkPart). PartsFit c.args.share l) (sym c.in-Ok-open_parts.ensures.parts) c.requires.parts;
     }
+
+pub run_team-held-requires-clause-places : goal.run_team-held-requires-clause-places
+run_team-held-requires-clause-places g c = λ κs outlives.
+    let room = c.requires.rooms.2 in
+    let most = c.requires.rooms.1 in
+    let slots : List ChunkPart = c.args.begun.slots.items in
+    places_opened (g.C.PhaseCells.cell c.args.phase.now.cells.now) c.args.share c.in-Ok-open_parts.opened.0 _ (vec_len c.args.begun.rooms.others + 1) slots _
+    c.in-Ok-open_parts.ensures.opened.1 c.in-Ok-open_parts.ensures.parts refl (let e = room.count in omega arith) room.others room.empty
+    (subst (λ (k : ℕ). k * length slots ≤ vec_capacity c.args.begun.rooms.reports) (sym room.count) room.all)
+
+pub run_team-held-requires-clause-room : goal.run_team-held-requires-clause-room
+run_team-held-requires-clause-room g c = λ κs outlives.
+    let room = c.requires.rooms.2 in
+    (room.mine, subst (λ (l : List ChunkPart). length l ≤ vec_capacity c.args.begun.rooms.mine) (sym c.in-Ok-open_parts.ensures.parts) room.own)
+
+pub run_team-held-requires-clause-rows : goal.run_team-held-requires-clause-rows
+run_team-held-requires-clause-rows g c = λ κs outlives.
+    subst (λ (k : ℕ). HasRowsFor c.args.share.job c.args.share.width k (length c.args.rows.now)) (sym c.requires.rooms.2.count) c.requires.rooms.3
 
 pub put_in_order-requires : goal.put_in_order-requires
 put_in_order-requires g c =

@@ -2,8 +2,9 @@ use Rattle.std.proofs.Common.{◌≡◌, ℕ, ◌*◌, Bool, List, [], ◌∷◌
 use Rattle.sac_base.specs.declared.stop.Stop.{Stop}
 use Rattle.std.specs.Prelude.{is_ok}
 use Rattle.std.proofs.lemmas.List.{length-map, map_push, length_push}
-use Rattle.phase_draws.specs.Chunks.{cells_of, count_of, IsMore, ChunkReport}
-use Rattle.phase_draws.specs.Crews.{drawn_by, IsFresh, IsGoing}
+use Rattle.phase_chunks.specs.Chunks.{cells_of, count_of, IsMore, ChunkReport}
+use Rattle.phase_chunks.specs.Seats.{IsFresh}
+use Rattle.phase_draws.specs.Crews.{drawn_by, IsGoing}
 use Rattle.phase_draws.specs.Reports.{AllOk, AreCombined, AreDone, CostOf, IsReport}
 use Rattle.phase_team.specs.Segments.{Costs}
 use Rattle.phase_draws.proofs.Bounds.{bound, bound_under, bound_push}

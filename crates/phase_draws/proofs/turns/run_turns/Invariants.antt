@@ -1,8 +1,9 @@
 use Rattle.std.proofs.Common.{◌≡◌, ◌-◌, ◌≤◌, map, length, false}
 use Rattle.std.specs.Vec.{vec_capacity}
-use Rattle.phase_draws.specs.Crews.{drawn_by, IsFresh, IsGoing}
+use Rattle.phase_chunks.specs.Seats.{IsFresh}
+use Rattle.phase_draws.specs.Crews.{drawn_by, IsGoing}
 use Rattle.phase_draws.specs.Reports.{AllOk, AreDone, Told}
-use Rattle.phase_draws.specs.Chunks.{ChunkReport}
+use Rattle.phase_chunks.specs.Chunks.{ChunkReport}
 use Rattle.phase_draws.proofs.Bounds.{bound}
 use Rattle.phase_draws.proofs.turns.run_turns.Given as goal
 

@@ -1,7 +1,7 @@
 use Rattle.std.proofs.Common.{◌≡◌, ◌*◌, ◌-◌, ◌≤◌, take}
 use Rattle.phase_team.specs.Segments.{Costs}
 use Rattle.phase_team.proofs.Stored.{Are}
-use Rattle.phase_draws.proofs.worker.fill.Given as goal
+use Rattle.phase_chunks.proofs.worker.fill.Given as goal
 
 abbrev pub decreases-loop-done : goal.decreases-loop-done
 decreases-loop-done g l = l.stretch.count - l.done

@@ -2,7 +2,7 @@ use Rattle.std.proofs.Common.{◌≡◌, List, ℤ, Option, Ok}
 use Rattle.sac_base.specs.Verdict.{each, present, combined}
 use Rattle.wl_core.specs.Machine.{combine}
 use Rattle.phase_team.specs.Segments.{cells_from, value_if, Costs, HaveWidth}
-use Rattle.phase_draws.proofs.worker.gather.Given as goal
+use Rattle.phase_chunks.proofs.worker.gather.Given as goal
 
 abbrev pub invariant-loop-i : goal.invariant-loop-i
 invariant-loop-i g l = record {

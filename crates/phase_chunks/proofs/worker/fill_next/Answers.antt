@@ -3,7 +3,7 @@ use borrow.Rule.Slice.PartMut.{post_of}
 use Rattle.phase_team.specs.declared.cells.CellEnd.{CellEnd}
 use Rattle.phase_team.specs.Segments.{Tells, row_at}
 use Rattle.phase_team.proofs.Stored.{costs_free, one_stops, one_stored, stretched}
-use Rattle.phase_draws.proofs.worker.fill_next.Goals as goal
+use Rattle.phase_chunks.proofs.worker.fill_next.Goals as goal
 
 pub returns-then-together-gt0-clause-stored : goal.returns-then-together-gt0-clause-stored
 returns-then-together-gt0-clause-stored g c =

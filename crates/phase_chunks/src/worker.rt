@@ -1,14 +1,14 @@
 // One worker, which computes the cells of one chunk.
-ghost use Rattle.std.specs.Prelude.{◌≡◌, ℕ, ◌+◌, ◌*◌, ◌<◌, ◌≤◌, length, take, IfOk};
+ghost use Rattle.std.specs.Prelude.{◌≡◌, ◌+◌, ◌*◌, ◌<◌, ◌≤◌, length, take, IfOk};
 ghost use Rattle.wl_core.specs.declared.setup.Job.TheVariants.{Write as Store};
 ghost use Rattle.wl_core.specs.Machine.{combine, both};
 ghost use Rattle.phase_team.specs.Segments.{cells_from, value_if, Costs, Gathered, Ran, StoredNext};
-ghost use Rattle.phase_draws.specs.Chunks.{HasTwoRows, IsDone, IsPartial, PartFits};
-ghost use Rattle.phase_draws.specs.Crews.{Suits, IsFresh};
+ghost use Rattle.phase_chunks.specs.Chunks.{HasTwoRows, IsDone, IsPartial, PartFits};
+ghost use Rattle.phase_chunks.specs.Seats.{Suits, IsFresh};
 
 use crate::cells::PhaseCells;
-use crate::members::{CellWork, CellWorker};
-use crate::share::{ChunkPart, Stretch};
+use crate::shares::{ChunkPart, Stretch};
+use crate::work::{CellWork, CellWorker};
 use phase_team::CellEnd;
 use sac_base::{Cell, Op, Stop, apply2};
 use wl_core::Job;
@@ -24,13 +24,7 @@ fn combine_into(op: Op, into: &mut [Cell], value: &[Cell])
 }
 
 /// Combines a value that may be missing with another, which may be missing too, and answers whether there is one then.
-pub(crate) fn combine_held(
-    op: Op,
-    into: &mut [Cell],
-    held: bool,
-    value: &[Cell],
-    more: bool,
-) -> bool
+pub fn combine_held(op: Op, into: &mut [Cell], held: bool, value: &[Cell], more: bool) -> bool
     requires { length value.now ≡ length into.old }
     ensures { value_if result into.new ≡ both (combine op) (value_if held into.old) (value_if more value.now) }
 {
@@ -209,7 +203,7 @@ fn fill_part<H, C: PhaseCells<H>>(
 }
 
 /// Computes the cells of one chunk, up to the first that stops: into its part, or combined into the first of two rows.
-pub(crate) fn run_chunk<H, C: PhaseCells<H>>(
+pub fn run_chunk<H, C: PhaseCells<H>>(
     work: &CellWork<'_, C>,
     worker: &mut CellWorker<C::Worker>,
     stretch: Stretch,

@@ -2,7 +2,7 @@ use Rattle.std.proofs.Common.{◌≡◌, ℕ, ◌-◌, ◌*◌, length, take, ap
 use borrow.Rule.Slice.PartMut.{put_mid}
 use Rattle.std.proofs.Math.Nat.{add-mul}
 use Rattle.phase_team.proofs.Stored.{costs_both, part_written, room_left, rows_fit, stops_behind, stored_both}
-use Rattle.phase_draws.proofs.worker.fill.Goals as goal
+use Rattle.phase_chunks.proofs.worker.fill.Goals as goal
 
 pub fill_next-requires-clause-room : goal.fill_next-requires-clause-room
 fill_next-requires-clause-room g c = λ κs outlives.

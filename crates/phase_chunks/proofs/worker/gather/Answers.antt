@@ -5,8 +5,8 @@ use Rattle.phase_team.specs.declared.cells.CellEnd.{CellEnd}
 use Rattle.phase_team.specs.Segments.{cells_from, value_if, Costs, HaveWidth, IsComputed, Tells}
 use Rattle.phase_team.proofs.Sequences.{widths_none}
 use Rattle.phase_team.proofs.Steps.{combined_next, combined_same, stops_gather, costs_more, costs_none}
-use Rattle.phase_draws.proofs.worker.gather.Goals as goal
-use Rattle.phase_draws.proofs.worker.gather.Goals.{in-Value, in-NotHeld}
+use Rattle.phase_chunks.proofs.worker.gather.Goals as goal
+use Rattle.phase_chunks.proofs.worker.gather.Goals.{in-Value, in-NotHeld}
 
 pub loop-i-init : goal.loop-i-init
 loop-i-init g c = record {
