@@ -21,7 +21,7 @@ use sac_base::Memory;
 use std::alloc::Global;
 
 /// The most variables that are made in one round.
-const MOST_MADE: u64 = 1_048_576;
+const MOST_MADE: u64 = 4_194_304;
 
 /// The pairs that were folded, in order.
 #[derive(Drop)]
@@ -38,7 +38,7 @@ pub struct FoldLog {
 /// # Errors
 ///
 /// `Memory`: there is none for a loop, for what is known of a variable or for an entry; there are more than 2^32 functions, one would need more than 2^32
-/// variables, or more than 1,048,576 variables were made in one round.
+/// variables, or more than 4,194,304 variables were made in one round.
 pub fn fold_all(alloc: Global, core: Core) -> Result<(Core, FoldLog), Memory>
     ensures outcome { IsWellFormed (core_term core) → IfOk result (λ new. SameOutcomeOnArrays (core_term core) (core_term new.0)) }
     ensures outside { IfOk result (λ new. SameOutside (core_term core) (core_term new.0)) }
