@@ -1,6 +1,6 @@
 //! Bindings of the core that are made one after another.
 
-ghost use Rattle.std.specs.Prelude.{◌≡◌, [], IfOk, OnOk};
+ghost use Rattle.std.specs.Prelude.{◌≡◌, [], ◌∷◌, IfOk, OnOk};
 ghost use Rattle.core_ir.specs.Terms.{Gives, chain};
 ghost use Rattle.core_ir.specs.View.{block_term, right_term};
 ghost use Rattle.core_lowering_steps.specs.Building.{Built, bound_at, fresh_at, nested, resumed, with_let};
@@ -56,10 +56,19 @@ impl Builder {
     pub fn bind(&mut self, alloc: Global, site: Site, right: Right) -> Result<Var, Memory>
         ensures { IfOk result (λ x. made (built self.new) x ≡ bound_at (built self.old) site (right_term right)) }
     {
-        let var = self.fresh()?;
-        let targets = Vec::from_slice(alloc, &[var])?;
+        let (var, targets) = self.fresh_target(alloc)?;
         self.push(targets, site, right)?;
         Ok(var)
+    }
+
+    // A new variable, and the list of it alone.
+    fn fresh_target(&mut self, alloc: Global) -> Result<(Var, Vec<Var>), Memory>
+        ensures var { IfOk result (λ x. made (built self.new) x.0 ≡ fresh_at (built self.old)) }
+        ensures targets { IfOk result (λ x. x.1.items ≡ x.0 ∷ []) }
+    {
+        let var = self.fresh()?;
+        let targets = Vec::from_slice(alloc, &[var])?;
+        Ok((var, targets))
     }
 
     /// No bindings, with new variables from here on.

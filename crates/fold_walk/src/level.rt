@@ -83,13 +83,27 @@ fn take_turn(
     ensures users { OnOk result (AreUsers users.old (map let_term behind.old.items) → AreUsers users.new (map let_term behind.new.items)) }
 {
     match found {
-        Some((place, consumer)) => {
-            users.replace(given.alloc, place, &consumer)?;
-            put(behind, place, consumer);
-            Ok(())
-        }
+        Some((place, consumer)) => replace(given.alloc, place, consumer, users, behind),
         None => keep(binding, given, table, done),
     }
+}
+
+/// Puts a binding in the place of another, and notes its uses.
+fn replace(
+    alloc: Global,
+    place: usize,
+    new: Let,
+    users: &mut Users,
+    bindings: &mut Vec<Let>,
+) -> Result<(), Memory>
+    requires { place < vec_len bindings.old }
+    ensures items { OnOk result (bindings.new.items ≡ slice_set bindings.old.items place new) }
+    ensures count { vec_len bindings.new ≡ vec_len bindings.old }
+    ensures users { OnOk result (AreUsers users.old (map let_term bindings.old.items) → AreUsers users.new (map let_term bindings.new.items)) }
+{
+    users.replace(alloc, place, &new)?;
+    put(bindings, place, new);
+    Ok(())
 }
 
 /// Puts a binding in the place of another.

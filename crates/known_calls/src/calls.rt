@@ -39,12 +39,25 @@ pub fn known_calls(
     ensures { IfOk result (λ calls. told calls.items
         ≡ known_in (shapes_of called.now) (fun_term function.now).body (typed_facts (param_vars (fun_term function.now)) types.now)) }
 {
-    let mut table = FactTable::new(alloc);
-    let vars = vars_of(alloc, &function.params)?;
-    learn_all(&mut table, &vars, known_types(alloc, types)?)?;
+    let mut table = typed_table(alloc, &function.params, types)?;
     let mut calls = Vec::new(alloc);
     let _results = find_in_block(alloc, &function.body, called, &mut table, &mut calls)?;
     Ok(calls)
+}
+
+/// What is known where a function begins whose parameters have these types.
+fn typed_table(
+    alloc: Global,
+    params: &[(Var, ArrayType)],
+    types: &[ArrayType],
+) -> Result<FactTable, Memory>
+    ensures { IfOk result (λ table. facts_of table ≡ typed_facts (map (λ p. p.0) params.now) types.now) }
+{
+    let vars = vars_of(alloc, params)?;
+    let known = known_types(alloc, types)?;
+    let mut table = FactTable::new(alloc);
+    learn_all(&mut table, &vars, known)?;
+    Ok(table)
 }
 
 fn vars_of(alloc: Global, params: &[(Var, ArrayType)]) -> Result<Vec<Var>, Memory>

@@ -2,10 +2,12 @@
 
 ghost use Rattle.std.specs.Prelude.{◌≡◌, [], ◌∷◌, IfOk, map};
 ghost use Rattle.core_ir.specs.View.{right_term, with_term};
-ghost use Rattle.fact_table.specs.Table.{fact_of};
+ghost use Rattle.fact_table.specs.Table.{fact_of, facts_of};
+ghost use Rattle.plain_facts.specs.Rights.{fact_of_right};
 
 use core_ir::{Block, Right, WithLoop};
-use fact_table::Known;
+use fact_table::{FactTable, Known};
+use plain_facts::plain_fact;
 use sac_base::Memory;
 use std::alloc::Global;
 
@@ -24,6 +26,15 @@ pub struct KnownRight {
 }
 
 impl KnownRight {
+    /// A right side without blocks and calls.
+    pub fn of_plain(alloc: Global, right: Right, table: &FactTable) -> Result<KnownRight, Memory>
+        ensures right { IfOk result (λ new. right_term new.right ≡ right_term right) }
+        ensures known { IfOk result (λ new. map fact_of new.values.items ≡ fact_of_right (right_term right) (facts_of table.now) ∷ []) }
+    {
+        let known = plain_fact(alloc, &right, table)?;
+        KnownRight::of_one(alloc, right, known)
+    }
+
     /// A right side of one value.
     pub fn of_one(alloc: Global, right: Right, known: Known) -> Result<KnownRight, Memory>
         ensures right { IfOk result (λ new. right_term new.right ≡ right_term right) }

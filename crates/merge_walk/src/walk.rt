@@ -14,7 +14,7 @@ use core_ir::{Block, CoreGen, CorePart, Let, PartedLoop, Right, WithLoop};
 use fact_table::FactTable;
 use parted_bodies::Progress;
 use plain_facts::{
-    CalledShapes, common_facts, forget, forget_index, known_of, learn_all, learn_index, plain_fact,
+    CalledShapes, common_facts, forget, forget_index, known_of, learn_all, learn_index,
 };
 use sac_base::Memory;
 use std::alloc::Global;
@@ -147,10 +147,7 @@ fn merge_right(
         }),
         Right::With(w) => merge_with(alloc, w, called, table, progress),
         Right::Parted(p) => merge_parted(alloc, p, called, table, progress),
-        plain => {
-            let known = plain_fact(alloc, &plain, table)?;
-            KnownRight::of_one(alloc, plain, known)
-        }
+        plain => KnownRight::of_plain(alloc, plain, table),
     }
 }
 

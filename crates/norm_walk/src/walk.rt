@@ -16,9 +16,7 @@ use crate::parting::{known_parted, replace_with};
 use core_ir::{Block, CoreGen, CorePart, Let, PartedLoop, Right, WithLoop};
 use fact_table::FactTable;
 use parted_bodies::Progress;
-use plain_facts::{
-    common_facts, forget, forget_index, known_of, learn_all, learn_index, plain_fact,
-};
+use plain_facts::{common_facts, forget, forget_index, known_of, learn_all, learn_index};
 use sac_base::{Memory, Site};
 use std::alloc::Global;
 
@@ -146,10 +144,7 @@ fn norm_right(
         }),
         Right::With(w) => norm_with(alloc, w, site, given, table, progress),
         Right::Parted(p) => norm_parted(alloc, p, given, table, progress),
-        plain => {
-            let known = plain_fact(alloc, &plain, table)?;
-            KnownRight::of_one(alloc, plain, known)
-        }
+        plain => KnownRight::of_plain(alloc, plain, table),
     }
 }
 

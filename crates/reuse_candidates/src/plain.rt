@@ -71,8 +71,16 @@ pub fn plain_values(
     if !own_plain(right, array, indices) {
         return Ok(None);
     }
+    one(alloc, plain_known(alloc, right, facts)?)
+}
+
+// What is known of the value, wherever it is used.
+fn plain_known(alloc: Global, right: &CodeRight, facts: &FactTable) -> Result<Known, Memory>
+    ensures { IfOk result (λ known. fact_of known
+        ≡ fact_of_right (plain_core (core_of_right (code_right_term right.now))) (facts_of facts.now)) }
+{
     let core = core_right(alloc, right)?;
-    one(alloc, plain_fact(alloc, &core, facts)?)
+    plain_fact(alloc, &core, facts)
 }
 
 /// What is known of one value.

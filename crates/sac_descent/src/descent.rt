@@ -565,8 +565,9 @@ fn assignment<'a>(place: Place, tokens: &'a [Token<'a>]) -> Read<'a, Vec<Stateme
     ensures shorter { IfOk result (λ x. length x.1.now < length tokens.now) }
 {
     let (node, rest) = assign(place, tokens)?;
+    let one = leaf::one(place, node)?;
     let (_end, rest) = cursor::expect(rest, b";")?;
-    Ok((leaf::one(place, node)?, rest))
+    Ok((one, rest))
 }
 
 #[cycle(phrase)]

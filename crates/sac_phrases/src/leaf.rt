@@ -254,30 +254,40 @@ pub fn one<'a>(
     })
 }
 
+/// The statements with one more behind them.
+fn followed_by<'a>(
+    mut list: Measured<Vec<Statement>>,
+    last: Measured<Statement>,
+) -> Result<Measured<Vec<Statement>>, Halt<'a>>
+    ensures tree { IfOk result (λ all. all.tree.items ≡ list.tree.items ++ (last.tree ∷ [])) }
+    ensures height { IfOk result (λ all. all.height ≡ max list.height last.height) }
+    ensures memory { IfErr result (λ e. e ≡ Memory) }
+{
+    list.tree.push(last.tree)?;
+    Ok(Measured {
+        tree: list.tree,
+        height: list.height.max(last.height),
+    })
+}
+
 /// The statements that a `for` is read as.
 pub fn for_loop<'a>(
     place: Place,
     start: Measured<Statement>,
     cond: Measured<Expression>,
     step: Measured<Statement>,
-    mut body: Measured<Vec<Statement>>,
+    body: Measured<Vec<Statement>>,
     site: Site,
 ) -> Result<Measured<Vec<Statement>>, Halt<'a>>
     ensures trees { IfOk result (λ list. IsFor start cond step body site list) }
     ensures height { IfOk result (λ list. IsForHeight start.height cond.height step.height body.height list.height) }
     ensures memory { IfErr result (λ e. e ≡ Memory) }
 {
-    body.tree.push(step.tree)?;
-    let body = Measured {
-        tree: body.tree,
-        height: body.height.max(step.height),
-    };
-    let turns = node::while_do(cond, body, site);
-    let height = start.height.max(turns.height);
-    let mut list = Vec::new(place.alloc);
-    list.push(start.tree)?;
-    list.push(turns.tree)?;
-    Ok(Measured { tree: list, height })
+    // Both statements stand in lists before the first `?`, which would take one apart to drop it.
+    let body = followed_by(body, step);
+    let list = one(place, start);
+    let (body, list) = (body?, list?);
+    followed_by(list, node::while_do(cond, body, site))
 }
 
 /// The assignment of an operator's result to its first operand.
@@ -293,12 +303,24 @@ pub fn update<'a>(
     ensures height { IfOk result (λ node. value.height ≤ 99 → node.height ≡ 1 + (1 + max 1 value.height)) }
     ensures memory { IfErr result (λ e. e ≡ Memory) }
 {
-    let variable = target(place.alloc, token)?;
-    let operand = node::variable(variable);
-    let value = node::binary(place, op, operand, value, site)?;
-    let mut list = Vec::new(place.alloc);
-    list.push(target(place.alloc, token)?)?;
-    Ok(node::assign(list, value))
+    let (variable, targets) = variable_and_target(place.alloc, token)?;
+    let value = node::binary(place, op, node::variable(variable), value, site)?;
+    Ok(node::assign(targets, value))
+}
+
+// The name that a token is, as a variable and as the one target.
+fn variable_and_target<'a>(
+    alloc: Global,
+    token: Token<'a>,
+) -> Result<(Target, Vec<Target>), Halt<'a>>
+    requires { is_name token.text.now ≡ true }
+    ensures variable { IfOk result (λ x. x.0 ≡ target (lexeme token.entry)) }
+    ensures targets { IfOk result (λ x. x.1.items ≡ target (lexeme token.entry) ∷ []) }
+    ensures memory { IfErr result (λ e. e ≡ Memory) }
+{
+    let mut targets = Vec::new(alloc);
+    targets.push(target(alloc, token)?)?;
+    Ok((target(alloc, token)?, targets))
 }
 
 /// What stands behind the name of a count by one.

@@ -46,6 +46,14 @@ pub fn variable(target: Target) -> Measured<Expression>
     }
 }
 
+// A tree on the heap. What is made of several waits for all of them before its first `?`, which would take a tree that stands by value apart to drop it.
+fn boxed<'a>(place: Place, tree: Expression) -> Result<Box<Expression>, Halt<'a>>
+    ensures tree { IfOk result (λ b. b.value ≡ tree) }
+    ensures memory { IfErr result (λ e. e ≡ Memory) }
+{
+    Ok(Box::new(place.alloc, tree)?)
+}
+
 /// An operator of one operand.
 pub fn unary<'a>(
     place: Place,
@@ -58,7 +66,7 @@ pub fn unary<'a>(
     ensures memory { IfErr result (λ e. e ≡ Memory) }
 {
     let height = node_height(inner.height);
-    let inner = Box::new(place.alloc, inner.tree)?;
+    let inner = boxed(place, inner.tree)?;
     Ok(Measured {
         tree: Expression::Unary(op, inner, site),
         height,
@@ -78,10 +86,10 @@ pub fn binary<'a>(
     ensures memory { IfErr result (λ e. e ≡ Memory) }
 {
     let height = node_height(left.height.max(right.height));
-    let left = Box::new(place.alloc, left.tree)?;
-    let right = Box::new(place.alloc, right.tree)?;
+    let left = boxed(place, left.tree);
+    let right = boxed(place, right.tree);
     Ok(Measured {
-        tree: Expression::Binary(op, left, right, site),
+        tree: Expression::Binary(op, left?, right?, site),
         height,
     })
 }
@@ -99,11 +107,11 @@ pub fn choice<'a>(
     ensures memory { IfErr result (λ e. e ≡ Memory) }
 {
     let height = node_height(cond.height.max(yes.height.max(no.height)));
-    let cond = Box::new(place.alloc, cond.tree)?;
-    let yes = Box::new(place.alloc, yes.tree)?;
-    let no = Box::new(place.alloc, no.tree)?;
+    let cond = boxed(place, cond.tree);
+    let yes = boxed(place, yes.tree);
+    let no = boxed(place, no.tree);
     Ok(Measured {
-        tree: Expression::Choice(cond, yes, no, site),
+        tree: Expression::Choice(cond?, yes?, no?, site),
         height,
     })
 }
@@ -120,10 +128,10 @@ pub fn select<'a>(
     ensures memory { IfErr result (λ e. e ≡ Memory) }
 {
     let height = node_height(array.height.max(index.height));
-    let array = Box::new(place.alloc, array.tree)?;
-    let index = Box::new(place.alloc, index.tree)?;
+    let array = boxed(place, array.tree);
+    let index = boxed(place, index.tree);
     Ok(Measured {
-        tree: Expression::Select(array, index, site),
+        tree: Expression::Select(array?, index?, site),
         height,
     })
 }

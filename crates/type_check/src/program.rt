@@ -109,6 +109,11 @@ fn inside_function<'a>(
     ensures { IfOk result (λ r. r ≡ function_first (View.functions functions.now.all.now)
         (View.functions (take at functions.now.all.now)) (View.function f.now)) }
 {
+    let twice = repeated_params(&f.params, alloc)?;
+    let mut bound = Bound::new(alloc);
+    push_params(&f.params, &mut bound)?;
+    let mut known = IndexMap::new(alloc);
+    bind_params(&f.params, &mut known)?;
     let here = Place {
         functions,
         at,
@@ -116,11 +121,6 @@ fn inside_function<'a>(
         listed: listed(f, alloc)?,
         alloc,
     };
-    let mut bound = Bound::new(alloc);
-    let mut known = IndexMap::new(alloc);
-    push_params(&f.params, &mut bound)?;
-    bind_params(&f.params, &mut known)?;
-    let twice = repeated_params(&f.params, alloc)?;
     let body = block(&f.body, &here, &mut bound, &mut known)?;
     let values = expressions(&f.values, &here, &mut bound, &mut known)?;
     Ok(ended(twice, body, &values, f))

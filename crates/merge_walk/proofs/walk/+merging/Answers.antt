@@ -197,14 +197,14 @@ pub merge_right-returns-in_ok-facts-in-Call-clause-walked : goal.merge_right-ret
 merge_right-returns-in_ok-facts-in-Call-clause-walked t c =
     call_end (shapes_of c.args.called.now) (facts_of c.args.table.now) c.args.progress.now c.in-Call.group c.in-Call.args c.args.right c.in-Call.is
 
-pub merge_right-returns-in_ok-known-in_default : goal.merge_right-returns-in_ok-known-in_default
-merge_right-returns-in_ok-known-in_default t c =
+pub merge_right-returns-in_default : goal.merge_right-returns-in_default
+merge_right-returns-in_default t c =
     let called = shapes_of c.args.called.now in
     let k = facts_of c.args.table.now in
     let arm = c.in_default in
     let other : IsOther c.args.right = (arm.not-If, arm.not-Loop, arm.not-Call, arm.not-With, arm.not-Parted) in
     record {
-      walked = other_walked called k c.args.progress.now c.args.right c.of_one.result other c.of_one.ensures.right;
-      known = other_known called k c.args.right _ c.of_one.result other c.in_ok-known-in_default.ensures c.of_one.ensures.right c.of_one.ensures.known;
-      table = kept c.of_one.result c.args.table.now;
+      walked = other_walked called k c.args.progress.now c.args.right c.of_plain.result other c.of_plain.ensures.right;
+      known = other_known called k c.args.right _ c.of_plain.result other refl c.of_plain.ensures.right c.of_plain.ensures.known;
+      table = kept c.of_plain.result c.args.table.now;
     }

@@ -180,15 +180,15 @@ norm_right-returns-in_ok-facts-in-Call-clause-walked t c =
     let given = c.args.given.now in
     call_end (shapes_of given.called.now) (base_in given.bases.now) given.first (facts_of c.args.table.now) c.args.progress.now c.args.site c.in-Call.group c.in-Call.args c.args.right c.in-Call.is
 
-pub norm_right-returns-in_ok-known-in_default : goal.norm_right-returns-in_ok-known-in_default
-norm_right-returns-in_ok-known-in_default t c =
+pub norm_right-returns-in_default : goal.norm_right-returns-in_default
+norm_right-returns-in_default t c =
     let given = c.args.given.now in
     let called = shapes_of given.called.now in
     let k = facts_of c.args.table.now in
     let arm = c.in_default in
     let other : IsOther c.args.right = (arm.not-If, arm.not-Loop, arm.not-Call, arm.not-With, arm.not-Parted) in
     record {
-      walked = other_walked called (base_in given.bases.now) given.first k c.args.progress.now c.args.site c.args.right c.of_one.result other c.of_one.ensures.right;
-      known = other_known called k c.args.right _ c.of_one.result other c.in_ok-known-in_default.ensures c.of_one.ensures.right c.of_one.ensures.known;
-      table = kept c.of_one.result c.args.table.now;
+      walked = other_walked called (base_in given.bases.now) given.first k c.args.progress.now c.args.site c.args.right c.of_plain.result other c.of_plain.ensures.right;
+      known = other_known called k c.args.right _ c.of_plain.result other refl c.of_plain.ensures.right c.of_plain.ensures.known;
+      table = kept c.of_plain.result c.args.table.now;
     }

@@ -19,13 +19,13 @@ returns c =
     let b2 = among c.block.new.bound.trail.items in
     let n2 = entered c.block.new.known in
     let nothing : entered c.new-known.result ≡ none_known = λ i name. lookup {K = Bor (List ℕ)} (λ k. bytes_eq name k.now) (c.new-known.ensures.empty i) in
-    let start = c.in_ok-push_params.ensures ∙ (λ i. with_names (param_names (c.deref.ensures.value i)) (among (c.new-bound.ensures i))) in
-    let known = c.in_ok-bind_params.ensures ∙ (λ i. known_params (c.deref-2.ensures.value i) (nothing i)) in
+    let start = c.in_ok-push_params.ensures ∙ (λ i. with_names (param_names (c.deref-2.ensures.value i)) (among (c.new-bound.ensures i))) in
+    let known = c.in_ok-bind_params.ensures ∙ (λ i. known_params (c.deref-3.ensures.value i) (nothing i)) in
     let body = c.in_ok-body.ensures in
     let values = c.in_ok-values.ensures in
     c.ended.ensures
     ∙ ended_from fs before (function f) listed b1 b2 n1 n2 c.in_ok-twice.twice c.in_ok-body.body c.in_ok-values.values.first c.in_ok-values.values.bases.items
-    c.in_ok-listed.ensures start known (c.in_ok-twice.ensures ∙ ap (repeated_params no_names) c.deref-3.ensures.value) (
+    c.in_ok-listed.ensures start known (c.in_ok-twice.ensures ∙ ap (repeated_params no_names) c.deref.ensures.value) (
       body.first ∙ ap (λ ss. (in_block p (block ss) b1 n1).first) c.deref-4.ensures.value,
       body.known ∙ ap (λ ss. (in_block p (block ss) b1 n1).known) c.deref-4.ensures.value,
       body.names ∙ ap (λ ss. bound_behind (block ss) b1) c.deref-4.ensures.value,
