@@ -1,7 +1,6 @@
 -- Arrays that are placed, and what else is there.
 use Rattle.std.proofs.Common.{◌≡◌, ◌≢◌, ℕ, true, Option, Some, None, ap, ◌∙◌, sym, subst}
-use Rattle.std.proofs.lemmas.List.{get_or-set_other}
-use Rattle.buffer_heap.specs.Heaps.{Held, HeapValue, Out, at, len_of, content_of, with_content, lifted}
+use Rattle.buffer_heap.specs.Heaps.{Held, HeapValue, at}
 use Rattle.sac_base.specs.Arrays.{ArrayValue}
 use Rattle.counted_code.specs.Values.{Heap, Small, is_small, place_as, place_value}
 use Rattle.run_store.specs.Stands.{Stands, Placed}
