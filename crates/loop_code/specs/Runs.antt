@@ -1,5 +1,5 @@
 -- Runs of indices along a row that one range or part holds, and runs of the positions of a frame.
-use Rattle.std.specs.Prelude.{◌≡◌, ℕ, ◌+◌, ◌<◌, ◌≤◌, ◌≤ℤ◌, ◌⊎◌, ℤ, pos, true, false, List, [], ◌∷◌, length, All, Option, Some, None, slice_index_or}
+use Rattle.std.specs.Prelude.{◌≡◌, ℕ, ◌+◌, ◌<◌, ◌≤◌, ◌≤ℤ◌, ℤ, pos, true, false, List, [], ◌∷◌, length, All, AllPairs, Any, Option, Some, None, slice_index_or}
 use Rattle.sac_base.specs.declared.grid.Grid1.{Grid1}
 use Rattle.sac_base.specs.Grids.{has_vector, members}
 use Rattle.sac_base.specs.WithLoops.{Range, holds}
@@ -41,33 +41,33 @@ pub record HasFirst (parts : List (List Grid1)) (v : List ℤ) (k : ℕ) : Type 
   pub here : has_vector (slice_index_or parts k []) v ≡ true
   pub before : (j : ℕ) → j < k → has_vector (slice_index_or parts j []) v ≡ false
 
--- no part has the vector
-abbrev pub HasNone : List (List Grid1) → List ℤ → Type 0
-HasNone parts v = (k : ℕ) → k < length parts → has_vector (slice_index_or parts k []) v ≡ false
-
--- the frame's member at a position
-abbrev pub member_at : List Grid1 → ℕ → List ℤ
-member_at frame p = slice_index_or (members frame) p []
+-- the part at this place, or none
+abbrev pub HasPart : List (List Grid1) → List ℤ → Option ℕ → Type 0
+HasPart parts v (Some k) = HasFirst parts v k
+HasPart parts v None = (k : ℕ) → k < length parts → has_vector (slice_index_or parts k []) v ≡ false
 
 -- the position is one of the run
-abbrev pub IsIn : Run → ℕ → Type 0
-IsIn r p = (r.from ≤ p) × (p < r.from + r.count)
+abbrev pub IsIn : ℕ → Run → Type 0
+IsIn p r = (r.from ≤ p) × (p < r.from + r.count)
 
-abbrev pub IsInOne : List Run → ℕ → Type 0
-IsInOne [] p = ⊥
-IsInOne (r ∷ runs) p = IsIn r p ⊎ IsInOne runs p
+-- at each of its positions the run's part is the first that has the index there
+abbrev pub IsRunOf : List (List ℤ) → List (List Grid1) → Run → Type 0
+IsRunOf indices parts r = (p : ℕ) → IsIn p r → (p < length indices) × HasFirst parts (slice_index_or indices p []) r.part
 
--- from a position on, in ascending order, without overlap, and none of them empty
-abbrev pub AreAscending : ℕ → List Run → Type 0
-AreAscending start [] = Unit {0}
-AreAscending start (r ∷ runs) = (start ≤ r.from) × (1 ≤ r.count) × AreAscending (r.from + r.count) runs
-
--- at each of its positions the run's part is the first that has the frame's member
-abbrev pub IsRunOf : List Grid1 → List (List Grid1) → Run → Type 0
-IsRunOf frame parts r = (p : ℕ) → IsIn r p → (p < length (members frame)) × HasFirst parts (member_at frame p) r.part
-
--- the runs have exactly the positions at which a part has the frame's member, each with the first such part
+-- The runs have exactly the positions at which a part has the frame's member, each with the first such part.
 pub record AreRunsOf (frame : List Grid1) (parts : List (List Grid1)) (runs : List Run) : Type 0 where
-  pub ascending : AreAscending 0 runs
-  pub each : All (IsRunOf frame parts) runs
-  pub all : (p k : ℕ) → p < length (members frame) → k < length parts → has_vector (slice_index_or parts k []) (member_at frame p) ≡ true → IsInOne runs p
+  pub some : All (λ (r : Run). 1 ≤ r.count) runs
+  pub ascending : AllPairs (λ (r s : Run). r.from + r.count ≤ s.from) runs
+  pub each : All (IsRunOf (members frame) parts) runs
+  pub all : (p k : ℕ) → p < length (members frame) → k < length parts
+      → has_vector (slice_index_or parts k []) (slice_index_or (members frame) p []) ≡ true → Any (IsIn p) runs
+
+-- ---- parts along a row
+
+-- the part of an index is that of those behind it along a row, so many together
+abbrev pub HasAlong : List (List Grid1) → List ℤ → Option ℕ → ℕ → Type 0
+HasAlong parts v part count = (j : ℕ) → j < count → HasPart parts (moved_last j v) part
+
+-- and of the positions from one on
+abbrev pub HasFrom : List (List ℤ) → List (List Grid1) → ℕ → Option ℕ → ℕ → Type 0
+HasFrom indices parts place part count = (j : ℕ) → j < count → HasPart parts (slice_index_or indices (place + j) []) part
