@@ -7,7 +7,7 @@ use Rattle.std.proofs.lemmas.List.Elements.{All-nil, All-push}
 use Rattle.std.proofs.lemmas.List.Quantifiers.{Any-push, all_pairs_push}
 use Rattle.sac_base.specs.declared.grid.Grid1.{Grid1}
 use Rattle.sac_base.specs.Grids.{has_vector, members}
-use Rattle.loop_code.specs.Runs.{AreRunsOf, HasFirst, HasFrom, IsIn, IsRunOf}
+use Rattle.loop_code.specs.Runs.{AreRunsOf, HasFirst, HasFrom, IsIn, IsRunOf, pushed}
 use Rattle.loop_code.specs.declared.positions.Run.{Run}
 
 abbrev pub IsSome : Run → Type 0
@@ -84,6 +84,12 @@ module _ (indices : List (List ℤ)) (parts : List (List Grid1)) (place count : 
       where
         more_any : {P : Run → Type 0} → Any P runs → Any P (runs ++ r ∷ [])
         more_any {P} a = (a.0, a.1, omega (arith, a.2, length-append runs (r ∷ [])), get_or_append_left runs (r ∷ []) a.1 a.0 a.2 ∙ a.3, a.4)
+
+pub runs_more : (indices : List (List ℤ)) (parts : List (List Grid1)) (place count : ℕ) (runs : List Run) (part : Option ℕ) → AreRunsBefore indices parts place runs → 1 ≤ count → place + count ≤ length indices → HasFrom indices parts place part count
+    → AreRunsBefore indices parts (place + count) (pushed runs place part count)
+runs_more indices parts place count runs None before some inside has = none_more indices parts place count runs before has
+runs_more indices parts place count runs (Some part) before some inside has =
+    run_more indices parts place count runs before part (record { from = place; count = count; part = part }) some inside has refl refl refl (pushed runs place (Some part) count) refl
 
 pub all_runs : (frame : List Grid1) (indices : List (List ℤ)) (parts : List (List Grid1)) (place : ℕ) (runs : List Run) → indices ≡ members frame → length indices ≤ place → AreRunsBefore indices parts place runs → AreRunsOf frame parts runs
 all_runs frame indices parts place runs e end before = record {

@@ -1,5 +1,5 @@
 -- Runs of indices along a row that one range or part holds, and runs of the positions of a frame.
-use Rattle.std.specs.Prelude.{◌≡◌, ℕ, ◌+◌, ◌<◌, ◌≤◌, ◌≤ℤ◌, ℤ, pos, true, false, List, [], ◌∷◌, length, All, AllPairs, Any, Option, Some, None, slice_index_or}
+use Rattle.std.specs.Prelude.{◌≡◌, ℕ, ◌+◌, ◌<◌, ◌≤◌, ◌≤ℤ◌, ℤ, pos, true, false, List, [], ◌∷◌, ◌++◌, length, All, AllPairs, Any, Option, Some, None, slice_index_or}
 use Rattle.sac_base.specs.declared.grid.Grid1.{Grid1}
 use Rattle.sac_base.specs.Grids.{has_vector, members}
 use Rattle.sac_base.specs.WithLoops.{Range, holds}
@@ -71,3 +71,8 @@ HasAlong parts v part count = (j : ℕ) → j < count → HasPart parts (moved_l
 -- and of the positions from one on
 abbrev pub HasFrom : List (List ℤ) → List (List Grid1) → ℕ → Option ℕ → ℕ → Type 0
 HasFrom indices parts place part count = (j : ℕ) → j < count → HasPart parts (slice_index_or indices (place + j) []) part
+
+-- with the run of so many positions from a place on, where a part has them
+abbrev pub pushed : List Run → ℕ → Option ℕ → ℕ → List Run
+pushed runs place (Some part) count = runs ++ record { from = place; count = count; part = part } ∷ []
+pushed runs place None count = runs

@@ -1,12 +1,12 @@
 //! The positions of a frame, in runs that one part holds.
 
-ghost use Rattle.std.specs.Prelude.{◌≡◌, ◌+◌, ◌<◌, ◌≤◌, length, List, ℤ, pos, true, All, IfOk, FitsSigned};
+ghost use Rattle.std.specs.Prelude.{◌≡◌, ◌+◌, ◌<◌, ◌≤◌, length, List, ℤ, pos, true, All, IfOk, OnOk, FitsSigned};
 ghost use mir.Syntax.{w32};
 ghost use Rattle.sac_base.specs.Arrays.{size, MOST};
 ghost use Rattle.sac_base.specs.declared.grid.Grid1.{Grid1};
 ghost use Rattle.sac_base.specs.Grids.{has_vector};
 ghost use Rattle.array_with_loops.specs.GridFrames.{grid_extents};
-ghost use Rattle.loop_code.specs.Runs.{AreRunsOf, HasFrom};
+ghost use Rattle.loop_code.specs.Runs.{AreRunsOf, HasFrom, pushed};
 
 use crate::grids::{PartRun, part_at};
 use array_with_loops::{Frame, IndexVector};
@@ -41,16 +41,24 @@ pub fn rows(alloc: Global, frame: &Grid, parts: &[Grid]) -> Result<Runs, Memory>
     let mut place = 0;
     while place < indices.count() {
         let run = run_from(&indices, parts, place, &mut index)?;
-        if let Some(part) = run.part {
-            rows.push(Run {
-                from: place as u64,
-                count: run.count,
-                part,
-            })?;
-        }
+        push_run(&mut rows, place, &run)?;
         place += run.count as usize;
     }
     Ok(Runs { rows })
+}
+
+// Appends the run of so many positions from a place on, where a part has them.
+fn push_run(rows: &mut Vec<Run>, place: usize, run: &PartRun) -> Result<(), Memory>
+    ensures { OnOk result (rows.new.items ≡ pushed rows.old.items place run.now.part run.now.count) }
+{
+    if let Some(part) = run.part {
+        rows.push(Run {
+            from: place as u64,
+            count: run.count,
+            part,
+        })?;
+    }
+    Ok(())
 }
 
 // The first part that has the index at a place, or that none does, and for how many places from it on, within its row, that is so.
