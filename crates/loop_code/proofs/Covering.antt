@@ -6,8 +6,8 @@ use Rattle.std.proofs.lemmas.List.{length-append, get_or_append_left}
 use Rattle.std.proofs.lemmas.List.Elements.{All-nil, All-push}
 use Rattle.std.proofs.lemmas.List.Quantifiers.{Any-push, all_pairs_push}
 use Rattle.sac_base.specs.declared.grid.Grid1.{Grid1}
-use Rattle.sac_base.specs.Grids.{has_vector, members}
-use Rattle.loop_code.specs.Runs.{AreRunsOf, HasFirst, HasFrom, IsIn, IsRunOf, pushed}
+use Rattle.sac_base.specs.Grids.{has_vector}
+use Rattle.loop_code.specs.Runs.{AreRunsOver, HasFirst, HasFrom, IsIn, IsRunOf, pushed}
 use Rattle.loop_code.specs.declared.positions.Run.{Run}
 
 abbrev pub IsSome : Run → Type 0
@@ -91,10 +91,10 @@ runs_more indices parts place count runs None before some inside has = none_more
 runs_more indices parts place count runs (Some part) before some inside has =
     run_more indices parts place count runs before part (record { from = place; count = count; part = part }) some inside has refl refl refl (pushed runs place (Some part) count) refl
 
-pub all_runs : (frame : List Grid1) (indices : List (List ℤ)) (parts : List (List Grid1)) (place : ℕ) (runs : List Run) → indices ≡ members frame → length indices ≤ place → AreRunsBefore indices parts place runs → AreRunsOf frame parts runs
-all_runs frame indices parts place runs e end before = record {
+pub all_runs : (indices : List (List ℤ)) (parts : List (List Grid1)) (place : ℕ) (runs : List Run) → length indices ≤ place → AreRunsBefore indices parts place runs → AreRunsOver indices parts runs
+all_runs indices parts place runs end before = record {
   some = before.some;
   ascending = before.ascending;
-  each = subst (λ (is : List (List ℤ)). All (IsRunOf is parts) runs) e before.each;
-  all = subst (λ (is : List (List ℤ)). (p k : ℕ) → p < length is → k < length parts → has_vector (slice_index_or parts k []) (slice_index_or is p []) ≡ true → Any (IsIn p) runs) e (λ p k lt. before.all p k (omega (arith, lt, end)));
+  each = before.each;
+  all = λ p k lt. before.all p k (omega (arith, lt, end));
 }

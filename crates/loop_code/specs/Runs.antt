@@ -54,13 +54,17 @@ IsIn p r = (r.from ≤ p) × (p < r.from + r.count)
 abbrev pub IsRunOf : List (List ℤ) → List (List Grid1) → Run → Type 0
 IsRunOf indices parts r = (p : ℕ) → IsIn p r → (p < length indices) × HasFirst parts (slice_index_or indices p []) r.part
 
--- The runs have exactly the positions at which a part has the frame's member, each with the first such part.
-pub record AreRunsOf (frame : List Grid1) (parts : List (List Grid1)) (runs : List Run) : Type 0 where
+-- The runs have exactly the positions at which a part has the index, each with the first such part.
+pub record AreRunsOver (indices : List (List ℤ)) (parts : List (List Grid1)) (runs : List Run) : Type 0 where
   pub some : All (λ (r : Run). 1 ≤ r.count) runs
   pub ascending : AllPairs (λ (r s : Run). r.from + r.count ≤ s.from) runs
-  pub each : All (IsRunOf (members frame) parts) runs
-  pub all : (p k : ℕ) → p < length (members frame) → k < length parts
-      → has_vector (slice_index_or parts k []) (slice_index_or (members frame) p []) ≡ true → Any (IsIn p) runs
+  pub each : All (IsRunOf indices parts) runs
+  pub all : (p k : ℕ) → p < length indices → k < length parts
+      → has_vector (slice_index_or parts k []) (slice_index_or indices p []) ≡ true → Any (IsIn p) runs
+
+-- at the positions of a frame are its members in row-major order
+abbrev pub AreRunsOf : List Grid1 → List (List Grid1) → List Run → Type 0
+AreRunsOf frame parts runs = AreRunsOver (members frame) parts runs
 
 -- ---- parts along a row
 

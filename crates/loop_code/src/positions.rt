@@ -6,7 +6,7 @@ ghost use Rattle.sac_base.specs.Arrays.{size, MOST};
 ghost use Rattle.sac_base.specs.declared.grid.Grid1.{Grid1};
 ghost use Rattle.sac_base.specs.Grids.{has_vector};
 ghost use Rattle.array_with_loops.specs.GridFrames.{grid_extents};
-ghost use Rattle.loop_code.specs.Runs.{AreRunsOf, HasFrom, pushed};
+ghost use Rattle.loop_code.specs.Runs.{AreRunsOf, AreRunsOver, HasFrom, pushed};
 
 use crate::grids::{PartRun, part_at};
 use array_with_loops::{Frame, IndexVector};
@@ -36,15 +36,23 @@ pub fn rows(alloc: Global, frame: &Grid, parts: &[Grid]) -> Result<Runs, Memory>
     ensures { IfOk result (λ runs. AreRunsOf frame.now parts.now runs.rows.items) }
 {
     let indices = Frame::of_grid(alloc, frame)?;
+    let rows = runs_over(alloc, &indices, parts)?;
+    Ok(Runs { rows })
+}
+
+// The same of the indices of a frame.
+fn runs_over(alloc: Global, indices: &Frame, parts: &[Grid]) -> Result<Vec<Run>, Memory>
+    ensures { IfOk result (λ rows. AreRunsOver indices.now parts.now rows.items) }
+{
     let mut index = IndexVector::new(alloc);
     let mut rows = Vec::new(alloc);
     let mut place = 0;
     while place < indices.count() {
-        let run = run_from(&indices, parts, place, &mut index)?;
+        let run = run_from(indices, parts, place, &mut index)?;
         push_run(&mut rows, place, &run)?;
         place += run.count as usize;
     }
-    Ok(Runs { rows })
+    Ok(rows)
 }
 
 // Appends the run of so many positions from a place on, where a part has them.

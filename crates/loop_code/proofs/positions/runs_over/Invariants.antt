@@ -1,6 +1,6 @@
 use Rattle.std.proofs.Common.{◌-◌, length}
 use Rattle.loop_code.proofs.Covering.{AreRunsBefore}
-use Rattle.loop_code.proofs.positions.rows.Given as goal
+use Rattle.loop_code.proofs.positions.runs_over.Given as goal
 
 abbrev pub decreases-loop-place : goal.decreases-loop-place
 decreases-loop-place l = length l.indices - l.place
