@@ -1,6 +1,5 @@
-use Rattle.std.proofs.Common.{ℕ, ◌<◌, true, ◌≡◌, [], length, ◌∙◌, sym, ap, arith}
+use Rattle.std.proofs.Common.{◌<◌, [], length, ◌∙◌, sym, ap, arith}
 use Rattle.std.proofs.lemmas.List.{get_or_read}
-use Rattle.std.specs.Prelude.{slice_index_or}
 use Rattle.sac_base.specs.Grids.{has_vector}
 use Rattle.array_with_loops.specs.Ranges.{moved_last}
 use Rattle.loop_code.proofs.grids.part_at.Goals as goal
