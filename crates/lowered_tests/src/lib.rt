@@ -7,10 +7,6 @@ mod check;
 #[cfg(test)]
 mod cores;
 #[cfg(test)]
-mod devices;
-#[cfg(test)]
-mod files;
-#[cfg(test)]
 mod folded;
 #[cfg(test)]
 mod inlined;
