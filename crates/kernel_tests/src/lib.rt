@@ -12,8 +12,6 @@ mod making;
 #[cfg(test)]
 mod offset;
 #[cfg(test)]
-mod positions;
-#[cfg(test)]
 mod stencil;
 #[cfg(test)]
 mod strips;
