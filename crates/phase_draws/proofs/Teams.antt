@@ -123,9 +123,9 @@ grew_team cell cost share mine old mid new h h' k s s' rows end result grew all 
     by (Ok held) told = λ every. let apart = ok_both grew.0 mine every in let t = told apart.0 apart.1 in (costs_both cost share grew.0 mine h h' k s s' t.0 t.1 none back, t.2)
     by (Err e) told = tt
 
-pub grew_lost : (cell : ℕ → CellValue) (cost : ℕ → ℕ → ℕ) (share : Share) (mine old mid new : List ChunkReport) (h h' k s s' : ℕ → ℕ) (rows : List ℤ) (end : Result Bool Memory) (e : Memory)
-    → GrewBoth cell cost share mine old mid h h' s s' rows end → new ≡ mid ++ mine → Grew cell cost share old new h k rows (Err e)
-grew_lost cell cost share mine old mid new h h' k s s' rows end e grew all =
+pub grew_lost : (cell : ℕ → CellValue) (cost : ℕ → ℕ → ℕ) (share : Share) (mine old mid new : List ChunkReport) (h h' s s' : ℕ → ℕ) (rows : List ℤ) (end : Result Bool Memory)
+    → GrewBoth cell cost share mine old mid h h' s s' rows end → new ≡ mid ++ mine → (more : List ChunkReport) × (new ≡ old ++ more) × Unit {0}
+grew_lost cell cost share mine old mid new h h' s s' rows end grew all =
     (grew.0 ++ mine, all ∙ ap (λ (l : List ChunkReport). l ++ mine) grew.1 ∙ append_assoc old grew.0 mine, tt)
 
 -- ---- seats

@@ -1,9 +1,9 @@
-use Rattle.std.proofs.Common.{◌≡◌, ℕ, ◌-◌, ◌<◌, length, refl, ap, subst, arith, vec_len}
+use Rattle.std.proofs.Common.{◌≡◌, ℕ, ◌-◌, ◌<◌, length, refl, ap, subst, ◌∙◌, arith, vec_len}
 use Rattle.std.proofs.lemmas.Bool.Decides.{nat_tests}
 use Rattle.phase_chunks.specs.Chunks.{HasThreeRows}
 use Rattle.phase_draws.specs.Reports.{HasRowsFor}
 use Rattle.phase_draws.specs.Crews.{AreRooms}
-use Rattle.phase_draws.proofs.Teams.{back_here, back_nobody, back_settled, grew_both, grew_none, grew_team, places_popped, places_seated, room_for, room_last, rows_apart, rows_within, rows_of_both}
+use Rattle.phase_draws.proofs.Teams.{back_here, back_nobody, back_settled, grew_both, grew_lost, grew_none, grew_team, places_popped, places_seated, room_for, room_last, rows_apart, rows_within, rows_of_both, run_of}
 use Rattle.phase_draws.proofs.crew.+crew.Goals as goal
 
 -- ---- a team
@@ -54,6 +54,30 @@ run_team-returns-in-Ok-clause-grew g t c =
     (kept c.args.home.now) (kept c.run_first-end.new.home) (kept c.settle_member.new.home) (spent c.args.context) (spent c.run_first-end.new.member.worker.context)
     c.run_first-end.new.rows c.run_first-end.result c.run_first-end.result
     c.run_first-end.ensures.grew c.settle_member.ensures.reports c.requires.unspent refl c.in-Ok.ensures.kept
+
+pub run_team-settle_member-requires-clause-phase : goal.run_team-settle_member-requires-clause-phase
+run_team-settle_member-requires-clause-phase g t c κs within =
+    c.run_first-end.ensures.frame.phase ∙ ap (λ f. f.phase) c.seat-seat.ensures.frame ∙ c.requires.places.phase
+
+pub run_team-returns-in-Ok-clause-frame : goal.run_team-returns-in-Ok-clause-frame
+run_team-returns-in-Ok-clause-frame g t c =
+    run_of c.args.roster.now.frame c.seat-seat.new.frame c.run_first-end.new.roster.frame c.settle_member.new.roster.frame
+    c.seat-seat.ensures.frame c.run_first-end.ensures.frame c.settle_member.ensures.frame
+
+pub run_team-returns-in-Err-clause-frame : goal.run_team-returns-in-Err-clause-frame
+run_team-returns-in-Err-clause-frame g t c =
+    run_of c.args.roster.now.frame c.seat-seat.new.frame c.run_first-end.new.roster.frame c.settle_member.new.roster.frame
+    c.seat-seat.ensures.frame c.run_first-end.ensures.frame c.settle_member.ensures.frame
+
+pub run_team-returns-in-Err-clause-grew : goal.run_team-returns-in-Err-clause-grew
+run_team-returns-in-Err-clause-grew g t c =
+    let work = c.args.team.now.work in
+    let kept = g.C.PhaseCells.kept work.cells.now in
+    let spent = g.C.PhaseCells.spent work.cells.now in
+    grew_lost (g.C.PhaseCells.cell work.cells.now) (g.C.PhaseCells.cost work.cells.now) work.share
+    c.run_first-end.new.member.reports.items c.args.roster.now.reports.items c.run_first-end.new.roster.reports.items c.settle_member.new.roster.reports.items
+    (kept c.args.home.now) (kept c.run_first-end.new.home) (spent c.args.context) (spent c.run_first-end.new.member.worker.context)
+    c.run_first-end.new.rows c.run_first-end.result c.run_first-end.ensures.grew c.settle_member.ensures.reports
 
 -- ---- the others
 
