@@ -9,7 +9,7 @@ use Rattle.sac_base.specs.declared.stop.Stop.TheVariants.{Faulted, Memory}
 use Rattle.wl_core.specs.declared.setup.Job.{Job}
 use Rattle.wl_core.specs.declared.setup.Job.TheVariants.{Write as Store, Fold}
 use Rattle.wl_core.specs.Machine.{CellValue, combine, both}
-use Rattle.phase_draws.specs.declared.share.Share.{Share}
+use Rattle.phase_chunks.specs.declared.shares.Share.{Share}
 use Rattle.phase_team.specs.Segments.{cells_from, value_if, HaveWidth, Ran}
 
 -- What a phase's table has for a chunk: the part of a buffer that it fills. A fold has none.

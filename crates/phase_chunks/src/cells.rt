@@ -1,10 +1,10 @@
 // What the cells of a phase are, and how a worker computes them.
 ghost use Rattle.std.specs.Prelude.{◌≡◌, ℕ, ◌+◌, ◌*◌, ◌<◌, ◌≤◌, length, IfOk, OnOk, Ok, Some};
 ghost use Rattle.wl_core.specs.Machine.{CellValue};
-ghost use Rattle.phase_draws.specs.Crews.{IsFresh};
+ghost use Rattle.phase_chunks.specs.Seats.{IsFresh};
 ghost use Rattle.phase_team.specs.Segments.{IsComputed, Same, Tells, row_at};
 
-use crate::share::ChunkPart;
+use crate::shares::ChunkPart;
 use count_table::{Phase, WorkerSeat};
 use phase_team::CellEnd;
 use sac_base::{Cell, Memory};
