@@ -30,7 +30,7 @@ full_without (Word base n) shape m other = tt
 full_without (Short base few) shape m other = tt
 full_without (Buffer base id extents) shape m other = absurd (other base id extents refl)
 
-pub full_buffer : (v : RunValue) (shape : List ℕ) (m : Heap) (base : Base) (id : BufferId) (extents : Few) (cells : List ℤ) (n : ℕ)
+pub full_buffer : {base : Base} {id : BufferId} {extents : Few} (v : RunValue) (shape : List ℕ) (m : Heap) (cells : List ℤ) (n : ℕ)
     → v ≡ Buffer base id extents → cells ≡ cells_of m id.born → n ≡ length cells → n ≡ size shape → IsFull shape (value_of v) m
-full_buffer v shape m base id extents cells n is held count sized =
+full_buffer v shape m cells n is held count sized =
     subst (λ (v : RunValue). IsFull shape (value_of v) m) (sym is) (ap length (sym held) ∙ sym count ∙ sized)
