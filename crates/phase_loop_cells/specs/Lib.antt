@@ -1,2 +1,4 @@
 pub mod Cells
 pub mod Opened
+pub mod Ranges
+pub mod Ready

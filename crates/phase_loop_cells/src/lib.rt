@@ -2,13 +2,13 @@
 #![tactic(auto)]
 
 mod copies;
-mod gens;
-mod parts;
+mod loops;
+mod ranges;
 mod scratch;
 
 pub use copies::Background;
-pub use gens::WithCells;
-pub use parts::PartCells;
+pub use loops::LoopCells;
+pub use ranges::part_ranges;
 pub use scratch::CellScratch;
 
 #[cfg(test)]

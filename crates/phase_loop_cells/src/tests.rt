@@ -37,18 +37,18 @@ fn old_cells_or_a_default_stand_where_there_is_none(rt: HostRuntime) -> Result<(
     let alloc = rt.alloc();
     let mut store = Store::of(Heap::new(alloc));
     let mut into: [Cell; 2] = [0; 2];
-    let six = numbers(alloc, &[1, 2, 3, 4, 5, 6])?;
+    let six: [Cell; 6] = [1, 2, 3, 4, 5, 6];
     let old = Background {
-        array: &six,
+        cells: &six,
         old: true,
         size: 2,
     };
     assert_eq!(rt; put(&mut store, None, Some(old), 1, &mut into), Ok(true));
     assert_eq!(rt; into, [3, 4]);
     assert_eq!(rt; put(&mut store, None, Some(old), 3, &mut into), Err(Memory));
-    let pair = numbers(alloc, &[8, 9])?;
+    let pair: [Cell; 2] = [8, 9];
     let default = Background {
-        array: &pair,
+        cells: &pair,
         old: false,
         size: 2,
     };

