@@ -1,0 +1,1 @@
+//! The part that holds the indices of a row.
