@@ -1,1 +1,6 @@
+mod GenCells
 pub mod Named
+mod PartCells
+mod Placed
+mod Rows
+mod SourceCells

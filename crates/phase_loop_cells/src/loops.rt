@@ -1,22 +1,29 @@
 //! The cells of with-loops and of parted loops.
 
-ghost use Rattle.std.specs.Prelude.{length};
-ghost use Rattle.phase_loop_cells.specs.Cells.{source_cell, source_taken};
+ghost use Rattle.std.specs.Prelude.{◌≡◌, ◌<◌, ℕ, length, OnOk};
+ghost use Rattle.counted_code.specs.Loops.{cell_does};
+ghost use Rattle.counted_code.specs.Values.{Heap as MachineHeap};
+ghost use Rattle.phase_loop_cells.specs.Cells.{ToldCell, fill_at, index_at, source_cell, source_taken};
 ghost use Rattle.phase_loop_cells.specs.Opened.{OpenSource};
 ghost use Rattle.phase_loop_cells.specs.Ready.{IsReady};
+ghost use Rattle.run_eval.specs.Loops.{source_at};
+ghost use Rattle.run_eval.specs.Running.{IsAt};
+ghost use Rattle.run_store.specs.Stands.{lender_of};
 ghost use Rattle.run_values.specs.Scopes.{current};
 ghost use Rattle.sac_base.specs.Arrays.{size};
 
-use crate::copies::Background;
+use crate::copies::{Background, ended, put};
 use crate::scratch::CellScratch;
-use array_with_loops::Plan;
+use array_with_loops::{IndexVector, Plan};
 use buffer_heap::Heap;
 use phase_cells::CellRuns;
+use phase_count::PhaseCount;
 use phase_team::CellEnd;
-use run_eval::{CellSource, Context};
+use run_eval::{CellSource, Context, State, cell_in_order};
 use run_store::Store;
 use run_values::Frames;
 use sac_base::{Cell, Memory, Stop};
+use std::mem;
 
 /// The cells of a loop whose checks have passed, of the variables of a call and the buffers of a heap.
 #[derive(Clone, Copy)]
@@ -54,16 +61,57 @@ impl<'a> CellRuns for LoopCells<'a> {
     }
 
     fn begin(&self) -> Result<CellScratch, Memory> {
-        Err(Memory)
+        CellScratch::of(self.frames, self.context.alloc)
     }
 
     fn run(
         &self,
-        _scratch: &mut CellScratch,
-        _store: &mut Store<'_>,
-        _position: usize,
-        _into: &mut [Cell],
+        scratch: &mut CellScratch,
+        store: &mut Store<'_>,
+        position: usize,
+        into: &mut [Cell],
     ) -> CellEnd {
-        CellEnd::Stopped(Stop::Memory)
+        let alloc = self.context.alloc;
+        let variables = mem::replace(&mut scratch.frames, Frames::new(alloc));
+        let buffers = mem::replace(store, Store::of(Heap::new(alloc)));
+        let mut state = State {
+            frames: variables,
+            heap: buffers,
+            phases: PhaseCount::within_cell(),
+        };
+        let answer = cell_at(self, position, &mut scratch.index, &mut state, into);
+        let (frames, heap) = state.into_parts();
+        scratch.frames = frames;
+        *store = heap;
+        ended(answer)
     }
+}
+
+// Computes the cell of a position, whose index is written into the given vector.
+fn cell_at(
+    cells: &LoopCells<'_>,
+    position: usize,
+    index: &mut IndexVector,
+    state: &mut State<'_>,
+    into: &mut [Cell],
+) -> Result<bool, Stop>
+    requires { position < length cells.now.plan.now.frame }
+    ensures told { (m : MachineHeap) → IsAt state.old m
+        → ToldCell (fill_at cells.now.background position) into.new result state.new
+        (cell_does cells.now.plan.now.form (source_at cells.now.context (current state.old.frames) cells.now.source cells.now.plan.now.ranges.items
+        (index_at cells.now.plan.now.frame position)) m) }
+    ensures current { OnOk result (current state.new.frames ≡ current state.old.frames) }
+    ensures lender { lender_of state.new.heap ≡ lender_of state.old.heap }
+{
+    cells.plan.frame.index(position, index)?;
+    let value = cell_in_order(
+        &cells.source,
+        &cells.plan.ranges,
+        &cells.plan.form,
+        index.components(),
+        &cells.context,
+        state,
+    )?;
+    let written = put(&mut state.heap, value, cells.background, position, into)?;
+    Ok(written)
 }
