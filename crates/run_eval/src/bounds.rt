@@ -85,28 +85,14 @@ fn operand(
     }
 }
 
-/// The shape of the array that a value is. A buffer that is not alive, or has another number of cells, counts as want of memory, as
-/// where the array is read.
+/// The shape of the array that a value is. A buffer that is not alive, or has another number of cells, counts as want of
+/// memory, as where the array is read.
 pub fn read_shape(alloc: Global, heap: &Store<'_>, value: &RunValue) -> Result<Shape, Memory>
     ensures shape { IfOk result (λ shape. shape ≡ shape_of (value_of value.now)) }
-    ensures cells { (m : MachineHeap) → Stands heap.now m → IfOk result (λ shape. IsFull shape (value_of value.now) m) }
+    ensures full { (m : MachineHeap) → Stands heap.now m → IfOk result (λ shape. IsFull shape (value_of value.now) m) }
 {
-    match value {
-        RunValue::Buffer(_, id, extents) => {
-            let cells = buffer_cells(heap, *id)?;
-            full_shape(alloc, extents, cells.len())
-        }
-        _ => shape_from(alloc, &value.extents()),
-    }
-}
-
-// The shape of these extents, if it is that of an array of so many cells.
-fn full_shape(alloc: Global, extents: &Few, cells: usize) -> Result<Shape, Memory>
-    ensures shape { IfOk result (λ shape. shape ≡ map unsigned_abs (numbers extents.now)) }
-    ensures full { IfOk result (λ shape. size shape ≡ cells) }
-{
-    let shape = shape_from(alloc, extents)?;
-    if elements(&shape) != Some(cells as u64) {
+    let shape = shape_from(alloc, &value.extents())?;
+    if !is_full(heap, value, &shape)? {
         return Err(Memory);
     }
     Ok(shape)
@@ -116,7 +102,29 @@ fn full_shape(alloc: Global, extents: &Few, cells: usize) -> Result<Shape, Memor
 fn shape_from(alloc: Global, extents: &Few) -> Result<Shape, Memory>
     ensures { IfOk result (λ shape. shape ≡ map unsigned_abs (numbers extents.now)) }
 {
-    Shape::from_extents(alloc, extents.as_slice()).ok_or(Memory)
+    match Shape::from_extents(alloc, extents.as_slice()) {
+        Some(shape) => Ok(shape),
+        None => Err(Memory),
+    }
+}
+
+// Whether the value's buffer, if it has one, has as many cells as an array of this shape.
+fn is_full(heap: &Store<'_>, value: &RunValue, shape: &Shape) -> Result<bool, Memory>
+    ensures { (m : MachineHeap) → Stands heap.now m → IfOk result (λ full. IsTrue full → IsFull shape.now (value_of value.now) m) }
+{
+    match value {
+        RunValue::Buffer(_, id, _) => {
+            let cells = buffer_cells(heap, *id)?;
+            Ok(has_elements(shape, cells.len()))
+        }
+        _ => Ok(true),
+    }
+}
+
+fn has_elements(shape: &Shape, cells: usize) -> bool
+    ensures { IsTrue result → cells ≡ size shape.now }
+{
+    elements(shape) == Some(cells as u64)
 }
 
 // The members of a frame. One that has gaps, or no array's indices, counts as want of memory.

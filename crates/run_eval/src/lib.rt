@@ -18,7 +18,7 @@ mod state;
 mod trace;
 
 pub use cell_loop::{
-    CellBody, CellLoop, CellSource, LoopResult, body_of_gen, body_of_part, body_of_place,
+    CellBody, CellLoop, CellSource, LoopResult, body_at, body_of_gen, body_of_part, body_of_place,
 };
 pub use in_order::{body_in_order, cell_in_order, run_in_order, run_over_in_order};
 pub use phases::{Never, Outside, Phases};
