@@ -1,6 +1,6 @@
 mod Afters
 mod Answered
 mod Numbered
-mod Ranges
+mod RangeLists
 pub mod Sources
 mod Works
