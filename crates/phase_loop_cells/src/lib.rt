@@ -5,11 +5,13 @@ mod copies;
 mod loops;
 mod ranges;
 mod scratch;
+mod walk;
 
 pub use copies::Background;
 pub use loops::LoopCells;
-pub use ranges::part_ranges;
+pub use ranges::{made_ranges, part_ranges, source_ranges};
 pub use scratch::CellScratch;
+pub use walk::Walk;
 
 #[cfg(test)]
 mod tests;

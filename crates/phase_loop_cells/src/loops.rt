@@ -6,6 +6,7 @@ ghost use Rattle.counted_code.specs.Values.{Heap as MachineHeap};
 ghost use Rattle.phase_loop_cells.specs.Cells.{ToldCell, fill_at, index_at, source_cell, source_taken};
 ghost use Rattle.phase_loop_cells.specs.Opened.{OpenSource};
 ghost use Rattle.phase_loop_cells.specs.Ready.{IsReady};
+ghost use Rattle.phase_loop_cells.specs.Walks.{IsWalk};
 ghost use Rattle.run_eval.specs.Loops.{source_at};
 ghost use Rattle.run_eval.specs.Running.{IsAt};
 ghost use Rattle.run_store.specs.Stands.{lender_of};
@@ -14,12 +15,13 @@ ghost use Rattle.sac_base.specs.Arrays.{size};
 
 use crate::copies::{Background, ended, put};
 use crate::scratch::CellScratch;
-use array_with_loops::{IndexVector, Plan};
+use crate::walk::Walk;
+use array_with_loops::Plan;
 use buffer_heap::Heap;
 use phase_cells::CellRuns;
 use phase_count::PhaseCount;
 use phase_team::CellEnd;
-use run_eval::{CellSource, Context, State, cell_in_order};
+use run_eval::{CellSource, Context, State, body_in_order};
 use run_store::Store;
 use run_values::Frames;
 use sac_base::{Cell, Memory, Stop};
@@ -61,7 +63,7 @@ impl<'a> CellRuns for LoopCells<'a> {
     }
 
     fn begin(&self) -> Result<CellScratch, Memory> {
-        CellScratch::of(self.frames, self.context.alloc)
+        CellScratch::of(self.frames, &self.source, self.plan, self.context.alloc)
     }
 
     fn run(
@@ -79,7 +81,7 @@ impl<'a> CellRuns for LoopCells<'a> {
             heap: buffers,
             phases: PhaseCount::within_cell(),
         };
-        let answer = cell_at(self, position, &mut scratch.index, &mut state, into);
+        let answer = cell_at(self, position, &mut scratch.walk, &mut state, into);
         let (frames, heap) = state.into_parts();
         scratch.frames = frames;
         *store = heap;
@@ -87,31 +89,27 @@ impl<'a> CellRuns for LoopCells<'a> {
     }
 }
 
-// Computes the cell of a position, whose index is written into the given vector.
+// Computes the cell of a position, to which the walk goes.
 fn cell_at(
     cells: &LoopCells<'_>,
     position: usize,
-    index: &mut IndexVector,
+    walk: &mut Walk,
     state: &mut State<'_>,
     into: &mut [Cell],
 ) -> Result<bool, Stop>
-    requires { position < length cells.now.plan.now.frame }
+    requires walk { IsWalk cells.now.source cells.now.plan.now walk.old }
+    requires position { position < length cells.now.plan.now.frame }
     ensures told { (m : MachineHeap) → IsAt state.old m
         → ToldCell (fill_at cells.now.background position) into.new result state.new
         (cell_does cells.now.plan.now.form (source_at cells.now.context (current state.old.frames) cells.now.source cells.now.plan.now.ranges.items
         (index_at cells.now.plan.now.frame position)) m) }
     ensures current { OnOk result (current state.new.frames ≡ current state.old.frames) }
+    ensures walk { IsWalk cells.now.source cells.now.plan.now walk.new }
     ensures lender { lender_of state.new.heap ≡ lender_of state.old.heap }
 {
-    cells.plan.frame.index(position, index)?;
-    let value = cell_in_order(
-        &cells.source,
-        &cells.plan.ranges,
-        &cells.plan.form,
-        index.components(),
-        &cells.context,
-        state,
-    )?;
+    let body = walk.go_to(&cells.source, cells.plan, position)?;
+    let form = &cells.plan.form;
+    let value = body_in_order(body, form, walk.index(), &cells.context, state)?;
     let written = put(&mut state.heap, value, cells.background, position, into)?;
     Ok(written)
 }
