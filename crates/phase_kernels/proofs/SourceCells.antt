@@ -5,11 +5,12 @@ use Rattle.array_with_loops.specs.declared.plans.Plan.{Plan}
 use Rattle.counted_code.specs.Machine.{Values}
 use Rattle.kernel_rows.specs.declared.kernels.CellKernel.{CellKernel}
 use Rattle.kernel_rows.specs.Kernels.{AreCellKernels, CellFaults, CellIs}
-use Rattle.phase_kernels.specs.Bodies.{AreMade, ranges_of, source_bodies}
+use Rattle.phase_kernels.specs.Bodies.{source_bodies}
 use Rattle.phase_kernels.proofs.GenCells.{gen_fault, gen_value}
 use Rattle.phase_kernels.proofs.PartCells.{part_fault, part_value}
 use Rattle.phase_loop_cells.specs.declared.copies.Background.{Background}
 use Rattle.phase_loop_cells.specs.Cells.{fill_at, index_at, source_cell, source_taken}
+use Rattle.phase_loop_cells.specs.Ranges.{AreMade, ranges_of}
 use Rattle.phase_loop_cells.specs.Opened.{lent_env, meaning_in, spending_in}
 use Rattle.run_eval.specs.declared.cell_loop.CellSource.{CellSource}
 use Rattle.run_eval.specs.declared.cell_loop.CellSource.TheVariants.{Generators, Parts}

@@ -1,10 +1,11 @@
 -- What a worker may have between two cells.
 use Rattle.std.specs.Prelude.{IfSome}
 use Rattle.kernel_rows.specs.Kernels.{AreCellKernels}
-use Rattle.phase_kernels.specs.Bodies.{AreMade, source_bodies}
+use Rattle.phase_kernels.specs.Bodies.{source_bodies}
 use Rattle.phase_kernels.specs.declared.cells.KernelCells.{KernelCells}
 use Rattle.phase_kernels.specs.declared.scratch.KernelScratch.{KernelScratch}
 use Rattle.phase_loop_cells.specs.Opened.{lent_env}
+use Rattle.phase_loop_cells.specs.Ranges.{AreMade}
 use Rattle.phase_loop_cells.specs.Ready.{IsReady}
 use Rattle.run_values.specs.Scopes.{current}
 
