@@ -21,7 +21,8 @@ use Rattle.kernel_rows.proofs.Bodies.{BodyAnswers, body_of, fault_answers, first
 use Rattle.phase_checks.specs.Terms.{parts_term}
 use Rattle.phase_laws.specs.Spending.{CallSpending, parts_take, spends}
 use Rattle.phase_loop_cells.specs.Cells.{as_cell}
-use Rattle.phase_kernels.specs.Bodies.{AreRanges, part_body}
+use Rattle.phase_loop_cells.specs.Ranges.{AreRanges}
+use Rattle.phase_kernels.specs.Bodies.{part_body}
 
 module _ (calls : CallMeaning) (turns : ℕ) (call_spends : CallSpending) (e : Env) (form : ArrayValue) (v : List ℤ) where
   abbrev part_cell : CodePart → Ends (Option ArrayValue)
