@@ -1,4 +1,4 @@
-use Rattle.std.proofs.Common.{◌≡◌, ℕ, List, None, length, refl, sym, ap, subst, ◌∙◌, vec_len, arith}
+use Rattle.std.proofs.Common.{◌≡◌, ◌≤◌, ◌*◌, ℕ, List, None, length, refl, sym, ap, subst, ◌∙◌, vec_len, arith}
 use Rattle.std.proofs.lemmas.List.{length-replicate}
 use Rattle.std.specs.Int.{div_ceil}
 use Rattle.index_cutter.specs.Cuts.{chunk_size}
