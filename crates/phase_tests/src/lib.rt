@@ -15,6 +15,8 @@ mod making;
 #[cfg(test)]
 mod parts;
 #[cfg(test)]
+mod positions;
+#[cfg(test)]
 mod stores;
 #[cfg(test)]
 mod tables;
