@@ -25,8 +25,8 @@ use phase_books::{
     Workers, alive_in_parts, end_phase, open_books, settle_over, steps_of_parts, stop_phase,
 };
 use phase_checks::parts_are_counted;
-use phase_kernels::KernelParts;
-use phase_loop_cells::PartCells;
+use phase_kernels::KernelCells;
+use phase_loop_cells::LoopCells;
 use phase_team::Gate;
 use run_eval::{CellLoop, CellSource, Context, State, run_over_in_order};
 use run_over::claim_over;
@@ -82,30 +82,18 @@ fn is_phase_over(
     ensures { IfOk result (λ over. IsTrue over →
         MayBeOver context.now state.now.heap.own (current state.now.frames) parts.now plan.now.form plan.now.shape live.now (value_of array)) }
 {
-    let cells = KernelParts {
-        cells: PartCells {
+    let cells = KernelCells {
+        cells: LoopCells {
             context: *context,
             heap: &state.heap.own,
             frames: &state.frames,
-            parts,
-            form: &plan.form,
-            frame: &plan.frame,
+            source: CellSource::Parts(parts),
+            plan,
+            background: None,
         },
         live,
     };
-    let over = may_be_over(&cells, &plan.shape, array);
-    let KernelParts {
-        cells: PartCells {
-            context: _,
-            heap: _,
-            frames: _,
-            parts: _,
-            form: _,
-            frame: _,
-        },
-        live: _,
-    } = cells;
-    over
+    may_be_over(&cells, &plan.shape, array)
 }
 
 // The same of a loop that is a phase: the cells are computed from what stands in the array, and then written over it.
@@ -141,8 +129,7 @@ fn over_by_workers<G: Gate, R: Threads + Sync>(
     let end = part_cells(
         workers,
         parts,
-        &plan.frame,
-        &plan.form,
+        plan,
         context,
         live,
         &state.frames,
