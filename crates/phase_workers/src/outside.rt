@@ -95,9 +95,9 @@ pub fn array_outside<G: Gate, R: Threads + Sync>(
 }
 
 // The same in order.
-fn array_in_order(
-    gens: &[CodeGen],
-    plan: &Plan,
+fn array_in_order<'a>(
+    gens: &'a [CodeGen],
+    plan: &'a Plan,
     array: RunValue,
     old: bool,
     context: &Context<'_>,

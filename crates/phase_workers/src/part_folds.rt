@@ -140,7 +140,7 @@ fn fold_parts_by_workers<G: Gate, R: Threads + Sync>(
         parts,
         plan,
         op,
-        context,
+        *context,
         live,
         &state.frames,
         &state.heap.own,
@@ -165,26 +165,26 @@ fn fold_parts_by_workers<G: Gate, R: Threads + Sync>(
 }
 
 // Combines a value with the cells of all indices that some part holds.
-fn fold_part_cells<G: Gate, R: Threads + Sync>(
+fn fold_part_cells<'a, G: Gate, R: Threads + Sync>(
     workers: &Workers<'_, G, R>,
-    parts: &[CodePart],
-    plan: &Plan,
+    parts: &'a [CodePart],
+    plan: &'a Plan,
     op: Op,
-    context: &Context<'_>,
-    live: &[Var],
-    frames: &Frames,
-    heap: &Heap,
+    context: Context<'a>,
+    live: &'a [Var],
+    frames: &'a Frames,
+    heap: &'a Heap,
     value: &mut [Cell],
     books: &mut Books,
 ) -> Result<(), Stop>
-    requires counted { PartsIn (code_program context.now.code.now) (parts_term parts.now) live.now }
+    requires counted { PartsIn (code_program context.code.now) (parts_term parts.now) live.now }
     requires alive { AreAlive heap.now (current frames.now) live.now }
     requires op { IsTrue (folds_value plan.now.form.base op) }
     requires width { length value.old ≡ size plan.now.form.shape }
     requires home { books.old.home ≡ new_behind heap.now }
     ensures booked { IsBooked (length plan.now.frame) books.old books.new result }
-    ensures combined { CombinesAll op (cells_from (parts_cell context.now heap.now (current frames.now) parts.now plan.now.form plan.now.frame) 0
-        (length plan.now.frame)) heap.now (cost_from (parts_taken context.now heap.now (current frames.now) parts.now plan.now.frame) 0
+    ensures combined { CombinesAll op (cells_from (parts_cell context.entry heap.now (current frames.now) parts.now plan.now.form plan.now.frame) 0
+        (length plan.now.frame)) heap.now (cost_from (parts_taken context.entry heap.now (current frames.now) parts.now plan.now.frame) 0
         (length plan.now.frame)) value.old value.new (left_in books.new.home result) }
 {
     let _code = context.code.get();
@@ -195,7 +195,7 @@ fn fold_part_cells<G: Gate, R: Threads + Sync>(
     }
     let cells = KernelCells {
         cells: LoopCells {
-            context: *context,
+            context,
             heap,
             frames,
             source: CellSource::Parts(parts),

@@ -124,7 +124,7 @@ fn parts_by_workers<G: Gate, R: Threads + Sync>(
         workers,
         parts,
         plan,
-        context,
+        *context,
         live,
         &state.frames,
         &state.heap.own,
@@ -145,26 +145,26 @@ fn parts_by_workers<G: Gate, R: Threads + Sync>(
 }
 
 /// Computes the cells of all indices, each at its place.
-pub fn part_cells<G: Gate, R: Threads + Sync>(
+pub fn part_cells<'a, G: Gate, R: Threads + Sync>(
     workers: &Workers<'_, G, R>,
-    parts: &[CodePart],
-    plan: &Plan,
-    context: &Context<'_>,
-    live: &[Var],
-    frames: &Frames,
-    heap: &Heap,
+    parts: &'a [CodePart],
+    plan: &'a Plan,
+    context: Context<'a>,
+    live: &'a [Var],
+    frames: &'a Frames,
+    heap: &'a Heap,
     cells: &mut [Cell],
     books: &mut Books,
 ) -> Result<(), Stop>
-    requires counted { PartsIn (code_program context.now.code.now) (parts_term parts.now) live.now }
+    requires counted { PartsIn (code_program context.code.now) (parts_term parts.now) live.now }
     requires alive { AreAlive heap.now (current frames.now) live.now }
     requires home { books.old.home ≡ new_behind heap.now }
     ensures booked { IsBooked (length plan.now.frame) books.old books.new result }
-    ensures computed { ComputesAll (cells_from (parts_cell context.now heap.now (current frames.now) parts.now plan.now.form plan.now.frame) 0
-        (length plan.now.frame)) heap.now (cost_from (parts_taken context.now heap.now (current frames.now) parts.now plan.now.frame) 0
+    ensures computed { ComputesAll (cells_from (parts_cell context.entry heap.now (current frames.now) parts.now plan.now.form plan.now.frame) 0
+        (length plan.now.frame)) heap.now (cost_from (parts_taken context.entry heap.now (current frames.now) parts.now plan.now.frame) 0
         (length plan.now.frame)) cells.new (left_in books.new.home result) }
     ensures there { IfEnded result ((place : ℕ) → place < length plan.now.frame
-        → parts_cell context.now heap.now (current frames.now) parts.now plan.now.form plan.now.frame place ≢ Ok None) }
+        → parts_cell context.entry heap.now (current frames.now) parts.now plan.now.form plan.now.frame place ≢ Ok None) }
 {
     let _code = context.code.get();
     heap.buffers_are_numbered();
@@ -179,7 +179,7 @@ pub fn part_cells<G: Gate, R: Threads + Sync>(
     let covered = CoveredCells {
         cells: KernelCells {
             cells: LoopCells {
-                context: *context,
+                context,
                 heap,
                 frames,
                 source: CellSource::Parts(parts),

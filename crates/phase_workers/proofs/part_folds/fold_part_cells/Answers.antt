@@ -9,7 +9,7 @@ each_fold-requires-clause-lending g c κs within =
     let a = c.args in
     let code = c.get-code.ensures in
     let heap = c.buffers_are_numbered.ensures in
-    lending_parts a.context.now a.heap.now (current a.frames.now) a.parts.now a.live.now code.counted c.requires.counted c.requires.alive heap.referred heap.below heap.single heap.counters
+    lending_parts a.context a.heap.now (current a.frames.now) a.parts.now a.live.now code.counted c.requires.counted c.requires.alive heap.referred heap.below heap.single heap.counters
 
 pub returns-clause-booked : goal.returns-clause-booked
 returns-clause-booked g c =
