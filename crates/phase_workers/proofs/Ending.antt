@@ -1,5 +1,5 @@
 -- What a phase of workers tells of the machine.
-use Rattle.std.proofs.Common.{◌≡◌, ℕ, Bool, true, false, List, [], ◌∷◌, ◌++◌, length, take, ℤ, Option, Some, None, Result, Ok, Err, refl, ap, ◌∙◌, sym, subst}
+use Rattle.std.proofs.Common.{◌≡◌, ℕ, Bool, true, false, List, [], ◌∷◌, ◌++◌, length, take, drop, ◌*◌, ℤ, Option, Some, None, Result, Ok, Err, refl, ap, ◌∙◌, sym, subst}
 use Rattle.std.specs.Prelude.{IsSomeAnd, IsTrue, not}
 use Rattle.std.proofs.Math.ListN.{get_or}
 use Rattle.std.proofs.Math.Seq.{take-append_seam}
@@ -44,7 +44,7 @@ use Rattle.phase_loop_laws.proofs.Jobs.{phase_ends}
 use Rattle.phase_loop_laws.proofs.Places.{costs_in_all}
 use Rattle.phase_loop_laws.proofs.Results.{array_made}
 use Rattle.phase_loop_cells.specs.declared.copies.Background.{Background}
-use Rattle.phase_loop_cells.specs.Cells.{as_cell, gens_cell, gens_taken}
+use Rattle.phase_loop_cells.specs.Cells.{as_cell, fill_at, gens_cell, gens_taken, stands_at}
 use Rattle.phase_loop_cells.specs.Opened.{GensIn, lent_env, meaning_in, spending_in}
 use Rattle.phase_books.specs.Alive.{AreAlive, IsAlive}
 use Rattle.phase_books.specs.Homes.{ComputesAll, handed}
@@ -94,11 +94,19 @@ same_cell fill (Ok None) = refl
 same_cell fill (Ok (Some a)) = refl
 same_cell fill (Err f) = refl
 
+-- what stands at a place, where the array's cells lie elsewhere
+same_fill : (b : Background) (array : ArrayValue) → b.cells.now ≡ array.cells → (place : ℕ) → fill_at (Some b) place ≡ filled b.old array b.size place
+same_fill b array lies place = go b.old
+  where
+    go : (old : Bool) → Some (stands_at old b.cells.now b.size place) ≡ filled old array b.size place
+    go true = λ i. Some (take b.size (drop (place * b.size) (lies i)))
+    go false = λ i. Some (lies i)
+
 -- ---- with-loops
 
-module _ (context : Context) (e : Values) (gens : List CodeGen) (p : Plan) (b : Background) (xs : List Var) (counted : IsWellCounted (code_program context.code.now)) (here : GensIn (code_program context.code.now) (gens_term gens) xs) (h : HeapValue) (alive : AreAlive h e xs) (referred : AreReferred h) (width : b.size ≡ size p.form.shape) (large : is_small p.shape ≡ false) (m : Heap) where
+module _ (context : Context) (e : Values) (gens : List CodeGen) (p : Plan) (b : Background) (array : ArrayValue) (lies : b.cells.now ≡ array.cells) (xs : List Var) (counted : IsWellCounted (code_program context.code.now)) (here : GensIn (code_program context.code.now) (gens_term gens) xs) (h : HeapValue) (alive : AreAlive h e xs) (referred : AreReferred h) (width : b.size ≡ size p.form.shape) (large : is_small p.shape ≡ false) (m : Heap) where
   abbrev pub job : Job
-  job = array_job context e m gens (plan_of p) b.array.now b.old
+  job = array_job context e m gens (plan_of p) array b.old
 
   abbrev spent : ℕ
   spent = cost_from (gens_taken context h e gens p) 0 (length p.frame)
@@ -113,15 +121,15 @@ module _ (context : Context) (e : Values) (gens : List CodeGen) (p : Plan) (b : 
   is_a_phase = subst (λ (small : Bool). IsTrue (not small)) (sym large) refl
 
   module _ (stands : StandsFor h (begun job m).heap) where
-    pub array_ends : (es : List ℤ) (end : Result (Unit {0}) Stop) → IsArray (cells_from (gens_cell context h e gens p (Some b)) 0 (length p.frame)) es end → PhaseEnds job b.array.now.base p.shape spent m es end
+    pub array_ends : (es : List ℤ) (end : Result (Unit {0}) Stop) → IsArray (cells_from (gens_cell context h e gens p (Some b)) 0 (length p.frame)) es end → PhaseEnds job array.base p.shape spent m es end
     array_ends es end is =
-        subst (λ n. PhaseEnds job b.array.now.base p.shape n m es end) (sym (costs_in_all takes p.frame))
-        (phase_ends m job is_a_phase cell takes (alone_gens context h e gens xs counted here alive referred (begun job m).heap m stands p.form p.ranges.items) b.array.now.base p.shape es end
-        (array_made cell p.frame b.old b.array.now (plan_of p) b.size width es end
-        (subst (λ (f : ℕ → CellValue). IsArray (cells_from f 0 (length p.frame)) es end) (λ i place. same_cell (filled b.old b.array.now b.size place) (cell (worked.index_at p.frame place)) i) is)))
+        subst (λ n. PhaseEnds job array.base p.shape n m es end) (sym (costs_in_all takes p.frame))
+        (phase_ends m job is_a_phase cell takes (alone_gens context h e gens xs counted here alive referred (begun job m).heap m stands p.form p.ranges.items) array.base p.shape es end
+        (array_made cell p.frame b.old array (plan_of p) b.size width es end
+        (subst (λ (f : ℕ → CellValue). IsArray (cells_from f 0 (length p.frame)) es end) (λ i place. (ap (λ fill. as_cell fill (cell (worked.index_at p.frame place))) (same_fill b array lies place) ∙ same_cell (filled b.old array b.size place) (cell (worked.index_at p.frame place))) i) is)))
 
   abbrev made : List ℤ → ArrayValue
-  made es = record { base = b.array.now.base; shape = p.shape; cells = es }
+  made es = record { base = array.base; shape = p.shape; cells = es }
 
   module _ (t : Option BufferId) (s : State) (is : IsBegun (target_at t) s (begun job m)) (none : s.heap.lent ≡ None) (own : s.heap.own ≡ h) where
     stands_here : StandsFor h (begun job m).heap

@@ -10,5 +10,4 @@ mod OverEnding
 mod OverHeaps
 mod PartFolds
 mod PartedEnding
-mod PartsShared
 mod Shared

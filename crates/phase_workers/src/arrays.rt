@@ -6,8 +6,8 @@ ghost use Rattle.phase_cells.specs.Idle.{IsLending};
 ghost use Rattle.counted_code.specs.Loops.{job_does};
 ghost use Rattle.counted_code.specs.Values.{Heap as MachineHeap, is_small};
 ghost use Rattle.counted_code.specs.View.{code_program};
-ghost use Rattle.phase_loop_cells.specs.Cells.{gens_cell, gens_taken};
-ghost use Rattle.phase_loop_cells.specs.Opened.{GensIn, OpenGens};
+ghost use Rattle.phase_loop_cells.specs.Cells.{gens_cell, gens_taken, source_cell, source_taken};
+ghost use Rattle.phase_loop_cells.specs.Opened.{GensIn, OpenSource};
 ghost use Rattle.phase_checks.specs.Terms.{gens_term};
 ghost use Rattle.phase_books.specs.Alive.{AreAlive};
 ghost use Rattle.phase_books.specs.Homes.{ComputesAll, IsBooked, left_in, new_behind};
@@ -21,14 +21,14 @@ ghost use Rattle.phase_team.specs.Segments.{cells_from, cost_from};
 use array_with_loops::Plan;
 use buffer_heap::Heap;
 use core_ir::Var;
-use counted_code::{Code, CodeGen};
+use counted_code::{Code, CodeGen, CodePart};
 use phase_books::{
     Begun, Books, Workers, begin_phase, compute_array, end_phase, finish_phase, stop_phase,
 };
 use phase_kernels::KernelCells;
-use phase_loop_cells::{Background, WithCells};
+use phase_loop_cells::{Background, LoopCells};
 use phase_team::Gate;
-use run_eval::{Context, State};
+use run_eval::{CellSource, Context, State};
 use run_store::Target;
 use run_values::{Frames, RunValue};
 use sac_base::{Array, Cell, Stop, elements};
@@ -65,7 +65,7 @@ pub fn array_by_workers<G: Gate, R: Threads + Sync>(
     let Begun { target, mut books } = begun;
     let Target { mut cells, buffer } = target;
     let background = Background {
-        array,
+        cells: array.cells(),
         old,
         size: size as usize,
     };
@@ -123,29 +123,17 @@ fn array_cells<G: Gate, R: Threads + Sync>(
         return Err(Stop::Memory);
     }
     let kernel_cells = KernelCells {
-        cells: WithCells {
+        cells: LoopCells {
             context: *context,
             heap,
             frames,
-            gens,
+            source: CellSource::Generators(gens),
             plan,
             background: Some(background),
         },
         live,
     };
-    let end = each_cell(workers, &kernel_cells, count, background.size, cells, books);
-    let KernelCells {
-        cells: WithCells {
-            context: _,
-            heap: _,
-            frames: _,
-            gens: _,
-            plan: _,
-            background: _,
-        },
-        live: _,
-    } = kernel_cells;
-    end
+    each_cell(workers, &kernel_cells, count, background.size, cells, books)
 }
 
 fn each_cell<G: Gate, R: Threads + Sync>(
@@ -159,24 +147,25 @@ fn each_cell<G: Gate, R: Threads + Sync>(
     requires positions { (count ≤ 16777216) × (count ≡ length kernel_cells.now.cells.plan.now.frame)
         × (width ≡ size kernel_cells.now.cells.plan.now.form.shape) }
     requires held { (p : ℕ) → p < count
-        → gens_cell kernel_cells.now.cells.context kernel_cells.now.cells.heap.now
-        (current kernel_cells.now.cells.frames.now) kernel_cells.now.cells.gens.now kernel_cells.now.cells.plan.now
+        → source_cell kernel_cells.now.cells.context kernel_cells.now.cells.heap.now
+        (current kernel_cells.now.cells.frames.now) kernel_cells.now.cells.source kernel_cells.now.cells.plan.now
         kernel_cells.now.cells.background p ≢ Ok None }
-    requires lending { IsLending (OpenGens kernel_cells.now.cells.context kernel_cells.now.cells.heap.now
-        (current kernel_cells.now.cells.frames.now) kernel_cells.now.cells.gens.now) kernel_cells.now.cells.heap.now }
+    requires lending { IsLending (OpenSource kernel_cells.now.cells.context kernel_cells.now.cells.heap.now
+        (current kernel_cells.now.cells.frames.now) kernel_cells.now.cells.source) kernel_cells.now.cells.heap.now }
     requires room { length cells.old ≡ count * width }
     requires home { books.old.home ≡ new_behind kernel_cells.now.cells.heap.now }
     ensures booked { IsBooked count books.old books.new result }
     ensures computed { ComputesAll
-        (cells_from (gens_cell kernel_cells.now.cells.context kernel_cells.now.cells.heap.now
-        (current kernel_cells.now.cells.frames.now) kernel_cells.now.cells.gens.now kernel_cells.now.cells.plan.now kernel_cells.now.cells.background) 0 count)
+        (cells_from (source_cell kernel_cells.now.cells.context kernel_cells.now.cells.heap.now
+        (current kernel_cells.now.cells.frames.now) kernel_cells.now.cells.source kernel_cells.now.cells.plan.now kernel_cells.now.cells.background) 0 count)
         kernel_cells.now.cells.heap.now
-        (cost_from (gens_taken kernel_cells.now.cells.context kernel_cells.now.cells.heap.now
-        (current kernel_cells.now.cells.frames.now) kernel_cells.now.cells.gens.now kernel_cells.now.cells.plan.now) 0 count)
+        (cost_from (source_taken kernel_cells.now.cells.context kernel_cells.now.cells.heap.now
+        (current kernel_cells.now.cells.frames.now) kernel_cells.now.cells.source kernel_cells.now.cells.plan.now) 0 count)
         cells.new (left_in books.new.home result) }
 {
-    shares::<CodeGen>();
     shares::<Code>();
+    shares::<CodeGen>();
+    shares::<CodePart>();
     compute_array(
         workers,
         kernel_cells.cells.context.alloc,

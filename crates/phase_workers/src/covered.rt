@@ -1,10 +1,9 @@
 //! Parted loops in which each position has a cell.
 
-ghost use Rattle.std.specs.Prelude.{◌≡◌, ℕ, ℤ, List, IfOk, IfSome, IsTrue, is_some, length, map, true};
-ghost use Rattle.kernel_rows.specs.Kernels.{AreCellKernels};
-ghost use Rattle.phase_kernels.specs.Bodies.{AreRanges, part_body};
-ghost use Rattle.phase_loop_cells.specs.Cells.{parts_cell, parts_taken};
-ghost use Rattle.phase_loop_cells.specs.Opened.{OpenParts, lent_env};
+ghost use Rattle.std.specs.Prelude.{◌≡◌, ℕ, ℤ, List, IfOk, IsTrue, is_some, length, true};
+ghost use Rattle.phase_kernels.specs.Ready.{HasKernels};
+ghost use Rattle.phase_loop_cells.specs.Cells.{source_cell, source_taken};
+ghost use Rattle.phase_loop_cells.specs.Opened.{OpenSource};
 ghost use Rattle.phase_workers.specs.Covered.{AreCovered, EndsIf, must_be_there};
 ghost use Rattle.run_eval.specs.Loops.{part_held};
 ghost use Rattle.run_values.specs.Scopes.{current};
@@ -16,39 +15,37 @@ use array_with_loops::{Frame, IndexVector};
 use buffer_heap::Heap;
 use counted_code::CodePart;
 use phase_cells::CellRuns;
-use phase_kernels::{KernelParts, KernelScratch};
+use phase_kernels::{KernelCells, KernelScratch};
 use phase_team::CellEnd;
 use run_store::Store;
 use sac_base::{Cell, Memory, Stop};
 use std::alloc::Global;
 
 /// The cells of a parted loop, where a position without one counts as want of memory.
+#[derive(Clone, Copy)]
 pub struct CoveredCells<'a> {
-    pub cells: KernelParts<'a>,
+    pub cells: KernelCells<'a>,
 }
 
 impl<'a> CellRuns for CoveredCells<'a> {
     type Scratch = KernelScratch<'a>;
 
     ghost cell = { λ s p. must_be_there
-        (parts_cell s.cells.cells.context s.cells.cells.heap.now (current s.cells.cells.frames.now) s.cells.cells.parts.now s.cells.cells.form.now
-        s.cells.cells.frame.now p) };
+        (source_cell s.cells.cells.context s.cells.cells.heap.now (current s.cells.cells.frames.now) s.cells.cells.source s.cells.cells.plan.now
+        s.cells.cells.background p) };
 
-    ghost takes = { λ s p. parts_taken s.cells.cells.context s.cells.cells.heap.now (current s.cells.cells.frames.now) s.cells.cells.parts.now
-        s.cells.cells.frame.now p };
+    ghost takes = { λ s p. source_taken s.cells.cells.context s.cells.cells.heap.now (current s.cells.cells.frames.now) s.cells.cells.source
+        s.cells.cells.plan.now p };
 
-    ghost positions = { λ s. length s.cells.cells.frame.now };
+    ghost positions = { λ s. length s.cells.cells.plan.now.frame };
 
-    ghost width = { λ s. size s.cells.cells.form.now.shape };
+    ghost width = { λ s. size s.cells.cells.plan.now.form.shape };
 
     ghost lends = { λ s. s.cells.cells.heap.now };
 
-    ghost opens = { λ s k. OpenParts s.cells.cells.context s.cells.cells.heap.now (current s.cells.cells.frames.now) s.cells.cells.parts.now k };
+    ghost opens = { λ s k. OpenSource s.cells.cells.context s.cells.cells.heap.now (current s.cells.cells.frames.now) s.cells.cells.source k };
 
-    ghost ready = { λ s scratch. IfSome scratch.cells (λ cells. current cells.frames ≡ current s.cells.cells.frames.now)
-        × AreRanges scratch.ranges.items s.cells.cells.parts.now
-        × AreCellKernels scratch.buffers.items (lent_env s.cells.cells.heap.now (current s.cells.cells.frames.now)) s.cells.cells.form.now
-        (map part_body s.cells.cells.parts.now) scratch.kernels.items };
+    ghost ready = { λ s scratch. HasKernels s.cells scratch };
 
     fn heap(&self) -> &Heap {
         self.cells.heap()

@@ -1,13 +1,12 @@
 //! Folds of cells that workers compute.
 
-ghost use Rattle.std.specs.Thread.{IsSync};
 ghost use Rattle.std.specs.Prelude.{◌≡◌, ◌≤◌, IsTrue, None, length, OnOk};
 ghost use Rattle.phase_cells.specs.Idle.{IsLending};
 ghost use Rattle.counted_code.specs.Loops.{job_does};
 ghost use Rattle.counted_code.specs.Values.{Heap as MachineHeap};
 ghost use Rattle.counted_code.specs.View.{code_program};
-ghost use Rattle.phase_loop_cells.specs.Cells.{gens_cell, gens_taken};
-ghost use Rattle.phase_loop_cells.specs.Opened.{GensIn, OpenGens};
+ghost use Rattle.phase_loop_cells.specs.Cells.{gens_cell, gens_taken, source_cell, source_taken};
+ghost use Rattle.phase_loop_cells.specs.Opened.{GensIn, OpenSource};
 ghost use Rattle.phase_checks.specs.Terms.{gens_term};
 ghost use Rattle.phase_books.specs.Alive.{AreAlive};
 ghost use Rattle.phase_books.specs.Homes.{CombinesAll, IsBooked, left_in, new_behind};
@@ -23,14 +22,15 @@ ghost use Rattle.phase_team.specs.Segments.{cells_from, cost_from};
 use array_with_loops::{Plan, fits_form};
 use buffer_heap::Heap;
 use core_ir::Var;
-use counted_code::CodeGen;
+use crate::parted::shares;
+use counted_code::{Code, CodeGen, CodePart};
 use phase_books::{
     Begun, Books, Workers, alive_in_gens, begin_phase, compute_fold, end_phase, finish_phase,
     steps_of_gens, stop_phase,
 };
 use phase_checks::gens_are_counted;
 use phase_kernels::KernelCells;
-use phase_loop_cells::WithCells;
+use phase_loop_cells::LoopCells;
 use phase_team::Gate;
 use run_eval::{CellLoop, CellSource, Context, LoopResult, State, run_in_order};
 use run_store::Target;
@@ -205,32 +205,21 @@ fn fold_cells<'a, G: Gate, R: Threads + Sync>(
         return Err(Stop::Memory);
     }
     let cells = KernelCells {
-        cells: WithCells {
+        cells: LoopCells {
             context,
             heap,
             frames,
-            gens,
+            source: CellSource::Generators(gens),
             plan,
             background: None,
         },
         live,
     };
-    let end = each_fold(workers, &cells, count, op, value, books);
-    let KernelCells {
-        cells: WithCells {
-            context: _,
-            heap: _,
-            frames: _,
-            gens: _,
-            plan: _,
-            background: _,
-        },
-        live: _,
-    } = cells;
-    end
+    each_fold(workers, &cells, count, op, value, books)
 }
 
-fn each_fold<G: Gate, R: Threads + Sync>(
+/// Combines a value with the cells of all positions.
+pub fn each_fold<G: Gate, R: Threads + Sync>(
     workers: &Workers<'_, G, R>,
     cells: &KernelCells<'_>,
     count: usize,
@@ -240,30 +229,21 @@ fn each_fold<G: Gate, R: Threads + Sync>(
 ) -> Result<(), Stop>
     requires positions { (count ≤ 16777216) × (count ≡ length cells.now.cells.plan.now.frame) }
     requires op { IsTrue (folds_value cells.now.cells.plan.now.form.base op) }
-    requires lending { IsLending (OpenGens cells.now.cells.context cells.now.cells.heap.now
-        (current cells.now.cells.frames.now) cells.now.cells.gens.now) cells.now.cells.heap.now }
+    requires lending { IsLending (OpenSource cells.now.cells.context cells.now.cells.heap.now
+        (current cells.now.cells.frames.now) cells.now.cells.source) cells.now.cells.heap.now }
     requires width { length value.old ≡ size cells.now.cells.plan.now.form.shape }
     requires home { books.old.home ≡ new_behind cells.now.cells.heap.now }
     ensures booked { IsBooked count books.old books.new result }
     ensures combined { CombinesAll op
-        (cells_from (gens_cell cells.now.cells.context cells.now.cells.heap.now
-        (current cells.now.cells.frames.now) cells.now.cells.gens.now cells.now.cells.plan.now cells.now.cells.background) 0 count) cells.now.cells.heap.now
-        (cost_from (gens_taken cells.now.cells.context cells.now.cells.heap.now
-        (current cells.now.cells.frames.now) cells.now.cells.gens.now cells.now.cells.plan.now) 0 count) value.old value.new (left_in books.new.home result) }
+        (cells_from (source_cell cells.now.cells.context cells.now.cells.heap.now
+        (current cells.now.cells.frames.now) cells.now.cells.source cells.now.cells.plan.now cells.now.cells.background) 0 count) cells.now.cells.heap.now
+        (cost_from (source_taken cells.now.cells.context cells.now.cells.heap.now
+        (current cells.now.cells.frames.now) cells.now.cells.source cells.now.cells.plan.now) 0 count) value.old value.new (left_in books.new.home result) }
 {
-    shown(cells.cells.context.code.get());
-    all_shown(cells.cells.gens);
+    shares::<Code>();
+    shares::<CodeGen>();
+    shares::<CodePart>();
     let alloc = cells.cells.context.alloc;
     let base = cells.cells.plan.form.base;
     compute_fold(workers, alloc, cells, count, base, op, value, books)
 }
-
-// A law. A value that may be shared among threads may be.
-fn shown<X: Sync>(_value: &X)
-    ensures { IsSync X.row }
-{}
-
-// The same of the elements of a slice.
-fn all_shown<X: Sync>(_values: &[X])
-    ensures { IsSync X.row }
-{}

@@ -2,11 +2,12 @@
 
 ghost use Rattle.std.specs.Prelude.{◌≡◌, None, OnOk};
 ghost use Rattle.counted_code.specs.Loops.{job_does};
-ghost use Rattle.counted_code.specs.Values.{Heap as MachineHeap};
+ghost use Rattle.counted_code.specs.Values.{Heap as MachineHeap, read};
 ghost use Rattle.run_eval.specs.Jobs.{job_of};
 ghost use Rattle.run_eval.specs.Running.{IsAt, IsValue, SameScopes, Told, array_job};
 ghost use Rattle.run_store.specs.Stands.{lender_of};
 ghost use Rattle.run_values.specs.Scopes.{current};
+ghost use Rattle.run_values.specs.Shown.{value_of};
 ghost use Rattle.array_with_loops.specs.Plans.{plan_of};
 
 use crate::arrays::array_by_workers;
@@ -19,9 +20,9 @@ use phase_books::{Workers, alive_in_gens, steps_of_gens};
 use phase_checks::gens_are_counted;
 use phase_team::Gate;
 use run_eval::{CellLoop, CellSource, Context, LoopResult, State, run_in_order};
-use run_store::is_small;
+use run_store::{is_small, read_array};
 use run_values::RunValue;
-use sac_base::{Array, Stop, copy_array};
+use sac_base::{Stop, copy_array};
 use std::thread::Threads;
 
 /// The result of a loop whose checks have passed. It is run by the workers where it is a phase, its cells are known to stand
@@ -63,14 +64,14 @@ pub fn array_outside<G: Gate, R: Threads + Sync>(
     workers: &Workers<'_, G, R>,
     gens: &[CodeGen],
     plan: &Plan,
-    array: &Array,
+    array: RunValue,
     old: bool,
     context: &Context<'_>,
     state: &mut State<'_>,
 ) -> Result<RunValue, Stop>
     ensures told { (m : MachineHeap) → IsAt state.old m
         → Told IsValue result state.new
-        (job_does None (array_job context.now (current state.old.frames) m gens.now (plan_of plan.now) array.now old) m) }
+        (job_does None (array_job context.now (current state.old.frames) m gens.now (plan_of plan.now) (read m (value_of array)) old) m) }
     ensures scopes { OnOk result (SameScopes state.old.frames state.new.frames) }
     ensures lender { lender_of state.new.heap ≡ lender_of state.old.heap }
 {
@@ -89,21 +90,22 @@ pub fn array_outside<G: Gate, R: Threads + Sync>(
         plan.frame.count(),
         steps_of_gens(gens, &live, &state.frames),
     );
-    array_by_workers(&team, gens, plan, array, old, context, &live, state)
+    let background = read_array(context.alloc, &state.heap, array)?;
+    array_by_workers(&team, gens, plan, &background, old, context, &live, state)
 }
 
 // The same in order.
-fn array_in_order(
-    gens: &[CodeGen],
-    plan: &Plan,
-    array: &Array,
+fn array_in_order<'a>(
+    gens: &'a [CodeGen],
+    plan: &'a Plan,
+    array: RunValue,
     old: bool,
     context: &Context<'_>,
     state: &mut State<'_>,
 ) -> Result<RunValue, Stop>
     ensures told { (m : MachineHeap) → IsAt state.old m
         → Told IsValue result state.new
-        (job_does None (array_job context.now (current state.old.frames) m gens.now (plan_of plan.now) array.now old) m) }
+        (job_does None (array_job context.now (current state.old.frames) m gens.now (plan_of plan.now) (read m (value_of array)) old) m) }
     ensures scopes { OnOk result (SameScopes state.old.frames state.new.frames) }
     ensures lender { lender_of state.new.heap ≡ lender_of state.old.heap }
 {

@@ -17,6 +17,7 @@ ghost use Rattle.run_values.specs.Shown.{value_of};
 
 use crate::parted::part_cells;
 use array_with_loops::Plan;
+use buffer_heap::Heap;
 use core_ir::Var;
 use counted_code::CodePart;
 use over_checks::may_be_over;
@@ -25,12 +26,12 @@ use phase_books::{
     Workers, alive_in_parts, end_phase, open_books, settle_over, steps_of_parts, stop_phase,
 };
 use phase_checks::parts_are_counted;
-use phase_kernels::KernelParts;
-use phase_loop_cells::PartCells;
+use phase_kernels::KernelCells;
+use phase_loop_cells::LoopCells;
 use phase_team::Gate;
 use run_eval::{CellLoop, CellSource, Context, State, run_over_in_order};
 use run_over::claim_over;
-use run_values::RunValue;
+use run_values::{Frames, RunValue};
 use sac_base::{Memory, Stop};
 use std::thread::Threads;
 
@@ -61,7 +62,7 @@ pub fn over_outside<G: Gate, R: Threads + Sync>(
     }
     let live = alive_in_parts(context.alloc, parts, &state.frames, &state.heap.own)?;
     if !parts_are_counted(context.alloc, code, &live, parts)?
-        || !is_phase_over(parts, work.plan, array, context, &live, state)?
+        || !is_phase_over(parts, work.plan, array, *context, &live, &state.frames, &state.heap.own)?
     {
         return run_over_in_order(work, array, context, state);
     }
@@ -71,41 +72,30 @@ pub fn over_outside<G: Gate, R: Threads + Sync>(
 }
 
 // Whether all cells may be computed before one of them is written over the array.
-fn is_phase_over(
-    parts: &[CodePart],
-    plan: &Plan,
+fn is_phase_over<'a>(
+    parts: &'a [CodePart],
+    plan: &'a Plan,
     array: RunValue,
-    context: &Context<'_>,
-    live: &[Var],
-    state: &State<'_>,
+    context: Context<'a>,
+    live: &'a [Var],
+    frames: &'a Frames,
+    heap: &'a Heap,
 ) -> Result<bool, Memory>
     ensures { IfOk result (λ over. IsTrue over →
-        MayBeOver context.now state.now.heap.own (current state.now.frames) parts.now plan.now.form plan.now.shape live.now (value_of array)) }
+        MayBeOver context.entry heap.now (current frames.now) parts.now plan.now.form plan.now.shape live.now (value_of array)) }
 {
-    let cells = KernelParts {
-        cells: PartCells {
-            context: *context,
-            heap: &state.heap.own,
-            frames: &state.frames,
-            parts,
-            form: &plan.form,
-            frame: &plan.frame,
+    let cells = KernelCells {
+        cells: LoopCells {
+            context,
+            heap,
+            frames,
+            source: CellSource::Parts(parts),
+            plan,
+            background: None,
         },
         live,
     };
-    let over = may_be_over(&cells, &plan.shape, array);
-    let KernelParts {
-        cells: PartCells {
-            context: _,
-            heap: _,
-            frames: _,
-            parts: _,
-            form: _,
-            frame: _,
-        },
-        live: _,
-    } = cells;
-    over
+    may_be_over(&cells, &plan.shape, array)
 }
 
 // The same of a loop that is a phase: the cells are computed from what stands in the array, and then written over it.
@@ -141,9 +131,8 @@ fn over_by_workers<G: Gate, R: Threads + Sync>(
     let end = part_cells(
         workers,
         parts,
-        &plan.frame,
-        &plan.form,
-        context,
+        plan,
+        *context,
         live,
         &state.frames,
         &state.heap.own,

@@ -1,12 +1,11 @@
 //! Parted folds, of cells that workers compute.
 
-ghost use Rattle.std.specs.Prelude.{◌≡◌, ◌≤◌, IsTrue, None, length, OnOk};
-ghost use Rattle.phase_cells.specs.Idle.{IsLending};
+ghost use Rattle.std.specs.Prelude.{◌≡◌, IsTrue, None, length, OnOk};
 ghost use Rattle.counted_code.specs.Loops.{job_does};
 ghost use Rattle.counted_code.specs.Values.{Heap as MachineHeap};
 ghost use Rattle.counted_code.specs.View.{code_program};
 ghost use Rattle.phase_loop_cells.specs.Cells.{parts_cell, parts_taken};
-ghost use Rattle.phase_loop_cells.specs.Opened.{OpenParts, PartsIn};
+ghost use Rattle.phase_loop_cells.specs.Opened.{PartsIn};
 ghost use Rattle.phase_checks.specs.Terms.{parts_term};
 ghost use Rattle.phase_books.specs.Alive.{AreAlive};
 ghost use Rattle.phase_books.specs.Homes.{CombinesAll, IsBooked, left_in, new_behind};
@@ -18,19 +17,18 @@ ghost use Rattle.sac_base.specs.Verdict.{folds as folds_value};
 ghost use Rattle.sac_base.specs.WithLoops.{fits_form as fits_form_value};
 ghost use Rattle.phase_team.specs.Segments.{cells_from, cost_from};
 
-use crate::folds::folds;
-use crate::parted::shares;
-use array_with_loops::{Frame, Plan, fits_form};
+use crate::folds::{each_fold, folds};
+use array_with_loops::{Plan, fits_form};
 use buffer_heap::Heap;
 use core_ir::Var;
-use counted_code::{Code, CodePart};
+use counted_code::CodePart;
 use phase_books::{
-    Begun, Books, Workers, alive_in_parts, begin_phase, compute_fold, end_phase, finish_phase,
+    Begun, Books, Workers, alive_in_parts, begin_phase, end_phase, finish_phase,
     steps_of_parts, stop_phase,
 };
 use phase_checks::parts_are_counted;
-use phase_kernels::KernelParts;
-use phase_loop_cells::PartCells;
+use phase_kernels::KernelCells;
+use phase_loop_cells::LoopCells;
 use phase_team::Gate;
 use run_eval::{CellLoop, CellSource, Context, LoopResult, State, run_in_order};
 use run_store::Target;
@@ -140,10 +138,9 @@ fn fold_parts_by_workers<G: Gate, R: Threads + Sync>(
     let end = fold_part_cells(
         workers,
         parts,
-        &plan.frame,
-        &plan.form,
+        plan,
         op,
-        context,
+        *context,
         live,
         &state.frames,
         &state.heap.own,
@@ -168,87 +165,46 @@ fn fold_parts_by_workers<G: Gate, R: Threads + Sync>(
 }
 
 // Combines a value with the cells of all indices that some part holds.
-fn fold_part_cells<G: Gate, R: Threads + Sync>(
+fn fold_part_cells<'a, G: Gate, R: Threads + Sync>(
     workers: &Workers<'_, G, R>,
-    parts: &[CodePart],
-    frame: &Frame,
-    form: &Form,
+    parts: &'a [CodePart],
+    plan: &'a Plan,
     op: Op,
-    context: &Context<'_>,
-    live: &[Var],
-    frames: &Frames,
-    heap: &Heap,
+    context: Context<'a>,
+    live: &'a [Var],
+    frames: &'a Frames,
+    heap: &'a Heap,
     value: &mut [Cell],
     books: &mut Books,
 ) -> Result<(), Stop>
-    requires counted { PartsIn (code_program context.now.code.now) (parts_term parts.now) live.now }
+    requires counted { PartsIn (code_program context.code.now) (parts_term parts.now) live.now }
     requires alive { AreAlive heap.now (current frames.now) live.now }
-    requires op { IsTrue (folds_value form.now.base op) }
-    requires width { length value.old ≡ size form.now.shape }
+    requires op { IsTrue (folds_value plan.now.form.base op) }
+    requires width { length value.old ≡ size plan.now.form.shape }
     requires home { books.old.home ≡ new_behind heap.now }
-    ensures booked { IsBooked (length frame.now) books.old books.new result }
-    ensures combined { CombinesAll op (cells_from (parts_cell context.now heap.now (current frames.now) parts.now form.now frame.now) 0
-        (length frame.now)) heap.now (cost_from (parts_taken context.now heap.now (current frames.now) parts.now frame.now) 0
-        (length frame.now)) value.old value.new (left_in books.new.home result) }
+    ensures booked { IsBooked (length plan.now.frame) books.old books.new result }
+    ensures combined { CombinesAll op (cells_from (parts_cell context.entry heap.now (current frames.now) parts.now plan.now.form plan.now.frame) 0
+        (length plan.now.frame)) heap.now (cost_from (parts_taken context.entry heap.now (current frames.now) parts.now plan.now.frame) 0
+        (length plan.now.frame)) value.old value.new (left_in books.new.home result) }
 {
     let _code = context.code.get();
     heap.buffers_are_numbered();
-    let count = frame.count();
+    let count = plan.frame.count();
     if count > MOST {
         return Err(Stop::Memory);
     }
-    let cells = KernelParts {
-        cells: PartCells {
-            context: *context,
+    let cells = KernelCells {
+        cells: LoopCells {
+            context,
             heap,
             frames,
-            parts,
-            form,
-            frame,
+            source: CellSource::Parts(parts),
+            plan,
+            background: None,
         },
         live,
     };
-    let end = each_part_fold(workers, &cells, count, op, value, books);
-    let KernelParts {
-        cells: PartCells {
-            context: _,
-            heap: _,
-            frames: _,
-            parts: _,
-            form: _,
-            frame: _,
-        },
-        live: _,
-    } = cells;
-    end
-}
-
-fn each_part_fold<G: Gate, R: Threads + Sync>(
-    workers: &Workers<'_, G, R>,
-    cells: &KernelParts<'_>,
-    count: usize,
-    op: Op,
-    value: &mut [Cell],
-    books: &mut Books,
-) -> Result<(), Stop>
-    requires positions { (count ≤ 16777216) × (count ≡ length cells.now.cells.frame.now) }
-    requires op { IsTrue (folds_value cells.now.cells.form.now.base op) }
-    requires lending { IsLending (OpenParts cells.now.cells.context cells.now.cells.heap.now
-        (current cells.now.cells.frames.now) cells.now.cells.parts.now) cells.now.cells.heap.now }
-    requires width { length value.old ≡ size cells.now.cells.form.now.shape }
-    requires home { books.old.home ≡ new_behind cells.now.cells.heap.now }
-    ensures booked { IsBooked count books.old books.new result }
-    ensures combined { CombinesAll op
-        (cells_from (parts_cell cells.now.cells.context cells.now.cells.heap.now
-        (current cells.now.cells.frames.now) cells.now.cells.parts.now cells.now.cells.form.now cells.now.cells.frame.now) 0 count) cells.now.cells.heap.now
-        (cost_from (parts_taken cells.now.cells.context cells.now.cells.heap.now
-        (current cells.now.cells.frames.now) cells.now.cells.parts.now cells.now.cells.frame.now) 0 count) value.old value.new (left_in books.new.home result) }
-{
-    shares::<CodePart>();
-    shares::<Code>();
-    let alloc = cells.cells.context.alloc;
-    let base = cells.cells.form.base;
-    compute_fold(workers, alloc, cells, count, base, op, value, books)
+    each_fold(workers, &cells, count, op, value, books)
 }
 
 // The most positions of a phase.

@@ -5,8 +5,8 @@ ghost use Rattle.phase_cells.specs.Idle.{IsLending};
 ghost use Rattle.counted_code.specs.Loops.{job_does};
 ghost use Rattle.counted_code.specs.Values.{Heap as MachineHeap, is_small as is_small_shape};
 ghost use Rattle.counted_code.specs.View.{code_program};
-ghost use Rattle.phase_loop_cells.specs.Cells.{parts_cell, parts_taken};
-ghost use Rattle.phase_loop_cells.specs.Opened.{OpenParts, PartsIn};
+ghost use Rattle.phase_loop_cells.specs.Cells.{parts_cell, parts_taken, source_cell, source_taken};
+ghost use Rattle.phase_loop_cells.specs.Opened.{OpenSource, PartsIn};
 ghost use Rattle.phase_checks.specs.Terms.{parts_term};
 ghost use Rattle.phase_books.specs.Alive.{AreAlive};
 ghost use Rattle.phase_workers.specs.Covered.{must_be_there, IfEnded};
@@ -19,22 +19,22 @@ ghost use Rattle.std.specs.Thread.{IsSync};
 ghost use Rattle.phase_team.specs.Segments.{cells_from, cost_from};
 
 use crate::covered::{CoveredCells, believed};
-use array_with_loops::{Frame, Plan};
+use array_with_loops::Plan;
 use buffer_heap::Heap;
 use core_ir::Var;
-use counted_code::{Code, CodePart};
+use counted_code::{Code, CodeGen, CodePart};
 use phase_books::{
     Begun, Books, Workers, alive_in_parts, begin_phase, compute_array, end_phase, finish_phase,
     steps_of_parts, stop_phase,
 };
 use phase_checks::parts_are_counted;
-use phase_kernels::KernelParts;
-use phase_loop_cells::PartCells;
+use phase_kernels::KernelCells;
+use phase_loop_cells::LoopCells;
 use phase_team::Gate;
 use run_eval::{CellLoop, CellSource, Context, LoopResult, State, run_in_order};
 use run_store::{Target, is_small};
 use run_values::{Frames, RunValue};
-use sac_base::{Cell, Form, Stop, elements};
+use sac_base::{Cell, Stop, elements};
 use std::thread::Threads;
 
 /// The result of a parted loop that is no fold. It is run by the workers where it is a phase, its cells are known to stand
@@ -123,9 +123,8 @@ fn parts_by_workers<G: Gate, R: Threads + Sync>(
     let end = part_cells(
         workers,
         parts,
-        &plan.frame,
-        &plan.form,
-        context,
+        plan,
+        *context,
         live,
         &state.frames,
         &state.heap.own,
@@ -146,66 +145,52 @@ fn parts_by_workers<G: Gate, R: Threads + Sync>(
 }
 
 /// Computes the cells of all indices, each at its place.
-pub fn part_cells<G: Gate, R: Threads + Sync>(
+pub fn part_cells<'a, G: Gate, R: Threads + Sync>(
     workers: &Workers<'_, G, R>,
-    parts: &[CodePart],
-    frame: &Frame,
-    form: &Form,
-    context: &Context<'_>,
-    live: &[Var],
-    frames: &Frames,
-    heap: &Heap,
+    parts: &'a [CodePart],
+    plan: &'a Plan,
+    context: Context<'a>,
+    live: &'a [Var],
+    frames: &'a Frames,
+    heap: &'a Heap,
     cells: &mut [Cell],
     books: &mut Books,
 ) -> Result<(), Stop>
-    requires counted { PartsIn (code_program context.now.code.now) (parts_term parts.now) live.now }
+    requires counted { PartsIn (code_program context.code.now) (parts_term parts.now) live.now }
     requires alive { AreAlive heap.now (current frames.now) live.now }
     requires home { books.old.home ≡ new_behind heap.now }
-    ensures booked { IsBooked (length frame.now) books.old books.new result }
-    ensures computed { ComputesAll (cells_from (parts_cell context.now heap.now (current frames.now) parts.now form.now frame.now) 0
-        (length frame.now)) heap.now (cost_from (parts_taken context.now heap.now (current frames.now) parts.now frame.now) 0
-        (length frame.now)) cells.new (left_in books.new.home result) }
-    ensures there { IfEnded result ((place : ℕ) → place < length frame.now
-        → parts_cell context.now heap.now (current frames.now) parts.now form.now frame.now place ≢ Ok None) }
+    ensures booked { IsBooked (length plan.now.frame) books.old books.new result }
+    ensures computed { ComputesAll (cells_from (parts_cell context.entry heap.now (current frames.now) parts.now plan.now.form plan.now.frame) 0
+        (length plan.now.frame)) heap.now (cost_from (parts_taken context.entry heap.now (current frames.now) parts.now plan.now.frame) 0
+        (length plan.now.frame)) cells.new (left_in books.new.home result) }
+    ensures there { IfEnded result ((place : ℕ) → place < length plan.now.frame
+        → parts_cell context.entry heap.now (current frames.now) parts.now plan.now.form plan.now.frame place ≢ Ok None) }
 {
     let _code = context.code.get();
     heap.buffers_are_numbered();
-    let Some(size) = elements(&form.shape) else {
+    let Some(size) = elements(&plan.form.shape) else {
         return Err(Stop::Memory);
     };
     let width = size as usize;
-    let count = frame.count();
+    let count = plan.frame.count();
     if count > MOST || count.checked_mul(width) != Some(cells.len()) {
         return Err(Stop::Memory);
     }
     let covered = CoveredCells {
-        cells: KernelParts {
-            cells: PartCells {
-                context: *context,
+        cells: KernelCells {
+            cells: LoopCells {
+                context,
                 heap,
                 frames,
-                parts,
-                form,
-                frame,
+                source: CellSource::Parts(parts),
+                plan,
+                background: None,
             },
             live,
         },
     };
     let end = each_cell(workers, &covered, count, width, cells, books);
-    let CoveredCells {
-        cells: KernelParts {
-            cells: PartCells {
-                context: _,
-                heap: _,
-                frames: _,
-                parts: _,
-                form: _,
-                frame: _,
-            },
-            live: _,
-        },
-    } = covered;
-    believed(end, context.alloc, parts, frame)
+    believed(end, context.alloc, parts, &plan.frame)
 }
 
 fn each_cell<G: Gate, R: Threads + Sync>(
@@ -216,25 +201,26 @@ fn each_cell<G: Gate, R: Threads + Sync>(
     into: &mut [Cell],
     books: &mut Books,
 ) -> Result<(), Stop>
-    requires positions { (count ≤ 16777216) × (count ≡ length covered.now.cells.cells.frame.now)
-        × (width ≡ size covered.now.cells.cells.form.now.shape) }
-    requires lending { IsLending (OpenParts covered.now.cells.cells.context covered.now.cells.cells.heap.now
-        (current covered.now.cells.cells.frames.now) covered.now.cells.cells.parts.now) covered.now.cells.cells.heap.now }
+    requires positions { (count ≤ 16777216) × (count ≡ length covered.now.cells.cells.plan.now.frame)
+        × (width ≡ size covered.now.cells.cells.plan.now.form.shape) }
+    requires lending { IsLending (OpenSource covered.now.cells.cells.context covered.now.cells.cells.heap.now
+        (current covered.now.cells.cells.frames.now) covered.now.cells.cells.source) covered.now.cells.cells.heap.now }
     requires room { length into.old ≡ count * width }
     requires home { books.old.home ≡ new_behind covered.now.cells.cells.heap.now }
     ensures booked { IsBooked count books.old books.new result }
     ensures computed { ComputesAll
         (cells_from (λ p. must_be_there
-        (parts_cell covered.now.cells.cells.context covered.now.cells.cells.heap.now
-        (current covered.now.cells.cells.frames.now) covered.now.cells.cells.parts.now covered.now.cells.cells.form.now
-        covered.now.cells.cells.frame.now p)) 0 count)
+        (source_cell covered.now.cells.cells.context covered.now.cells.cells.heap.now
+        (current covered.now.cells.cells.frames.now) covered.now.cells.cells.source covered.now.cells.cells.plan.now
+        covered.now.cells.cells.background p)) 0 count)
         covered.now.cells.cells.heap.now
-        (cost_from (parts_taken covered.now.cells.cells.context covered.now.cells.cells.heap.now
-        (current covered.now.cells.cells.frames.now) covered.now.cells.cells.parts.now covered.now.cells.cells.frame.now) 0 count)
+        (cost_from (source_taken covered.now.cells.cells.context covered.now.cells.cells.heap.now
+        (current covered.now.cells.cells.frames.now) covered.now.cells.cells.source covered.now.cells.cells.plan.now) 0 count)
         into.new (left_in books.new.home result) }
 {
-    shares::<CodePart>();
     shares::<Code>();
+    shares::<CodeGen>();
+    shares::<CodePart>();
     compute_array(
         workers,
         covered.cells.cells.context.alloc,

@@ -28,7 +28,7 @@ returns-in-Ok-clause-told g c m at =
     let h = s.heap.own in
     let e = current s.frames in
     let frames : s.frames ≡ s0.frames = c.begin_phase.ensures.frames in
-    let b : Background = record { array = a.array; old = a.old; size = c.in-Some.size } in
+    let b : Background = record { cells = c.cells.result; old = a.old; size = c.in-Some.size } in
     let width : b.size ≡ size p.form.shape = search rules in
     let alive : AreAlive h e a.live.now = alive_after s0.heap.own h c.begin_phase.ensures.others e a.live.now (subst (λ f. AreAlive s0.heap.own (current f) a.live.now) (sym frames) c.requires.alive) in
     let none : s.heap.lent ≡ None = none_lent s.heap.lent (c.begin_phase.ensures.lender ∙ ap lender_in c.requires.alone) in
@@ -36,7 +36,7 @@ returns-in-Ok-clause-told g c m at =
     let len : length c.array_cells-end.new.cells ≡ c.in_ok-begun.begun.target.cells.len = search rules in
     let s2 : State = c.end_phase.new.state in
     subst (λ f. Told IsValue c.finish_phase.result c.finish_phase.new.state (job_does None (array_job context (current f) m a.gens.now (plan_of p) a.array.now a.old) m)) frames
-    (array_finished context e a.gens.now p b a.live.now c.get-code.ensures.counted c.requires.counted h alive c.buffers_are_numbered.ensures.referred width c.requires.large m
+    (array_finished context e a.gens.now p b a.array.now c.cells.ensures.value a.live.now c.get-code.ensures.counted c.requires.counted h alive c.buffers_are_numbered.ensures.referred width c.requires.large m
     c.in_ok-begun.begun.target.buffer s (c.in_ok-begun.ensures.begun m (length p.frame) (sym c.count-positions.ensures) at) none refl c.array_cells-end.new.cells home c.in-Ok.ensures.computed s2 c.finish_phase.new.state c.finish_phase.result (c.end_phase.ensures.heap ∙ (λ i. record { own = handed h home; lent = none i })) c.end_phase.ensures.phases
     (λ k at2.
     subst (λ (x : Base). Told IsValue c.finish_phase.result c.finish_phase.new.state (settled (target_at c.in_ok-begun.begun.target.buffer) (record { base = x; shape = p.shape; cells = c.array_cells-end.new.cells }) k)) c.base.ensures
@@ -53,7 +53,7 @@ returns-in-Err-Faulted-clause-told g c m at =
     let h = s.heap.own in
     let e = current s.frames in
     let frames : s.frames ≡ s0.frames = c.begin_phase.ensures.frames in
-    let b : Background = record { array = a.array; old = a.old; size = c.in-Some.size } in
+    let b : Background = record { cells = c.cells.result; old = a.old; size = c.in-Some.size } in
     let width : b.size ≡ size p.form.shape = search rules in
     let alive : AreAlive h e a.live.now = alive_after s0.heap.own h c.begin_phase.ensures.others e a.live.now (subst (λ f. AreAlive s0.heap.own (current f) a.live.now) (sym frames) c.requires.alive) in
     let none : s.heap.lent ≡ None = none_lent s.heap.lent (c.begin_phase.ensures.lender ∙ ap lender_in c.requires.alone) in
@@ -61,7 +61,7 @@ returns-in-Err-Faulted-clause-told g c m at =
     let home = c.array_cells-end.new.books.home in
     stop_moved c.in-Err-Faulted.fault s c.stop_phase.new.state _ c.stop_phase.ensures.phases
     (subst (λ f. ToldStop (Faulted c.in-Err-Faulted.fault) s (job_does None (array_job context (current f) m a.gens.now (plan_of p) a.array.now a.old) m)) frames
-    (array_faulted context e a.gens.now p b a.live.now c.get-code.ensures.counted c.requires.counted h alive c.buffers_are_numbered.ensures.referred width c.requires.large m
+    (array_faulted context e a.gens.now p b a.array.now c.cells.ensures.value a.live.now c.get-code.ensures.counted c.requires.counted h alive c.buffers_are_numbered.ensures.referred width c.requires.large m
     c.in_ok-begun.begun.target.buffer s (c.in_ok-begun.ensures.begun m (length p.frame) (sym c.count-positions.ensures) at) none refl c.array_cells-end.new.cells c.in-Err-Faulted.fault
     (computed_as (cells_from (gens_cell context h e a.gens.now p (Some b)) 0 (length p.frame)) h (cost_from (gens_taken context h e a.gens.now p) 0 (length p.frame)) c.array_cells-end.new.cells (left_in home c.array_cells-end.result) (Err (Faulted c.in-Err-Faulted.fault)) (ap (left_in home) same) c.array_cells-end.ensures.computed)))
 
