@@ -19,10 +19,10 @@ ghost use Rattle.sac_base.specs.WithLoops.{fits_form as fits_form_value};
 ghost use Rattle.array_with_loops.specs.Plans.{plan_of};
 ghost use Rattle.phase_team.specs.Segments.{cells_from, cost_from};
 
+use crate::parted::shares;
 use array_with_loops::{Plan, fits_form};
 use buffer_heap::Heap;
 use core_ir::Var;
-use crate::parted::shares;
 use counted_code::{Code, CodeGen, CodePart};
 use phase_books::{
     Begun, Books, Workers, alive_in_gens, begin_phase, compute_fold, end_phase, finish_phase,

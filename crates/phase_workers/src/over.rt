@@ -62,7 +62,15 @@ pub fn over_outside<G: Gate, R: Threads + Sync>(
     }
     let live = alive_in_parts(context.alloc, parts, &state.frames, &state.heap.own)?;
     if !parts_are_counted(context.alloc, code, &live, parts)?
-        || !is_phase_over(parts, work.plan, array, *context, &live, &state.frames, &state.heap.own)?
+        || !is_phase_over(
+            parts,
+            work.plan,
+            array,
+            *context,
+            &live,
+            &state.frames,
+            &state.heap.own,
+        )?
     {
         return run_over_in_order(work, array, context, state);
     }

@@ -23,8 +23,8 @@ use buffer_heap::Heap;
 use core_ir::Var;
 use counted_code::CodePart;
 use phase_books::{
-    Begun, Books, Workers, alive_in_parts, begin_phase, end_phase, finish_phase,
-    steps_of_parts, stop_phase,
+    Begun, Books, Workers, alive_in_parts, begin_phase, end_phase, finish_phase, steps_of_parts,
+    stop_phase,
 };
 use phase_checks::parts_are_counted;
 use phase_kernels::KernelCells;
