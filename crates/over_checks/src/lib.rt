@@ -1,8 +1,6 @@
-//! Tests whether a loop over the array of a marked variable may be a phase.
+//! Which loops over an array may compute all cells before one of them is written.
 #![tactic(auto)]
 
-mod arrays;
-mod holders;
 mod own;
 
 pub use own::may_be_over;

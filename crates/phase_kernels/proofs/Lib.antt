@@ -1,5 +1,1 @@
-mod GenCells
 pub mod Named
-mod PartCells
-mod Ranges
-mod Rows

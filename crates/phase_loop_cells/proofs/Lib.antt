@@ -1,5 +1,0 @@
-mod Afters
-mod Answered
-mod Numbered
-pub mod Sources
-mod Works

@@ -2,14 +2,9 @@
 #![tactic(auto)]
 
 mod copies;
-mod gens;
-mod parts;
+mod loops;
 mod scratch;
 
 pub use copies::Background;
-pub use gens::WithCells;
-pub use parts::PartCells;
+pub use loops::LoopCells;
 pub use scratch::CellScratch;
-
-#[cfg(test)]
-mod tests;

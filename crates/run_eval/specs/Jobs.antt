@@ -9,7 +9,8 @@ use Rattle.core_fold.specs.Cells.{IsBox}
 use Rattle.core_ir.specs.Meaning.{elements_of, extents, joined}
 use Rattle.counted_code.specs.Loops.{Job, Source, holder, job_does, part_holder}
 use Rattle.counted_code.specs.Machine.{Values}
-use Rattle.counted_code.specs.Values.{Heap, Value, Ended, is_small}
+use Rattle.counted_code.specs.Values.{Heap, Value, Ended, is_small, read}
+use Rattle.run_values.specs.Shown.{value_of}
 use Rattle.array_with_loops.specs.Cells.{array_from, cell_from, cells_from}
 use Rattle.array_with_loops.specs.Plans.{plan_of}
 use Rattle.run_eval.specs.declared.cell_loop.CellLoop.{CellLoop}
@@ -28,10 +29,10 @@ source_of context e k (Generators gens) ranges = holder (map (generator_in conte
 source_of context e k (Parts parts) ranges = part_holder (map (cells_in context e) parts.now)
 
 -- what is made of its cells
-abbrev pub result_of : LoopResult → Plan → List (Option ArrayValue) → ArrayValue
-result_of (Filled array old) p = array_from old array.now p
-result_of Joined p = joined p.form.base p.shape
-result_of (Folded op neutral) p = fold (combined op) neutral.now
+abbrev pub result_of : Heap → LoopResult → Plan → List (Option ArrayValue) → ArrayValue
+result_of k (Filled array old) p = array_from old (read k (value_of array)) p
+result_of k Joined p = joined p.form.base p.shape
+result_of k (Folded op neutral) p = fold (combined op) neutral.now
 
 abbrev pub folds_of : LoopResult → Bool
 folds_of (Filled array old) = false
@@ -50,7 +51,7 @@ cells_job context e k work folds result =
     }
 
 abbrev pub job_of : Context → Values → Heap → CellLoop → Job
-job_of context e k work = cells_job context e k work (folds_of work.result) (result_of work.result (plan_of work.plan.now))
+job_of context e k work = cells_job context e k work (folds_of work.result) (result_of k work.result (plan_of work.plan.now))
 
 -- ---- arrays over that of a marked variable
 
