@@ -21,6 +21,7 @@ impl<'a, G: Gate, R: Threads + Sync> Workers<'a, G, R> {
     pub fn of_phase(&self, cells: usize, steps: u64) -> Workers<'a, G, R> {
         let is_worth = self.chunked || (cells as u64).saturating_mul(steps) > FEW;
         Workers {
+            alloc: self.alloc,
             rt: self.rt,
             gate: self.gate,
             workers: if is_worth { self.workers } else { 1 },

@@ -1,89 +1,50 @@
 //! Folds of cells that workers compute.
 
 ghost use Rattle.std.specs.Thread.{IsSync};
-ghost use Rattle.std.specs.Prelude.{◌≡◌, ◌≤◌, IsTrue, None, length, OnOk};
-ghost use Rattle.phase_cells.specs.Idle.{IsLending};
+ghost use Rattle.std.specs.Prelude.{◌≡◌, ◌≤◌, IsTrue, None, OnOk, fold, length, true};
 ghost use Rattle.counted_code.specs.Loops.{job_does};
 ghost use Rattle.counted_code.specs.Values.{Heap as MachineHeap};
 ghost use Rattle.counted_code.specs.View.{code_program};
-ghost use Rattle.phase_loop_cells.specs.Cells.{gens_cell, gens_taken};
-ghost use Rattle.phase_loop_cells.specs.Opened.{GensIn, OpenGens};
-ghost use Rattle.phase_checks.specs.Terms.{gens_term};
 ghost use Rattle.phase_books.specs.Alive.{AreAlive};
 ghost use Rattle.phase_books.specs.Homes.{CombinesAll, IsBooked, left_in, new_behind};
-ghost use Rattle.run_eval.specs.Running.{IsAt, IsValue, Told, SameScopes, fold_job};
+ghost use Rattle.phase_cells.specs.Idle.{IsLending};
+ghost use Rattle.phase_loop_cells.specs.Opened.{OpenSource, SourceIn};
+ghost use Rattle.phase_team.specs.Segments.{cells_from, cost_from};
+ghost use Rattle.phase_workers.specs.Covered.{cell_of, taken_of};
+ghost use Rattle.phase_workers.specs.Sources.{StandsApart};
+ghost use Rattle.run_eval.specs.Jobs.{cells_job};
+ghost use Rattle.run_eval.specs.Running.{IsAt, IsValue, SameScopes, Told};
 ghost use Rattle.run_store.specs.Stands.{lender_of};
 ghost use Rattle.run_values.specs.Scopes.{current};
 ghost use Rattle.sac_base.specs.Arrays.{size};
 ghost use Rattle.sac_base.specs.Verdict.{folds as folds_value};
-ghost use Rattle.sac_base.specs.WithLoops.{fits_form as fits_form_value};
-ghost use Rattle.array_with_loops.specs.Plans.{plan_of};
-ghost use Rattle.phase_team.specs.Segments.{cells_from, cost_from};
+ghost use Rattle.sac_base.specs.WithLoops.{combined, fits_form as fits_form_value};
 
+use crate::covered::{MOST, shares};
 use array_with_loops::{Plan, fits_form};
-use buffer_heap::Heap;
 use core_ir::Var;
-use counted_code::CodeGen;
+use counted_code::{Code, CodeGen, CodePart};
 use phase_books::{
-    Begun, Books, Workers, alive_in_gens, begin_phase, compute_fold, end_phase, finish_phase,
-    steps_of_gens, stop_phase,
+    Begun, Books, Workers, begin_phase, compute_fold, end_phase, finish_phase, stop_phase,
 };
-use phase_checks::gens_are_counted;
 use phase_kernels::KernelCells;
-use phase_loop_cells::WithCells;
+use phase_loop_cells::LoopCells;
 use phase_team::Gate;
-use run_eval::{CellLoop, CellSource, Context, LoopResult, State, run_in_order};
+use run_eval::{CellLoop, Context, State};
 use run_store::Target;
-use run_values::{Frames, RunValue};
+use run_values::RunValue;
 use sac_base::{Array, Base, Cell, Op, Stop};
 use std::thread::Threads;
 
-// The most positions of a phase.
-const MOST: usize = 16_777_216;
-
-/// The result of a fold whose checks have passed. It is run by the workers where its cells are known to stand alone and none
-/// nests too deep, and else in order.
-pub fn fold_outside<G: Gate, R: Threads + Sync>(
-    workers: &Workers<'_, G, R>,
-    gens: &[CodeGen],
-    plan: &Plan,
-    op: Op,
-    neutral: Array,
-    context: &Context<'_>,
-    state: &mut State<'_>,
-) -> Result<RunValue, Stop>
-    ensures told { (m : MachineHeap) → IsAt state.old m
-        → Told IsValue result state.new (job_does None (fold_job context.now (current state.old.frames) m gens.now (plan_of plan.now) op neutral) m) }
-    ensures scopes { OnOk result (SameScopes state.old.frames state.new.frames) }
-    ensures lender { lender_of state.new.heap ≡ lender_of state.old.heap }
-{
-    if state.heap.lent.is_some()
-        || !is_fold(plan, op, &neutral)
-        || !workers.nesting.has_room_for_gens(gens, context.code.get())
-        || !context.code.gens_reach_none(gens)
-    {
-        return fold_in_order(gens, plan, op, &neutral, context, state);
-    }
-    let live = alive_in_gens(context.alloc, gens, &state.frames, &state.heap.own)?;
-    if !gens_are_counted(context.alloc, context.code.get(), &live, gens)? {
-        return fold_in_order(gens, plan, op, &neutral, context, state);
-    }
-    let team = workers.of_phase(
-        plan.frame.count(),
-        steps_of_gens(gens, &live, &state.frames),
-    );
-    fold_by_workers(&team, gens, plan, op, neutral, context, &live, state)
-}
-
-// Whether the operator folds cells of the plan's form, which the neutral value has as well.
-fn is_fold(plan: &Plan, op: Op, neutral: &Array) -> bool
+/// Whether the operator folds cells of the plan's form, which the neutral value has as well.
+pub fn is_fold(plan: &Plan, op: Op, neutral: &Array) -> bool
     ensures op { IsTrue result → IsTrue (folds_value plan.now.form.base op) }
     ensures form { IsTrue result → IsTrue (fits_form_value plan.now.form neutral.now) }
 {
     folds(plan.form.base, op) && fits_form(&plan.form, neutral)
 }
 
-pub fn folds(base: Base, op: Op) -> bool
+fn folds(base: Base, op: Op) -> bool
     ensures { result ≡ folds_value base op }
 {
     match base {
@@ -92,52 +53,27 @@ pub fn folds(base: Base, op: Op) -> bool
     }
 }
 
-// The same in order.
-fn fold_in_order(
-    gens: &[CodeGen],
-    plan: &Plan,
-    op: Op,
-    neutral: &Array,
-    context: &Context<'_>,
-    state: &mut State<'_>,
-) -> Result<RunValue, Stop>
-    ensures told { (m : MachineHeap) → IsAt state.old m
-        → Told IsValue result state.new
-        (job_does None (fold_job context.now (current state.old.frames) m gens.now (plan_of plan.now) op neutral.now) m) }
-    ensures scopes { OnOk result (SameScopes state.old.frames state.new.frames) }
-    ensures lender { lender_of state.new.heap ≡ lender_of state.old.heap }
-{
-    let source = CellSource::Generators(gens);
-    let result = LoopResult::Folded { op, neutral };
-    let work = CellLoop {
-        source,
-        plan,
-        result,
-    };
-    run_in_order(&work, context, state)
-}
-
-/// The result of a fold whose cells stand alone. The neutral value has their form.
+/// The cells of a loop combined, beginning with a neutral value that has their form, where the cells stand alone where these
+/// variables are read.
 pub fn fold_by_workers<G: Gate, R: Threads + Sync>(
-    workers: &Workers<'_, G, R>,
-    gens: &[CodeGen],
-    plan: &Plan,
+    team: &Workers<'_, G, R>,
+    work: &CellLoop<'_>,
     op: Op,
     neutral: Array,
-    context: &Context<'_>,
     live: &[Var],
+    context: &Context<'_>,
     state: &mut State<'_>,
 ) -> Result<RunValue, Stop>
-    requires counted { GensIn (code_program context.now.code.now) (gens_term gens.now) live.now }
-    requires alive { AreAlive state.old.heap.own (current state.old.frames) live.now }
-    requires alone { state.old.heap.lent ≡ None }
-    requires op { IsTrue (folds_value plan.now.form.base op) }
-    requires form { IsTrue (fits_form_value plan.now.form neutral) }
+    requires apart { StandsApart context.now state.old work.now.source live.now }
+    requires op { IsTrue (folds_value work.now.plan.now.form.base op) }
+    requires form { IsTrue (fits_form_value work.now.plan.now.form neutral) }
     ensures told { (m : MachineHeap) → IsAt state.old m
-        → Told IsValue result state.new (job_does None (fold_job context.now (current state.old.frames) m gens.now (plan_of plan.now) op neutral) m) }
+        → Told IsValue result state.new
+        (job_does None (cells_job context.now (current state.old.frames) m work.now true (fold (combined op) neutral)) m) }
     ensures scopes { OnOk result (SameScopes state.old.frames state.new.frames) }
     ensures lender { lender_of state.new.heap ≡ lender_of state.old.heap }
 {
+    let plan = work.plan;
     let _code = context.code.get();
     let _cells = neutral.cells();
     let mut value = neutral.into_cells();
@@ -146,18 +82,18 @@ pub fn fold_by_workers<G: Gate, R: Threads + Sync>(
     let Begun { target, mut books } = begun;
     let Target { cells: _, buffer } = target;
     state.heap.own.buffers_are_numbered();
-    let end = fold_cells(
-        workers,
-        gens,
-        plan,
-        op,
-        *context,
+    let cells = KernelCells {
+        cells: LoopCells {
+            context: *context,
+            heap: &state.heap.own,
+            frames: &state.frames,
+            source: work.source,
+            plan,
+            background: None,
+        },
         live,
-        &state.frames,
-        &state.heap.own,
-        &mut value,
-        &mut books,
-    );
+    };
+    let end = fold_cells(team, &cells, op, &mut value, &mut books);
     match end {
         Ok(_) => {
             end_phase(books, state);
@@ -175,63 +111,35 @@ pub fn fold_by_workers<G: Gate, R: Threads + Sync>(
     }
 }
 
-// Combines a value with the cells of all indices.
-fn fold_cells<'a, G: Gate, R: Threads + Sync>(
-    workers: &Workers<'_, G, R>,
-    gens: &'a [CodeGen],
-    plan: &'a Plan,
+// Combines a value with the cells of all indices that have one.
+fn fold_cells<G: Gate, R: Threads + Sync>(
+    team: &Workers<'_, G, R>,
+    cells: &KernelCells<'_>,
     op: Op,
-    context: Context<'a>,
-    live: &'a [Var],
-    frames: &'a Frames,
-    heap: &'a Heap,
     value: &mut [Cell],
     books: &mut Books,
 ) -> Result<(), Stop>
-    requires counted { GensIn (code_program context.code.now) (gens_term gens.now) live.now }
-    requires alive { AreAlive heap.now (current frames.now) live.now }
-    requires op { IsTrue (folds_value plan.now.form.base op) }
-    requires width { length value.old ≡ size plan.now.form.shape }
-    requires home { books.old.home ≡ new_behind heap.now }
-    ensures booked { IsBooked (length plan.now.frame) books.old books.new result }
-    ensures combined { CombinesAll op (cells_from (gens_cell context.entry heap.now (current frames.now) gens.now plan.now None) 0
-        (length plan.now.frame)) heap.now (cost_from (gens_taken context.entry heap.now (current frames.now) gens.now plan.now) 0
-        (length plan.now.frame)) value.old value.new (left_in books.new.home result) }
+    requires counted { SourceIn (code_program cells.now.cells.context.code.now) cells.now.cells.source cells.now.live.now }
+    requires alive { AreAlive cells.now.cells.heap.now (current cells.now.cells.frames.now) cells.now.live.now }
+    requires op { IsTrue (folds_value cells.now.cells.plan.now.form.base op) }
+    requires width { length value.old ≡ size cells.now.cells.plan.now.form.shape }
+    requires home { books.old.home ≡ new_behind cells.now.cells.heap.now }
+    ensures booked { IsBooked (length cells.now.cells.plan.now.frame) books.old books.new result }
+    ensures combined { CombinesAll op (cells_from (cell_of cells.now) 0 (length cells.now.cells.plan.now.frame)) cells.now.cells.heap.now
+        (cost_from (taken_of cells.now) 0 (length cells.now.cells.plan.now.frame)) value.old value.new (left_in books.new.home result) }
 {
-    let _code = context.code.get();
-    heap.buffers_are_numbered();
-    let count = plan.frame.count();
+    let _code = cells.cells.context.code.get();
+    cells.cells.heap.buffers_are_numbered();
+    let count = cells.cells.plan.frame.count();
     if count > MOST {
         return Err(Stop::Memory);
     }
-    let cells = KernelCells {
-        cells: WithCells {
-            context,
-            heap,
-            frames,
-            gens,
-            plan,
-            background: None,
-        },
-        live,
-    };
-    let end = each_fold(workers, &cells, count, op, value, books);
-    let KernelCells {
-        cells: WithCells {
-            context: _,
-            heap: _,
-            frames: _,
-            gens: _,
-            plan: _,
-            background: _,
-        },
-        live: _,
-    } = cells;
-    end
+    each_fold(team, cells, count, op, value, books)
 }
 
+// The same of so many positions.
 fn each_fold<G: Gate, R: Threads + Sync>(
-    workers: &Workers<'_, G, R>,
+    team: &Workers<'_, G, R>,
     cells: &KernelCells<'_>,
     count: usize,
     op: Op,
@@ -240,30 +148,17 @@ fn each_fold<G: Gate, R: Threads + Sync>(
 ) -> Result<(), Stop>
     requires positions { (count ≤ 16777216) × (count ≡ length cells.now.cells.plan.now.frame) }
     requires op { IsTrue (folds_value cells.now.cells.plan.now.form.base op) }
-    requires lending { IsLending (OpenGens cells.now.cells.context cells.now.cells.heap.now
-        (current cells.now.cells.frames.now) cells.now.cells.gens.now) cells.now.cells.heap.now }
+    requires lending { IsLending (OpenSource cells.now.cells.context cells.now.cells.heap.now
+        (current cells.now.cells.frames.now) cells.now.cells.source) cells.now.cells.heap.now }
     requires width { length value.old ≡ size cells.now.cells.plan.now.form.shape }
     requires home { books.old.home ≡ new_behind cells.now.cells.heap.now }
     ensures booked { IsBooked count books.old books.new result }
-    ensures combined { CombinesAll op
-        (cells_from (gens_cell cells.now.cells.context cells.now.cells.heap.now
-        (current cells.now.cells.frames.now) cells.now.cells.gens.now cells.now.cells.plan.now cells.now.cells.background) 0 count) cells.now.cells.heap.now
-        (cost_from (gens_taken cells.now.cells.context cells.now.cells.heap.now
-        (current cells.now.cells.frames.now) cells.now.cells.gens.now cells.now.cells.plan.now) 0 count) value.old value.new (left_in books.new.home result) }
+    ensures combined { CombinesAll op (cells_from (cell_of cells.now) 0 count) cells.now.cells.heap.now
+        (cost_from (taken_of cells.now) 0 count) value.old value.new (left_in books.new.home result) }
 {
-    shown(cells.cells.context.code.get());
-    all_shown(cells.cells.gens);
-    let alloc = cells.cells.context.alloc;
+    shares::<CodePart>();
+    shares::<CodeGen>();
+    shares::<Code>();
     let base = cells.cells.plan.form.base;
-    compute_fold(workers, alloc, cells, count, base, op, value, books)
+    compute_fold(team, cells, count, base, op, value, books)
 }
-
-// A law. A value that may be shared among threads may be.
-fn shown<X: Sync>(_value: &X)
-    ensures { IsSync X.row }
-{}
-
-// The same of the elements of a slice.
-fn all_shown<X: Sync>(_values: &[X])
-    ensures { IsSync X.row }
-{}
