@@ -8,7 +8,5 @@ mod Machines
 mod Openings
 mod OverEnding
 mod OverHeaps
-mod PartFolds
-mod PartedEnding
-mod PartsShared
 mod Shared
+mod Standing

@@ -46,11 +46,7 @@ fn is_clear(source: &CellSource<'_>, context: &Context<'_>) -> bool
 }
 
 // Whether the cells are well counted where these variables alone are there.
-fn is_counted(
-    source: &CellSource<'_>,
-    live: &[Var],
-    context: &Context<'_>,
-) -> Result<bool, Memory>
+fn is_counted(source: &CellSource<'_>, live: &[Var], context: &Context<'_>) -> Result<bool, Memory>
     ensures { IfOk result (λ counted. IsTrue counted → IsCounted (code_program context.now.code.now) source.now live.now) }
 {
     let code = context.code.get();

@@ -11,7 +11,9 @@ mod program;
 mod state;
 mod trace;
 
-pub use cell_loop::{CellBody, CellLoop, CellSource, LoopResult, body_at, body_of_gen, body_of_part};
+pub use cell_loop::{
+    CellBody, CellLoop, CellSource, LoopResult, body_at, body_of_gen, body_of_part,
+};
 pub use in_order::{cell_in_order, run_in_order, run_over_in_order};
 pub use phases::{Never, Outside, Phases};
 pub use program::{Plan, run, run_with_phases};

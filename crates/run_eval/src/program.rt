@@ -89,4 +89,3 @@ pub fn run_with_phases<P: Phases + Drop>(
     trace.reused = heap.reused();
     Err(Stop::Memory)
 }
-
