@@ -1,4 +1,1 @@
-pub mod Crews
-pub mod Chunks
-pub mod Reports
 pub mod Endings
