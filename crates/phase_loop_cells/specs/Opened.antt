@@ -89,8 +89,8 @@ OpenParts context lends e parts k =
 
 -- the same of a source of cells
 abbrev pub SourceIn : CodeProgram → CellSource → List Var → Type 0
-SourceIn code (Generators gens) live = GensIn code (gens_term gens.now) live
-SourceIn code (Parts parts) live = PartsIn code (parts_term parts.now) live
+SourceIn code (Generators gens) = GensIn code (gens_term gens.now)
+SourceIn code (Parts parts) = PartsIn code (parts_term parts.now)
 
 abbrev pub OpenSource : Context → HeapValue → Values → CellSource → Heap → Type 0
 OpenSource context lends e source k =

@@ -10,7 +10,6 @@ use Rattle.core_ir.specs.Meaning.{elements_of, extents, joined}
 use Rattle.counted_code.specs.Loops.{Job, Source, holder, job_does, part_holder}
 use Rattle.counted_code.specs.Machine.{Values}
 use Rattle.counted_code.specs.Values.{Heap, Value, Ended, is_small, read}
-use Rattle.run_values.specs.Shown.{value_of}
 use Rattle.array_with_loops.specs.Cells.{array_from, cell_from, cells_from}
 use Rattle.array_with_loops.specs.Plans.{plan_of}
 use Rattle.run_eval.specs.declared.cell_loop.CellLoop.{CellLoop}
@@ -22,20 +21,21 @@ use Rattle.run_eval.specs.declared.cells.Background.{Background}
 use Rattle.run_eval.specs.declared.state.Context.{Context}
 use Rattle.run_eval.specs.Running.{cells_in, generator_in}
 use Rattle.run_over.specs.Soles.{is_only}
+use Rattle.run_values.specs.Shown.{value_of}
 
 -- where the machine's cells come from
 abbrev pub source_of : Context → Values → Heap → CellSource → List Range → List ℤ → Option Source
 source_of context e k (Generators gens) ranges = holder (map (generator_in context e k) gens.now) ranges
 source_of context e k (Parts parts) ranges = part_holder (map (cells_in context e) parts.now)
 
--- what is made of its cells
+-- what is made of its cells, where the loop begins in this heap
 abbrev pub result_of : Heap → LoopResult → Plan → List (Option ArrayValue) → ArrayValue
-result_of k (Filled array old) p = array_from old (read k (value_of array)) p
+result_of k (Filled v old) p = array_from old (read k (value_of v)) p
 result_of k Joined p = joined p.form.base p.shape
 result_of k (Folded op neutral) p = fold (combined op) neutral.now
 
 abbrev pub folds_of : LoopResult → Bool
-folds_of (Filled array old) = false
+folds_of (Filled v old) = false
 folds_of Joined = false
 folds_of (Folded op neutral) = true
 
