@@ -6,7 +6,5 @@ mod Handing
 mod LoopKinds
 mod Machines
 mod Openings
-mod OverEnding
-mod OverHeaps
 mod Shared
 mod Standing

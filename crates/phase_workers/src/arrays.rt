@@ -25,11 +25,11 @@ use std::thread::Threads;
 
 /// The result of a loop that makes a large array, and whose cells stand alone where these variables are read. An old array is
 /// read where it lies, beside the result.
-pub fn array_by_workers<G: Gate, R: Threads + Sync>(
+pub fn array_by_workers<'a, G: Gate, R: Threads + Sync>(
     team: &Workers<'_, G, R>,
-    work: &CellLoop<'_>,
+    work: &CellLoop<'a>,
     live: &[Var],
-    context: &Context<'_>,
+    context: &Context<'a>,
     state: &mut State<'_>,
 ) -> Result<RunValue, Stop>
     requires apart { StandsApart context.now state.old work.now.source live.now }

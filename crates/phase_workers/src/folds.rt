@@ -55,13 +55,13 @@ fn folds(base: Base, op: Op) -> bool
 
 /// The cells of a loop combined, beginning with a neutral value that has their form, where the cells stand alone where these
 /// variables are read.
-pub fn fold_by_workers<G: Gate, R: Threads + Sync>(
+pub fn fold_by_workers<'a, G: Gate, R: Threads + Sync>(
     team: &Workers<'_, G, R>,
-    work: &CellLoop<'_>,
+    work: &CellLoop<'a>,
     op: Op,
     neutral: Array,
     live: &[Var],
-    context: &Context<'_>,
+    context: &Context<'a>,
     state: &mut State<'_>,
 ) -> Result<RunValue, Stop>
     requires apart { StandsApart context.now state.old work.now.source live.now }

@@ -23,10 +23,10 @@ use std::thread::Threads;
 
 /// The result of a loop whose checks have passed. It is run by the workers where it is a phase, its cells are known to stand
 /// alone, which cells that reach a mark do not, and none nests too deep, and else in order.
-pub fn loop_outside<G: Gate, R: Threads + Sync>(
+pub fn loop_outside<'a, G: Gate, R: Threads + Sync>(
     workers: &Workers<'_, G, R>,
-    work: &CellLoop<'_>,
-    context: &Context<'_>,
+    work: &CellLoop<'a>,
+    context: &Context<'a>,
     state: &mut State<'_>,
 ) -> Result<RunValue, Stop>
     ensures told { (m : MachineHeap) → IsAt state.old m
@@ -43,10 +43,10 @@ pub fn loop_outside<G: Gate, R: Threads + Sync>(
 }
 
 // The same of one that makes an array.
-fn array_outside<G: Gate, R: Threads + Sync>(
+fn array_outside<'a, G: Gate, R: Threads + Sync>(
     workers: &Workers<'_, G, R>,
-    work: &CellLoop<'_>,
-    context: &Context<'_>,
+    work: &CellLoop<'a>,
+    context: &Context<'a>,
     state: &mut State<'_>,
 ) -> Result<RunValue, Stop>
     ensures told { (m : MachineHeap) → IsAt state.old m
@@ -76,12 +76,12 @@ fn makes_large(work: &CellLoop<'_>) -> bool
 }
 
 // The same of a fold.
-fn fold_outside<G: Gate, R: Threads + Sync>(
+fn fold_outside<'a, G: Gate, R: Threads + Sync>(
     workers: &Workers<'_, G, R>,
-    work: &CellLoop<'_>,
+    work: &CellLoop<'a>,
     op: Op,
     neutral: &Array,
-    context: &Context<'_>,
+    context: &Context<'a>,
     state: &mut State<'_>,
 ) -> Result<RunValue, Stop>
     requires { work.now.result ≡ Folded op neutral }

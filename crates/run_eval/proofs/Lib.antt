@@ -1,1 +1,2 @@
 pub mod CellPhases
+pub mod WithHolders
