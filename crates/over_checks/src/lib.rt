@@ -1,6 +1,8 @@
-//! Which loops over an array may compute all cells before one of them is written.
+//! Tests whether a loop over the array of a marked variable may be a phase.
 #![tactic(auto)]
 
+mod arrays;
+mod holders;
 mod own;
 
 pub use own::may_be_over;

@@ -2,5 +2,10 @@
 #![tactic(auto)]
 
 mod runs;
+mod worker;
 
 pub use runs::CellRuns;
+pub use worker::{CellWorker, LentCells};
+
+#[cfg(test)]
+mod tests;

@@ -1,0 +1,11 @@
+pub mod Bounds
+pub mod Reported
+pub mod Settling
+pub mod Teams
+pub mod Chunked
+pub mod Ended
+pub mod Orderly
+pub mod Phases
+pub mod Neutral
+pub mod Buffers
+pub mod Lent

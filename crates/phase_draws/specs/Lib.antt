@@ -1,1 +1,4 @@
+pub mod Crews
+pub mod Chunks
+pub mod Reports
 pub mod Endings

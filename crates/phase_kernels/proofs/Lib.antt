@@ -1,1 +1,5 @@
+mod GenCells
 pub mod Named
+mod PartCells
+mod Ranges
+mod Rows

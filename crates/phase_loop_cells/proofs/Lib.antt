@@ -1,0 +1,5 @@
+mod Afters
+mod Answered
+mod Numbered
+pub mod Sources
+mod Works

@@ -2,9 +2,14 @@
 #![tactic(auto)]
 
 mod copies;
-mod loops;
+mod gens;
+mod parts;
 mod scratch;
 
 pub use copies::Background;
-pub use loops::LoopCells;
+pub use gens::WithCells;
+pub use parts::PartCells;
 pub use scratch::CellScratch;
+
+#[cfg(test)]
+mod tests;

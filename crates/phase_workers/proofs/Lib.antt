@@ -6,5 +6,7 @@ mod Handing
 mod LoopKinds
 mod Machines
 mod Openings
+mod OverEnding
+mod OverHeaps
 mod Shared
 mod Standing

@@ -6,10 +6,12 @@ mod backgrounds;
 mod covered;
 mod folds;
 mod outside;
+mod over;
 mod program;
 mod sources;
 
 pub use outside::loop_outside;
+pub use over::over_outside;
 pub use phase_books::{Nesting, Workers};
 pub use phase_team::{Gate, NoGate};
 pub use program::run;

@@ -11,6 +11,7 @@ ghost use Rattle.run_eval.specs.Outcomes.{new_heap, IsCleared, HasCounters, Keep
 ghost use Rattle.array_ops.specs.Tells.{TellsItems};
 
 use crate::outside::loop_outside;
+use crate::over::over_outside;
 use buffer_heap::Heap;
 use counted_code::Code;
 use phase_books::{LoopCall, Nesting, Workers};
@@ -67,7 +68,7 @@ pub fn run<G: Gate, R: Threads + Sync>(
             '_,
         >| -> Result<RunValue, Stop>
             ensures { IsRunOver context.now work.now array state.old result state.new }
-        { let _ = work; let _ = array; let _ = context; let _ = state.phases.number(); Err(Stop::Memory) },
+        { over_outside(&workers, work, array, context, state) },
     };
     run_with_phases(alloc, code, args, heap, plan, calls, trace)
 }

@@ -12,6 +12,8 @@ use Rattle.counted_code.specs.Values.{Heap}
 use Rattle.run_eval.specs.declared.state.Context.{Context}
 use Rattle.run_eval.specs.Running.{generator_in, cells_in}
 use Rattle.run_eval.specs.Loops.{held, part_held, gen_source, part_source, source_in, part_source_in}
+use Rattle.run_eval.proofs.Measures.{gens_size, parts_size}
+use Rattle.run_eval.proofs.Sizes.{gen_below, part_below}
 
 -- ---- the machine's sources
 
@@ -68,3 +70,28 @@ module _ (ps : List CodePart) (v : List ℤ) (k : ℕ) (d : CodePart) (inside : 
 pub held_on : (gs : List CodeGen) (rs : List Range) (v : List ℤ) (k : ℕ) (e : Range) → k < length gs → k < length rs → holds (get_or rs k e) v ≡ false → held (drop (k + 1) gs) (drop (k + 1) rs) v ≡ held (drop k gs) (drop k rs) v
 held_on [] rs v k e inside within h = absurd (omega arith)
 held_on (g ∷ gs) rs v k e inside within h = held_next (g ∷ gs) rs v k g e inside within h
+
+-- ---- what is found is one of the list
+
+most_gens : (g : CodeGen) (gs : List CodeGen) → gens_size gs ≤ gens_size (g ∷ gs)
+most_gens g gs = omega arith
+
+pub held_below : (gs : List CodeGen) (rs : List Range) (v : List ℤ) (g : CodeGen) → Some g ≡ held gs rs v → size-CodeGen g ≤ gens_size gs
+held_below [] rs v g e = cc
+held_below (x ∷ gs) [] v g e = cc
+held_below (x ∷ gs) (r ∷ rs) v g e = by (holds r v) (held_below gs rs v g) e
+  where
+    by : (b : Bool) → (Some g ≡ held gs rs v → size-CodeGen g ≤ gens_size gs) → Some g ≡ (if b then Some x else held gs rs v) → size-CodeGen g ≤ gens_size (x ∷ gs)
+    by true rest e = let same : x ≡ g = cc in subst (λ g. size-CodeGen g ≤ gens_size (x ∷ gs)) same (gen_below (x ∷ gs) 0 x (omega arith))
+    by false rest e = omega (arith, rest e, most_gens x gs)
+
+most_parts : (p : CodePart) (ps : List CodePart) → parts_size ps ≤ parts_size (p ∷ ps)
+most_parts p ps = omega arith
+
+pub part_held_below : (ps : List CodePart) (v : List ℤ) (p : CodePart) → Some p ≡ part_held ps v → size-CodePart p ≤ parts_size ps
+part_held_below [] v p e = cc
+part_held_below (x ∷ ps) v p e = by (has_vector x.grid v) (part_held_below ps v p) e
+  where
+    by : (b : Bool) → (Some p ≡ part_held ps v → size-CodePart p ≤ parts_size ps) → Some p ≡ (if b then Some x else part_held ps v) → size-CodePart p ≤ parts_size (x ∷ ps)
+    by true rest e = let same : x ≡ p = cc in subst (λ p. size-CodePart p ≤ parts_size (x ∷ ps)) same (part_below (x ∷ ps) 0 x (omega arith))
+    by false rest e = omega (arith, rest e, most_parts x ps)

@@ -7,7 +7,6 @@ use crate::holders::{holder, part_holder};
 use array_with_loops::{Plan, Range};
 use core_ir::Var;
 use counted_code::{CodeBlock, CodeGen, CodePart};
-use run_values::RunValue;
 use sac_base::{Array, Op, Site};
 
 /// A loop over cells whose checks have passed.
@@ -33,8 +32,8 @@ pub enum CellSource<'a> {
 /// What is made of the cells of a loop.
 #[derive(Clone, Copy)]
 pub enum LoopResult<'a> {
-    /// An array. Where an index has no cell, the old array's cell stands, or a default: an array of the heap in which the loop begins.
-    Filled { array: RunValue, old: bool },
+    /// An array. Where an index has no cell, the old array's cell stands, or a default.
+    Filled { array: &'a Array, old: bool },
     /// An array of the cells alone.
     Joined,
     /// The cells combined, beginning with a neutral value.
@@ -67,7 +66,7 @@ pub fn body_at<'a>(source: &CellSource<'a>, ranges: &[Range], index: &[i32]) -> 
     }
 }
 
-pub fn body_of_gen(g: &CodeGen) -> CellBody<'_>
+fn body_of_gen(g: &CodeGen) -> CellBody<'_>
     ensures { body_of result ≡ gen_body g.now }
 {
     CellBody {
@@ -78,7 +77,7 @@ pub fn body_of_gen(g: &CodeGen) -> CellBody<'_>
     }
 }
 
-pub fn body_of_part(part: &CodePart) -> CellBody<'_>
+fn body_of_part(part: &CodePart) -> CellBody<'_>
     ensures { body_of result ≡ part_body part.now }
 {
     CellBody {

@@ -10,7 +10,10 @@ ghost use Rattle.run_values.specs.Scopes.{current};
 ghost use Rattle.run_values.specs.Shown.{value_of};
 ghost use Rattle.std.specs.Prelude.{◌≡◌, None, OnOk};
 
+use crate::array_loops::{loop_cell, run_cell_loop};
 use crate::cell_loop::{CellLoop, CellSource};
+use crate::marked_loops::run_over;
+use crate::phases::Never;
 use crate::state::{Context, State};
 use array_with_loops::Range;
 use run_values::RunValue;
@@ -18,46 +21,46 @@ use sac_base::{Form, Stop};
 
 /// The result of a loop whose checks have passed.
 pub fn run_in_order(
-    _work: &CellLoop<'_>,
-    _context: &Context<'_>,
-    _state: &mut State<'_>,
+    work: &CellLoop<'_>,
+    context: &Context<'_>,
+    state: &mut State<'_>,
 ) -> Result<RunValue, Stop>
-    ensures told { (m : MachineHeap) → IsAt _state.old m
-        → Told IsValue result _state.new (job_does None (job_of _context.now (current _state.old.frames) m _work.now) m) }
-    ensures scopes { OnOk result (SameScopes _state.old.frames _state.new.frames) }
-    ensures lender { lender_of _state.new.heap ≡ lender_of _state.old.heap }
+    ensures told { (m : MachineHeap) → IsAt state.old m
+        → Told IsValue result state.new (job_does None (job_of context.now (current state.old.frames) m work.now) m) }
+    ensures scopes { OnOk result (SameScopes state.old.frames state.new.frames) }
+    ensures lender { lender_of state.new.heap ≡ lender_of state.old.heap }
 {
-    Err(Stop::Memory)
+    run_cell_loop::<Never>(work, context, None, state)
 }
 
 /// The result of an array of the cells alone, over that of a value which is the only reference to its buffer.
 pub fn run_over_in_order(
-    _work: &CellLoop<'_>,
-    _array: RunValue,
-    _context: &Context<'_>,
-    _state: &mut State<'_>,
+    work: &CellLoop<'_>,
+    array: RunValue,
+    context: &Context<'_>,
+    state: &mut State<'_>,
 ) -> Result<RunValue, Stop>
-    ensures told { (m : MachineHeap) → IsAt _state.old m → IsOver _work.now (value_of _array) m
-        → Told IsValue result _state.new (over_does _context.now (current _state.old.frames) _work.now (value_of _array) m) }
-    ensures scopes { OnOk result (SameScopes _state.old.frames _state.new.frames) }
-    ensures lender { lender_of _state.new.heap ≡ lender_of _state.old.heap }
+    ensures told { (m : MachineHeap) → IsAt state.old m → IsOver work.now (value_of array) m
+        → Told IsValue result state.new (over_does context.now (current state.old.frames) work.now (value_of array) m) }
+    ensures scopes { OnOk result (SameScopes state.old.frames state.new.frames) }
+    ensures lender { lender_of state.new.heap ≡ lender_of state.old.heap }
 {
-    Err(Stop::Memory)
+    run_over::<Never>(work, array, context, None, state)
 }
 
 /// The cell of an index, if it has one, which must have a form. The ranges are those of generators.
 pub fn cell_in_order(
-    _source: &CellSource<'_>,
-    _ranges: &[Range],
-    _form: &Form,
-    _index: &[i32],
-    _context: &Context<'_>,
-    _state: &mut State<'_>,
+    source: &CellSource<'_>,
+    ranges: &[Range],
+    form: &Form,
+    index: &[i32],
+    context: &Context<'_>,
+    state: &mut State<'_>,
 ) -> Result<Option<RunValue>, Stop>
-    ensures told { (m : MachineHeap) → IsAt _state.old m
-        → Told IsPresent result _state.new (unreleased _form.now (source_at _context.now (current _state.old.frames) _source.now _ranges.now _index.now) m) }
-    ensures scopes { OnOk result (SameScopes _state.old.frames _state.new.frames) }
-    ensures lender { lender_of _state.new.heap ≡ lender_of _state.old.heap }
+    ensures told { (m : MachineHeap) → IsAt state.old m
+        → Told IsPresent result state.new (unreleased form.now (source_at context.now (current state.old.frames) source.now ranges.now index.now) m) }
+    ensures scopes { OnOk result (SameScopes state.old.frames state.new.frames) }
+    ensures lender { lender_of state.new.heap ≡ lender_of state.old.heap }
 {
-    Err(Stop::Memory)
+    loop_cell::<Never>(source, ranges, form, index, context, None, state)
 }

@@ -1,0 +1,49 @@
+//! What a worker has besides its store.
+
+ghost use Rattle.std.specs.Prelude.{◌≡◌, ◌∷◌, [], IfSome, IsTrue};
+ghost use Rattle.run_values.specs.Scopes.{current};
+
+use array_with_loops::Range;
+use kernel_buffers::Buffer;
+use kernel_rows::{CellKernel, KernelRoom};
+use phase_loop_cells::CellScratch;
+use run_values::Frames;
+use sac_base::{Cell, Memory};
+use std::alloc::Global;
+
+/// What a worker has besides its store: what the evaluator needs, once it has run a cell, the ranges of parts, the kernel of each
+/// generator or part, the buffers that kernels read, and room for their runs.
+#[derive(Drop)]
+pub struct KernelScratch<'a> {
+    pub cells: Option<CellScratch>,
+    pub ranges: Vec<Range>,
+    pub kernels: Vec<Option<CellKernel>>,
+    pub buffers: Vec<Buffer<'a>>,
+    pub room: KernelRoom,
+}
+
+/// Makes what the evaluator needs, if it is not there: it has a copy of the call's variables, which kernels do without.
+pub(crate) fn begin_once(
+    alloc: Global,
+    frames: &Frames,
+    scratch: &mut Option<CellScratch>,
+) -> Result<(), Memory>
+    requires { IfSome scratch.old (λ s. current s.frames ≡ current frames.now) }
+    ensures { IfSome scratch.new (λ s. current s.frames ≡ current frames.now) }
+{
+    if scratch.is_none() {
+        *scratch = Some(CellScratch::of(frames, alloc)?);
+    }
+    Ok(())
+}
+
+/// Writes the one element of a cell, if there is room for one.
+pub(crate) fn put_one(into: &mut [Cell], n: Cell) -> bool
+    ensures { IsTrue result → into.new ≡ n ∷ [] }
+{
+    if into.len() != 1 {
+        return false;
+    }
+    into[0] = n;
+    true
+}

@@ -1,0 +1,41 @@
+use Rattle.std.proofs.Common.{rules, ◌≡◌, ◌∙◌, ap, sym, subst}
+use Rattle.phase_cells.specs.Idle.{IsLeft}
+use Rattle.run_values.specs.Scopes.{current}
+use Rattle.phase_team.specs.Segments.{IsComputed, Tells}
+use Rattle.run_eval.specs.declared.state.State.{State}
+use Rattle.phase_loop_cells.specs.Cells.{parts_cell, parts_taken}
+use Rattle.phase_loop_cells.specs.Opened.{OpenParts}
+use Rattle.phase_loop_cells.proofs.Afters.{computed_claim}
+use Rattle.phase_loop_cells.proofs.Works.{parts_tell, parts_left}
+use Rattle.phase_loop_cells.proofs.parts.PartCellsCellRuns.run.Goals as goal
+
+pub returns-clause-tells : goal.returns-clause-tells
+returns-clause-tells c k stands is =
+    let a = c.args in
+    let self = a.self.now in
+    let e = current self.frames.now in
+    let s : State = record { frames = c.replace-variables.result; heap = c.replace-buffers.result; phases = c.within_cell.result } in
+    let heap : s.heap ≡ a.store.now = search rules in
+    let frames : s.frames ≡ a.scratch.now.frames = search rules in
+    subst (Tells (parts_cell self.context self.heap.now e self.parts.now self.form.now self.frame.now a.position) c.parts_at-answer.new.into) (sym c.ended.ensures)
+    (parts_tell self.context self.heap.now e self.parts.now self.form.now self.frame.now a.position s c.parts_at-answer.new.state c.parts_at-answer.new.into c.parts_at-answer.result a.store.now k is heap (ap current frames ∙ c.requires.ready) (c.within_cell.ensures.number, c.within_cell.ensures.draws) stands c.parts_at-answer.ensures.told)
+
+pub returns-clause-left : goal.returns-clause-left
+returns-clause-left c k stands is computed =
+    let a = c.args in
+    let self = a.self.now in
+    let e = current self.frames.now in
+    let s : State = record { frames = c.replace-variables.result; heap = c.replace-buffers.result; phases = c.within_cell.result } in
+    let heap : s.heap ≡ a.store.now = search rules in
+    let frames : s.frames ≡ a.scratch.now.frames = search rules in
+    subst (IsLeft (OpenParts self.context self.heap.now e self.parts.now) self.heap.now (parts_taken self.context self.heap.now e self.parts.now self.frame.now a.position) k) (sym c.into_parts-frames.ensures.heap)
+    (parts_left self.context self.heap.now e self.parts.now self.form.now self.frame.now a.position s c.parts_at-answer.new.state c.parts_at-answer.new.into c.parts_at-answer.result a.store.now k is heap (ap current frames ∙ c.requires.ready) (c.within_cell.ensures.number, c.within_cell.ensures.draws) stands c.parts_at-answer.ensures.told (subst IsComputed c.ended.ensures computed))
+
+pub returns-clause-ready : goal.returns-clause-ready
+returns-clause-ready c computed =
+    let a = c.args in
+    let frames : c.replace-variables.result ≡ a.scratch.now.frames = search rules in
+    ap current c.into_parts-frames.ensures.frames
+    ∙ computed_claim (current c.parts_at-answer.new.state.frames ≡ current c.replace-variables.result) c.parts_at-answer.result c.parts_at-answer.ensures.current (subst IsComputed c.ended.ensures computed)
+    ∙ ap current frames
+    ∙ c.requires.ready
