@@ -10,8 +10,6 @@ mod counting;
 #[cfg(test)]
 mod generators;
 #[cfg(test)]
-mod grids;
-#[cfg(test)]
 mod making;
 #[cfg(test)]
 mod substitution;

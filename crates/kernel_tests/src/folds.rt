@@ -30,26 +30,28 @@ fn bound(alloc: Global, steps: &mut Vec<CodeStep>, target: u32, right: CodeRight
     }));
 }
 
-fn axis(alloc: Global, lo: i64, hi: i64) -> Grid {
+fn frame(alloc: Global, bounds: &[(i64, i64)]) -> Grid {
     let mut axes = Vec::new(alloc);
-    let _ = axes.push(Grid1 {
-        lo,
-        hi,
-        step: 1,
-        width: 1,
-    });
+    for (lo, hi) in bounds {
+        let _ = axes.push(Grid1 {
+            lo: *lo,
+            hi: *hi,
+            step: 1,
+            width: 1,
+        });
+    }
     if axes.len() > 8 {
         axes.truncate(0);
     }
     Grid::new(axes)
 }
 
-// A fold over the numbers from `lo` on and below `hi`, whose body has the index vector as variable 30 and its component as 31.
+// A fold over the frame from the lower to below the upper bounds, whose body has the index vector as variable 30.
 fn fold(
     alloc: Global,
     op: Op,
     neutral: u32,
-    bounds: (i64, i64),
+    bounds: &[(i64, i64)],
     steps: Vec<CodeStep>,
     value: u32,
 ) -> CodeRight {
@@ -58,7 +60,7 @@ fn fold(
         results: one(alloc, Var(value)),
     };
     CodeRight::Parted(CodeParted {
-        frame: axis(alloc, bounds.0, bounds.1),
+        frame: frame(alloc, bounds),
         base: Base::Int,
         cell: Shape::empty(alloc),
         op: PartedOp::Fold {
@@ -68,7 +70,7 @@ fn fold(
         parts: one(
             alloc,
             CodePart {
-                grid: axis(alloc, bounds.0, bounds.1),
+                grid: frame(alloc, bounds),
                 index: Var(30),
                 body,
                 site: SITE,
@@ -78,7 +80,7 @@ fn fold(
     })
 }
 
-// The steps of a body: its index, and one operator of two variables into variable 32.
+// The steps of a body: the first component of its index as variable 31, and one operator of two variables into variable 32.
 fn body(alloc: Global, op: Op, x: u32, y: u32) -> Vec<CodeStep> {
     let mut steps = Vec::new(alloc);
     bound(alloc, &mut steps, 31, CodeRight::Select(Var(30), Var(3)));
@@ -120,15 +122,15 @@ fn gives(alloc: Global, right: CodeRight, cases: &[(Cell, Result<Cell, Fault>)])
 #[test]
 fn a_fold_has_the_value_of_all_its_cells(rt: HostRuntime) {
     let alloc = rt.alloc();
-    let sum = fold(alloc, Op::Add, 3, (1, 5), body(alloc, Op::Mul, 31, 1), 32);
+    let sum = fold(alloc, Op::Add, 3, &[(1, 5)], body(alloc, Op::Mul, 31, 1), 32);
     assert!(rt; gives(alloc, sum, &[(1, Ok(10)), (3, Ok(30)), (-2, Ok(-20))]));
-    let product = fold(alloc, Op::Mul, 4, (-1, 3), body(alloc, Op::Add, 31, 1), 32);
+    let product = fold(alloc, Op::Mul, 4, &[(-1, 3)], body(alloc, Op::Add, 31, 1), 32);
     assert!(rt; gives(alloc, product, &[(0, Ok(0)), (2, Ok(24)), (5, Ok(840))]));
-    let least = fold(alloc, Op::Min, 6, (0, 4), body(alloc, Op::Mul, 31, 1), 32);
+    let least = fold(alloc, Op::Min, 6, &[(0, 4)], body(alloc, Op::Mul, 31, 1), 32);
     assert!(rt; gives(alloc, least, &[(1, Ok(0)), (-2, Ok(-6))]));
-    let greatest = fold(alloc, Op::Max, 4, (0, 4), body(alloc, Op::Mul, 31, 1), 32);
+    let greatest = fold(alloc, Op::Max, 4, &[(0, 4)], body(alloc, Op::Mul, 31, 1), 32);
     assert!(rt; gives(alloc, greatest, &[(7, Ok(21)), (-2, Ok(1))]));
-    let none = fold(alloc, Op::Add, 6, (4, 4), body(alloc, Op::Mul, 31, 1), 32);
+    let none = fold(alloc, Op::Add, 6, &[(4, 4)], body(alloc, Op::Mul, 31, 1), 32);
     assert!(rt; gives(alloc, none, &[(1, Ok(10))]));
 }
 
@@ -143,7 +145,7 @@ fn the_first_fault_of_a_cell_is_the_fold_s(rt: HostRuntime) {
         33,
         CodeRight::Binary(Op::Div, Var(6), Var(32)),
     );
-    let quotients = fold(alloc, Op::Add, 3, (0, 3), steps, 33);
+    let quotients = fold(alloc, Op::Add, 3, &[(0, 3)], steps, 33);
     assert!(rt;
         gives(
             alloc,
@@ -159,7 +161,7 @@ fn the_first_fault_of_a_cell_is_the_fold_s(rt: HostRuntime) {
     );
     let mut loads = body(alloc, Op::Add, 31, 1);
     bound(alloc, &mut loads, 33, CodeRight::Select(Var(7), Var(32)));
-    let elements = fold(alloc, Op::Add, 3, (0, 3), loads, 33);
+    let elements = fold(alloc, Op::Add, 3, &[(0, 3)], loads, 33);
     assert!(rt;
         gives(
             alloc,
@@ -172,6 +174,71 @@ fn the_first_fault_of_a_cell_is_the_fold_s(rt: HostRuntime) {
             ]
         )
     );
+}
+
+// The steps of a body over two axes: the components of its index as variables 31 and 35.
+fn plane(alloc: Global) -> Vec<CodeStep> {
+    let mut steps = Vec::new(alloc);
+    bound(alloc, &mut steps, 31, CodeRight::Select(Var(30), Var(3)));
+    bound(alloc, &mut steps, 35, CodeRight::Select(Var(30), Var(4)));
+    steps
+}
+
+// The sum of (k + row) * j over two rows and three columns, its least value over one row, and the neutral value where there is no column.
+#[test]
+fn a_fold_over_two_axes_is_a_kernel(rt: HostRuntime) {
+    let alloc = rt.alloc();
+    for (op, neutral, bounds, cases) in [
+        (
+            Op::Add,
+            3,
+            [(0, 2), (1, 4)],
+            [(0, Ok(6)), (1, Ok(18)), (-2, Ok(-18))],
+        ),
+        (
+            Op::Min,
+            6,
+            [(3, 4), (-1, 2)],
+            [(0, Ok(-3)), (1, Ok(-4)), (-5, Ok(-2))],
+        ),
+        (
+            Op::Add,
+            6,
+            [(0, 2), (4, 4)],
+            [(0, Ok(10)), (1, Ok(10)), (2, Ok(10))],
+        ),
+    ] {
+        let mut steps = plane(alloc);
+        let shifted = CodeRight::Binary(Op::Add, Var(31), Var(1));
+        bound(alloc, &mut steps, 32, shifted);
+        let value = CodeRight::Binary(Op::Mul, Var(32), Var(35));
+        bound(alloc, &mut steps, 33, value);
+        let made = fold(alloc, op, neutral, &bounds, steps, 33);
+        assert!(rt; gives(alloc, made, &cases));
+    }
+}
+
+// The cell at [k, j] divides by j - 2, and loads the element at k + row. The first row's third cell comes before the second row.
+#[test]
+fn the_cells_of_a_row_come_before_the_next_row(rt: HostRuntime) {
+    let alloc = rt.alloc();
+    let mut steps = plane(alloc);
+    let less = CodeRight::Binary(Op::Sub, Var(35), Var(5));
+    bound(alloc, &mut steps, 32, less);
+    let quotient = CodeRight::Binary(Op::Div, Var(6), Var(32));
+    bound(alloc, &mut steps, 33, quotient);
+    let place = CodeRight::Binary(Op::Add, Var(31), Var(1));
+    bound(alloc, &mut steps, 34, place);
+    bound(alloc, &mut steps, 36, CodeRight::Select(Var(7), Var(34)));
+    let value = CodeRight::Binary(Op::Add, Var(33), Var(36));
+    bound(alloc, &mut steps, 37, value);
+    let made = fold(alloc, Op::Add, 3, &[(0, 2), (0, 3)], steps, 37);
+    let cases = [
+        (0, Err(DIVISION)),
+        (3, Err(DIVISION)),
+        (4, Err(OUTSIDE)),
+    ];
+    assert!(rt; gives(alloc, made, &cases));
 }
 
 // The sum of k * the sum of k + j + row, over k and j.
@@ -191,7 +258,7 @@ fn a_fold_within_a_fold_is_a_kernel(rt: HostRuntime) {
         alloc,
         &mut steps,
         33,
-        fold(alloc, Op::Add, 3, (0, 2), inner, 42),
+        fold(alloc, Op::Add, 3, &[(0, 2)], inner, 42),
     );
     bound(
         alloc,
@@ -199,7 +266,7 @@ fn a_fold_within_a_fold_is_a_kernel(rt: HostRuntime) {
         34,
         CodeRight::Binary(Op::Mul, Var(31), Var(33)),
     );
-    let nested = fold(alloc, Op::Add, 3, (1, 4), steps, 34);
+    let nested = fold(alloc, Op::Add, 3, &[(1, 4)], steps, 34);
     assert!(rt; gives(alloc, nested, &[(0, Ok(34)), (1, Ok(46))]));
 }
 
@@ -215,7 +282,7 @@ fn a_fold_within_a_loop_is_a_kernel(rt: HostRuntime) {
         CodeRight::Binary(Op::Lt, Var(11), Var(1)),
     );
     let mut turn = Vec::new(alloc);
-    let sum = fold(alloc, Op::Add, 10, (1, 3), body(alloc, Op::Mul, 31, 4), 32);
+    let sum = fold(alloc, Op::Add, 10, &[(1, 3)], body(alloc, Op::Mul, 31, 4), 32);
     bound(alloc, &mut turn, 51, sum);
     bound(
         alloc,
@@ -268,15 +335,20 @@ fn a_fold_within_a_loop_is_a_kernel(rt: HostRuntime) {
     }
 }
 
-// An operator that may fail, and a grid that is not the frame.
+// An operator that may fail, and grids that are not the frame, in the first axis or in the second.
 #[test]
 fn other_folds_are_no_kernels(rt: HostRuntime) {
     let alloc = rt.alloc();
-    let quotient = fold(alloc, Op::Div, 4, (1, 5), body(alloc, Op::Mul, 31, 1), 32);
+    let quotient = fold(alloc, Op::Div, 4, &[(1, 5)], body(alloc, Op::Mul, 31, 1), 32);
     assert!(rt; kernel(alloc, quotient).is_none());
-    let mut part = fold(alloc, Op::Add, 3, (1, 5), body(alloc, Op::Mul, 31, 1), 32);
+    let mut part = fold(alloc, Op::Add, 3, &[(1, 5)], body(alloc, Op::Mul, 31, 1), 32);
     if let CodeRight::Parted(parted) = &mut part {
-        parted.frame = axis(alloc, 0, 5);
+        parted.frame = frame(alloc, &[(0, 5)]);
     }
     assert!(rt; kernel(alloc, part).is_none());
+    let mut plane = fold(alloc, Op::Add, 3, &[(0, 2), (1, 4)], plane(alloc), 35);
+    if let CodeRight::Parted(parted) = &mut plane {
+        parted.frame = frame(alloc, &[(0, 2), (0, 4)]);
+    }
+    assert!(rt; kernel(alloc, plane).is_none());
 }

@@ -7,13 +7,11 @@ mod check;
 #[cfg(test)]
 mod cores;
 #[cfg(test)]
-mod devices;
-#[cfg(test)]
-mod files;
-#[cfg(test)]
 mod folded;
 #[cfg(test)]
 mod inlined;
+#[cfg(test)]
+mod kernels;
 #[cfg(test)]
 mod merged;
 #[cfg(test)]

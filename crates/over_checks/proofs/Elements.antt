@@ -19,7 +19,7 @@ use Rattle.kernel_tree.specs.declared.tree.Held.{Held}
 use Rattle.kernel_tree.specs.declared.tree.Held.TheVariants.{Word, Number, Short, Whole}
 use Rattle.kernel_tree.specs.Terms.{gives}
 use Rattle.kernel_tree.specs.View.{kernel_term}
-use Rattle.kernel_lower.specs.Relations.{Known, array_of, found}
+use Rattle.kernel_code.specs.Relations.{Known, array_of, found}
 use Rattle.kernel_rows.specs.declared.kernels.CellKernel.{CellKernel}
 use Rattle.kernel_rows.specs.Kernels.{AreCellKernels, Body, HasCellForm, HasIndex, HoldsCell, IsCellKernel, body_env}
 use Rattle.own_kernels.specs.Kernels.{holds_alone, is_kernel_for, is_own_kernel, kernels_own, own_in, part_body, parts_own}

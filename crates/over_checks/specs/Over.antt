@@ -12,6 +12,8 @@ use Rattle.over_phases.specs.Own.{PartsReadOwn}
 use Rattle.over_phases.specs.Statements.{IsElement}
 use Rattle.phase_checks.specs.Terms.{parts_term}
 use Rattle.phase_loop_cells.specs.Opened.{lent_env, meaning_in, spending_in}
+use Rattle.run_eval.specs.declared.cell_loop.CellSource.{CellSource}
+use Rattle.run_eval.specs.declared.cell_loop.CellSource.TheVariants.{Generators, Parts}
 use Rattle.run_eval.specs.declared.state.Context.{Context}
 use Rattle.sac_base.specs.declared.base.Base.{Base}
 use Rattle.sac_base.specs.declared.form.Form.{Form}
@@ -44,3 +46,8 @@ pub record MayBeOver (context : Context) (h : HeapValue) (e : Values) (parts : L
   pub place : ℕ
   pub filled : IsLive h place (IsFilled buffer (size shape))
   pub own : ReadOwn context h e parts form variable (length shape)
+
+-- the same of the parts of a source
+abbrev pub SourceMayBeOver : Context → HeapValue → Values → CellSource → Form → List ℕ → List Var → Value → Type 0
+SourceMayBeOver context h e (Generators gens) form shape live w = ⊥
+SourceMayBeOver context h e (Parts parts) form shape live w = MayBeOver context h e parts.now form shape live w

@@ -9,7 +9,7 @@ use Rattle.counted_code.specs.declared.tree.CodePart.{CodePart}
 use Rattle.kernel_tree.specs.declared.tree.Held.{Held}
 use Rattle.kernel_tree.specs.declared.tree.Held.TheVariants.{Whole}
 use Rattle.kernel_tree.specs.View.{kernel_term}
-use Rattle.kernel_lower.specs.Relations.{Known, found}
+use Rattle.kernel_code.specs.Relations.{Known, found}
 use Rattle.kernel_rows.specs.declared.kernels.CellKernel.{CellKernel}
 use Rattle.kernel_rows.specs.Kernels.{AreCellKernels, Body, IsScope}
 use Rattle.own_kernels.specs.Steps.{is_own}

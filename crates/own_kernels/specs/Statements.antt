@@ -9,7 +9,7 @@ use Rattle.core_ir.specs.declared.tree.Var.{Var}
 use Rattle.core_ir.specs.Meaning.{CallMeaning, Env}
 use Rattle.counted_code.specs.declared.tree.CodePart.{CodePart}
 use Rattle.kernel_tree.specs.Terms.{KernelTerm, buffer, gives}
-use Rattle.kernel_lower.specs.Relations.{Known}
+use Rattle.kernel_code.specs.Relations.{Known}
 use Rattle.kernel_rows.specs.declared.kernels.CellKernel.{CellKernel}
 use Rattle.kernel_rows.specs.Kernels.{HasIndex, IsScope}
 use Rattle.phase_checks.specs.Terms.{parts_term}

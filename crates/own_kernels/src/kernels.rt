@@ -8,7 +8,7 @@ ghost use Rattle.own_kernels.specs.Steps.{is_own};
 
 use crate::blocks::is_own_block;
 use core_ir::Var;
-use kernel_lower::held;
+use kernel_code::held;
 use kernel_rows::CellKernel;
 use kernel_tree::Held;
 

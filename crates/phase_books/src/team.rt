@@ -15,7 +15,7 @@ use crate::results::Books;
 use buffer_heap::Heap;
 use count_table::Tally;
 use phase_cells::{CellRuns, LentCells};
-use phase_draws::{PhaseBooks, array_phase, fold_phase};
+use phase_draws::{LoopPhase, PhaseBooks, array_phase, fold_phase};
 use phase_team::Gate;
 use run_store::lent_counts;
 use sac_base::{Base, Cell, Op, Stop};
@@ -97,23 +97,21 @@ fn store_cells<C: CellRuns, G: Gate, R: Threads + Sync>(
 {
     let home = mem::replace(&mut books.home, Heap::new(lent.alloc));
     let tally = mem::replace(&mut books.count.tally, Tally::new());
-    let phase = PhaseBooks {
+    let phase_books = PhaseBooks {
         home,
         counts,
         tally,
     };
-    let (after, end) = array_phase(
-        team.rt,
-        lent.alloc,
-        lent,
-        team.gate,
-        books.count.cutting,
-        few(team.workers),
-        phase,
+    let phase = LoopPhase {
+        rt: team.rt,
+        alloc: lent.alloc,
+        cells: lent,
+        gate: team.gate,
+        cutting: books.count.cutting,
+        workers: few(team.workers),
         positions,
-        width,
-        into,
-    );
+    };
+    let (after, end) = array_phase(phase, phase_books, width, into);
     let PhaseBooks {
         home,
         counts: _,
@@ -154,20 +152,23 @@ pub fn compute_fold<C: CellRuns, G: Gate, R: Threads + Sync>(
         return Err(Stop::Memory);
     };
     let lent = LentCells { alloc, cells };
-    let end = fold_phase(
-        team.rt,
+    let phase = LoopPhase {
+        rt: team.rt,
         alloc,
-        &lent,
-        team.gate,
-        books.count.cutting,
-        few(team.workers),
+        cells: &lent,
+        gate: team.gate,
+        cutting: books.count.cutting,
+        workers: few(team.workers),
+        positions,
+    };
+    let end = fold_phase(
+        phase,
         &mut books.home,
         &mut counts,
-        positions,
+        &mut books.count.tally,
         base,
         op,
         value,
-        &mut books.count.tally,
     );
     let LentCells { alloc: _, cells: _ } = lent;
     match end {

@@ -5,7 +5,7 @@ use crate::{CellRuns, LentCells};
 use buffer_heap::Heap;
 use count_table::Tally;
 use index_cutter::Cutting;
-use phase_draws::{PhaseBooks, array_phase};
+use phase_draws::{LoopPhase, PhaseBooks, array_phase};
 use phase_team::{CellEnd, NoGate};
 use run_store::Store;
 use sac_base::{Cell, Memory, Stop};
@@ -90,18 +90,16 @@ fn numbered<R: Threads + Sync>(
         counts: Vec::new(alloc),
         tally: Tally::new(),
     };
-    let (books, end) = array_phase(
+    let phase = LoopPhase {
         rt,
         alloc,
-        &cells,
-        &NoGate,
-        Cutting::of(workers, Some(3)),
+        cells: &cells,
+        gate: &NoGate,
+        cutting: Cutting::of(workers, Some(3)),
         workers,
-        books,
-        10,
-        1,
-        buffer,
-    );
+        positions: 10,
+    };
+    let (books, end) = array_phase(phase, books, 1, buffer);
     let PhaseBooks {
         home,
         counts: _,

@@ -18,10 +18,11 @@ use Rattle.phase_team.specs.Endings.{IsArray}
 use Rattle.phase_team.specs.Segments.{cells_from, Costs, Ran}
 use Rattle.phase_team.proofs.Merges.{merged, stops-front, stops-back}
 use Rattle.phase_team.proofs.Sequences.{widths_none}
-use Rattle.phase_draws.specs.declared.share.Share.{Share}
-use Rattle.phase_draws.specs.Chunks.{cells_of, count_of, ChunkPart, ChunkReport, IsDone, PartFits}
-use Rattle.phase_draws.specs.declared.phase.TeamEnd.{TeamEnd}
-use Rattle.phase_draws.specs.Endings.{Answers, IsEnded}
+use Rattle.phase_chunks.specs.declared.shares.Share.{Share}
+use Rattle.phase_chunks.specs.Chunks.{cells_of, count_of, ChunkPart, ChunkReport, IsDone, PartFits}
+use Rattle.phase_chunks.specs.declared.ends.TeamEnd.{TeamEnd}
+use Rattle.phase_chunks.specs.Answering.{Answers}
+use Rattle.phase_draws.specs.Endings.{IsEnded}
 use Rattle.phase_draws.specs.Reports.{AllOk, AreDone, Combine, IsLent, PartsFit}
 use Rattle.phase_draws.proofs.Chunked.{cells_all, chunk_cells}
 use Rattle.phase_draws.proofs.Ended.{ok_all, report_at}

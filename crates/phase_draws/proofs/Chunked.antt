@@ -6,8 +6,8 @@ use Rattle.chunk_reports.specs.Orders.{sum_upto}
 use Rattle.wl_core.specs.Machine.{CellValue}
 use Rattle.phase_team.specs.Segments.{cells_from, cost_from}
 use Rattle.phase_team.proofs.Sequences.{cells-append, cost-append}
-use Rattle.phase_draws.specs.declared.share.Share.{Share}
-use Rattle.phase_draws.specs.Chunks.{cells_of, count_of}
+use Rattle.phase_chunks.specs.declared.shares.Share.{Share}
+use Rattle.phase_chunks.specs.Chunks.{cells_of, count_of}
 
 -- the cells of k chunks from the chunk c on
 abbrev pub chunk_cells : (ℕ → CellValue) → Share → ℕ → ℕ → List CellValue

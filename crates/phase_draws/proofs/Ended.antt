@@ -13,8 +13,8 @@ use Rattle.wl_core.specs.Combining.{IsFoldable}
 use Rattle.wl_core.specs.Machine.{CellValue, combine, both}
 use Rattle.phase_team.specs.Segments.{HaveWidth, Ran}
 use Rattle.phase_team.proofs.Sequences.{each-both, each-front, each-back, combined-both, widths_both, widths_none}
-use Rattle.phase_draws.specs.declared.share.Share.{Share}
-use Rattle.phase_draws.specs.Chunks.{cells_of, partial_of, ChunkPart, ChunkReport, Ended, IsDone}
+use Rattle.phase_chunks.specs.declared.shares.Share.{Share}
+use Rattle.phase_chunks.specs.Chunks.{cells_of, partial_of, ChunkPart, ChunkReport, Ended, IsDone}
 use Rattle.phase_draws.specs.Reports.{AllOk, AreDone, IsReport, gathered}
 use Rattle.phase_draws.proofs.Chunked.{chunk_cells}
 

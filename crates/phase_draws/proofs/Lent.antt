@@ -7,7 +7,7 @@ use Rattle.count_table.specs.Tallied.{PhaseTotals}
 use Rattle.sac_base.specs.declared.memory.Memory as memory
 use Rattle.sac_base.specs.declared.stop.Stop.{Stop}
 use Rattle.sac_base.specs.declared.stop.Stop.TheVariants.{Memory}
-use Rattle.phase_draws.specs.declared.share.Share.{Share}
+use Rattle.phase_chunks.specs.declared.shares.Share.{Share}
 use Rattle.phase_draws.specs.Endings.{IsTallied}
 use Rattle.phase_draws.specs.Reports.{IsLent}
 

@@ -18,10 +18,11 @@ use Rattle.wl_core.proofs.FoldLaws.{foldable, elementwise-foldable}
 use Rattle.phase_team.specs.Endings.{IsCombined}
 use Rattle.phase_team.specs.Segments.{cells_from, value_if, Costs, HaveWidth}
 use Rattle.phase_team.proofs.Sequences.{from_first}
-use Rattle.phase_draws.specs.declared.share.Share.{Share}
-use Rattle.phase_draws.specs.declared.phase.TeamEnd.{TeamEnd}
-use Rattle.phase_draws.specs.Chunks.{count_of, ChunkPart, PartFits}
-use Rattle.phase_draws.specs.Endings.{one_phase, Finishes, IsEnded, IsTallied}
+use Rattle.phase_chunks.specs.declared.shares.Share.{Share}
+use Rattle.phase_chunks.specs.declared.ends.TeamEnd.{TeamEnd}
+use Rattle.phase_chunks.specs.Chunks.{count_of, ChunkPart, PartFits}
+use Rattle.phase_chunks.specs.Answering.{Finishes}
+use Rattle.phase_draws.specs.Endings.{one_phase, IsEnded, IsTallied}
 use Rattle.phase_draws.specs.Reports.{AllOk, Combine, PartsFit, gathered}
 use Rattle.phase_draws.proofs.Chunked.{cells_all}
 use Rattle.phase_draws.proofs.Ended.{fold_from, ok_all, FoldEnd}

@@ -13,8 +13,8 @@ use Rattle.wl_core.specs.Combining.{IsFoldable}
 use Rattle.wl_core.specs.Machine.{CellValue, combine, both}
 use Rattle.phase_team.specs.Segments.{cost_from, Costs}
 use Rattle.phase_team.proofs.Sequences.{same_of, same_then}
-use Rattle.phase_draws.specs.declared.share.Share.{Share}
-use Rattle.phase_draws.specs.Chunks.{cells_of, count_of, partial_of, ChunkPart, ChunkReport}
+use Rattle.phase_chunks.specs.declared.shares.Share.{Share}
+use Rattle.phase_chunks.specs.Chunks.{cells_of, count_of, partial_of, ChunkPart, ChunkReport}
 use Rattle.phase_draws.specs.Reports.{AllOk, AreDone, CostOf, IsReport, cost_of, gathered}
 use Rattle.phase_draws.proofs.Chunked.{begin_last, cost_chunks}
 

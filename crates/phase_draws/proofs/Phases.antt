@@ -13,8 +13,8 @@ use Rattle.wl_core.specs.declared.setup.Job.TheVariants.{Write as Store, Fold}
 use Rattle.wl_core.specs.Machine.{CellValue, TakesBase}
 use Rattle.wl_core.proofs.FoldLaws.{foldable, elementwise-foldable}
 use Rattle.phase_team.specs.Segments.{Costs}
-use Rattle.phase_draws.specs.declared.share.Share.{Share}
-use Rattle.phase_draws.specs.Chunks.{ChunkPart, ChunkReport}
+use Rattle.phase_chunks.specs.declared.shares.Share.{Share}
+use Rattle.phase_chunks.specs.Chunks.{ChunkPart, ChunkReport}
 use Rattle.phase_draws.specs.Reports.{AllOk, AreFrames, Combine, Grew, PartsFit, Told}
 use Rattle.phase_draws.proofs.Orderly.{costs_all, gathered_sorted, ok_sorted, once_sorted}
 

@@ -1,7 +1,7 @@
 -- One report more.
 use Rattle.std.proofs.Common.{◌≡◌, ℕ, ◌+◌, ◌*◌, Bool, true, ℤ, List, [], ◌∷◌, ◌++◌, Option, None, Some, Result, Ok, Err, IfOk, refl, sym, ap, subst, ◌∙◌, arith}
 use Rattle.std.specs.Prelude.{IsOk, MatchOption, is_ok, slice_get}
-use Rattle.phase_draws.specs.Chunks.{ChunkPart, ChunkReport, cells_of, count_of, partial_of, IsDone, IsMore, PartFits}
+use Rattle.phase_chunks.specs.Chunks.{ChunkPart, ChunkReport, cells_of, count_of, partial_of, IsDone, IsMore, PartFits}
 use Rattle.sac_base.specs.Verdict.{each, fold_op}
 use Rattle.sac_base.specs.declared.op.Op.{Op}
 use Rattle.sac_base.specs.declared.stop.Stop.{Stop}
@@ -11,7 +11,7 @@ use Rattle.wl_core.specs.declared.setup.Job.TheVariants.{Write as Store, Fold}
 use Rattle.wl_core.specs.Combining.{IsFoldable}
 use Rattle.wl_core.specs.Machine.{CellValue, TakesBase, combine, both}
 use Rattle.wl_core.proofs.FoldLaws.{foldable, elementwise-foldable}
-use Rattle.phase_draws.specs.declared.share.Share.{Share}
+use Rattle.phase_chunks.specs.declared.shares.Share.{Share}
 use Rattle.phase_draws.specs.Reports.{AllOk, AreCombined, AreDone, Combine, CostOf, IsReport, cost_of, gathered}
 use Rattle.phase_team.specs.Segments.{cost_from, Costs, Same}
 use Rattle.phase_team.proofs.Sequences.{both-none, same_of, same_sum, same_then}

@@ -3,7 +3,7 @@ use Rattle.std.proofs.Common.{◌≡◌, ℕ, List, ◌++◌, map, sym, ap, ◌�
 use Rattle.std.proofs.lemmas.List.{map-append}
 use Rattle.count_table.specs.Seats.{WorkerState, FrameState, left}
 use Rattle.count_table.proofs.Totals.{firsts}
-use Rattle.phase_draws.specs.Chunks.{ChunkPart, ChunkReport}
+use Rattle.phase_chunks.specs.Chunks.{ChunkPart, ChunkReport}
 use Rattle.phase_draws.specs.Reports.{AreFrames}
 
 pub frames : (before after : FrameState ChunkPart) (w : WorkerState ChunkPart) (rs mine all : List ChunkReport) → after ≡ left before w → map (λ (r : ChunkReport). r.chunk) mine ≡ w.drawn → AreFrames rs before → all ≡ rs ++ mine

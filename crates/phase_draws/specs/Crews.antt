@@ -1,32 +1,10 @@
 -- What the workers of a phase begin with, and what they leave.
-use Rattle.std.specs.Prelude.{◌≡◌, ℕ, ◌+◌, ◌-◌, ◌*◌, ◌<◌, ◌≤◌, vec_len, vec_capacity, Bool, List, [], Option, None, Some, Ok}
+use Rattle.std.specs.Prelude.{◌≡◌, ℕ, ◌+◌, ◌-◌, ◌*◌, ◌<◌, ◌≤◌, vec_len, vec_capacity, Bool, List, [], Option, None, Some}
 use Rattle.std.specs.Prelude.{◌∷◌, Vec}
 use Rattle.std.specs.Global.{Global}
-use Rattle.count_table.specs.Seats.{PhaseId, WorkerState, FrameState}
-use Rattle.phase_draws.specs.Chunks.{ChunkPart, ChunkReport}
+use Rattle.count_table.specs.Seats.{WorkerState, FrameState}
+use Rattle.phase_chunks.specs.Chunks.{ChunkPart, ChunkReport}
 use Rattle.phase_draws.specs.declared.rooms.Rooms.{Rooms}
-use Rattle.wl_core.specs.Machine.{CellValue, IsFold, TakesBase}
-use Rattle.phase_draws.specs.declared.share.Share.{Share}
-
--- a worker may begin at this position with n positions
-pub record Suits (cell : ℕ → CellValue) (positions width shared buffers : ℕ) (share : Share) (start n : ℕ) : Type 0 where
-  pub shared_is : buffers ≡ shared
-  pub width_is : share.width ≡ width
-  pub size : 1 ≤ share.size
-  pub few : positions ≤ 16777216
-  pub within : start + n ≤ positions
-  pub takes : TakesBase share.job
-  pub held : (p : ℕ) → p < positions → cell p ≡ Ok None → IsFold share.job
-
--- a seat that holds nothing
-pub record IsFreshSeat (table : PhaseId ChunkPart) (seat : WorkerState ChunkPart) : Type 0 where
-  pub phase : seat.phase ≡ table
-  pub holds : seat.holds ≡ []
-
--- such a seat is there
-abbrev pub IsFresh : PhaseId ChunkPart → Option (WorkerState ChunkPart) → Type 0
-IsFresh table None = ⊥
-IsFresh table (Some seat) = IsFreshSeat table seat
 
 -- whether its last draw found no chunk left
 abbrev pub IsGoing : Bool → Option (WorkerState ChunkPart) → Type 0

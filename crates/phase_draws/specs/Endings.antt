@@ -1,38 +1,24 @@
 -- What a whole phase answers.
-use Rattle.std.specs.Prelude.{◌≡◌, ℕ, ◌+◌, ◌%◌, ◌^◌, ℤ, List, length, map, take, Bool, Some, Result, Ok, Err, IfOk}
+use Rattle.std.specs.Prelude.{◌≡◌, ℕ, ◌+◌, ◌%◌, ◌^◌, ℤ, List, length, map, Result, Ok, Err, IfOk}
 use Rattle.chunk_reports.specs.Orders.{counting}
 use Rattle.count_table.specs.Tallied.{PhaseTotals}
-use Rattle.sac_base.specs.declared.memory.Memory as memory
-use Rattle.sac_base.specs.declared.op.Op.{Op}
 use Rattle.sac_base.specs.declared.stop.Stop.{Stop}
 use Rattle.sac_base.specs.declared.stop.Stop.TheVariants.{Faulted, Memory}
-use Rattle.wl_core.specs.Machine.{CellValue, combine, both}
-use Rattle.phase_team.specs.Segments.{value_if, Costs}
-use Rattle.phase_draws.specs.declared.share.Share.{Share}
-use Rattle.phase_draws.specs.declared.phase.TeamEnd.{TeamEnd}
-use Rattle.phase_draws.specs.Chunks.{ChunkPart}
+use Rattle.wl_core.specs.Machine.{CellValue}
+use Rattle.phase_team.specs.Segments.{Costs}
+use Rattle.phase_chunks.specs.declared.shares.Share.{Share}
+use Rattle.phase_chunks.specs.declared.ends.TeamEnd.{TeamEnd}
+use Rattle.phase_chunks.specs.Chunks.{ChunkPart}
 use Rattle.phase_draws.specs.Reports.{AllOk, AreDone, Combine}
 
--- The workers have left a report of each chunk, in order. Where none of them stopped, this is what all positions cost, and the first row of a fold has the
--- values of all chunks combined.
+-- The workers have left a report of each chunk, in order. Where none of them stopped, this is what all positions cost, and the first
+-- row of a fold has the values of all chunks combined.
 pub record IsEnded (cell : ℕ → CellValue) (cost : ℕ → ℕ → ℕ) (share : Share) (parts : List ChunkPart) (before after : ℕ → ℕ) (rows : List ℤ)
     (end : TeamEnd) : Type 0 where
   pub order : map (λ r. r.chunk) end.reports.items ≡ counting 0 (length parts)
   pub done : AreDone cell share parts end.reports.items
   pub told : IfOk end.held (λ held.
       AllOk end.reports.items → Costs cost 0 share.positions before after × Combine share.job cell share end.reports.items held rows)
-
--- The value is what it was, combined with that of the first row where there is one, and no chunk stopped. Or this is the first stop.
-abbrev pub Finishes : Op → Result (Unit {0}) Stop → Result Bool memory.Memory → List ℤ → List ℤ → List ℤ → Result (Unit {0}) Stop → Type 0
-Finishes op (Err stop) held rows before after result = result ≡ Err stop
-Finishes op (Ok done) (Err e) rows before after result = result ≡ Err Memory
-Finishes op (Ok done) (Ok held) rows before after result =
-    (result ≡ Ok tt) × (Some after ≡ both (combine op) (Some before) (value_if held (take (length before) rows)))
-
--- an array's phase answers with the first stop, or with want of memory
-abbrev pub Answers : Result (Unit {0}) Stop → Result Bool memory.Memory → Result (Unit {0}) Stop → Type 0
-Answers first (Ok held) result = result ≡ first
-Answers first (Err e) result = result ≡ Err Memory
 
 -- a phase was closed into the tally, and drew so many chunks
 abbrev pub one_phase : ℕ → PhaseTotals → PhaseTotals

@@ -1,4 +1,4 @@
 pub mod Crews
-pub mod Chunks
 pub mod Reports
 pub mod Endings
+pub mod Rosters

@@ -1,26 +1,29 @@
 -- What workers tell of the chunks that they drew.
-use Rattle.std.specs.Prelude.{◌≡◌, ℕ, ◌+◌, ◌*◌, ◌<◌, ◌≤◌, ◌++◌, ℤ, List, [], ◌∷◌, length, map, Result, IfOk, take, slice_get, MatchOption, IsOk, Bool, Option, None, Some}
+use Rattle.std.specs.Prelude.{◌≡◌, ℕ, ◌+◌, ◌*◌, ◌<◌, ◌≤◌, ◌++◌, ℤ, List, [], ◌∷◌, length, map, take, slice_get}
+use Rattle.std.specs.Prelude.{Result, IfOk, IsOk, Bool, Option, None, Some, MatchOption}
 use Rattle.buffer_parts.specs.Spans as spans
 use Rattle.buffer_parts.specs.Spans.{Span}
 use Rattle.count_table.specs.Seats.{FrameState}
-use Rattle.phase_draws.specs.Chunks.{ChunkPart, ChunkReport, cells_of, count_of, partial_of, IsDone, PartFits}
+use Rattle.phase_chunks.specs.Chunks.{ChunkPart, ChunkReport, cells_of, count_of, partial_of, IsDone, PartFits}
 use Rattle.sac_base.specs.declared.memory.Memory.{Memory}
 use Rattle.sac_base.specs.Verdict.{each}
 use Rattle.sac_base.specs.declared.op.Op.{Op}
 use Rattle.wl_core.specs.declared.setup.Job.{Job}
 use Rattle.wl_core.specs.declared.setup.Job.TheVariants.{Write as Store, Fold}
 use Rattle.wl_core.specs.Machine.{CellValue, combine, both}
-use Rattle.phase_draws.specs.declared.share.Share.{Share}
+use Rattle.phase_chunks.specs.declared.shares.Share.{Share}
 use Rattle.phase_team.specs.Segments.{cost_from, value_if, Same}
 
 -- each chunk has a position, and its part is as long as its positions ask
 abbrev pub PartsFit : Share → List ChunkPart → Type 0
 PartsFit share parts =
-    (c : ℕ) (part : ChunkPart) → slice_get parts c ≡ Some part → (c * share.size < share.positions) × PartFits share.job (count_of share c * share.width) part
+    (c : ℕ) (part : ChunkPart) → slice_get parts c ≡ Some part
+    → (c * share.size < share.positions) × PartFits share.job (count_of share c * share.width) part
 
 -- a report is one of a chunk that the phase has
 abbrev pub IsReport : (ℕ → CellValue) → Share → List ChunkPart → ChunkReport → Type 0
-IsReport cell share parts r = MatchOption (slice_get parts r.chunk) ⊥ (λ part. IsDone share.job share.width (cells_of cell share r.chunk) part r.part r.end)
+IsReport cell share parts r =
+    MatchOption (slice_get parts r.chunk) ⊥ (λ part. IsDone share.job share.width (cells_of cell share r.chunk) part r.part r.end)
 
 abbrev pub AreDone : (ℕ → CellValue) → Share → List ChunkPart → List ChunkReport → Type 0
 AreDone cell share parts [] = Unit {0}
@@ -63,11 +66,13 @@ HasRowsFor (Fold base op) width workers len = len ≡ workers * (width + (width 
 
 -- What more chunks cost, and that the first row of a fold has their values combined
 abbrev pub Told : (ℕ → CellValue) → (ℕ → ℕ → ℕ) → Share → List ChunkReport → (ℕ → ℕ) → (ℕ → ℕ) → Bool → List ℤ → Type 0
-Told cell cost share more before after held rows = AllOk more → CostOf cost share more before after × AreCombined cell share more held rows
+Told cell cost share more before after held rows =
+    AllOk more → CostOf cost share more before after × AreCombined cell share more held rows
 
--- More reports came behind those that were there. Where none of them stopped, this is what their cells cost, and the first row of a fold has their values
--- combined
-abbrev pub Grew : (ℕ → CellValue) → (ℕ → ℕ → ℕ) → Share → List ChunkReport → List ChunkReport → (ℕ → ℕ) → (ℕ → ℕ) → List ℤ → Result Bool Memory → Type 0
+-- More reports came behind those that were there. Where none of them stopped, this is what their cells cost, and the first row of a
+-- fold has their values combined
+abbrev pub Grew : (ℕ → CellValue) → (ℕ → ℕ → ℕ) → Share → List ChunkReport → List ChunkReport → (ℕ → ℕ) → (ℕ → ℕ) → List ℤ
+    → Result Bool Memory → Type 0
 Grew cell cost share old new before after rows result =
     (more : List ChunkReport) × (new ≡ old ++ more) × IfOk result (λ held. Told cell cost share more before after held rows)
 

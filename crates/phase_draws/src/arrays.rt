@@ -1,26 +1,25 @@
 // Phases that store their cells.
-ghost use Rattle.std.specs.Prelude.{◌≡◌, ◌≢◌, ℕ, ◌+◌, ◌*◌, ◌<◌, ◌≤◌, [], None, Ok, Some, Vec, length, map, vec_len, vec_capacity, IfOk};
+ghost use Rattle.std.specs.Prelude.{◌≡◌, ◌≢◌, ℕ, ◌*◌, ◌<◌, ◌≤◌, [], None, Ok, Some, length, map, vec_len, vec_capacity, IfOk};
 ghost use Rattle.std.specs.Thread.{IsSend, IsSync};
 ghost use Rattle.index_cutter.specs.Cuts.{chunks_of};
 ghost use Rattle.wl_core.specs.declared.setup.Job.TheVariants.{Write as Store};
-ghost use Rattle.chunk_reports.specs.Stops.{first_stop_of};
 ghost use Rattle.count_table.specs.Opening.{present};
-ghost use Rattle.buffer_parts.specs.Spans.{Span, KeepPlaces, joined};
+ghost use Rattle.buffer_parts.specs.Spans.{KeepPlaces, joined};
 ghost use Rattle.count_table.specs.Seats.{AreReferences};
 ghost use Rattle.phase_team.specs.Endings.{IsArray};
 ghost use Rattle.phase_team.specs.Segments.{cells_from, Costs};
-ghost use Rattle.phase_draws.specs.Crews.{HaveRoom, Suits};
-ghost use Rattle.phase_draws.specs.Endings.{Answers, IsTallied};
+ghost use Rattle.phase_chunks.specs.Seats.{Suits};
+ghost use Rattle.phase_draws.specs.Crews.{HaveRoom};
+ghost use Rattle.phase_draws.specs.Endings.{IsTallied};
 ghost use Rattle.phase_draws.specs.Reports.{IsLent};
 
-use crate::cells::PhaseCells;
-use crate::phase::{TeamEnd, run_phase};
-use crate::rooms::{Rooms, rooms_for, team_of};
-use crate::share::{ChunkPart, ChunkReport, Share};
+use crate::phase::{LoopPhase, run_phase};
+use crate::rooms::{Begun, rooms_for, team_of};
 use buffer_parts::Part;
-use chunk_reports::{Report, first_stop};
+use chunk_reports::Report;
 use count_table::{Tally, Unopened};
-use index_cutter::{Cutting, cut, lend};
+use index_cutter::{cut, lend};
+use phase_chunks::{ChunkPart, ChunkReport, PhaseCells, Share, TeamEnd, answer_of};
 use phase_team::Gate;
 use sac_base::{Cell, Memory, Stop};
 use std::alloc::Global;
@@ -43,21 +42,15 @@ pub(crate) struct ArrayRun<H> {
 }
 
 // What an array's workers begin with, and room for its parts in slots.
-#[derive(Drop)]
-pub(crate) struct ArrayRooms {
-    pub(crate) slots: Vec<ChunkPart>,
-    pub(crate) rooms: Rooms,
-}
-
-fn array_rooms(alloc: Global, team: usize, chunks: usize) -> Result<ArrayRooms, Memory>
-    requires some { 1 ≤ team }
-    requires few { (team ≤ 64) × (chunks ≤ 4096) }
+fn array_rooms(alloc: Global, workers: usize, chunks: usize) -> Result<Begun, Memory>
+    requires some { 1 ≤ workers }
+    requires few { (workers ≤ 64) × (chunks ≤ 4096) }
     ensures slots { IfOk result (λ r. (r.slots.items ≡ []) × (chunks ≤ vec_capacity r.slots)) }
-    ensures rooms { IfOk result (λ r. HaveRoom chunks team r.rooms) }
+    ensures rooms { IfOk result (λ r. HaveRoom chunks workers r.rooms) }
 {
-    Ok(ArrayRooms {
+    Ok(Begun {
         slots: Vec::with_capacity(alloc, chunks)?,
-        rooms: rooms_for(alloc, team, chunks)?,
+        rooms: rooms_for(alloc, workers, chunks)?,
     })
 }
 
@@ -105,40 +98,27 @@ fn empty_slots(slots: Vec<ChunkPart>, parts: &mut Vec<Part<Cell>>)
     }
 }
 
-// What an array's phase answers.
-fn answer_of(end: &TeamEnd) -> Result<(), Stop>
-    ensures { Answers (first_stop_of end.now.reports.items) end.now.held result }
-{
-    match end.held {
-        Ok(_) => first_stop(&end.reports),
-        Err(Memory) => Err(Stop::Memory),
-    }
-}
-
 // Runs a phase whose chunks fill the parts that were lent, and gives them back.
 fn run_parts<H: Send, C: PhaseCells<H>, G: Gate, R: Threads + Sync>(
-    rt: &R,
-    alloc: Global,
-    cells: &C,
-    gate: &G,
+    phase: &LoopPhase<'_, C, G, R>,
     share: Share,
-    begun: ArrayRooms,
+    begun: Begun,
     parts: Vec<Part<Cell>>,
     run: ArrayRun<H>,
 ) -> (Vec<Part<Cell>>, ArrayRun<H>)
-    requires suits { Suits (C.cell cells.now) (C.positions cells.now) (C.width cells.now) (C.shared cells.now)
-        (length run.books.counts.items) share 0 share.positions }
+    requires suits { let all = phase.now.cells.now in
+        Suits (C.cell all) (C.positions all) (C.width all) (C.shared all) (length run.books.counts.items) share }
     requires job { share.job ≡ Store }
     requires lent { IsLent share (length parts.items) parts.items }
     requires slots { (begun.slots.items ≡ []) × (length parts.items ≤ vec_capacity begun.slots) }
     requires rooms { (workers : ℕ) × (workers ≤ 64) × HaveRoom (length parts.items) workers begun.rooms }
-    requires home { C.open_home cells.now run.books.home }
+    requires home { C.open_home phase.now.cells.now run.books.home }
     requires counts { AreReferences run.books.counts.items }
     ensures places { KeepPlaces parts.items result.0.items }
-    ensures array { IsArray (cells_from (C.cell cells.now) 0 share.positions) (joined result.0.items) result.1.end }
-    ensures home { C.open_home cells.now result.1.books.home }
-    ensures kept { IfOk result.1.end (λ _. Costs (C.cost cells.now) 0 share.positions
-        (C.kept cells.now run.books.home) (C.kept cells.now result.1.books.home)) }
+    ensures array { IsArray (cells_from (C.cell phase.now.cells.now) 0 share.positions) (joined result.0.items) result.1.end }
+    ensures home { C.open_home phase.now.cells.now result.1.books.home }
+    ensures kept { let all = phase.now.cells.now in
+        IfOk result.1.end (λ _. Costs (C.cost all) 0 share.positions (C.kept all run.books.home) (C.kept all result.1.books.home)) }
     ensures counts { result.1.books.counts.items ≡ run.books.counts.items }
     ensures tally { IsTallied (length parts.items) run.books.tally result.1.books.tally result.1.end }
 {
@@ -148,17 +128,14 @@ fn run_parts<H: Send, C: PhaseCells<H>, G: Gate, R: Threads + Sync>(
         mut counts,
         mut tally,
     } = books;
-    let ArrayRooms { mut slots, rooms } = begun;
+    let Begun { mut slots, rooms } = begun;
     let mut parts = parts;
     fill_slots(&mut parts, &mut slots);
+    let begun = Begun { slots, rooms };
     let ran = run_phase(
-        rt,
-        alloc,
-        cells,
-        gate,
+        phase,
         share,
-        slots,
-        rooms,
+        begun,
         &mut [],
         &mut home,
         &mut counts,
@@ -184,14 +161,11 @@ fn run_parts<H: Send, C: PhaseCells<H>, G: Gate, R: Threads + Sync>(
     (parts, ArrayRun { books, end })
 }
 
-// What a buffer's parts are lent with: the cells that are to fill them, who computes them, and the phase's run.
+// What a buffer's parts are lent with: the phase whose cells are to fill them, how many workers it has, and its run.
 struct LentRun<'a, H, C, G, R> {
-    rt: &'a R,
-    alloc: Global,
-    cells: &'a C,
-    gate: &'a G,
+    phase: LoopPhase<'a, C, G, R>,
     share: Share,
-    team: usize,
+    workers: usize,
     run: ArrayRun<H>,
 }
 
@@ -201,32 +175,29 @@ fn run_lent<'a, H: Send, C: PhaseCells<H>, G: Gate, R: Threads + Sync>(
     lent: LentRun<'a, H, C, G, R>,
 ) -> (Vec<Part<Cell>>, LentRun<'a, H, C, G, R>)
     requires shared { IsSync R.row × IsSync C.row × IsSync G.row × IsSend H.row × IsSend C.Worker.row }
-    requires suits { Suits (C.cell lent.cells.now) (C.positions lent.cells.now) (C.width lent.cells.now) (C.shared lent.cells.now)
-        (length lent.run.books.counts.items) lent.share 0 lent.share.positions }
+    requires suits { let all = lent.phase.cells.now in
+        Suits (C.cell all) (C.positions all) (C.width all) (C.shared all) (length lent.run.books.counts.items) lent.share }
     requires job { lent.share.job ≡ Store }
     requires cut { IsLent lent.share (length parts.items) parts.items }
-    requires team { (1 ≤ lent.team) × (lent.team ≤ 64) }
-    requires home { C.open_home lent.cells.now lent.run.books.home }
+    requires workers { (1 ≤ lent.workers) × (lent.workers ≤ 64) }
+    requires home { C.open_home lent.phase.cells.now lent.run.books.home }
     requires counts { AreReferences lent.run.books.counts.items }
     ensures places { KeepPlaces parts.items result.0.items }
-    ensures array { IsArray (cells_from (C.cell lent.entry.cells.now) 0 lent.entry.share.positions) (joined result.0.items) result.1.run.end }
-    ensures home { C.open_home lent.entry.cells.now result.1.run.books.home }
-    ensures kept { IfOk result.1.run.end (λ _. Costs (C.cost lent.entry.cells.now) 0 lent.entry.share.positions
-        (C.kept lent.entry.cells.now lent.entry.run.books.home) (C.kept lent.entry.cells.now result.1.run.books.home)) }
+    ensures array { IsArray (cells_from (C.cell lent.entry.phase.cells.now) 0 lent.entry.share.positions) (joined result.0.items) result.1.run.end }
+    ensures home { C.open_home lent.entry.phase.cells.now result.1.run.books.home }
+    ensures kept { let all = lent.entry.phase.cells.now in IfOk result.1.run.end (λ _. Costs (C.cost all) 0 lent.entry.share.positions
+        (C.kept all lent.entry.run.books.home) (C.kept all result.1.run.books.home)) }
     ensures counts { result.1.run.books.counts.items ≡ lent.entry.run.books.counts.items }
     ensures tally { IsTallied (length parts.items) lent.entry.run.books.tally result.1.run.books.tally result.1.run.end }
 {
     let LentRun {
-        rt,
-        alloc,
-        cells,
-        gate,
+        phase,
         share,
-        team,
+        workers,
         run,
     } = lent;
-    let (parts, run) = match array_rooms(alloc, team, parts.len()) {
-        Ok(begun) => run_parts(rt, alloc, cells, gate, share, begun, parts, run),
+    let (parts, run) = match array_rooms(phase.alloc, workers, parts.len()) {
+        Ok(begun) => run_parts(&phase, share, begun, parts, run),
         Err(Memory) => {
             let ArrayRun { books, end: _ } = run;
             let end = Err(Stop::Memory);
@@ -236,12 +207,9 @@ fn run_lent<'a, H: Send, C: PhaseCells<H>, G: Gate, R: Threads + Sync>(
     (
         parts,
         LentRun {
-            rt,
-            alloc,
-            cells,
-            gate,
+            phase,
             share,
-            team,
+            workers,
             run,
         },
     )
@@ -253,58 +221,52 @@ fn run_lent<'a, H: Send, C: PhaseCells<H>, G: Gate, R: Threads + Sync>(
 /// `Ok` comes where no cell faults, and the buffer has the elements of all cells in order. `Faulted` is the fault of the
 /// least position that faults, whichever worker met its fault first. After `Memory` nothing is known of the buffer.
 pub fn array_phase<H: Send, C: PhaseCells<H>, G: Gate, R: Threads + Sync>(
-    rt: &R,
-    alloc: Global,
-    cells: &C,
-    gate: &G,
-    cutting: Cutting,
-    team: u32,
+    phase: LoopPhase<'_, C, G, R>,
     books: PhaseBooks<H>,
-    positions: usize,
     width: usize,
     buffer: &mut [Cell],
 ) -> (PhaseBooks<H>, Result<(), Stop>)
-    requires team { team ≤ 64 }
-    requires positions { (positions ≤ 16777216) × (positions ≡ C.positions cells.now) × (width ≡ C.width cells.now) }
-    requires held { (p : ℕ) → p < positions → C.cell cells.now p ≢ Ok None }
+    requires workers { phase.workers ≤ 64 }
+    requires positions { (phase.positions ≤ 16777216) × (phase.positions ≡ C.positions phase.cells.now) × (width ≡ C.width phase.cells.now) }
+    requires held { (p : ℕ) → p < phase.positions → C.cell phase.cells.now p ≢ Ok None }
     requires counts { AreReferences books.counts.items }
-    requires shared { length books.counts.items ≡ C.shared cells.now }
-    requires home { C.open_home cells.now books.home }
-    requires room { length buffer.old ≡ positions * width }
-    ensures array { IsArray (cells_from (C.cell cells.now) 0 positions) buffer.new result.1 }
-    ensures home { C.open_home cells.now result.0.home }
-    ensures kept { IfOk result.1 (λ _. Costs (C.cost cells.now) 0 positions (C.kept cells.now books.home) (C.kept cells.now result.0.home)) }
+    requires shared { length books.counts.items ≡ C.shared phase.cells.now }
+    requires home { C.open_home phase.cells.now books.home }
+    requires room { length buffer.old ≡ phase.positions * width }
+    ensures array { IsArray (cells_from (C.cell phase.entry.cells.now) 0 phase.entry.positions) buffer.new result.1 }
+    ensures home { C.open_home phase.entry.cells.now result.0.home }
+    ensures kept { let all = phase.entry.cells.now in
+        IfOk result.1 (λ _. Costs (C.cost all) 0 phase.entry.positions (C.kept all books.home) (C.kept all result.0.home)) }
     ensures counts { result.0.counts.items ≡ books.counts.items }
-    ensures tally { IsTallied (chunks_of cutting.workers cutting.chunk positions) books.tally result.0.tally result.1 }
+    ensures tally { let cutting = phase.entry.cutting in
+        IsTallied (chunks_of cutting.workers cutting.chunk phase.entry.positions) books.tally result.0.tally result.1 }
 {
-    let cuts = cut(positions as u64, cutting.workers, cutting.chunk);
+    let cutting = phase.cutting;
+    let cuts = cut(phase.positions as u64, cutting.workers, cutting.chunk);
     let share = Share {
         job: Job::Write,
         width,
-        positions,
+        positions: phase.positions,
         size: cuts.size as usize,
     };
+    let alloc = phase.alloc;
+    let workers = team_of(phase.workers, cuts.count);
+    let run = ArrayRun {
+        books,
+        end: Err(Stop::Memory),
+    };
     let mut lent = LentRun {
-        rt,
-        alloc,
-        cells,
-        gate,
+        phase,
         share,
-        team: team_of(team, cuts.count),
-        run: ArrayRun {
-            books,
-            end: Err(Stop::Memory),
-        },
+        workers,
+        run,
     };
     // Where no memory is found for the list of parts, the run is as it was, and says so.
     let _ = lend(alloc, buffer, &cuts, width, &mut lent, run_lent);
     let LentRun {
-        rt: _,
-        alloc: _,
-        cells: _,
-        gate: _,
+        phase: _,
         share: _,
-        team: _,
+        workers: _,
         run,
     } = lent;
     let ArrayRun { books, end } = run;

@@ -1,18 +1,16 @@
 // The workers of a phase, each in a thread of its own.
-ghost use Rattle.std.specs.Prelude.{◌≡◌, ℕ, ◌+◌, ◌*◌, ◌^◌, ◌<◌, ◌≤◌, ◌++◌, [], List, length, map, IfOk, false, true, vec_len, vec_capacity};
+ghost use Rattle.std.specs.Prelude.{◌≡◌, ℕ, ◌+◌, ◌^◌, ◌<◌, ◌≤◌, [], length, vec_len, vec_capacity};
 ghost use Rattle.std.specs.Thread.{IsSync, IsSend};
-ghost use Rattle.wl_core.specs.Machine.{TakesBase};
 ghost use Rattle.phase_team.specs.Segments.{HasRows, MergesRows};
-ghost use Rattle.phase_draws.specs.Chunks.{HasThreeRows};
-ghost use Rattle.phase_draws.specs.Crews.{AreRooms, drawn_by, IsBack, IsFresh, IsGoing, IsRun, Suits};
-ghost use Rattle.phase_draws.specs.Reports.{AllOk, AreCombined, AreDone, AreFrames, CostOf, Grew, GrewBoth, HasRowsFor, PartsFit};
+ghost use Rattle.phase_chunks.specs.Chunks.{HasThreeRows};
+ghost use Rattle.phase_draws.specs.Crews.{IsBack, IsRun};
+ghost use Rattle.phase_draws.specs.Reports.{Grew, GrewBoth, HasRowsFor, Told};
+ghost use Rattle.phase_draws.specs.Rosters.{Begins, CameBack, HasPlaces, IsThrough, SuitsTable};
 
-use crate::cells::PhaseCells;
-use crate::settles::settle_worker;
-use crate::share::{ChunkPart, ChunkReport, Share};
+use crate::members::{Member, Roster, Team};
+use crate::settles::settle_member;
 use crate::turns::run_turns;
-use crate::worker::combine_held;
-use count_table::{FrameSeat, Phase, WorkerSeat};
+use phase_chunks::{CellWorker, ChunkReport, PhaseCells, Share, combine_held};
 use phase_team::Gate;
 use sac_base::{Cell, Memory};
 use std::thread::{Threads, join_mut};
@@ -23,62 +21,43 @@ use wl_core::Job;
 /// values of their cells combined.
 #[cycle(crew)]
 pub(crate) fn run_team<H: Send, C: PhaseCells<H>, G: Gate, R: Threads + Sync>(
-    rt: &R,
-    cells: &C,
-    gate: &G,
-    table: &Phase<ChunkPart>,
-    frame: &mut FrameSeat<ChunkPart>,
+    team: &Team<'_, C, G, R>,
     home: &mut H,
-    share: Share,
-    number: u32,
-    worker: C::Worker,
-    mine: Vec<ChunkReport>,
-    rooms: &mut Vec<Vec<ChunkReport>>,
+    roster: &mut Roster,
+    context: C::Worker,
+    room: Vec<ChunkReport>,
     rows: &mut [Cell],
-    reports: &mut Vec<ChunkReport>,
 ) -> Result<bool, Memory>
-    requires suits { Suits (C.cell cells.now) (C.positions cells.now) (C.width cells.now) (C.shared cells.now) table.now.buffers share 0 share.positions }
-    requires parts { PartsFit share table.now.parts }
-    requires phase { frame.old.phase ≡ table.now }
-    requires made { frame.old.made + (vec_len rooms.old + 1) ≤ 64 }
-    requires number { number + vec_len rooms.old < 64 }
-    requires worker { C.idle cells.now worker }
-    requires unspent { (kind : ℕ) → C.spent cells.now worker kind ≡ 0 }
-    requires home { C.open_home cells.now home.old }
-    requires mine { (mine.items ≡ []) × (length table.now.parts ≤ vec_capacity mine) }
-    requires rooms { AreRooms (length table.now.parts) rooms.old.items }
-    requires rows { HasRowsFor share.job share.width (vec_len rooms.old + 1) (length rows.old) }
-    requires done { AreDone (C.cell cells.now) share table.now.parts reports.old.items }
-    requires frames { AreFrames reports.old.items frame.old }
-    requires space { vec_len reports.old + (vec_len rooms.old + 1) * length table.now.parts ≤ vec_capacity reports.old }
-    ensures done { AreDone (C.cell cells.now) share table.now.parts reports.new.items }
-    ensures frames { AreFrames reports.new.items frame.new }
-    ensures grew { Grew (C.cell cells.now) (C.cost cells.now) share reports.old.items reports.new.items
-        (C.kept cells.now home.old) (C.kept cells.now home.new) rows.new result }
-    ensures few { vec_len reports.new ≤ vec_len reports.old + (vec_len rooms.old + 1) * length table.now.parts }
-    ensures capacity { vec_capacity reports.new ≡ vec_capacity reports.old }
-    ensures home { C.open_home cells.now home.new }
-    ensures frame { IsRun frame.old frame.new }
+    requires suits { let all = team.now.work.cells.now in
+        SuitsTable (C.cell all) (C.positions all) (C.width all) (C.shared all) team.now.work.table.now team.now.work.share }
+    requires places { let work = team.now.work in
+        HasPlaces (C.cell work.cells.now) work.share work.table.now (vec_len roster.old.rooms + 1) roster.old }
+    requires worker { C.idle team.now.work.cells.now context }
+    requires unspent { (kind : ℕ) → C.spent team.now.work.cells.now context kind ≡ 0 }
+    requires home { C.open_home team.now.work.cells.now home.old }
+    requires room { (room.items ≡ []) × (length team.now.work.table.now.parts ≤ vec_capacity room) }
+    requires rows { HasRowsFor team.now.work.share.job team.now.work.share.width (vec_len roster.old.rooms + 1) (length rows.old) }
+    ensures back { let work = team.now.work in
+        CameBack (C.cell work.cells.now) work.share work.table.now (vec_len roster.old.rooms + 1) roster.old roster.new }
+    ensures grew { let all = team.now.work.cells.now in
+        Grew (C.cell all) (C.cost all) team.now.work.share roster.old.reports.items roster.new.reports.items
+        (C.kept all home.old) (C.kept all home.new) rows.new result }
+    ensures home { C.open_home team.now.work.cells.now home.new }
+    ensures frame { IsRun roster.old.frame roster.new.frame }
 {
-    let (mut worker, mut mine) = (worker, mine);
-    let mut seat = Some(table.seat(frame));
-    let end = run_first(
-        rt,
-        cells,
-        gate,
-        table,
-        &mut seat,
-        &mut worker,
-        frame,
-        home,
-        share,
-        number,
-        &mut mine,
-        rooms,
-        rows,
-        reports,
-    );
-    match settle_worker(cells, table, frame, home, seat, worker, mine, reports) {
+    let seat = team.work.table.seat(&mut roster.frame);
+    let worker = CellWorker {
+        seat: Some(seat),
+        context,
+    };
+    let mut member = Member {
+        number: roster.begun,
+        worker,
+        reports: room,
+    };
+    roster.begun += 1;
+    let end = run_first(team, home, roster, &mut member, rows);
+    match settle_member(&team.work, home, roster, member) {
         Ok(()) => end,
         Err(Memory) => Err(Memory),
     }
@@ -87,202 +66,130 @@ pub(crate) fn run_team<H: Send, C: PhaseCells<H>, G: Gate, R: Threads + Sync>(
 // A worker for each room, as far as memory is found for their contexts.
 #[cycle(crew)]
 fn run_others<H: Send, C: PhaseCells<H>, G: Gate, R: Threads + Sync>(
-    rt: &R,
-    cells: &C,
-    gate: &G,
-    table: &Phase<ChunkPart>,
-    frame: &mut FrameSeat<ChunkPart>,
+    team: &Team<'_, C, G, R>,
     home: &mut H,
-    share: Share,
-    number: u32,
-    rooms: &mut Vec<Vec<ChunkReport>>,
+    roster: &mut Roster,
     rows: &mut [Cell],
-    reports: &mut Vec<ChunkReport>,
 ) -> Result<bool, Memory>
-    requires suits { Suits (C.cell cells.now) (C.positions cells.now) (C.width cells.now) (C.shared cells.now) table.now.buffers share 0 share.positions }
-    requires parts { PartsFit share table.now.parts }
-    requires phase { frame.old.phase ≡ table.now }
-    requires made { frame.old.made + vec_len rooms.old ≤ 64 }
-    requires number { number + vec_len rooms.old ≤ 64 }
-    requires home { C.open_home cells.now home.old }
-    requires rooms { AreRooms (length table.now.parts) rooms.old.items }
-    requires rows { HasRowsFor share.job share.width (vec_len rooms.old) (length rows.old) }
-    requires done { AreDone (C.cell cells.now) share table.now.parts reports.old.items }
-    requires frames { AreFrames reports.old.items frame.old }
-    requires space { vec_len reports.old + vec_len rooms.old * length table.now.parts ≤ vec_capacity reports.old }
-    ensures done { AreDone (C.cell cells.now) share table.now.parts reports.new.items }
-    ensures frames { AreFrames reports.new.items frame.new }
-    ensures grew { Grew (C.cell cells.now) (C.cost cells.now) share reports.old.items reports.new.items
-        (C.kept cells.now home.old) (C.kept cells.now home.new) rows.new result }
-    ensures few { vec_len reports.new ≤ vec_len reports.old + vec_len rooms.old * length table.now.parts }
-    ensures capacity { vec_capacity reports.new ≡ vec_capacity reports.old }
-    ensures home { C.open_home cells.now home.new }
-    ensures frame { IsBack frame.old frame.new }
+    requires suits { let all = team.now.work.cells.now in
+        SuitsTable (C.cell all) (C.positions all) (C.width all) (C.shared all) team.now.work.table.now team.now.work.share }
+    requires places { let work = team.now.work in
+        HasPlaces (C.cell work.cells.now) work.share work.table.now (vec_len roster.old.rooms) roster.old }
+    requires home { C.open_home team.now.work.cells.now home.old }
+    requires rows { HasRowsFor team.now.work.share.job team.now.work.share.width (vec_len roster.old.rooms) (length rows.old) }
+    ensures back { let work = team.now.work in
+        CameBack (C.cell work.cells.now) work.share work.table.now (vec_len roster.old.rooms) roster.old roster.new }
+    ensures grew { let all = team.now.work.cells.now in
+        Grew (C.cell all) (C.cost all) team.now.work.share roster.old.reports.items roster.new.reports.items
+        (C.kept all home.old) (C.kept all home.new) rows.new result }
+    ensures home { C.open_home team.now.work.cells.now home.new }
+    ensures frame { IsBack roster.old.frame roster.new.frame }
 {
-    let Some(room) = rooms.pop() else {
+    let Some(room) = roster.rooms.pop() else {
         return Ok(false);
     };
-    let Ok(worker) = cells.begin(home) else {
+    let Ok(context) = team.work.cells.begin(home) else {
         return Ok(false);
     };
-    run_team(
-        rt, cells, gate, table, frame, home, share, number, worker, room, rooms, rows, reports,
-    )
+    run_team(team, home, roster, context, room, rows)
 }
 
 // The first worker, beside the others where there is a room for one.
 #[cycle(crew)]
 fn run_first<H: Send, C: PhaseCells<H>, G: Gate, R: Threads + Sync>(
-    rt: &R,
-    cells: &C,
-    gate: &G,
-    table: &Phase<ChunkPart>,
-    seat: &mut Option<WorkerSeat<ChunkPart>>,
-    worker: &mut C::Worker,
-    frame: &mut FrameSeat<ChunkPart>,
+    team: &Team<'_, C, G, R>,
     home: &mut H,
-    share: Share,
-    number: u32,
-    mine: &mut Vec<ChunkReport>,
-    rooms: &mut Vec<Vec<ChunkReport>>,
+    roster: &mut Roster,
+    member: &mut Member<C::Worker>,
     rows: &mut [Cell],
-    reports: &mut Vec<ChunkReport>,
 ) -> Result<bool, Memory>
-    requires suits { Suits (C.cell cells.now) (C.positions cells.now) (C.width cells.now) (C.shared cells.now) table.now.buffers share 0 share.positions }
-    requires parts { PartsFit share table.now.parts }
-    requires phase { frame.old.phase ≡ table.now }
-    requires made { frame.old.made + vec_len rooms.old ≤ 64 }
-    requires number { number + vec_len rooms.old < 64 }
-    requires seat { IsFresh table.now seat.old × IsGoing false seat.old × (drawn_by seat.old ≡ []) }
-    requires worker { C.idle cells.now worker.old }
-    requires home { C.open_home cells.now home.old }
-    requires mine { (mine.old.items ≡ []) × (length table.now.parts ≤ vec_capacity mine.old) }
-    requires rooms { AreRooms (length table.now.parts) rooms.old.items }
-    requires rows { HasRowsFor share.job share.width (vec_len rooms.old + 1) (length rows.old) }
-    requires done { AreDone (C.cell cells.now) share table.now.parts reports.old.items }
-    requires frames { AreFrames reports.old.items frame.old }
-    requires space { vec_len reports.old + vec_len rooms.old * length table.now.parts ≤ vec_capacity reports.old }
-    ensures mine { AreDone (C.cell cells.now) share table.now.parts mine.new.items }
-    ensures drawn { map (λ r. r.chunk) mine.new.items ≡ drawn_by seat.new }
-    ensures seat { IsFresh table.now seat.new × IsGoing true seat.new }
-    ensures own { length mine.new.items ≤ length table.now.parts }
-    ensures worker { C.idle cells.now worker.new }
-    ensures done { AreDone (C.cell cells.now) share table.now.parts reports.new.items }
-    ensures frames { AreFrames reports.new.items frame.new }
-    ensures grew { GrewBoth (C.cell cells.now) (C.cost cells.now) share mine.new.items reports.old.items reports.new.items
-        (C.kept cells.now home.old) (C.kept cells.now home.new) (C.spent cells.now worker.old) (C.spent cells.now worker.new) rows.new result }
-    ensures few { vec_len reports.new ≤ vec_len reports.old + vec_len rooms.old * length table.now.parts }
-    ensures capacity { vec_capacity reports.new ≡ vec_capacity reports.old }
-    ensures home { C.open_home cells.now home.new }
-    ensures frame { IsBack frame.old frame.new }
+    requires suits { let all = team.now.work.cells.now in
+        SuitsTable (C.cell all) (C.positions all) (C.width all) (C.shared all) team.now.work.table.now team.now.work.share }
+    requires places { let work = team.now.work in
+        HasPlaces (C.cell work.cells.now) work.share work.table.now (vec_len roster.old.rooms) roster.old }
+    requires begins { Begins team.now.work.table.now member.old.worker.seat member.old.reports }
+    requires worker { C.idle team.now.work.cells.now member.old.worker.context }
+    requires home { C.open_home team.now.work.cells.now home.old }
+    requires rows { HasRowsFor team.now.work.share.job team.now.work.share.width (vec_len roster.old.rooms + 1) (length rows.old) }
+    ensures through { let work = team.now.work in
+        IsThrough (C.cell work.cells.now) work.share work.table.now member.new.worker.seat member.new.reports }
+    ensures worker { C.idle team.now.work.cells.now member.new.worker.context }
+    ensures back { let work = team.now.work in
+        CameBack (C.cell work.cells.now) work.share work.table.now (vec_len roster.old.rooms) roster.old roster.new }
+    ensures grew { let all = team.now.work.cells.now in
+        GrewBoth (C.cell all) (C.cost all) team.now.work.share member.new.reports.items roster.old.reports.items roster.new.reports.items
+        (C.kept all home.old) (C.kept all home.new) (C.spent all member.old.worker.context) (C.spent all member.new.worker.context) rows.new result }
+    ensures home { C.open_home team.now.work.cells.now home.new }
+    ensures frame { IsBack roster.old.frame roster.new.frame }
 {
-    if rooms.is_empty() {
-        return Ok(run_turns(cells, gate, table, seat, worker, share, number, rows, mine));
+    if roster.rooms.is_empty() {
+        return Ok(run_turns(team, member, rows));
     }
+    let share = team.work.share;
     let (own, rest) = rows.split_at_mut(own_room(share));
-    let (held, more) = side_by_side(
-        rt, cells, gate, table, seat, worker, frame, home, share, number, mine, rooms, own, rest,
-        reports,
-    );
+    let (held, more) = side_by_side(team, home, roster, member, own, rest);
     Ok(merge_rows(share, own, rest, held, more?))
 }
 
 // This worker in a thread of its own, and the others here.
 #[cycle(crew)]
 fn side_by_side<H: Send, C: PhaseCells<H>, G: Gate, R: Threads + Sync>(
-    rt: &R,
-    cells: &C,
-    gate: &G,
-    table: &Phase<ChunkPart>,
-    seat: &mut Option<WorkerSeat<ChunkPart>>,
-    worker: &mut C::Worker,
-    frame: &mut FrameSeat<ChunkPart>,
+    team: &Team<'_, C, G, R>,
     home: &mut H,
-    share: Share,
-    number: u32,
-    mine: &mut Vec<ChunkReport>,
-    rooms: &mut Vec<Vec<ChunkReport>>,
+    roster: &mut Roster,
+    member: &mut Member<C::Worker>,
     own: &mut [Cell],
     rest: &mut [Cell],
-    reports: &mut Vec<ChunkReport>,
 ) -> (bool, Result<bool, Memory>)
-    requires suits { Suits (C.cell cells.now) (C.positions cells.now) (C.width cells.now) (C.shared cells.now) table.now.buffers share 0 share.positions }
-    requires parts { PartsFit share table.now.parts }
-    requires phase { frame.old.phase ≡ table.now }
-    requires made { frame.old.made + vec_len rooms.old ≤ 64 }
-    requires number { number + vec_len rooms.old < 64 }
-    requires seat { IsFresh table.now seat.old × IsGoing false seat.old × (drawn_by seat.old ≡ []) }
-    requires worker { C.idle cells.now worker.old }
-    requires home { C.open_home cells.now home.old }
-    requires mine { (mine.old.items ≡ []) × (length table.now.parts ≤ vec_capacity mine.old) }
-    requires rooms { AreRooms (length table.now.parts) rooms.old.items }
-    requires own { HasThreeRows share.job share.width (length own.old) }
-    requires rest { HasRowsFor share.job share.width (vec_len rooms.old) (length rest.old) }
-    requires done { AreDone (C.cell cells.now) share table.now.parts reports.old.items }
-    requires frames { AreFrames reports.old.items frame.old }
-    requires space { vec_len reports.old + vec_len rooms.old * length table.now.parts ≤ vec_capacity reports.old }
-    ensures mine { AreDone (C.cell cells.now) share table.now.parts mine.new.items }
-    ensures drawn { map (λ r. r.chunk) mine.new.items ≡ drawn_by seat.new }
-    ensures seat { IsFresh table.now seat.new × IsGoing true seat.new }
-    ensures own { length mine.new.items ≤ length table.now.parts }
-    ensures worker { C.idle cells.now worker.new }
-    ensures spent { AllOk mine.new.items → CostOf (C.cost cells.now) share mine.new.items (C.spent cells.now worker.old) (C.spent cells.now worker.new) }
-    ensures combined { AllOk mine.new.items → AreCombined (C.cell cells.now) share mine.new.items result.0 own.new }
-    ensures done { AreDone (C.cell cells.now) share table.now.parts reports.new.items }
-    ensures frames { AreFrames reports.new.items frame.new }
-    ensures grew { Grew (C.cell cells.now) (C.cost cells.now) share reports.old.items reports.new.items
-        (C.kept cells.now home.old) (C.kept cells.now home.new) rest.new result.1 }
-    ensures few { vec_len reports.new ≤ vec_len reports.old + vec_len rooms.old * length table.now.parts }
-    ensures capacity { vec_capacity reports.new ≡ vec_capacity reports.old }
-    ensures home { C.open_home cells.now home.new }
-    ensures frame { IsBack frame.old frame.new }
+    requires suits { let all = team.now.work.cells.now in
+        SuitsTable (C.cell all) (C.positions all) (C.width all) (C.shared all) team.now.work.table.now team.now.work.share }
+    requires places { let work = team.now.work in
+        HasPlaces (C.cell work.cells.now) work.share work.table.now (vec_len roster.old.rooms) roster.old }
+    requires begins { Begins team.now.work.table.now member.old.worker.seat member.old.reports }
+    requires worker { C.idle team.now.work.cells.now member.old.worker.context }
+    requires home { C.open_home team.now.work.cells.now home.old }
+    requires own { HasThreeRows team.now.work.share.job team.now.work.share.width (length own.old) }
+    requires rest { HasRowsFor team.now.work.share.job team.now.work.share.width (vec_len roster.old.rooms) (length rest.old) }
+    ensures through { let work = team.now.work in
+        IsThrough (C.cell work.cells.now) work.share work.table.now member.new.worker.seat member.new.reports }
+    ensures worker { C.idle team.now.work.cells.now member.new.worker.context }
+    ensures told { let all = team.now.work.cells.now in
+        Told (C.cell all) (C.cost all) team.now.work.share member.new.reports.items
+        (C.spent all member.old.worker.context) (C.spent all member.new.worker.context) result.0 own.new }
+    ensures back { let work = team.now.work in
+        CameBack (C.cell work.cells.now) work.share work.table.now (vec_len roster.old.rooms) roster.old roster.new }
+    ensures grew { let all = team.now.work.cells.now in
+        Grew (C.cell all) (C.cost all) team.now.work.share roster.old.reports.items roster.new.reports.items
+        (C.kept all home.old) (C.kept all home.new) rest.new result.1 }
+    ensures home { C.open_home team.now.work.cells.now home.new }
+    ensures frame { IsBack roster.old.frame roster.new.frame }
 {
     let mut here = || -> bool
-        requires { IsSync C.row × IsSync G.row × IsSend C.Worker.row
-            × Suits (C.cell cells.now) (C.positions cells.now) (C.width cells.now) (C.shared cells.now) table.now.buffers share 0 share.positions
-            × PartsFit share table.now.parts × IsFresh table.now seat.now × IsGoing false seat.now × (drawn_by seat.now ≡ [])
-            × C.idle cells.now worker.now × HasThreeRows share.job share.width (length own.now)
-            × (mine.now.items ≡ []) × (length table.now.parts ≤ vec_capacity mine.now) }
-        ensures mine { AreDone (C.cell cells.entry.now) share table.entry.now.parts mine.exit.now.items }
-        ensures drawn { map (λ r. r.chunk) mine.exit.now.items ≡ drawn_by seat.exit.now }
-        ensures seat { IsFresh table.entry.now seat.exit.now × IsGoing true seat.exit.now }
-        ensures own { length mine.exit.now.items ≤ length table.entry.now.parts }
-        ensures worker { C.idle cells.entry.now worker.exit.now }
-        ensures spent { AllOk mine.exit.now.items → CostOf (C.cost cells.entry.now) share mine.exit.now.items
-            (C.spent cells.entry.now worker.entry.now) (C.spent cells.entry.now worker.exit.now) }
-        ensures combined { AllOk mine.exit.now.items → AreCombined (C.cell cells.entry.now) share mine.exit.now.items result own.exit.now }
-    { run_turns(cells, gate, table, seat, worker, share, number, own, mine) };
+        requires { let work = team.now.work in let all = work.cells.now in IsSync C.row × IsSync G.row × IsSync R.row × IsSend C.Worker.row
+            × SuitsTable (C.cell all) (C.positions all) (C.width all) (C.shared all) work.table.now work.share
+            × Begins work.table.now member.now.worker.seat member.now.reports × C.idle all member.now.worker.context
+            × HasThreeRows work.share.job work.share.width (length own.now) }
+        ensures through { let work = team.entry.now.work in
+            IsThrough (C.cell work.cells.now) work.share work.table.now member.exit.now.worker.seat member.exit.now.reports }
+        ensures worker { C.idle team.entry.now.work.cells.now member.exit.now.worker.context }
+        ensures told { let all = team.entry.now.work.cells.now in
+            Told (C.cell all) (C.cost all) team.entry.now.work.share member.exit.now.reports.items
+            (C.spent all member.entry.now.worker.context) (C.spent all member.exit.now.worker.context) result own.exit.now }
+    { run_turns(team, member, own) };
     let mut there = || -> Result<bool, Memory>
-        requires { IsSync R.row × IsSync C.row × IsSync G.row × IsSend C.Worker.row × IsSend H.row
-            × Suits (C.cell cells.now) (C.positions cells.now) (C.width cells.now) (C.shared cells.now) table.now.buffers share 0 share.positions
-            × PartsFit share table.now.parts × (frame.now.phase ≡ table.now) × (frame.now.made + vec_len rooms.now ≤ 64)
-            × (number + vec_len rooms.now < 64) × C.open_home cells.now home.now × AreRooms (length table.now.parts) rooms.now.items
-            × HasRowsFor share.job share.width (vec_len rooms.now) (length rest.now) × AreDone (C.cell cells.now) share table.now.parts reports.now.items
-            × AreFrames reports.now.items frame.now × (vec_len reports.now + vec_len rooms.now * length table.now.parts ≤ vec_capacity reports.now) }
-        ensures done { AreDone (C.cell cells.entry.now) share table.entry.now.parts reports.exit.now.items }
-        ensures frames { AreFrames reports.exit.now.items frame.exit.now }
-        ensures grew { Grew (C.cell cells.entry.now) (C.cost cells.entry.now) share reports.entry.now.items reports.exit.now.items
-            (C.kept cells.entry.now home.entry.now) (C.kept cells.entry.now home.exit.now) rest.exit.now result }
-        ensures few { vec_len reports.exit.now ≤ vec_len reports.entry.now + vec_len rooms.entry.now * length table.entry.now.parts }
-        ensures capacity { vec_capacity reports.exit.now ≡ vec_capacity reports.entry.now }
-        ensures home { C.open_home cells.entry.now home.exit.now }
-        ensures frame { IsBack frame.entry.now frame.exit.now }
-    {
-        run_others(
-            rt,
-            cells,
-            gate,
-            table,
-            frame,
-            home,
-            share,
-            number + 1,
-            rooms,
-            rest,
-            reports,
-        )
-    };
-    join_mut(rt, &mut here, &mut there)
+        requires { let work = team.now.work in let all = work.cells.now in IsSync R.row × IsSync C.row × IsSync G.row × IsSend C.Worker.row × IsSend H.row
+            × SuitsTable (C.cell all) (C.positions all) (C.width all) (C.shared all) work.table.now work.share
+            × HasPlaces (C.cell all) work.share work.table.now (vec_len roster.now.rooms) roster.now × C.open_home all home.now
+            × HasRowsFor work.share.job work.share.width (vec_len roster.now.rooms) (length rest.now) }
+        ensures back { let work = team.entry.now.work in
+            CameBack (C.cell work.cells.now) work.share work.table.now (vec_len roster.entry.now.rooms) roster.entry.now roster.exit.now }
+        ensures grew { let all = team.entry.now.work.cells.now in
+            Grew (C.cell all) (C.cost all) team.entry.now.work.share roster.entry.now.reports.items roster.exit.now.reports.items
+            (C.kept all home.entry.now) (C.kept all home.exit.now) rest.exit.now result }
+        ensures home { C.open_home team.entry.now.work.cells.now home.exit.now }
+        ensures frame { IsBack roster.entry.now.frame roster.exit.now.frame }
+    { run_others(team, home, roster, rest) };
+    join_mut(team.rt, &mut here, &mut there)
 }
 
 // How many elements a worker's rows have.

@@ -1,10 +1,11 @@
 // The chunks that a seat draws.
 ghost use Rattle.std.specs.Prelude.{◌≡◌, ℕ, ◌<◌, ◌++◌, [], ◌∷◌, length, slice_get, false, true, Some, MatchOption};
 ghost use Rattle.count_table.specs.Views.{times};
-ghost use Rattle.phase_draws.specs.Crews.{IsFresh, IsGoing, drawn_by};
+ghost use Rattle.phase_chunks.specs.Seats.{IsFresh};
+ghost use Rattle.phase_draws.specs.Crews.{IsGoing, drawn_by};
 
-use crate::share::ChunkPart;
 use count_table::{Phase, WorkerSeat};
+use phase_chunks::ChunkPart;
 
 /// A chunk that was drawn, and its part.
 #[derive(Drop)]

@@ -6,18 +6,16 @@
 #![tactic(auto)]
 
 mod arrays;
-mod cells;
 mod crew;
 mod draws;
 mod folds;
+mod members;
 mod phase;
 mod rooms;
 mod settles;
-mod share;
 mod turns;
-mod worker;
 
 pub use arrays::{PhaseBooks, array_phase};
-pub use cells::PhaseCells;
 pub use folds::fold_phase;
-pub use share::ChunkPart;
+pub use phase::LoopPhase;
+pub use phase_chunks::{ChunkPart, PhaseCells};

@@ -2,7 +2,7 @@
 ghost use Rattle.std.specs.Prelude.{◌≡◌, ◌+◌, ◌*◌, ◌<◌, ◌≤◌, None, length, replicate, IfOk};
 ghost use Rattle.phase_draws.specs.Crews.{HaveRoom};
 
-use crate::share::{ChunkPart, ChunkReport};
+use phase_chunks::{ChunkPart, ChunkReport};
 use sac_base::{Cell, Memory};
 use std::alloc::Global;
 
@@ -12,6 +12,13 @@ pub(crate) struct Rooms {
     pub(crate) mine: Vec<ChunkReport>,
     pub(crate) others: Vec<Vec<ChunkReport>>,
     pub(crate) reports: Vec<ChunkReport>,
+}
+
+/// What a phase begins with: a slot for the part of each chunk, and room for reports.
+#[derive(Drop)]
+pub(crate) struct Begun {
+    pub(crate) slots: Vec<ChunkPart>,
+    pub(crate) rooms: Rooms,
 }
 
 /// How many workers begin: as many as there may be, but no more than chunks.

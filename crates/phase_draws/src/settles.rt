@@ -1,44 +1,46 @@
 // A worker that has drawn until no chunk was left.
-ghost use Rattle.std.specs.Prelude.{◌≡◌, ℕ, ◌+◌, ◌-◌, ◌≤◌, ◌++◌, map, length, true, OnOk, vec_len, vec_capacity};
-ghost use Rattle.phase_draws.specs.Crews.{drawn_by, IsFresh, IsGoing, IsSettled};
+ghost use Rattle.std.specs.Prelude.{◌≡◌, ℕ, ◌+◌, ◌≤◌, ◌++◌, length, OnOk, vec_len, vec_capacity};
+ghost use Rattle.phase_draws.specs.Crews.{IsSettled};
 ghost use Rattle.phase_draws.specs.Reports.{AreFrames};
+ghost use Rattle.phase_draws.specs.Rosters.{IsThrough};
 ghost use Rattle.phase_team.specs.Segments.{Same};
 
-use crate::cells::PhaseCells;
-use crate::share::{ChunkPart, ChunkReport};
+use crate::members::{Member, Roster};
 use crate::turns::gather_reports;
-use count_table::{FrameSeat, Phase, WorkerSeat};
+use phase_chunks::{CellWork, CellWorker, PhaseCells};
 use sac_base::Memory;
 
 /// Takes a worker's seat, its reports and its context back.
-pub(crate) fn settle_worker<H, C: PhaseCells<H>>(
-    cells: &C,
-    table: &Phase<ChunkPart>,
-    frame: &mut FrameSeat<ChunkPart>,
+pub(crate) fn settle_member<H, C: PhaseCells<H>>(
+    work: &CellWork<'_, C>,
     home: &mut H,
-    seat: Option<WorkerSeat<ChunkPart>>,
-    worker: C::Worker,
-    mine: Vec<ChunkReport>,
-    reports: &mut Vec<ChunkReport>,
+    roster: &mut Roster,
+    member: Member<C::Worker>,
 ) -> Result<(), Memory>
-    requires seat { IsFresh table.now seat × IsGoing true seat }
-    requires drawn { map (λ r. r.chunk) mine.items ≡ drawn_by seat }
-    requires frame { frame.old.phase ≡ table.now }
-    requires worker { C.idle cells.now worker }
-    requires home { C.open_home cells.now home.old }
-    requires room { vec_len reports.old + length mine.items ≤ vec_capacity reports.old }
-    requires reports { AreFrames reports.old.items frame.old }
-    ensures reports { reports.new.items ≡ reports.old.items ++ mine.items }
-    ensures frames { AreFrames reports.new.items frame.new }
-    ensures frame { IsSettled frame.old frame.new }
-    ensures home { C.open_home cells.now home.new }
-    ensures kept { OnOk result ((kind : ℕ) → Same kind (C.kept cells.now home.new kind) (C.kept cells.now home.old kind + C.spent cells.now worker kind)) }
-    ensures capacity { vec_capacity reports.new ≡ vec_capacity reports.old }
+    requires through { IsThrough (C.cell work.now.cells.now) work.now.share work.now.table.now member.worker.seat member.reports }
+    requires phase { roster.old.frame.phase ≡ work.now.table.now }
+    requires worker { C.idle work.now.cells.now member.worker.context }
+    requires home { C.open_home work.now.cells.now home.old }
+    requires room { vec_len roster.old.reports + length member.reports.items ≤ vec_capacity roster.old.reports }
+    requires frames { AreFrames roster.old.reports.items roster.old.frame }
+    ensures reports { roster.new.reports.items ≡ roster.old.reports.items ++ member.reports.items }
+    ensures frames { AreFrames roster.new.reports.items roster.new.frame }
+    ensures frame { IsSettled roster.old.frame roster.new.frame }
+    ensures home { C.open_home work.now.cells.now home.new }
+    ensures kept { let all = work.now.cells.now in OnOk result ((kind : ℕ)
+        → Same kind (C.kept all home.new kind) (C.kept all home.old kind + C.spent all member.worker.context kind)) }
+    ensures capacity { vec_capacity roster.new.reports ≡ vec_capacity roster.old.reports }
 {
-    gather_reports(reports, mine);
+    let Member {
+        number: _,
+        worker,
+        reports,
+    } = member;
+    let CellWorker { seat, context } = worker;
+    gather_reports(&mut roster.reports, reports);
     match seat {
-        Some(seat) => table.leave(seat, frame),
+        Some(seat) => work.table.leave(seat, &mut roster.frame),
         None => unreachable!(),
     }
-    cells.finish(worker, home)
+    work.cells.finish(context, home)
 }

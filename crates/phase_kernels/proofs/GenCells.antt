@@ -13,7 +13,8 @@ use Rattle.counted_code.specs.declared.tree.CodeGen.{CodeGen}
 use Rattle.counted_code.specs.Terms.{core_of, core_of_gens}
 use Rattle.counted_code.specs.View.{code_term}
 use Rattle.kernel_rows.specs.declared.kernels.CellKernel.{CellKernel}
-use Rattle.kernel_rows.specs.Kernels.{AreCellKernels, Body, CellFaults, CellIs, HoldsFirst, body_env}
+use Rattle.kernel_rows.specs.Kernels.{AreCellKernels, Body, CellFaults, CellIs, body_env}
+use Rattle.loop_code.specs.Runs.{HoldsFirst}
 use Rattle.kernel_rows.proofs.Bodies.{BodyAnswers, body_of, fault_answers, first_behind, value_answers}
 use Rattle.phase_checks.specs.Terms.{gen_head, gens_term}
 use Rattle.phase_laws.specs.Spending.{CallSpending, gens_take, spends}

@@ -1,5 +1,6 @@
 mod GenCells
 pub mod Named
 mod PartCells
-mod Ranges
+mod Placed
 mod Rows
+mod SourceCells

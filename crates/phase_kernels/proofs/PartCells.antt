@@ -15,12 +15,14 @@ use Rattle.counted_code.specs.declared.tree.CodePart.{CodePart}
 use Rattle.counted_code.specs.Terms.{core_of, core_of_parts}
 use Rattle.counted_code.specs.View.{code_term}
 use Rattle.kernel_rows.specs.declared.kernels.CellKernel.{CellKernel}
-use Rattle.kernel_rows.specs.Kernels.{AreCellKernels, Body, CellFaults, CellIs, HoldsFirst, body_env}
+use Rattle.kernel_rows.specs.Kernels.{AreCellKernels, Body, CellFaults, CellIs, body_env}
+use Rattle.loop_code.specs.Runs.{HoldsFirst}
 use Rattle.kernel_rows.proofs.Bodies.{BodyAnswers, body_of, fault_answers, first_behind, value_answers}
 use Rattle.phase_checks.specs.Terms.{parts_term}
 use Rattle.phase_laws.specs.Spending.{CallSpending, parts_take, spends}
 use Rattle.phase_loop_cells.specs.Cells.{as_cell}
-use Rattle.phase_kernels.specs.Bodies.{AreRanges, part_body}
+use Rattle.phase_loop_cells.specs.Ranges.{AreRanges}
+use Rattle.phase_kernels.specs.Bodies.{part_body}
 
 module _ (calls : CallMeaning) (turns : ℕ) (call_spends : CallSpending) (e : Env) (form : ArrayValue) (v : List ℤ) where
   abbrev part_cell : CodePart → Ends (Option ArrayValue)

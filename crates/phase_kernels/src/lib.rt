@@ -1,14 +1,12 @@
 //! The cells of with-loops and of parted loops as kernels, where their blocks have some.
 #![tactic(auto)]
 
-mod gens;
+mod cells;
 mod kernels;
-mod parts;
 mod scope;
 mod scratch;
 
-pub use gens::KernelCells;
-pub use kernels::{gen_kernels, part_kernels, part_ranges};
-pub use parts::KernelParts;
+pub use cells::KernelCells;
+pub use kernels::source_kernels;
 pub use scope::{Scope, scope_of};
 pub use scratch::KernelScratch;

@@ -1,15 +1,14 @@
 //! What a worker has besides its store.
 
 ghost use Rattle.std.specs.Prelude.{◌≡◌, ◌∷◌, [], IfSome, IsTrue};
-ghost use Rattle.run_values.specs.Scopes.{current};
+ghost use Rattle.phase_loop_cells.specs.Ready.{IsReady};
 
 use array_with_loops::Range;
 use kernel_buffers::Buffer;
 use kernel_rows::{CellKernel, KernelRoom};
-use phase_loop_cells::CellScratch;
-use run_values::Frames;
+use phase_cells::CellRuns;
+use phase_loop_cells::{CellScratch, LoopCells};
 use sac_base::{Cell, Memory};
-use std::alloc::Global;
 
 /// What a worker has besides its store: what the evaluator needs, once it has run a cell, the ranges of parts, the kernel of each
 /// generator or part, the buffers that kernels read, and room for their runs.
@@ -24,15 +23,14 @@ pub struct KernelScratch<'a> {
 
 /// Makes what the evaluator needs, if it is not there: it has a copy of the call's variables, which kernels do without.
 pub(crate) fn begin_once(
-    alloc: Global,
-    frames: &Frames,
+    cells: &LoopCells<'_>,
     scratch: &mut Option<CellScratch>,
 ) -> Result<(), Memory>
-    requires { IfSome scratch.old (λ s. current s.frames ≡ current frames.now) }
-    ensures { IfSome scratch.new (λ s. current s.frames ≡ current frames.now) }
+    requires { IfSome scratch.old (IsReady cells.now) }
+    ensures { IfSome scratch.new (IsReady cells.now) }
 {
     if scratch.is_none() {
-        *scratch = Some(CellScratch::of(frames, alloc)?);
+        *scratch = Some(cells.begin()?);
     }
     Ok(())
 }

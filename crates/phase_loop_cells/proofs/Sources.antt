@@ -24,8 +24,11 @@ use Rattle.sac_base.specs.Grids.{has_vector}
 use Rattle.sac_base.specs.WithLoops.{Range, holds, cell_at as with_cell_at}
 use Rattle.run_eval.specs.declared.state.Context.{Context}
 use Rattle.phase_checks.specs.Terms.{gens_term, parts_term}
-use Rattle.phase_loop_cells.specs.Opened.{IsOpen, GensIn, PartsIn, OpenGens, OpenParts, meaning_in, spending_in, lent_env}
-use Rattle.run_eval.specs.Loops.{held, part_held, gen_source, part_source, source_in, part_source_in}
+use Rattle.phase_loop_cells.specs.Cells.{source_means, source_takes}
+use Rattle.phase_loop_cells.specs.Opened.{IsOpen, GensIn, PartsIn, OpenGens, OpenParts, OpenSource, meaning_in, spending_in, lent_env}
+use Rattle.run_eval.specs.declared.cell_loop.CellSource.{CellSource}
+use Rattle.run_eval.specs.declared.cell_loop.CellSource.TheVariants.{Generators, Parts}
+use Rattle.run_eval.specs.Loops.{held, part_held, gen_source, part_source, source_at, source_in, part_source_in}
 use Rattle.run_eval.specs.Running.{calls_in}
 use Rattle.phase_loop_cells.proofs.Numbered.{LeavesAs, leaves_as, cell_blind}
 
@@ -115,3 +118,14 @@ module _ (context : Context) (lends : HeapValue) (e : Values) (parts : List Code
   parts_grown form v =
       subst (λ s. EndsGrown (quiet k) (cell_does form s (quiet k))) (parts_same context e parts v)
       (cell_grows form (part_holder (code_cells (calls_in context) context.turns (parts_term parts) e) v) (parts_grow (calls_in context) context.turns (calls_grow parts_code context.turns context.left context.nest) (parts_term parts) e v) (quiet k))
+
+-- ---- cells of a source
+
+module _ (context : Context) (lends : HeapValue) (e : Values) where
+  pub source_alone : (source : CellSource) (k : Heap) (is : OpenSource context lends e source k) (form : Form) (ranges : List Range) (v : List ℤ) → LeavesAs is.holding is.taken (source_takes context lends e source ranges v) (quiet k) (cell_does form (source_at context e source ranges v) (quiet k)) (source_means context lends e source form ranges v)
+  source_alone (Generators gens) k is form ranges v = gens_alone context lends e gens.now k is form ranges v
+  source_alone (Parts parts) k is form ranges v = parts_alone context lends e parts.now k is form v
+
+  pub source_grown : (source : CellSource) (k : Heap) (is : OpenSource context lends e source k) (form : Form) (ranges : List Range) (v : List ℤ) → EndsGrown (quiet k) (cell_does form (source_at context e source ranges v) (quiet k))
+  source_grown (Generators gens) k is form ranges v = gens_grown context lends e gens.now k is form ranges v
+  source_grown (Parts parts) k is form ranges v = parts_grown context lends e parts.now k is form v

@@ -1,9 +1,9 @@
 -- What the cells of a loop come to for a worker.
-use Rattle.std.specs.Prelude.{◌≡◌, ℕ, Bool, true, false, List, [], ℤ, Option, Some, None, option_map, Result, Ok, Err, slice_index_or, ⊤}
+use Rattle.std.specs.Prelude.{◌≡◌, ℕ, Bool, true, false, List, [], ℤ, Option, Some, None, option_map, Result, Ok, Err, ◌*◌, take, drop, slice_index_or, ⊤}
 use Rattle.sac_base.specs.declared.form.Form.{Form}
 use Rattle.sac_base.specs.Arrays.{ArrayValue}
 use Rattle.sac_base.specs.Outcomes.{Ends}
-use Rattle.sac_base.specs.WithLoops.{cell_at as with_cell_at}
+use Rattle.sac_base.specs.WithLoops.{Range, cell_at as with_cell_at}
 use Rattle.buffer_heap.specs.Heaps.{HeapValue}
 use Rattle.core_ir.specs.Meaning.{generators, cells, cell_form, cell_at as part_cell_at}
 use Rattle.counted_code.specs.declared.tree.CodeGen.{CodeGen}
@@ -15,7 +15,6 @@ use Rattle.counted_code.specs.Values.{Heap, Value, Ended, Done, Failed, read}
 use Rattle.phase_laws.specs.Spending.{gens_take, parts_take}
 use Rattle.run_store.specs.Stands.{Stands}
 use Rattle.run_store.specs.declared.store.Store.{Store}
-use Rattle.array_with_loops.specs.Cells.{cell_from}
 use Rattle.array_with_loops.specs.declared.plans.Plan.{Plan}
 use Rattle.sac_base.specs.declared.stop.Stop.{Stop}
 use Rattle.sac_base.specs.declared.stop.Stop.TheVariants.{Faulted, Memory}
@@ -24,16 +23,23 @@ use Rattle.phase_team.specs.Segments.{value_if}
 use Rattle.phase_team.specs.declared.cells.CellEnd.{CellEnd}
 use Rattle.phase_team.specs.declared.cells.CellEnd.TheVariants as end
 use Rattle.phase_loop_cells.specs.declared.copies.Background.{Background}
+use Rattle.run_eval.specs.declared.cell_loop.CellSource.{CellSource}
+use Rattle.run_eval.specs.declared.cell_loop.CellSource.TheVariants.{Generators, Parts}
 use Rattle.run_eval.specs.declared.state.Context.{Context}
 use Rattle.run_eval.specs.declared.state.State.{State}
 use Rattle.phase_checks.specs.Terms.{gens_term, parts_term}
 use Rattle.phase_loop_cells.specs.Opened.{meaning_in, spending_in, lent_env}
 use Rattle.run_eval.specs.Running.{IsAt}
 
+-- the elements at a place of an old array, or those of a default
+abbrev pub stands_at : Bool → List ℤ → (size place : ℕ) → List ℤ
+stands_at true elements size place = take size (drop (place * size) elements)
+stands_at false elements size place = elements
+
 -- what stands at a place where an index has no cell
 abbrev pub fill_at : Option Background → ℕ → Option (List ℤ)
 fill_at None place = None
-fill_at (Some b) place = Some (cell_from b.old b.array.now b.size place None)
+fill_at (Some b) place = Some (stands_at b.old b.cells.now b.size place)
 
 abbrev pub elements_or : Option (List ℤ) → Option ArrayValue → Option (List ℤ)
 elements_or fill None = fill
@@ -47,9 +53,31 @@ as_cell fill (Err f) = Err f
 abbrev pub index_at : List (List ℤ) → ℕ → List ℤ
 index_at indices place = slice_index_or indices place []
 
--- ---- with-loops
+-- ---- cells of a source
 
--- what the cell of a position comes to, and how many buffers it takes
+-- what the cell of an index comes to, and how many buffers it takes. The ranges are those of generators
+abbrev pub source_means : Context → HeapValue → Values → CellSource → Form → List Range → List ℤ → Ends (Option ArrayValue)
+source_means context lends e (Generators gens) form ranges index =
+    with_cell_at form (generators (meaning_in context) context.turns (core_of_gens (gens_term gens.now)) (lent_env lends e)) ranges index
+source_means context lends e (Parts parts) form ranges index =
+    part_cell_at (cell_form form.base form.shape) (cells (meaning_in context) context.turns (core_of_parts (parts_term parts.now)) (lent_env lends e)) index
+
+abbrev pub source_takes : Context → HeapValue → Values → CellSource → List Range → List ℤ → ℕ
+source_takes context lends e (Generators gens) ranges index =
+    gens_take (meaning_in context) context.turns (spending_in context) (gens_term gens.now) (lent_env lends e) ranges index
+source_takes context lends e (Parts parts) ranges index =
+    parts_take (meaning_in context) context.turns (spending_in context) (parts_term parts.now) (lent_env lends e) index
+
+-- the same of a position
+abbrev pub source_cell : Context → HeapValue → Values → CellSource → Plan → Option Background → ℕ → CellValue
+source_cell context lends e source plan background place =
+    as_cell (fill_at background place) (source_means context lends e source plan.form plan.ranges.items (index_at plan.frame place))
+
+abbrev pub source_taken : Context → HeapValue → Values → CellSource → Plan → ℕ → ℕ
+source_taken context lends e source plan place = source_takes context lends e source plan.ranges.items (index_at plan.frame place)
+
+-- ---- cells of with-loops
+
 abbrev pub gens_cell : Context → HeapValue → Values → List CodeGen → Plan → Option Background → ℕ → CellValue
 gens_cell context lends e gens plan background place =
     as_cell (fill_at background place)
@@ -60,7 +88,7 @@ abbrev pub gens_taken : Context → HeapValue → Values → List CodeGen → Pl
 gens_taken context lends e gens plan place =
     gens_take (meaning_in context) context.turns (spending_in context) (gens_term gens) (lent_env lends e) plan.ranges.items (index_at plan.frame place)
 
--- ---- parted loops
+-- ---- cells of parted loops
 
 abbrev pub parts_cell : Context → HeapValue → Values → List CodePart → Form → List (List ℤ) → ℕ → CellValue
 parts_cell context lends e parts form indices place =

@@ -1,2 +1,5 @@
 pub mod Cells
 pub mod Opened
+pub mod Ranges
+pub mod Ready
+pub mod Walks

@@ -16,6 +16,8 @@ use Rattle.reach_checks.specs.Loops.{ClearGens, ClearParts}
 use Rattle.phase_laws.specs.Alone.{Readable}
 use Rattle.phase_laws.specs.Spending.{CallSpending, calls_spend, deeper_spends, inline_spends}
 use Rattle.sac_base.specs.Arrays.{ArrayValue}
+use Rattle.run_eval.specs.declared.cell_loop.CellSource.{CellSource}
+use Rattle.run_eval.specs.declared.cell_loop.CellSource.TheVariants.{Generators, Parts}
 use Rattle.run_eval.specs.declared.state.Context.{Context}
 use Rattle.phase_checks.specs.Terms.{gens_term, parts_term}
 
@@ -84,3 +86,12 @@ OpenGens context lends e gens k =
 abbrev pub OpenParts : Context → HeapValue → Values → List CodePart → Heap → Type 0
 OpenParts context lends e parts k =
     IsOpen (PartsIn (code_program context.code.now) (parts_term parts)) (code_program context.code.now) lends e k
+
+-- the same of a source of cells
+abbrev pub SourceIn : CodeProgram → CellSource → List Var → Type 0
+SourceIn code (Generators gens) = GensIn code (gens_term gens.now)
+SourceIn code (Parts parts) = PartsIn code (parts_term parts.now)
+
+abbrev pub OpenSource : Context → HeapValue → Values → CellSource → Heap → Type 0
+OpenSource context lends e source k =
+    IsOpen (SourceIn (code_program context.code.now) source) (code_program context.code.now) lends e k

@@ -1,22 +1,22 @@
 //! Cells that are copied out of a store.
 
-ghost use Rattle.std.specs.Prelude.{◌≡◌, ◌∷◌, None, option_map, IfOk, OnOk};
+ghost use Rattle.std.specs.Prelude.{◌≡◌, option_map, IfOk, OnOk};
 ghost use Rattle.counted_code.specs.Values.{Heap as MachineHeap};
-ghost use Rattle.phase_loop_cells.specs.Cells.{IsPut, end_of, fill_at};
+ghost use Rattle.phase_loop_cells.specs.Cells.{IsPut, end_of, fill_at, stands_at};
 ghost use Rattle.run_store.specs.Stands.{Stands, lender_of};
 ghost use Rattle.run_values.specs.Shown.{value_of};
-ghost use Rattle.array_with_loops.specs.Cells.{cell_from};
 ghost use Rattle.phase_team.specs.Segments.{value_if};
 
 use phase_team::CellEnd;
 use run_store::{Store, copy_into, release};
 use run_values::RunValue;
-use sac_base::{Array, Cell, Memory, Stop};
+use sac_base::{Cell, Memory, Stop};
 
-/// What stands where an index has no cell: the cells of an old array, or those of a default. A cell has so many elements.
+/// What stands where an index has no cell: the elements of an old array, where they lie, or those of a default. A cell has so
+/// many elements.
 #[derive(Clone, Copy)]
 pub struct Background<'a> {
-    pub array: &'a Array,
+    pub cells: &'a [Cell],
     pub old: bool,
     pub size: usize,
 }
@@ -57,9 +57,9 @@ fn fill(background: Option<Background<'_>>, place: usize, into: &mut [Cell]) -> 
 }
 
 fn fill_from(background: &Background<'_>, place: usize, into: &mut [Cell]) -> Result<(), Memory>
-    ensures { OnOk result (into.new ≡ cell_from background.now.old background.now.array.now background.now.size place None) }
+    ensures { OnOk result (into.new ≡ stands_at background.now.old background.now.cells.now background.now.size place) }
 {
-    let stands = background.array.cells();
+    let stands = background.cells;
     if !background.old {
         return copy_all(stands, into);
     }

@@ -2,14 +2,16 @@
 #![tactic(auto)]
 
 mod copies;
-mod gens;
-mod parts;
+mod loops;
+mod ranges;
 mod scratch;
+mod walk;
 
 pub use copies::Background;
-pub use gens::WithCells;
-pub use parts::PartCells;
+pub use loops::LoopCells;
+pub use ranges::{made_ranges, part_ranges, source_ranges};
 pub use scratch::CellScratch;
+pub use walk::Walk;
 
 #[cfg(test)]
 mod tests;

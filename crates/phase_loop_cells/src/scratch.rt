@@ -1,29 +1,37 @@
 //! What a worker has besides its store.
 
 ghost use Rattle.std.specs.Prelude.{◌≡◌, IfOk};
+ghost use Rattle.phase_loop_cells.specs.Walks.{IsWalk};
 ghost use Rattle.run_values.specs.Scopes.{current};
 
-use array_with_loops::IndexVector;
+use crate::walk::Walk;
+use array_with_loops::Plan;
+use run_eval::CellSource;
 use run_values::Frames;
 use sac_base::Memory;
 use std::alloc::Global;
 
-/// What a worker has besides its store: the variables of the call, and a vector for the index of each cell in turn, so
-/// that no cell needs one of its own.
+/// What a worker has besides its store: the variables of the call, and where it is, so that no cell needs an index or a
+/// search of its own.
 #[derive(Drop)]
 pub struct CellScratch {
     pub frames: Frames,
-    pub index: IndexVector,
+    pub walk: Walk,
 }
 
 impl CellScratch {
-    /// A copy of the variables of the call that runs.
-    pub fn of(frames: &Frames, alloc: Global) -> Result<CellScratch, Memory>
-        ensures { IfOk result (λ scratch. current scratch.frames ≡ current frames.now) }
+    /// A copy of the variables of the call that runs, before the first cell of a source.
+    pub fn of(
+        frames: &Frames,
+        source: &CellSource<'_>,
+        plan: &Plan,
+        alloc: Global,
+    ) -> Result<CellScratch, Memory>
+        ensures { IfOk result (λ scratch. (current scratch.frames ≡ current frames.now) × IsWalk source.now plan.now scratch.walk) }
     {
         Ok(CellScratch {
             frames: frames.copy(alloc)?,
-            index: IndexVector::new(alloc),
+            walk: Walk::new(alloc, source, plan)?,
         })
     }
 }

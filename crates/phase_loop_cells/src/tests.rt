@@ -2,11 +2,13 @@ ghost use Rattle.std.specs.Prelude.{◌≤◌, length};
 
 use crate::copies::{Background, put};
 use crate::scratch::CellScratch;
+use array_with_loops::{Frame, Plan};
 use buffer_heap::Heap;
 use core_ir::Var;
+use run_eval::CellSource;
 use run_store::{Store, place_own};
 use run_values::{Frames, RunValue};
-use sac_base::{Array, Base, Cell, Memory};
+use sac_base::{Array, Base, Cell, Form, Memory, Shape};
 use std::alloc::Global;
 use std::test::Fail;
 
@@ -37,18 +39,18 @@ fn old_cells_or_a_default_stand_where_there_is_none(rt: HostRuntime) -> Result<(
     let alloc = rt.alloc();
     let mut store = Store::of(Heap::new(alloc));
     let mut into: [Cell; 2] = [0; 2];
-    let six = numbers(alloc, &[1, 2, 3, 4, 5, 6])?;
+    let six: [Cell; 6] = [1, 2, 3, 4, 5, 6];
     let old = Background {
-        array: &six,
+        cells: &six,
         old: true,
         size: 2,
     };
     assert_eq!(rt; put(&mut store, None, Some(old), 1, &mut into), Ok(true));
     assert_eq!(rt; into, [3, 4]);
     assert_eq!(rt; put(&mut store, None, Some(old), 3, &mut into), Err(Memory));
-    let pair = numbers(alloc, &[8, 9])?;
+    let pair: [Cell; 2] = [8, 9];
     let default = Background {
-        array: &pair,
+        cells: &pair,
         old: false,
         size: 2,
     };
@@ -66,9 +68,18 @@ fn a_worker_begins_with_the_variables_of_the_call(rt: HostRuntime) -> Result<(),
     let alloc = rt.alloc();
     let mut frames = Frames::new(alloc);
     frames.bind(Var(3), RunValue::Word(Base::Int, 7))?;
-    let scratch = CellScratch::of(&frames, alloc)?;
+    let plan = Plan {
+        ranges: Vec::new(alloc),
+        frame: Frame::of_shape(alloc, &Shape::empty(alloc))?,
+        form: Form {
+            base: Base::Int,
+            shape: Shape::empty(alloc),
+        },
+        shape: Shape::empty(alloc),
+    };
+    let scratch = CellScratch::of(&frames, &CellSource::Parts(&[]), &plan, alloc)?;
     let value = scratch.frames.get(Var(3));
     assert!(rt; matches!(value, RunValue::Word(Base::Int, 7)));
-    assert_eq!(rt; scratch.index.components().len(), 0);
+    assert_eq!(rt; scratch.walk.index().len(), 0);
     Ok(())
 }

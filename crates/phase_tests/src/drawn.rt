@@ -2,7 +2,7 @@ ghost use Rattle.std.specs.Prelude.{◌≡◌, ℕ, ◌+◌, ◌%◌, ◌≤◌,
 
 use count_table::{Phase, Tally, WorkerSeat};
 use index_cutter::Cutting;
-use phase_draws::{ChunkPart, PhaseBooks, PhaseCells, array_phase, fold_phase};
+use phase_draws::{ChunkPart, LoopPhase, PhaseBooks, PhaseCells, array_phase, fold_phase};
 use phase_team::{CellEnd, Gate, NoGate};
 use sac_base::{Base, Cell, Memory, Op, Stop};
 use std::alloc::Global;
@@ -84,18 +84,16 @@ fn stored<G: Gate, R: Threads + Sync>(
         tally: Tally::new(),
     };
     let numbers = Numbers { count };
-    Ok(array_phase(
+    let phase = LoopPhase {
         rt,
         alloc,
-        &numbers,
+        cells: &numbers,
         gate,
-        Cutting::of(workers, chunk),
+        cutting: Cutting::of(workers, chunk),
         workers,
-        books,
-        count,
-        1,
-        buffer,
-    ))
+        positions: count,
+    };
+    Ok(array_phase(phase, books, 1, buffer))
 }
 
 const TEAMS: [(u32, Option<u64>); 5] = [
@@ -122,20 +120,24 @@ fn drawn_cells_are_added_to_the_neutral_value(rt: HostRuntime) -> Result<(), Fai
     let mut tally = Tally::new();
     for (workers, chunk) in TEAMS {
         let (mut home, mut value) = (0, [5]);
-        let end = fold_phase(
-            &rt,
-            rt.alloc(),
-            &Numbers { count: 10 },
-            &NoGate,
-            Cutting::of(workers, chunk),
+        let numbers = Numbers { count: 10 };
+        let phase = LoopPhase {
+            rt: &rt,
+            alloc: rt.alloc(),
+            cells: &numbers,
+            gate: &NoGate,
+            cutting: Cutting::of(workers, chunk),
             workers,
+            positions: 10,
+        };
+        let end = fold_phase(
+            phase,
             &mut home,
             &mut [1],
-            10,
+            &mut tally,
             Base::Int,
             Op::Add,
             &mut value,
-            &mut tally,
         );
         assert!(rt; end.is_ok() && home == 10 && value == [50]);
     }

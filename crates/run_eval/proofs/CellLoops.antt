@@ -92,15 +92,16 @@ module _ (context : Context) (w : CellLoop) (s s0 : State) (t : machine.Target) 
 module _ (context : Context) (e : Values) (m : Heap) (w : CellLoop) (r : Result RunValue Stop) (t : State) where
   -- the result of a loop that is no other than this
   pub made_as : (made : LoopResult) (folds : Bool) (result : Cells → ArrayValue) → w.result ≡ made → folds_of made ≡ folds
-      → ((found : Cells) → result_of made (plan_of w.plan.now) found ≡ result found)
+      → ((found : Cells) → result_of m made (plan_of w.plan.now) found ≡ result found)
       → Told IsValue r t (job_does None (cells_job context e m w folds result) m) → Told IsValue r t (job_does None (job_of context e m w) m)
   made_as made folds result is same results told =
-      subst (λ made. Told IsValue r t (job_does None (cells_job context e m w (folds_of made) (result_of made (plan_of w.plan.now))) m)) (sym is)
+      subst (λ made. Told IsValue r t (job_does None (cells_job context e m w (folds_of made) (result_of m made (plan_of w.plan.now))) m)) (sym is)
       (subst (Told IsValue r t) (λ i. job_does None (cells_job context e m w (sym same i) (λ found. sym (results found) i)) m) told)
 
-  pub filled_as : (b : Background) (base : Base) → w.result ≡ Filled b.array b.old → base ≡ b.array.now.base → b.size ≡ size w.plan.now.form.shape
+  pub filled_as : (b : Background) (v : RunValue) (base : Base) → w.result ≡ Filled v b.old → b.array.now ≡ read m (value_of v) → base ≡ b.array.now.base → b.size ≡ size w.plan.now.form.shape
       → Told IsValue r t (job_does None (cells_job context e m w false (array_over base w.plan.now.shape (Some b))) m)
       → Told IsValue r t (job_does None (job_of context e m w) m)
-  filled_as b base is based sized told =
-      made_as (Filled b.array b.old) false (array_over base w.plan.now.shape (Some b)) is refl
-      (λ found i. record { base = sym based i; shape = w.plan.now.shape; cells = cells_from b.old b.array.now (sym sized i) 0 found }) told
+  filled_as b v base is copied based sized told =
+      let bases : base ≡ (read m (value_of v)).base = based ∙ ap (λ (a : ArrayValue). a.base) copied in
+      made_as (Filled v b.old) false (array_over base w.plan.now.shape (Some b)) is refl
+      (λ found i. record { base = sym bases i; shape = w.plan.now.shape; cells = cells_from b.old (sym copied i) (sym sized i) 0 found }) told

@@ -12,6 +12,7 @@ pub mod Found
 pub mod InPlace
 pub mod MarkedJobs
 pub mod Measures
+pub mod OldArrays
 pub mod PartFrames
 pub mod PartJobs
 pub mod Sizes

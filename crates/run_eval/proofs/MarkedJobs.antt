@@ -101,7 +101,7 @@ pub joined_as : (context : Context) (e : Values) (m : Heap) (w : CellLoop) (r : 
     → Told IsValue r t (job_does (Some v) (cells_job context e m w false (joined w.plan.now.form.base w.plan.now.shape)) m)
     → Told IsValue r t (job_does (Some v) (job_of context e m w) m)
 joined_as context e m w r t v is told =
-    subst (λ made. Told IsValue r t (job_does (Some v) (cells_job context e m w (folds_of made) (result_of made (plan_of w.plan.now))) m)) (sym is) told
+    subst (λ made. Told IsValue r t (job_does (Some v) (cells_job context e m w (folds_of made) (result_of m made (plan_of w.plan.now))) m)) (sym is) told
 
 -- ---- parted loops with a mark, by what their check has planned
 

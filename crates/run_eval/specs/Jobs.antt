@@ -9,7 +9,7 @@ use Rattle.core_fold.specs.Cells.{IsBox}
 use Rattle.core_ir.specs.Meaning.{elements_of, extents, joined}
 use Rattle.counted_code.specs.Loops.{Job, Source, holder, job_does, part_holder}
 use Rattle.counted_code.specs.Machine.{Values}
-use Rattle.counted_code.specs.Values.{Heap, Value, Ended, is_small}
+use Rattle.counted_code.specs.Values.{Heap, Value, Ended, is_small, read}
 use Rattle.array_with_loops.specs.Cells.{array_from, cell_from, cells_from}
 use Rattle.array_with_loops.specs.Plans.{plan_of}
 use Rattle.run_eval.specs.declared.cell_loop.CellLoop.{CellLoop}
@@ -21,20 +21,21 @@ use Rattle.run_eval.specs.declared.cells.Background.{Background}
 use Rattle.run_eval.specs.declared.state.Context.{Context}
 use Rattle.run_eval.specs.Running.{cells_in, generator_in}
 use Rattle.run_over.specs.Soles.{is_only}
+use Rattle.run_values.specs.Shown.{value_of}
 
 -- where the machine's cells come from
 abbrev pub source_of : Context → Values → Heap → CellSource → List Range → List ℤ → Option Source
 source_of context e k (Generators gens) ranges = holder (map (generator_in context e k) gens.now) ranges
 source_of context e k (Parts parts) ranges = part_holder (map (cells_in context e) parts.now)
 
--- what is made of its cells
-abbrev pub result_of : LoopResult → Plan → List (Option ArrayValue) → ArrayValue
-result_of (Filled array old) p = array_from old array.now p
-result_of Joined p = joined p.form.base p.shape
-result_of (Folded op neutral) p = fold (combined op) neutral.now
+-- what is made of its cells, where the loop begins in this heap
+abbrev pub result_of : Heap → LoopResult → Plan → List (Option ArrayValue) → ArrayValue
+result_of k (Filled v old) p = array_from old (read k (value_of v)) p
+result_of k Joined p = joined p.form.base p.shape
+result_of k (Folded op neutral) p = fold (combined op) neutral.now
 
 abbrev pub folds_of : LoopResult → Bool
-folds_of (Filled array old) = false
+folds_of (Filled v old) = false
 folds_of Joined = false
 folds_of (Folded op neutral) = true
 
@@ -50,7 +51,7 @@ cells_job context e k work folds result =
     }
 
 abbrev pub job_of : Context → Values → Heap → CellLoop → Job
-job_of context e k work = cells_job context e k work (folds_of work.result) (result_of work.result (plan_of work.plan.now))
+job_of context e k work = cells_job context e k work (folds_of work.result) (result_of k work.result (plan_of work.plan.now))
 
 -- ---- arrays over that of a marked variable
 

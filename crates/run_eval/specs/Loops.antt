@@ -1,11 +1,12 @@
 -- Loops over cells as the evaluator runs them: nothing is written into the heap before the last cell, but where the loop is marked.
-use Rattle.std.specs.Prelude.{◌≡◌, ◌≤ℤ◌, pos, negsuc, ℕ, List, [], ◌∷◌, ◌++◌, ℤ, Option, Some, None, if◌then◌else◌, map, option_map}
+use Rattle.std.specs.Prelude.{◌≡◌, ◌≤ℤ◌, pos, negsuc, ℕ, List, [], ◌∷◌, ◌++◌, ℤ, Option, Some, None}
+use Rattle.std.specs.Prelude.{if◌then◌else◌, length, map, option_map, slice_get, ⊤}
 use Rattle.sac_base.specs.declared.base.Base.{Base}
 use Rattle.sac_base.specs.declared.base.Base.TheVariants.{Int}
 use Rattle.sac_base.specs.declared.form.Form.{Form}
 use Rattle.sac_base.specs.declared.grid.Grid1.{Grid1}
 use Rattle.sac_base.specs.declared.site.Site.{Site}
-use Rattle.sac_base.specs.Arrays.{ArrayValue, scalar, vector}
+use Rattle.sac_base.specs.Arrays.{ArrayValue, scalar, size, vector}
 use Rattle.sac_base.specs.Grids.{has_vector, members}
 use Rattle.sac_base.specs.WithLoops.{Plan, Range, holds}
 use Rattle.core_ir.specs.declared.tree.PartedOp.{PartedOp}
@@ -18,7 +19,7 @@ use Rattle.counted_code.specs.declared.tree.CodePart.{CodePart}
 use Rattle.counted_code.specs.Loops as machine
 use Rattle.counted_code.specs.Loops.{Source, Claimed, Inside, Old, cell_does, cells_do, write_cell}
 use Rattle.counted_code.specs.Machine.{Values, bind_value, bind_values, with_index_value, first_value}
-use Rattle.counted_code.specs.Values.{Value, Small, Doing, give, then_go, apart}
+use Rattle.counted_code.specs.Values.{Heap, Value, Small, Ref, Doing, cells_of, give, then_go, apart}
 use Rattle.counted_code.specs.View.{code_term}
 use Rattle.run_store.specs.Targets.{target_of}
 use Rattle.run_store.specs.declared.target.Target.{Target}
@@ -81,6 +82,11 @@ abbrev pub held_body : CellSource → List Range → List ℤ → Option Body
 held_body (Generators gens) ranges v = option_map gen_body (held gens.now ranges v)
 held_body (Parts parts) ranges v = option_map part_body (part_held parts.now v)
 
+-- the body of the generator or part at a place
+abbrev pub placed_body : CellSource → ℕ → Option Body
+placed_body (Generators gens) k = option_map gen_body (slice_get gens.now k)
+placed_body (Parts parts) k = option_map part_body (slice_get parts.now k)
+
 -- the variables of a body
 abbrev pub body_env : Values → Body → List ℤ → Values
 body_env e b index = bind_values (bind_value e b.index (Small (vector Int index))) b.names (map (λ z. Small (scalar Int z)) index)
@@ -88,6 +94,9 @@ body_env e b index = bind_values (bind_value e b.index (Small (vector Int index)
 abbrev pub body_source : Context → Values → List ℤ → Body → Source
 body_source context e index b =
     record { cell = first_value (does_in context (code_term b.block) (body_env e b index)); site = b.site }
+
+abbrev pub source_of_body : Context → Values → List ℤ → Option CellBody → Option Source
+source_of_body context e index b = option_map (body_source context e index) (option_map body_of b)
 
 -- where the cells of a loop come from
 abbrev pub source_at : Context → Values → CellSource → List Range → List ℤ → Option Source
@@ -139,6 +148,13 @@ fold_target (Some t) = target_of t
 abbrev pub array_of : Sum → ArrayValue
 array_of (Word base n) = scalar base n
 array_of (Whole a) = a
+
+-- ---- old arrays
+
+-- a buffer has as many cells as an array of this shape
+abbrev pub IsFull : List ℕ → Value → Heap → Type 0
+IsFull shape (Small a) m = ⊤
+IsFull shape (Ref buffer base extents) m = length (cells_of m buffer) ≡ size shape
 
 -- ---- parted loops
 

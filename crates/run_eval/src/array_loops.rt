@@ -13,14 +13,14 @@ ghost use Rattle.std.specs.Prelude.{◌≡◌, ◌++◌, true, false, None, OnOk
 
 use crate::bindings::bind_index;
 use crate::blocks::run_first;
-use crate::bounds::{all_bounds, parted_plan};
+use crate::bounds::{all_bounds, parted_plan, read_shape};
 use crate::cell_loop::{CellBody, CellLoop, CellSource, LoopResult, body_at};
 use crate::cells::{Background, begin, count_elements, finish, formed, put_cell};
 use crate::folds::{Sum, add_cell, begin_fold, finish_fold, start};
 use crate::marked_loops::run_marked;
 use crate::phases::{Outside, Phases};
 use crate::state::{Context, State};
-use array_with_loops::{IndexVector, Range, fold_plan, genarray_plan, modarray_plan};
+use array_with_loops::{IndexVector, Range, fold_plan, genarray_plan, modarray_plan_of};
 use core_ir::{CoreOp, PartedOp};
 use counted_code::{CodeParted, CodeWith};
 use run_store::{fits, read_array};
@@ -47,12 +47,10 @@ pub fn run_with<P: Phases>(
     match with.op {
         CoreOp::Genarray { shape, default } => {
             let shape = read_array(alloc, &state.heap, state.frames.get(shape))?;
-            let default = read_array(alloc, &state.heap, state.frames.get(default))?;
+            let array = state.frames.get(default);
+            let default = read_array(alloc, &state.heap, array)?;
             let plan = genarray_plan(alloc, &bounds, &shape, &default, site)?;
-            let result = LoopResult::Filled {
-                array: &default,
-                old: false,
-            };
+            let result = LoopResult::Filled { array, old: false };
             let work = CellLoop {
                 source,
                 plan: &plan,
@@ -61,12 +59,10 @@ pub fn run_with<P: Phases>(
             run_cell_loop(&work, context, outside, state)
         }
         CoreOp::Modarray { array } => {
-            let array = read_array(alloc, &state.heap, state.frames.get(array))?;
-            let plan = modarray_plan(alloc, &bounds, &array, site)?;
-            let result = LoopResult::Filled {
-                array: &array,
-                old: true,
-            };
+            let array = state.frames.get(array);
+            let shape = read_shape(alloc, &state.heap, &array)?;
+            let plan = modarray_plan_of(alloc, &bounds, array.base(), &shape, site)?;
+            let result = LoopResult::Filled { array, old: true };
             let work = CellLoop {
                 source,
                 plan: &plan,
@@ -159,8 +155,13 @@ pub fn run_cell_loop<P: Phases>(
     }
     match work.result {
         LoopResult::Filled { array, old } => {
+            let array = read_array(context.alloc, &state.heap, array)?;
             let size = count_elements(&work.plan.form.shape)?;
-            let background = Some(Background { array, old, size });
+            let background = Some(Background {
+                array: &array,
+                old,
+                size,
+            });
             run_array(work, array.base(), background, context, outside, state)
         }
         LoopResult::Joined => {
@@ -309,7 +310,7 @@ pub fn loop_cell<P: Phases>(
 
 /// The cell of a body at an index, which must have the form. With-loops within it are no phases.
 #[cycle(run)]
-fn run_cell<P: Phases>(
+pub fn run_cell<P: Phases>(
     body: &CellBody<'_>,
     form: &Form,
     index: &[i32],

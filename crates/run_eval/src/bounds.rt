@@ -1,16 +1,19 @@
 //! The operands of with-loops, and the plans of parted loops.
 
-ghost use Rattle.std.specs.Prelude.{◌≡◌, ◌↔◌, ◌++◌, ◌-ℤ◌, [], IfOk, IfSome, IsTrue, All, map, option_map, pos};
+ghost use Rattle.std.specs.Prelude.{◌≡◌, ◌↔◌, ◌++◌, ◌-ℤ◌, [], IfOk, IfSome, IsTrue, All, map, option_map, pos, unsigned_abs};
 ghost use Rattle.core_fold.specs.Cells.{IsBox};
 ghost use Rattle.core_ir.specs.Meaning.{extents, name_count};
 ghost use Rattle.counted_code.specs.Machine.{bounds_of, reads};
 ghost use Rattle.counted_code.specs.Values.{Heap as MachineHeap};
 ghost use Rattle.array_with_loops.specs.Plans.{plan_of};
 ghost use Rattle.run_eval.specs.Jobs.{AreIndicesOf, BeginsAtZero, IsDense};
-ghost use Rattle.run_eval.specs.Loops.{IsWordAxis, plan_of_parts, shape_of_parts};
+ghost use Rattle.run_eval.specs.Loops.{IsFull, IsWordAxis, plan_of_parts, shape_of_parts};
 ghost use Rattle.run_eval.specs.Running.{gen_head};
 ghost use Rattle.run_store.specs.Stands.{Stands};
+ghost use Rattle.run_values.specs.Numbers.{numbers};
 ghost use Rattle.run_values.specs.Scopes.{current};
+ghost use Rattle.run_values.specs.Shown.{shape_of, value_of};
+ghost use Rattle.sac_base.specs.Arrays.{size};
 ghost use Rattle.sac_base.specs.Grids.{members};
 ghost use Rattle.sac_base.specs.WithLoops.{distance};
 
@@ -18,8 +21,8 @@ use crate::state::{Context, State};
 use array_with_loops::{Bounds, Frame, Plan};
 use core_ir::{PartedOp, Var};
 use counted_code::CodeGen;
-use run_store::read_array;
-use run_values::Few;
+use run_store::{Store, buffer_cells, read_array};
+use run_values::{Few, RunValue};
 use sac_base::{Array, Base, Form, Grid, Grid1, Memory, Shape, elements};
 use std::alloc::Global;
 
@@ -80,6 +83,48 @@ fn operand(
         }
         None => Ok(None),
     }
+}
+
+/// The shape of the array that a value is. A buffer that is not alive, or has another number of cells, counts as want of
+/// memory, as where the array is read.
+pub fn read_shape(alloc: Global, heap: &Store<'_>, value: &RunValue) -> Result<Shape, Memory>
+    ensures shape { IfOk result (λ shape. shape ≡ shape_of (value_of value.now)) }
+    ensures full { (m : MachineHeap) → Stands heap.now m → IfOk result (λ shape. IsFull shape (value_of value.now) m) }
+{
+    let shape = shape_from(alloc, &value.extents())?;
+    if !is_full(heap, value, &shape)? {
+        return Err(Memory);
+    }
+    Ok(shape)
+}
+
+// The shape of these extents.
+fn shape_from(alloc: Global, extents: &Few) -> Result<Shape, Memory>
+    ensures { IfOk result (λ shape. shape ≡ map unsigned_abs (numbers extents.now)) }
+{
+    match Shape::from_extents(alloc, extents.as_slice()) {
+        Some(shape) => Ok(shape),
+        None => Err(Memory),
+    }
+}
+
+// Whether the value's buffer, if it has one, has as many cells as an array of this shape.
+fn is_full(heap: &Store<'_>, value: &RunValue, shape: &Shape) -> Result<bool, Memory>
+    ensures { (m : MachineHeap) → Stands heap.now m → IfOk result (λ full. IsTrue full → IsFull shape.now (value_of value.now) m) }
+{
+    match value {
+        RunValue::Buffer(_, id, _) => {
+            let cells = buffer_cells(heap, *id)?;
+            Ok(has_elements(shape, cells.len()))
+        }
+        _ => Ok(true),
+    }
+}
+
+fn has_elements(shape: &Shape, cells: usize) -> bool
+    ensures { IsTrue result → cells ≡ size shape.now }
+{
+    elements(shape) == Some(cells as u64)
 }
 
 // The members of a frame. One that has gaps, or no array's indices, counts as want of memory.

@@ -1,12 +1,13 @@
 //! Loops over cells whose checks have passed.
 
 ghost use Rattle.std.specs.Prelude.{◌≡◌, option_map};
-ghost use Rattle.run_eval.specs.Loops.{body_of, gen_body, held_body, part_body};
+ghost use Rattle.run_eval.specs.Loops.{body_of, gen_body, held_body, part_body, placed_body};
 
 use crate::holders::{holder, part_holder};
 use array_with_loops::{Plan, Range};
 use core_ir::Var;
 use counted_code::{CodeBlock, CodeGen, CodePart};
+use run_values::RunValue;
 use sac_base::{Array, Op, Site};
 
 /// A loop over cells whose checks have passed.
@@ -32,8 +33,9 @@ pub enum CellSource<'a> {
 /// What is made of the cells of a loop.
 #[derive(Clone, Copy)]
 pub enum LoopResult<'a> {
-    /// An array. Where an index has no cell, the old array's cell stands, or a default.
-    Filled { array: &'a Array, old: bool },
+    /// An array. Where an index has no cell, the old array's cell stands, or a default: an array of the heap in which the loop
+    /// begins.
+    Filled { array: RunValue, old: bool },
     /// An array of the cells alone.
     Joined,
     /// The cells combined, beginning with a neutral value.
@@ -66,7 +68,24 @@ pub fn body_at<'a>(source: &CellSource<'a>, ranges: &[Range], index: &[i32]) -> 
     }
 }
 
-fn body_of_gen(g: &CodeGen) -> CellBody<'_>
+/// What computes the cells of the generator or part at a place of the source, if there is one.
+pub fn body_of_place<'a>(source: &CellSource<'a>, place: usize) -> Option<CellBody<'a>>
+    ensures { option_map body_of result ≡ placed_body source.now place }
+{
+    match source {
+        CellSource::Generators(gens) => match gens.get(place) {
+            Some(g) => Some(body_of_gen(g)),
+            None => None,
+        },
+        CellSource::Parts(parts) => match parts.get(place) {
+            Some(part) => Some(body_of_part(part)),
+            None => None,
+        },
+    }
+}
+
+/// What computes the cells of a generator.
+pub fn body_of_gen(g: &CodeGen) -> CellBody<'_>
     ensures { body_of result ≡ gen_body g.now }
 {
     CellBody {
@@ -77,7 +96,8 @@ fn body_of_gen(g: &CodeGen) -> CellBody<'_>
     }
 }
 
-fn body_of_part(part: &CodePart) -> CellBody<'_>
+/// What computes the cells of a part, whose components have no names.
+pub fn body_of_part(part: &CodePart) -> CellBody<'_>
     ensures { body_of result ≡ part_body part.now }
 {
     CellBody {

@@ -3,15 +3,15 @@
 ghost use Rattle.counted_code.specs.Loops.{job_does};
 ghost use Rattle.counted_code.specs.Values.{Heap as MachineHeap};
 ghost use Rattle.run_eval.specs.Jobs.{job_of, over_does, IsOver};
-ghost use Rattle.run_eval.specs.Loops.{IsPresent, source_at, unreleased};
+ghost use Rattle.run_eval.specs.Loops.{IsPresent, source_at, source_of_body, unreleased};
 ghost use Rattle.run_eval.specs.Running.{IsAt, IsValue, SameScopes, Told};
 ghost use Rattle.run_store.specs.Stands.{lender_of};
 ghost use Rattle.run_values.specs.Scopes.{current};
 ghost use Rattle.run_values.specs.Shown.{value_of};
 ghost use Rattle.std.specs.Prelude.{◌≡◌, None, OnOk};
 
-use crate::array_loops::{loop_cell, run_cell_loop};
-use crate::cell_loop::{CellLoop, CellSource};
+use crate::array_loops::{loop_cell, run_cell, run_cell_loop};
+use crate::cell_loop::{CellBody, CellLoop, CellSource};
 use crate::marked_loops::run_over;
 use crate::phases::Never;
 use crate::state::{Context, State};
@@ -63,4 +63,26 @@ pub fn cell_in_order(
     ensures lender { lender_of state.new.heap ≡ lender_of state.old.heap }
 {
     loop_cell::<Never>(source, ranges, form, index, context, None, state)
+}
+
+/// The cell of a body at an index, which must have a form, or none where there is no body.
+pub fn body_in_order(
+    body: Option<CellBody<'_>>,
+    form: &Form,
+    index: &[i32],
+    context: &Context<'_>,
+    state: &mut State<'_>,
+) -> Result<Option<RunValue>, Stop>
+    ensures told { (m : MachineHeap) → IsAt state.old m
+        → Told IsPresent result state.new (unreleased form.now (source_of_body context.now (current state.old.frames) index.now body.entry) m) }
+    ensures scopes { OnOk result (SameScopes state.old.frames state.new.frames) }
+    ensures lender { lender_of state.new.heap ≡ lender_of state.old.heap }
+{
+    match body {
+        Some(body) => {
+            let value = run_cell::<Never>(&body, form, index, context, None, state)?;
+            Ok(Some(value))
+        }
+        None => Ok(None),
+    }
 }

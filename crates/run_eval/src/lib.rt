@@ -17,8 +17,10 @@ mod program;
 mod state;
 mod trace;
 
-pub use cell_loop::{CellLoop, CellSource, LoopResult};
-pub use in_order::{cell_in_order, run_in_order, run_over_in_order};
+pub use cell_loop::{
+    CellBody, CellLoop, CellSource, LoopResult, body_at, body_of_gen, body_of_part, body_of_place,
+};
+pub use in_order::{body_in_order, cell_in_order, run_in_order, run_over_in_order};
 pub use phases::{Never, Outside, Phases};
 pub use program::{Plan, run, run_with_phases};
 pub use sac_base::Stop;

@@ -1,4 +1,4 @@
-//! Tests of operators and types, of arrays, of their texts, of the layers below the evaluator of counted code, and of runs of the
+//! Tests of operators and types, of arrays, of their texts, of files and devices, of grids, of values below the evaluator of counted code, and of runs of the
 //! evaluator.
 #![tactic(auto)]
 
@@ -7,7 +7,11 @@ mod base;
 #[cfg(test)]
 mod data;
 #[cfg(test)]
-mod heaps;
+mod devices;
+#[cfg(test)]
+mod files;
+#[cfg(test)]
+mod grids;
 #[cfg(test)]
 mod making;
 #[cfg(test)]
@@ -18,8 +22,6 @@ mod operators;
 mod orders;
 #[cfg(test)]
 mod plain;
-#[cfg(test)]
-mod stores;
 #[cfg(test)]
 mod tests;
 #[cfg(test)]

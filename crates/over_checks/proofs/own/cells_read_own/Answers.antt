@@ -11,8 +11,8 @@ pub returns : goal.returns
 returns c own =
     let s = c.args.cells.now.cells in
     let context = s.context in
-    let parts = s.parts.now in
-    let form = s.form.now in
+    let parts = c.args.parts.now in
+    let form = s.plan.now.form in
     let known = c.in_ok-scope.scope.known.items in
     let bs = c.in_ok-scope.scope.buffers.items in
     let kernels = c.in_ok-kernels.kernels.items in

@@ -1,7 +1,7 @@
 use Rattle.std.proofs.Common.{◌≡◌, ◌+◌, ◌≤◌, ◌++◌, map, vec_len, vec_capacity}
 use Rattle.std.specs.Vec.Iter.{into_iter_items, into_iter_len}
 use Rattle.count_table.specs.Opening.{present}
-use Rattle.phase_draws.specs.Chunks.{ChunkReport}
+use Rattle.phase_chunks.specs.Chunks.{ChunkReport}
 use Rattle.phase_draws.proofs.arrays.parts_back.Given as goal
 
 abbrev pub invariant-loop-report : goal.invariant-loop-report

@@ -8,9 +8,10 @@ use Rattle.phase_team.specs.Segments.{cells_from, Costs}
 use Rattle.chunk_reports.specs.Stops.{first_stop_of}
 use Rattle.wl_core.specs.declared.setup.Job.{Job}
 use Rattle.wl_core.specs.Machine.{CellValue}
-use Rattle.phase_draws.specs.Chunks.{ChunkPart}
+use Rattle.phase_chunks.specs.Chunks.{ChunkPart}
 use Rattle.phase_draws.specs.Crews.{HaveRoom}
-use Rattle.phase_draws.specs.Endings.{one_phase, Answers, IsEnded, IsTallied}
+use Rattle.phase_chunks.specs.Answering.{Answers}
+use Rattle.phase_draws.specs.Endings.{one_phase, IsEnded, IsTallied}
 use Rattle.phase_draws.specs.Reports.{HasRowsFor, PartsFit}
 use Rattle.phase_draws.proofs.Buffers.{as_many, buffer_answer, parts_fit, places_back, places_same}
 use Rattle.phase_draws.proofs.Neutral.{tallied}
@@ -40,9 +41,9 @@ parts_back-requires-clause-room g c =
 
 pub returns-clause-places : goal.returns-clause-places
 returns-clause-places g c =
-    let cell = g.C.PhaseCells.cell c.args.cells.now in
-    let cost = g.C.PhaseCells.cost c.args.cells.now in
-    let kept = g.C.PhaseCells.kept c.args.cells.now in
+    let cell = g.C.PhaseCells.cell c.args.phase.now.cells.now in
+    let cost = g.C.PhaseCells.cost c.args.phase.now.cells.now in
+    let kept = g.C.PhaseCells.kept c.args.phase.now.cells.now in
     let ps : List (Span ℤ) = c.args.parts.items in
     elim c.match-ran.branch [
       | in-Ok b ↦
@@ -56,9 +57,9 @@ returns-clause-places g c =
 
 pub returns-clause-array : goal.returns-clause-array
 returns-clause-array g c =
-    let cell = g.C.PhaseCells.cell c.args.cells.now in
-    let cost = g.C.PhaseCells.cost c.args.cells.now in
-    let kept = g.C.PhaseCells.kept c.args.cells.now in
+    let cell = g.C.PhaseCells.cell c.args.phase.now.cells.now in
+    let cost = g.C.PhaseCells.cost c.args.phase.now.cells.now in
+    let kept = g.C.PhaseCells.kept c.args.phase.now.cells.now in
     let ps : List (Span ℤ) = c.args.parts.items in
     let cells : List CellValue = cells_from cell 0 c.args.share.positions in
     elim c.match-ran.branch [
@@ -73,9 +74,9 @@ returns-clause-array g c =
 
 pub returns-clause-kept : goal.returns-clause-kept
 returns-clause-kept g c =
-    let cell = g.C.PhaseCells.cell c.args.cells.now in
-    let cost = g.C.PhaseCells.cost c.args.cells.now in
-    let kept = g.C.PhaseCells.kept c.args.cells.now in
+    let cell = g.C.PhaseCells.cell c.args.phase.now.cells.now in
+    let cost = g.C.PhaseCells.cost c.args.phase.now.cells.now in
+    let kept = g.C.PhaseCells.kept c.args.phase.now.cells.now in
     let ps : List (Span ℤ) = c.args.parts.items in
     elim c.match-ran.branch [
       | in-Ok b ↦

@@ -1,25 +1,26 @@
 use Rattle.std.proofs.Common.{◌≡◌, ◌-◌, ◌≤◌, map, length, false}
 use Rattle.std.specs.Vec.{vec_capacity}
-use Rattle.phase_draws.specs.Crews.{drawn_by, IsFresh, IsGoing}
-use Rattle.phase_draws.specs.Reports.{AllOk, AreDone, AreCombined, CostOf}
-use Rattle.phase_draws.specs.Chunks.{ChunkReport}
+use Rattle.phase_chunks.specs.Seats.{IsFresh}
+use Rattle.phase_draws.specs.Crews.{drawn_by, IsGoing}
+use Rattle.phase_draws.specs.Reports.{AllOk, AreDone, Told}
+use Rattle.phase_chunks.specs.Chunks.{ChunkReport}
 use Rattle.phase_draws.proofs.Bounds.{bound}
 use Rattle.phase_draws.proofs.turns.run_turns.Given as goal
 
 abbrev pub invariant-loop-drawn : goal.invariant-loop-drawn
 invariant-loop-drawn g l = record {
-  fresh : IsFresh l.table l.seat;
-  more : IsGoing false l.seat;
-  done : AreDone (g.C.PhaseCells.cell l.cells) l.share l.table.parts l.reports.items;
-  drawn : map (λ (r : ChunkReport). r.chunk) l.reports.items ≡ drawn_by l.seat;
-  worker : g.C.PhaseCells.idle l.cells l.worker;
-  spent : AllOk l.reports.items → CostOf (g.C.PhaseCells.cost l.cells) l.share l.reports.items (g.C.PhaseCells.spent l.cells l.fn.worker) (g.C.PhaseCells.spent l.cells l.worker);
-  combined : AllOk l.reports.items → AreCombined (g.C.PhaseCells.cell l.cells) l.share l.reports.items l.held l.rows;
-  few : length (drawn_by l.seat) ≤ bound (drawn_by l.seat);
-  within : bound (drawn_by l.seat) ≤ length l.table.parts;
-  room : length l.table.parts ≤ vec_capacity l.reports;
-  stopped : l.going ≡ false → AllOk l.reports.items → ⊥;
+  fresh : IsFresh l.team.work.table.now l.member.worker.seat;
+  more : IsGoing false l.member.worker.seat;
+  done : AreDone (g.C.PhaseCells.cell l.team.work.cells.now) l.team.work.share l.team.work.table.now.parts l.member.reports.items;
+  drawn : map (λ (r : ChunkReport). r.chunk) l.member.reports.items ≡ drawn_by l.member.worker.seat;
+  worker : g.C.PhaseCells.idle l.team.work.cells.now l.member.worker.context;
+  told : Told (g.C.PhaseCells.cell l.team.work.cells.now) (g.C.PhaseCells.cost l.team.work.cells.now) l.team.work.share l.member.reports.items
+      (g.C.PhaseCells.spent l.team.work.cells.now l.fn.member.worker.context) (g.C.PhaseCells.spent l.team.work.cells.now l.member.worker.context) l.held l.rows;
+  few : length (drawn_by l.member.worker.seat) ≤ bound (drawn_by l.member.worker.seat);
+  within : bound (drawn_by l.member.worker.seat) ≤ length l.team.work.table.now.parts;
+  room : length l.team.work.table.now.parts ≤ vec_capacity l.member.reports;
+  stopped : l.going ≡ false → AllOk l.member.reports.items → ⊥;
 }
 
 abbrev pub decreases-loop-drawn : goal.decreases-loop-drawn
-decreases-loop-drawn g l = length l.table.parts - bound (drawn_by l.seat)
+decreases-loop-drawn g l = length l.team.work.table.now.parts - bound (drawn_by l.member.worker.seat)

@@ -2,7 +2,7 @@ use Rattle.std.proofs.Common.{rules, ◌≡◌, ℕ, length, sym, ap, subst, ◌
 use Rattle.std.proofs.lemmas.Int.{to_z-of_z}
 use Rattle.sac_base.specs.Arrays.{ArrayValue, scalar}
 use Rattle.kernel_tree.specs.declared.tree.Held.TheVariants.{Number}
-use Rattle.kernel_lower.specs.Relations.{HasForm}
+use Rattle.kernel_code.specs.Relations.{HasForm}
 use Rattle.phase_loop_cells.specs.Opened.{lent_array}
 use Rattle.run_values.specs.Shown.{value_of}
 use Rattle.kernel_rows.specs.Kernels.{IsScope}

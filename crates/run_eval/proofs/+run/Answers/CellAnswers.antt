@@ -66,7 +66,7 @@ run_cell_loop-returns-in_ok-size-in-Filled g t c =
     record {
       told = λ m at.
           filled_as a.context.now (current s.frames) m a.work.now c.run_array.result c.run_array.new.state
-          (record { array = i.array; old = i.old; size = c.in_ok-size-in-Filled.size }) c.base.result i.is c.base.ensures c.in_ok-size-in-Filled.ensures (c.run_array.ensures.told m at);
+          (record { array = record { ref_ptr = (0, 0); now = c.in_ok-array-in-Filled.array }; old = i.old; size = c.in_ok-size-in-Filled.size }) i.array c.base.result i.is (c.in_ok-array-in-Filled.ensures m at.heap) c.base.ensures c.in_ok-size-in-Filled.ensures (c.run_array.ensures.told m at);
       scopes = c.run_array.ensures.scopes;
       lender = c.run_array.ensures.lender;
     }

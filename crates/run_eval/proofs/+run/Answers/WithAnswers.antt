@@ -10,9 +10,11 @@ use Rattle.counted_code.specs.Machine.{reads, bounds_of, one_value}
 use Rattle.counted_code.specs.Values.{read}
 use Rattle.counted_code.specs.View.{code_with_term, code_parted_term}
 use Rattle.run_values.specs.Scopes.{current}
+use Rattle.run_values.specs.Shown.{value_of}
 use Rattle.run_eval.specs.Running.{right_in, Told, ToldStop, IsValue, IsOnly, array_job, fold_job, gen_head, cells_in}
 use Rattle.run_eval.proofs.Measures.{gens_size, parts_size}
 use Rattle.run_eval.proofs.Sizes.{gens_below, parts_below}
+use Rattle.run_eval.proofs.OldArrays.{based_as, shaped_as}
 use Rattle.run_eval.proofs.Steps.{handed}
 use Rattle.run_eval.proofs.+run.Goals as goal
 use Rattle.core_ir.specs.Meaning.{operation}
@@ -58,7 +60,7 @@ run_with-returns-in_err-plan-in-Genarray-clause-told g t c =
     λ m at.
     handed IsOnly c.from_residual-in_err-plan-in-Genarray.result stop s (right_in ctx (code_with_term w) a.site e m) is
     (subst (ToldStop stop s) (sym (with_means ctx e w a.site m))
-    (with_stops ctx e m gs a.site bs (c.deref-in-Genarray.ensures.value ∙ c.in_ok-bounds.ensures m at.heap ∙ ap (map (λ (g : CodeGen). bounds_of (gen_head g) (reads m e))) c.deref.ensures.value) (out-CodeWith w).op (genarray c.in_ok-shape-in-Genarray.shape c.in_ok-default-in-Genarray.default a.site) (ap (λ o. operation o a.site (reads m e)) i.is ∙ (λ j. genarray ((ap (read m) (sym c.get.ensures) ∙ sym (c.in_ok-shape-in-Genarray.ensures m at.heap)) j) ((ap (read m) (sym c.get-in-Genarray.ensures) ∙ sym (c.in_ok-default-in-Genarray.ensures m at.heap)) j) a.site)) stop s at c.in_err-plan-in-Genarray.ensures.told))
+    (with_stops ctx e m gs a.site bs (c.deref-in-Genarray.ensures.value ∙ c.in_ok-bounds.ensures m at.heap ∙ ap (map (λ (g : CodeGen). bounds_of (gen_head g) (reads m e))) c.deref.ensures.value) (out-CodeWith w).op (genarray c.in_ok-shape-in-Genarray.shape c.in_ok-default-in-Genarray.default a.site) (ap (λ o. operation o a.site (reads m e)) i.is ∙ (λ j. genarray ((ap (read m) (sym c.get.ensures) ∙ sym (c.in_ok-shape-in-Genarray.ensures m at.heap)) j) ((ap (read m) (sym c.get-array.ensures) ∙ sym (c.in_ok-default-in-Genarray.ensures m at.heap)) j) a.site)) stop s at c.in_err-plan-in-Genarray.ensures.told))
 
 pub run_with-returns-in-Genarray-clause-told : goal.array_loops::run_with-returns-in-Genarray-clause-told
 run_with-returns-in-Genarray-clause-told g t c =
@@ -74,8 +76,8 @@ run_with-returns-in-Genarray-clause-told g t c =
     let r = c.run_cell_loop.result in
     λ m at.
     subst (Told IsOnly r st) (sym (with_means ctx e w a.site m))
-    (genarray_tells ctx e m gs a.site bs (c.deref-in-Genarray.ensures.value ∙ c.in_ok-bounds.ensures m at.heap ∙ ap (map (λ (g : CodeGen). bounds_of (gen_head g) (reads m e))) c.deref.ensures.value) (out-CodeWith w).op c.in_ok-shape-in-Genarray.shape c.in_ok-default-in-Genarray.default (plan_of c.in_ok-plan-in-Genarray.plan) r st (ap (λ o. operation o a.site (reads m e)) i.is ∙ (λ j. genarray ((ap (read m) (sym c.get.ensures) ∙ sym (c.in_ok-shape-in-Genarray.ensures m at.heap)) j) ((ap (read m) (sym c.get-in-Genarray.ensures) ∙ sym (c.in_ok-default-in-Genarray.ensures m at.heap)) j) a.site)) c.in_ok-plan-in-Genarray.ensures.told
-    (subst (λ (gens : List CodeGen). Told IsValue r st (job_does None (array_job ctx e m gens (plan_of c.in_ok-plan-in-Genarray.plan) c.in_ok-default-in-Genarray.default false) m)) c.deref-2.ensures.value (c.run_cell_loop.ensures.told m at)))
+    (genarray_tells ctx e m gs a.site bs (c.deref-in-Genarray.ensures.value ∙ c.in_ok-bounds.ensures m at.heap ∙ ap (map (λ (g : CodeGen). bounds_of (gen_head g) (reads m e))) c.deref.ensures.value) (out-CodeWith w).op c.in_ok-shape-in-Genarray.shape c.in_ok-default-in-Genarray.default (plan_of c.in_ok-plan-in-Genarray.plan) r st (ap (λ o. operation o a.site (reads m e)) i.is ∙ (λ j. genarray ((ap (read m) (sym c.get.ensures) ∙ sym (c.in_ok-shape-in-Genarray.ensures m at.heap)) j) ((ap (read m) (sym c.get-array.ensures) ∙ sym (c.in_ok-default-in-Genarray.ensures m at.heap)) j) a.site)) c.in_ok-plan-in-Genarray.ensures.told
+    (subst (Told IsValue r st) (λ j. job_does None (array_job ctx e m (c.deref-2.ensures.value j) (plan_of c.in_ok-plan-in-Genarray.plan) (sym (c.in_ok-default-in-Genarray.ensures m at.heap) j) false) m) (c.run_cell_loop.ensures.told m at)))
 
 pub run_with-returns-in_err-plan-in-Modarray-clause-told : goal.array_loops::run_with-returns-in_err-plan-in-Modarray-clause-told
 run_with-returns-in_err-plan-in-Modarray-clause-told g t c =
@@ -87,12 +89,14 @@ run_with-returns-in_err-plan-in-Modarray-clause-told g t c =
     let gs = (out-CodeWith w).gens.items in
     let i = c.in-Modarray in
     let bs = c.deref-in-Modarray.result.now in
+    let v = value_of c.get-array-in-Modarray.result in
     let stop = c.in_err-plan-in-Modarray.field-0.0 in
     let is : c.from_residual-in_err-plan-in-Modarray.result ≡ Err stop = search rules in
     λ m at.
     handed IsOnly c.from_residual-in_err-plan-in-Modarray.result stop s (right_in ctx (code_with_term w) a.site e m) is
     (subst (ToldStop stop s) (sym (with_means ctx e w a.site m))
-    (with_stops ctx e m gs a.site bs (c.deref-in-Modarray.ensures.value ∙ c.in_ok-bounds.ensures m at.heap ∙ ap (map (λ (g : CodeGen). bounds_of (gen_head g) (reads m e))) c.deref.ensures.value) (out-CodeWith w).op (modarray c.in_ok-array-in-Modarray.array a.site) (ap (λ o. operation o a.site (reads m e)) i.is ∙ (λ j. modarray ((ap (read m) (sym c.get-in-Modarray.ensures) ∙ sym (c.in_ok-array-in-Modarray.ensures m at.heap)) j) a.site)) stop s at c.in_err-plan-in-Modarray.ensures.told))
+    (with_stops ctx e m gs a.site bs (c.deref-in-Modarray.ensures.value ∙ c.in_ok-bounds.ensures m at.heap ∙ ap (map (λ (g : CodeGen). bounds_of (gen_head g) (reads m e))) c.deref.ensures.value) (out-CodeWith w).op (modarray (read m v) a.site) (ap (λ o. operation o a.site (reads m e)) i.is ∙ (λ j. modarray (ap (read m) (sym c.get-array-in-Modarray.ensures) j) a.site)) stop s at
+    (c.in_err-plan-in-Modarray.ensures.told (read m v) (based_as v m ∙ sym c.base.ensures) (shaped_as v m ∙ sym c.in_ok-shape-in-Modarray.ensures.shape))))
 
 pub run_with-returns-in-Modarray-clause-told : goal.array_loops::run_with-returns-in-Modarray-clause-told
 run_with-returns-in-Modarray-clause-told g t c =
@@ -104,12 +108,14 @@ run_with-returns-in-Modarray-clause-told g t c =
     let gs = (out-CodeWith w).gens.items in
     let i = c.in-Modarray in
     let bs = c.deref-in-Modarray.result.now in
+    let v = value_of c.get-array-in-Modarray.result in
     let st = c.run_cell_loop-in-Modarray.new.state in
     let r = c.run_cell_loop-in-Modarray.result in
     λ m at.
     subst (Told IsOnly r st) (sym (with_means ctx e w a.site m))
-    (modarray_tells ctx e m gs a.site bs (c.deref-in-Modarray.ensures.value ∙ c.in_ok-bounds.ensures m at.heap ∙ ap (map (λ (g : CodeGen). bounds_of (gen_head g) (reads m e))) c.deref.ensures.value) (out-CodeWith w).op c.in_ok-array-in-Modarray.array (plan_of c.in_ok-plan-in-Modarray.plan) r st (ap (λ o. operation o a.site (reads m e)) i.is ∙ (λ j. modarray ((ap (read m) (sym c.get-in-Modarray.ensures) ∙ sym (c.in_ok-array-in-Modarray.ensures m at.heap)) j) a.site)) c.in_ok-plan-in-Modarray.ensures.told
-    (subst (λ (gens : List CodeGen). Told IsValue r st (job_does None (array_job ctx e m gens (plan_of c.in_ok-plan-in-Modarray.plan) c.in_ok-array-in-Modarray.array true) m)) c.deref-2.ensures.value (c.run_cell_loop-in-Modarray.ensures.told m at)))
+    (modarray_tells ctx e m gs a.site bs (c.deref-in-Modarray.ensures.value ∙ c.in_ok-bounds.ensures m at.heap ∙ ap (map (λ (g : CodeGen). bounds_of (gen_head g) (reads m e))) c.deref.ensures.value) (out-CodeWith w).op (read m v) (plan_of c.in_ok-plan-in-Modarray.plan) r st (ap (λ o. operation o a.site (reads m e)) i.is ∙ (λ j. modarray (ap (read m) (sym c.get-array-in-Modarray.ensures) j) a.site))
+    (c.in_ok-plan-in-Modarray.ensures.told (read m v) (based_as v m ∙ sym c.base.ensures) (shaped_as v m ∙ sym c.in_ok-shape-in-Modarray.ensures.shape))
+    (subst (λ (gens : List CodeGen). Told IsValue r st (job_does None (array_job ctx e m gens (plan_of c.in_ok-plan-in-Modarray.plan) (read m v) true) m)) c.deref-2.ensures.value (c.run_cell_loop-in-Modarray.ensures.told m at)))
 
 pub run_with-returns-in_err-plan-in-Fold-clause-told : goal.array_loops::run_with-returns-in_err-plan-in-Fold-clause-told
 run_with-returns-in_err-plan-in-Fold-clause-told g t c =

@@ -1,0 +1,3 @@
+pub mod Along
+mod GridSteps
+mod Covering

@@ -1,0 +1,14 @@
+//! The cells of one chunk, computed by one worker of a phase, and what the chunks of a phase come to together.
+#![tactic(auto)]
+
+mod cells;
+mod ends;
+mod shares;
+mod work;
+mod worker;
+
+pub use cells::PhaseCells;
+pub use ends::{TeamEnd, answer_of, with_neutral};
+pub use shares::{ChunkPart, ChunkReport, Share, Stretch, stretch_of};
+pub use work::{CellWork, CellWorker};
+pub use worker::{combine_held, run_chunk};
