@@ -1,8 +1,15 @@
 //! Arrays of cells that workers compute.
 
-ghost use Rattle.std.specs.Prelude.{◌≡◌, None, OnOk};
+ghost use Rattle.std.specs.Prelude.{◌≡◌, ◌≢◌, ◌<◌, ℕ, None, Ok, OnOk, length};
 ghost use Rattle.counted_code.specs.Loops.{job_does};
 ghost use Rattle.counted_code.specs.Values.{Heap as MachineHeap};
+ghost use Rattle.counted_code.specs.View.{code_program};
+ghost use Rattle.phase_books.specs.Alive.{AreAlive};
+ghost use Rattle.phase_books.specs.Homes.{ComputesAll, IsBooked, left_in, new_behind};
+ghost use Rattle.phase_loop_cells.specs.Cells.{source_cell, source_taken};
+ghost use Rattle.phase_loop_cells.specs.Opened.{SourceIn};
+ghost use Rattle.phase_team.specs.Segments.{cells_from, cost_from};
+ghost use Rattle.phase_workers.specs.Covered.{IfEnded};
 ghost use Rattle.phase_workers.specs.Phases.{MakesLarge};
 ghost use Rattle.phase_workers.specs.Sources.{StandsApart};
 ghost use Rattle.run_eval.specs.Jobs.{job_of};
@@ -15,10 +22,9 @@ use crate::covered::{CoveredCells, all_cells};
 use core_ir::Var;
 use phase_books::{Begun, Workers, begin_phase, end_phase, finish_phase, stop_phase};
 use phase_kernels::KernelCells;
-use phase_loop_cells::LoopCells;
+use phase_loop_cells::{Background, LoopCells};
 use phase_team::Gate;
 use run_eval::{CellLoop, Context, State};
-use run_store::Target;
 use run_values::RunValue;
 use sac_base::{Stop, elements};
 use std::thread::Threads;
@@ -46,28 +52,15 @@ pub fn array_by_workers<'a, G: Gate, R: Threads + Sync>(
     let _code = context.code.get();
     let aside = set_aside(context.alloc, work, &state.heap.own)?;
     let positions = plan.frame.count();
-    let begun = begin_phase(context.alloc, &plan.shape, positions, state)?;
+    let mut begun = begin_phase(context.alloc, &plan.shape, positions, state)?;
     state.heap.own.buffers_are_numbered();
-    let Begun { target, mut books } = begun;
-    let Target { mut cells, buffer } = target;
-    let covered = CoveredCells {
-        cells: KernelCells {
-            cells: LoopCells {
-                context: *context,
-                heap: &state.heap.own,
-                frames: &state.frames,
-                source: work.source,
-                plan,
-                background: background_of(work, size as usize, &aside, &state.heap.own),
-            },
-            live,
-        },
-    };
-    let end = all_cells(team, &covered, &mut cells, &mut books);
+    let background = background_of(work, size as usize, &aside, &state.heap.own);
+    let end = array_cells(team, *work, live, background, *context, state, &mut begun);
+    let Begun { target, books } = begun;
     match end {
         Ok(_) => {
             end_phase(books, state);
-            finish_phase(Target { cells, buffer }, base_of(work), &plan.shape, state)
+            finish_phase(target, base_of(work), &plan.shape, state)
         }
         Err(Stop::Faulted(fault)) => {
             stop_phase(books, state);
@@ -75,4 +68,45 @@ pub fn array_by_workers<'a, G: Gate, R: Threads + Sync>(
         }
         Err(Stop::Memory) => Err(Stop::Memory),
     }
+}
+
+/// Computes the cells of all indices, each at its place in the result of a phase that has begun. Where it says anything, each
+/// index has a cell, or something stands there.
+pub fn array_cells<'a, G: Gate, R: Threads + Sync>(
+    team: &Workers<'_, G, R>,
+    work: CellLoop<'a>,
+    live: &'a [Var],
+    background: Option<Background<'a>>,
+    context: Context<'a>,
+    state: &'a State<'_>,
+    begun: &mut Begun,
+) -> Result<(), Stop>
+    requires counted { SourceIn (code_program context.code.now) work.source live.now }
+    requires alive { AreAlive state.now.heap.own (current state.now.frames) live.now }
+    requires home { begun.old.books.home ≡ new_behind state.now.heap.own }
+    ensures booked { IsBooked (length work.entry.plan.now.frame) begun.old.books begun.new.books result }
+    ensures computed { let loop = work.entry in
+        let n = length loop.plan.now.frame in
+        ComputesAll (cells_from (source_cell context.entry state.now.heap.own (current state.now.frames) loop.source loop.plan.now background.entry) 0 n)
+        state.now.heap.own (cost_from (source_taken context.entry state.now.heap.own (current state.now.frames) loop.source loop.plan.now) 0 n)
+        begun.new.target.cells.items (left_in begun.new.books.home result) }
+    ensures there { let loop = work.entry in
+        IfEnded result ((place : ℕ) → place < length loop.plan.now.frame
+        → source_cell context.entry state.now.heap.own (current state.now.frames) loop.source loop.plan.now background.entry place ≢ Ok None) }
+    ensures buffer { begun.new.target.buffer ≡ begun.old.target.buffer }
+{
+    let covered = CoveredCells {
+        cells: KernelCells {
+            cells: LoopCells {
+                context,
+                heap: &state.heap.own,
+                frames: &state.frames,
+                source: work.source,
+                plan: work.plan,
+                background,
+            },
+            live,
+        },
+    };
+    all_cells(team, &covered, &mut begun.target.cells, &mut begun.books)
 }

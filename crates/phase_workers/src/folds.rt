@@ -8,6 +8,7 @@ ghost use Rattle.counted_code.specs.View.{code_program};
 ghost use Rattle.phase_books.specs.Alive.{AreAlive};
 ghost use Rattle.phase_books.specs.Homes.{CombinesAll, IsBooked, left_in, new_behind};
 ghost use Rattle.phase_cells.specs.Idle.{IsLending};
+ghost use Rattle.phase_loop_cells.specs.Cells.{source_cell, source_taken};
 ghost use Rattle.phase_loop_cells.specs.Opened.{OpenSource, SourceIn};
 ghost use Rattle.phase_team.specs.Segments.{cells_from, cost_from};
 ghost use Rattle.phase_workers.specs.Covered.{cell_of, taken_of};
@@ -31,7 +32,6 @@ use phase_kernels::KernelCells;
 use phase_loop_cells::LoopCells;
 use phase_team::Gate;
 use run_eval::{CellLoop, Context, State};
-use run_store::Target;
 use run_values::RunValue;
 use sac_base::{Array, Base, Cell, Op, Stop};
 use std::thread::Threads;
@@ -76,31 +76,16 @@ pub fn fold_by_workers<'a, G: Gate, R: Threads + Sync>(
     let plan = work.plan;
     let _code = context.code.get();
     let _cells = neutral.cells();
-    let mut value = neutral.into_cells();
+    let value = neutral.into_cells();
     let positions = plan.frame.count();
-    let begun = begin_phase(context.alloc, &plan.shape, positions, state)?;
-    let Begun { target, mut books } = begun;
-    let Target { cells: _, buffer } = target;
+    let mut begun = begin_phase(context.alloc, &plan.shape, positions, state)?;
+    begun.target.cells = value;
     state.heap.own.buffers_are_numbered();
-    let cells = KernelCells {
-        cells: LoopCells {
-            context: *context,
-            heap: &state.heap.own,
-            frames: &state.frames,
-            source: work.source,
-            plan,
-            background: None,
-        },
-        live,
-    };
-    let end = fold_cells(team, &cells, op, &mut value, &mut books);
+    let end = fold_in(team, *work, op, live, *context, state, &mut begun);
+    let Begun { target, books } = begun;
     match end {
         Ok(_) => {
             end_phase(books, state);
-            let target = Target {
-                cells: value,
-                buffer,
-            };
             finish_phase(target, plan.form.base, &plan.form.shape, state)
         }
         Err(Stop::Faulted(fault)) => {
@@ -109,6 +94,43 @@ pub fn fold_by_workers<'a, G: Gate, R: Threads + Sync>(
         }
         Err(Stop::Memory) => Err(Stop::Memory),
     }
+}
+
+// Combines what stands in the place of the result of a phase that has begun with the cells of all indices that have one.
+fn fold_in<'a, G: Gate, R: Threads + Sync>(
+    team: &Workers<'_, G, R>,
+    work: CellLoop<'a>,
+    op: Op,
+    live: &'a [Var],
+    context: Context<'a>,
+    state: &'a State<'_>,
+    begun: &mut Begun,
+) -> Result<(), Stop>
+    requires counted { SourceIn (code_program context.code.now) work.source live.now }
+    requires alive { AreAlive state.now.heap.own (current state.now.frames) live.now }
+    requires op { IsTrue (folds_value work.plan.now.form.base op) }
+    requires width { length begun.old.target.cells.items ≡ size work.plan.now.form.shape }
+    requires home { begun.old.books.home ≡ new_behind state.now.heap.own }
+    ensures booked { IsBooked (length work.entry.plan.now.frame) begun.old.books begun.new.books result }
+    ensures combined { let loop = work.entry in
+        let n = length loop.plan.now.frame in
+        CombinesAll op (cells_from (source_cell context.entry state.now.heap.own (current state.now.frames) loop.source loop.plan.now None) 0 n)
+        state.now.heap.own (cost_from (source_taken context.entry state.now.heap.own (current state.now.frames) loop.source loop.plan.now) 0 n)
+        begun.old.target.cells.items begun.new.target.cells.items (left_in begun.new.books.home result) }
+    ensures buffer { begun.new.target.buffer ≡ begun.old.target.buffer }
+{
+    let cells = KernelCells {
+        cells: LoopCells {
+            context,
+            heap: &state.heap.own,
+            frames: &state.frames,
+            source: work.source,
+            plan: work.plan,
+            background: None,
+        },
+        live,
+    };
+    fold_cells(team, &cells, op, &mut begun.target.cells, &mut begun.books)
 }
 
 // Combines a value with the cells of all indices that have one.

@@ -15,19 +15,20 @@ ghost use Rattle.run_store.specs.Stands.{lender_of};
 ghost use Rattle.run_values.specs.Scopes.{current};
 ghost use Rattle.run_values.specs.Shown.{value_of};
 
-use crate::covered::{CoveredCells, all_cells};
+use crate::arrays::array_cells;
 use crate::sources::live_apart;
 use array_with_loops::Plan;
 use core_ir::Var;
 use counted_code::CodePart;
 use over_checks::may_be_over;
 use over_phases::phases_end_over;
-use phase_books::{Workers, end_phase, open_books, settle_over, steps_of, stop_phase};
+use phase_books::{Begun, Workers, end_phase, open_books, settle_over, steps_of, stop_phase};
 use phase_kernels::KernelCells;
 use phase_loop_cells::LoopCells;
 use phase_team::Gate;
-use run_eval::{CellLoop, CellSource, Context, State, run_over_in_order};
+use run_eval::{CellLoop, CellSource, Context, LoopResult, State, run_over_in_order};
 use run_over::claim_over;
+use run_store::Target;
 use run_values::RunValue;
 use sac_base::{Memory, Stop};
 use std::thread::Threads;
@@ -54,7 +55,7 @@ pub fn over_outside<G: Gate, R: Threads + Sync>(
     let Some(live) = live_apart(workers, &source, context, state)? else {
         return run_over_in_order(work, array, context, state);
     };
-    if !is_phase_over(parts, work.plan, array, &live, context, state)? {
+    if !is_phase_over(parts, work.plan, array, &live, *context, state)? {
         return run_over_in_order(work, array, context, state);
     }
     let steps = steps_of(&source, &live, &state.frames);
@@ -63,20 +64,20 @@ pub fn over_outside<G: Gate, R: Threads + Sync>(
 }
 
 // Whether all cells may be computed before one of them is written over the array.
-fn is_phase_over(
-    parts: &[CodePart],
-    plan: &Plan,
+fn is_phase_over<'a>(
+    parts: &'a [CodePart],
+    plan: &'a Plan,
     array: RunValue,
-    live: &[Var],
-    context: &Context<'_>,
-    state: &State<'_>,
+    live: &'a [Var],
+    context: Context<'a>,
+    state: &'a State<'_>,
 ) -> Result<bool, Memory>
     ensures { IfOk result (λ over. IsTrue over →
-        MayBeOver context.now state.now.heap.own (current state.now.frames) parts.now plan.now.form plan.now.shape live.now (value_of array)) }
+        MayBeOver context.entry state.now.heap.own (current state.now.frames) parts.now plan.now.form plan.now.shape live.now (value_of array)) }
 {
     let cells = KernelCells {
         cells: LoopCells {
-            context: *context,
+            context,
             heap: &state.heap.own,
             frames: &state.frames,
             source: CellSource::Parts(parts),
@@ -89,10 +90,10 @@ fn is_phase_over(
 }
 
 // The same of a loop that is a phase: the cells are computed from what stands in the array, and then written over it.
-fn over_by_workers<G: Gate, R: Threads + Sync>(
+fn over_by_workers<'a, G: Gate, R: Threads + Sync>(
     team: &Workers<'_, G, R>,
-    parts: &[CodePart],
-    plan: &Plan,
+    parts: &'a [CodePart],
+    plan: &'a Plan,
     array: RunValue,
     live: &[Var],
     context: &Context<'_>,
@@ -116,22 +117,21 @@ fn over_by_workers<G: Gate, R: Threads + Sync>(
     state.heap.own.buffers_are_numbered();
     phases_end_over();
     let positions = plan.frame.count();
-    let mut books = open_books(&mut state.phases, &state.heap.own, positions)?;
-    let mut cells = vec![in context.alloc; 0; positions]?;
-    let covered = CoveredCells {
-        cells: KernelCells {
-            cells: LoopCells {
-                context: *context,
-                heap: &state.heap.own,
-                frames: &state.frames,
-                source: CellSource::Parts(parts),
-                plan,
-                background: None,
-            },
-            live,
-        },
+    let books = open_books(&mut state.phases, &state.heap.own, positions)?;
+    let cells = vec![in context.alloc; 0; positions]?;
+    let target = Target {
+        cells,
+        buffer: None,
     };
-    let end = all_cells(team, &covered, &mut cells, &mut books);
+    let mut begun = Begun { target, books };
+    let work = CellLoop {
+        source: CellSource::Parts(parts),
+        plan,
+        result: LoopResult::Joined,
+    };
+    let end = array_cells(team, work, live, None, *context, state, &mut begun);
+    let Begun { target, books } = begun;
+    let Target { cells, buffer: _ } = target;
     match end {
         Ok(_) => {
             end_phase(books, state);
