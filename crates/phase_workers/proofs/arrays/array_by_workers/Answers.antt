@@ -22,10 +22,10 @@ background_of-background-requires g c =
     kept_still c.args.state.now.heap.own c.begin_phase.new.state.heap.own c.begin_phase.ensures.others c.args.work.now.result c.in_ok-aside.aside.items c.in_ok-aside.ensures
 
 pub array_cells-end-requires-clause-counted : goal.array_cells-end-requires-clause-counted
-array_cells-end-requires-clause-counted g c = c.requires.apart.counted
+array_cells-end-requires-clause-counted g c κs within = c.requires.apart.counted
 
 pub array_cells-end-requires-clause-alive : goal.array_cells-end-requires-clause-alive
-array_cells-end-requires-clause-alive g c =
+array_cells-end-requires-clause-alive g c κs within =
     let a = c.args in
     let s : State = c.begin_phase.new.state in
     alive_after a.state.now.heap.own s.heap.own c.begin_phase.ensures.others (current s.frames) a.live.now

@@ -19,10 +19,10 @@ use Rattle.sac_base.specs.WithLoops.{combined}
 use Rattle.phase_workers.proofs.folds.fold_by_workers.Goals as goal
 
 pub fold_in-end-requires-clause-counted : goal.fold_in-end-requires-clause-counted
-fold_in-end-requires-clause-counted g c = c.requires.apart.counted
+fold_in-end-requires-clause-counted g c κs within = c.requires.apart.counted
 
 pub fold_in-end-requires-clause-alive : goal.fold_in-end-requires-clause-alive
-fold_in-end-requires-clause-alive g c =
+fold_in-end-requires-clause-alive g c κs within =
     let a = c.args in
     let s : State = c.begin_phase.new.state in
     alive_after a.state.now.heap.own s.heap.own c.begin_phase.ensures.others (current s.frames) a.live.now
