@@ -5,40 +5,26 @@ ghost use Rattle.phase_books.specs.Alive.{AreAlive, IsAlive};
 ghost use Rattle.run_values.specs.Scopes.{current};
 ghost use Rattle.run_values.specs.Shown.{value_of};
 
-use crate::mentions::{mention_gens, mention_parts};
+use crate::mentions::mention_source;
 use buffer_heap::Heap;
 use core_ir::Var;
-use counted_code::{CodeGen, CodePart};
+use run_eval::CellSource;
 use run_values::{Frames, RunValue};
 use sac_base::Memory;
 use std::alloc::Global;
 
-/// The variables that generators and their cells mention whose values can be read. One whose reference has gone may be among
-/// them, where others keep its buffer.
-pub fn alive_in_gens(
+/// The variables that the cells of a source mention, and the bounds of its generators, whose values can be read. One whose
+/// reference has gone may be among them, where others keep its buffer.
+pub fn alive_in(
     alloc: Global,
-    gens: &[CodeGen],
+    source: &CellSource<'_>,
     frames: &Frames,
     heap: &Heap,
 ) -> Result<Vec<Var>, Memory>
     ensures { IfOk result (λ xs. AreAlive heap.now (current frames.now) xs.items) }
 {
     let mut mentioned = Vec::new(alloc);
-    mention_gens(gens, &mut mentioned)?;
-    alive_among(alloc, &mentioned, frames, heap)
-}
-
-/// The same of the parts of a parted loop.
-pub fn alive_in_parts(
-    alloc: Global,
-    parts: &[CodePart],
-    frames: &Frames,
-    heap: &Heap,
-) -> Result<Vec<Var>, Memory>
-    ensures { IfOk result (λ xs. AreAlive heap.now (current frames.now) xs.items) }
-{
-    let mut mentioned = Vec::new(alloc);
-    mention_parts(parts, &mut mentioned)?;
+    mention_source(source, &mut mentioned)?;
     alive_among(alloc, &mentioned, frames, heap)
 }
 
@@ -59,7 +45,8 @@ fn alive_among(
     Ok(alive)
 }
 
-fn is_alive(heap: &Heap, value: RunValue) -> bool
+/// Whether the array of a value can be read.
+pub fn is_alive(heap: &Heap, value: RunValue) -> bool
     ensures { IsTrue result → IsAlive heap.now (value_of value) }
 {
     match value {

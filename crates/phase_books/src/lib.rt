@@ -10,11 +10,11 @@ mod results;
 mod team;
 mod worth;
 
-pub use alive::{alive_in_gens, alive_in_parts};
+pub use alive::{alive_in, is_alive};
 pub use calls::LoopCall;
 pub use nesting::Nesting;
 pub use over::settle_over;
 pub use phase_team::{Gate, NoGate};
 pub use results::{Begun, Books, begin_phase, end_phase, finish_phase, open_books, stop_phase};
 pub use team::{Workers, compute_array, compute_fold};
-pub use worth::{steps_of_gens, steps_of_parts};
+pub use worth::steps_of;

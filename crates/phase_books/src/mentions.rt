@@ -5,11 +5,20 @@
 
 use core_ir::{CoreOp, PartedOp, Var};
 use counted_code::{CodeBlock, CodeGen, CodePart, CodeRight, CodeStep};
+use run_eval::CellSource;
 use sac_base::Memory;
 
-/// Appends the variables that generators and their cells mention, those that the cells bind included.
+/// Appends the variables that the cells of a source mention, those that the cells bind included, and those of the bounds of
+/// generators.
+pub fn mention_source(source: &CellSource<'_>, all: &mut Vec<Var>) -> Result<(), Memory> {
+    match source {
+        CellSource::Generators(gens) => mention_gens(gens, all),
+        CellSource::Parts(parts) => mention_parts(parts, all),
+    }
+}
+
 #[cycle(mention)]
-pub fn mention_gens(gens: &[CodeGen], all: &mut Vec<Var>) -> Result<(), Memory> {
+fn mention_gens(gens: &[CodeGen], all: &mut Vec<Var>) -> Result<(), Memory> {
     for generator in gens {
         mention_bound(generator.lower, all)?;
         mention_bound(generator.upper, all)?;
@@ -20,9 +29,8 @@ pub fn mention_gens(gens: &[CodeGen], all: &mut Vec<Var>) -> Result<(), Memory> 
     Ok(())
 }
 
-/// The same of the parts of a parted loop.
 #[cycle(mention)]
-pub fn mention_parts(parts: &[CodePart], all: &mut Vec<Var>) -> Result<(), Memory> {
+fn mention_parts(parts: &[CodePart], all: &mut Vec<Var>) -> Result<(), Memory> {
     for part in parts {
         mention_block(&part.body, all)?;
     }

@@ -1,6 +1,7 @@
 //! How deep blocks and calls nest in code.
 
 use counted_code::{Code, CodeBlock, CodeGen, CodePart, CodeRight, CodeStep};
+use run_eval::CellSource;
 use sac_base::Memory;
 use std::alloc::Global;
 
@@ -28,21 +29,12 @@ impl Nesting {
         }
     }
 
-    /// Whether no cell of these generators is too deep for a worker's stack.
-    pub fn has_room_for_gens(&self, gens: &[CodeGen], code: &Code) -> bool {
+    /// Whether no cell of a source is too deep for a worker's stack.
+    pub fn has_room_for(&self, source: &CellSource<'_>, code: &Code) -> bool {
         match self {
             Nesting::Unlimited => true,
             Nesting::Unknown => false,
-            Nesting::Known(needs) => gens_need(gens, code, needs, needs) <= LIMIT,
-        }
-    }
-
-    /// The same of the parts of a parted loop.
-    pub fn has_room_for_parts(&self, parts: &[CodePart], code: &Code) -> bool {
-        match self {
-            Nesting::Unlimited => true,
-            Nesting::Unknown => false,
-            Nesting::Known(needs) => parts_need(parts, code, needs, needs) <= LIMIT,
+            Nesting::Known(needs) => source_need(source, code, needs) <= LIMIT,
         }
     }
 }
@@ -105,6 +97,14 @@ fn keep(below: &mut Vec<u32>, here: &[u32]) -> bool {
         place = place.saturating_add(1);
     }
     changed
+}
+
+// How many blocks may nest within a cell of a source.
+fn source_need(source: &CellSource<'_>, code: &Code, needs: &[u32]) -> u32 {
+    match source {
+        CellSource::Generators(gens) => gens_need(gens, code, needs, needs),
+        CellSource::Parts(parts) => parts_need(parts, code, needs, needs),
+    }
 }
 
 // How many blocks may nest within a block.

@@ -27,7 +27,7 @@ pub struct Books {
     pub count: OpenTally,
 }
 
-/// A phase that has begun: its result, whose cells are all 0, and its books.
+/// A phase that has begun: its result, whose cells are still to be written, and its books.
 #[derive(Drop)]
 pub struct Begun {
     pub target: Target,

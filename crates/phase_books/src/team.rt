@@ -26,6 +26,7 @@ use std::thread::Threads;
 /// How many workers a phase has, 1 to 64, where they run, and who is told of it.
 #[derive(Drop)]
 pub struct Workers<'a, G: Gate, R: Threads + Sync> {
+    pub alloc: Global,
     pub rt: &'a R,
     pub gate: &'a G,
     pub workers: u32,
@@ -43,7 +44,6 @@ pub struct Workers<'a, G: Gate, R: Threads + Sync> {
 /// `Faulted`: the fault of the least position that faults.
 pub fn compute_array<C: CellRuns, G: Gate, R: Threads + Sync>(
     team: &Workers<'_, G, R>,
-    alloc: Global,
     cells: &C,
     positions: usize,
     width: usize,
@@ -59,6 +59,7 @@ pub fn compute_array<C: CellRuns, G: Gate, R: Threads + Sync>(
     ensures computed { ComputesAll (cells_from (C.cell cells.now) 0 positions) (C.lends cells.now)
         (cost_from (C.takes cells.now) 0 positions) into.new (left_in books.new.home result) }
 {
+    let alloc = team.alloc;
     let lends = cells.heap();
     let Ok(counts) = lent_counts(alloc, lends) else {
         return Err(Stop::Memory);
@@ -129,7 +130,6 @@ fn store_cells<C: CellRuns, G: Gate, R: Threads + Sync>(
 /// `Faulted`: the fault of the least position that faults.
 pub fn compute_fold<C: CellRuns, G: Gate, R: Threads + Sync>(
     team: &Workers<'_, G, R>,
-    alloc: Global,
     cells: &C,
     positions: usize,
     base: Base,
@@ -146,6 +146,7 @@ pub fn compute_fold<C: CellRuns, G: Gate, R: Threads + Sync>(
     ensures combined { CombinesAll op (cells_from (C.cell cells.now) 0 positions) (C.lends cells.now)
         (cost_from (C.takes cells.now) 0 positions) value.old value.new (left_in books.new.home result) }
 {
+    let alloc = team.alloc;
     let lends = cells.heap();
     let Ok(mut counts) = lent_counts(alloc, lends) else {
         return Err(Stop::Memory);

@@ -4,6 +4,7 @@ use crate::team::Workers;
 use core_ir::Var;
 use counted_code::{CodeBlock, CodeGen, CodePart, CodeRight, CodeStep};
 use phase_team::Gate;
+use run_eval::CellSource;
 use run_values::{Frames, RunValue};
 use std::thread::Threads;
 
@@ -20,6 +21,7 @@ impl<'a, G: Gate, R: Threads + Sync> Workers<'a, G, R> {
     pub fn of_phase(&self, cells: usize, steps: u64) -> Workers<'a, G, R> {
         let is_worth = self.chunked || (cells as u64).saturating_mul(steps) > FEW;
         Workers {
+            alloc: self.alloc,
             rt: self.rt,
             gate: self.gate,
             workers: if is_worth { self.workers } else { 1 },
@@ -29,22 +31,30 @@ impl<'a, G: Gate, R: Threads + Sync> Workers<'a, G, R> {
     }
 }
 
-/// How many steps a cell takes at most that reads these variables, and as many as there are numbers where it has loops or calls.
-pub fn steps_of_gens(gens: &[CodeGen], live: &[Var], frames: &Frames) -> u64 {
+/// How many steps a cell of a source takes at most that reads these variables, and as many as there are numbers where it has
+/// loops or calls.
+pub fn steps_of(source: &CellSource<'_>, live: &[Var], frames: &Frames) -> u64 {
+    let greatest = match source {
+        CellSource::Generators(gens) => gens_steps(gens),
+        CellSource::Parts(parts) => parts_steps(parts),
+    };
+    greatest.saturating_mul(operator_steps(live, frames))
+}
+
+fn gens_steps(gens: &[CodeGen]) -> u64 {
     let mut greatest = 0u64;
     for generator in gens {
         greatest = greatest.max(block_steps(&generator.body));
     }
-    greatest.saturating_mul(operator_steps(live, frames))
+    greatest
 }
 
-/// The same of the parts of a parted loop.
-pub fn steps_of_parts(parts: &[CodePart], live: &[Var], frames: &Frames) -> u64 {
+fn parts_steps(parts: &[CodePart]) -> u64 {
     let mut greatest = 0u64;
     for part in parts {
         greatest = greatest.max(block_steps(&part.body));
     }
-    greatest.saturating_mul(operator_steps(live, frames))
+    greatest
 }
 
 // How many steps an operator takes whose operands are no larger than the largest of these variables.

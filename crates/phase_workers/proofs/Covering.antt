@@ -1,32 +1,39 @@
 -- Parted loops in which each position has a cell.
-use Rattle.std.proofs.Common.{◌≡◌, ℕ, zero, suc, ◌+◌, ◌<◌, ◌≤◌, Bool, true, false, eqb, List, [], ◌∷◌, length, ℤ, Option, Some, None, Result, Ok, Err, refl, ap, ◌∙◌, subst, arith}
-use Rattle.std.specs.Prelude.{is_some, if◌then◌else◌}
+use Rattle.std.proofs.Common.{◌≡◌, ℕ, zero, suc, ◌+◌, ◌<◌, ◌≤◌, Bool, true, false, eqb, List, [], ◌∷◌, length, ℤ, Option, Some, None, Result, Ok, Err, refl, ap, ◌∙◌, sym, subst, arith}
+use Rattle.std.specs.Prelude.{is_some, if◌then◌else◌, option_map}
 use Rattle.std.proofs.lemmas.Bool.{eqb-true, eqb-false}
+use Rattle.array_with_loops.specs.declared.plans.Plan.{Plan}
 use Rattle.buffer_heap.specs.Heaps.{HeapValue}
-use Rattle.core_ir.specs.Meaning.{CallMeaning, Env, bind, first, run, cells, cell_form, cell_at, held}
+use Rattle.core_ir.specs.Meaning.{CallMeaning, Env, bind, first, run, generator, generators, cells, cell_form, cell_at, held, with_index}
+use Rattle.counted_code.specs.declared.tree.CodeGen.{CodeGen}
 use Rattle.counted_code.specs.declared.tree.CodePart.{CodePart}
 use Rattle.counted_code.specs.Machine.{Values}
-use Rattle.counted_code.specs.Terms.{core_of, core_of_parts}
+use Rattle.counted_code.specs.Terms.{core_of, core_of_gens, core_of_parts}
 use Rattle.counted_code.specs.View.{code_term}
+use Rattle.phase_books.specs.Homes.{ComputesAll, left_in}
+use Rattle.phase_checks.specs.Terms.{gen_head, gens_term, parts_term}
+use Rattle.phase_loop_cells.specs.Cells.{as_cell, index_at, source_cell, source_means, stands_at}
+use Rattle.phase_loop_cells.specs.Opened.{lent_env, meaning_in}
+use Rattle.phase_loop_cells.specs.declared.copies.Background.{Background}
+use Rattle.phase_team.specs.Segments.{cells_from}
+use Rattle.run_eval.specs.declared.cell_loop.CellSource.{CellSource}
+use Rattle.run_eval.specs.declared.cell_loop.CellSource.TheVariants.{Generators, Parts}
+use Rattle.run_eval.specs.declared.state.Context.{Context}
+use Rattle.run_eval.specs.Loops as loops
+use Rattle.run_eval.specs.Loops.{held_body, part_held}
 use Rattle.sac_base.specs.declared.base.Base.TheVariants.{Int}
 use Rattle.sac_base.specs.declared.form.Form.{Form}
 use Rattle.sac_base.specs.declared.site.Site.{Site}
 use Rattle.sac_base.specs.declared.faults.FaultKind.TheVariants.{F6}
+use Rattle.sac_base.specs.declared.stop.Stop.{Stop}
+use Rattle.sac_base.specs.declared.stop.Stop.TheVariants.{Faulted, Memory}
 use Rattle.sac_base.specs.Arrays.{ArrayValue, same_form, vector}
 use Rattle.sac_base.specs.Grids.{has_vector}
 use Rattle.sac_base.specs.Operators.{all_of, with_first}
 use Rattle.sac_base.specs.Outcomes.{Ends, and_then, fault}
+use Rattle.sac_base.specs.WithLoops.{Generator, Range, fits_form, held_cell, holder, holds}
 use Rattle.wl_core.specs.Machine.{CellValue}
-use Rattle.sac_base.specs.declared.stop.Stop.{Stop}
-use Rattle.sac_base.specs.declared.stop.Stop.TheVariants.{Faulted, Memory}
-use Rattle.phase_team.specs.Segments.{cells_from}
-use Rattle.phase_checks.specs.Terms.{parts_term}
-use Rattle.run_eval.specs.declared.state.Context.{Context}
-use Rattle.run_eval.specs.Loops.{part_held}
-use Rattle.phase_loop_cells.specs.Cells.{as_cell, index_at, parts_cell}
-use Rattle.phase_loop_cells.specs.Opened.{lent_env, meaning_in}
-use Rattle.phase_workers.specs.Covered.{AreCovered, EndsIf, IfEnded, must_be_there, no_cell}
-use Rattle.phase_books.specs.Homes.{ComputesAll, left_in}
+use Rattle.phase_workers.specs.Covered.{AreCovered, EndsIf, IfEnded, IsWhole, must_be_there, no_cell}
 
 -- ---- cells that are there
 
@@ -58,6 +65,36 @@ module _ (calls : CallMeaning) (turns : ℕ) (ρ : Env) (form : ArrayValue) (v :
   part_there (p ∷ ps) some e =
       one_there (has_vector p.grid v) (first (run calls turns (core_of (code_term p.body)) (bind ρ p.index (vector Int v)))) p ps (part_there ps) some e
 
+-- and so has a generator
+module _ (calls : CallMeaning) (turns : ℕ) (ρ : Env) (form : Form) (v : List ℤ) where
+  abbrev core_gen : CodeGen → Generator
+  core_gen g = generator (gen_head g) (λ index. first (run calls turns (core_of (code_term g.body)) (with_index ρ (gen_head g) index))) ρ
+
+  abbrev holder_in : List CodeGen → List Range → Option Generator
+  holder_in gens ranges = holder (generators calls turns (core_of_gens (gens_term gens)) ρ) ranges v
+
+  holder_there : (g : Generator) → held_cell form (Some g) v ≡ Ok None → ⊥
+  holder_there g e = go (g.cell v) e
+    where
+      fits : (a : ArrayValue) (b : Bool) → (if b then Ok (Some a) else fault F6 g.bounds.site) ≡ Ok None → ⊥
+      fits a true e = some_not_none a e
+      fits a false e = err_not_ok (record { kind = F6; site = g.bounds.site }) None e
+
+      go : (r : Ends ArrayValue) → and_then r (λ c. if fits_form form c then Ok (Some c) else fault F6 g.bounds.site) ≡ Ok None → ⊥
+      go (Err f) e = err_not_ok f None e
+      go (Ok a) e = fits a (fits_form form a) e
+
+  one_gen_there : (inside : Bool) (g : CodeGen) (h : Generator) (rest : Option CodeGen) (others : Option Generator) → (is_some rest ≡ true → held_cell form others v ≡ Ok None → ⊥) → is_some (if inside then Some g else rest) ≡ true
+      → held_cell form (if inside then Some h else others) v ≡ Ok None → ⊥
+  one_gen_there true g h rest others later some e = holder_there h e
+  one_gen_there false g h rest others later some e = later some e
+
+  pub gen_there : (gens : List CodeGen) (ranges : List Range) → is_some (loops.held gens ranges v) ≡ true → held_cell form (holder_in gens ranges) v ≡ Ok None → ⊥
+  gen_there [] ranges some e = absurd (cc)
+  gen_there (g ∷ gens) [] some e = absurd (cc)
+  gen_there (g ∷ gens) (r ∷ ranges) some e =
+      one_gen_there (holds r v) g (core_gen g) (loops.held gens ranges v) (holder_in gens ranges) (gen_there gens ranges) some e
+
 -- ---- cells that must be there
 
 -- a cell that is there stays
@@ -78,6 +115,11 @@ as_there : (r : Ends (Option ArrayValue)) → (r ≡ Ok None → ⊥) → as_cel
 as_there (Ok None) there e = there refl
 as_there (Ok (Some a)) there e = some_not_none a.cells e
 as_there (Err f) there e = err_not_ok f None e
+
+filled_there : (elements : List ℤ) (r : Ends (Option ArrayValue)) → as_cell (Some elements) r ≡ Ok None → ⊥
+filled_there elements (Ok None) e = some_not_none elements e
+filled_there elements (Ok (Some a)) e = some_not_none a.cells e
+filled_there elements (Err f) e = err_not_ok f None e
 
 module _ (cell : ℕ → CellValue) where
   abbrev musts : ℕ → CellValue
@@ -146,9 +188,21 @@ module _ (cell : ℕ → CellValue) where
   all_there lends home n k Known there es end (Err Memory) computes is = tt
   all_there lends home n k Known there es end (Err (Faulted f)) computes is = there is.1
 
--- ---- the cells of parts
+-- ---- the cells of a source
 
-pub parts_there : (context : Context) (h : HeapValue) (e : Values) (parts : List CodePart) (form : Form) (indices : List (List ℤ)) → AreCovered parts indices → (p : ℕ) → p < length indices → parts_cell context h e parts form indices p ≡ Ok None → ⊥
-parts_there context h e parts form indices covered p low =
-    as_there (cell_at (cell_form form.base form.shape) (cells (meaning_in context) context.turns (core_of_parts (parts_term parts)) (lent_env h e)) (index_at indices p))
-    (part_there (meaning_in context) context.turns (lent_env h e) (cell_form form.base form.shape) (index_at indices p) parts (covered p low))
+mapped_some : {A B : Type 0} (f : A → B) (o : Option A) → is_some (option_map f o) ≡ true → is_some o ≡ true
+mapped_some f None e = e
+mapped_some f (Some a) e = refl
+
+module _ (context : Context) (h : HeapValue) (e : Values) (form : Form) (ranges : List Range) (v : List ℤ) where
+  means_there : (source : CellSource) → is_some (held_body source ranges v) ≡ true → source_means context h e source form ranges v ≡ Ok None → ⊥
+  means_there (Generators gens) some =
+      gen_there (meaning_in context) context.turns (lent_env h e) form v gens.now ranges (mapped_some loops.gen_body (loops.held gens.now ranges v) some)
+  means_there (Parts parts) some =
+      part_there (meaning_in context) context.turns (lent_env h e) (cell_form form.base form.shape) v parts.now (mapped_some loops.part_body (part_held parts.now v) some)
+
+pub source_there : (context : Context) (h : HeapValue) (e : Values) (source : CellSource) (p : Plan) (b : Option Background) → IsWhole b source p.ranges.items p.frame → (place : ℕ) → place < length p.frame → source_cell context h e source p b place ≡ Ok None → ⊥
+source_there context h e source p None whole place low =
+    as_there (source_means context h e source p.form p.ranges.items (index_at p.frame place)) (means_there context h e p.form p.ranges.items (index_at p.frame place) source (whole place low))
+source_there context h e source p (Some b) whole place low =
+    filled_there (stands_at b.old b.cells.now b.size place) (source_means context h e source p.form p.ranges.items (index_at p.frame place))

@@ -8,6 +8,5 @@ mod Machines
 mod Openings
 mod OverEnding
 mod OverHeaps
-mod PartFolds
-mod PartedEnding
 mod Shared
+mod Standing

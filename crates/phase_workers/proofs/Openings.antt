@@ -1,31 +1,36 @@
 -- Cells may be computed from each heap of the machine that the lending heap stands for, and stand alone there.
-use Rattle.std.proofs.Common.{◌≡◌, ℕ, suc, ◌+◌, ◌<◌, ◌≤◌, ◌^◌, Bool, true, false, cond, eqb, List, [], ◌∷◌, map, ℤ, Some, refl, ap, ◌∙◌, sym, subst, arith}
+use Rattle.std.proofs.Common.{◌≡◌, ℕ, suc, ◌+◌, ◌<◌, ◌≤◌, ◌^◌, Bool, true, false, cond, eqb, List, [], ◌∷◌, map, ℤ, Option, Some, refl, ap, ◌∙◌, sym, subst, arith}
 use Rattle.std.proofs.lemmas.Bool.{eqb-true}
 use Rattle.buffer_heap.specs.Heaps.{Content, In, Out, Held, HeapValue, at, IsLive, IsNamed, IsIn, content_of}
 use Rattle.phase_cells.specs.Idle.{IsAsLent, IsLending}
 use Rattle.core_ir.specs.declared.tree.Var.{Var}
-use Rattle.core_ir.specs.Meaning.{generators}
 use Rattle.counted_code.specs.declared.tree.CodeGen.{CodeGen}
+use Rattle.counted_code.specs.declared.tree.CodePart.{CodePart}
 use Rattle.counted_code.specs.Counts.{IsWellCounted}
-use Rattle.counted_code.specs.Loops.{holder}
-use Rattle.counted_code.specs.Machine.{Values, code_generators}
-use Rattle.counted_code.specs.Terms.{core_of_gens}
+use Rattle.counted_code.specs.Loops.{CodeCells, Source, holder, part_holder}
+use Rattle.counted_code.specs.Machine.{Values, code_cells, code_generators}
+use Rattle.counted_code.specs.Terms.{CodeProgram}
 use Rattle.counted_code.specs.Values.{Heap, Value, Small, Ref, read, count_of, cells_of}
 use Rattle.counted_code.specs.View.{code_program}
 use Rattle.counted_laws.specs.Simulation.{live, Backed, AllBacked, Shows}
 use Rattle.phase_laws.specs.Alone.{Readable}
-use Rattle.phase_laws.specs.Spending.{gens_take}
-use Rattle.reached_marks.proofs.Standing.{clear_gens_stand}
+use Rattle.reached_marks.proofs.Standing.{clear_gens_stand, clear_parts_stand}
 use Rattle.run_store.specs.Stands.{HasContent, StandsFor}
 use Rattle.sac_base.specs.declared.form.Form.{Form}
-use Rattle.sac_base.specs.WithLoops.{Range, cell_at as with_cell_at}
+use Rattle.sac_base.specs.WithLoops.{Range}
+use Rattle.run_eval.specs.declared.cell_loop.CellSource.{CellSource}
+use Rattle.run_eval.specs.declared.cell_loop.CellSource.TheVariants.{Generators, Parts}
 use Rattle.run_eval.specs.declared.state.Context.{Context}
+use Rattle.run_eval.specs.Jobs.{source_of}
+use Rattle.run_eval.specs.Running as running
 use Rattle.run_eval.specs.Running.{calls_in, generator_in}
-use Rattle.phase_checks.specs.Terms.{gens_term}
+use Rattle.phase_checks.specs.Terms.{gens_term, parts_term}
 use Rattle.phase_loop_laws.specs.Ordered.{StandsAlone, balanced}
-use Rattle.phase_loop_cells.specs.Opened.{GensIn, OpenGens, named, cells_in, lent_array, lent_env, meaning_in, spending_in}
+use Rattle.phase_loop_cells.specs.Cells.{source_means, source_takes}
+use Rattle.phase_loop_cells.specs.Opened.{OpenSource, SourceIn, named, cells_in, lent_array, lent_env, meaning_in, spending_in}
 use Rattle.phase_books.specs.Alive.{IsAlive, AreAlive}
 use Rattle.phase_kernels.proofs.Named.{AreSingle, named_there, some_there}
+use Rattle.phase_workers.specs.Sources.{IsClear, IsCounted}
 use Rattle.phase_workers.proofs.Machines.{machine_of, stands_for_machine}
 
 -- each live buffer of a heap has a reference
@@ -101,11 +106,23 @@ module _ (h : HeapValue) (m : Heap) (stands : StandsFor h m) where
     as_lent : IsAsLent h m
     as_lent b x is = (stands.stored b x is).0.0
 
--- ---- with-loops
+-- ---- sources
 
-module _ (context : Context) (h : HeapValue) (e : Values) (gens : List CodeGen) (xs : List Var) (counted : IsWellCounted (code_program context.code.now)) (here : GensIn (code_program context.code.now) (gens_term gens) xs) (alive : AreAlive h e xs) (referred : AreReferred h) where
-  pub open_gens : (m : Heap) → StandsFor h m → OpenGens context h e gens m
-  open_gens m stands = record {
+generators_same : (context : Context) (e : Values) (gs : List CodeGen) (k : Heap) → code_generators (calls_in context) context.turns (gens_term gs) e k ≡ map (generator_in context e k) gs
+generators_same context e [] k = refl
+generators_same context e (g ∷ gs) k = ap (λ rest. generator_in context e k g ∷ rest) (generators_same context e gs k)
+
+pub cells_same : (context : Context) (e : Values) (ps : List CodePart) → code_cells (calls_in context) context.turns (parts_term ps) e ≡ map (running.cells_in context e) ps
+cells_same context e [] = refl
+cells_same context e (p ∷ ps) = ap (λ rest. running.cells_in context e p ∷ rest) (cells_same context e ps)
+
+pub source_in : (code : CodeProgram) (source : CellSource) (live : List Var) → IsClear code source → IsCounted code source live → SourceIn code source live
+source_in code (Generators gens) live clear counted = (clear, counted)
+source_in code (Parts parts) live clear counted = (clear, counted)
+
+module _ (context : Context) (h : HeapValue) (e : Values) (source : CellSource) (xs : List Var) (counted : IsWellCounted (code_program context.code.now)) (here : SourceIn (code_program context.code.now) source xs) (alive : AreAlive h e xs) (referred : AreReferred h) where
+  pub open_source : (m : Heap) → StandsFor h m → OpenSource context h e source m
+  open_source m stands = record {
     counted = counted;
     live = xs;
     counted_here = here;
@@ -115,23 +132,26 @@ module _ (context : Context) (h : HeapValue) (e : Values) (gens : List CodeGen) 
     lent = as_lent h m stands referred;
   }
 
-  pub lending_gens : (below : (b : ℕ) (x : Held) → at h b ≡ Some x → x.born < h.births) → AreSingle h.places → (h.taken < 2 ^ 64) × (h.given < 2 ^ 64) × (h.reused < 2 ^ 64) → IsLending (OpenGens context h e gens) h
-  lending_gens below single counters = record {
+  pub lending_source : (below : (b : ℕ) (x : Held) → at h b ≡ Some x → x.born < h.births) → AreSingle h.places → (h.taken < 2 ^ 64) × (h.given < 2 ^ 64) × (h.reused < 2 ^ 64) → IsLending (OpenSource context h e source) h
+  lending_source below single counters = record {
     before = machine_of h;
     stands = stands_for_machine h below single counters;
-    opens_first = open_gens (machine_of h) (stands_for_machine h below single counters);
+    opens_first = open_source (machine_of h) (stands_for_machine h below single counters);
   }
 
-  generators_same : (gs : List CodeGen) (k : Heap) → code_generators (calls_in context) context.turns (gens_term gs) e k ≡ map (generator_in context e k) gs
-  generators_same [] k = refl
-  generators_same (g ∷ gs) k = ap (λ rest. generator_in context e k g ∷ rest) (generators_same gs k)
+-- the cells stand alone
+module _ (context : Context) (h : HeapValue) (e : Values) (xs : List Var) (counted : IsWellCounted (code_program context.code.now)) (alive : AreAlive h e xs) (referred : AreReferred h) (m k : Heap) (stands : StandsFor h m) (form : Form) (ranges : List Range) where
+  abbrev Alone : (List ℤ → Option Source) → CellSource → Type 0
+  Alone holds source = StandsAlone m form holds (source_means context h e source form ranges) (source_takes context h e source ranges)
 
-  -- the cells stand alone
-  pub alone_gens : (m k : Heap) → StandsFor h m → (form : Form) (ranges : List Range)
-      → StandsAlone m form (holder (map (generator_in context e k) gens) ranges) (with_cell_at form (generators (meaning_in context) context.turns (core_of_gens (gens_term gens)) (lent_env h e)) ranges) (gens_take (meaning_in context) context.turns (spending_in context) (gens_term gens) (lent_env h e) ranges)
-  alone_gens m k stands form ranges =
-      let code = code_program context.code.now in
+  pub alone_source : (source : CellSource) → SourceIn (code_program context.code.now) source xs → Alone (source_of context e k source ranges) source
+  alone_source (Generators gens) here =
       let clear = here.0 in
-      subst (λ gs. StandsAlone m form (holder gs ranges) (with_cell_at form (generators (meaning_in context) context.turns (core_of_gens (gens_term gens)) (lent_env h e)) ranges) (gens_take (meaning_in context) context.turns (spending_in context) (gens_term gens) (lent_env h e) ranges)) (generators_same gens k)
-      (clear_gens_stand code counted clear.0 clear.1 context.turns context.left context.nest (gens_term gens) clear.2 clear.3 xs here.1 (lent_env h e) form ranges m k e
+      subst (λ gs. Alone (holder gs ranges) (Generators gens)) (generators_same context e gens.now k)
+      (clear_gens_stand (code_program context.code.now) counted clear.0 clear.1 context.turns context.left context.nest (gens_term gens.now) clear.2 clear.3 xs here.1 (lent_env h e) form ranges m k e
+      (all_backed h m stands referred e xs alive) (all_shown h m stands referred e xs alive))
+  alone_source (Parts parts) here =
+      let clear = here.0 in
+      subst (λ (ps : List CodeCells). Alone (part_holder ps) (Parts parts)) (cells_same context e parts.now)
+      (clear_parts_stand (code_program context.code.now) counted clear.0 clear.1 context.turns context.left context.nest (parts_term parts.now) clear.2 clear.3 xs here.1 (lent_env h e) form.base form.shape m e
       (all_backed h m stands referred e xs alive) (all_shown h m stands referred e xs alive))

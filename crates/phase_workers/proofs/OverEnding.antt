@@ -24,7 +24,7 @@ use Rattle.phase_books.specs.Over.{settled_over}
 use Rattle.phase_checks.specs.Terms.{parts_term}
 use Rattle.phase_count.proofs.Tallying.{counts_as}
 use Rattle.phase_laws.specs.Spending.{parts_take, total}
-use Rattle.phase_loop_cells.specs.Cells.{as_cell, parts_cell, parts_taken}
+use Rattle.phase_loop_cells.specs.Cells.{as_cell, index_at}
 use Rattle.phase_loop_cells.specs.Opened.{PartsIn, lent_env, meaning_in, spending_in}
 use Rattle.phase_loop_laws.specs.Worked as worked
 use Rattle.phase_loop_laws.specs.Worked.{IsResult}
@@ -32,9 +32,9 @@ use Rattle.phase_loop_laws.proofs.Places.{costs_in_all}
 use Rattle.phase_loop_laws.proofs.Results.{parts_made}
 use Rattle.phase_team.specs.Endings.{IsArray}
 use Rattle.phase_team.specs.Segments.{cells_from, cost_from}
-use Rattle.phase_workers.proofs.Openings.{AreReferred, all_backed, all_shown}
+use Rattle.phase_workers.proofs.Ending.{same_cell}
+use Rattle.phase_workers.proofs.Openings.{AreReferred, all_backed, all_shown, cells_same}
 use Rattle.phase_workers.proofs.OverHeaps.{over_stands}
-use Rattle.phase_workers.proofs.PartedEnding.{cells_same, same_cell}
 use Rattle.run_eval.specs.Jobs.{AreIndicesOf}
 use Rattle.run_eval.specs.Running.{IsAt, IsValue, Told, ToldStop, parts_job}
 use Rattle.run_eval.specs.declared.state.Context.{Context}
@@ -154,14 +154,20 @@ module _ (context : Context) (e : Values) (parts : List CodePart) (frame : List 
   abbrev takes : List ℤ → ℕ
   takes = parts_take (meaning_in context) context.turns (spending_in context) (parts_term parts) (lent_env h e)
 
+  abbrev parts_cell : ℕ → CellValue
+  parts_cell place = as_cell None (cell_of form.shape (index_at frame place))
+
+  abbrev parts_taken : ℕ → ℕ
+  parts_taken place = takes (index_at frame place)
+
   abbrev pub spent : ℕ
-  spent = cost_from (parts_taken context h e parts frame) 0 (length frame)
+  spent = cost_from parts_taken 0 (length frame)
 
   abbrev pub AllThere : Type 0
-  AllThere = (place : ℕ) → place < length frame → parts_cell context h e parts form frame place ≡ Ok None → ⊥
+  AllThere = (place : ℕ) → place < length frame → parts_cell place ≡ Ok None → ⊥
 
   abbrev pub Computed : List ℤ → Result HeapValue Stop → Type 0
-  Computed es end = ComputesAll (cells_from (parts_cell context h e parts form frame) 0 (length frame)) h spent es end
+  Computed es end = ComputesAll (cells_from parts_cell 0 (length frame)) h spent es end
 
   one : count_of m b ≡ 1
   one = eqb-true (count_of m b) 1 (subst (λ (v : Value). is_only m v ≡ true) over.is only)
@@ -182,17 +188,17 @@ module _ (context : Context) (e : Values) (parts : List CodePart) (frame : List 
       over.own.elements (get_or frame p []) (subst (All (λ (v : List ℤ). length v ≡ length shape)) (sym rows.indices_are) rows_long p [] low)
       (λ none. there p low (ap (as_cell None) (ap (λ (s : List ℕ). cell_of s (get_or frame p [])) over.scalars ∙ none)))
 
-  result_is : (es : List ℤ) (end : Result (Unit {0}) Stop) → IsArray (cells_from (parts_cell context h e parts form frame) 0 (length frame)) es end
+  result_is : (es : List ℤ) (end : Result (Unit {0}) Stop) → IsArray (cells_from parts_cell 0 (length frame)) es end
       → IsResult (joined form.base shape) form.base shape (each (cell_of []) (members rows.frame)) es end
   result_is es end is =
       subst (λ (r : Ends (List (Option ArrayValue))). IsResult (joined form.base shape) form.base shape r es end) (λ i. each (cell_of (over.scalars i)) (rows.indices_are i))
       (parts_made (cell_of form.shape) frame form.base shape es end
-      (subst (λ (f : ℕ → CellValue). IsArray (cells_from f 0 (length frame)) es end) (λ i place. same_cell (cell_of form.shape (worked.index_at frame place)) i) is))
+      (subst (λ (f : ℕ → CellValue). IsArray (cells_from f 0 (length frame)) es end) (λ i place. same_cell None (cell_of form.shape (worked.index_at frame place)) i) is))
 
   spent_is : total takes (members rows.frame) ≡ spent
   spent_is = ap (total takes) (sym rows.indices_are) ∙ sym (costs_in_all takes frame)
 
-  over_ends : (es : List ℤ) (end : Result (Unit {0}) Stop) → AllThere → IsArray (cells_from (parts_cell context h e parts form frame) 0 (length frame)) es end → EndsOver job (Ref b over.base shape) b spent m es end
+  over_ends : (es : List ℤ) (end : Result (Unit {0}) Stop) → AllThere → IsArray (cells_from parts_cell 0 (length frame)) es end → EndsOver job (Ref b over.base shape) b spent m es end
   over_ends es end there is =
       let clear = here.0 in
       subst (λ n. EndsOver job (Ref b over.base shape) b n m es end) spent_is
@@ -200,7 +206,7 @@ module _ (context : Context) (e : Values) (parts : List CodePart) (frame : List 
       (all_backed h m stands referred e xs alive) (all_shown h m stands referred e xs alive) over.variable b form.base over.base shape over.alone.0 (over.value ∙ over.is) one
       (λ y there other. holds_apart b over.variable y xs e over.alone.1 there other) rows.frame rows.box rows.shape_is full large
       (over.own.own (members rows.frame) rows_long) (subst (AreElements (cell_of [])) rows.indices_are (elements there))
-      job (λ i. record { form = record { base = form.base; shape = over.scalars i }; shape = shape; folds = false; indices = rows.indices_are i; source = part_holder (sym (cells_same context h e parts xs counted here alive referred parts) i); result = joined form.base shape })
+      job (λ i. record { form = record { base = form.base; shape = over.scalars i }; shape = shape; folds = false; indices = rows.indices_are i; source = part_holder (sym (cells_same context e parts) i); result = joined form.base shape })
       es end (result_is es end is))
 
   machine_over : job_does (Some w) job m ≡ job_does (Some (Ref b over.base shape)) job m

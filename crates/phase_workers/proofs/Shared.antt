@@ -40,11 +40,11 @@ module _ (code_sync : IsSync code.the_row) where
   context_sync l = as_row_sync (context.the_field l) (search (sendable, counted_sync l) depth 14)
 
   module _ (gen_sync : IsSync gen.the_row) (part_sync : IsSync part.the_row) where
-    source_sync : (l : _) → IsSync (source.the_row l)
-    source_sync l = variants_sync (source.the_record l) (
+    source_sync : (l : _) → IsSync (as_row (source.the_field l))
+    source_sync l = as_row_sync (source.the_field l) (variants_sync (source.enum l) (
       (as_row_sync (shr_slice_field l gen.the_row tt) (shr_slice_sync _ _ gen.the_row gen_sync), tt),
       ((as_row_sync (shr_slice_field l part.the_row tt) (shr_slice_sync _ _ part.the_row part_sync), tt), tt),
-    )
+    ))
 
     cells_sync : (l : _) → IsSync (as_row (cells.the_field l))
     cells_sync l = declared_sync (cells.the_type l) (
@@ -54,7 +54,7 @@ module _ (code_sync : IsSync code.the_row) where
         (
           as_row_sync (shr_ref_field l frames.the_row tt) (shr_sync _ _ frames.the_row frames_shared.the_sync),
           (
-            as_row_sync (source.the_field l) (source_sync l),
+            source_sync l,
             (
               as_row_sync (shr_ref_field l plan.the_row tt) (shr_sync _ _ plan.the_row plan_shared.the_sync),
               (as_row_sync (option.the_field (background.the_row l)) (search (sendable, background_shared.the_sync) depth 14), tt),

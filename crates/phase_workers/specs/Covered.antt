@@ -1,17 +1,36 @@
--- Parted loops in which each position has a cell.
-use Rattle.std.specs.Prelude.{◌≡◌, ℕ, ◌<◌, true, List, ℤ, length, is_some, Some, None, Result, Ok, Err}
-use Rattle.counted_code.specs.declared.tree.CodePart.{CodePart}
+-- Loops in which each position has a cell.
+use Rattle.std.specs.Prelude.{◌≡◌, ℕ, ◌<◌, true, List, ℤ, length, is_some, Option, Some, None, Result, Ok, Err}
+use Rattle.phase_kernels.specs.declared.cells.KernelCells.{KernelCells}
+use Rattle.phase_loop_cells.specs.Cells.{index_at, source_cell, source_taken}
+use Rattle.phase_loop_cells.specs.declared.copies.Background.{Background}
+use Rattle.run_eval.specs.declared.cell_loop.CellSource.{CellSource}
+use Rattle.run_eval.specs.Loops.{held_body}
+use Rattle.run_values.specs.Scopes.{current}
 use Rattle.sac_base.specs.declared.faults.Fault.{Fault}
 use Rattle.sac_base.specs.declared.faults.FaultKind.TheVariants.{F1}
-use Rattle.wl_core.specs.Machine.{CellValue}
 use Rattle.sac_base.specs.declared.stop.Stop.{Stop}
 use Rattle.sac_base.specs.declared.stop.Stop.TheVariants.{Faulted, Memory}
-use Rattle.run_eval.specs.Loops.{part_held}
-use Rattle.phase_loop_cells.specs.Cells.{index_at}
+use Rattle.sac_base.specs.WithLoops.{Range}
+use Rattle.wl_core.specs.Machine.{CellValue}
 
--- each index is in the grid of some part
-abbrev pub AreCovered : List CodePart → List (List ℤ) → Type 0
-AreCovered parts indices = (place : ℕ) → place < length indices → is_some (part_held parts (index_at indices place)) ≡ true
+-- what the cell of a position comes to, and how many buffers it takes
+abbrev pub cell_of : KernelCells → ℕ → CellValue
+cell_of s = source_cell s.cells.context s.cells.heap.now (current s.cells.frames.now) s.cells.source s.cells.plan.now s.cells.background
+
+abbrev pub taken_of : KernelCells → ℕ → ℕ
+taken_of s = source_taken s.cells.context s.cells.heap.now (current s.cells.frames.now) s.cells.source s.cells.plan.now
+
+-- each index has a cell
+abbrev pub AreCovered : CellSource → List Range → List (List ℤ) → Type 0
+AreCovered source ranges indices = (place : ℕ) → place < length indices → is_some (held_body source ranges (index_at indices place)) ≡ true
+
+-- the same, or something stands where an index has none
+abbrev pub IsWhole : Option Background → CellSource → List Range → List (List ℤ) → Type 0
+IsWhole None source ranges indices = AreCovered source ranges indices
+IsWhole (Some b) source ranges indices = Unit {0}
+
+abbrev pub AreWhole : KernelCells → Type 0
+AreWhole s = IsWhole s.cells.background s.cells.source s.cells.plan.now.ranges.items s.cells.plan.now.frame
 
 -- What a position without a cell counts as: some fault, no matter which. Workers stop there for want of memory, and believe a fault only where each
 -- position has a cell.

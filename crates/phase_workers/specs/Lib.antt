@@ -1,1 +1,4 @@
+pub mod Backgrounds
 pub mod Covered
+pub mod Phases
+pub mod Sources

@@ -1,27 +1,34 @@
-//! Parted loops in which each position has a cell.
+//! The cells of a loop in which each position has a cell, computed by a team.
 
-ghost use Rattle.std.specs.Prelude.{◌≡◌, ℕ, ℤ, List, IfOk, IsTrue, is_some, length, true};
+ghost use Rattle.std.specs.Prelude.{◌≡◌, ◌≢◌, ◌*◌, ◌<◌, ◌≤◌, ℕ, ℤ, List, IfOk, IsTrue, Ok, None, is_some, length};
+ghost use Rattle.std.specs.Thread.{IsSync};
+ghost use Rattle.counted_code.specs.View.{code_program};
+ghost use Rattle.phase_books.specs.Alive.{AreAlive};
+ghost use Rattle.phase_books.specs.Homes.{ComputesAll, IsBooked, left_in, new_behind};
+ghost use Rattle.phase_cells.specs.Idle.{IsLending};
 ghost use Rattle.phase_kernels.specs.Ready.{HasKernels};
-ghost use Rattle.phase_loop_cells.specs.Cells.{source_cell, source_taken};
-ghost use Rattle.phase_loop_cells.specs.Opened.{OpenSource};
-ghost use Rattle.phase_workers.specs.Covered.{AreCovered, EndsIf, must_be_there};
-ghost use Rattle.run_eval.specs.Loops.{part_held};
+ghost use Rattle.phase_loop_cells.specs.Opened.{OpenSource, SourceIn};
+ghost use Rattle.phase_team.specs.Segments.{IsComputed, Tells, cells_from, cost_from};
+ghost use Rattle.phase_workers.specs.Covered.{AreCovered, AreWhole, EndsIf, IfEnded, IsWhole, cell_of, must_be_there, taken_of};
+ghost use Rattle.run_eval.specs.Loops.{held_body};
 ghost use Rattle.run_values.specs.Scopes.{current};
 ghost use Rattle.sac_base.specs.Arrays.{size};
 ghost use Rattle.wl_core.specs.Machine.{CellValue};
-ghost use Rattle.phase_team.specs.Segments.{IsComputed, Tells};
 
-use array_with_loops::{Frame, IndexVector};
+use array_with_loops::IndexVector;
 use buffer_heap::Heap;
-use counted_code::CodePart;
+use counted_code::{Code, CodeGen, CodePart};
+use phase_books::{Books, Workers, compute_array};
 use phase_cells::CellRuns;
 use phase_kernels::{KernelCells, KernelScratch};
-use phase_team::CellEnd;
+use phase_loop_cells::LoopCells;
+use phase_team::{CellEnd, Gate};
+use run_eval::body_at;
 use run_store::Store;
-use sac_base::{Cell, Memory, Stop};
-use std::alloc::Global;
+use sac_base::{Cell, Memory, Stop, elements};
+use std::thread::Threads;
 
-/// The cells of a parted loop, where a position without one counts as want of memory.
+/// The cells of a loop, where a position without one counts as want of memory.
 #[derive(Clone, Copy)]
 pub struct CoveredCells<'a> {
     pub cells: KernelCells<'a>,
@@ -30,12 +37,9 @@ pub struct CoveredCells<'a> {
 impl<'a> CellRuns for CoveredCells<'a> {
     type Scratch = KernelScratch<'a>;
 
-    ghost cell = { λ s p. must_be_there
-        (source_cell s.cells.cells.context s.cells.cells.heap.now (current s.cells.cells.frames.now) s.cells.cells.source s.cells.cells.plan.now
-        s.cells.cells.background p) };
+    ghost cell = { λ s p. must_be_there (cell_of s.cells p) };
 
-    ghost takes = { λ s p. source_taken s.cells.cells.context s.cells.cells.heap.now (current s.cells.cells.frames.now) s.cells.cells.source
-        s.cells.cells.plan.now p };
+    ghost takes = { λ s p. taken_of s.cells p };
 
     ghost positions = { λ s. length s.cells.cells.plan.now.frame };
 
@@ -96,18 +100,69 @@ fn covered(end: CellEnd) -> CellEnd
     }
 }
 
-/// The end of a phase of such cells, in which a fault is believed only where each position has a cell: to look at all of
-/// them takes long, and a fault is the last thing that a program does.
-pub fn believed(
-    end: Result<(), Stop>,
-    alloc: Global,
-    parts: &[CodePart],
-    frame: &Frame,
+/// Computes the cells of all indices, each at its place. Where it says anything, each index has a cell, or something stands
+/// there.
+pub fn all_cells<G: Gate, R: Threads + Sync>(
+    team: &Workers<'_, G, R>,
+    covered: &CoveredCells<'_>,
+    into: &mut [Cell],
+    books: &mut Books,
 ) -> Result<(), Stop>
-    ensures { EndsIf (AreCovered parts.now frame.now) end result }
+    requires counted { SourceIn (code_program covered.now.cells.cells.context.code.now) covered.now.cells.cells.source covered.now.cells.live.now }
+    requires alive { AreAlive covered.now.cells.cells.heap.now (current covered.now.cells.cells.frames.now) covered.now.cells.live.now }
+    requires home { books.old.home ≡ new_behind covered.now.cells.cells.heap.now }
+    ensures booked { IsBooked (length covered.now.cells.cells.plan.now.frame) books.old books.new result }
+    ensures computed { ComputesAll (cells_from (cell_of covered.now.cells) 0 (length covered.now.cells.cells.plan.now.frame)) covered.now.cells.cells.heap.now
+        (cost_from (taken_of covered.now.cells) 0 (length covered.now.cells.cells.plan.now.frame)) into.new (left_in books.new.home result) }
+    ensures there { IfEnded result ((place : ℕ) → place < length covered.now.cells.cells.plan.now.frame → cell_of covered.now.cells place ≢ Ok None) }
+{
+    let cells = &covered.cells.cells;
+    let _code = cells.context.code.get();
+    cells.heap.buffers_are_numbered();
+    let Some(size) = elements(&cells.plan.form.shape) else {
+        return Err(Stop::Memory);
+    };
+    let width = size as usize;
+    let count = cells.plan.frame.count();
+    if count > MOST || count.checked_mul(width) != Some(into.len()) {
+        return Err(Stop::Memory);
+    }
+    let end = each_cell(team, covered, count, width, into, books);
+    believed(end, &covered.cells)
+}
+
+// The same of so many positions and elements of a cell.
+fn each_cell<G: Gate, R: Threads + Sync>(
+    team: &Workers<'_, G, R>,
+    covered: &CoveredCells<'_>,
+    count: usize,
+    width: usize,
+    into: &mut [Cell],
+    books: &mut Books,
+) -> Result<(), Stop>
+    requires positions { (count ≤ 16777216) × (count ≡ length covered.now.cells.cells.plan.now.frame)
+        × (width ≡ size covered.now.cells.cells.plan.now.form.shape) }
+    requires lending { IsLending (OpenSource covered.now.cells.cells.context covered.now.cells.cells.heap.now
+        (current covered.now.cells.cells.frames.now) covered.now.cells.cells.source) covered.now.cells.cells.heap.now }
+    requires room { length into.old ≡ count * width }
+    requires home { books.old.home ≡ new_behind covered.now.cells.cells.heap.now }
+    ensures booked { IsBooked count books.old books.new result }
+    ensures computed { ComputesAll (cells_from (λ p. must_be_there (cell_of covered.now.cells p)) 0 count) covered.now.cells.cells.heap.now
+        (cost_from (taken_of covered.now.cells) 0 count) into.new (left_in books.new.home result) }
+{
+    shares::<CodePart>();
+    shares::<CodeGen>();
+    shares::<Code>();
+    compute_array(team, covered, count, width, into, books)
+}
+
+// The end of a phase of such cells, in which a fault is believed only where each position has a cell or something stands
+// there: to look at all of them takes long, and a fault is the last thing that a program does.
+fn believed(end: Result<(), Stop>, cells: &KernelCells<'_>) -> Result<(), Stop>
+    ensures { EndsIf (AreWhole cells.now) end result }
 {
     match end {
-        Err(Stop::Faulted(fault)) => match are_covered(alloc, parts, frame) {
+        Err(Stop::Faulted(fault)) => match is_whole(&cells.cells) {
             Ok(true) => Err(Stop::Faulted(fault)),
             _ => Err(Stop::Memory),
         },
@@ -115,28 +170,43 @@ pub fn believed(
     }
 }
 
-// Whether each index of a frame is in the grid of some part.
-fn are_covered(alloc: Global, parts: &[CodePart], frame: &Frame) -> Result<bool, Memory>
-    ensures { IfOk result (λ b. IsTrue b → AreCovered parts.now frame.now) }
+fn is_whole(cells: &LoopCells<'_>) -> Result<bool, Memory>
+    ensures { IfOk result (λ b. IsTrue b → IsWhole cells.now.background cells.now.source cells.now.plan.now.ranges.items cells.now.plan.now.frame) }
 {
-    let mut index = IndexVector::new(alloc);
-    for place in 0..frame.count() {
-        frame.index(place, &mut index)?;
-        if !is_held(parts, index.components()) {
+    match cells.background {
+        Some(_) => Ok(true),
+        None => are_covered(cells),
+    }
+}
+
+// Whether each index has a cell.
+fn are_covered(cells: &LoopCells<'_>) -> Result<bool, Memory>
+    ensures { IfOk result (λ b. IsTrue b → AreCovered cells.now.source cells.now.plan.now.ranges.items cells.now.plan.now.frame) }
+{
+    let mut index = IndexVector::new(cells.context.alloc);
+    for place in 0..cells.plan.frame.count() {
+        cells.plan.frame.index(place, &mut index)?;
+        if !is_held(cells, index.components()) {
             return Ok(false);
         }
     }
     Ok(true)
 }
 
-// Whether an index is in the grid of some part.
-fn is_held(parts: &[CodePart], index: &[i32]) -> bool
-    ensures { result ≡ is_some (part_held parts.now index.now) }
+// Whether an index has a cell.
+fn is_held(cells: &LoopCells<'_>, index: &[i32]) -> bool
+    ensures { result ≡ is_some (held_body cells.now.source cells.now.plan.now.ranges.items index.now) }
 {
-    for part in parts {
-        if part.grid.contains(index) {
-            return true;
-        }
+    match body_at(&cells.source, &cells.plan.ranges, index) {
+        Some(_) => true,
+        None => false,
     }
-    false
 }
+
+// A law. Values of the type may be shared among threads.
+pub fn shares<X: Sync>()
+    ensures { IsSync X.row }
+{}
+
+/// The most positions of a phase.
+pub const MOST: usize = 16_777_216;

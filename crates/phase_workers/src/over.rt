@@ -15,23 +15,21 @@ ghost use Rattle.run_store.specs.Stands.{lender_of};
 ghost use Rattle.run_values.specs.Scopes.{current};
 ghost use Rattle.run_values.specs.Shown.{value_of};
 
-use crate::parted::part_cells;
+use crate::arrays::array_cells;
+use crate::sources::live_apart;
 use array_with_loops::Plan;
-use buffer_heap::Heap;
 use core_ir::Var;
 use counted_code::CodePart;
 use over_checks::may_be_over;
 use over_phases::phases_end_over;
-use phase_books::{
-    Workers, alive_in_parts, end_phase, open_books, settle_over, steps_of_parts, stop_phase,
-};
-use phase_checks::parts_are_counted;
+use phase_books::{Begun, Workers, end_phase, open_books, settle_over, steps_of, stop_phase};
 use phase_kernels::KernelCells;
 use phase_loop_cells::LoopCells;
 use phase_team::Gate;
-use run_eval::{CellLoop, CellSource, Context, State, run_over_in_order};
+use run_eval::{CellLoop, CellSource, Context, LoopResult, State, run_over_in_order};
 use run_over::claim_over;
-use run_values::{Frames, RunValue};
+use run_store::Target;
+use run_values::RunValue;
 use sac_base::{Memory, Stop};
 use std::thread::Threads;
 
@@ -53,30 +51,16 @@ pub fn over_outside<G: Gate, R: Threads + Sync>(
     let CellSource::Parts(parts) = work.source else {
         return run_over_in_order(work, array, context, state);
     };
-    let code = context.code.get();
-    if state.heap.lent.is_some()
-        || !workers.nesting.has_room_for_parts(parts, code)
-        || !context.code.parts_reach_none(parts)
-    {
+    let source = CellSource::Parts(parts);
+    let Some(live) = live_apart(workers, &source, context, state)? else {
+        return run_over_in_order(work, array, context, state);
+    };
+    if !is_phase_over(parts, work.plan, array, &live, *context, state)? {
         return run_over_in_order(work, array, context, state);
     }
-    let live = alive_in_parts(context.alloc, parts, &state.frames, &state.heap.own)?;
-    if !parts_are_counted(context.alloc, code, &live, parts)?
-        || !is_phase_over(
-            parts,
-            work.plan,
-            array,
-            *context,
-            &live,
-            &state.frames,
-            &state.heap.own,
-        )?
-    {
-        return run_over_in_order(work, array, context, state);
-    }
-    let steps = steps_of_parts(parts, &live, &state.frames);
+    let steps = steps_of(&source, &live, &state.frames);
     let team = workers.of_phase(work.plan.frame.count(), steps);
-    over_by_workers(&team, parts, work.plan, array, context, &live, state)
+    over_by_workers(&team, parts, work.plan, array, &live, context, state)
 }
 
 // Whether all cells may be computed before one of them is written over the array.
@@ -84,19 +68,18 @@ fn is_phase_over<'a>(
     parts: &'a [CodePart],
     plan: &'a Plan,
     array: RunValue,
-    context: Context<'a>,
     live: &'a [Var],
-    frames: &'a Frames,
-    heap: &'a Heap,
+    context: Context<'a>,
+    state: &'a State<'_>,
 ) -> Result<bool, Memory>
     ensures { IfOk result (λ over. IsTrue over →
-        MayBeOver context.entry heap.now (current frames.now) parts.now plan.now.form plan.now.shape live.now (value_of array)) }
+        MayBeOver context.entry state.now.heap.own (current state.now.frames) parts.now plan.now.form plan.now.shape live.now (value_of array)) }
 {
     let cells = KernelCells {
         cells: LoopCells {
             context,
-            heap,
-            frames,
+            heap: &state.heap.own,
+            frames: &state.frames,
             source: CellSource::Parts(parts),
             plan,
             background: None,
@@ -107,13 +90,13 @@ fn is_phase_over<'a>(
 }
 
 // The same of a loop that is a phase: the cells are computed from what stands in the array, and then written over it.
-fn over_by_workers<G: Gate, R: Threads + Sync>(
-    workers: &Workers<'_, G, R>,
-    parts: &[CodePart],
-    plan: &Plan,
+fn over_by_workers<'a, G: Gate, R: Threads + Sync>(
+    team: &Workers<'_, G, R>,
+    parts: &'a [CodePart],
+    plan: &'a Plan,
     array: RunValue,
-    context: &Context<'_>,
     live: &[Var],
+    context: &Context<'_>,
     state: &mut State<'_>,
 ) -> Result<RunValue, Stop>
     requires counted { PartsIn (code_program context.now.code.now) (parts_term parts.now) live.now }
@@ -134,19 +117,21 @@ fn over_by_workers<G: Gate, R: Threads + Sync>(
     state.heap.own.buffers_are_numbered();
     phases_end_over();
     let positions = plan.frame.count();
-    let mut books = open_books(&mut state.phases, &state.heap.own, positions)?;
-    let mut cells = vec![in context.alloc; 0; positions]?;
-    let end = part_cells(
-        workers,
-        parts,
+    let books = open_books(&mut state.phases, &state.heap.own, positions)?;
+    let cells = vec![in context.alloc; 0; positions]?;
+    let target = Target {
+        cells,
+        buffer: None,
+    };
+    let mut begun = Begun { target, books };
+    let work = CellLoop {
+        source: CellSource::Parts(parts),
         plan,
-        *context,
-        live,
-        &state.frames,
-        &state.heap.own,
-        &mut cells,
-        &mut books,
-    );
+        result: LoopResult::Joined,
+    };
+    let end = array_cells(team, work, live, None, *context, state, &mut begun);
+    let Begun { target, books } = begun;
+    let Target { cells, buffer: _ } = target;
     match end {
         Ok(_) => {
             end_phase(books, state);

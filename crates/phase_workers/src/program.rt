@@ -50,6 +50,7 @@ pub fn run<G: Gate, R: Threads + Sync>(
 {
     let nesting = Nesting::of(alloc, code, plan.caps.depth, plan.workers);
     let workers = Workers {
+        alloc,
         rt,
         gate,
         workers: plan.workers,

@@ -1,8 +1,6 @@
-use Rattle.run_values.specs.Scopes.{current}
-use Rattle.phase_loop_cells.specs.Cells.{source_cell}
+use Rattle.phase_workers.specs.Covered.{cell_of}
 use Rattle.phase_workers.proofs.covered.CoveredCellsCellRuns.run_alone.Goals as goal
 
 pub returns-clause-tells : goal.returns-clause-tells
 returns-clause-tells c =
-    let cells = c.args.self.now.cells.cells in
-    c.covered.ensures.tells (source_cell cells.context cells.heap.now (current cells.frames.now) cells.source cells.plan.now cells.background c.args.position) c.run_alone.new.into c.in_ok-end.ensures.tells
+    c.covered.ensures.tells (cell_of c.args.self.now.cells c.args.position) c.run_alone.new.into c.in_ok-end.ensures.tells
