@@ -6,8 +6,6 @@ use Rattle.sac_base.specs.Outcomes.{Ends}
 use Rattle.sac_base.specs.WithLoops.{Range, cell_at as with_cell_at}
 use Rattle.buffer_heap.specs.Heaps.{HeapValue}
 use Rattle.core_ir.specs.Meaning.{generators, cells, cell_form, cell_at as part_cell_at}
-use Rattle.counted_code.specs.declared.tree.CodeGen.{CodeGen}
-use Rattle.counted_code.specs.declared.tree.CodePart.{CodePart}
 use Rattle.counted_code.specs.Loops.{release_rest}
 use Rattle.counted_code.specs.Machine.{Values}
 use Rattle.counted_code.specs.Terms.{core_of_gens, core_of_parts}
@@ -75,29 +73,6 @@ source_cell context lends e source plan background place =
 
 abbrev pub source_taken : Context → HeapValue → Values → CellSource → Plan → ℕ → ℕ
 source_taken context lends e source plan place = source_takes context lends e source plan.ranges.items (index_at plan.frame place)
-
--- ---- cells of with-loops
-
-abbrev pub gens_cell : Context → HeapValue → Values → List CodeGen → Plan → Option Background → ℕ → CellValue
-gens_cell context lends e gens plan background place =
-    as_cell (fill_at background place)
-    (with_cell_at plan.form (generators (meaning_in context) context.turns (core_of_gens (gens_term gens)) (lent_env lends e)) plan.ranges.items
-    (index_at plan.frame place))
-
-abbrev pub gens_taken : Context → HeapValue → Values → List CodeGen → Plan → ℕ → ℕ
-gens_taken context lends e gens plan place =
-    gens_take (meaning_in context) context.turns (spending_in context) (gens_term gens) (lent_env lends e) plan.ranges.items (index_at plan.frame place)
-
--- ---- cells of parted loops
-
-abbrev pub parts_cell : Context → HeapValue → Values → List CodePart → Form → List (List ℤ) → ℕ → CellValue
-parts_cell context lends e parts form indices place =
-    as_cell None (part_cell_at (cell_form form.base form.shape)
-    (cells (meaning_in context) context.turns (core_of_parts (parts_term parts)) (lent_env lends e)) (index_at indices place))
-
-abbrev pub parts_taken : Context → HeapValue → Values → List CodePart → List (List ℤ) → ℕ → ℕ
-parts_taken context lends e parts indices place =
-    parts_take (meaning_in context) context.turns (spending_in context) (parts_term parts) (lent_env lends e) (index_at indices place)
 
 -- ---- answers
 

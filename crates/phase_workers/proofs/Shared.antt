@@ -1,8 +1,9 @@
 -- The cells of a loop may be shared among threads.
 use denote.Builtin.{bool}
+use denote.Enum.Declared.{shape as enum_shape}
 use denote.Hole.{as_row}
-use denote.Param.Send.{IsSync, shr_sync, shr_slice_sync, view_sync, sendable}
-use denote.Param.SendFields.{as_row_sync, declared_sync, variants_sync}
+use denote.Param.Send.{IsSync, enum_sync, shr_sync, shr_slice_sync, view_sync, sendable}
+use denote.Param.SendFields.{as_row_sync, declared_sync}
 use denote.Struct.Field.{bool-field, shr_ref_field, shr_slice_field}
 use Rattle.array_with_loops.specs.contracts.plans.Plan as plan
 use Rattle.array_with_loops.proofs.plans.Plan.TheSendSync as plan_shared
@@ -41,9 +42,9 @@ module _ (code_sync : IsSync code.the_row) where
 
   module _ (gen_sync : IsSync gen.the_row) (part_sync : IsSync part.the_row) where
     source_sync : (l : _) → IsSync (as_row (source.the_field l))
-    source_sync l = as_row_sync (source.the_field l) (variants_sync (source.enum l) (
-      (as_row_sync (shr_slice_field l gen.the_row tt) (shr_slice_sync _ _ gen.the_row gen_sync), tt),
-      ((as_row_sync (shr_slice_field l part.the_row tt) (shr_slice_sync _ _ part.the_row part_sync), tt), tt),
+    source_sync l = as_row_sync (source.the_field l) (enum_sync (enum_shape (source.the_type l)) (
+      (shr_slice_sync _ _ gen.the_row gen_sync, tt),
+      ((shr_slice_sync _ _ part.the_row part_sync, tt), tt),
     ))
 
     cells_sync : (l : _) → IsSync (as_row (cells.the_field l))
