@@ -122,15 +122,50 @@ fn gives(alloc: Global, right: CodeRight, cases: &[(Cell, Result<Cell, Fault>)])
 #[test]
 fn a_fold_has_the_value_of_all_its_cells(rt: HostRuntime) {
     let alloc = rt.alloc();
-    let sum = fold(alloc, Op::Add, 3, &[(1, 5)], body(alloc, Op::Mul, 31, 1), 32);
+    let sum = fold(
+        alloc,
+        Op::Add,
+        3,
+        &[(1, 5)],
+        body(alloc, Op::Mul, 31, 1),
+        32,
+    );
     assert!(rt; gives(alloc, sum, &[(1, Ok(10)), (3, Ok(30)), (-2, Ok(-20))]));
-    let product = fold(alloc, Op::Mul, 4, &[(-1, 3)], body(alloc, Op::Add, 31, 1), 32);
+    let product = fold(
+        alloc,
+        Op::Mul,
+        4,
+        &[(-1, 3)],
+        body(alloc, Op::Add, 31, 1),
+        32,
+    );
     assert!(rt; gives(alloc, product, &[(0, Ok(0)), (2, Ok(24)), (5, Ok(840))]));
-    let least = fold(alloc, Op::Min, 6, &[(0, 4)], body(alloc, Op::Mul, 31, 1), 32);
+    let least = fold(
+        alloc,
+        Op::Min,
+        6,
+        &[(0, 4)],
+        body(alloc, Op::Mul, 31, 1),
+        32,
+    );
     assert!(rt; gives(alloc, least, &[(1, Ok(0)), (-2, Ok(-6))]));
-    let greatest = fold(alloc, Op::Max, 4, &[(0, 4)], body(alloc, Op::Mul, 31, 1), 32);
+    let greatest = fold(
+        alloc,
+        Op::Max,
+        4,
+        &[(0, 4)],
+        body(alloc, Op::Mul, 31, 1),
+        32,
+    );
     assert!(rt; gives(alloc, greatest, &[(7, Ok(21)), (-2, Ok(1))]));
-    let none = fold(alloc, Op::Add, 6, &[(4, 4)], body(alloc, Op::Mul, 31, 1), 32);
+    let none = fold(
+        alloc,
+        Op::Add,
+        6,
+        &[(4, 4)],
+        body(alloc, Op::Mul, 31, 1),
+        32,
+    );
     assert!(rt; gives(alloc, none, &[(1, Ok(10))]));
 }
 
@@ -233,11 +268,7 @@ fn the_cells_of_a_row_come_before_the_next_row(rt: HostRuntime) {
     let value = CodeRight::Binary(Op::Add, Var(33), Var(36));
     bound(alloc, &mut steps, 37, value);
     let made = fold(alloc, Op::Add, 3, &[(0, 2), (0, 3)], steps, 37);
-    let cases = [
-        (0, Err(DIVISION)),
-        (3, Err(DIVISION)),
-        (4, Err(OUTSIDE)),
-    ];
+    let cases = [(0, Err(DIVISION)), (3, Err(DIVISION)), (4, Err(OUTSIDE))];
     assert!(rt; gives(alloc, made, &cases));
 }
 
@@ -282,7 +313,14 @@ fn a_fold_within_a_loop_is_a_kernel(rt: HostRuntime) {
         CodeRight::Binary(Op::Lt, Var(11), Var(1)),
     );
     let mut turn = Vec::new(alloc);
-    let sum = fold(alloc, Op::Add, 10, &[(1, 3)], body(alloc, Op::Mul, 31, 4), 32);
+    let sum = fold(
+        alloc,
+        Op::Add,
+        10,
+        &[(1, 3)],
+        body(alloc, Op::Mul, 31, 4),
+        32,
+    );
     bound(alloc, &mut turn, 51, sum);
     bound(
         alloc,
@@ -339,9 +377,23 @@ fn a_fold_within_a_loop_is_a_kernel(rt: HostRuntime) {
 #[test]
 fn other_folds_are_no_kernels(rt: HostRuntime) {
     let alloc = rt.alloc();
-    let quotient = fold(alloc, Op::Div, 4, &[(1, 5)], body(alloc, Op::Mul, 31, 1), 32);
+    let quotient = fold(
+        alloc,
+        Op::Div,
+        4,
+        &[(1, 5)],
+        body(alloc, Op::Mul, 31, 1),
+        32,
+    );
     assert!(rt; kernel(alloc, quotient).is_none());
-    let mut part = fold(alloc, Op::Add, 3, &[(1, 5)], body(alloc, Op::Mul, 31, 1), 32);
+    let mut part = fold(
+        alloc,
+        Op::Add,
+        3,
+        &[(1, 5)],
+        body(alloc, Op::Mul, 31, 1),
+        32,
+    );
     if let CodeRight::Parted(parted) = &mut part {
         parted.frame = frame(alloc, &[(0, 5)]);
     }
