@@ -21,7 +21,7 @@ use Rattle.sac_base.specs.declared.memory.Memory.{Memory}
 use Rattle.core_facts.specs.Facts.{Fact, Facts, shape_fact, note_all, parted_shape, known_shape, right_facts, block_facts}
 use Rattle.core_cleaning.specs.Checks.{simplified, simplified_right, simplified_gens, simplified_parts}
 use Rattle.fact_table.specs.Table.{fact_of}
-use Rattle.known_rights.specs.declared.right.KnownRight.{KnownRight}
+use Rattle.known_rights.specs.declared.known.KnownRight.{KnownRight}
 use Rattle.const_shape.specs.Settling.{settled_let, settled_gen, settled_part}
 
 -- ---- lists of generators and parts

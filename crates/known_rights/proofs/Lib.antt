@@ -1,3 +1,3 @@
-pub mod Known
+pub mod Told
 pub mod Fields
 pub mod Plain

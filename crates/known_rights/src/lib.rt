@@ -1,8 +1,6 @@
 //! Blocks and right sides that a walk makes anew, with what is known of their values.
 #![tactic(auto)]
 
-mod block;
-mod right;
+mod known;
 
-pub use block::KnownBlock;
-pub use right::KnownRight;
+pub use known::{KnownBlock, KnownRight};

@@ -20,7 +20,7 @@ use Rattle.core_facts.specs.Facts.{Fact, Facts, note_all, in_part, right_facts}
 use Rattle.fact_table.specs.Table.{fact_of}
 use Rattle.plain_facts.specs.Rights.{fact_of_right}
 use Rattle.parted_bodies.specs.declared.names.Progress.{Progress}
-use Rattle.known_rights.specs.declared.right.KnownRight.{KnownRight}
+use Rattle.known_rights.specs.declared.known.KnownRight.{KnownRight}
 use Rattle.known_rights.proofs.Fields.{shown_gen, shown_part, gen_out, gen_roll, part_out, part_roll}
 use Rattle.known_rights.proofs.Plain.{IsOther, other_plain}
 use Rattle.merge_walk.specs.Here.{BindingMerged}

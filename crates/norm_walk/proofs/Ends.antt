@@ -27,7 +27,7 @@ use Rattle.partable_loops.specs.Planned.{IsPlannable}
 use Rattle.partable_loops.specs.declared.planning.PartPlan.{PartPlan}
 use Rattle.parted_bodies.specs.declared.names.Progress.{Progress}
 use Rattle.parted_bodies.specs.Making.{binds_of, made_parts, parted_op}
-use Rattle.known_rights.specs.declared.right.KnownRight.{KnownRight}
+use Rattle.known_rights.specs.declared.known.KnownRight.{KnownRight}
 use Rattle.known_rights.specs.Anywhere.{IsKnownAnywhere}
 use Rattle.known_rights.proofs.Fields.{shown_gen, shown_part, gen_out, gen_roll, part_out, part_roll}
 use Rattle.known_rights.proofs.Plain.{IsOther, other_plain}

@@ -21,7 +21,7 @@ use Rattle.fact_table.specs.Table.{fact_of}
 use Rattle.plain_facts.specs.Rights.{fact_of_right}
 use Rattle.core_selections.specs.Vectors.{next, next_right, vectored, vectored_right}
 use Rattle.known_rights.specs.Anywhere.{IsKnownAnywhere}
-use Rattle.known_rights.specs.declared.right.KnownRight.{KnownRight}
+use Rattle.known_rights.specs.declared.known.KnownRight.{KnownRight}
 use Rattle.known_rights.proofs.Fields.{shown_gen, shown_part, gen_out, gen_roll, part_out, part_roll}
 use Rattle.known_rights.proofs.Plain.{IsOther, other_plain}
 use Rattle.vector_selections.specs.Vectored.{vectored_gen, next_gen, vectored_part, next_part}

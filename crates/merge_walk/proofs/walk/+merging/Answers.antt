@@ -15,7 +15,7 @@ use Rattle.core_loops.specs.Steps.{facts_after}
 use Rattle.merge_walk.specs.Lists.{GenWalked, PartWalked}
 use Rattle.merge_walk.specs.Walking.{BlockWalked, RightWalked}
 use Rattle.merge_walk.proofs.Ends.{binding_end, call_end, choice_end, cut_end, earlier_end, gen_end, generators_end, known_at, learned_end, other_walked, part_end, turns_end}
-use Rattle.known_rights.proofs.Known.{holds_of, holds_on, known_here, known_of, with_known}
+use Rattle.known_rights.proofs.Told.{holds_of, holds_on, known_here, known_of, with_known}
 use Rattle.known_rights.proofs.Plain.{IsOther, other_facts}
 use Rattle.core_ir.specs.Terms.{RightTerm}
 use Rattle.core_facts.specs.Facts.{block_facts, common_facts, right_facts}

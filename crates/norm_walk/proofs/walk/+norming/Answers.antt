@@ -13,7 +13,7 @@ use Rattle.fact_table.specs.Notes.{Note}
 use Rattle.core_facts.specs.Facts.{Facts, block_facts, common_facts, note_all, right_facts}
 use Rattle.norm_walk.specs.Replacing.{BlockWalked, RightWalked, GensWalked, GenWalked, PartWalked}
 use Rattle.norm_walk.proofs.Ends.{gen_end, part_end, let_end, with_end, parted_end, choice_end, turns_end, call_end, other_walked}
-use Rattle.known_rights.proofs.Known.{holds_of, holds_on, known_here, known_of}
+use Rattle.known_rights.proofs.Told.{holds_of, holds_on, known_here, known_of}
 use Rattle.known_rights.proofs.Plain.{IsOther, other_facts}
 use Rattle.norm_walk.proofs.Walking.{going_first, going_on, block_walked, block_known, gens_first, gens_on, gens_done, parts_first, parts_on}
 use Rattle.norm_walk.proofs.walk.+norming.Goals as goal

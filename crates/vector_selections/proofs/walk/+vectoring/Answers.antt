@@ -12,7 +12,7 @@ use Rattle.vector_selections.proofs.Turns.{let_turn, next_turn, known_turn, none
 use Rattle.core_ir.specs.declared.tree.CoreGen.{out-CoreGen}
 use Rattle.core_facts.specs.Facts.{block_facts, common_facts, note_all, right_facts}
 use Rattle.vector_selections.proofs.Ends.{gen_end, gen_next, part_end, part_next, choice_end, choice_next, turns_end, turns_next, other_vectored, other_next, parted_known}
-use Rattle.known_rights.proofs.Known.{holds_of, holds_on, told_as}
+use Rattle.known_rights.proofs.Told.{holds_of, holds_on, told_as}
 use Rattle.known_rights.proofs.Plain.{IsOther, other_facts}
 use Rattle.core_ir.specs.declared.tree.PartedLoop.{out-PartedLoop}
 use Rattle.core_ir.proofs.Trees.{with_out}

@@ -10,7 +10,7 @@ use Rattle.core_ir.proofs.Trees.{parted_out, with_out}
 use Rattle.core_facts.specs.Facts.{Fact, Facts, known_shape, parted_shape, right_facts, shape_fact}
 use Rattle.fact_table.specs.Table.{fact_of}
 use Rattle.known_rights.specs.Anywhere.{IsKnownAnywhere}
-use Rattle.known_rights.specs.declared.right.KnownRight.{KnownRight}
+use Rattle.known_rights.specs.declared.known.KnownRight.{KnownRight}
 
 -- what holds of a term holds of the right side that stands for it
 pub holds_of : (P : RightTerm → Type 0) (new : Result KnownRight Memory) (t : RightTerm) → IfOk new (λ (n : KnownRight). right_term n.right ≡ t) → P t → IfOk new (λ (n : KnownRight). P (right_term n.right))

@@ -1,4 +1,4 @@
-//! A right side with what is known of its values.
+//! Blocks and right sides with what is known of their values.
 
 ghost use Rattle.std.specs.Prelude.{◌≡◌, [], ◌∷◌, IfOk, map};
 ghost use Rattle.core_ir.specs.Terms.{RightTerm};
@@ -9,12 +9,18 @@ ghost use Rattle.known_rights.specs.Anywhere.{IsKnownAnywhere};
 ghost use Rattle.plain_facts.specs.Called.{shapes_of};
 ghost use Rattle.plain_facts.specs.Rights.{fact_of_right};
 
-use crate::block::KnownBlock;
 use core_ir::{Block, PartedLoop, Right, Var, WithLoop};
 use fact_table::{FactTable, Known};
 use plain_facts::{CalledShapes, common_facts, parted_shape, plain_fact};
 use sac_base::{Memory, Site};
 use std::alloc::Global;
+
+/// A block, and what is known of its results.
+#[derive(Drop)]
+pub struct KnownBlock {
+    pub block: Block,
+    pub results: Vec<Known>,
+}
 
 /// A right side, and what is known of its values.
 #[derive(Drop)]
