@@ -13,7 +13,7 @@ ghost use Rattle.array_ops.specs.Tells.{Tells, TellsItems, TellsAs};
 use crate::bounds::Bounds;
 use crate::frames::Frame;
 use crate::ranges::Range;
-use sac_base::{Array, FaultKind, Form, Op, Shape, Site, Stop, elements, fault};
+use sac_base::{Array, Base, FaultKind, Form, Op, Shape, Site, Stop, elements, fault};
 use std::alloc::Global;
 
 /// An operation whose arguments have been evaluated.
@@ -90,9 +90,25 @@ pub fn modarray_plan(
     ensures full { IfOk result (λ p. IsArrayPlan Bool.true array.now (plan_of p)) }
 {
     let _ = array.cells();
-    let rank = array.shape().rank();
+    modarray_plan_of(alloc, bounds, array.base(), array.shape(), site)
+}
+
+/// The plan of a modarray over an array with this base and shape, whatever its cells are.
+pub fn modarray_plan_of(
+    alloc: Global,
+    bounds: &[Bounds],
+    base: Base,
+    shape: &Shape,
+    site: Site,
+) -> Result<Plan, Stop>
+    ensures told { (array : ArrayValue) → array.base ≡ base → array.shape ≡ shape.now
+        → TellsAs plan_of result (modarray_value bounds.now (index_length_value bounds.now (length array.shape)) array site) }
+    ensures full { (array : ArrayValue) → array.shape ≡ shape.now → size array.shape ≤ MOST → length array.cells ≡ size array.shape
+        → IfOk result (λ p. IsArrayPlan Bool.true array (plan_of p)) }
+{
+    let rank = shape.rank();
     let n = index_length(bounds, rank);
-    let frame = array.shape().first(n);
+    let frame = shape.first(n);
     let ranges = ranges_of(alloc, bounds, n, rank, &frame, true)?;
     if elements(&frame).is_none() {
         return Err(fault(FaultKind::F8, site));
@@ -102,10 +118,10 @@ pub fn modarray_plan(
         ranges,
         frame: indices,
         form: Form {
-            base: array.base(),
-            shape: array.shape().rest(n.min(rank)),
+            base,
+            shape: shape.rest(n.min(rank)),
         },
-        shape: array.shape().copy(),
+        shape: shape.copy(),
     })
 }
 
