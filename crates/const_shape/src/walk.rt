@@ -151,16 +151,8 @@ fn settle_gen(
     let body = settle_block(alloc, generator.body, called, table)?;
     table.undo(outer);
     Ok(CoreGen {
-        lower: generator.lower,
-        lower_closed: generator.lower_closed,
-        upper: generator.upper,
-        upper_closed: generator.upper_closed,
-        step: generator.step,
-        width: generator.width,
-        index: generator.index,
-        names: generator.names,
         body: body.block,
-        site: generator.site,
+        ..generator
     })
 }
 
@@ -175,25 +167,15 @@ fn settle_parted(
     ensures known { IfOk result (λ new. map fact_of new.values.items ≡ right_facts (shapes_of called.now) (right_term new.right) (facts_of table.old)) }
     ensures table { OnOk result (table.new ≡ table.old) }
 {
-    let PartedLoop {
-        frame,
-        base,
-        cell,
-        op,
-        parts,
-    } = parted;
     let mut settled = Vec::new(alloc);
-    for part in parts {
+    for part in parted.parts {
         settled.push(settle_part(alloc, part, called, table)?)?;
     }
     KnownRight::of_parted(
         alloc,
         PartedLoop {
-            frame,
-            base,
-            cell,
-            op,
             parts: settled,
+            ..parted
         },
     )
 }
@@ -213,9 +195,7 @@ fn settle_part(
     let body = settle_block(alloc, part.body, called, table)?;
     table.undo(outer);
     Ok(CorePart {
-        grid: part.grid,
-        index: part.index,
         body: body.block,
-        site: part.site,
+        ..part
     })
 }
