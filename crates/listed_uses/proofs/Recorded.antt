@@ -4,12 +4,13 @@ use Rattle.std.specs.Prelude.{◌||◌, ◌⊎◌, min, nat_lt, nat_eq, slice_in
 use Rattle.std.specs.HashMap.{get, HashMap}
 use lib.Dec.{leb-suc-suc}
 use Rattle.std.proofs.lemmas.Bool.{eqb-true, eq-eqb, lt-ltb, le-ltb, ltb-false, cases_lt}
-use Rattle.std.proofs.lemmas.List.{take_more, drop_all}
-use lib.Seq.{length-take-le, take-nil, drop-nil, drop-drop, drop-append_seam, get_or-append_seam}
+use Rattle.std.proofs.lemmas.List.{take_more, drop_all, drop_more}
+use lib.Seq.{length-take-le, take_all, take-nil, drop-nil, drop-drop, drop-append_seam, get_or-append_seam}
 use lib.ListN.{length-take, length-drop, length-append, get_or-append}
 use Rattle.core_ir.specs.declared.tree.Var.{Var}
 use Rattle.core_ir.specs.Binders.{is_in}
-use Rattle.listed_uses.specs.declared.list.Entry.{Entry, Use, Section}
+use Rattle.listed_uses.specs.declared.list.Entry.{Entry}
+use Rattle.listed_uses.specs.declared.list.Entry.TheVariants.{Use, Section}
 use Rattle.listed_uses.specs.Latest.{or_none, behind_of, vars_of, section, head_of, EndsAt, is_used, IsLast, AreLast, AreChained}
 
 or_false : (b : Bool) → (b || false) ≡ b
@@ -99,20 +100,38 @@ module _ {S : Type 0} where
 abbrev pub AreChainedTo : ℕ → List ℕ → List Entry → Type 0
 AreChainedTo i earlier es = (place : ℕ) (x : Var) (rest : List Entry) → place < i → drop place es ≡ Use x ∷ rest → IsLast (take place es) x (slice_index_or earlier place 0)
 
-first_of : Entry → List Entry → Entry
+abbrev first_of : Entry → List Entry → Entry
 first_of d [] = d
 first_of d (e ∷ es) = e
 
-rest_of : List Entry → List Entry
-rest_of [] = []
-rest_of (e ∷ es) = es
+abbrev var_of : Var → Entry → Var
+var_of d (Use x) = x
+var_of d (Section n) = d
+
+abbrev is_use : Entry → Bool
+is_use (Use x) = true
+is_use (Section n) = false
+
+here_first : (es : List Entry) (i : ℕ) (d e : Entry) (rest : List Entry) → i < length es → drop i es ≡ e ∷ rest → slice_index_or es i d ≡ e
+here_first es i d e rest lt h = ap (first_of d) (sym (drop_more es i d lt) ∙ h)
+
+module _ {S : Type 0} where
+  -- of a use that is recorded the table has the last one before it
+  pub use_chained : (m : HashMap ℕ ℕ S) (es : List Entry) (i : ℕ) (d : Entry) (y : Var) (behind : ℕ) → AreLast m (take i es) → i < length es → slice_index_or es i d ≡ Use y → behind ≡ behind_of m y → (x : Var) (rest : List Entry) → drop i es ≡ Use x ∷ rest → IsLast (take i es) x behind
+  use_chained m es i d y behind known lt here e x rest h =
+      let same : y ≡ x = ap (var_of y) (sym here ∙ here_first es i d (Use x) rest lt h) in
+      subst (IsLast (take i es) x) (sym (e ∙ ap (behind_of m) same)) (known x)
+
+-- a head is no use
+pub head_chained : (es : List Entry) (i : ℕ) (d : Entry) (k behind : ℕ) → i < length es → slice_index_or es i d ≡ Section k → (x : Var) (rest : List Entry) → drop i es ≡ Use x ∷ rest → IsLast (take i es) x behind
+head_chained es i d k behind lt here x rest h = elim (true≢false (sym (ap is_use (sym here ∙ here_first es i d (Use x) rest lt h)))) [ ]
 
 pub chained_more : (earlier next : List ℕ) (es : List Entry) (i behind : ℕ) → next ≡ earlier ++ behind ∷ [] → length earlier ≡ i → ((x : Var) (rest : List Entry) → drop i es ≡ Use x ∷ rest → IsLast (take i es) x behind) → AreChainedTo i earlier es → AreChainedTo (i + 1) next es
 chained_more earlier next es i behind e size last chained place x rest lt h = go (cases_lt place i)
   where
     go : (place < i) ⊎ (i ≤ place) → IsLast (take place es) x (slice_index_or next place 0)
     go (inl p) =
-        subst (IsLast (take place es) x) (sym (ap (λ l. slice_index_or l place 0) e ∙ get_or-append earlier (behind ∷ []) place 0 (omega (arith, p, size)))) (chained place x rest p h)
+        subst (IsLast (take place es) x) (sym (ap (λ l. slice_index_or l place 0) e ∙ get_or-append earlier (behind ∷ []) 0 place (omega (arith, p, size)))) (chained place x rest p h)
     go (inr p) =
         let same : place ≡ length earlier = omega (arith, p, lt, size) in
         let at : i ≡ place = omega (arith, p, lt) in
@@ -127,12 +146,12 @@ all_chained earlier es i over chained place x rest h =
 -- ---- the last use before a place
 
 pub found : (es : List Entry) (k : ℕ) (x : Var) (m : ℕ) → is_used (take k es) m x ≡ true → is_used (take k es) (suc m) x ≡ false → (m < k) × (rest : List Entry) × (drop m es ≡ Use x ∷ rest)
-found [] k x m is no = elim (true≢false (sym is ∙ ap (λ l. is_used l m x) (take-nil k) ∙ none_used m x)) [ ]
-found (e ∷ es) zero x m is no = elim (true≢false (sym is ∙ none_used m x)) [ ]
-found (Use y ∷ es) (suc k) x zero is no = (omega arith, es, ap (λ v. Use v ∷ es) (same_var y x (sym (or_false (eqb y.0 x.0)) ∙ ap (λ b. eqb y.0 x.0 || b) (sym no) ∙ is)))
-found (Section n ∷ es) (suc k) x zero is no = elim (true≢false (sym is ∙ no)) [ ]
-found (e ∷ es) (suc k) x (suc m) is no =
-    let r = found es k x m is no in
+found [] k x m is then_not = elim (true≢false (sym is ∙ ap (λ l. is_used l m x) (take-nil k) ∙ none_used m x)) [ ]
+found (e ∷ es) zero x m is then_not = elim (true≢false (sym is ∙ none_used m x)) [ ]
+found (Use y ∷ es) (suc k) x zero is then_not = (omega arith, es, ap (λ v. Use v ∷ es) (same_var y x (sym (or_false (eqb y.0 x.0)) ∙ ap (λ b. eqb y.0 x.0 || b) (sym then_not) ∙ is)))
+found (Section n ∷ es) (suc k) x zero is then_not = elim (true≢false (sym is ∙ then_not)) [ ]
+found (e ∷ es) (suc k) x (suc m) is then_not =
+    let r = found es k x m is then_not in
     let lt = r.0 in
     (omega (arith, lt), r.1, r.2)
 
@@ -189,6 +208,14 @@ last_within es k end x n known le within from = go (cases_lt from n)
 -- one use back
 abbrev pub IsLastFrom : List Entry → Var → (end behind : ℕ) → Type 0
 IsLastFrom es x end behind = (k : ℕ) × (end ≤ k) × IsLast (take k es) x behind
+
+-- before the first step the list is taken whole
+pub all_taken : (es : List Entry) (x : Var) (end behind : ℕ) → IsLast es x behind → IsLastFrom es x end behind
+all_taken es x end behind known = (end + length es, omega arith, subst (λ l. IsLast l x behind) (sym (take_all (end + length es) es (omega arith))) known)
+
+-- behind the last step the place is not behind the end
+pub last_found : (es : List Entry) (x : Var) (end behind : ℕ) → IsLastFrom es x end behind → behind ≤ end → IsLast (take end es) x behind
+last_found es x end behind was le = last_within es was.0 end x behind was.2 le was.1
 
 pub last_below : (es : List Entry) (x : Var) (m n : ℕ) → IsLast (take m es) x n → n ≤ m
 last_below es x m n known =

@@ -4,7 +4,8 @@ use Rattle.std.specs.Prelude.{Option, Some, None}
 use Rattle.std.specs.HashMap.{get, HashMap}
 use Rattle.core_ir.specs.declared.tree.Var.{Var}
 use Rattle.core_ir.specs.Binders.{is_in}
-use Rattle.listed_uses.specs.declared.list.Entry.{Entry, Use, Section}
+use Rattle.listed_uses.specs.declared.list.Entry.{Entry}
+use Rattle.listed_uses.specs.declared.list.Entry.TheVariants.{Use, Section}
 
 -- the variables that are used, in order
 abbrev pub vars_of : List Entry → List Var

@@ -12,7 +12,8 @@ use Rattle.counted_code.specs.declared.tree.CodeStep.{CodeStep}
 use Rattle.counted_code.specs.Terms.{Giving}
 use Rattle.counted_code.specs.View.{steps_before}
 use Rattle.counted_placing.specs.Placing.{placing}
-use Rattle.listed_uses.specs.declared.list.Entry.{Entry, Section}
+use Rattle.listed_uses.specs.declared.list.Entry.{Entry}
+use Rattle.listed_uses.specs.declared.list.Entry.TheVariants.{Section}
 use Rattle.listed_uses.specs.Latest.{section, EndsAt}
 use Rattle.ref_counts.specs.Listing.{each, listed, listed_right}
 use Rattle.ref_counts.specs.Owning.{owned_vars, IsSound}

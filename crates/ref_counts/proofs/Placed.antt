@@ -13,7 +13,8 @@ use Rattle.counted_code.specs.declared.tree.CodeStep.{CodeStep}
 use Rattle.counted_code.specs.Prompt.{uses, uses_right, hands}
 use Rattle.counted_code.specs.Terms.{CodeTerm, CodeRightTerm, Giving, Binding}
 use Rattle.counted_code.specs.View.{steps_before}
-use Rattle.listed_uses.specs.declared.list.Entry.{Entry, Section}
+use Rattle.listed_uses.specs.declared.list.Entry.{Entry}
+use Rattle.listed_uses.specs.declared.list.Entry.TheVariants.{Section}
 use Rattle.listed_uses.specs.Latest.{vars_of, section, is_used}
 use Rattle.listed_uses.proofs.Recorded.{in_append, vars_append}
 use Rattle.ref_counts.specs.declared.held.Owned.{Owned}

@@ -14,7 +14,8 @@ use Rattle.core_ir.specs.View.{block_term, let_term, with_term, parted_term, gen
 use Rattle.counted_code.specs.declared.tree.CodeStep.{CodeStep}
 use Rattle.counted_code.specs.View.{steps_before}
 use Rattle.counted_placing.specs.Placing.{placing}
-use Rattle.listed_uses.specs.declared.list.Entry.{Entry, Use}
+use Rattle.listed_uses.specs.declared.list.Entry.{Entry}
+use Rattle.listed_uses.specs.declared.list.Entry.TheVariants.{Use}
 use Rattle.listed_uses.specs.Latest.{section, EndsAt}
 use Rattle.ref_counts.specs.declared.held.Owned.{Owned}
 use Rattle.ref_counts.specs.Listing.{each, listed, listed_right}

@@ -4,7 +4,7 @@ ghost use Rattle.std.specs.Prelude.{◌≡◌, ◌++◌, ◌∷◌, [], length, 
 ghost use Rattle.core_ir.specs.View.{block_term, right_term, with_term, parted_term, gen_term};
 ghost use Rattle.core_ir.specs.Scopes.{head_uses};
 ghost use Rattle.listed_uses.specs.Latest.{section};
-ghost use Rattle.listed_uses.specs.declared.list.Entry.{Section};
+ghost use Rattle.listed_uses.specs.declared.list.Entry.TheVariants.{Section};
 ghost use Rattle.ref_counts.specs.Listing.{Closes, each, listed, listed_right};
 
 use core_ir::{Block, CoreGen, PartedLoop, Right, Var, WithLoop};
