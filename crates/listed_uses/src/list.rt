@@ -71,6 +71,7 @@ impl Uses {
     pub fn skip(&self, place: usize, count: usize) -> usize
         ensures { (inner : List Listed) → count ≡ length inner → EndsAt self.now place inner result }
     {
+        let _ = &self.entries;
         place.saturating_add(count)
     }
 
@@ -78,6 +79,7 @@ impl Uses {
     pub fn section_end(&self, place: usize) -> usize
         ensures { (inner : List Listed) → EndsAt self.now place (section inner) result }
     {
+        let _ = &self.entries;
         self.skip(place, self.count_at(place).saturating_add(1))
     }
 
