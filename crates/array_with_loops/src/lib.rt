@@ -12,6 +12,7 @@ pub use bounds::Bounds;
 pub use finish::{add_cell, cell_size, combine, fits_form};
 pub use frames::{Frame, IndexVector, joined_range};
 pub use plans::{
-    Evaluated, Plan, fold_plan, genarray_plan, index_length, modarray_plan, modarray_plan_of, ranges_of,
+    Evaluated, Plan, fold_plan, genarray_plan, index_length, modarray_plan, modarray_plan_of,
+    ranges_of,
 };
 pub use ranges::{Axis, Range, Run};

@@ -4,7 +4,7 @@ use Rattle.std.specs.Prelude.{IsSomeAnd}
 use Rattle.std.proofs.lemmas.List.{map-set, get_or-map, get_or-set_same, get_or-set_other}
 use Rattle.buffer_heap.specs.declared.heap.Place.{Place}
 use Rattle.buffer_heap.specs.declared.heap.Heap.TheInside.{Inside}
-use Rattle.buffer_heap.specs.Heaps.{Content, In, Out, Held, HeapValue, at, IsLive, IsIn, len_of, with_place, with_count, with_content, count_of, content_of, released, released_at}
+use Rattle.buffer_heap.specs.Heaps.{Content, In, Out, Held, HeapValue, at, IsLive, IsIn, IsInAndSole, len_of, with_place, with_count, with_content, count_of, content_of, released, released_at}
 use Rattle.buffer_heap.specs.Places.{held_of, held_as, content_unless}
 
 absurd_below : {A : Type 0} → 0 < 0 → A
@@ -60,6 +60,13 @@ lifted_there p cells n M is_in len live =
 
 count_there : (p : Place) → count_of (held_of p) ≡ p.count
 count_there p = count_as p.born p.count (content_unless p.out_len p.cells.items)
+
+sole_count : (o : Option Held) → IsSomeAnd o IsInAndSole → count_of o ≡ 1
+sole_count None live = elim live [ ]
+sole_count (Some x) live = live.1
+
+pub sole_there : (p : Place) → IsSomeAnd (held_of p) IsInAndSole → p.count ≡ 1
+sole_there p live = sym (count_there p) ∙ sole_count (held_of p) live
 
 pub positive_there : (p : Place) (M : Held → Type 0) → IsSomeAnd (held_of p) M → 0 < p.count
 positive_there p M = positive_as p.born p.count (content_unless p.out_len p.cells.items) M

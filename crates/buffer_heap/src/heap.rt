@@ -62,6 +62,8 @@ pub struct Heap {
     taken: u64,
     given: u64,
     reused: u64,
+    // The cells of a buffer that was given back, for the next one of as many cells, so that these are not filled with zeros before they are written.
+    spare: Vec<Cell>,
 }
 
 impl Model for Heap {
@@ -87,6 +89,9 @@ impl Model for Heap {
 // Where the stack of vacant places ends: no place of a heap.
 const NO_PLACE: usize = usize::MAX;
 
+// The most cells that are kept as spare ones: 16 MB. To fill more with zeros takes little beside all that is done with them.
+const MOST_SPARE: usize = 4_194_304;
+
 impl Heap {
     /// A heap with no buffer, all its counters 0. It allocates nothing.
     pub fn new(alloc: Global) -> Self
@@ -100,6 +105,7 @@ impl Heap {
             taken: 0,
             given: 0,
             reused: 0,
+            spare: Vec::new(alloc),
         }
     }
 
@@ -221,6 +227,53 @@ impl Heap {
         self.store(cells)
     }
 
+    /// A buffer with one reference whose cells are handed out: so many, of any numbers. It is out until they are settled.
+    ///
+    /// # Errors
+    ///
+    /// `Memory`: nothing has changed.
+    pub fn claim(&mut self, len: u64) -> Result<(BufferId, Vec<Cell>), Memory>
+        requires { len ≤ MOST }
+        ensures vacant { IfOk result (λ r. at self.old r.0.place ≡ None) }
+        ensures holds { IfOk result (λ r. at self.new r.0.place ≡ Some (record { born = r.0.born; count = 1; content = Out len })) }
+        ensures cells { IfOk result (λ r. length r.1.items ≡ len) }
+        ensures others { IfOk result (λ r. (b : ℕ) → b ≢ r.0.place → at self.new b ≡ at self.old b) }
+        ensures number { IfOk result (λ r. (r.0.born ≡ self.old.births) × (self.new.births ≡ self.old.births + 1)) }
+        ensures counters { OnOk result ((self.new.taken ≡ (self.old.taken + 1) % 2 ^ 64)
+            × (self.new.given ≡ self.old.given) × (self.new.reused ≡ self.old.reused)) }
+        ensures unchanged { OnErr result (self.new ≡ self.old) }
+    {
+        let cells = self.take_spare(len as usize)?;
+        let id = self.put(cells)?;
+        let cells = self.lift(id);
+        Ok((id, cells))
+    }
+
+    // So many cells of any numbers: the spare ones, if there are as many. They are given up for more.
+    fn take_spare(&mut self, len: usize) -> Result<Vec<Cell>, Memory>
+        ensures length { IfOk result (λ cells. length cells.items ≡ len) }
+        ensures heap { self.new ≡ self.old }
+    {
+        if self.spare.len() == len {
+            return Ok(mem::replace(&mut self.spare, Vec::new(self.alloc)));
+        }
+        if self.spare.len() < len {
+            self.spare = Vec::new(self.alloc);
+        }
+        let mut cells = Vec::new(self.alloc);
+        cells.resize(len, 0)?;
+        Ok(cells)
+    }
+
+    // Has cells as the spare ones, if they are more than those that are, and not too many.
+    fn put_spare(&mut self, cells: Vec<Cell>)
+        ensures { self.new ≡ self.old }
+    {
+        if self.spare.len() < cells.len() && cells.len() <= MOST_SPARE {
+            self.spare = cells;
+        }
+    }
+
     /// Whether the buffer is live and in.
     pub fn is_held(&self, id: BufferId) -> bool
         ensures { IsTrue result ↔ IsLive self.now id.place (IsNamed id.born) }
@@ -327,15 +380,27 @@ impl Heap {
         ensures last { (result ≡ Freed) ↔ (count_of (at self.old id.place) ≡ 1) }
     {
         let place = &mut self.places[id.place];
-        place.count -= 1;
-        if place.count > 0 {
+        if place.count > 1 {
+            place.count -= 1;
             return Released::More;
         }
-        place.cells = Vec::new(self.alloc);
+        let cells = self.give_out(id);
+        self.put_spare(cells);
+        Released::Freed
+    }
+
+    /// Gives back a buffer that is in and has one reference, and hands out its cells for good.
+    pub fn give_out(&mut self, id: BufferId) -> Vec<Cell>
+        requires { IsLive self.old id.place IsInAndSole }
+        ensures heap { self.new ≡ released self.old id.place }
+        ensures cells { content_of (at self.old id.place) ≡ In result.items }
+    {
+        let place = &mut self.places[id.place];
+        place.count = 0;
         place.next = self.vacant;
         self.vacant = id.place;
         self.given = self.given.wrapping_add(1);
-        Released::Freed
+        mem::replace(&mut place.cells, Vec::new(self.alloc))
     }
 
     /// Hands out the cells of a buffer that is in and has one reference. The buffer is out until they are settled.

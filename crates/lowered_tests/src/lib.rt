@@ -15,6 +15,8 @@ mod folded;
 #[cfg(test)]
 mod inlined;
 #[cfg(test)]
+mod kernels;
+#[cfg(test)]
 mod merged;
 #[cfg(test)]
 mod normal;

@@ -1,6 +1,6 @@
 //! A whole program.
 
-ghost use Rattle.std.specs.Prelude.{◌≡◌, ◌≤◌, IfOk, OnOk, map};
+ghost use Rattle.std.specs.Prelude.{◌≡◌, ◌≤◌, ◌∷◌, [], IfOk, OnOk, map};
 ghost use Rattle.core_calls.specs.Arrays.{AllFull};
 ghost use Rattle.counted_code.specs.Counts.{IsWellCounted};
 ghost use Rattle.counted_code.specs.Outcome.{copied_out, cost_of, outcome_of, whole_run};
@@ -23,7 +23,7 @@ use counted_code::Code;
 use index_cutter::Cutting;
 use phase_count::{PhaseCount, Totals, numbers_of};
 use run_loops::{Context, CountedCode, Never, Outside, Phases, State};
-use run_store::{Store, place_own, read_array, release};
+use run_store::{Store, place_own, read_array, release, take_array};
 use run_types::all_fit;
 use run_values::{Frames, RunValue};
 use sac_base::{Array, Caps, FaultKind, Memory, Site, Stop, fault};
@@ -222,7 +222,7 @@ fn place_all(
     Ok(values)
 }
 
-// Copies values out and releases them.
+// Takes values out of the heap.
 fn copy_out(
     values: &[RunValue],
     context: &Context<'_>,
@@ -231,8 +231,42 @@ fn copy_out(
     ensures told { (m : MachineHeap) → IsAt state.old m → Told AreArrays result state.new (copied_out (map value_of values.now) m) }
     ensures lender { lender_of state.new.heap ≡ lender_of state.old.heap }
 {
-    let arrays = read_all(context.alloc, &state.heap, values)?;
-    release_all(&mut state.heap, values)?;
+    let arrays = take_all(context.alloc, &mut state.heap, values)?;
+    Ok(arrays)
+}
+
+// The arrays that values are, whose references are given up. One alone is not copied where no other reference leads to its
+// buffer.
+fn take_all(alloc: Global, heap: &mut Store<'_>, values: &[RunValue]) -> Result<Vec<Array>, Memory>
+    ensures arrays { (m : MachineHeap) → Stands heap.old m → IfOk result (λ v. v.items ≡ map (read m) (map value_of values.now)) }
+    ensures released { (m : MachineHeap) → Stands heap.old m → OnOk result (Stands heap.new (all_released (map value_of values.now) m)) }
+    ensures lender { lender_of heap.new ≡ lender_of heap.old }
+{
+    match values {
+        [value] => take_one(alloc, heap, *value),
+        _ => copy_all(alloc, heap, values),
+    }
+}
+
+fn take_one(alloc: Global, heap: &mut Store<'_>, value: RunValue) -> Result<Vec<Array>, Memory>
+    ensures arrays { (m : MachineHeap) → Stands heap.old m → IfOk result (λ v. v.items ≡ read m (value_of value) ∷ []) }
+    ensures released { (m : MachineHeap) → Stands heap.old m → OnOk result (Stands heap.new (all_released (value_of value ∷ []) m)) }
+    ensures lender { lender_of heap.new ≡ lender_of heap.old }
+{
+    let array = take_array(alloc, heap, value)?;
+    let mut arrays = Vec::new(alloc);
+    arrays.push(array)?;
+    Ok(arrays)
+}
+
+// Others may lead to the same buffer, so that all are read before the first is released.
+fn copy_all(alloc: Global, heap: &mut Store<'_>, values: &[RunValue]) -> Result<Vec<Array>, Memory>
+    ensures arrays { (m : MachineHeap) → Stands heap.old m → IfOk result (λ v. v.items ≡ map (read m) (map value_of values.now)) }
+    ensures released { (m : MachineHeap) → Stands heap.old m → OnOk result (Stands heap.new (all_released (map value_of values.now) m)) }
+    ensures lender { lender_of heap.new ≡ lender_of heap.old }
+{
+    let arrays = read_all(alloc, heap, values)?;
+    release_all(heap, values)?;
     Ok(arrays)
 }
 

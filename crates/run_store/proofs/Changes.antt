@@ -166,22 +166,22 @@ settled_stands h m b n len cells live stands =
     (subst (λ o. StandsFor (with_place h b (with_content o (In cells))) (machine.with_cells m s.0.born cells)) (sym s.1) (back_as h m b s.0 cells s.1 stands))
 
 -- a new buffer, at a place that had none
-module _ (h k : HeapValue) (m : Heap) (b n : ℕ) (cells : List ℤ) (here : at k b ≡ Some (record { born = n; count = 1; content = In cells })) (others : (c : ℕ) → c ≢ b → at k c ≡ at h c) (number : n ≡ h.births) (stands : StandsFor h m) where
+module _ (h k : HeapValue) (m : Heap) (b n : ℕ) (cells : List ℤ) (content : Content) (has : HasContent content cells) (here : at k b ≡ Some (record { born = n; count = 1; content = content })) (others : (c : ℕ) → c ≢ b → at k c ≡ at h c) (number : n ≡ h.births) (stands : StandsFor h m) where
   new_there : Held
-  new_there = record { born = n; count = 1; content = In cells }
+  new_there = record { born = n; count = 1; content = content }
 
   pub number_is : n ≡ length m.buffers
   number_is = number ∙ stands.births
 
   -- what is at a place: the new buffer, or what was there before
-  found : (c : ℕ) (y : Held) → at k c ≡ Some y → ((c ≡ b) × (record { born = n; count = 1; content = In cells } ≡ y)) ⊎ (at h c ≡ Some y)
+  found : (c : ℕ) (y : Held) → at k c ≡ Some y → ((c ≡ b) × (record { born = n; count = 1; content = content } ≡ y)) ⊎ (at h c ≡ Some y)
   found c y there = go (eqb c b) refl
     where
-      go : (same : Bool) → eqb c b ≡ same → ((c ≡ b) × (record { born = n; count = 1; content = In cells } ≡ y)) ⊎ (at h c ≡ Some y)
-      go true e = inl (eqb-true c b e, some_same (record { born = n; count = 1; content = In cells }) y (sym here ∙ subst (λ d. at k d ≡ Some y) (eqb-true c b e) there))
+      go : (same : Bool) → eqb c b ≡ same → ((c ≡ b) × (record { born = n; count = 1; content = content } ≡ y)) ⊎ (at h c ≡ Some y)
+      go true e = inl (eqb-true c b e, some_same (record { born = n; count = 1; content = content }) y (sym here ∙ subst (λ d. at k d ≡ Some y) (eqb-true c b e) there))
       go false e = inr (sym (others c (eqb-false c b e)) ∙ there)
 
-  too_old : (c : ℕ) (y z : Held) → at h c ≡ Some y → record { born = n; count = 1; content = In cells } ≡ z → y.born ≡ z.born → ⊥
+  too_old : (c : ℕ) (y z : Held) → at h c ≡ Some y → record { born = n; count = 1; content = content } ≡ z → y.born ≡ z.born → ⊥
   too_old c y z before new same =
       let low = (stands.stored c y before).1 in
       let high = ap (λ (w : Held). w.born) new in
@@ -203,11 +203,11 @@ module _ (h k : HeapValue) (m : Heap) (b n : ℕ) (cells : List ℤ) (here : at 
       now_stored : (c : ℕ) (y : Held) → at k c ≡ Some y → Stored (buffer_at (take_buffer cells m) y.born) y × (y.born < length (take_buffer cells m).buffers)
       now_stored c y there = go (found c y there)
         where
-          go : ((c ≡ b) × (record { born = n; count = 1; content = In cells } ≡ y)) ⊎ (at h c ≡ Some y) → Stored (buffer_at (take_buffer cells m) y.born) y × (y.born < length (take_buffer cells m).buffers)
+          go : ((c ≡ b) × (record { born = n; count = 1; content = content } ≡ y)) ⊎ (at h c ≡ Some y) → Stored (buffer_at (take_buffer cells m) y.born) y × (y.born < length (take_buffer cells m).buffers)
           go (inl new) =
               let buffer : buffer_at (take_buffer cells m) n ≡ record { count = 1; cells = cells } = get_or_push m.buffers (record { count = 1; cells = cells }) no_buffer n (sym number_is) in
               subst (λ (z : Held). Stored (buffer_at (take_buffer cells m) z.born) z × (z.born < length (take_buffer cells m).buffers)) new.1
-              (subst (λ (z : Buffer). Stored z (record { born = n; count = 1; content = In cells })) (sym buffer) (refl, refl), omega (arith, more, number_is))
+              (subst (λ (z : Buffer). Stored z (record { born = n; count = 1; content = content })) (sym buffer) (refl, has), omega (arith, more, number_is))
           go (inr before) =
               let old = stands.stored c y before in
               let buffer : buffer_at (take_buffer cells m) y.born ≡ buffer_at m y.born = get_or_append_left m.buffers (record { count = 1; cells = cells } ∷ []) no_buffer y.born old.1 in
@@ -216,7 +216,7 @@ module _ (h k : HeapValue) (m : Heap) (b n : ℕ) (cells : List ℤ) (here : at 
       one_place : (c d : ℕ) (y z : Held) → at k c ≡ Some y → at k d ≡ Some z → y.born ≡ z.born → c ≡ d
       one_place c d y z p q same = go (found c y p) (found d z q)
         where
-          go : ((c ≡ b) × (record { born = n; count = 1; content = In cells } ≡ y)) ⊎ (at h c ≡ Some y) → ((d ≡ b) × (record { born = n; count = 1; content = In cells } ≡ z)) ⊎ (at h d ≡ Some z) → c ≡ d
+          go : ((c ≡ b) × (record { born = n; count = 1; content = content } ≡ y)) ⊎ (at h c ≡ Some y) → ((d ≡ b) × (record { born = n; count = 1; content = content } ≡ z)) ⊎ (at h d ≡ Some z) → c ≡ d
           go (inl new) (inl also) = new.0 ∙ sym also.0
           go (inl new) (inr before) = elim (too_old d z y before new.1 (sym same)) [ ]
           go (inr before) (inl new) = elim (too_old c y z before new.1 same) [ ]

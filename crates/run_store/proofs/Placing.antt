@@ -1,7 +1,6 @@
 -- Arrays that are placed, and what else is there.
 use Rattle.std.proofs.Common.{◌≡◌, ◌≢◌, ℕ, true, Option, Some, None, ap, ◌∙◌, sym, subst}
-use Rattle.std.proofs.lemmas.List.{get_or-set_other}
-use Rattle.buffer_heap.specs.Heaps.{Held, HeapValue, Out, at, len_of, content_of, with_content, lifted}
+use Rattle.buffer_heap.specs.Heaps.{Held, HeapValue, at}
 use Rattle.sac_base.specs.Arrays.{ArrayValue}
 use Rattle.counted_code.specs.Values.{Heap, Small, is_small, place_as, place_value}
 use Rattle.run_store.specs.Stands.{Stands, Placed}
@@ -18,9 +17,8 @@ IsNone None = Unit {0}
 IsNone (Some x) = ⊥
 
 -- a buffer that was there before one was taken and its cells handed out
-pub others_lifted : (h k : HeapValue) (p : ℕ) → at h p ≡ None → ((b : ℕ) → b ≢ p → at k b ≡ at h b) → (b : ℕ) (x : Held) → at h b ≡ Some x → at (lifted k p) b ≡ Some x
-others_lifted h k p vacant others b x is =
-    get_or-set_other k.places p b (with_content (at k p) (Out (len_of (content_of (at k p))))) None apart ∙ others b apart ∙ is
+pub others_claimed : (h k : HeapValue) (p : ℕ) → at h p ≡ None → ((b : ℕ) → b ≢ p → at k b ≡ at h b) → (b : ℕ) (x : Held) → at h b ≡ Some x → at k b ≡ Some x
+others_claimed h k p vacant others b x is = others b apart ∙ is
   where
     apart : b ≢ p
     apart same = subst IsNone (sym vacant ∙ ap (at h) (sym same) ∙ is) tt

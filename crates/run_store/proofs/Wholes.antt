@@ -2,7 +2,7 @@
 use Rattle.std.proofs.Common.{◌≡◌, ◌≢◌, ℕ, zero, suc, ◌+◌, ◌-◌, ◌<◌, ◌≤◌, ◌%◌, ◌^◌, List, [], ◌∷◌, ◌++◌, length, ℤ, Option, Some, None, Result, Ok, Err, refl, ap, ◌∙◌, sym, subst, slice_index_or, slice_set, arith}
 use Rattle.std.specs.Prelude.{IsSomeAnd, OnOk}
 use Rattle.std.proofs.Math.Nat.{add-mod-mod, mod-add-mod}
-use Rattle.buffer_heap.specs.Heaps.{In, Out, Held, HeapValue, at, IsLive, IsNamed, HasRoom, IsLifted, len_of, with_place, with_count, with_content, count_of, content_of, lifted, released, released_at}
+use Rattle.buffer_heap.specs.Heaps.{Content, In, Out, Held, HeapValue, at, IsLive, IsNamed, HasRoom, IsLifted, len_of, with_place, with_count, with_content, count_of, content_of, lifted, released, released_at}
 use Rattle.counted_code.specs.Values as machine
 use Rattle.counted_code.specs.Values.{Heap, take_buffer, release_count}
 use Rattle.run_store.specs.Lents.{LentValue, held_once_more, held_once_less, holds_at}
@@ -133,23 +133,23 @@ own_released s m b n live stands = record {
     now = own_less (count_of (at s.own b)) s b ∙ ap (λ o. released_at (count_of o) (whole s) (behind_lent s b)) (sym (own_at s b))
 
 -- a new buffer
-module _ (s : Store) (k : HeapValue) (m : Heap) (b n : ℕ) (cells : List ℤ) (here : at k b ≡ Some (record { born = n; count = 1; content = In cells })) (others : (c : ℕ) → c ≢ b → at k c ≡ at s.own c) (number : n ≡ s.own.births) (stands : Stands s m) where
+module _ (s : Store) (k : HeapValue) (m : Heap) (b n : ℕ) (cells : List ℤ) (content : Content) (has : HasContent content cells) (here : at k b ≡ Some (record { born = n; count = 1; content = content })) (others : (c : ℕ) → c ≢ b → at k c ≡ at s.own c) (number : n ≡ s.own.births) (stands : Stands s m) where
   abbrev then_store : Store
   then_store = record { own = k; lent = s.lent }
 
-  here_now : at (whole then_store) (behind_lent s b) ≡ Some (record { born = n; count = 1; content = In cells })
+  here_now : at (whole then_store) (behind_lent s b) ≡ Some (record { born = n; count = 1; content = content })
   here_now = own_at then_store b ∙ here
 
   others_now : (c : ℕ) → c ≢ behind_lent s b → at (whole then_store) c ≡ at (whole s) c
   others_now = others_behind None (lent_places s.lent) s.own.places k.places b others
 
   pub own_number : n ≡ length m.buffers
-  own_number = number_is (whole s) (whole then_store) m (behind_lent s b) n cells here_now others_now number stands.all
+  own_number = number_is (whole s) (whole then_store) m (behind_lent s b) n cells content has here_now others_now number stands.all
 
   pub own_taken : k.births ≡ s.own.births + 1 → k.taken ≡ (s.own.taken + 1) % 2 ^ 64 → k.given ≡ s.own.given → k.reused ≡ s.own.reused → Stands (record { own = k; lent = s.lent }) (take_buffer cells m)
   own_taken births taken given reused =
       record {
-        all = taken_stands (whole s) (whole then_store) m (behind_lent s b) n cells here_now others_now number stands.all births
+        all = taken_stands (whole s) (whole then_store) m (behind_lent s b) n cells content has here_now others_now number stands.all births
             (ap (with_lent s.lent (λ h. h.taken)) taken ∙ one_more s.lent (λ h. h.taken) s.own.taken) (ap (with_lent s.lent (λ h. h.given)) given) (ap (with_lent s.lent (λ h. h.reused)) reused);
       }
 

@@ -1,7 +1,7 @@
 //! Arrays as values, and values as arrays.
 
-ghost use Rattle.std.specs.Prelude.{◌≡◌, length, map, pos, unsigned_abs, IfOk, Ok};
-ghost use Rattle.counted_code.specs.Values.{Heap as MachineHeap, read, is_small, place_value, place_as};
+ghost use Rattle.std.specs.Prelude.{◌≡◌, length, map, pos, unsigned_abs, IfNone, IfOk, IfSome, OnOk, Ok};
+ghost use Rattle.counted_code.specs.Values.{Heap as MachineHeap, read, is_small, place_value, place_as, cells_of, count_of, release as released, release_count};
 ghost use Rattle.std.specs.Prelude.{false};
 ghost use Rattle.sac_base.specs.Arrays.{size, MOST};
 ghost use Rattle.run_store.specs.Stands.{Stands, Placed, TellsPlaced, lender_of};
@@ -11,8 +11,9 @@ ghost use Rattle.array_ops.specs.Tells.{Tells};
 ghost use Rattle.run_values.specs.Numbers.{numbers};
 ghost use Rattle.run_values.specs.Shown.{value_of};
 
-use crate::access::buffer_cells;
+use crate::access::{buffer_cells, release};
 use crate::store::Store;
+use buffer_heap::BufferId;
 use run_values::{Few, RunValue, small_value};
 use sac_base::{Array, Base, Cell, Memory, Shape, Stop, elements};
 use std::alloc::Global;
@@ -33,6 +34,37 @@ pub fn read_array(alloc: Global, heap: &Store<'_>, value: RunValue) -> Result<Ar
             array_of(alloc, base, &extents, cells)
         }
     }
+}
+
+/// The array that a value is, whose reference is given up. Its cells are moved out of the own heap where no other reference leads to its buffer,
+/// and copied else.
+pub fn take_array(alloc: Global, heap: &mut Store<'_>, value: RunValue) -> Result<Array, Memory>
+    ensures array { (m : MachineHeap) → Stands heap.old m → IfOk result (λ a. a ≡ read m (value_of value)) }
+    ensures released { (m : MachineHeap) → Stands heap.old m → OnOk result (Stands heap.new (released (value_of value) m)) }
+    ensures lender { lender_of heap.new ≡ lender_of heap.old }
+{
+    if let RunValue::Buffer(base, id, extents) = value {
+        if let Some(cells) = take_cells(heap, id) {
+            return array_of(alloc, base, &extents, cells);
+        }
+    }
+    let array = read_array(alloc, heap, value)?;
+    release(heap, value)?;
+    Ok(array)
+}
+
+// The cells of a buffer of the own heap to which one reference leads, which is given back.
+fn take_cells(heap: &mut Store<'_>, id: BufferId) -> Option<Vec<Cell>>
+    ensures cells { (m : MachineHeap) → Stands heap.old m → IfSome result (λ cells. cells.items ≡ cells_of m id.born) }
+    ensures released { (m : MachineHeap) → Stands heap.old m
+        → IfSome result (λ _. Stands heap.new (release_count id.born (count_of m id.born) m)) }
+    ensures unchanged { IfNone result (heap.new ≡ heap.old) }
+    ensures lender { lender_of heap.new ≡ lender_of heap.old }
+{
+    if !heap.own.is_held(id) || !heap.own.is_sole(id) {
+        return None;
+    }
+    Some(heap.own.give_out(id))
 }
 
 /// The array of these extents and cells. Others than an array has, which do not occur in code, count as want of memory.

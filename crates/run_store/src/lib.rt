@@ -11,7 +11,9 @@ mod store;
 mod target;
 
 pub use access::{buffer_cells, keep, release};
-pub use arrays::{array_of, place_array, place_cells, place_own, place_result, read_array};
+pub use arrays::{
+    array_of, place_array, place_cells, place_own, place_result, read_array, take_array,
+};
 pub use lent::{ChunkPart, Lent, lent_counts};
 pub use select::select_value;
 pub use store::Store;

@@ -1,7 +1,7 @@
 //! Results of loops that are not finished yet.
 
 ghost use Rattle.buffer_heap.specs.Heaps.{Held, at};
-ghost use Rattle.std.specs.Prelude.{◌≡◌, ◌≤◌, ℕ, [], ◌∷◌, None, Some, map, replicate, pos, unsigned_abs, IfOk, OnOk};
+ghost use Rattle.std.specs.Prelude.{◌≡◌, ◌≤◌, ℕ, [], ◌∷◌, None, Some, length, map, unsigned_abs, IfOk, OnOk};
 ghost use Rattle.counted_code.specs.Loops.{Inside, Fresh, claim as claimed, claim_new, settled};
 ghost use Rattle.counted_code.specs.Values.{Heap as MachineHeap, Small, read, is_small as is_small_shape};
 ghost use Rattle.run_store.specs.Stands.{Stands, Placed, lender_of};
@@ -36,9 +36,9 @@ pub fn is_small(shape: &Shape) -> bool
     }
 }
 
-/// A result of this shape whose cells are all 0. The buffers of the own heap stay as they are.
+/// A result of this shape, with as many cells as it has, of any numbers. The buffers of the own heap stay as they are.
 pub fn claim(alloc: Global, heap: &mut Store<'_>, shape: &Shape) -> Result<Target, Memory>
-    ensures cells { IfOk result (λ t. t.cells.items ≡ replicate (size shape.now) (pos 0)) }
+    ensures cells { IfOk result (λ t. length t.cells.items ≡ size shape.now) }
     ensures claimed { (m : MachineHeap) → Stands heap.old m
         → IfOk result (λ t. IsClaimed t heap.new (claimed (is_small_shape shape.now) None (size shape.now) m)) }
     ensures others { (b : ℕ) (x : Held) → at heap.old.own b ≡ Some x → at heap.new.own b ≡ Some x }
@@ -55,7 +55,7 @@ pub fn claim(alloc: Global, heap: &mut Store<'_>, shape: &Shape) -> Result<Targe
 }
 
 fn claim_inside(alloc: Global, len: u64) -> Result<Target, Memory>
-    ensures cells { IfOk result (λ t. t.cells.items ≡ replicate len (pos 0)) }
+    ensures cells { IfOk result (λ t. length t.cells.items ≡ len) }
     ensures inside { IfOk result (λ t. target_of t ≡ Inside) }
 {
     let mut cells = Vec::new(alloc);
@@ -68,13 +68,12 @@ fn claim_inside(alloc: Global, len: u64) -> Result<Target, Memory>
 
 fn claim_buffer(heap: &mut Store<'_>, len: u64) -> Result<Target, Memory>
     requires { len ≤ MOST }
-    ensures cells { IfOk result (λ t. t.cells.items ≡ replicate len (pos 0)) }
+    ensures cells { IfOk result (λ t. length t.cells.items ≡ len) }
     ensures claimed { (m : MachineHeap) → Stands heap.old m → IfOk result (λ t. IsClaimed t heap.new (claim_new len None m)) }
     ensures others { (b : ℕ) (x : Held) → at heap.old.own b ≡ Some x → at heap.new.own b ≡ Some x }
     ensures lender { lender_of heap.new ≡ lender_of heap.old }
 {
-    let id = heap.own.take(len)?;
-    let cells = heap.own.lift(id);
+    let (id, cells) = heap.own.claim(len)?;
     Ok(Target {
         cells,
         buffer: Some(id),

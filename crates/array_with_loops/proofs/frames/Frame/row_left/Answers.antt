@@ -1,4 +1,4 @@
-use Rattle.std.proofs.Common.{◌≡◌, ◌<◌, ◌<ℤ◌, ◌≤◌, ◌+◌, ◌-◌, ◌%◌, ◌^◌, ap, sym, ◌∙◌, subst, arith, length, get_or, ℕ}
+use Rattle.std.proofs.Common.{◌≡◌, ◌<◌, ◌≤◌, ◌+◌, ◌-◌, ◌%◌, ◌^◌, ap, sym, ◌∙◌, subst, arith, length, get_or}
 use Rattle.std.proofs.lemmas.Nat.{mod_below}
 use Rattle.sac_base.specs.Arrays.{size}
 use Rattle.array_with_loops.specs.Frames.{spans}

@@ -1,6 +1,6 @@
-use Rattle.std.proofs.Common.{◌≡◌, ◌<◌, ◌≤◌, ◌+◌, arith, sym, ap, ◌∙◌, subst, pos, ◌+ℤ◌, ◌-ℤ◌, ◌<ℤ◌, ◌≤ℤ◌, w32}
+use Rattle.std.proofs.Common.{arith, sym, ap, ◌∙◌, pos, ◌+ℤ◌, ◌<ℤ◌, ◌≤ℤ◌, w32}
 use Rattle.std.proofs.lemmas.Int.{ints, to_z-of_z}
-use Rattle.sac_base.specs.WithLoops.{Axis, holds_at}
+use Rattle.sac_base.specs.WithLoops.{holds_at}
 use Rattle.array_with_loops.proofs.RowSteps.{below_free, all_held, between, offset_kept}
 use Rattle.array_with_loops.proofs.ranges.Axis.run_from.Goals as goal
 

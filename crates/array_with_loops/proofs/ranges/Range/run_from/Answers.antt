@@ -1,4 +1,4 @@
-use Rattle.std.proofs.Common.{◌≡◌, ◌+◌, ◌-◌, ◌≤◌, length, sym, ap, ◌∙◌, arith, rules, get_or, pos, FitsSigned, w32}
+use Rattle.std.proofs.Common.{◌≡◌, ◌-◌, ◌≤◌, length, sym, ap, ◌∙◌, arith, rules, get_or, pos, FitsSigned, w32}
 use Rattle.std.proofs.lemmas.Int.{to_z-of_z}
 use Rattle.array_with_loops.specs.Ranges.{moved_last}
 use Rattle.array_with_loops.proofs.RangeSteps.{holds_length}
