@@ -1,11 +1,10 @@
 -- The array that a value is, by what is known without its cells.
-use Rattle.std.proofs.Common.{◌≡◌, ◌∙◌, ℕ, List, ⊥, map, pos, refl, sym, ap, subst, length}
+use Rattle.std.proofs.Common.{◌≡◌, ◌∙◌, ℕ, List, ⊥, map, pos, refl, sym, ap}
 use Rattle.std.specs.Prelude.{ℤ, unsigned_abs}
 use Rattle.sac_base.proofs.Extents.{abs_pos}
-use Rattle.sac_base.specs.Arrays.{size}
 use Rattle.sac_base.specs.declared.base.Base.{Base}
 use Rattle.buffer_heap.specs.declared.heap.BufferId.{BufferId}
-use Rattle.counted_code.specs.Values.{Heap, Value, Small, Ref, cells_of, read}
+use Rattle.counted_code.specs.Values.{Heap, Value, Small, Ref, read}
 use Rattle.run_values.specs.declared.few.Few.{Few}
 use Rattle.run_values.specs.declared.value.RunValue.{RunValue}
 use Rattle.run_values.specs.declared.value.RunValue.TheVariants.{Unbound, Word, Short, Buffer}
@@ -29,8 +28,3 @@ full_without Unbound shape m other = tt
 full_without (Word base n) shape m other = tt
 full_without (Short base few) shape m other = tt
 full_without (Buffer base id extents) shape m other = absurd (other base id extents refl)
-
-pub full_buffer : (v : RunValue) (shape : List ℕ) (m : Heap) (base : Base) (id : BufferId) (extents : Few) (cells : List ℤ) (n : ℕ)
-    → v ≡ Buffer base id extents → cells ≡ cells_of m id.born → n ≡ length cells → n ≡ size shape → IsFull shape (value_of v) m
-full_buffer v shape m base id extents cells n is held count sized =
-    subst (λ (v : RunValue). IsFull shape (value_of v) m) (sym is) (ap length (sym held) ∙ sym count ∙ sized)
