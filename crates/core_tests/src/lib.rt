@@ -10,6 +10,8 @@ mod counting;
 #[cfg(test)]
 mod generators;
 #[cfg(test)]
+mod grids;
+#[cfg(test)]
 mod making;
 #[cfg(test)]
 mod substitution;

@@ -1,4 +1,4 @@
-//! Tests of operators and types, of arrays, of their texts, of files and devices, of grids, of values below the evaluator of counted code, and of runs of the
+//! Tests of operators and types, of arrays, of their texts, of files and devices, of values below the evaluator of counted code, and of runs of the
 //! evaluator.
 #![tactic(auto)]
 
@@ -10,8 +10,6 @@ mod data;
 mod devices;
 #[cfg(test)]
 mod files;
-#[cfg(test)]
-mod grids;
 #[cfg(test)]
 mod making;
 #[cfg(test)]
