@@ -1,3 +1,4 @@
 pub mod Chunks
 pub mod Seats
 pub mod Answering
+pub mod Gathering

@@ -3,8 +3,8 @@ ghost use Rattle.std.specs.Prelude.{◌≤◌, length};
 ghost use Rattle.chunk_reports.specs.Stops.{first_stop_of};
 ghost use Rattle.phase_chunks.specs.Answering.{Answers, Finishes};
 
+use crate::combine::combine_held;
 use crate::shares::ChunkReport;
-use crate::worker::combine_held;
 use chunk_reports::first_stop;
 use sac_base::{Cell, Memory, Op, Stop};
 

@@ -2,13 +2,16 @@
 #![tactic(auto)]
 
 mod cells;
+mod combine;
 mod ends;
+mod gather;
 mod shares;
 mod work;
 mod worker;
 
 pub use cells::PhaseCells;
+pub use combine::combine_held;
 pub use ends::{TeamEnd, answer_of, with_neutral};
 pub use shares::{ChunkPart, ChunkReport, Share, Stretch, stretch_of};
 pub use work::{CellWork, CellWorker};
-pub use worker::{combine_held, run_chunk};
+pub use worker::run_chunk;

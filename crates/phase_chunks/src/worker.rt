@@ -1,43 +1,17 @@
 // One worker, which computes the cells of one chunk.
-ghost use Rattle.std.specs.Prelude.{◌≡◌, ◌+◌, ◌*◌, ◌<◌, ◌≤◌, length, take, IfOk};
+ghost use Rattle.std.specs.Prelude.{◌≡◌, ◌+◌, ◌*◌, ◌≤◌, length, take, IfOk};
 ghost use Rattle.wl_core.specs.declared.setup.Job.TheVariants.{Write as Store};
-ghost use Rattle.wl_core.specs.Machine.{combine, both};
-ghost use Rattle.phase_team.specs.Segments.{cells_from, value_if, Costs, Gathered, Ran, StoredNext};
+ghost use Rattle.phase_team.specs.Segments.{cells_from, Costs, Gathered, Ran, StoredNext};
 ghost use Rattle.phase_chunks.specs.Chunks.{HasTwoRows, IsDone, IsPartial, PartFits};
 ghost use Rattle.phase_chunks.specs.Seats.{Suits, IsFresh};
 
 use crate::cells::PhaseCells;
+use crate::gather::gather;
 use crate::shares::{ChunkPart, Stretch};
 use crate::work::{CellWork, CellWorker};
 use phase_team::CellEnd;
-use sac_base::{Cell, Op, Stop, apply2};
+use sac_base::{Cell, Op, Stop};
 use wl_core::Job;
-
-// Combines each element with the one of the value.
-fn combine_into(op: Op, into: &mut [Cell], value: &[Cell])
-    requires { length value.now ≡ length into.old }
-    ensures { into.new ≡ combine op into.old value.now }
-{
-    for i in 0..into.len() {
-        into[i] = apply2(op, into[i], value[i]).unwrap_or(0);
-    }
-}
-
-/// Combines a value that may be missing with another, which may be missing too, and answers whether there is one then.
-pub fn combine_held(op: Op, into: &mut [Cell], held: bool, value: &[Cell], more: bool) -> bool
-    requires { length value.now ≡ length into.old }
-    ensures { value_if result into.new ≡ both (combine op) (value_if held into.old) (value_if more value.now) }
-{
-    if !more {
-        return held;
-    }
-    if held {
-        combine_into(op, into, value);
-    } else {
-        into.copy_from_slice(value);
-    }
-    true
-}
 
 // Writes the next cells one after another, at least one of them, or up to the first that stops. Answers how many.
 fn fill_next<H, C: PhaseCells<H>>(
@@ -112,44 +86,6 @@ fn fill<H, C: PhaseCells<H>>(
         }
     }
     Ok(true)
-}
-
-// Combines cells one after another into the first row, up to the first that stops.
-fn gather<H, C: PhaseCells<H>>(
-    work: &CellWork<'_, C>,
-    worker: &mut CellWorker<C::Worker>,
-    op: Op,
-    stretch: Stretch,
-    row: &mut [Cell],
-    spare: &mut [Cell],
-) -> Result<bool, Stop>
-    requires suits { let all = work.now.cells.now in
-        Suits (C.cell all) (C.positions all) (C.width all) (C.shared all) work.now.table.now.buffers work.now.share }
-    requires within { stretch.start + stretch.count ≤ C.positions work.now.cells.now }
-    requires seat { IsFresh work.now.table.now worker.old.seat }
-    requires worker { C.idle work.now.cells.now worker.old.context }
-    requires rows { (length row.old ≡ work.now.share.width) × (length spare.old ≡ work.now.share.width) }
-    ensures ran { Gathered op work.now.share.width (cells_from (C.cell work.now.cells.now) stretch.start stretch.count) row.new result }
-    ensures worker { C.idle work.now.cells.now worker.new.context }
-    ensures spent { let all = work.now.cells.now in
-        IfOk result (λ _. Costs (C.cost all) stretch.start stretch.count (C.spent all worker.old.context) (C.spent all worker.new.context)) }
-    ensures seat { worker.new.seat ≡ worker.old.seat }
-{
-    let mut held = false;
-    for i in 0..stretch.count {
-        match work.cells.cell(
-            &mut worker.context,
-            work.table,
-            &mut worker.seat,
-            stretch.start + i,
-            spare,
-        ) {
-            CellEnd::Value => held = combine_held(op, row, held, spare, true),
-            CellEnd::NotHeld => {}
-            CellEnd::Stopped(stop) => return Err(stop),
-        }
-    }
-    Ok(held)
 }
 
 // The same in rows of which the first is the value's and the second is spare.

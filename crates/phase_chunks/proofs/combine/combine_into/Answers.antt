@@ -3,7 +3,7 @@ use Rattle.std.proofs.lemmas.Int.{to_z-of_z}
 use Rattle.std.specs.Result.{result_unwrap_or}
 use Rattle.sac_base.specs.Verdict.{fold_op}
 use Rattle.wl_core.proofs.Buffers.{combine_step}
-use Rattle.phase_chunks.proofs.worker.combine_into.Goals as goal
+use Rattle.phase_chunks.proofs.combine.combine_into.Goals as goal
 
 pub loop-i-preserved : goal.loop-i-preserved
 loop-i-preserved c =
