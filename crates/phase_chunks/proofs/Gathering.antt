@@ -1,5 +1,5 @@
 -- Values that are combined some at a time.
-use Rattle.std.proofs.Common.{◌≡◌, ℕ, ◌+◌, ◌-◌, ◌≤◌, List, [], ◌∷◌, ◌++◌, ℤ, length, map, Option, Some, None, Ok, Err, refl, sym, ap, ◌∙◌, arith}
+use Rattle.std.proofs.Common.{◌≡◌, ℕ, ◌+◌, ◌-◌, ◌≤◌, List, [], ◌∷◌, ◌++◌, ℤ, pos, length, map, get_or, set, drop, Bool, true, false, Option, Some, None, Ok, Err, refl, sym, ap, subst, ◌∙◌, arith}
 use Rattle.std.specs.Prelude.{fold, All}
 use Rattle.std.proofs.lemmas.List.Elements.{All-head, All-tail}
 use Rattle.std.proofs.lemmas.List.Sums.{fold-append}
@@ -9,10 +9,12 @@ use Rattle.sac_base.specs.declared.stop.Stop.TheVariants.{Faulted, Memory}
 use Rattle.sac_base.specs.Verdict.{combined, each, fold_op, joined, present}
 use Rattle.wl_core.proofs.Combining.{present-append}
 use Rattle.wl_core.specs.Machine.{CellValue, combine, both}
-use Rattle.phase_team.specs.Segments.{cells_from, Gathered, HaveWidth}
+use Rattle.phase_team.specs.Segments.{cells_from, value_if, Gathered, HaveWidth, Tells}
 use Rattle.phase_team.proofs.Sequences.{cells-append, each-back, each-both, widths_both, widths_more, widths_none, widths_same}
+use Rattle.phase_team.proofs.Steps.{stops_gather}
 use Rattle.phase_team.proofs.Stored.{Are}
-use Rattle.phase_chunks.specs.Gathering.{combined_on}
+use Rattle.phase_team.specs.declared.cells.CellEnd.TheVariants.{Stopped}
+use Rattle.phase_chunks.specs.Gathering.{combined_on, GatheredNext}
 
 -- the values of two lists one after another
 pub combined_then : {A : Type 0} (op : A → A → A) (xs ys : List A) → combined op (xs ++ ys) ≡ combined_on op (combined op xs) ys
@@ -90,3 +92,33 @@ comes_one cell start op width before after x e len is =
 pub comes_none : (cell : ℕ → CellValue) (start : ℕ) (op : Op) (width : ℕ) (before after : Option (List ℤ)) → cell start ≡ Ok None → after ≡ before → ComeOn cell start 1 op width before after
 comes_none cell start op width before after e is =
     (None ∷ [], (λ j. each (e j ∷ [])), is ∙ sym (combined_none (combine op) before), widths_same width [] (widths_none width))
+
+-- ---- numbers
+
+pub numbers_behind : (op : Op) (held : Bool) (into ns : List ℤ) (r : ℤ) → held ≡ true → length into ≡ 1 → r ≡ fold (fold_op op) (get_or into 0 (pos 0)) ns
+    → Some (set into 0 r) ≡ combined_on (combine op) (value_if held into) (map single ns)
+numbers_behind op held [] ns r e one is = absurd (omega (arith, one))
+numbers_behind op held (a ∷ []) ns r e one is =
+    ap (λ z. Some (single z)) is ∙ ap (λ x. Some x) (sym (fold_singles op a ns)) ∙ ap (λ h. combined_on (combine op) (value_if h (a ∷ [])) (map single ns)) (sym e)
+numbers_behind op held (a ∷ b ∷ xs) ns r e one is = absurd (omega (arith, one))
+
+pub numbers_alone : (op : Op) (held : Bool) (into ns : List ℤ) (r : ℤ) → held ≡ false → length into ≡ 1 → 1 ≤ length ns → r ≡ fold (fold_op op) (get_or ns 0 (pos 0)) (drop 1 ns)
+    → Some (set into 0 r) ≡ combined_on (combine op) (value_if held into) (map single ns)
+numbers_alone op held [] ns r e one some is = absurd (omega (arith, one))
+numbers_alone op held (a ∷ []) [] r e one some is = absurd (omega (arith, some))
+numbers_alone op held (a ∷ []) (n ∷ ns) r e one some is =
+    ap (λ z. Some (single z)) is ∙ ap (λ x. Some x) (sym (fold_singles op n ns)) ∙ ap (λ h. combined_on (combine op) (value_if h (a ∷ [])) (map single (n ∷ ns))) (sym e)
+numbers_alone op held (a ∷ b ∷ xs) ns r e one some is = absurd (omega (arith, one))
+
+-- ---- the next cells
+
+-- so many cells, at least one and at most n
+pub next_cells : (cell : ℕ → CellValue) (start k n : ℕ) (op : Op) (width : ℕ) (before after : Option (List ℤ)) → 1 ≤ k → k ≤ n → ComeOn cell start k op width before after
+    → GatheredNext op width cell start n before after (Ok k)
+next_cells cell start k n op width before after some most come = (some, most, come.0, come.1, come.2, come.3)
+
+pub stops_next : (cell : ℕ → CellValue) (start n : ℕ) (op : Op) (width : ℕ) (into : List ℤ) (before after : Option (List ℤ)) (stop : Stop) → 1 ≤ n → Tells (cell start) into (Stopped stop)
+    → GatheredNext op width cell start n before after (Err stop)
+stops_next cell start n op width into before after stop some tells =
+    let here : start ≡ start + 0 = omega arith in
+    stops_gather cell start 0 [] refl op width n into [] stop some (subst (λ (p : ℕ). Tells (cell p) into (Stopped stop)) here tells)

@@ -1,7 +1,6 @@
-use Rattle.std.proofs.Common.{◌≡◌, ℕ, ◌+◌, ◌-◌, ℤ, List, [], ◌++◌, length, Option, Ok, refl, ap, sym, subst, ◌∙◌, arith, rules}
-use Rattle.sac_base.specs.Verdict.{each, present, combined}
-use Rattle.wl_core.specs.Machine.{combine}
-use Rattle.phase_team.specs.Segments.{cells_from, Costs}
+use Rattle.std.proofs.Common.{◌≡◌, ℕ, [], refl, ap, sym, subst, ◌∙◌, arith}
+use Rattle.sac_base.specs.Verdict.{each}
+use Rattle.phase_team.specs.Segments.{cells_from, value_if, Costs}
 use Rattle.phase_team.proofs.Sequences.{widths_none}
 use Rattle.phase_team.proofs.Stored.{costs_both}
 use Rattle.phase_team.proofs.Steps.{costs_none}
@@ -24,7 +23,7 @@ loop-done-preserved g c =
     let next = c.in-Ok.ensures.ran in
     record {
       most = omega (arith, next.1, c.loop-done.invariant.most);
-      combined_so_far = gathered_both cell c.args.stretch.start c.loop-done.done c.in-Ok.more c.args.op c.args.work.now.share.width _ _ c.loop-done.invariant.combined_so_far next.2;
+      combined_so_far = gathered_both cell c.args.stretch.start c.loop-done.done c.in-Ok.more c.args.op c.args.work.now.share.width (value_if c.loop-done.held c.loop-done.row) (value_if c.gather_next.new.held c.gather_next.new.row) c.loop-done.invariant.combined_so_far (next.2, next.3, next.4, next.5);
       worker = c.gather_next.ensures.worker;
       spent = costs_both (g.C.PhaseCells.cost c.args.work.now.cells.now) c.args.stretch.start c.loop-done.done c.in-Ok.more (spent c.args.worker.now.context) (spent c.loop-done.worker.context) (spent c.gather_next.new.worker.context) c.loop-done.invariant.spent c.in-Ok.ensures.spent;
       seat = c.gather_next.ensures.seat ∙ c.loop-done.invariant.seat;
@@ -32,7 +31,7 @@ loop-done-preserved g c =
 
 pub returns-in-Err-clause-ran : goal.returns-in-Err-clause-ran
 returns-in-Err-clause-ran g c =
-    stops_after (g.C.PhaseCells.cell c.args.work.now.cells.now) c.args.stretch.start c.loop-done.done c.args.stretch.count c.args.op c.args.work.now.share.width _ _ c.in-Err.stop c.loop-done.invariant.most c.loop-done.invariant.combined_so_far c.in-Err.ensures.ran
+    stops_after (g.C.PhaseCells.cell c.args.work.now.cells.now) c.args.stretch.start c.loop-done.done c.args.stretch.count c.args.op c.args.work.now.share.width _ c.gather_next.new.row c.in-Err.stop c.loop-done.invariant.most c.loop-done.invariant.combined_so_far c.in-Err.ensures.ran
 
 pub returns-clause-ran : goal.returns-clause-ran
 returns-clause-ran g c =
