@@ -15,11 +15,24 @@ const FEW: u64 = 1024;
 /// How many elements of an array an operator computes while one step is made.
 const ELEMENTS: u64 = 64;
 
+/// The same of steps of strips, of which each takes a fraction of a nanosecond.
+const FEW_IN_STRIPS: u64 = 131_072;
+
 impl<'a, G: Gate, R: Threads + Sync> Workers<'a, G, R> {
-    /// The workers of a phase of so many cells of so many steps: the thread that met it alone where they are few, and all where a size of chunks
-    /// was given.
+    /// The workers of a phase of so many cells of so many steps of the evaluator: the thread that met it alone where they are few, and all where a size
+    /// of chunks was given.
     pub fn of_phase(&self, cells: usize, steps: u64) -> Workers<'a, G, R> {
-        let is_worth = self.chunked || (cells as u64).saturating_mul(steps) > FEW;
+        self.where_more(cells, steps, FEW)
+    }
+
+    /// The same of cells that strips compute, in so many steps.
+    pub fn of_strips(&self, cells: usize, steps: usize) -> Workers<'a, G, R> {
+        self.where_more(cells, steps as u64, FEW_IN_STRIPS)
+    }
+
+    // All workers where there are more steps than so many, or chunks of a size that was given.
+    fn where_more(&self, cells: usize, steps: u64, few: u64) -> Workers<'a, G, R> {
+        let is_worth = self.chunked || (cells as u64).saturating_mul(steps) > few;
         Workers {
             alloc: self.alloc,
             rt: self.rt,

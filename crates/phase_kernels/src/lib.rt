@@ -5,8 +5,10 @@ mod cells;
 mod kernels;
 mod scope;
 mod scratch;
+mod worth;
 
 pub use cells::KernelCells;
 pub use kernels::source_kernels;
 pub use scope::{Scope, scope_of};
 pub use scratch::KernelScratch;
+pub use worth::strip_steps;

@@ -13,7 +13,8 @@ ghost use Rattle.run_values.specs.Scopes.{current};
 use crate::arrays::array_by_workers;
 use crate::folds::{fold_by_workers, is_fold};
 use crate::sources::live_apart;
-use phase_books::{Workers, steps_of};
+use crate::teams::team_for;
+use phase_books::Workers;
 use phase_team::Gate;
 use run_eval::{CellLoop, Context, LoopResult, State, run_in_order};
 use run_store::is_small;
@@ -60,8 +61,7 @@ fn array_outside<'a, G: Gate, R: Threads + Sync>(
     let Some(live) = live_apart(workers, &work.source, context, state)? else {
         return run_in_order(work, context, state);
     };
-    let steps = steps_of(&work.source, &live, &state.frames);
-    let team = workers.of_phase(work.plan.frame.count(), steps);
+    let team = team_for(workers, work.source, work.plan, &live, *context, state);
     array_by_workers(&team, work, &live, context, state)
 }
 
@@ -97,7 +97,6 @@ fn fold_outside<'a, G: Gate, R: Threads + Sync>(
         return run_in_order(work, context, state);
     };
     let neutral = copy_array(neutral)?;
-    let steps = steps_of(&work.source, &live, &state.frames);
-    let team = workers.of_phase(work.plan.frame.count(), steps);
+    let team = team_for(workers, work.source, work.plan, &live, *context, state);
     fold_by_workers(&team, work, op, neutral, &live, context, state)
 }

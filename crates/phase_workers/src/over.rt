@@ -17,12 +17,13 @@ ghost use Rattle.run_values.specs.Shown.{value_of};
 
 use crate::arrays::array_cells;
 use crate::sources::live_apart;
+use crate::teams::team_for;
 use array_with_loops::Plan;
 use core_ir::Var;
 use counted_code::CodePart;
 use over_checks::may_be_over;
 use over_phases::phases_end_over;
-use phase_books::{Begun, Workers, end_phase, open_books, settle_over, steps_of, stop_phase};
+use phase_books::{Begun, Workers, end_phase, open_books, settle_over, stop_phase};
 use phase_kernels::KernelCells;
 use phase_loop_cells::LoopCells;
 use phase_team::Gate;
@@ -58,8 +59,7 @@ pub fn over_outside<G: Gate, R: Threads + Sync>(
     if !is_phase_over(parts, work.plan, array, &live, *context, state)? {
         return run_over_in_order(work, array, context, state);
     }
-    let steps = steps_of(&source, &live, &state.frames);
-    let team = workers.of_phase(work.plan.frame.count(), steps);
+    let team = team_for(workers, source, work.plan, &live, *context, state);
     over_by_workers(&team, parts, work.plan, array, &live, context, state)
 }
 
