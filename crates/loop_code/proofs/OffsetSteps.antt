@@ -72,6 +72,9 @@ offset_at ls os k each h = All-get_or (IsOffset ls) os k [] h each
 pub shifted_at : (ls : List ℤ) (os : List (List ℤ)) (k : ℕ) → k < length os → get_or (shifted ls os) k [] ≡ added ls (get_or os k [])
 shifted_at ls os k h = get_or-map (added ls) os k [] [] h
 
+pub shifted_none : (ls : List ℤ) (os : List (List ℤ)) → os ≡ [] → shifted ls os ≡ []
+shifted_none ls os e = ap (shifted ls) e
+
 pub shifted_along : (ls : List ℤ) (os : List (List ℤ)) (p q j : ℕ) → All (IsOffset ls) os → p < length os → q < length os → get_or os q [] ≡ moved_last j (get_or os p [])
     → get_or (shifted ls os) q [] ≡ moved_last j (get_or (shifted ls os) p [])
 shifted_along ls os p q j each hp hq along =
