@@ -112,8 +112,7 @@ fn is_empty(grid: &Grid) -> bool
 
 // The lower bounds of a grid.
 fn lowest(alloc: Global, grid: &Grid) -> Result<Vec<i64>, Memory>
-    ensures value { IfOk result (λ low. low.items ≡ lowest_of grid.now) }
-    ensures bounds { IfOk result (λ low. All HasBounds grid.now) }
+    ensures { IfOk result (λ low. low.items ≡ lowest_of grid.now) }
 {
     let mut low = Vec::new(alloc);
     for axis in grid.axes() {
@@ -126,7 +125,8 @@ fn lowest(alloc: Global, grid: &Grid) -> Result<Vec<i64>, Memory>
 fn extents_of(alloc: Global, grid: &Grid) -> Result<Shape, Memory>
     requires some { is_empty_box (box_range grid.now) ≡ false }
     requires most { size (grid_extents grid.now) ≤ MOST }
-    ensures { IfOk result (λ extents. extents ≡ grid_extents grid.now) }
+    ensures value { IfOk result (λ extents. extents ≡ grid_extents grid.now) }
+    ensures bounds { IfOk result (λ extents. All HasBounds grid.now) }
 {
     let mut extents = Vec::new(alloc);
     for axis in grid.axes() {

@@ -1,13 +1,14 @@
-use Rattle.std.proofs.Common.{◌≡◌, ◌<◌, ◌^◌, ◌++◌, ◌∷◌, [], length, ap, sym, ◌∙◌, subst, arith, rules, map, pos, w32, get_or}
+use Rattle.std.proofs.Common.{◌≡◌, ◌<◌, ◌^◌, ◌++◌, ◌∷◌, [], length, ap, sym, ◌∙◌, subst, arith, rules, map, pos, w32, w64, get_or, All, FitsSigned}
 use Rattle.std.specs.Prelude.{unsigned_abs, ◌-ℤ◌, IfSome}
 use Rattle.std.proofs.lemmas.Int.{to_z_pos}
 use Rattle.std.proofs.lemmas.List.{take_all, map_more}
-use Rattle.std.proofs.lemmas.List.Elements.{All-get_or}
+use Rattle.std.proofs.lemmas.List.Elements.{All-get_or, All-more}
 use Rattle.sac_base.specs.declared.grid.Grid1.{Grid1}
 use Rattle.sac_base.specs.Shapes.{AreNatural}
 use Rattle.sac_base.specs.WithLoops.{distance}
 use Rattle.array_with_loops.proofs.JoinSteps.{map_pos_same}
 use Rattle.array_with_loops.specs.GridFrames.{grid_extents}
+use Rattle.loop_code.specs.Offsets.{HasBounds}
 use Rattle.loop_code.proofs.OffsetSteps.{IsSmall, are_small, extent_is, natural, numbers, numbers_are}
 use Rattle.loop_code.proofs.members.extents_of.Goals as goal
 
@@ -36,20 +37,28 @@ loop-axis-preserved c =
     let extent = extent_is a c.abs_diff.result small apart in
     let below : c.abs_diff.result < 2 ^ 31 = omega (arith, small.most, extent) in
     let kept = to_z_pos w32 c.abs_diff.result below ∙ ap pos extent ∙ ap (λ (b : Grid1). pos (distance (b.hi -ℤ b.lo))) c.axis-item.is in
-    c.in_ok-push.ensures.items ∙ ap (λ z. c.loop-axis.extents.items ++ z ∷ []) kept
-    ∙ ap (λ zs. zs ++ pos (distance ((get_or xs k a).hi -ℤ (get_or xs k a).lo)) ∷ []) c.loop-axis.invariant
-    ∙ sym (map_more (λ (b : Grid1). pos (distance (b.hi -ℤ b.lo))) xs k a c.loop-axis-test.true)
+    let low : FitsSigned w64 c.axis-item.result.lo = search rules in
+    let high : FitsSigned w64 c.axis-item.result.hi = search rules in
+    record {
+      numbers = c.in_ok-push.ensures.items ∙ ap (λ z. c.loop-axis.extents.items ++ z ∷ []) kept
+          ∙ ap (λ zs. zs ++ pos (distance ((get_or xs k a).hi -ℤ (get_or xs k a).lo)) ∷ []) c.loop-axis.invariant.numbers
+          ∙ sym (map_more (λ (b : Grid1). pos (distance (b.hi -ℤ b.lo))) xs k a c.loop-axis-test.true);
+      bounds = All-more HasBounds xs k a c.loop-axis-test.true c.loop-axis.invariant.bounds (subst HasBounds c.axis-item.is (record { low = low; high = high }));
+    }
 
 pub unwrap-requires : goal.unwrap-requires
 unwrap-requires c =
     let all = take_all c.loop-axis.axis-index c.axes-axis-items.result.now c.loop-axis-test.false ∙ c.axes-axis-items.ensures.axes in
-    let items = c.deref.ensures.value ∙ c.loop-axis.invariant ∙ ap numbers all in
+    let items = c.deref.ensures.value ∙ c.loop-axis.invariant.numbers ∙ ap numbers all in
     c.from_extents.ensures.fits.1 (subst AreNatural (sym items) (natural c.args.grid.now c.axes-axis-items.ensures.few))
 
-pub returns : goal.returns
-returns c =
+pub returns-clause-value : goal.returns-clause-value
+returns-clause-value c =
     let g = c.args.grid.now in
     let all = take_all c.loop-axis.axis-index c.axes-axis-items.result.now c.loop-axis-test.false ∙ c.axes-axis-items.ensures.axes in
-    let items = c.deref.ensures.value ∙ c.loop-axis.invariant ∙ ap numbers all in
+    let items = c.deref.ensures.value ∙ c.loop-axis.invariant.numbers ∙ ap numbers all in
     let value = subst (λ o. IfSome o (λ s. map pos s ≡ c.deref.result.now)) c.unwrap.ensures c.from_extents.ensures.value in
     map_pos_same c.unwrap.result (grid_extents g) (value ∙ items ∙ numbers_are g)
+
+pub returns-clause-bounds : goal.returns-clause-bounds
+returns-clause-bounds c = subst (All HasBounds) (take_all c.loop-axis.axis-index c.axes-axis-items.result.now c.loop-axis-test.false ∙ c.axes-axis-items.ensures.axes) c.loop-axis.invariant.bounds
