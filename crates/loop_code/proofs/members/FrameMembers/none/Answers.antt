@@ -1,4 +1,4 @@
-use Rattle.std.proofs.Common.{[], ap, sym, ◌∙◌, subst, All}
+use Rattle.std.proofs.Common.{ap, sym, ◌∙◌, subst, All}
 use Rattle.std.proofs.lemmas.List.Elements.{All-nil}
 use Rattle.sac_base.specs.WithLoops.{box, shape_spans}
 use Rattle.loop_code.specs.Offsets.{IsOffset}
