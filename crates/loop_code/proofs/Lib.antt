@@ -1,3 +1,4 @@
 pub mod Along
 mod GridSteps
 mod Covering
+mod OffsetSteps

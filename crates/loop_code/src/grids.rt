@@ -15,7 +15,7 @@ pub(crate) struct PartRun {
 }
 
 /// The first part that has an index, or that none does, and for how many indices along the row, of at most so many, that is so.
-pub(crate) fn part_at(parts: &[Grid], index: &[i32], most: u64) -> PartRun
+pub(crate) fn part_at(parts: &[Grid], index: &[i64], most: u64) -> PartRun
     requires { 1 ≤ most }
     ensures some { 1 ≤ result.count }
     ensures most { result.count ≤ most }
@@ -52,7 +52,7 @@ impl GridRun {
 }
 
 // Whether a grid has an index, and for how many indices from it on along the row, of at most so many, that stays so.
-fn grid_run(grid: &Grid, index: &[i32], most: u64) -> GridRun
+fn grid_run(grid: &Grid, index: &[i64], most: u64) -> GridRun
     requires { 1 ≤ most }
     ensures some { 1 ≤ result.count }
     ensures most { result.count ≤ most }
@@ -67,11 +67,11 @@ fn grid_run(grid: &Grid, index: &[i32], most: u64) -> GridRun
     }
     let last = index.len() - 1;
     for k in 0..last {
-        if !axes[k].has(i64::from(index[k])) {
+        if !axes[k].has(index[k]) {
             return GridRun::of(false, most);
         }
     }
-    axis_run(&axes[last], i64::from(index[last]), most)
+    axis_run(&axes[last], index[last], most)
 }
 
 // Whether an axis has a number, and for how many numbers from it on, of at most so many, that stays so.

@@ -2,6 +2,7 @@
 #![tactic(auto)]
 
 mod grids;
+mod members;
 mod positions;
 mod ranges;
 

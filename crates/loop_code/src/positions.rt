@@ -1,15 +1,14 @@
 //! The positions of a frame, in runs that one part holds.
 
-ghost use Rattle.std.specs.Prelude.{◌≡◌, ◌+◌, ◌<◌, ◌≤◌, length, List, ℤ, pos, true, All, IfOk, OnOk, FitsSigned};
-ghost use mir.Syntax.{w32};
+ghost use Rattle.std.specs.Prelude.{◌≡◌, ◌+◌, ◌<◌, ◌≤◌, length, pos, All, IfOk, OnOk};
 ghost use Rattle.sac_base.specs.Arrays.{size, MOST};
 ghost use Rattle.sac_base.specs.declared.grid.Grid1.{Grid1};
-ghost use Rattle.sac_base.specs.Grids.{has_vector};
 ghost use Rattle.array_with_loops.specs.GridFrames.{grid_extents};
 ghost use Rattle.loop_code.specs.Runs.{AreRunsOf, AreRunsOver, HasFrom, pushed};
 
 use crate::grids::{PartRun, part_at};
-use array_with_loops::{Frame, IndexVector};
+use crate::members::FrameMembers;
+use array_with_loops::IndexVector;
 use sac_base::{Grid, Memory};
 use std::alloc::Global;
 
@@ -32,23 +31,23 @@ pub struct Runs {
 pub fn rows(alloc: Global, frame: &Grid, parts: &[Grid]) -> Result<Runs, Memory>
     requires dense { All (λ (axis : Grid1). axis.step ≡ pos 1) frame.now }
     requires most { size (grid_extents frame.now) ≤ MOST }
-    requires words { (index : List ℤ) → has_vector frame.now index ≡ true → All (FitsSigned w32) index }
     ensures { IfOk result (λ runs. AreRunsOf frame.now parts.now runs.rows.items) }
 {
-    let indices = Frame::of_grid(alloc, frame)?;
+    let indices = FrameMembers::of_grid(alloc, frame)?;
     let rows = runs_over(alloc, &indices, parts)?;
     Ok(Runs { rows })
 }
 
-// The same of the indices of a frame.
-fn runs_over(alloc: Global, indices: &Frame, parts: &[Grid]) -> Result<Vec<Run>, Memory>
+// The same of the members of a frame.
+fn runs_over(alloc: Global, indices: &FrameMembers, parts: &[Grid]) -> Result<Vec<Run>, Memory>
     ensures { IfOk result (λ rows. AreRunsOver indices.now parts.now rows.items) }
 {
-    let mut index = IndexVector::new(alloc);
+    let mut offset = IndexVector::new(alloc);
+    let mut index = Vec::new(alloc);
     let mut rows = Vec::new(alloc);
     let mut place = 0;
     while place < indices.count() {
-        let run = run_from(indices, parts, place, &mut index)?;
+        let run = run_from(indices, parts, place, &mut offset, &mut index)?;
         push_run(&mut rows, place, &run)?;
         place += run.count as usize;
     }
@@ -70,18 +69,20 @@ fn push_run(rows: &mut Vec<Run>, place: usize, run: &PartRun) -> Result<(), Memo
 }
 
 // The first part that has the index at a place, or that none does, and for how many places from it on, within its row, that is so.
+// The index and its offset are written into the vectors, which take memory for the first place alone.
 fn run_from(
-    indices: &Frame,
+    indices: &FrameMembers,
     parts: &[Grid],
     place: usize,
-    index: &mut IndexVector,
+    offset: &mut IndexVector,
+    index: &mut Vec<i64>,
 ) -> Result<PartRun, Memory>
     requires { place < length indices.now }
     ensures some { IfOk result (λ run. 1 ≤ run.count) }
     ensures inside { IfOk result (λ run. place + run.count ≤ length indices.now) }
     ensures from { IfOk result (λ run. HasFrom indices.now parts.now place run.part run.count) }
 {
-    indices.index(place, index)?;
+    indices.member(place, offset, index)?;
     let most = indices.row_left(place) as u64;
-    Ok(part_at(parts, index.components(), most))
+    Ok(part_at(parts, index.as_slice(), most))
 }

@@ -43,6 +43,36 @@ const TWO_TO_FIVE: Grid1 = Grid1 {
     width: 1,
 };
 
+// Ten numbers from 2 ^ 40 on, and two in each four of them.
+const FAR_LINE: Grid1 = Grid1 {
+    lo: 1_099_511_627_776,
+    hi: 1_099_511_627_786,
+    step: 1,
+    width: 1,
+};
+
+const FAR_TWO: Grid1 = Grid1 {
+    lo: 1_099_511_627_776,
+    hi: 1_099_511_627_786,
+    step: 4,
+    width: 2,
+};
+
+// The last three numbers below the greatest of 64 bits, and the one in the middle.
+const LAST_LINE: Grid1 = Grid1 {
+    lo: 9_223_372_036_854_775_804,
+    hi: 9_223_372_036_854_775_807,
+    step: 1,
+    width: 1,
+};
+
+const LAST_MIDDLE: Grid1 = Grid1 {
+    lo: 9_223_372_036_854_775_805,
+    hi: 9_223_372_036_854_775_806,
+    step: 1,
+    width: 1,
+};
+
 // The grid of one axis.
 fn line(alloc: Global, axis: Grid1) -> Result<Grid, Memory>
     ensures { IfOk result (λ grid. grid ≡ axis ∷ []) }
@@ -115,5 +145,20 @@ fn runs_end_with_the_rows_of_a_frame(rt: HostRuntime) {
             let _ = wanted.push(run(10 * row + 2 * k, 2, k % 2));
         }
     }
+    assert!(rt; runs.rows.as_slice() == wanted.as_slice());
+}
+
+// The runs of one part over a frame of two axes whose numbers have more than 32 bits.
+fn far_away(alloc: Global) -> Result<Runs, Memory> {
+    let frame = plane(alloc, LAST_LINE, FAR_LINE)?;
+    let mut parts = Vec::new(alloc);
+    parts.push(plane(alloc, LAST_MIDDLE, FAR_TWO)?)?;
+    rows(alloc, &frame, &parts)
+}
+
+#[test]
+fn a_frame_may_lie_beyond_32_bits(rt: HostRuntime) {
+    let runs = far_away(rt.alloc()).expect(&rt, "memory");
+    let wanted = [run(10, 2, 0), run(14, 2, 0), run(18, 2, 0)];
     assert!(rt; runs.rows.as_slice() == wanted.as_slice());
 }

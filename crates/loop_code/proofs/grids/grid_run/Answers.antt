@@ -1,4 +1,4 @@
-use Rattle.std.proofs.Common.{◌≡◌, ◌-◌, ◌≤◌, length, sym, ap, ◌∙◌, arith, rules, get_or, pos, FitsSigned, w32, w64}
+use Rattle.std.proofs.Common.{◌≡◌, ◌-◌, ◌≤◌, length, sym, ap, ◌∙◌, arith, rules, get_or, pos, FitsSigned, w64}
 use Rattle.std.proofs.lemmas.Int.{to_z-of_z}
 use Rattle.sac_base.specs.Grids.{has_vector}
 use Rattle.sac_base.proofs.GridFacts.{no_member}
@@ -20,10 +20,10 @@ returns-clause-same c = λ j h.
     let k = c.loop-k.k in
     let some : 1 ≤ length c.args.index.now = search rules in
     let same : length c.args.index.now - 1 ≡ c.loop-k.k = omega (arith, c.loop-k-test.false, c.loop-k.auto.k-end) in
-    let fits : FitsSigned w32 (get_or c.args.index.now (length c.args.index.now - 1) (pos 0)) = search rules in
+    let fits : FitsSigned w64 (get_or c.args.index.now (length c.args.index.now - 1) (pos 0)) = search rules in
     ap (λ grid. has_vector grid (moved_last j v)) (sym c.axes-axes.ensures.axes)
     ∙ sym (c.loop-k.invariant j)
     ∙ grid_end g v k j _ _ (omega (arith, some, same)) (omega (arith, c.if-index-axes.false))
     (c.index-axes-last.is ∙ ap (λ n. get_or g n c.index-axes-last.result) same)
-    (to_z-of_z w64 c.from-2.result (record { sfits = c.from-2.type_inv }) ∙ c.from-2.ensures ∙ to_z-of_z w32 _ fits ∙ ap (λ n. get_or v n (pos 0)) same)
+    (to_z-of_z w64 _ fits ∙ ap (λ n. get_or v n (pos 0)) same)
     ∙ c.axis_run.ensures.same j h
