@@ -1,0 +1,4 @@
+pub mod Moments
+pub mod Interleavings
+pub mod Readings
+pub mod Laws
