@@ -1,12 +1,11 @@
 -- The machine ends a worker's chunk, before the worker does.
-use Rattle.std.proofs.Common.{◌≡◌, ◌≢◌, ℕ, zero, suc, ◌+◌, ◌<◌, ◌≤◌, ◌⊎◌, Bool, true, false, Option, List, [], ◌∷◌, ◌++◌, ℤ, Some, Ok, Err, refl, sym, ap, subst, ◌∙◌, inl, inr, ⊎_elim, arith}
+use Rattle.std.proofs.Common.{◌≡◌, ◌≢◌, ℕ, zero, suc, ◌+◌, ◌<◌, ◌≤◌, ◌⊎◌, true, false, Option, List, [], ◌∷◌, ◌++◌, ℤ, Some, Ok, Err, refl, sym, ap, subst, ◌∙◌, inl, inr, ⊎_elim, arith}
 use Rattle.std.specs.Prelude.{slice_get}
 use Rattle.std.proofs.lemmas.Bool.{cases_eq, cases_lt, cases_Bool, true≢false}
 use Rattle.std.proofs.lemmas.Option.{slice_get_cases}
 use Rattle.sac_base.specs.declared.faults.Fault.{Fault}
 use Rattle.wl_core.specs.declared.events.Event.TheVariants.{Stop, Write}
-use Rattle.wl_core.specs.Facts.{Facts}
-use Rattle.wl_core.specs.Machine.{CellValue, IsSetup, Reached, SetupValue, StateValue, Works, chunks, end, gather, put, store}
+use Rattle.wl_core.specs.Machine.{CellValue, IsSetup, Reached, SetupValue, StateValue, Works, end, gather, put, store}
 use Rattle.wl_core.proofs.Functions.{put_same, put_other}
 use Rattle.wl_core.proofs.Kept.{reached_facts, reached_more}
 use Rattle.phase_schedules.specs.Readings.{IsOver}
@@ -52,29 +51,33 @@ module _ (u : SetupValue) (w : ℕ) (few : w < u.workers) where
       let one : put s.next c (s.next c + 1) c ≡ s.next c + 1 = put_same s.next c (s.next c + 1) c refl in
       let below = works.2 in (
         t,
-        (record {
-          reached = reached_more u s t (Write w) r (few, (c, value, works, cell, refl));
-          same = record { taken = refl; owner = refl; count = refl; holds = refl };
-          on = omega arith;
-          others = λ d ne. (put_other s.next c (s.next c + 1) d ne, refl);
-        },
-        ⊎_elim
-        (λ (lt : put s.next c (s.next c + 1) c < end u c). inr ((works.0, works.1, lt, works.3), one))
-        (λ (ge : end u c ≤ put s.next c (s.next c + 1) c). inl (inl (omega arith)))
-        (cases_lt (put s.next c (s.next c + 1) c) (end u c))),
+        (
+          record {
+            reached = reached_more u s t (Write w) r (few, (c, value, works, cell, refl));
+            same = record { taken = refl; owner = refl; count = refl; holds = refl };
+            on = omega arith;
+            others = λ d ne. (put_other s.next c (s.next c + 1) d ne, refl);
+          },
+          ⊎_elim
+              (λ (lt : put s.next c (s.next c + 1) c < end u c). inr ((works.0, works.1, lt, works.3), one))
+              (λ (ge : end u c ≤ put s.next c (s.next c + 1) c). inl (inl (omega arith)))
+              (cases_lt (put s.next c (s.next c + 1) c) (end u c)),
+        ),
       )
 
   stops_on : (s : StateValue) (c : ℕ) (fault : Fault) → Reached u s → Works u s w c → slice_get u.cells (s.next c) ≡ Some (Err fault) → (t : StateValue) × GoesOn s c t
   stops_on s c fault r works cell =
       let t : StateValue = record s { stopped = put s.stopped c true } in (
         t,
-        (record {
-          reached = reached_more u s t (Stop w) r (few, (c, fault, works, cell, refl));
-          same = record { taken = refl; owner = refl; count = refl; holds = refl };
-          on = omega arith;
-          others = λ d ne. (refl, put_other s.stopped c true d ne);
-        },
-        inl (inr (put_same s.stopped c true c refl))),
+        (
+          record {
+            reached = reached_more u s t (Stop w) r (few, (c, fault, works, cell, refl));
+            same = record { taken = refl; owner = refl; count = refl; holds = refl };
+            on = omega arith;
+            others = λ d ne. (refl, put_other s.stopped c true d ne);
+          },
+          inl (inr (put_same s.stopped c true c refl)),
+        ),
       )
 
   cell_on : (s : StateValue) (c : ℕ) (x : CellValue) → Reached u s → Works u s w c → slice_get u.cells (s.next c) ≡ Some x → (t : StateValue) × GoesOn s c t

@@ -1,14 +1,14 @@
 -- Each action keeps what holds of the cells, beside the machine that is as far or farther.
-use Rattle.std.proofs.Common.{◌≡◌, ◌≢◌, ℕ, zero, suc, ◌+◌, ◌-◌, ◌*◌, ◌<◌, ◌≤◌, ◌⊎◌, min, Bool, true, false, cond, eqb, ℤ, List, [], ◌∷◌, ◌++◌, length, Option, None, Some, Ok, Err, refl, sym, ap, subst, ◌∙◌, inl, inr, ⊎_elim, arith}
-use Rattle.std.proofs.lemmas.Bool.{eq-eqb, ne_eqb, cases_eq, cases_lt, true≢false}
+use Rattle.std.proofs.Common.{◌≡◌, ◌≢◌, ℕ, zero, suc, ◌+◌, ◌<◌, ◌≤◌, Bool, true, false, cond, eqb, ℤ, List, [], ◌∷◌, ◌++◌, length, Option, None, Some, Ok, Err, refl, sym, ap, subst, ◌∙◌, inl, inr, ⊎_elim, arith}
+use Rattle.std.proofs.lemmas.Bool.{eq-eqb, ne_eqb, cases_eq, cases_lt}
 use Rattle.std.specs.Prelude.{slice_get}
 use Rattle.sac_base.specs.declared.faults.Fault.{Fault}
 use Rattle.sac_base.specs.Verdict.{combined, present}
 use Rattle.wl_core.specs.declared.setup.Job.{Job}
 use Rattle.wl_core.specs.declared.setup.Job.TheVariants.{Write as Store, Fold}
 use Rattle.wl_core.specs.declared.events.Event.TheVariants.{Draw, Stop, Write}
-use Rattle.wl_core.specs.Facts.{Facts, cell_at, own, partial_by, stored_by, value_of}
-use Rattle.wl_core.specs.Machine.{IsSetup, Reached, SetupValue, StateValue, Steps, TakesBase, Works, both, chunks, combine, end, first, gather, listed, opened, put, store}
+use Rattle.wl_core.specs.Facts.{cell_at, own, partial_by, stored_by, value_of}
+use Rattle.wl_core.specs.Machine.{IsSetup, Reached, SetupValue, StateValue, Steps, TakesBase, Works, both, combine, end, first, gather, listed, opened, put, store}
 use Rattle.wl_core.proofs.Combining.{adds, gathered, gathered_is, same}
 use Rattle.wl_core.proofs.FoldLaws.{foldable, elementwise-foldable}
 use Rattle.wl_core.proofs.Functions.{put_same, put_other}
@@ -107,8 +107,11 @@ module _ (u : SetupValue) (k : Work) (s : StateValue) (is : IsSetup u) (h : Made
       ended : (c : ℕ) → IsAsFar u k s c → Works u s w c × IsOver u t c × (s.next c ≤ t.next c) → IsAsFar u k t c
       ended c far e =
           let on = e.2 in
-          inr (e.1, ⊎_elim (λ (x : (k.next c ≡ s.next c) × (k.stopped c ≡ s.stopped c)). x.1 ∙ e.0.3) (λ (x : IsOver u s c × (k.stopped c ≡ false) × (k.next c ≤ s.next c)). x.1) far,
-          ⊎_elim (λ (x : (k.next c ≡ s.next c) × (k.stopped c ≡ s.stopped c)). let y = x.0 in let goal : k.next c ≤ t.next c = omega arith in goal) (λ (x : IsOver u s c × (k.stopped c ≡ false) × (k.next c ≤ s.next c)). let y = x.2 in let goal : k.next c ≤ t.next c = omega arith in goal) far)
+          inr (
+            e.1,
+            ⊎_elim (λ (x : (k.next c ≡ s.next c) × (k.stopped c ≡ s.stopped c)). x.1 ∙ e.0.3) (λ (x : IsOver u s c × (k.stopped c ≡ false) × (k.next c ≤ s.next c)). x.1) far,
+            ⊎_elim (λ (x : (k.next c ≡ s.next c) × (k.stopped c ≡ s.stopped c)). let y = x.0 in let goal : k.next c ≤ t.next c = omega arith in goal) (λ (x : IsOver u s c × (k.stopped c ≡ false) × (k.next c ≤ s.next c)). let y = x.2 in let goal : k.next c ≤ t.next c = omega arith in goal) far,
+          )
 
   -- the next chunk was drawn
   pub made_drawn : (w : ℕ) (t : StateValue) → Steps u s (Draw w) t → Made u k t
@@ -316,9 +319,9 @@ module _ (u : SetupValue) (k : Work) (s : StateValue) (is : IsSetup u) (h : Made
     stopped_there fault cell over le =
         let facts = reached_facts u s is r in
         let here : k.next c ≡ s.next c = ⊎_elim
-            (λ (e : k.next c ≡ s.next c). e)
-            (λ (ne : k.next c ≢ s.next c). absurd (let d = (facts.done c (k.next c) lt (from_first c) (omega arith)).1.1 in cc))
-            (cases_eq (k.next c) (s.next c)) in
+        (λ (e : k.next c ≡ s.next c). e)
+        (λ (ne : k.next c ≢ s.next c). absurd (let d = (facts.done c (k.next c) lt (from_first c) (omega arith)).1.1 in cc))
+        (cases_eq (k.next c) (s.next c)) in
         (here, ⊎_elim (λ (x : s.next c ≡ end u c). absurd (omega arith)) (λ (x : s.stopped c ≡ true). x) over)
 
     stop_waits : (fault : Fault) → slice_get u.cells (k.next c) ≡ Some (Err fault) → IsOver u s c × (k.stopped c ≡ false) × (k.next c ≤ s.next c) → Follows (met_fault k c)

@@ -1,18 +1,18 @@
 -- Cells that are done have the sequential verdict.
-use Rattle.std.proofs.Common.{◌≡◌, ◌≢◌, ℕ, zero, suc, ◌+◌, ◌*◌, ◌/◌, ◌<◌, ◌≤◌, ◌⊎◌, Bool, true, false, ℤ, List, [], ◌∷◌, length, Option, None, Some, Ok, Err, refl, sym, ap, subst, ◌∙◌, inl, inr, ⊎_elim, arith}
+use Rattle.std.proofs.Common.{◌≡◌, ℕ, ◌/◌, ◌<◌, ◌≤◌, ◌⊎◌, true, false, ℤ, List, length, Option, refl, sym, ap, ◌∙◌, inl, inr, ⊎_elim, arith}
 use Rattle.std.proofs.lemmas.Bool.{cases_Bool, cases_lt, true≢false}
 use Rattle.std.specs.Prelude.{slice_get}
 use Rattle.sac_base.specs.declared.faults.Fault.{Fault}
 use Rattle.wl_core.specs.declared.setup.Job.{Job}
 use Rattle.wl_core.specs.declared.setup.Job.TheVariants.{Write as Store, Fold}
-use Rattle.wl_core.specs.Facts.{Facts, NoneStopped, Settled, StopsFirst, cell_at, made_by, own, own_cells, partial_by, stored_by}
-use Rattle.wl_core.specs.Machine.{ChunksDone, Finished, IsSetup, Reached, SetupValue, StateValue, chunks, end, first, listed, sequential, whole}
+use Rattle.wl_core.specs.Facts.{Facts, NoneStopped, Settled, StopsFirst, cell_at, made_by, own, partial_by, stored_by}
+use Rattle.wl_core.specs.Machine.{ChunksDone, Finished, IsSetup, Reached, SetupValue, StateValue, chunks, end, whole}
 use Rattle.wl_core.proofs.Functions.{listed-same}
 use Rattle.wl_core.proofs.Kept.{first_below, reached_facts}
 use Rattle.wl_core.proofs.Verdicts.{chunk_below, chunk_from, chunk_there, settled}
 use Rattle.phase_schedules.specs.Moments.{Work, ending}
-use Rattle.phase_schedules.specs.Readings.{CellsDone, ChunkDone, IsAsFar, IsOver}
-use Rattle.phase_schedules.proofs.Cells.{Made, own_written}
+use Rattle.phase_schedules.specs.Readings.{CellsDone, IsOver}
+use Rattle.phase_schedules.proofs.Cells.{Made}
 
 -- two states that say the same of the cells come to the same
 made_alike : (j : Job) (positions workers : ℕ) (s t : StateValue) → ((p : ℕ) → p < positions → s.stored p ≡ t.stored p) → ((w : ℕ) → w < workers → s.partial w ≡ t.partial w)
@@ -61,13 +61,13 @@ module _ (u : SetupValue) (k : Work) (s : StateValue) (is : IsSetup u) (reached 
   unstopped : (c : ℕ) → c < s.taken → ((d : ℕ) → d ≤ c → k.stopped d ≡ false) → (k.next c ≡ end u c) × (s.stopped c ≡ false)
   unstopped c lt none =
       let e : k.next c ≡ end u c = ⊎_elim
-          (λ (e : k.next c ≡ end u c). e)
-          (λ (r : (k.stopped c ≡ true) ⊎ ((d : ℕ) × (d < c) × (k.stopped d ≡ true))).
-          ⊎_elim
-          (λ (e : k.stopped c ≡ true). absurd (true≢false (sym e ∙ none c (omega arith))))
-          (λ (e : (d : ℕ) × (d < c) × (k.stopped d ≡ true)). absurd (true≢false (sym e.2 ∙ none e.0 (let l = e.1 in omega arith))))
-          r)
-          (all c (let t = facts.taken_few in omega arith)) in
+      (λ (e : k.next c ≡ end u c). e)
+      (λ (r : (k.stopped c ≡ true) ⊎ ((d : ℕ) × (d < c) × (k.stopped d ≡ true))).
+      ⊎_elim
+      (λ (e : k.stopped c ≡ true). absurd (true≢false (sym e ∙ none c (omega arith))))
+      (λ (e : (d : ℕ) × (d < c) × (k.stopped d ≡ true)). absurd (true≢false (sym e.2 ∙ none e.0 (let l = e.1 in omega arith))))
+      r)
+      (all c (let t = facts.taken_few in omega arith)) in
       let there = ended_there c lt e in
       (e, ⊎_elim (λ (st : s.stopped c ≡ true). absurd (let x = (facts.stops c lt st).0 in omega arith)) (λ (st : s.stopped c ≡ false). st) (cases_Bool (s.stopped c)))
 
@@ -94,13 +94,13 @@ module _ (u : SetupValue) (k : Work) (s : StateValue) (is : IsSetup u) (reached 
         let from = chunk_from u is.size p in
         let below = chunk_below u is.size p lt in
         let e : k.next c ≡ end u c = ⊎_elim
-            (λ (e : k.next c ≡ end u c). e)
-            (λ (r : (k.stopped c ≡ true) ⊎ ((d : ℕ) × (d < c) × (k.stopped d ≡ true))).
-            ⊎_elim
-            (λ (x : k.stopped c ≡ true). absurd (true≢false (sym x ∙ none c there)))
-            (λ (x : (d : ℕ) × (d < c) × (k.stopped d ≡ true)). absurd (true≢false (sym x.2 ∙ none x.0 (let l = x.1 in omega arith))))
-            r)
-            (all c there) in
+        (λ (e : k.next c ≡ end u c). e)
+        (λ (r : (k.stopped c ≡ true) ⊎ ((d : ℕ) × (d < c) × (k.stopped d ≡ true))).
+        ⊎_elim
+        (λ (x : k.stopped c ≡ true). absurd (true≢false (sym x ∙ none c there)))
+        (λ (x : (d : ℕ) × (d < c) × (k.stopped d ≡ true)). absurd (true≢false (sym x.2 ∙ none x.0 (let l = x.1 in omega arith))))
+        r)
+        (all c there) in
         let l = drawn_if_ended c there e in
         let e' = ended_there c l e in
         h.done c p l from (omega arith) ∙ sym (facts.done c p l from (omega arith)).0

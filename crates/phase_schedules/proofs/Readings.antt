@@ -1,5 +1,5 @@
 -- What a table stands for, after each kind of step on it.
-use Rattle.std.proofs.Common.{◌≡◌, ◌≢◌, ℕ, zero, suc, ◌+◌, ◌-◌, ◌%◌, ◌^◌, ◌<◌, ◌≤◌, ◌⊎◌, min, Bool, true, false, cond, ltb, eqb, List, [], ◌∷◌, ◌++◌, length, set, get_or, refl, sym, ap, subst, ◌∙◌, inl, inr, ⊎_elim, arith, add-one}
+use Rattle.std.proofs.Common.{◌≡◌, ◌≢◌, ℕ, zero, suc, ◌+◌, ◌-◌, ◌%◌, ◌^◌, ◌<◌, ◌≤◌, min, true, false, cond, ltb, eqb, List, [], ◌∷◌, ◌++◌, length, set, get_or, refl, sym, ap, subst, ◌∙◌, ⊎_elim, arith, add-one}
 use Rattle.std.proofs.lemmas.Bool.{cases_eq, cases_lt, eq-eqb, le-ltb, ne_eqb}
 use mathlib.Core.Option.{some, Option as Home}
 use lib.ListN.{get_elem?}
@@ -11,10 +11,10 @@ use Rattle.count_table.specs.declared.view.FrameView.{FrameView}
 use Rattle.count_table.specs.declared.view.WorkerView.{WorkerView}
 use Rattle.count_table.specs.declared.view.View.{View}
 use Rattle.count_table.specs.declared.view.View.TheVariants.{Frame, Worker, Spent}
-use Rattle.count_table.specs.Views.{drawn_of, drawn_times, holds_of, is_out, times, total}
+use Rattle.count_table.specs.Views.{drawn_of, holds_of, is_out, times, total}
 use Rattle.count_table.specs.Rule.{Counted, Keeps}
 use Rattle.count_table.specs.Plays.{after_draw, after_keep, after_release, both_of, fresh, joined, left_of, moved_left, moved_right, right_of, seated}
-use Rattle.count_table.specs.Reading.{IsReading, StepsAreEvents, held_by, owned_by}
+use Rattle.count_table.specs.Reading.{IsReading, held_by, owned_by}
 use Rattle.count_table.proofs.Totals.{total_at}
 use Rattle.count_table.proofs.Sums.{total-none}
 use Rattle.count_table.proofs.Facts.{frame_no_worker, held_twice}
@@ -54,17 +54,19 @@ module _ {T : Type 0} (u : SetupValue) where
         let t = total_at (λ v. times c (drawn_of v)) vs i (Worker w) at in
         let once = h.each_once c in
         let lt : c < min n (length f.parts) = ⊎_elim
-            (λ (l : c < min n (length f.parts)). l)
-            (λ (ge : min n (length f.parts) ≤ c). absurd (let none : cond {A = ℕ} (ltb c (min n (length f.parts))) 1 0 ≡ 0 = (let e : ltb c (min n (length f.parts)) ≡ false = le-ltb c (min n (length f.parts)) ge in rw e refl) in omega arith))
-            (cases_lt c (min n (length f.parts))) in
-        let taken : c < s.taken = (let a = r.taken in let b = r.chunks_are in omega arith) in
-        (taken, ⊎_elim (λ (e : s.owner c ≡ w.number). e)
-            (λ (ne : s.owner c ≢ w.number). absurd (
-            let o = r.owners c w.number taken in
-            let none : cond {A = ℕ} (eqb (s.owner c) w.number) 1 0 ≡ 0 = (let e : eqb (s.owner c) w.number ≡ false = ne_eqb (s.owner c) w.number ne in rw e refl) in
-            let mine : owned_by {T = T} w.number c (Worker w) ≡ times c w.drawn = (let e : eqb w.number w.number ≡ true = eq-eqb w.number w.number refl in rw e refl) in
-            let a = total_at (owned_by w.number c) vs i (Worker w) at in omega arith))
-            (cases_eq (s.owner c) w.number));
+        (λ (l : c < min n (length f.parts)). l)
+        (λ (ge : min n (length f.parts) ≤ c). absurd (let none : cond {A = ℕ} (ltb c (min n (length f.parts))) 1 0 ≡ 0 = (let e : ltb c (min n (length f.parts)) ≡ false = le-ltb c (min n (length f.parts)) ge in rw e refl) in omega arith))
+        (cases_lt c (min n (length f.parts))) in
+        let taken : c < s.taken = (let a = r.taken in let b = r.chunks_are in omega arith) in (
+          taken,
+          ⊎_elim (λ (e : s.owner c ≡ w.number). e)
+              (λ (ne : s.owner c ≢ w.number). absurd (
+              let o = r.owners c w.number taken in
+              let none : cond {A = ℕ} (eqb (s.owner c) w.number) 1 0 ≡ 0 = (let e : eqb (s.owner c) w.number ≡ false = ne_eqb (s.owner c) w.number ne in rw e refl) in
+              let mine : owned_by {T = T} w.number c (Worker w) ≡ times c w.drawn = (let e : eqb w.number w.number ≡ true = eq-eqb w.number w.number refl in rw e refl) in
+              let a = total_at (owned_by w.number c) vs i (Worker w) at in omega arith))
+              (cases_eq (s.owner c) w.number),
+        );
   }
 
   module _ (s : StateValue) where

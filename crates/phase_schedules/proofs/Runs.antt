@@ -1,21 +1,17 @@
 -- Every interleaving is a run of the machine.
-use Rattle.std.proofs.Common.{◌≡◌, ◌≢◌, ℕ, zero, suc, ◌+◌, ◌-◌, ◌%◌, ◌^◌, ◌<◌, ◌≤◌, ◌⊎◌, Bool, true, false, List, [], ◌∷◌, ◌++◌, ℤ, Option, map, length, set, get_or, refl, sym, ap, subst, ◌∙◌, ⊎_elim, arith, add-one}
+use Rattle.std.proofs.Common.{◌≡◌, ℕ, ◌+◌, ◌-◌, ◌%◌, ◌^◌, ◌<◌, ◌≤◌, List, [], ◌∷◌, Option, map, length, set, get_or, refl, sym, ap, subst, ◌∙◌, ⊎_elim, arith}
 use Rattle.std.specs.Prelude.{All}
 use Rattle.std.proofs.lemmas.Bool.{cases_lt}
 use Rattle.std.proofs.lemmas.List.Elements.{All-from_get_or}
-use mathlib.Core.Option.{some}
-use lib.ListN.{get_elem?}
 use Rattle.std.specs.declared.option.Option.TheVariants.{Some}
 use Rattle.atomic_table.specs.Table.{stepped}
 use Rattle.wl_core.specs.declared.events.Event.TheVariants.{Draw, Keep, Release}
-use Rattle.wl_core.specs.Facts.{Settled}
 use Rattle.wl_core.specs.Machine.{Finished, IsSetup, Reached, SetupValue, StateValue, Steps, chunks, opened as opened_state}
 use Rattle.wl_core.proofs.Kept.{reached_facts, reached_more}
 use Rattle.wl_core.proofs.Verdicts.{settled}
-use Rattle.count_table.specs.declared.view.FrameView.{FrameView}
 use Rattle.count_table.specs.declared.view.WorkerView.{WorkerView}
 use Rattle.count_table.specs.declared.view.View.{View}
-use Rattle.count_table.specs.declared.view.View.TheVariants.{Frame, Worker, Spent}
+use Rattle.count_table.specs.declared.view.View.TheVariants.{Worker}
 use Rattle.count_table.specs.Views.{times}
 use Rattle.count_table.specs.Rule.{Ruled}
 use Rattle.count_table.specs.Plays.{Draws, Keeping, Looking, Releasing, Seat, after_draw, after_keep, after_release}

@@ -5,22 +5,22 @@ use Rattle.std.specs.Prelude.{slice_get}
 use mathlib.Core.Option.{none, some, Option as Home}
 use lib.ListN.{get_elem?}
 use Rattle.std.specs.declared.option.Option.{Option}
-use Rattle.atomic_table.specs.Table.{Act, Step, carried_after, chain, gives, homes_after, keeps, step, stepped, takes}
+use Rattle.atomic_table.specs.Table.{Act, carried_after, chain, gives, homes_after, keeps, stepped, takes}
 use Rattle.atomic_table.proofs.Lists.{set_else}
 use Rattle.wl_core.specs.Machine.{SetupValue}
 use Rattle.count_table.specs.declared.view.FrameView.{FrameView}
 use Rattle.count_table.specs.declared.view.WorkerView.{WorkerView}
 use Rattle.count_table.specs.declared.view.View.{View}
 use Rattle.count_table.specs.declared.view.View.TheVariants.{Frame, Worker, Spent}
-use Rattle.count_table.specs.Views.{drawn_of, drawn_times, times, total}
+use Rattle.count_table.specs.Views.{drawn_of, drawn_times, times}
 use Rattle.count_table.specs.Rule.{Counted, Keeps, Ruled}
-use Rattle.count_table.specs.Plays.{Draws, Keeping, Looking, Releasing, Seat, after_draw, after_keep, after_release, slots_after}
+use Rattle.count_table.specs.Plays.{Draws, Keeping, Looking, Releasing, Seat, after_draw, after_keep, after_release}
 use Rattle.count_table.proofs.Totals.{times-append, total-set, total_at}
 use Rattle.count_table.proofs.Facts.{few_holds, few_next, frame_no_worker}
 use Rattle.count_table.proofs.Drawing.{draws}
 use Rattle.count_table.proofs.Counting.{keeps_one, looks_at, releases_one}
 use Rattle.count_table.proofs.Sitting.{comes, moves, sits}
-use Rattle.phase_schedules.specs.Interleavings.{Action, DrawBy, IsFrame, IsOneAct, IsSeat, JoinSeat, KeepBy, Leads, LookBy, MakeSeat, MoveSeat, ReleaseBy, StopBy, TakeBy, Turns, WriteBy}
+use Rattle.phase_schedules.specs.Interleavings.{Action, DrawBy, IsOneAct, IsSeat, JoinSeat, KeepBy, Leads, LookBy, MakeSeat, MoveSeat, ReleaseBy, StopBy, TakeBy, Turns, WriteBy}
 use Rattle.phase_schedules.specs.Moments.{Moment, Table}
 
 abbrev Slots : Type 0 → Type 0

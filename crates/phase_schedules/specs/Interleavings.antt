@@ -1,6 +1,6 @@
 -- The threads of a phase in any order: each step is one that the calls of `count_table` take at the table, or what a worker does to a cell of
 -- a chunk that it drew.
-use Rattle.std.specs.Prelude.{◌≡◌, ℕ, ◌+◌, ◌-◌, ◌%◌, ◌^◌, ◌<◌, true, false, ℤ, List, [], ◌∷◌, ◌++◌, length, slice_get, slice_index, slice_set, Ok, Err}
+use Rattle.std.specs.Prelude.{◌≡◌, ℕ, ◌+◌, ◌-◌, ◌%◌, ◌^◌, ◌<◌, false, ℤ, List, [], ◌∷◌, ◌++◌, length, slice_get, slice_index, slice_set, Ok, Err}
 use mathlib.Core.Option.{none, some}
 use lib.ListN.{get_elem?}
 use Rattle.std.specs.declared.option.Option.{Option}
@@ -15,7 +15,7 @@ use Rattle.count_table.specs.declared.view.View.{View}
 use Rattle.count_table.specs.declared.view.View.TheVariants.{Frame, Worker, Spent}
 use Rattle.count_table.specs.Views.{times}
 use Rattle.count_table.specs.Plays.{Draws, Keeping, Looking, Releasing, Seat, both_of, left_of, moved_left, moved_right, right_of}
-use Rattle.phase_schedules.specs.Moments.{Moment, Table, Work, met_fault, wrote}
+use Rattle.phase_schedules.specs.Moments.{Moment, Table, met_fault, wrote}
 
 -- What one thread does in a step. A seat is named by its place among the views; the frame's is the first
 pub data Action : Type 0 where

@@ -1,5 +1,5 @@
 -- What holds of every interleaving, as statements.
-use Rattle.std.specs.Prelude.{◌≡◌, ℕ, ◌≤◌, List, length}
+use Rattle.std.specs.Prelude.{◌≡◌, ◌≤◌, List, length}
 use Rattle.wl_core.specs.declared.limits.TheConstants.{MOST_CHUNKS}
 use Rattle.wl_core.specs.Machine.{IsSetup, SetupValue, chunks}
 use Rattle.phase_schedules.specs.Interleavings.{Action, Interleaved}

@@ -10,7 +10,7 @@ use Rattle.count_table.specs.Views.{times}
 use Rattle.count_table.specs.Rule.{Ruled}
 use Rattle.count_table.specs.Reading.{IsReading}
 use Rattle.phase_schedules.specs.Interleavings.{IsFrame, IsSeat}
-use Rattle.phase_schedules.specs.Moments.{Moment, Table, Work, ending}
+use Rattle.phase_schedules.specs.Moments.{Moment, Work, ending}
 
 -- words and views stand for a state, as `count_table` reads them
 abbrev pub Reads : {T : Type 0} → SetupValue → List ℕ → List (View T) → StateValue → Type 0
