@@ -2,5 +2,9 @@ pub mod Ahead
 pub mod Cells
 pub mod Tables
 pub mod Readings
+pub mod Holds
+pub mod Turning
 pub mod Endings
 pub mod Runs
+pub mod Leaving
+mod Examples

@@ -19,8 +19,12 @@ use Rattle.count_table.proofs.Totals.{total_at}
 use Rattle.count_table.proofs.Sums.{total-none}
 use Rattle.count_table.proofs.Facts.{frame_no_worker, held_twice}
 use Rattle.count_table.proofs.Reading.{steps_are_events}
-use Rattle.phase_schedules.specs.Readings.{Reads}
+use Rattle.phase_schedules.specs.Readings.{AtFrame}
 use Rattle.phase_schedules.proofs.Ahead.{SameTable}
+
+-- as `count_table` reads a table whose chunks are drawn
+abbrev pub ReadsDrawn : {T : Type 0} → SetupValue → List ℕ → List (View T) → StateValue → Type 0
+ReadsDrawn u ws vs s = AtFrame (λ next counts f views. IsReading u next counts f views s) ws vs
 
 module _ {T : Type 0} (u : SetupValue) where
   same_reading : (s t : StateValue) (n : ℕ) (cs : List ℕ) (f : FrameView T) (vs : List (View T)) → IsReading u n cs f vs s → SameTable s t → IsReading u n cs f vs t
@@ -34,7 +38,7 @@ module _ {T : Type 0} (u : SetupValue) where
     holds_are = λ k b lt lt'. ap (λ (g : ℕ → ℕ → ℕ). g k b) same.holds ∙ r.holds_are k b lt lt';
   }
 
-  pub reads_same : (s t : StateValue) (ws : List ℕ) (vs : List (View T)) → Reads u ws vs s → SameTable s t → Reads u ws vs t
+  pub reads_same : (s t : StateValue) (ws : List ℕ) (vs : List (View T)) → ReadsDrawn u ws vs s → SameTable s t → ReadsDrawn u ws vs t
   reads_same s t [] vs r same = r
   reads_same s t (n ∷ cs) [] r same = r
   reads_same s t (n ∷ cs) (Frame f ∷ vs) r same = same_reading s t n cs f vs r same
@@ -70,7 +74,7 @@ module _ {T : Type 0} (u : SetupValue) where
   }
 
   module _ (s : StateValue) where
-    pub owns : (ws : List ℕ) (hs : List (Home (Option T))) (vs : List (View T)) (id : ℕ) (w : WorkerView T) → Keeps ws hs vs → Reads u ws vs s → get_elem? vs id ≡ some (Worker w) → Owns w s
+    pub owns : (ws : List ℕ) (hs : List (Home (Option T))) (vs : List (View T)) (id : ℕ) (w : WorkerView T) → Keeps ws hs vs → ReadsDrawn u ws vs s → get_elem? vs id ≡ some (Worker w) → Owns w s
     owns [] hs vs id w k r at = absurd k
     owns (n ∷ cs) hs [] id w k r at = absurd k
     owns (n ∷ cs) hs (Worker v ∷ vs) id w k r at = absurd k
@@ -80,9 +84,9 @@ module _ {T : Type 0} (u : SetupValue) where
 
     -- an event leads to a state that these words and views stand for
     abbrev pub LeadsOn : Event → List ℕ → List (View T) → Type 0
-    LeadsOn e ws vs = (t : StateValue) × Steps u s e t × Reads u ws vs t
+    LeadsOn e ws vs = (t : StateValue) × Steps u s e t × ReadsDrawn u ws vs t
 
-    pub draw_reads : (ws : List ℕ) (hs : List (Home (Option T))) (vs : List (View T)) (id : ℕ) (w : WorkerView T) → Keeps ws hs vs → Reads u ws vs s → get_elem? vs id ≡ some (Worker w)
+    pub draw_reads : (ws : List ℕ) (hs : List (Home (Option T))) (vs : List (View T)) (id : ℕ) (w : WorkerView T) → Keeps ws hs vs → ReadsDrawn u ws vs s → get_elem? vs id ≡ some (Worker w)
         → get_or ws 0 0 < chunks u → ((c : ℕ) → ¬ Works u s w.number c)
         → LeadsOn (Draw w.number) (set ws 0 ((get_or ws 0 0 + 1) % 2 ^ 64)) (set vs id (Worker (after_draw w (get_or ws 0 0))))
     draw_reads [] hs vs id w k r at more idle = absurd k
@@ -92,9 +96,9 @@ module _ {T : Type 0} (u : SetupValue) where
     draw_reads (n ∷ cs) hs (Frame f ∷ vs) zero w k r at more idle = absurd (frame_no_worker f w at)
     draw_reads (n ∷ cs) hs (Frame f ∷ vs) (suc i) w k r at more idle = (steps_are_events u s n cs hs f vs k r).draw i w at more idle
 
-    pub none_reads : (ws : List ℕ) (hs : List (Home (Option T))) (vs : List (View T)) (id : ℕ) (w : WorkerView T) → Keeps ws hs vs → Reads u ws vs s → get_elem? vs id ≡ some (Worker w)
+    pub none_reads : (ws : List ℕ) (hs : List (Home (Option T))) (vs : List (View T)) (id : ℕ) (w : WorkerView T) → Keeps ws hs vs → ReadsDrawn u ws vs s → get_elem? vs id ≡ some (Worker w)
         → chunks u ≤ get_or ws 0 0
-        → Reads u (set ws 0 ((get_or ws 0 0 + 1) % 2 ^ 64)) (set vs id (Worker (after_draw w (get_or ws 0 0)))) s
+        → ReadsDrawn u (set ws 0 ((get_or ws 0 0 + 1) % 2 ^ 64)) (set vs id (Worker (after_draw w (get_or ws 0 0)))) s
     none_reads [] hs vs id w k r at none = absurd k
     none_reads (n ∷ cs) hs [] id w k r at none = absurd k
     none_reads (n ∷ cs) hs (Worker v ∷ vs) id w k r at none = absurd k
@@ -102,7 +106,7 @@ module _ {T : Type 0} (u : SetupValue) where
     none_reads (n ∷ cs) hs (Frame f ∷ vs) zero w k r at none = absurd (frame_no_worker f w at)
     none_reads (n ∷ cs) hs (Frame f ∷ vs) (suc i) w k r at none = (steps_are_events u s n cs hs f vs k r).draw_none i w at none
 
-    keep_at : (ws : List ℕ) (hs : List (Home (Option T))) (vs : List (View T)) (id : ℕ) (w : WorkerView T) (b : ℕ) → Keeps ws hs vs → Reads u ws vs s → get_elem? vs id ≡ some (Worker w)
+    keep_at : (ws : List ℕ) (hs : List (Home (Option T))) (vs : List (View T)) (id : ℕ) (w : WorkerView T) (b : ℕ) → Keeps ws hs vs → ReadsDrawn u ws vs s → get_elem? vs id ≡ some (Worker w)
         → b < w.buffers → length w.holds < 2 ^ 56
         → LeadsOn (Keep w.number b) (set ws (suc b) ((get_or ws (suc b) 0 + 1) % 2 ^ 64)) (set vs id (Worker (after_keep w b)))
     keep_at [] hs vs id w b k r at lt room = absurd k
@@ -112,7 +116,7 @@ module _ {T : Type 0} (u : SetupValue) where
     keep_at (n ∷ cs) hs (Frame f ∷ vs) zero w b k r at lt room = absurd (frame_no_worker f w at)
     keep_at (n ∷ cs) hs (Frame f ∷ vs) (suc i) w b k r at lt room = (steps_are_events u s n cs hs f vs k r).keep i w b at lt room
 
-    release_at : (ws : List ℕ) (hs : List (Home (Option T))) (vs : List (View T)) (id : ℕ) (w : WorkerView T) (b : ℕ) → Keeps ws hs vs → Reads u ws vs s → get_elem? vs id ≡ some (Worker w)
+    release_at : (ws : List ℕ) (hs : List (Home (Option T))) (vs : List (View T)) (id : ℕ) (w : WorkerView T) (b : ℕ) → Keeps ws hs vs → ReadsDrawn u ws vs s → get_elem? vs id ≡ some (Worker w)
         → 0 < times b w.holds
         → LeadsOn (Release w.number b) (set ws (suc b) ((get_or ws (suc b) 0 + (2 ^ 64 - 1)) % 2 ^ 64)) (set vs id (Worker (after_release w b)))
     release_at [] hs vs id w b k r at has = absurd k
@@ -122,8 +126,8 @@ module _ {T : Type 0} (u : SetupValue) where
     release_at (n ∷ cs) hs (Frame f ∷ vs) zero w b k r at has = absurd (frame_no_worker f w at)
     release_at (n ∷ cs) hs (Frame f ∷ vs) (suc i) w b k r at has = (steps_are_events u s n cs hs f vs k r).release i w b at has
 
-    look_at : (ws : List ℕ) (hs : List (Home (Option T))) (vs : List (View T)) (id : ℕ) (w : WorkerView T) (b : ℕ) → Keeps ws hs vs → Reads u ws vs s → get_elem? vs id ≡ some (Worker w)
-        → Reads u (set ws (suc b) (get_or ws (suc b) 0)) (set vs id (Worker w)) s
+    look_at : (ws : List ℕ) (hs : List (Home (Option T))) (vs : List (View T)) (id : ℕ) (w : WorkerView T) (b : ℕ) → Keeps ws hs vs → ReadsDrawn u ws vs s → get_elem? vs id ≡ some (Worker w)
+        → ReadsDrawn u (set ws (suc b) (get_or ws (suc b) 0)) (set vs id (Worker w)) s
     look_at [] hs vs id w b k r at = absurd k
     look_at (n ∷ cs) hs [] id w b k r at = absurd k
     look_at (n ∷ cs) hs (Worker v ∷ vs) id w b k r at = absurd k
@@ -131,7 +135,7 @@ module _ {T : Type 0} (u : SetupValue) where
     look_at (n ∷ cs) hs (Frame f ∷ vs) zero w b k r at = absurd (frame_no_worker f w at)
     look_at (n ∷ cs) hs (Frame f ∷ vs) (suc i) w b k r at = (steps_are_events u s n cs hs f vs k r).look i w b at
 
-    module _ (ws : List ℕ) (hs : List (Home (Option T))) (vs : List (View T)) (id : ℕ) (w : WorkerView T) (b : ℕ) (k : Keeps ws hs vs) (r : Reads u ws vs s) (at : get_elem? vs id ≡ some (Worker w)) where
+    module _ (ws : List ℕ) (hs : List (Home (Option T))) (vs : List (View T)) (id : ℕ) (w : WorkerView T) (b : ℕ) (k : Keeps ws hs vs) (r : ReadsDrawn u ws vs s) (at : get_elem? vs id ≡ some (Worker w)) where
       pub keep_reads : b < w.buffers → length w.holds < 2 ^ 56 → LeadsOn (Keep w.number b) (set ws (b + 1) ((get_or ws (b + 1) 0 + 1) % 2 ^ 64)) (set vs id (Worker (after_keep w b)))
       keep_reads lt room =
           subst (λ (i : ℕ). LeadsOn (Keep w.number b) (set ws i ((get_or ws i 0 + 1) % 2 ^ 64)) (set vs id (Worker (after_keep w b)))) (sym (add-one b)) (keep_at ws hs vs id w b k r at lt room)
@@ -140,11 +144,11 @@ module _ {T : Type 0} (u : SetupValue) where
       release_reads has =
           subst (λ (i : ℕ). LeadsOn (Release w.number b) (set ws i ((get_or ws i 0 + (2 ^ 64 - 1)) % 2 ^ 64)) (set vs id (Worker (after_release w b)))) (sym (add-one b)) (release_at ws hs vs id w b k r at has)
 
-      pub look_reads : Reads u (set ws (b + 1) (get_or ws (b + 1) 0)) (set vs id (Worker w)) s
-      look_reads = subst (λ (i : ℕ). Reads u (set ws i (get_or ws i 0)) (set vs id (Worker w)) s) (sym (add-one b)) (look_at ws hs vs id w b k r at)
+      pub look_reads : ReadsDrawn u (set ws (b + 1) (get_or ws (b + 1) 0)) (set vs id (Worker w)) s
+      look_reads = subst (λ (i : ℕ). ReadsDrawn u (set ws i (get_or ws i 0)) (set vs id (Worker w)) s) (sym (add-one b)) (look_at ws hs vs id w b k r at)
 
-    pub seat_reads : (ws : List ℕ) (hs : List (Home (Option T))) (vs : List (View T)) (f : FrameView T) → Keeps ws hs vs → Reads u ws vs s → get_elem? vs 0 ≡ some (Frame f) → f.made < u.workers
-        → Reads u ws (set vs 0 (left_of (Frame f)) ++ right_of (Frame f) ∷ []) s
+    pub seat_reads : (ws : List ℕ) (hs : List (Home (Option T))) (vs : List (View T)) (f : FrameView T) → Keeps ws hs vs → ReadsDrawn u ws vs s → get_elem? vs 0 ≡ some (Frame f) → f.made < u.workers
+        → ReadsDrawn u ws (set vs 0 (left_of (Frame f)) ++ right_of (Frame f) ∷ []) s
     seat_reads [] hs vs f k r at room = absurd k
     seat_reads (n ∷ cs) hs [] f k r at room = absurd k
     seat_reads (n ∷ cs) hs (Worker v ∷ vs) f k r at room = absurd k
@@ -154,8 +158,8 @@ module _ {T : Type 0} (u : SetupValue) where
         subst (λ (x : FrameView T). IsReading u n cs (seated x) (vs ++ Worker (fresh x) ∷ []) s) e
         ((steps_are_events u s n cs hs g vs k r).seat (subst (λ (x : FrameView T). x.made < u.workers) (sym e) room))
 
-    pub move_reads : (ws : List ℕ) (hs : List (Home (Option T))) (vs : List (View T)) (id : ℕ) (w : WorkerView T) → Keeps ws hs vs → Reads u ws vs s → get_elem? vs id ≡ some (Worker w)
-        → Reads u ws (set vs id (moved_left (Worker w)) ++ moved_right (Worker w) ∷ []) s
+    pub move_reads : (ws : List ℕ) (hs : List (Home (Option T))) (vs : List (View T)) (id : ℕ) (w : WorkerView T) → Keeps ws hs vs → ReadsDrawn u ws vs s → get_elem? vs id ≡ some (Worker w)
+        → ReadsDrawn u ws (set vs id (moved_left (Worker w)) ++ moved_right (Worker w) ∷ []) s
     move_reads [] hs vs id w k r at = absurd k
     move_reads (n ∷ cs) hs [] id w k r at = absurd k
     move_reads (n ∷ cs) hs (Worker v ∷ vs) id w k r at = absurd k
@@ -163,9 +167,9 @@ module _ {T : Type 0} (u : SetupValue) where
     move_reads (n ∷ cs) hs (Frame f ∷ vs) zero w k r at = absurd (frame_no_worker f w at)
     move_reads (n ∷ cs) hs (Frame f ∷ vs) (suc i) w k r at = (steps_are_events u s n cs hs f vs k r).move i w at
 
-    pub join_reads : (ws : List ℕ) (hs : List (Home (Option T))) (vs : List (View T)) (f : FrameView T) (id : ℕ) (w : WorkerView T) → Keeps ws hs vs → Reads u ws vs s → get_elem? vs 0 ≡ some (Frame f)
+    pub join_reads : (ws : List ℕ) (hs : List (Home (Option T))) (vs : List (View T)) (f : FrameView T) (id : ℕ) (w : WorkerView T) → Keeps ws hs vs → ReadsDrawn u ws vs s → get_elem? vs 0 ≡ some (Frame f)
         → get_elem? vs id ≡ some (Worker w) → w.holds ≡ []
-        → Reads u ws (set (set vs 0 (both_of (Frame f) (Worker w))) id Spent) s
+        → ReadsDrawn u ws (set (set vs 0 (both_of (Frame f) (Worker w))) id Spent) s
     join_reads [] hs vs f id w k r first at none = absurd k
     join_reads (n ∷ cs) hs [] f id w k r first at none = absurd k
     join_reads (n ∷ cs) hs (Worker v ∷ vs) f id w k r first at none = absurd k
@@ -174,55 +178,3 @@ module _ {T : Type 0} (u : SetupValue) where
     join_reads (n ∷ cs) hs (Frame g ∷ vs) f (suc i) w k r first at none =
         let e : g ≡ f = cc in
         subst (λ (x : FrameView T). IsReading u n cs (joined x w) (set vs i Spent) s) e ((steps_are_events u s n cs hs g vs k r).join i w at none)
-
-    -- ---- where no worker is out
-
-    none_held : (n b : ℕ) (v : View T) → is_out v ≡ 0 → held_by n b v ≡ 0
-    none_held n b (Frame f) z = refl
-    none_held n b (Worker w) z = absurd (omega arith)
-    none_held n b Spent z = refl
-
-    pub holds_nothing : (ws : List ℕ) (hs : List (Home (Option T))) (vs : List (View T)) (f : FrameView T) → Keeps ws hs vs → Reads u ws vs s → get_elem? vs 0 ≡ some (Frame f) → f.out ≡ 0 → HoldsNothing u s
-    holds_nothing [] hs vs f k r first out = absurd k
-    holds_nothing (n ∷ cs) hs [] f k r first out = absurd k
-    holds_nothing (n ∷ cs) hs (Worker v ∷ vs) f k r first out = absurd k
-    holds_nothing (n ∷ cs) hs (Spent ∷ vs) f k r first out = absurd k
-    holds_nothing (n ∷ cs) hs (Frame g ∷ vs) f k r first out =
-        let e : g ≡ f = cc in
-        let o : total is_out vs ≡ 0 = k.out_is ∙ ap (λ (x : FrameView T). x.out) e ∙ out in
-        λ w b few lt. r.holds_are w b few lt ∙ total-none (held_by w b) is_out vs (none_held w b) o
-
-    none_holds : (b : ℕ) (v : View T) → is_out v ≡ 0 → holds_of b v ≡ 0
-    none_holds b (Frame f) z = refl
-    none_holds b (Worker w) z = absurd (omega arith)
-    none_holds b Spent z = refl
-
-    count_at : (ws : List ℕ) (hs : List (Home (Option T))) (vs : List (View T)) (f : FrameView T) → Keeps ws hs vs → Reads u ws vs s → get_elem? vs 0 ≡ some (Frame f) → f.out ≡ 0
-        → (b : ℕ) → b < length u.counts → get_or ws (suc b) 0 ≡ get_or u.counts b 0
-    count_at [] hs vs f k r first out b lt = absurd k
-    count_at (n ∷ cs) hs [] f k r first out b lt = absurd k
-    count_at (n ∷ cs) hs (Worker v ∷ vs) f k r first out b lt = absurd k
-    count_at (n ∷ cs) hs (Spent ∷ vs) f k r first out b lt = absurd k
-    count_at (n ∷ cs) hs (Frame g ∷ vs) f k r first out b lt =
-        let e : g ≡ f = cc in
-        let o : total is_out vs ≡ 0 = k.out_is ∙ ap (λ (x : FrameView T). x.out) e ∙ out in
-        let z = total-none (holds_of b) is_out vs (none_holds b) o in
-        let within : b < length g.opening = (let l = ap length r.opening_is in omega arith) in
-        let c = k.count_is b within in
-        let same : get_or g.opening b 0 ≡ get_or u.counts b 0 = ap (λ (l : List ℕ). get_or l b 0) r.opening_is in omega arith
-
-    pub counts_back : (ws : List ℕ) (hs : List (Home (Option T))) (vs : List (View T)) (f : FrameView T) → Keeps ws hs vs → Reads u ws vs s → get_elem? vs 0 ≡ some (Frame f) → f.out ≡ 0
-        → (b : ℕ) → b < length u.counts → get_or ws (b + 1) 0 ≡ get_or u.counts b 0
-    counts_back ws hs vs f k r first out b lt = subst (λ (i : ℕ). get_or ws i 0 ≡ get_or u.counts b 0) (sym (add-one b)) (count_at ws hs vs f k r first out b lt)
-
-module _ {T : Type 0} where
-  held_at : (ws : List ℕ) (hs : List (Home (Option T))) (vs : List (View T)) (id : ℕ) (w : WorkerView T) (b : ℕ) → Keeps ws hs vs → get_elem? vs id ≡ some (Worker w) → 0 < times b w.holds → 2 ≤ get_or ws (suc b) 0
-  held_at [] hs vs id w b k at has = absurd k
-  held_at (n ∷ cs) hs [] id w b k at has = absurd k
-  held_at (n ∷ cs) hs (Worker v ∷ vs) id w b k at has = absurd k
-  held_at (n ∷ cs) hs (Spent ∷ vs) id w b k at has = absurd k
-  held_at (n ∷ cs) hs (Frame f ∷ vs) zero w b k at has = absurd (frame_no_worker f w at)
-  held_at (n ∷ cs) hs (Frame f ∷ vs) (suc i) w b k at has = held_twice n cs hs f vs k i w at b has
-
-  pub twice : (ws : List ℕ) (hs : List (Home (Option T))) (vs : List (View T)) (id : ℕ) (w : WorkerView T) (b : ℕ) → Keeps ws hs vs → get_elem? vs id ≡ some (Worker w) → 0 < times b w.holds → 2 ≤ get_or ws (b + 1) 0
-  twice ws hs vs id w b k at has = subst (λ (i : ℕ). 2 ≤ get_or ws i 0) (sym (add-one b)) (held_at ws hs vs id w b k at has)

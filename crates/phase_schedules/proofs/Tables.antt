@@ -7,7 +7,6 @@ use lib.ListN.{get_elem?}
 use Rattle.std.specs.declared.option.Option.{Option}
 use Rattle.atomic_table.specs.Table.{Act, carried_after, chain, gives, homes_after, keeps, stepped, takes}
 use Rattle.atomic_table.proofs.Lists.{set_else}
-use Rattle.wl_core.specs.Machine.{SetupValue}
 use Rattle.count_table.specs.declared.view.FrameView.{FrameView}
 use Rattle.count_table.specs.declared.view.WorkerView.{WorkerView}
 use Rattle.count_table.specs.declared.view.View.{View}
@@ -20,8 +19,8 @@ use Rattle.count_table.proofs.Facts.{few_holds, few_next, frame_no_worker}
 use Rattle.count_table.proofs.Drawing.{draws}
 use Rattle.count_table.proofs.Counting.{keeps_one, looks_at, releases_one}
 use Rattle.count_table.proofs.Sitting.{comes, moves, sits}
-use Rattle.phase_schedules.specs.Interleavings.{Action, DrawBy, IsOneAct, IsSeat, JoinSeat, KeepBy, Leads, LookBy, MakeSeat, MoveSeat, ReleaseBy, StopBy, TakeBy, Turns, WriteBy}
-use Rattle.phase_schedules.specs.Moments.{Moment, Table}
+use Rattle.phase_schedules.specs.Interleavings.{DrawBy, IsOneAct, IsSeat, JoinSeat, KeepBy, LookBy, MakeSeat, MoveSeat, ReleaseBy, TableAction, TableLeads, TakeBy, Turns}
+use Rattle.phase_schedules.specs.Moments.{Table}
 
 abbrev Slots : Type 0 → Type 0
 Slots T = List (ℕ × Option T)
@@ -52,6 +51,18 @@ module _ {T : Type 0} where
 
   count_small : (s : Table T) (id : ℕ) (w : WorkerView T) (b : ℕ) → Ruled s → IsSeat s id w → b < w.buffers → get_or s.words (b + 1) 0 < 18446744073709551616
   count_small s id w b ruled at lt = subst (λ (i : ℕ). get_or s.words i 0 < 18446744073709551616) (sym (add-one b)) (count_small_at s.words s.homes s.views id w b ruled at lt)
+
+  -- what a worker holds is in the phase
+  held_within : (words : List ℕ) (homes : List (Home (Option T))) (views : List (View T)) (id : ℕ) (w : WorkerView T) (b : ℕ) → Keeps words homes views → get_elem? views id ≡ some (Worker w) → 0 < times b w.holds → b < w.buffers
+  held_within [] hs views id w b k at has = absurd k
+  held_within (n ∷ cs) hs [] id w b k at has = absurd k
+  held_within (n ∷ cs) hs (Worker u ∷ vs) id w b k at has = absurd k
+  held_within (n ∷ cs) hs (Spent ∷ vs) id w b k at has = absurd k
+  held_within (n ∷ cs) hs (Frame f ∷ vs) zero w b k at has = absurd (frame_no_worker f w at)
+  held_within (n ∷ cs) hs (Frame f ∷ vs) (suc i) w b k at has = let l = (k.fit i (Worker w) at).holds_within b has in let e = (k.fit i (Worker w) at).same_buffers in omega arith
+
+  in_phase : (s : Table T) (id : ℕ) (w : WorkerView T) (b : ℕ) → Ruled s → IsSeat s id w → 0 < times b w.holds → b < w.buffers
+  in_phase s id w b ruled at has = held_within s.words s.homes s.views id w b ruled at has
 
   -- ---- slots
 
@@ -179,17 +190,15 @@ module _ {T : Type 0} where
 
   -- ---- all actions
 
-  pub rule_kept : (u : SetupValue) (m n : Moment T) (x : Action) → u.workers ≤ 64 → Ruled m.table → Leads u m x n → Ruled n.table
-  rule_kept u m n (DrawBy id) few ruled r = draw_keeps m.table id r.0 ruled r.1 n.table r.2 r.3
-  rule_kept u m n (KeepBy id b) few ruled r = keep_keeps m.table id r.0 ruled r.1 n.table b r.2 r.3 r.4
-  rule_kept u m n (ReleaseBy id b) few ruled r = release_keeps m.table id r.0 ruled r.1 n.table b r.2 r.3 r.4
-  rule_kept u m n (LookBy id b) few ruled r = look_keeps m.table id r.0 ruled r.1 n.table b r.2 r.3 r.4
-  rule_kept u m n (TakeBy id) few ruled r = subst (λ (k : Moment T). Ruled k.table) (sym r.2) ruled
-  rule_kept u m n MakeSeat few ruled r = subst (λ (y : Table T). Ruled y) (sym r.3) (sits 0 (Frame r.0, []) r.0 refl (let l = r.2 in omega arith) m.table ruled r.1)
-  rule_kept u m n (MoveSeat id) few ruled r = subst (λ (y : Table T). Ruled y) (sym r.2) (moves id (Worker r.0, []) r.0 refl m.table ruled r.1)
-  rule_kept u m n (JoinSeat id) few ruled r =
-      let ne = not_the_first m.table.views r.0 r.1 id r.2 r.3 in
+  pub rule_kept : (workers : ℕ) (s t : Table T) (x : TableAction) → workers ≤ 64 → Ruled s → TableLeads workers s x t → Ruled t
+  rule_kept workers s t (DrawBy id) few ruled r = draw_keeps s id r.0 ruled r.1 t r.2 r.3
+  rule_kept workers s t (KeepBy id b) few ruled r = keep_keeps s id r.0 ruled r.1 t b r.2 r.3 r.4
+  rule_kept workers s t (ReleaseBy id b) few ruled r = release_keeps s id r.0 ruled r.1 t b (in_phase s id r.0 b ruled r.1 r.2) r.2 r.3
+  rule_kept workers s t (LookBy id b) few ruled r = look_keeps s id r.0 ruled r.1 t b (in_phase s id r.0 b ruled r.1 r.2) r.2 r.3
+  rule_kept workers s t (TakeBy id) few ruled r = subst (λ (y : Table T). Ruled y) (sym r.2) ruled
+  rule_kept workers s t MakeSeat few ruled r = subst (λ (y : Table T). Ruled y) (sym r.3) (sits 0 (Frame r.0, []) r.0 refl (let l = r.2 in omega arith) s ruled r.1)
+  rule_kept workers s t (MoveSeat id) few ruled r = subst (λ (y : Table T). Ruled y) (sym r.2) (moves id (Worker r.0, []) r.0 refl s ruled r.1)
+  rule_kept workers s t (JoinSeat id) few ruled r =
+      let ne = not_the_first s.views r.0 r.1 id r.2 r.3 in
       subst (λ (y : Table T). Ruled y) (sym r.5)
-      (comes 0 id (Frame r.0, []) (Worker r.1, []) r.0 r.1 refl refl r.4 m.table ruled r.2 ne (set_else m.table.views 0 id _ ne ∙ r.3))
-  rule_kept u m n (WriteBy id c) few ruled r = subst (λ (y : Table T). Ruled y) (sym r.7) ruled
-  rule_kept u m n (StopBy id c) few ruled r = subst (λ (y : Table T). Ruled y) (sym r.7) ruled
+      (comes 0 id (Frame r.0, []) (Worker r.1, []) r.0 r.1 refl refl r.4 s ruled r.2 ne (set_else s.views 0 id _ ne ∙ r.3))

@@ -1,6 +1,6 @@
 -- The threads of a phase in any order: each step is one that the calls of `count_table` take at the table, or what a worker does to a cell of
--- a chunk that it drew.
-use Rattle.std.specs.Prelude.{◌≡◌, ℕ, ◌+◌, ◌-◌, ◌%◌, ◌^◌, ◌<◌, false, ℤ, List, [], ◌∷◌, ◌++◌, length, slice_get, slice_index, slice_set, Ok, Err}
+-- its chunk.
+use Rattle.std.specs.Prelude.{◌≡◌, ℕ, ◌+◌, ◌-◌, ◌%◌, ◌^◌, ◌<◌, true, false, ℤ, List, [], ◌∷◌, ◌++◌, length, slice_get, slice_index, slice_set, Ok, Err}
 use mathlib.Core.Option.{none, some}
 use lib.ListN.{get_elem?}
 use Rattle.std.specs.declared.option.Option.{Option}
@@ -8,28 +8,33 @@ use Rattle.std.specs.declared.option.Option.TheVariants.{Some}
 use Rattle.sac_base.specs.declared.faults.Fault.{Fault}
 use Rattle.atomic_table.specs.Table.{Act, Step, Valid, carried_after, chain, gives, keeps, step, stepped, takes}
 use Rattle.wl_core.specs.declared.limits.TheConstants.{MOST_HOLDS}
-use Rattle.wl_core.specs.Machine.{SetupValue, end}
+use Rattle.wl_core.specs.Machine.{SetupValue, chunks, end}
 use Rattle.count_table.specs.declared.view.FrameView.{FrameView}
 use Rattle.count_table.specs.declared.view.WorkerView.{WorkerView}
 use Rattle.count_table.specs.declared.view.View.{View}
 use Rattle.count_table.specs.declared.view.View.TheVariants.{Frame, Worker, Spent}
 use Rattle.count_table.specs.Views.{times}
 use Rattle.count_table.specs.Plays.{Draws, Keeping, Looking, Releasing, Seat, both_of, left_of, moved_left, moved_right, right_of}
-use Rattle.phase_schedules.specs.Moments.{Moment, Table, met_fault, wrote}
+use Rattle.phase_schedules.specs.Moments.{Dynamic, Moment, Scheduling, Static, Table, met_fault, wrote}
 
--- What one thread does in a step. A seat is named by its place among the views; the frame's is the first
-pub data Action : Type 0 where
-  DrawBy : ℕ → Action
-  KeepBy : ℕ → ℕ → Action
-  ReleaseBy : ℕ → ℕ → Action
-  LookBy : ℕ → ℕ → Action
+-- What one thread does at the table in a step. A seat is named by its place among the views; the frame's is the first
+pub data TableAction : Type 0 where
+  DrawBy : ℕ → TableAction
+  KeepBy : ℕ → ℕ → TableAction
+  ReleaseBy : ℕ → ℕ → TableAction
+  LookBy : ℕ → ℕ → TableAction
   -- a worker takes the part of its chunk out of the slot that it got at its draw
-  TakeBy : ℕ → Action
-  MakeSeat : Action
+  TakeBy : ℕ → TableAction
+  MakeSeat : TableAction
   -- the two steps of `leave`: the view goes on under a new seat, and the frame takes that seat back
-  MoveSeat : ℕ → Action
-  JoinSeat : ℕ → Action
-  -- a worker writes the next cell of a chunk that it drew, or meets one that faults
+  MoveSeat : ℕ → TableAction
+  JoinSeat : ℕ → TableAction
+
+pub data Action : Type 0 where
+  AtTable : TableAction → Action
+  -- the next chunk is assigned to a worker
+  Assign : ℕ → Action
+  -- a worker writes the next cell of a chunk of its own, or meets one that faults
   WriteBy : ℕ → ℕ → Action
   StopBy : ℕ → ℕ → Action
 
@@ -62,37 +67,40 @@ module _ {T : Type 0} where
   abbrev pub merged : Table T → ℕ → View T → ℕ → View T → Table T
   merged s id both other spent = record { words = s.words; homes = s.homes; views = slice_set (slice_set s.views id both) other spent }
 
-  -- What an action does, where the contract of its call allows it. A phase makes no more seats than its setup has workers
-  abbrev pub Leads : SetupValue → Moment T → Action → Moment T → Type 0
-  Leads u m (DrawBy id) n =
-      (w : WorkerView T) × IsSeat m.table id w × (w.ended ≡ false) × Turns Draws 0 1 (λ x. (x + 1) % 2 ^ 64) id w m.table n.table × (n.work ≡ m.work)
-  Leads u m (KeepBy id b) n =
-      (w : WorkerView T) × IsSeat m.table id w × (b < w.buffers) × (length w.holds < MOST_HOLDS)
-      × Turns Keeping (b + 1) 1 (λ x. (x + 1) % 2 ^ 64) id w m.table n.table × (n.work ≡ m.work)
-  Leads u m (ReleaseBy id b) n =
-      (w : WorkerView T) × IsSeat m.table id w × (b < w.buffers) × (0 < times b w.holds)
-      × Turns Releasing (b + 1) 1 (λ x. (x + (2 ^ 64 - 1)) % 2 ^ 64) id w m.table n.table × (n.work ≡ m.work)
-  Leads u m (LookBy id b) n =
-      (w : WorkerView T) × IsSeat m.table id w × (b < w.buffers) × (0 < times b w.holds)
-      × Turns Looking (b + 1) 0 (λ x. x) id w m.table n.table × (n.work ≡ m.work)
-  Leads u m (TakeBy id) n = (w : WorkerView T) × IsSeat m.table id w × (n ≡ m)
-  Leads u m MakeSeat n =
-      (f : FrameView T) × IsFrame m.table f × (f.made < u.workers) × (n.table ≡ parted m.table 0 (left_of (Frame f)) (right_of (Frame f))) × (n.work ≡ m.work)
-  Leads u m (MoveSeat id) n =
-      (w : WorkerView T) × IsSeat m.table id w × (n.table ≡ parted m.table id (moved_left (Worker w)) (moved_right (Worker w))) × (n.work ≡ m.work)
-  Leads u m (JoinSeat id) n =
-      (f : FrameView T) × (w : WorkerView T) × IsFrame m.table f × IsSeat m.table id w × (w.holds ≡ [])
-      × (n.table ≡ merged m.table 0 (both_of (Frame f) (Worker w)) id Spent) × (n.work ≡ m.work)
-  Leads u m (WriteBy id c) n =
-      (w : WorkerView T) × (value : Option (List ℤ)) × IsSeat m.table id w × (0 < times c w.drawn)
+  -- What an action does at the table, where the contract of its call allows it. A phase of so many workers makes no more seats
+  abbrev pub TableLeads : ℕ → Table T → TableAction → Table T → Type 0
+  TableLeads workers s (DrawBy id) t = (w : WorkerView T) × IsSeat s id w × (w.ended ≡ false) × Turns Draws 0 1 (λ x. (x + 1) % 2 ^ 64) id w s t
+  TableLeads workers s (KeepBy id b) t =
+      (w : WorkerView T) × IsSeat s id w × (b < w.buffers) × (length w.holds < MOST_HOLDS) × Turns Keeping (b + 1) 1 (λ x. (x + 1) % 2 ^ 64) id w s t
+  TableLeads workers s (ReleaseBy id b) t =
+      (w : WorkerView T) × IsSeat s id w × (0 < times b w.holds) × Turns Releasing (b + 1) 1 (λ x. (x + (2 ^ 64 - 1)) % 2 ^ 64) id w s t
+  TableLeads workers s (LookBy id b) t = (w : WorkerView T) × IsSeat s id w × (0 < times b w.holds) × Turns Looking (b + 1) 0 (λ x. x) id w s t
+  TableLeads workers s (TakeBy id) t = (w : WorkerView T) × IsSeat s id w × (t ≡ s)
+  TableLeads workers s MakeSeat t = (f : FrameView T) × IsFrame s f × (f.made < workers) × (t ≡ parted s 0 (left_of (Frame f)) (right_of (Frame f)))
+  TableLeads workers s (MoveSeat id) t = (w : WorkerView T) × IsSeat s id w × (t ≡ parted s id (moved_left (Worker w)) (moved_right (Worker w)))
+  TableLeads workers s (JoinSeat id) t =
+      (f : FrameView T) × (w : WorkerView T) × IsFrame s f × IsSeat s id w × (w.holds ≡ []) × (t ≡ merged s 0 (both_of (Frame f) (Worker w)) id Spent)
+
+  -- the worker drew the chunk, or it was assigned to the worker
+  abbrev pub Has : Scheduling → Moment T → WorkerView T → ℕ → Type 0
+  Has Dynamic m w c = 0 < times c w.drawn
+  Has Static m w c = slice_get m.assigned c ≡ Some w.number
+
+  -- What an action does to a moment
+  abbrev pub Leads : Scheduling → SetupValue → Moment T → Action → Moment T → Type 0
+  Leads kind u m (AtTable x) n = (t : Table T) × TableLeads u.workers m.table x t × (n ≡ record m { table = t })
+  Leads Dynamic u m (Assign w) n = ⊥
+  Leads Static u m (Assign w) n = (w < u.workers) × (length m.assigned < chunks u) × (n ≡ record m { assigned = m.assigned ++ w ∷ [] })
+  Leads kind u m (WriteBy id c) n =
+      (w : WorkerView T) × (value : Option (List ℤ)) × IsSeat m.table id w × Has kind m w c
       × (m.work.next c < end u c) × (m.work.stopped c ≡ false) × (slice_get u.cells (m.work.next c) ≡ Some (Ok value))
-      × (n.table ≡ m.table) × (n.work ≡ wrote u m.work w.number c value)
-  Leads u m (StopBy id c) n =
-      (w : WorkerView T) × (fault : Fault) × IsSeat m.table id w × (0 < times c w.drawn)
+      × (n ≡ record m { work = wrote u m.work w.number c value })
+  Leads kind u m (StopBy id c) n =
+      (w : WorkerView T) × (fault : Fault) × IsSeat m.table id w × Has kind m w c
       × (m.work.next c < end u c) × (m.work.stopped c ≡ false) × (slice_get u.cells (m.work.next c) ≡ Some (Err fault))
-      × (n.table ≡ m.table) × (n.work ≡ met_fault m.work c)
+      × (n ≡ record m { work = met_fault m.work c })
 
   -- actions of any threads, one after another
-  abbrev pub Interleaved : SetupValue → Moment T → List Action → Moment T → Type 0
-  Interleaved u m [] n = m ≡ n
-  Interleaved u m (x ∷ xs) n = (k : Moment T) × Leads u m x k × Interleaved u k xs n
+  abbrev pub Interleaved : Scheduling → SetupValue → Moment T → List Action → Moment T → Type 0
+  Interleaved kind u m [] n = m ≡ n
+  Interleaved kind u m (x ∷ xs) n = (k : Moment T) × Leads kind u m x k × Interleaved kind u k xs n

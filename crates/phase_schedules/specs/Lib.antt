@@ -1,4 +1,5 @@
 pub mod Moments
 pub mod Interleavings
 pub mod Readings
+pub mod Leaving
 pub mod Laws

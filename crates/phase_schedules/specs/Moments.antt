@@ -1,5 +1,5 @@
 -- A phase between two steps of its threads: the shared table, and what the workers have made of the cells.
-use Rattle.std.specs.Prelude.{ℕ, ◌+◌, Bool, true, false, ℤ, List, [], ◌∷◌, ◌++◌, map}
+use Rattle.std.specs.Prelude.{◌≡◌, ℕ, ◌+◌, Bool, true, false, ℤ, List, [], ◌∷◌, ◌++◌, map}
 use Rattle.std.specs.declared.option.Option.{Option}
 use Rattle.std.specs.declared.option.Option.TheVariants.{None, Some}
 use Rattle.atomic_table.specs.Table.{State, opening}
@@ -7,6 +7,11 @@ use Rattle.wl_core.specs.Machine.{SetupValue, StateValue, chunks, first, gather,
 use Rattle.count_table.specs.declared.view.View.{View}
 use Rattle.count_table.specs.declared.view.View.TheVariants.{Frame}
 use Rattle.count_table.specs.Opening.{opened}
+
+-- How chunks get to workers: a worker draws them from the table, or they are assigned beside it, so that a draw means nothing
+pub data Scheduling : Type 0 where
+  Dynamic : Scheduling
+  Static : Scheduling
 
 -- The cells so far. Nothing of this stands in the table
 pub record Work : Type 0 where
@@ -24,14 +29,16 @@ Table T = State (Option T) (View T)
 
 pub record Moment (T : Type 0) : Type 0 where
   pub table : Table T
+  -- the workers to which chunks were assigned beside the table, in the order of the chunks
+  pub assigned : List ℕ
   pub work : Work
 
 abbrev pub untouched : SetupValue → Work
 untouched u = record { next = first u; stopped = λ c. false; written = λ p. []; stored = λ p. None; partial = λ w. None }
 
--- what `open` gives: the first chunk number and the counts, a part for each chunk, and the frame's seat alone. No cell was touched
+-- what `open_parts` gives: the first chunk number and the counts, the parts, and the frame's seat alone. No cell was touched
 abbrev pub open_moment : {T : Type 0} → SetupValue → List T → Moment T
-open_moment u parts = record { table = opening (0 ∷ u.counts) (map Some parts) (Frame (opened u.counts parts)); work = untouched u }
+open_moment u parts = record { table = opening (0 ∷ u.counts) (map Some parts) (Frame (opened u.counts parts)); assigned = []; work = untouched u }
 
 -- the worker n writes the next cell of the chunk c, or meets a cell there that faults
 abbrev pub wrote : SetupValue → Work → ℕ → ℕ → Option (List ℤ) → Work
