@@ -24,19 +24,11 @@ use Rattle.phase_schedules.proofs.Readings.{ReadsDrawn}
 use Rattle.phase_schedules.proofs.Runs.{all_end, first_run, reached_run}
 use Rattle.phase_schedules.proofs.Tables.{rule_kept}
 
-module _ {T : Type 0} (u : SetupValue) where
-  -- Of each seat that was made and is not out the frame has a draw that found no chunk, and the frame's chunks are done
-  abbrev LeftAt : List (View T) → Work → Type 0
-  LeftAt [] k = ⊥
-  LeftAt (Frame f ∷ vs) k = (f.nones + f.out ≡ f.made) × ((c : ℕ) → 0 < times c (drawn_of (Frame f)) → ChunkDone u k c)
-  LeftAt (Worker w ∷ vs) k = ⊥
-  LeftAt (Spent ∷ vs) k = ⊥
-
-  -- ---- cells
-
-  still_done : (k : Work) (c d : ℕ) (next : ℕ → ℕ) (stopped : ℕ → Bool) → ((e : ℕ) → k.stopped e ≡ true → stopped e ≡ true) → (k.next d ≡ end u d → next d ≡ end u d) → ChunkDone u k d
+module _ (u : SetupValue) where
+  -- what was done stays done
+  still_done : (k : Work) (d : ℕ) (next : ℕ → ℕ) (stopped : ℕ → Bool) → ((e : ℕ) → k.stopped e ≡ true → stopped e ≡ true) → (k.next d ≡ end u d → next d ≡ end u d) → ChunkDone u k d
       → (next d ≡ end u d) ⊎ ((stopped d ≡ true) ⊎ ((e : ℕ) × (e < d) × (stopped e ≡ true)))
-  still_done k c d next stopped stays ended done =
+  still_done k d next stopped stays ended done =
       ⊎_elim
       (λ (e : k.next d ≡ end u d). inl (ended e))
       (λ (r : (k.stopped d ≡ true) ⊎ ((e : ℕ) × (e < d) × (k.stopped e ≡ true))).
@@ -45,16 +37,24 @@ module _ {T : Type 0} (u : SetupValue) where
 
   wrote_done : (k : Work) (n c d : ℕ) (value : Option (List ℤ)) → k.next c < end u c → ChunkDone u k d → ChunkDone u (wrote u k n c value) d
   wrote_done k n c d value below done =
-      still_done k c d (put k.next c (k.next c + 1)) k.stopped (λ e st. st)
+      still_done k d (put k.next c (k.next c + 1)) k.stopped (λ e st. st)
       (λ e. ⊎_elim (λ (same : d ≡ c). absurd (let x = ap k.next same in let y = ap (end u) same in omega arith)) (λ (ne : d ≢ c). put_other k.next c (k.next c + 1) d ne ∙ e) (cases_eq d c))
       done
 
   fault_done : (k : Work) (c d : ℕ) → ChunkDone u k d → ChunkDone u (met_fault k c) d
   fault_done k c d done =
-      still_done k c d k.next (put k.stopped c true)
+      still_done k d k.next (put k.stopped c true)
       (λ e st. ⊎_elim (λ (same : e ≡ c). put_same k.stopped c true e same) (λ (ne : e ≢ c). put_other k.stopped c true e ne ∙ st) (cases_eq e c))
       (λ e. e)
       done
+
+module _ {T : Type 0} (u : SetupValue) where
+  -- Of each seat that was made and is not out the frame has a draw that found no chunk, and the frame's chunks are done
+  abbrev LeftAt : List (View T) → Work → Type 0
+  LeftAt [] k = ⊥
+  LeftAt (Frame f ∷ vs) k = (f.nones + f.out ≡ f.made) × ((c : ℕ) → 0 < times c (drawn_of (Frame f)) → ChunkDone u k c)
+  LeftAt (Worker w ∷ vs) k = ⊥
+  LeftAt (Spent ∷ vs) k = ⊥
 
   cells_left : (vs : List (View T)) (k k' : Work) → ((d : ℕ) → ChunkDone u k d → ChunkDone u k' d) → LeftAt vs k → LeftAt vs k'
   cells_left [] k k' more l = l
@@ -156,9 +156,9 @@ module _ {T : Type 0} (u : SetupValue) where
   step_left m n (AtTable x) ruled r leaves l = subst (λ (y : Moment T). LeftAt y.table.views y.work) (sym r.2) (table_left m.work u.workers m r.0 x refl ruled r.1 leaves l)
   step_left m n (Assign w) ruled r leaves l = absurd r
   step_left m n (WriteBy id c) ruled r leaves l =
-      subst (λ (y : Moment T). LeftAt y.table.views y.work) (sym r.7) (cells_left m.table.views m.work (wrote u m.work r.0.number c r.1) (λ d done. wrote_done m.work r.0.number c d r.1 r.4 done) l)
+      subst (λ (y : Moment T). LeftAt y.table.views y.work) (sym r.7) (cells_left m.table.views m.work (wrote u m.work r.0.number c r.1) (λ d done. wrote_done u m.work r.0.number c d r.1 r.4 done) l)
   step_left m n (StopBy id c) ruled r leaves l =
-      subst (λ (y : Moment T). LeftAt y.table.views y.work) (sym r.7) (cells_left m.table.views m.work (met_fault m.work c) (λ d done. fault_done m.work c d done) l)
+      subst (λ (y : Moment T). LeftAt y.table.views y.work) (sym r.7) (cells_left m.table.views m.work (met_fault m.work c) (λ d done. fault_done u m.work c d done) l)
 
   rule_after : (m n : Moment T) (x : Action) → IsSetup u → Ruled m.table → Leads Dynamic u m x n → Ruled n.table
   rule_after m n (AtTable x) is ruled r = subst (λ (y : Moment T). Ruled y.table) (sym r.2) (rule_kept u.workers m.table r.0 x is.workers ruled r.1)
