@@ -1,6 +1,6 @@
 -- A phase of two workers and two chunks, as an interleaving: each draws a chunk, the second writes first, the first keeps and releases a shared
 -- buffer meanwhile, both draw until none is left, and both leave.
-use Rattle.std.proofs.Common.{◌≡◌, ◌≢◌, ℕ, zero, suc, ◌+◌, ◌<◌, ◌≤◌, ◌^◌, true, false, cond, eqb, ℤ, pos, List, [], ◌∷◌, Option, None, Some, Ok, refl, inl, ⊎_elim, arith}
+use Rattle.std.proofs.Common.{◌≡◌, ◌≢◌, ℕ, zero, suc, ◌<◌, ◌≤◌, ◌^◌, true, false, cond, eqb, pos, List, [], ◌∷◌, Some, Ok, refl, inl, ⊎_elim, arith}
 use Rattle.std.proofs.lemmas.Bool.{cases_eq, ne_eqb}
 use Rattle.atomic_table.specs.Table.{keeps, stepped, takes}
 use Rattle.wl_core.specs.declared.setup.Job.TheVariants.{Write as Store}
@@ -10,10 +10,10 @@ use Rattle.count_table.specs.declared.view.FrameView.{FrameView}
 use Rattle.count_table.specs.declared.view.WorkerView.{WorkerView}
 use Rattle.count_table.specs.declared.view.View.TheVariants.{Frame, Worker, Spent}
 use Rattle.count_table.specs.Views.{times}
-use Rattle.count_table.specs.Plays.{after_draw, after_keep, after_release, both_of, fresh, joined, left_of, moved_left, moved_right, right_of, seated}
+use Rattle.count_table.specs.Plays.{after_draw, after_keep, both_of, fresh, joined, left_of, moved_left, moved_right, right_of, seated}
 use Rattle.count_table.specs.Opening.{opened}
 use Rattle.phase_schedules.specs.Interleavings.{Action, AtTable, DrawBy, Interleaved, JoinSeat, KeepBy, MakeSeat, MoveSeat, ReleaseBy, WriteBy, merged, parted}
-use Rattle.phase_schedules.specs.Leaving.{AllLeaveThrough, WorkersLeft}
+use Rattle.phase_schedules.specs.Leaving.{WorkersLeft}
 use Rattle.phase_schedules.specs.Moments.{Dynamic, Moment, ending, open_moment, wrote}
 use Rattle.phase_schedules.specs.Readings.{CellsDone}
 

@@ -1,5 +1,5 @@
 -- What a table says of buffers alone, after each kind of step on it: of a table whose draws mean nothing.
-use Rattle.std.proofs.Common.{◌≡◌, ◌≢◌, ℕ, zero, suc, ◌+◌, ◌-◌, ◌%◌, ◌^◌, ◌<◌, ◌≤◌, Bool, true, false, cond, ltb, eqb, List, [], ◌∷◌, ◌++◌, length, set, get_or, refl, sym, ap, subst, ◌∙◌, arith, add-one}
+use Rattle.std.proofs.Common.{◌≡◌, ℕ, zero, suc, ◌+◌, ◌-◌, ◌%◌, ◌^◌, ◌<◌, ◌≤◌, Bool, true, false, cond, ltb, List, [], ◌∷◌, ◌++◌, length, set, get_or, refl, sym, ap, subst, ◌∙◌, arith, add-one}
 use mathlib.Core.Option.{some, Option as Home}
 use lib.ListN.{get_elem?}
 use Rattle.std.specs.declared.option.Option.{Option}
@@ -11,10 +11,10 @@ use Rattle.count_table.specs.declared.view.WorkerView.{WorkerView}
 use Rattle.count_table.specs.declared.view.View.{View}
 use Rattle.count_table.specs.declared.view.View.TheVariants.{Frame, Worker, Spent}
 use Rattle.count_table.specs.Views.{holds_of, is_out, times, total}
-use Rattle.count_table.specs.Rule.{Counted, Keeps}
+use Rattle.count_table.specs.Rule.{Keeps}
 use Rattle.count_table.specs.Plays.{after_draw, after_keep, after_release, both_of, fresh, joined, left_of, moved_left, moved_right, right_of, seated}
 use Rattle.count_table.specs.HoldsReading.{IsHoldsReading}
-use Rattle.count_table.specs.Reading.{IsReading, held_by}
+use Rattle.count_table.specs.Reading.{held_by}
 use Rattle.count_table.proofs.Totals.{total-set}
 use Rattle.count_table.proofs.Sums.{total-none}
 use Rattle.count_table.proofs.Facts.{frame_no_worker, held_twice}

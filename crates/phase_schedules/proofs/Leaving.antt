@@ -1,6 +1,6 @@
 -- Where workers leave when they are through, every chunk is done once all have left.
-use Rattle.std.proofs.Common.{◌≡◌, ◌≢◌, ℕ, zero, suc, ◌+◌, ◌-◌, ◌<◌, ◌≤◌, ◌⊎◌, min, Bool, true, false, cond, ltb, List, [], ◌∷◌, ◌++◌, ℤ, length, set, get_or, refl, sym, ap, subst, ◌∙◌, inl, inr, ⊎_elim, arith}
-use Rattle.std.proofs.lemmas.Bool.{cases_eq, cases_lt, lt-ltb, true≢false}
+use Rattle.std.proofs.Common.{◌≡◌, ◌≢◌, ℕ, zero, suc, ◌+◌, ◌-◌, ◌<◌, ◌≤◌, ◌⊎◌, min, Bool, true, cond, ltb, List, [], ◌∷◌, ◌++◌, ℤ, length, set, refl, sym, ap, subst, ◌∙◌, inl, inr, ⊎_elim, arith}
+use Rattle.std.proofs.lemmas.Bool.{cases_eq, cases_lt, lt-ltb}
 use mathlib.Core.Option.{some, Option as Home}
 use lib.ListN.{get_elem?}
 use Rattle.std.specs.declared.option.Option.{Option}
@@ -10,9 +10,9 @@ use Rattle.count_table.specs.declared.view.FrameView.{FrameView}
 use Rattle.count_table.specs.declared.view.WorkerView.{WorkerView}
 use Rattle.count_table.specs.declared.view.View.{View}
 use Rattle.count_table.specs.declared.view.View.TheVariants.{Frame, Worker, Spent}
-use Rattle.count_table.specs.Views.{drawn_of, drawn_times, is_out, none_count, nones_of, times, total}
+use Rattle.count_table.specs.Views.{drawn_of, is_out, none_count, times, total}
 use Rattle.count_table.specs.Rule.{Counted, Fits, Keeps, Ruled}
-use Rattle.count_table.specs.Plays.{Draws, Keeping, Looking, Releasing, Seat, both_of, joined, left_of, moved_left, moved_right, right_of}
+use Rattle.count_table.specs.Plays.{both_of, joined, left_of, moved_left, moved_right, right_of}
 use Rattle.count_table.proofs.Totals.{firsts, times-append, total-zero, total_at}
 use Rattle.count_table.proofs.Facts.{frame_no_worker, none_left}
 use Rattle.phase_schedules.specs.Interleavings.{Action, Assign, AtTable, DrawBy, Interleaved, JoinSeat, KeepBy, Leads, LookBy, MakeSeat, MoveSeat, ReleaseBy, StopBy, TableAction, TableLeads, TakeBy, WriteBy}
@@ -140,7 +140,7 @@ module _ {T : Type 0} (u : SetupValue) where
         let once = h.each_once c in
         let there : cond {A = ℕ} (ltb c (min n (length f.parts))) 1 0 ≡ 1 = (let e : ltb c (min n (length f.parts)) ≡ true = lt-ltb c (min n (length f.parts)) (omega arith) in rw e refl) in
         let others : total (λ v. times c (drawn_of v)) vs ≡ 0 = total-zero (λ v. times c (drawn_of v)) vs
-            (λ i v at. gone f c v (h.fit i v at) (let t = total_at is_out vs i v at in let o = h.out_is in omega arith)) in
+        (λ i v at. gone f c v (h.fit i v at) (let t = total_at is_out vs i v at in let o = h.out_is in omega arith)) in
         l.1 c (omega arith)
 
     cells_done : (ws : List ℕ) (hs : List (Home (Option T))) (vs : List (View T)) (f : FrameView T) (s : StateValue) → Keeps ws hs vs → ReadsDrawn u ws vs s → get_elem? vs 0 ≡ some (Frame f) → f.out ≡ 0 → 1 ≤ f.made → LeftAt vs k → CellsDone u k

@@ -6,18 +6,17 @@ use lib.ListN.{get_elem?}
 use Rattle.std.specs.declared.option.Option.{Option}
 use Rattle.wl_core.specs.declared.events.Event.{Event}
 use Rattle.wl_core.specs.declared.events.Event.TheVariants.{Draw, Keep, Release}
-use Rattle.wl_core.specs.Machine.{HoldsNothing, SetupValue, StateValue, Steps, Works, chunks}
+use Rattle.wl_core.specs.Machine.{SetupValue, StateValue, Steps, Works, chunks}
 use Rattle.count_table.specs.declared.view.FrameView.{FrameView}
 use Rattle.count_table.specs.declared.view.WorkerView.{WorkerView}
 use Rattle.count_table.specs.declared.view.View.{View}
 use Rattle.count_table.specs.declared.view.View.TheVariants.{Frame, Worker, Spent}
-use Rattle.count_table.specs.Views.{drawn_of, holds_of, is_out, times, total}
+use Rattle.count_table.specs.Views.{drawn_of, times}
 use Rattle.count_table.specs.Rule.{Counted, Keeps}
 use Rattle.count_table.specs.Plays.{after_draw, after_keep, after_release, both_of, fresh, joined, left_of, moved_left, moved_right, right_of, seated}
-use Rattle.count_table.specs.Reading.{IsReading, held_by, owned_by}
+use Rattle.count_table.specs.Reading.{IsReading, owned_by}
 use Rattle.count_table.proofs.Totals.{total_at}
-use Rattle.count_table.proofs.Sums.{total-none}
-use Rattle.count_table.proofs.Facts.{frame_no_worker, held_twice}
+use Rattle.count_table.proofs.Facts.{frame_no_worker}
 use Rattle.count_table.proofs.Reading.{steps_are_events}
 use Rattle.phase_schedules.specs.Readings.{AtFrame}
 use Rattle.phase_schedules.proofs.Ahead.{SameTable}

@@ -1,5 +1,5 @@
 -- What a table and the chunks that were assigned stand for after each kind of step, however chunks get to workers.
-use Rattle.std.proofs.Common.{◌≡◌, ◌≢◌, ℕ, zero, suc, ◌+◌, ◌-◌, ◌%◌, ◌^◌, ◌<◌, ◌≤◌, ◌⊎◌, List, [], ◌∷◌, ◌++◌, Some, length, length-append, set, get_or, refl, sym, ap, subst, ◌∙◌, inl, inr, ⊎_elim, arith}
+use Rattle.std.proofs.Common.{◌≡◌, ◌≢◌, ℕ, zero, suc, ◌+◌, ◌-◌, ◌%◌, ◌^◌, ◌<◌, ◌⊎◌, List, [], ◌∷◌, ◌++◌, Some, length, length-append, set, get_or, refl, sym, ap, ◌∙◌, inl, inr, ⊎_elim, arith}
 use Rattle.std.specs.Prelude.{slice_get}
 use Rattle.std.proofs.lemmas.Option.{slice_get_within}
 use mathlib.Core.Option.{some, Option as Home}
@@ -7,7 +7,7 @@ use lib.ListN.{get_elem?}
 use Rattle.std.specs.declared.option.Option.{Option}
 use Rattle.wl_core.specs.declared.events.Event.{Event}
 use Rattle.wl_core.specs.declared.events.Event.TheVariants.{Draw, Keep, Release}
-use Rattle.wl_core.specs.Machine.{SetupValue, StateValue, Steps, put}
+use Rattle.wl_core.specs.Machine.{SetupValue, StateValue, Steps}
 use Rattle.wl_core.proofs.Functions.{put_same, put_other}
 use Rattle.count_table.specs.declared.view.FrameView.{FrameView}
 use Rattle.count_table.specs.declared.view.WorkerView.{WorkerView}

@@ -1,6 +1,6 @@
 -- The threads of a phase in any order: each step is one that the calls of `count_table` take at the table, or what a worker does to a cell of
 -- its chunk.
-use Rattle.std.specs.Prelude.{◌≡◌, ℕ, ◌+◌, ◌-◌, ◌%◌, ◌^◌, ◌<◌, true, false, ℤ, List, [], ◌∷◌, ◌++◌, length, slice_get, slice_index, slice_set, Ok, Err}
+use Rattle.std.specs.Prelude.{◌≡◌, ℕ, ◌+◌, ◌-◌, ◌%◌, ◌^◌, ◌<◌, false, ℤ, List, [], ◌∷◌, ◌++◌, length, slice_get, slice_index, slice_set, Ok, Err}
 use mathlib.Core.Option.{none, some}
 use lib.ListN.{get_elem?}
 use Rattle.std.specs.declared.option.Option.{Option}
