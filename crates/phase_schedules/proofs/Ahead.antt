@@ -4,10 +4,12 @@ use Rattle.std.specs.Prelude.{slice_get}
 use Rattle.std.proofs.lemmas.Bool.{cases_eq, cases_lt, cases_Bool, true≢false}
 use Rattle.std.proofs.lemmas.Option.{slice_get_cases}
 use Rattle.sac_base.specs.declared.faults.Fault.{Fault}
-use Rattle.wl_core.specs.declared.events.Event.TheVariants.{Stop, Write}
-use Rattle.wl_core.specs.Machine.{CellValue, IsSetup, Reached, SetupValue, StateValue, Works, end, gather, put, store}
+use Rattle.wl_core.specs.declared.events.Event.{Event}
+use Rattle.wl_core.specs.declared.events.Event.TheVariants.{Draw, Keep, Release, Stop, Write}
+use Rattle.wl_core.specs.Machine.{Runs, Steps, CellValue, IsSetup, Reached, SetupValue, StateValue, Works, end, gather, put, store}
 use Rattle.wl_core.proofs.Functions.{put_same, put_other}
 use Rattle.wl_core.proofs.Kept.{reached_facts, reached_more}
+use Rattle.phase_schedules.specs.Along.{OnlyOf}
 use Rattle.phase_schedules.specs.Readings.{IsOver}
 
 -- what a table says of a state stays
@@ -20,15 +22,38 @@ pub record SameTable (s t : StateValue) : Type 0 where
 pub same_table : (s : StateValue) → SameTable s s
 same_table s = record { taken = refl; owner = refl; count = refl; holds = refl }
 
--- the machine went on in the chunk c alone
-record On (u : SetupValue) (s : StateValue) (c : ℕ) (t : StateValue) : Type 0 where
+-- ---- events one after another
+
+pub runs_both : (u : SetupValue) (s t v : StateValue) (ds es : List Event) → Runs u s ds t → Runs u t es v → Runs u s (ds ++ es) v
+runs_both u s t v [] es a b = subst (λ (x : StateValue). Runs u x es v) (sym a) b
+runs_both u s t v (d ∷ ds) es a b = (a.0, a.1, runs_both u a.0 t v ds es a.2 b)
+
+pub runs_one : (u : SetupValue) (s t : StateValue) (e : Event) → Steps u s e t → Runs u s (e ∷ []) t
+runs_one u s t e st = (t, st, refl)
+
+only_both : (n : ℕ) (ds es : List Event) → OnlyOf n ds → OnlyOf n es → OnlyOf n (ds ++ es)
+only_both n [] es a b = b
+only_both n (Draw v ∷ ds) es a b = absurd a
+only_both n (Keep v c ∷ ds) es a b = absurd a
+only_both n (Release v c ∷ ds) es a b = absurd a
+only_both n (Write v ∷ ds) es a b = (a.0, only_both n ds es a.1 b)
+only_both n (Stop v ∷ ds) es a b = (a.0, only_both n ds es a.1 b)
+
+-- the machine went on in the chunk c of the worker w alone
+record On (u : SetupValue) (w : ℕ) (s : StateValue) (c : ℕ) (t : StateValue) : Type 0 where
+  events : List Event
+  runs : Runs u s events t
+  own : OnlyOf w events
   reached : Reached u t
   same : SameTable s t
   on : s.next c ≤ t.next c
   others : (d : ℕ) → d ≢ c → (t.next d ≡ s.next d) × (t.stopped d ≡ s.stopped d)
 
-on_then : (u : SetupValue) (s t v : StateValue) (c : ℕ) → On u s c t → On u t c v → On u s c v
-on_then u s t v c a b = record {
+on_then : (u : SetupValue) (w : ℕ) (s t v : StateValue) (c : ℕ) → On u w s c t → On u w t c v → On u w s c v
+on_then u w s t v c a b = record {
+  events = a.events ++ b.events;
+  runs = runs_both u s t v a.events b.events a.runs b.runs;
+  own = only_both w a.events b.events a.own b.own;
   reached = b.reached;
   same = record {
     taken = b.same.taken ∙ a.same.taken;
@@ -43,7 +68,7 @@ on_then u s t v c a b = record {
 module _ (u : SetupValue) (w : ℕ) (few : w < u.workers) where
   -- one event on: the chunk is over, or one position further
   abbrev GoesOn : StateValue → ℕ → StateValue → Type 0
-  GoesOn s c t = On u s c t × (IsOver u t c ⊎ (Works u t w c × (t.next c ≡ s.next c + 1)))
+  GoesOn s c t = On u w s c t × (IsOver u t c ⊎ (Works u t w c × (t.next c ≡ s.next c + 1)))
 
   writes_on : (s : StateValue) (c : ℕ) (value : Option (List ℤ)) → Reached u s → Works u s w c → slice_get u.cells (s.next c) ≡ Some (Ok value) → (t : StateValue) × GoesOn s c t
   writes_on s c value r works cell =
@@ -53,6 +78,9 @@ module _ (u : SetupValue) (w : ℕ) (few : w < u.workers) where
         t,
         (
           record {
+            events = Write w ∷ [];
+            runs = runs_one u s t (Write w) (few, (c, value, works, cell, refl));
+            own = (refl, tt);
             reached = reached_more u s t (Write w) r (few, (c, value, works, cell, refl));
             same = record { taken = refl; owner = refl; count = refl; holds = refl };
             on = omega arith;
@@ -71,6 +99,9 @@ module _ (u : SetupValue) (w : ℕ) (few : w < u.workers) where
         t,
         (
           record {
+            events = Stop w ∷ [];
+            runs = runs_one u s t (Stop w) (few, (c, fault, works, cell, refl));
+            own = (refl, tt);
             reached = reached_more u s t (Stop w) r (few, (c, fault, works, cell, refl));
             same = record { taken = refl; owner = refl; count = refl; holds = refl };
             on = omega arith;
@@ -92,7 +123,7 @@ module _ (u : SetupValue) (w : ℕ) (few : w < u.workers) where
       (slice_get_cases u.cells (s.next c)).1
 
   -- events on, to the chunk's end or a fault
-  ends_chunk : (most : ℕ) (s : StateValue) (c : ℕ) → end u c ≤ s.next c + most → Reached u s → Works u s w c → (t : StateValue) × On u s c t × IsOver u t c
+  ends_chunk : (most : ℕ) (s : StateValue) (c : ℕ) → end u c ≤ s.next c + most → Reached u s → Works u s w c → (t : StateValue) × On u w s c t × IsOver u t c
   ends_chunk zero s c le r works = absurd (let l = works.2 in omega arith)
   ends_chunk (suc most) s c le r works =
       let o = goes_on s c r works in
@@ -100,7 +131,7 @@ module _ (u : SetupValue) (w : ℕ) (few : w < u.workers) where
       (λ (over : IsOver u o.0 c). (o.0, o.1.0, over))
       (λ (more : Works u o.0 w c × (o.0.next c ≡ s.next c + 1)).
       let f = ends_chunk most o.0 c (let e = more.1 in omega arith) o.1.0.reached more.0 in
-      (f.0, on_then u s o.0 f.0 c o.1.0 f.1, f.2))
+      (f.0, on_then u w s o.0 f.0 c o.1.0 f.1, f.2))
       o.1.1
 
   -- whether the worker works on a chunk
@@ -130,6 +161,9 @@ module _ (u : SetupValue) (w : ℕ) (few : w < u.workers) where
 
   -- The worker has no chunk that has neither ended nor stopped. Each chunk is as it was, or is over now
   pub record Idle (s t : StateValue) : Type 0 where
+    pub events : List Event
+    pub runs : Runs u s events t
+    pub own : OnlyOf w events
     pub reached : Reached u t
     pub same : SameTable s t
     pub each : (d : ℕ) → ((t.next d ≡ s.next d) × (t.stopped d ≡ s.stopped d)) ⊎ (Works u s w d × IsOver u t d × (s.next d ≤ t.next d))
@@ -146,6 +180,9 @@ module _ (u : SetupValue) (w : ℕ) (few : w < u.workers) where
       let f = ends_chunk (end u c) s c (omega arith) r found.1 in (
         f.0,
         record {
+          events = f.1.events;
+          runs = f.1.runs;
+          own = f.1.own;
           reached = f.1.reached;
           same = f.1.same;
           each = λ d. ⊎_elim (λ (e : d ≡ c). inr (subst (λ (x : ℕ). Works u s w x × IsOver u f.0 x × (s.next x ≤ f.0.next x)) (sym e) (found.1, f.2, f.1.on))) (λ (ne : d ≢ c). inl (f.1.others d ne)) (cases_eq d c);
@@ -159,5 +196,5 @@ module _ (u : SetupValue) (w : ℕ) (few : w < u.workers) where
               (cases_eq d c);
         },
       ))
-      (λ none. (s, record { reached = r; same = same_table s; each = λ d. inl (refl, refl); idle = λ d works. none d works.0 works }))
+      (λ none. (s, record { events = []; runs = refl; own = tt; reached = r; same = same_table s; each = λ d. inl (refl, refl); idle = λ d works. none d works.0 works }))
       (found_below s s.taken)

@@ -6,16 +6,18 @@ use Rattle.sac_base.specs.declared.faults.Fault.{Fault}
 use Rattle.sac_base.specs.Verdict.{combined, present}
 use Rattle.wl_core.specs.declared.setup.Job.{Job}
 use Rattle.wl_core.specs.declared.setup.Job.TheVariants.{Write as Store, Fold}
+use Rattle.wl_core.specs.declared.events.Event.{Event}
 use Rattle.wl_core.specs.declared.events.Event.TheVariants.{Draw, Stop, Write}
 use Rattle.wl_core.specs.Facts.{cell_at, own, partial_by, stored_by, value_of}
-use Rattle.wl_core.specs.Machine.{IsSetup, Reached, SetupValue, StateValue, Steps, TakesBase, Works, both, combine, end, first, gather, listed, opened, put, store}
+use Rattle.wl_core.specs.Machine.{Runs, IsSetup, Reached, SetupValue, StateValue, Steps, TakesBase, Works, both, combine, end, first, gather, listed, opened, put, store}
 use Rattle.wl_core.proofs.Combining.{adds, gathered, gathered_is, same}
 use Rattle.wl_core.proofs.FoldLaws.{foldable, elementwise-foldable}
 use Rattle.wl_core.proofs.Functions.{put_same, put_other}
 use Rattle.wl_core.proofs.Kept.{apart, first_below, reached_facts, reached_more}
+use Rattle.phase_schedules.specs.Along.{OnceOrBefore}
 use Rattle.phase_schedules.specs.Moments.{Work, met_fault, untouched, wrote}
 use Rattle.phase_schedules.specs.Readings.{IsAsFar, IsOver}
-use Rattle.phase_schedules.proofs.Ahead.{Idle, SameTable, same_table}
+use Rattle.phase_schedules.proofs.Ahead.{Idle, SameTable, runs_one, same_table}
 
 -- of each position the cell, if the worker w wrote it
 abbrev pub own_written : SetupValue → Work → ℕ → List (Option (List ℤ))
@@ -229,16 +231,19 @@ module _ (u : SetupValue) (k : Work) (s : StateValue) (is : IsSetup u) (h : Made
       far
 
   -- what the machine does where a worker writes a cell: it writes it too, or it wrote it before
-  abbrev Follows : Work → Type 0
-  Follows k' = (t : StateValue) × Reached u t × SameTable s t × Made u k' t
+  abbrev pub Follows : Event → Work → Type 0
+  Follows e k' = (es : List Event) × (t : StateValue) × OnceOrBefore e es × Runs u s es t × Reached u t × SameTable s t × Made u k' t
 
   module _ (r : Reached u s) (n c : ℕ) (few : n < u.workers) (lt : c < s.taken) (own_is : s.owner c ≡ n) (below : k.next c < end u c) where
-    write_follows : (value : Option (List ℤ)) → k.stopped c ≡ false → slice_get u.cells (k.next c) ≡ Some (Ok value) → (k.next c ≡ s.next c) × (k.stopped c ≡ s.stopped c) → Follows (wrote u k n c value)
+    write_follows : (value : Option (List ℤ)) → k.stopped c ≡ false → slice_get u.cells (k.next c) ≡ Some (Ok value) → (k.next c ≡ s.next c) × (k.stopped c ≡ s.stopped c) → Follows (Write n) (wrote u k n c value)
     write_follows value going cell e =
         let works : Works u s n c = (lt, own_is, (let x = e.0 in omega arith), sym e.1 ∙ going) in
         let there : slice_get u.cells (s.next c) ≡ Some (Ok value) = ap (slice_get u.cells) (sym e.0) ∙ cell in
         let t : StateValue = record s { next = put s.next c (s.next c + 1); written = put s.written (s.next c) (s.written (s.next c) ++ n ∷ []); stored = store u.job s.stored (s.next c) value; partial = gather u.job s.partial n value } in (
+          Write n ∷ [],
           t,
+          inl refl,
+          runs_one u s t (Write n) (few, (c, value, works, there, refl)),
           reached_more u s t (Write n) r (few, (c, value, works, there, refl)),
           record { taken = refl; owner = refl; count = refl; holds = refl },
           made_written t n c value refl refl lt own_is below cell
@@ -258,10 +263,13 @@ module _ (u : SetupValue) (k : Work) (s : StateValue) (is : IsSetup u) (h : Made
         (cases_eq (k.next c) (s.next c)))
         over
 
-    write_waits : (value : Option (List ℤ)) → slice_get u.cells (k.next c) ≡ Some (Ok value) → IsOver u s c × (k.stopped c ≡ false) × (k.next c ≤ s.next c) → Follows (wrote u k n c value)
+    write_waits : (value : Option (List ℤ)) → slice_get u.cells (k.next c) ≡ Some (Ok value) → IsOver u s c × (k.stopped c ≡ false) × (k.next c ≤ s.next c) → Follows (Write n) (wrote u k n c value)
     write_waits value cell e =
         let b = behind value cell e.0 e.2 in (
+          [],
           s,
+          inr refl,
+          refl,
           r,
           same_table s,
           made_written s n c value refl refl lt own_is below cell
@@ -274,7 +282,7 @@ module _ (u : SetupValue) (k : Work) (s : StateValue) (is : IsSetup u) (h : Made
               (cases_eq d c)),
         )
 
-    pub writes : (value : Option (List ℤ)) → k.stopped c ≡ false → slice_get u.cells (k.next c) ≡ Some (Ok value) → Follows (wrote u k n c value)
+    pub writes : (value : Option (List ℤ)) → k.stopped c ≡ false → slice_get u.cells (k.next c) ≡ Some (Ok value) → Follows (Write n) (wrote u k n c value)
     writes value going cell = ⊎_elim (λ e. write_follows value going cell e) (λ e. write_waits value cell e) (h.as_far c lt)
 
     -- ---- a worker meets a cell that faults
@@ -299,12 +307,15 @@ module _ (u : SetupValue) (k : Work) (s : StateValue) (is : IsSetup u) (h : Made
         (λ (e : IsOver u s d × (k.stopped d ≡ false) × (k.next d ≤ s.next d)). inr (over_again t d next stopped e.0, stays ∙ e.1, (let l = e.2 in let goal : k.next d ≤ t.next d = omega arith in goal)))
         far
 
-    stop_follows : (fault : Fault) → k.stopped c ≡ false → slice_get u.cells (k.next c) ≡ Some (Err fault) → (k.next c ≡ s.next c) × (k.stopped c ≡ s.stopped c) → Follows (met_fault k c)
+    stop_follows : (fault : Fault) → k.stopped c ≡ false → slice_get u.cells (k.next c) ≡ Some (Err fault) → (k.next c ≡ s.next c) × (k.stopped c ≡ s.stopped c) → Follows (Stop n) (met_fault k c)
     stop_follows fault going cell e =
         let works : Works u s n c = (lt, own_is, (let x = e.0 in omega arith), sym e.1 ∙ going) in
         let there : slice_get u.cells (s.next c) ≡ Some (Err fault) = ap (slice_get u.cells) (sym e.0) ∙ cell in
         let t : StateValue = record s { stopped = put s.stopped c true } in (
+          Stop n ∷ [],
           t,
+          inl refl,
+          runs_one u s t (Stop n) (few, (c, fault, works, there, refl)),
           reached_more u s t (Stop n) r (few, (c, fault, works, there, refl)),
           record { taken = refl; owner = refl; count = refl; holds = refl },
           made_stopped t refl refl
@@ -324,10 +335,13 @@ module _ (u : SetupValue) (k : Work) (s : StateValue) (is : IsSetup u) (h : Made
         (cases_eq (k.next c) (s.next c)) in
         (here, ⊎_elim (λ (x : s.next c ≡ end u c). absurd (omega arith)) (λ (x : s.stopped c ≡ true). x) over)
 
-    stop_waits : (fault : Fault) → slice_get u.cells (k.next c) ≡ Some (Err fault) → IsOver u s c × (k.stopped c ≡ false) × (k.next c ≤ s.next c) → Follows (met_fault k c)
+    stop_waits : (fault : Fault) → slice_get u.cells (k.next c) ≡ Some (Err fault) → IsOver u s c × (k.stopped c ≡ false) × (k.next c ≤ s.next c) → Follows (Stop n) (met_fault k c)
     stop_waits fault cell e =
         let there = stopped_there fault cell e.0 e.2 in (
+          [],
           s,
+          inr refl,
+          refl,
           r,
           same_table s,
           made_stopped s refl refl
@@ -337,5 +351,5 @@ module _ (u : SetupValue) (k : Work) (s : StateValue) (is : IsSetup u) (h : Made
               (cases_eq d c)),
         )
 
-    pub stops : (fault : Fault) → k.stopped c ≡ false → slice_get u.cells (k.next c) ≡ Some (Err fault) → Follows (met_fault k c)
+    pub stops : (fault : Fault) → k.stopped c ≡ false → slice_get u.cells (k.next c) ≡ Some (Err fault) → Follows (Stop n) (met_fault k c)
     stops fault going cell = ⊎_elim (λ e. stop_follows fault going cell e) (λ e. stop_waits fault cell e) (h.as_far c lt)

@@ -7,4 +7,5 @@ pub mod Turning
 pub mod Endings
 pub mod Runs
 pub mod Leaving
+pub mod Calls
 mod Examples

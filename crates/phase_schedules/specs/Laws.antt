@@ -1,7 +1,9 @@
 -- What holds of every interleaving, as statements.
 use Rattle.std.specs.Prelude.{◌≡◌, ℕ, ◌≤◌, List, length}
 use Rattle.wl_core.specs.declared.limits.TheConstants.{MOST_CHUNKS}
-use Rattle.wl_core.specs.Machine.{IsSetup, SetupValue, chunks}
+use Rattle.wl_core.specs.Machine.{IsSetup, SetupValue, chunks, opened as opened_state}
+use Rattle.phase_schedules.specs.Along.{RunsAlong}
+use Rattle.phase_schedules.specs.Calls.{CallsAreSteps}
 use Rattle.phase_schedules.specs.Interleavings.{Action, Interleaved}
 use Rattle.phase_schedules.specs.Leaving.{AllLeaveThrough, WorkersLeft}
 use Rattle.phase_schedules.specs.Moments.{Dynamic, Moment, Scheduling, Static, open_moment}
@@ -22,6 +24,16 @@ pub record IsInterleaving {T : Type 0} (kind : Scheduling) (u : SetupValue) (par
 abbrev pub InterleavingsAreRuns : Type 0 → Type 0
 InterleavingsAreRuns T =
     (kind : Scheduling) (u : SetupValue) (parts : List T) (xs : List Action) (m : Moment T) → IsInterleaving kind u parts xs m → Stands kind u m
+
+-- one run of the machine, from its opening, goes along with all actions
+abbrev pub MachineRunsAlong : Type 0 → Type 0
+MachineRunsAlong T =
+    (kind : Scheduling) (u : SetupValue) (parts : List T) (xs : List Action) (m : Moment T) (i : IsInterleaving kind u parts xs m)
+    → RunsAlong kind u (open_moment u parts) xs m i.steps (opened_state u)
+
+-- each call that its contract allows goes on with an interleaving
+abbrev pub CallsGoOn : Type 0 → Type 0
+CallsGoOn T = (kind : Scheduling) (u : SetupValue) (parts : List T) (xs : List Action) (m : Moment T) → IsInterleaving kind u parts xs m → CallsAreSteps kind u m
 
 abbrev pub FinishedInterleavingsAgree : Type 0 → Type 0
 FinishedInterleavingsAgree T =

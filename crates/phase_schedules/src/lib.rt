@@ -4,12 +4,20 @@
 //! contracts are laws of every interleaving of such steps.
 #![tactic(auto)]
 
-ghost use Rattle.phase_schedules.specs.Laws.{FinishedInterleavingsAgree, InterleavingsAreRuns, LeaversAgree};
+ghost use Rattle.phase_schedules.specs.Laws.{CallsGoOn, FinishedInterleavingsAgree, InterleavingsAreRuns, LeaversAgree, MachineRunsAlong};
 
 /// A law. Whatever the order in which the threads of a phase take their steps, from the opening on, between any two of them the table's rule
-/// holds, and the table and the cells stand for a state to which a run of the phase machine leads from its beginning.
+/// holds, and the table and the cells stand for a state to which a run of the phase machine leads from its beginning. It is one run, which goes
+/// along with the threads: each step is its event of the machine, or none.
 pub fn interleavings_are_runs<T>()
-    ensures { InterleavingsAreRuns T }
+    ensures stands { InterleavingsAreRuns T }
+    ensures along { MachineRunsAlong T }
+{}
+
+/// A law. Interleavings leave no call out: after each of them every call at the table that its contract allows is a step, and so is what a worker
+/// does with the next cell of a chunk of its own.
+pub fn each_call_is_a_step<T>()
+    ensures { CallsGoOn T }
 {}
 
 /// A law. Where every seat has left and every chunk is done, the cells that the workers wrote are the verdict of the cells taken one after
