@@ -1,5 +1,5 @@
 -- Every interleaving is a run of the machine.
-use Rattle.std.proofs.Common.{◌≡◌, ◌≢◌, ℕ, zero, suc, ◌+◌, ◌-◌, ◌%◌, ◌^◌, ◌<◌, ◌≤◌, ◌⊎◌, List, [], ◌∷◌, ◌++◌, map, length, set, get_or, refl, sym, ap, subst, ◌∙◌, inl, inr, ⊎_elim, arith}
+use Rattle.std.proofs.Common.{◌≡◌, ℕ, ◌+◌, ◌-◌, ◌%◌, ◌^◌, ◌<◌, ◌≤◌, ◌⊎◌, List, [], ◌∷◌, ◌++◌, map, length, set, get_or, refl, sym, ap, subst, ◌∙◌, inl, inr, ⊎_elim, arith}
 use Rattle.std.specs.Prelude.{All}
 use Rattle.std.proofs.lemmas.Bool.{cases_lt}
 use Rattle.std.proofs.lemmas.List.Elements.{All-from_get_or}
@@ -25,7 +25,7 @@ use Rattle.phase_schedules.specs.Interleavings.{Action, Assign, AtTable, DrawBy,
 use Rattle.phase_schedules.specs.Laws.{HasParts, IsInterleaving}
 use Rattle.phase_schedules.specs.Moments.{Dynamic, Moment, Scheduling, Static, Table, Work, open_moment}
 use Rattle.phase_schedules.specs.Readings.{AllLeft, CellsDone, Ends, IsRunTo, Reads, Stands}
-use Rattle.phase_schedules.proofs.Ahead.{Idle, SameTable, idles, runs_both, runs_one}
+use Rattle.phase_schedules.proofs.Ahead.{SameTable, idles, runs_both, runs_one}
 use Rattle.phase_schedules.proofs.Cells.{Made, made_drawn, made_idle, made_none, made_same, stops, writes}
 use Rattle.phase_schedules.proofs.Endings.{cells_settled, chunks_done}
 use Rattle.phase_schedules.proofs.Holds.{counts_back, draw_held, holds_nothing, twice}
@@ -199,15 +199,19 @@ module _ {T : Type 0} (u : SetupValue) (is : IsSetup u) where
   step_runs kind m n (WriteBy id c) s r ruled run =
       let few = number u s m.table.words m.table.homes m.table.views m.assigned id r.0 ruled r.2 kind run.reads in
       let mine = own_chunk u s kind m id r.0 c ruled run.reads r.2 r.3 in
-      subst (λ (k : Moment T). StepRun kind m (WriteBy id c) s k) (sym r.7)
-      (ruled, tells s (OnceOrBefore (Write r.0.number)) (AreEventsOf kind m (WriteBy id c)) kind m.table m.assigned _ (λ es p. (r.0, r.2, p))
-      (cells_run kind m.table m.assigned m.work s run (Write r.0.number) _ (writes u m.work s is run.made run.reached r.0.number c few mine.0 mine.1 r.4 r.1 r.5 r.6)))
+      subst (λ (k : Moment T). StepRun kind m (WriteBy id c) s k) (sym r.7) (
+        ruled,
+        tells s (OnceOrBefore (Write r.0.number)) (AreEventsOf kind m (WriteBy id c)) kind m.table m.assigned _ (λ es p. (r.0, r.2, p))
+            (cells_run kind m.table m.assigned m.work s run (Write r.0.number) _ (writes u m.work s is run.made run.reached r.0.number c few mine.0 mine.1 r.4 r.1 r.5 r.6)),
+      )
   step_runs kind m n (StopBy id c) s r ruled run =
       let few = number u s m.table.words m.table.homes m.table.views m.assigned id r.0 ruled r.2 kind run.reads in
       let mine = own_chunk u s kind m id r.0 c ruled run.reads r.2 r.3 in
-      subst (λ (k : Moment T). StepRun kind m (StopBy id c) s k) (sym r.7)
-      (ruled, tells s (OnceOrBefore (Stop r.0.number)) (AreEventsOf kind m (StopBy id c)) kind m.table m.assigned _ (λ es p. (r.0, r.2, p))
-      (cells_run kind m.table m.assigned m.work s run (Stop r.0.number) _ (stops u m.work s is run.made run.reached r.0.number c few mine.0 mine.1 r.4 r.1 r.5 r.6)))
+      subst (λ (k : Moment T). StepRun kind m (StopBy id c) s k) (sym r.7) (
+        ruled,
+        tells s (OnceOrBefore (Stop r.0.number)) (AreEventsOf kind m (StopBy id c)) kind m.table m.assigned _ (λ es p. (r.0, r.2, p))
+            (cells_run kind m.table m.assigned m.work s run (Stop r.0.number) _ (stops u m.work s is run.made run.reached r.0.number c few mine.0 mine.1 r.4 r.1 r.5 r.6)),
+      )
 
   run_to : (kind : Scheduling) (m : Moment T) (s : StateValue) → Run kind m.table m.assigned m.work s → IsRunTo kind u m s
   run_to kind m s run = record { reached = run.reached; table = run.reads; cells = run.made.as_far }

@@ -1,7 +1,7 @@
 -- Each call that its contract allows is a step, so interleavings leave no call out.
-use Rattle.std.specs.Prelude.{◌≡◌, ℕ, ◌<◌, ◌⊎◌, false, List, [], length}
+use Rattle.std.specs.Prelude.{◌≡◌, ℕ, ◌<◌, ◌⊎◌, false, [], length}
 use Rattle.wl_core.specs.declared.limits.TheConstants.{MOST_HOLDS}
-use Rattle.wl_core.specs.Machine.{SetupValue, chunks, end}
+use Rattle.wl_core.specs.Machine.{SetupValue, end}
 use Rattle.count_table.specs.declared.view.FrameView.{FrameView}
 use Rattle.count_table.specs.declared.view.WorkerView.{WorkerView}
 use Rattle.count_table.specs.Views.{times}
