@@ -11,7 +11,7 @@ use Rattle.wl_core.proofs.Functions.{listed-same}
 use Rattle.wl_core.proofs.Kept.{first_below, reached_facts}
 use Rattle.wl_core.proofs.Verdicts.{chunk_below, chunk_from, chunk_there, settled}
 use Rattle.phase_schedules.specs.Moments.{Work, ending}
-use Rattle.phase_schedules.specs.Readings.{CellsDone, IsOver}
+use Rattle.phase_schedules.specs.Readings.{IsAlike, SameCells, CellsDone, IsOver}
 use Rattle.phase_schedules.proofs.Cells.{Made}
 
 -- two states that say the same of the cells come to the same
@@ -19,6 +19,35 @@ made_alike : (j : Job) (positions workers : ℕ) (s t : StateValue) → ((p : �
     → made_by j positions workers s ≡ made_by j positions workers t
 made_alike Store positions workers s t stored partials = ap (λ (l : List (Option (List ℤ))). whole Store l) (listed-same s.stored t.stored positions stored)
 made_alike (Fold base op) positions workers s t stored partials = ap (λ (l : List (Option (List ℤ))). whole (Fold base op) l) (listed-same s.partial t.partial workers partials)
+
+module _ (u : SetupValue) (k : Work) (s : StateValue) (is : IsSetup u) (reached : Reached u s) (h : Made u k s) (alike : (c : ℕ) → c < s.taken → IsAlike k s c) where
+  written_so_far : (p : ℕ) → p < length u.cells → k.written p ≡ s.written p
+  written_so_far p lt =
+      let f = reached_facts u s is reached in
+      let c = p / u.size in
+      let from = chunk_from u is.size p in
+      let below = chunk_below u is.size p lt in
+      ⊎_elim
+      (λ (taken : c < s.taken).
+      let e = (alike c taken).0 in
+      ⊎_elim
+      (λ (before : p < k.next c). h.done c p taken from before ∙ sym (f.done c p taken from (omega arith)).0)
+      (λ (after : k.next c ≤ p). h.ahead c p after below ∙ sym (f.ahead c p taken (omega arith) below))
+      (cases_lt p (k.next c)))
+      (λ (free : s.taken ≤ c). h.ahead c p (let e = (h.fresh c free).0 in omega arith) below ∙ sym (f.untaken c p free from below))
+      (cases_lt c s.taken)
+
+  -- where the machine has each chunk as the workers have it, all cells are the same
+  pub same_cells : SameCells u k s
+  same_cells =
+      let f = reached_facts u s is reached in record {
+        written = written_so_far;
+        stored = λ p lt. h.stored p ∙ ap (λ (l : List ℕ). stored_by u.job l (cell_at u p)) (written_so_far p lt) ∙ sym (f.stored p);
+        partials = λ w. h.partials w
+            ∙ ap (λ (l : List (Option (List ℤ))). partial_by u.job l)
+            (listed-same (λ p. own w (k.written p) (cell_at u p)) (λ p. own w (s.written p) (cell_at u p)) (length u.cells) (λ p l. ap (λ (x : List ℕ). own w x (cell_at u p)) (written_so_far p l)))
+            ∙ sym (f.partials w);
+      }
 
 module _ (u : SetupValue) (k : Work) (s : StateValue) (is : IsSetup u) (reached : Reached u s) (h : Made u k s) (all : CellsDone u k) where
   facts : Facts u s

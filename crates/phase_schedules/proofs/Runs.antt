@@ -27,7 +27,7 @@ use Rattle.phase_schedules.specs.Moments.{Dynamic, Moment, Scheduling, Static, T
 use Rattle.phase_schedules.specs.Readings.{AllLeft, CellsDone, Ends, IsRunTo, Reads, Stands}
 use Rattle.phase_schedules.proofs.Ahead.{SameTable, idles, runs_both, runs_one}
 use Rattle.phase_schedules.proofs.Cells.{Made, made_drawn, made_idle, made_none, made_same, stops, writes}
-use Rattle.phase_schedules.proofs.Endings.{cells_settled, chunks_done}
+use Rattle.phase_schedules.proofs.Endings.{cells_settled, chunks_done, same_cells}
 use Rattle.phase_schedules.proofs.Holds.{counts_back, draw_held, holds_nothing, twice}
 use Rattle.phase_schedules.proofs.Readings.{draw_reads, none_reads}
 use Rattle.phase_schedules.proofs.Tables.{rule_kept}
@@ -214,7 +214,7 @@ module _ {T : Type 0} (u : SetupValue) (is : IsSetup u) where
       )
 
   run_to : (kind : Scheduling) (m : Moment T) (s : StateValue) → Run kind m.table m.assigned m.work s → IsRunTo kind u m s
-  run_to kind m s run = record { reached = run.reached; table = run.reads; cells = run.made.as_far }
+  run_to kind m s run = record { reached = run.reached; table = run.reads; cells = run.made.as_far; exact = same_cells u m.work s is run.reached run.made }
 
   -- actions one after another
   runs : (kind : Scheduling) (m n : Moment T) (xs : List Action) (s : StateValue) → Ruled m.table → Run kind m.table m.assigned m.work s → Interleaved kind u m xs n → MomentRun kind n

@@ -35,16 +35,28 @@ Reads Static u ws vs assigned s = AtFrame (λ next counts f views. IsHoldsReadin
 abbrev pub IsOver : SetupValue → StateValue → ℕ → Type 0
 IsOver u s c = (s.next c ≡ end u c) ⊎ (s.stopped c ≡ true)
 
--- The machine has a chunk as the workers have it; or a worker got another chunk before it was through with this one: the machine, in which that
+-- the machine has a chunk as the workers have it
+abbrev pub IsAlike : Work → StateValue → ℕ → Type 0
+IsAlike k s c = (k.next c ≡ s.next c) × (k.stopped c ≡ s.stopped c)
+
+-- It has it so, or a worker got another chunk before it was through with this one: then the machine, in which that
 -- cannot be, is done with the chunk, and the worker is not
 abbrev pub IsAsFar : SetupValue → Work → StateValue → ℕ → Type 0
-IsAsFar u k s c = ((k.next c ≡ s.next c) × (k.stopped c ≡ s.stopped c)) ⊎ (IsOver u s c × (k.stopped c ≡ false) × (k.next c ≤ s.next c))
+IsAsFar u k s c = IsAlike k s c ⊎ (IsOver u s c × (k.stopped c ≡ false) × (k.next c ≤ s.next c))
+
+-- the machine's cells are the workers'
+pub record SameCells (u : SetupValue) (k : Work) (s : StateValue) : Type 0 where
+  pub written : (p : ℕ) → p < length u.cells → k.written p ≡ s.written p
+  pub stored : (p : ℕ) → p < length u.cells → k.stored p ≡ s.stored p
+  pub partials : (w : ℕ) → k.partial w ≡ s.partial w
 
 -- a run of the machine leads to the state that the moment stands for
 pub record IsRunTo {T : Type 0} (kind : Scheduling) (u : SetupValue) (m : Moment T) (s : StateValue) : Type 0 where
   pub reached : Reached u s
   pub table : Reads kind u m.table.words m.table.views m.assigned s
   pub cells : (c : ℕ) → c < s.taken → IsAsFar u m.work s c
+  -- where no chunk was drawn or assigned ahead, all cells are the same
+  pub exact : ((c : ℕ) → c < s.taken → IsAlike m.work s c) → SameCells u m.work s
 
 -- what holds between any two steps
 pub record Stands {T : Type 0} (kind : Scheduling) (u : SetupValue) (m : Moment T) : Type 0 where
