@@ -33,7 +33,8 @@ MachineRunsAlong T =
 
 -- each call that its contract allows goes on with an interleaving
 abbrev pub CallsGoOn : Type 0 → Type 0
-CallsGoOn T = (kind : Scheduling) (u : SetupValue) (parts : List T) (xs : List Action) (m : Moment T) → IsInterleaving kind u parts xs m → CallsAreSteps kind u m
+CallsGoOn T =
+    (kind : Scheduling) (u : SetupValue) (parts : List T) (xs : List Action) (m : Moment T) → IsInterleaving kind u parts xs m → CallsAreSteps kind u m
 
 abbrev pub FinishedInterleavingsAgree : Type 0 → Type 0
 FinishedInterleavingsAgree T =
