@@ -17,7 +17,7 @@ use Rattle.count_table.specs.Rule.{Keeps, Ruled}
 use Rattle.count_table.specs.Plays.{after_draw, after_keep, after_release, both_of, left_of, moved_left, right_of}
 use Rattle.count_table.proofs.Facts.{below_next, frame_no_worker}
 use Rattle.phase_schedules.specs.Calls.{CallsAreSteps, MayAct}
-use Rattle.phase_schedules.specs.Interleavings.{AtTable, DrawBy, Has, IsFrame, IsSeat, JoinSeat, KeepBy, Leads, LookBy, MakeSeat, MoveSeat, ReleaseBy, StopBy, TableAction, TableLeads, WriteBy, merged, parted}
+use Rattle.phase_schedules.specs.Interleavings.{AtTable, DrawBy, Has, IsFrame, IsSeat, JoinSeat, KeepBy, Leads, LookBy, MakeSeat, MoveSeat, ReleaseBy, StopBy, TableAction, TableLeads, TakeBy, WriteBy, merged, parted}
 use Rattle.phase_schedules.specs.Moments.{Moment, Scheduling, Table}
 use Rattle.phase_schedules.proofs.Holds.{twice}
 
@@ -155,6 +155,7 @@ module _ {T : Type 0} where
     calls_are_steps = record {
       seat = λ f first room. at_table MakeSeat (parted m.table 0 (left_of (Frame f)) (right_of (Frame f)), (f, first, room, refl));
       draw = λ id w at going. at_table (DrawBy id) (draw_at u.workers m.table ruled id w at (ltb (get_or m.table.words 0 0) (length w.parts)) refl going);
+      take = λ id w at. at_table (TakeBy id) (m.table, (w, at, refl));
       keep = λ id w b at lt room. at_table (KeepBy id b) (keep_at u.workers m.table ruled id w at b lt room);
       release = λ id w b at has. at_table (ReleaseBy id b) (release_at u.workers m.table ruled id w at b has);
       look = λ id w b at has. at_table (LookBy id b) (look_at u.workers m.table ruled id w at b has);

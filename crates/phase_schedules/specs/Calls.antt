@@ -6,7 +6,7 @@ use Rattle.count_table.specs.declared.view.FrameView.{FrameView}
 use Rattle.count_table.specs.declared.view.WorkerView.{WorkerView}
 use Rattle.count_table.specs.Views.{times}
 use Rattle.phase_schedules.specs.Interleavings.{Action, AtTable, DrawBy, Has, IsFrame, IsSeat, JoinSeat, KeepBy, Leads, LookBy, MakeSeat, MoveSeat}
-use Rattle.phase_schedules.specs.Interleavings.{ReleaseBy, StopBy, WriteBy}
+use Rattle.phase_schedules.specs.Interleavings.{ReleaseBy, StopBy, TakeBy, WriteBy}
 use Rattle.phase_schedules.specs.Moments.{Moment, Scheduling}
 
 -- the action leads to some moment
@@ -17,6 +17,7 @@ MayAct {T} kind u m x = (n : Moment T) × Leads kind u m x n
 pub record CallsAreSteps {T : Type 0} (kind : Scheduling) (u : SetupValue) (m : Moment T) : Type 0 where
   pub seat : (f : FrameView T) → IsFrame m.table f → f.made < u.workers → MayAct kind u m (AtTable MakeSeat)
   pub draw : (id : ℕ) (w : WorkerView T) → IsSeat m.table id w → w.ended ≡ false → MayAct kind u m (AtTable (DrawBy id))
+  pub take : (id : ℕ) (w : WorkerView T) → IsSeat m.table id w → MayAct kind u m (AtTable (TakeBy id))
   pub keep : (id : ℕ) (w : WorkerView T) (b : ℕ) → IsSeat m.table id w → b < w.buffers → length w.holds < MOST_HOLDS → MayAct kind u m (AtTable (KeepBy id b))
   pub release : (id : ℕ) (w : WorkerView T) (b : ℕ) → IsSeat m.table id w → 0 < times b w.holds → MayAct kind u m (AtTable (ReleaseBy id b))
   pub look : (id : ℕ) (w : WorkerView T) (b : ℕ) → IsSeat m.table id w → 0 < times b w.holds → MayAct kind u m (AtTable (LookBy id b))
