@@ -56,6 +56,15 @@ pub fn vector(alloc: Global, cells: &[Cell]) -> Result<Array, Memory> {
     Ok(Array::vector(alloc, Base::Int, Vec::from_slice(alloc, cells)?))
 }
 
+/// Some numbers as a matrix of so many rows and columns.
+pub fn matrix(alloc: Global, shape: [Cell; 2], cells: &[Cell]) -> Result<Array, Memory> {
+    let flat = vector(alloc, cells)?;
+    match array_ops::reshape(alloc, &vector(alloc, &shape)?, &flat) {
+        Ok(array) => Ok(array),
+        Err(_) => Err(Memory),
+    }
+}
+
 /// The register of a kernel's result.
 pub fn result_of(kernel: &Kernel) -> Option<u8> {
     match kernel.results.first() {

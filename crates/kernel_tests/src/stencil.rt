@@ -1,4 +1,4 @@
-use crate::making::vector;
+use crate::making::matrix;
 use kernel_buffers::Buffer;
 use kernel_run::run_line;
 use kernel_tree::{KernelStep, Registers};
@@ -28,11 +28,7 @@ const FOUR: [KernelStep; 14] = [
 // The array of 3 rows of 4 cells, whose cells are squares.
 pub fn squares(alloc: Global) -> Result<Array, Memory> {
     let cells = [0, 1, 4, 9, 16, 25, 36, 49, 64, 81, 100, 121];
-    let flat = vector(alloc, &cells)?;
-    match array_ops::reshape(alloc, &vector(alloc, &[3, 4])?, &flat) {
-        Ok(array) => Ok(array),
-        Err(_) => Err(Memory),
-    }
+    matrix(alloc, [3, 4], &cells)
 }
 
 // What register 15 has behind a line of steps at a row and a column, where there is no fault.

@@ -2,5 +2,6 @@
 
 mod branches;
 mod common;
+mod folds;
 mod loads;
 mod quotients;

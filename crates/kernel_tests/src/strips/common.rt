@@ -38,6 +38,24 @@ pub fn branches(
     block
 }
 
+/// A line, and then a block for each number from one on and below another, which a register has then.
+pub fn fold(
+    alloc: Global,
+    steps: &[KernelStep],
+    index: u8,
+    between: (Cell, Cell),
+    body: KernelBlock,
+) -> KernelBlock {
+    let mut block = line(alloc, steps);
+    let _ = block.parts.push(KernelPart::Each {
+        index,
+        from: between.0,
+        to: between.1,
+        body,
+    });
+    block
+}
+
 // Whether the strips run so far, from an innermost index in register 0.
 fn run(
     alloc: Global,
