@@ -1,5 +1,5 @@
 -- The array that a value is, by what is known without its cells.
-use Rattle.std.proofs.Common.{◌≡◌, ◌∙◌, ℕ, List, ⊥, map, pos, refl, sym, ap}
+use Rattle.std.proofs.Common.{◌≡◌, ◌∙◌, ℕ, List, map, pos, refl, sym, ap}
 use Rattle.std.specs.Prelude.{ℤ, unsigned_abs}
 use Rattle.sac_base.proofs.Extents.{abs_pos}
 use Rattle.sac_base.specs.declared.base.Base.{Base}
