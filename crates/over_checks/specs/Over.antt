@@ -12,9 +12,9 @@ use Rattle.over_phases.specs.Own.{PartsReadOwn}
 use Rattle.over_phases.specs.Statements.{IsElement}
 use Rattle.phase_checks.specs.Terms.{parts_term}
 use Rattle.phase_loop_cells.specs.Opened.{lent_env, meaning_in, spending_in}
-use Rattle.run_eval.specs.declared.cell_loop.CellSource.{CellSource}
-use Rattle.run_eval.specs.declared.cell_loop.CellSource.TheVariants.{Generators, Parts}
-use Rattle.run_eval.specs.declared.state.Context.{Context}
+use Rattle.run_loops.specs.declared.cell_loop.CellSource.{CellSource}
+use Rattle.run_loops.specs.declared.cell_loop.CellSource.TheVariants.{Generators, Parts}
+use Rattle.run_loops.specs.declared.state.Context.{Context}
 use Rattle.sac_base.specs.declared.base.Base.{Base}
 use Rattle.sac_base.specs.declared.form.Form.{Form}
 use Rattle.sac_base.specs.Arrays.{size}

@@ -12,7 +12,7 @@ use counted_code::CodePart;
 use own_kernels::{own_kernels_read_own, parts_read_own};
 use phase_kernels::{KernelCells, Scope, scope_of, source_kernels};
 use phase_loop_cells::part_ranges;
-use run_eval::CellSource;
+use run_loops::CellSource;
 use run_values::RunValue;
 use sac_base::{Memory, Shape};
 

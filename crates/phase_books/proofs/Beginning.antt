@@ -5,8 +5,8 @@ use Rattle.counted_code.specs.Loops.{claim}
 use Rattle.counted_code.specs.Values.{Heap}
 use Rattle.phase_count.specs.Tallies.{Counts}
 use Rattle.phase_count.proofs.Tallying.{counts_on}
-use Rattle.run_eval.specs.Loops.{IsBegun}
-use Rattle.run_eval.specs.declared.state.State.{State}
+use Rattle.run_loops.specs.Loops.{IsBegun}
+use Rattle.run_loops.specs.declared.state.State.{State}
 use Rattle.run_store.specs.Targets.{IsClaimed, target_of}
 use Rattle.run_store.specs.declared.store.Store.{Store}
 use Rattle.run_store.specs.declared.target.Target.{Target}

@@ -5,12 +5,12 @@ use Rattle.counted_code.specs.Values.{Ended, Done, Failed}
 use Rattle.phase_draws.specs.Endings.{IsTallied, one_phase}
 use Rattle.phase_books.specs.Homes.{Has, IsBooked, OrNoMemory, WillHave, chunks_in}
 use Rattle.phase_books.specs.declared.results.Books.{Books}
-use Rattle.run_eval.specs.Running.{ToldStop}
+use Rattle.run_loops.specs.Running.{ToldStop}
 use Rattle.phase_count.specs.Tallies.{PhaseNumbers, counted_in}
 use Rattle.phase_count.proofs.Tallying.{counts_as}
 use Rattle.phase_count.specs.declared.OpenTally.{OpenTally}
 use Rattle.phase_count.specs.declared.Totals.{Totals}
-use Rattle.run_eval.specs.declared.state.State.{State}
+use Rattle.run_loops.specs.declared.state.State.{State}
 use Rattle.sac_base.specs.declared.faults.Fault.{Fault}
 use Rattle.sac_base.specs.declared.stop.Stop.{Stop}
 use Rattle.sac_base.specs.declared.stop.Stop.TheVariants.{Faulted, Memory}

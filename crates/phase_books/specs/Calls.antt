@@ -3,11 +3,11 @@ use Rattle.std.specs.Prelude.{◌≡◌, None, Result, OnOk}
 use Rattle.counted_code.specs.Loops.{Job, job_does}
 use Rattle.counted_code.specs.Machine.{Values}
 use Rattle.counted_code.specs.Values.{Heap}
-use Rattle.run_eval.specs.declared.cell_loop.CellLoop.{CellLoop}
-use Rattle.run_eval.specs.declared.state.Context.{Context}
-use Rattle.run_eval.specs.declared.state.State.{State}
-use Rattle.run_eval.specs.Jobs.{over_does, IsOver}
-use Rattle.run_eval.specs.Running.{IsAt, IsValue, SameScopes, Told}
+use Rattle.run_loops.specs.declared.cell_loop.CellLoop.{CellLoop}
+use Rattle.run_loops.specs.declared.state.Context.{Context}
+use Rattle.run_loops.specs.declared.state.State.{State}
+use Rattle.run_loops.specs.Jobs.{over_does, IsOver}
+use Rattle.run_loops.specs.Running.{IsAt, IsValue, SameScopes, Told}
 use Rattle.run_store.specs.Stands.{lender_of}
 use Rattle.run_values.specs.declared.value.RunValue.{RunValue}
 use Rattle.run_values.specs.Scopes.{current}

@@ -8,7 +8,7 @@ ghost use Rattle.run_values.specs.Shown.{value_of};
 use crate::mentions::mention_source;
 use buffer_heap::Heap;
 use core_ir::Var;
-use run_eval::CellSource;
+use run_loops::CellSource;
 use run_values::{Frames, RunValue};
 use sac_base::Memory;
 use std::alloc::Global;

@@ -1,9 +1,9 @@
 //! Loops outside of cells, as calls run them.
 
 ghost use Rattle.phase_books.specs.Calls.{IsRun, IsRunOver};
-ghost use Rattle.run_eval.specs.Jobs.{job_of};
+ghost use Rattle.run_loops.specs.Jobs.{job_of};
 
-use run_eval::{CellLoop, Context, Phases, State};
+use run_loops::{CellLoop, Context, Phases, State};
 use run_values::RunValue;
 use sac_base::Stop;
 

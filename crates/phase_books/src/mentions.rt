@@ -5,7 +5,7 @@
 
 use core_ir::{CoreOp, PartedOp, Var};
 use counted_code::{CodeBlock, CodeGen, CodePart, CodeRight, CodeStep};
-use run_eval::CellSource;
+use run_loops::CellSource;
 use sac_base::Memory;
 
 /// Appends the variables that the cells of a source mention, those that the cells bind included, and those of the bounds of

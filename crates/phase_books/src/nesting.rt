@@ -1,7 +1,7 @@
 //! How deep blocks and calls nest in code.
 
 use counted_code::{Code, CodeBlock, CodeGen, CodePart, CodeRight, CodeStep};
-use run_eval::CellSource;
+use run_loops::CellSource;
 use sac_base::Memory;
 use std::alloc::Global;
 

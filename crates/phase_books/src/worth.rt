@@ -4,7 +4,7 @@ use crate::team::Workers;
 use core_ir::Var;
 use counted_code::{CodeBlock, CodeGen, CodePart, CodeRight, CodeStep};
 use phase_team::Gate;
-use run_eval::CellSource;
+use run_loops::CellSource;
 use run_values::{Frames, RunValue};
 use std::thread::Threads;
 

@@ -12,9 +12,9 @@ use Rattle.phase_loop_cells.specs.declared.copies.Background.{Background}
 use Rattle.phase_loop_cells.specs.Cells.{fill_at, index_at, source_cell, source_taken}
 use Rattle.phase_loop_cells.specs.Ranges.{AreMade, ranges_of}
 use Rattle.phase_loop_cells.specs.Opened.{lent_env, meaning_in, spending_in}
-use Rattle.run_eval.specs.declared.cell_loop.CellSource.{CellSource}
-use Rattle.run_eval.specs.declared.cell_loop.CellSource.TheVariants.{Generators, Parts}
-use Rattle.run_eval.specs.declared.state.Context.{Context}
+use Rattle.run_loops.specs.declared.cell_loop.CellSource.{CellSource}
+use Rattle.run_loops.specs.declared.cell_loop.CellSource.TheVariants.{Generators, Parts}
+use Rattle.run_loops.specs.declared.state.Context.{Context}
 use Rattle.sac_base.specs.Arrays.{ArrayValue, size}
 use Rattle.sac_base.specs.declared.faults.Fault.{Fault}
 use Rattle.sac_base.specs.WithLoops.{Range}

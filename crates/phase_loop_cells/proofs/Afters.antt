@@ -19,7 +19,7 @@ use Rattle.sac_base.specs.declared.stop.Stop.TheVariants.{Faulted, Memory}
 use Rattle.phase_team.specs.Segments.{IsComputed, Tells}
 use Rattle.phase_loop_cells.specs.Cells.{elements_or, as_cell, ToldCell, end_of}
 use Rattle.phase_loop_cells.specs.Opened.{IsOpen, lent_env}
-use Rattle.run_eval.specs.declared.state.State.{State}
+use Rattle.run_loops.specs.declared.state.State.{State}
 use Rattle.phase_loop_cells.proofs.Numbered.{LeftAs, LeavesAs}
 use Rattle.phase_loop_cells.proofs.Sources.{quiet}
 

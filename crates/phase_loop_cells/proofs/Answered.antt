@@ -13,9 +13,9 @@ use Rattle.sac_base.specs.declared.stop.Stop.{Stop}
 use Rattle.sac_base.specs.declared.stop.Stop.TheVariants.{Faulted, Memory}
 use Rattle.phase_team.specs.Segments.{value_if}
 use Rattle.phase_loop_cells.specs.Cells.{elements_or, IsPut, ToldCell}
-use Rattle.run_eval.specs.Loops.{IsPresent, unreleased}
-use Rattle.run_eval.specs.Running.{Told, formed}
-use Rattle.run_eval.specs.declared.state.State.{State}
+use Rattle.run_loops.specs.Loops.{IsPresent, unreleased}
+use Rattle.run_loops.specs.Running.{Told, formed}
+use Rattle.run_loops.specs.declared.state.State.{State}
 use Rattle.phase_count.proofs.Tallying.{counts_as}
 
 count_phases : (b n : ℕ) (h : Heap) → (release_count b n h).phases ≡ h.phases

@@ -4,11 +4,11 @@ use Rattle.std.specs.Prelude.{option_map}
 use Rattle.counted_code.specs.declared.tree.CodeGen.{CodeGen}
 use Rattle.counted_code.specs.declared.tree.CodePart.{CodePart}
 use Rattle.counted_code.specs.Machine.{Values}
-use Rattle.run_eval.specs.declared.cell_loop.CellBody.{CellBody}
-use Rattle.run_eval.specs.declared.cell_loop.CellSource.{CellSource}
-use Rattle.run_eval.specs.declared.cell_loop.CellSource.TheVariants.{Generators, Parts}
-use Rattle.run_eval.specs.declared.state.Context.{Context}
-use Rattle.run_eval.specs.Loops.{body_of, body_source, gen_body, gen_source, held, held_body, part_body, part_held, part_source, source_at, source_of_body}
+use Rattle.run_loops.specs.declared.cell_loop.CellBody.{CellBody}
+use Rattle.run_loops.specs.declared.cell_loop.CellSource.{CellSource}
+use Rattle.run_loops.specs.declared.cell_loop.CellSource.TheVariants.{Generators, Parts}
+use Rattle.run_loops.specs.declared.state.Context.{Context}
+use Rattle.run_loops.specs.Loops.{body_of, body_source, gen_body, gen_source, held, held_body, part_body, part_held, part_source, source_at, source_of_body}
 use Rattle.sac_base.specs.WithLoops.{Range}
 
 module _ (context : Context) (e : Values) (v : List ℤ) where

@@ -22,14 +22,14 @@ use Rattle.reached_marks.proofs.Standing.{clear_gens_alone, clear_parts_alone}
 use Rattle.sac_base.specs.declared.form.Form.{Form}
 use Rattle.sac_base.specs.Grids.{has_vector}
 use Rattle.sac_base.specs.WithLoops.{Range, holds, cell_at as with_cell_at}
-use Rattle.run_eval.specs.declared.state.Context.{Context}
+use Rattle.run_loops.specs.declared.state.Context.{Context}
 use Rattle.phase_checks.specs.Terms.{gens_term, parts_term}
 use Rattle.phase_loop_cells.specs.Cells.{source_means, source_takes}
 use Rattle.phase_loop_cells.specs.Opened.{IsOpen, GensIn, PartsIn, OpenGens, OpenParts, OpenSource, meaning_in, spending_in, lent_env}
-use Rattle.run_eval.specs.declared.cell_loop.CellSource.{CellSource}
-use Rattle.run_eval.specs.declared.cell_loop.CellSource.TheVariants.{Generators, Parts}
-use Rattle.run_eval.specs.Loops.{held, part_held, gen_source, part_source, source_at, source_in, part_source_in}
-use Rattle.run_eval.specs.Running.{calls_in}
+use Rattle.run_loops.specs.declared.cell_loop.CellSource.{CellSource}
+use Rattle.run_loops.specs.declared.cell_loop.CellSource.TheVariants.{Generators, Parts}
+use Rattle.run_loops.specs.Loops.{held, part_held, gen_source, part_source, source_at, source_in, part_source_in}
+use Rattle.run_loops.specs.Running.{calls_in}
 use Rattle.phase_loop_cells.proofs.Numbered.{LeavesAs, leaves_as, cell_blind}
 
 -- the heap without phases

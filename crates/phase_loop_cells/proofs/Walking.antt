@@ -8,9 +8,9 @@ use Rattle.counted_code.specs.declared.tree.CodePart.{CodePart}
 use Rattle.loop_code.specs.Runs.{HoldsAlong, HoldsFirst}
 use Rattle.phase_loop_cells.specs.Ranges.{AreAll, AreMade, AreRanges, ranges_of}
 use Rattle.phase_loop_cells.specs.Walks.{body_of_run}
-use Rattle.run_eval.specs.declared.cell_loop.CellSource.{CellSource}
-use Rattle.run_eval.specs.declared.cell_loop.CellSource.TheVariants.{Generators, Parts}
-use Rattle.run_eval.specs.Loops.{gen_body, held, held_body, part_body, part_held}
+use Rattle.run_loops.specs.declared.cell_loop.CellSource.{CellSource}
+use Rattle.run_loops.specs.declared.cell_loop.CellSource.TheVariants.{Generators, Parts}
+use Rattle.run_loops.specs.Loops.{gen_body, held, held_body, part_body, part_held}
 use Rattle.sac_base.specs.Grids.{has_vector}
 use Rattle.sac_base.specs.WithLoops.{Range, holds}
 

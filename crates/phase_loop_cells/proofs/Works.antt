@@ -14,14 +14,14 @@ use Rattle.array_with_loops.specs.declared.plans.Plan.{Plan}
 use Rattle.sac_base.specs.declared.stop.Stop.{Stop}
 use Rattle.phase_team.specs.Segments.{IsComputed, Tells}
 use Rattle.phase_loop_cells.specs.declared.copies.Background.{Background}
-use Rattle.run_eval.specs.declared.cell_loop.CellSource.{CellSource}
-use Rattle.run_eval.specs.declared.state.Context.{Context}
-use Rattle.run_eval.specs.declared.state.State.{State}
+use Rattle.run_loops.specs.declared.cell_loop.CellSource.{CellSource}
+use Rattle.run_loops.specs.declared.state.Context.{Context}
+use Rattle.run_loops.specs.declared.state.State.{State}
 use Rattle.phase_loop_cells.specs.Cells.{ToldCell, end_of, fill_at, index_at, source_cell, source_means, source_taken}
 use Rattle.phase_loop_cells.specs.Opened.{OpenSource, SourceIn}
-use Rattle.run_eval.specs.Loops.{source_at}
+use Rattle.run_loops.specs.Loops.{source_at}
 use Rattle.phase_count.proofs.Tallying.{counts_none}
-use Rattle.run_eval.specs.Running.{IsAt}
+use Rattle.run_loops.specs.Running.{IsAt}
 use Rattle.phase_loop_cells.proofs.Afters.{stands_quiet, cell_told, cell_left}
 use Rattle.phase_loop_cells.proofs.Sources.{quiet, source_alone, source_grown}
 

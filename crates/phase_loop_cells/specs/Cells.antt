@@ -21,13 +21,13 @@ use Rattle.phase_team.specs.Segments.{value_if}
 use Rattle.phase_team.specs.declared.cells.CellEnd.{CellEnd}
 use Rattle.phase_team.specs.declared.cells.CellEnd.TheVariants as end
 use Rattle.phase_loop_cells.specs.declared.copies.Background.{Background}
-use Rattle.run_eval.specs.declared.cell_loop.CellSource.{CellSource}
-use Rattle.run_eval.specs.declared.cell_loop.CellSource.TheVariants.{Generators, Parts}
-use Rattle.run_eval.specs.declared.state.Context.{Context}
-use Rattle.run_eval.specs.declared.state.State.{State}
+use Rattle.run_loops.specs.declared.cell_loop.CellSource.{CellSource}
+use Rattle.run_loops.specs.declared.cell_loop.CellSource.TheVariants.{Generators, Parts}
+use Rattle.run_loops.specs.declared.state.Context.{Context}
+use Rattle.run_loops.specs.declared.state.State.{State}
 use Rattle.phase_checks.specs.Terms.{gens_term, parts_term}
 use Rattle.phase_loop_cells.specs.Opened.{meaning_in, spending_in, lent_env}
-use Rattle.run_eval.specs.Running.{IsAt}
+use Rattle.run_loops.specs.Running.{IsAt}
 
 -- the elements at a place of an old array, or those of a default
 abbrev pub stands_at : Bool → List ℤ → (size place : ℕ) → List ℤ

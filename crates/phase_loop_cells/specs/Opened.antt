@@ -16,9 +16,9 @@ use Rattle.reach_checks.specs.Loops.{ClearGens, ClearParts}
 use Rattle.phase_laws.specs.Alone.{Readable}
 use Rattle.phase_laws.specs.Spending.{CallSpending, calls_spend, deeper_spends, inline_spends}
 use Rattle.sac_base.specs.Arrays.{ArrayValue}
-use Rattle.run_eval.specs.declared.cell_loop.CellSource.{CellSource}
-use Rattle.run_eval.specs.declared.cell_loop.CellSource.TheVariants.{Generators, Parts}
-use Rattle.run_eval.specs.declared.state.Context.{Context}
+use Rattle.run_loops.specs.declared.cell_loop.CellSource.{CellSource}
+use Rattle.run_loops.specs.declared.cell_loop.CellSource.TheVariants.{Generators, Parts}
+use Rattle.run_loops.specs.declared.state.Context.{Context}
 use Rattle.phase_checks.specs.Terms.{gens_term, parts_term}
 
 -- ---- calls

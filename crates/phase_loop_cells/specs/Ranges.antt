@@ -3,8 +3,8 @@ use Rattle.std.specs.Prelude.{◌≤◌, List, [], ◌∷◌, length}
 use Rattle.array_with_loops.specs.declared.plans.Plan.{Plan}
 use Rattle.counted_code.specs.declared.tree.CodePart.{CodePart}
 use Rattle.grid_ranges.specs.Members.{HasMembersOf}
-use Rattle.run_eval.specs.declared.cell_loop.CellSource.{CellSource}
-use Rattle.run_eval.specs.declared.cell_loop.CellSource.TheVariants.{Generators, Parts}
+use Rattle.run_loops.specs.declared.cell_loop.CellSource.{CellSource}
+use Rattle.run_loops.specs.declared.cell_loop.CellSource.TheVariants.{Generators, Parts}
 use Rattle.sac_base.specs.WithLoops.{Range}
 
 -- the ranges have the members of the first parts' grids, one by one

@@ -5,8 +5,8 @@ use Rattle.phase_loop_cells.specs.Cells.{index_at}
 use Rattle.phase_loop_cells.specs.Ranges.{AreMade}
 use Rattle.phase_loop_cells.specs.declared.walk.CellRun.{CellRun}
 use Rattle.phase_loop_cells.specs.declared.walk.Walk.{Walk}
-use Rattle.run_eval.specs.declared.cell_loop.CellSource.{CellSource}
-use Rattle.run_eval.specs.Loops.{Body, held_body, placed_body}
+use Rattle.run_loops.specs.declared.cell_loop.CellSource.{CellSource}
+use Rattle.run_loops.specs.Loops.{Body, held_body, placed_body}
 
 -- the body of the generator or part at a place, or none
 abbrev pub body_of_run : CellSource → Option ℕ → Option Body

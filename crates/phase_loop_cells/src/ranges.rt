@@ -6,7 +6,7 @@ ghost use Rattle.phase_loop_cells.specs.Ranges.{AreAll, AreMade, AreRanges, rang
 use array_with_loops::{Plan, Range};
 use counted_code::CodePart;
 use grid_ranges::range_of;
-use run_eval::CellSource;
+use run_loops::CellSource;
 use sac_base::Memory;
 use std::alloc::Global;
 

@@ -6,7 +6,7 @@ ghost use Rattle.run_values.specs.Scopes.{current};
 
 use crate::walk::Walk;
 use array_with_loops::Plan;
-use run_eval::CellSource;
+use run_loops::CellSource;
 use run_values::Frames;
 use sac_base::Memory;
 use std::alloc::Global;

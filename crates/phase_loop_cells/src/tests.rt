@@ -5,7 +5,7 @@ use crate::scratch::CellScratch;
 use array_with_loops::{Frame, Plan};
 use buffer_heap::Heap;
 use core_ir::Var;
-use run_eval::CellSource;
+use run_loops::CellSource;
 use run_store::{Store, place_own};
 use run_values::{Frames, RunValue};
 use sac_base::{Array, Base, Cell, Form, Memory, Shape};

@@ -4,12 +4,12 @@ ghost use Rattle.std.specs.Prelude.{◌≡◌, ◌<◌, ◌≤◌, ℕ, length, 
 ghost use Rattle.phase_loop_cells.specs.Cells.{index_at};
 ghost use Rattle.phase_loop_cells.specs.Ranges.{AreAll, AreMade};
 ghost use Rattle.phase_loop_cells.specs.Walks.{IsRun, IsWalk};
-ghost use Rattle.run_eval.specs.Loops.{body_of, held_body};
+ghost use Rattle.run_loops.specs.Loops.{body_of, held_body};
 
 use crate::ranges::{are_all, made_ranges, source_ranges};
 use array_with_loops::{IndexVector, Plan, Range};
 use loop_code::run_at;
-use run_eval::{CellBody, CellSource, body_at, body_of_place};
+use run_loops::{CellBody, CellSource, body_at, body_of_place};
 use sac_base::Memory;
 use std::alloc::Global;
 

@@ -16,11 +16,11 @@ use Rattle.phase_loop_cells.specs.Cells.{as_cell, index_at, source_cell, source_
 use Rattle.phase_loop_cells.specs.Opened.{lent_env, meaning_in}
 use Rattle.phase_loop_cells.specs.declared.copies.Background.{Background}
 use Rattle.phase_team.specs.Segments.{cells_from}
-use Rattle.run_eval.specs.declared.cell_loop.CellSource.{CellSource}
-use Rattle.run_eval.specs.declared.cell_loop.CellSource.TheVariants.{Generators, Parts}
-use Rattle.run_eval.specs.declared.state.Context.{Context}
-use Rattle.run_eval.specs.Loops as loops
-use Rattle.run_eval.specs.Loops.{held_body, part_held}
+use Rattle.run_loops.specs.declared.cell_loop.CellSource.{CellSource}
+use Rattle.run_loops.specs.declared.cell_loop.CellSource.TheVariants.{Generators, Parts}
+use Rattle.run_loops.specs.declared.state.Context.{Context}
+use Rattle.run_loops.specs.Loops as loops
+use Rattle.run_loops.specs.Loops.{held_body, part_held}
 use Rattle.sac_base.specs.declared.base.Base.TheVariants.{Int}
 use Rattle.sac_base.specs.declared.form.Form.{Form}
 use Rattle.sac_base.specs.declared.site.Site.{Site}

@@ -34,14 +34,14 @@ use Rattle.phase_workers.specs.Phases.{MakesLarge}
 use Rattle.phase_workers.proofs.Handing.{handed_stands}
 use Rattle.phase_workers.proofs.Openings.{AreReferred, alone_source}
 use Rattle.phase_workers.proofs.Standing.{lie_as_read, read_base, stands_in}
-use Rattle.run_eval.specs.declared.cell_loop.CellLoop.{CellLoop}
-use Rattle.run_eval.specs.declared.cell_loop.LoopResult.{LoopResult}
-use Rattle.run_eval.specs.declared.cell_loop.LoopResult.TheVariants.{Filled, Joined, Folded}
-use Rattle.run_eval.specs.declared.state.Context.{Context}
-use Rattle.run_eval.specs.declared.state.State.{State}
-use Rattle.run_eval.specs.Jobs.{cells_job, folds_of, job_of, result_of}
-use Rattle.run_eval.specs.Loops.{IsBegun}
-use Rattle.run_eval.specs.Running.{IsAt, IsValue, Told, ToldStop}
+use Rattle.run_loops.specs.declared.cell_loop.CellLoop.{CellLoop}
+use Rattle.run_loops.specs.declared.cell_loop.LoopResult.{LoopResult}
+use Rattle.run_loops.specs.declared.cell_loop.LoopResult.TheVariants.{Filled, Joined, Folded}
+use Rattle.run_loops.specs.declared.state.Context.{Context}
+use Rattle.run_loops.specs.declared.state.State.{State}
+use Rattle.run_loops.specs.Jobs.{cells_job, folds_of, job_of, result_of}
+use Rattle.run_loops.specs.Loops.{IsBegun}
+use Rattle.run_loops.specs.Running.{IsAt, IsValue, Told, ToldStop}
 use Rattle.run_store.specs.Lents.{LentValue, Lender}
 use Rattle.run_store.specs.Stands.{StandsFor, Stands, lender_in}
 use Rattle.run_store.specs.Targets.{target_at}

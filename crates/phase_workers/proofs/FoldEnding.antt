@@ -28,14 +28,14 @@ use Rattle.phase_team.specs.Endings.{IsCombined}
 use Rattle.phase_team.specs.Segments.{cells_from}
 use Rattle.phase_workers.proofs.Ending.{cell, cells_with, loop_ends, phase_faulted, phase_finished, same_cell, spent}
 use Rattle.phase_workers.proofs.Openings.{AreReferred}
-use Rattle.run_eval.specs.declared.cell_loop.CellLoop.{CellLoop}
-use Rattle.run_eval.specs.declared.cell_loop.CellSource.{CellSource}
-use Rattle.run_eval.specs.declared.cell_loop.CellSource.TheVariants.{Generators, Parts}
-use Rattle.run_eval.specs.declared.state.Context.{Context}
-use Rattle.run_eval.specs.declared.state.State.{State}
-use Rattle.run_eval.specs.Jobs.{cells_job}
-use Rattle.run_eval.specs.Loops.{IsBegun}
-use Rattle.run_eval.specs.Running.{IsAt, IsValue, Told, ToldStop}
+use Rattle.run_loops.specs.declared.cell_loop.CellLoop.{CellLoop}
+use Rattle.run_loops.specs.declared.cell_loop.CellSource.{CellSource}
+use Rattle.run_loops.specs.declared.cell_loop.CellSource.TheVariants.{Generators, Parts}
+use Rattle.run_loops.specs.declared.state.Context.{Context}
+use Rattle.run_loops.specs.declared.state.State.{State}
+use Rattle.run_loops.specs.Jobs.{cells_job}
+use Rattle.run_loops.specs.Loops.{IsBegun}
+use Rattle.run_loops.specs.Running.{IsAt, IsValue, Told, ToldStop}
 use Rattle.run_store.specs.Stands.{StandsFor}
 use Rattle.run_store.specs.Targets.{target_at}
 use Rattle.run_values.specs.declared.value.RunValue.{RunValue}

@@ -5,13 +5,13 @@ use Rattle.array_with_loops.specs.Plans.{plan_of}
 use Rattle.counted_code.specs.Loops.{job_does}
 use Rattle.counted_code.specs.Machine.{Values}
 use Rattle.counted_code.specs.Values.{Heap, Value}
-use Rattle.run_eval.specs.Jobs.{cells_job, folds_of, job_of, over_does, result_of}
-use Rattle.run_eval.specs.Running.{IsValue, Told}
-use Rattle.run_eval.specs.declared.cell_loop.CellLoop.{CellLoop}
-use Rattle.run_eval.specs.declared.cell_loop.CellSource.{CellSource}
-use Rattle.run_eval.specs.declared.cell_loop.LoopResult.{LoopResult}
-use Rattle.run_eval.specs.declared.state.Context.{Context}
-use Rattle.run_eval.specs.declared.state.State.{State}
+use Rattle.run_loops.specs.Jobs.{cells_job, folds_of, job_of, over_does, result_of}
+use Rattle.run_loops.specs.Running.{IsValue, Told}
+use Rattle.run_loops.specs.declared.cell_loop.CellLoop.{CellLoop}
+use Rattle.run_loops.specs.declared.cell_loop.CellSource.{CellSource}
+use Rattle.run_loops.specs.declared.cell_loop.LoopResult.{LoopResult}
+use Rattle.run_loops.specs.declared.state.Context.{Context}
+use Rattle.run_loops.specs.declared.state.State.{State}
 use Rattle.run_values.specs.declared.value.RunValue.{RunValue}
 use Rattle.sac_base.specs.declared.op.Op.{Op}
 use Rattle.sac_base.specs.declared.stop.Stop.{Stop}

@@ -18,12 +18,12 @@ use Rattle.reached_marks.proofs.Standing.{clear_gens_stand, clear_parts_stand}
 use Rattle.run_store.specs.Stands.{HasContent, StandsFor}
 use Rattle.sac_base.specs.declared.form.Form.{Form}
 use Rattle.sac_base.specs.WithLoops.{Range}
-use Rattle.run_eval.specs.declared.cell_loop.CellSource.{CellSource}
-use Rattle.run_eval.specs.declared.cell_loop.CellSource.TheVariants.{Generators, Parts}
-use Rattle.run_eval.specs.declared.state.Context.{Context}
-use Rattle.run_eval.specs.Jobs.{source_of}
-use Rattle.run_eval.specs.Running as running
-use Rattle.run_eval.specs.Running.{calls_in, generator_in}
+use Rattle.run_loops.specs.declared.cell_loop.CellSource.{CellSource}
+use Rattle.run_loops.specs.declared.cell_loop.CellSource.TheVariants.{Generators, Parts}
+use Rattle.run_loops.specs.declared.state.Context.{Context}
+use Rattle.run_loops.specs.Jobs.{source_of}
+use Rattle.run_loops.specs.Running as running
+use Rattle.run_loops.specs.Running.{calls_in, generator_in}
 use Rattle.phase_checks.specs.Terms.{gens_term, parts_term}
 use Rattle.phase_loop_laws.specs.Ordered.{StandsAlone, balanced}
 use Rattle.phase_loop_cells.specs.Cells.{source_means, source_takes}

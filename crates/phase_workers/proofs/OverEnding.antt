@@ -35,10 +35,10 @@ use Rattle.phase_team.specs.Segments.{cells_from, cost_from}
 use Rattle.phase_workers.proofs.Ending.{same_cell}
 use Rattle.phase_workers.proofs.Openings.{AreReferred, all_backed, all_shown, cells_same}
 use Rattle.phase_workers.proofs.OverHeaps.{over_stands}
-use Rattle.run_eval.specs.Jobs.{AreIndicesOf}
-use Rattle.run_eval.specs.Running.{IsAt, IsValue, Told, ToldStop, parts_job}
-use Rattle.run_eval.specs.declared.state.Context.{Context}
-use Rattle.run_eval.specs.declared.state.State.{State}
+use Rattle.run_loops.specs.Jobs.{AreIndicesOf}
+use Rattle.run_loops.specs.Running.{IsAt, IsValue, Told, ToldStop, parts_job}
+use Rattle.run_loops.specs.declared.state.Context.{Context}
+use Rattle.run_loops.specs.declared.state.State.{State}
 use Rattle.run_over.specs.Soles.{IsSoleOf, is_only}
 use Rattle.run_store.specs.Stands.{HasContent, Stands, StandsFor}
 use Rattle.run_store.specs.declared.store.Store.{Store}

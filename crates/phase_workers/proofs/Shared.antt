@@ -18,10 +18,10 @@ use Rattle.phase_loop_cells.specs.contracts.copies.Background as background
 use Rattle.phase_loop_cells.proofs.copies.Background.TheSendSync as background_shared
 use Rattle.phase_loop_cells.specs.contracts.loops.LoopCells as cells
 use Rattle.phase_workers.specs.contracts.covered.CoveredCells as covered
-use Rattle.run_eval.specs.contracts.cell_loop.CellSource as source
-use Rattle.run_eval.specs.contracts.state.Context as context
-use Rattle.run_eval.specs.contracts.state.CountedCode as counted
-use Rattle.run_eval.specs.contracts.state.CountedCode.TheInside as inside
+use Rattle.run_loops.specs.contracts.cell_loop.CellSource as source
+use Rattle.run_loops.specs.contracts.state.Context as context
+use Rattle.run_loops.specs.contracts.state.CountedCode as counted
+use Rattle.run_loops.specs.contracts.state.CountedCode.TheInside as inside
 use Rattle.run_values.specs.contracts.frames.Frames as frames
 use Rattle.run_values.proofs.frames.Frames.TheSendSync as frames_shared
 use Rattle.std.specs.contracts.alloc.Global as global

@@ -6,8 +6,8 @@ use Rattle.buffer_heap.specs.Heaps.{Content, In, Held, HeapValue, at, IsLive, Is
 use Rattle.counted_code.specs.Values.{Heap, Value, Small, Ref, cells_of, read}
 use Rattle.phase_kernels.proofs.Named.{some_there}
 use Rattle.phase_loop_cells.specs.Cells.{stands_at}
-use Rattle.run_eval.specs.declared.cell_loop.LoopResult.{LoopResult}
-use Rattle.run_eval.specs.declared.cell_loop.LoopResult.TheVariants.{Filled, Joined, Folded}
+use Rattle.run_loops.specs.declared.cell_loop.LoopResult.{LoopResult}
+use Rattle.run_loops.specs.declared.cell_loop.LoopResult.TheVariants.{Filled, Joined, Folded}
 use Rattle.run_store.specs.Stands.{HasContent, StandsFor}
 use Rattle.run_values.specs.declared.value.RunValue.{RunValue}
 use Rattle.run_values.specs.declared.value.RunValue.TheVariants.{Unbound, Word, Short, Buffer}

@@ -3,8 +3,8 @@ use Rattle.std.specs.Prelude.{◌≡◌, ℕ, List, [], ℤ, Option, None, IsSom
 use Rattle.buffer_heap.specs.Heaps.{Held, HeapValue, In, IsLive, IsNamed}
 use Rattle.counted_code.specs.Values.{Value, Small, Ref}
 use Rattle.phase_loop_cells.specs.declared.copies.Background.{Background}
-use Rattle.run_eval.specs.declared.cell_loop.LoopResult.{LoopResult}
-use Rattle.run_eval.specs.declared.cell_loop.LoopResult.TheVariants.{Filled, Joined, Folded}
+use Rattle.run_loops.specs.declared.cell_loop.LoopResult.{LoopResult}
+use Rattle.run_loops.specs.declared.cell_loop.LoopResult.TheVariants.{Filled, Joined, Folded}
 use Rattle.run_values.specs.declared.value.RunValue.{RunValue}
 use Rattle.run_values.specs.declared.value.RunValue.TheVariants.{Unbound, Word, Short, Buffer}
 use Rattle.run_values.specs.Shown.{base_of, value_of}

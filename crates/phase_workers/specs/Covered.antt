@@ -3,8 +3,8 @@ use Rattle.std.specs.Prelude.{◌≡◌, ℕ, ◌<◌, true, List, ℤ, length, 
 use Rattle.phase_kernels.specs.declared.cells.KernelCells.{KernelCells}
 use Rattle.phase_loop_cells.specs.Cells.{index_at, source_cell, source_taken}
 use Rattle.phase_loop_cells.specs.declared.copies.Background.{Background}
-use Rattle.run_eval.specs.declared.cell_loop.CellSource.{CellSource}
-use Rattle.run_eval.specs.Loops.{held_body}
+use Rattle.run_loops.specs.declared.cell_loop.CellSource.{CellSource}
+use Rattle.run_loops.specs.Loops.{held_body}
 use Rattle.run_values.specs.Scopes.{current}
 use Rattle.sac_base.specs.declared.faults.Fault.{Fault}
 use Rattle.sac_base.specs.declared.faults.FaultKind.TheVariants.{F1}

@@ -2,8 +2,8 @@
 use Rattle.std.specs.Prelude.{◌≡◌, false, IsTrue}
 use Rattle.array_with_loops.specs.declared.plans.Plan.{Plan}
 use Rattle.counted_code.specs.Values.{is_small}
-use Rattle.run_eval.specs.declared.cell_loop.LoopResult.{LoopResult}
-use Rattle.run_eval.specs.declared.cell_loop.LoopResult.TheVariants.{Filled, Joined, Folded}
+use Rattle.run_loops.specs.declared.cell_loop.LoopResult.{LoopResult}
+use Rattle.run_loops.specs.declared.cell_loop.LoopResult.TheVariants.{Filled, Joined, Folded}
 use Rattle.sac_base.specs.Verdict.{folds}
 use Rattle.sac_base.specs.WithLoops.{fits_form}
 

@@ -8,10 +8,10 @@ use Rattle.phase_books.specs.Alive.{AreAlive}
 use Rattle.phase_checks.specs.Terms.{gens_term, parts_term}
 use Rattle.phase_loop_cells.specs.Opened.{SourceIn}
 use Rattle.reach_checks.specs.Loops.{ClearGens, ClearParts}
-use Rattle.run_eval.specs.declared.cell_loop.CellSource.{CellSource}
-use Rattle.run_eval.specs.declared.cell_loop.CellSource.TheVariants.{Generators, Parts}
-use Rattle.run_eval.specs.declared.state.Context.{Context}
-use Rattle.run_eval.specs.declared.state.State.{State}
+use Rattle.run_loops.specs.declared.cell_loop.CellSource.{CellSource}
+use Rattle.run_loops.specs.declared.cell_loop.CellSource.TheVariants.{Generators, Parts}
+use Rattle.run_loops.specs.declared.state.Context.{Context}
+use Rattle.run_loops.specs.declared.state.State.{State}
 use Rattle.run_values.specs.Scopes.{current}
 
 -- the cells reach no mark

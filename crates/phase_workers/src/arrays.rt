@@ -12,8 +12,8 @@ ghost use Rattle.phase_team.specs.Segments.{cells_from, cost_from};
 ghost use Rattle.phase_workers.specs.Covered.{IfEnded};
 ghost use Rattle.phase_workers.specs.Phases.{MakesLarge};
 ghost use Rattle.phase_workers.specs.Sources.{StandsApart};
-ghost use Rattle.run_eval.specs.Jobs.{job_of};
-ghost use Rattle.run_eval.specs.Running.{IsAt, IsValue, SameScopes, Told};
+ghost use Rattle.run_loops.specs.Jobs.{job_of};
+ghost use Rattle.run_loops.specs.Running.{IsAt, IsValue, SameScopes, Told};
 ghost use Rattle.run_store.specs.Stands.{lender_of};
 ghost use Rattle.run_values.specs.Scopes.{current};
 
@@ -24,7 +24,7 @@ use phase_books::{Begun, Workers, begin_phase, end_phase, finish_phase, stop_pha
 use phase_kernels::KernelCells;
 use phase_loop_cells::{Background, LoopCells};
 use phase_team::Gate;
-use run_eval::{CellLoop, Context, State};
+use run_loops::{CellLoop, Context, State};
 use run_values::RunValue;
 use sac_base::{Stop, elements};
 use std::thread::Threads;

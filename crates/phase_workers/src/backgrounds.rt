@@ -5,7 +5,7 @@ ghost use Rattle.phase_workers.specs.Backgrounds.{IsAside, IsBackground, KeptAsi
 
 use buffer_heap::Heap;
 use phase_loop_cells::Background;
-use run_eval::{CellLoop, LoopResult};
+use run_loops::{CellLoop, LoopResult};
 use run_values::RunValue;
 use sac_base::{Base, Cell, Memory};
 use std::alloc::Global;

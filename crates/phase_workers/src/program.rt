@@ -6,7 +6,7 @@ ghost use Rattle.counted_code.specs.Outcome.{cost_of, outcome_of, whole_run};
 ghost use Rattle.counted_code.specs.View.{code_program};
 ghost use Rattle.counted_marks.specs.Marks.{IsWellMarked};
 ghost use Rattle.phase_books.specs.Calls.{IsRun, IsRunOver};
-ghost use Rattle.run_eval.specs.Jobs.{job_of};
+ghost use Rattle.run_loops.specs.Jobs.{job_of};
 ghost use Rattle.run_eval.specs.Outcomes.{new_heap, IsCleared, HasCounters, KeepsChanges, TellsCost, TellsTally, draws_under};
 ghost use Rattle.array_ops.specs.Tells.{TellsItems};
 
@@ -16,7 +16,8 @@ use buffer_heap::Heap;
 use counted_code::Code;
 use phase_books::{LoopCall, Nesting, Workers};
 use phase_team::Gate;
-use run_eval::{CellLoop, Context, Plan, State, Trace, run_with_phases};
+use run_eval::{Plan, Trace, run_with_phases};
+use run_loops::{CellLoop, Context, State};
 use run_values::RunValue;
 use sac_base::{Array, Stop};
 use std::alloc::Global;

@@ -8,7 +8,7 @@ use core_ir::Var;
 use phase_books::{Workers, alive_in};
 use phase_checks::{gens_are_counted, parts_are_counted};
 use phase_team::Gate;
-use run_eval::{CellSource, Context, State};
+use run_loops::{CellSource, Context, State};
 use sac_base::Memory;
 use std::thread::Threads;
 

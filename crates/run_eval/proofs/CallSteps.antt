@@ -17,11 +17,11 @@ use Rattle.counted_code.specs.Outcome.{DoesRun, function_does, body_does, run_do
 use Rattle.counted_code.specs.View.{code_program, code_fun_term}
 use Rattle.sac_base.specs.declared.stop.Stop.{Stop}
 use Rattle.sac_base.specs.declared.stop.Stop.TheVariants.{Faulted, Memory}
-use Rattle.run_eval.specs.declared.state.Context.{Context}
-use Rattle.run_eval.specs.declared.state.State.{State}
+use Rattle.run_loops.specs.declared.state.Context.{Context}
+use Rattle.run_loops.specs.declared.state.State.{State}
 use Rattle.run_values.specs.declared.value.RunValue.{RunValue}
 use Rattle.run_values.specs.Shown.{value_of}
-use Rattle.run_eval.specs.Running.{calls_in, IsAt, Appends, Told, ToldStop, Deeper}
+use Rattle.run_loops.specs.Running.{calls_in, IsAt, Appends, Told, ToldStop, Deeper}
 
 abbrev calls_at : CodeProgram → ℕ → ℕ → ℕ → DoesCalls
 calls_at code turns left nest = call_does code (deeper_does code turns left) (inline_does code turns (deeper_does code turns left) nest)

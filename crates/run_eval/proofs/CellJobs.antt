@@ -10,12 +10,12 @@ use Rattle.run_values.specs.declared.value.RunValue.{RunValue}
 use Rattle.run_store.specs.Targets.{target_of, target_at}
 use Rattle.run_store.specs.declared.target.Target.{Target}
 use Rattle.buffer_heap.specs.declared.heap.BufferId.{BufferId}
-use Rattle.run_eval.specs.declared.state.State.{State}
-use Rattle.run_eval.specs.Running.{IsAt, Told, ToldStop, IsValue}
-use Rattle.run_eval.specs.Loops.{IsBegun, cells_run, fold_target}
+use Rattle.run_loops.specs.declared.state.State.{State}
+use Rattle.run_loops.specs.Running.{IsAt, Told, ToldStop, IsValue}
+use Rattle.run_loops.specs.Loops.{IsBegun, cells_run, fold_target}
 use Rattle.run_eval.proofs.CellTold.{followed}
 use Rattle.run_eval.proofs.CellRuns.{Cells, as_many, unwritten}
-use Rattle.run_eval.proofs.Steps.{stop_then}
+use Rattle.run_loops.proofs.Steps.{stop_then}
 
 -- ---- a new result is written when it is finished
 

@@ -16,16 +16,16 @@ use Rattle.run_values.specs.declared.value.RunValue.{RunValue}
 use Rattle.run_values.specs.declared.frames.Frames.{Frames}
 use Rattle.run_values.specs.Scopes.{current}
 use Rattle.run_values.specs.Shown.{value_of}
-use Rattle.run_eval.specs.declared.cell_loop.CellLoop.{CellLoop}
-use Rattle.run_eval.specs.declared.cell_loop.LoopResult.{LoopResult}
-use Rattle.run_eval.specs.declared.cell_loop.LoopResult.TheVariants.{Filled}
-use Rattle.run_eval.specs.declared.cells.Background.{Background}
-use Rattle.run_eval.specs.declared.state.Context.{Context}
-use Rattle.run_eval.specs.declared.state.State.{State}
-use Rattle.run_eval.specs.Jobs.{array_over, cells_job, folds_of, job_of, result_of}
-use Rattle.run_eval.specs.Running.{IsAt, IsValue, SameScopes, Told, ToldStop}
-use Rattle.run_eval.specs.Loops.{IsBegun, IsPresent, cells_run, loop_cells, loop_source, unreleased}
-use Rattle.run_eval.proofs.CellBodies.{loop_source_is}
+use Rattle.run_loops.specs.declared.cell_loop.CellLoop.{CellLoop}
+use Rattle.run_loops.specs.declared.cell_loop.LoopResult.{LoopResult}
+use Rattle.run_loops.specs.declared.cell_loop.LoopResult.TheVariants.{Filled}
+use Rattle.run_loops.specs.declared.cells.Background.{Background}
+use Rattle.run_loops.specs.declared.state.Context.{Context}
+use Rattle.run_loops.specs.declared.state.State.{State}
+use Rattle.run_loops.specs.Jobs.{array_over, cells_job, folds_of, job_of, result_of}
+use Rattle.run_loops.specs.Running.{IsAt, IsValue, SameScopes, Told, ToldStop}
+use Rattle.run_loops.specs.Loops.{IsBegun, IsPresent, cells_run, loop_cells, loop_source, unreleased}
+use Rattle.run_loops.proofs.CellBodies.{loop_source_is}
 use Rattle.run_eval.proofs.CellJobs.{WritesNothing, claim_of, job_ends, job_stops}
 use Rattle.run_eval.proofs.CellRuns.{Carries, Cells, Makes, Making, carried_end, carried_step, carried_stop}
 use Rattle.run_eval.proofs.CellTold.{agreed}

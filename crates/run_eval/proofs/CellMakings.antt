@@ -6,8 +6,8 @@ use Rattle.sac_base.specs.Arrays.{ArrayValue}
 use Rattle.sac_base.specs.WithLoops.{combined}
 use Rattle.core_ir.specs.Meaning.{elements_of}
 use Rattle.array_with_loops.specs.Cells.{cell_from, cells_from}
-use Rattle.run_eval.specs.Jobs.{cell_over, cells_over}
-use Rattle.run_eval.specs.declared.cells.Background.{Background}
+use Rattle.run_loops.specs.Jobs.{cell_over, cells_over}
+use Rattle.run_loops.specs.declared.cells.Background.{Background}
 use Rattle.run_eval.proofs.CellRuns.{Making, Cells}
 
 -- their elements one after another, over a background if there is one

@@ -11,9 +11,9 @@ use Rattle.sac_base.specs.declared.stop.Stop.TheVariants.{Faulted, Memory}
 use Rattle.run_store.specs.Stands.{Stands}
 use Rattle.run_values.specs.declared.value.RunValue.{RunValue}
 use Rattle.run_values.specs.Shown.{value_of}
-use Rattle.run_eval.specs.declared.state.State.{State}
-use Rattle.run_eval.specs.Running.{IsAt, Told, ToldStop}
-use Rattle.run_eval.specs.Loops.{unreleased, IsPresent, cells_run}
+use Rattle.run_loops.specs.declared.state.State.{State}
+use Rattle.run_loops.specs.Running.{IsAt, Told, ToldStop}
+use Rattle.run_loops.specs.Loops.{unreleased, IsPresent, cells_run}
 use Rattle.run_eval.proofs.CellTold.{cell_is, rest_phases}
 use Rattle.phase_count.proofs.Tallying.{counts_as}
 

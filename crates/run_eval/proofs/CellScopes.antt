@@ -9,8 +9,8 @@ use Rattle.run_store.specs.Stands.{Stands}
 use Rattle.run_values.specs.declared.frames.Frames.{Frames}
 use Rattle.run_values.specs.declared.value.RunValue.{RunValue}
 use Rattle.run_values.specs.Scopes.{current, outer}
-use Rattle.run_eval.specs.declared.state.State.{State}
-use Rattle.run_eval.specs.Running.{EndsScope, IsValue, SameScopes, Told, formed}
+use Rattle.run_loops.specs.declared.state.State.{State}
+use Rattle.run_loops.specs.Running.{EndsScope, IsValue, SameScopes, Told, formed}
 use Rattle.run_eval.proofs.CellTold.{apart_told}
 use Rattle.run_store.proofs.Targets.{phases_stand}
 use Rattle.phase_count.specs.Tallies.{Counts}

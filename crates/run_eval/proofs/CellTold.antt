@@ -10,9 +10,9 @@ use Rattle.sac_base.specs.declared.stop.Stop.{Stop}
 use Rattle.sac_base.specs.declared.stop.Stop.TheVariants.{Faulted, Memory}
 use Rattle.run_store.specs.Stands.{Stands}
 use Rattle.run_values.specs.declared.value.RunValue.{RunValue}
-use Rattle.run_eval.specs.declared.state.State.{State}
-use Rattle.run_eval.specs.Running.{IsAt, Told, IsValue, IsOnly, formed}
-use Rattle.run_eval.specs.Loops.{unreleased, IsPresent}
+use Rattle.run_loops.specs.declared.state.State.{State}
+use Rattle.run_loops.specs.Running.{IsAt, Told, IsValue, IsOnly, formed}
+use Rattle.run_loops.specs.Loops.{unreleased, IsPresent}
 use Rattle.phase_count.specs.Tallies.{Counts}
 
 -- ---- releases

@@ -25,16 +25,16 @@ use Rattle.run_values.specs.declared.value.RunValue.{RunValue}
 use Rattle.run_values.specs.Scopes.{current}
 use Rattle.run_values.specs.Shown.{value_of}
 use Rattle.sac_base.specs.declared.stop.Stop.{Stop}
-use Rattle.run_eval.specs.declared.cell_loop.CellLoop.{CellLoop}
-use Rattle.run_eval.specs.declared.cell_loop.LoopResult.TheVariants.{Joined}
-use Rattle.run_eval.specs.declared.state.Context.{Context}
-use Rattle.run_eval.specs.declared.state.State.{State}
-use Rattle.run_eval.specs.Jobs.{cells_job, folds_of, job_of, result_of, AreIndicesOf}
-use Rattle.run_eval.specs.Loops.{cells_written, loop_source, plan_of_parts}
-use Rattle.run_eval.specs.Running.{IsAt, IsOnly, IsValue, Told, ToldStop, cells_in, parts_job}
-use Rattle.run_eval.proofs.CellBodies.{loop_source_is}
+use Rattle.run_loops.specs.declared.cell_loop.CellLoop.{CellLoop}
+use Rattle.run_loops.specs.declared.cell_loop.LoopResult.TheVariants.{Joined}
+use Rattle.run_loops.specs.declared.state.Context.{Context}
+use Rattle.run_loops.specs.declared.state.State.{State}
+use Rattle.run_loops.specs.Jobs.{cells_job, folds_of, job_of, result_of, AreIndicesOf}
+use Rattle.run_loops.specs.Loops.{cells_written, loop_source, plan_of_parts}
+use Rattle.run_loops.specs.Running.{IsAt, IsOnly, IsValue, Told, ToldStop, cells_in, parts_job}
+use Rattle.run_loops.proofs.CellBodies.{loop_source_is}
 use Rattle.run_eval.proofs.CellTold.{followed, only_told, release_phases}
-use Rattle.run_eval.proofs.Steps.{stop_then}
+use Rattle.run_loops.proofs.Steps.{stop_then}
 use Rattle.run_eval.proofs.WrittenRuns.{Written}
 
 -- ---- an array that is not taken over

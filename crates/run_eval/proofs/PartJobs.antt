@@ -21,12 +21,12 @@ use Rattle.counted_code.specs.Values.{Heap, Value, Ended, go_on, give, pure_end,
 use Rattle.sac_base.specs.declared.stop.Stop.{Stop}
 use Rattle.sac_base.specs.declared.stop.Stop.TheVariants.{Faulted}
 use Rattle.run_values.specs.declared.value.RunValue.{RunValue}
-use Rattle.run_eval.specs.declared.state.Context.{Context}
-use Rattle.run_eval.specs.declared.state.State.{State}
-use Rattle.run_eval.specs.Running.{IsAt, IsOnly, IsValue, Told, ToldStop, cells_in, fold_parts_job, parts_job}
-use Rattle.run_eval.specs.Loops.{plan_of_parts}
+use Rattle.run_loops.specs.declared.state.Context.{Context}
+use Rattle.run_loops.specs.declared.state.State.{State}
+use Rattle.run_loops.specs.Running.{IsAt, IsOnly, IsValue, Told, ToldStop, cells_in, fold_parts_job, parts_job}
+use Rattle.run_loops.specs.Loops.{plan_of_parts}
 use Rattle.run_eval.proofs.CellTold.{only_told}
-use Rattle.run_eval.proofs.Steps.{raised}
+use Rattle.run_loops.proofs.Steps.{raised}
 
 module _ (context : Context) (e : Values) (m : Heap) (frame : List Grid1) (base : Base) (cell : List ℕ) (ps : List CodePart) (s : Site) where
   abbrev whole : PartedOp → Ended (List Value)

@@ -9,13 +9,13 @@ use Rattle.counted_code.specs.Values.{Heap, Value, Ended, Done, Failed, Doing, g
 use Rattle.counted_code.specs.Machine.{repeat_does}
 use Rattle.sac_base.specs.declared.stop.Stop.{Stop}
 use Rattle.sac_base.specs.declared.stop.Stop.TheVariants.{Faulted, Memory}
-use Rattle.run_eval.specs.declared.state.State.{State}
-use Rattle.run_eval.specs.Running.{IsAt, IsValue, Told, ToldStop, truth_of, SaysTruth}
+use Rattle.run_loops.specs.declared.state.State.{State}
+use Rattle.run_loops.specs.Running.{IsAt, IsValue, Told, ToldStop, truth_of, SaysTruth}
 use Rattle.run_store.specs.Stands.{Stands}
 use Rattle.run_values.specs.declared.value.RunValue.{RunValue}
 use Rattle.run_values.specs.Shown.{value_of}
-use Rattle.run_eval.proofs.Binding.{release_phases}
-use Rattle.run_eval.proofs.Steps.{given, tell, same_stop, stop_then}
+use Rattle.run_loops.proofs.Binding.{release_phases}
+use Rattle.run_loops.proofs.Steps.{given, tell, same_stop, stop_then}
 use Rattle.phase_count.proofs.Tallying.{counts_as, counts_on}
 
 -- ---- what a condition says

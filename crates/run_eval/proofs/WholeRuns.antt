@@ -33,11 +33,11 @@ use Rattle.run_values.specs.Shown.{value_of}
 use Rattle.index_cutter.specs.Cuts.{chunks_of}
 use Rattle.phase_count.specs.Tallies.{Counts, PhaseNumbers, counted_in, draws_of}
 use Rattle.phase_count.proofs.Tallying.{counts_none, draws_same}
-use Rattle.run_eval.specs.declared.state.Context.{Context}
-use Rattle.run_eval.specs.declared.state.State.{State}
+use Rattle.run_loops.specs.declared.state.Context.{Context}
+use Rattle.run_loops.specs.declared.state.State.{State}
 use Rattle.run_eval.specs.declared.trace.Trace.{Trace}
 use Rattle.run_eval.specs.Outcomes.{new_heap, main_in, AreArrays, ArePlaced, OrMemory, TellsCost, TellsTally}
-use Rattle.run_eval.specs.Running.{calls_in, IsAt, Told, ToldStop, Appends}
+use Rattle.run_loops.specs.Running.{calls_in, IsAt, Told, ToldStop, Appends}
 
 -- ---- arguments are placed
 

@@ -18,12 +18,12 @@ use Rattle.sac_base.specs.declared.stop.Stop.{Stop}
 use Rattle.sac_base.specs.declared.stop.Stop.TheVariants.{Faulted, Memory}
 use Rattle.array_with_loops.proofs.CellSteps.{genarray_finish, modarray_finish}
 use Rattle.run_values.specs.declared.value.RunValue.{RunValue}
-use Rattle.run_eval.specs.declared.state.Context.{Context}
-use Rattle.run_eval.specs.declared.state.State.{State}
-use Rattle.run_eval.specs.Running.{IsAt, IsOnly, IsValue, Told, ToldStop, array_job, fold_job, gen_head, generator_in}
+use Rattle.run_loops.specs.declared.state.Context.{Context}
+use Rattle.run_loops.specs.declared.state.State.{State}
+use Rattle.run_loops.specs.Running.{IsAt, IsOnly, IsValue, Told, ToldStop, array_job, fold_job, gen_head, generator_in}
 use Rattle.run_eval.proofs.CellJobs.{WritesNothing, same_result}
 use Rattle.run_eval.proofs.CellTold.{only_told}
-use Rattle.run_eval.proofs.Steps.{raised}
+use Rattle.run_loops.proofs.Steps.{raised}
 
 claim_nothing : (b : Bool) (n : ℕ) (h : Heap) → WritesNothing (claim b None n h).target
 claim_nothing true n h k c g = refl

@@ -15,8 +15,8 @@ use Rattle.counted_code.specs.Machine.{Values, reads, bounds_of, bind_value, wit
 use Rattle.counted_code.specs.Terms.{Giving}
 use Rattle.counted_code.specs.Values.{Heap, Small}
 use Rattle.counted_code.specs.View.{steps_before, steps_term, step_term, code_with_term, code_gens_term, code_parted_term, code_parts_term}
-use Rattle.run_eval.specs.declared.state.Context.{Context}
-use Rattle.run_eval.specs.Running.{calls_in, does_in, right_in, generator_in, cells_in}
+use Rattle.run_loops.specs.declared.state.Context.{Context}
+use Rattle.run_loops.specs.Running.{calls_in, does_in, right_in, generator_in, cells_in}
 
 steps_items : {n : _} → (k : Row_of-CodeStep n) (rs : List Var) → steps_term k rs ≡ steps_before (items-the_row-CodeStep n k) (Giving rs)
 steps_items end_of-CodeStep rs = refl

@@ -14,9 +14,9 @@ use Rattle.run_store.specs.Stands.{Stands}
 use Rattle.run_values.specs.declared.value.RunValue.{RunValue}
 use Rattle.run_values.specs.Scopes.{current}
 use Rattle.run_values.specs.Shown.{value_of}
-use Rattle.run_eval.specs.declared.state.State.{State}
-use Rattle.run_eval.specs.Running.{IsAt, SameScopes, Told, ToldStop}
-use Rattle.run_eval.specs.Loops.{IsPresent, unreleased}
+use Rattle.run_loops.specs.declared.state.State.{State}
+use Rattle.run_loops.specs.Running.{IsAt, SameScopes, Told, ToldStop}
+use Rattle.run_loops.specs.Loops.{IsPresent, unreleased}
 use Rattle.run_eval.proofs.CellRuns.{Cells}
 use Rattle.run_eval.proofs.CellTold.{cell_is, rest_phases}
 use Rattle.phase_count.proofs.Tallying.{counts_as}

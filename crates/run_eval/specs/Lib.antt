@@ -1,4 +1,1 @@
-pub mod Jobs
-pub mod Loops
 pub mod Outcomes
-pub mod Running

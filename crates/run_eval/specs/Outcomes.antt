@@ -15,9 +15,9 @@ use Rattle.run_values.specs.declared.value.RunValue.{RunValue}
 use Rattle.run_values.specs.Shown.{value_of}
 use Rattle.sac_base.specs.declared.stop.Stop.{Stop}
 use Rattle.sac_base.specs.declared.stop.Stop.TheVariants.{Faulted, Memory}
-use Rattle.run_eval.specs.Running.{calls_in}
+use Rattle.run_loops.specs.Running.{calls_in}
 use Rattle.run_eval.specs.declared.program.Plan.{Plan}
-use Rattle.run_eval.specs.declared.state.Context.{Context}
+use Rattle.run_loops.specs.declared.state.Context.{Context}
 use Rattle.run_eval.specs.declared.trace.Trace.{Trace}
 
 -- a heap with no buffer, all its counters 0

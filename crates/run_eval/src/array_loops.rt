@@ -3,26 +3,24 @@
 ghost use Rattle.counted_code.specs.Loops.{job_does};
 ghost use Rattle.counted_code.specs.Values.{Heap as MachineHeap};
 ghost use Rattle.counted_code.specs.View.{code_with_term, code_parted_term};
-ghost use Rattle.run_eval.specs.Jobs.{array_over, cells_job, cells_over, job_of};
-ghost use Rattle.run_eval.specs.Loops.{IsPresent, array_of, body_cell, body_of, loop_cells, source_at, unreleased};
-ghost use Rattle.run_eval.specs.Running.{right_in, IsAt, Told, IsValue, IsOnly, SameScopes};
+ghost use Rattle.run_loops.specs.Jobs.{array_over, cells_job, cells_over, job_of};
+ghost use Rattle.run_loops.specs.Loops.{IsPresent, array_of, body_cell, body_of, loop_cells, source_at, unreleased};
+ghost use Rattle.run_loops.specs.Running.{right_in, IsAt, Told, IsValue, IsOnly, SameScopes};
 ghost use Rattle.run_store.specs.Stands.{lender_of};
 ghost use Rattle.run_values.specs.Scopes.{current};
 ghost use Rattle.sac_base.specs.WithLoops.{combined};
 ghost use Rattle.std.specs.Prelude.{◌≡◌, ◌++◌, true, false, None, OnOk, fold};
 
-use crate::bindings::bind_index;
 use crate::blocks::run_first;
-use crate::bounds::{all_bounds, parted_plan, read_shape};
-use crate::cell_loop::{CellBody, CellLoop, CellSource, LoopResult, body_at};
-use crate::cells::{Background, begin, count_elements, finish, formed, put_cell};
-use crate::folds::{Sum, add_cell, begin_fold, finish_fold, start};
 use crate::marked_loops::run_marked;
-use crate::phases::{Outside, Phases};
-use crate::state::{Context, State};
 use array_with_loops::{IndexVector, Range, fold_plan, genarray_plan, modarray_plan_of};
 use core_ir::{CoreOp, PartedOp};
 use counted_code::{CodeParted, CodeWith};
+use run_loops::{
+    Background, CellBody, CellLoop, CellSource, Context, LoopResult, Outside, Phases, State, Sum,
+    add_cell, all_bounds, begin, begin_fold, bind_index, body_at, count_elements, finish,
+    finish_fold, formed, parted_plan, put_cell, read_shape, start,
+};
 use run_store::{fits, read_array};
 use run_values::RunValue;
 use sac_base::{Array, Base, Cell, FaultKind, Form, Op, Site, Stop, fault};

@@ -4,19 +4,19 @@ ghost use Rattle.counted_code.specs.Machine.{first_value, repeat_does, turns_do}
 ghost use Rattle.counted_code.specs.Outcome.{function_does};
 ghost use Rattle.counted_code.specs.Values.{Heap as MachineHeap, then_go};
 ghost use Rattle.counted_code.specs.View.{code_term, code_right_term, code_fun_term};
-ghost use Rattle.run_eval.specs.Running.{calls_in, does_in, right_in, turn_in, test_in, IsAt, Told, ToldSteps, IsValue, IsFirst, IsOnly, Appends};
-ghost use Rattle.run_eval.specs.Running.{SameScopes, SameOuter, EndsScope, truth_of};
+ghost use Rattle.run_loops.specs.Running.{calls_in, does_in, right_in, turn_in, test_in, IsAt, Told, ToldSteps, IsValue, IsFirst, IsOnly, Appends};
+ghost use Rattle.run_loops.specs.Running.{SameScopes, SameOuter, EndsScope, truth_of};
 ghost use Rattle.run_store.specs.Stands.{lender_of};
 ghost use Rattle.run_values.specs.Scopes.{current};
 ghost use Rattle.run_values.specs.Shown.{value_of};
 ghost use Rattle.std.specs.Prelude.{◌≡◌, ◌∷◌, [], OnOk, map};
 
 use crate::array_loops::{run_parted, run_with};
-use crate::bindings::{bind_all, bind_params, first_of, push_values, value_at};
-use crate::levels::{condition, deeper};
-use crate::phases::{Outside, Phases};
-use crate::state::{Context, State, Turn};
 use counted_code::{CodeBlock, CodeFun, CodeLet, CodeRight, CodeStep};
+use run_loops::{
+    Context, Outside, Phases, State, Turn, bind_all, bind_params, condition, deeper, first_of,
+    push_values, value_at,
+};
 use run_plain::plain_value;
 use run_store::{keep, release};
 use run_types::{all_have, choose};

@@ -2,20 +2,18 @@
 
 ghost use Rattle.counted_code.specs.Loops.{job_does};
 ghost use Rattle.counted_code.specs.Values.{Heap as MachineHeap};
-ghost use Rattle.run_eval.specs.Jobs.{job_of, over_does, IsOver};
-ghost use Rattle.run_eval.specs.Loops.{IsPresent, source_at, source_of_body, unreleased};
-ghost use Rattle.run_eval.specs.Running.{IsAt, IsValue, SameScopes, Told};
+ghost use Rattle.run_loops.specs.Jobs.{job_of, over_does, IsOver};
+ghost use Rattle.run_loops.specs.Loops.{IsPresent, source_at, source_of_body, unreleased};
+ghost use Rattle.run_loops.specs.Running.{IsAt, IsValue, SameScopes, Told};
 ghost use Rattle.run_store.specs.Stands.{lender_of};
 ghost use Rattle.run_values.specs.Scopes.{current};
 ghost use Rattle.run_values.specs.Shown.{value_of};
 ghost use Rattle.std.specs.Prelude.{◌≡◌, None, OnOk};
 
 use crate::array_loops::{loop_cell, run_cell, run_cell_loop};
-use crate::cell_loop::{CellBody, CellLoop, CellSource};
 use crate::marked_loops::run_over;
-use crate::phases::Never;
-use crate::state::{Context, State};
 use array_with_loops::Range;
+use run_loops::{CellBody, CellLoop, CellSource, Context, Never, State};
 use run_values::RunValue;
 use sac_base::{Form, Stop};
 

@@ -9,13 +9,13 @@ use Rattle.counted_code.specs.View.{code_term}
 use Rattle.run_store.specs.Stands.{lender_of}
 use Rattle.run_values.specs.Scopes.{current}
 use Rattle.run_values.specs.Shown.{value_of}
-use Rattle.run_eval.specs.Running.{turn_in, test_in, IsAt, SameScopes, SameOuter, Reaches}
-use Rattle.run_eval.proofs.Measures.{rank_of, body_size, steps_size, source_size}
+use Rattle.run_loops.specs.Running.{turn_in, test_in, IsAt, SameScopes, SameOuter, Reaches}
+use Rattle.run_loops.proofs.Measures.{rank_of, body_size, steps_size, source_size}
 use Rattle.run_eval.proofs.Turns.{Turned}
 use Rattle.run_eval.proofs.+run.Given as goal
 use Rattle.counted_code.specs.declared.tree.CodeParted.{size-CodeParted}
 use Rattle.counted_code.specs.declared.tree.CodeWith.{size-CodeWith}
-use Rattle.run_eval.specs.Loops.{array_of, loop_source}
+use Rattle.run_loops.specs.Loops.{array_of, loop_source}
 use Rattle.run_eval.proofs.CellMakings.{covering, folding}
 use Rattle.run_eval.proofs.CellLoops.{Carried}
 use Rattle.run_eval.proofs.WrittenRuns.{Carried as Written}

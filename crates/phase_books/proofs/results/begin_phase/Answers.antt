@@ -1,8 +1,8 @@
 use Rattle.std.proofs.Common.{ℕ, true, Ok, refl, subst, sym}
 use Rattle.counted_code.specs.Loops.{count_phase}
 use Rattle.counted_code.specs.Values.{is_small}
-use Rattle.run_eval.proofs.CellPhases.{count_stands}
-use Rattle.run_eval.specs.declared.state.State.{State}
+use Rattle.run_loops.proofs.CellPhases.{count_stands}
+use Rattle.run_loops.specs.declared.state.State.{State}
 use Rattle.sac_base.specs.Arrays.{size}
 use Rattle.phase_books.specs.Homes.{WillHave}
 use Rattle.phase_books.proofs.Beginning.{begun_claim}

@@ -1,8 +1,8 @@
 use Rattle.std.proofs.Common.{rules, ◌≡◌, ◌∙◌, Ok, Err, ap, subst, refl}
 use Rattle.run_values.specs.Scopes.{current}
 use Rattle.phase_loop_cells.specs.Cells.{fill_at, index_at}
-use Rattle.run_eval.specs.Loops.{IsPresent, source_at, source_of_body, unreleased}
-use Rattle.run_eval.specs.Running.{Told}
+use Rattle.run_loops.specs.Loops.{IsPresent, source_at, source_of_body, unreleased}
+use Rattle.run_loops.specs.Running.{Told}
 use Rattle.phase_loop_cells.proofs.Answered.{put_told, stop_handed}
 use Rattle.phase_loop_cells.proofs.Bodies.{source_is}
 use Rattle.phase_loop_cells.proofs.loops.cell_at.Goals as goal

@@ -3,7 +3,7 @@ use Rattle.array_with_loops.specs.Ranges.{moved_last}
 use Rattle.loop_code.specs.Runs.{HoldsAlong}
 use Rattle.phase_loop_cells.specs.Cells.{index_at}
 use Rattle.phase_loop_cells.specs.Ranges.{AreAll}
-use Rattle.run_eval.specs.Loops.{held_body}
+use Rattle.run_loops.specs.Loops.{held_body}
 use Rattle.phase_loop_cells.proofs.Walking.{held_along}
 use Rattle.phase_loop_cells.proofs.walk.run_from.Goals as goal
 

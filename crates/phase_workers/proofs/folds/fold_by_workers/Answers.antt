@@ -7,9 +7,9 @@ use Rattle.phase_books.specs.Homes.{handed, left_in}
 use Rattle.phase_books.proofs.Booking.{done_has, stop_moved, stopped_has}
 use Rattle.phase_workers.proofs.Ending.{alive_after, cells_with, none_lent, own_stands, spent}
 use Rattle.phase_workers.proofs.FoldEnding.{combined_as, fold_faulted, fold_finished}
-use Rattle.run_eval.specs.declared.state.State.{State}
-use Rattle.run_eval.specs.Jobs.{cells_job}
-use Rattle.run_eval.specs.Running.{IsValue, Told, ToldStop}
+use Rattle.run_loops.specs.declared.state.State.{State}
+use Rattle.run_loops.specs.Jobs.{cells_job}
+use Rattle.run_loops.specs.Running.{IsValue, Told, ToldStop}
 use Rattle.run_store.specs.Stands.{lender_in}
 use Rattle.run_store.specs.Targets.{target_at}
 use Rattle.run_values.specs.Scopes.{current}

@@ -6,13 +6,13 @@ use Rattle.phase_books.specs.Homes.{WillHave, handed, left_in}
 use Rattle.phase_books.specs.Over.{settled_over}
 use Rattle.phase_books.proofs.Booking.{done_has, stopped_has}
 use Rattle.phase_loop_cells.specs.Cells.{source_cell, source_taken}
-use Rattle.run_eval.specs.declared.cell_loop.CellSource.TheVariants.{Parts}
+use Rattle.run_loops.specs.declared.cell_loop.CellSource.TheVariants.{Parts}
 use Rattle.phase_team.specs.Segments.{cells_from, cost_from}
 use Rattle.phase_workers.specs.Covered.{IfEnded}
 use Rattle.phase_workers.proofs.Ending.{computed_as, own_stands}
 use Rattle.phase_workers.proofs.OverEnding.{over_finished, over_faulted, same_array}
-use Rattle.run_eval.proofs.CellPhases.{count_stands}
-use Rattle.run_eval.specs.declared.state.State.{State}
+use Rattle.run_loops.proofs.CellPhases.{count_stands}
+use Rattle.run_loops.specs.declared.state.State.{State}
 use Rattle.run_over.specs.Soles.{IsSoleOf}
 use Rattle.run_store.specs.declared.store.Store.{Store}
 use Rattle.run_values.specs.declared.value.RunValue.TheVariants.{Buffer}

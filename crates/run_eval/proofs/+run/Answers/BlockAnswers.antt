@@ -8,11 +8,11 @@ use Rattle.counted_code.specs.Values.{Value, Ended, give, go_on}
 use Rattle.counted_code.specs.View.{code_term, code_right_term}
 use Rattle.run_values.specs.Scopes.{current, outer}
 use Rattle.run_values.specs.Shown.{value_of}
-use Rattle.run_eval.specs.Running.{does_in, right_in, Told, ToldSteps, IsValue, IsFirst, Appends, SameOuter, EndsScope, Reaches}
-use Rattle.run_eval.proofs.Binding.{let_goes, let_stops, one_target, keep_goes, release_goes}
-use Rattle.run_eval.proofs.Measures.{steps_size}
-use Rattle.run_eval.proofs.Sizes.{steps_below, step_below, let_below, right_below}
-use Rattle.run_eval.proofs.Steps.{moved, given, tell, stop_then, next_step, last_step, results_given, block_stops, on_ok, handed, no_scopes}
+use Rattle.run_loops.specs.Running.{does_in, right_in, Told, ToldSteps, IsValue, IsFirst, Appends, SameOuter, EndsScope, Reaches}
+use Rattle.run_loops.proofs.Binding.{let_goes, let_stops, one_target, keep_goes, release_goes}
+use Rattle.run_loops.proofs.Measures.{steps_size}
+use Rattle.run_loops.proofs.Sizes.{steps_below, step_below, let_below, right_below}
+use Rattle.run_loops.proofs.Steps.{moved, given, tell, stop_then, next_step, last_step, results_given, block_stops, on_ok, handed, no_scopes}
 use Rattle.run_eval.proofs.+run.Goals as goal
 
 pub run_steps-run_step-requires : goal.blocks::run_steps-run_step-requires

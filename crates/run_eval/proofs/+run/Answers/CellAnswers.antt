@@ -6,13 +6,13 @@ use Rattle.counted_code.specs.Values.{give, read}
 use Rattle.counted_code.specs.View.{code_term}
 use Rattle.run_values.specs.Scopes.{current}
 use Rattle.run_values.specs.Shown.{value_of}
-use Rattle.run_eval.specs.Running.{does_in, Told, ToldStop, IsValue, SameScopes}
-use Rattle.run_eval.proofs.Steps.{moved, stop_then, on_ok, handed, no_scopes}
+use Rattle.run_loops.specs.Running.{does_in, Told, ToldStop, IsValue, SameScopes}
+use Rattle.run_loops.proofs.Steps.{moved, stop_then, on_ok, handed, no_scopes}
 use Rattle.run_eval.proofs.+run.Goals as goal
 use Rattle.sac_base.specs.WithLoops.{combined}
-use Rattle.run_eval.specs.Jobs.{array_over, cells_job, cells_over}
-use Rattle.run_eval.specs.Loops.{IsPresent, array_of, body_cell, body_env, body_of, body_source, fold_target, held_body, loop_cells, loop_source, source_at, unreleased}
-use Rattle.run_eval.specs.declared.cell_loop.LoopResult.TheVariants.{Joined, Folded}
+use Rattle.run_loops.specs.Jobs.{array_over, cells_job, cells_over}
+use Rattle.run_loops.specs.Loops.{IsPresent, array_of, body_cell, body_env, body_of, body_source, fold_target, held_body, loop_cells, loop_source, source_at, unreleased}
+use Rattle.run_loops.specs.declared.cell_loop.LoopResult.TheVariants.{Joined, Folded}
 use Rattle.counted_code.specs.Loops.{job_does}
 use Rattle.run_store.specs.Targets.{target_of}
 use Rattle.run_eval.proofs.CellJobs.{fold_nothing, target_nothing}
@@ -21,7 +21,7 @@ use Rattle.run_eval.proofs.CellMakings.{covered_all, covered_more, covering, fol
 use Rattle.run_eval.proofs.CellRuns.{carried_start}
 use Rattle.run_eval.proofs.CellScopes.{cell_scopes, cell_tells, scopes_after, scopes_join}
 use Rattle.run_eval.proofs.CellTold.{present_told}
-use Rattle.run_eval.proofs.CellBodies.{bodies_are, body_smaller}
+use Rattle.run_loops.proofs.CellBodies.{bodies_are, body_smaller}
 use Rattle.phase_count.proofs.Tallying.{counts_as}
 
 pub run_cell_loop-run_array-requires : goal.array_loops::run_cell_loop-run_array-requires

@@ -12,14 +12,14 @@ use Rattle.run_values.specs.declared.value.RunValue.TheVariants.{Buffer}
 use Rattle.run_values.specs.Numbers.{numbers}
 use Rattle.run_values.specs.Scopes.{current}
 use Rattle.run_values.specs.Shown.{value_of}
-use Rattle.run_eval.specs.Jobs.{cells_job, job_of}
-use Rattle.run_eval.specs.Loops.{IsPresent, cells_written, loop_source, source_at, unreleased}
-use Rattle.run_eval.specs.Running.{Told, ToldStop, IsValue, IsOnly, SameScopes, cells_in}
+use Rattle.run_loops.specs.Jobs.{cells_job, job_of}
+use Rattle.run_loops.specs.Loops.{IsPresent, cells_written, loop_source, source_at, unreleased}
+use Rattle.run_loops.specs.Running.{Told, ToldStop, IsValue, IsOnly, SameScopes, cells_in}
 use Rattle.run_eval.proofs.CellScopes.{scopes_after, scopes_join}
 use Rattle.run_eval.proofs.MarkedJobs.{is_spared, joined_as, marked_parts_tell, not_small, only_one, over_stops, over_tells, rows_of_parts, spared_stops, spared_tells}
-use Rattle.run_eval.proofs.Measures.{parts_size}
-use Rattle.run_eval.proofs.Sizes.{parts_below}
-use Rattle.run_eval.proofs.Steps.{handed, no_scopes}
+use Rattle.run_loops.proofs.Measures.{parts_size}
+use Rattle.run_loops.proofs.Sizes.{parts_below}
+use Rattle.run_loops.proofs.Steps.{handed, no_scopes}
 use Rattle.run_eval.proofs.WrittenRuns.{Written, carried_start, write_end, write_step, write_stop}
 use Rattle.run_eval.proofs.WithTerms.{parted_means}
 use Rattle.run_eval.proofs.+run.Goals as goal

@@ -9,14 +9,14 @@ use Rattle.counted_code.specs.Values.{Value, Ended, go_on, read}
 use Rattle.counted_code.specs.View.{code_term, code_right_term, code_fun_term}
 use Rattle.run_values.specs.Scopes.{current, outer}
 use Rattle.run_values.specs.Shown.{value_of}
-use Rattle.run_eval.specs.declared.state.State.{State}
-use Rattle.run_eval.specs.Running.{calls_in, does_in, right_in, turn_in, test_in, Told, ToldStop, IsFirst, IsOnly, Appends, SameScopes, SaysTruth, vars_of}
+use Rattle.run_loops.specs.declared.state.State.{State}
+use Rattle.run_loops.specs.Running.{calls_in, does_in, right_in, turn_in, test_in, Told, ToldStop, IsFirst, IsOnly, Appends, SameScopes, SaysTruth, vars_of}
 use Rattle.run_eval.proofs.CallSteps.{none_chosen, call_runs, call_stops, chosen_same, function_at, place_same, within_same, results_fit, results_unfit, alone, no_place}
-use Rattle.run_eval.proofs.Measures.{falls, body_below, body_size}
+use Rattle.run_loops.proofs.Measures.{falls, body_below, body_size}
 use Rattle.run_plain.proofs.Rest.{plain_rest}
 use Rattle.run_plain.proofs.Rights.{right_told}
-use Rattle.run_eval.proofs.Sizes.{if_first, if_second, loop_blocks, with_below, parted_below}
-use Rattle.run_eval.proofs.Steps.{moved, given, tell, stop_then, raised, first_told, only_first, appended, handed, no_scopes, plain_scopes, plain_given, plain_failed}
+use Rattle.run_loops.proofs.Sizes.{if_first, if_second, loop_blocks, with_below, parted_below}
+use Rattle.run_loops.proofs.Steps.{moved, given, tell, stop_then, raised, first_told, only_first, appended, handed, no_scopes, plain_scopes, plain_given, plain_failed}
 use Rattle.run_eval.proofs.Trees.{if_term, loop_term}
 use Rattle.run_eval.proofs.Turns.{condition_goes, condition_stops}
 use Rattle.run_eval.proofs.+run.Goals as goal

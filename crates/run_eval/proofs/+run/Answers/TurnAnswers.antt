@@ -5,8 +5,8 @@ use Rattle.counted_code.specs.Values.{Value, Ended, go_on}
 use Rattle.counted_code.specs.View.{code_term}
 use Rattle.run_values.specs.Scopes.{current, outer}
 use Rattle.run_values.specs.Shown.{value_of}
-use Rattle.run_eval.specs.Running.{does_in, turn_in, test_in, truth_of, Told, ToldStop, IsValue, Appends, SameScopes}
-use Rattle.run_eval.proofs.Steps.{moved, given, tell, stop_then, on_ok, handed, no_scopes}
+use Rattle.run_loops.specs.Running.{does_in, turn_in, test_in, truth_of, Told, ToldStop, IsValue, Appends, SameScopes}
+use Rattle.run_loops.proofs.Steps.{moved, given, tell, stop_then, on_ok, handed, no_scopes}
 use Rattle.run_eval.proofs.Turns.{test_ends, test_stops, turned_stops, turned_ends, turned_over, turned_goes, tested_stops, tested_turned}
 use Rattle.run_eval.proofs.+run.Goals as goal
 

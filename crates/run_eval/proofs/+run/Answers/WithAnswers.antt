@@ -11,11 +11,11 @@ use Rattle.counted_code.specs.Values.{read}
 use Rattle.counted_code.specs.View.{code_with_term, code_parted_term}
 use Rattle.run_values.specs.Scopes.{current}
 use Rattle.run_values.specs.Shown.{value_of}
-use Rattle.run_eval.specs.Running.{right_in, Told, ToldStop, IsValue, IsOnly, array_job, fold_job, gen_head, cells_in}
-use Rattle.run_eval.proofs.Measures.{gens_size, parts_size}
-use Rattle.run_eval.proofs.Sizes.{gens_below, parts_below}
-use Rattle.run_eval.proofs.OldArrays.{based_as, shaped_as}
-use Rattle.run_eval.proofs.Steps.{handed}
+use Rattle.run_loops.specs.Running.{right_in, Told, ToldStop, IsValue, IsOnly, array_job, fold_job, gen_head, cells_in}
+use Rattle.run_loops.proofs.Measures.{gens_size, parts_size}
+use Rattle.run_loops.proofs.Sizes.{gens_below, parts_below}
+use Rattle.run_loops.proofs.OldArrays.{based_as, shaped_as}
+use Rattle.run_loops.proofs.Steps.{handed}
 use Rattle.run_eval.proofs.+run.Goals as goal
 use Rattle.core_ir.specs.Meaning.{operation}
 use Rattle.sac_base.specs.WithLoops.{fits_form, genarray, modarray, fold_by}

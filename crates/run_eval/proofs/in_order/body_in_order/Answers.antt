@@ -1,10 +1,10 @@
 use Rattle.std.proofs.Common.{◌≡◌, rules, Ok, Err, Some, None, ap, sym, refl, subst}
 use Rattle.counted_code.specs.Values.{give}
 use Rattle.run_values.specs.Scopes.{current}
-use Rattle.run_eval.specs.Loops.{IsPresent, body_cell, body_of, body_source, source_of_body, unreleased}
-use Rattle.run_eval.specs.Running.{SameScopes, Told, ToldStop}
+use Rattle.run_loops.specs.Loops.{IsPresent, body_cell, body_of, body_source, source_of_body, unreleased}
+use Rattle.run_loops.specs.Running.{SameScopes, Told, ToldStop}
 use Rattle.run_eval.proofs.CellTold.{present_told}
-use Rattle.run_eval.proofs.Steps.{handed, no_scopes, stop_then}
+use Rattle.run_loops.proofs.Steps.{handed, no_scopes, stop_then}
 use Rattle.run_eval.proofs.in_order.body_in_order.Goals as goal
 
 pub returns-in_err-value-in-Some : goal.returns-in_err-value-in-Some

@@ -6,12 +6,12 @@ use Rattle.counted_code.specs.View.{code_program}
 use Rattle.counted_laws.proofs.Outcomes.{even_cost}
 use Rattle.mark_laws.proofs.Outcomes.{ends_as_core}
 use Rattle.run_store.specs.Stands.{lender_in}
-use Rattle.run_eval.specs.declared.state.State.{State}
+use Rattle.run_loops.specs.declared.state.State.{State}
 use Rattle.run_eval.specs.declared.trace.Trace.{Trace}
 use Rattle.array_ops.specs.Tells.{TellsItems}
 use Rattle.run_eval.specs.Outcomes.{AreArrays, TellsCost, TellsTally, draws_under}
-use Rattle.run_eval.specs.Running.{IsAt, Told}
-use Rattle.run_eval.proofs.Steps.{on_ok}
+use Rattle.run_loops.specs.Running.{IsAt, Told}
+use Rattle.run_loops.proofs.Steps.{on_ok}
 use Rattle.run_eval.proofs.WholeRuns.{starts, whole_is, outcome_told, cost_told, cut_alike, ended_told, tallied_in, tally_told}
 use Rattle.run_eval.proofs.program.run_code.Goals as goal
 

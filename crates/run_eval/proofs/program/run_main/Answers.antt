@@ -3,10 +3,10 @@ use Rattle.std.specs.Prelude.{Ok, Err}
 use Rattle.counted_code.specs.Outcome.{function_does, copied_out}
 use Rattle.counted_code.specs.View.{code_fun_term}
 use Rattle.run_values.specs.Shown.{value_of}
-use Rattle.run_eval.specs.declared.state.State.{State}
+use Rattle.run_loops.specs.declared.state.State.{State}
 use Rattle.run_eval.specs.Outcomes.{main_in, AreArrays}
-use Rattle.run_eval.specs.Running.{calls_in, IsAt, Told, ToldStop, Appends}
-use Rattle.run_eval.proofs.Steps.{always_on_ok}
+use Rattle.run_loops.specs.Running.{calls_in, IsAt, Told, ToldStop, Appends}
+use Rattle.run_loops.proofs.Steps.{always_on_ok}
 use Rattle.run_eval.proofs.WholeRuns.{placing, function_at, main_same, main_within, fits_as, misfit, fitting, then_copied, then_stops}
 use Rattle.run_eval.proofs.program.run_main.Goals as goal
 use Rattle.phase_count.proofs.Tallying.{counts_on}

@@ -2,7 +2,7 @@ use Rattle.std.proofs.Common.{rules, ◌≡◌, ◌∙◌, ap, sym, subst}
 use Rattle.phase_cells.specs.Idle.{IsLeft}
 use Rattle.run_values.specs.Scopes.{current}
 use Rattle.phase_team.specs.Segments.{IsComputed, Tells}
-use Rattle.run_eval.specs.declared.state.State.{State}
+use Rattle.run_loops.specs.declared.state.State.{State}
 use Rattle.phase_loop_cells.specs.Cells.{source_cell, source_taken}
 use Rattle.phase_loop_cells.specs.Opened.{OpenSource}
 use Rattle.phase_loop_cells.proofs.Afters.{computed_claim}

@@ -1,6 +1,0 @@
-use Rattle.std.proofs.Common.{All, take}
-use Rattle.run_eval.specs.Loops.{IsWordAxis}
-use Rattle.run_eval.proofs.bounds.are_words.Given as goal
-
-abbrev pub invariant-loop-k : goal.invariant-loop-k
-invariant-loop-k l = All IsWordAxis (take l.k l.axes)

@@ -1,0 +1,11 @@
+pub mod Binding
+pub mod CellBodies
+pub mod CellPhases
+pub mod Found
+pub mod InPlace
+pub mod Measures
+pub mod OldArrays
+pub mod PartFrames
+pub mod Sizes
+pub mod Steps
+pub mod WithHolders

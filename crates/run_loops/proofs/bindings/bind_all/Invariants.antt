@@ -1,0 +1,13 @@
+use Rattle.std.proofs.Common.{◌≡◌, map, drop}
+use Rattle.counted_code.specs.Machine.{bind_values}
+use Rattle.run_values.specs.Scopes.{current, outer}
+use Rattle.run_values.specs.Shown.{value_of}
+use Rattle.run_loops.proofs.bindings.bind_all.Given as goal
+
+abbrev pub invariant-loop-k : goal.invariant-loop-k
+invariant-loop-k l = record {
+  inside : bind_values (current l.state.frames) (drop l.k l.vars) (drop l.k (map value_of l.values)) ≡ bind_values (current l.initial.state.frames) l.vars (map value_of l.values);
+  outside : outer l.state.frames ≡ outer l.initial.state.frames;
+  heap : l.state.heap ≡ l.initial.state.heap;
+  phases : l.state.phases ≡ l.initial.state.phases;
+}

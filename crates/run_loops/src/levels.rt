@@ -1,0 +1,45 @@
+//! Conditions, and how deep calls may go.
+
+ghost use Rattle.sac_base.specs.Parts.{condition as condition_value};
+ghost use Rattle.counted_code.specs.Values.{Heap as MachineHeap, read};
+ghost use Rattle.run_loops.specs.Running.{Deeper, SaysTruth};
+ghost use Rattle.run_values.specs.Shown.{value_of};
+
+use crate::state::Context;
+use counted_code::CodeFun;
+use run_values::RunValue;
+use sac_base::{FaultKind, Site, Stop, fault};
+
+/// What a condition says: 0 is false, and any other number is true.
+pub fn condition(value: RunValue, site: Site) -> Result<bool, Stop>
+    ensures { (m : MachineHeap) → SaysTruth result site (condition_value (read m (value_of value))) }
+{
+    match value.as_word()? {
+        Some(n) => Ok(n != 0),
+        None => Err(fault(FaultKind::F3, site)),
+    }
+}
+
+/// How far a function may go on that is called here.
+pub fn deeper<'a>(
+    function: &CodeFun,
+    site: Site,
+    context: &Context<'a>,
+) -> Result<Context<'a>, Stop>
+    ensures { Deeper result context.now function.now.inline site }
+{
+    let mut inner = *context;
+    if function.inline {
+        if context.nest == 0 {
+            return Err(fault(FaultKind::F10, site));
+        }
+        inner.nest = context.nest - 1;
+    } else {
+        if context.left == 0 {
+            return Err(fault(FaultKind::F10, site));
+        }
+        inner.left = context.left - 1;
+        inner.nest = context.code.get().functions.len() as u64;
+    }
+    Ok(inner)
+}
