@@ -6,7 +6,7 @@ use phase_books::{Workers, steps_of};
 use phase_kernels::{KernelCells, strip_steps};
 use phase_loop_cells::LoopCells;
 use phase_team::Gate;
-use run_eval::{CellSource, Context, State};
+use run_loops::{CellSource, Context, State};
 use std::thread::Threads;
 
 /// The most cells of a phase that are run by the thread that met it where they have strips: an index that no generator holds takes longer than a cell of a strip.
