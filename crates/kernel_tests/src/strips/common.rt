@@ -64,7 +64,7 @@ fn run(
     first: Cell,
     out: &mut [Cell],
 ) -> Result<bool, Memory> {
-    let mut room = StripRoom::new(alloc, strips.steps.len())?;
+    let mut room = StripRoom::new(alloc, strips.size())?;
     let mut registers: Registers = [0; 256];
     registers[0] = first;
     Ok(run_strip(strips, buffers, &registers, &mut room, out))

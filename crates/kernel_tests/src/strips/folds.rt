@@ -125,3 +125,16 @@ fn turns_are_counted(rt: HostRuntime) {
     let idle = fold(alloc, &ZERO, 2, (0, 2000000000), empty);
     assert!(rt; strips(alloc, &idle).is_none());
 }
+
+// `k * j`, which is added to the result.
+const MULTIPLE: [KernelStep; 2] = [KernelStep::Mul(3, 2, 0), KernelStep::Add(RESULT, RESULT, 3)];
+
+#[test]
+fn steps_are_counted(rt: HostRuntime) {
+    let alloc = rt.alloc();
+    let many = fold(alloc, &ZERO, 2, (0, 500), line(alloc, &MULTIPLE));
+    let found = strips(alloc, &many).expect(&rt, "strips");
+    assert!(rt; gives(alloc, &found, &[], 3, &[374250, 499000]));
+    let long = fold(alloc, &ZERO, 2, (0, 512), line(alloc, &MULTIPLE));
+    assert!(rt; strips(alloc, &long).is_none());
+}
