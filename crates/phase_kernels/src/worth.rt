@@ -17,7 +17,7 @@ fn most_steps(kernels: &[Option<CellKernel>]) -> Option<usize> {
     let mut most = 0;
     for kernel in kernels {
         let steps = match kernel {
-            Some(kernel) => kernel.steps(),
+            Some(kernel) => kernel.size().steps,
             None => 0,
         };
         if steps == 0 {
