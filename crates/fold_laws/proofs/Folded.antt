@@ -11,7 +11,7 @@ use Rattle.core_inlined_bodies.proofs.Names.{Names, both, same}
 use Rattle.core_subst.specs.Names.{variable}
 use Rattle.core_copy.specs.Mapped.{mapped}
 use Rattle.folded_parts.specs.Folding.{BlockFolded, RightFolded, ends, takes, keeps, stays, branches, turns, copied, copy_binds, last_copy, taken}
-use Rattle.fold_laws.proofs.Numbered.{apart_if}
+use Rattle.variable_numbers.proofs.Numbered.{apart_if, below_all}
 use Rattle.fold_laws.proofs.Copied.{IsSameOrNew, renumbered, same_or_new}
 use Rattle.fold_laws.proofs.Avoiding.{avoids_mapped}
 use Rattle.fold_laws.proofs.Chosen.{chosen_is, Single, SingleRight}
@@ -74,9 +74,6 @@ taken_avoids x part index xs s n d l e h k =
     let c = copy_avoids x part.head.index part.body n l h in
     ((e, tt), chain_avoids x (copied part n) (last_copy xs (results (copied part n)) s) d c (last_avoids x xs (results (copied part n)) s d (results_avoid x (copied part n) c) k))
 
-below_more : (x n m : ℕ) → x < n → n ≤ m → x < m
-below_more x n m p q = omega (arith, p, q)
-
 below_plus : (x n k : ℕ) → x < n → x < n + k
 below_plus x n k p = omega (arith, p)
 
@@ -89,12 +86,12 @@ module _ (p : Var) (sources : List PartTerm) (holders : List ℕ) (x : Var) (out
         let w = chosen_is p sources holders i r index part e in
         let u : AvoidsAll x (w.array ∷ index ∷ []) = subst (AvoidsRight x) w.selects h.0 in
         taken_avoids x part index xs s n d l u.1.0 (out w.number part w.there) (avoids_folded g (below_plus x.0 n (copy_binds part) l) h.1)
-    avoids_folded (keeps {n = n} {l = m} e f g) l h = (avoids_right f l h.0, avoids_folded g (below_more x.0 n m l (right_rises p sources holders f)) h.1)
+    avoids_folded (keeps {n = n} {l = m} e f g) l h = (avoids_right f l h.0, avoids_folded g (below_all x.0 n m l (right_rises p sources holders f)) h.1)
 
     avoids_right : {i n j m : ℕ} {r q : RightTerm} → RightFolded p sources holders i n r q j m → x.0 < n → AvoidsRight x r → AvoidsRight x q
     avoids_right (stays w) l h = h
-    avoids_right (branches {n = n} {l = m} f g) l h = (h.0, avoids_folded f l h.1, avoids_folded g (below_more x.0 n m l (rises p sources holders f)) h.2)
-    avoids_right (turns {n = n} {l = m} f g) l h = (h.0, avoids_folded f l h.1, avoids_folded g (below_more x.0 n m l (rises p sources holders f)) h.2)
+    avoids_right (branches {n = n} {l = m} f g) l h = (h.0, avoids_folded f l h.1, avoids_folded g (below_all x.0 n m l (rises p sources holders f)) h.2)
+    avoids_right (turns {n = n} {l = m} f g) l h = (h.0, avoids_folded f l h.1, avoids_folded g (below_all x.0 n m l (rises p sources holders f)) h.2)
 
 -- ---- bound variables
 

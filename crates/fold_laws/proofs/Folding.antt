@@ -27,6 +27,7 @@ use Rattle.core_norm_forms.specs.Alike.{Alike}
 use Rattle.core_fold_forms.specs.Copied.{HasPart, IsCopied, AllCopied, AllCopiedRight}
 use Rattle.generator_sets.specs.Pieces.{moved}
 use Rattle.folded_parts.specs.Folding.{BlockFolded, RightFolded, ends, takes, keeps, stays, branches, turns, IsWhole, chosen, copied, copy_binds, taken}
+use Rattle.variable_numbers.proofs.Numbered.{below_all}
 use Rattle.fold_laws.proofs.Copied.{copy_renamed, renumbered}
 use Rattle.fold_laws.proofs.Chosen.{chosen_is, is_chosen, Single, SingleRight}
 use Rattle.fold_laws.proofs.Sources.{Source, has_part, last, last_is, own_new, taken_is}
@@ -66,9 +67,6 @@ no_less low n p q = omega (arith, p, q)
 
 less_next : (low n k : ℕ) → low ≤ n → low ≤ n + k
 less_next low n k p = omega (arith, p)
-
-below_low : (x low n : ℕ) → x < low → low ≤ n → x < n
-below_low x low n p q = omega (arith, p, q)
 
 -- ---- the place
 
@@ -186,7 +184,7 @@ module _ (called : ℕ → List (Option (List ℕ))) (p : Producer) (sources : L
         record {
           folded = inr (d, (taken_at n up part number there top m index x s d f.offset plus holds unused, rest.folded));
           copied = (copied_at n up part number there top m index x s d f.offset plus holds unused, rest.copied);
-          gone = taken_avoids p.var part index (x ∷ []) s n d (below_low p.var.0 low n at.var up) other (at.own number part there) rest.gone;
+          gone = taken_avoids p.var part index (x ∷ []) s n d (below_all p.var.0 low n at.var up) other (at.own number part there) rest.gone;
           rest = rest.rest;
         }
 

@@ -33,6 +33,7 @@ use Rattle.core_fold_forms.proofs.Scopes.{folded_scoped}
 use Rattle.fold_pieces.specs.Pieces.{Hold}
 use Rattle.folded_parts.specs.Folding.{BlockFolded}
 use Rattle.folded_parts.specs.Making.{PieceMade, PiecesMade}
+use Rattle.variable_numbers.proofs.Numbered.{below_all}
 use Rattle.fold_laws.specs.Made.{numbered_grids}
 use Rattle.fold_laws.proofs.Copied.{copy_order, copy_renamed, renumbered}
 use Rattle.fold_laws.proofs.Chosen.{Single}
@@ -78,9 +79,6 @@ pub record AtConsumer (around scope : List Var) (low : ℕ) : Type 0 where
 
 up_to : (a b c : ℕ) → a ≤ b → b ≤ c → a ≤ c
 up_to a b c p q = omega (arith, p, q)
-
-below_more : (x n m : ℕ) → x < n → n ≤ m → x < m
-below_more x n m p q = omega (arith, p, q)
 
 next_most : (next l after : ℕ) → after ≡ suc next + l → next ≤ after
 next_most next l after e = omega (arith, e)
@@ -191,7 +189,7 @@ module _ (called : ℕ → List (Option (List ℕ))) (later : Facts) (p : Produc
         folded = b.folded;
         renamed = copy_renamed scope low place.below head.index c is.away scoped once next low_next;
         fresh = record { once = once; within = within; copied = b.copied; alike = alike f c };
-        gone = copy_avoids p.var head.index c next (below_more p.var.0 low next setting.var low_next) b.gone;
+        gone = copy_avoids p.var head.index c next (below_all p.var.0 low next setting.var low_next) b.gone;
         rise = up_to n next after rise last;
         bound = record {
           within = λ y q. inr (after_is n next (length (bound_in c)) after y.0 rise h.up_to (subst (λ m. (next ≤ y.0) × (y.0 < next + suc m)) count (order_between next all order y q)));

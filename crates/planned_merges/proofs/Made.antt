@@ -16,7 +16,7 @@ use Rattle.core_merge_forms.proofs.Straight.{chain_append}
 use Rattle.core_norm_forms.specs.Copied.{AreFrom}
 use Rattle.parted_bodies.specs.Making.{binds_of}
 use Rattle.merged_parts.specs.Merging.{every_other, merged_at, merged_inner, merged_names, part_list}
-use Rattle.planned_merges.proofs.Numbering.{from, from_both}
+use Rattle.variable_numbers.proofs.Numbered.{numbered_order, order_append}
 
 abbrev row_let : Site → Var → List Var → LetTerm
 row_let s x xs = record { targets = x ∷ []; site = s; right = Plain (PlainTerm.Literal xs) }
@@ -76,8 +76,8 @@ module _ (grid : List Grid1) (outer : Var) (lets : List LetTerm) where
     at_from : OneEach g.head g.body → AreFrom n ((merged_at grid outer lets g n).head.index ∷ bound_in (merged_at grid outer lets g n).body)
     at_from d =
         subst (AreFrom n) (sym at_bound)
-        (from_both n (variable n ∷ targets_of own_picks) (map names_of (outer ∷ g.head.index ∷ bound_in (chain lets g.body))) front_from
-        (subst (λ m. AreFrom m (map names_of (outer ∷ g.head.index ∷ bound_in (chain lets g.body)))) (sym front_count) (from (λ x. x) (outer ∷ g.head.index ∷ bound_in (chain lets g.body)) number_of d)))
+        (order_append n (variable n ∷ targets_of own_picks) (map names_of (outer ∷ g.head.index ∷ bound_in (chain lets g.body))) front_from
+        (subst (λ m. AreFrom m (map names_of (outer ∷ g.head.index ∷ bound_in (chain lets g.body)))) (sym front_count) (numbered_order (outer ∷ g.head.index ∷ bound_in (chain lets g.body)) (λ x. x) number_of d)))
 
   -- ---- the parts for one inner loop
 
@@ -88,7 +88,7 @@ module _ (grid : List Grid1) (outer : Var) (lets : List LetTerm) where
       let first = merged_at grid outer lets p n in
       let own = first.head.index ∷ bound_in first.body in
       let none : binds_of (first ∷ []) ≡ length own = ap (λ l. suc (length l)) (append-nil (bound_in first.body)) in
-      from_both n own (bound_in_parts (parts_of (merged_inner grid outer lets (part_list rest) (n + binds_of (first ∷ []))))) (at_from p n h.0)
+      order_append n own (bound_in_parts (parts_of (merged_inner grid outer lets (part_list rest) (n + binds_of (first ∷ []))))) (at_from p n h.0)
       (subst (λ m. AreFrom m (bound_in_parts (parts_of (merged_inner grid outer lets (part_list rest) (n + binds_of (first ∷ [])))))) (ap (λ m. n + m) none) (inner_from rest (n + binds_of (first ∷ [])) h.1))
 
 -- ---- parts behind parts

@@ -8,7 +8,7 @@ use Rattle.sac_base.specs.declared.site.Site.{Site}
 use Rattle.core_ir.specs.declared.tree.Var.{Var}
 use Rattle.core_ir.specs.Binders.{is_in, bound_in, bound_in_parts}
 use Rattle.core_ir.specs.Scopes.{Scoped, ScopedParts}
-use Rattle.core_ir.specs.Terms.{BlockTerm, PartsTerm, LetTerm, PartTerm, PartHead, Gives, Bind, NoParts, Part, Parted, chain, parts_of}
+use Rattle.core_ir.specs.Terms.{BlockTerm, PartsTerm, LetTerm, PartTerm, PartHead, Gives, Bind, NoParts, Part, chain, parts_of}
 use Rattle.core_ir.specs.Uses.{AvoidsParts, targets_of}
 use Rattle.core_ir.specs.WellFormed.{Distinct, part_grids}
 use Rattle.core_ir.proofs.Variables.{or_false}
@@ -22,7 +22,7 @@ use Rattle.core_merge_forms.specs.Built.{AllParts, index_lets, picks}
 use Rattle.core_merge_forms.specs.Fresh.{AlikeInner, AlikeMerged}
 use Rattle.core_merge_forms.proofs.Built.{bodies_merged}
 use Rattle.core_merge_forms.proofs.Inner.{inner_parts}
-use Rattle.core_inlined_bodies.proofs.Names.{behind_first, clash, distinct_left, distinct_right, in_either, in_left, itself}
+use Rattle.core_inlined_bodies.proofs.Names.{behind_first, distinct_left, distinct_right, in_either, in_left, itself}
 use Rattle.core_norm_forms.specs.Alike.{Alike}
 use Rattle.core_norm_forms.proofs.Named.{order_between, order_distinct}
 use Rattle.core_norm_forms.proofs.Scopes.{in_right}
@@ -34,7 +34,8 @@ use Rattle.merge_plans.proofs.Opens.{nest_opens}
 use Rattle.merged_parts.specs.Merging.{every_other, merged_all, merged_at, merged_inner, merged_opened, merged_part, part_list}
 use Rattle.core_norm_forms.specs.Copied.{AreFrom}
 use Rattle.planned_merges.proofs.Made.{bound_parts, inner_from, front_count, front_from, names_of, number_of, own_picks, OneEach}
-use Rattle.planned_merges.proofs.Numbering.{from_both, keeps, not_new, old_stays, other_than, turned}
+use Rattle.variable_numbers.proofs.Numbered.{order_append, other_than, turned}
+use Rattle.planned_merges.proofs.Numbering.{keeps, not_new, old_stays}
 use Rattle.planned_merges.proofs.Sides.{Inside, around_once, around_within, inner_once, nested, parts_inside, parts_within, scope_apart}
 
 -- ---- bodies behind equally many bindings
@@ -305,7 +306,7 @@ module _ (called : ℕ → List (Option (List ℕ))) (k : Facts) (frame : List G
         parts = (parts_of own, (parts_of (merged_all ps next), (parts_append (merged_part p n) (merged_all ps next) ∙ ap (λ xs. append_parts (parts_of xs) (parts_of (merged_all ps next))) made, avoids h p.body w.0 nest at, inner.0, rest.parts)));
         alike = (inner.1, rest.alike);
         order = subst (AreFrom n) (sym (bound_parts (merged_part p n) (merged_all ps next)))
-            (from_both n (bound_in_parts (parts_of (merged_part p n))) (bound_in_parts (parts_of (merged_all ps next)))
+            (order_append n (bound_in_parts (parts_of (merged_part p n))) (bound_in_parts (parts_of (merged_all ps next)))
             (subst (λ xs. AreFrom n (bound_in_parts (parts_of xs))) (sym made) first) rest.order);
       }
 

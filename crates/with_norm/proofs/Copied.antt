@@ -24,7 +24,8 @@ use Rattle.core_norm_forms.specs.Alike.{NamedAlike}
 use Rattle.core_norm_forms.specs.Copied.{AreFrom, components}
 use Rattle.core_norm_forms.proofs.Named.{copies_named}
 use Rattle.core_norm_forms.proofs.Places.{all_member}
-use Rattle.with_norm.proofs.Numbered.{Good, And, Those, AreComponents, components_good, components_off, components_order, components_same, named_at, named_good, named_off, numbered_good, numbered_off, numbered_order}
+use Rattle.variable_numbers.proofs.Numbered.{Good, And, Those, named_at, named_good, named_off, numbered_good, numbered_off, numbered_order}
+use Rattle.with_norm.proofs.Numbered.{AreComponents, components_good, components_off, components_order, components_same}
 
 -- ---- a generator at its place
 

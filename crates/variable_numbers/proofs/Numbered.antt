@@ -7,10 +7,17 @@ use Rattle.core_ir.specs.WellFormed.{Distinct}
 use Rattle.core_ir.proofs.Variables.{or_false, same_number}
 use Rattle.core_subst.specs.Names.{variable}
 use Rattle.core_inlined_bodies.proofs.Names.{behind_first, clash}
-use Rattle.parted_bodies.specs.Numbering.{named, numbered}
 use Rattle.core_norm_forms.specs.Copied.{AreFrom}
+use Rattle.parted_bodies.specs.Numbering.{named, numbered}
 
 -- ---- numbers
+
+pub other_than : (x y : Var) (xs : List Var) → is_in x xs ≡ false → is_in y xs ≡ true → eqb x.0 y.0 ≡ false
+other_than x y xs n m = go (eqb x.0 y.0) refl
+  where
+    go : (b : Bool) → eqb x.0 y.0 ≡ b → eqb x.0 y.0 ≡ false
+    go true e = clash (is_in y xs) m ((λ i. is_in (sym (same_number x y e) i) xs) ∙ n)
+    go false e = e
 
 eqb_above : (m n : ℕ) → n < m → eqb m n ≡ false
 eqb_above m n h = go (eqb m n) refl
@@ -44,7 +51,7 @@ is_false : (t : Bool) → (t ≡ true → ⊥) → t ≡ false
 is_false true f = absurd (f refl)
 is_false false f = refl
 
-below_all : (a n m : ℕ) → a < n → n ≤ m → a < m
+pub below_all : (a n m : ℕ) → a < n → n ≤ m → a < m
 below_all a n m p q = omega (arith, p, q)
 
 below_next : (a m : ℕ) → a < m → a < suc m
@@ -102,7 +109,7 @@ module _ (f : Var → Var) (S : Var → Type 0) (n m : ℕ) (x : Var) (g : Good 
 
 -- ---- a list of names
 
-first_or : (x a : Var) (xs : List Var) (S : Var → Type 0) → Those (x ∷ xs) S a → Those xs (And x S) a
+pub first_or : (x a : Var) (xs : List Var) (S : Var → Type 0) → Those (x ∷ xs) S a → Those xs (And x S) a
 first_or x a xs S (inr s) = inr (inr s)
 first_or x a xs S (inl p) = go (eqb x.0 a.0) refl p
   where
@@ -110,14 +117,14 @@ first_or x a xs S (inl p) = go (eqb x.0 a.0) refl p
     go true e q = inr (inl e)
     go false e q = inl q
 
-none_of : (a : Var) (S : Var → Type 0) → Those [] S a → S a
+pub none_of : (a : Var) (S : Var → Type 0) → Those [] S a → S a
 none_of a S (inl e) = clash false e refl
 none_of a S (inr s) = s
 
-off_first : (x : Var) (xs : List Var) (S : Var → Type 0) → ((a : Var) → is_in a (x ∷ xs) ≡ true → S a → ⊥) → (a : Var) → S a → eqb x.0 a.0 ≡ false
+pub off_first : (x : Var) (xs : List Var) (S : Var → Type 0) → ((a : Var) → is_in a (x ∷ xs) ≡ true → S a → ⊥) → (a : Var) → S a → eqb x.0 a.0 ≡ false
 off_first x xs S off a s = is_false (eqb x.0 a.0) (λ e. off a (λ i. e i || is_in a xs) s)
 
-off_rest : (x : Var) (xs : List Var) (S : Var → Type 0) → is_in x xs ≡ false → ((a : Var) → is_in a (x ∷ xs) ≡ true → S a → ⊥) → (a : Var) → is_in a xs ≡ true → And x S a → ⊥
+pub off_rest : (x : Var) (xs : List Var) (S : Var → Type 0) → is_in x xs ≡ false → ((a : Var) → is_in a (x ∷ xs) ≡ true → S a → ⊥) → (a : Var) → is_in a xs ≡ true → And x S a → ⊥
 off_rest x xs S d off a p (inl e) = clash (is_in x xs) ((λ i. is_in (same_number x a e i) xs) ∙ p) d
 off_rest x xs S d off a p (inr s) = off a (behind_first a x xs p) s
 
@@ -150,8 +157,28 @@ numbered_order (x ∷ xs) f n d = (
   numbered_order xs (named f x (variable n)) (suc n) d.1,
 )
 
--- ---- lists in order
-
+-- lists in order
 pub order_append : (n : ℕ) (xs ys : List Var) → AreFrom n xs → AreFrom (n + length xs) ys → AreFrom n (xs ++ ys)
 order_append n [] ys p q = subst (λ m. AreFrom m ys) (omega arith) q
 order_append n (x ∷ xs) ys p q = (p.0, order_append (suc n) xs ys p.1 (subst (λ m. AreFrom m ys) (omega arith) q))
+
+-- ---- what stands for the variables of a list
+
+pub in_map : (f : Var → Var) (xs : List Var) (y : Var) → is_in y xs ≡ true → is_in (f y) (map f xs) ≡ true
+in_map f [] y h = clash false h refl
+in_map f (x ∷ xs) y h = go (eqb x.0 y.0) refl h (λ k. in_map f xs y k)
+  where
+    go : (t : Bool) → eqb x.0 y.0 ≡ t → (t || is_in y xs) ≡ true → (is_in y xs ≡ true → is_in (f y) (map f xs) ≡ true) → (eqb (f x).0 (f y).0 || is_in (f y) (map f xs)) ≡ true
+    go true e k rec = λ i. eq-eqb (f x).0 (f y).0 (ap (λ (v : Var). (f v).0) (same_number x y e)) i || is_in (f y) (map f xs)
+    go false e k rec = behind_first (f y) (f x) (map f xs) (rec k)
+
+-- where what stands for the variables of a list is distinct, different ones stay so
+pub kept_apart : (f : Var → Var) (xs : List Var) (a b : Var) → Distinct (map f xs) → is_in a xs ≡ true → is_in b xs ≡ true → eqb a.0 b.0 ≡ false → eqb (f a).0 (f b).0 ≡ false
+kept_apart f [] a b d p q e = clash false p refl
+kept_apart f (x ∷ xs) a b d p q e = go (eqb x.0 a.0) (eqb x.0 b.0) refl refl p q (λ k l. kept_apart f xs a b d.1 k l e)
+  where
+    go : (t u : Bool) → eqb x.0 a.0 ≡ t → eqb x.0 b.0 ≡ u → (t || is_in a xs) ≡ true → (u || is_in b xs) ≡ true → (is_in a xs ≡ true → is_in b xs ≡ true → eqb (f a).0 (f b).0 ≡ false) → eqb (f a).0 (f b).0 ≡ false
+    go true true m n k l rec = clash (eqb a.0 b.0) (eq-eqb a.0 b.0 (sym (eqb-true x.0 a.0 m) ∙ eqb-true x.0 b.0 n)) e
+    go true false m n k l rec = (λ i. eqb (f (sym (same_number x a m) i)).0 (f b).0) ∙ other_than (f x) (f b) (map f xs) d.0 (in_map f xs b l)
+    go false true m n k l rec = (λ i. eqb (f a).0 (f (sym (same_number x b n) i)).0) ∙ turned (f x).0 (f a).0 (other_than (f x) (f a) (map f xs) d.0 (in_map f xs a k))
+    go false false m n k l rec = rec k l
