@@ -1,5 +1,5 @@
 -- Blocks with more variables in scope.
-use Rattle.std.proofs.Common.{◌≡◌, eqb, Bool, true, false, cond, ◌||◌, List, [], ◌∷◌, ◌++◌, zip, Option, Some, None, refl, sym, ◌∙◌, subst, append_assoc}
+use Rattle.std.proofs.Common.{◌≡◌, eqb, Bool, true, false, cond, ◌||◌, List, [], ◌∷◌, ◌++◌, zip, Option, Some, None, refl, sym, ◌∙◌}
 use Rattle.sac_base.specs.declared.base.Base.{Base}
 use Rattle.sac_base.specs.declared.base.Base.TheVariants.{Int, Bool as Truth}
 use Rattle.core_ir.specs.declared.tree.Var.{Var}
@@ -10,17 +10,17 @@ use Rattle.core_ir.specs.declared.tree.PartedOp.TheVariants as parted
 use Rattle.core_ir.specs.Binders.{is_in, NoneIn, bound_in, bound_in_right, bound_in_gens, bound_in_parts}
 use Rattle.core_ir.specs.Scopes.{AllIn, Scoped, ScopedRight, ScopedGens, ScopedParts, plain_uses, op_uses, parted_uses, head_uses}
 use Rattle.core_ir.specs.Terms.{PlainTerm, BlockTerm, RightTerm, GensTerm, PartsTerm, CoreTerm, Gives, Bind, Plain, NoGens, Gen, NoParts, Part}
-use Rattle.core_ir.specs.WellFormed.{Bases, base_of, HasBase, HasBases, AllHave, OptionHas, ints, LiteralBase, PlainBases, OperationBase, PartedBase, BlockBases, RightBases, GensBases, PartsBases}
+use Rattle.core_ir.specs.WellFormed.{Bases, base_of, HasBases, AllHave, OptionHas, ints, LiteralBase, PlainBases, OperationBase, PartedBase, BlockBases, RightBases, GensBases, PartsBases}
 use Rattle.core_ir.proofs.Variables.{in_more, in_neither}
 use Rattle.core_edits.specs.Within.{AreWithin, BasesWithin}
 
 -- ---- scopes
 
-all_within : (xs scope wider : List Var) → AreWithin scope wider → AllIn xs scope → AllIn xs wider
+pub all_within : (xs scope wider : List Var) → AreWithin scope wider → AllIn xs scope → AllIn xs wider
 all_within [] scope wider k h = tt
 all_within (x ∷ xs) scope wider k h = (k x h.0, all_within xs scope wider k h.1)
 
-within_below : (xs scope wider : List Var) → AreWithin scope wider → AreWithin (xs ++ scope) (xs ++ wider)
+pub within_below : (xs scope wider : List Var) → AreWithin scope wider → AreWithin (xs ++ scope) (xs ++ wider)
 within_below xs scope wider k y h = in_more y xs wider ∙ go (is_in y xs) (sym (in_more y xs scope) ∙ h)
   where
     go : (b : Bool) → (b || is_in y scope) ≡ true → (b || is_in y wider) ≡ true
@@ -126,11 +126,11 @@ mutual
 
 -- ---- bases
 
-base_more : (b : Bool) (t : Base) (s p q : Option Base) → (p ≡ Some t → q ≡ Some t) → cond b s p ≡ Some t → cond b s q ≡ Some t
+pub base_more : (b : Bool) (t : Base) (s p q : Option Base) → (p ≡ Some t → q ≡ Some t) → cond b s p ≡ Some t → cond b s q ≡ Some t
 base_more true t s p q k h = h
 base_more false t s p q k h = k h
 
-bases_below : (zs g wider : Bases) → BasesWithin g wider → BasesWithin (zs ++ g) (zs ++ wider)
+pub bases_below : (zs g wider : Bases) → BasesWithin g wider → BasesWithin (zs ++ g) (zs ++ wider)
 bases_below [] g wider k x t h = k x t h
 bases_below (z ∷ zs) g wider k x t h = base_more (eqb z.0.0 x.0) t (Some z.1) (base_of (zs ++ g) x) (base_of (zs ++ wider) x) (bases_below zs g wider k x t) h
 

@@ -4,28 +4,17 @@ use Rattle.std.specs.Prelude.{zip}
 use Rattle.sac_base.specs.declared.base.Base.{Base}
 use Rattle.core_ir.specs.declared.tree.Var.{Var}
 use Rattle.core_ir.specs.Binders.{is_in}
-use Rattle.core_ir.specs.Scopes.{AllIn}
 use Rattle.core_ir.specs.WellFormed.{Bases, base_of, Distinct}
-use Rattle.core_ir.proofs.Variables.{in_more, or_false, same_number}
+use Rattle.core_ir.proofs.Variables.{same_number}
 use Rattle.core_edits.specs.Within.{AreWithin, BasesWithin}
 use Rattle.core_norm_steps.specs.Step.{BaseTable, Within}
 use Rattle.core_inlined_bodies.proofs.Names.{Fresh, Names, clash, not_in, in_none, in_left, distinct_apart}
 use Rattle.core_norm_forms.specs.Fresh.{IsBetween}
 use Rattle.core_norm_forms.proofs.Places.{all_member}
 use Rattle.core_norm_forms.proofs.Scopes.{Away, in_right}
+use Rattle.core_norm_forms.proofs.Tables.{zip_keeps}
 
 -- ---- scopes
-
-pub all_within : (xs scope wider : List Var) → AreWithin scope wider → AllIn xs scope → AllIn xs wider
-all_within [] scope wider k h = tt
-all_within (x ∷ xs) scope wider k h = (k x h.0, all_within xs scope wider k h.1)
-
-pub within_below : (xs scope wider : List Var) → AreWithin scope wider → AreWithin (xs ++ scope) (xs ++ wider)
-within_below xs scope wider k y h = in_more y xs wider ∙ go (is_in y xs) (sym (in_more y xs scope) ∙ h)
-  where
-    go : (b : Bool) → (b || is_in y scope) ≡ true → (b || is_in y wider) ≡ true
-    go true p = refl
-    go false p = k y p
 
 pub within_behind : (xs scope wider : List Var) → AreWithin scope wider → AreWithin scope (xs ++ wider)
 within_behind xs scope wider k y h = in_right y xs wider (k y h)
@@ -83,13 +72,6 @@ table_all m (x ∷ xs) g wider w k = table_more m g (zip xs (map m xs) ++ wider)
 
 pub table_zip : (m : BaseTable) (xs : List Var) (us : List Base) (g wider : Bases) → Within m g → us ≡ map m xs → BasesWithin g wider → BasesWithin g (zip xs us ++ wider)
 table_zip m xs us g wider w e k = subst (λ (ts : List Base). BasesWithin g (zip xs ts ++ wider)) (sym e) (table_all m xs g wider w k)
-
-pub zip_keeps : (xs : List Var) (us : List Base) (g : Bases) (y : Var) → is_in y xs ≡ false → base_of (zip xs us ++ g) y ≡ base_of g y
-zip_keeps [] us g y h = refl
-zip_keeps (x ∷ xs) [] g y h = refl
-zip_keeps (x ∷ xs) (u ∷ us) g y h =
-    let w = or_false (eqb x.0 y.0) (is_in y xs) h in
-    (λ i. cond (w.0 i) (Some u) (base_of (zip xs us ++ g) y)) ∙ zip_keeps xs us g y w.1
 
 -- the variables of the list from the number on have no base
 abbrev pub Bare : ℕ → List Var → Bases → Type 0

@@ -1,5 +1,5 @@
 -- Bases of a block agree without a variable that it does not use.
-use Rattle.std.proofs.Common.{◌≡◌, Bool, true, false, cond, eqb, List, [], ◌∷◌, ◌++◌, Option, Some, None, sym, ◌∙◌}
+use Rattle.std.proofs.Common.{◌≡◌, false, cond, eqb, List, [], ◌∷◌, ◌++◌, Option, Some, None, sym, ◌∙◌}
 use Rattle.std.specs.Prelude.{zip, option_to_list}
 use Rattle.sac_base.specs.declared.base.Base.{Base}
 use Rattle.sac_base.specs.declared.base.Base.TheVariants.{Int, Bool as Truth}
@@ -12,14 +12,11 @@ use Rattle.core_ir.specs.Scopes.{plain_uses, op_uses, parted_uses}
 use Rattle.core_ir.specs.Terms.{PlainTerm, BlockTerm, RightTerm, GensTerm, PartsTerm, CoreTerm, Gives, Bind, Plain, NoGens, Gen, NoParts, Part}
 use Rattle.core_ir.specs.Uses.{AvoidsAll, Avoids, AvoidsRight, AvoidsGens, AvoidsParts}
 use Rattle.core_ir.specs.WellFormed.{Bases, base_of, HasBases, AllHave, OptionHas, ints, LiteralBase, PlainBases, OperationBase, PartedBase, BlockBases, RightBases, GensBases, PartsBases}
+use Rattle.core_edits.proofs.Wider.{base_more}
 
 -- all but the variable have the bases that they had
 abbrev pub NarrowBases : Var → Bases → Bases → Type 0
 NarrowBases x g narrow = (y : Var) (t : Base) → eqb x.0 y.0 ≡ false → base_of g y ≡ Some t → base_of narrow y ≡ Some t
-
-base_more : (b : Bool) (t : Base) (s p q : Option Base) → (p ≡ Some t → q ≡ Some t) → cond b s p ≡ Some t → cond b s q ≡ Some t
-base_more true t s p q k h = h
-base_more false t s p q k h = k h
 
 narrow_below : (x : Var) (zs g narrow : Bases) → NarrowBases x g narrow → NarrowBases x (zs ++ g) (zs ++ narrow)
 narrow_below x [] g narrow k y t n h = k y t n h

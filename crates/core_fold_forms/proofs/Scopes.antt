@@ -12,7 +12,7 @@ use Rattle.core_ir.specs.Uses.{AvoidsAll, Avoids, AvoidsRight, AvoidsGens, Avoid
 use Rattle.core_ir.specs.WellFormed.{Distinct}
 use Rattle.core_ir.proofs.Variables.{in_more, same_number}
 use Rattle.core_edits.specs.Within.{AreWithin}
-use Rattle.core_edits.proofs.Wider.{bound_new, block_wider}
+use Rattle.core_edits.proofs.Wider.{bound_new, block_wider, all_within, within_below}
 use Rattle.core_facts.specs.Facts.{Facts, note_all, right_facts, in_part}
 use Rattle.core_loops.specs.Indices.{IndexFacts, note_others, learn_index, own_index}
 use Rattle.core_loops.specs.Pairs.{Producer}
@@ -23,7 +23,7 @@ use Rattle.core_norm_forms.proofs.Places.{all_member}
 use Rattle.core_norm_forms.proofs.Scopes.{Away, away_left, away_right, Carries, carries_one, copy_scoped}
 use Rattle.core_fold_forms.specs.Copied.{IsCopied, AllCopied, AllCopiedRight, IsOldOrNew}
 use Rattle.core_fold_forms.specs.Fresh.{FreshPieces, FreshParts}
-use Rattle.core_fold_forms.proofs.Lists.{all_within, within_below, within_behind, away_below}
+use Rattle.core_fold_forms.proofs.Lists.{within_behind, away_below}
 use Rattle.core_fold_forms.proofs.Chains.{chain_bound, below, within_chain, given_behind, chain_scoped, away_chain}
 use Rattle.core_fold_forms.proofs.Producers.{part_scoped}
 

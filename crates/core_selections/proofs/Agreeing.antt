@@ -11,7 +11,7 @@ use Rattle.core_ir.specs.WellFormed.{Bases, BlockBases, GensBases, PartedFits, P
 use Rattle.core_subst.specs.Names.{variable}
 use Rattle.core_facts.specs.Facts.{Facts, note_all, right_facts, in_part}
 use Rattle.core_edits.specs.Within.{BasesWithin}
-use Rattle.core_edits.proofs.Wider.{block_bases_wider}
+use Rattle.core_edits.proofs.Wider.{block_bases_wider, bases_below}
 use Rattle.core_inlined_bodies.proofs.Counts.{trans}
 use Rattle.core_inlined_bodies.proofs.Names.{Fresh, fresh_left, fresh_right, fresh_more}
 use Rattle.core_cleaning.proofs.Lists.{zip_elsewhere, ints_elsewhere}
@@ -30,14 +30,6 @@ none_zip xs ts g n f h = λ y p. zip_elsewhere xs ts g y (f y p) ∙ h y p
 
 none_ints : (xs : List Var) (g : Bases) (n : ℕ) → Fresh xs n → NoneFrom g n → NoneFrom (ints xs ++ g) n
 none_ints xs g n f h = λ y p. ints_elsewhere xs g y (f y p) ∙ h y p
-
-base_more : (b : Bool) (t : Base) (s p q : Option Base) → (p ≡ Some t → q ≡ Some t) → cond b s p ≡ Some t → cond b s q ≡ Some t
-base_more true t s p q k h = h
-base_more false t s p q k h = k h
-
-below : (zs g wide : Bases) → BasesWithin g wide → BasesWithin (zs ++ g) (zs ++ wide)
-below [] g wide k x t h = k x t h
-below (z ∷ zs) g wide k x t h = base_more (eqb z.0.0 x.0) t (Some z.1) (base_of (zs ++ g) x) (base_of (zs ++ wide) x) (below zs g wide k x t) h
 
 -- one variable more, which has no base
 one_more : (g : Bases) (n : ℕ) → NoneFrom g n → BasesWithin g ((variable n, Int) ∷ g)
@@ -83,7 +75,7 @@ module _ (core : CoreTerm) (called : ℕ → List (Option (List ℕ))) where
                   (
                     (old.0, one_more g n e x.array old.0 old.1, (λ i. cond (eq-eqb n n refl i) (Some Int) (base_of g (variable n))), old.3),
                     h.1.1,
-                    block_bases_wider core (vectored called b k' (suc n)) (zip xs h.0 ++ g) (zip xs h.0 ++ wide) ts (below (zip xs h.0) g wide (one_more g n e)) (below' (suc n) (next_le n)),
+                    block_bases_wider core (vectored called b k' (suc n)) (zip xs h.0 ++ g) (zip xs h.0 ++ wide) ts (bases_below (zip xs h.0) g wide (one_more g n e)) (below' (suc n) (next_le n)),
                   ),
                 ),
               ),
