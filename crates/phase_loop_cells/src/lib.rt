@@ -2,6 +2,7 @@
 #![tactic(auto)]
 
 mod copies;
+mod fill;
 mod loops;
 mod ranges;
 mod scratch;

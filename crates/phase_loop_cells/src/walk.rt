@@ -15,14 +15,14 @@ use std::alloc::Global;
 
 /// Positions of one row that the generator or part at one place computes, or none.
 #[derive(Clone, Copy, Drop)]
-struct CellRun {
-    from: usize,
-    until: usize,
-    place: Option<usize>,
+pub(crate) struct CellRun {
+    pub from: usize,
+    pub until: usize,
+    pub place: Option<usize>,
 }
 
 impl CellRun {
-    fn has(&self, position: usize) -> bool
+    pub fn has(&self, position: usize) -> bool
         ensures { IsTrue result → (self.now.from ≤ position) × (position < self.now.until) }
     {
         self.from <= position && position < self.until
@@ -83,7 +83,7 @@ impl Walk {
 }
 
 // The run of a position, as far as it is known: behind the ranges of parts there may be parts without one.
-fn run_from(
+pub(crate) fn run_from(
     source: &CellSource<'_>,
     plan: &Plan,
     made: &[Range],

@@ -9,8 +9,8 @@ use phase_team::Gate;
 use run_loops::{CellSource, Context, State};
 use std::thread::Threads;
 
-/// The most cells of a phase that are run by the thread that met it where they have strips: an index that no generator holds takes longer than a cell of a strip.
-const MOST_CELLS: usize = 16_384;
+// More cells than these take more than few steps of strips, however short their bodies are, so that nobody needs to make kernels to see it.
+const MOST_CELLS: usize = 131_072;
 
 /// The workers of a phase of the cells of a source, which read these variables: the thread that met it alone where its cells take less time than the
 /// start of further threads, by the steps of the evaluator or by those of strips.
