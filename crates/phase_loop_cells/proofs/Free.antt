@@ -1,6 +1,6 @@
 -- What the cell of an index is that no generator and no part holds.
 use Rattle.std.proofs.Common.{◌≡◌, ℕ, ℤ, Bool, true, false, List, [], ◌∷◌, Option, Some, None, Ok, refl, ap, ◌∙◌}
-use Rattle.std.specs.Prelude.{if◌then◌else◌, option_map}
+use Rattle.std.specs.Prelude.{if◌then◌else◌, is_some, option_map}
 use Rattle.array_with_loops.specs.declared.plans.Plan.{Plan}
 use Rattle.buffer_heap.specs.Heaps.{HeapValue}
 use Rattle.core_ir.specs.Meaning.{CallMeaning, Env, bind, cell_at, cell_form, cells, first, generator, generators, held as held_cell_of, run, with_index}
@@ -42,9 +42,9 @@ module _ (calls : CallMeaning) (turns : ℕ) (call_spends : CallSpending) (e : E
     where
       by : (b : Bool) → holds r v ≡ b → (if b then Some g else held gens ranges v) ≡ None → (held gens ranges v ≡ None → (gens_hold gens ranges ≡ None) × (gens_spend gens ranges ≡ 0))
           → (gens_hold (g ∷ gens) (r ∷ ranges) ≡ None) × (gens_spend (g ∷ gens) (r ∷ ranges) ≡ 0)
-      by true is no rest = absurd (cc)
-      by false is no rest =
-          let behind = rest no in (
+      by true is less rest = absurd (cc)
+      by false is less rest =
+          let behind = rest less in (
             ap (λ (b : Bool). if b then Some (core_gen g) else gens_hold gens ranges) is ∙ behind.0,
             ap (λ (b : Bool). if b then (spends calls turns call_spends (code_term g.body) (with_index e (gen_head g) v)).taken else gens_spend gens ranges) is ∙ behind.1,
           )
@@ -65,9 +65,9 @@ module _ (calls : CallMeaning) (turns : ℕ) (call_spends : CallSpending) (e : E
       where
         by : (b : Bool) → has_vector p.grid v ≡ b → (if b then Some p else part_held parts v) ≡ None → (part_held parts v ≡ None → (parts_cell parts ≡ Ok None) × (parts_spend parts ≡ 0))
             → (parts_cell (p ∷ parts) ≡ Ok None) × (parts_spend (p ∷ parts) ≡ 0)
-        by true is no rest = absurd (cc)
-        by false is no rest =
-            let behind = rest no in (
+        by true is less rest = absurd (cc)
+        by false is less rest =
+            let behind = rest less in (
               ap (λ (b : Bool). if b then part_cell p else parts_cell parts) is ∙ behind.0,
               ap (λ (b : Bool). if b then (spends calls turns call_spends (code_term p.body) (bind e p.index (vector Int v))).taken else parts_spend parts) is ∙ behind.1,
             )
@@ -96,3 +96,7 @@ module _ (context : Context) (lends : HeapValue) (e : Values) (source : CellSour
 
   pub free_takes : source_taken context lends e source plan place ≡ 0
   free_takes = (source_free context lends e plan.form plan.ranges.items (index_at plan.frame place) source free).1
+
+pub no_place : (place : Option ℕ) → is_some place ≡ false → place ≡ None
+no_place None is = refl
+no_place (Some k) is = absurd (cc)

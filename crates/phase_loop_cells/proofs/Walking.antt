@@ -1,5 +1,5 @@
 -- The first range that holds an index tells which generator or part does.
-use Rattle.std.proofs.Common.{◌≡◌, ℕ, zero, suc, ◌+◌, ◌-◌, ◌<◌, ◌≤◌, true, false, ℤ, Bool, List, [], ◌∷◌, length, Option, Some, None, refl, sym, ap, subst, ◌∙◌, arith}
+use Rattle.std.proofs.Common.{◌≡◌, ℕ, zero, suc, ◌+◌, ◌-◌, ◌<◌, ◌≤◌, false, ℤ, Bool, List, [], ◌∷◌, length, Option, Some, None, refl, sym, ap, ◌∙◌, arith}
 use Rattle.std.specs.Prelude.{if◌then◌else◌, option_map, slice_get, slice_index_or}
 use Rattle.array_with_loops.specs.declared.plans.Plan.{Plan}
 use Rattle.array_with_loops.specs.Ranges.{moved_last}
@@ -11,7 +11,6 @@ use Rattle.phase_loop_cells.specs.Walks.{body_of_run}
 use Rattle.run_loops.specs.declared.cell_loop.CellSource.{CellSource}
 use Rattle.run_loops.specs.declared.cell_loop.CellSource.TheVariants.{Generators, Parts}
 use Rattle.run_loops.specs.Loops.{gen_body, held, held_body, part_body, part_held}
-use Rattle.sac_base.specs.Grids.{has_vector}
 use Rattle.sac_base.specs.WithLoops.{Range, holds}
 
 -- no range holds an index

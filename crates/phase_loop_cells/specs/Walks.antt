@@ -1,5 +1,5 @@
 -- Runs of positions that have one body.
-use Rattle.std.specs.Prelude.{◌≡◌, ℕ, ◌≤◌, ◌<◌, List, Option, Some, None}
+use Rattle.std.specs.Prelude.{◌≡◌, ℕ, ◌≤◌, ◌<◌, Option, Some, None}
 use Rattle.array_with_loops.specs.declared.plans.Plan.{Plan}
 use Rattle.phase_loop_cells.specs.Cells.{index_at}
 use Rattle.phase_loop_cells.specs.Ranges.{AreMade}

@@ -51,5 +51,7 @@ returns-clause-tells c = λ j lt.
     let place = c.args.start + j in
     let long : length c.fill_free.new.rows ≡ c.args.count * size p.form.shape = search rules in
     let one : size p.form.shape ≡ 1 = c.fill_free.ensures.one (omega (arith, lt)) in
-    let inside : j < length c.fill_free.new.rows = omega (arith, lt, long, one, c.fill_free.ensures.most) in
+    let once : c.args.count * 1 ≡ c.args.count = omega arith in
+    let all : length c.fill_free.new.rows ≡ c.args.count = long ∙ ap (λ s. c.args.count * s) one ∙ once in
+    let inside : j < length c.fill_free.new.rows = omega (arith, lt, all, c.fill_free.ensures.most) in
     row_told (size p.form.shape) j rows (source_cell cells.context cells.heap.now e cells.source p cells.background place) one inside (c.fill_free.ensures.each j lt)
