@@ -1,5 +1,6 @@
 #!/usr/bin/env python3
-"""compare.py SAC: the same work by SAC (1, 2 and 4 workers), gcc -O2, NumPy, CPython and Lua, in nanoseconds a cell and round.
+"""compare.py SAC [WORK..]: the same work by SAC (1, 2 and 4 workers), gcc -O2, NumPy, CPython and Lua, in nanoseconds a cell and round; of a product of
+matrices, a multiplication and round.
 
 A work is a program that makes an array, computes it anew in so many rounds, and prints the sum of its elements, so that each answer is compared. Its time is
 that of a run with rounds less that of a run with none, the least of three. What is not installed is left out. The works are in works/: NAME.sac, work.c,
@@ -23,6 +24,9 @@ CELLS = {
     "sum": 1_000 * 1_000,
     "chain": 1_000 * 1_000,
     "indices": 4_096 * 4_096,
+    "convolution": 1_000 * 1_000,
+    "product": 200 * 200 * 200,
+    "totals": 1_000 * 1_000,
 }
 # A run is long enough from so many seconds on.
 LONG = 0.3

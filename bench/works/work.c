@@ -4,7 +4,7 @@
 #include <stdlib.h>
 #include <string.h>
 
-enum { SIDE = 1000, WIDE = 4096 };
+enum { SIDE = 1000, WIDE = 4096, SMALL = 200 };
 
 static int32_t add(int32_t a, int32_t b) { return (int32_t)((uint32_t)a + (uint32_t)b); }
 
@@ -50,6 +50,47 @@ static int32_t indices(int rounds) {
     return a[WIDE + 1];
 }
 
+static void convolution(const int32_t *a, int32_t *b) {
+    static const int32_t weights[3][3] = {{1, 2, 1}, {2, 4, 2}, {1, 2, 1}};
+    memcpy(b, a, sizeof(int32_t) * SIDE * SIDE);
+    for (int i = 1; i < SIDE - 1; i++)
+        for (int j = 1; j < SIDE - 1; j++) {
+            int32_t sum = 0;
+            for (int k = 0; k < 3; k++)
+                for (int l = 0; l < 3; l++) sum += a[(i + k - 1) * SIDE + j + l - 1] * weights[k][l];
+            b[i * SIDE + j] = sum / 16;
+        }
+}
+
+static int32_t product(int rounds) {
+    static int32_t a[SMALL][SMALL], b[SMALL][SMALL], c[SMALL][SMALL];
+    for (int i = 0; i < SMALL; i++)
+        for (int j = 0; j < SMALL; j++) a[i][j] = b[i][j] = (i * 7 + j * 13) % 256;
+    for (int t = 0; t < rounds; t++) {
+        for (int i = 0; i < SMALL; i++)
+            for (int j = 0; j < SMALL; j++) {
+                int32_t sum = 0;
+                for (int k = 0; k < SMALL; k++) sum += a[i][k] * b[k][j];
+                c[i][j] = sum % 256;
+            }
+        memcpy(a, c, sizeof a);
+    }
+    int32_t sum = 0;
+    for (int i = 0; i < SMALL; i++)
+        for (int j = 0; j < SMALL; j++) sum += a[i][j];
+    return sum;
+}
+
+static int32_t totals(const int32_t *a, int rounds) {
+    int32_t all = 0;
+    for (int t = 0; t < rounds; t++) {
+        int32_t sum = 0;
+        for (int i = 0; i < SIDE * SIDE; i++) sum = add(sum, a[i] * (a[i] + t) % 7);
+        all = add(all, sum);
+    }
+    return all;
+}
+
 int main(int count, char **words) {
     if (count != 3) return 2;
     const char *work = words[1];
@@ -58,11 +99,19 @@ int main(int count, char **words) {
         printf("%d\n", rounds ? indices(rounds) : 0);
         return 0;
     }
+    if (!strcmp(work, "product")) {
+        printf("%d\n", product(rounds));
+        return 0;
+    }
     static int32_t one[SIDE * SIDE], two[SIDE * SIDE], first[SIDE * SIDE];
     int32_t *a = one, *b = two;
     int is_life = !strcmp(work, "life");
     for (int i = 0; i < SIDE; i++)
         for (int j = 0; j < SIDE; j++) a[i * SIDE + j] = is_life ? (i * 7 + j * 13) % 11 < 4 : (i * 7 + j * 13) % 256;
+    if (!strcmp(work, "totals")) {
+        printf("%d\n", totals(a, rounds));
+        return 0;
+    }
     memcpy(first, a, sizeof first);
     for (int t = 0; t < rounds; t++) {
         if (!strcmp(work, "neighbours")) neighbours(a, b);
@@ -70,6 +119,7 @@ int main(int count, char **words) {
         else if (!strcmp(work, "border")) border(a, b);
         else if (!strcmp(work, "plus_one")) plus_one(a, b);
         else if (!strcmp(work, "chain")) chain(a, b);
+        else if (!strcmp(work, "convolution")) convolution(a, b);
         else for (int i = 0; i < SIDE * SIDE; i++) b[i] = add(first[i], a[i]);
         int32_t *other = a;
         a = b;

@@ -1,7 +1,8 @@
 """work.py WAY NAME ROUNDS: the works of this folder, by NumPy (WAY numpy) and by plain loops (WAY plain). 32-bit numbers wrap."""
 import sys
 
-SIDE, WIDE = 1000, 4096
+SIDE, WIDE, SMALL = 1000, 4096, 200
+WEIGHTS = (1, 2, 1, 2, 4, 2, 1, 2, 1)
 
 
 def wrapped(number):
@@ -53,14 +54,54 @@ def chain(a):
     return [x % 256 for x in c]
 
 
+def convolution(a):
+    b = a[:]
+    near = [(k - 1) * SIDE + l - 1 for k in range(3) for l in range(3)]
+    for i in range(1, SIDE - 1):
+        for at in range(i * SIDE + 1, i * SIDE + SIDE - 1):
+            total = 0
+            for step, weight in zip(near, WEIGHTS):
+                total += a[at + step] * weight
+            b[at] = quotient(total, 16)
+    return b
+
+
+def product(rounds):
+    a = b = [[(i * 7 + j * 13) % 256 for j in range(SMALL)] for i in range(SMALL)]
+    for _ in range(rounds):
+        c = []
+        for row in a:
+            cells = []
+            for j in range(SMALL):
+                total = 0
+                for k in range(SMALL):
+                    total += row[k] * b[k][j]
+                cells.append(total % 256)
+            c.append(cells)
+        a = c
+    return sum(map(sum, a))
+
+
+def totals(a, rounds):
+    total = 0
+    for t in range(rounds):
+        for x in a:
+            total += x * (x + t) % 7
+    return total
+
+
 def by_loops(work, rounds):
+    if work == "product":
+        return wrapped(product(rounds))
+    if work == "totals":
+        return wrapped(totals(start(work), rounds))
     if work == "indices":
         a = [0] * (WIDE + 2)
         for t in range(rounds):
             a = [i + j + t for i in range(WIDE) for j in range(WIDE)]
         return a[WIDE + 1]
     a = first = start(work)
-    steps = {"neighbours": neighbours, "life": life, "border": border, "chain": chain, "plus_one": lambda a: [x + 1 for x in a],
+    steps = {"neighbours": neighbours, "life": life, "border": border, "chain": chain, "convolution": convolution, "plus_one": lambda a: [x + 1 for x in a],
              "sum": lambda a: [x + y for x, y in zip(first, a)]}
     for _ in range(rounds):
         a = steps[work](a)
@@ -76,9 +117,17 @@ def by_numpy(work, rounds):
         for t in range(rounds):
             a = row[:, None] + row[None, :] + np.int32(t)
         return int(a[1, 1])
+    if work == "product":
+        i, j = np.indices((SMALL, SMALL), dtype=np.int32)
+        a = b = (i * 7 + j * 13) % 256
+        for _ in range(rounds):
+            a = a @ b % 256
+        return wrapped(int(a.sum(dtype=np.int64)))
     i, j = np.indices((SIDE, SIDE), dtype=np.int32)
     a = ((i * 7 + j * 13) % 11 < 4).astype(np.int32) if work == "life" else (i * 7 + j * 13) % 256
     first = a
+    if work == "totals":
+        return wrapped(sum(int((a * (a + np.int32(t)) % 7).sum(dtype=np.int64)) for t in range(rounds)))
     for _ in range(rounds):
         if work == "neighbours":
             b = a.copy()
@@ -98,6 +147,11 @@ def by_numpy(work, rounds):
             a = a + np.int32(1)
         elif work == "chain":
             a = (a * 3 + 7) % 256
+        elif work == "convolution":
+            total = sum(a[k:SIDE - 2 + k, l:SIDE - 2 + l] * np.int32(WEIGHTS[3 * k + l]) for k in range(3) for l in range(3))
+            b = a.copy()
+            b[1:-1, 1:-1] = total // 16
+            a = b
         else:
             a = first + a
     return wrapped(int(a.sum(dtype=np.int64)))
