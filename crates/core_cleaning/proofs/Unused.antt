@@ -1,39 +1,32 @@
 -- Bindings that are not used and whose right side is known to have a value may go.
-use Rattle.std.proofs.Common.{◌≡◌, ℕ, Bool, true, false, not, ◌&&◌, ◌||◌, cond, eqb, List, [], ◌∷◌, ◌++◌, map, length, Option, Some, None, Ok, refl, sym, ap, subst, ◌∙◌}
+use Rattle.std.proofs.Common.{◌≡◌, ℕ, Bool, true, false, not, ◌&&◌, ◌||◌, cond, eqb, List, [], ◌∷◌, ◌++◌, Option, Some, None, Ok, refl, sym, ap, subst, ◌∙◌}
 use Rattle.std.specs.Prelude.{if◌then◌else◌, option_to_list, zip}
 use Rattle.sac_base.specs.declared.base.Base.{Base}
 use Rattle.sac_base.specs.declared.base.Base.TheVariants.{Int, Bool as Truth}
-use Rattle.sac_base.specs.declared.faults.FaultKind.TheVariants.{F6}
 use Rattle.sac_base.specs.declared.site.Site.{Site}
-use Rattle.sac_base.specs.Arrays.{ArrayValue, scalar, vector}
-use Rattle.sac_base.specs.Grids.{members}
+use Rattle.sac_base.specs.Arrays.{ArrayValue}
 use Rattle.sac_base.specs.Operators.{unary}
-use Rattle.sac_base.specs.Outcomes.{and_then, at_site, fault, choose}
-use Rattle.sac_base.specs.Parts.{condition, dim, shape_vector}
-use Rattle.sac_base.specs.WithLoops.{with_value, each}
+use Rattle.sac_base.specs.Outcomes.{and_then, at_site}
+use Rattle.sac_base.specs.Parts.{dim, shape_vector}
 use Rattle.core_ir.specs.declared.tree.Var.{Var}
 use Rattle.core_ir.specs.declared.tree.CoreOp.{CoreOp}
 use Rattle.core_ir.specs.declared.tree.CoreOp.TheVariants as making
 use Rattle.core_ir.specs.declared.tree.PartedOp.{PartedOp}
 use Rattle.core_ir.specs.declared.tree.PartedOp.TheVariants as parted
 use Rattle.core_ir.specs.Binders.{is_in, NoneIn, bound_in, bound_in_right, bound_in_gens, bound_in_parts}
-use Rattle.core_ir.specs.Meaning.{Env, CallMeaning, bind, bind_all, first, loop_value, one, made_of, neutral_fits, cell_form, cell_at, generator, operation, with_index, run, right_value, generators, cells}
+use Rattle.core_ir.specs.Meaning.{Env, CallMeaning, bind_all, first, one, run, right_value, generators, cells}
 use Rattle.core_ir.specs.Scopes.{AllIn, Scoped, ScopedRight, ScopedGens, ScopedParts, head_uses, op_uses, parted_uses, plain_uses}
 use Rattle.core_ir.specs.Terms.{PlainTerm, BlockTerm, RightTerm, GensTerm, PartsTerm, CoreTerm, Gives, Bind, Plain, NoGens, Gen, NoParts, Part}
 use Rattle.core_ir.specs.Uses.{AvoidsAll, Avoids, AvoidsRight, AvoidsGens, AvoidsParts}
 use Rattle.core_ir.specs.WellFormed.{AllHave, Bases, BlockBases, GensBases, HasBases, LiteralBase, OperationBase, OptionHas, PartedBase, PartedFits, PartsBases, PlainBases, RightBases, base_of, calls_in, calls_in_right, calls_in_gens, calls_in_parts, ints, part_grids}
-use Rattle.core_ir.proofs.Edited.{then_same, SameCells, same_cell_at}
+use Rattle.core_ir.proofs.Edited.{then_same, SameCells}
 use Rattle.core_ir.proofs.Unused.{drop_unused}
-use Rattle.core_ir.proofs.Variables.{in_front, in_more, in_neither, or_false, or_right}
+use Rattle.core_ir.proofs.Variables.{in_front, in_more, in_neither, or_false}
 use Rattle.core_subst.specs.Names.{used_in, used_in_right, used_in_gens, used_in_parts}
-use Rattle.core_facts.specs.Facts.{Facts, CallsFit, DescribeAll, block_facts, in_part, note_all, right_facts, shape_fact}
-use Rattle.core_facts.proofs.Settle.{has_length, loop_same, scalars_full, vector_full}
-use Rattle.core_facts.proofs.Sound.{all_full, block_sound, described, noted, noted_one}
-use Rattle.core_bases.specs.Typed.{CallsTyped, HaveBases}
-use Rattle.core_bases.proofs.Bound.{bound_index, bound_zip, distinct_left, distinct_right, typed_one, values_typed}
-use Rattle.core_bases.proofs.Whole.{block_typed}
+use Rattle.core_facts.specs.Facts.{Facts, CallsFit, in_part, note_all, right_facts}
+use Rattle.core_bases.specs.Typed.{CallsTyped}
 use Rattle.core_index_facts.proofs.Total.{plain_total}
-use Rattle.core_cleaning.proofs.Places.{At, RightAt, GensAt, PartsAt, right_at, after_bind}
+use Rattle.core_cleaning.proofs.Places.{At, RightAt, GensAt, PartsAt, right_at, after_bind, same_if, same_loop, same_with, same_parted, same_gen, same_part}
 use Rattle.core_cleaning.specs.Unused.{never_faults, is_total, no_indices, is_removable, is_unused, swept, swept_right, swept_gens, swept_parts}
 use Rattle.core_cleaning.proofs.Lists.{clash, itself, behind_first, in_left, turned, zip_elsewhere, Sub, all_of, joined, behind_all}
 
@@ -178,71 +171,24 @@ module _ (core : CoreTerm) (calls : CallMeaning) (turns : ℕ) (typed : CallsTyp
 
     right_same : (r : RightTerm) (s : Site) (g : Bases) (ts : List Base) (k : Facts) (e : Env) → RightAt core calls turns g ts k r e → right_value calls turns (swept_right called r k) s e ≡ right_value calls turns r s e
     right_same (Plain p) s g ts k e a = refl
-    right_same (RightTerm.If x b c) s g ts k e a =
-        let p = block_same b g ts k e (record { bases = a.bases.1; once = distinct_left (bound_in b) (bound_in c) a.once; full = a.full.0; typed = a.typed; sound = a.sound }) in
-        let q = block_same c g ts k e (record { bases = a.bases.2; once = distinct_right (bound_in b) (bound_in c) a.once; full = a.full.1; typed = a.typed; sound = a.sound }) in
-        λ i. choose s (condition (e x)) (p i) (q i)
+    right_same (RightTerm.If x b c) s g ts k e a = same_if core calls turns typed called fit x b c (swept called b k) (swept called c k) s g ts k e (block_same b g ts k) (block_same c g ts k) a
     right_same (RightTerm.Loop fb start params test body u) s g ts k e a =
         let n = note_all k params [] in
-        let rest = distinct_right params (bound_in test ++ bound_in body) a.once in
-        let p = distinct_left params (bound_in test ++ bound_in body) a.once in
-        sym (loop_same (λ vs. DescribeAll [] vs × HaveBases ts vs) fb turns s u
-        (λ vs. first (run calls turns test (bind_all e params vs))) (λ vs. first (run calls turns (swept called test n) (bind_all e params vs)))
-        (λ vs. run calls turns body (bind_all e params vs)) (λ vs. run calls turns (swept called body n) (bind_all e params vs))
-        (λ vs d. ap first (sym (block_same test (zip params ts ++ g) (Truth ∷ []) n (bind_all e params vs) (record {
-          bases = a.bases.2;
-          once = distinct_left (bound_in test) (bound_in body) rest;
-          full = a.full.0;
-          typed = bound_zip g e params ts vs a.typed p a.bases.1 d.1;
-          sound = noted k e params [] vs a.sound d.0;
-        }))))
-        (λ vs d. sym (block_same body (zip params ts ++ g) ts n (bind_all e params vs) (record {
-          bases = a.bases.3;
-          once = distinct_right (bound_in test) (bound_in body) rest;
-          full = a.full.1;
-          typed = bound_zip g e params ts vs a.typed p a.bases.1 d.1;
-          sound = noted k e params [] vs a.sound d.0;
-        })))
-        (λ vs ws d q. (
-          all_full (block_facts called body n) ws (block_sound calls turns called fit body n (bind_all e params vs) ws a.full.1 (noted k e params [] vs a.sound d.0) q),
-          block_typed core calls turns typed body (zip params ts ++ g) ts (bind_all e params vs) ws a.bases.3 (distinct_right (bound_in test) (bound_in body) rest) (bound_zip g e params ts vs a.typed p a.bases.1 d.1) q,
-        ))
-        (map e start) (all_full (map k start) (map e start) (described k e start a.sound), values_typed g e start ts a.typed a.bases.0))
+        same_loop core calls turns typed called fit fb start params test body (swept called test n) (swept called body n) u s g ts k e (block_same test (zip params ts ++ g) (Truth ∷ []) n) (block_same body (zip params ts ++ g) ts n) a
     right_same (RightTerm.Call group xs) s g ts k e a = refl
-    right_same (RightTerm.With op gens) s g ts k e a =
-        λ i. one (with_value (gens_same gens g a.bases.0 k e (record { bases = a.bases.1.1; once = a.once; full = a.full; typed = a.typed; sound = a.sound }) i) (operation op s e))
-    right_same (RightTerm.Parted f t shape op parts) s g ts k e a =
-        let same = parts_same parts g t k e (record { bases = a.bases.1; once = a.once; full = a.full; typed = a.typed; sound = a.sound }) in
-        λ i. one (if neutral_fits (cell_form t shape) op e then and_then (each (λ index. same_cell_at (cell_form t shape) _ _ index same i) (members f)) (λ found. Ok (made_of f t shape op e found)) else fault F6 s)
+    right_same (RightTerm.With op gens) s g ts k e a = same_with core calls turns typed called fit op gens (swept_gens called gens k) s g ts k e (λ t. gens_same gens g t k e) a
+    right_same (RightTerm.Parted f t shape op parts) s g ts k e a = same_parted core calls turns typed called fit f t shape op parts (swept_parts called parts k) s g ts k e (parts_same parts g t k e) a
 
     gens_same : (gs : GensTerm) (g : Bases) (t : Base) (k : Facts) (e : Env) → GensAt core calls turns g t k gs e → generators calls turns (swept_gens called gs k) e ≡ generators calls turns gs e
     gens_same NoGens g t k e a = refl
     gens_same (Gen j b rest) g t k e a =
         let n = note_all k (j.index ∷ j.names) [] in
-        let inner = distinct_right (j.index ∷ j.names) (bound_in b ++ bound_in_gens rest) a.once in
-        let there = gens_same rest g t k e (record { bases = a.bases.5; once = distinct_right (bound_in b) (bound_in_gens rest) inner; full = a.full.1; typed = a.typed; sound = a.sound }) in
-        λ i. generator j (λ index. first (block_same b (ints (j.index ∷ j.names) ++ g) (t ∷ []) n (with_index e j index) (record {
-          bases = a.bases.4;
-          once = distinct_left (bound_in b) (bound_in_gens rest) inner;
-          full = a.full.0;
-          typed = bound_index g e j.index j.names index a.typed (distinct_left (j.index ∷ j.names) (bound_in b ++ bound_in_gens rest) a.once);
-          sound = noted k e (j.index ∷ j.names) [] (vector Int index ∷ map (scalar Int) index) a.sound (vector_full index, scalars_full index);
-        }) i)) e ∷ there i
+        same_gen core calls turns typed called fit j b (swept called b n) rest (swept_gens called rest k) g t k e (block_same b (ints (j.index ∷ j.names) ++ g) (t ∷ []) n) (gens_same rest g t k e) a
 
     parts_same : (ps : PartsTerm) (g : Bases) (t : Base) (k : Facts) (e : Env) → PartsAt core calls turns g t k ps e → SameCells (cells calls turns (swept_parts called ps k) e) (cells calls turns ps e)
     parts_same NoParts g t k e a = tt
-    parts_same (Part j b rest) g t k e a = (
-      refl,
-      refl,
-      (λ index q. ap first (block_same b ((j.index, Int) ∷ g) (t ∷ []) (in_part k j) (bind e j.index (vector Int index)) (record {
-        bases = a.bases.0;
-        once = distinct_left (bound_in b) (bound_in_parts rest) a.once.1;
-        full = a.full.0;
-        typed = typed_one g e j.index Int (vector Int index) a.typed refl;
-        sound = noted_one k e j.index (shape_fact (Some (length j.grid ∷ []))) (vector Int index) a.sound (record { shape = λ i. has_length j.grid index q i ∷ []; literal = tt; full = vector_full index });
-      }))),
-      parts_same rest g t k e (record { bases = a.bases.1; once = distinct_right (bound_in b) (bound_in_parts rest) a.once.1; full = a.full.1; typed = a.typed; sound = a.sound }),
-    )
+    parts_same (Part j b rest) g t k e a =
+        same_part core calls turns typed called fit j b (swept called b (in_part k j)) rest (swept_parts called rest k) g t k e (block_same b ((j.index, Int) ∷ g) (t ∷ []) (in_part k j)) (parts_same rest g t k e) a
 
 -- ---- calls
 

@@ -6,16 +6,15 @@ use Rattle.core_ir.specs.declared.tree.Var.{Var}
 use Rattle.core_ir.specs.Binders.{is_in, bound_in, bound_in_right}
 use Rattle.core_ir.specs.Scopes.{AllIn, Scoped}
 use Rattle.core_ir.specs.Terms.{BlockTerm, CoreTerm, LetTerm, Gives, chain}
-use Rattle.core_ir.specs.Uses.{Avoids}
 use Rattle.core_ir.specs.WellFormed.{Bases, base_of, HasBases, BlockBases, Distinct}
 use Rattle.core_ir.proofs.Variables.{in_neither}
 use Rattle.core_calls.specs.Nests.{CallsAll}
 use Rattle.core_edits.specs.Within.{AreWithin}
 use Rattle.core_loops.specs.Loops.{weight, weight_right, parted_in, parted_in_right}
-use Rattle.core_loops.specs.Pairs.{AvoidsLets}
 use Rattle.core_inlined_bodies.proofs.Names.{Names, both, same, distinct_right}
 use Rattle.core_norm_forms.proofs.Scopes.{Away, away_right, in_right}
-use Rattle.core_fold_forms.proofs.Lists.{away_below, zip_keeps}
+use Rattle.core_norm_forms.proofs.Tables.{zip_keeps}
+use Rattle.core_fold_forms.proofs.Lists.{away_below}
 
 -- ---- what is bound
 
@@ -51,10 +50,6 @@ chain_parted (l ∷ ls) ys x = plus (parted_in_right l.right) (parted_in (chain 
 pub chain_calls : (P : ℕ → Type 0) (ls : List LetTerm) (x y : BlockTerm) → CallsAll P (chain ls x) → (CallsAll P x → CallsAll P y) → CallsAll P (chain ls y)
 chain_calls P [] x y h k = k h
 chain_calls P (l ∷ ls) x y h k = (h.0, chain_calls P ls x y h.1 k)
-
-pub avoids_chain : (x : Var) (ls : List LetTerm) (b : BlockTerm) → AvoidsLets x ls → Avoids x b → Avoids x (chain ls b)
-avoids_chain x [] b h k = k
-avoids_chain x (l ∷ ls) b h k = (h.0, avoids_chain x ls b h.1 k)
 
 -- ---- scopes
 

@@ -10,11 +10,11 @@ use Rattle.core_loops.specs.Indices.{IndexFacts, note_others, learn_index, own_i
 use Rattle.core_loops.specs.Loops.{weight, weight_right, weight_parts, parted_in, parted_in_right, parted_in_parts}
 use Rattle.core_loops.specs.Pairs.{Producer, count_parts}
 use Rattle.core_loops.specs.Steps.{itself, Folded, FoldedRight, TakenAt, append_parts, PiecesFold, NewParts}
-use Rattle.core_norm_forms.proofs.Weights.{weights}
+use Rattle.core_norm_forms.proofs.Calls.{copy_calls}
+use Rattle.core_norm_forms.proofs.Weights.{weights, copy_parted}
 use Rattle.core_fold_forms.specs.Copied.{HasPart, IsCopied, AllCopied, AllCopiedRight}
 use Rattle.core_fold_forms.specs.Fresh.{IsFreshPiece, FreshPieces, FreshParts, StaysOne}
 use Rattle.core_fold_forms.proofs.Chains.{chain_weight, chain_parted, chain_calls}
-use Rattle.core_fold_forms.proofs.Copying.{parteds, copy_calls}
 use Rattle.core_fold_forms.proofs.Producers.{IsLight, part_calls}
 
 abbrev pub Counted : BlockTerm → BlockTerm → Type 0
@@ -38,7 +38,7 @@ module _ (called : ℕ → List (Option (List ℕ))) (p : Producer) (n : ℕ) (g
           taken_sum (weight c) (weight (chain t.lets last)) (weight copy) (weight d) (weight b) (weight_right r) (ap weight t.made) (chain_weight t.lets (t.result ∷ []) last)
               (weights S t.body copy t.renamed ∙ l.0) v.0 (ap weight_right t.selects),
           taken_sum (parted_in c) (parted_in (chain t.lets last)) (parted_in copy) (parted_in d) (parted_in b) (parted_in_right r) (ap parted_in t.made) (chain_parted t.lets (t.result ∷ []) last)
-              (parteds S t.body copy t.renamed ∙ l.1) v.1 (ap parted_in_right t.selects),
+              (copy_parted S t.body copy t.renamed ∙ l.1) v.1 (ap parted_in_right t.selects),
         )
 
     mutual
@@ -111,7 +111,7 @@ module _ (called : ℕ → List (Option (List ℕ))) (later : Facts) (p : Produc
         let c = f.1.0 in
         let u = folded_counts called p (length h.grid) g.grid low high light b (in_part later h) (own_index (length h.grid) h.index) c f.1.1.0 e.copied in
         let S = under itself h.index g.index in
-        (weights S c d f.1.1.1 ∙ u.0, parteds S c d f.1.1.1 ∙ u.1)
+        (weights S c d f.1.1.1 ∙ u.0, copy_parted S c d f.1.1.1 ∙ u.1)
 
     -- pieces of a part that has no loop have none
     none_light : (h : PartHead) (b : BlockTerm) (pieces : PartsTerm) (f : PiecesFold called later p h b pieces) → FreshPieces called later p low high h b pieces f → IsLight b → (weight_parts pieces ≡ 0) × (parted_in_parts pieces ≡ 0)

@@ -2,7 +2,6 @@
 use Rattle.std.proofs.Common.{◌≡◌, ℕ, zero, suc, ◌+◌, ◌<◌, ◌≤◌, Bool, true, false, ◌&&◌, cond, List, [], ◌∷◌, length, All, Option, refl, sym, subst, ◌∙◌, arith, ℤ}
 use Rattle.std.specs.Prelude.{AllPairs, Contains, get_or}
 use Rattle.std.proofs.lemmas.List.Elements.{All-head, All-tail}
-use Rattle.std.proofs.lemmas.List.Sums.{sum_by-cons}
 use Rattle.sac_base.specs.declared.grid.Grid1.{Grid1}
 use Rattle.sac_base.specs.Grids.{AreDisjoint, has_vector, times_vector}
 use Rattle.core_ir.specs.declared.tree.PartedOp.{PartedOp}
@@ -12,11 +11,8 @@ use Rattle.core_ir.specs.WellFormed.{Covered, Fit, PartedFits, part_grids}
 use Rattle.core_facts.specs.Facts.{Facts}
 use Rattle.core_loops.specs.Pairs.{Producer}
 use Rattle.core_loops.specs.Steps.{append_parts, NewParts}
-use Rattle.core_norm_forms.proofs.Grids.{fit}
+use Rattle.core_norm_forms.proofs.Grids.{fit, times_cons, AtMost, grid_of}
 use Rattle.core_fold_forms.specs.Fresh.{FreshParts}
-
-times_cons : (g : List Grid1) (gs : List (List Grid1)) (v : List ℤ) → times_vector (g ∷ gs) v ≡ cond (has_vector g v) 1 0 + times_vector gs v
-times_cons g gs v = sum_by-cons (λ (p : List Grid1). cond (has_vector p v) 1 0) g gs
 
 -- ---- as often in the new grids as in the old ones
 
@@ -39,9 +35,6 @@ same_times called later p low high (Part h b rest) new f e v =
     ∙ sym (times_cons h.grid (part_grids rest) v)
 
 -- ---- grids that fit
-
-abbrev AtMost : (List ℤ → Bool) → List (List Grid1) → Type 0
-AtMost set gs = (v : List ℤ) → times_vector gs v ≤ cond (set v) 1 0
 
 apart_head : (g : List Grid1) (gs : List (List Grid1)) → AllPairs AreDisjoint (g ∷ gs) → All (AreDisjoint g) gs
 apart_head g gs h k d l = h 0 (suc k) d (omega arith) (omega (arith, l))
@@ -97,20 +90,6 @@ at_least gs g v c e = go gs c.0 c.1 c.2
     go [] k l q = absurd (omega (arith, l))
     go (h ∷ gs) zero l q = first (times_vector (h ∷ gs) v) (times_vector gs v) (times_cons h gs v ∙ (λ i. cond (((λ j. has_vector (q j) v) ∙ e) i) 1 0 + times_vector gs v))
     go (h ∷ gs) (suc k) l q = more_than (times_vector (h ∷ gs) v) (cond (has_vector h v) 1 0) (times_vector gs v) (times_cons h gs v) (go gs k (omega (arith, l)) q)
-
-later_one : (gs : List (List Grid1)) (h : List Grid1) (v : List ℤ) → ((g : List Grid1) × (Contains gs g × (has_vector g v ≡ true))) → (g : List Grid1) × (Contains (h ∷ gs) g × (has_vector g v ≡ true))
-later_one gs h v w = let c = w.1.0 in let l = c.1 in (w.0, ((suc c.0, omega (arith, l), c.2), w.1.1))
-
-some : (n a t : ℕ) → a ≡ 0 → n ≡ a + t → 1 ≤ n → 1 ≤ t
-some n a t z p q = omega (arith, z, p, q)
-
-grid_of : (gs : List (List Grid1)) (v : List ℤ) → 1 ≤ times_vector gs v → (g : List Grid1) × (Contains gs g × (has_vector g v ≡ true))
-grid_of [] v l = absurd (omega arith)
-grid_of (h ∷ gs) v l = go (has_vector h v) refl (λ k. grid_of gs v k)
-  where
-    go : (b : Bool) → has_vector h v ≡ b → (1 ≤ times_vector gs v → (g : List Grid1) × (Contains gs g × (has_vector g v ≡ true))) → (g : List Grid1) × (Contains (h ∷ gs) g × (has_vector g v ≡ true))
-    go true e rec = (h, ((0, omega arith, refl), e))
-    go false e rec = later_one gs h v (rec (some (times_vector (h ∷ gs) v) (cond (has_vector h v) 1 0) (times_vector gs v) (λ i. cond (e i) 1 0) (times_cons h gs v) l))
 
 pub still_cover : (frame : List Grid1) (old new : List (List Grid1)) → ((v : List ℤ) → times_vector new v ≡ times_vector old v) → Covered frame old → Covered frame new
 still_cover frame old new same h v e = let w = h v e in grid_of new v (subst (λ (n : ℕ). 1 ≤ n) (sym (same v)) (at_least old w.0 v w.1.0 w.1.1))

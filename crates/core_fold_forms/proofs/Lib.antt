@@ -1,5 +1,4 @@
 pub mod Lists
-pub mod Copying
 pub mod Chains
 pub mod Producers
 pub mod Counting

@@ -14,14 +14,16 @@ use Rattle.core_facts.specs.Facts.{Facts}
 use Rattle.core_loops.specs.Loops.{weight, weight_parts, parted_in, parted_in_parts}
 use Rattle.core_loops.specs.Pairs.{Producer}
 use Rattle.core_norm_steps.specs.Step.{BaseTable, Within, Follows}
+use Rattle.core_norm_steps.proofs.Places.{within_zip}
 use Rattle.core_inlined_bodies.proofs.Names.{Names, same, both, distinct_left, distinct_right, Fresh, fresh_left, fresh_right, fresh_both, behind_first}
 use Rattle.core_inlined_bodies.proofs.Stepped.{moved}
 use Rattle.core_norm_forms.proofs.Below.{OldBases, all_new}
 use Rattle.core_norm_forms.proofs.Scopes.{in_right}
-use Rattle.core_norm_forms.proofs.Tables.{Low, low_zip, within_zip}
+use Rattle.core_norm_forms.proofs.Tables.{Low, low_zip}
+use Rattle.core_fold_steps.proofs.Step.{avoids_chain}
 use Rattle.core_fold_forms.specs.Fresh.{FreshFold}
 use Rattle.core_fold_forms.proofs.Lists.{new_away, new_names, gone_names, table_zip}
-use Rattle.core_fold_forms.proofs.Chains.{chain_names, chain_weight, chain_parted, chain_calls, avoids_chain}
+use Rattle.core_fold_forms.proofs.Chains.{chain_names, chain_weight, chain_parted, chain_calls}
 use Rattle.core_fold_forms.proofs.Producers.{part_light, parts_light}
 use Rattle.core_fold_forms.proofs.Counting.{parts_counts, parts_calls}
 use Rattle.core_fold_forms.proofs.Grids.{same_times, still_fits}

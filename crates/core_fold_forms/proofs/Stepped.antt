@@ -1,37 +1,31 @@
 -- One fold step with new variables: the core is well formed.
-use Rattle.std.proofs.Common.{◌≡◌, ℕ, zero, suc, ◌+◌, ◌<◌, ◌≤◌, true, List, [], ◌∷◌, ◌++◌, map, Option, Some, refl, sym, ap, subst, ◌∙◌, ◌⊎◌, inl, inr, arith}
-use Rattle.std.specs.Prelude.{cond, eqb, max, slice_get, unwrap_or}
-use Rattle.sac_base.specs.declared.types.ArrayType.{ArrayType}
+use Rattle.std.proofs.Common.{◌≡◌, ℕ, zero, suc, ◌+◌, ◌<◌, ◌≤◌, List, [], ◌∷◌, ◌++◌, Option, Some, refl, sym, ap, subst, ◌∙◌, ◌⊎◌, arith}
+use Rattle.std.specs.Prelude.{slice_get, unwrap_or}
 use Rattle.core_ir.specs.declared.tree.Var.{Var}
-use Rattle.core_ir.specs.Binders.{is_in, bound_in}
+use Rattle.core_ir.specs.Binders.{bound_in}
 use Rattle.core_ir.specs.Edits.{Edited}
-use Rattle.core_ir.specs.Outcome.{param_vars, group_at}
+use Rattle.core_ir.specs.Outcome.{param_vars}
 use Rattle.core_ir.specs.Scopes.{Scoped}
 use Rattle.core_ir.specs.Terms.{BlockTerm, FunTerm, CoreTerm}
-use Rattle.core_ir.specs.WellFormed.{base_of, bases, param_bases, BlockBases, IsFunction, IsWellFormed}
-use Rattle.core_ir.proofs.Variables.{or_false}
+use Rattle.core_ir.specs.WellFormed.{bases, param_bases, BlockBases, IsFunction, IsWellFormed}
 use Rattle.core_bases.proofs.Backward.{below}
 use Rattle.core_calls.specs.Arrays.{SameOutcomeOnArrays}
-use Rattle.core_calls.specs.Nests.{CallsAll, InlineBelow, CallsBelow}
+use Rattle.core_calls.specs.Nests.{CallsAll, InlineBelow}
 use Rattle.core_calls.specs.Replaced.{replaced_at}
-use Rattle.core_calls.proofs.Agreeing.{weaker}
-use Rattle.core_calls.proofs.Replaced.{at_place}
 use Rattle.core_facts.specs.Facts.{Facts}
 use Rattle.core_loops.specs.Loops.{weight, parted_in}
 use Rattle.core_loops.specs.Steps.{fact_ways, FoldsHere}
-use Rattle.core_settled.specs.Called.{called, params_facts, result_shapes, shapes_at, common_shapes}
-use Rattle.core_subst.specs.Names.{above, above_all, above_function}
+use Rattle.core_settled.specs.Called.{called, params_facts}
+use Rattle.core_subst.specs.Names.{above, above_function}
 use Rattle.core_norm_steps.proofs.Tables.{has_table}
 use Rattle.core_fold_steps.specs.Step.{FoldStep}
 use Rattle.core_fold_steps.proofs.Whole.{fold_outcome}
 use Rattle.core_inlined_bodies.proofs.Counts.{all_at}
-use Rattle.core_inlined_bodies.proofs.Names.{Names, same, both, distinct_right, Fresh, fresh_left, fresh_right, fresh_more, own_vars, own_fresh, not_in}
-use Rattle.core_inlined_bodies.proofs.Stepped.{stepped, group_moved, still_below, well_stepped}
+use Rattle.core_inlined_bodies.proofs.Names.{Names, same, both, distinct_right, Fresh, fresh_left, fresh_right, fresh_more, own_vars, own_fresh}
+use Rattle.core_inlined_bodies.proofs.Stepped.{stepped, group_moved, well_stepped}
 use Rattle.core_norm_forms.specs.Walks.{functions_weight, core_weight}
-use Rattle.core_norm_forms.proofs.Laws.{names_below}
-use Rattle.core_norm_forms.proofs.Reach.{fresh_above, block_above}
-use Rattle.core_norm_forms.proofs.Tables.{Low}
 use Rattle.core_norm_forms.proofs.Walking.{by_other, scoped_kept, calls_kept, bases_kept}
+use Rattle.core_norm_forms.proofs.Replaced.{found_after, low_params, above_after, still_backward, same_called}
 use Rattle.core_fold_forms.specs.Fresh.{FreshFold, FreshFoldOf, Folds}
 use Rattle.core_fold_forms.specs.Walks.{Entry, Pair, FoldOf, functions_parted, parted_count}
 use Rattle.core_fold_forms.proofs.Laws.{fewer, still_rises, names_after, unnamed}
@@ -79,11 +73,6 @@ folds calls x y low high less l k b c h = (lowered calls low less k b c l h.0.st
 
 -- ---- functions at places
 
-same_shapes : (fs gs : List FunTerm) → ((place : ℕ) → result_shapes (slice_get gs place) ≡ result_shapes (slice_get fs place)) → (places : List ℕ) → shapes_at gs places ≡ shapes_at fs places
-same_shapes fs gs r [] = refl
-same_shapes fs gs r (p ∷ []) = r p
-same_shapes fs gs r (p ∷ q ∷ ps) = λ i. common_shapes (r p i) (same_shapes fs gs r (q ∷ ps) i)
-
 second_same : (a b c : ℕ) → a + 1 ≡ b → (c + a) + 1 ≡ c + b
 second_same a b c h = omega (arith, h)
 
@@ -100,17 +89,6 @@ counts_at (x ∷ fs) zero f g e h =
 counts_at (x ∷ fs) (suc n) f g e h =
     let w = counts_at fs n f g e h in
     (second_same (functions_parted (replaced_at fs n g)) (functions_parted fs) (parted_in x.body) w.0, λ i. weight x.body + w.1 i)
-
-found_after : (fs : List FunTerm) (n : ℕ) (f g : FunTerm) → slice_get fs n ≡ Some f → slice_get (replaced_at fs n g) n ≡ Some g
-found_after [] n f g e = absurd (let q : ◌≡◌ {A = Option FunTerm} Option.None (Some f) = e in cc)
-found_after (x ∷ fs) zero f g e = refl
-found_after (x ∷ fs) (suc n) f g e = found_after fs n f g e
-
-most : (a b n : ℕ) → a ≤ n → b ≤ n → max a b ≤ n
-most a b n p q = omega arith
-
-not_less : (n y : ℕ) → y < n → n ≤ y → ⊥
-not_less n y p q = omega arith
 
 itself_most : (n : ℕ) → n ≤ n
 itself_most n = omega arith
@@ -156,22 +134,12 @@ module _ (pair : Pair) (low high : ℕ) (a : CoreTerm) (n : ℕ) (f : FunTerm) (
   pub scoped : Scoped (param_vars f) c
   scoped = scoped_kept Facts (fact_ways (called a)) (FreshFold (called a) low high) low (λ k b c h. place_scoped (called a) low high k b c h) edited (param_vars f) is.scoped params_fresh bound_fresh
 
-  low_params : Low (param_bases f) low
-  low_params = go f.params params_fresh
-    where
-      go : (ps : List (Var × ArrayType)) → Fresh (map (λ (p : Var × ArrayType). p.0) ps) low → Low (map (λ (p : Var × ArrayType). (p.0, p.1.base)) ps) low
-      go [] h y k = refl
-      go (p ∷ ps) h y k =
-          let w = or_false (eqb p.0.0 y.0) (is_in y (map (λ (p : Var × ArrayType). p.0) ps)) (h y k) in
-          (λ i. cond (w.0 i) (Some p.1.base) (base_of (map (λ (p : Var × ArrayType). (p.0, p.1.base)) ps) y))
-          ∙ go ps (λ z l. (or_false (eqb p.0.0 z.0) (is_in z (map (λ (p : Var × ArrayType). p.0) ps)) (h z l)).1) y k
-
   pub based : BlockBases next (param_bases f) c (bases f.results)
   based =
       let t = has_table a f is in
       (bases_kept Facts (fact_ways (called a)) (FreshFold (called a) low high) 0 low t.0 a next (group_moved a n f c state.found)
       (λ k x y h g ts d w v l q o. place_bases (called a) low high k x y h t.0 a next (group_moved a n f c state.found) g ts d w v l q o)
-      edited (param_bases f) (bases f.results) is.agreeing t.1 t.2 low_params bound_fresh (distinct_right (param_vars f) (bound_in f.body) is.once)).0
+      edited (param_bases f) (bases f.results) is.agreeing t.1 t.2 (low_params f low params_fresh) bound_fresh (distinct_right (param_vars f) (bound_in f.body) is.once)).0
 
   pub function_after : IsFunction next own
   function_after = record { once = all_names.once is.once fresh; scoped = scoped; agreeing = based }
@@ -181,19 +149,8 @@ module _ (pair : Pair) (low high : ℕ) (a : CoreTerm) (n : ℕ) (f : FunTerm) (
   new_below : (place : ℕ) → CallsAll (InlineBelow a place) f.body → CallsAll (InlineBelow a place) c
   new_below place h = calls_kept Facts (fact_ways (called a)) (FreshFold (called a) low high) (InlineBelow a place) (λ k b c h. place_calls (called a) low high k b c h (InlineBelow a place)) edited h
 
-  backward_after : CallsBelow next
-  backward_after place g e w = go (at_place a.functions n place f own state.found)
-    where
-      go : (slice_get a.functions place ≡ slice_get (replaced_at a.functions n own) place) ⊎ ((slice_get a.functions place ≡ Some f) × (slice_get (replaced_at a.functions n own) place ≡ Some own)) → CallsAll (InlineBelow next place) g.body
-      go (inl y) = weaker (InlineBelow a place) (InlineBelow next place) (λ group h. still_below a n f c state.found place group h) g.body (below a state.well place g (y ∙ e) w)
-      go (inr y) =
-          let it : own ≡ g = ap (λ o. unwrap_or o g) (sym y.1 ∙ e) in
-          let inlines : f.is_inline ≡ true = ap (λ (o : FunTerm). o.is_inline) it ∙ w in
-          subst (λ (o : FunTerm). CallsAll (InlineBelow next place) o.body) it
-          (weaker (InlineBelow a place) (InlineBelow next place) (λ group h. still_below a n f c state.found place group h) c (new_below place (below a state.well place f y.0 inlines)))
-
   pub well_after : IsWellFormed next
-  well_after = well_stepped a n f c state.found state.well backward_after function_after
+  well_after = well_stepped a n f c state.found state.well (still_backward a n f c state.found state.well new_below) function_after
 
   -- ---- the step
 
@@ -210,26 +167,11 @@ module _ (pair : Pair) (low high : ℕ) (a : CoreTerm) (n : ℕ) (f : FunTerm) (
   pub counts_after : (parted_count next + 1 ≡ parted_count a) × (core_weight next ≡ core_weight a)
   counts_after = counts_at a.functions n f own state.found (fewer (called a) low high (params_facts f) f.body c edited)
 
-  results_at : (place : ℕ) → result_shapes (slice_get next.functions place) ≡ result_shapes (slice_get a.functions place)
-  results_at place = go (at_place a.functions n place f own state.found)
-    where
-      go : (slice_get a.functions place ≡ slice_get (replaced_at a.functions n own) place) ⊎ ((slice_get a.functions place ≡ Some f) × (slice_get (replaced_at a.functions n own) place ≡ Some own)) → result_shapes (slice_get (replaced_at a.functions n own) place) ≡ result_shapes (slice_get a.functions place)
-      go (inl y) = ap result_shapes (sym y)
-      go (inr y) = ap result_shapes y.1 ∙ sym (ap result_shapes y.0)
-
   pub called_after : called next ≡ called a
-  called_after = λ i group. same_shapes a.functions next.functions results_at (group_at a group) i
-
-  bound_after : Fresh (bound_in c) high
-  bound_after y l = not_in y (bound_in c) (λ h. not_less high y.0 (names_below (bound_in f.body) (bound_in c) low high rise names bound_fresh y h) l)
-
-  above_after : above_function own ≤ high
-  above_after =
-      let params = fresh_more (param_vars f) low high rise params_fresh in
-      most (above_all (param_vars f)) (above c) high (fresh_above high (param_vars f) params) (block_above high c (param_vars f) params scoped bound_after)
+  called_after = same_called a n f c state.found
 
   pub state_after : State high next n own
-  state_after = record { well = well_after; found = found_after a.functions n f own state.found; below = above_after }
+  state_after = record { well = well_after; found = found_after a.functions n f own state.found; below = above_after f c low high rise params_fresh bound_fresh names scoped }
 
 -- ---- a fold step on a pair is a fold step
 

@@ -19,12 +19,13 @@ use Rattle.core_loops.specs.Indices.{IndexFacts, note_others, learn_index, own_i
 use Rattle.core_loops.specs.Pairs.{Producer}
 use Rattle.core_loops.specs.Steps.{itself, Folded, FoldedRight, TakenAt, append_parts, PiecesFold, NewParts}
 use Rattle.core_norm_steps.specs.Step.{BaseTable, Within, Follows, FollowsRight, FollowsParts}
+use Rattle.core_norm_steps.proofs.Places.{within_zip, within_one}
 use Rattle.core_inlined_bodies.proofs.Names.{Fresh, clash, not_in, in_left, fresh_below, distinct_left, distinct_right, distinct_apart, behind_first}
 use Rattle.core_inlined_bodies.proofs.Names as names
 use Rattle.core_norm_forms.specs.Fresh.{IsBetween}
 use Rattle.core_norm_forms.proofs.Places.{all_member}
 use Rattle.core_norm_forms.proofs.Scopes.{in_right}
-use Rattle.core_norm_forms.proofs.Tables.{Low, within_one, within_zip}
+use Rattle.core_norm_forms.proofs.Tables.{Low}
 use Rattle.core_norm_forms.proofs.Typing.{GivesBases, gives_one, copy_bases}
 use Rattle.core_fold_forms.specs.Copied.{IsCopied, AllCopied, AllCopiedRight}
 use Rattle.core_fold_forms.specs.Fresh.{FreshPieces, FreshParts}

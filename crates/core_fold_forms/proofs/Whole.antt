@@ -1,6 +1,5 @@
 -- Many pairs of one function of a core.
-use Rattle.std.proofs.Common.{◌≡◌, ℕ, zero, suc, ◌+◌, ◌≤◌, List, [], ◌∷◌, ◌++◌, length, Option, Some, refl, sym, ap, subst, ◌∙◌, arith}
-use Rattle.std.specs.Prelude.{slice_get, unwrap_or}
+use Rattle.std.proofs.Common.{◌≡◌, ℕ, suc, ◌+◌, ◌≤◌, List, [], ◌∷◌, ◌++◌, length, Option, refl, sym, subst, ◌∙◌, arith}
 use Rattle.core_ir.specs.Edits.{Edited}
 use Rattle.core_ir.specs.Terms.{BlockTerm, FunTerm, CoreTerm}
 use Rattle.core_ir.specs.WellFormed.{IsWellFormed}
@@ -12,21 +11,12 @@ use Rattle.core_settled.specs.Called.{called, params_facts}
 use Rattle.core_subst.specs.Names.{above_function}
 use Rattle.core_inlined_bodies.proofs.Stepped.{stepped}
 use Rattle.core_norm_forms.specs.Walks.{core_weight}
+use Rattle.core_norm_forms.proofs.Replaced.{replaced_same, replaced_twice}
+use Rattle.core_norm_forms.proofs.Whole.{up_to}
+use Rattle.core_norm_forms.proofs.Grids.{same_most}
 use Rattle.core_fold_forms.specs.Fresh.{FreshFoldOf}
 use Rattle.core_fold_forms.specs.Walks.{Entry, Pair, BlockFolds, done, step, FunctionFolds, FoldSteps, no_fold, one_fold, entries_at, parted_count}
 use Rattle.core_fold_forms.proofs.Stepped.{State, well_after, fold_of, counts_after, called_after, state_after, outcome_of}
-
--- ---- one function twice
-
-replaced_same : (fs : List FunTerm) (n : ℕ) (f : FunTerm) → slice_get fs n ≡ Some f → replaced_at fs n f ≡ fs
-replaced_same [] n f e = refl
-replaced_same (x ∷ fs) zero f e = let own : x ≡ f = ap (λ o. unwrap_or o x) e in λ i. sym own i ∷ fs
-replaced_same (x ∷ fs) (suc n) f e = ap (λ gs. x ∷ gs) (replaced_same fs n f e)
-
-replaced_twice : (fs : List FunTerm) (n : ℕ) (f g : FunTerm) → replaced_at (replaced_at fs n f) n g ≡ replaced_at fs n g
-replaced_twice [] n f g = refl
-replaced_twice (x ∷ fs) zero f g = refl
-replaced_twice (x ∷ fs) (suc n) f g = ap (λ gs. x ∷ gs) (replaced_twice fs n f g)
 
 -- ---- what many steps keep
 
@@ -38,14 +28,8 @@ pub record Result (a b : CoreTerm) (f : FunTerm) (place : ℕ) (pairs : List Pai
   pub steps : FoldSteps (entries_at place pairs) a b
   pub below : above_function f ≤ high
 
-same_most : (a b : ℕ) → a ≡ b → a ≤ b
-same_most a b e = omega (arith, e)
-
 nothing_more : (n : ℕ) → n + 0 ≡ n
 nothing_more n = omega arith
-
-up_to : (a b c : ℕ) → a ≤ b → b ≤ c → a ≤ c
-up_to a b c p q = omega arith
 
 one_less : (a b c n : ℕ) → b + 1 ≡ a → c + n ≡ b → c + suc n ≡ a
 one_less a b c n p q = omega (arith, p, q)

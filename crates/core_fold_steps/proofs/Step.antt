@@ -1,37 +1,34 @@
 -- A fold step at its place.
-use Rattle.std.proofs.Common.{◌≡◌, ℕ, Bool, true, false, cond, ◌||◌, eqb, List, [], ◌∷◌, ◌++◌, map, length, Option, Some, None, Ok, Err, refl, sym, ap, subst, ◌∙◌, ℤ, All, FitsSigned, w32, inl, inr}
+use Rattle.std.proofs.Common.{◌≡◌, ℕ, true, ◌||◌, List, [], ◌∷◌, ◌++◌, Option, Ok, refl, sym, ap, subst, ◌∙◌, ℤ, All, inl, inr}
 use Rattle.std.specs.Prelude.{if◌then◌else◌, zip}
 use Rattle.std.proofs.lemmas.List.Elements.{All-head, All-tail}
 use Rattle.sac_base.specs.declared.base.Base.{Base}
 use Rattle.sac_base.specs.declared.faults.FaultKind.TheVariants.{F6}
 use Rattle.sac_base.specs.declared.grid.Grid1.{Grid1}
-use Rattle.sac_base.specs.declared.site.Site.{Site}
-use Rattle.sac_base.specs.Arrays.{ArrayValue}
 use Rattle.sac_base.specs.Grids.{has_vector, members}
 use Rattle.sac_base.specs.Outcomes.{and_then, fault}
 use Rattle.sac_base.specs.WithLoops.{each}
 use Rattle.core_ir.specs.declared.tree.Var.{Var}
 use Rattle.core_ir.specs.declared.tree.PartedOp.{PartedOp}
 use Rattle.core_ir.specs.declared.tree.PartedOp.TheVariants as parted
-use Rattle.core_ir.specs.Binders.{is_in, bound_in_parts}
-use Rattle.core_ir.specs.Scopes.{Scoped, AgreeOn, parted_uses}
-use Rattle.core_ir.specs.Terms.{BlockTerm, RightTerm, PartsTerm, PartHead, LetTerm, CoreTerm, Gives, Bind, Plain, NoParts, Part, Parted, chain}
-use Rattle.core_ir.specs.Uses.{Avoids, AvoidsAll, AvoidsParts}
-use Rattle.core_ir.specs.Meaning.{Env, CallMeaning, bind, bind_all, one, made_of, neutral_fits, cell_form, cell_at, parted_value, run, right_value, cells}
+use Rattle.core_ir.specs.Binders.{is_in}
+use Rattle.core_ir.specs.Scopes.{AgreeOn}
+use Rattle.core_ir.specs.Terms.{BlockTerm, RightTerm, PartsTerm, PartHead, LetTerm, CoreTerm, Bind, NoParts, Part, Parted, chain}
+use Rattle.core_ir.specs.Uses.{Avoids}
+use Rattle.core_ir.specs.Meaning.{Env, CallMeaning, bind, bind_all, one, made_of, neutral_fits, cell_form, run, right_value, cells}
 use Rattle.core_ir.specs.WellFormed.{Bases, IsFrame, Fit, Covered, IsResultFrame, PartedFits, part_grids}
 use Rattle.core_ir.proofs.Edited.{then_same}
 use Rattle.core_ir.proofs.Facts.{agree_after}
 use Rattle.core_ir.proofs.Unused.{drop_unused}
 use Rattle.core_ir.proofs.Variables.{in_front}
 use Rattle.core_facts.specs.Facts.{Facts, note_all, right_facts, CallsFit}
-use Rattle.core_fold.specs.Cells.{IsBox, HasCells, MakesArray}
+use Rattle.core_fold.specs.Cells.{IsBox, MakesArray}
 use Rattle.core_fold.proofs.Selected.{array_of, parted_made}
 use Rattle.core_bases.specs.Typed.{CallsTyped}
-use Rattle.core_loops.specs.Pairs.{Producer, Makes, AvoidsLets}
+use Rattle.core_loops.specs.Pairs.{Makes, AvoidsLets}
 use Rattle.core_loops.specs.Steps.{HeldIn, facts_after, NewParts, FoldsHere}
 use Rattle.core_fold_steps.proofs.Producer.{producer_cells}
 use Rattle.core_fold_steps.proofs.Places.{At, right_at, after_bind}
-use Rattle.core_fold_steps.proofs.Folded.{behind}
 use Rattle.core_fold_steps.proofs.Parts.{Within, parts_same}
 
 -- what well-formedness says of a producer
@@ -61,7 +58,7 @@ held_inside frame (Part g c rest) u h b ins i = elim i [
   | inr n ↦ held_inside frame rest u h b (All-tail (Within frame) g.grid (part_grids rest) ins) n.1
 ]
 
-avoids_chain : (x : Var) (ls : List LetTerm) (b : BlockTerm) → AvoidsLets x ls → Avoids x b → Avoids x (chain ls b)
+pub avoids_chain : (x : Var) (ls : List LetTerm) (b : BlockTerm) → AvoidsLets x ls → Avoids x b → Avoids x (chain ls b)
 avoids_chain x [] b h k = k
 avoids_chain x (l ∷ ls) b h k = (h.0, avoids_chain x ls b h.1 k)
 

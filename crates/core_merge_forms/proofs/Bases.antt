@@ -21,10 +21,10 @@ use Rattle.core_bases.proofs.Bound.{swap, firsts}
 use Rattle.core_loops.specs.Pairs.{AvoidsLets}
 use Rattle.core_loops.specs.Steps.{itself}
 use Rattle.core_norm_steps.specs.Step.{BaseTable, Within, Follows, FollowsParts}
+use Rattle.core_norm_steps.proofs.Places.{within_zip, within_one}
 use Rattle.core_inlined_bodies.proofs.Names.{clash, distinct_left, distinct_right}
 use Rattle.core_norm_forms.specs.Alike.{Alike, AlikeRight}
-use Rattle.core_norm_forms.proofs.Tables.{within_one, within_zip}
-use Rattle.core_norm_forms.proofs.Typing.{GivesBases, gives_one, copy_bases}
+use Rattle.core_norm_forms.proofs.Typing.{GivesBases, gives_one, copy_bases, counts}
 use Rattle.core_merge_forms.proofs.Straight.{Straight, StraightRight, StraightLets}
 use Rattle.core_merge_forms.proofs.Makes.{Kept, own_base}
 use Rattle.core_merge_forms.proofs.Scopes.{Stands}
@@ -55,9 +55,6 @@ module _ (P : Var → Type 0) where
   where_all S g wider (x ∷ xs) (y ∷ ys) [] p q d e k a b t n h m = absurd (omega (arith, p))
   where_all S g wider [] (y ∷ ys) us p q d e k a b t n h m = clash false h refl
   where_all S g wider (x ∷ xs) [] us p q d e k a b t n h m = clash false h refl
-
-counts : {n m l : ℕ} → n ≡ m → m ≡ l → n ≡ l
-counts p q = p ∙ q
 
 -- ---- straight bindings that do not use a variable
 

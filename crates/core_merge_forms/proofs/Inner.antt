@@ -17,12 +17,12 @@ use Rattle.core_edits.proofs.Wider.{block_wider, bound_new}
 use Rattle.core_facts.specs.Facts.{Facts}
 use Rattle.core_loops.specs.Indices.{IndexFacts}
 use Rattle.core_loops.specs.Pairs.{AvoidsLets, IsNest}
-use Rattle.core_inlined_bodies.proofs.Names.{behind_first, clash, distinct_apart, distinct_left, distinct_right, in_either, in_left, in_none, none_at, none_by, not_in}
+use Rattle.core_inlined_bodies.proofs.Names.{behind_first, clash, distinct_apart, distinct_right, in_either, in_left, in_none, none_at, none_by, not_in}
 use Rattle.core_inlined_bodies.proofs.Names as names
 use Rattle.core_norm_forms.proofs.Scopes.{Away, away_left, away_right, in_right}
+use Rattle.core_norm_forms.proofs.Copies.{Inside}
 use Rattle.core_merge_forms.specs.Built.{AllParts}
 use Rattle.core_merge_forms.proofs.Straight.{Straight, StraightRight, StraightLets, around_straight, chain_append}
-use Rattle.core_merge_forms.proofs.Makes.{Sub}
 use Rattle.core_merge_forms.proofs.Places.{avoids_back, avoids_front, nested}
 use Rattle.core_merge_forms.proofs.Scopes.{Stands, part_scoped}
 
@@ -130,7 +130,7 @@ module _ (z : Var) where
   abbrev lets_bound : List LetTerm → List Var
   lets_bound ls = bound_in (chain ls (Gives []))
 
-  in_chain : (ls : List LetTerm) (X : BlockTerm) → Sub (lets_bound ls) (bound_in (chain ls X))
+  in_chain : (ls : List LetTerm) (X : BlockTerm) → Inside (lets_bound ls) (bound_in (chain ls X))
   in_chain [] X y h = clash false h refl
   in_chain (l ∷ ls) X y h = go (in_either y l.targets (bound_in_right l.right ++ lets_bound ls) h) (λ m. in_chain ls X y m)
     where
@@ -173,7 +173,7 @@ module _ (z : Var) where
   -- bindings in front of X stand in front of Y in another scope
   lets_into :
       (ls : List LetTerm) (X Y : BlockTerm) (scope wider : List Var) → Scoped scope (chain ls X) → StraightLets ls → AvoidsLets z ls → Into scope wider → Away (lets_bound ls) wider
-      → ((sc wi : List Var) → Scoped sc X → Into sc wi → Sub scope sc → Sub wider wi → ((y : Var) → is_in y sc ≡ true → (is_in y scope ≡ true) ⊎ (is_in y (lets_bound ls) ≡ true))
+      → ((sc wi : List Var) → Scoped sc X → Into sc wi → Inside scope sc → Inside wider wi → ((y : Var) → is_in y sc ≡ true → (is_in y scope ≡ true) ⊎ (is_in y (lets_bound ls) ≡ true))
       → ((y : Var) → is_in y wi ≡ true → (is_in y wider ≡ true) ⊎ (is_in y (lets_bound ls) ≡ true)) → Scoped wi Y)
       → Scoped wider (chain ls Y)
   lets_into [] X Y scope wider s st a k w go = go scope wider s k (λ y m. m) (λ y m. m) (λ y m. inl m) (λ y m. inl m)
@@ -204,7 +204,7 @@ index_in NoParts g c n = absurd n
 index_in (Part h b rest) g c (inl n) = subst (λ (j : PartHead). is_in j.index (h.index ∷ (bound_in b ++ bound_in_parts rest)) ≡ true) n.0 (names.itself h.index (bound_in b ++ bound_in_parts rest))
 index_in (Part h b rest) g c (inr n) = behind_first g.index h.index (bound_in b ++ bound_in_parts rest) (in_right g.index (bound_in b) (bound_in_parts rest) (index_in rest g c n))
 
-body_in : (ps : PartsTerm) (g : PartHead) (c : BlockTerm) → Stands ps g c → Sub (bound_in c) (bound_in_parts ps)
+body_in : (ps : PartsTerm) (g : PartHead) (c : BlockTerm) → Stands ps g c → Inside (bound_in c) (bound_in_parts ps)
 body_in NoParts g c n y m = absurd n
 body_in (Part h b rest) g c (inl n) y m =
     behind_first y h.index (bound_in b ++ bound_in_parts rest) (in_left y (bound_in b) (bound_in_parts rest) (subst (λ (d : BlockTerm). is_in y (bound_in d) ≡ true) (sym n.1) m))

@@ -32,6 +32,7 @@ use Rattle.core_norm_forms.proofs.Laws.{all_by, fresh_from, names_below, rises}
 use Rattle.core_norm_forms.proofs.Places.{all_member}
 use Rattle.core_norm_forms.proofs.Tables.{Low}
 use Rattle.core_norm_forms.proofs.Walking.{names_kept}
+use Rattle.core_norm_forms.proofs.Weights.{first_falls, second_falls}
 use Rattle.core_merge_forms.specs.Fresh.{MergesFresh}
 use Rattle.core_merge_forms.specs.Laws.{joined_grids}
 use Rattle.core_merge_forms.proofs.Grids.{joined_fit, split_has}
@@ -120,9 +121,6 @@ module _ (called : ℕ → List (Option (List ℕ))) (k : Facts) (f : List Grid1
       (inr (w.0, fits), All-cons (λ (p : List Grid1 × List (List Grid1)). Fit f p.1 × Covered f p.1) (h.grid, part_grids w.0) (pairs rest w.1.0 w.1.1.1) (fits.1, fits.2) r.1)
 
 -- ---- at the place
-
-below_more : (a b n : ℕ) → a ≤ b → b ≤ n → a ≤ n
-below_more a b n p q = omega arith
 
 module _ (called : ℕ → List (Option (List ℕ))) (low high : ℕ) (k : Facts) (b c : BlockTerm) (fresh : MergesFresh called low high k b c) where
   abbrev step : MergesHere called low k b c
@@ -216,12 +214,6 @@ module _ (called : ℕ → List (Option (List ℕ))) (low high : ℕ) (k : Facts
         (λ d w f l v o. subst (λ (x : BlockTerm). (e : BlockBases next g x ts) × OldBases next 0 t x g ts e) (sym step.after) (new_based g ts d w f l o))
 
 -- ---- a place in a block
-
-first_falls : (a b c : ℕ) → a < b → a + c < b + c
-first_falls a b c h = omega arith
-
-second_falls : (a b c : ℕ) → a < b → c + a < c + b
-second_falls a b c h = omega arith
 
 next_falls : (a b : ℕ) → a < b → suc a < suc b
 next_falls a b h = omega arith

@@ -1,6 +1,5 @@
 pub mod Grids
 pub mod Straight
-pub mod Copies
 pub mod Makes
 pub mod Scopes
 pub mod Bases

@@ -11,12 +11,13 @@ use Rattle.sac_base.specs.Arrays.{IsArray, IsCell, IsWellTyped, scalar}
 use Rattle.core_ir.specs.declared.tree.Var.{Var}
 use Rattle.core_ir.specs.Binders.{is_in, bound_in}
 use Rattle.core_ir.specs.Scopes.{AllIn, Scoped}
-use Rattle.core_ir.specs.Terms.{PlainTerm, BlockTerm, LetTerm, Plain, Bind, chain}
+use Rattle.core_ir.specs.Terms.{PlainTerm, BlockTerm, LetTerm, Plain, chain}
 use Rattle.core_ir.specs.WellFormed.{AllHave, Bases, BlockBases, Distinct, LiteralBase, base_of}
 use Rattle.core_ir.proofs.Variables.{all_more, same_number}
 use Rattle.core_merge_steps.specs.Step.{IndicesMade, Picks}
 use Rattle.core_inlined_bodies.proofs.Names.{behind_first, clash, distinct_apart, in_none, itself, not_in}
 use Rattle.core_norm_forms.proofs.Scopes.{Away, in_right}
+use Rattle.core_norm_forms.proofs.Copies.{Inside}
 use Rattle.core_merge_forms.proofs.Straight.{StraightLets, chain_append, straight_both}
 
 -- ---- they are straight
@@ -49,13 +50,9 @@ all_back : (xs ys w : List Var) → AllIn (xs ++ ys) w → AllIn ys w
 all_back [] ys w h = h
 all_back (x ∷ xs) ys w h = all_back xs ys w h.1
 
--- the first scope is in the second
-abbrev pub Sub : List Var → List Var → Type 0
-Sub scope wider = (y : Var) → is_in y scope ≡ true → is_in y wider ≡ true
-
 picks_scoped :
     (u : Var) (xs : List Var) (j : ℕ) (ls : List LetTerm) (X : BlockTerm) (wider : List Var) → Picks u j xs ls → is_in u wider ≡ true → Distinct (bound_in (chain ls X)) → Away (bound_in (chain ls X)) wider
-    → ((w : List Var) → Sub wider w → AllIn xs w → Distinct (bound_in X) → Away (bound_in X) w → Scoped w X) → Scoped wider (chain ls X)
+    → ((w : List Var) → Inside wider w → AllIn xs w → Distinct (bound_in X) → Away (bound_in X) w → Scoped w X) → Scoped wider (chain ls X)
 picks_scoped u [] j ls X wider n at d w k =
     subst (λ (ms : List LetTerm). Scoped wider (chain ms X)) (sym n)
     (k wider (λ y h. h) tt (subst (λ (ms : List LetTerm). Distinct (bound_in (chain ms X))) n d) (subst (λ (ms : List LetTerm). Away (bound_in (chain ms X)) wider) n w))
@@ -81,7 +78,7 @@ picks_scoped u (x ∷ xs) j ls X wider n at d w k =
 
 pub makes_scoped :
     (u i l : Var) (n m : ℕ) (makes : List LetTerm) (h : IndicesMade u i l n m makes) (b : BlockTerm) (wider : List Var) → is_in u wider ≡ true → Distinct (bound_in (chain makes b)) → Away (bound_in (chain makes b)) wider
-    → ((w : List Var) → Sub wider w → Distinct (bound_in b) → Away (bound_in b) (l ∷ (i ∷ w)) → Scoped (l ∷ (i ∷ w)) b) → Scoped wider (chain makes b)
+    → ((w : List Var) → Inside wider w → Distinct (bound_in b) → Away (bound_in b) (l ∷ (i ∷ w)) → Scoped (l ∷ (i ∷ w)) b) → Scoped wider (chain makes b)
 makes_scoped u i l n m makes h b wider at d w k =
     let whole = makes_whole u i l n m makes h b in
     let X = chain (ends u i l n m makes h) b in

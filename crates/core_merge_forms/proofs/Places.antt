@@ -26,10 +26,10 @@ use Rattle.core_inlined_bodies.proofs.Names.{behind_first, distinct_left, distin
 use Rattle.core_inlined_bodies.proofs.Names as names
 use Rattle.core_norm_forms.specs.Alike.{Alike}
 use Rattle.core_norm_forms.proofs.Scopes.{Away, away_left, away_right, in_right}
-use Rattle.core_norm_forms.proofs.Weights.{weights}
+use Rattle.core_norm_forms.proofs.Calls.{copy_calls}
+use Rattle.core_norm_forms.proofs.Weights.{weights, copy_parted}
 use Rattle.core_merge_forms.specs.Fresh.{AlikeInner, AlikeMerged}
 use Rattle.core_merge_forms.proofs.Straight.{StraightLets, around_straight, calls_behind, chain_append, chain_calls, chain_parted, chain_weight, straight_both}
-use Rattle.core_merge_forms.proofs.Copies.{copy_calls, copy_parted}
 use Rattle.core_merge_forms.proofs.Makes.{Baseless, away_below, baseless_below, makes_bases, makes_scoped, makes_straight, own_base}
 use Rattle.core_merge_forms.proofs.Scopes.{Stands, merged_scoped}
 use Rattle.core_merge_forms.proofs.Bases.{merged_bases}

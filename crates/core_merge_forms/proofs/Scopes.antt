@@ -9,22 +9,15 @@ use Rattle.core_ir.specs.Scopes.{AllIn, Scoped, ScopedRight, ScopedParts, plain_
 use Rattle.core_ir.specs.Terms.{PlainTerm, BlockTerm, RightTerm, PartsTerm, LetTerm, PartHead, Gives, Bind, Plain, NoParts, Part, Parted, chain}
 use Rattle.core_ir.specs.Uses.{AvoidsAll, Avoids, AvoidsRight}
 use Rattle.core_ir.specs.WellFormed.{Distinct}
-use Rattle.core_ir.proofs.Variables.{in_more, same_number}
+use Rattle.core_ir.proofs.Variables.{same_number}
 use Rattle.core_loops.specs.Pairs.{AvoidsLets}
 use Rattle.core_loops.specs.Steps.{itself}
 use Rattle.core_inlined_bodies.proofs.Names.{behind_first, clash, distinct_left, distinct_right, in_either, in_left, none_by}
 use Rattle.core_inlined_bodies.proofs.Names as names
-use Rattle.core_norm_forms.proofs.Scopes.{Away, Carries, away_left, away_right, carries_all, carries_one, copy_scoped, in_right}
+use Rattle.core_norm_forms.proofs.Scopes.{Away, Carries, away_left, away_right, carries_all, carries_one, copy_scoped, in_right, turned}
+use Rattle.core_norm_forms.proofs.Copies.{Inside}
 use Rattle.core_merge_forms.proofs.Straight.{Straight, StraightRight, StraightLets}
-use Rattle.core_merge_forms.proofs.Makes.{Sub, away_below}
-
-turned : (a x : Var) (xs scope : List Var) → is_in a (x ∷ (xs ++ scope)) ≡ is_in a (xs ++ (x ∷ scope))
-turned a x xs scope = (λ i. eqb x.0 a.0 || in_more a xs scope i) ∙ shuffle (eqb x.0 a.0) (is_in a xs) (is_in a scope) ∙ sym (in_more a xs (x ∷ scope))
-  where
-    shuffle : (p q r : Bool) → (p || (q || r)) ≡ (q || (p || r))
-    shuffle true true r = refl
-    shuffle true false r = refl
-    shuffle false q r = refl
+use Rattle.core_merge_forms.proofs.Makes.{away_below}
 
 -- ---- straight bindings that do not use a variable
 
@@ -101,7 +94,7 @@ module _ (z : Var) where
   pub lets_scoped :
       (ls : List LetTerm) (X Y body : BlockTerm) (S : Link) (scope full wider : List Var) → Scoped scope (chain ls X) → Renamed S (chain ls Y) body → StraightLets ls → AvoidsLets z ls
       → ((y : Var) → eqb z.0 y.0 ≡ false → is_in y scope ≡ true → is_in y full ≡ true) → Carries S full wider → Distinct (bound_in body) → Away (bound_in body) wider
-      → ((T : Link) (sc fu wi : List Var) (rest : BlockTerm) → Scoped sc X → Renamed T Y rest → ((y : Var) → eqb z.0 y.0 ≡ false → is_in y sc ≡ true → is_in y fu ≡ true) → Sub scope sc → Sub full fu
+      → ((T : Link) (sc fu wi : List Var) (rest : BlockTerm) → Scoped sc X → Renamed T Y rest → ((y : Var) → eqb z.0 y.0 ≡ false → is_in y sc ≡ true → is_in y fu ≡ true) → Inside scope sc → Inside full fu
       → Carries T fu wi → Distinct (bound_in rest) → Away (bound_in rest) wi → Scoped wi rest)
       → Scoped wider body
   lets_scoped [] X Y body S scope full wider s h st a f k d w go = go S scope full wider body s h f (λ y m. m) (λ y m. m) k d w
@@ -132,7 +125,7 @@ part_scoped scope NoParts g c n s = absurd n
 part_scoped scope (Part h b rest) g c (inl n) s = subst (λ (j : PartHead). Scoped (j.index ∷ scope) c) n.0 (subst (λ (d : BlockTerm). Scoped (h.index ∷ scope) d) n.1 s.1)
 part_scoped scope (Part h b rest) g c (inr n) s = part_scoped scope rest g c n s.2
 
-same_carries : (scope wider : List Var) → Sub scope wider → Carries itself scope wider
+same_carries : (scope wider : List Var) → Inside scope wider → Carries itself scope wider
 same_carries scope wider f x y h m = (λ i. is_in (sym (same_number x y h) i) wider) ∙ f x m
 
 not_itself : (z y : Var) (scope : List Var) → is_in z scope ≡ false → is_in y scope ≡ true → eqb z.0 y.0 ≡ false
@@ -147,7 +140,7 @@ pub merged_scoped :
     (z : Var) (s : Site) (before after : List LetTerm) (f : List Rattle.sac_base.specs.declared.grid.Grid1.Grid1) (t : Rattle.sac_base.specs.declared.base.Base.Base) (cell : List ℕ) (inner : PartsTerm) (i j : Var) (g : PartHead) (c body : BlockTerm) (l : Var) (scope w : List Var)
     → Scoped (i ∷ scope) (chain before (Bind (z ∷ []) s (Parted f t cell Rattle.core_ir.specs.declared.tree.PartedOp.TheVariants.Genarray inner) (chain after (Gives (z ∷ [])))))
     → StraightLets before → StraightLets after → AvoidsLets z before → AvoidsLets z after → Stands inner g c → Renamed (under (under itself i j) g.index l) (chain before (chain after c)) body
-    → Sub scope w → Distinct (bound_in body) → Away (bound_in body) (l ∷ (j ∷ w)) → Scoped (l ∷ (j ∷ w)) body
+    → Inside scope w → Distinct (bound_in body) → Away (bound_in body) (l ∷ (j ∷ w)) → Scoped (l ∷ (j ∷ w)) body
 merged_scoped z s before after f t cell inner i j g c body l scope w sc sb sa ab aa st h sub d v =
     let S = under (under itself i j) g.index l in
     let full = g.index ∷ (i ∷ scope) in
@@ -156,15 +149,15 @@ merged_scoped z s before after f t cell inner i j g c body l scope w sc sb sa ab
     (λ y n m. behind_first y g.index (i ∷ scope) m) k d v
     (λ T sc1 fu wi rest sx hy into sub1 subf kt e u.
     let own = part_scoped sc1 inner g c st sx.0.1 in
-    let there : Sub sc1 fu = λ y m. into y (not_itself z y sc1 sx.1.0 m) m in
-    let last : Sub (g.index ∷ sc1) fu = λ y m. one_more y g.index sc1 fu (subf g.index (names.itself g.index (i ∷ scope))) there m in
+    let there : Inside sc1 fu = λ y m. into y (not_itself z y sc1 sx.1.0 m) m in
+    let last : Inside (g.index ∷ sc1) fu = λ y m. one_more y g.index sc1 fu (subf g.index (names.itself g.index (i ∷ scope))) there m in
     lets_scoped z after (Gives (z ∷ [])) c rest T (z ∷ sc1) fu wi sx.2 hy sa aa (λ y n m. there y (past y n sc1 m)) kt e u
     (λ T2 sc2 fu2 wi2 end s2 h2 into2 sub2 subf2 k2 e2 u2. copy_scoped T2 c end (g.index ∷ sc1) wi2 h2 (λ x y p m. k2 x y p (subf2 x (last x m))) own e2 u2))
   where
     past : (y : Var) → eqb z.0 y.0 ≡ false → (sc1 : List Var) → is_in y (z ∷ sc1) ≡ true → is_in y sc1 ≡ true
     past y n sc1 m = sym (λ i. n i || is_in y sc1) ∙ m
 
-    one_more : (y x : Var) (xs fu : List Var) → is_in x fu ≡ true → Sub xs fu → is_in y (x ∷ xs) ≡ true → is_in y fu ≡ true
+    one_more : (y x : Var) (xs fu : List Var) → is_in x fu ≡ true → Inside xs fu → is_in y (x ∷ xs) ≡ true → is_in y fu ≡ true
     one_more y x xs fu at h m = go (eqb x.0 y.0) refl m
       where
         go : (b : Bool) → eqb x.0 y.0 ≡ b → (b || is_in y xs) ≡ true → is_in y fu ≡ true

@@ -1,12 +1,11 @@
 -- The cells of an outer loop are inner loops, and the merged bodies give their cells.
-use Rattle.std.proofs.Common.{◌≡◌, ℕ, zero, suc, ◌+◌, ◌<◌, ◌⊎◌, inl, inr, Bool, true, false, ◌||◌, cond, eqb, List, [], ◌∷◌, ◌++◌, map, length, replicate, Option, Some, None, Ok, Err, refl, sym, ap, subst, ◌∙◌, arith, ℤ, pos}
+use Rattle.std.proofs.Common.{◌≡◌, ℕ, ◌+◌, ◌<◌, ◌⊎◌, inl, inr, Bool, true, false, ◌||◌, cond, eqb, List, [], ◌∷◌, ◌++◌, length, replicate, Option, Ok, Err, refl, sym, ap, subst, ◌∙◌, ℤ, pos}
 use Rattle.std.specs.Prelude.{zip}
 use Rattle.std.proofs.lemmas.Bool.{eq-eqb}
 use Rattle.std.proofs.lemmas.List.{length-replicate}
 use Rattle.sac_base.specs.declared.base.Base.{Base}
 use Rattle.sac_base.specs.declared.base.Base.TheVariants.{Int}
 use Rattle.sac_base.specs.declared.grid.Grid1.{Grid1}
-use Rattle.sac_base.specs.declared.site.Site.{Site}
 use Rattle.sac_base.specs.Arrays.{ArrayValue, vector, size}
 use Rattle.sac_base.specs.Grids.{has_vector}
 use Rattle.sac_base.specs.Outcomes.{Ends, and_then, first_result}
@@ -21,19 +20,20 @@ use Rattle.core_ir.specs.WellFormed.{Bases, Distinct, Covered, part_grids}
 use Rattle.core_ir.proofs.Coincide.{same_on}
 use Rattle.core_ir.proofs.Facts.{agree_after}
 use Rattle.core_ir.proofs.Unused.{unused}
-use Rattle.core_ir.proofs.Variables.{same_number, in_front, in_more, in_neither, or_right, or_false}
-use Rattle.core_facts.specs.Facts.{Facts, note_all, right_facts, CallsFit, in_part}
+use Rattle.core_ir.proofs.Variables.{same_number, in_front, in_more, in_neither, or_right}
+use Rattle.core_facts.specs.Facts.{Facts, note_all, right_facts, CallsFit}
 use Rattle.core_facts.proofs.Shapes.{ok_same}
 use Rattle.core_facts.proofs.Sound.{noted, known_has, then_ok}
 use Rattle.core_bases.specs.Typed.{HaveBases, CallsTyped}
-use Rattle.core_bases.proofs.Bound.{distinct_left, distinct_right, bound_zip}
-use Rattle.core_loops.specs.Indices.{IndexFacts, learn_index, own_index, total_block}
+use Rattle.core_bases.proofs.Bound.{distinct_right, bound_zip}
+use Rattle.core_loops.specs.Indices.{IndexFacts, learn_index, total_block}
 use Rattle.core_loops.specs.Pairs.{AvoidsLets, IsNest, total_around}
 use Rattle.core_index_facts.specs.Says.{SaysAll}
 use Rattle.core_index_facts.proofs.Indices.{says_learned, says_others}
 use Rattle.core_index_facts.proofs.Blocks.{block_total}
 use Rattle.core_fold_steps.proofs.Places.{At, after_bind}
-use Rattle.core_merge_steps.proofs.Walk.{agree_more, Walked, walk}
+use Rattle.core_fold_steps.proofs.Step.{avoids_chain}
+use Rattle.core_merge_steps.proofs.Walk.{agree_more, walk}
 
 -- ---- variables
 
@@ -70,10 +70,6 @@ chain_append (l ∷ ls) ms X = λ i. Bind l.targets l.site l.right (chain_append
 lets_back : (z : Var) (ls ms : List LetTerm) → AvoidsLets z (ls ++ ms) → AvoidsLets z ms
 lets_back z [] ms h = h
 lets_back z (l ∷ ls) ms h = lets_back z ls ms h.1
-
-avoids_chain : (x : Var) (ls : List LetTerm) (b : BlockTerm) → AvoidsLets x ls → Avoids x b → Avoids x (chain ls b)
-avoids_chain x [] b h k = k
-avoids_chain x (l ∷ ls) b h k = (h.0, avoids_chain x ls b h.1 k)
 
 -- ---- parts of the inner loop
 

@@ -9,7 +9,7 @@ use Rattle.core_norm_forms.proofs.Made.{Made, MadeParts}
 
 module _ (P : ℕ → Type 0) where
   mutual
-    copy_calls : (S : Link) (b c : BlockTerm) → Renamed S b c → CallsAll P b → CallsAll P c
+    pub copy_calls : (S : Link) (b c : BlockTerm) → Renamed S b c → CallsAll P b → CallsAll P c
     copy_calls S (Gives xs) (Gives ys) h a = tt
     copy_calls S (Bind xs s r b) (Bind ys t q c) h a = (copy_right S r q h.1 a.0, copy_calls (under_all S xs ys) b c h.2 a.1)
     copy_calls S (Gives xs) (Bind ys t q c) h a = absurd h

@@ -17,7 +17,7 @@ use Rattle.core_subst.specs.Substitution.{plain_with, core_op_with, parted_op_wi
 use Rattle.core_copy.specs.Mapped.{mapped, mapped_right, mapped_gens, mapped_parts, mapped_gen_head}
 use Rattle.core_inlined_bodies.proofs.Names.{in_left, itself, behind_first}
 use Rattle.core_norm_forms.specs.Alike.{Alike, AlikeRight, AlikeGens, AlikeParts}
-use Rattle.core_norm_forms.proofs.Scopes.{in_right}
+use Rattle.core_norm_forms.proofs.Scopes.{in_right, turned}
 
 -- ---- equally many variables are bound
 
@@ -65,14 +65,6 @@ inside_both xs ys all h k = λ y p. go y (is_in y xs) refl (sym (in_more y xs ys
     go : (y : Var) (b : Bool) → is_in y xs ≡ b → (is_in y xs || is_in y ys) ≡ true → is_in y all ≡ true
     go y true e p = h y e
     go y false e p = k y (sym (λ i. e i || is_in y ys) ∙ p)
-
-pub turned : (a x : Var) (xs scope : List Var) → is_in a (x ∷ (xs ++ scope)) ≡ is_in a (xs ++ (x ∷ scope))
-turned a x xs scope = (λ i. eqb x.0 a.0 || in_more a xs scope i) ∙ shuffle (eqb x.0 a.0) (is_in a xs) (is_in a scope) ∙ sym (in_more a xs (x ∷ scope))
-  where
-    shuffle : (p q r : Bool) → (p || (q || r)) ≡ (q || (p || r))
-    shuffle true true r = refl
-    shuffle true false r = refl
-    shuffle false q r = refl
 
 module _ (f : Var → Var) (all : List Var) (apart : (x y : Var) → is_in x all ≡ true → is_in y all ≡ true → eqb (f x).0 (f y).0 ≡ eqb x.0 y.0) where
   -- each variable in scope is linked with the one that stands for it

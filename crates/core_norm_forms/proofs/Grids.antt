@@ -9,10 +9,10 @@ use Rattle.sac_base.specs.Grids.{AreDisjoint, SplitsVectors, has_vector, times_v
 use Rattle.core_ir.specs.WellFormed.{Covered, Fit}
 
 -- each vector is in one grid at most, and in none where the set has it not
-abbrev AtMost : (List ℤ → Bool) → List (List Grid1) → Type 0
+abbrev pub AtMost : (List ℤ → Bool) → List (List Grid1) → Type 0
 AtMost set gs = (v : List ℤ) → times_vector gs v ≤ cond (set v) 1 0
 
-times_cons : (g : List Grid1) (gs : List (List Grid1)) (v : List ℤ) → times_vector (g ∷ gs) v ≡ cond (has_vector g v) 1 0 + times_vector gs v
+pub times_cons : (g : List Grid1) (gs : List (List Grid1)) (v : List ℤ) → times_vector (g ∷ gs) v ≡ cond (has_vector g v) 1 0 + times_vector gs v
 times_cons g gs v = sum_by-cons (λ (p : List Grid1). cond (has_vector p v) 1 0) g gs
 
 less : (n a t m : ℕ) → n ≡ a + t → n ≤ m → t ≤ m
@@ -73,7 +73,7 @@ fit frame gs h = record { apart = pairs gs h; inside = within gs h }
     within (g ∷ gs) h =
         All-cons (λ (g : List Grid1). (index : List ℤ) → has_vector g index ≡ true → has_vector frame index ≡ true) g gs (inside_one (has_vector frame) g gs h) (within gs (rest_at_most (has_vector frame) g gs h))
 
-same_most : (n m : ℕ) → n ≡ m → n ≤ m
+pub same_most : (n m : ℕ) → n ≡ m → n ≤ m
 same_most n m p = omega (arith, p)
 
 pub splits_fit : (frame : List Grid1) (gs : List (List Grid1)) → SplitsVectors gs (has_vector frame) → Fit frame gs
@@ -81,13 +81,13 @@ splits_fit frame gs h = fit frame gs (λ v. same_most (times_vector gs v) (cond 
 
 -- ---- the grid of a vector
 
-later_one : (gs : List (List Grid1)) (h : List Grid1) (v : List ℤ) → ((g : List Grid1) × (Contains gs g × (has_vector g v ≡ true))) → (g : List Grid1) × (Contains (h ∷ gs) g × (has_vector g v ≡ true))
+pub later_one : (gs : List (List Grid1)) (h : List Grid1) (v : List ℤ) → ((g : List Grid1) × (Contains gs g × (has_vector g v ≡ true))) → (g : List Grid1) × (Contains (h ∷ gs) g × (has_vector g v ≡ true))
 later_one gs h v w = let c = w.1.0 in let l = c.1 in (w.0, ((suc c.0, omega (arith, l), c.2), w.1.1))
 
-some : (n a t : ℕ) → a ≡ 0 → n ≡ a + t → 1 ≤ n → 1 ≤ t
+pub some : (n a t : ℕ) → a ≡ 0 → n ≡ a + t → 1 ≤ n → 1 ≤ t
 some n a t z p q = omega (arith, z, p, q)
 
-grid_of : (gs : List (List Grid1)) (v : List ℤ) → 1 ≤ times_vector gs v → (g : List Grid1) × (Contains gs g × (has_vector g v ≡ true))
+pub grid_of : (gs : List (List Grid1)) (v : List ℤ) → 1 ≤ times_vector gs v → (g : List Grid1) × (Contains gs g × (has_vector g v ≡ true))
 grid_of [] v l = absurd (omega arith)
 grid_of (h ∷ gs) v l = go (has_vector h v) refl (λ k. grid_of gs v k)
   where

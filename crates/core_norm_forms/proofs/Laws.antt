@@ -52,7 +52,7 @@ module _ (calls : ℕ → List (Option (List ℕ))) (first low high : ℕ) (m : 
 
 -- ---- numbers below another
 
-is_below : (n y : ℕ) → y < n → n ≤ y → ⊥
+pub is_below : (n y : ℕ) → y < n → n ≤ y → ⊥
 is_below n y p q = omega arith
 
 pub fresh_from : (n : ℕ) (xs : List Var) → All (λ (x : Var). x.0 < n) xs → Fresh xs n

@@ -10,6 +10,7 @@ pub mod Copies
 pub mod Calls
 pub mod Places
 pub mod Laws
+pub mod Replaced
 pub mod Stepped
 pub mod Whole
 pub mod Placing

@@ -24,8 +24,8 @@ use Rattle.core_copy.specs.Mapped.{mapped, mapped_right, mapped_gens, mapped_par
 use Rattle.core_loops.specs.Steps.{itself}
 use Rattle.core_norm_steps.specs.Genarray.{NamedBody}
 use Rattle.core_norm_forms.specs.Alike.{NamedAlike}
-use Rattle.core_norm_forms.proofs.Copies.{alike, Inside, inside_left, inside_right, inside_both, turned, links_one, renamed}
-use Rattle.core_norm_forms.proofs.Scopes.{in_right}
+use Rattle.core_norm_forms.proofs.Copies.{alike, Inside, inside_left, inside_right, inside_both, links_one, renamed}
+use Rattle.core_norm_forms.proofs.Scopes.{in_right, flipped, flipped_in}
 
 less_one : (n y : ℕ) → suc n ≤ y → n ≤ y
 less_one n y h = omega arith
@@ -147,15 +147,6 @@ module _ (f : Var → Var) (all : List Var) (c : Var) (other : (x : Var) → is_
         (avoids (xs ++ scope) b s.1 (inside_left (bound_in b) (bound_in_parts rest) all more) (inside_both xs scope all own j), avoids_parts scope rest s.2 (inside_right (bound_in b) (bound_in_parts rest) all more) j)
 
 -- ---- components
-
--- the variables, each put before those in scope
-abbrev flipped : List Var → List Var → List Var
-flipped [] scope = scope
-flipped (x ∷ xs) scope = flipped xs (x ∷ scope)
-
-flipped_in : (a : Var) (xs scope : List Var) → is_in a (xs ++ scope) ≡ is_in a (flipped xs scope)
-flipped_in a [] scope = refl
-flipped_in a (x ∷ xs) scope = turned a x xs scope ∙ flipped_in a xs (x ∷ scope)
 
 module _ (f : Var → Var) (s : Site) (index : Var) (all : List Var) (apart : (x y : Var) → is_in x all ≡ true → is_in y all ≡ true → eqb (f x).0 (f y).0 ≡ eqb x.0 y.0) (body : BlockTerm) (full : List Var) (scoped : Scoped full body) (bound : Inside (bound_in body) all) (inside : Inside full all) (there : is_in index all ≡ true) where
   abbrev i : Var

@@ -8,7 +8,7 @@ use Rattle.core_ir.specs.Terms.{BlockTerm, RightTerm, GensTerm, PartsTerm, GenHe
 use Rattle.core_subst.specs.Names.{above_all, above_option, above_head, above, above_right, above_gens, above_parts}
 use Rattle.core_inlined_bodies.proofs.Names.{Fresh, fresh_both, fresh_left, fresh_right, fresh_below, itself}
 
-most : (a b n : ℕ) → a ≤ n → b ≤ n → max a b ≤ n
+pub most : (a b n : ℕ) → a ≤ n → b ≤ n → max a b ≤ n
 most a b n p q = omega arith
 
 none : (n : ℕ) → 0 ≤ n

@@ -11,7 +11,7 @@ use Rattle.core_ir.specs.Renaming.{Link, Linked, LinkedOption, Renamed, RenamedR
 use Rattle.core_ir.specs.Scopes.{AllIn, Scoped, ScopedRight, ScopedGens, ScopedParts, plain_uses, op_uses, parted_uses, head_uses}
 use Rattle.core_ir.specs.Terms.{PlainTerm, BlockTerm, RightTerm, GensTerm, PartsTerm, GenHead, PartHead, Gives, Bind, Plain, NoGens, Gen, NoParts, Part}
 use Rattle.core_ir.specs.WellFormed.{Distinct}
-use Rattle.core_ir.proofs.Variables.{in_more, or_false, same_number}
+use Rattle.core_ir.proofs.Variables.{in_more, same_number}
 use Rattle.core_loops.specs.Steps.{itself}
 use Rattle.core_norm_steps.specs.Genarray.{GenAt, NamedBody}
 use Rattle.core_inlined_bodies.proofs.Names.{clash, in_none, in_left, behind_first, none_by, distinct_left, distinct_right, distinct_apart}
@@ -49,7 +49,7 @@ carries_one S scope wider x y k a b h m = go (eqb x.0 a.0) (eqb y.0 b.0) h m
     go true false h m = clash false h refl
     go false false h m = k a b h m
 
-turned : (a x : Var) (xs scope : List Var) → is_in a (x ∷ (xs ++ scope)) ≡ is_in a (xs ++ (x ∷ scope))
+pub turned : (a x : Var) (xs scope : List Var) → is_in a (x ∷ (xs ++ scope)) ≡ is_in a (xs ++ (x ∷ scope))
 turned a x xs scope = (λ i. eqb x.0 a.0 || in_more a xs scope i) ∙ shuffle (eqb x.0 a.0) (is_in a xs) (is_in a scope) ∙ sym (in_more a xs (x ∷ scope))
   where
     shuffle : (p q r : Bool) → (p || (q || r)) ≡ (q || (p || r))
@@ -182,11 +182,11 @@ mutual
 -- ---- parts
 
 -- the variables, each put before those in scope
-abbrev flipped : List Var → List Var → List Var
+abbrev pub flipped : List Var → List Var → List Var
 flipped [] scope = scope
 flipped (x ∷ xs) scope = flipped xs (x ∷ scope)
 
-flipped_in : (a : Var) (xs scope : List Var) → is_in a (xs ++ scope) ≡ is_in a (flipped xs scope)
+pub flipped_in : (a : Var) (xs scope : List Var) → is_in a (xs ++ scope) ≡ is_in a (flipped xs scope)
 flipped_in a [] scope = refl
 flipped_in a (x ∷ xs) scope = turned a x xs scope ∙ flipped_in a xs (x ∷ scope)
 

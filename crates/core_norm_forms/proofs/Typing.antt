@@ -25,7 +25,7 @@ use Rattle.core_ir.proofs.Variables.{same_number}
 use Rattle.core_bases.proofs.Bound.{swap, firsts}
 use Rattle.core_loops.specs.Steps.{itself}
 use Rattle.core_norm_steps.specs.Genarray.{GenAt, NamedBody}
-use Rattle.core_inlined_bodies.proofs.Names.{clash, not_in, distinct_left, distinct_right}
+use Rattle.core_inlined_bodies.proofs.Names.{clash, distinct_left, distinct_right}
 use Rattle.core_inlined_bodies.proofs.Names as names
 use Rattle.core_norm_forms.specs.Alike.{Alike, AlikeRight, AlikeGens, AlikeParts, NamedAlike}
 use Rattle.core_norm_forms.proofs.Made.{Made, MadeParts}
@@ -150,7 +150,7 @@ fits_same S o p f f' c c' gs gs' h pf pc pg m =
 
 -- ---- copies
 
-counts : {n m l : ℕ} → n ≡ m → m ≡ l → n ≡ l
+pub counts : {n m l : ℕ} → n ≡ m → m ≡ l → n ≡ l
 counts p q = p ∙ q
 
 module _ (core next : CoreTerm) (into : (group : ℕ) (us ts : List Base) → GroupBases core group us ts → GroupBases next group us ts) where

@@ -12,8 +12,9 @@ use Rattle.core_ir.specs.Terms.{BlockTerm, RightTerm, GensTerm, PartsTerm, CoreT
 use Rattle.core_ir.specs.WellFormed.{Bases, ints, part_grids, PartedFits, GroupBases, BlockBases, RightBases, GensBases, PartsBases, Distinct}
 use Rattle.core_calls.specs.Nests.{CallsAll, CallsAllRight, CallsAllGens, CallsAllParts}
 use Rattle.core_norm_steps.specs.Step.{BaseTable, Within, Follows, FollowsRight, FollowsGens, FollowsParts}
+use Rattle.core_norm_steps.proofs.Places.{within_zip, within_ints, within_one}
 use Rattle.core_inlined_bodies.proofs.Names.{Names, same, both, distinct_left, distinct_right, Fresh, fresh_both, fresh_left, fresh_right}
-use Rattle.core_norm_forms.proofs.Tables.{Low, low_zip, low_ints, within_zip, within_ints, within_one}
+use Rattle.core_norm_forms.proofs.Tables.{Low, low_zip, low_ints}
 use Rattle.core_norm_forms.proofs.Below.{olds, old_numbers, OldBases, OldRight, OldGens, OldParts, moved, moved_right, moved_gens, moved_parts}
 
 module _ (Facts : Type 0) (ways : Ways Facts) (Rule : Facts → BlockTerm → BlockTerm → Type 0) where

@@ -1,11 +1,11 @@
--- A copy weighs as much as what it is a copy of, and a parted loop with few parts is lighter than its with-loop.
+-- A copy weighs as much as what it is a copy of and has as many parted loops, and a parted loop with few parts is lighter than its with-loop.
 use Rattle.std.proofs.Common.{◌≡◌, ℕ, zero, suc, ◌+◌, ◌*◌, ◌<◌, ◌≤◌, List, [], ◌∷◌, refl, sym, ap, subst, ◌∙◌, inl, inr, arith}
 use Rattle.std.proofs.Math.Nat.{suc-mul, mul-le-mul_right}
 use Rattle.core_ir.specs.declared.tree.Var.{Var}
 use Rattle.core_ir.specs.Edits.{Ways, Edited, EditedRight, EditedGens, EditedParts, here, later, inside, in_then, in_else, in_test, in_body, in_gens, in_parts, this_gen, later_gen, this_part, later_part}
 use Rattle.core_ir.specs.Renaming.{Link, Renamed, RenamedRight, RenamedGens, RenamedParts, under, under_all}
 use Rattle.core_ir.specs.Terms.{BlockTerm, RightTerm, GensTerm, PartsTerm, GenHead, PartHead, Gives, Bind, Plain, NoGens, Gen, NoParts, Part}
-use Rattle.core_loops.specs.Loops.{weight, weight_right, weight_gens, weight_parts}
+use Rattle.core_loops.specs.Loops.{weight, weight_right, weight_gens, weight_parts, parted_in, parted_in_right, parted_in_gens, parted_in_parts}
 use Rattle.core_norm_steps.specs.Genarray.{GenAt, NamedBody}
 use Rattle.core_norm_forms.specs.Fresh.{count_parts}
 use Rattle.core_norm_forms.proofs.Made.{Made, MadeParts}
@@ -35,6 +35,32 @@ mutual
   weights_parts S NoParts NoParts h = refl
   weights_parts S (Part x b r) (Part y c q) h = λ i. weights (under S x.index y.index) b c h.2 i + weights_parts S r q h.3 i
   weights_parts S _ _ h = absurd h
+
+mutual
+  pub copy_parted : (S : Link) (b c : BlockTerm) → Renamed S b c → parted_in c ≡ parted_in b
+  copy_parted S (Gives xs) (Gives ys) h = refl
+  copy_parted S (Bind xs s r b) (Bind ys t q c) h = λ i. copy_parted_right S r q h.1 i + copy_parted (under_all S xs ys) b c h.2 i
+  copy_parted S (Gives xs) (Bind ys t q c) h = absurd h
+  copy_parted S (Bind xs s r b) (Gives ys) h = absurd h
+
+  copy_parted_right : (S : Link) (r q : RightTerm) → RenamedRight S r q → parted_in_right q ≡ parted_in_right r
+  copy_parted_right S (Plain p) (Plain q) h = refl
+  copy_parted_right S (RightTerm.If x a b) (RightTerm.If y c d) h = λ i. copy_parted S a c h.1 i + copy_parted S b d h.2 i
+  copy_parted_right S (RightTerm.Loop f xs ps a b u) (RightTerm.Loop g ys qs c d w) h = λ i. copy_parted (under_all S ps qs) a c h.3 i + copy_parted (under_all S ps qs) b d h.4 i
+  copy_parted_right S (RightTerm.Call g xs) (RightTerm.Call k ys) h = refl
+  copy_parted_right S (RightTerm.With o g) (RightTerm.With p k) h = copy_parted_gens S g k h.1
+  copy_parted_right S (RightTerm.Parted f b c o p) (RightTerm.Parted f' b' c' o' q) h = ap suc (copy_parted_parts S p q h.4)
+  copy_parted_right S _ _ h = absurd h
+
+  copy_parted_gens : (S : Link) (g k : GensTerm) → RenamedGens S g k → parted_in_gens k ≡ parted_in_gens g
+  copy_parted_gens S NoGens NoGens h = refl
+  copy_parted_gens S (Gen x b r) (Gen y c q) h = λ i. copy_parted (under_all (under S x.index y.index) x.names y.names) b c h.1 i + copy_parted_gens S r q h.2 i
+  copy_parted_gens S _ _ h = absurd h
+
+  copy_parted_parts : (S : Link) (p q : PartsTerm) → RenamedParts S p q → parted_in_parts q ≡ parted_in_parts p
+  copy_parted_parts S NoParts NoParts h = refl
+  copy_parted_parts S (Part x b r) (Part y c q) h = λ i. copy_parted (under S x.index y.index) b c h.2 i + copy_parted_parts S r q h.3 i
+  copy_parted_parts S _ _ h = absurd h
 
 -- ---- a parted loop
 
@@ -77,10 +103,10 @@ parted_weight axes v gens parts h few = below_with (weight_parts parts) (count_p
 
 -- ---- a place in a block
 
-first_falls : (a b c : ℕ) → a < b → a + c < b + c
+pub first_falls : (a b c : ℕ) → a < b → a + c < b + c
 first_falls a b c h = omega arith
 
-second_falls : (a b c : ℕ) → a < b → c + a < c + b
+pub second_falls : (a b c : ℕ) → a < b → c + a < c + b
 second_falls a b c h = omega arith
 
 with_falls : (a b : ℕ) → a < b → 1 + 65 * a < 1 + 65 * b

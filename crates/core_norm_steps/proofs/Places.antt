@@ -1,53 +1,48 @@
 -- A change that keeps the meaning under the facts, scope and table of bases at its place keeps that of the whole.
-use Rattle.std.proofs.Common.{◌≡◌, ℕ, Bool, true, false, cond, eqb, List, [], ◌∷◌, ◌++◌, map, length, Option, Some, None, Ok, Err, refl, sym, ap, subst, ◌∙◌, ℤ}
+use Rattle.std.proofs.Common.{◌≡◌, ℕ, Bool, true, false, cond, eqb, List, [], ◌∷◌, ◌++◌, map, Option, Some, Ok, refl, sym, ap, subst, ◌∙◌, ℤ}
 use Rattle.std.specs.Prelude.{if◌then◌else◌, zip}
 use Rattle.sac_base.specs.declared.base.Base.{Base}
 use Rattle.sac_base.specs.declared.base.Base.TheVariants.{Int, Bool as Truth}
 use Rattle.sac_base.specs.declared.faults.FaultKind.TheVariants.{F6}
 use Rattle.sac_base.specs.declared.site.Site.{Site}
-use Rattle.sac_base.specs.Arrays.{ArrayValue, scalar, vector}
+use Rattle.sac_base.specs.Arrays.{vector}
 use Rattle.sac_base.specs.Grids.{members}
 use Rattle.sac_base.specs.Outcomes.{and_then, fault, choose}
 use Rattle.sac_base.specs.Parts.{condition}
 use Rattle.sac_base.specs.WithLoops.{with_value, each}
 use Rattle.core_ir.specs.declared.tree.Var.{Var}
-use Rattle.core_ir.specs.Binders.{bound_in, bound_in_right, bound_in_gens, bound_in_parts}
+use Rattle.core_ir.specs.Binders.{bound_in, bound_in_gens, bound_in_parts}
 use Rattle.core_ir.specs.Edits.{Edited, EditedRight, EditedGens, EditedParts, here, later, inside, in_then, in_else, in_test, in_body, in_gens, in_parts, this_gen, later_gen, this_part, later_part}
-use Rattle.core_ir.specs.Scopes.{Scoped, ScopedRight, ScopedGens, ScopedParts}
-use Rattle.core_ir.specs.Terms.{BlockTerm, RightTerm, GensTerm, PartsTerm, CoreTerm, Gives, Bind, Plain}
-use Rattle.core_ir.specs.Meaning.{Env, CallMeaning, bind, bind_all, first, one, made_of, neutral_fits, cell_form, cell_at, generator, operation, with_index, run, right_value, generators, cells}
-use Rattle.core_ir.specs.WellFormed.{Bases, base_of, BlockBases, RightBases, GensBases, PartsBases, ints, Distinct}
+use Rattle.core_ir.specs.Terms.{BlockTerm, RightTerm, GensTerm, PartsTerm, CoreTerm}
+use Rattle.core_ir.specs.Meaning.{Env, CallMeaning, bind, bind_all, first, one, made_of, neutral_fits, cell_form, generator, operation, with_index, run, right_value, generators, cells}
+use Rattle.core_ir.specs.WellFormed.{Bases, base_of, ints}
 use Rattle.core_ir.proofs.Variables.{same_number}
 use Rattle.core_ir.proofs.Edited.{then_same, SameCells, same_cells-refl, same_cell_at}
-use Rattle.core_facts.specs.Facts.{Facts, note_all, DescribeAll, AreSound, right_facts, CallsFit, block_facts}
-use Rattle.core_facts.specs.Full.{FullInside, FullInsideRight, FullInsideGens, FullInsideParts}
-use Rattle.core_facts.proofs.Sound.{noted, right_sound, block_sound, all_full, described}
-use Rattle.core_facts.proofs.Settle.{loop_same, vector_full, scalars_full}
-use Rattle.core_bases.specs.Typed.{HaveBases, Typed, CallsTyped}
-use Rattle.core_bases.proofs.Bound.{distinct_left, distinct_right, bound_zip, bound_index, typed_one, values_typed}
-use Rattle.core_bases.proofs.Whole.{block_typed, right_typed}
+use Rattle.core_facts.specs.Facts.{Facts, CallsFit}
+use Rattle.core_facts.proofs.Settle.{loop_same}
+use Rattle.core_bases.specs.Typed.{CallsTyped}
+use Rattle.core_bases.proofs.Bound.{distinct_left, distinct_right}
 use Rattle.core_loops.specs.Steps.{fact_ways}
-use Rattle.core_fold_steps.proofs.Producer.{entered}
-use Rattle.core_fold_steps.proofs.Places.{At, RightAt, GensAt, PartsAt}
+use Rattle.core_fold_steps.proofs.Places.{At, RightAt, GensAt, PartsAt, right_at, after_bind, Fits, at_test, at_body, still_fits, start_fits, at_gen, at_part}
 use Rattle.core_norm_steps.specs.Step.{BaseTable, Within, AllNumbers, Follows, FollowsRight, FollowsGens, FollowsParts}
 
 -- ---- tables
 
-within_one : (m : BaseTable) (g : Bases) (x : Var) (u : Base) → Within m g → u ≡ m x → Within m ((x, u) ∷ g)
+pub within_one : (m : BaseTable) (g : Bases) (x : Var) (u : Base) → Within m g → u ≡ m x → Within m ((x, u) ∷ g)
 within_one m g x u w e y t p = go (eqb x.0 y.0) refl
   where
     go : (b : Bool) → eqb x.0 y.0 ≡ b → t ≡ m y
     go true q = sym (ap (λ o. Rattle.std.specs.Prelude.unwrap_or o t) ((λ i. cond (sym q i) (Some u) (base_of g y)) ∙ p)) ∙ e ∙ ap m (same_number x y q)
     go false q = w y t ((λ i. cond (sym q i) (Some u) (base_of g y)) ∙ p)
 
-within_all : (m : BaseTable) (g : Bases) (xs : List Var) → Within m g → Within m (zip xs (map m xs) ++ g)
+pub within_all : (m : BaseTable) (g : Bases) (xs : List Var) → Within m g → Within m (zip xs (map m xs) ++ g)
 within_all m g [] w = w
 within_all m g (x ∷ xs) w = within_one m (zip xs (map m xs) ++ g) x (m x) (within_all m g xs w) refl
 
-within_zip : (m : BaseTable) (g : Bases) (xs : List Var) (us : List Base) → Within m g → us ≡ map m xs → Within m (zip xs us ++ g)
+pub within_zip : (m : BaseTable) (g : Bases) (xs : List Var) (us : List Base) → Within m g → us ≡ map m xs → Within m (zip xs us ++ g)
 within_zip m g xs us w e = subst (λ ts. Within m (zip xs ts ++ g)) (sym e) (within_all m g xs w)
 
-within_ints : (m : BaseTable) (g : Bases) (xs : List Var) → Within m g → AllNumbers m xs → Within m (ints xs ++ g)
+pub within_ints : (m : BaseTable) (g : Bases) (xs : List Var) → Within m g → AllNumbers m xs → Within m (ints xs ++ g)
 within_ints m g [] w h = w
 within_ints m g (x ∷ xs) w h = within_one m (ints xs ++ g) x Int (within_ints m g xs w h.1) h.0
 
@@ -58,16 +53,9 @@ module _ (core : CoreTerm) (calls : CallMeaning) (turns : ℕ) (typed : CallsTyp
       changed (here {known = k} {b = b} {c = c} h) scope g ts e a w f = kept k b c h scope g ts e a w f
       changed (later {known = k} {xs = xs} {s = s} {r = r} {b = b} {c = c} h) scope g ts e a w f =
           then_same (right_value calls turns r s e) (λ vs. run calls turns b (bind_all e xs vs)) (λ vs. run calls turns c (bind_all e xs vs))
-          (λ vs q. changed h (xs ++ scope) (zip xs a.bases.0 ++ g) ts (bind_all e xs vs) (record {
-            bases = a.bases.1.2;
-            once = distinct_right (bound_in_right r) (bound_in b) (distinct_right xs (bound_in_right r ++ bound_in b) a.once);
-            scoped = a.scoped.2;
-            full = a.full.2;
-            typed = bound_zip g e xs a.bases.0 vs a.typed (distinct_left xs (bound_in_right r ++ bound_in b) a.once) a.bases.1.1 (right_typed core calls turns typed r s g a.bases.0 e vs a.bases.1.0 (distinct_left (bound_in_right r) (bound_in b) (distinct_right xs (bound_in_right r ++ bound_in b) a.once)) a.typed q);
-            sound = noted k e xs (right_facts called r k) vs a.sound (right_sound calls turns called fit r s k e vs a.full.0 a.full.1 a.sound q);
-          }) (within_zip m g xs a.bases.0 w f.0) f.2)
+          (λ vs q. changed h (xs ++ scope) (zip xs a.bases.0 ++ g) ts (bind_all e xs vs) (after_bind core calls turns typed called fit xs s r b scope g ts k e vs a q) (within_zip m g xs a.bases.0 w f.0) f.2)
       changed (inside {known = k} {xs = xs} {s = s} {r = r} {b = b} h) scope g ts e a w f =
-          λ i. and_then (changed_right h s scope g a.bases.0 e (record { bases = a.bases.1.0; once = distinct_left (bound_in_right r) (bound_in b) (distinct_right xs (bound_in_right r ++ bound_in b) a.once); scoped = a.scoped.0; full = a.full.1; typed = a.typed; sound = a.sound }) w f.1 i) (λ vs. run calls turns b (bind_all e xs vs))
+          λ i. and_then (changed_right h s scope g a.bases.0 e (right_at core calls turns typed called fit xs s r b scope g ts k e a) w f.1 i) (λ vs. run calls turns b (bind_all e xs vs))
 
       pub changed_right : {k : Facts} {r q : RightTerm} → EditedRight Facts (fact_ways called) Rule k r q → (s : Site) (scope : List Var) (g : Bases) (ts : List Base) (e : Env) → (a : RightAt core calls turns scope g ts k r e) → Within m g → FollowsRight core m r g ts a.bases → right_value calls turns r s e ≡ right_value calls turns q s e
       changed_right (in_then {x = x} {a = u} {b = b} h) s scope g ts e a w f =
@@ -75,45 +63,17 @@ module _ (core : CoreTerm) (calls : CallMeaning) (turns : ℕ) (typed : CallsTyp
       changed_right (in_else {x = x} {a = u} {b = b} h) s scope g ts e a w f =
           λ i. choose s (condition (e x)) (run calls turns u e) (changed h scope g ts e (record { bases = a.bases.2; once = distinct_right (bound_in u) (bound_in b) a.once; scoped = a.scoped.2; full = a.full.1; typed = a.typed; sound = a.sound }) w f.1 i)
       changed_right (in_test {known = k} {first = fb} {start = start} {params = params} {a = t} {b = b} {c = c} {s = u} h) s scope g ts e a w f =
-          let rest = distinct_right params (bound_in t ++ bound_in b) a.once in
-          let p = distinct_left params (bound_in t ++ bound_in b) a.once in
-          let n = note_all k params [] in
-          loop_same (λ vs. DescribeAll [] vs × HaveBases ts vs) fb turns s u (λ vs. first (run calls turns t (bind_all e params vs))) (λ vs. first (run calls turns c (bind_all e params vs)))
+          loop_same (Fits core calls turns typed called fit fb start params t b u scope g ts k e a) fb turns s u (λ vs. first (run calls turns t (bind_all e params vs))) (λ vs. first (run calls turns c (bind_all e params vs)))
           (λ vs. run calls turns b (bind_all e params vs)) (λ vs. run calls turns b (bind_all e params vs))
-          (λ vs d. ap first (changed h (params ++ scope) (zip params ts ++ g) (Truth ∷ []) (bind_all e params vs) (record {
-            bases = a.bases.2;
-            once = distinct_left (bound_in t) (bound_in b) rest;
-            scoped = a.scoped.2;
-            full = a.full.0;
-            typed = bound_zip g e params ts vs a.typed p a.bases.1 d.1;
-            sound = noted k e params [] vs a.sound d.0;
-          }) (within_zip m g params ts w f.0) f.1))
+          (λ vs d. ap first (changed h (params ++ scope) (zip params ts ++ g) (Truth ∷ []) (bind_all e params vs) (at_test core calls turns typed called fit fb start params t b u scope g ts k e a vs d) (within_zip m g params ts w f.0) f.1))
           (λ vs d. refl)
-          (λ vs ws d q. (
-            all_full (block_facts called b n) ws (block_sound calls turns called fit b n (bind_all e params vs) ws a.full.1 (noted k e params [] vs a.sound d.0) q),
-            block_typed core calls turns typed b (zip params ts ++ g) ts (bind_all e params vs) ws a.bases.3 (distinct_right (bound_in t) (bound_in b) rest) (bound_zip g e params ts vs a.typed p a.bases.1 d.1) q,
-          ))
-          (map e start) (all_full (map k start) (map e start) (described k e start a.sound), values_typed g e start ts a.typed a.bases.0)
+          (still_fits core calls turns typed called fit fb start params t b u scope g ts k e a) (map e start) (start_fits core calls turns typed called fit fb start params t b u scope g ts k e a)
       changed_right (in_body {known = k} {first = fb} {start = start} {params = params} {a = t} {b = b} {c = c} {s = u} h) s scope g ts e a w f =
-          let rest = distinct_right params (bound_in t ++ bound_in b) a.once in
-          let p = distinct_left params (bound_in t ++ bound_in b) a.once in
-          let n = note_all k params [] in
-          loop_same (λ vs. DescribeAll [] vs × HaveBases ts vs) fb turns s u (λ vs. first (run calls turns t (bind_all e params vs))) (λ vs. first (run calls turns t (bind_all e params vs)))
+          loop_same (Fits core calls turns typed called fit fb start params t b u scope g ts k e a) fb turns s u (λ vs. first (run calls turns t (bind_all e params vs))) (λ vs. first (run calls turns t (bind_all e params vs)))
           (λ vs. run calls turns b (bind_all e params vs)) (λ vs. run calls turns c (bind_all e params vs))
           (λ vs d. refl)
-          (λ vs d. changed h (params ++ scope) (zip params ts ++ g) ts (bind_all e params vs) (record {
-            bases = a.bases.3;
-            once = distinct_right (bound_in t) (bound_in b) rest;
-            scoped = a.scoped.3;
-            full = a.full.1;
-            typed = bound_zip g e params ts vs a.typed p a.bases.1 d.1;
-            sound = noted k e params [] vs a.sound d.0;
-          }) (within_zip m g params ts w f.0) f.2)
-          (λ vs ws d q. (
-            all_full (block_facts called b n) ws (block_sound calls turns called fit b n (bind_all e params vs) ws a.full.1 (noted k e params [] vs a.sound d.0) q),
-            block_typed core calls turns typed b (zip params ts ++ g) ts (bind_all e params vs) ws a.bases.3 (distinct_right (bound_in t) (bound_in b) rest) (bound_zip g e params ts vs a.typed p a.bases.1 d.1) q,
-          ))
-          (map e start) (all_full (map k start) (map e start) (described k e start a.sound), values_typed g e start ts a.typed a.bases.0)
+          (λ vs d. changed h (params ++ scope) (zip params ts ++ g) ts (bind_all e params vs) (at_body core calls turns typed called fit fb start params t b u scope g ts k e a vs d) (within_zip m g params ts w f.0) f.2)
+          (still_fits core calls turns typed called fit fb start params t b u scope g ts k e a) (map e start) (start_fits core calls turns typed called fit fb start params t b u scope g ts k e a)
       changed_right (in_gens {op = op} h) s scope g ts e a w f =
           λ i. one (with_value (changed_gens h scope g a.bases.0 e (record { bases = a.bases.1.1; once = a.once; scoped = a.scoped.1; full = a.full; typed = a.typed; sound = a.sound }) w f i) (operation op s e))
       changed_right (in_parts {f = f} {t = t} {cell = shape} {op = op} h) s scope g ts e a w z =
@@ -121,14 +81,7 @@ module _ (core : CoreTerm) (calls : CallMeaning) (turns : ℕ) (typed : CallsTyp
 
       pub changed_gens : {k : Facts} {r q : GensTerm} → EditedGens Facts (fact_ways called) Rule k r q → (scope : List Var) (g : Bases) (t : Base) (e : Env) → (a : GensAt core calls turns scope g t k r e) → Within m g → FollowsGens core m r g t a.bases → generators calls turns r e ≡ generators calls turns q e
       changed_gens (this_gen {known = k} {h = j} {b = b} {rest = rest} h) scope g t e a w f =
-          λ i. generator j (λ index. first (changed h ((j.index ∷ j.names) ++ scope) (ints (j.index ∷ j.names) ++ g) (t ∷ []) (with_index e j index) (record {
-            bases = a.bases.4;
-            once = distinct_left (bound_in b) (bound_in_gens rest) (distinct_right (j.index ∷ j.names) (bound_in b ++ bound_in_gens rest) a.once);
-            scoped = a.scoped.2;
-            full = a.full.0;
-            typed = bound_index g e j.index j.names index a.typed (distinct_left (j.index ∷ j.names) (bound_in b ++ bound_in_gens rest) a.once);
-            sound = noted k e (j.index ∷ j.names) [] (vector Int index ∷ map (scalar Int) index) a.sound (vector_full index, scalars_full index);
-          }) (within_ints m g (j.index ∷ j.names) w f.0) f.1 i)) e ∷ generators calls turns rest e
+          λ i. generator j (λ index. first (changed h ((j.index ∷ j.names) ++ scope) (ints (j.index ∷ j.names) ++ g) (t ∷ []) (with_index e j index) (at_gen core calls turns typed called fit j b rest scope g t k e index a) (within_ints m g (j.index ∷ j.names) w f.0) f.1 i)) e ∷ generators calls turns rest e
       changed_gens (later_gen {h = j} {b = b} {g = r} h) scope g t e a w f =
           λ i. generator j (λ index. first (run calls turns b (with_index e j index))) e ∷ changed_gens h scope g t e (record { bases = a.bases.5; once = distinct_right (bound_in b) (bound_in_gens r) (distinct_right (j.index ∷ j.names) (bound_in b ++ bound_in_gens r) a.once); scoped = a.scoped.3; full = a.full.1; typed = a.typed; sound = a.sound }) w f.2 i
 
@@ -136,14 +89,7 @@ module _ (core : CoreTerm) (calls : CallMeaning) (turns : ℕ) (typed : CallsTyp
       changed_parts (this_part {known = k} {h = j} {b = b} {rest = rest} h) scope g t e a w f = (
         refl,
         refl,
-        (λ index q. ap first (changed h (j.index ∷ scope) ((j.index, Int) ∷ g) (t ∷ []) (bind e j.index (vector Int index)) (record {
-          bases = a.bases.0;
-          once = distinct_left (bound_in b) (bound_in_parts rest) a.once.1;
-          scoped = a.scoped.1;
-          full = a.full.0;
-          typed = typed_one g e j.index Int (vector Int index) a.typed refl;
-          sound = entered k e j index a.sound q;
-        }) (within_one m g j.index Int w f.0) f.1)),
+        (λ index q. ap first (changed h (j.index ∷ scope) ((j.index, Int) ∷ g) (t ∷ []) (bind e j.index (vector Int index)) (at_part core calls turns typed called fit j b rest scope g t k e index a q) (within_one m g j.index Int w f.0) f.1)),
         same_cells-refl (cells calls turns rest e),
       )
       changed_parts (later_part {h = j} {b = b} {p = r} h) scope g t e a w f =

@@ -1,34 +1,25 @@
 -- Selections by vectors mean the same.
-use Rattle.std.proofs.Common.{◌≡◌, ℕ, suc, ◌<◌, ◌≤◌, Bool, true, false, ◌&&◌, eqb, List, [], ◌∷◌, ◌++◌, map, length, Option, Some, None, Ok, refl, sym, ap, subst, ◌∙◌, arith}
+use Rattle.std.proofs.Common.{◌≡◌, ℕ, suc, ◌<◌, ◌≤◌, Bool, true, false, ◌&&◌, eqb, List, [], ◌∷◌, ◌++◌, length, Option, Some, None, refl, sym, ap, subst, ◌∙◌, arith}
 use Rattle.std.specs.Prelude.{if◌then◌else◌, zip, not}
 use Rattle.std.proofs.lemmas.Bool.{eqb-true}
 use Rattle.sac_base.specs.declared.base.Base.{Base}
 use Rattle.sac_base.specs.declared.base.Base.TheVariants.{Int, Bool as Truth}
-use Rattle.sac_base.specs.declared.faults.FaultKind.TheVariants.{F6}
 use Rattle.sac_base.specs.declared.site.Site.{Site}
-use Rattle.sac_base.specs.Arrays.{ArrayValue, scalar, vector, same_shape}
-use Rattle.sac_base.specs.Grids.{members}
-use Rattle.sac_base.specs.Outcomes.{and_then, fault, choose}
-use Rattle.sac_base.specs.Parts.{condition}
-use Rattle.sac_base.specs.WithLoops.{with_value, each}
+use Rattle.sac_base.specs.Arrays.{ArrayValue, same_shape}
+use Rattle.sac_base.specs.Outcomes.{and_then}
 use Rattle.core_ir.specs.declared.tree.Var.{Var}
-use Rattle.core_ir.specs.Binders.{bound_in, bound_in_gens, bound_in_parts}
-use Rattle.core_ir.specs.Meaning.{Env, CallMeaning, bind, bind_all, first, one, made_of, neutral_fits, cell_form, generator, operation, with_index, run, right_value, generators, cells}
+use Rattle.core_ir.specs.Meaning.{Env, CallMeaning, bind_all, first, run, right_value, generators, cells}
 use Rattle.core_ir.specs.Terms.{BlockTerm, RightTerm, GensTerm, PartsTerm, CoreTerm, Gives, Bind, Plain, NoGens, Gen, NoParts, Part}
 use Rattle.core_ir.specs.Uses.{Avoids, AvoidsRight, AvoidsGens, AvoidsParts}
 use Rattle.core_ir.specs.WellFormed.{Bases, RightBases, ints}
-use Rattle.core_ir.proofs.Edited.{then_same, SameCells, same_cell_at}
+use Rattle.core_ir.proofs.Edited.{then_same, SameCells}
 use Rattle.core_subst.specs.Names.{variable}
-use Rattle.core_facts.specs.Facts.{Facts, CallsFit, DescribeAll, ShapeIs, block_facts, in_part, is_some, note_all, right_facts, shape_fact}
-use Rattle.core_facts.proofs.Settle.{has_length, loop_same, scalars_full, vector_full}
-use Rattle.core_facts.proofs.Sound.{all_full, block_sound, described, noted, noted_one}
-use Rattle.core_bases.specs.Typed.{CallsTyped, HaveBases}
-use Rattle.core_bases.proofs.Bound.{bound_index, bound_zip, distinct_left, distinct_right, typed_one, values_typed}
-use Rattle.core_bases.proofs.Whole.{block_typed}
+use Rattle.core_facts.specs.Facts.{Facts, CallsFit, ShapeIs, in_part, is_some, note_all, right_facts}
+use Rattle.core_bases.specs.Typed.{CallsTyped}
 use Rattle.core_loops.specs.Indices.{is_scalar_shape}
 use Rattle.core_norm_steps.proofs.Scalars.{by_row}
 use Rattle.core_inlined_bodies.proofs.Counts.{trans}
-use Rattle.core_cleaning.proofs.Places.{At, RightAt, GensAt, PartsAt, right_at, after_bind}
+use Rattle.core_cleaning.proofs.Places.{At, RightAt, GensAt, PartsAt, right_at, after_bind, same_if, same_loop, same_with, same_parted, same_gen, same_part}
 use Rattle.core_selections.specs.Vectors.{Selection, by_scalar, bind_vector, behind, next, next_right, vectored, vectored_right, vectored_gens, vectored_parts}
 use Rattle.core_selections.proofs.Bound.{goes, select_of, rises, rises_right}
 
@@ -164,43 +155,16 @@ module _ (core : CoreTerm) (calls : CallMeaning) (turns : ℕ) (typed : CallsTyp
     right_same (RightTerm.If x b c) s g ts k n e a u =
         let m = next called b k n in
         let l = rises called b k n in
-        let p = block_same b g ts k n e (record { bases = a.bases.1; once = distinct_left (bound_in b) (bound_in c) a.once; full = a.full.0; typed = a.typed; sound = a.sound }) (λ y h. (u y h).1) in
-        let q = block_same c g ts k m e (record { bases = a.bases.2; once = distinct_right (bound_in b) (bound_in c) a.once; full = a.full.1; typed = a.typed; sound = a.sound }) (λ y h. (u y (trans n m y.0 l h)).2) in
-        λ i. choose s (condition (e x)) (p i) (q i)
+        same_if core calls turns typed called fit x b c (vectored called b k n) (vectored called c k m) s g ts k e (λ f at. block_same b g ts k n f at (λ y h. (u y h).1)) (λ f at. block_same c g ts k m f at (λ y h. (u y (trans n m y.0 l h)).2)) a
     right_same (RightTerm.Loop fb start params test body v) s g ts k n e a u =
         let k' = note_all k params [] in
         let m = next called test k' n in
         let l = rises called test k' n in
-        let rest = distinct_right params (bound_in test ++ bound_in body) a.once in
-        let p = distinct_left params (bound_in test ++ bound_in body) a.once in
-        sym (loop_same (λ vs. DescribeAll [] vs × HaveBases ts vs) fb turns s v
-        (λ vs. first (run calls turns test (bind_all e params vs))) (λ vs. first (run calls turns (vectored called test k' n) (bind_all e params vs)))
-        (λ vs. run calls turns body (bind_all e params vs)) (λ vs. run calls turns (vectored called body k' m) (bind_all e params vs))
-        (λ vs d. ap first (sym (block_same test (zip params ts ++ g) (Truth ∷ []) k' n (bind_all e params vs) (record {
-          bases = a.bases.2;
-          once = distinct_left (bound_in test) (bound_in body) rest;
-          full = a.full.0;
-          typed = bound_zip g e params ts vs a.typed p a.bases.1 d.1;
-          sound = noted k e params [] vs a.sound d.0;
-        }) (λ y h. (u y h).1))))
-        (λ vs d. sym (block_same body (zip params ts ++ g) ts k' m (bind_all e params vs) (record {
-          bases = a.bases.3;
-          once = distinct_right (bound_in test) (bound_in body) rest;
-          full = a.full.1;
-          typed = bound_zip g e params ts vs a.typed p a.bases.1 d.1;
-          sound = noted k e params [] vs a.sound d.0;
-        }) (λ y h. (u y (trans n m y.0 l h)).2)))
-        (λ vs ws d q. (
-          all_full (block_facts called body k') ws (block_sound calls turns called fit body k' (bind_all e params vs) ws a.full.1 (noted k e params [] vs a.sound d.0) q),
-          block_typed core calls turns typed body (zip params ts ++ g) ts (bind_all e params vs) ws a.bases.3 (distinct_right (bound_in test) (bound_in body) rest) (bound_zip g e params ts vs a.typed p a.bases.1 d.1) q,
-        ))
-        (map e start) (all_full (map k start) (map e start) (described k e start a.sound), values_typed g e start ts a.typed a.bases.0))
+        same_loop core calls turns typed called fit fb start params test body (vectored called test k' n) (vectored called body k' m) v s g ts k e
+        (λ f at. block_same test (zip params ts ++ g) (Truth ∷ []) k' n f at (λ y h. (u y h).1)) (λ f at. block_same body (zip params ts ++ g) ts k' m f at (λ y h. (u y (trans n m y.0 l h)).2)) a
     right_same (RightTerm.Call group xs) s g ts k n e a u = refl
-    right_same (RightTerm.With op gens) s g ts k n e a u =
-        λ i. one (with_value (gens_same gens g a.bases.0 k n e (record { bases = a.bases.1.1; once = a.once; full = a.full; typed = a.typed; sound = a.sound }) (λ y h. (u y h).1) i) (operation op s e))
-    right_same (RightTerm.Parted f t shape op parts) s g ts k n e a u =
-        let same = parts_same parts g t k n e (record { bases = a.bases.1; once = a.once; full = a.full; typed = a.typed; sound = a.sound }) (λ y h. (u y h).1) in
-        λ i. one (if neutral_fits (cell_form t shape) op e then and_then (each (λ index. same_cell_at (cell_form t shape) _ _ index same i) (members f)) (λ found. Ok (made_of f t shape op e found)) else fault F6 s)
+    right_same (RightTerm.With op gens) s g ts k n e a u = same_with core calls turns typed called fit op gens (vectored_gens called gens k n) s g ts k e (λ t at. gens_same gens g t k n e at (λ y h. (u y h).1)) a
+    right_same (RightTerm.Parted f t shape op parts) s g ts k n e a u = same_parted core calls turns typed called fit f t shape op parts (vectored_parts called parts k n) s g ts k e (λ at. parts_same parts g t k n e at (λ y h. (u y h).1)) a
 
     gens_same : (gs : GensTerm) (g : Bases) (t : Base) (k : Facts) (n : ℕ) (e : Env) → GensAt core calls turns g t k gs e → UnusedGens gs n → generators calls turns (vectored_gens called gs k n) e ≡ generators calls turns gs e
     gens_same NoGens g t k n e a u = refl
@@ -208,29 +172,13 @@ module _ (core : CoreTerm) (calls : CallMeaning) (turns : ℕ) (typed : CallsTyp
         let k' = note_all k (j.index ∷ j.names) [] in
         let m = next called b k' n in
         let l = rises called b k' n in
-        let inner = distinct_right (j.index ∷ j.names) (bound_in b ++ bound_in_gens rest) a.once in
-        let there = gens_same rest g t k m e (record { bases = a.bases.5; once = distinct_right (bound_in b) (bound_in_gens rest) inner; full = a.full.1; typed = a.typed; sound = a.sound }) (λ y h. (u y (trans n m y.0 l h)).2) in
-        λ i. generator j (λ index. first (block_same b (ints (j.index ∷ j.names) ++ g) (t ∷ []) k' n (with_index e j index) (record {
-          bases = a.bases.4;
-          once = distinct_left (bound_in b) (bound_in_gens rest) inner;
-          full = a.full.0;
-          typed = bound_index g e j.index j.names index a.typed (distinct_left (j.index ∷ j.names) (bound_in b ++ bound_in_gens rest) a.once);
-          sound = noted k e (j.index ∷ j.names) [] (vector Int index ∷ map (scalar Int) index) a.sound (vector_full index, scalars_full index);
-        }) (λ y h. (u y h).1) i)) e ∷ there i
+        same_gen core calls turns typed called fit j b (vectored called b k' n) rest (vectored_gens called rest k m) g t k e
+        (λ f at. block_same b (ints (j.index ∷ j.names) ++ g) (t ∷ []) k' n f at (λ y h. (u y h).1)) (λ at. gens_same rest g t k m e at (λ y h. (u y (trans n m y.0 l h)).2)) a
 
     parts_same : (ps : PartsTerm) (g : Bases) (t : Base) (k : Facts) (n : ℕ) (e : Env) → PartsAt core calls turns g t k ps e → UnusedParts ps n → SameCells (cells calls turns (vectored_parts called ps k n) e) (cells calls turns ps e)
     parts_same NoParts g t k n e a u = tt
     parts_same (Part j b rest) g t k n e a u =
         let m = next called b (in_part k j) n in
-        let l = rises called b (in_part k j) n in (
-          refl,
-          refl,
-          (λ index q. ap first (block_same b ((j.index, Int) ∷ g) (t ∷ []) (in_part k j) n (bind e j.index (vector Int index)) (record {
-            bases = a.bases.0;
-            once = distinct_left (bound_in b) (bound_in_parts rest) a.once.1;
-            full = a.full.0;
-            typed = typed_one g e j.index Int (vector Int index) a.typed refl;
-            sound = noted_one k e j.index (shape_fact (Some (length j.grid ∷ []))) (vector Int index) a.sound (record { shape = λ i. has_length j.grid index q i ∷ []; literal = tt; full = vector_full index });
-          }) (λ y h. (u y h).0))),
-          parts_same rest g t k m e (record { bases = a.bases.1; once = distinct_right (bound_in b) (bound_in_parts rest) a.once.1; full = a.full.1; typed = a.typed; sound = a.sound }) (λ y h. (u y (trans n m y.0 l h)).1),
-        )
+        let l = rises called b (in_part k j) n in
+        same_part core calls turns typed called fit j b (vectored called b (in_part k j) n) rest (vectored_parts called rest k m) g t k e
+        (λ f at. block_same b ((j.index, Int) ∷ g) (t ∷ []) (in_part k j) n f at (λ y h. (u y h).0)) (λ at. parts_same rest g t k m e at (λ y h. (u y (trans n m y.0 l h)).1)) a

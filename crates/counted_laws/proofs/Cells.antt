@@ -75,11 +75,11 @@ module _ (holding others : ℕ → ℕ) (fewer : (b : ℕ) → others b ≤ hold
 
 -- ---- the result
 
-phase_owns : (phase : Bool) (n : ℕ) (h : Heap) (others : ℕ → ℕ) → Owns h [] others → Owns (count_phase phase n h) [] others
+pub phase_owns : (phase : Bool) (n : ℕ) (h : Heap) (others : ℕ → ℕ) → Owns h [] others → Owns (count_phase phase n h) [] others
 phase_owns false n h others owns = owns
 phase_owns true n h others owns = owns
 
-phase_same : (phase : Bool) (n : ℕ) (h : Heap) (others : ℕ → ℕ) → SameCells others h (count_phase phase n h)
+pub phase_same : (phase : Bool) (n : ℕ) (h : Heap) (others : ℕ → ℕ) → SameCells others h (count_phase phase n h)
 phase_same false n h others b le = refl
 phase_same true n h others b le = refl
 
@@ -90,7 +90,7 @@ inside_matches others h k result (Failed f q) (Err g) same p = p
 inside_matches others h k result (Done found l) (Err g) same p = elim p [ ]
 inside_matches others h k result (Failed f q) (Ok cells) same p = elim p [ ]
 
-recelled_count : (h : Heap) (b c : ℕ) (xs : List ℤ) → 1 ≤ count_of h b → count_of (with_cells h b xs) c ≡ count_of h c
+pub recelled_count : (h : Heap) (b c : ℕ) (xs : List ℤ) → 1 ≤ count_of h b → count_of (with_cells h b xs) c ≡ count_of h c
 recelled_count h b c xs live = ap (λ (x : Buffer). x.count) (buffer_set h b c (record { count = count_of h b; cells = xs }) live) ∙ go (eqb b c) refl
   where
     go : (same : Bool) → eqb b c ≡ same → (cond {A = Buffer} same (record { count = count_of h b; cells = xs }) (record { count = count_of h c; cells = cells_of h c })).count ≡ count_of h c

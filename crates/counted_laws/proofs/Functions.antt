@@ -22,7 +22,7 @@ use Rattle.counted_laws.proofs.Blocks.{then_matches}
 use Rattle.counted_laws.proofs.Instances.{no_some, is_chosen, IsChosen}
 use Rattle.counted_laws.proofs.Whole.{block_matches}
 
-none_nil : (xs : List Var) → NoneIn xs []
+pub none_nil : (xs : List Var) → NoneIn xs []
 none_nil [] = tt
 none_nil (x ∷ xs) = (refl, none_nil xs)
 
@@ -31,7 +31,7 @@ slice_map [] i = refl
 slice_map (f ∷ fs) zero = refl
 slice_map (f ∷ fs) (suc i) = slice_map fs i
 
-map_size : (fs : List CodeFunTerm) → length (map core_of_fun fs) ≡ length fs
+pub map_size : (fs : List CodeFunTerm) → length (map core_of_fun fs) ≡ length fs
 map_size [] = refl
 map_size (f ∷ fs) = ap suc (map_size fs)
 
@@ -54,7 +54,7 @@ unmarked_at (g ∷ gs) u (suc i) f p = unmarked_at gs u.1 i f p
 
 -- ---- one function
 
-typed_match : (f : CodeFunTerm) (others : ℕ → ℕ) (k : Heap) (us : List Value) (fits : Bool) → length us ≡ length f.results → Owns k us others → Matches (length f.results) others k (if fits then Done us k else fails F7 f.ends k) (if fits then Ok (map (read k) us) else fault F7 f.ends)
+pub typed_match : (f : CodeFunTerm) (others : ℕ → ℕ) (k : Heap) (us : List Value) (fits : Bool) → length us ≡ length f.results → Owns k us others → Matches (length f.results) others k (if fits then Done us k else fails F7 f.ends k) (if fits then Ok (map (read k) us) else fault F7 f.ends)
 typed_match f others k us true size owns = (size, refl, owns, (λ b le. refl))
 typed_match f others k us false size owns = refl
 

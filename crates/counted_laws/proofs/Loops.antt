@@ -22,7 +22,7 @@ use Rattle.core_ir.specs.declared.tree.PartedOp.TheVariants as parted
 use Rattle.core_ir.specs.Binders.{is_in, NoneIn}
 use Rattle.core_ir.specs.Scopes.{AllIn, op_uses, parted_uses, head_uses}
 use Rattle.core_ir.specs.Terms.{GenHead, PartHead}
-use Rattle.core_ir.specs.Meaning.{Env, Answer, CallMeaning, one, first, bind, bind_all, cell_form, cell_at, generator, operation, with_index, run, generators, cells, neutral_fits, made_of, parted_value, name_count, right_value}
+use Rattle.core_ir.specs.Meaning.{Env, Answer, CallMeaning, one, first, bind, bind_all, cell_form, cell_at, generator, operation, with_index, run, generators, cells, neutral_fits, made_of, name_count, right_value}
 use Rattle.core_ir.specs.Meaning as core
 use Rattle.counted_code.specs.Terms.{CodeTerm, CodeGensTerm, CodePartsTerm, WithCode, PartedCode, NoCodeGens, GenCode, NoCodeParts, PartCode, core_of, core_of_right, core_of_gens, core_of_parts}
 use Rattle.counted_code.specs.Values.{Heap, Value, Small, Ended, Done, Failed, give, go_on, pure_end, read}
@@ -37,7 +37,7 @@ use Rattle.counted_laws.proofs.Plains.{owns_none}
 use Rattle.counted_laws.proofs.Cells.{Linked, AlwaysLinked, job_matches}
 
 -- the first value of a run
-first_matches : (others : ℕ → ℕ) (h : Heap) (m : Ended (List Value)) (a : Answer) → Matches 1 others h m a → MatchesOne others h (go_on m (λ vs. give (first_of vs))) (first a)
+pub first_matches : (others : ℕ → ℕ) (h : Heap) (m : Ended (List Value)) (a : Answer) → Matches 1 others h m a → MatchesOne others h (go_on m (λ vs. give (first_of vs))) (first a)
 first_matches others h (Failed f p) (Err g) r = r
 first_matches others h (Failed f p) (Ok ws) r = elim r [ ]
 first_matches others h (Done vs k) (Err g) r = elim r [ ]
@@ -55,20 +55,20 @@ first_matches others h (Done (v ∷ []) k) (Ok (a ∷ ws)) r = ((λ i. head_arra
 
 -- ---- the values of an index
 
-small_one : (b : ℕ) (same : Bool) (v w : Value) → refers b v ≡ 0 → refers b w ≡ 0 → refers b (cond same v w) ≡ 0
+pub small_one : (b : ℕ) (same : Bool) (v w : Value) → refers b v ≡ 0 → refers b w ≡ 0 → refers b (cond same v w) ≡ 0
 small_one b true v w p q = p
 small_one b false v w p q = q
 
 -- no value refers to the buffer, so no variable does that is bound to them
-small_at : (b : ℕ) (e : Values) (xs : List Var) (vs : List Value) (y : Var) → refers b (e y) ≡ 0 → held b vs ≡ 0 → refers b (bind_values e xs vs y) ≡ 0
+pub small_at : (b : ℕ) (e : Values) (xs : List Var) (vs : List Value) (y : Var) → refers b (e y) ≡ 0 → held b vs ≡ 0 → refers b (bind_values e xs vs y) ≡ 0
 small_at b e [] vs y p q = p
 small_at b e (x ∷ xs) [] y p q = small_at b (bind_value e x missing_value) xs [] y (small_one b (eqb x.0 y.0) missing_value (e y) refl p) q
 small_at b e (x ∷ xs) (v ∷ vs) y p q = small_at b (bind_value e x v) xs vs y (small_one b (eqb x.0 y.0) v (e y) (omega (arith, q)) p) (omega (arith, q))
 
-small_here : (b : ℕ) (e : Values) (x : Var) (v : Value) → refers b v ≡ 0 → refers b (bind_value e x v x) ≡ 0
+pub small_here : (b : ℕ) (e : Values) (x : Var) (v : Value) → refers b v ≡ 0 → refers b (bind_value e x v x) ≡ 0
 small_here b e x v p = subst (λ t. refers b (cond t v (e x)) ≡ 0) (sym (eq-eqb x.0 x.0 refl)) p
 
-small_all : (b : ℕ) (e : Values) (xs : List Var) (vs : List Value) → held b vs ≡ 0 → held b (map (bind_values e xs vs) xs) ≡ 0
+pub small_all : (b : ℕ) (e : Values) (xs : List Var) (vs : List Value) → held b vs ≡ 0 → held b (map (bind_values e xs vs) xs) ≡ 0
 small_all b e [] vs q = refl
 small_all b e (x ∷ xs) [] q =
     let here = small_at b (bind_value e x missing_value) xs [] x (small_here b e x missing_value refl) q in
@@ -79,19 +79,19 @@ small_all b e (x ∷ xs) (v ∷ vs) q =
     let rest = small_all b (bind_value e x v) xs vs (omega (arith, q)) in
     omega (arith, here, rest)
 
-abbrev components : List ℤ → List Value
+abbrev pub components : List ℤ → List Value
 components index = map (λ z. Small (scalar Int z)) index
 
-components_small : (b : ℕ) (index : List ℤ) → held b (components index) ≡ 0
+pub components_small : (b : ℕ) (index : List ℤ) → held b (components index) ≡ 0
 components_small b [] = refl
 components_small b (z ∷ zs) = let rest = components_small b zs in omega (arith, rest)
 
-components_read : (k : Heap) (index : List ℤ) → map (read k) (components index) ≡ map (scalar Int) index
+pub components_read : (k : Heap) (index : List ℤ) → map (read k) (components index) ≡ map (scalar Int) index
 components_read k [] = refl
 components_read k (z ∷ zs) = ap (λ rest. scalar Int z ∷ rest) (components_read k zs)
 
 -- at the start of a generator's body
-index_ready : (k : Heap) (e : Values) (ρ : Env) (holding : ℕ → ℕ) (outer : List Var) (g : GenHead) (index : List ℤ) → AllBacked holding e outer → Shows k e ρ outer → NoneIn (g.index ∷ g.names) outer → Owns k [] holding → Ready k (with_index_value e g index) (with_index ρ g index) holding outer (g.index ∷ g.names)
+pub index_ready : (k : Heap) (e : Values) (ρ : Env) (holding : ℕ → ℕ) (outer : List Var) (g : GenHead) (index : List ℤ) → AllBacked holding e outer → Shows k e ρ outer → NoneIn (g.index ∷ g.names) outer → Owns k [] holding → Ready k (with_index_value e g index) (with_index ρ g index) holding outer (g.index ∷ g.names)
 index_ready k e ρ holding outer g index back shows fresh owns =
     let xs : List Var = g.index ∷ g.names in
     let vs : List Value = Small (vector Int index) ∷ components index in
@@ -114,38 +114,45 @@ GensMatch results_of does_calls calls turns (GenCode g b rest) = BlockMatches re
 
 -- ---- lists of variables
 
-all_front : (xs ys zs : List Var) → AllIn (xs ++ ys) zs → AllIn xs zs
+pub all_front : (xs ys zs : List Var) → AllIn (xs ++ ys) zs → AllIn xs zs
 all_front [] ys zs u = tt
 all_front (x ∷ xs) ys zs u = (u.0, all_front xs ys zs u.1)
 
-all_back : (xs ys zs : List Var) → AllIn (xs ++ ys) zs → AllIn ys zs
+pub all_back : (xs ys zs : List Var) → AllIn (xs ++ ys) zs → AllIn ys zs
 all_back [] ys zs u = u
 all_back (x ∷ xs) ys zs u = all_back xs ys zs u.1
 
-same_length : {xs ys : List Var} → Reordered xs ys → length xs ≡ length ys
+pub same_length : {xs ys : List Var} → Reordered xs ys → length xs ≡ length ys
 same_length none = refl
 same_length (stays p) = ap suc (same_length p)
 same_length swaps = refl
 same_length (through p q) = same_length p ∙ same_length q
 
-no_elements : (xs : List Var) → length xs ≡ 0 → xs ≡ []
+pub no_elements : (xs : List Var) → length xs ≡ 0 → xs ≡ []
 no_elements [] p = refl
 no_elements (x ∷ xs) p = elim (zero_not_suc (sym p)) [ ]
 
 -- ---- jobs
 
-abbrev job_of : List CodeGenerator → Operation → Plan → Job
+abbrev pub job_of : List CodeGenerator → Operation → Plan → Job
 job_of cgs o p = record { form = p.form; shape = p.shape; folds = is_fold o; indices = p.indices; source = holder cgs p.ranges; result = finish o p }
 
-abbrev parted_of : List Grid1 → Base → List ℕ → PartedOp → List CodeCells → Env → Job
+abbrev pub parted_of : List Grid1 → Base → List ℕ → PartedOp → List CodeCells → Env → Job
 parted_of f b c op ps e = record { form = record { base = b; shape = c }; shape = parted_shape f c op; folds = parted_folds op; indices = members f; source = part_holder ps; result = made_of f b c op e }
 
 -- that of a fold, by its neutral value
-abbrev fold_job : List Grid1 → Base → List ℕ → Op → Var → List CodeCells → Site → ArrayValue → Ends Job
+abbrev pub fold_job : List Grid1 → Base → List ℕ → Op → Var → List CodeCells → Site → ArrayValue → Ends Job
 fold_job f b c op x ps s a =
     if same_form a (cell_form b c)
     then Ok (record { form = record { base = b; shape = c }; shape = c; folds = true; indices = members f; source = part_holder ps; result = λ found. fold (combined op) a found })
     else fault F6 s
+
+-- the variables of a loop read the same, so its job is
+pub job_same : (h : Heap) (e : Values) (ρ : Env) (live : List Var) (f : List Grid1) (b : Base) (c : List ℕ) (op : PartedOp) (ps : List CodeCells) (s : Site) → Shows h e ρ live → AllIn (parted_uses op) live → parted_job f b c op ps s (reads h e) ≡ parted_job f b c op ps s ρ
+job_same h e ρ live f b c parted.Genarray ps s shows u = refl
+job_same h e ρ live f b c (parted.Modarray x) ps s shows u = refl
+job_same h e ρ live f b c (parted.Fold op x) ps s shows u =
+    λ i. fold_job f b c op x ps s (shown_at h e ρ x live shows u.0 i)
 
 -- ---- bodies at an index
 
@@ -166,7 +173,7 @@ module _ (results_of : ℕ → ℕ) (does_calls : DoesCalls) (calls : CallMeanin
       let d = all_back (option_to_list g.step) (option_to_list g.width) live q in
       λ i. record { lower = option_same g.lower a i; lower_closed = g.lower_closed; names = name_count g.names; upper = option_same g.upper b i; upper_closed = g.upper_closed; step = option_same g.step c i; width = option_same g.width d i; site = g.site }
 
-  all_bounds_same : (gens : CodeGensTerm) → CountedGens results_of live gens → map (λ (g : CodeGenerator). g.bounds) (code_generators does_calls turns gens e h) ≡ map (λ (g : Generator). g.bounds) (generators calls turns (core_of_gens gens) ρ)
+  pub all_bounds_same : (gens : CodeGensTerm) → CountedGens results_of live gens → map (λ (g : CodeGenerator). g.bounds) (code_generators does_calls turns gens e h) ≡ map (λ (g : Generator). g.bounds) (generators calls turns (core_of_gens gens) ρ)
   all_bounds_same NoCodeGens counted = refl
   all_bounds_same (GenCode g b rest) counted = λ i. bounds_same g counted.0 i ∷ all_bounds_same rest counted.3 i
 
@@ -228,15 +235,9 @@ module _ (results_of : ℕ → ℕ) (does_calls : DoesCalls) (calls : CallMeanin
       go true l = (first (run calls turns (core_of b) (bind ρ g.index (vector Int v))), refl, part_runs g b blocks.0 counted.0 counted.1 v holding fewer)
       go false l = l
 
-  job_same : (f : List Grid1) (b : Base) (c : List ℕ) (op : PartedOp) (ps : List CodeCells) (s : Site) → AllIn (parted_uses op) live → parted_job f b c op ps s (reads h e) ≡ parted_job f b c op ps s ρ
-  job_same f b c parted.Genarray ps s u = refl
-  job_same f b c (parted.Modarray x) ps s u = refl
-  job_same f b c (parted.Fold op x) ps s u =
-      λ i. fold_job f b c op x ps s (shown_at h e ρ x live shows u.0 i)
-
   pub parted_does : (f : List Grid1) (b : Base) (c : List ℕ) (op : PartedOp) (parts : CodePartsTerm) (s : Site) → Owns h [] others → AllIn (parted_uses op) live → PartsMatch results_of does_calls calls turns parts → CountedParts results_of live parts → Matches 1 others h (right_does does_calls turns (PartedCode f b c op parts None) s e h) (right_value calls turns (core_of_right (PartedCode f b c op parts None)) s ρ)
   parted_does f b c op parts s owns uses blocks counted =
-      subst (λ (j : Ends Job). Matches 1 others h (go_on (go_on (pure_end j h) (job_does None)) (λ v. give (v ∷ []))) (right_value calls turns (core_of_right (PartedCode f b c op parts None)) s ρ)) (sym (job_same f b c op (code_cells does_calls turns parts e) s uses))
+      subst (λ (j : Ends Job). Matches 1 others h (go_on (go_on (pure_end j h) (job_does None)) (λ v. give (v ∷ []))) (right_value calls turns (core_of_right (PartedCode f b c op parts None)) s ρ)) (sym (job_same h e ρ live f b c op (code_cells does_calls turns parts e) s shows uses))
       (go (neutral_fits (cell_form b c) op ρ))
     where
       go : (fits : Bool) → Matches 1 others h (go_on (go_on (pure_end (if fits then Ok (parted_of f b c op (code_cells does_calls turns parts e) ρ) else fault F6 s) h) (job_does None)) (λ v. give (v ∷ []))) (one (if fits then and_then (each (cell_at (cell_form b c) (cells calls turns (core_of_parts parts) ρ)) (members f)) (λ found. Ok (made_of f b c op ρ found)) else fault F6 s))

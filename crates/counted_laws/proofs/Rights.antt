@@ -16,13 +16,13 @@ use Rattle.counted_laws.proofs.Bound.{shown_at, zero_not_suc, suc_same, turn_rea
 use Rattle.counted_laws.proofs.Blocks.{length_map, matches_after, then_matches, RightMatches, BlockMatches}
 
 -- after a condition, the branch that it decides
-chosen : (n : ℕ) (others : ℕ → ℕ) (h : Heap) (s : Site) (d : Option Bool) (a b : Doing (List Value)) (x y : Answer) → Matches n others h (a h) x → Matches n others h (b h) y → Matches n others h (choose_does s d a b h) (choose s d x y)
+pub chosen : (n : ℕ) (others : ℕ → ℕ) (h : Heap) (s : Site) (d : Option Bool) (a b : Doing (List Value)) (x y : Answer) → Matches n others h (a h) x → Matches n others h (b h) y → Matches n others h (choose_does s d a b h) (choose s d x y)
 chosen n others h s None a b x y p q = refl
 chosen n others h s (Some true) a b x y p q = p
 chosen n others h s (Some false) a b x y p q = q
 
 -- values whose references are counted read the same where counted buffers keep their cells
-values_same : (h k : Heap) (others : ℕ → ℕ) (vs : List Value) → SameCells (λ b. held b vs + others b) h k → map (read k) vs ≡ map (read h) vs
+pub values_same : (h k : Heap) (others : ℕ → ℕ) (vs : List Value) → SameCells (λ b. held b vs + others b) h k → map (read k) vs ≡ map (read h) vs
 values_same h k others [] same = refl
 values_same h k others (v ∷ vs) same =
     λ i. backed_reads (λ b. held b (v ∷ vs) + others b) h k v (λ b. omega arith) same i ∷ values_same h k (λ b. refers b v + others b) vs (λ b le. same b (omega (arith, le))) i

@@ -1,15 +1,12 @@
 -- Functions of well-marked code do what they mean on arrays, at every depth.
-use Rattle.std.proofs.Common.{◌≡◌, ℕ, zero, suc, Bool, true, false, List, [], ◌∷◌, map, length, Option, Some, None, Ok, refl, ap, ◌∙◌, sym, subst, arith, All, true≢false}
+use Rattle.std.proofs.Common.{◌≡◌, ℕ, zero, suc, Bool, true, false, List, [], ◌∷◌, map, length, Option, Some, None, refl, ap, ◌∙◌, sym, subst, arith, All, true≢false}
 use Rattle.std.specs.Prelude.{if◌then◌else◌, slice_get, option_map}
 use Rattle.std.proofs.lemmas.List.Elements.{All-head, All-tail}
-use Rattle.sac_base.specs.declared.faults.FaultKind.TheVariants.{F7}
 use Rattle.sac_base.specs.declared.site.Site.{Site}
 use Rattle.sac_base.specs.declared.types.ArrayType.{ArrayType}
 use Rattle.sac_base.specs.Arrays.{ArrayValue}
-use Rattle.sac_base.specs.Outcomes.{fault}
 use Rattle.sac_base.specs.Types.{all_have}
 use Rattle.core_ir.specs.declared.tree.Var.{Var}
-use Rattle.core_ir.specs.Binders.{NoneIn}
 use Rattle.core_ir.specs.Terms.{FunTerm, CoreTerm}
 use Rattle.core_ir.specs.Meaning.{Env, CallMeaning, no_variables, bind_all, run}
 use Rattle.core_ir.specs.Outcome.{RunMeaning, param_types, results_in, function_value, body_of, run_chosen, call_chosen, call_by, run_inline, run_deeper, call_at, chosen}
@@ -20,7 +17,7 @@ use Rattle.core_settled.proofs.Whole.{calls_fit, params_sound}
 use Rattle.core_values.proofs.Whole.{keeps_arrays}
 use Rattle.core_loops.specs.Indices.{Other}
 use Rattle.counted_code.specs.Terms.{CodeFunTerm, CodeProgram, core_of, core_of_fun, core_of_code}
-use Rattle.counted_code.specs.Values.{Heap, Value, Done, fails, read}
+use Rattle.counted_code.specs.Values.{Heap, Value, read}
 use Rattle.counted_code.specs.Machine.{DoesCalls, no_values, bind_values, does}
 use Rattle.counted_code.specs.Outcome.{DoesRun, code_param_vars, results_do, function_does, body_does, run_does, chosen_does, call_does, inline_does, deeper_does, call_does_at}
 use Rattle.counted_code.specs.Counts.{IsWellCounted, group_results}
@@ -28,21 +25,13 @@ use Rattle.counted_laws.specs.Simulation.{Owns, Matches}
 use Rattle.counted_laws.proofs.Bound.{turn_ready}
 use Rattle.counted_laws.proofs.Blocks.{then_matches}
 use Rattle.counted_laws.proofs.Instances.{no_some, is_chosen, IsChosen}
-use Rattle.counted_laws.proofs.Functions.{slice_map, map_length, some_same, counted_at}
+use Rattle.counted_laws.proofs.Functions.{slice_map, map_length, some_same, counted_at, none_nil, map_size, typed_match}
 use Rattle.counted_marks.specs.Known.{Given, at_start, given}
 use Rattle.counted_marks.specs.Marks.{WellMarked, WellMarkedFunctions, IsWellMarked}
 use Rattle.mark_laws.specs.Holds.{MarksHold, ArrayCallsMatch}
 use Rattle.mark_laws.proofs.Calls.{taken_fits, RunKeeps, full_only, call_keeps, inline_keeps, level_keeps, deeper_keeps}
 use Rattle.mark_laws.proofs.Marks.{block_holds}
 use Rattle.mark_laws.proofs.Whole.{block_does}
-
-none_nil : (xs : List Var) → NoneIn xs []
-none_nil [] = tt
-none_nil (x ∷ xs) = (refl, none_nil xs)
-
-map_size : (fs : List CodeFunTerm) → length (map core_of_fun fs) ≡ length fs
-map_size [] = refl
-map_size (f ∷ fs) = ap suc (map_size fs)
 
 well_at : (g : Given) (fs : List CodeFunTerm) → WellMarkedFunctions g fs → (i : ℕ) (f : CodeFunTerm) → slice_get fs i ≡ Some f → WellMarked g f.body (at_start (core_of_fun f))
 well_at g [] w i f p = elim (no_some p) [ ]
@@ -53,10 +42,6 @@ function_at : (core : CoreTerm) (fs : List FunTerm) → All (IsFunction core) fs
 function_at core [] h i f p = elim (no_some p) [ ]
 function_at core (x ∷ fs) h zero f p = subst (IsFunction core) (some_same p) (All-head (IsFunction core) x fs h)
 function_at core (x ∷ fs) h (suc i) f p = function_at core fs (All-tail (IsFunction core) x fs h) i f p
-
-typed_match : (f : CodeFunTerm) (others : ℕ → ℕ) (k : Heap) (us : List Value) (fits : Bool) → length us ≡ length f.results → Owns k us others → Matches (length f.results) others k (if fits then Done us k else fails F7 f.ends k) (if fits then Ok (map (read k) us) else fault F7 f.ends)
-typed_match f others k us true size owns = (size, refl, owns, (λ b le. refl))
-typed_match f others k us false size owns = refl
 
 no_truth : {A : Type 0} → false ≡ true → A
 no_truth p = elim (true≢false (sym p)) [ ]

@@ -1,5 +1,5 @@
 -- A whole run of well-marked code ends as its core does, and leaves no buffer.
-use Rattle.std.proofs.Common.{◌≡◌, ℕ, suc, ◌+◌, Bool, true, false, List, [], ◌∷◌, map, length, Option, Some, None, Ok, Err, refl, ap, ◌∙◌, sym, subst, arith}
+use Rattle.std.proofs.Common.{◌≡◌, ℕ, ◌+◌, Bool, true, false, List, [], ◌∷◌, length, Option, Some, None, refl, ◌∙◌, sym, subst}
 use Rattle.std.specs.Prelude.{if◌then◌else◌, slice_get, option_map}
 use Rattle.sac_base.specs.declared.faults.Caps.{Caps}
 use Rattle.sac_base.specs.declared.faults.FaultKind.TheVariants.{F7}
@@ -8,19 +8,15 @@ use Rattle.sac_base.specs.Arrays.{ArrayValue}
 use Rattle.sac_base.specs.Outcomes.{fault}
 use Rattle.sac_base.specs.Types.{all_have}
 use Rattle.core_ir.specs.declared.tree.Var.{Var}
-use Rattle.core_ir.specs.Meaning.{Answer}
 use Rattle.core_ir.specs.Outcome.{call_at, main_value, function_value, outcome}
 use Rattle.core_calls.specs.Arrays.{AllFull}
 use Rattle.counted_code.specs.Terms.{CodeFunTerm, CodeProgram, core_of_fun, core_of_code}
-use Rattle.counted_code.specs.Values.{Heap, empty_heap, Value, Small, Ref, Ended, Done, Failed, Doing, give, go_on, then_go, read, count_of, is_small, release, release_all, place_as, place_all, take_buffer}
-use Rattle.counted_code.specs.Outcome.{code_param_types, function_does, call_does_at, copied_out, main_does, whole_run, outcome_of}
+use Rattle.counted_code.specs.Values.{empty_heap, Failed, then_go, place_all}
+use Rattle.counted_code.specs.Outcome.{code_param_types, function_does, call_does_at, copied_out, main_does, whole_run}
 use Rattle.counted_code.specs.Counts.{IsWellCounted}
-use Rattle.counted_laws.specs.Simulation.{refers, Balanced, Owns, Matches, LeavesNothing, GivesAllBack}
-use Rattle.counted_laws.proofs.Held.{backed_reads, released_owns, live_none, taken_balance}
-use Rattle.counted_laws.proofs.Plains.{taken_cells, taken_owns, taken_same}
 use Rattle.counted_laws.proofs.Instances.{have_length}
 use Rattle.counted_laws.proofs.Functions.{slice_map, map_length}
-use Rattle.counted_laws.proofs.Outcomes.{ends_as_core as ends_without_marks}
+use Rattle.counted_laws.proofs.Outcomes.{ends_as_core as ends_without_marks, all_placed, EndsAs, nobody, after_placing, empty_owns}
 use Rattle.mark_places.proofs.Programs.{code_core, code_counted}
 use Rattle.counted_marks.specs.Marks.{IsWellMarked}
 use Rattle.counted_marks.specs.Marking.{marking_code}
@@ -28,82 +24,6 @@ use Rattle.counted_marks.proofs.Left.{code_well}
 use Rattle.counted_marks.proofs.Marked.{code_marked}
 use Rattle.mark_laws.specs.Statements.{MarkingKeepsTheOutcome}
 use Rattle.mark_laws.proofs.Functions.{function_runs, top_does, top_keeps}
-
--- ---- the arguments
-
--- placed arrays are read as they were, and their references are held
-placed : (small : Bool) (a : ArrayValue) (ws : List ArrayValue) (h : Heap) (others : ℕ → ℕ) → Owns h [] others → ((k : Heap) (more : ℕ → ℕ) → Owns k [] more → Matches (length ws) more k (place_all ws k) (Ok ws))
-    → Matches (suc (length ws)) others h (go_on (place_as small a h) (λ v. then_go (place_all ws) (λ vs. give (v ∷ vs)))) (Ok (a ∷ ws))
-placed true a ws h others owns rest = go (place_all ws h) (rest h others owns)
-  where
-    go : (m : Ended (List Value)) → Matches (length ws) others h m (Ok ws) → Matches (suc (length ws)) others h (go_on m (λ vs. give (Small a ∷ vs))) (Ok (a ∷ ws))
-    go (Done vs k) r = (ap suc r.0, (λ i. a ∷ r.1 i), ((λ b. (let o = r.2.0 b in omega (arith, o))), r.2.1), r.3)
-    go (Failed f p) r = elim r [ ]
-placed false a ws h others owns rest = go (place_all ws k) (rest k more ((λ b. (let o = taken_owns h a.cells others owns b in omega (arith, o))), taken_balance h a.cells owns.1))
-  where
-    k : Heap
-    k = take_buffer a.cells h
-
-    more : ℕ → ℕ
-    more b = refers b (Ref (length h.buffers) a.base a.shape) + others b
-
-    go : (m : Ended (List Value)) → Matches (length ws) (λ b. refers b (Ref (length h.buffers) a.base a.shape) + others b) (take_buffer a.cells h) m (Ok ws) → Matches (suc (length ws)) others h (go_on m (λ vs. give (Ref (length h.buffers) a.base a.shape ∷ vs))) (Ok (a ∷ ws))
-    go (Done vs l) r =
-        let v : Value = Ref (length h.buffers) a.base a.shape in
-        let kept = backed_reads (λ b. refers b v + others b) (take_buffer a.cells h) l v (λ b. omega arith) r.3 in
-        let own = kept ∙ (λ i. record { base = a.base; shape = a.shape; cells = taken_cells h a.cells i }) in (
-          ap suc r.0,
-          (λ i. own i ∷ r.1 i),
-          ((λ b. (let o = r.2.0 b in omega (arith, o))), r.2.1),
-          (λ b le. r.3 b (omega (arith, le)) ∙ taken_same h a.cells others owns b le),
-        )
-    go (Failed f p) r = elim r [ ]
-
-all_placed : (ws : List ArrayValue) (h : Heap) (others : ℕ → ℕ) → Owns h [] others → Matches (length ws) others h (place_all ws h) (Ok ws)
-all_placed [] h others owns = (refl, refl, owns, (λ b le. refl))
-all_placed (a ∷ ws) h others owns = placed (is_small a.shape) a ws h others owns (λ k more o. all_placed ws k more o)
-
--- ---- the results
-
-released_counts : (vs : List Value) (h : Heap) (others : ℕ → ℕ) → Owns h vs others → (b : ℕ) → count_of (release_all vs h) b ≡ others b
-released_counts [] h others owns b = let o = owns.0 b in omega (arith, o)
-released_counts (v ∷ vs) h others owns b = released_counts vs (release v h) others (released_owns h v vs others owns) b
-
-released_all : (vs : List Value) (h : Heap) (others : ℕ → ℕ) → Owns h vs others → Balanced (release_all vs h)
-released_all [] h others owns = owns.1
-released_all (v ∷ vs) h others owns = released_all vs (release v h) others (released_owns h v vs others owns)
-
--- nobody else holds anything
-abbrev nobody : ℕ → ℕ
-nobody b = 0
-
--- a run ends as the core does, leaves nothing, and gives back what it took
-abbrev pub EndsAs : Ended (List ArrayValue) → Answer → Type 0
-EndsAs m a = (outcome_of m ≡ a) × LeavesNothing m × GivesAllBack m
-
-copied : (n : ℕ) (h : Heap) (m : Ended (List Value)) (a : Answer) → Matches n nobody h m a → EndsAs (go_on m copied_out) a
-copied n h (Done vs k) (Ok ws) r =
-    let none = released_counts vs k nobody r.2 in
-    let all = released_all vs k nobody r.2 in
-    let left = live_none (release_all vs k).buffers none in
-    (ap Ok r.1, none, omega (arith, all, left))
-copied n h (Failed f p) (Err g) r = (ap Err r, tt, tt)
-copied n h (Done vs k) (Err g) r = elim r [ ]
-copied n h (Failed f p) (Ok ws) r = elim r [ ]
-
--- ---- the whole
-
-empty_owns : Owns empty_heap [] nobody
-empty_owns = ((λ b. omega arith), refl)
-
--- the arguments are placed, and what follows ends as it means
-after_placing : (n m : ℕ) (ws : List ArrayValue) (next : List Value → Doing (List Value)) (a : List ArrayValue → Answer) → Matches n nobody empty_heap (place_all ws empty_heap) (Ok ws)
-    → ((vs : List Value) (k : Heap) → length vs ≡ n → Owns k vs nobody → map (read k) vs ≡ ws → Matches m nobody k (next vs k) (a (map (read k) vs))) → EndsAs (go_on (place_all ws empty_heap) (λ vs. then_go (next vs) copied_out)) (a ws)
-after_placing n m ws next a placed rest = go (place_all ws empty_heap) placed
-  where
-    go : (p : Ended (List Value)) → Matches n nobody empty_heap p (Ok ws) → EndsAs (go_on p (λ vs. then_go (next vs) copied_out)) (a ws)
-    go (Done vs k) r = subst (λ us. EndsAs (go_on (next vs k) copied_out) (a us)) r.1 (copied m k (next vs k) (a (map (read k) vs)) (rest vs k r.0 r.2 r.1))
-    go (Failed f q) r = elim r [ ]
 
 pub ends_as_core : (code : CodeProgram) → IsWellCounted code → IsWellMarked code → (args : List ArrayValue) → AllFull args → (caps : Caps) → EndsAs (whole_run code args caps) (outcome (core_of_code code) args caps)
 ends_as_core code counted well args full caps =

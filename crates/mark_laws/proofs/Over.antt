@@ -21,7 +21,7 @@ use Rattle.counted_code.specs.Values.{Buffer, Heap, Ref, Ended, Done, Failed, gi
 use Rattle.counted_code.specs.Loops.{Source, cell_does, cells_do, Old, Inside, write_cell, written_at}
 use Rattle.counted_laws.specs.Simulation.{Owns, SameCells, Matches, MatchesOne, MatchesPure}
 use Rattle.counted_laws.proofs.Held.{buffer_set, recelled_balance}
-use Rattle.counted_laws.proofs.Cells.{formed, Linked, cells_match, with_new}
+use Rattle.counted_laws.proofs.Cells.{formed, Linked, cells_match, with_new, recelled_count}
 use Rattle.mark_laws.proofs.Places.{From, same_later, written_left, written_next, all_written}
 
 -- ---- one buffer with other cells
@@ -32,13 +32,6 @@ other_cells h b c xs live same e = ap (λ (x : Buffer). x.cells) (buffer_set h b
     go : (same : Bool) → eqb b c ≡ same → (cond {A = Buffer} (eqb b c) (record { count = count_of h b; cells = xs }) (record { count = count_of h c; cells = cells_of h c })).cells ≡ cond same xs (cells_of h c)
     go true e = ap (λ t. (cond {A = Buffer} t (record { count = count_of h b; cells = xs }) (record { count = count_of h c; cells = cells_of h c })).cells) e
     go false e = ap (λ t. (cond {A = Buffer} t (record { count = count_of h b; cells = xs }) (record { count = count_of h c; cells = cells_of h c })).cells) e
-
-same_count : (h : Heap) (b c : ℕ) (xs : List ℤ) → 1 ≤ count_of h b → count_of (with_cells h b xs) c ≡ count_of h c
-same_count h b c xs live = ap (λ (x : Buffer). x.count) (buffer_set h b c (record { count = count_of h b; cells = xs }) live) ∙ go (eqb b c) refl
-  where
-    go : (same : Bool) → eqb b c ≡ same → (cond {A = Buffer} same (record { count = count_of h b; cells = xs }) (record { count = count_of h c; cells = cells_of h c })).count ≡ count_of h c
-    go true e = ap (count_of h) (eqb-true b c e)
-    go false e = refl
 
 impossible : 1 ≤ 0 → ⊥
 impossible p = omega (arith, p)
@@ -69,7 +62,7 @@ module _ (buffer : ℕ) (others : ℕ → ℕ) (vacant : others buffer ≡ 0) wh
 
   recelled_owns : (k : Heap) (xs : List ℤ) → Owns k [] holding → Owns (with_cells k buffer xs) [] holding
   recelled_owns k xs owns =
-      ((λ b. (let o = owns.0 b in let c = same_count k buffer b xs (is_live k owns) in omega (arith, o, c))), recelled_balance k buffer xs (is_live k owns) owns.1)
+      ((λ b. (let o = owns.0 b in let c = recelled_count k buffer b xs (is_live k owns) in omega (arith, o, c))), recelled_balance k buffer xs (is_live k owns) owns.1)
 
   recelled_same : (k : Heap) (xs : List ℤ) → Owns k [] holding → SameCells others k (with_cells k buffer xs)
   recelled_same k xs owns b le = other_cells k buffer b xs (is_live k owns) false (elsewhere b le)

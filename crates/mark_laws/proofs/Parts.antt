@@ -1,6 +1,6 @@
 -- Parted loops, marked or not, do what their core means, where marks are right.
 use Rattle.std.proofs.Common.{◌≡◌, ℕ, zero, suc, ◌+◌, ◌<◌, ◌≤◌, Bool, true, false, true≢false, cond, eqb, List, [], ◌∷◌, ◌++◌, map, length, get_or, ℤ, Option, Some, None, Ok, refl, ap, ◌∙◌, sym, subst, arith}
-use Rattle.std.specs.Prelude.{if◌then◌else◌, fold, Contains}
+use Rattle.std.specs.Prelude.{if◌then◌else◌, Contains}
 use Rattle.std.specs.List.{flat_map}
 use Rattle.std.proofs.lemmas.Bool.{eq-eqb}
 use Rattle.sac_base.specs.declared.base.Base.{Base}
@@ -8,14 +8,12 @@ use Rattle.sac_base.specs.declared.base.Base.TheVariants.{Int}
 use Rattle.sac_base.specs.declared.faults.FaultKind.TheVariants.{F6}
 use Rattle.sac_base.specs.declared.form.Form.{Form}
 use Rattle.sac_base.specs.declared.grid.Grid1.{Grid1}
-use Rattle.sac_base.specs.declared.op.Op.{Op}
-use Rattle.sac_base.specs.declared.site.Site.{Site}
-use Rattle.sac_base.specs.Arrays.{ArrayValue, IsFull, size, vector, same_form}
+use Rattle.sac_base.specs.Arrays.{ArrayValue, IsFull, size, vector}
 use Rattle.sac_base.specs.Grids.{has_vector, members}
 use Rattle.sac_base.specs.Outcomes.{Ends, and_then, fault}
 use Rattle.sac_base.specs.Parts.{select}
 use Rattle.sac_base.specs.Places.{vector_at}
-use Rattle.sac_base.specs.WithLoops.{each, combined}
+use Rattle.sac_base.specs.WithLoops.{each}
 use Rattle.core_ir.specs.declared.tree.Var.{Var}
 use Rattle.core_ir.specs.declared.tree.PartedOp.{PartedOp}
 use Rattle.core_ir.specs.declared.tree.PartedOp.TheVariants as parted
@@ -29,19 +27,19 @@ use Rattle.core_ir.proofs.Variables.{same_number}
 use Rattle.core_loops.specs.Pairs.{Makes}
 use Rattle.counted_code.specs.Terms.{CodeTerm, CodePartsTerm, PartedCode, NoCodeParts, PartCode, core_of, core_of_right, core_of_parts}
 use Rattle.counted_code.specs.Values.{Heap, Small, Ref, give, go_on, pure_end, read, cells_of}
-use Rattle.counted_code.specs.Loops.{Job, CodeCells, part_holder, parted_folds, parted_shape, parted_job, job_does}
-use Rattle.counted_code.specs.Machine.{Values, DoesCalls, reads, first_value, bind_value, does, right_does, code_cells}
-use Rattle.counted_code.specs.Counts.{Reordered, none, stays, swaps, through, Counted, CountedParts}
+use Rattle.counted_code.specs.Loops.{Job, CodeCells, part_holder, job_does}
+use Rattle.counted_code.specs.Machine.{Values, DoesCalls, first_value, bind_value, does, right_does, code_cells}
+use Rattle.counted_code.specs.Counts.{Reordered, Counted, CountedParts}
 use Rattle.counted_placing.proofs.Orders.{reversed}
 use Rattle.counted_laws.specs.Simulation.{refers, held, Owns, AllBacked, Shows, SameCells, Matches, MatchesOne}
 use Rattle.counted_laws.proofs.Held.{held_reordered, shows_reordered, shows_front, shows_back, shows_both, all_backed_more, self_backed, backed_both, backed_reads, backed_shows}
-use Rattle.counted_laws.proofs.Bound.{zero_not_suc, shown_at, turn_ready}
+use Rattle.counted_laws.proofs.Bound.{turn_ready}
 use Rattle.counted_laws.proofs.Plains.{owns_none}
 use Rattle.counted_laws.proofs.Cells.{Linked, AlwaysLinked, job_matches}
+use Rattle.counted_laws.proofs.Loops.{first_matches, job_same, parted_of, same_length, no_elements}
 use Rattle.mark_laws.specs.Alike.{AlikeAt}
 use Rattle.mark_laws.specs.Holds.{MarksHold, MarksHoldParts, MarksHoldOver}
 use Rattle.mark_laws.proofs.Blocks.{RightDoes, BlockDoes}
-use Rattle.mark_laws.proofs.Gens.{first_matches}
 use Rattle.mark_laws.proofs.Jobs.{CanTakeOver, marked_job}
 use Rattle.mark_laws.proofs.Over.{holding, OwnIs, LinkedOver}
 use Rattle.mark_laws.proofs.Places.{frame_from, frame_size, place_inside, own_element}
@@ -52,21 +50,6 @@ PartsDo results_of does_calls calls turns NoCodeParts = Unit {0}
 PartsDo results_of does_calls calls turns (PartCode g b rest) = BlockDoes results_of does_calls calls turns b × PartsDo results_of does_calls calls turns rest
 
 -- ---- jobs
-
-abbrev parted_of : List Grid1 → Base → List ℕ → PartedOp → List CodeCells → Env → Job
-parted_of f b c op ps e = record { form = record { base = b; shape = c }; shape = parted_shape f c op; folds = parted_folds op; indices = members f; source = part_holder ps; result = made_of f b c op e }
-
--- that of a fold, by its neutral value
-abbrev fold_job : List Grid1 → Base → List ℕ → Op → Var → List CodeCells → Site → ArrayValue → Ends Job
-fold_job f b c op x ps s a =
-    if same_form a (cell_form b c)
-    then Ok (record { form = record { base = b; shape = c }; shape = c; folds = true; indices = members f; source = part_holder ps; result = λ found. fold (combined op) a found })
-    else fault F6 s
-
-job_same : (h : Heap) (e : Values) (ρ : Env) (live : List Var) (f : List Grid1) (b : Base) (c : List ℕ) (op : PartedOp) (ps : List CodeCells) (s : Site) → Shows h e ρ live → AllIn (parted_uses op) live → parted_job f b c op ps s (reads h e) ≡ parted_job f b c op ps s ρ
-job_same h e ρ live f b c parted.Genarray ps s shows u = refl
-job_same h e ρ live f b c (parted.Modarray x) ps s shows u = refl
-job_same h e ρ live f b c (parted.Fold op x) ps s shows u = λ i. fold_job f b c op x ps s (shown_at h e ρ x live shows u.0 i)
 
 -- a loop that makes an array puts its cells one after another
 all_joined : (f : List Grid1) (b : Base) (c : List ℕ) (op : PartedOp) (e : Env) → Makes op → (found : List (Option ArrayValue)) → (made_of f b c op e found).cells ≡ flat_map elements_of found
@@ -196,16 +179,6 @@ module _ (results_of : ℕ → ℕ) (does_calls : DoesCalls) (calls : CallMeanin
             go false q l = l q
 
 -- ---- parted loops
-
-same_length : {xs ys : List Var} → Reordered xs ys → length xs ≡ length ys
-same_length none = refl
-same_length (stays p) = ap suc (same_length p)
-same_length swaps = refl
-same_length (through p q) = same_length p ∙ same_length q
-
-no_elements : (xs : List Var) → length xs ≡ 0 → xs ≡ []
-no_elements [] p = refl
-no_elements (x ∷ xs) p = elim (zero_not_suc (sym p)) [ ]
 
 module _ (results_of : ℕ → ℕ) (does_calls : DoesCalls) (calls : CallMeaning) (turns : ℕ) where
   -- without a mark

@@ -1,5 +1,5 @@
 -- Conditionals, calls and loops do what their core means, where marks are right.
-use Rattle.std.proofs.Common.{◌≡◌, ℕ, zero, suc, ◌+◌, ◌-◌, Bool, true, false, List, [], ◌∷◌, ◌++◌, map, length, Option, Some, None, Ok, Err, refl, ap, ◌∙◌, sym, subst, arith}
+use Rattle.std.proofs.Common.{◌≡◌, ℕ, zero, suc, ◌+◌, ◌-◌, Bool, true, false, List, [], ◌∷◌, ◌++◌, map, length, Ok, Err, refl, ap, ◌∙◌, sym, subst, arith}
 use Rattle.sac_base.specs.declared.faults.FaultKind.TheVariants.{F9}
 use Rattle.sac_base.specs.declared.site.Site.{Site}
 use Rattle.sac_base.specs.Arrays.{ArrayValue}
@@ -11,24 +11,13 @@ use Rattle.core_facts.specs.Facts.{DescribeAll}
 use Rattle.counted_code.specs.Terms.{CodeTerm, IfCode, LoopCode, CallCode, core_of}
 use Rattle.counted_code.specs.Values.{Heap, Value, Ended, Done, Failed, Doing, give, go_on, then_go, fails, choose_does, read, release}
 use Rattle.counted_code.specs.Machine.{DoesCalls, bind_values, first_of, first_value, tested, repeat_does, turns_do, does, right_does}
-use Rattle.counted_laws.specs.Simulation.{refers, held, Owns, SameCells, Matches}
-use Rattle.counted_laws.proofs.Held.{held_reordered, shows_reordered, shows_values, shows_front, shows_back, backed_reads, backed_shows, same_cells_fewer, released_owns, released_same}
+use Rattle.counted_laws.specs.Simulation.{held, Owns, SameCells, Matches}
+use Rattle.counted_laws.proofs.Held.{held_reordered, shows_reordered, shows_values, shows_front, shows_back, backed_shows, same_cells_fewer, released_owns, released_same}
 use Rattle.counted_laws.proofs.Bound.{shown_at, zero_not_suc, suc_same, turn_ready, test_ready}
 use Rattle.counted_laws.proofs.Blocks.{length_map, matches_after}
+use Rattle.counted_laws.proofs.Rights.{chosen, values_same}
 use Rattle.mark_laws.specs.Holds.{Reached, at_start, after_turn, ArrayCallsMatch}
 use Rattle.mark_laws.proofs.Blocks.{then_told, RightDoes, BlockDoes}
-
--- after a condition, the branch that it decides
-chosen : (n : ℕ) (others : ℕ → ℕ) (h : Heap) (s : Site) (d : Option Bool) (a b : Doing (List Value)) (x y : Answer) → Matches n others h (a h) x → Matches n others h (b h) y → Matches n others h (choose_does s d a b h) (choose s d x y)
-chosen n others h s None a b x y p q = refl
-chosen n others h s (Some true) a b x y p q = p
-chosen n others h s (Some false) a b x y p q = q
-
--- values whose references are counted read the same where counted buffers keep their cells
-values_same : (h k : Heap) (others : ℕ → ℕ) (vs : List Value) → SameCells (λ b. held b vs + others b) h k → map (read k) vs ≡ map (read h) vs
-values_same h k others [] same = refl
-values_same h k others (v ∷ vs) same =
-    λ i. backed_reads (λ b. held b (v ∷ vs) + others b) h k v (λ b. omega arith) same i ∷ values_same h k (λ b. refers b v + others b) vs (λ b le. same b (omega (arith, le))) i
 
 -- after a test, whose value is read and released
 after_test : (m : ℕ) (others : ℕ → ℕ) (k : Heap) (vs : List Value) (site : Site) (more done : Doing (List Value)) (go_more go_done : List ArrayValue → Answer) (t : Ended (List Value)) (ta : Answer) → Matches 1 (λ b. held b vs + others b) k t ta

@@ -1,87 +1,25 @@
 -- Worked examples, computed: marked code and its core have one outcome, and what its runs cost.
-use Rattle.std.proofs.Common.{◌≡◌, ℕ, false, List, [], ◌∷◌, refl, pos, rules}
-use Rattle.std.specs.Prelude.{◌≤ℤ◌, Option, Some, None, Err}
+use Rattle.std.proofs.Common.{◌≡◌, ℕ, [], ◌∷◌, refl, pos}
+use Rattle.std.specs.Prelude.{◌≤ℤ◌, Some, None, Err}
 use Rattle.std.specs.Int.{int_wrap}
 use Rattle.sac_base.specs.declared.base.Base.TheVariants.{Int}
-use Rattle.sac_base.specs.declared.faults.Caps.{Caps}
 use Rattle.sac_base.specs.declared.faults.FaultKind.TheVariants.{F2}
-use Rattle.sac_base.specs.declared.grid.Grid1.{Grid1}
 use Rattle.sac_base.specs.declared.name.Name.{Name}
-use Rattle.sac_base.specs.declared.op.Op.TheVariants.{Add, Sub, Div}
-use Rattle.sac_base.specs.declared.site.Site.{Site}
-use Rattle.sac_base.specs.declared.types.Part.TheVariants.{Known, Star}
+use Rattle.sac_base.specs.declared.op.Op.TheVariants.{Add}
 use Rattle.sac_base.specs.Grids.{has_index, within}
-use Rattle.sac_base.specs.Arrays.{ArrayValue, scalar, vector}
-use Rattle.core_ir.specs.declared.tree.Var.{Var}
+use Rattle.sac_base.specs.Arrays.{ArrayValue, vector}
 use Rattle.core_ir.specs.declared.tree.PartedOp.TheVariants as parted
 use Rattle.core_ir.specs.Outcome.{outcome}
 use Rattle.core_ir.specs.Terms.{PlainTerm}
-use Rattle.counted_code.specs.Terms.{CodeTerm, CodeProgram, Giving, Binding, Keeping, Releasing, PlainCode, PartedCode, NoCodeParts, PartCode, core_of_code}
+use Rattle.counted_code.specs.Terms.{CodeTerm, CodeProgram, Keeping, core_of_code}
 use Rattle.counted_code.specs.Outcome.{whole_run, outcome_of, cost_of}
-
-abbrev at : ℕ → ℕ → Site
-at line col = record { line = line; col = col }
-
-abbrev here : Site
-here = at 1 1
-
-abbrev v : ℕ → Var
-v n = record { 0 = n }
-
-abbrev plain : ℕ → PlainTerm → CodeTerm → CodeTerm
-plain x p rest = Binding (v x ∷ []) here (PlainCode p) rest
-
-abbrev number : ℕ → ℕ → CodeTerm → CodeTerm
-number x n rest = plain x (PlainTerm.Const (scalar Int (pos n))) rest
-
-abbrev drop : ℕ → CodeTerm → CodeTerm
-drop x rest = Releasing (v x) rest
-
-abbrev block : List (CodeTerm → CodeTerm) → ℕ → CodeTerm
-block [] x = Giving (v x ∷ [])
-block (step ∷ steps) x = step (block steps x)
-
-one_at_least : pos 1 ≤ℤ pos 1
-one_at_least = search rules
-
-abbrev line : List Grid1
-line = record { lo = pos 0; hi = pos 10; step = pos 1; width = pos 1; steps = one_at_least; wide = one_at_least } ∷ []
-
--- a loop over 10 places whose index is y, with this body
-abbrev loop : ℕ → ℕ → CodeTerm → Option Var → CodeTerm → CodeTerm
-loop x y body mark rest =
-    Binding (v x ∷ []) here (PartedCode line Int [] parted.Genarray (PartCode (record { grid = line; index = v y; site = here }) body NoCodeParts) mark) rest
-
--- int[*] main(int[10] a), where a is 20
-abbrev main_alone : Name → CodeTerm → CodeProgram
-main_alone name body = record {
-  functions = record {
-    name = name;
-    site = here;
-    params = (v 20, record { base = Int; part = Known (10 ∷ []) }) ∷ [];
-    results = record { base = Int; part = Star } ∷ [];
-    is_inline = false;
-    body = body;
-    ends = here;
-  } ∷ [];
-  groups = [];
-  main = 0;
-}
-
-abbrev caps : Caps
-caps = record { turns = 1000; depth = 200 }
+use Rattle.counted_marks.proofs.Rows.{at, v, plain, number, drop, block, main_alone, caps, loop, quotient}
 
 abbrev argument : ArrayValue
 argument = vector Int (pos 0 ∷ pos 1 ∷ pos 2 ∷ pos 3 ∷ pos 4 ∷ pos 5 ∷ pos 6 ∷ pos 7 ∷ pos 8 ∷ pos 9 ∷ [])
 
--- 10 / (a[iv] - n), a fault at the element n
-abbrev quotient : ℕ → CodeTerm
-quotient n = block (
-    plain 6 (PlainTerm.Select (v 20) (v 5)) ∷ drop 5 ∷ number 7 n ∷ plain 8 (PlainTerm.Binary Sub (v 6) (v 7)) ∷ drop 6 ∷ drop 7 ∷ number 9 10
-    ∷ (λ rest. Binding (v 10 ∷ []) (at 2 38) (PlainCode (PlainTerm.Binary Div (v 9) (v 8))) rest) ∷ drop 9 ∷ drop 8 ∷ []) 10
-
 abbrev quotients : ℕ → Name → CodeProgram
-quotients n name = main_alone name (block (loop 4 5 (quotient n) (Some (v 20)) ∷ []) 4)
+quotients n name = main_alone 10 name (block (loop 10 4 5 (quotient n) (Some (v 20)) ∷ []) 4)
 
 quotients_outcome : (name : Name) → outcome_of (whole_run (quotients 20 name) (argument ∷ []) caps) ≡ outcome (core_of_code (quotients 20 name)) (argument ∷ []) caps
 unfolding int_wrap has_index within
@@ -108,11 +46,11 @@ twice = block (plain 33 (PlainTerm.Select (v 31) (v 32)) ∷ drop 32 ∷ plain 3
 abbrev sums : CodeTerm
 sums = block (
     plain 6 (PlainTerm.Select (v 20) (v 5))
-    ∷ loop 31 35 (block (number 36 0 ∷ plain 37 (PlainTerm.Select (v 35) (v 36)) ∷ drop 35 ∷ drop 36 ∷ plain 38 (PlainTerm.Binary Add (v 6) (v 37)) ∷ drop 37 ∷ []) 38) None
-    ∷ loop 39 32 twice (Some (v 31)) ∷ drop 6 ∷ plain 10 (PlainTerm.Select (v 39) (v 5)) ∷ drop 39 ∷ drop 5 ∷ []) 10
+    ∷ loop 10 31 35 (block (number 36 0 ∷ plain 37 (PlainTerm.Select (v 35) (v 36)) ∷ drop 35 ∷ drop 36 ∷ plain 38 (PlainTerm.Binary Add (v 6) (v 37)) ∷ drop 37 ∷ []) 38) None
+    ∷ loop 10 39 32 twice (Some (v 31)) ∷ drop 6 ∷ plain 10 (PlainTerm.Select (v 39) (v 5)) ∷ drop 39 ∷ drop 5 ∷ []) 10
 
 abbrev nested : Name → CodeProgram
-nested name = main_alone name (block (loop 4 5 sums (Some (v 20)) ∷ []) 4)
+nested name = main_alone 10 name (block (loop 10 4 5 sums (Some (v 20)) ∷ []) 4)
 
 nested_outcome : (name : Name) → outcome_of (whole_run (nested name) (argument ∷ []) caps) ≡ outcome (core_of_code (nested name)) (argument ∷ []) caps
 unfolding int_wrap has_index within
@@ -126,7 +64,7 @@ nested_cost name = refl
 -- where a second reference leads to the buffer, the result has a new one
 abbrev shared : Name → CodeProgram
 shared name =
-    main_alone name (block ((λ rest. Keeping (v 20) rest) ∷ plain 21 (PlainTerm.Copy (v 20)) ∷ loop 4 5 (quotient 20) (Some (v 20)) ∷ plain 22 (PlainTerm.Binary Add (v 4) (v 21)) ∷ drop 4 ∷ drop 21 ∷ []) 22)
+    main_alone 10 name (block ((λ rest. Keeping (v 20) rest) ∷ plain 21 (PlainTerm.Copy (v 20)) ∷ loop 10 4 5 (quotient 20) (Some (v 20)) ∷ plain 22 (PlainTerm.Binary Add (v 4) (v 21)) ∷ drop 4 ∷ drop 21 ∷ []) 22)
 
 shared_outcome : (name : Name) → outcome_of (whole_run (shared name) (argument ∷ []) caps) ≡ outcome (core_of_code (shared name)) (argument ∷ []) caps
 unfolding int_wrap has_index within

@@ -1,2 +1,2 @@
 mod Overflows
-mod WithinFacts
+pub mod WithinFacts

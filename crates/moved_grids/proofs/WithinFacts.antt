@@ -11,14 +11,14 @@ use Rattle.generator_sets.specs.Pieces.{moved}
 use Rattle.grid_spans.specs.Spans.{IsSpan}
 use Rattle.moved_grids.specs.Within.{number_at_first, numbers_behind, HasMember, HaveMembers, IsAxisWithin, AreWithin, IsWithin}
 
-both : (b c : Bool) → b ≡ true → c ≡ true → (b && c) ≡ true
+pub both : (b c : Bool) → b ≡ true → c ≡ true → (b && c) ≡ true
 both b c p q = (λ i. p i && c) ∙ q
 
 parts : (b c : Bool) → (b && c) ≡ true → (b ≡ true) × (c ≡ true)
 parts true c h = (refl, h)
 parts false c h = absurd (let e : ◌≡◌ {A = Bool} false true = h in cc)
 
-never : (b : Bool) → b ≡ true → b ≡ false → ⊥
+pub never : (b : Bool) → b ≡ true → b ≡ false → ⊥
 never b p q = let e : true ≡ false = sym p ∙ q in cc
 
 -- ---- one axis
@@ -30,7 +30,7 @@ moved_none : (v : List ℤ) → moved v [] ≡ v
 moved_none [] = refl
 moved_none (x ∷ v) = refl
 
-by_moved : (x : ℤ) (v cs : List ℤ) → moved (x ∷ v) cs ≡ (x +ℤ number_at_first cs) ∷ moved v (numbers_behind cs)
+pub by_moved : (x : ℤ) (v cs : List ℤ) → moved (x ∷ v) cs ≡ (x +ℤ number_at_first cs) ∷ moved v (numbers_behind cs)
 by_moved x v [] = λ i. sym (plus_zero x) i ∷ sym (moved_none v) i
 by_moved x v (c ∷ cs) = refl
 
@@ -81,7 +81,7 @@ all_in (g ∷ gs) (f ∷ fs) cs d b (x ∷ v) h =
     ∙ both (has_index f (x +ℤ number_at_first cs)) (has_vector fs (moved v (numbers_behind cs))) (dense f (x +ℤ number_at_first cs) (All-head IsDense f fs d) at.0 at.1)
     (all_in gs fs (numbers_behind cs) (All-tail IsDense f fs d) b.1 v w.1)
 
-some_vector : (gs : List Grid1) → HaveMembers gs → (v : List ℤ) × (has_vector gs v ≡ true)
+pub some_vector : (gs : List Grid1) → HaveMembers gs → (v : List ℤ) × (has_vector gs v ≡ true)
 some_vector [] m = ([], refl)
 some_vector (g ∷ gs) m = let s = some_vector gs m.1 in (m.0.0 ∷ s.0, both (has_index g m.0.0) (has_vector gs s.0) m.0.1 s.1)
 

@@ -25,7 +25,7 @@ pub fn is_within(grid: &Grid, offset: &[i32], frame: &Grid) -> bool
 }
 
 /// Whether each axis has a member.
-fn has_members(axes: &[Grid1]) -> bool
+pub fn has_members(axes: &[Grid1]) -> bool
     ensures some { result ≡ true → HaveMembers axes.now }
     ensures none { result ≡ false → (v : List ℤ) → has_vector axes.now v ≡ false }
 {
@@ -58,7 +58,8 @@ fn are_within(axes: &[Grid1], numbers: &[i32], ranges: &[Grid1]) -> bool
     }
 }
 
-fn first_number(numbers: &[i32]) -> i32
+/// The number for the first axis: where there is none, nothing is added.
+pub fn first_number(numbers: &[i32]) -> i32
     ensures { result ≡ number_at_first numbers.now }
 {
     match numbers.first() {
@@ -67,7 +68,8 @@ fn first_number(numbers: &[i32]) -> i32
     }
 }
 
-fn other_numbers(numbers: &[i32]) -> &[i32]
+/// The numbers for the other axes.
+pub fn other_numbers(numbers: &[i32]) -> &[i32]
     ensures { result.now ≡ numbers_behind numbers.now }
 {
     match numbers.split_first() {

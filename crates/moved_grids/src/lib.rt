@@ -3,4 +3,4 @@
 
 mod inside;
 
-pub use inside::is_within;
+pub use inside::{first_number, has_members, is_within, other_numbers};

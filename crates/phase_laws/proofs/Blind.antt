@@ -25,8 +25,8 @@ use Rattle.counted_code.specs.Machine.{Values, DoesCalls, no_values, bind_value,
 use Rattle.counted_code.specs.Outcome.{DoesRun, code_param_vars, results_do, body_does, run_does, chosen_does, call_does, inline_does, deeper_does, call_does_at}
 use Rattle.counted_code.specs.Terms.{CodeTerm, CodeRightTerm, CodeGensTerm, CodePartsTerm, CodeFunTerm, CodeProgram, Giving, Binding, Keeping, Releasing, PlainCode, IfCode, LoopCode, CallCode, WithCode, PartedCode, NoCodeGens, GenCode, NoCodeParts, PartCode, core_of_code}
 use Rattle.counted_code.specs.Values.{Heap, Value, Small, Ref, Ended, Done, Failed, Doing, give, go_on, then_go, pure_end, fails, choose_does, phases_as, apart, is_small, read, count_of, keep, release, release_count, place_as, place_value, take_buffer}
+use Rattle.counted_laws.proofs.Loops.{job_of, parted_of}
 use Rattle.phase_laws.specs.Numbers.{with_more, ends_with_more, IsBlind, CallsAreBlind, SourceIsBlind}
-use Rattle.phase_laws.proofs.Loops.{job_of, parted_of}
 
 one_later : (n m : ℕ) → (n + m) + 1 ≡ (n + 1) + m
 one_later n m = omega arith

@@ -9,15 +9,13 @@ use Rattle.sac_base.specs.Arrays.{ArrayValue, size}
 use Rattle.sac_base.specs.Operators.{all_of, with_first}
 use Rattle.sac_base.specs.Outcomes.{Ends, and_then, fault}
 use Rattle.sac_base.specs.WithLoops.{each, fits_form}
-use Rattle.core_ir.specs.Meaning.{Answer, first}
 use Rattle.counted_code.specs.Loops.{Source, Job, stored, cell_does, cells_do, Target, Inside, Fresh, Old, claim, count_phase, claimed_does, job_does, write_cell}
-use Rattle.counted_code.specs.Machine.{first_of, one_value}
+use Rattle.counted_code.specs.Machine.{one_value}
 use Rattle.counted_code.specs.Values.{Buffer, no_buffer, Heap, Value, Small, Ref, Ended, Done, Failed, Doing, give, go_on, then_go, fails, phases_as, is_small, read, count_of, cells_of, with_cells, release, take_buffer}
-use Rattle.counted_laws.specs.Simulation.{some, live, Balanced, Owns, SameCells, Matches, MatchesOne}
+use Rattle.counted_laws.specs.Simulation.{some, live, Balanced, Owns, SameCells, MatchesOne}
 use Rattle.counted_laws.proofs.Held.{live_none, released_owns, released_others, taken_balance}
-use Rattle.counted_laws.proofs.Bound.{zero_not_suc, suc_same}
 use Rattle.counted_laws.proofs.Plains.{taken_owns, taken_same}
-use Rattle.counted_laws.proofs.Cells.{formed, with_new}
+use Rattle.counted_laws.proofs.Cells.{formed, with_new, phase_owns, phase_same}
 use Rattle.phase_laws.specs.Alone.{Spent, Unchanged, Leaves, IsNew}
 use Rattle.phase_laws.specs.Spending.{Spending, total, cells_spend}
 use Rattle.phase_laws.proofs.Spent.{release_spends}
@@ -59,23 +57,6 @@ pub unchanged_cells : (holding : ℕ → ℕ) (n : ℕ) (h k : Heap) → Unchang
 unchanged_cells holding n h k p b le = ap (λ (x : Buffer). x.cells) (p.buffers b le)
 
 -- ---- one cell
-
--- the first value of a run
-pub first_matches : (others : ℕ → ℕ) (h : Heap) (m : Ended (List Value)) (a : Answer) → Matches 1 others h m a → MatchesOne others h (go_on m (λ vs. give (first_of vs))) (first a)
-first_matches others h (Failed f p) (Err g) r = r
-first_matches others h (Failed f p) (Ok ws) r = elim r [ ]
-first_matches others h (Done vs k) (Err g) r = elim r [ ]
-first_matches others h (Done [] k) (Ok ws) r = elim (zero_not_suc r.0) [ ]
-first_matches others h (Done (v ∷ (w ∷ vs)) k) (Ok ws) r = elim (zero_not_suc (sym (suc_same r.0))) [ ]
-first_matches others h (Done (v ∷ []) k) (Ok []) r = elim (no_cons r.1) [ ]
-  where
-    no_cons : {a : ArrayValue} → (a ∷ []) ≡ [] → ⊥
-    no_cons p = zero_not_suc (sym (λ i. length (p i)))
-first_matches others h (Done (v ∷ []) k) (Ok (a ∷ ws)) r = ((λ i. head_array (r.1 i)), r.2, r.3)
-  where
-    head_array : List ArrayValue → ArrayValue
-    head_array [] = a
-    head_array (x ∷ xs) = x
 
 -- a value whose reference is released once it is read
 released_unchanged : (holding : ℕ → ℕ) (n : ℕ) (h k : Heap) (v : Value) → Owns h [] holding → Owns k (v ∷ []) holding → SameCells holding h k → k.taken ≡ h.taken + n → k.reused ≡ h.reused → k.phases ≡ h.phases → Unchanged holding n h (release v k)
@@ -158,14 +139,6 @@ Begun n phases h k = (k.taken ≡ h.taken + n) × (k.reused ≡ h.reused) × (k.
 pub begins : (phase : Bool) (n : ℕ) (h : Heap) → Begun 0 (cond phase (n ∷ []) []) h (count_phase phase n h)
 begins true n h = (omega arith, refl, refl)
 begins false n h = (omega arith, refl, sym (append-nil h.phases))
-
-pub phase_owns : (phase : Bool) (n : ℕ) (h : Heap) (others : ℕ → ℕ) → Owns h [] others → Owns (count_phase phase n h) [] others
-phase_owns false n h others owns = owns
-phase_owns true n h others owns = owns
-
-pub phase_same : (phase : Bool) (n : ℕ) (h : Heap) (others : ℕ → ℕ) → SameCells others h (count_phase phase n h)
-phase_same false n h others b le = refl
-phase_same true n h others b le = refl
 
 pub inside_spends : (holding : ℕ → ℕ) (m n : ℕ) (phases : List ℕ) (h k : Heap) (result : List (Option ArrayValue) → ArrayValue) (e : Ended (List (Option ArrayValue))) (r : Ends (List (Option ArrayValue))) → Begun m phases h k → Leaves holding n k e r → Spent (record { taken = m + n; phases = phases }) h (go_on (go_on e (λ found l. Done (Small (result found)) l)) (λ v. give (v ∷ [])))
 inside_spends holding m n phases h k result (Done found l) (Ok cells) b p = (sums h.taken k.taken l.taken m n b.0 p.1.taken, p.1.reused ∙ b.1, p.1.phases ∙ b.2)

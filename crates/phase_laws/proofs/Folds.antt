@@ -61,13 +61,13 @@ as_it_is [] [] full = elim (none_not_one (length {A = ℤ} []) refl full) [ ]
 as_it_is [] (x ∷ (y ∷ xs)) full = elim (more_than_one (length xs) full) [ ]
 
 module _ (base : Base) (op : Op) (allowed : IsTrue (folds base op)) (shape : List ℕ) where
-  abbrev pair : List ℤ → List ℤ → ArrayValue
+  abbrev pub pair : List ℤ → List ℤ → ArrayValue
   pair xs ys = record { base = base; shape = shape; cells = elementwise (fold_op op) xs ys }
 
-  whole_of : (a : ArrayValue) → IsOf base shape a → a ≡ record { base = base; shape = shape; cells = a.cells }
+  pub whole_of : (a : ArrayValue) → IsOf base shape a → a ≡ record { base = base; shape = shape; cells = a.cells }
   whole_of a is = λ i. record { base = is.base_is i; shape = is.shape_is i; cells = a.cells }
 
-  size_of : (a : ArrayValue) → IsOf base shape a → length a.cells ≡ size shape
+  pub size_of : (a : ArrayValue) → IsOf base shape a → length a.cells ≡ size shape
   size_of a is = is.full ∙ ap size is.shape_is
 
   pair_as : (xs ys : List ℤ) → length xs ≡ size shape → length ys ≡ size shape → binary op (record { base = base; shape = shape; cells = xs }) (record { base = base; shape = shape; cells = ys }) ≡ Ok (pair xs ys)
@@ -77,7 +77,7 @@ module _ (base : Base) (op : Op) (allowed : IsTrue (folds base op)) (shape : Lis
       ∙ ap (with_cells op shape) (all_pairs op (total base op allowed) xs ys)
       ∙ (λ i. Ok (record { base = keeps_base base op allowed i; shape = shape; cells = elementwise (fold_op op) xs ys }))
 
-  combined_as : (a b : ArrayValue) → IsOf base shape a → IsOf base shape b → combined op a (Some b) ≡ pair a.cells b.cells
+  pub combined_as : (a b : ArrayValue) → IsOf base shape a → IsOf base shape b → combined op a (Some b) ≡ pair a.cells b.cells
   combined_as a b p q =
       (λ i. or_first a (binary op (whole_of a p i) (whole_of b q i))) ∙ ap (or_first a) (pair_as a.cells b.cells (size_of a p) (size_of b q))
 

@@ -7,7 +7,6 @@ use Rattle.sac_base.specs.declared.site.Site.{Site}
 use Rattle.sac_base.specs.declared.types.ArrayType.{ArrayType}
 use Rattle.sac_base.specs.Types.{all_have}
 use Rattle.core_ir.specs.declared.tree.Var.{Var}
-use Rattle.core_ir.specs.Binders.{NoneIn}
 use Rattle.core_ir.specs.Meaning.{no_variables, bind_all}
 use Rattle.core_ir.specs.Outcome.{RunMeaning, param_types, call_by, call_at, chosen, run_inline, run_deeper}
 use Rattle.core_ir.specs.Terms.{FunTerm, CoreTerm}
@@ -18,15 +17,11 @@ use Rattle.counted_code.specs.Terms.{CodeFunTerm, CodeProgram, core_of_fun, core
 use Rattle.counted_code.specs.Values.{Heap, Value, Ended, Done, Failed, fails, go_on, read}
 use Rattle.counted_laws.specs.Simulation.{Owns}
 use Rattle.counted_laws.proofs.Bound.{turn_ready}
-use Rattle.counted_laws.proofs.Functions.{RunsMatch, slice_map, map_length, some_same, counted_at, unmarked_at, calls_matched, inline_matched, deeper_matched, top_matched}
+use Rattle.counted_laws.proofs.Functions.{RunsMatch, slice_map, map_length, some_same, counted_at, unmarked_at, calls_matched, inline_matched, deeper_matched, top_matched, none_nil}
 use Rattle.counted_laws.proofs.Instances.{is_chosen, IsChosen}
 use Rattle.phase_laws.specs.Alone.{Spent, CallsSpend, Context}
 use Rattle.phase_laws.specs.Spending.{Spending, RunSpending, body_spends, run_spends, chosen_spends, calls_spend, inline_spends, deeper_spends, calls_spend_at}
 use Rattle.phase_laws.proofs.Whole.{block_spends}
-
-none_nil : (xs : List Var) → NoneIn xs []
-none_nil [] = tt
-none_nil (x ∷ xs) = (refl, none_nil xs)
 
 -- ---- one function
 

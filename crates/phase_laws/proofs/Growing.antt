@@ -1,5 +1,5 @@
 -- A heap has one buffer more for each one that was taken, whatever the machine does.
-use Rattle.std.proofs.Common.{◌≡◌, ℕ, zero, suc, ◌+◌, ◌-◌, Bool, true, false, List, [], ◌∷◌, ◌++◌, map, length, ℤ, Option, Some, None, Ok, Err, refl, subst, sym, arith, slice_set}
+use Rattle.std.proofs.Common.{◌≡◌, ℕ, zero, suc, ◌+◌, ◌-◌, Bool, true, false, List, [], ◌∷◌, ◌++◌, map, length, ℤ, Option, Some, None, Ok, Err, refl, arith}
 use Rattle.std.specs.Prelude.{if◌then◌else◌, ◌||◌, ◌==◌, ◌*◌, pos, not, option_map, slice_get, replicate}
 use Rattle.std.proofs.lemmas.List.{length-append, length-set}
 use Rattle.sac_base.specs.declared.base.Base.{Base}
@@ -21,13 +21,13 @@ use Rattle.core_ir.specs.declared.tree.Var.{Var}
 use Rattle.core_ir.specs.Meaning.{operation, plain_value, checked, cell_form, neutral_fits}
 use Rattle.core_ir.specs.Outcome.{chosen}
 use Rattle.core_ir.specs.Terms.{PlainTerm}
-use Rattle.counted_code.specs.Loops.{Source, Job, CodeGenerator, stored, cell_does, cells_do, Target, Inside, Fresh, Old, Claimed, claim, claim_new, claim_old, write_cell, release_rest, settled, count_phase, claimed_does, job_does, loop_does, holder, with_job, part_holder, parted_job, written_at}
-use Rattle.counted_code.specs.Machine.{Values, DoesCalls, no_values, bind_value, bind_values, reads, first_of, first_value, one_value, plain_does, tested, repeat_does, turns_do, bounds_of, with_index_value, does, right_does, code_generators, code_cells}
+use Rattle.counted_code.specs.Loops.{Source, Job, CodeGenerator, stored, cell_does, cells_do, Target, Inside, Fresh, Old, Claimed, claim, claim_old, write_cell, release_rest, settled, count_phase, claimed_does, job_does, loop_does, holder, with_job, part_holder, parted_job, written_at}
+use Rattle.counted_code.specs.Machine.{Values, DoesCalls, no_values, bind_value, bind_values, reads, first_of, first_value, one_value, plain_does, tested, repeat_does, turns_do, with_index_value, does, right_does, code_generators, code_cells}
 use Rattle.counted_code.specs.Outcome.{DoesRun, code_param_vars, results_do, body_does, run_does, chosen_does, call_does, inline_does, deeper_does, call_does_at}
 use Rattle.counted_code.specs.Terms.{CodeTerm, CodeRightTerm, CodeGensTerm, CodePartsTerm, CodeFunTerm, CodeProgram, Giving, Binding, Keeping, Releasing, PlainCode, IfCode, LoopCode, CallCode, WithCode, PartedCode, NoCodeGens, GenCode, NoCodeParts, PartCode, core_of_code}
-use Rattle.counted_code.specs.Values.{Buffer, no_buffer, Heap, Value, Small, Ref, Ended, Done, Failed, Doing, give, go_on, then_go, pure_end, fails, choose_does, phases_as, apart, is_small, read, count_of, cells_of, with_buffer, with_cells, keep, release, release_count, place_as, place_value, take_buffer}
+use Rattle.counted_code.specs.Values.{Buffer, no_buffer, Heap, Value, Small, Ref, Ended, Done, Failed, Doing, give, go_on, then_go, pure_end, fails, choose_does, phases_as, apart, is_small, read, count_of, cells_of, with_buffer, keep, release, release_count, place_as, place_value, take_buffer}
+use Rattle.counted_laws.proofs.Loops.{job_of, parted_of}
 use Rattle.phase_laws.specs.Growing.{Grown, EndsGrown, Grows, CallsGrow, SourceGrows}
-use Rattle.phase_laws.proofs.Loops.{job_of, parted_of}
 
 -- ---- heaps
 

@@ -1,92 +1,43 @@
 -- With-loops and unmarked parted loops spend on a heap what they spend on arrays, and their cells leave it as it was.
-use Rattle.std.proofs.Common.{◌≡◌, ℕ, suc, ◌≤◌, Bool, true, false, cond, eqb, List, [], ◌∷◌, ◌++◌, map, length, ℤ, Option, Some, None, Ok, Err, refl, ap, ◌∙◌, sym, subst, arith}
-use Rattle.std.specs.Prelude.{if◌then◌else◌, option_map, option_to_list, fold}
-use Rattle.std.proofs.lemmas.Bool.{eq-eqb}
+use Rattle.std.proofs.Common.{◌≡◌, ℕ, ◌≤◌, Bool, true, false, List, [], ◌∷◌, ◌++◌, map, ℤ, Some, None, Ok, Err, refl, ◌∙◌, sym, subst, arith}
+use Rattle.std.specs.Prelude.{if◌then◌else◌}
 use Rattle.std.proofs.lemmas.List.{append-nil}
 use Rattle.sac_base.specs.declared.base.Base.{Base}
 use Rattle.sac_base.specs.declared.base.Base.TheVariants.{Int}
 use Rattle.sac_base.specs.declared.faults.FaultKind.TheVariants.{F6}
 use Rattle.sac_base.specs.declared.form.Form.{Form}
 use Rattle.sac_base.specs.declared.grid.Grid1.{Grid1}
-use Rattle.sac_base.specs.declared.op.Op.{Op}
 use Rattle.sac_base.specs.declared.site.Site.{Site}
-use Rattle.sac_base.specs.Arrays.{ArrayValue, scalar, vector, same_form}
+use Rattle.sac_base.specs.Arrays.{vector}
 use Rattle.sac_base.specs.Grids.{has_vector, members}
 use Rattle.sac_base.specs.Outcomes.{Ends, and_then, fault}
-use Rattle.sac_base.specs.WithLoops.{Bounds, Generator, Operation, Plan, Range, plan, holds, finish, combined}
+use Rattle.sac_base.specs.WithLoops.{Bounds, Generator, Operation, Plan, Range, plan, holds}
 use Rattle.sac_base.specs.WithLoops as loops
 use Rattle.core_ir.specs.declared.tree.CoreOp.{CoreOp}
 use Rattle.core_ir.specs.declared.tree.PartedOp.{PartedOp}
 use Rattle.core_ir.specs.declared.tree.PartedOp.TheVariants as parted
 use Rattle.core_ir.specs.declared.tree.Var.{Var}
-use Rattle.core_ir.specs.Binders.{is_in, NoneIn}
-use Rattle.core_ir.specs.Meaning.{Env, Answer, first, bind, bind_all, cell_form, cell_at, generator, operation, with_index, run, generators, cells, neutral_fits, made_of, name_count}
+use Rattle.core_ir.specs.Binders.{is_in}
+use Rattle.core_ir.specs.Meaning.{Env, first, bind, cell_form, cell_at, generator, operation, with_index, run, generators, cells, neutral_fits}
 use Rattle.core_ir.specs.Meaning as core
-use Rattle.core_ir.specs.Scopes.{AllIn, op_uses, parted_uses, head_uses}
-use Rattle.core_ir.specs.Terms.{GenHead}
-use Rattle.counted_code.specs.Counts.{Reordered, none, stays, swaps, through, Counted, CountedGens, CountedParts}
-use Rattle.counted_code.specs.Loops.{Job, CodeGenerator, CodeCells, cell_does, holder, is_fold, with_job, part_holder, parted_folds, parted_shape, parted_job, job_does}
-use Rattle.counted_code.specs.Machine.{Values, missing_value, reads, first_value, bind_value, bind_values, bounds_of, with_index_value, does, right_does, code_generators, code_cells}
+use Rattle.core_ir.specs.Scopes.{AllIn, op_uses, parted_uses}
+use Rattle.counted_code.specs.Counts.{Counted, CountedGens, CountedParts}
+use Rattle.counted_code.specs.Loops.{Job, CodeGenerator, CodeCells, cell_does, holder, is_fold, with_job, part_holder, parted_folds, parted_shape, job_does}
+use Rattle.counted_code.specs.Machine.{Values, first_value, bind_value, with_index_value, does, right_does, code_generators, code_cells}
 use Rattle.counted_code.specs.Terms.{CodeTerm, CodeGensTerm, CodePartsTerm, WithCode, PartedCode, NoCodeGens, GenCode, NoCodeParts, PartCode, core_of, core_of_gens, core_of_parts}
-use Rattle.counted_code.specs.Values.{Heap, Value, Small, give, go_on, pure_end, read}
-use Rattle.counted_laws.specs.Simulation.{refers, held, Owns, AllBacked, Shows, SameCells}
+use Rattle.counted_code.specs.Values.{Heap, Small, give, go_on, pure_end}
+use Rattle.counted_laws.specs.Simulation.{held, Owns, AllBacked, Shows, SameCells}
 use Rattle.counted_laws.proofs.Held.{shows_back, all_backed_more, backed_shows}
-use Rattle.counted_laws.proofs.Bound.{Ready, zero_not_suc, shown_at, unbound_all, backed_as, bound_all_shows, turn_ready}
-use Rattle.counted_laws.proofs.Loops.{operation_same}
+use Rattle.counted_laws.proofs.Bound.{Ready, turn_ready}
+use Rattle.counted_laws.proofs.Loops.{operation_same, all_bounds_same, job_same, index_ready, first_matches, same_length, no_elements, job_of, parted_of}
 use Rattle.counted_laws.proofs.Plains.{owns_none}
 use Rattle.phase_laws.specs.Alone.{Context, Readable, Spent, Leaves}
 use Rattle.phase_laws.specs.Spending.{nothing, after, cells_spend, gens_take, parts_take}
-use Rattle.phase_laws.proofs.Cells.{unchanged_self, first_matches, cell_leaves, job_spends}
+use Rattle.phase_laws.proofs.Cells.{unchanged_self, cell_leaves, job_spends}
 use Rattle.phase_laws.proofs.Spent.{first_spends}
 use Rattle.phase_laws.proofs.Steps.{Means, BlockSpends, RightSpends, spends_in, right_spends_in}
 
--- ---- the values of an index
-
-small_one : (b : ℕ) (same : Bool) (v w : Value) → refers b v ≡ 0 → refers b w ≡ 0 → refers b (cond same v w) ≡ 0
-small_one b true v w p q = p
-small_one b false v w p q = q
-
--- no value refers to the buffer, so no variable does that is bound to them
-small_at : (b : ℕ) (e : Values) (xs : List Var) (vs : List Value) (y : Var) → refers b (e y) ≡ 0 → held b vs ≡ 0 → refers b (bind_values e xs vs y) ≡ 0
-small_at b e [] vs y p q = p
-small_at b e (x ∷ xs) [] y p q = small_at b (bind_value e x missing_value) xs [] y (small_one b (eqb x.0 y.0) missing_value (e y) refl p) q
-small_at b e (x ∷ xs) (v ∷ vs) y p q = small_at b (bind_value e x v) xs vs y (small_one b (eqb x.0 y.0) v (e y) (omega (arith, q)) p) (omega (arith, q))
-
-small_here : (b : ℕ) (e : Values) (x : Var) (v : Value) → refers b v ≡ 0 → refers b (bind_value e x v x) ≡ 0
-small_here b e x v p = subst (λ t. refers b (cond t v (e x)) ≡ 0) (sym (eq-eqb x.0 x.0 refl)) p
-
-small_all : (b : ℕ) (e : Values) (xs : List Var) (vs : List Value) → held b vs ≡ 0 → held b (map (bind_values e xs vs) xs) ≡ 0
-small_all b e [] vs q = refl
-small_all b e (x ∷ xs) [] q =
-    let here = small_at b (bind_value e x missing_value) xs [] x (small_here b e x missing_value refl) q in
-    let rest = small_all b (bind_value e x missing_value) xs [] q in
-    omega (arith, here, rest)
-small_all b e (x ∷ xs) (v ∷ vs) q =
-    let here = small_at b (bind_value e x v) xs vs x (small_here b e x v (omega (arith, q))) (omega (arith, q)) in
-    let rest = small_all b (bind_value e x v) xs vs (omega (arith, q)) in
-    omega (arith, here, rest)
-
-abbrev components : List ℤ → List Value
-components index = map (λ z. Small (scalar Int z)) index
-
-components_small : (b : ℕ) (index : List ℤ) → held b (components index) ≡ 0
-components_small b [] = refl
-components_small b (z ∷ zs) = let rest = components_small b zs in omega (arith, rest)
-
-components_read : (k : Heap) (index : List ℤ) → map (read k) (components index) ≡ map (scalar Int) index
-components_read k [] = refl
-components_read k (z ∷ zs) = ap (λ rest. scalar Int z ∷ rest) (components_read k zs)
-
--- at the start of a generator's body
-index_ready : (k : Heap) (e : Values) (ρ : Env) (holding : ℕ → ℕ) (live : List Var) (g : GenHead) (index : List ℤ) → Readable k e ρ holding live → NoneIn (g.index ∷ g.names) live → Ready k (with_index_value e g index) (with_index ρ g index) holding live (g.index ∷ g.names)
-index_ready k e ρ holding live g index readable fresh =
-    let xs : List Var = g.index ∷ g.names in
-    let vs : List Value = Small (vector Int index) ∷ components index in
-    record {
-      owns = ((λ b. (let o = readable.owns.0 b in let c = components_small b index in let z = small_all b e xs vs (omega (arith, c)) in omega (arith, o, z))), readable.owns.1);
-      backed = backed_as holding e (bind_values e xs vs) live (unbound_all e xs vs live fresh) readable.backed;
-      shows = subst (λ ws. Shows k (bind_values e xs vs) (bind_all ρ xs (vector Int index ∷ ws)) (xs ++ live)) (components_read k index) (bound_all_shows k e ρ xs vs live readable.shows);
-    }
+-- ---- where a body starts
 
 -- at the start of a part's body
 part_ready : (k : Heap) (e : Values) (ρ : Env) (holding : ℕ → ℕ) (live : List Var) (x : Var) (index : List ℤ) → Readable k e ρ holding live → is_in x live ≡ false → Ready k (bind_value e x (Small (vector Int index))) (bind ρ x (vector Int index)) holding live (x ∷ [])
@@ -104,41 +55,6 @@ readable_on h k e ρ others holding live backed shows fewer owns same = record {
 
 pub readable_in : (h k : Heap) (e : Values) (ρ : Env) (holding : ℕ → ℕ) (live : List Var) → Readable h e ρ holding live → Owns k [] holding → SameCells holding h k → Readable k e ρ holding live
 readable_in h k e ρ holding live readable owns same = readable_on h k e ρ holding holding live readable.backed readable.shows (λ b. omega arith) owns same
-
--- ---- lists of variables
-
-all_front : (xs ys zs : List Var) → AllIn (xs ++ ys) zs → AllIn xs zs
-all_front [] ys zs u = tt
-all_front (x ∷ xs) ys zs u = (u.0, all_front xs ys zs u.1)
-
-all_back : (xs ys zs : List Var) → AllIn (xs ++ ys) zs → AllIn ys zs
-all_back [] ys zs u = u
-all_back (x ∷ xs) ys zs u = all_back xs ys zs u.1
-
-pub same_length : {xs ys : List Var} → Reordered xs ys → length xs ≡ length ys
-same_length none = refl
-same_length (stays p) = ap suc (same_length p)
-same_length swaps = refl
-same_length (through p q) = same_length p ∙ same_length q
-
-pub no_elements : (xs : List Var) → length xs ≡ 0 → xs ≡ []
-no_elements [] p = refl
-no_elements (x ∷ xs) p = elim (zero_not_suc (sym p)) [ ]
-
--- ---- jobs
-
-abbrev pub job_of : List CodeGenerator → Operation → Plan → Job
-job_of cgs o p = record { form = p.form; shape = p.shape; folds = is_fold o; indices = p.indices; source = holder cgs p.ranges; result = finish o p }
-
-abbrev pub parted_of : List Grid1 → Base → List ℕ → PartedOp → List CodeCells → Env → Job
-parted_of f b c op ps e = record { form = record { base = b; shape = c }; shape = parted_shape f c op; folds = parted_folds op; indices = members f; source = part_holder ps; result = made_of f b c op e }
-
--- that of a fold, by its neutral value
-abbrev fold_job : List Grid1 → Base → List ℕ → Op → List CodeCells → Site → ArrayValue → Ends Job
-fold_job f b c op ps s a =
-    if same_form a (cell_form b c)
-    then Ok (record { form = record { base = b; shape = c }; shape = c; folds = true; indices = members f; source = part_holder ps; result = λ found. fold (combined op) a found })
-    else fault F6 s
 
 module _ (c : Context) where
   -- each body means what it does, and spends what it is to
@@ -184,7 +100,7 @@ module _ (c : Context) where
     where
       go : (inside : Bool) → Leaves holding (takes_gens rest ρ rs v) k (cell_does form (holder (code_gens rest e h) rs v) k) (loops.cell_at form (core_gens rest ρ) rs v) → Leaves holding (if inside then (spends_in c b (with_index ρ g v)).taken else takes_gens rest ρ rs v) k (cell_does form (if inside then Some (record { cell = first_value (does c.does_calls c.turns b (with_index_value e g v)); site = g.site }) else holder (code_gens rest e h) rs v) k) (loops.held_cell form (if inside then Some (generator g (λ index. first (run c.calls c.turns (core_of b) (with_index ρ g index))) ρ) else loops.holder (core_gens rest ρ) rs v) v)
       go true l =
-          body_leaves b blocks.0 blocks.1 live (g.index ∷ g.names) counted.2 form g.site k (with_index_value e g v) (with_index ρ g v) holding readable.owns (index_ready k e ρ holding live g v readable counted.1)
+          body_leaves b blocks.0 blocks.1 live (g.index ∷ g.names) counted.2 form g.site k (with_index_value e g v) (with_index ρ g v) holding readable.owns (index_ready k e ρ holding live g v readable.backed readable.shows counted.1 readable.owns)
       go false l = l
 
   pub parts_leave : (parts : CodePartsTerm) → PartsSpend parts → (live : List Var) → CountedParts c.results_of live parts → (k : Heap) (e : Values) (ρ : Env) (holding : ℕ → ℕ) → Readable k e ρ holding live → (base : Base) (shape : List ℕ) (v : List ℤ) → Leaves holding (takes_parts parts ρ v) k (cell_does (record { base = base; shape = shape }) (part_holder (code_parts parts e) v) k) (cell_at (cell_form base shape) (core_parts parts ρ) v)
@@ -199,30 +115,12 @@ module _ (c : Context) where
   -- ---- loops
 
   module _ (h : Heap) (e : Values) (ρ : Env) (others : ℕ → ℕ) (live : List Var) (backed : AllBacked others e live) (shows : Shows h e ρ live) where
-    option_same : (o : Option Var) → AllIn (option_to_list o) live → option_map (reads h e) o ≡ option_map ρ o
-    option_same None u = refl
-    option_same (Some x) u = λ i. Some (shown_at h e ρ x live shows u.0 i)
-
-    bounds_same : (g : GenHead) → AllIn (head_uses g) live → bounds_of g (reads h e) ≡ bounds_of g ρ
-    bounds_same g u =
-        let a = all_front (option_to_list g.lower) (option_to_list g.upper ++ (option_to_list g.step ++ option_to_list g.width)) live u in
-        let r = all_back (option_to_list g.lower) (option_to_list g.upper ++ (option_to_list g.step ++ option_to_list g.width)) live u in
-        let b = all_front (option_to_list g.upper) (option_to_list g.step ++ option_to_list g.width) live r in
-        let q = all_back (option_to_list g.upper) (option_to_list g.step ++ option_to_list g.width) live r in
-        let s = all_front (option_to_list g.step) (option_to_list g.width) live q in
-        let w = all_back (option_to_list g.step) (option_to_list g.width) live q in
-        λ i. record { lower = option_same g.lower a i; lower_closed = g.lower_closed; names = name_count g.names; upper = option_same g.upper b i; upper_closed = g.upper_closed; step = option_same g.step s i; width = option_same g.width w i; site = g.site }
-
-    pub all_bounds_same : (gens : CodeGensTerm) → CountedGens c.results_of live gens → map (λ (g : CodeGenerator). g.bounds) (code_gens gens e h) ≡ map (λ (g : Generator). g.bounds) (core_gens gens ρ)
-    all_bounds_same NoCodeGens counted = refl
-    all_bounds_same (GenCode g b rest) counted = λ i. bounds_same g counted.0 i ∷ all_bounds_same rest counted.3 i
-
     with_spends : (op : CoreOp) (gens : CodeGensTerm) (s : Site) → Owns h [] others → AllIn (op_uses op) live → GensSpend gens → CountedGens c.results_of live gens → Spent (right_spends_in c (WithCode op gens) s ρ) h (right_does c.does_calls c.turns (WithCode op gens) s e h)
     with_spends op gens s owns uses blocks counted =
         let O = operation op s ρ in
         let cgs = code_gens gens e h in
         subst (λ (o : Operation). Spent (right_spends_in c (WithCode op gens) s ρ) h (go_on (go_on (pure_end (with_job cgs o) h) (job_does None)) (λ v. give (v ∷ [])))) (sym (operation_same c.results_of c.does_calls c.calls c.turns h e ρ others live backed shows op s uses))
-        (subst (λ (bs : List Bounds). Spent (right_spends_in c (WithCode op gens) s ρ) h (go_on (go_on (pure_end (and_then (plan bs O) (λ p. Ok (job_of cgs O p))) h) (job_does None)) (λ v. give (v ∷ [])))) (sym (all_bounds_same gens counted))
+        (subst (λ (bs : List Bounds). Spent (right_spends_in c (WithCode op gens) s ρ) h (go_on (go_on (pure_end (and_then (plan bs O) (λ p. Ok (job_of cgs O p))) h) (job_does None)) (λ v. give (v ∷ [])))) (sym (all_bounds_same c.results_of c.does_calls c.calls c.turns h e ρ others live backed shows gens counted))
         (go (plan (map (λ (g : Generator). g.bounds) (core_gens gens ρ)) O)))
       where
         go : (P : Ends Plan) → Spent (after P (λ p. cells_spend (is_fold (operation op s ρ)) p.shape p.indices (takes_gens gens ρ p.ranges))) h (go_on (go_on (pure_end (and_then P (λ p. Ok (job_of (code_gens gens e h) (operation op s ρ) p))) h) (job_does None)) (λ v. give (v ∷ [])))
@@ -231,15 +129,9 @@ module _ (c : Context) where
             job_spends (job_of (code_gens gens e h) (operation op s ρ) p) (loops.cell_at p.form (core_gens gens ρ) p.ranges) (takes_gens gens ρ p.ranges) h others owns
             (λ holding fewer v k o same. gens_leave gens blocks live counted h k e ρ holding (readable_on h k e ρ others holding live backed shows fewer o same) p.form p.ranges v)
 
-    pub job_same : (f : List Grid1) (b : Base) (shape : List ℕ) (op : PartedOp) (ps : List CodeCells) (s : Site) → AllIn (parted_uses op) live → parted_job f b shape op ps s (reads h e) ≡ parted_job f b shape op ps s ρ
-    job_same f b shape parted.Genarray ps s u = refl
-    job_same f b shape (parted.Modarray x) ps s u = refl
-    job_same f b shape (parted.Fold op x) ps s u =
-        λ i. fold_job f b shape op ps s (shown_at h e ρ x live shows u.0 i)
-
     parted_spends : (f : List Grid1) (b : Base) (shape : List ℕ) (op : PartedOp) (parts : CodePartsTerm) (s : Site) → Owns h [] others → AllIn (parted_uses op) live → PartsSpend parts → CountedParts c.results_of live parts → Spent (right_spends_in c (PartedCode f b shape op parts None) s ρ) h (right_does c.does_calls c.turns (PartedCode f b shape op parts None) s e h)
     parted_spends f b shape op parts s owns uses blocks counted =
-        subst (λ (j : Ends Job). Spent (right_spends_in c (PartedCode f b shape op parts None) s ρ) h (go_on (go_on (pure_end j h) (job_does None)) (λ v. give (v ∷ [])))) (sym (job_same f b shape op (code_parts parts e) s uses))
+        subst (λ (j : Ends Job). Spent (right_spends_in c (PartedCode f b shape op parts None) s ρ) h (go_on (go_on (pure_end j h) (job_does None)) (λ v. give (v ∷ [])))) (sym (job_same h e ρ live f b shape op (code_parts parts e) s shows uses))
         (go (neutral_fits (cell_form b shape) op ρ))
       where
         go : (fits : Bool) → Spent (if fits then cells_spend (parted_folds op) (parted_shape f shape op) (members f) (takes_parts parts ρ) else nothing) h (go_on (go_on (pure_end (if fits then Ok (parted_of f b shape op (code_parts parts e) ρ) else fault F6 s) h) (job_does None)) (λ v. give (v ∷ [])))

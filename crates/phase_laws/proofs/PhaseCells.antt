@@ -11,7 +11,7 @@ use Rattle.counted_code.specs.Loops.{Source, Job, Target, Inside, Fresh, Old, ce
 use Rattle.counted_code.specs.Machine.{one_value}
 use Rattle.counted_code.specs.Values.{Buffer, Heap, Value, Small, Ref, Ended, Done, Failed, give, go_on, is_small, read, count_of, cells_of, buffer_at, with_cells, take_buffer}
 use Rattle.counted_laws.specs.Simulation.{Owns, SameCells, Matches}
-use Rattle.counted_laws.proofs.Cells.{with_new}
+use Rattle.counted_laws.proofs.Cells.{with_new, phase_owns, phase_same}
 use Rattle.counted_laws.proofs.Held.{buffer_set, recelled_balance, taken_balance}
 use Rattle.counted_laws.proofs.Plains.{vacant_end, taken_owns, taken_same}
 use Rattle.phase_laws.specs.Alone.{Spent, Leaves, StandAlone, IsNew}
@@ -19,7 +19,7 @@ use Rattle.phase_laws.specs.Chunks.{pieces, chunks_do}
 use Rattle.phase_laws.specs.Numbers.{SourceIsBlind}
 use Rattle.phase_laws.specs.Phased.{Cut, phase_cells, claimed_phase, phase_does}
 use Rattle.phase_laws.specs.Spending.{Spending, total, cells_spend}
-use Rattle.phase_laws.proofs.Cells.{AlwaysLeave, Begun, begins, phase_owns, phase_same, inside_spends, fresh_spends, cells_leave, unchanged_cells}
+use Rattle.phase_laws.proofs.Cells.{AlwaysLeave, Begun, begins, inside_spends, fresh_spends, cells_leave, unchanged_cells}
 use Rattle.phase_laws.proofs.Chunks.{chunks_leave, pieces_together}
 
 -- a run ends as the core does, and spends so much

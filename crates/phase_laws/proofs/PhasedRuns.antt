@@ -1,5 +1,5 @@
 -- Functions and whole runs on the machine that runs phases in chunks.
-use Rattle.std.proofs.Common.{◌≡◌, ℕ, zero, suc, ◌%◌, ◌^◌, Bool, true, false, List, [], ◌∷◌, map, length, Option, Some, None, Ok, Err, refl, ap, ◌∙◌, sym, subst, arith, true≢false}
+use Rattle.std.proofs.Common.{◌≡◌, ℕ, zero, suc, ◌%◌, ◌^◌, Bool, true, false, List, [], ◌∷◌, map, length, Option, Some, None, Ok, Err, refl, ap, ◌∙◌, sym, subst, true≢false}
 use Rattle.std.specs.Prelude.{if◌then◌else◌, slice_get, option_map}
 use Rattle.std.proofs.lemmas.List.{append-nil}
 use Rattle.sac_base.specs.declared.faults.Caps.{Caps}
@@ -11,7 +11,6 @@ use Rattle.sac_base.specs.Arrays.{ArrayValue}
 use Rattle.sac_base.specs.Outcomes.{and_then, fault}
 use Rattle.sac_base.specs.Types.{all_have}
 use Rattle.core_ir.specs.declared.tree.Var.{Var}
-use Rattle.core_ir.specs.Binders.{NoneIn}
 use Rattle.core_ir.specs.Meaning.{Answer, no_variables, bind_all, run}
 use Rattle.core_ir.specs.Outcome.{RunMeaning, results_in, function_value, body_of, call_by, call_at, run_inline, run_deeper, main_value, outcome}
 use Rattle.core_ir.specs.Terms.{CoreTerm}
@@ -19,13 +18,12 @@ use Rattle.counted_code.specs.Counts.{CountedFunction, IsWellCounted, IsUnmarked
 use Rattle.counted_code.specs.Machine.{DoesCalls, no_values, bind_values}
 use Rattle.counted_code.specs.Outcome.{DoesRun, code_param_types, code_param_vars, results_do, call_does, inline_does, deeper_does, call_does_at, copied_out, whole_run, outcome_of, cost_of, phases_of}
 use Rattle.counted_code.specs.Terms.{CodeFunTerm, CodeProgram, core_of_fun, core_of_code}
-use Rattle.counted_code.specs.Values.{Heap, empty_heap, Value, Ended, Done, Failed, Doing, fails, go_on, then_go, read, count_of, place_all, release, release_all}
-use Rattle.counted_laws.specs.Simulation.{Balanced, Owns, Matches, CallsMatch, LeavesNothing, GivesAllBack}
+use Rattle.counted_code.specs.Values.{Heap, empty_heap, Value, Ended, Done, Failed, Doing, fails, go_on, then_go, read, place_all}
+use Rattle.counted_laws.specs.Simulation.{Owns, CallsMatch, LeavesNothing, GivesAllBack}
 use Rattle.counted_laws.proofs.Bound.{turn_ready}
-use Rattle.counted_laws.proofs.Functions.{RunsMatch, slice_map, map_length, counted_at, unmarked_at, calls_matched, deeper_matched}
-use Rattle.counted_laws.proofs.Held.{released_owns, live_none}
+use Rattle.counted_laws.proofs.Functions.{RunsMatch, slice_map, map_length, counted_at, unmarked_at, calls_matched, deeper_matched, none_nil}
 use Rattle.counted_laws.proofs.Instances.{have_length}
-use Rattle.counted_laws.proofs.Outcomes.{ends_as_core}
+use Rattle.counted_laws.proofs.Outcomes.{ends_as_core, copied, nobody, empty_owns}
 use Rattle.phase_laws.specs.Alone.{Context, Spent, CallsSpend, SpentInAll}
 use Rattle.phase_laws.specs.Numbers.{CallsAreBlind}
 use Rattle.phase_laws.specs.Phased.{Cut, phased, function_phased, body_phased, inline_phased, deeper_phased, calls_phased, main_phased, phased_run}
@@ -34,12 +32,8 @@ use Rattle.phase_laws.proofs.Blind.{RunsAreBlind, call_blind, inline_blind, deep
 use Rattle.phase_laws.proofs.Functions.{RunsSpend, calls_spent, inline_spent, inside, deeper_spent, top}
 use Rattle.phase_laws.proofs.PhaseCells.{Goes}
 use Rattle.phase_laws.proofs.Phases.{block_goes}
-use Rattle.phase_laws.proofs.Runs.{Placed, all_placed, copied_spends, nobody, placing_all, run_spends, in_all}
+use Rattle.phase_laws.proofs.Runs.{Placed, all_placed, copied_spends, placing_all, run_spends, in_all}
 use Rattle.phase_laws.proofs.Spent.{spent_both}
-
-none_nil : (xs : List Var) → NoneIn xs []
-none_nil [] = tt
-none_nil (x ∷ xs) = (refl, none_nil xs)
 
 -- ---- one function
 
@@ -137,27 +131,9 @@ module _ (cut : Option Cut) where
 
 -- ---- a whole run
 
-released_counts : (vs : List Value) (h : Heap) (others : ℕ → ℕ) → Owns h vs others → (b : ℕ) → count_of (release_all vs h) b ≡ others b
-released_counts [] h others owns b = let o = owns.0 b in omega (arith, o)
-released_counts (v ∷ vs) h others owns b = released_counts vs (release v h) others (released_owns h v vs others owns) b
-
-released_balance : (vs : List Value) (h : Heap) (others : ℕ → ℕ) → Owns h vs others → Balanced (release_all vs h)
-released_balance [] h others owns = owns.1
-released_balance (v ∷ vs) h others owns = released_balance vs (release v h) others (released_owns h v vs others owns)
-
 -- a run ends as the core does, leaves nothing, and has spent so much
 abbrev EndsWith : Ended (List ArrayValue) → Answer → Spending → Type 0
 EndsWith m a s = (outcome_of m ≡ a) × LeavesNothing m × GivesAllBack m × Spent s empty_heap m
-
-copied : (n : ℕ) (h : Heap) (m : Ended (List Value)) (a : Answer) → Matches n nobody h m a → (outcome_of (go_on m copied_out) ≡ a) × LeavesNothing (go_on m copied_out) × GivesAllBack (go_on m copied_out)
-copied n h (Done vs k) (Ok ws) r =
-    let none = released_counts vs k nobody r.2 in
-    let all = released_balance vs k nobody r.2 in
-    let left = live_none (release_all vs k).buffers none in
-    (ap Ok r.1, none, omega (arith, all, left))
-copied n h (Failed f p) (Err g) r = (ap Err r, tt, tt)
-copied n h (Done vs k) (Err g) r = elim r [ ]
-copied n h (Failed f p) (Ok ws) r = elim r [ ]
 
 placed_goes : (n m : ℕ) (ws : List ArrayValue) (rest : Spending) (a : List ArrayValue → Answer) (next : List Value → Doing (List Value)) (p : Ended (List Value)) → Placed n nobody empty_heap (placing_all ws) p ws → ((vs : List Value) (k : Heap) → length vs ≡ n → Owns k vs nobody → map (read k) vs ≡ ws → Goes m nobody k (next vs k) (a ws) rest) → EndsWith (go_on p (λ vs. then_go (next vs) copied_out)) (a ws) (both (placing_all ws) rest)
 placed_goes n m ws rest a next (Done vs k) p go =
@@ -179,7 +155,7 @@ module _ (cut : Option Cut) (code : CodeProgram) (counted : IsWellCounted code) 
   called f is true e =
       let size = have_length (code_param_types f) args e ∙ map_length (λ (p : Var × ArrayType). p.1) f.params ∙ sym (map_length (λ (p : Var × ArrayType). p.0) f.params) in
       let level = top_goes cut code counted unmarked caps.turns caps.depth in
-      placed_goes (length args) (length f.results) args (body_spends caps.turns context.calls context.call_spends (Some f) args) (function_value caps.turns context.calls (core_of_fun f)) (function_phased cut caps.turns context.does_calls calls f) (place_all args empty_heap) (all_placed args empty_heap nobody ((λ b. omega arith), refl))
+      placed_goes (length args) (length f.results) args (body_spends caps.turns context.calls context.call_spends (Some f) args) (function_value caps.turns context.calls (core_of_fun f)) (function_phased cut caps.turns context.does_calls calls f) (place_all args empty_heap) (all_placed args empty_heap nobody empty_owns)
       (λ vs k z o w. subst (λ us. Goes (length f.results) nobody k (function_phased cut caps.turns context.does_calls calls f vs k) (function_value caps.turns context.calls (core_of_fun f) us) (body_spends caps.turns context.calls context.call_spends (Some f) us)) w
       (function_goes cut context (calls_blind code caps.turns caps.depth (length code.functions)) calls level.0 level.1 f (counted_at (group_results (core_of_code code)) code.functions counted.functions code.main f is) (unmarked_at code.functions unmarked code.main f is) vs k nobody (z ∙ size) o))
 

@@ -1,5 +1,5 @@
 -- Terms on the machine that runs phases in chunks do what their core means, and spend what they are to.
-use Rattle.std.proofs.Common.{◌≡◌, ℕ, ◌+◌, Bool, true, false, List, [], ◌∷◌, ◌++◌, map, length, Option, Some, None, Ok, Err, refl, ap, ◌∙◌, sym, subst, arith}
+use Rattle.std.proofs.Common.{◌≡◌, ℕ, ◌+◌, Bool, true, false, List, [], ◌∷◌, ◌++◌, map, length, Option, None, Ok, Err, refl, ap, ◌∙◌, sym, subst, arith}
 use Rattle.std.specs.Prelude.{if◌then◌else◌}
 use Rattle.std.proofs.lemmas.List.{append-nil}
 use Rattle.sac_base.specs.declared.base.Base.{Base}
@@ -22,30 +22,24 @@ use Rattle.counted_code.specs.Counts.{Counted, CountedRight, CountedGens, Counte
 use Rattle.counted_code.specs.Loops.{Job, CodeGenerator, is_fold, with_job, parted_folds, parted_shape}
 use Rattle.counted_code.specs.Machine.{Values, DoesCalls, bind_values}
 use Rattle.counted_code.specs.Terms.{CodeTerm, CodeRightTerm, CodeGensTerm, CodePartsTerm, Giving, Binding, Keeping, Releasing, PlainCode, IfCode, LoopCode, CallCode, WithCode, PartedCode, core_of, core_of_right}
-use Rattle.counted_code.specs.Values.{Heap, Value, Doing, give, go_on, pure_end, choose_does, read, keep, release}
-use Rattle.counted_laws.specs.Simulation.{held, Owns, AllBacked, Shows, SameCells, Matches, CallsMatch}
+use Rattle.counted_code.specs.Values.{Heap, Value, Doing, give, go_on, pure_end, read, keep, release}
+use Rattle.counted_laws.specs.Simulation.{held, Owns, AllBacked, Shows, SameCells, CallsMatch}
 use Rattle.counted_laws.proofs.Blocks.{length_map, matches_after, then_matches, giving_matches}
 use Rattle.counted_laws.proofs.Bound.{Ready, alive_backed, kept_ready, released_ready, staying, right_ready, rest_ready, none_front, none_back, shown_at, turn_ready, test_ready}
 use Rattle.counted_laws.proofs.Held.{held_reordered, shows_reordered, shows_values, shows_front, shows_back, backed_shows, keep_cells}
-use Rattle.counted_laws.proofs.Loops.{operation_same}
+use Rattle.counted_laws.proofs.Loops.{operation_same, all_bounds_same, job_same, same_length, no_elements, job_of, parted_of}
 use Rattle.counted_laws.proofs.Plains.{plain_matches, owns_none}
-use Rattle.counted_laws.proofs.Rights.{call_matches, turns_match}
+use Rattle.counted_laws.proofs.Rights.{call_matches, turns_match, chosen}
 use Rattle.phase_laws.specs.Alone.{Context, CallsSpend}
 use Rattle.phase_laws.specs.Numbers.{CallsAreBlind}
 use Rattle.phase_laws.specs.Phased.{Cut, phase_does, phased, right_phased}
 use Rattle.phase_laws.specs.Spending.{nothing, after, choice, cells_spend, turns_spend}
 use Rattle.phase_laws.proofs.Blind.{gens_blind, parts_blind}
-use Rattle.phase_laws.proofs.Loops.{GensSpend, PartsSpend, takes_gens, takes_parts, code_gens, core_gens, code_parts, core_parts, job_of, parted_of, readable_on, same_length, no_elements, gens_leave, parts_leave, all_bounds_same, job_same}
+use Rattle.phase_laws.proofs.Loops.{GensSpend, PartsSpend, takes_gens, takes_parts, code_gens, core_gens, code_parts, core_parts, readable_on, gens_leave, parts_leave}
 use Rattle.phase_laws.proofs.PhaseCells.{Goes, job_goes}
 use Rattle.phase_laws.proofs.Spent.{then_spends, chosen_spends, keep_spends, release_spends, spent_from}
 use Rattle.phase_laws.proofs.Steps.{spends_in, right_spends_in, giving_spends, right_plain_spends, call_spends, turns_spent}
 use Rattle.phase_laws.proofs.Whole.{gens_spend, parts_spend}
-
--- after a condition, the branch that it decides
-chosen : (n : ℕ) (others : ℕ → ℕ) (h : Heap) (s : Site) (d : Option Bool) (a b : Doing (List Value)) (x y : Answer) → Matches n others h (a h) x → Matches n others h (b h) y → Matches n others h (choose_does s d a b h) (choose s d x y)
-chosen n others h s None a b x y p q = refl
-chosen n others h s (Some true) a b x y p q = p
-chosen n others h s (Some false) a b x y p q = q
 
 -- the context c is that of cells; outside of cells calls are these
 module _ (cut : Option Cut) (c : Context) (cells_blind : CallsAreBlind c.does_calls) (calls : DoesCalls) (calls_match : CallsMatch c.results_of calls c.calls) (calls_spend : CallsSpend calls c.call_spends) where
@@ -178,7 +172,7 @@ module _ (cut : Option Cut) (c : Context) (cells_blind : CallsAreBlind c.does_ca
     with_in : (op : CoreOp) (gens : CodeGensTerm) (s : Site) → Owns h [] others → AllIn (op_uses op) live → GensSpend c gens → CountedGens c.results_of live gens → Goes 1 others h (right_phased_in (WithCode op gens) s e h) (right_in (WithCode op gens) s ρ) (right_spends_in c (WithCode op gens) s ρ)
     with_in op gens s owns uses blocks counted =
         subst (λ (o : Operation). Goes 1 others h (go_on (go_on (pure_end (with_job cgs o) h) (phase_does cut None)) (λ v. give (v ∷ []))) (right_in (WithCode op gens) s ρ) (right_spends_in c (WithCode op gens) s ρ)) (sym (operation_same c.results_of c.does_calls c.calls c.turns h e ρ others live backed shows op s uses))
-        (subst (λ (bs : List Bounds). Goes 1 others h (go_on (go_on (pure_end (and_then (plan bs (operation op s ρ)) (λ p. Ok (job_of cgs (operation op s ρ) p))) h) (phase_does cut None)) (λ v. give (v ∷ []))) (right_in (WithCode op gens) s ρ) (right_spends_in c (WithCode op gens) s ρ)) (sym (all_bounds_same c h e ρ others live backed shows gens counted))
+        (subst (λ (bs : List Bounds). Goes 1 others h (go_on (go_on (pure_end (and_then (plan bs (operation op s ρ)) (λ p. Ok (job_of cgs (operation op s ρ) p))) h) (phase_does cut None)) (λ v. give (v ∷ []))) (right_in (WithCode op gens) s ρ) (right_spends_in c (WithCode op gens) s ρ)) (sym (all_bounds_same c.results_of c.does_calls c.calls c.turns h e ρ others live backed shows gens counted))
         (go (plan (map (λ (g : Generator). g.bounds) (core_gens c gens ρ)) (operation op s ρ))))
       where
         cgs : List CodeGenerator
@@ -193,7 +187,7 @@ module _ (cut : Option Cut) (c : Context) (cells_blind : CallsAreBlind c.does_ca
 
     parted_in : (f : List Grid1) (b : Base) (shape : List ℕ) (op : PartedOp) (parts : CodePartsTerm) (s : Site) → Owns h [] others → AllIn (parted_uses op) live → PartsSpend c parts → CountedParts c.results_of live parts → Goes 1 others h (right_phased_in (PartedCode f b shape op parts None) s e h) (right_in (PartedCode f b shape op parts None) s ρ) (right_spends_in c (PartedCode f b shape op parts None) s ρ)
     parted_in f b shape op parts s owns uses blocks counted =
-        subst (λ (j : Ends Job). Goes 1 others h (go_on (go_on (pure_end j h) (phase_does cut None)) (λ v. give (v ∷ []))) (right_in (PartedCode f b shape op parts None) s ρ) (right_spends_in c (PartedCode f b shape op parts None) s ρ)) (sym (job_same c h e ρ others live backed shows f b shape op (code_parts c parts e) s uses))
+        subst (λ (j : Ends Job). Goes 1 others h (go_on (go_on (pure_end j h) (phase_does cut None)) (λ v. give (v ∷ []))) (right_in (PartedCode f b shape op parts None) s ρ) (right_spends_in c (PartedCode f b shape op parts None) s ρ)) (sym (job_same h e ρ live f b shape op (code_parts c parts e) s shows uses))
         (go (neutral_fits (cell_form b shape) op ρ))
       where
         go : (fits : Bool) → Goes 1 others h (go_on (go_on (pure_end (if fits then Ok (parted_of f b shape op (code_parts c parts e) ρ) else fault F6 s) h) (phase_does cut None)) (λ v. give (v ∷ []))) (one (if fits then and_then (each (cell_at (cell_form b shape) (core_parts c parts ρ)) (members f)) (λ found. Ok (made_of f b shape op ρ found)) else fault F6 s)) (if fits then cells_spend (parted_folds op) (parted_shape f shape op) (members f) (takes_parts c parts ρ) else nothing)

@@ -1,5 +1,5 @@
 -- A whole run spends on the machine what it spends on arrays.
-use Rattle.std.proofs.Common.{◌≡◌, ℕ, suc, ◌+◌, Bool, true, false, cond, List, [], ◌∷◌, map, length, Option, Some, None, Ok, refl, ap, ◌∙◌, sym, subst, arith}
+use Rattle.std.proofs.Common.{◌≡◌, ℕ, ◌+◌, Bool, true, false, cond, List, [], ◌∷◌, map, length, Option, Some, None, Ok, refl, ◌∙◌, sym, subst, arith}
 use Rattle.std.specs.Prelude.{if◌then◌else◌, slice_get}
 use Rattle.std.proofs.lemmas.List.{append-nil}
 use Rattle.sac_base.specs.declared.faults.Caps.{Caps}
@@ -12,12 +12,10 @@ use Rattle.counted_code.specs.Counts.{IsWellCounted, IsUnmarked, group_results}
 use Rattle.counted_code.specs.Outcome.{code_param_types, function_does, copied_out, main_does, whole_run}
 use Rattle.counted_code.specs.Terms.{CodeFunTerm, CodeProgram, core_of_code}
 use Rattle.counted_code.specs.Values.{Heap, empty_heap, Value, Small, Ref, Ended, Done, Failed, Doing, give, go_on, then_go, read, is_small, release, release_all, place_as, place_all, take_buffer}
-use Rattle.counted_laws.specs.Simulation.{refers, Owns, Matches, GivesAllBack}
+use Rattle.counted_laws.specs.Simulation.{Owns, Matches, GivesAllBack}
 use Rattle.counted_laws.proofs.Functions.{map_length, counted_at, unmarked_at}
-use Rattle.counted_laws.proofs.Held.{backed_reads, taken_balance}
 use Rattle.counted_laws.proofs.Instances.{have_length}
-use Rattle.counted_laws.proofs.Outcomes.{ends_as_core}
-use Rattle.counted_laws.proofs.Plains.{taken_cells, taken_owns, taken_same}
+use Rattle.counted_laws.proofs.Outcomes.{ends_as_core, all_placed as placed_as_they_are, nobody, empty_owns}
 use Rattle.phase_laws.specs.Alone.{Spent, Context, SpentInAll}
 use Rattle.phase_laws.specs.Spending.{Spending, nothing, both, total, buffers_of, body_spends, main_spends, whole_spends}
 use Rattle.phase_laws.proofs.Functions.{function_spends, top}
@@ -32,45 +30,25 @@ placing_all ws = record { taken = total (λ (a : ArrayValue). buffers_of a.shape
 abbrev pub Placed : ℕ → (ℕ → ℕ) → Heap → Spending → Ended (List Value) → List ArrayValue → Type 0
 Placed n others h s m ws = Matches n others h m (Ok ws) × Spent s h m
 
-placed : (small : Bool) (a : ArrayValue) (ws : List ArrayValue) (h : Heap) (others : ℕ → ℕ) → Owns h [] others → ((k : Heap) (more : ℕ → ℕ) → Owns k [] more → Placed (length ws) more k (placing_all ws) (place_all ws k) ws) → Placed (suc (length ws)) others h (record { taken = cond small 0 1 + (placing_all ws).taken; phases = [] }) (go_on (place_as small a h) (λ v. then_go (place_all ws) (λ vs. give (v ∷ vs)))) (a ∷ ws)
-placed true a ws h others owns rest = go (place_all ws h) (rest h others owns)
+-- each array that is not small takes a buffer
+placed_spends : (small : Bool) (a : ArrayValue) (ws : List ArrayValue) (h : Heap) → ((k : Heap) → Spent (placing_all ws) k (place_all ws k)) → Spent (record { taken = cond small 0 1 + (placing_all ws).taken; phases = [] }) h (go_on (place_as small a h) (λ v. then_go (place_all ws) (λ vs. give (v ∷ vs))))
+placed_spends true a ws h rest = go (place_all ws h) (rest h)
   where
-    go : (m : Ended (List Value)) → Placed (length ws) others h (placing_all ws) m ws → Placed (suc (length ws)) others h (record { taken = 0 + (placing_all ws).taken; phases = [] }) (go_on m (λ vs. give (Small a ∷ vs))) (a ∷ ws)
-    go (Done vs k) p =
-        let r = p.0 in
-        let s = p.1 in
-        let t = s.0 in
-        ((ap suc r.0, (λ i. a ∷ r.1 i), ((λ b. (let o = r.2.0 b in omega (arith, o))), r.2.1), r.3), (omega (arith, t), s.1, s.2))
-    go (Failed f q) p = elim p.0 [ ]
-placed false a ws h others owns rest = go (place_all ws k) (rest k more ((λ b. (let o = taken_owns h a.cells others owns b in omega (arith, o))), taken_balance h a.cells owns.1))
+    go : (m : Ended (List Value)) → Spent (placing_all ws) h m → Spent (record { taken = 0 + (placing_all ws).taken; phases = [] }) h (go_on m (λ vs. give (Small a ∷ vs)))
+    go (Done vs k) s = let t = s.0 in (omega (arith, t), s.1, s.2)
+    go (Failed f q) s = s
+placed_spends false a ws h rest = go (place_all ws (take_buffer a.cells h)) (rest (take_buffer a.cells h))
   where
-    k : Heap
-    k = take_buffer a.cells h
+    go : (m : Ended (List Value)) → Spent (placing_all ws) (take_buffer a.cells h) m → Spent (record { taken = 1 + (placing_all ws).taken; phases = [] }) h (go_on m (λ vs. give (Ref (length h.buffers) a.base a.shape ∷ vs)))
+    go (Done vs k) s = let t = s.0 in (omega (arith, t), s.1, s.2)
+    go (Failed f q) s = s
 
-    more : ℕ → ℕ
-    more b = refers b (Ref (length h.buffers) a.base a.shape) + others b
-
-    go : (m : Ended (List Value)) → Placed (length ws) (λ b. refers b (Ref (length h.buffers) a.base a.shape) + others b) (take_buffer a.cells h) (placing_all ws) m ws → Placed (suc (length ws)) others h (record { taken = 1 + (placing_all ws).taken; phases = [] }) (go_on m (λ vs. give (Ref (length h.buffers) a.base a.shape ∷ vs))) (a ∷ ws)
-    go (Done vs l) p =
-        let r = p.0 in
-        let s = p.1 in
-        let t = s.0 in
-        let v : Value = Ref (length h.buffers) a.base a.shape in
-        let kept = backed_reads (λ b. refers b v + others b) (take_buffer a.cells h) l v (λ b. omega arith) r.3 in
-        let own = kept ∙ (λ i. record { base = a.base; shape = a.shape; cells = taken_cells h a.cells i }) in (
-          (
-            ap suc r.0,
-            (λ i. own i ∷ r.1 i),
-            ((λ b. (let o = r.2.0 b in omega (arith, o))), r.2.1),
-            (λ b le. r.3 b (omega (arith, le)) ∙ taken_same h a.cells others owns b le),
-          ),
-          (omega (arith, t), s.1, s.2),
-        )
-    go (Failed f q) p = elim p.0 [ ]
+all_spend : (ws : List ArrayValue) (h : Heap) → Spent (placing_all ws) h (place_all ws h)
+all_spend [] h = (omega arith, refl, sym (append-nil h.phases))
+all_spend (a ∷ ws) h = placed_spends (is_small a.shape) a ws h (all_spend ws)
 
 pub all_placed : (ws : List ArrayValue) (h : Heap) (others : ℕ → ℕ) → Owns h [] others → Placed (length ws) others h (placing_all ws) (place_all ws h) ws
-all_placed [] h others owns = ((refl, refl, owns, (λ b le. refl)), (omega arith, refl, sym (append-nil h.phases)))
-all_placed (a ∷ ws) h others owns = placed (is_small a.shape) a ws h others owns (λ k more o. all_placed ws k more o)
+all_placed ws h others owns = (placed_as_they_are ws h others owns, all_spend ws h)
 
 -- ---- the results
 
@@ -88,10 +66,6 @@ copied_spends s h (Done vs k) p =
 copied_spends s h (Failed f q) p = p
 
 -- ---- the whole
-
--- nobody else holds anything
-abbrev pub nobody : ℕ → ℕ
-nobody b = 0
 
 placed_then : (n : ℕ) (ws : List ArrayValue) (rest : Spending) (next : List Value → Doing (List Value)) (m : Ended (List Value)) → Placed n nobody empty_heap (placing_all ws) m ws → ((vs : List Value) (k : Heap) → length vs ≡ n → Owns k vs nobody → map (read k) vs ≡ ws → Spent rest k (next vs k)) → Spent (both (placing_all ws) rest) empty_heap (go_on m (λ vs. then_go (next vs) copied_out))
 placed_then n ws rest next (Done vs k) p go =
@@ -111,7 +85,7 @@ module _ (code : CodeProgram) (counted : IsWellCounted code) (unmarked : IsUnmar
   called f is false e = refl
   called f is true e =
       let size = have_length (code_param_types f) args e ∙ map_length (λ (p : Var × ArrayType). p.1) f.params ∙ sym (map_length (λ (p : Var × ArrayType). p.0) f.params) in
-      placed_then (length args) args (body_spends caps.turns context.calls context.call_spends (Some f) args) (function_does caps.turns context.does_calls f) (place_all args empty_heap) (all_placed args empty_heap nobody ((λ b. omega arith), refl))
+      placed_then (length args) args (body_spends caps.turns context.calls context.call_spends (Some f) args) (function_does caps.turns context.does_calls f) (place_all args empty_heap) (all_placed args empty_heap nobody empty_owns)
       (λ vs k z o w. subst (λ us. Spent (body_spends caps.turns context.calls context.call_spends (Some f) us) k (function_does caps.turns context.does_calls f vs k)) w
       (function_spends context f (counted_at (group_results (core_of_code code)) code.functions counted.functions code.main f is) (unmarked_at code.functions unmarked code.main f is) vs k nobody (z ∙ size) o))
 

@@ -1,14 +1,13 @@
 -- What a round keeps, and rounds after one another.
-use Rattle.std.proofs.Common.{◌≡◌, ℕ, ◌+◌, ◌≤◌, List, [], ◌∷◌, ◌++◌, length, All, Option, Some, refl, sym, ap, subst, ◌∙◌, ◌⊎◌, inl, inr, append_assoc, arith}
+use Rattle.std.proofs.Common.{◌≡◌, ℕ, ◌+◌, ◌≤◌, List, [], ◌∷◌, ◌++◌, length, All, Option, Some, refl, sym, ap, subst, ◌∙◌, ◌⊎◌, append_assoc, arith}
 use Rattle.std.specs.Prelude.{slice_get}
 use Rattle.std.proofs.lemmas.List.Elements.{All-nil, All-cons}
 use Rattle.core_ir.specs.Binders.{bound_in}
-use Rattle.core_ir.specs.Outcome.{SameHead, SameHeads, group_at, param_vars}
+use Rattle.core_ir.specs.Outcome.{SameHead, SameHeads, param_vars}
 use Rattle.core_ir.specs.Terms.{BlockTerm, FunTerm, CoreTerm}
 use Rattle.core_ir.specs.WellFormed.{IsFunction, IsWellFormed}
 use Rattle.core_calls.specs.Replaced.{replaced_at}
-use Rattle.core_calls.proofs.Replaced.{at_place}
-use Rattle.core_settled.specs.Called.{called, common_shapes, params_facts, result_shapes, shapes_at}
+use Rattle.core_settled.specs.Called.{called, params_facts}
 use Rattle.core_subst.specs.Names.{above_function}
 use Rattle.core_inlined_bodies.proofs.Counts.{all_at}
 use Rattle.core_inlined_bodies.proofs.Names.{distinct_right, fresh_below, fresh_left, fresh_more, fresh_right, own_fresh, own_vars}
@@ -16,6 +15,7 @@ use Rattle.core_inlined_bodies.proofs.Stepped.{stepped}
 use Rattle.core_norm_forms.specs.Copied.{IsPlaced}
 use Rattle.core_norm_forms.specs.Walks.{core_weight}
 use Rattle.core_norm_forms.proofs.Laws.{all_by}
+use Rattle.core_norm_forms.proofs.Replaced.{at_length, put_at, same_called, same_core, same_heads}
 use Rattle.core_merge_forms.specs.Walks.{BlockMerges, FunctionMerges, core_parted, no_step}
 use Rattle.core_merge_forms.proofs.Whole.{go_on, merges_keep}
 use Rattle.merge_walk.specs.NoneLeft.{NoneMergeable}
@@ -50,33 +50,6 @@ kept_on a b c n m p q = record {
   parted = sum_less (core_parted a) (core_parted b) (core_parted c) n m p.parted q.parted;
   steps = go_on n m a b c p.steps q.steps;
 }
-
--- ---- a function at a place
-
-at_length : (before fs : List FunTerm) (f : FunTerm) → slice_get (before ++ (f ∷ fs)) (length before) ≡ Some f
-at_length [] fs f = refl
-at_length (g ∷ before) fs f = at_length before fs f
-
-put_at : (before fs : List FunTerm) (f g : FunTerm) → replaced_at (before ++ (f ∷ fs)) (length before) g ≡ before ++ (g ∷ fs)
-put_at [] fs f g = refl
-put_at (x ∷ before) fs f g = ap (λ gs. x ∷ gs) (put_at before fs f g)
-
-module _ (a : CoreTerm) (n : ℕ) (f : FunTerm) (c : BlockTerm) (found : slice_get a.functions n ≡ Some f) where
-  shapes_same : (fs gs : List FunTerm) → ((place : ℕ) → result_shapes (slice_get gs place) ≡ result_shapes (slice_get fs place)) → (places : List ℕ) → shapes_at gs places ≡ shapes_at fs places
-  shapes_same fs gs r [] = refl
-  shapes_same fs gs r (p ∷ []) = r p
-  shapes_same fs gs r (p ∷ q ∷ ps) = λ i. common_shapes (r p i) (shapes_same fs gs r (q ∷ ps) i)
-
-  results_same : (place : ℕ) → result_shapes (slice_get (stepped a n f c).functions place) ≡ result_shapes (slice_get a.functions place)
-  results_same place = go (at_place a.functions n place f (record f { body = c }) found)
-    where
-      go : (slice_get a.functions place ≡ slice_get (replaced_at a.functions n (record f { body = c })) place) ⊎ ((slice_get a.functions place ≡ Some f) × (slice_get (replaced_at a.functions n (record f { body = c })) place ≡ Some (record f { body = c })))
-          → result_shapes (slice_get (replaced_at a.functions n (record f { body = c })) place) ≡ result_shapes (slice_get a.functions place)
-      go (inl y) = ap result_shapes (sym y)
-      go (inr y) = ap result_shapes y.1 ∙ sym (ap result_shapes y.0)
-
-  called_same : called (stepped a n f c) ≡ called a
-  called_same = λ i group. shapes_same a.functions (stepped a n f c).functions results_same (group_at a group) i
 
 -- ---- one function
 
@@ -141,7 +114,7 @@ module _ (calls : ℕ → List (Option (List ℕ))) where
       let b = stepped a place f one.body in
       let new = record f { body = one.body } in
       let next : b.functions ≡ (before ++ (new ∷ [])) ++ fs = (λ i. replaced_at (e i) place new) ∙ put_at before fs f new ∙ sym (append_assoc before (new ∷ []) fs) in
-      let rest = functions_kept b (before ++ (new ∷ [])) fs gs h.0 m next (same ∙ sym (called_same a place f one.body found)) first.well h.1.1 in
+      let rest = functions_kept b (before ++ (new ∷ [])) fs gs h.0 m next (same ∙ sym (same_called a place f one.body found)) first.well h.1.1 in
       let end : (before ++ (new ∷ [])) ++ gs ≡ before ++ (g ∷ gs) = append_assoc before (new ∷ []) gs ∙ ap (λ (x : FunTerm). before ++ (x ∷ gs)) (sym one.new) in
       let count = one.walked.count in (
         count + rest.0,
@@ -152,10 +125,6 @@ module _ (calls : ℕ → List (Option (List ℕ))) where
       )
 
 -- ---- outside
-
-heads_itself : (fs : List FunTerm) → SameHeads fs fs
-heads_itself [] = tt
-heads_itself (f ∷ fs) = (record { site = refl; types = refl; inlines = refl }, heads_itself fs)
 
 heads_on : (calls : ℕ → List (Option (List ℕ))) (es fs gs : List FunTerm) (n m : ℕ) → SameHeads es fs → AllMerged calls n fs gs m → SameHeads es gs
 heads_on calls [] [] [] n m s h = tt
@@ -215,9 +184,6 @@ module _ (calls : ℕ → List (Option (List ℕ))) where
 
 -- ---- rounds
 
-same_core : (a b : CoreTerm) → b.groups ≡ a.groups → b.main ≡ a.main → record a { functions = b.functions } ≡ b
-same_core a b g m = λ i. record { functions = b.functions; groups = sym g i; main = sym m i }
-
 zero_left : (m c : ℕ) → m ≡ 0 + c → c ≡ m
 zero_left m c e = omega (arith, e)
 
@@ -237,7 +203,7 @@ round_kept a b count h well =
     subst (λ (n : ℕ). Kept a b n) (zero_left count k.0 k.1.0) (subst (λ (x : CoreTerm). Kept a x k.0) (same_core a b h.groups h.main) k.1.1)
 
 pub scalarised_itself : (a : CoreTerm) → Scalarised a a 0
-scalarised_itself a = record { outside = record { groups = refl; main = refl; heads = heads_itself a.functions }; same = λ e. refl; kept = kept_itself a }
+scalarised_itself a = record { outside = record { groups = refl; main = refl; heads = same_heads a.functions }; same = λ e. refl; kept = kept_itself a }
 
 pub round_on : (a b c : CoreTerm) (n m : ℕ) → Scalarised a b n → Round b c m → Scalarised a c (n + m)
 round_on a b c n m p h = record {

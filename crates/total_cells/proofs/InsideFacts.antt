@@ -1,23 +1,24 @@
 -- A moved grid lies inside of a shape exactly where its least and its greatest members do.
-use Rattle.std.proofs.Common.{◌≡◌, ℕ, zero, suc, ◌+◌, ◌<◌, ◌≤◌, ◌↔◌, Bool, true, false, ◌&&◌, cond, List, [], ◌∷◌, map, length, refl, sym, ap, subst, ◌∙◌, arith, ℤ, pos, negsuc, ◌+ℤ◌, ◌≤ℤ◌, ◌<ℤ◌}
-use Rattle.std.proofs.Common.{Option, Some, None, nat_lt}
+use Rattle.std.proofs.Common.{◌≡◌, ℕ, ◌+◌, ◌<◌, ◌≤◌, ◌↔◌, Bool, true, false, ◌&&◌, cond, List, [], ◌∷◌, map, length, refl, sym, ap, ◌∙◌, arith, ℤ, pos, negsuc, ◌+ℤ◌, ◌≤ℤ◌, ◌<ℤ◌}
+use Rattle.std.proofs.Common.{Some, None, nat_lt}
 use Rattle.std.specs.Prelude.{filter, if◌then◌else◌, IsTrue, nat_le}
 use Rattle.std.specs.List.{list_all}
-use Rattle.std.proofs.lemmas.Bool.{le-leb}
 use Rattle.std.proofs.lemmas.Bool.Decides.{nat_tests}
 use Rattle.std.proofs.lemmas.Int.{ints}
 use Rattle.sac_base.specs.declared.grid.Grid1.{Grid1}
-use Rattle.sac_base.specs.Arrays.{ArrayValue}
 use Rattle.sac_base.specs.Grids.{has_index, has_vector, members}
-use Rattle.sac_base.specs.Parts.{Part, part_at, further}
+use Rattle.sac_base.specs.Parts.{part_at, further}
 use Rattle.sac_base.specs.Shapes.{IsShape}
-use Rattle.core_facts.specs.Facts.{is_some, is_shape}
+use Rattle.core_facts.specs.Facts.{is_some}
 use Rattle.core_facts.proofs.Extents.{is_shape_decides}
-use Rattle.core_loops.specs.Indices.{at_numbers, at_literal, at_offset, are_extents}
+use Rattle.core_loops.specs.Indices.{at_offset, are_extents}
 use Rattle.core_index_facts.proofs.Members.{and_both, member_has}
 use Rattle.generator_sets.specs.Pieces.{moved}
 use Rattle.grid_spans.specs.Spans.{IsSpan}
-use Rattle.total_cells.specs.Inside.{number_at_first, numbers_behind, HasMember, HaveMembers, IsAxisInside, AreInside, are_components}
+use Rattle.moved_grids.specs.Within.{number_at_first, numbers_behind, HaveMembers}
+use Rattle.moved_grids.proofs.WithinFacts.{both, never, by_moved, some_vector}
+use Rattle.operand_checks.proofs.Index.{further_some}
+use Rattle.total_cells.specs.Inside.{IsAxisInside, AreInside}
 
 -- ---- all members
 
@@ -32,28 +33,7 @@ kept_all p q (v ∷ vs) h = go (q v) (h v) (kept_all p q vs h)
 all_members : (p : List ℤ → Bool) (g : List Grid1) → ((v : List ℤ) → has_vector g v ≡ true → p v ≡ true) → list_all p (members g) ≡ true
 all_members p g h = kept_all p (has_vector g) _ h
 
-both : (b c : Bool) → b ≡ true → c ≡ true → (b && c) ≡ true
-both b c p q = (λ i. p i && c) ∙ q
-
-never : (b : Bool) → b ≡ true → b ≡ false → ⊥
-never b p q = let e : true ≡ false = sym p ∙ q in cc
-
 -- ---- one axis
-
-plus_zero : (x : ℤ) → x +ℤ pos 0 ≡ x
-plus_zero x = omega (arith, ints)
-
-moved_none : (v : List ℤ) → moved v [] ≡ v
-moved_none [] = refl
-moved_none (x ∷ v) = refl
-
-by_moved : (x : ℤ) (v cs : List ℤ) → moved (x ∷ v) cs ≡ (x +ℤ number_at_first cs) ∷ moved v (numbers_behind cs)
-by_moved x v [] = λ i. sym (plus_zero x) i ∷ sym (moved_none v) i
-by_moved x v (c ∷ cs) = refl
-
-further_some : (i : ℕ) (ns : List ℕ) (p : Option Part) → is_some (further i ns p) ≡ is_some p
-further_some i ns None = refl
-further_some i ns (Some p) = refl
 
 lesser : (n w : ℕ) → n < w → nat_lt n w ≡ true
 lesser n w h = first_of (grind (arith, nat_tests))
@@ -89,10 +69,6 @@ all_in (g ∷ gs) (n ∷ ns) cs b (x ∷ v) h =
     ∙ part_inside n ns (x +ℤ number_at_first cs) (moved v (numbers_behind cs)) f.0 f.1
     ∙ all_in gs ns (numbers_behind cs) b.1 v w.1
 
-some_vector : (gs : List Grid1) → HaveMembers gs → (v : List ℤ) × (has_vector gs v ≡ true)
-some_vector [] m = ([], refl)
-some_vector (g ∷ gs) m = let s = some_vector gs m.1 in (m.0.0 ∷ s.0, both (has_index g m.0.0) (has_vector gs s.0) m.0.1 s.1)
-
 from_all : (gs : List Grid1) (ns : List ℕ) (cs : List ℤ) → HaveMembers gs → ((v : List ℤ) → has_vector gs v ≡ true → is_some (part_at ns (moved v cs)) ≡ true) → AreInside gs (map pos ns) cs
 from_all [] ns cs m all = tt
 from_all (g ∷ gs) [] cs m all =
@@ -124,22 +100,6 @@ inside_is false g ns cs s m d = sym ((λ i. extents_fit ns s i && list_all (here
 pub nowhere_is : (g : List Grid1) (ns : List ℕ) (cs : List ℤ) → IsShape ns → ((v : List ℤ) → has_vector g v ≡ false) → true ≡ at_offset g ns (Some cs)
 nowhere_is g ns cs s h =
     sym ((λ i. extents_fit ns s i && list_all (here ns cs) (members g)) ∙ all_members (here ns cs) g (λ v k. absurd (never (has_vector g v) k (h v))))
-
--- ---- an index
-
-index_is : (ns : List ℕ) (is : List ℤ) → are_components (map pos ns) is ≡ is_some (part_at ns is)
-index_is ns [] = refl
-index_is [] (i ∷ is) = refl
-index_is (n ∷ ns) (negsuc i ∷ is) = refl
-index_is (n ∷ ns) (pos i ∷ is) = (λ j. (le-leb 0 i (omega arith) j && nat_lt i n) && are_components (map pos ns) is) ∙ go (nat_lt i n) (index_is ns is)
-  where
-    go : (b : Bool) → are_components (map pos ns) is ≡ is_some (part_at ns is) → (b && are_components (map pos ns) is) ≡ is_some (if b then further i ns (part_at ns is) else None)
-    go true e = e ∙ sym (further_some i ns (part_at ns is))
-    go false e = refl
-
-pub literal_is : (b : Bool) (ns : List ℕ) (l : ArrayValue) (zs is : List ℤ) → zs ≡ map pos ns → is ≡ l.cells → length l.shape ≤ 1 → b ≡ are_components zs is → b ≡ at_literal ns (Some l)
-literal_is b ns l zs is p q r e =
-    e ∙ (λ i. are_components (p i) (q i)) ∙ index_is ns l.cells ∙ (λ i. at_numbers ns (if sym (le-leb (length l.shape) 1 r) i then Some l.cells else None))
 
 -- ---- the ends of an axis
 

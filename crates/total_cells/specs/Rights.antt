@@ -1,9 +1,6 @@
--- Right sides that never fault, and literal values as lists of numbers.
-use Rattle.std.specs.Prelude.{◌≡◌, ℕ, Bool, true, false, ◌&&◌, ◌||◌, not, List, map, ℤ, pos, Option}
-use Rattle.std.specs.Ordering.{int_eq}
+-- Right sides that never fault.
+use Rattle.std.specs.Prelude.{◌≡◌, ℕ, Bool, true, false, ◌&&◌, ◌||◌, not, List, ℤ, Option}
 use Rattle.sac_base.specs.declared.grid.Grid1.{Grid1}
-use Rattle.sac_base.specs.declared.op.Op.{Op}
-use Rattle.sac_base.specs.Arrays.{ArrayValue}
 use Rattle.core_ir.specs.Terms.{PlainTerm, RightTerm, Plain}
 use Rattle.core_facts.specs.Facts.{Facts, is_some}
 use Rattle.core_loops.specs.Indices.{IndexFacts, is_division, no_zero, may_be_row, in_range, total_plain}
@@ -24,6 +21,3 @@ total_shaped grid shape _ k m = false
 abbrev pub plain_total : List Grid1 → RightTerm → Facts → IndexFacts → Bool
 plain_total grid (Plain p) k m = total_plain grid p k m
 plain_total grid _ k m = false
-
-abbrev pub is_not_zero : ℤ → Bool
-is_not_zero z = not (int_eq z (pos 0))

@@ -1,11 +1,12 @@
-//! Whether an array has a part at an index, and at each member of a grid.
+//! Whether an array has a part at each member of a grid.
 
 ghost use Rattle.std.specs.Prelude.{◌≡◌, ◌↔◌, ◌+ℤ◌, ◌-ℤ◌, ◌≤ℤ◌, ◌<ℤ◌, pos, IsTrue, List, ℤ, Some, true, false};
 ghost use Rattle.sac_base.specs.Grids.{has_index, has_vector};
 ghost use Rattle.core_loops.specs.Indices.{at_offset};
-ghost use Rattle.total_cells.specs.Inside.{are_components, number_at_first, numbers_behind, HasMember, HaveMembers, IsAxisInside, AreInside};
+ghost use Rattle.total_cells.specs.Inside.{IsAxisInside, AreInside};
 
 use grid_spans::span_of;
+use moved_grids::{first_number, has_members, other_numbers};
 use sac_base::{Grid, Grid1, Shape};
 
 /// Whether an array of a shape has a part at each member of a grid, with these numbers added to it as whole numbers.
@@ -23,24 +24,6 @@ pub fn is_inside(grid: &Grid, shape: &Shape, numbers: &[i32]) -> bool
     }
 }
 
-/// Whether each axis has a member.
-fn has_members(axes: &[Grid1]) -> bool
-    ensures some { result ≡ true → HaveMembers axes.now }
-    ensures none { result ≡ false → (v : List ℤ) → has_vector axes.now v ≡ false }
-{
-    match axes.split_first() {
-        None => true,
-        Some((axis, inner)) => has_member(axis) && has_members(inner),
-    }
-}
-
-fn has_member(axis: &Grid1) -> bool
-    ensures some { result ≡ true → HasMember axis.now }
-    ensures none { result ≡ false → (x : ℤ) → has_index axis.now x ≡ false }
-{
-    span_of(axis).is_some()
-}
-
 /// Whether each axis lies inside the extent at its place, with the number at its place added.
 fn are_inside(axes: &[Grid1], extents: &[i32], numbers: &[i32]) -> bool
     ensures { IsTrue result ↔ AreInside axes.now extents.now numbers.now }
@@ -54,24 +37,6 @@ fn are_inside(axes: &[Grid1], extents: &[i32], numbers: &[i32]) -> bool
                     && are_inside(inner, others, other_numbers(numbers))
             }
         },
-    }
-}
-
-fn first_number(numbers: &[i32]) -> i32
-    ensures { result ≡ number_at_first numbers.now }
-{
-    match numbers.first() {
-        Some(number) => *number,
-        None => 0,
-    }
-}
-
-fn other_numbers(numbers: &[i32]) -> &[i32]
-    ensures { result.now ≡ numbers_behind numbers.now }
-{
-    match numbers.split_first() {
-        Some((_, others)) => others,
-        None => &[],
     }
 }
 
@@ -102,19 +67,4 @@ fn difference(a: i32, b: i32) -> i64
     ensures { result ≡ a -ℤ b }
 {
     i64::from(a) - i64::from(b)
-}
-
-/// Whether an array with these extents has a part at an index vector.
-pub fn is_index(extents: &[i32], index: &[i32]) -> bool
-    ensures { result ≡ are_components extents.now index.now }
-{
-    match index.split_first() {
-        None => true,
-        Some((component, inner)) => match extents.split_first() {
-            None => false,
-            Some((extent, others)) => {
-                0 <= *component && *component < *extent && is_index(others, inner)
-            }
-        },
-    }
 }

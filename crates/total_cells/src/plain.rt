@@ -1,22 +1,21 @@
 //! Right sides without blocks that never fault.
 
 ghost use Rattle.std.specs.Prelude.{◌≡◌, [], ◌∷◌, IfOk};
-ghost use Rattle.std.specs.List.{list_all};
 ghost use Rattle.core_ir.specs.View.{right_term};
-ghost use Rattle.core_loops.specs.Indices.{at_literal as literal_is_index, in_range as is_in_range};
-ghost use Rattle.core_loops.specs.Indices.{is_division as divides, may_be_row as row_fits, no_zero as none_is_zero};
+ghost use Rattle.core_loops.specs.Indices.{in_range as is_in_range};
 ghost use Rattle.fact_table.specs.Table.{fact_of, facts_of};
 ghost use Rattle.index_table.specs.Table.{index_of, indices_of};
 ghost use Rattle.plain_facts.specs.Rights.{fact_of_right};
-ghost use Rattle.total_cells.specs.Rights.{is_not_zero as is_not_zero_value, plain_total, total_shaped};
+ghost use Rattle.total_cells.specs.Rights.{plain_total, total_shaped};
 ghost use Rattle.total_cells.specs.Totals.{known_if, seen};
 
-use crate::inside::{is_index, is_inside};
+use crate::inside::is_inside;
 use core_ir::{Right, Var};
 use fact_table::{FactTable, Known};
 use index_table::{IndexTable, Relation};
+use operand_checks::{at_literal, is_division, may_be_row, no_zero};
 use plain_facts::plain_fact;
-use sac_base::{Array, Grid, Memory, Op, Shape, elements};
+use sac_base::{Array, Grid, Memory, Shape};
 use std::alloc::Global;
 
 /// What is known of the value of a right side without blocks, where it never faults. There is none for any other right side.
@@ -66,42 +65,6 @@ fn is_shaped_total(
     }
 }
 
-fn is_division(op: Op) -> bool
-    ensures { result ≡ divides op }
-{
-    matches!(op, Op::Div | Op::Rem)
-}
-
-fn no_zero(literal: &Option<Array>) -> bool
-    ensures { result ≡ none_is_zero literal.now }
-{
-    match literal {
-        Some(array) => has_no_zero(array.cells()),
-        None => false,
-    }
-}
-
-fn has_no_zero(cells: &[i32]) -> bool
-    ensures { result ≡ list_all is_not_zero_value cells.now }
-{
-    cells.iter().all(|cell| is_not_zero(cell))
-}
-
-fn is_not_zero(cell: &i32) -> bool
-    ensures { result ≡ is_not_zero_value cell.now }
-{
-    *cell != 0
-}
-
-fn may_be_row(shape: &Option<Shape>) -> bool
-    ensures { result ≡ row_fits shape.now }
-{
-    match shape {
-        Some(shape) => shape.rank() <= Shape::MOST && elements(shape).is_some(),
-        None => false,
-    }
-}
-
 /// Whether a selection is in range at each member of the grid.
 fn in_range(grid: &Grid, shape: &Option<Shape>, index: &Relation, literal: &Option<Array>) -> bool
     ensures { result ≡ is_in_range grid.now shape.now (index_of index.now) literal.now }
@@ -115,14 +78,5 @@ fn in_range(grid: &Grid, shape: &Option<Shape>, index: &Relation, literal: &Opti
     match index {
         Relation::Plus(numbers) => is_inside(grid, shape, numbers),
         _ => false,
-    }
-}
-
-fn at_literal(shape: &Shape, literal: &Option<Array>) -> bool
-    ensures { result ≡ literal_is_index shape.now literal.now }
-{
-    match literal {
-        Some(array) => array.shape().rank() <= 1 && is_index(shape.extents(), array.cells()),
-        None => false,
     }
 }

@@ -25,6 +25,7 @@ use Rattle.core_ir.specs.Terms.{PlainTerm, BlockTerm, RightTerm, GensTerm, Parts
 use Rattle.core_ir.specs.WellFormed.{Bases, OperationBase, ints}
 use Rattle.core_norm_steps.specs.Step.{Within}
 use Rattle.core_norm_steps.specs.Step.{BaseTable as AllBases}
+use Rattle.core_norm_steps.proofs.Places.{within_zip, within_ints, within_one}
 use Rattle.variable_bases.specs.declared.signatures.Signatures.{Signatures}
 use Rattle.variable_bases.specs.declared.table.BaseTable.{BaseTable}
 use Rattle.variable_bases.specs.Instances.{Instance}
@@ -32,7 +33,7 @@ use Rattle.variable_bases.specs.Sources.{source, sources, sources_right, sources
 use Rattle.variable_bases.specs.Learned.{Notes, Takes, Numbers, ScopeTold, gens_in, parts_in, TellsRight, TellsNothing, LearnsBlock, LearnsRight, LearnsGens, LearnsGen, LearnsParts, LearnsPart}
 use Rattle.variable_bases.specs.Table.{IsTold, GroupGives, NoneGives}
 use Rattle.variable_bases.proofs.Scopes.{all_kept, exactly, have_told, same_lengths, scope_ints, scope_kept, scope_one, scope_zip}
-use Rattle.variable_bases.proofs.Within.{within_one, within_zip, within_ints, have_all, results_chain, ends}
+use Rattle.variable_bases.proofs.Within.{have_all, results_chain, ends}
 use Rattle.variable_bases.proofs.Told.{may}
 
 module _ (s : Signatures) where

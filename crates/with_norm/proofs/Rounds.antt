@@ -9,12 +9,11 @@ use Rattle.sac_base.specs.declared.base.Base.{Base}
 use Rattle.sac_base.specs.declared.types.ArrayType.{ArrayType}
 use Rattle.core_ir.specs.declared.tree.Var.{Var}
 use Rattle.core_ir.specs.Binders.{bound_in}
-use Rattle.core_ir.specs.Outcome.{SameHeads, SameOutside, group_at, param_types, param_vars}
+use Rattle.core_ir.specs.Outcome.{SameHeads, param_types, param_vars}
 use Rattle.core_ir.specs.Terms.{BlockTerm, FunTerm, CoreTerm}
 use Rattle.core_ir.specs.WellFormed.{GroupBases, IsFunction, IsWellFormed, PlacesShare, bases}
 use Rattle.core_calls.specs.Replaced.{replaced_at}
-use Rattle.core_calls.proofs.Replaced.{at_place}
-use Rattle.core_settled.specs.Called.{called, common_shapes, params_facts, result_shapes, shapes_at}
+use Rattle.core_settled.specs.Called.{called, params_facts}
 use Rattle.core_subst.specs.Names.{above, above_all, above_function}
 use Rattle.core_inlined_bodies.proofs.Counts.{all_at}
 use Rattle.core_inlined_bodies.proofs.Names.{distinct_right, fresh_below, fresh_left, fresh_more, fresh_right, own_fresh, own_vars}
@@ -24,6 +23,7 @@ use Rattle.core_norm_forms.specs.Copied.{IsPlaced}
 use Rattle.core_norm_forms.specs.Walks.{no_step, FunctionWalk, BlockWalk, core_weight}
 use Rattle.core_norm_forms.proofs.Laws.{all_by}
 use Rattle.core_norm_forms.proofs.Whole.{walks_keep, go_on}
+use Rattle.core_norm_forms.proofs.Replaced.{at_length, put_at, same_called, same_core, same_heads}
 use Rattle.variable_bases.specs.declared.signatures.Signatures.{Signatures}
 use Rattle.partable_loops.specs.Planned.{IsPlannable}
 use Rattle.variable_bases.specs.Instances.{AreUnique, HasInstances, OnlyInstances}
@@ -55,31 +55,7 @@ kept_on a b c n m p q = record {
 
 -- ---- a function at a place
 
-at_length : (done fs : List FunTerm) (f : FunTerm) → slice_get (done ++ (f ∷ fs)) (length done) ≡ Some f
-at_length [] fs f = refl
-at_length (g ∷ done) fs f = at_length done fs f
-
-put_at : (done fs : List FunTerm) (f g : FunTerm) → replaced_at (done ++ (f ∷ fs)) (length done) g ≡ done ++ (g ∷ fs)
-put_at [] fs f g = refl
-put_at (x ∷ done) fs f g = ap (λ gs. x ∷ gs) (put_at done fs f g)
-
 module _ (a : CoreTerm) (n : ℕ) (f : FunTerm) (c : BlockTerm) (found : slice_get a.functions n ≡ Some f) where
-  shapes_same : (fs gs : List FunTerm) → ((place : ℕ) → result_shapes (slice_get gs place) ≡ result_shapes (slice_get fs place)) → (places : List ℕ) → shapes_at gs places ≡ shapes_at fs places
-  shapes_same fs gs r [] = refl
-  shapes_same fs gs r (p ∷ []) = r p
-  shapes_same fs gs r (p ∷ q ∷ ps) = λ i. common_shapes (r p i) (shapes_same fs gs r (q ∷ ps) i)
-
-  results_same : (place : ℕ) → result_shapes (slice_get (stepped a n f c).functions place) ≡ result_shapes (slice_get a.functions place)
-  results_same place = go (at_place a.functions n place f (record f { body = c }) found)
-    where
-      go : (slice_get a.functions place ≡ slice_get (replaced_at a.functions n (record f { body = c })) place) ⊎ ((slice_get a.functions place ≡ Some f) × (slice_get (replaced_at a.functions n (record f { body = c })) place ≡ Some (record f { body = c })))
-          → result_shapes (slice_get (replaced_at a.functions n (record f { body = c })) place) ≡ result_shapes (slice_get a.functions place)
-      go (inl y) = ap result_shapes (sym y)
-      go (inr y) = ap result_shapes y.1 ∙ sym (ap result_shapes y.0)
-
-  called_same : called (stepped a n f c) ≡ called a
-  called_same = λ i group. shapes_same a.functions (stepped a n f c).functions results_same (group_at a group) i
-
   group_back : (g : ℕ) (us vs : List Base) → GroupBases (stepped a n f c) g us vs → GroupBases a g us vs
   group_back g us vs h =
       let q = h.1.1.1 in
@@ -153,15 +129,11 @@ module _ (calls : ℕ → List (Option (List ℕ))) (signatures : Signatures) wh
       let b = stepped a place f one.body in
       let new = record f { body = one.body } in
       let next : b.functions ≡ (done ++ (new ∷ [])) ++ fs = (λ i. replaced_at (e i) place new) ∙ put_at done fs f new ∙ sym (append_assoc done (new ∷ []) fs) in
-      let rest = functions_kept b (done ++ (new ∷ [])) fs gs h.0 m next (same ∙ sym (called_same a place f one.body found)) (λ group us vs w. has group us vs (group_back a place f one.body found group us vs w)) first.1.1.well h.1.1 in
+      let rest = functions_kept b (done ++ (new ∷ [])) fs gs h.0 m next (same ∙ sym (same_called a place f one.body found)) (λ group us vs w. has group us vs (group_back a place f one.body found group us vs w)) first.1.1.well h.1.1 in
       let end : (done ++ (new ∷ [])) ++ gs ≡ done ++ (g ∷ gs) = append_assoc done (new ∷ []) gs ∙ ap (λ (x : FunTerm). done ++ (x ∷ gs)) (sym one.new) in
       (first.0 + rest.0, (sum_is m h.0 n first.0 rest.0 first.1.0 rest.1.0, subst (λ (x : List FunTerm). Kept a (record a { functions = x }) (first.0 + rest.0)) end (kept_on a b (record a { functions = (done ++ (new ∷ [])) ++ gs }) first.0 rest.0 first.1.1 rest.1.1)))
 
 -- ---- outside
-
-heads_itself : (fs : List FunTerm) → SameHeads fs fs
-heads_itself [] = tt
-heads_itself (f ∷ fs) = (record { site = refl; types = refl; inlines = refl }, heads_itself fs)
 
 heads_on : (calls : ℕ → List (Option (List ℕ))) (signatures : Signatures) (es fs gs : List FunTerm) (n m : ℕ) → SameHeads es fs → AllNormed calls signatures n fs gs m → SameHeads es gs
 heads_on calls signatures [] [] [] n m s h = tt
@@ -177,10 +149,7 @@ heads_on calls signatures (e ∷ es) (f ∷ fs) (g ∷ gs) n m s h = (
 -- ---- rounds
 
 pub normalised_itself : (a : CoreTerm) → Normalised a a 0
-normalised_itself a = record { outside = record { groups = refl; main = refl; heads = heads_itself a.functions }; kept = kept_itself a }
-
-same_core : (a b : CoreTerm) → b.groups ≡ a.groups → b.main ≡ a.main → record a { functions = b.functions } ≡ b
-same_core a b g m = λ i. record { functions = b.functions; groups = sym g i; main = sym m i }
+normalised_itself a = record { outside = record { groups = refl; main = refl; heads = same_heads a.functions }; kept = kept_itself a }
 
 zero_right : (m c : ℕ) → m ≡ c + 0 → c ≡ m
 zero_right m c e = omega (arith, e)

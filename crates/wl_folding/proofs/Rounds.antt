@@ -1,17 +1,17 @@
 -- What a round keeps, rounds after one another, and what a round leaves that folded nothing.
-use Rattle.std.proofs.Common.{◌≡◌, ℕ, suc, ◌+◌, ◌≤◌, List, [], ◌∷◌, ◌++◌, length, All, Option, Some, refl, sym, ap, subst, ◌∙◌, ◌⊎◌, inl, inr, append_assoc, append-nil, arith}
+use Rattle.std.proofs.Common.{◌≡◌, ℕ, suc, ◌+◌, ◌≤◌, List, [], ◌∷◌, ◌++◌, length, All, Option, Some, refl, sym, ap, subst, ◌∙◌, ◌⊎◌, append_assoc, append-nil, arith}
 use Rattle.std.specs.Prelude.{slice_get}
 use Rattle.std.proofs.lemmas.List.{length-append}
 use Rattle.std.proofs.lemmas.List.Elements.{All-nil, All-cons}
-use Rattle.core_ir.specs.Outcome.{SameHead, SameHeads, group_at}
-use Rattle.core_ir.specs.Terms.{BlockTerm, FunTerm, CoreTerm}
+use Rattle.core_ir.specs.Outcome.{SameHead, SameHeads}
+use Rattle.core_ir.specs.Terms.{FunTerm, CoreTerm}
 use Rattle.core_ir.specs.WellFormed.{IsWellFormed}
 use Rattle.core_calls.specs.Replaced.{replaced_at}
-use Rattle.core_calls.proofs.Replaced.{at_place}
-use Rattle.core_settled.specs.Called.{called, common_shapes, params_facts, result_shapes, shapes_at}
+use Rattle.core_settled.specs.Called.{called, params_facts}
 use Rattle.core_subst.specs.Names.{above_function}
 use Rattle.core_inlined_bodies.proofs.Stepped.{stepped}
 use Rattle.core_norm_forms.specs.Walks.{core_weight}
+use Rattle.core_norm_forms.proofs.Replaced.{at_length, put_at, same_called, same_core, same_heads}
 use Rattle.core_fold_forms.specs.Walks.{Entry, Pair, FoldSteps, no_fold, entries_at, parted_count}
 use Rattle.core_fold_forms.proofs.Whole.{folds_keep, go_on}
 use Rattle.fold_laws.specs.Walks.{PairsFolded, FunctionFolded}
@@ -58,31 +58,6 @@ kept_on a b c xs ys p q = record {
 }
 
 -- ---- one function
-
-at_length : (done fs : List FunTerm) (f : FunTerm) → slice_get (done ++ (f ∷ fs)) (length done) ≡ Some f
-at_length [] fs f = refl
-at_length (g ∷ done) fs f = at_length done fs f
-
-put_at : (done fs : List FunTerm) (f g : FunTerm) → replaced_at (done ++ (f ∷ fs)) (length done) g ≡ done ++ (g ∷ fs)
-put_at [] fs f g = refl
-put_at (x ∷ done) fs f g = ap (λ gs. x ∷ gs) (put_at done fs f g)
-
-module _ (a : CoreTerm) (n : ℕ) (f : FunTerm) (c : BlockTerm) (found : slice_get a.functions n ≡ Some f) where
-  shapes_same : (fs gs : List FunTerm) → ((place : ℕ) → result_shapes (slice_get gs place) ≡ result_shapes (slice_get fs place)) → (places : List ℕ) → shapes_at gs places ≡ shapes_at fs places
-  shapes_same fs gs r [] = refl
-  shapes_same fs gs r (p ∷ []) = r p
-  shapes_same fs gs r (p ∷ q ∷ ps) = λ i. common_shapes (r p i) (shapes_same fs gs r (q ∷ ps) i)
-
-  results_same : (place : ℕ) → result_shapes (slice_get (stepped a n f c).functions place) ≡ result_shapes (slice_get a.functions place)
-  results_same place = go (at_place a.functions n place f (record f { body = c }) found)
-    where
-      go : (slice_get a.functions place ≡ slice_get (replaced_at a.functions n (record f { body = c })) place) ⊎ ((slice_get a.functions place ≡ Some f) × (slice_get (replaced_at a.functions n (record f { body = c })) place ≡ Some (record f { body = c })))
-          → result_shapes (slice_get (replaced_at a.functions n (record f { body = c })) place) ≡ result_shapes (slice_get a.functions place)
-      go (inl y) = ap result_shapes (sym y)
-      go (inr y) = ap result_shapes y.1 ∙ sym (ap result_shapes y.0)
-
-  called_same : called (stepped a n f c) ≡ called a
-  called_same = λ i group. shapes_same a.functions (stepped a n f c).functions results_same (group_at a group) i
 
 at_most : (a b : ℕ) → a ≡ b → b ≤ a
 at_most a b e = omega (arith, e)
@@ -146,7 +121,7 @@ module _ (calls : ℕ → List (Option (List ℕ))) where
       let new = record f { body = one.body } in
       let next : b.functions ≡ (done ++ (new ∷ [])) ++ fs = (λ i. replaced_at (e i) (at i) new) ∙ put_at done fs f new ∙ sym (append_assoc done (new ∷ []) fs) in
       let behind : suc place ≡ length (done ++ (new ∷ [])) = next_place place (length done) (length (done ++ (new ∷ []))) at (length-append done (new ∷ [])) in
-      let rest = functions_kept b (done ++ (new ∷ [])) fs gs (suc place) h.0 after next behind (same ∙ sym (called_same a place f one.body found)) first.1.1.well h.1.1 in
+      let rest = functions_kept b (done ++ (new ∷ [])) fs gs (suc place) h.0 after next behind (same ∙ sym (same_called a place f one.body found)) first.1.1.well h.1.1 in
       let end : (done ++ (new ∷ [])) ++ gs ≡ done ++ (g ∷ gs) = append_assoc done (new ∷ []) gs ∙ ap (λ (x : FunTerm). done ++ (x ∷ gs)) (sym one.new) in (
         first.0 ++ rest.0,
         (
@@ -160,10 +135,6 @@ module _ (calls : ℕ → List (Option (List ℕ))) where
       next_place p n m e l = omega (arith, e, l)
 
 -- ---- outside
-
-heads_itself : (fs : List FunTerm) → SameHeads fs fs
-heads_itself [] = tt
-heads_itself (f ∷ fs) = (record { site = refl; types = refl; inlines = refl }, heads_itself fs)
 
 heads_on : (calls : ℕ → List (Option (List ℕ))) (es fs gs : List FunTerm) (place : ℕ) (before after : List Fold) → SameHeads es fs → AllWalked calls place before fs gs after → SameHeads es gs
 heads_on calls [] [] [] place before after s h = tt
@@ -242,9 +213,6 @@ module _ (calls : ℕ → List (Option (List ℕ))) where
 
 -- ---- rounds
 
-same_core : (a b : CoreTerm) → b.groups ≡ a.groups → b.main ≡ a.main → record a { functions = b.functions } ≡ b
-same_core a b g m = λ i. record { functions = b.functions; groups = sym g i; main = sym m i }
-
 round_kept : (a b : CoreTerm) (folds : List Fold) → Round a b folds → IsWellFormed a → Kept a b folds
 round_kept a b folds h well =
     let k = functions_kept (called a) a [] a.functions b.functions 0 [] folds refl refl refl well h.functions in
@@ -254,7 +222,7 @@ round_stays : (a b : CoreTerm) (folds : List Fold) → Round a b folds → folds
 round_stays a b folds h e = (λ i. record a { functions = sym (all_stay (called a) a.functions b.functions 0 [] folds h.functions e) i }) ∙ same_core a b h.groups h.main
 
 pub folded_itself : (a : CoreTerm) (folds : List Fold) → folds ≡ [] → CoreFolded a a folds
-folded_itself a folds e = subst (CoreFolded a a) (sym e) (record { outside = record { groups = refl; main = refl; heads = heads_itself a.functions }; kept = kept_itself a; unchanged = λ n. refl })
+folded_itself a folds e = subst (CoreFolded a a) (sym e) (record { outside = record { groups = refl; main = refl; heads = same_heads a.functions }; kept = kept_itself a; unchanged = λ n. refl })
 
 none_then : (xs ys : List Fold) → xs ++ ys ≡ [] → ys ≡ []
 none_then [] ys e = e

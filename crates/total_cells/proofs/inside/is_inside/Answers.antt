@@ -1,6 +1,7 @@
-use Rattle.std.proofs.Common.{rules, ◌≡◌, ◌↔◌, IsTrue, List, map, subst, ℤ, pos}
+use Rattle.std.proofs.Common.{◌≡◌, ◌↔◌, IsTrue, List, map, subst, ℤ, pos}
 use Rattle.sac_base.specs.declared.grid.Grid1.{Grid1}
-use Rattle.total_cells.specs.Inside.{HaveMembers, AreInside}
+use Rattle.moved_grids.specs.Within.{HaveMembers}
+use Rattle.total_cells.specs.Inside.{AreInside}
 use Rattle.total_cells.proofs.InsideFacts.{inside_is, nowhere_is}
 use Rattle.total_cells.proofs.inside.is_inside.Goals as goal
 

@@ -6,9 +6,9 @@ use Rattle.sac_base.specs.Arrays.{ArrayValue}
 use Rattle.sac_base.specs.Parts.{Part, part_at, further}
 use Rattle.core_facts.specs.Facts.{is_some}
 use Rattle.core_loops.specs.Indices.{at_numbers, at_literal}
-use Rattle.removal_rules.specs.Total.{are_components}
+use Rattle.operand_checks.specs.Numbers.{are_components}
 
-further_some : (i : ℕ) (ns : List ℕ) (p : Option Part) → is_some (further i ns p) ≡ is_some p
+pub further_some : (i : ℕ) (ns : List ℕ) (p : Option Part) → is_some (further i ns p) ≡ is_some p
 further_some i ns None = refl
 further_some i ns (Some p) = refl
 

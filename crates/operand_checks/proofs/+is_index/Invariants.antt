@@ -1,5 +1,5 @@
 use Rattle.std.proofs.Common.{length}
-use Rattle.removal_rules.proofs.total.+is_index.Given as goal
+use Rattle.operand_checks.proofs.+is_index.Given as goal
 
 abbrev pub decreases-is_index : goal.decreases-is_index
 decreases-is_index l = length l.index.now

@@ -1,7 +1,7 @@
 use Rattle.std.proofs.Common.{rules, ◌≤◌, ◌∙◌, ap, sym, length}
 use Rattle.core_loops.specs.Indices.{at_literal}
-use Rattle.total_cells.proofs.InsideFacts.{literal_is}
-use Rattle.total_cells.proofs.plain.at_literal.Goals as goal
+use Rattle.operand_checks.proofs.Index.{literal_is}
+use Rattle.operand_checks.proofs.at_literal.Goals as goal
 
 pub returns-then-rank-le1 : goal.returns-then-rank-le1
 returns-then-rank-le1 c =

@@ -1,5 +1,0 @@
-use Rattle.std.proofs.Common.{length}
-use Rattle.total_cells.proofs.inside.+is_index.Given as goal
-
-abbrev pub decreases-is_index : goal.decreases-is_index
-decreases-is_index l = length l.index.now
