@@ -19,7 +19,7 @@ use Rattle.core_norm_forms.specs.Copied.{AreFrom}
 use Rattle.core_norm_forms.proofs.Copies.{copies_renamed}
 use Rattle.core_norm_forms.proofs.Places.{all_member}
 use Rattle.parted_bodies.specs.Numbering.{named, numbered}
-use Rattle.fold_laws.proofs.Numbered.{Good, And, Those, apart_if, named_at, named_good, named_off, numbered_good, numbered_off, numbered_order}
+use Rattle.numbered_variables.proofs.Numbered.{Good, And, Those, apart_if, named_at, named_good, named_off, numbered_good, numbered_off, numbered_order}
 
 or_later : {P : Type 0} (a b : Bool) → (a || b) ≡ true → (a ≡ true → P) → (b ≡ true → P) → P
 or_later true b e f g = f refl

@@ -11,7 +11,7 @@ use Rattle.core_inlined_bodies.proofs.Names.{Names, both, same}
 use Rattle.core_subst.specs.Names.{variable}
 use Rattle.core_copy.specs.Mapped.{mapped}
 use Rattle.folded_parts.specs.Folding.{BlockFolded, RightFolded, ends, takes, keeps, stays, branches, turns, copied, copy_binds, last_copy, taken}
-use Rattle.fold_laws.proofs.Numbered.{apart_if}
+use Rattle.numbered_variables.proofs.Numbered.{apart_if}
 use Rattle.fold_laws.proofs.Copied.{IsSameOrNew, renumbered, same_or_new}
 use Rattle.fold_laws.proofs.Avoiding.{avoids_mapped}
 use Rattle.fold_laws.proofs.Chosen.{chosen_is, Single, SingleRight}

@@ -1,4 +1,3 @@
-pub mod Numbered
 pub mod Copied
 pub mod Avoiding
 pub mod Chosen

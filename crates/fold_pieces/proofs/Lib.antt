@@ -3,7 +3,6 @@ mod Bounds
 mod Evenness
 mod Insides
 mod Keepings
-mod Members
 mod Searching
 mod Splitting
 mod Verdict

@@ -24,7 +24,7 @@ use Rattle.core_norm_forms.specs.Alike.{NamedAlike}
 use Rattle.core_norm_forms.specs.Copied.{AreFrom, components}
 use Rattle.core_norm_forms.proofs.Named.{copies_named}
 use Rattle.core_norm_forms.proofs.Places.{all_member}
-use Rattle.with_norm.proofs.Numbered.{Good, And, Those, AreComponents, components_good, components_off, components_order, components_same, named_at, named_good, named_off, numbered_good, numbered_off, numbered_order}
+use Rattle.numbered_variables.proofs.Numbered.{Good, And, Those, AreComponents, apart_if, components_good, components_off, components_order, components_same, named_at, named_good, named_off, numbered_good, numbered_off, numbered_order}
 
 -- ---- a generator at its place
 
@@ -108,13 +108,6 @@ component_from f [] n x c h = clash false h refl
 component_from f (y ∷ xs) n x c h =
     or_later (eqb y.0 x.0) (is_in x xs) h (λ e. at_next n (f x).0 (ap (λ (v : Var). v.0) (ap f (sym (same_number y x e)) ∙ c.0)))
     (λ r. past_two n (f x).0 (component_from f xs (suc (suc n)) x c.1 r))
-
-pub apart_if : (m n : ℕ) → (m ≡ n → ⊥) → eqb m n ≡ false
-apart_if m n f = go (eqb m n) refl
-  where
-    go : (t : Bool) → eqb m n ≡ t → eqb m n ≡ false
-    go true e = absurd (f (Rattle.std.proofs.lemmas.Bool.eqb-true m n e))
-    go false e = e
 
 first_first : (n c v : ℕ) → n ≡ c → v ≡ suc n → c ≡ v → ⊥
 first_first n c v p q e = omega (arith, p, q, e)

@@ -1,4 +1,3 @@
-mod Numbered
 mod Copied
 mod Parts
 mod Fits

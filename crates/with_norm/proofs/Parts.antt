@@ -27,8 +27,8 @@ use Rattle.core_norm_forms.specs.Copied.{AreFrom}
 use Rattle.core_norm_forms.specs.Fresh.{count_parts}
 use Rattle.partable_loops.specs.Planned.{AllNamed, Label}
 use Rattle.parted_bodies.specs.Making.{binds_of, generator_part, label_part, made_parts, part_body}
-use Rattle.with_norm.proofs.Numbered.{order_append}
-use Rattle.with_norm.proofs.Copied.{gen_place, apart_if, copy_is, part_order}
+use Rattle.numbered_variables.proofs.Numbered.{apart_if, order_append}
+use Rattle.with_norm.proofs.Copied.{gen_place, copy_is, part_order}
 
 -- ---- labels of generators that are there
 

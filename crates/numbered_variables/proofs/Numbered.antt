@@ -34,6 +34,13 @@ turned m n h = go (eqb n m) refl
     go true e = clash (eqb m n) (eq-eqb m n (sym (eqb-true n m e))) h
     go false e = e
 
+pub apart_if : (m n : ℕ) → (m ≡ n → ⊥) → eqb m n ≡ false
+apart_if m n f = go (eqb m n) refl
+  where
+    go : (t : Bool) → eqb m n ≡ t → eqb m n ≡ false
+    go true e = absurd (f (eqb-true m n e))
+    go false e = e
+
 is_false : (t : Bool) → (t ≡ true → ⊥) → t ≡ false
 is_false true f = absurd (f refl)
 is_false false f = refl
