@@ -1,6 +1,6 @@
 #!/usr/bin/env python3
-"""compare.py SAC [WORK..]: the same work by SAC (1, 2 and 4 workers), gcc -O2, NumPy, CPython and Lua, in nanoseconds a cell and round; of a product of
-matrices, a multiplication and round.
+"""compare.py SAC [WORK..]: the same work by SAC (1, 2 and 4 workers), gcc -O2 (alone, and with 4 threads of OpenMP), NumPy, CPython and Lua, in
+nanoseconds a cell and round; of a product of matrices, a multiplication and round.
 
 A work is a program that makes an array, computes it anew in so many rounds, and prints the sum of its elements, so that each answer is compared. Its time is
 that of a run with rounds less that of a run with none, the least of three. What is not installed is left out. The works are in works/: NAME.sac, work.c,
@@ -47,6 +47,9 @@ def others(folder):
         made = folder / "work"
         subprocess.run(["gcc", "-O2", "-o", made, HERE / "work.c"], check=True)
         found["gcc -O2"] = lambda work, rounds: [made, work, str(rounds)]
+        shared = folder / "shared"
+        subprocess.run(["gcc", "-O2", "-fopenmp", "-o", shared, HERE / "work.c"], check=True)
+        found["gcc -O2, 4 threads"] = lambda work, rounds: ["env", "OMP_NUM_THREADS=4", shared, work, str(rounds)]
     script = HERE / "work.py"
     if subprocess.run([sys.executable, "-c", "import numpy"], capture_output=True).returncode == 0:
         found["NumPy"] = lambda work, rounds: [sys.executable, script, "numpy", work, str(rounds)]
