@@ -4,7 +4,7 @@
 #include <stdlib.h>
 #include <string.h>
 
-enum { SIDE = 1000, WIDE = 4096, SMALL = 200 };
+enum { SIDE = 1000, WIDE = 4096, SMALL = 200, FRONTS = 1000, LONG = 10000, BINS = 256, POINTS = 200, BOARD = 6, PLACES = 60 };
 
 static int32_t add(int32_t a, int32_t b) { return (int32_t)((uint32_t)a + (uint32_t)b); }
 
@@ -106,6 +106,126 @@ static int32_t totals(const int32_t *a, int rounds) {
     return all;
 }
 
+static int32_t scalars(int rounds) {
+    int32_t a = 1, b = 0;
+    for (int t = 0; t < rounds * 100000; t++) {
+        a = (a * 5 + b) % 1000;
+        b = (b + a) % 100000;
+    }
+    return a + b;
+}
+
+static int32_t fib(int32_t n) { return n > 1 ? fib(n - 1) + fib(n - 2) : n; }
+
+static int32_t fibs(int rounds) {
+    int32_t s = 0;
+    for (int t = 0; t < rounds; t++) s += fib(20 + t % 2) % 1000;
+    return s;
+}
+
+static int32_t prefix(int rounds) {
+    static int32_t a[FRONTS], b[FRONTS];
+    int32_t s = 0;
+    for (int i = 0; i < FRONTS; i++) a[i] = i * 7 % 256;
+    for (int t = 0; t < rounds; t++) {
+#pragma omp parallel for
+        for (int i = 0; i < FRONTS; i++) {
+            int32_t sum = 0;
+            for (int k = 0; k <= i; k++) sum += a[k];
+            b[i] = sum % 256;
+        }
+        memcpy(a, b, sizeof a);
+    }
+    for (int i = 0; i < FRONTS; i++) s += a[i];
+    return s;
+}
+
+static int32_t histogram(int rounds) {
+    static int32_t a[LONG], counts[BINS];
+    int32_t s = 0;
+    for (int i = 0; i < LONG; i++) a[i] = i * 7 % 256;
+    for (int t = 0; t < rounds; t++) {
+#pragma omp parallel for
+        for (int b = 0; b < BINS; b++) {
+            int32_t count = 0;
+            for (int i = 0; i < LONG; i++) count += a[i] == b ? 1 : 0;
+            counts[b] = count;
+        }
+        s += counts[t % BINS];
+        for (int i = 0; i < LONG; i++) a[i] = (a[i] + 1) % 256;
+    }
+    return s;
+}
+
+static int32_t escape(int32_t x, int32_t y, int32_t limit) {
+    int32_t a = 0, b = 0, n = 0;
+    while (a * a / 4096 + b * b / 4096 <= 16384 && n < limit) {
+        int32_t real = a * a / 4096 - b * b / 4096 + x;
+        b = 2 * a * b / 4096 + y;
+        a = real;
+        n++;
+    }
+    return n;
+}
+
+static int32_t mandelbrot(int rounds) {
+    uint32_t s = 0;
+    for (int t = 0; t < rounds; t++) {
+#pragma omp parallel for reduction(+ : s)
+        for (int i = 0; i < POINTS; i++)
+            for (int j = 0; j < POINTS; j++) s += (uint32_t)escape(j * 12288 / POINTS - 8704, i * 10240 / POINTS - 5120, 50 + t % 2);
+    }
+    return (int32_t)s;
+}
+
+static int32_t ways(const int32_t *columns, int row) {
+    if (row == BOARD) return 1;
+    int32_t count = 0;
+    for (int column = 0; column < BOARD; column++) {
+        int is_free = 1;
+        for (int k = 0; k < row; k++)
+            is_free = is_free && columns[k] != column && columns[k] - column != row - k && column - columns[k] != row - k;
+        if (!is_free) continue;
+        int32_t further[BOARD];
+        memcpy(further, columns, sizeof further);
+        further[row] = column;
+        count += ways(further, row + 1);
+    }
+    return count;
+}
+
+static int32_t queens(int rounds) {
+    int32_t s = 0;
+    for (int t = 0; t < rounds; t++) {
+        int32_t columns[BOARD] = {0};
+        s += ways(columns, 0) + t % 2;
+    }
+    return s;
+}
+
+static int32_t paths(int rounds) {
+    static int32_t a[PLACES][PLACES], b[PLACES][PLACES];
+    int32_t s = 0;
+    for (int i = 0; i < PLACES; i++)
+        for (int j = 0; j < PLACES; j++) a[i][j] = i == j ? 0 : 1 + (i * 7 + j * 13) % 256;
+    for (int t = 0; t < rounds; t++) {
+#pragma omp parallel for
+        for (int i = 0; i < PLACES; i++)
+            for (int j = 0; j < PLACES; j++) {
+                int32_t least = a[i][j];
+                for (int k = 0; k < PLACES; k++) {
+                    int32_t way = a[i][k] + a[k][j];
+                    if (way < least) least = way;
+                }
+                b[i][j] = least;
+            }
+        memcpy(a, b, sizeof a);
+    }
+    for (int i = 0; i < PLACES; i++)
+        for (int j = 0; j < PLACES; j++) s += a[i][j];
+    return s;
+}
+
 static void total(const int32_t *a, const int32_t *b, int32_t *c) {
 #pragma omp parallel for
     for (int i = 0; i < SIDE * SIDE; i++) c[i] = add(a[i], b[i]);
@@ -119,10 +239,16 @@ int main(int count, char **words) {
         printf("%d\n", rounds ? indices(rounds) : 0);
         return 0;
     }
-    if (!strcmp(work, "product")) {
-        printf("%d\n", product(rounds));
-        return 0;
-    }
+    static const struct {
+        const char *name;
+        int32_t (*run)(int);
+    } whole[] = {{"product", product}, {"scalars", scalars}, {"fib", fibs}, {"prefix", prefix}, {"histogram", histogram},
+                 {"mandelbrot", mandelbrot}, {"queens", queens}, {"paths", paths}};
+    for (size_t i = 0; i < sizeof whole / sizeof *whole; i++)
+        if (!strcmp(work, whole[i].name)) {
+            printf("%d\n", whole[i].run(rounds));
+            return 0;
+        }
     static int32_t one[SIDE * SIDE], two[SIDE * SIDE], first[SIDE * SIDE];
     int32_t *a = one, *b = two;
     int is_life = !strcmp(work, "life");
