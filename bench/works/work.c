@@ -115,11 +115,11 @@ static int32_t scalars(int rounds) {
     return a + b;
 }
 
-static int32_t fib(int32_t n) { return n > 1 ? fib(n - 1) + fib(n - 2) : n; }
+__attribute__((noipa)) static int32_t fib(int32_t n) { return n > 1 ? fib(n - 1) + fib(n - 2) : n; }
 
 static int32_t fibs(int rounds) {
     int32_t s = 0;
-    for (int t = 0; t < rounds; t++) s += fib(20 + t % 2) % 1000;
+    for (int t = 0; t < rounds; t++) s += fib(20) % 1000 + t;
     return s;
 }
 
@@ -178,7 +178,7 @@ static int32_t mandelbrot(int rounds) {
     return (int32_t)s;
 }
 
-static int32_t ways(const int32_t *columns, int row) {
+__attribute__((noipa)) static int32_t ways(const int32_t *columns, int row) {
     if (row == BOARD) return 1;
     int32_t count = 0;
     for (int column = 0; column < BOARD; column++) {

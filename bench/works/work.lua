@@ -132,7 +132,7 @@ end
 
 function whole.fib(rounds)
     local s = 0
-    for t = 0, rounds - 1 do s = s + fib(20 + t % 2) % 1000 end
+    for t = 0, rounds - 1 do s = s + fib(20) % 1000 + t end
     return s
 end
 

@@ -103,7 +103,7 @@ def fib(n):
 
 
 def fibs(rounds):
-    return sum(fib(20 + t % 2) % 1000 for t in range(rounds))
+    return sum(fib(20) % 1000 + t for t in range(rounds))
 
 
 def prefix(rounds):
