@@ -1,7 +1,7 @@
 -- Lists in some order: what they have in common goes from both. Scopes with the same variables.
-use Rattle.std.proofs.Common.{◌≡◌, ℕ, ◌+◌, ◌<◌, Bool, true, false, cond, eqb, true≢false, List, [], ◌∷◌, ◌++◌, length, take, drop, refl, ap, ◌∙◌, sym, subst}
+use Rattle.std.proofs.Common.{◌≡◌, ℕ, ◌+◌, ◌<◌, ◌≤◌, Bool, true, false, cond, eqb, true≢false, List, [], ◌∷◌, ◌++◌, length, take, drop, refl, ap, ◌∙◌, sym, subst}
 use Rattle.std.specs.Prelude.{◌||◌, slice_index_or}
-use Rattle.std.proofs.lemmas.List.{drop_more, take-append-drop}
+use Rattle.std.proofs.lemmas.List.{drop_all, drop_more, take-append-drop}
 use Rattle.core_ir.specs.declared.tree.Var.{Var}
 use Rattle.core_ir.specs.Binders.{is_in, NoneIn}
 use Rattle.core_ir.specs.Scopes.{AllIn}
@@ -46,7 +46,7 @@ pub nothing : (xs : List Var) → Reordered xs [] → xs ≡ []
 nothing [] r = refl
 nothing (x ∷ xs) r = elim (true≢false (sym (reordered_in r x (here x xs)))) [ ]
 
-pub nothing_behind : (xs : List Var) → xs ≡ xs ++ []
+nothing_behind : (xs : List Var) → xs ≡ xs ++ []
 nothing_behind [] = refl
 nothing_behind (x ∷ xs) = ap (λ l. x ∷ l) (nothing_behind xs)
 
@@ -64,6 +64,14 @@ next_there whole xs refs rest i d lt taken all =
     let x = slice_index_or xs i d in
     let order = subst (λ l. Reordered refs (l ++ rest)) (drop_more xs i d lt) (left_over whole xs refs rest i taken all) in
     reordered_in (reversed order) x (here x (drop (i + 1) xs ++ rest))
+
+pub all_left : (whole xs refs rest : List Var) (i : ℕ) → length xs ≤ i → Reordered whole (take i xs ++ refs) → Reordered whole (xs ++ rest) → Reordered rest refs
+all_left whole xs refs rest i past taken all =
+    reversed (subst (λ l. Reordered refs (l ++ rest)) (drop_all i xs past) (left_over whole xs refs rest i taken all))
+
+-- all of two lists is the same
+pub all_taken_back : (refs own : List Var) → Reordered own refs → Reordered refs (own ++ [])
+all_taken_back refs own o = subst (λ l. Reordered refs l) (nothing_behind own) (reversed o)
 
 -- ---- scopes with the same variables
 
