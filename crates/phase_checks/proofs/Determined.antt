@@ -19,6 +19,10 @@ use Rattle.phase_checks.proofs.Scopes.{same_scope_right}
 use Rattle.phase_checks.proofs.Taken.{one_taken}
 use Rattle.phase_checks.specs.Walks.{IsCounted, IsCountedRight, IsCountedOnlyWith, Determines}
 
+-- what the references after the targets say of those that are left when the targets' are taken
+abbrev pub Takes : (after xs mid : List Var) → Bool → Type 0
+Takes after xs mid taken = (rest : List Var) → Reordered after (xs ++ rest) → IsTrue taken × Reordered rest mid
+
 module _ (results_of : ℕ → ℕ) where
   -- ---- steps that keep and release
 
@@ -53,10 +57,6 @@ module _ (results_of : ℕ → ℕ) where
     pub distinct : Distinct l.targets.items
     pub new : NoneIn l.targets.items (mid ++ outer)
     pub right : IsCountedRight results_of (length l.targets.items) (mid ++ outer) mine (code_right_term l.right)
-
-  -- what the references after the targets say of those that are left when the targets' are taken
-  abbrev pub Takes : (after xs mid : List Var) → Bool → Type 0
-  Takes after xs mid taken = (rest : List Var) → Reordered after (xs ++ rest) → IsTrue taken × Reordered rest mid
 
   bound : (l : CodeLet) (outer mid after : List Var) (taken : Bool) → Takes after l.targets.items mid taken → (n : ℕ) (rest : CodeTerm) (own : List Var) → IsCountedOnlyWith results_of n outer after rest → IsCounted results_of n outer own (step_term (step.Bind l) rest) → IsTrue taken × Bound l outer mid own
   bound l outer mid after taken takes n rest own only c =

@@ -1,6 +1,6 @@
 -- The references of a right side that is well counted, and what it is made of.
-use Rattle.std.proofs.Common.{◌≡◌, ℕ, Bool, true, false, List, [], ◌∷◌, ◌++◌, length, Option, Some, None, Vec, Global, refl, ◌∙◌, sym, subst}
-use Rattle.std.specs.Prelude.{IsTrue, IsSomeAnd, option_to_list}
+use Rattle.std.proofs.Common.{◌≡◌, ℕ, Bool, true, false, List, [], ◌∷◌, ◌++◌, length, Option, Some, None, Vec, Global, Result, Ok, Err, ◌∙◌, sym, subst}
+use Rattle.std.specs.Prelude.{IfOk, IfSome, IsTrue, IsSomeAnd, option_to_list}
 use Rattle.sac_base.specs.declared.base.Base.{Base}
 use Rattle.sac_base.specs.declared.grid.Grid1.{Grid1}
 use Rattle.sac_base.specs.declared.site.Site.{Site}
@@ -17,6 +17,11 @@ use Rattle.counted_placing.proofs.Orders.{reversed}
 use Rattle.phase_checks.proofs.Counted.{in_any_order}
 use Rattle.phase_checks.proofs.Orders.{in_order, nothing, opposite, same_before}
 use Rattle.phase_checks.specs.Walks.{IsCounted, IsCountedRight, IsValue, OnlyReads}
+
+-- what an answer follows from
+pub then_asks : {E : Type 0} (r : Result Bool E) {P Q R : Type 0} → (R → P × Q) → IfOk r (λ b. P → Q → IsTrue b) → IfOk r (λ b. R → IsTrue b)
+then_asks (Ok b) f h = λ c. h (f c).0 (f c).1
+then_asks (Err e) f h = h
 
 module _ (results_of : ℕ → ℕ) where
   -- ---- right sides without blocks
@@ -84,6 +89,10 @@ module _ (results_of : ℕ → ℕ) where
   pub what_is_read : (scope : List Var) (p : PlainTerm) (r : CodeRightTerm) → r ≡ PlainCode p → IsCountedRight results_of 1 scope [] r → AllIn (plain_uses p) scope
   what_is_read scope p r e c = (subst (λ r. IsCountedRight results_of 1 scope [] r) e c).0.2
 
+  pub none_counted : (scope : List Var) (r : CodeRightTerm) (holds : Bool) (found : Option (Vec Var Global)) → (IsTrue holds → IsCountedRight results_of 1 scope [] r) → IfSome found (λ mine. IsTrue holds) → IfSome found (λ mine. mine.items ≡ []) → IfSome found (λ mine. IsCountedRight results_of 1 scope mine.items r)
+  none_counted scope r holds (Some mine) counted is empty = subst (λ l. IsCountedRight results_of 1 scope l r) (sym empty) (counted is)
+  none_counted scope r holds None counted is empty = is
+
   -- the answer of one that ends no reference
   pub none_found : (own scope : List Var) (r : CodeRightTerm) (holds : Bool) (found : Option (Vec Var Global)) → own ≡ [] → IsCountedRight results_of 1 scope own r → (IsCountedRight results_of 1 scope [] r → IsTrue holds) → (IsTrue holds → IsSomeAnd found (λ mine. mine.items ≡ [])) → IsSomeAnd found (λ mine. Reordered own mine.items)
   none_found own scope r holds found e c tells gives =
@@ -107,27 +116,27 @@ module _ (results_of : ℕ → ℕ) where
 
   -- ---- conditionals
 
-  module _ (n : ℕ) (scope : List Var) (x : Var) (a b : CodeTerm) (r : CodeRightTerm) (e : r ≡ IfCode x a b) where
-    if_parts : (own : List Var) → IsCountedRight results_of n scope own r → (is_in x (own ++ scope) ≡ true) × IsCounted results_of n scope own a × IsCounted results_of n scope own b
-    if_parts own c =
-        let d = subst (λ r. IsCountedRight results_of n scope own r) e c in
-        (d.0.0, (d.0.1, d.1.0), (d.0.2, d.1.1))
+  -- what is told of the references of the first branch
+  abbrev pub Branch : (n : ℕ) (scope : List Var) → CodeTerm → Option (Vec Var Global) → Type 0
+  Branch n scope a found = (own : List Var) → IsCounted results_of n scope own a → IsSomeAnd found (λ mine. Reordered own mine.items)
 
-    -- what is told of the references of the first branch
-    abbrev pub Branch : Option (Vec Var Global) → Type 0
-    Branch found = (own : List Var) → IsCounted results_of n scope own a → IsSomeAnd found (λ mine. Reordered own mine.items)
+  if_parts : (n : ℕ) (scope : List Var) (x : Var) (a b : CodeTerm) (r : CodeRightTerm) → r ≡ IfCode x a b → (own : List Var) → IsCountedRight results_of n scope own r → (is_in x (own ++ scope) ≡ true) × IsCounted results_of n scope own a × IsCounted results_of n scope own b
+  if_parts n scope x a b r e own c =
+      let d = subst (λ r. IsCountedRight results_of n scope own r) e c in
+      (d.0.0, (d.0.1, d.1.0), (d.0.2, d.1.1))
 
-    pub if_found : (found : Option (Vec Var Global)) → Branch found → (own : List Var) → IsCountedRight results_of n scope own r → IsSomeAnd found (λ mine. Reordered own mine.items)
-    if_found found first own c = first own (if_parts own c).1
+  pub if_found : (n : ℕ) (scope : List Var) (x : Var) (a b : CodeTerm) (r : CodeRightTerm) → r ≡ IfCode x a b → (found : Option (Vec Var Global)) → Branch n scope a found → (own : List Var) → IsCountedRight results_of n scope own r → IsSomeAnd found (λ mine. Reordered own mine.items)
+  if_found n scope x a b r e found first own c = first own (if_parts n scope x a b r e own c).1
 
-    pub if_unread : (mine : Vec Var Global) → Branch (Some mine) → is_in x (mine.items ++ scope) ≡ false → (own : List Var) → IsCountedRight results_of n scope own r → ⊥
-    if_unread mine first unread own c =
-        opposite (sym ((same_before scope (in_order own mine.items (first own (if_parts own c).1))).at x) ∙ (if_parts own c).0) unread
+  pub if_unread : (n : ℕ) (scope : List Var) (x : Var) (a b : CodeTerm) (r : CodeRightTerm) → r ≡ IfCode x a b → (mine : Vec Var Global) → Branch n scope a (Some mine) → is_in x (mine.items ++ scope) ≡ false → (own : List Var) → IsCountedRight results_of n scope own r → ⊥
+  if_unread n scope x a b r e mine first unread own c =
+      let p = if_parts n scope x a b r e own c in
+      opposite (sym ((same_before scope (in_order own mine.items (first own p.1))).at x) ∙ p.0) unread
 
-    pub if_other : (mine : Vec Var Global) (answer : Bool) → Branch (Some mine) → (IsCounted results_of n scope mine.items b → IsTrue answer) → answer ≡ false → (own : List Var) → IsCountedRight results_of n scope own r → ⊥
-    if_other mine answer first second other own c =
-        let p = if_parts own c in
-        opposite (second (in_any_order results_of b n scope mine.items own (reversed (first own p.1)) p.2.0, p.2.1)) other
+  pub if_other : (n : ℕ) (scope : List Var) (x : Var) (a b : CodeTerm) (r : CodeRightTerm) → r ≡ IfCode x a b → (mine : Vec Var Global) (answer : Bool) → Branch n scope a (Some mine) → (IsCounted results_of n scope mine.items b → IsTrue answer) → answer ≡ false → (own : List Var) → IsCountedRight results_of n scope own r → ⊥
+  if_other n scope x a b r e mine answer first second other own c =
+      let p = if_parts n scope x a b r e own c in
+      opposite (second (in_any_order results_of b n scope mine.items own (reversed (first own p.1)) p.2.0, p.2.1)) other
 
   -- ---- loops
 
