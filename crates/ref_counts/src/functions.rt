@@ -13,6 +13,7 @@ ghost use Rattle.ref_counts.specs.Placements.{RunsAsTheCore, RunsLeaveNothing};
 ghost use Rattle.counted_placing.specs.Placing.{placing_fun, placing_core};
 
 use crate::place::place_block;
+use crate::uses::uses_of;
 use core_ir::{Core, CoreFun, Var};
 use counted_code::{Code, CodeFun};
 use sac_base::{ArrayType, Memory};
@@ -70,13 +71,14 @@ fn place_function(alloc: Global, function: CoreFun) -> Result<CodeFun, Memory>
         ends,
     } = function;
     let own = param_vars(alloc, &params)?;
+    let uses = uses_of(alloc, &body)?;
     Ok(CodeFun {
         name,
         site,
         params,
         results,
         inline,
-        body: place_block(alloc, &body, &own)?,
+        body: place_block(alloc, &body, &uses, 0, &own)?,
         ends,
     })
 }
