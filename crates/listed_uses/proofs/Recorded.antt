@@ -1,6 +1,6 @@
 -- Uses at places of a list.
 use Rattle.std.proofs.Common.{◌≡◌, ℕ, zero, suc, ◌+◌, ◌-◌, ◌^◌, ◌<◌, ◌≤◌, Bool, true, false, cond, eqb, List, [], ◌∷◌, ◌++◌, length, take, drop, Some, refl, ap, ◌∙◌, sym, subst, arith, true≢false, add-one, inl, inr}
-use Rattle.std.specs.Prelude.{◌||◌, ◌⊎◌, min, nat_lt, nat_eq, slice_index_or, slice_get, Option, None}
+use Rattle.std.specs.Prelude.{◌||◌, ◌⊎◌, min, nat_lt, nat_eq, slice_index_or, slice_get}
 use Rattle.std.specs.HashMap.{get, HashMap}
 use lib.Dec.{leb-suc-suc}
 use Rattle.std.proofs.lemmas.Bool.{eqb-true, eq-eqb, lt-ltb, le-ltb, ltb-false, cases_lt}
@@ -11,7 +11,7 @@ use Rattle.core_ir.specs.declared.tree.Var.{Var}
 use Rattle.core_ir.specs.Binders.{is_in}
 use Rattle.listed_uses.specs.declared.list.Entry.{Entry}
 use Rattle.listed_uses.specs.declared.list.Entry.TheVariants.{Use, Section}
-use Rattle.listed_uses.specs.Latest.{or_none, behind_of, vars_of, section, head_of, EndsAt, is_used, IsLast, AreLast, AreChained}
+use Rattle.listed_uses.specs.Latest.{or_none, behind_of, vars_of, section, head_of, is_used, IsLast, AreLast, AreChained}
 
 or_false : (b : Bool) → (b || false) ≡ b
 or_false true = refl

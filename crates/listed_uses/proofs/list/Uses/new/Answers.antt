@@ -1,7 +1,7 @@
 use Rattle.std.proofs.Common.{ℕ, ◌+◌, ◌<◌, Vec, Global, length, take, ap, arith, subst, sym, ◌∙◌}
 use lib.Seq.{take_all}
 use Rattle.listed_uses.specs.Latest.{AreLast}
-use Rattle.listed_uses.proofs.Recorded.{AreChainedTo, all_chained, chained_more, head_chained, head_more, one_longer, use_chained, use_more}
+use Rattle.listed_uses.proofs.Recorded.{all_chained, chained_more, head_chained, head_more, one_longer, use_chained, use_more}
 use Rattle.listed_uses.proofs.list.Uses.new.Goals as goal
 use Rattle.listed_uses.proofs.list.Uses.new.Goals.{in-Use+in_ok-push-in-Use+in_ok-insert-in-Use, in-Section+in_ok-push-in-Section}
 
