@@ -83,8 +83,8 @@ pub place_right-returns-in_ok-place_block-in-If-2 : goal.place_right-returns-in_
 place_right-returns-in_ok-place_block-in-If-2 t c later h =
     let a = block_term c.in-If.yes in
     let b = block_term c.in-If.no in
-    let places = if_places c.args.uses.now c.args.from c.skip-first-in-If.result c.section_end-second-in-If.result c.in-If.cond a b (right_term c.args.right.now) later h (ap right_term c.in-If.is)
-    (c.skip-first-in-If.ensures (Use c.in-If.cond ∷ []) refl) (c.section_end-second-in-If.ensures (listed a)) in
+    let places = if_places c.args.uses.now c.args.from c.skip-first.result c.section_end-second.result c.in-If.cond a b (right_term c.args.right.now) later h (ap right_term c.in-If.is)
+    (c.skip-first.ensures (Use c.in-If.cond ∷ []) refl) (c.section_end-second.ensures (listed a)) in
     if_done c.in-If.cond c.args.mine.now c.in_ok-place_block-in-If.field-0 c.in_ok-place_block-in-If-2.field-0 a b (c.in_ok-place_block-in-If.ensures (section (listed b) ++ later) places.0) (c.in_ok-place_block-in-If-2.ensures later places.1)
     ∙ sym (ap (λ r. placing_right c.args.mine.now (right_term r)) c.in-If.is)
 
