@@ -1,5 +1,5 @@
 -- A block's bindings, placed one after another.
-use Rattle.std.proofs.Common.{◌≡◌, ℕ, suc, ◌+◌, ◌-◌, ◌<◌, ◌≤◌, List, [], ◌∷◌, ◌++◌, map, length, drop, take, slice_index_or, refl, ap, ◌∙◌, sym, arith}
+use Rattle.std.proofs.Common.{◌≡◌, ℕ, ◌+◌, ◌<◌, ◌≤◌, List, [], ◌∷◌, ◌++◌, map, length, drop, take, slice_index_or, refl, ap, ◌∙◌, sym, arith}
 use Rattle.std.proofs.lemmas.List.{at_drop_all, drop-take}
 use lib.Seq.{take-append_seam}
 use Rattle.core_ir.specs.declared.tree.Var.{Var}
@@ -16,7 +16,6 @@ use Rattle.listed_uses.specs.declared.list.Entry.{Entry}
 use Rattle.listed_uses.specs.declared.list.Entry.TheVariants.{Section}
 use Rattle.listed_uses.specs.Latest.{section, EndsAt}
 use Rattle.ref_counts.specs.Listing.{each, listed, listed_right}
-use Rattle.ref_counts.specs.Owning.{owned_vars, IsSound}
 use Rattle.ref_counts.proofs.Collected.{assoc, let_listed, lets_listed, block_listed}
 use Rattle.ref_rules.proofs.Taken.{drop_here}
 

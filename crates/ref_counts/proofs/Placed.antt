@@ -1,6 +1,6 @@
 -- Steps that are appended are those of the placing.
-use Rattle.std.proofs.Common.{◌≡◌, ℕ, ◌+◌, ◌-◌, ◌^◌, ◌<◌, Bool, true, false, cond, not, List, [], ◌∷◌, ◌++◌, length, drop, refl, ap, ◌∙◌, sym, subst, arith}
-use Rattle.std.specs.Prelude.{◌&&◌, ◌||◌, filter, min, Result, Ok, Err, IfOk}
+use Rattle.std.proofs.Common.{◌≡◌, ℕ, ◌+◌, ◌^◌, ◌<◌, Bool, true, false, cond, not, List, [], ◌∷◌, ◌++◌, length, drop, refl, ap, ◌∙◌, sym, subst, arith}
+use Rattle.std.specs.Prelude.{◌&&◌, ◌||◌, filter, Result, Ok, Err, IfOk}
 use lib.Seq.{drop-drop, drop-append_seam}
 use lib.ListN.{length-append}
 use Rattle.sac_base.specs.declared.site.Site.{Site}
@@ -15,7 +15,7 @@ use Rattle.counted_code.specs.Terms.{CodeTerm, CodeRightTerm, Giving, Binding}
 use Rattle.counted_code.specs.View.{steps_before}
 use Rattle.listed_uses.specs.declared.list.Entry.{Entry}
 use Rattle.listed_uses.specs.declared.list.Entry.TheVariants.{Section}
-use Rattle.listed_uses.specs.Latest.{vars_of, section, is_used}
+use Rattle.listed_uses.specs.Latest.{vars_of, section}
 use Rattle.listed_uses.proofs.Recorded.{in_append, vars_append}
 use Rattle.ref_counts.specs.declared.held.Owned.{Owned}
 use Rattle.ref_counts.specs.Endings.{ends_some, ends_in, read_place}

@@ -1,7 +1,6 @@
 -- Where the blocks of a right side stand in the list of uses.
 use Rattle.std.proofs.Common.{◌≡◌, ℕ, suc, ◌+◌, ◌<◌, List, [], ◌∷◌, ◌++◌, map, length, drop, take, slice_index_or, refl, ap, ◌∙◌, sym}
 use Rattle.std.proofs.lemmas.List.{take_more}
-use Rattle.sac_base.specs.declared.site.Site.{Site}
 use Rattle.core_ir.specs.declared.tree.Var.{Var}
 use Rattle.core_ir.specs.declared.tree.CoreGen.{CoreGen, CoreGen', out-CoreGen}
 use Rattle.core_ir.specs.declared.tree.CorePart.{CorePart, CorePart', out-CorePart}

@@ -1,7 +1,6 @@
 use Rattle.std.proofs.Common.{◌+◌, ◌++◌, ◌∷◌, [], drop, take, length, map, refl, arith, ap, sym, ◌∙◌}
 use Rattle.core_ir.specs.declared.tree.Block.{out-Block}
 use Rattle.core_ir.specs.declared.tree.CoreGen.{out-CoreGen}
-use Rattle.core_ir.specs.declared.tree.CorePart.{out-CorePart}
 use Rattle.core_ir.specs.declared.tree.WithLoop.{out-WithLoop}
 use Rattle.core_ir.specs.declared.tree.PartedLoop.{out-PartedLoop}
 use Rattle.core_ir.specs.Scopes.{op_uses, parted_uses, head_uses}
