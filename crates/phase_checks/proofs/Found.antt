@@ -1,5 +1,5 @@
 -- The references of a right side that is well counted, and what it is made of.
-use Rattle.std.proofs.Common.{◌≡◌, ℕ, Bool, true, false, List, [], ◌∷◌, ◌++◌, length, Option, Some, None, Vec, Global, Result, Ok, Err, ◌∙◌, sym, subst}
+use Rattle.std.proofs.Common.{◌≡◌, ℕ, Bool, true, false, List, [], ◌++◌, length, Option, Some, None, Vec, Global, Result, Ok, Err, ◌∙◌, sym, subst}
 use Rattle.std.specs.Prelude.{IfOk, IfSome, IsTrue, IsSomeAnd, option_to_list}
 use Rattle.sac_base.specs.declared.base.Base.{Base}
 use Rattle.sac_base.specs.declared.grid.Grid1.{Grid1}

@@ -1,5 +1,5 @@
 -- What is well counted in a scope is so in each scope with the same variables.
-use Rattle.std.proofs.Common.{◌≡◌, ℕ, List, [], ◌∷◌, ◌++◌, length, ◌∙◌, sym, subst}
+use Rattle.std.proofs.Common.{ℕ, List, [], ◌∷◌, ◌++◌, length, ◌∙◌, sym}
 use Rattle.core_ir.specs.declared.tree.Var.{Var}
 use Rattle.core_ir.specs.Scopes.{plain_uses, op_uses, parted_uses, head_uses}
 use Rattle.counted_code.specs.Counts.{Counted, CountedRight, CountedGens, CountedParts}

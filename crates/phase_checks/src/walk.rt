@@ -12,7 +12,9 @@ ghost use Rattle.counted_code.specs.declared.tree.CodeStep.TheVariants as step_o
 ghost use Rattle.phase_checks.specs.Terms.{gens_term, parts_term};
 ghost use Rattle.phase_checks.specs.Walks.{results_in, IsCounted, IsCountedRight, IsCountedGen, IsCountedPart, Leads, Determines, IsNested, IsValue};
 
-use crate::bags::{are_new, are_same, joined, none_in, stands_in, stands_in_either, take_all, take_out};
+use crate::bags::{
+    are_new, are_same, joined, none_in, stands_in, stands_in_either, take_all, take_out,
+};
 use crate::groups::count_results;
 use crate::reads::{bounds_read, only_reads, operation_reads, parted_reads};
 use core_ir::Var;
