@@ -50,6 +50,10 @@ nothing_behind : (xs : List Var) → xs ≡ xs ++ []
 nothing_behind [] = refl
 nothing_behind (x ∷ xs) = ap (λ l. x ∷ l) (nothing_behind xs)
 
+-- one list after the other, whatever stands for them
+pub is_joined : (all front front' back back' : List Var) → all ≡ front ++ back → front ≡ front' → back ≡ back' → all ≡ front' ++ back'
+is_joined all front front' back back' e f b = e ∙ (λ i. f i ++ b i)
+
 -- ---- references that are taken one by one
 
 -- what is left is what the rest of the list still takes

@@ -14,7 +14,7 @@ use Rattle.phase_checks.specs.Walks.{results_in, IsCounted, IsCountedRight, Lead
 use Rattle.phase_checks.proofs.Counted.{in_any_order, keep_leads, release_leads, binding_leads, at_the_end, one_back}
 use Rattle.phase_checks.proofs.Determined.{Takes, Tells, keep_lost, keep_determines, release_determines, targets_lost, targets_old, right_lost, binding_determines, results_size, only_at_the_end, only_one_back, none_back}
 use Rattle.phase_checks.proofs.Found.{Branch, then_asks, value_size, with_none, parted_none, reads_none, none_counted, none_found, with_parts, parted_parts, if_found, if_unread, if_other, loop_parts}
-use Rattle.phase_checks.proofs.Orders.{opposite}
+use Rattle.phase_checks.proofs.Orders.{is_joined, opposite}
 use Rattle.phase_checks.proofs.Variants.{is_value, not_nested, only_reads}
 use Rattle.phase_checks.proofs.walk.+walk.Goals.{nested_refs-else-branch-2-via-then-branch-2+in_ok-block_is_counted-in-Loop-2+else-branch-3, nested_refs-else-branch-2-via-else-branch-2}
 use Rattle.phase_checks.proofs.walk.+walk.Goals.{nested_refs-else-stands_in_either-via-then-stands_in_either+in_ok-block_is_counted-in-If+else-branch, nested_refs-else-stands_in_either-via-else-stands_in_either}
@@ -35,10 +35,10 @@ binding_back-returns-in-Some-clause-counted t c _ =
     let size : c.len-results.result ≡ length l.targets.items = grind (arith, c.len-results.ensures, l.targets.ok) in
     let right = subst (λ o. IfSome o (λ mine. IsCountedRight code c.len-results.result c.deref-5.result.now mine.items (code_right_term l.right))) c.in-Some.is c.in_ok-mine.ensures.counted in
     binding_leads code l c.args.outer.now c.extend_from_slice.new.self.items mid c.args.refs.now.items scope c.in-Some.mine.items taken
-    (c.in_ok-scope.ensures ∙ ap (λ refs. refs ++ c.args.outer.now) c.deref-2.ensures.value)
+    (is_joined scope c.deref-2.result.now mid c.args.outer.now c.args.outer.now c.in_ok-scope.ensures c.deref-2.ensures.value refl)
     (subst Distinct c.deref-3.ensures.value (c.are_new.ensures.distinct c.if-not-are_new.false)) new
     (subst (λ n. IsCountedRight code n scope c.in-Some.mine.items (code_right_term l.right)) size (subst (λ scope. IsCountedRight code c.len-results.result scope c.in-Some.mine.items (code_right_term l.right)) c.deref-5.ensures.value right))
-    (c.in_ok-extend_from_slice-in-Some.ensures.items ∙ ap (λ xs. mid ++ xs) c.deref-in-Some.ensures.value)
+    (is_joined c.extend_from_slice.new.self.items mid mid c.deref-in-Some.result.now c.in-Some.mine.items c.in_ok-extend_from_slice-in-Some.ensures.items refl c.deref-in-Some.ensures.value)
 
 pub block_is_counted-returns-in-Some-clause-counted : goal.block_is_counted-returns-in-Some-clause-counted
 block_is_counted-returns-in-Some-clause-counted t c same =
@@ -167,7 +167,7 @@ binding_back-returns-then-not-are_new-clause-converse t c =
     let takes = subst (λ xs. Takes after xs mid c.take_all.result) c.deref.ensures.value c.take_all.ensures.converse in
     let new = subst (λ scope. Distinct l.targets.items → NoneIn l.targets.items scope → IsTrue c.are_new.result) c.deref-4.ensures.value (subst (λ xs. Distinct xs → NoneIn xs c.deref-4.result.now → IsTrue c.are_new.result) c.deref-3.ensures.value c.are_new.ensures.converse) in
     targets_old (results_in c.args.code.now) l c.args.outer.now mid mid after scope c.take_all.result c.are_new.result takes
-    (c.in_ok-scope.ensures ∙ ap (λ refs. refs ++ c.args.outer.now) c.deref-2.ensures.value) new c.if-not-are_new.true
+    (is_joined scope c.deref-2.result.now mid c.args.outer.now c.args.outer.now c.in_ok-scope.ensures c.deref-2.ensures.value refl) new c.if-not-are_new.true
 
 pub binding_back-returns-clause-converse : goal.binding_back-returns-clause-converse
 binding_back-returns-clause-converse t c =
@@ -181,7 +181,7 @@ binding_back-returns-clause-converse t c =
     let size : c.len-results.result ≡ length l.targets.items = grind (arith, c.len-results.ensures, l.targets.ok) in
     let tells = subst (λ o. Tells code c.len-results.result c.deref-5.result.now r o) c.in-None.is c.in_ok-mine.ensures.converse in
     right_lost code l c.args.outer.now mid mid after scope c.take_all.result takes
-    (c.in_ok-scope.ensures ∙ ap (λ refs. refs ++ c.args.outer.now) c.deref-2.ensures.value)
+    (is_joined scope c.deref-2.result.now mid c.args.outer.now c.args.outer.now c.in_ok-scope.ensures c.deref-2.ensures.value refl)
     (subst (λ n. Tells code n scope r None) size (subst (λ scope. Tells code c.len-results.result scope r None) c.deref-5.ensures.value tells))
 
 pub binding_back-returns-in-Some-clause-converse : goal.binding_back-returns-in-Some-clause-converse
@@ -197,9 +197,9 @@ binding_back-returns-in-Some-clause-converse t c =
     let size : c.len-results.result ≡ length l.targets.items = grind (arith, c.len-results.ensures, l.targets.ok) in
     let tells = subst (λ o. Tells code c.len-results.result c.deref-5.result.now r o) c.in-Some.is c.in_ok-mine.ensures.converse in
     binding_determines code l c.args.outer.now c.extend_from_slice.new.self.items mid after scope c.take_all.result mine takes
-    (c.in_ok-scope.ensures ∙ ap (λ refs. refs ++ c.args.outer.now) c.deref-2.ensures.value)
+    (is_joined scope c.deref-2.result.now mid c.args.outer.now c.args.outer.now c.in_ok-scope.ensures c.deref-2.ensures.value refl)
     (subst (λ n. Tells code n scope r (Some mine)) size (subst (λ scope. Tells code c.len-results.result scope r (Some mine)) c.deref-5.ensures.value tells))
-    (c.in_ok-extend_from_slice-in-Some.ensures.items ∙ ap (λ xs. mid ++ xs) c.deref-in-Some.ensures.value)
+    (is_joined c.extend_from_slice.new.self.items mid mid c.deref-in-Some.result.now c.in-Some.mine.items c.in_ok-extend_from_slice-in-Some.ensures.items refl c.deref-in-Some.ensures.value)
 
 pub block_is_counted-returns-in-None-clause-converse : goal.block_is_counted-returns-in-None-clause-converse
 block_is_counted-returns-in-None-clause-converse t c counted =
