@@ -53,10 +53,6 @@ module _ (bases : Var → Option Base) (first : ℕ) where
     pub before : b ≡ Bind targets site (With op (gens_of gens)) rest
     pub now : c ≡ Bind targets site right rest
 
--- what is known of the values of a right side wherever it stands
-abbrev pub IsKnownAnywhere : RightTerm → List Fact → Type 0
-IsKnownAnywhere r facts = (called : ℕ → List (Option (List ℕ))) (k : Facts) → facts ≡ right_facts called r k
-
 -- ---- all with-loops of a term
 
 -- each with-loop of the term, by what is known where it stands
