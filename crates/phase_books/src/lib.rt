@@ -17,4 +17,4 @@ pub use over::settle_over;
 pub use phase_team::{Gate, NoGate};
 pub use results::{Begun, Books, begin_phase, end_phase, finish_phase, open_books, stop_phase};
 pub use team::{Workers, compute_array, compute_fold};
-pub use worth::steps_of;
+pub use worth::{FEW_IN_STRIPS, steps_of};

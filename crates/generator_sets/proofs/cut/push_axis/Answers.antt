@@ -2,7 +2,7 @@ use Rattle.std.proofs.Common.{rules, ◌≤◌, ◌∙◌, ◌++◌, List, lengt
 use Rattle.std.specs.Option.{option_to_list}
 use Rattle.std.proofs.lemmas.Option.{slice_get_past}
 use Rattle.sac_base.specs.declared.grid.Grid1.{Grid1}
-use Rattle.uniform_pieces.proofs.cutting.push_axis.Goals as goal
+use Rattle.generator_sets.proofs.cut.push_axis.Goals as goal
 
 pub returns-in-None : goal.returns-in-None
 returns-in-None c =
