@@ -1,7 +1,6 @@
 use Rattle.std.proofs.Common.{◌≡◌, ◌-◌, ◌∙◌, [], ap, refl, sym, map, length, List}
 use Rattle.std.specs.Prelude.{drop}
 use Rattle.core_ir.specs.declared.tree.Let.{Let}
-use Rattle.core_ir.specs.declared.tree.PartedLoop.{out-PartedLoop}
 use Rattle.core_ir.specs.Terms.{RightTerm, chain}
 use Rattle.core_ir.specs.View.{block_term, let_term, right_term}
 use Rattle.core_facts.specs.Facts.{block_facts, common_facts, note_all, right_facts}
@@ -66,11 +65,9 @@ settle_gen-returns-clause-table t c =
 
 pub settle_parted-returns-clause-settled : goal.settle_parted-returns-clause-settled
 settle_parted-returns-clause-settled t c =
-    let w = out-PartedLoop c.args.parted in
     let none = none_left c.loop-part.part-iterator.rest.len c.loop-part.part-iterator.rest.items c.in-None.ensures.steps.0 c.loop-part.part-iterator.rest.ok.0 in
     parted_settled (shapes_of c.args.called.now) (facts_of c.args.table.now) c.of_parted.result c.loop-part.part-iterator.rest.items c.into_iter-part-iterator.result.rest.items
-    (record { frame = w.frame; base = w.base; cell = w.cell; op = w.op; parts = c.loop-part.settled }) c.args.parted
-    c.of_parted.ensures.right c.loop-part.invariant.items none c.into_iter-part-iterator.ensures.into_iter_gives.0 refl refl refl refl
+    c.loop-part.settled c.args.parted c.of_parted.ensures.right c.loop-part.invariant.items none c.into_iter-part-iterator.ensures.into_iter_gives.0
 
 pub settle_parted-returns-clause-known : goal.settle_parted-returns-clause-known
 settle_parted-returns-clause-known t c = known_here (shapes_of c.args.called.now) (facts_of c.args.table.now) c.of_parted.result c.of_parted.ensures.known
