@@ -1,7 +1,6 @@
 -- One turn of the loops of the walk, and their ends.
 use Rattle.std.proofs.Common.{◌≡◌, ℕ, Bool, List, [], ◌∷◌, ◌++◌, map, length, Option, refl, sym, ap, ◌∙◌, append_assoc, append-nil, arith}
-use Rattle.std.specs.Prelude.{Result, Ok, Err, IfOk}
-use Rattle.std.specs.Prelude.{Vec}
+use Rattle.std.specs.Prelude.{Result, Ok, Err, IfOk, Vec}
 use Rattle.std.specs.declared.alloc.Global.{Global}
 use Rattle.sac_base.specs.declared.site.Site.{Site}
 use Rattle.core_ir.specs.declared.tree.Var.{Var}
@@ -18,9 +17,8 @@ use Rattle.core_ir.specs.Terms.{BlockTerm, RightTerm, Gives, Bind, Gen, Part, Le
 use Rattle.core_ir.specs.View.{block_term, let_term, right_term, gen_term, part_term, with_term, parted_term}
 use Rattle.core_ir.proofs.Trees.{block_out, block_roll, with_out, with_roll, parted_out, parted_roll}
 use Rattle.sac_base.specs.declared.memory.Memory.{Memory}
-use Rattle.core_facts.specs.Facts.{Fact, Facts, shape_fact, note_all, parted_shape, known_shape, right_facts, block_facts}
+use Rattle.core_facts.specs.Facts.{Fact, Facts, note_all, right_facts, block_facts}
 use Rattle.core_cleaning.specs.Checks.{simplified, simplified_right, simplified_gens, simplified_parts}
-use Rattle.fact_table.specs.Table.{fact_of}
 use Rattle.known_rights.specs.declared.known.KnownRight.{KnownRight}
 use Rattle.const_shape.specs.Settling.{settled_let, settled_gen, settled_part}
 

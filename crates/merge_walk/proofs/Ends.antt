@@ -1,24 +1,21 @@
 -- Bindings, generators, parts and right sides by their fields, after a walk.
-use Rattle.std.proofs.Common.{◌≡◌, ◌-◌, ℕ, Bool, List, [], ◌∷◌, map, length, Option, refl, sym, ap, subst, ◌∙◌}
-use Rattle.std.specs.Prelude.{Result, Ok, Err, IfOk, OnOk, Vec, drop}
+use Rattle.std.proofs.Common.{◌≡◌, ◌-◌, ℕ, Bool, List, [], ◌∷◌, length, Option, refl, sym, ap, subst, ◌∙◌}
+use Rattle.std.specs.Prelude.{Result, Ok, Err, IfOk, Vec, drop}
 use Rattle.sac_base.specs.declared.memory.Memory.{Memory}
 use Rattle.sac_base.specs.declared.site.Site.{Site}
 use Rattle.std.specs.declared.alloc.Global.{Global}
 use Rattle.core_ir.specs.declared.tree.Var.{Var}
 use Rattle.core_ir.specs.declared.tree.Block.{Block}
-use Rattle.core_ir.specs.declared.tree.CoreGen.{CoreGen, CoreGen', CoreGen-F, out-CoreGen, roll-CoreGen, out-roll-CoreGen}
-use Rattle.core_ir.specs.declared.tree.CorePart.{CorePart, CorePart', CorePart-F, out-CorePart, roll-CorePart, out-roll-CorePart}
+use Rattle.core_ir.specs.declared.tree.CoreGen.{CoreGen, out-CoreGen, roll-CoreGen}
+use Rattle.core_ir.specs.declared.tree.CorePart.{CorePart, out-CorePart, roll-CorePart}
 use Rattle.core_ir.specs.declared.tree.Right.{Right}
 use Rattle.core_ir.specs.declared.tree.Right.TheVariants as right
 use Rattle.core_ir.specs.declared.tree.WithLoop.{WithLoop, WithLoop-F, out-WithLoop, roll-WithLoop}
 use Rattle.core_ir.specs.declared.tree.PartedLoop.{PartedLoop, PartedLoop-F, out-PartedLoop, roll-PartedLoop}
 use Rattle.core_ir.specs.declared.tree.Right.TheBlock.{the_data, the_data-1, the_data-2, the_data-3, the_data-4, the_data-5, the_data-6}
-use Rattle.core_ir.specs.Terms.{PlainTerm, RightTerm, Plain, GenTerm, PartTerm}
+use Rattle.core_ir.specs.Terms.{RightTerm, GenTerm, PartTerm}
 use Rattle.core_ir.specs.View.{block_term, gen_term, part_term, right_term, with_term, parted_term}
-use Rattle.core_ir.proofs.Trees.{with_out}
 use Rattle.core_facts.specs.Facts.{Fact, Facts, note_all, in_part, right_facts}
-use Rattle.fact_table.specs.Table.{fact_of}
-use Rattle.plain_facts.specs.Rights.{fact_of_right}
 use Rattle.parted_bodies.specs.declared.names.Progress.{Progress}
 use Rattle.known_rights.specs.declared.known.KnownRight.{KnownRight}
 use Rattle.known_rights.proofs.Fields.{shown_gen, shown_part, gen_out, gen_roll, part_out, part_roll}

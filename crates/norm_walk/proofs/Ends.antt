@@ -8,8 +8,8 @@ use Rattle.std.specs.Prelude.{Vec}
 use Rattle.std.specs.declared.alloc.Global.{Global}
 use Rattle.core_ir.specs.declared.tree.Var.{Var}
 use Rattle.core_ir.specs.declared.tree.Block.{Block}
-use Rattle.core_ir.specs.declared.tree.CoreGen.{CoreGen, CoreGen', CoreGen-F, out-CoreGen, roll-CoreGen, out-roll-CoreGen}
-use Rattle.core_ir.specs.declared.tree.CorePart.{CorePart, CorePart', CorePart-F, out-CorePart, roll-CorePart, out-roll-CorePart}
+use Rattle.core_ir.specs.declared.tree.CoreGen.{CoreGen, out-CoreGen, roll-CoreGen}
+use Rattle.core_ir.specs.declared.tree.CorePart.{CorePart, out-CorePart, roll-CorePart}
 use Rattle.core_ir.specs.declared.tree.CoreOp.{CoreOp}
 use Rattle.core_ir.specs.declared.tree.Right.{Right}
 use Rattle.core_ir.specs.declared.tree.Right.TheVariants as right
@@ -17,18 +17,15 @@ use Rattle.core_ir.specs.declared.tree.PartedOp.{PartedOp}
 use Rattle.core_ir.specs.declared.tree.WithLoop.{WithLoop, out-WithLoop}
 use Rattle.core_ir.specs.declared.tree.PartedLoop.{PartedLoop, PartedLoop-F, out-PartedLoop, roll-PartedLoop}
 use Rattle.core_ir.specs.declared.tree.Right.TheBlock.{the_data, the_data-1, the_data-2, the_data-3, the_data-4, the_data-5, the_data-6}
-use Rattle.core_ir.specs.Terms.{PlainTerm, RightTerm, Plain, GensTerm, GenTerm, PartTerm, With, Parted, gens_of, parts_of}
+use Rattle.core_ir.specs.Terms.{RightTerm, GensTerm, GenTerm, PartTerm, With, Parted, gens_of, parts_of}
 use Rattle.core_ir.specs.View.{block_term, gen_term, part_term, right_term, with_term, parted_term}
 use Rattle.core_ir.proofs.Trees.{with_out, parted_out, parted_roll}
-use Rattle.core_facts.specs.Facts.{Fact, Facts, note_all, in_part, right_facts, shape_fact, known_shape, parted_shape}
-use Rattle.fact_table.specs.Table.{fact_of}
-use Rattle.plain_facts.specs.Rights.{fact_of_right}
+use Rattle.core_facts.specs.Facts.{Facts, note_all, in_part}
 use Rattle.partable_loops.specs.Planned.{IsPlannable}
 use Rattle.partable_loops.specs.declared.planning.PartPlan.{PartPlan}
 use Rattle.parted_bodies.specs.declared.names.Progress.{Progress}
 use Rattle.parted_bodies.specs.Making.{binds_of, made_parts, parted_op}
 use Rattle.known_rights.specs.declared.known.KnownRight.{KnownRight}
-use Rattle.known_rights.specs.Anywhere.{IsKnownAnywhere}
 use Rattle.known_rights.proofs.Fields.{shown_gen, shown_part, gen_out, gen_roll, part_out, part_roll}
 use Rattle.known_rights.proofs.Plain.{IsOther, other_plain}
 use Rattle.norm_walk.specs.Replacing.{BlockWalked, RightWalked, LetWalked, GensWalked, GenWalked, PartWalked, WithWalked, IsLeft, IsPlanned, EachWithRight}

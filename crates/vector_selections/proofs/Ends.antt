@@ -1,24 +1,22 @@
 -- The ends of the arms of a walk over a right side, a generator and a part.
-use Rattle.std.proofs.Common.{◌≡◌, ℕ, Bool, List, [], ◌∷◌, map, Option, refl, sym, ap, ◌∙◌}
+use Rattle.std.proofs.Common.{◌≡◌, ℕ, Bool, List, [], ◌∷◌, map, Option, sym, ap, ◌∙◌}
 use Rattle.std.specs.Prelude.{Vec, Result, Ok, Err, IfOk, OnOk}
 use Rattle.std.specs.declared.alloc.Global.{Global}
 use Rattle.sac_base.specs.declared.memory.Memory.{Memory}
 use Rattle.sac_base.specs.declared.site.Site.{Site}
 use Rattle.core_ir.specs.declared.tree.Var.{Var}
 use Rattle.core_ir.specs.declared.tree.Block.{Block}
-use Rattle.core_ir.specs.declared.tree.CoreGen.{CoreGen, CoreGen', CoreGen-F, out-CoreGen, roll-CoreGen, out-roll-CoreGen}
-use Rattle.core_ir.specs.declared.tree.CorePart.{CorePart, CorePart', CorePart-F, out-CorePart, roll-CorePart, out-roll-CorePart}
+use Rattle.core_ir.specs.declared.tree.CoreGen.{CoreGen, out-CoreGen, roll-CoreGen}
+use Rattle.core_ir.specs.declared.tree.CorePart.{CorePart, out-CorePart, roll-CorePart}
 use Rattle.core_ir.specs.declared.tree.Right.{Right}
-use Rattle.core_ir.specs.declared.tree.WithLoop.{WithLoop}
 use Rattle.core_ir.specs.declared.tree.PartedLoop.{PartedLoop, PartedLoop-F, out-PartedLoop, roll-PartedLoop}
 use Rattle.core_ir.specs.declared.tree.Right.TheVariants as right
 use Rattle.core_ir.specs.declared.tree.Right.TheBlock.{the_data, the_data-1, the_data-2, the_data-3, the_data-4, the_data-5, the_data-6}
-use Rattle.core_ir.specs.Terms.{PlainTerm, RightTerm, GenTerm, PartTerm, Plain}
+use Rattle.core_ir.specs.Terms.{PlainTerm, RightTerm, Plain}
 use Rattle.core_ir.specs.View.{block_term, gen_term, part_term, parted_term, right_term}
 use Rattle.core_ir.proofs.Trees.{parted_out, parted_roll}
 use Rattle.core_facts.specs.Facts.{Facts, note_all, right_facts, in_part, known_shape, parted_shape, shape_fact}
 use Rattle.fact_table.specs.Table.{fact_of}
-use Rattle.plain_facts.specs.Rights.{fact_of_right}
 use Rattle.core_selections.specs.Vectors.{next, next_right, vectored, vectored_right}
 use Rattle.known_rights.specs.Anywhere.{IsKnownAnywhere}
 use Rattle.known_rights.specs.declared.known.KnownRight.{KnownRight}
