@@ -1,0 +1,4 @@
+pub mod Needed
+pub mod Nested
+pub mod Sizes
+pub mod Trees
