@@ -1,9 +1,12 @@
 -- What a block needs, by its parts.
-use Rattle.std.proofs.Common.{◌≡◌, ℕ, zero, suc, ◌-◌, ◌+◌, ◌≤◌, ◌<◌, ◌⊎◌, inl, inr, Bool, true, false, List, [], ◌∷◌, Some, length, Vec, Global, refl, ap, sym, subst, ◌∙◌, max, arith}
+use Rattle.std.proofs.Common.{◌≡◌, ℕ, zero, suc, ◌-◌, ◌+◌, ◌≤◌, ◌<◌, ◌⊎◌, inl, inr, Bool, true, false, List, [], ◌∷◌, Some, length, Vec, Global, refl, ap, sym, subst, ◌∙◌, max, min, arith, drop, get_or}
+use Rattle.std.proofs.lemmas.List.{drop_more}
 use Rattle.std.specs.Prelude.{Contains, slice_get, slice_index, slice_index_or}
 use Rattle.sac_base.specs.declared.site.Site.{Site}
 use Rattle.core_ir.specs.declared.tree.Var.{Var}
 use Rattle.counted_code.specs.declared.tree.CodeBlock.{CodeBlock}
+use Rattle.counted_code.specs.declared.tree.CodeGen.{CodeGen}
+use Rattle.counted_code.specs.declared.tree.CodePart.{CodePart}
 use Rattle.counted_code.specs.declared.tree.CodeParted.{CodeParted, out-CodeParted}
 use Rattle.counted_code.specs.declared.tree.CodeRight.{CodeRight}
 use Rattle.counted_code.specs.declared.tree.CodeRight.TheVariants as right
@@ -16,18 +19,41 @@ use Rattle.code_nesting.specs.Needs.{called_need, PlacesNeed, Needs, RightNeeds,
 use Rattle.code_nesting.specs.Rows.{gens_term, parts_term}
 use Rattle.code_nesting.proofs.Trees.{if_term, loop_term, with_out, parted_out}
 
+-- ---- numbers and lists
+
+less : (m k : ℕ) → m ≤ k → m - 1 ≤ k - 1
+less m k le = omega (arith, le)
+
+one_more : (m k : ℕ) → m ≤ k → 1 ≤ m → 1 ≤ k
+one_more m k le one = omega (arith, le, one)
+
+upper : (greatest need r m : ℕ) → r ≡ max greatest need → r ≤ m → need ≤ m
+upper greatest need r m is le = omega (arith, is, le)
+
+lower : (greatest need r m : ℕ) → r ≡ max greatest need → r ≤ m → greatest ≤ m
+lower greatest need r m is le = omega (arith, is, le)
+
+within_limit : (need m : ℕ) → need ≤ m → m ≤ 1000 → need ≤ 1000
+within_limit need m le small = omega (arith, le, small)
+
+from_here : {X : Type 0} (xs : List X) (i : ℕ) (x : X) → i < length xs → x ≡ get_or xs i x → x ∷ drop (i + 1) xs ≡ drop i xs
+from_here xs i x lt is = ap (λ y. y ∷ drop (i + 1) xs) is ∙ sym (drop_more xs i x lt)
+
+pub one_above : (need r : ℕ) → r ≡ min (need + 1) 4294967295 → r ≤ 1000 → need + 1 ≤ r
+one_above need r is small = omega (arith, is, small)
+
+pub left_above : (first second need r : ℕ) → need ≡ max first second → need + 1 ≤ r → first + 1 ≤ r
+left_above first second need r is le = omega (arith, is, le)
+
+pub right_above : (first second need r : ℕ) → need ≡ max first second → need + 1 ≤ r → second + 1 ≤ r
+right_above first second need r is le = omega (arith, is, le)
+
 module _ (code : CodeProgram) (below here : List ℕ) where
   -- ---- what needs so many at most needs more at most
 
   pub places_more : (ps : List ℕ) (m k : ℕ) → m ≤ k → PlacesNeed code below here ps m → PlacesNeed code below here ps k
   places_more [] m k le h = h
   places_more (p ∷ ps) m k le h = (let q : called_need code below here p ≤ k = omega (arith, le, h.0) in q, places_more ps m k le h.1)
-
-  less : (m k : ℕ) → m ≤ k → m - 1 ≤ k - 1
-  less m k le = omega (arith, le)
-
-  one_more : (m k : ℕ) → m ≤ k → 1 ≤ m → 1 ≤ k
-  one_more m k le one = omega (arith, le, one)
 
   mutual
     pub needs_more : (b : CodeTerm) (m k : ℕ) → m ≤ k → Needs code below here b m → Needs code below here b k
@@ -104,3 +130,34 @@ module _ (code : CodeProgram) (below here : List ℕ) where
       → RightNeeds code below here (CallCode group args) m
   call_needs group need m args h le =
       (let q : 1 ≤ m = omega (arith, le) in q, places_more (slice_index_or code.groups group []) need (m - 1) (omega (arith, le)) h)
+
+  -- ---- one more of a list
+
+  pub steps_turn : (ss : List CodeStep) (i : ℕ) (s : CodeStep) (greatest need r : ℕ) → i < length ss → s ≡ get_or ss i s
+      → (need ≤ 1000 → StepNeeds code below here s need) → r ≡ max greatest need
+      → ((m : ℕ) → m ≤ 1000 → greatest ≤ m → StepsNeed code below here (drop i ss) m → StepsNeed code below here ss m)
+      → (m : ℕ) → m ≤ 1000 → r ≤ m → StepsNeed code below here (drop (i + 1) ss) m → StepsNeed code below here ss m
+  steps_turn ss i s greatest need r lt is h top so m small le rest =
+      let le' = upper greatest need r m top le in
+      so m small (lower greatest need r m top le)
+      (subst (λ (xs : List CodeStep). StepsNeed code below here xs m) (from_here ss i s lt is) (step_more s need m le' (h (within_limit need m le' small)), rest))
+
+  pub gens_turn : (gs : List CodeGen) (i : ℕ) (g : CodeGen) (greatest need r : ℕ) → i < length gs → g ≡ get_or gs i g
+      → (need ≤ 1000 → Needs code below here (code_term g.body) need) → r ≡ max greatest need
+      → ((m : ℕ) → m ≤ 1000 → greatest ≤ m → GensNeed code below here (gens_term (drop i gs)) m → GensNeed code below here (gens_term gs) m)
+      → (m : ℕ) → m ≤ 1000 → r ≤ m → GensNeed code below here (gens_term (drop (i + 1) gs)) m → GensNeed code below here (gens_term gs) m
+  gens_turn gs i g greatest need r lt is h top so m small le rest =
+      let le' = upper greatest need r m top le in
+      so m small (lower greatest need r m top le)
+      (subst (λ (xs : List CodeGen). GensNeed code below here (gens_term xs) m) (from_here gs i g lt is) (needs_more (code_term g.body) need m le' (h (within_limit need m le' small)), rest))
+
+  pub parts_turn : (ps : List CodePart) (i : ℕ) (p : CodePart) (greatest need r : ℕ) → i < length ps → p ≡ get_or ps i p
+      → (need ≤ 1000 → Needs code below here (code_term p.body) need) → r ≡ max greatest need
+      → ((m : ℕ) → m ≤ 1000 → greatest ≤ m → PartsNeed code below here (parts_term (drop i ps)) m → PartsNeed code below here (parts_term ps) m)
+      → (m : ℕ) → m ≤ 1000 → r ≤ m → PartsNeed code below here (parts_term (drop (i + 1) ps)) m → PartsNeed code below here (parts_term ps) m
+  parts_turn ps i p greatest need r lt is h top so m small le rest =
+      let le' = upper greatest need r m top le in
+      so m small (lower greatest need r m top le)
+      (subst (λ (xs : List CodePart). PartsNeed code below here (parts_term xs) m) (from_here ps i p lt is) (needs_more (code_term p.body) need m le' (h (within_limit need m le' small)), rest))
+
+  -- one more than a need, as the machine counts

@@ -8,41 +8,35 @@ use Rattle.code_nesting.specs.Nested.{HasBlock, RightHasBlock, GensHaveBlock, Pa
 module _ (code : CodeProgram) (below here : List ℕ) where
   -- ---- the blocks and calls of a block
 
-  At : CodeTerm → ℕ → Type 0
-  At b m = Needs code below here b m
-
-  gens_inner : (gs : CodeGensTerm) (u : CodeTerm) (m : ℕ) → GensNeed code below here gs m → GensHaveBlock gs u → At u m
-  gens_inner NoCodeGens u m h ()
+  gens_inner : (gs : CodeGensTerm) (u : CodeTerm) (m : ℕ) → GensNeed code below here gs m → GensHaveBlock gs u → Needs code below here u m
+  gens_inner NoCodeGens u m h has = absurd has
   gens_inner (GenCode head b rest) u m h (inl is) = subst (λ (t : CodeTerm). Needs code below here t m) is h.0
   gens_inner (GenCode head b rest) u m h (inr has) = gens_inner rest u m h.1 has
 
-  parts_inner : (ps : CodePartsTerm) (u : CodeTerm) (m : ℕ) → PartsNeed code below here ps m → PartsHaveBlock ps u → At u m
-  parts_inner NoCodeParts u m h ()
+  parts_inner : (ps : CodePartsTerm) (u : CodeTerm) (m : ℕ) → PartsNeed code below here ps m → PartsHaveBlock ps u → Needs code below here u m
+  parts_inner NoCodeParts u m h has = absurd has
   parts_inner (PartCode head b rest) u m h (inl is) = subst (λ (t : CodeTerm). Needs code below here t m) is h.0
   parts_inner (PartCode head b rest) u m h (inr has) = parts_inner rest u m h.1 has
 
   right_inner : (r : CodeRightTerm) (u : CodeTerm) (m : ℕ) → RightNeeds code below here r m → RightHasBlock r u → (1 ≤ m) × Needs code below here u (m - 1)
-  right_inner (PlainCode p) u m h ()
+  right_inner (PlainCode p) u m h has = absurd has
   right_inner (IfCode c a b) u m h (inl is) = (h.0, subst (λ (t : CodeTerm). Needs code below here t (m - 1)) is h.1)
   right_inner (IfCode c a b) u m h (inr is) = (h.0, subst (λ (t : CodeTerm). Needs code below here t (m - 1)) is h.2)
   right_inner (LoopCode first start params test body s) u m h (inl is) = (h.0, subst (λ (t : CodeTerm). Needs code below here t (m - 1)) is h.1)
   right_inner (LoopCode first start params test body s) u m h (inr is) = (h.0, subst (λ (t : CodeTerm). Needs code below here t (m - 1)) is h.2)
-  right_inner (CallCode group xs) u m h ()
+  right_inner (CallCode group xs) u m h has = absurd has
   right_inner (WithCode op gens) u m h has = (h.0, gens_inner gens u (m - 1) h.1 has)
   right_inner (PartedCode f b c op parts reuse) u m h has = (h.0, parts_inner parts u (m - 1) h.1 has)
 
   inner_needs : (b u : CodeTerm) (m : ℕ) → Needs code below here b m → HasBlock b u → (1 ≤ m) × Needs code below here u (m - 1)
-  inner_needs (Giving xs) u m h ()
+  inner_needs (Giving xs) u m h has = absurd has
   inner_needs (Binding xs s r rest) u m h (inl has) = right_inner r u m h.0 has
   inner_needs (Binding xs s r rest) u m h (inr has) = inner_needs rest u m h.1 has
   inner_needs (Keeping x rest) u m h has = inner_needs rest u m h has
   inner_needs (Releasing x rest) u m h has = inner_needs rest u m h has
 
-  CallNeeds : ℕ → ℕ → Type 0
-  CallNeeds group m = (1 ≤ m) × PlacesNeed code below here (slice_index_or code.groups group []) (m - 1)
-
   group_needs : (b : CodeTerm) (group m : ℕ) → Needs code below here b m → HasCall b group → (1 ≤ m) × PlacesNeed code below here (slice_index_or code.groups group []) (m - 1)
-  group_needs (Giving xs) group m h ()
+  group_needs (Giving xs) group m h has = absurd has
   group_needs (Binding xs s (CallCode called args) rest) group m h (inl is) =
       subst (λ (g : ℕ). (1 ≤ m) × PlacesNeed code below here (slice_index_or code.groups g []) (m - 1)) is h.0
   group_needs (Binding xs s (CallCode called args) rest) group m h (inr has) = group_needs rest group m h.1 has

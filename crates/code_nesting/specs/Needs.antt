@@ -1,5 +1,5 @@
 -- What two tables of needs of functions say of a block: the table `here` of inline functions, and the table `below` of the others.
-use Rattle.std.specs.Prelude.{◌≡◌, ℕ, ◌-◌, ◌≤◌, Bool, false, List, [], ◌∷◌, Option, None, Some, slice_get, slice_index, slice_index_or}
+use Rattle.std.specs.Prelude.{◌≡◌, ℕ, ◌-◌, ◌≤◌, Bool, false, List, [], ◌∷◌, Option, None, Some, cond, slice_get, slice_index, slice_index_or}
 use Rattle.counted_code.specs.declared.tree.CodeStep.{CodeStep}
 use Rattle.counted_code.specs.declared.tree.CodeStep.TheVariants as step
 use Rattle.counted_code.specs.Terms.{CodeTerm, CodeRightTerm, CodeGensTerm, CodePartsTerm, CodeFunTerm, CodeProgram, Giving, Binding, Keeping}
@@ -14,7 +14,7 @@ inlines (Some f) = f.is_inline
 module _ (code : CodeProgram) (below here : List ℕ) where
   -- the need of the function at a place when it is called
   abbrev pub called_need : ℕ → ℕ
-  called_need place = if inlines (slice_get code.functions place) then slice_index here place else slice_index below place
+  called_need place = cond (inlines (slice_get code.functions place)) (slice_index here place) (slice_index below place)
 
   -- the needs of the functions at these places
   abbrev pub PlacesNeed : List ℕ → ℕ → Type 0
