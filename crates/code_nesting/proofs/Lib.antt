@@ -1,3 +1,4 @@
+pub mod Closed
 pub mod Needed
 pub mod Nested
 pub mod Sizes

@@ -1,6 +1,11 @@
 -- Tables of needs that are closed bound how deep blocks nest.
-use Rattle.std.proofs.Common.{◌≡◌, ℕ, zero, suc, ◌-◌, ◌+◌, ◌≤◌, ◌<◌, ◌⊎◌, inl, inr, Bool, true, false, List, [], ◌∷◌, Some, length, refl, ap, sym, subst, ◌∙◌, arith, absurd}
-use Rattle.std.specs.Prelude.{Contains, slice_get, slice_index, slice_index_or, cond}
+use Rattle.std.proofs.Common.{◌≡◌, ℕ, zero, suc, ◌-◌, ◌+◌, ◌≤◌, ◌<◌, ◌⊎◌, inl, inr, Bool, true, false, List, [], ◌∷◌, Some, length, refl, ap, sym, subst, ◌∙◌, arith}
+use Rattle.std.specs.Prelude.{All, Contains, slice_get, slice_index, slice_index_or, cond}
+use Rattle.counted_code.specs.declared.tree.CodeGen.{CodeGen}
+use Rattle.counted_code.specs.declared.tree.CodePart.{CodePart}
+use Rattle.counted_code.specs.View.{code_term}
+use Rattle.code_nesting.specs.Promised.{AreShallowGens, AreShallowParts}
+use Rattle.code_nesting.specs.Rows.{gens_term, parts_term}
 use Rattle.counted_code.specs.Terms.{CodeTerm, CodeRightTerm, CodeGensTerm, CodePartsTerm, CodeFunTerm, CodeProgram, Giving, Binding, Keeping, Releasing, PlainCode, IfCode, LoopCode, CallCode, WithCode, PartedCode, NoCodeGens, GenCode, NoCodeParts, PartCode}
 use Rattle.code_nesting.specs.Needs.{inlines, called_need, PlacesNeed, Needs, RightNeeds, GensNeed, PartsNeed, IsClosed, IsBound}
 use Rattle.code_nesting.specs.Nested.{HasBlock, RightHasBlock, GensHaveBlock, PartsHaveBlock, HasCall, IsInstance, Nests, alone, within, in_inline_call, in_call, most_nested, IsShallow}
@@ -70,7 +75,7 @@ module _ (code : CodeProgram) (below here : List ℕ) where
   pub nested : IsClosed code below here → (level : ℕ) → ((k : ℕ) → level ≡ suc k → IsBound code k below) → (b : CodeTerm) (n m : ℕ)
       → Nests code level b n → m ≤ most_nested → Needs code below here b m → n ≤ m
   nested closed level lower b n m alone small h = omega arith
-  nested closed level lower b n m (within {inner = u} {n = k} has d) small h =
+  nested closed level lower b n m (within {n = k} {inner = u} has d) small h =
       let i = inner_needs b u m h has in
       let q = nested closed level lower u k (m - 1) d (omega (arith, small)) i.1 in
       omega (arith, q, i.0)
@@ -90,36 +95,44 @@ module _ (code : CodeProgram) (below here : List ℕ) where
 
 -- ---- all levels, where one more changes nothing
 module _ (code : CodeProgram) (needs : List ℕ) (closed : IsClosed code needs needs) where
-  mutual
-    pub all_bound : (level : ℕ) → IsBound code level needs
-    all_bound level = level_bound code needs needs closed level (below_bound level)
-
-    below_bound : (level k : ℕ) → level ≡ suc k → IsBound code k needs
-    below_bound zero k is = absurd (omega (arith, is))
-    below_bound (suc l) k is = subst (λ (x : ℕ). IsBound code x needs) (let q : l ≡ k = omega (arith, is) in q) (all_bound l)
+  pub all_bound : (level : ℕ) → IsBound code level needs
+  all_bound zero = level_bound code needs needs closed zero (λ k is. absurd (omega (arith, is)))
+  all_bound (suc l) =
+      level_bound code needs needs closed (suc l)
+      (λ k is. subst (λ (x : ℕ). IsBound code x needs) (let q : l ≡ k = omega (arith, is) in q) (all_bound l))
 
 -- ---- what nests where calls go less deep nests where they go deeper
 
 pub deeper : (code : CodeProgram) (level : ℕ) (b : CodeTerm) (n : ℕ) → Nests code level b n → Nests code (suc level) b n
 deeper code level b n alone = alone
-deeper code level b n (within {inner = u} {n = k} has d) = within has (deeper code level u k d)
+deeper code level b n (within {n = k} {inner = u} has d) = within has (deeper code level u k d)
 deeper code level b n (in_inline_call {n = k} {f = f} has of is d) = in_inline_call has of is (deeper code level f.body k d)
 deeper code level b n (in_call {level = l} {n = k} {f = f} has of is d) = in_call has of is (deeper code l f.body k d)
 
 -- ---- blocks of which the functions that they call have bounds
 
-module _ (code : CodeProgram) (level : ℕ) (needs : List ℕ) (bound : IsBound code level needs) where
-  pub bounded : (b : CodeTerm) (n m : ℕ) → Nests code level b n → m ≤ most_nested → Needs code needs needs b m → n ≤ m
-  bounded b n m alone small h = omega arith
-  bounded b n m (within {inner = u} {n = k} has d) small h =
+module _ (code : CodeProgram) (needs : List ℕ) where
+  pub bounded : (level : ℕ) → IsBound code level needs → (b : CodeTerm) (n m : ℕ) → Nests code level b n → m ≤ most_nested → Needs code needs needs b m → n ≤ m
+  bounded level bound b n m alone small h = omega arith
+  bounded level bound b n m (within {n = k} {inner = u} has d) small h =
       let i = inner_needs code needs needs b u m h has in
-      let q = bounded u k (m - 1) d (omega (arith, small)) i.1 in
+      let q = bounded level bound u k (m - 1) d (omega (arith, small)) i.1 in
       omega (arith, q, i.0)
-  bounded b n m (in_inline_call {n = k} {group = group} {place = place} {f = f} has of is d) small h =
+  bounded level bound b n m (in_inline_call {n = k} {group = group} {place = place} {f = f} has of is d) small h =
       let c = called code needs needs b group place m f true h has of is in
       let q = bound place k f of.is_there d (omega (arith, c, small)) in
       omega (arith, q, c)
-  bounded b n m (in_call {level = l} {n = k} {group = group} {place = place} {f = f} has of is d) small h =
+  bounded level bound b n m (in_call {level = l} {n = k} {group = group} {place = place} {f = f} has of is d) small h =
       let c = called code needs needs b group place m f false h has of is in
       let q = bound place k f of.is_there (deeper code l f.body k d) (omega (arith, c, small)) in
       omega (arith, q, c)
+
+  pub gens_shallow : (level : ℕ) → IsBound code level needs → (gs : List CodeGen) (m : ℕ) → m ≤ most_nested → GensNeed code needs needs (gens_term gs) m → AreShallowGens code level gs
+  gens_shallow level bound [] m small h k d lt n nests = absurd (omega (arith, lt))
+  gens_shallow level bound (g ∷ gs) m small h zero d lt n nests = let q = bounded level bound (code_term g.body) n m nests small h.0 in omega (arith, q, small)
+  gens_shallow level bound (g ∷ gs) m small h (suc k) d lt n nests = gens_shallow level bound gs m small h.1 k d (omega (arith, lt)) n nests
+
+  pub parts_shallow : (level : ℕ) → IsBound code level needs → (ps : List CodePart) (m : ℕ) → m ≤ most_nested → PartsNeed code needs needs (parts_term ps) m → AreShallowParts code level ps
+  parts_shallow level bound [] m small h k d lt n nests = absurd (omega (arith, lt))
+  parts_shallow level bound (p ∷ ps) m small h zero d lt n nests = let q = bounded level bound (code_term p.body) n m nests small h.0 in omega (arith, q, small)
+  parts_shallow level bound (p ∷ ps) m small h (suc k) d lt n nests = parts_shallow level bound ps m small h.1 k d (omega (arith, lt)) n nests
