@@ -1,9 +1,9 @@
 -- What a table has of a place is what the body there needs.
-use Rattle.std.proofs.Common.{◌≡◌, ℕ, ◌≤◌, ◌<◌, ◌+◌, ◌⊎◌, inl, inr, Bool, true, false, Some, length, map, option_map, refl, ap, sym, subst, ◌∙◌, List, arith, get_or, unwrap_or, Vec, Global}
+use Rattle.std.proofs.Common.{◌≡◌, ℕ, ◌≤◌, ◌<◌, ◌+◌, ◌⊎◌, inl, inr, Some, length, map, option_map, refl, ap, sym, subst, ◌∙◌, List, arith, get_or, unwrap_or}
 use Rattle.std.proofs.lemmas.Option.{slice_get-map, slice_get_read, slice_get_within}
 use Rattle.std.proofs.lemmas.Bool.{cases_lt}
 use Rattle.std.proofs.lemmas.List.{length-map}
-use Rattle.std.specs.Prelude.{slice_get, slice_index, All}
+use Rattle.std.specs.Prelude.{slice_get, slice_index}
 use Rattle.counted_code.specs.declared.tree.Code.{Code}
 use Rattle.counted_code.specs.declared.tree.CodeFun.{CodeFun}
 use Rattle.counted_code.specs.Terms.{CodeFunTerm}
@@ -15,7 +15,7 @@ pub closed_at : (c : Code) (below here : List ℕ) (place need : ℕ) (x : CodeF
     → (need ≤ 1000 → Needs (code_program c) below here (code_term x.body) need) → need ≤ slice_index here place → IsClosedAt (code_program c) below here place
 closed_at c below here place need x lt is h le f there small =
     let same : slice_get (map code_fun_term c.functions.items) place ≡ Some (code_fun_term x) =
-          slice_get-map code_fun_term c.functions.items place ∙ ap (option_map code_fun_term) (slice_get_read c.functions.items (length c.functions.items) place x refl lt is) in
+    slice_get-map code_fun_term c.functions.items place ∙ ap (option_map code_fun_term) (slice_get_read c.functions.items (length c.functions.items) place x refl lt is) in
     let e : code_fun_term x ≡ f = ap (λ o. unwrap_or o (code_fun_term x)) (sym same ∙ there) in
     subst (λ (g : CodeFunTerm). Needs (code_program c) below here g.body (slice_index here place)) e
     (needs_more (code_program c) below here (code_term x.body) need (slice_index here place) le (h (omega (arith, le, small))))

@@ -1,20 +1,19 @@
 -- What a block needs, by its parts.
-use Rattle.std.proofs.Common.{◌≡◌, ℕ, zero, suc, ◌-◌, ◌+◌, ◌≤◌, ◌<◌, ◌⊎◌, inl, inr, Bool, true, false, List, [], ◌∷◌, Some, length, Vec, Global, refl, ap, sym, subst, ◌∙◌, max, min, arith, drop, get_or}
+use Rattle.std.proofs.Common.{◌≡◌, ℕ, ◌-◌, ◌+◌, ◌≤◌, ◌<◌, Bool, List, [], ◌∷◌, length, Vec, Global, ap, sym, subst, ◌∙◌, max, min, arith, drop, get_or}
 use Rattle.std.proofs.lemmas.List.{drop_more}
-use Rattle.std.specs.Prelude.{Contains, slice_get, slice_index, slice_index_or}
+use Rattle.std.specs.Prelude.{slice_index_or}
 use Rattle.sac_base.specs.declared.site.Site.{Site}
 use Rattle.core_ir.specs.declared.tree.Var.{Var}
 use Rattle.counted_code.specs.declared.tree.CodeBlock.{CodeBlock}
 use Rattle.counted_code.specs.declared.tree.CodeGen.{CodeGen}
 use Rattle.counted_code.specs.declared.tree.CodePart.{CodePart}
 use Rattle.counted_code.specs.declared.tree.CodeParted.{CodeParted, out-CodeParted}
-use Rattle.counted_code.specs.declared.tree.CodeRight.{CodeRight}
 use Rattle.counted_code.specs.declared.tree.CodeRight.TheVariants as right
 use Rattle.counted_code.specs.declared.tree.CodeStep.{CodeStep}
 use Rattle.counted_code.specs.declared.tree.CodeStep.TheVariants as step
 use Rattle.counted_code.specs.declared.tree.CodeWith.{CodeWith, out-CodeWith}
 use Rattle.counted_code.specs.Terms.{CodeTerm, CodeRightTerm, CodeGensTerm, CodePartsTerm, CodeProgram, Giving, Binding, Keeping, Releasing, PlainCode, IfCode, LoopCode, CallCode, WithCode, PartedCode, NoCodeGens, GenCode, NoCodeParts, PartCode}
-use Rattle.counted_code.specs.View.{code_term, code_right_term, code_with_term, code_parted_term, step_term, steps_before}
+use Rattle.counted_code.specs.View.{code_term, code_right_term, code_with_term, code_parted_term, steps_before}
 use Rattle.code_nesting.specs.Needs.{called_need, PlacesNeed, Needs, RightNeeds, GensNeed, PartsNeed, StepNeeds, StepsNeed}
 use Rattle.code_nesting.specs.Rows.{gens_term, parts_term}
 use Rattle.code_nesting.proofs.Trees.{if_term, loop_term, with_out, parted_out}
@@ -99,20 +98,22 @@ module _ (code : CodeProgram) (below here : List ℕ) where
       → (second ≤ 1000 → Needs code below here (code_term b) second) → m ≤ 1000 → first + 1 ≤ m → second + 1 ≤ m
       → RightNeeds code below here (code_right_term (right.If c a b)) m
   if_needs c a b first second m one two small le le' =
-      subst (λ r. RightNeeds code below here r m) (sym (if_term c a b))
-      (let q : 1 ≤ m = omega (arith, le) in q,
+      subst (λ r. RightNeeds code below here r m) (sym (if_term c a b)) (
+        let q : 1 ≤ m = omega (arith, le) in q,
         needs_more (code_term a) first (m - 1) (omega (arith, le)) (one (omega (arith, small, le))),
-        needs_more (code_term b) second (m - 1) (omega (arith, le')) (two (omega (arith, small, le'))))
+        needs_more (code_term b) second (m - 1) (omega (arith, le')) (two (omega (arith, small, le'))),
+      )
 
   pub loop_needs : (first_body : Bool) (start params : Vec Var Global) (test body : CodeBlock) (s : Site) (first second m : ℕ)
       → (first ≤ 1000 → Needs code below here (code_term test) first)
       → (second ≤ 1000 → Needs code below here (code_term body) second) → m ≤ 1000 → first + 1 ≤ m → second + 1 ≤ m
       → RightNeeds code below here (code_right_term (right.Loop first_body start params test body s)) m
   loop_needs first_body start params test body s first second m one two small le le' =
-      subst (λ r. RightNeeds code below here r m) (sym (loop_term first_body start params test body s))
-      (let q : 1 ≤ m = omega (arith, le) in q,
+      subst (λ r. RightNeeds code below here r m) (sym (loop_term first_body start params test body s)) (
+        let q : 1 ≤ m = omega (arith, le) in q,
         needs_more (code_term test) first (m - 1) (omega (arith, le)) (one (omega (arith, small, le))),
-        needs_more (code_term body) second (m - 1) (omega (arith, le')) (two (omega (arith, small, le'))))
+        needs_more (code_term body) second (m - 1) (omega (arith, le')) (two (omega (arith, small, le'))),
+      )
 
   pub with_needs : (w : CodeWith) (need m : ℕ) → (need ≤ 1000 → GensNeed code below here (gens_term (out-CodeWith w).gens.items) need)
       → m ≤ 1000 → need + 1 ≤ m → RightNeeds code below here (code_with_term w) m
@@ -159,5 +160,4 @@ module _ (code : CodeProgram) (below here : List ℕ) where
       let le' = upper greatest need r m top le in
       so m small (lower greatest need r m top le)
       (subst (λ (xs : List CodePart). PartsNeed code below here (parts_term xs) m) (from_here ps i p lt is) (needs_more (code_term p.body) need m le' (h (within_limit need m le' small)), rest))
-
   -- one more than a need, as the machine counts

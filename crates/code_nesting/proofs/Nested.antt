@@ -1,6 +1,6 @@
 -- Tables of needs that are closed bound how deep blocks nest.
-use Rattle.std.proofs.Common.{◌≡◌, ℕ, zero, suc, ◌-◌, ◌+◌, ◌≤◌, ◌<◌, ◌⊎◌, inl, inr, Bool, true, false, List, [], ◌∷◌, Some, length, refl, ap, sym, subst, ◌∙◌, arith}
-use Rattle.std.specs.Prelude.{All, Contains, slice_get, slice_index, slice_index_or, cond}
+use Rattle.std.proofs.Common.{◌≡◌, ℕ, zero, suc, ◌-◌, ◌+◌, ◌≤◌, ◌<◌, inl, inr, Bool, true, false, List, [], ◌∷◌, length, refl, ap, subst, ◌∙◌, arith}
+use Rattle.std.specs.Prelude.{slice_get, slice_index, slice_index_or, cond}
 use Rattle.counted_code.specs.declared.tree.CodeGen.{CodeGen}
 use Rattle.counted_code.specs.declared.tree.CodePart.{CodePart}
 use Rattle.counted_code.specs.View.{code_term}
@@ -8,7 +8,7 @@ use Rattle.code_nesting.specs.Promised.{AreShallowGens, AreShallowParts}
 use Rattle.code_nesting.specs.Rows.{gens_term, parts_term}
 use Rattle.counted_code.specs.Terms.{CodeTerm, CodeRightTerm, CodeGensTerm, CodePartsTerm, CodeFunTerm, CodeProgram, Giving, Binding, Keeping, Releasing, PlainCode, IfCode, LoopCode, CallCode, WithCode, PartedCode, NoCodeGens, GenCode, NoCodeParts, PartCode}
 use Rattle.code_nesting.specs.Needs.{inlines, called_need, PlacesNeed, Needs, RightNeeds, GensNeed, PartsNeed, IsClosed, IsBound}
-use Rattle.code_nesting.specs.Nested.{HasBlock, RightHasBlock, GensHaveBlock, PartsHaveBlock, HasCall, IsInstance, Nests, alone, within, in_inline_call, in_call, most_nested, IsShallow}
+use Rattle.code_nesting.specs.Nested.{HasBlock, RightHasBlock, GensHaveBlock, PartsHaveBlock, HasCall, IsInstance, Nests, alone, within, in_inline_call, in_call, most_nested}
 
 module _ (code : CodeProgram) (below here : List ℕ) where
   -- ---- the blocks and calls of a block
@@ -67,7 +67,7 @@ module _ (code : CodeProgram) (below here : List ℕ) where
       let p = place_needs (slice_index_or code.groups group []) place (m - 1) of.in_group.0 g.1 of.in_group.1 of.in_group.2 in
       let e : inlines (slice_get code.functions place) ≡ r = ap inlines of.is_there ∙ is in
       let q : cond r (slice_index here place) (slice_index below place) ≤ m - 1 =
-            subst (λ (x : Bool). cond x (slice_index here place) (slice_index below place) ≤ m - 1) e p in
+      subst (λ (x : Bool). cond x (slice_index here place) (slice_index below place) ≤ m - 1) e p in
       omega (arith, q, g.0)
 
   -- ---- a level

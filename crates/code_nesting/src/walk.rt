@@ -57,8 +57,12 @@ fn right_need(right: &CodeRight, code: &Code, below: &[u32], here: &[u32]) -> u3
         }
         CodeRight::With(with) => with_need(with, code, below, here),
         CodeRight::Parted(parted) => parted_need(parted, code, below, here),
-        CodeRight::Call { group, .. } => group_need(*group as usize, code, below, here)
-            .saturating_add(1),
+        CodeRight::Call { group, .. } => group_need(
+            *group as usize,
+            code,
+            below,
+            here,
+        ).saturating_add(1),
         _ => 0,
     }
 }

@@ -9,10 +9,12 @@ loop-level-init c =
     let code = code_program c.args.code.now in
     let below = c.in_ok-below.below.items in
     let here = c.settle.new.here.items in
-    let closed : IsClosed code below here = subst (λ (t : List ℕ). IsClosed code t here) c.deref.ensures.value (c.settle.ensures.closed c.if-not-settle.false) in
-    (omega (arith, c.in_ok-below.ensures.len, c.len-functions.ensures),
-      omega (arith, c.in_ok-here.ensures.len, c.len-functions.ensures, c.settle.ensures.sized), closed,
-      level_bound code below here closed zero (λ k is. absurd (omega (arith, is))))
+    let closed : IsClosed code below here = subst (λ (t : List ℕ). IsClosed code t here) c.deref.ensures.value (c.settle.ensures.closed c.if-not-settle.false) in (
+      omega (arith, c.in_ok-below.ensures.len, c.len-functions.ensures),
+      omega (arith, c.in_ok-here.ensures.len, c.len-functions.ensures, c.settle.ensures.sized),
+      closed,
+      level_bound code below here closed zero (λ k is. absurd (omega (arith, is))),
+    )
 
 pub returns-then-not-keep : goal.returns-then-not-keep
 returns-then-not-keep c =
@@ -29,8 +31,11 @@ loop-level-preserved c =
     let here = c.settle-in-loop-level.new.here.items in
     let kept : below ≡ c.loop-level.here.items = c.keep.ensures.kept ∙ c.deref-in-loop-level.ensures.value in
     let closed : IsClosed code below here =
-          subst (λ (t : List ℕ). IsClosed code t here) c.deref-in-loop-level-2.ensures.value (c.settle-in-loop-level.ensures.closed c.if-not-settle-2.false) in
-    (ap length kept ∙ c.loop-level.invariant.1, c.settle-in-loop-level.ensures.sized ∙ c.loop-level.invariant.1, closed,
+    subst (λ (t : List ℕ). IsClosed code t here) c.deref-in-loop-level-2.ensures.value (c.settle-in-loop-level.ensures.closed c.if-not-settle-2.false) in (
+      ap length kept ∙ c.loop-level.invariant.1,
+      c.settle-in-loop-level.ensures.sized ∙ c.loop-level.invariant.1,
+      closed,
       level_bound code below here closed (level + 1)
-      (λ k is. subst (λ (x : ℕ). IsBound code x below) (let e : level ≡ k = omega (arith, is) in e)
-        (subst (λ (t : List ℕ). IsBound code level t) (sym kept) c.loop-level.invariant.3)))
+          (λ k is. subst (λ (x : ℕ). IsBound code x below) (let e : level ≡ k = omega (arith, is) in e)
+          (subst (λ (t : List ℕ). IsBound code level t) (sym kept) c.loop-level.invariant.3)),
+    )

@@ -1,4 +1,4 @@
-use Rattle.std.proofs.Common.{ℕ, ◌≤◌, List, subst, sym, arith}
+use Rattle.std.proofs.Common.{List, subst, sym}
 use Rattle.counted_code.specs.declared.tree.CodeGen.{CodeGen}
 use Rattle.counted_code.specs.declared.tree.CodePart.{CodePart}
 use Rattle.counted_code.specs.declared.tree.CodeRight.{CodeRight}
@@ -6,7 +6,7 @@ use Rattle.counted_code.specs.declared.tree.CodeStep.{CodeStep}
 use Rattle.counted_code.specs.View.{code_program, code_right_term}
 use Rattle.code_nesting.specs.Needs.{GensNeed, PartsNeed, RightNeeds, StepsNeed}
 use Rattle.code_nesting.specs.Rows.{gens_term, parts_term}
-use Rattle.code_nesting.proofs.Needed.{block_needs, if_needs, loop_needs, with_needs, parted_needs, call_needs, steps_turn, gens_turn, parts_turn, one_above, left_above, right_above}
+use Rattle.code_nesting.proofs.Needed.{block_needs, if_needs, loop_needs, with_needs, parted_needs, steps_turn, gens_turn, parts_turn, one_above, left_above, right_above}
 use Rattle.code_nesting.proofs.walk.+walk.Goals as goal
 
 pub block_need-returns : goal.block_need-returns
@@ -41,8 +41,8 @@ right_need-returns-in-If t c small =
     let above = one_above c.max.result c.saturating_add.result c.saturating_add.ensures small in
     subst (λ (r : CodeRight). RightNeeds code c.args.below.now c.args.here.now (code_right_term r) c.saturating_add.result) (sym i.is)
     (if_needs code c.args.below.now c.args.here.now i.cond i.yes i.no first.result second.result c.saturating_add.result first.ensures second.ensures small
-      (left_above first.result second.result c.max.result c.saturating_add.result c.max.ensures above)
-      (right_above first.result second.result c.max.result c.saturating_add.result c.max.ensures above))
+    (left_above first.result second.result c.max.result c.saturating_add.result c.max.ensures above)
+    (right_above first.result second.result c.max.result c.saturating_add.result c.max.ensures above))
 
 pub right_need-returns-in-Loop : goal.right_need-returns-in-Loop
 right_need-returns-in-Loop t c small =
@@ -55,8 +55,8 @@ right_need-returns-in-Loop t c small =
     let above = one_above most.result sum.result sum.ensures small in
     subst (λ (r : CodeRight). RightNeeds code c.args.below.now c.args.here.now (code_right_term r) sum.result) (sym l.is)
     (loop_needs code c.args.below.now c.args.here.now l.first_body l.start l.params l.test l.body l.test_site first.result second.result sum.result first.ensures second.ensures small
-      (left_above first.result second.result most.result sum.result most.ensures above)
-      (right_above first.result second.result most.result sum.result most.ensures above))
+    (left_above first.result second.result most.result sum.result most.ensures above)
+    (right_above first.result second.result most.result sum.result most.ensures above))
 
 pub steps_need-loop-step-preserved : goal.steps_need-loop-step-preserved
 steps_need-loop-step-preserved t c =

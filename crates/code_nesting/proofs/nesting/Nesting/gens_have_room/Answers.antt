@@ -15,4 +15,4 @@ returns-in-Known c room levels known =
     let small : c.gens_need.result ≤ 1000 = leb-true c.gens_need.result 1000 room in
     gens_shallow code needs levels (subst (λ (s : Nesting). Bounds s code levels) c.in-Known.is known) c.args.gens.now c.gens_need.result small
     (subst (λ (t : List ℕ). GensNeed code needs t (gens_term c.args.gens.now) c.gens_need.result) c.deref-in-Known.ensures.value
-      (subst (λ (t : List ℕ). GensNeed code t c.deref-in-Known.result.now (gens_term c.args.gens.now) c.gens_need.result) c.deref.ensures.value (c.gens_need.ensures small)))
+    (subst (λ (t : List ℕ). GensNeed code t c.deref-in-Known.result.now (gens_term c.args.gens.now) c.gens_need.result) c.deref.ensures.value (c.gens_need.ensures small)))

@@ -15,4 +15,4 @@ returns-in-Known c room levels known =
     let small : c.parts_need.result ≤ 1000 = leb-true c.parts_need.result 1000 room in
     parts_shallow code needs levels (subst (λ (s : Nesting). Bounds s code levels) c.in-Known.is known) c.args.parts.now c.parts_need.result small
     (subst (λ (t : List ℕ). PartsNeed code needs t (parts_term c.args.parts.now) c.parts_need.result) c.deref-in-Known.ensures.value
-      (subst (λ (t : List ℕ). PartsNeed code t c.deref-in-Known.result.now (parts_term c.args.parts.now) c.parts_need.result) c.deref.ensures.value (c.parts_need.ensures small)))
+    (subst (λ (t : List ℕ). PartsNeed code t c.deref-in-Known.result.now (parts_term c.args.parts.now) c.parts_need.result) c.deref.ensures.value (c.parts_need.ensures small)))
