@@ -1,4 +1,3 @@
 pub mod Nested
 pub mod Needs
-pub mod Rows
 pub mod Promised

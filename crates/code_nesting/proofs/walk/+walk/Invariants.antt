@@ -7,8 +7,9 @@ use Rattle.counted_code.specs.declared.tree.CodeWith.{size-CodeWith}
 use Rattle.counted_code.specs.View.{code_program}
 use Rattle.code_nesting.specs.Needs.{GensNeed, PartsNeed, StepsNeed}
 use Rattle.code_nesting.specs.Nested.{most_nested}
-use Rattle.code_nesting.specs.Rows.{gens_term, parts_term}
-use Rattle.code_nesting.proofs.Sizes.{gens_size, parts_size, steps_size}
+use Rattle.phase_checks.specs.Terms.{gens_term, parts_term}
+use Rattle.code_nesting.proofs.Sizes.{steps_size}
+use Rattle.phase_checks.proofs.Sizes.{gens_size, parts_size}
 use Rattle.code_nesting.proofs.walk.+walk.Given as goal
 
 abbrev pub decreases-block_need : goal.decreases-block_need
