@@ -1,6 +1,6 @@
 #!/usr/bin/env python3
-"""compare.py SAC [WORK..]: the same work by SAC (1, 2 and 4 workers), gcc -O2, NumPy, CPython and Lua, in nanoseconds a cell and round; of a product of
-matrices, a multiplication and round.
+"""compare.py SAC [WORK..]: the same work by SAC (1, 2 and 4 workers), gcc -O2 (alone, and with 4 threads of OpenMP), NumPy, CPython and Lua, in
+nanoseconds a cell and round.
 
 A work is a program that makes an array, computes it anew in so many rounds, and prints the sum of its elements, so that each answer is compared. Its time is
 that of a run with rounds less that of a run with none, the least of three. What is not installed is left out. The works are in works/: NAME.sac, work.c,
@@ -15,7 +15,8 @@ import tempfile
 import time
 
 HERE = pathlib.Path(__file__).resolve().parent / "works"
-# The cells of a round.
+# The cells of a round; of prefix, paths, histogram and product the values that its folds combine, of scalars its turns, of fib its calls, of queens the
+# fields that are tried.
 CELLS = {
     "neighbours": 1_000 * 1_000,
     "life": 1_000 * 1_000,
@@ -27,7 +28,16 @@ CELLS = {
     "convolution": 1_000 * 1_000,
     "product": 200 * 200 * 200,
     "totals": 1_000 * 1_000,
+    "prefix": 1_000 * 1_001 // 2,
+    "histogram": 256 * 10_000,
+    "mandelbrot": 200 * 200,
+    "paths": 60 * 60 * 60,
+    "scalars": 100_000,
+    "fib": 21_891,
+    "queens": 894,
 }
+# What work.py has no arrays of NumPy for.
+NO_NUMPY = {"prefix", "histogram", "mandelbrot", "paths", "scalars", "fib", "queens"}
 # A run is long enough from so many seconds on.
 LONG = 0.3
 
@@ -47,9 +57,12 @@ def others(folder):
         made = folder / "work"
         subprocess.run(["gcc", "-O2", "-o", made, HERE / "work.c"], check=True)
         found["gcc -O2"] = lambda work, rounds: [made, work, str(rounds)]
+        shared = folder / "shared"
+        subprocess.run(["gcc", "-O2", "-fopenmp", "-o", shared, HERE / "work.c"], check=True)
+        found["gcc -O2, 4 threads"] = lambda work, rounds: ["env", "OMP_NUM_THREADS=4", shared, work, str(rounds)]
     script = HERE / "work.py"
     if subprocess.run([sys.executable, "-c", "import numpy"], capture_output=True).returncode == 0:
-        found["NumPy"] = lambda work, rounds: [sys.executable, script, "numpy", work, str(rounds)]
+        found["NumPy"] = lambda work, rounds: None if work in NO_NUMPY else [sys.executable, script, "numpy", work, str(rounds)]
     found["CPython"] = lambda work, rounds: [sys.executable, script, "plain", work, str(rounds)]
     lua = shutil.which("lua5.4") or shutil.which("lua")
     if lua:
@@ -89,6 +102,9 @@ def main():
         for work in works:
             row, answers = [], set()
             for command in ways.values():
+                if command(work, 0) is None:
+                    row.append("")
+                    continue
                 time_of_a_cell, answer = nanoseconds(command, work)
                 row.append(f"{time_of_a_cell:.2f}")
                 answers.add(answer)

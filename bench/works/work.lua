@@ -114,9 +114,136 @@ local function product(rounds)
     return sum
 end
 
+local whole = {product = product}
+
+function whole.scalars(rounds)
+    local a, b = 1, 0
+    for _ = 1, rounds * 100000 do
+        a = (a * 5 + b) % 1000
+        b = (b + a) % 100000
+    end
+    return a + b
+end
+
+local function fib(n)
+    if n > 1 then return fib(n - 1) + fib(n - 2) end
+    return n
+end
+
+function whole.fib(rounds)
+    local s = 0
+    for t = 0, rounds - 1 do s = s + fib(20) % 1000 + t end
+    return s
+end
+
+function whole.prefix(rounds)
+    local a = {}
+    for i = 0, 999 do a[i + 1] = i * 7 % 256 end
+    for _ = 1, rounds do
+        local b = {}
+        for i = 1, 1000 do
+            local total = 0
+            for k = 1, i do total = total + a[k] end
+            b[i] = total % 256
+        end
+        a = b
+    end
+    local s = 0
+    for i = 1, 1000 do s = s + a[i] end
+    return s
+end
+
+function whole.histogram(rounds)
+    local a, s = {}, 0
+    for i = 0, 9999 do a[i + 1] = i * 7 % 256 end
+    for t = 0, rounds - 1 do
+        local counts = {}
+        for b = 0, 255 do
+            local count = 0
+            for i = 1, 10000 do count = count + (a[i] == b and 1 or 0) end
+            counts[b] = count
+        end
+        s = s + counts[t % 256]
+        for i = 1, 10000 do a[i] = (a[i] + 1) % 256 end
+    end
+    return s
+end
+
+local function turns(x, y, limit)
+    local a, b, n = 0, 0, 0
+    while a * a // 4096 + b * b // 4096 <= 16384 and n < limit do
+        a, b = a * a // 4096 - b * b // 4096 + x, quotient(2 * a * b, 4096) + y
+        n = n + 1
+    end
+    return n
+end
+
+function whole.mandelbrot(rounds)
+    local s = 0
+    for t = 0, rounds - 1 do
+        for i = 0, 199 do
+            for j = 0, 199 do s = s + turns(j * 12288 // 200 - 8704, i * 10240 // 200 - 5120, 50 + t % 2) end
+        end
+    end
+    return s
+end
+
+local function is_free(columns, row, column)
+    for k = 0, row - 1 do
+        local other = columns[k + 1]
+        if other == column or other - column == row - k or column - other == row - k then return false end
+    end
+    return true
+end
+
+local function ways(columns, row)
+    if row == 6 then return 1 end
+    local count = 0
+    for column = 0, 5 do
+        if is_free(columns, row, column) then
+            local further = table.move(columns, 1, 6, 1, {})
+            further[row + 1] = column
+            count = count + ways(further, row + 1)
+        end
+    end
+    return count
+end
+
+function whole.queens(rounds)
+    local s = 0
+    for t = 0, rounds - 1 do s = s + ways({0, 0, 0, 0, 0, 0}, 0) + t % 2 end
+    return s
+end
+
+function whole.paths(rounds)
+    local a = {}
+    for i = 0, 59 do
+        a[i + 1] = {}
+        for j = 0, 59 do a[i + 1][j + 1] = i == j and 0 or 1 + (i * 7 + j * 13) % 256 end
+    end
+    for _ = 1, rounds do
+        local b = {}
+        for i = 1, 60 do
+            local row = {}
+            for j = 1, 60 do
+                local least = a[i][j]
+                for k = 1, 60 do least = math.min(least, a[i][k] + a[k][j]) end
+                row[j] = least
+            end
+            b[i] = row
+        end
+        a = b
+    end
+    local s = 0
+    for i = 1, 60 do
+        for j = 1, 60 do s = s + a[i][j] end
+    end
+    return s
+end
+
 local work, rounds = arg[1], tonumber(arg[2])
-if work == "product" then
-    print(math.tointeger(wrapped(product(rounds))))
+if whole[work] then
+    print(math.tointeger(wrapped(whole[work](rounds))))
     os.exit(0)
 end
 if work == "indices" then

@@ -90,9 +90,101 @@ def totals(a, rounds):
     return total
 
 
+def scalars(rounds):
+    a, b = 1, 0
+    for _ in range(rounds * 100000):
+        a = (a * 5 + b) % 1000
+        b = (b + a) % 100000
+    return a + b
+
+
+def fib(n):
+    return fib(n - 1) + fib(n - 2) if n > 1 else n
+
+
+def fibs(rounds):
+    return sum(fib(20) % 1000 + t for t in range(rounds))
+
+
+def prefix(rounds):
+    a = [i * 7 % 256 for i in range(1000)]
+    for _ in range(rounds):
+        b = []
+        for i in range(1000):
+            total = 0
+            for k in range(i + 1):
+                total += a[k]
+            b.append(total % 256)
+        a = b
+    return sum(a)
+
+
+def histogram(rounds):
+    a, s = [i * 7 % 256 for i in range(10000)], 0
+    for t in range(rounds):
+        counts = []
+        for b in range(256):
+            count = 0
+            for x in a:
+                count += 1 if x == b else 0
+            counts.append(count)
+        s += counts[t % 256]
+        a = [(x + 1) % 256 for x in a]
+    return s
+
+
+def turns(x, y, limit):
+    a = b = n = 0
+    while a * a // 4096 + b * b // 4096 <= 16384 and n < limit:
+        a, b = a * a // 4096 - b * b // 4096 + x, quotient(2 * a * b, 4096) + y
+        n += 1
+    return n
+
+
+def mandelbrot(rounds):
+    return sum(turns(j * 12288 // 200 - 8704, i * 10240 // 200 - 5120, 50 + t % 2)
+               for t in range(rounds) for i in range(200) for j in range(200))
+
+
+def ways(columns, row):
+    if row == 6:
+        return 1
+    count = 0
+    for column in range(6):
+        if all(columns[k] != column and columns[k] - column != row - k and column - columns[k] != row - k for k in range(row)):
+            count += ways(columns[:row] + [column] + columns[row + 1:], row + 1)
+    return count
+
+
+def queens(rounds):
+    return sum(ways([0] * 6, 0) + t % 2 for t in range(rounds))
+
+
+def paths(rounds):
+    a = [[0 if i == j else 1 + (i * 7 + j * 13) % 256 for j in range(60)] for i in range(60)]
+    for _ in range(rounds):
+        b = []
+        for i in range(60):
+            row = []
+            for j in range(60):
+                least = a[i][j]
+                for k in range(60):
+                    way = a[i][k] + a[k][j]
+                    if way < least:
+                        least = way
+                row.append(least)
+            b.append(row)
+        a = b
+    return sum(map(sum, a))
+
+
+WHOLE = {"product": product, "scalars": scalars, "fib": fibs, "prefix": prefix, "histogram": histogram, "mandelbrot": mandelbrot, "queens": queens,
+         "paths": paths}
+
+
 def by_loops(work, rounds):
-    if work == "product":
-        return wrapped(product(rounds))
+    if work in WHOLE:
+        return wrapped(WHOLE[work](rounds))
     if work == "totals":
         return wrapped(totals(start(work), rounds))
     if work == "indices":

@@ -1,21 +1,25 @@
 -- One turn of the loops of the walk, and their ends.
-use Rattle.std.proofs.Common.{◌≡◌, ℕ, List, [], ◌∷◌, ◌++◌, map, length, Option, refl, sym, ap, ◌∙◌, append_assoc, append-nil, arith}
-use Rattle.std.specs.Prelude.{Result, Ok, Err, IfOk}
+use Rattle.std.proofs.Common.{◌≡◌, ℕ, Bool, List, [], ◌∷◌, ◌++◌, map, length, Option, refl, sym, ap, ◌∙◌, append_assoc, append-nil, arith}
+use Rattle.std.specs.Prelude.{Result, Ok, Err, IfOk, Vec}
+use Rattle.std.specs.declared.alloc.Global.{Global}
+use Rattle.sac_base.specs.declared.site.Site.{Site}
+use Rattle.core_ir.specs.declared.tree.Var.{Var}
+use Rattle.core_ir.specs.declared.tree.Right.{Right}
+use Rattle.core_ir.specs.declared.tree.Right.TheVariants as right
 use Rattle.core_ir.specs.declared.tree.Let.{Let}
 use Rattle.core_ir.specs.declared.tree.CoreGen.{CoreGen}
 use Rattle.core_ir.specs.declared.tree.CorePart.{CorePart}
 use Rattle.core_ir.specs.declared.tree.Block.{Block, Block-F, out-Block, roll-Block}
 use Rattle.core_ir.specs.declared.tree.WithLoop.{WithLoop, WithLoop-F, out-WithLoop, roll-WithLoop}
-use Rattle.core_ir.specs.declared.tree.PartedLoop.{PartedLoop, PartedLoop-F, out-PartedLoop, roll-PartedLoop}
+use Rattle.core_ir.specs.declared.tree.PartedLoop.{PartedLoop, PartedLoop-F, out-PartedLoop, roll-PartedLoop, out-roll-PartedLoop}
 use Rattle.core_ir.specs.declared.tree.Right.TheBlock.{the_data, the_data-1, the_data-2, the_data-3, the_data-4, the_data-5, the_data-6}
 use Rattle.core_ir.specs.Terms.{BlockTerm, RightTerm, Gives, Bind, Gen, Part, LetTerm, GenTerm, PartTerm, chain, gens_of, parts_of}
 use Rattle.core_ir.specs.View.{block_term, let_term, right_term, gen_term, part_term, with_term, parted_term}
 use Rattle.core_ir.proofs.Trees.{block_out, block_roll, with_out, with_roll, parted_out, parted_roll}
 use Rattle.sac_base.specs.declared.memory.Memory.{Memory}
-use Rattle.core_facts.specs.Facts.{Fact, Facts, shape_fact, note_all, parted_shape, known_shape, right_facts, block_facts}
+use Rattle.core_facts.specs.Facts.{Fact, Facts, note_all, right_facts, block_facts}
 use Rattle.core_cleaning.specs.Checks.{simplified, simplified_right, simplified_gens, simplified_parts}
-use Rattle.fact_table.specs.Table.{fact_of}
-use Rattle.const_shape.specs.declared.known.KnownRight.{KnownRight}
+use Rattle.known_rights.specs.declared.known.KnownRight.{KnownRight}
 use Rattle.const_shape.specs.Settling.{settled_let, settled_gen, settled_part}
 
 -- ---- lists of generators and parts
@@ -133,13 +137,24 @@ parted_end called k rest before x w p r e q frame base cell =
     ∙ ap (RightTerm.Parted (out-PartedLoop w).frame (out-PartedLoop w).base (out-PartedLoop w).cell (out-PartedLoop w).op) (parts_done called k (out-PartedLoop w).parts.items)
     ∙ ap (λ z. simplified_right called z k) (sym (parted_out w))
 
--- what is known of a parted loop
-pub parted_known : (called : ℕ → List (Option (List ℕ))) (k : Facts) (r : Result KnownRight Memory) (x : PartedLoop-F the_data the_data-1 the_data-2 the_data-3 the_data-4 the_data-5 the_data-6) (known : Fact) → IfOk r (λ (new : KnownRight). right_term new.right ≡ parted_term (roll-PartedLoop x)) → IfOk r (λ (new : KnownRight). map fact_of new.values.items ≡ known ∷ []) → known ≡ shape_fact (known_shape (parted_shape x.frame x.cell x.op))
-    → IfOk r (λ (new : KnownRight). map fact_of new.values.items ≡ right_facts called (right_term new.right) k)
-parted_known called k (Ok new) x known p q e = q ∙ ap (λ f. f ∷ []) e ∙ ap (λ t. right_facts called t k) (sym (parted_roll x)) ∙ ap (λ t. right_facts called t k) (sym p)
-parted_known called k (Err m) x known p q e = tt
-
-pub parted_settled : (called : ℕ → List (Option (List ℕ))) (k : Facts) (r : Result KnownRight Memory) (rest before : List CorePart) (x : PartedLoop-F the_data the_data-1 the_data-2 the_data-3 the_data-4 the_data-5 the_data-6) (w : PartedLoop) → IfOk r (λ (new : KnownRight). right_term new.right ≡ parted_term (roll-PartedLoop x)) → map part_term x.parts.items ++ parts_settled called k rest ≡ parts_settled called k before → rest ≡ [] → before ≡ (out-PartedLoop w).parts.items → x.op ≡ (out-PartedLoop w).op → x.frame ≡ (out-PartedLoop w).frame → x.base ≡ (out-PartedLoop w).base → x.cell ≡ (out-PartedLoop w).cell
+-- the parts are settled, and the other fields stay
+pub parted_settled : (called : ℕ → List (Option (List ℕ))) (k : Facts) (r : Result KnownRight Memory) (rest before : List CorePart) (parts : Vec CorePart Global) (w : PartedLoop) → IfOk r (λ (new : KnownRight). right_term new.right ≡ parted_term (roll-PartedLoop (record (out-PartedLoop (roll-PartedLoop (out-PartedLoop w))) { parts = parts }))) → map part_term parts.items ++ parts_settled called k rest ≡ parts_settled called k before → rest ≡ [] → before ≡ (out-PartedLoop w).parts.items
     → IfOk r (λ (new : KnownRight). right_term new.right ≡ simplified_right called (parted_term w) k)
-parted_settled called k (Ok new) rest before x w h p r e q frame base cell = h ∙ parted_end called k rest before x w p r e q frame base cell
-parted_settled called k (Err m) rest before x w h p r e q frame base cell = tt
+parted_settled called k (Ok new) rest before parts w h p r e =
+    let same = out-roll-PartedLoop (out-PartedLoop w) in
+    h ∙ parted_end called k rest before (record (out-PartedLoop (roll-PartedLoop (out-PartedLoop w))) { parts = parts }) w p r e (λ i. (same i).op) (λ i. (same i).frame) (λ i. (same i).base) (λ i. (same i).cell)
+parted_settled called k (Err m) rest before parts w h p r e = tt
+
+-- both blocks of a conditional
+pub choice_end : (called : ℕ → List (Option (List ℕ))) (k k' : Facts) (x : Var) (a b c d : Block) (old : Right) → old ≡ right.If x a b → k' ≡ k → block_term c ≡ simplified called (block_term a) k → block_term d ≡ simplified called (block_term b) k'
+    → RightTerm.If x (block_term c) (block_term d) ≡ simplified_right called (right_term old) k
+choice_end called k k' x a b c d old is e p q =
+    (λ i. RightTerm.If x (p i) ((q ∙ (λ j. simplified called (block_term b) (e j))) i)) ∙ (λ i. simplified_right called (right_term (sym is i)) k)
+
+-- the test and the body of a loop
+pub turns_end : (called : ℕ → List (Option (List ℕ))) (k inner tested : Facts) (first : Bool) (start params : Vec Var Global) (s : Site) (a b c d : Block) (old : Right) → old ≡ right.Loop first start params a b s → inner ≡ note_all k params.items [] → tested ≡ inner
+    → block_term c ≡ simplified called (block_term a) inner → block_term d ≡ simplified called (block_term b) tested
+    → RightTerm.Loop first start.items params.items (block_term c) (block_term d) s ≡ simplified_right called (right_term old) k
+turns_end called k inner tested first start params s a b c d old is e f p q =
+    (λ i. RightTerm.Loop first start.items params.items ((p ∙ (λ j. simplified called (block_term a) (e j))) i) ((q ∙ (λ j. simplified called (block_term b) ((f ∙ e) j))) i) s)
+    ∙ (λ i. simplified_right called (right_term (sym is i)) k)

@@ -57,17 +57,8 @@ fn settle_functions(alloc: Global, core: Core) -> Result<Core, Memory>
     ensures { IfOk result (λ new. core_term new ≡ simplified_core (core_term core)) }
 {
     let called = CalledShapes::of_core(alloc, &core)?;
-    let Core {
-        functions,
-        groups,
-        main,
-    } = core;
-    let functions = settle_all(alloc, functions, &called)?;
-    Ok(Core {
-        functions,
-        groups,
-        main,
-    })
+    let functions = settle_all(alloc, core.functions, &called)?;
+    Ok(Core { functions, ..core })
 }
 
 fn settle_all(
@@ -93,23 +84,9 @@ fn settle_function(
 {
     let mut table = FactTable::new(alloc);
     learn_params(&function, &mut table)?;
-    let CoreFun {
-        name,
-        site,
-        params,
-        results,
-        inline,
-        body,
-        ends,
-    } = function;
-    let body = settle_block(alloc, body, called, &mut table)?;
+    let body = settle_block(alloc, function.body, called, &mut table)?;
     Ok(CoreFun {
-        name,
-        site,
-        params,
-        results,
-        inline,
         body: body.block,
-        ends,
+        ..function
     })
 }

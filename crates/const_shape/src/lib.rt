@@ -2,10 +2,8 @@
 #![tactic(auto)]
 
 mod functions;
-mod known;
 mod plain;
 mod walk;
 
 pub use functions::propagate;
-pub use known::KnownBlock;
 pub use walk::settle_block;

@@ -8,9 +8,9 @@ ghost use Rattle.plain_facts.specs.Rights.{fact_of_right};
 ghost use Rattle.core_cleaning.specs.Checks.{fits};
 ghost use Rattle.const_shape.specs.Settling.{literal_plain, settled_plain, without_check};
 
-use crate::known::KnownRight;
 use core_ir::Right;
 use fact_table::{FactTable, Known};
+use known_rights::KnownRight;
 use plain_facts::plain_fact;
 use sac_base::{Array, ArrayType, Memory, copy_array, part_has};
 use std::alloc::Global;

@@ -8,14 +8,11 @@ ghost use Rattle.fact_table.specs.Table.{fact_of, facts_of};
 ghost use Rattle.plain_facts.specs.Called.{shapes_of};
 ghost use Rattle.const_shape.specs.Settling.{settled_let, settled_gen, settled_part};
 
-use crate::known::{KnownBlock, KnownRight};
 use crate::plain::settle_plain;
 use core_ir::{Block, CoreGen, CorePart, Let, PartedLoop, Right, WithLoop};
-use fact_table::{FactTable, Known};
-use plain_facts::{
-    CalledShapes, common_facts, forget, forget_index, known_of, learn_all, learn_index,
-    parted_shape,
-};
+use fact_table::FactTable;
+use known_rights::{KnownBlock, KnownRight};
+use plain_facts::{CalledShapes, forget, forget_index, known_of, learn_all, learn_index};
 use sac_base::Memory;
 use std::alloc::Global;
 
@@ -92,15 +89,7 @@ fn settle_right(
         Right::If { cond, yes, no } => {
             let yes = settle_block(alloc, yes, called, table)?;
             let no = settle_block(alloc, no, called, table)?;
-            let values = common_facts(alloc, &yes.results, &no.results)?;
-            Ok(KnownRight {
-                right: Right::If {
-                    cond,
-                    yes: yes.block,
-                    no: no.block,
-                },
-                values,
-            })
+            KnownRight::of_if(alloc, cond, yes, no)
         }
         Right::Loop {
             first_body,
@@ -115,26 +104,15 @@ fn settle_right(
             let test = settle_block(alloc, test, called, table)?;
             let body = settle_block(alloc, body, called, table)?;
             table.undo(outer);
-            Ok(KnownRight {
-                right: Right::Loop {
-                    first_body,
-                    start,
-                    params,
-                    test: test.block,
-                    body: body.block,
-                    test_site,
-                },
-                values: Vec::new(alloc),
-            })
+            Ok(KnownRight::of_loop(
+                alloc, first_body, start, params, test.block, body.block, test_site,
+            ))
         }
-        Right::Call { group, args } => Ok(KnownRight {
-            right: Right::Call { group, args },
-            values: called.facts(alloc, group)?,
-        }),
-        Right::With(w) => Ok(KnownRight {
-            right: Right::With(settle_with(alloc, w, called, table)?),
-            values: Vec::new(alloc),
-        }),
+        Right::Call { group, args } => KnownRight::of_call(alloc, group, args, called),
+        Right::With(w) => {
+            let with = settle_with(alloc, w, called, table)?;
+            Ok(KnownRight::of_with(alloc, with))
+        }
         Right::Parted(p) => settle_parted(alloc, p, called, table),
         plain => settle_plain(alloc, plain, table),
     }
@@ -173,16 +151,8 @@ fn settle_gen(
     let body = settle_block(alloc, generator.body, called, table)?;
     table.undo(outer);
     Ok(CoreGen {
-        lower: generator.lower,
-        lower_closed: generator.lower_closed,
-        upper: generator.upper,
-        upper_closed: generator.upper_closed,
-        step: generator.step,
-        width: generator.width,
-        index: generator.index,
-        names: generator.names,
         body: body.block,
-        site: generator.site,
+        ..generator
     })
 }
 
@@ -197,26 +167,17 @@ fn settle_parted(
     ensures known { IfOk result (λ new. map fact_of new.values.items ≡ right_facts (shapes_of called.now) (right_term new.right) (facts_of table.old)) }
     ensures table { OnOk result (table.new ≡ table.old) }
 {
-    let PartedLoop {
-        frame,
-        base,
-        cell,
-        op,
-        parts,
-    } = parted;
     let mut settled = Vec::new(alloc);
-    for part in parts {
+    for part in parted.parts {
         settled.push(settle_part(alloc, part, called, table)?)?;
     }
-    let shape = parted_shape(alloc, &frame, &cell, op);
-    let right = Right::Parted(PartedLoop {
-        frame,
-        base,
-        cell,
-        op,
-        parts: settled,
-    });
-    KnownRight::of_one(alloc, right, Known::of_shape(shape))
+    KnownRight::of_parted(
+        alloc,
+        PartedLoop {
+            parts: settled,
+            ..parted
+        },
+    )
 }
 
 #[cycle(settling)]
@@ -234,9 +195,7 @@ fn settle_part(
     let body = settle_block(alloc, part.body, called, table)?;
     table.undo(outer);
     Ok(CorePart {
-        grid: part.grid,
-        index: part.index,
         body: body.block,
-        site: part.site,
+        ..part
     })
 }

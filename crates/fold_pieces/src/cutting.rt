@@ -8,10 +8,9 @@ ghost use Rattle.fold_pieces.specs.Cuts.{IsDense, IsCut, HasCut, IsUniformCut};
 use crate::keeping::{FoldPiece, kept_pieces};
 use crate::moving::cutting_grids;
 use crate::within::{box_of, is_dense, is_inside};
-use generator_sets::GenError;
+use generator_sets::{GenError, uniform_pieces};
 use sac_base::{Grid, Memory};
 use std::alloc::Global;
-use uniform_pieces::uniform_pieces;
 
 /// The pieces of a part's grid.
 #[derive(Drop)]

@@ -67,12 +67,12 @@ shorter : (p k n : ℕ) → p + suc k ≤ n → suc p + k ≤ n
 shorter p k n h = omega arith
 
 pub cut_more : (generators : List (List Grid1)) (frame : List Grid1) (limit k : ℕ) (axis : Grid1) (runs : List Grid1) (grids made : List (List Grid1)) (count n : ℕ)
-    → axis ≡ get_or frame k axis → k < length frame → All (λ g. length g ≡ length frame) generators
+    → axis ≡ get_or frame k axis → k < length frame
     → Splits runs (within axis.lo axis.hi) → All (IsUniform (axis_grids k generators)) runs
     → ((greatest m : ℕ) → IsAxisCount (axis_grids k generators) axis.hi axis.lo greatest m → (greatest ≤ limit) × (length runs ≡ m))
     → n ≡ min (length runs * count) 65 → (n ≤ 64 → made ≡ products runs grids) → (64 < n → made ≡ [])
     → CutSoFar generators frame limit (suc k) grids count → CutSoFar generators frame limit k made n
-cut_more generators frame limit k axis runs grids made count n is low long split even counted size grids_are none before =
+cut_more generators frame limit k axis runs grids made count n is low split even counted size grids_are none before =
     let here : drop k frame ≡ axis ∷ drop (suc k) frame = drop-cons frame k axis low ∙ ap (λ a. a ∷ drop (suc k) frame) (sym is) in
     let most = before.most in
     let few_rest : n ≤ 64 → (runs ≡ []) ⊎ (count ≤ 64) = λ few. there runs count most (omega arith) in
@@ -98,7 +98,7 @@ cut_more generators frame limit k axis runs grids made count n is low long split
             | inr rest ↦ products_split axis (drop (suc k) frame) runs grids split (before.split rest)
           ]));
       even = all (UniformFrom k generators) (all_products (UniformFrom k generators) runs grids
-          (λ i d l j e m. even_more k generators (slice_index_or runs i d) (slice_index_or grids j e) (λ h b o. omega (arith, long h b o)) (even i d l) (before.even j e m)));
+          (λ i d l j e m. even_more k generators (slice_index_or runs i d) (slice_index_or grids j e) (even i d l) (before.even j e m)));
       short = all (λ p. length p + k ≤ length frame) (all_products (λ p. length p + k ≤ length frame) runs grids
           (λ i d l j e m. shorter (length (slice_index_or grids j e)) k (length frame) (before.short j e m)));
       size = λ few. ap length (grids_are few) ∙ length_products runs grids ∙ elim (few_rest few) [
@@ -133,3 +133,13 @@ axis_due generators frame limit k axis greatest count column TooFine is low e fi
     (λ g m at. fine g m (subst (λ l. IsAxisCount l axis.hi axis.lo g m) (sym e) at) refl) counted
 axis_due generators frame limit k axis greatest count column TooMany is low e fine few counted = absurd (few refl)
 axis_due generators frame limit k axis greatest count column Memory is low e fine few counted = tt
+
+-- where there are at most 64, there are as many as the canonical count
+pub as_many : (generators : List (List Grid1)) (frame : List Grid1) (limit left : ℕ) (grids : List (List Grid1)) (count greatest n : ℕ) → left ≡ 0 → count ≤ 64
+    → CutSoFar generators frame limit left grids count → IsCanonicalCount generators 0 frame greatest n → length grids ≡ n
+as_many generators frame limit left grids count greatest n e few so_far counted =
+    let here : IsCanonicalCount generators left (drop left frame) greatest n = subst (λ k. IsCanonicalCount generators k (drop k frame) greatest n) (sym e) counted in
+    let both = so_far.counted greatest n here in
+    let size = so_far.size few in
+    let capped_is = both.1 in
+    omega (arith, size, capped_is, few)

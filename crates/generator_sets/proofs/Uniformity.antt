@@ -1,13 +1,14 @@
 -- Pieces whose axes are runs of neighbours that belong to the same generators.
-use Rattle.std.proofs.Common.{◌≡◌, ℕ, suc, ◌+◌, ◌<◌, refl, sym, ap, subst, ◌∙◌, List, [], ◌∷◌, ◌++◌, length, drop, get_or, drop-cons, Some, None}
+use Rattle.std.proofs.Common.{◌≡◌, ℕ, suc, ◌+◌, ◌<◌, inl, inr, refl, sym, ap, subst, ◌∙◌, List, [], ◌∷◌, ◌++◌, length, drop, get_or, drop-cons, Some, None}
 use Rattle.std.specs.Prelude.{ℤ, Bool, true, false, ◌&&◌, cond, position, nat_lt}
 use Rattle.std.specs.List.{position_or_len}
 use Rattle.std.specs.Prelude.{not}
 use Rattle.std.specs.List.{All}
 use Rattle.std.specs.Option.{option_to_list}
 use Rattle.std.proofs.Math.Bool.{beq}
-use Rattle.std.proofs.lemmas.Bool.{and_parts}
-use Rattle.std.proofs.lemmas.Option.{slice_get-get_or}
+use Rattle.std.proofs.lemmas.Bool.{and_parts, cases_lt}
+use Rattle.std.proofs.lemmas.Option.{slice_get-get_or, slice_get_past}
+use Rattle.std.proofs.lemmas.List.{drop_all}
 use Rattle.std.proofs.lemmas.List.Elements.{All-nil, All-cons, All-head, All-tail}
 use Rattle.sac_base.specs.declared.grid.Grid1.{Grid1}
 use Rattle.sac_base.specs.Grids.{has_index, has_vector}
@@ -52,18 +53,23 @@ pub column_cons : (k : ℕ) (g : List Grid1) (gs : List (List Grid1)) (d : Grid1
 column_cons k g gs d low = ap (λ o. option_to_list o ++ axis_grids k gs) (slice_get-get_or g k d low)
 
 -- a run of one axis before a piece that is even for the later axes
-pub even_more : (k : ℕ) (generators : List (List Grid1)) (f : Grid1) (r : List Grid1) → All (λ g. k < length g) generators → IsUniform (axis_grids k generators) f
-    → UniformFrom (suc k) generators r → UniformFrom k generators (f ∷ r)
-even_more k [] f r long even rest = All-nil _
-even_more k (g ∷ gs) f r long even rest =
-    let low : k < length g = All-head (λ g. k < length g) g gs long in
-    let column = column_cons k g gs f low in
-    let parts : (x : ℤ) → has_index f x ≡ true → (beq (has_index (get_or g k f) f.lo) (has_index (get_or g k f) x) ≡ true) × (alike (axis_grids k gs) f.lo x ≡ true) =
-    λ x h. and_parts _ _ (ap (λ l. alike l f.lo x) (sym column) ∙ even x h) in
-    let later : AxesUniform (drop (suc k) g) r = All-head (λ g. AxesUniform (drop (suc k) g) r) g gs rest in
-    All-cons (λ g. AxesUniform (drop k g) (f ∷ r)) g gs
-    (subst (λ l. AxesUniform l (f ∷ r)) (sym (drop-cons g k f low)) ((λ x h. sym (beq_true _ _ (parts x h).0)), later))
-    (even_more k gs f r (All-tail (λ g. k < length g) g gs long) (λ x h. (parts x h).1) (All-tail (λ g. AxesUniform (drop (suc k) g) r) g gs rest))
+pub even_more : (k : ℕ) (generators : List (List Grid1)) (f : Grid1) (r : List Grid1) → IsUniform (axis_grids k generators) f → UniformFrom (suc k) generators r → UniformFrom k generators (f ∷ r)
+even_more k [] f r even rest = All-nil _
+even_more k (g ∷ gs) f r even rest = elim (cases_lt k (length g)) [
+  | inl low ↦
+      let column = column_cons k g gs f low in
+      let parts : (x : ℤ) → has_index f x ≡ true → (beq (has_index (get_or g k f) f.lo) (has_index (get_or g k f) x) ≡ true) × (alike (axis_grids k gs) f.lo x ≡ true) =
+      λ x h. and_parts _ _ (ap (λ l. alike l f.lo x) (sym column) ∙ even x h) in
+      let later : AxesUniform (drop (suc k) g) r = All-head (λ g. AxesUniform (drop (suc k) g) r) g gs rest in
+      All-cons (λ g. AxesUniform (drop k g) (f ∷ r)) g gs
+      (subst (λ l. AxesUniform l (f ∷ r)) (sym (drop-cons g k f low)) ((λ x h. sym (beq_true _ _ (parts x h).0)), later))
+      (even_more k gs f r (λ x h. (parts x h).1) (All-tail (λ g. AxesUniform (drop (suc k) g) r) g gs rest))
+  | inr past ↦
+      let none : axis_grids k (g ∷ gs) ≡ axis_grids k gs = ap (λ o. option_to_list o ++ axis_grids k gs) (slice_get_past g k past) in
+      All-cons (λ g. AxesUniform (drop k g) (f ∷ r)) g gs
+      (subst (λ l. AxesUniform l (f ∷ r)) (sym (drop_all k g past)) tt)
+      (even_more k gs f r (subst (λ l. IsUniform l f) none even) (All-tail (λ g. AxesUniform (drop (suc k) g) r) g gs rest))
+]
 
 same_prefix : {X : Type 0} (p q : X → Bool) (xs : List X) → All (λ x. p x ≡ q x) xs → position_or_len p xs ≡ position_or_len q xs
 same_prefix p q [] h = refl

@@ -1,4 +1,4 @@
-ghost use Rattle.std.specs.Prelude.{◌≡◌, ℕ, ◌*◌, ◌<◌, ◌≤◌, ◌^◌, ◌≢◌, ◌∷◌, [], min, length, IfOk, Err};
+ghost use Rattle.std.specs.Prelude.{◌≡◌, ℕ, ◌*◌, ◌<◌, ◌≤◌, ◌^◌, ◌≢◌, ◌∷◌, [], ◌++◌, min, length, IfOk, OnOk, Err, option_to_list, slice_get};
 ghost use Rattle.std.specs.List.{All};
 ghost use Rattle.sac_base.specs.Grids.{within, Splits, SplitsVectors};
 ghost use Rattle.grid_sets.specs.Segments.{IsUniform, IsAxisCount, HasRuns, IsTooFine};
@@ -7,23 +7,35 @@ ghost use Rattle.generator_sets.specs.Counts.{IsCanonicalCount, IsDue};
 
 use crate::error::GenError;
 use crate::product::cross;
-use grid_sets::{GridError, Segment, axis_runs};
+use grid_sets::{FINEST, GridError, Segment, axis_runs};
 use sac_base::{Grid, Grid1, Memory};
 use std::alloc::Global;
 
 /// The most grids that a frame is cut into.
 pub const MOST: u64 = 64;
 
-/// The generators' grids of one axis.
+/// The generators' grids of one axis, of those generators that have this axis.
 fn axis_of(alloc: Global, generators: &[Grid], axis: usize) -> Result<Vec<Grid1>, Memory>
-    requires { All (λ g. axis < length g) generators.now }
     ensures { IfOk result (λ grids. grids.items ≡ axis_grids axis generators.now) }
 {
     let mut grids = Vec::new(alloc);
     for generator in generators {
-        grids.push(generator.axes()[axis])?;
+        push_axis(&mut grids, generator, axis)?;
     }
     Ok(grids)
+}
+
+/// Appends the generator's grid of an axis, if it has this axis.
+fn push_axis(grids: &mut Vec<Grid1>, generator: &Grid, axis: usize) -> Result<(), Memory>
+    ensures { OnOk result (grids.new.items ≡ grids.old.items ++ option_to_list (slice_get generator.now axis)) }
+{
+    match generator.axes().get(axis) {
+        Some(grid) => {
+            grids.push(*grid)?;
+            Ok(())
+        }
+        None => Ok(()),
+    }
 }
 
 /// An axis of the frame as runs of neighbours that belong to the same generators.
@@ -100,7 +112,27 @@ fn with_axis(alloc: Global, runs: &[Grid1], rest: &Pieces) -> Result<Pieces, Mem
     Ok(Pieces { grids, count })
 }
 
-/// The frame's box as products of its axes' runs, where no period is above the limit.
+/// The box of a frame as products of its axes' runs: disjoint pieces, each of which lies as a whole in a generator or outside of it, as many as the
+/// canonical count of the frame and the generators. A generator may have another number of axes than the frame.
+///
+/// # Errors
+///
+/// `TooFine`: a segment's period is above 4,096. `TooMany`: the canonical count is above 64. `Memory`: there is none for a grid.
+pub fn uniform_pieces(
+    alloc: Global,
+    frame: &Grid,
+    generators: &[Grid],
+) -> Result<Vec<Grid>, GenError>
+    ensures split { IfOk result (λ pieces. SplitsVectors pieces.items (in_box frame.now)) }
+    ensures uniform { IfOk result (λ pieces. All (IsUniformVector generators.now) pieces.items) }
+    ensures due { (greatest count : ℕ) → IsCanonicalCount generators.now 0 frame.now greatest count → IsDue 4096 greatest count result }
+    ensures count { (greatest count : ℕ) → IsCanonicalCount generators.now 0 frame.now greatest count
+        → IfOk result (λ pieces. length pieces.items ≡ count) }
+{
+    cut(alloc, frame, generators, FINEST)
+}
+
+/// The same where no period is above the limit.
 pub(crate) fn cut(
     alloc: Global,
     frame: &Grid,
@@ -108,10 +140,11 @@ pub(crate) fn cut(
     limit: u64,
 ) -> Result<Vec<Grid>, GenError>
     requires limit { limit < 2 ^ 63 }
-    requires axes { All (λ g. length g ≡ length frame.now) generators.now }
     ensures split { IfOk result (λ pieces. SplitsVectors pieces.items (in_box frame.now)) }
     ensures uniform { IfOk result (λ pieces. All (IsUniformVector generators.now) pieces.items) }
     ensures few { IfOk result (λ pieces. length pieces.items ≤ 64) }
+    ensures count { (greatest count : ℕ) → IsCanonicalCount generators.now 0 frame.now greatest count
+        → IfOk result (λ pieces. length pieces.items ≡ count) }
     ensures due { (greatest count : ℕ) → IsCanonicalCount generators.now 0 frame.now greatest count → IsDue limit greatest count result }
     ensures too_fine { result ≡ Err GenError.TooFine → (k : ℕ) × (k < length frame.now) × IsTooFine limit (axis_grids k generators.now) }
 {

@@ -14,6 +14,7 @@ mod parts;
 mod product;
 mod sets;
 
+pub use cut::uniform_pieces;
 pub use error::GenError;
 pub use laws::{canonical_count, pieces_of_a_set};
 pub use moving::shift;

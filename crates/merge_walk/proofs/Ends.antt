@@ -1,54 +1,30 @@
 -- Bindings, generators, parts and right sides by their fields, after a walk.
-use Rattle.std.proofs.Common.{◌≡◌, ◌-◌, ℕ, Bool, List, [], ◌∷◌, map, length, Option, refl, sym, ap, subst, ◌∙◌}
-use Rattle.std.specs.Prelude.{Result, Ok, Err, IfOk, OnOk, Vec, drop}
+use Rattle.std.proofs.Common.{◌≡◌, ◌-◌, ℕ, Bool, List, [], ◌∷◌, length, Option, refl, sym, ap, subst, ◌∙◌}
+use Rattle.std.specs.Prelude.{Result, Ok, Err, IfOk, Vec, drop}
 use Rattle.sac_base.specs.declared.memory.Memory.{Memory}
 use Rattle.sac_base.specs.declared.site.Site.{Site}
 use Rattle.std.specs.declared.alloc.Global.{Global}
 use Rattle.core_ir.specs.declared.tree.Var.{Var}
 use Rattle.core_ir.specs.declared.tree.Block.{Block}
-use Rattle.core_ir.specs.declared.tree.CoreGen.{CoreGen, CoreGen', CoreGen-F, out-CoreGen, roll-CoreGen, out-roll-CoreGen}
-use Rattle.core_ir.specs.declared.tree.CorePart.{CorePart, CorePart', CorePart-F, out-CorePart, roll-CorePart, out-roll-CorePart}
+use Rattle.core_ir.specs.declared.tree.CoreGen.{CoreGen, out-CoreGen, roll-CoreGen}
+use Rattle.core_ir.specs.declared.tree.CorePart.{CorePart, out-CorePart, roll-CorePart}
 use Rattle.core_ir.specs.declared.tree.Right.{Right}
 use Rattle.core_ir.specs.declared.tree.Right.TheVariants as right
 use Rattle.core_ir.specs.declared.tree.WithLoop.{WithLoop, WithLoop-F, out-WithLoop, roll-WithLoop}
 use Rattle.core_ir.specs.declared.tree.PartedLoop.{PartedLoop, PartedLoop-F, out-PartedLoop, roll-PartedLoop}
 use Rattle.core_ir.specs.declared.tree.Right.TheBlock.{the_data, the_data-1, the_data-2, the_data-3, the_data-4, the_data-5, the_data-6}
-use Rattle.core_ir.specs.Terms.{PlainTerm, RightTerm, Plain, GenTerm, PartTerm}
+use Rattle.core_ir.specs.Terms.{RightTerm, GenTerm, PartTerm}
 use Rattle.core_ir.specs.View.{block_term, gen_term, part_term, right_term, with_term, parted_term}
-use Rattle.core_ir.proofs.Trees.{with_out}
 use Rattle.core_facts.specs.Facts.{Fact, Facts, note_all, in_part, right_facts}
-use Rattle.fact_table.specs.Table.{fact_of}
-use Rattle.plain_facts.specs.Rights.{fact_of_right}
 use Rattle.parted_bodies.specs.declared.names.Progress.{Progress}
-use Rattle.merge_walk.specs.declared.known.KnownRight.{KnownRight}
+use Rattle.known_rights.specs.declared.known.KnownRight.{KnownRight}
+use Rattle.known_rights.proofs.Fields.{shown_gen, shown_part, gen_out, gen_roll, part_out, part_roll}
+use Rattle.known_rights.proofs.Plain.{IsOther, other_plain}
 use Rattle.merge_walk.specs.Here.{BindingMerged}
 use Rattle.merge_walk.specs.Lists.{GenWalked, LetsWalked, PartWalked}
 use Rattle.merge_walk.specs.Walking.{BlockWalked, RightWalked}
 use Rattle.merge_walk.proofs.Lines.{both_walked, call_walked, let_walked, plain_walked, turns_walked}
 use Rattle.merge_walk.proofs.Turns.{GensSoFar, PartsSoFar, parted_end, with_end}
-
-abbrev shown_gen : CoreGen-F the_data the_data-1 the_data-2 the_data-3 the_data-4 the_data-5 the_data-6 → GenTerm
-shown_gen x = record {
-  head = record { lower = x.lower; lower_closed = x.lower_closed; upper = x.upper; upper_closed = x.upper_closed; step = x.step; width = x.width; index = x.index; names = x.names.items; site = x.site };
-  body = block_term x.body;
-}
-
-gen_out : (g : CoreGen) → gen_term g ≡ shown_gen (out-CoreGen g)
-unfolding out-CoreGen denote.Hole.Carrier.out
-gen_out (CoreGen' a b c d e f h i j k) = refl
-
-gen_roll : (x : CoreGen-F the_data the_data-1 the_data-2 the_data-3 the_data-4 the_data-5 the_data-6) → gen_term (roll-CoreGen x) ≡ shown_gen x
-gen_roll x = gen_out (roll-CoreGen x) ∙ ap shown_gen (out-roll-CoreGen x)
-
-abbrev shown_part : CorePart-F the_data the_data-1 the_data-2 the_data-3 the_data-4 the_data-5 the_data-6 → PartTerm
-shown_part x = record { head = record { grid = x.grid; index = x.index; site = x.site }; body = block_term x.body }
-
-part_out : (p : CorePart) → part_term p ≡ shown_part (out-CorePart p)
-unfolding out-CorePart denote.Hole.Carrier.out
-part_out (CorePart' a b c d) = refl
-
-part_roll : (x : CorePart-F the_data the_data-1 the_data-2 the_data-3 the_data-4 the_data-5 the_data-6) → part_term (roll-CorePart x) ≡ shown_part x
-part_roll x = part_out (roll-CorePart x) ∙ ap shown_part (out-roll-CorePart x)
 
 module _ (called : ℕ → List (Option (List ℕ))) where
   -- ---- a generator and a part, whose body was walked through
@@ -107,9 +83,6 @@ module _ (called : ℕ → List (Option (List ℕ))) where
   generators_end k p q first rest merged x w new s r a g o h =
       subst (λ (t : RightTerm). RightWalked called k p q (with_term w) t) (sym h) (with_end called k p q first rest merged x w s r a g o)
 
-  pub with_known : (k : Facts) (w : WithLoop) (new : RightTerm) (facts : List Fact) → facts ≡ [] → new ≡ with_term w → facts ≡ right_facts called new k
-  with_known k w new facts e h = e ∙ ap (λ t. right_facts called t k) (sym (with_out w)) ∙ ap (λ t. right_facts called t k) (sym h)
-
   -- the parts of a parted loop were walked through
   pub cut_end :
       (k : Facts) (p q : Progress) (first rest merged : List CorePart) (x : PartedLoop-F the_data the_data-1 the_data-2 the_data-3 the_data-4 the_data-5 the_data-6) (w : PartedLoop) (new : Result KnownRight Memory) → PartsSoFar called k p q first rest merged →
@@ -122,46 +95,7 @@ module _ (called : ℕ → List (Option (List ℕ))) where
 pub earlier_end : {A : Type 0} (start late now : List A) → late ≡ start → drop (length now - length late) now ≡ late → drop (length now - length start) now ≡ start
 earlier_end start late now e h = subst (λ ns. drop (length now - length ns) now ≡ ns) e h
 
--- what is known anywhere is known where the right side stands
-pub known_here : (new : Result KnownRight Memory) (called : ℕ → List (Option (List ℕ))) (k : Facts) → IfOk new (λ (n : KnownRight). (called : ℕ → List (Option (List ℕ))) (k : Facts) → map fact_of n.values.items ≡ right_facts called (right_term n.right) k) → IfOk new (λ (n : KnownRight). map fact_of n.values.items ≡ right_facts called (right_term n.right) k)
-known_here (Ok n) called k h = h called k
-known_here (Err m) called k h = tt
-
 -- ---- right sides without blocks
-
--- a right side that is none of those with blocks, and no call
-abbrev pub IsOther : Right → Type 0
-IsOther r = ((x : Var) (a b : Block) → r ≡ right.If x a b → ⊥)
-    × ((head : Bool) (start params : Vec Var Global) (test body : Block) (site : Site) → r ≡ right.Loop head start params test body site → ⊥)
-    × ((group : ℕ) (args : Vec Var Global) → r ≡ right.Call group args → ⊥)
-    × ((w : WithLoop) → r ≡ right.With w → ⊥)
-    × ((p : PartedLoop) → r ≡ right.Parted p → ⊥)
-
-other_plain : (r : Right) → IsOther r → (p : PlainTerm) × (right_term r ≡ Plain p)
-other_plain (right.If x a b) o = absurd (o.0 x a b refl)
-other_plain (right.Loop head start params test body site) o = absurd (o.1 head start params test body site refl)
-other_plain (right.Call group args) o = absurd (o.2 group args refl)
-other_plain (right.With w) o = absurd (o.3 w refl)
-other_plain (right.Parted p) o = absurd (o.4 p refl)
-other_plain (right.Const a) o = (PlainTerm.Const a, refl)
-other_plain (right.Copy x) o = (PlainTerm.Copy x, refl)
-other_plain (right.Unary op x) o = (PlainTerm.Unary op x, refl)
-other_plain (right.Binary op x y) o = (PlainTerm.Binary op x y, refl)
-other_plain (right.Literal xs) o = (PlainTerm.Literal xs.items, refl)
-other_plain (right.Dim x) o = (PlainTerm.Dim x, refl)
-other_plain (right.ShapeOf x) o = (PlainTerm.ShapeOf x, refl)
-other_plain (right.Reshape x y) o = (PlainTerm.Reshape x y, refl)
-other_plain (right.Select x y) o = (PlainTerm.Select x y, refl)
-other_plain (right.Replace x y z) o = (PlainTerm.Replace x y z, refl)
-other_plain (right.Always k) o = (PlainTerm.Always k, refl)
-other_plain (right.Check x t) o = (PlainTerm.Check x t, refl)
-
-plain_known : (called : ℕ → List (Option (List ℕ))) (k : Facts) (r : RightTerm) (p : PlainTerm) → r ≡ Plain p → fact_of_right r k ∷ [] ≡ right_facts called r k
-plain_known called k r p e = ap (λ t. fact_of_right t k ∷ []) e ∙ ap (λ t. right_facts called t k) (sym e)
-
-pub other_known : (called : ℕ → List (Option (List ℕ))) (k : Facts) (r : Right) (known : Fact) (new : Result KnownRight Memory) → IsOther r → known ≡ fact_of_right (right_term r) k → IfOk new (λ (n : KnownRight). right_term n.right ≡ right_term r) → IfOk new (λ (n : KnownRight). map fact_of n.values.items ≡ known ∷ []) → IfOk new (λ (n : KnownRight). map fact_of n.values.items ≡ right_facts called (right_term n.right) k)
-other_known called k r known (Ok n) o e h q = let w = other_plain r o in q ∙ ap (λ f. f ∷ []) e ∙ plain_known called k (right_term r) w.0 w.1 ∙ ap (λ t. right_facts called t k) (sym h)
-other_known called k r known (Err m) o e h q = tt
 
 pub other_walked : (called : ℕ → List (Option (List ℕ))) (k : Facts) (p : Progress) (r : Right) (new : Result KnownRight Memory) → IsOther r → IfOk new (λ (n : KnownRight). right_term n.right ≡ right_term r) → IfOk new (λ (n : KnownRight). RightWalked called k p p (right_term r) (right_term n.right))
 other_walked called k p r (Ok n) o h =
@@ -169,7 +103,3 @@ other_walked called k p r (Ok n) o h =
     subst (λ (t : RightTerm). RightWalked called k p p (right_term r) t) (sym h)
     (subst (λ (t : RightTerm). RightWalked called k p p t t) (sym w.1) (plain_walked called k w.0 p))
 other_walked called k p r (Err m) o h = tt
-
-pub kept : {A : Type 0} (new : Result KnownRight Memory) (table : A) → OnOk new (table ≡ table)
-kept (Ok n) table = refl
-kept (Err m) table = tt

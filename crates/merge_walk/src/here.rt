@@ -1,19 +1,19 @@
 //! One loop.
 
-ghost use Rattle.std.specs.Prelude.{◌≡◌, ℕ, List, Option, IfOk, OnOk, map};
+ghost use Rattle.std.specs.Prelude.{◌≡◌, IfOk, OnOk, map};
 ghost use Rattle.core_ir.specs.View.{parted_term, right_term};
-ghost use Rattle.core_facts.specs.Facts.{Facts, right_facts};
+ghost use Rattle.core_facts.specs.Facts.{right_facts};
 ghost use Rattle.fact_table.specs.Table.{fact_of, facts_of};
 ghost use Rattle.plain_facts.specs.Called.{shapes_of};
 ghost use Rattle.merge_walk.specs.Here.{BindingMerged, MergedOrNot};
 
-use crate::known::KnownRight;
 use core_ir::{PartedLoop, PartedOp, Right, Var};
-use fact_table::{FactTable, Known};
+use fact_table::FactTable;
+use known_rights::KnownRight;
 use merge_plans::merge_plan;
 use merged_parts::merged_parts;
 use parted_bodies::Progress;
-use plain_facts::{CalledShapes, parted_shape};
+use plain_facts::CalledShapes;
 use sac_base::{Memory, Shape};
 use std::alloc::Global;
 
@@ -56,7 +56,7 @@ fn merge_one(
     match right {
         Right::Parted(outer) => {
             let made = merge_loop(alloc, outer, called, table, progress)?;
-            known_loop(alloc, made)
+            KnownRight::of_parted(alloc, made)
         }
         other => Ok(KnownRight {
             right: other,
@@ -90,14 +90,4 @@ fn merge_loop(
         op: PartedOp::Genarray,
         parts,
     })
-}
-
-/// A loop with what is known of its value.
-pub fn known_loop(alloc: Global, made: PartedLoop) -> Result<KnownRight, Memory>
-    ensures right { IfOk result (λ new. right_term new.right ≡ parted_term made) }
-    ensures known { IfOk result (λ new. (called : ℕ → List (Option (List ℕ))) (k : Facts) →
-        map fact_of new.values.items ≡ right_facts called (right_term new.right) k) }
-{
-    let shape = parted_shape(alloc, &made.frame, &made.cell, made.op);
-    KnownRight::of_one(alloc, Right::Parted(made), Known::of_shape(shape))
 }

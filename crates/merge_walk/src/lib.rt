@@ -2,8 +2,6 @@
 #![tactic(auto)]
 
 mod here;
-mod known;
 mod walk;
 
-pub use known::KnownBlock;
 pub use walk::merge_block;

@@ -8,14 +8,12 @@ ghost use Rattle.plain_facts.specs.Called.{shapes_of};
 ghost use Rattle.merge_walk.specs.Lists.{LetsWalked, GenWalked, PartWalked};
 ghost use Rattle.merge_walk.specs.Walking.{BlockWalked, RightWalked};
 
-use crate::here::{known_loop, merge_here};
-use crate::known::{KnownBlock, KnownRight};
+use crate::here::merge_here;
 use core_ir::{Block, CoreGen, CorePart, Let, PartedLoop, Right, WithLoop};
 use fact_table::FactTable;
+use known_rights::{KnownBlock, KnownRight};
 use parted_bodies::Progress;
-use plain_facts::{
-    CalledShapes, common_facts, forget, forget_index, known_of, learn_all, learn_index,
-};
+use plain_facts::{CalledShapes, forget, forget_index, known_of, learn_all, learn_index};
 use sac_base::Memory;
 use std::alloc::Global;
 
@@ -106,15 +104,7 @@ fn merge_right(
         Right::If { cond, yes, no } => {
             let yes = merge_block(alloc, yes, called, table, progress)?;
             let no = merge_block(alloc, no, called, table, progress)?;
-            let values = common_facts(alloc, &yes.results, &no.results)?;
-            Ok(KnownRight {
-                right: Right::If {
-                    cond,
-                    yes: yes.block,
-                    no: no.block,
-                },
-                values,
-            })
+            KnownRight::of_if(alloc, cond, yes, no)
         }
         Right::Loop {
             first_body,
@@ -129,22 +119,11 @@ fn merge_right(
             let test = merge_block(alloc, test, called, table, progress)?;
             let body = merge_block(alloc, body, called, table, progress)?;
             table.undo(outer);
-            Ok(KnownRight {
-                right: Right::Loop {
-                    first_body,
-                    start,
-                    params,
-                    test: test.block,
-                    body: body.block,
-                    test_site,
-                },
-                values: Vec::new(alloc),
-            })
+            Ok(KnownRight::of_loop(
+                alloc, first_body, start, params, test.block, body.block, test_site,
+            ))
         }
-        Right::Call { group, args } => Ok(KnownRight {
-            right: Right::Call { group, args },
-            values: called.facts(alloc, group)?,
-        }),
+        Right::Call { group, args } => KnownRight::of_call(alloc, group, args, called),
         Right::With(w) => merge_with(alloc, w, called, table, progress),
         Right::Parted(p) => merge_parted(alloc, p, called, table, progress),
         plain => KnownRight::of_plain(alloc, plain, table),
@@ -239,7 +218,7 @@ fn merge_parted(
     for part in parts {
         merged.push(merge_part(alloc, part, called, table, progress)?)?;
     }
-    known_loop(
+    KnownRight::of_parted(
         alloc,
         PartedLoop {
             frame,

@@ -8,8 +8,8 @@ use Rattle.std.specs.Prelude.{Vec}
 use Rattle.std.specs.declared.alloc.Global.{Global}
 use Rattle.core_ir.specs.declared.tree.Var.{Var}
 use Rattle.core_ir.specs.declared.tree.Block.{Block}
-use Rattle.core_ir.specs.declared.tree.CoreGen.{CoreGen, CoreGen', CoreGen-F, out-CoreGen, roll-CoreGen, out-roll-CoreGen}
-use Rattle.core_ir.specs.declared.tree.CorePart.{CorePart, CorePart', CorePart-F, out-CorePart, roll-CorePart, out-roll-CorePart}
+use Rattle.core_ir.specs.declared.tree.CoreGen.{CoreGen, out-CoreGen, roll-CoreGen}
+use Rattle.core_ir.specs.declared.tree.CorePart.{CorePart, out-CorePart, roll-CorePart}
 use Rattle.core_ir.specs.declared.tree.CoreOp.{CoreOp}
 use Rattle.core_ir.specs.declared.tree.Right.{Right}
 use Rattle.core_ir.specs.declared.tree.Right.TheVariants as right
@@ -17,42 +17,19 @@ use Rattle.core_ir.specs.declared.tree.PartedOp.{PartedOp}
 use Rattle.core_ir.specs.declared.tree.WithLoop.{WithLoop, out-WithLoop}
 use Rattle.core_ir.specs.declared.tree.PartedLoop.{PartedLoop, PartedLoop-F, out-PartedLoop, roll-PartedLoop}
 use Rattle.core_ir.specs.declared.tree.Right.TheBlock.{the_data, the_data-1, the_data-2, the_data-3, the_data-4, the_data-5, the_data-6}
-use Rattle.core_ir.specs.Terms.{PlainTerm, RightTerm, Plain, GensTerm, GenTerm, PartTerm, With, Parted, gens_of, parts_of}
+use Rattle.core_ir.specs.Terms.{RightTerm, GensTerm, GenTerm, PartTerm, With, Parted, gens_of, parts_of}
 use Rattle.core_ir.specs.View.{block_term, gen_term, part_term, right_term, with_term, parted_term}
 use Rattle.core_ir.proofs.Trees.{with_out, parted_out, parted_roll}
-use Rattle.core_facts.specs.Facts.{Fact, Facts, note_all, in_part, right_facts, shape_fact, known_shape, parted_shape}
-use Rattle.fact_table.specs.Table.{fact_of}
-use Rattle.plain_facts.specs.Rights.{fact_of_right}
+use Rattle.core_facts.specs.Facts.{Facts, note_all, in_part}
 use Rattle.partable_loops.specs.Planned.{IsPlannable}
 use Rattle.partable_loops.specs.declared.planning.PartPlan.{PartPlan}
 use Rattle.parted_bodies.specs.declared.names.Progress.{Progress}
 use Rattle.parted_bodies.specs.Making.{binds_of, made_parts, parted_op}
-use Rattle.norm_walk.specs.declared.known.KnownRight.{KnownRight}
-use Rattle.norm_walk.specs.Replacing.{BlockWalked, RightWalked, LetWalked, GensWalked, GenWalked, PartWalked, WithWalked, IsKnownAnywhere, IsLeft, IsPlanned, EachWithRight}
+use Rattle.known_rights.specs.declared.known.KnownRight.{KnownRight}
+use Rattle.known_rights.proofs.Fields.{shown_gen, shown_part, gen_out, gen_roll, part_out, part_roll}
+use Rattle.known_rights.proofs.Plain.{IsOther, other_plain}
+use Rattle.norm_walk.specs.Replacing.{BlockWalked, RightWalked, LetWalked, GensWalked, GenWalked, PartWalked, WithWalked, IsLeft, IsPlanned, EachWithRight}
 use Rattle.norm_walk.proofs.Walking.{PartsGoing, parts_done, with_walked, left_walked, replaced_walked, right_stays, if_walked, loop_walked}
-
-abbrev shown_gen : CoreGen-F the_data the_data-1 the_data-2 the_data-3 the_data-4 the_data-5 the_data-6 → GenTerm
-shown_gen x = record {
-  head = record { lower = x.lower; lower_closed = x.lower_closed; upper = x.upper; upper_closed = x.upper_closed; step = x.step; width = x.width; index = x.index; names = x.names.items; site = x.site };
-  body = block_term x.body;
-}
-
-gen_out : (g : CoreGen) → gen_term g ≡ shown_gen (out-CoreGen g)
-unfolding out-CoreGen denote.Hole.Carrier.out
-gen_out (CoreGen' a b c d e f h i j k) = refl
-
-gen_roll : (x : CoreGen-F the_data the_data-1 the_data-2 the_data-3 the_data-4 the_data-5 the_data-6) → gen_term (roll-CoreGen x) ≡ shown_gen x
-gen_roll x = gen_out (roll-CoreGen x) ∙ ap shown_gen (out-roll-CoreGen x)
-
-abbrev shown_part : CorePart-F the_data the_data-1 the_data-2 the_data-3 the_data-4 the_data-5 the_data-6 → PartTerm
-shown_part x = record { head = record { grid = x.grid; index = x.index; site = x.site }; body = block_term x.body }
-
-part_out : (p : CorePart) → part_term p ≡ shown_part (out-CorePart p)
-unfolding out-CorePart denote.Hole.Carrier.out
-part_out (CorePart' a b c d) = refl
-
-part_roll : (x : CorePart-F the_data the_data-1 the_data-2 the_data-3 the_data-4 the_data-5 the_data-6) → part_term (roll-CorePart x) ≡ shown_part x
-part_roll x = part_out (roll-CorePart x) ∙ ap shown_part (out-roll-CorePart x)
 
 module _ (called : ℕ → List (Option (List ℕ))) (bases : Var → Option Base) (first : ℕ) where
   -- the body of a generator was walked through
@@ -138,54 +115,11 @@ module _ (called : ℕ → List (Option (List ℕ))) (bases : Var → Option Bas
       let next = subst (λ (gs : List CoreGen). OnOk new (q ≡ record { next = p.next + binds_of (made_parts op s (map gen_term gs) plan.parts.items p.next); replaced = suc p.replaced })) f after in
       replaced_end k p q s op (map gen_term gens) base plan new seen right next
 
--- what is known anywhere is known where the right side stands
-pub known_here : (new : Result KnownRight Memory) (called : ℕ → List (Option (List ℕ))) (k : Facts) → IfOk new (λ (n : KnownRight). IsKnownAnywhere (right_term n.right) (map fact_of n.values.items)) → IfOk new (λ (n : KnownRight). map fact_of n.values.items ≡ right_facts called (right_term n.right) k)
-known_here (Ok n) called k h = h called k
-known_here (Err m) called k h = tt
-
-pub parted_known : (new : Result KnownRight Memory) (w : PartedLoop) (known : Fact) → IfOk new (λ (n : KnownRight). right_term n.right ≡ parted_term w) → IfOk new (λ (n : KnownRight). map fact_of n.values.items ≡ known ∷ []) → known ≡ shape_fact (known_shape (parted_shape (out-PartedLoop w).frame (out-PartedLoop w).cell (out-PartedLoop w).op)) → IfOk new (λ (n : KnownRight). IsKnownAnywhere (right_term n.right) (map fact_of n.values.items))
-parted_known (Ok n) w known h q e = λ called k. q ∙ ap (λ f. f ∷ []) e ∙ ap (λ t. right_facts called t k) (sym (parted_out w)) ∙ ap (λ t. right_facts called t k) (sym h)
-parted_known (Err m) w known h q e = tt
-
 pub parted_made : (new : Result KnownRight Memory) (x : PartedLoop-F the_data the_data-1 the_data-2 the_data-3 the_data-4 the_data-5 the_data-6) (parts : List PartTerm) (op : PartedOp) → IfOk new (λ (n : KnownRight). right_term n.right ≡ parted_term (roll-PartedLoop x)) → map part_term x.parts.items ≡ parts → x.op ≡ op → IfOk new (λ (n : KnownRight). right_term n.right ≡ Parted x.frame x.base x.cell op (parts_of parts))
 parted_made (Ok n) x parts op h e o = h ∙ parted_roll x ∙ (λ i. Parted x.frame x.base x.cell (o i) (parts_of (e i)))
 parted_made (Err m) x parts op h e o = tt
 
 -- ---- right sides without blocks
-
--- a right side that is none of those with blocks, and no call
-abbrev pub IsOther : Right → Type 0
-IsOther r = ((x : Var) (a b : Block) → r ≡ right.If x a b → ⊥)
-    × ((head : Bool) (start params : Vec Var Global) (test body : Block) (site : Site) → r ≡ right.Loop head start params test body site → ⊥)
-    × ((group : ℕ) (args : Vec Var Global) → r ≡ right.Call group args → ⊥)
-    × ((w : WithLoop) → r ≡ right.With w → ⊥)
-    × ((p : PartedLoop) → r ≡ right.Parted p → ⊥)
-
-other_plain : (r : Right) → IsOther r → (p : PlainTerm) × (right_term r ≡ Plain p)
-other_plain (right.If x a b) o = absurd (o.0 x a b refl)
-other_plain (right.Loop head start params test body site) o = absurd (o.1 head start params test body site refl)
-other_plain (right.Call group args) o = absurd (o.2 group args refl)
-other_plain (right.With w) o = absurd (o.3 w refl)
-other_plain (right.Parted p) o = absurd (o.4 p refl)
-other_plain (right.Const a) o = (PlainTerm.Const a, refl)
-other_plain (right.Copy x) o = (PlainTerm.Copy x, refl)
-other_plain (right.Unary op x) o = (PlainTerm.Unary op x, refl)
-other_plain (right.Binary op x y) o = (PlainTerm.Binary op x y, refl)
-other_plain (right.Literal xs) o = (PlainTerm.Literal xs.items, refl)
-other_plain (right.Dim x) o = (PlainTerm.Dim x, refl)
-other_plain (right.ShapeOf x) o = (PlainTerm.ShapeOf x, refl)
-other_plain (right.Reshape x y) o = (PlainTerm.Reshape x y, refl)
-other_plain (right.Select x y) o = (PlainTerm.Select x y, refl)
-other_plain (right.Replace x y z) o = (PlainTerm.Replace x y z, refl)
-other_plain (right.Always k) o = (PlainTerm.Always k, refl)
-other_plain (right.Check x t) o = (PlainTerm.Check x t, refl)
-
-plain_known : (called : ℕ → List (Option (List ℕ))) (k : Facts) (r : RightTerm) (p : PlainTerm) → r ≡ Plain p → fact_of_right r k ∷ [] ≡ right_facts called r k
-plain_known called k r p e = ap (λ t. fact_of_right t k ∷ []) e ∙ ap (λ t. right_facts called t k) (sym e)
-
-pub other_known : (called : ℕ → List (Option (List ℕ))) (k : Facts) (r : Right) (known : Fact) (new : Result KnownRight Memory) → IsOther r → known ≡ fact_of_right (right_term r) k → IfOk new (λ (n : KnownRight). right_term n.right ≡ right_term r) → IfOk new (λ (n : KnownRight). map fact_of n.values.items ≡ known ∷ []) → IfOk new (λ (n : KnownRight). map fact_of n.values.items ≡ right_facts called (right_term n.right) k)
-other_known called k r known (Ok n) o e h q = let w = other_plain r o in q ∙ ap (λ f. f ∷ []) e ∙ plain_known called k (right_term r) w.0 w.1 ∙ ap (λ t. right_facts called t k) (sym h)
-other_known called k r known (Err m) o e h q = tt
 
 pub other_walked : (called : ℕ → List (Option (List ℕ))) (bases : Var → Option Base) (first : ℕ) (k : Facts) (p : Progress) (s : Site) (r : Right) (new : Result KnownRight Memory) → IsOther r → IfOk new (λ (n : KnownRight). right_term n.right ≡ right_term r) → IfOk new (λ (n : KnownRight). RightWalked called bases first k p p s (right_term r) (right_term n.right))
 other_walked called bases first k p s r (Ok n) o h =
@@ -193,7 +127,3 @@ other_walked called bases first k p s r (Ok n) o h =
     subst (λ (t : RightTerm). RightWalked called bases first k p p s (right_term r) t) (sym h)
     (right_stays called bases first k p s (right_term r) (subst (λ (t : RightTerm). EachWithRight called (IsLeft bases first p.next) s t k) (sym w.1) tt))
 other_walked called bases first k p s r (Err m) o h = tt
-
-pub kept : {A : Type 0} (new : Result KnownRight Memory) (table : A) → OnOk new (table ≡ table)
-kept (Ok n) table = refl
-kept (Err m) table = tt

@@ -7,7 +7,7 @@ use Rattle.core_ir.specs.declared.tree.CoreOp.{CoreOp}
 use Rattle.core_ir.specs.Edits.{Edited}
 use Rattle.core_ir.specs.Terms.{BlockTerm, RightTerm, GensTerm, PartsTerm, LetTerm, GenTerm, PartTerm}
 use Rattle.core_ir.specs.Terms.{Gives, Bind, Plain, With, Parted, NoGens, Gen, NoParts, Part, gens_of, parts_of}
-use Rattle.core_facts.specs.Facts.{Fact, Facts, note_all, right_facts, in_part}
+use Rattle.core_facts.specs.Facts.{Facts, note_all, right_facts, in_part}
 use Rattle.core_loops.specs.Steps.{fact_ways}
 use Rattle.partable_loops.specs.Planned.{IsPlannable, PlanFits}
 use Rattle.partable_loops.specs.declared.planning.PartPlan.{PartPlan}
@@ -52,10 +52,6 @@ module _ (bases : Var → Option Base) (first : ℕ) where
     pub at : ReplacedAt p q k site op gens right
     pub before : b ≡ Bind targets site (With op (gens_of gens)) rest
     pub now : c ≡ Bind targets site right rest
-
--- what is known of the values of a right side wherever it stands
-abbrev pub IsKnownAnywhere : RightTerm → List Fact → Type 0
-IsKnownAnywhere r facts = (called : ℕ → List (Option (List ℕ))) (k : Facts) → facts ≡ right_facts called r k
 
 -- ---- all with-loops of a term
 

@@ -2,10 +2,8 @@
 #![tactic(auto)]
 
 mod given;
-mod known;
 mod parting;
 mod walk;
 
 pub use given::Given;
-pub use known::KnownBlock;
 pub use walk::norm_block;

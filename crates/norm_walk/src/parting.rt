@@ -2,24 +2,24 @@
 
 ghost use Rattle.std.specs.Prelude.{◌≡◌, suc, ◌+◌, map, IfOk, OnOk, IfSome, IfNone};
 ghost use Rattle.sac_base.specs.declared.site.Site.{Site as SiteOf};
-ghost use Rattle.core_ir.specs.Terms.{Parted, With, gens_of};
+ghost use Rattle.core_ir.specs.Terms.{Parted, gens_of};
 ghost use Rattle.core_ir.specs.Terms.{parts_of as parts_in};
-ghost use Rattle.core_ir.specs.View.{gen_term, parted_term, right_term};
+ghost use Rattle.core_ir.specs.View.{gen_term, right_term};
 ghost use Rattle.fact_table.specs.Table.{fact_of, facts_of};
+ghost use Rattle.known_rights.specs.Anywhere.{IsKnownAnywhere};
 ghost use Rattle.parted_bodies.specs.Making.{binds_of, made_parts};
 ghost use Rattle.parted_bodies.specs.Making.{parted_op as parted_op_of};
 ghost use Rattle.plain_facts.specs.Called.{shapes_of};
 ghost use Rattle.variable_bases.specs.Table.{base_in};
-ghost use Rattle.norm_walk.specs.Replacing.{IsKnownAnywhere, IsLeft, IsPlanned, WithWalked};
+ghost use Rattle.norm_walk.specs.Replacing.{IsLeft, IsPlanned, WithWalked};
 ghost use Rattle.norm_walk.specs.Replacing.{old_base as old_base_of};
 
 use crate::given::Given;
-use crate::known::KnownRight;
-use core_ir::{CoreGen, CoreOp, PartedLoop, Right, WithLoop};
-use fact_table::{FactTable, Known};
+use core_ir::{CoreGen, CoreOp, PartedLoop, WithLoop};
+use fact_table::FactTable;
+use known_rights::KnownRight;
 use partable_loops::{PartPlan, part_plan};
 use parted_bodies::{Progress, base_var, parted_op, parts_of};
-use plain_facts::parted_shape;
 use sac_base::{Base, Memory, Site};
 use std::alloc::Global;
 
@@ -46,7 +46,7 @@ pub fn replace_with(
 {
     match plan_of(alloc, op, &gens, given, table, progress.next)? {
         Some(planned) => parted_loop(alloc, op, &gens, site, planned, progress),
-        None => unchanged(alloc, op, gens),
+        None => Ok(KnownRight::of_with(alloc, WithLoop { gens, op })),
     }
 }
 
@@ -111,7 +111,7 @@ fn parted_loop(
     let parts = parts_of(alloc, op, site, gens, parts, progress)?;
     progress.count()?;
     let op = parted_op(op);
-    known_parted(
+    KnownRight::of_parted(
         alloc,
         PartedLoop {
             frame,
@@ -121,23 +121,4 @@ fn parted_loop(
             parts,
         },
     )
-}
-
-fn unchanged(alloc: Global, op: CoreOp, gens: Vec<CoreGen>) -> Result<KnownRight, Memory>
-    ensures right { IfOk result (λ new. right_term new.right ≡ With op (gens_of (map gen_term gens.items))) }
-    ensures known { IfOk result (λ new. IsKnownAnywhere (right_term new.right) (map fact_of new.values.items)) }
-{
-    Ok(KnownRight {
-        right: Right::With(WithLoop { gens, op }),
-        values: Vec::new(alloc),
-    })
-}
-
-/// A parted loop, and the shape that its frame and its cells tell.
-pub fn known_parted(alloc: Global, parted: PartedLoop) -> Result<KnownRight, Memory>
-    ensures right { IfOk result (λ new. right_term new.right ≡ parted_term parted) }
-    ensures known { IfOk result (λ new. IsKnownAnywhere (right_term new.right) (map fact_of new.values.items)) }
-{
-    let shape = parted_shape(alloc, &parted.frame, &parted.cell, parted.op);
-    KnownRight::of_one(alloc, Right::Parted(parted), Known::of_shape(shape))
 }

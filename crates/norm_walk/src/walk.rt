@@ -11,12 +11,12 @@ ghost use Rattle.variable_bases.specs.Table.{base_in};
 ghost use Rattle.norm_walk.specs.Replacing.{BlockWalked, RightWalked, LetWalked, GensWalked, GenWalked, PartWalked};
 
 use crate::given::Given;
-use crate::known::{KnownBlock, KnownRight};
-use crate::parting::{known_parted, replace_with};
+use crate::parting::replace_with;
 use core_ir::{Block, CoreGen, CorePart, Let, PartedLoop, Right, WithLoop};
 use fact_table::FactTable;
+use known_rights::{KnownBlock, KnownRight};
 use parted_bodies::Progress;
-use plain_facts::{common_facts, forget, forget_index, known_of, learn_all, learn_index};
+use plain_facts::{forget, forget_index, known_of, learn_all, learn_index};
 use sac_base::{Memory, Site};
 use std::alloc::Global;
 
@@ -103,15 +103,7 @@ fn norm_right(
         Right::If { cond, yes, no } => {
             let yes = norm_block(alloc, yes, given, table, progress)?;
             let no = norm_block(alloc, no, given, table, progress)?;
-            let values = common_facts(alloc, &yes.results, &no.results)?;
-            Ok(KnownRight {
-                right: Right::If {
-                    cond,
-                    yes: yes.block,
-                    no: no.block,
-                },
-                values,
-            })
+            KnownRight::of_if(alloc, cond, yes, no)
         }
         Right::Loop {
             first_body,
@@ -126,22 +118,11 @@ fn norm_right(
             let test = norm_block(alloc, test, given, table, progress)?;
             let body = norm_block(alloc, body, given, table, progress)?;
             table.undo(outer);
-            Ok(KnownRight {
-                right: Right::Loop {
-                    first_body,
-                    start,
-                    params,
-                    test: test.block,
-                    body: body.block,
-                    test_site,
-                },
-                values: Vec::new(alloc),
-            })
+            Ok(KnownRight::of_loop(
+                alloc, first_body, start, params, test.block, body.block, test_site,
+            ))
         }
-        Right::Call { group, args } => Ok(KnownRight {
-            right: Right::Call { group, args },
-            values: given.called.facts(alloc, group)?,
-        }),
+        Right::Call { group, args } => KnownRight::of_call(alloc, group, args, given.called),
         Right::With(w) => norm_with(alloc, w, site, given, table, progress),
         Right::Parted(p) => norm_parted(alloc, p, given, table, progress),
         plain => KnownRight::of_plain(alloc, plain, table),
@@ -257,7 +238,7 @@ fn norm_parted(
     for part in parts {
         normal.push(norm_part(alloc, part, given, table, progress)?)?;
     }
-    known_parted(
+    KnownRight::of_parted(
         alloc,
         PartedLoop {
             frame,

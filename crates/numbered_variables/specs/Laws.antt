@@ -13,5 +13,5 @@ NumbersAreInOrder = (xs : List Var) (f : Var → Var) (n : ℕ) → Distinct xs 
 -- new numbers, above those of all variables in scope, keep the variables of the list and those in scope apart
 abbrev pub NumbersKeepApart : Type 0
 NumbersKeepApart =
-    (xs scope : List Var) (n : ℕ) → Distinct xs → NoneIn xs scope → All (λ (x : Var). x.0 < n) scope → (a b : Var) → is_in a (xs ++ scope) ≡ true → is_in b (xs ++ scope) ≡ true →
-    eqb (numbered (λ x. x) xs n a).0 (numbered (λ x. x) xs n b).0 ≡ eqb a.0 b.0
+    (xs scope : List Var) (n : ℕ) → Distinct xs → NoneIn xs scope → All (λ (x : Var). x.0 < n) scope →
+    (a b : Var) → is_in a (xs ++ scope) ≡ true → is_in b (xs ++ scope) ≡ true → eqb (numbered (λ x. x) xs n a).0 (numbered (λ x. x) xs n b).0 ≡ eqb a.0 b.0

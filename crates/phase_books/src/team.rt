@@ -10,9 +10,9 @@ ghost use Rattle.phase_team.specs.Segments.{Costs, cells_from, cost_from};
 ghost use Rattle.phase_books.specs.Homes.{CombinesAll, ComputesAll, IsBooked, OrNoMemory, chunks_in, left_in, new_behind};
 ghost use Rattle.sac_base.specs.Verdict.{folds};
 
-use crate::nesting::Nesting;
 use crate::results::Books;
 use buffer_heap::Heap;
+use code_nesting::Nesting;
 use count_table::Tally;
 use phase_cells::{CellRuns, LentCells};
 use phase_draws::{LoopPhase, PhaseBooks, array_phase, fold_phase};

@@ -16,7 +16,7 @@ const FEW: u64 = 1024;
 const ELEMENTS: u64 = 64;
 
 /// The same of steps of strips, of which each takes a fraction of a nanosecond.
-const FEW_IN_STRIPS: u64 = 131_072;
+pub const FEW_IN_STRIPS: u64 = 524_288;
 
 impl<'a, G: Gate, R: Threads + Sync> Workers<'a, G, R> {
     /// The workers of a phase of so many cells of so many steps of the evaluator: the thread that met it alone where they are few, and all where a size

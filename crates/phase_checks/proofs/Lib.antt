@@ -1,6 +1,11 @@
 pub mod Counted
+pub mod Determined
+pub mod Found
+pub mod Orders
 pub mod Results
 pub mod Rights
+pub mod Scopes
 pub mod Sizes
 pub mod Taken
 pub mod Trees
+pub mod Variants

@@ -1,12 +1,14 @@
 -- What is well counted and without marks, in the words of the walk through a block from its end to its start.
-use Rattle.std.specs.Prelude.{ℕ, List, [], ◌∷◌}
+use Rattle.std.specs.Prelude.{ℕ, Bool, List, [], ◌∷◌, IsTrue}
 use Rattle.core_ir.specs.declared.tree.Var.{Var}
+use Rattle.core_ir.specs.Terms.{PlainTerm}
 use Rattle.counted_code.specs.declared.tree.Code.{Code}
 use Rattle.counted_code.specs.declared.tree.CodeGen.{CodeGen}
 use Rattle.counted_code.specs.declared.tree.CodePart.{CodePart}
 use Rattle.counted_code.specs.declared.tree.CodeStep.{CodeStep}
 use Rattle.counted_code.specs.Counts.{Counted, CountedRight, CountedGens, CountedParts, Unmarked, UnmarkedRight, UnmarkedGens, UnmarkedParts, group_results}
-use Rattle.counted_code.specs.Terms.{CodeTerm, CodeRightTerm, core_of_code}
+use Rattle.counted_code.specs.Counts.{Reordered}
+use Rattle.counted_code.specs.Terms.{CodeTerm, CodeRightTerm, PlainCode, IfCode, LoopCode, CallCode, core_of_code}
 use Rattle.counted_code.specs.View.{code_program, step_term}
 use Rattle.phase_checks.specs.Terms.{gens_term, parts_term}
 
@@ -32,3 +34,38 @@ IsCountedPart results_of outer p = CountedParts results_of outer (parts_term (p 
 abbrev pub Leads : (ℕ → ℕ) → (outer before : List Var) → CodeStep → (after : List Var) → Type 0
 Leads results_of outer before s after =
     (n : ℕ) (rest : CodeTerm) → IsCounted results_of n outer after rest → IsCounted results_of n outer before (step_term s rest)
+
+-- Whatever references it is well counted with are those of `refs`, in some order.
+abbrev pub IsCountedOnlyWith : (ℕ → ℕ) → (n : ℕ) (outer refs : List Var) → CodeTerm → Type 0
+IsCountedOnlyWith results_of n outer refs t = (own : List Var) → IsCounted results_of n outer own t → Reordered own refs
+
+-- Where a rest is well counted only with the references after the step, it is with the step in front well counted only with those before it, and only if
+-- the answer is yes.
+abbrev pub Determines : (ℕ → ℕ) → (outer before : List Var) → CodeStep → (after : List Var) → (answer : Bool) → Type 0
+Determines results_of outer before s after answer =
+    (n : ℕ) (rest : CodeTerm) (own : List Var) → IsCountedOnlyWith results_of n outer after rest → IsCounted results_of n outer own (step_term s rest)
+    → IsTrue answer × Reordered own before
+
+-- ---- kinds of right sides
+
+-- a conditional or a loop
+abbrev pub IsNested : CodeRightTerm → Type 0
+IsNested (IfCode c a b) = Unit {0}
+IsNested (LoopCode first start params test body s) = Unit {0}
+IsNested _ = ⊥
+
+-- one that gives one value: no conditional, loop or call, and no fault
+abbrev pub IsValue : CodeRightTerm → Type 0
+IsValue (IfCode c a b) = ⊥
+IsValue (LoopCode first start params test body s) = ⊥
+IsValue (CallCode g xs) = ⊥
+IsValue (PlainCode (PlainTerm.Always k)) = ⊥
+IsValue _ = Unit {0}
+
+-- one without blocks and calls that hands on no reference, and is no fault
+abbrev pub OnlyReads : CodeRightTerm → Type 0
+OnlyReads (PlainCode (PlainTerm.Copy x)) = ⊥
+OnlyReads (PlainCode (PlainTerm.Check x t)) = ⊥
+OnlyReads (PlainCode (PlainTerm.Always k)) = ⊥
+OnlyReads (PlainCode p) = Unit {0}
+OnlyReads _ = ⊥

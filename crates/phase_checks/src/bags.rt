@@ -1,6 +1,7 @@
 //! Lists of variables. As references, a variable stands in a list once for each of them.
 
-ghost use Rattle.std.specs.Prelude.{◌≡◌, ◌++◌, IfOk, IsTrue};
+ghost use Rattle.std.specs.Prelude.{◌≡◌, ◌++◌, List, IfOk, IsTrue};
+ghost use Rattle.core_ir.specs.declared.tree.Var.{Var};
 ghost use Rattle.core_ir.specs.Binders.{is_in, NoneIn};
 ghost use Rattle.core_ir.specs.Scopes.{AllIn};
 ghost use Rattle.core_ir.specs.WellFormed.{Distinct};
@@ -32,10 +33,24 @@ pub fn stands_in_either(first: &[Var], second: &[Var], x: Var) -> bool
 
 /// Whether each of the variables stands in the scope.
 pub fn all_in(xs: &[Var], scope: &[Var]) -> bool
-    ensures { IsTrue result → AllIn xs.now scope.now }
+    ensures inside { IsTrue result → AllIn xs.now scope.now }
+    ensures converse { AllIn xs.now scope.now → IsTrue result }
 {
     for x in xs {
         if !stands_in(scope, *x) {
+            return false;
+        }
+    }
+    true
+}
+
+/// Whether none of the variables stands in the scope.
+pub fn none_in(xs: &[Var], scope: &[Var]) -> bool
+    ensures outside { IsTrue result → NoneIn xs.now scope.now }
+    ensures converse { NoneIn xs.now scope.now → IsTrue result }
+{
+    for x in xs {
+        if stands_in(scope, *x) {
             return false;
         }
     }
@@ -46,6 +61,7 @@ pub fn all_in(xs: &[Var], scope: &[Var]) -> bool
 pub fn are_new(xs: &[Var], scope: &[Var]) -> bool
     ensures distinct { IsTrue result → Distinct xs.now }
     ensures outside { IsTrue result → NoneIn xs.now scope.now }
+    ensures converse { Distinct xs.now → NoneIn xs.now scope.now → IsTrue result }
 {
     for place in 0..xs.len() {
         if stands_in(&xs[place + 1..], xs[place]) || stands_in(scope, xs[place]) {
@@ -80,7 +96,8 @@ pub fn take_out(xs: &mut Vec<Var>, x: Var) -> bool
 
 /// Takes a reference of each variable out of the list, and says whether all were there.
 pub fn take_all(refs: &mut Vec<Var>, xs: &[Var]) -> bool
-    ensures { IsTrue result → Reordered refs.old.items (xs.now ++ refs.new.items) }
+    ensures taken { IsTrue result → Reordered refs.old.items (xs.now ++ refs.new.items) }
+    ensures converse { (rest : List Var) → Reordered refs.old.items (xs.now ++ rest) → IsTrue result × Reordered rest refs.new.items }
 {
     for x in xs {
         if !take_out(refs, *x) {
@@ -92,7 +109,8 @@ pub fn take_all(refs: &mut Vec<Var>, xs: &[Var]) -> bool
 
 /// Whether the references are those of the second list, in any order.
 pub fn are_same(refs: Vec<Var>, own: &[Var]) -> bool
-    ensures { IsTrue result → Reordered own.now refs.items }
+    ensures same { IsTrue result → Reordered own.now refs.items }
+    ensures converse { Reordered own.now refs.items → IsTrue result }
 {
     let mut refs = refs;
     if !take_all(&mut refs, own) {

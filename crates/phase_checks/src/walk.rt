@@ -3,15 +3,18 @@
 //! What a block hands on and releases tells which references it has: at its end those of its results, and in front of each step those that the step
 //! needs for what follows. So nothing is guessed, and a block is well counted from a list of references if it has just these.
 
-ghost use Rattle.std.specs.Prelude.{◌≡◌, [], IfOk, IfSome, IsTrue};
-ghost use Rattle.counted_code.specs.Counts.{CountedGens, CountedParts, UnmarkedGens, UnmarkedParts, group_results};
+ghost use Rattle.std.specs.Prelude.{◌≡◌, List, [], IfOk, IfSome, IsSomeAnd, IsTrue};
+ghost use Rattle.core_ir.specs.declared.tree.Var.{Var};
+ghost use Rattle.counted_code.specs.Counts.{CountedGens, CountedParts, Reordered, UnmarkedGens, UnmarkedParts, group_results};
 ghost use Rattle.counted_code.specs.Terms.{core_of_code};
 ghost use Rattle.counted_code.specs.View.{code_program, code_term, code_right_term, code_with_term, code_parted_term};
 ghost use Rattle.counted_code.specs.declared.tree.CodeStep.TheVariants as step_of;
 ghost use Rattle.phase_checks.specs.Terms.{gens_term, parts_term};
-ghost use Rattle.phase_checks.specs.Walks.{results_in, IsCounted, IsCountedRight, IsCountedGen, IsCountedPart, Leads};
+ghost use Rattle.phase_checks.specs.Walks.{results_in, IsCounted, IsCountedRight, IsCountedGen, IsCountedPart, Leads, Determines, IsNested, IsValue};
 
-use crate::bags::{are_new, are_same, joined, stands_in, stands_in_either, take_all, take_out};
+use crate::bags::{
+    are_new, are_same, joined, none_in, stands_in, stands_in_either, take_all, take_out,
+};
 use crate::groups::count_results;
 use crate::reads::{bounds_read, only_reads, operation_reads, parted_reads};
 use core_ir::Var;
@@ -29,8 +32,10 @@ pub fn gens_are_counted(
     outer: &[Var],
     gens: &[CodeGen],
 ) -> Result<bool, Memory>
-    ensures { IfOk result (λ b. IsTrue b → CountedGens (group_results (core_of_code (code_program code.now))) outer.now (gens_term gens.now)
+    ensures counted { IfOk result (λ b. IsTrue b → CountedGens (group_results (core_of_code (code_program code.now))) outer.now (gens_term gens.now)
         × UnmarkedGens (gens_term gens.now)) }
+    ensures converse { IfOk result (λ b. CountedGens (group_results (core_of_code (code_program code.now))) outer.now (gens_term gens.now)
+        → UnmarkedGens (gens_term gens.now) → IsTrue b) }
 {
     for generator in gens {
         if !gen_is_counted(alloc, code, outer, generator)? {
@@ -48,8 +53,10 @@ pub fn parts_are_counted(
     outer: &[Var],
     parts: &[CodePart],
 ) -> Result<bool, Memory>
-    ensures { IfOk result (λ b. IsTrue b → CountedParts (group_results (core_of_code (code_program code.now))) outer.now (parts_term parts.now)
+    ensures counted { IfOk result (λ b. IsTrue b → CountedParts (group_results (core_of_code (code_program code.now))) outer.now (parts_term parts.now)
         × UnmarkedParts (parts_term parts.now)) }
+    ensures converse { IfOk result (λ b. CountedParts (group_results (core_of_code (code_program code.now))) outer.now (parts_term parts.now)
+        → UnmarkedParts (parts_term parts.now) → IsTrue b) }
 {
     for part in parts {
         if !part_is_counted(alloc, code, outer, part)? {
@@ -67,10 +74,11 @@ fn gen_is_counted(
     outer: &[Var],
     generator: &CodeGen,
 ) -> Result<bool, Memory>
-    ensures { IfOk result (λ b. IsTrue b → IsCountedGen (results_in code.now) outer.now generator.now) }
+    ensures counted { IfOk result (λ b. IsTrue b → IsCountedGen (results_in code.now) outer.now generator.now) }
+    ensures converse { IfOk result (λ b. IsCountedGen (results_in code.now) outer.now generator.now → IsTrue b) }
 {
     let own = joined(alloc, &[generator.index], &generator.names)?;
-    if !bounds_read(generator, outer) || !are_new(&own, outer) {
+    if !bounds_read(generator, outer) || !none_in(&own, outer) {
         return Ok(false);
     }
     block_is_counted(alloc, code, outer, &own, 1, &generator.body)
@@ -84,7 +92,8 @@ fn part_is_counted(
     outer: &[Var],
     part: &CodePart,
 ) -> Result<bool, Memory>
-    ensures { IfOk result (λ b. IsTrue b → IsCountedPart (results_in code.now) outer.now part.now) }
+    ensures counted { IfOk result (λ b. IsTrue b → IsCountedPart (results_in code.now) outer.now part.now) }
+    ensures converse { IfOk result (λ b. IsCountedPart (results_in code.now) outer.now part.now → IsTrue b) }
 {
     if stands_in(outer, part.index) {
         return Ok(false);
@@ -102,7 +111,8 @@ fn block_is_counted(
     results: usize,
     block: &CodeBlock,
 ) -> Result<bool, Memory>
-    ensures { IfOk result (λ b. IsTrue b → IsCounted (results_in code.now) results outer.now own.now (code_term block.now)) }
+    ensures counted { IfOk result (λ b. IsTrue b → IsCounted (results_in code.now) results outer.now own.now (code_term block.now)) }
+    ensures converse { IfOk result (λ b. IsCounted (results_in code.now) results outer.now own.now (code_term block.now) → IsTrue b) }
 {
     match block_refs(alloc, code, outer, results, block)? {
         Some(refs) => Ok(are_same(refs, own)),
@@ -119,7 +129,9 @@ fn block_refs(
     results: usize,
     block: &CodeBlock,
 ) -> Result<Option<Vec<Var>>, Memory>
-    ensures { IfOk result (λ o. IfSome o (λ refs. IsCounted (results_in code.now) results outer.now refs.items (code_term block.now))) }
+    ensures counted { IfOk result (λ o. IfSome o (λ refs. IsCounted (results_in code.now) results outer.now refs.items (code_term block.now))) }
+    ensures converse { IfOk result (λ o. (own : List Var) → IsCounted (results_in code.now) results outer.now own (code_term block.now)
+        → IsSomeAnd o (λ refs. Reordered own refs.items)) }
 {
     if block.results.len() != results {
         return Ok(None);
@@ -144,7 +156,8 @@ fn step_back(
     step: &CodeStep,
     refs: &mut Vec<Var>,
 ) -> Result<bool, Memory>
-    ensures { IfOk result (λ b. IsTrue b → Leads (results_in code.now) outer.now refs.new.items step.now refs.old.items) }
+    ensures counted { IfOk result (λ b. IsTrue b → Leads (results_in code.now) outer.now refs.new.items step.now refs.old.items) }
+    ensures converse { IfOk result (λ b. Determines (results_in code.now) outer.now refs.new.items step.now refs.old.items b) }
 {
     match step {
         CodeStep::Bind(binding) => binding_back(alloc, code, outer, binding, refs),
@@ -170,7 +183,8 @@ fn binding_back(
     binding: &CodeLet,
     refs: &mut Vec<Var>,
 ) -> Result<bool, Memory>
-    ensures { IfOk result (λ b. IsTrue b → Leads (results_in code.now) outer.now refs.new.items (step_of.Bind binding.now) refs.old.items) }
+    ensures counted { IfOk result (λ b. IsTrue b → Leads (results_in code.now) outer.now refs.new.items (step_of.Bind binding.now) refs.old.items) }
+    ensures converse { IfOk result (λ b. Determines (results_in code.now) outer.now refs.new.items (step_of.Bind binding.now) refs.old.items b) }
 {
     if !take_all(refs, &binding.targets) {
         return Ok(false);
@@ -198,7 +212,9 @@ fn right_refs(
     results: usize,
     right: &CodeRight,
 ) -> Result<Option<Vec<Var>>, Memory>
-    ensures { IfOk result (λ o. IfSome o (λ mine. IsCountedRight (results_in code.now) results scope.now mine.items (code_right_term right.now))) }
+    ensures counted { IfOk result (λ o. IfSome o (λ mine. IsCountedRight (results_in code.now) results scope.now mine.items (code_right_term right.now))) }
+    ensures converse { IfOk result (λ o. (own : List Var) → IsCountedRight (results_in code.now) results scope.now own (code_right_term right.now)
+        → IsSomeAnd o (λ mine. Reordered own mine.items)) }
 {
     match right {
         CodeRight::If { .. } | CodeRight::Loop { .. } => {
@@ -229,7 +245,10 @@ fn nested_refs(
     results: usize,
     right: &CodeRight,
 ) -> Result<Option<Vec<Var>>, Memory>
-    ensures { IfOk result (λ o. IfSome o (λ mine. IsCountedRight (results_in code.now) results scope.now mine.items (code_right_term right.now))) }
+    ensures counted { IfOk result (λ o. IfSome o (λ mine. IsCountedRight (results_in code.now) results scope.now mine.items (code_right_term right.now))) }
+    ensures converse { IsNested (code_right_term right.now) → IfOk result (λ o. (own : List Var)
+        → IsCountedRight (results_in code.now) results scope.now own (code_right_term right.now)
+        → IsSomeAnd o (λ mine. Reordered own mine.items)) }
 {
     match right {
         CodeRight::If { cond, yes, no } => {
@@ -273,7 +292,10 @@ fn value_refs(
     scope: &[Var],
     right: &CodeRight,
 ) -> Result<Option<Vec<Var>>, Memory>
-    ensures { IfOk result (λ o. IfSome o (λ mine. IsCountedRight (results_in code.now) 1 scope.now mine.items (code_right_term right.now))) }
+    ensures counted { IfOk result (λ o. IfSome o (λ mine. IsCountedRight (results_in code.now) 1 scope.now mine.items (code_right_term right.now))) }
+    ensures converse { IsValue (code_right_term right.now) → IfOk result (λ o. (own : List Var)
+        → IsCountedRight (results_in code.now) 1 scope.now own (code_right_term right.now)
+        → IsSomeAnd o (λ mine. Reordered own mine.items)) }
 {
     match right {
         CodeRight::Copy(x) => Ok(Some(Vec::from_slice(alloc, &[*x])?)),
@@ -298,7 +320,8 @@ fn with_is_counted(
     scope: &[Var],
     with: &CodeWith,
 ) -> Result<bool, Memory>
-    ensures { IfOk result (λ b. IsTrue b → IsCountedRight (results_in code.now) 1 scope.now [] (code_with_term with.now)) }
+    ensures counted { IfOk result (λ b. IsTrue b → IsCountedRight (results_in code.now) 1 scope.now [] (code_with_term with.now)) }
+    ensures converse { IfOk result (λ b. IsCountedRight (results_in code.now) 1 scope.now [] (code_with_term with.now) → IsTrue b) }
 {
     if !operation_reads(with.op, scope) {
         return Ok(false);
@@ -314,7 +337,8 @@ fn parted_is_counted(
     scope: &[Var],
     parted: &CodeParted,
 ) -> Result<bool, Memory>
-    ensures { IfOk result (λ b. IsTrue b → IsCountedRight (results_in code.now) 1 scope.now [] (code_parted_term parted.now)) }
+    ensures counted { IfOk result (λ b. IsTrue b → IsCountedRight (results_in code.now) 1 scope.now [] (code_parted_term parted.now)) }
+    ensures converse { IfOk result (λ b. IsCountedRight (results_in code.now) 1 scope.now [] (code_parted_term parted.now) → IsTrue b) }
 {
     if parted.reuse.is_some() || !parted_reads(parted.op, scope) {
         return Ok(false);
@@ -326,6 +350,7 @@ fn parted_is_counted(
 fn none_if(alloc: Global, holds: bool) -> Option<Vec<Var>>
     ensures holding { IfSome result (λ mine. IsTrue holds) }
     ensures empty { IfSome result (λ mine. mine.items ≡ []) }
+    ensures found { IsTrue holds → IsSomeAnd result (λ mine. mine.items ≡ []) }
 {
     if holds { Some(Vec::new(alloc)) } else { None }
 }

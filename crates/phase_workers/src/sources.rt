@@ -5,7 +5,7 @@ ghost use Rattle.counted_code.specs.View.{code_program};
 ghost use Rattle.phase_workers.specs.Sources.{IsClear, IsCounted, StandsApart};
 
 use core_ir::Var;
-use phase_books::{Workers, alive_in};
+use phase_books::{Workers, alive_in, has_room_for};
 use phase_checks::{gens_are_counted, parts_are_counted};
 use phase_team::Gate;
 use run_loops::{CellSource, Context, State};
@@ -23,7 +23,7 @@ pub fn live_apart<G: Gate, R: Threads + Sync>(
     ensures { IfOk result (λ found. IfSome found (λ live. StandsApart context.now state.now source.now live.items)) }
 {
     if state.heap.lent.is_some()
-        || !workers.nesting.has_room_for(source, context.code.get())
+        || !has_room_for(workers.nesting, source, context.code.get())
         || !is_clear(source, context)
     {
         return Ok(None);

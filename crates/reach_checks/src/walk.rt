@@ -4,7 +4,8 @@ ghost use Rattle.std.specs.Prelude.{◌≡◌, is_some};
 ghost use Rattle.std.specs.List.{list_all};
 ghost use Rattle.counted_code.specs.View.{code_term, code_right_term, code_with_term, code_parted_term};
 ghost use Rattle.counted_code.specs.declared.tree.CodeParted.{out-CodeParted};
-ghost use Rattle.reach_checks.specs.Clear.{is_clear as block_clear, right_is_clear as right_clear, gens_are_clear as gens_clear, parts_are_clear as parts_clear, step_is_clear as step_clear};
+ghost use Rattle.reach_checks.specs.Clear.{is_clear as block_clear, right_is_clear as right_clear, gens_are_clear as gens_clear};
+ghost use Rattle.reach_checks.specs.Clear.{parts_are_clear as parts_clear, step_is_clear as step_clear};
 ghost use Rattle.reach_checks.specs.Groups.{clear_in};
 ghost use Rattle.phase_checks.specs.Terms.{gens_term, parts_term};
 

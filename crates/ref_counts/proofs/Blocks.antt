@@ -1,6 +1,7 @@
 -- A block's bindings, placed one after another.
-use Rattle.std.proofs.Common.{◌≡◌, ℕ, ◌+◌, ◌<◌, ◌≤◌, List, [], ◌∷◌, ◌++◌, map, length, drop, slice_index_or, refl, ap, ◌∙◌, sym, arith, length-drop, length-append}
-use Rattle.std.proofs.lemmas.List.{at_drop_all}
+use Rattle.std.proofs.Common.{◌≡◌, ℕ, ◌+◌, ◌<◌, ◌≤◌, List, [], ◌∷◌, ◌++◌, map, length, drop, take, slice_index_or, refl, ap, ◌∙◌, sym, arith}
+use Rattle.std.proofs.lemmas.List.{at_drop_all, drop-take}
+use lib.Seq.{take-append_seam}
 use Rattle.core_ir.specs.declared.tree.Var.{Var}
 use Rattle.core_ir.specs.declared.tree.Block.{Block, out-Block}
 use Rattle.core_ir.specs.declared.tree.Let.{Let}
@@ -8,38 +9,50 @@ use Rattle.core_ir.specs.Terms.{BlockTerm, Gives, chain}
 use Rattle.core_ir.specs.View.{block_term, right_term, let_term}
 use Rattle.core_ir.proofs.Trees.{block_out}
 use Rattle.counted_code.specs.declared.tree.CodeStep.{CodeStep}
-use Rattle.counted_code.specs.Prompt.{uses, uses_right}
 use Rattle.counted_code.specs.Terms.{Giving}
 use Rattle.counted_code.specs.View.{steps_before}
 use Rattle.counted_placing.specs.Placing.{placing}
-use Rattle.counted_placing.proofs.Lists.{append_assoc}
-use Rattle.ref_counts.proofs.Collected.{let_uses, lets_used, block_used}
+use Rattle.listed_uses.specs.declared.list.Entry.{Entry}
+use Rattle.listed_uses.specs.declared.list.Entry.TheVariants.{Section}
+use Rattle.listed_uses.specs.Latest.{section, EndsAt}
+use Rattle.ref_counts.specs.Listing.{each, listed, listed_right}
+use Rattle.ref_counts.proofs.Collected.{assoc, let_listed, lets_listed, block_listed}
 use Rattle.ref_rules.proofs.Taken.{drop_here}
 
--- places stay within the list
-pub fits : (us : List Var) (from to : ℕ) (xs ys : List Var) → from ≤ length us → drop from us ≡ xs ++ ys → to ≡ from + length xs → to ≤ length us
-fits us from to xs ys le e at =
-    let n = sym (length-drop from us) ∙ ap length e ∙ length-append xs ys in
-    omega (arith, le, at, n)
+-- ---- places in the uses of a block
 
--- what is left at a binding: its uses, then those of what follows
-pub at_binding : (us : List Var) (from : ℕ) (b : Let) (here more : List Let) (rs : List Var) → here ≡ b ∷ more → drop from us ≡ let_uses here ++ rs → drop from us ≡ uses_right (right_term b.right) ++ (let_uses more ++ rs)
-at_binding us from b here more rs h e = e ∙ ap (λ ls. let_uses ls ++ rs) h ∙ sym (append_assoc (uses_right (right_term b.right)) (let_uses more) rs)
+-- at a binding: its section, then those of what follows
+pub at_binding : (here : List Let) (more : List Let) (b : Let) (later : List Entry) → here ≡ b ∷ more → let_listed here ++ later ≡ section (listed_right (right_term b.right)) ++ (let_listed more ++ later)
+at_binding here more b later h = ap (λ ls. let_listed ls ++ later) h ∙ sym (assoc (section (listed_right (right_term b.right))) (let_listed more) later)
 
 -- the same, in the words of blocks
-pub at_let : (us : List Var) (from : ℕ) (b : Let) (here more : List Let) (rs : List Var) → here ≡ b ∷ more → drop from us ≡ let_uses here ++ rs → drop from us ≡ uses_right (right_term b.right) ++ uses (chain (map let_term more) (Gives rs))
-at_let us from b here more rs h e = at_binding us from b here more rs h e ∙ ap (λ us. uses_right (right_term b.right) ++ us) (sym (lets_used more rs))
+pub at_let : (here more : List Let) (b : Let) (rs : List Var) → here ≡ b ∷ more → let_listed here ++ each rs ≡ section (listed_right (right_term b.right)) ++ listed (chain (map let_term more) (Gives rs))
+at_let here more b rs h = at_binding here more b (each rs) h ∙ ap (λ es. section (listed_right (right_term b.right)) ++ es) (sym (lets_listed more rs))
 
--- before the first binding
-pub at_first : (b : Block) (items : List Let) → items ≡ (out-Block b).lets.items → uses (block_term b) ≡ let_uses items ++ (out-Block b).results.items
-at_first b items e = block_used b ∙ ap (λ ls. let_uses ls ++ (out-Block b).results.items) (sym e)
+-- what is used from the first binding on, in the list of all uses
+pub all_uses : (b : Block) (uses : List Entry) (start from : ℕ) (items : List Let) (later : List Entry) → EndsAt uses start (Section (length (listed (block_term b))) ∷ []) from → drop start uses ≡ section (listed (block_term b)) ++ later → items ≡ (out-Block b).lets.items →
+    drop from uses ≡ let_listed items ++ (each (out-Block b).results.items ++ later)
+all_uses b uses start from items later skips h same =
+    (skips (listed (block_term b) ++ later) h).1
+    ∙ ap (λ es. es ++ later) (block_listed b ∙ ap (λ ls. let_listed ls ++ each (out-Block b).results.items) (sym same))
+    ∙ sym (assoc (let_listed items) (each (out-Block b).results.items) later)
 
-pub all_uses : (b : Block) (items : List Let) (none out : List Var) → none ≡ [] → out ≡ none ++ uses (block_term b) → items ≡ (out-Block b).lets.items → out ≡ let_uses items ++ (out-Block b).results.items
-all_uses b items none out empty e same = e ∙ ap (λ us. us ++ uses (block_term b)) empty ∙ at_first b items same
+-- and in the list up to the block's end
+pub own_uses : (b : Block) (uses : List Entry) (start end from : ℕ) (items : List Let) (later : List Entry) → EndsAt uses start (section (listed (block_term b))) end → EndsAt uses start (Section (length (listed (block_term b))) ∷ []) from → drop start uses ≡ section (listed (block_term b)) ++ later →
+    items ≡ (out-Block b).lets.items → drop from (take end uses) ≡ let_listed items ++ each (out-Block b).results.items
+own_uses b uses start end from items later ends skips h same =
+    let inner = listed (block_term b) in
+    let past = ends later h in
+    let first = skips (inner ++ later) h in
+    let far : end ≡ from + length inner = omega (arith, past, first) in
+    ap (λ n. drop from (take n uses)) far ∙ drop-take from (length inner) uses ∙ ap (take (length inner)) first.1 ∙ take-append_seam inner later
+    ∙ block_listed b ∙ ap (λ ls. let_listed ls ++ each (out-Block b).results.items) (sym same)
 
 -- after the last
-pub at_last : (us : List Var) (from i : ℕ) (items : List Let) (rs : List Var) → length items ≤ i → drop from us ≡ let_uses (drop i items) ++ rs → drop from us ≡ rs
-at_last us from i items rs over e = e ∙ ap (λ ls. ls ++ rs) (at_drop_all let_uses items i over)
+pub at_last : (i : ℕ) (items : List Let) (later : List Entry) → length items ≤ i → let_listed (drop i items) ++ later ≡ later
+at_last i items later over = ap (λ es. es ++ later) (at_drop_all let_listed items i over)
+
+-- ---- what is placed
 
 pub block_done : (b : Block) (refs owned rs out : List Var) (items : List Let) (i : ℕ) (s1 s2 : List CodeStep) →
     steps_before s1 (placing owned (chain (map let_term (drop i items)) (Gives (out-Block b).results.items))) ≡ placing refs (chain (map let_term items) (Gives (out-Block b).results.items)) → length items ≤ i → items ≡ (out-Block b).lets.items →
@@ -62,6 +75,8 @@ pub item_here : (items : List Let) (i : ℕ) (b : Let) → i < length items → 
 item_here items i b lt e = drop_here items i b lt ∙ (λ j. sym e j ∷ drop (i + 1) items)
 
 -- a binding is placed in front of those that follow
-pub next_placed : (s0 s1 : List CodeStep) (owned later rs whole : List Var) (b : Let) (here more all : List Let) → here ≡ b ∷ more → steps_before s1 (placing later (chain (map let_term more) (Gives rs))) ≡ steps_before s0 (placing owned (chain (let_term b ∷ []) (chain (map let_term more) (Gives rs)))) →
+pub next_placed : (s0 s1 : List CodeStep) (owned later stay targets fronts rs whole : List Var) (b : Let) (here more all : List Let) → here ≡ b ∷ more → later ≡ fronts ++ stay → fronts ≡ targets →
+    steps_before s1 (placing (targets ++ stay) (chain (map let_term more) (Gives rs))) ≡ steps_before s0 (placing owned (chain (let_term b ∷ []) (chain (map let_term more) (Gives rs)))) →
     steps_before s0 (placing owned (chain (map let_term here) (Gives rs))) ≡ placing whole (chain (map let_term all) (Gives rs)) → steps_before s1 (placing later (chain (map let_term more) (Gives rs))) ≡ placing whole (chain (map let_term all) (Gives rs))
-next_placed s0 s1 owned later rs whole b here more all h step was = step ∙ ap (λ ls. steps_before s0 (placing owned (chain (map let_term ls) (Gives rs)))) (sym h) ∙ was
+next_placed s0 s1 owned later stay targets fronts rs whole b here more all h front are step was =
+    ap (λ xs. steps_before s1 (placing xs (chain (map let_term more) (Gives rs)))) (front ∙ ap (λ xs. xs ++ stay) are) ∙ step ∙ ap (λ ls. steps_before s0 (placing owned (chain (map let_term ls) (Gives rs)))) (sym h) ∙ was

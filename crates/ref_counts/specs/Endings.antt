@@ -1,8 +1,8 @@
 -- Whose references end in a right side.
-use Rattle.std.specs.Prelude.{◌+◌, ◌-◌, ◌^◌, ◌&&◌, min, length, ℕ, Bool, true, false}
-use Rattle.std.specs.HashMap.{HashMap}
+use Rattle.std.specs.Prelude.{◌+◌, ◌-◌, ◌^◌, ◌&&◌, min, length, ℕ, Bool, true, false, List}
 use Rattle.core_ir.specs.declared.tree.Var.{Var}
 use Rattle.core_ir.specs.Terms.{PlainTerm, RightTerm, Plain}
+use Rattle.listed_uses.specs.declared.list.Entry.{Entry}
 use Rattle.ref_counts.specs.Owning.{ends}
 
 -- it hands on what it uses first, or is a conditional
@@ -14,12 +14,11 @@ ends_some (RightTerm.Loop first start params test body s) = true
 ends_some (RightTerm.Call g xs) = true
 ends_some _ = false
 
--- the place of the first use that a right side does not hand on, where its uses lie between these places
+-- the place of the first use that a right side does not hand on, where its section lies between these places
 abbrev pub read_place : RightTerm → ℕ → ℕ → ℕ
-read_place (RightTerm.Loop first start params test body s) from to = min (from + length start) (2 ^ 64 - 1)
+read_place (RightTerm.Loop first start params test body s) from to = min (min (from + 1) (2 ^ 64 - 1) + length start) (2 ^ 64 - 1)
 read_place _ from to = to
 
-module _ {S : Type 0} where
-  -- of the variables that are used by the right side or later, those that it does not leave to what follows
-  abbrev pub ends_in : HashMap ℕ ℕ S → RightTerm → (from to : ℕ) → Var → Bool
-  ends_in last r from to x = ends_some r && ends last (read_place r from to) x
+-- of the variables that are used by the right side or later, those that it does not leave to what follows
+abbrev pub ends_in : List Entry → RightTerm → (from to : ℕ) → Var → Bool
+ends_in es r from to x = ends_some r && ends es (read_place r from to) x

@@ -1,6 +1,5 @@
 -- What appended steps do.
 use Rattle.std.specs.Prelude.{◌≡◌, ◌+◌, ℕ, List, [], ◌∷◌, ◌++◌, drop, length, Result, IfOk}
-use Rattle.std.specs.HashMap.{HashMap}
 use Rattle.sac_base.specs.declared.faults.Caps.{Caps}
 use Rattle.sac_base.specs.Arrays.{ArrayValue}
 use Rattle.core_ir.specs.declared.tree.Var.{Var}
@@ -9,31 +8,32 @@ use Rattle.core_ir.specs.Terms.{BlockTerm, LetTerm, CoreTerm, Gives, chain}
 use Rattle.counted_code.specs.declared.tree.Code.{Code}
 use Rattle.counted_code.specs.declared.tree.CodeStep.{CodeStep}
 use Rattle.counted_code.specs.Outcome.{whole_run, outcome_of}
-use Rattle.counted_code.specs.Prompt.{uses, uses_right}
 use Rattle.counted_code.specs.Terms.{Giving}
 use Rattle.counted_code.specs.View.{code_program, steps_before}
 use Rattle.counted_laws.specs.Simulation.{LeavesNothing}
 use Rattle.counted_placing.specs.Placing.{placing}
 use Rattle.ref_counts.specs.declared.held.Owned.{Owned}
-use Rattle.ref_rules.specs.Latest.{AreLast}
+use Rattle.listed_uses.specs.declared.list.Entry.{Entry}
+use Rattle.listed_uses.specs.Latest.{section}
+use Rattle.ref_counts.specs.Listing.{each, listed, listed_right}
 use Rattle.ref_counts.specs.Owning.{owned_vars, IsSound}
 
-module _ {S E : Type 0} where
+module _ {E : Type 0} where
   -- the steps before a block's results are appended: the uses from this place on are the results
-  abbrev pub ResultsPlaced : HashMap ℕ ℕ S → ℕ → Owned → List Var → List CodeStep → List CodeStep → Result (Unit {0}) E → Type 0
-  ResultsPlaced last from owned results before after answer =
-      (us : List Var) → AreLast last us → IsSound last owned → drop from us ≡ results →
+  abbrev pub ResultsPlaced : ℕ → Owned → List Var → List CodeStep → List CodeStep → Result (Unit {0}) E → Type 0
+  ResultsPlaced from owned results before after answer =
+      (es : List Entry) → IsSound es owned → drop from es ≡ each results →
       IfOk answer (λ done. steps_before after (Giving results) ≡ steps_before before (placing (owned_vars owned) (Gives results)))
 
-  -- a binding, and the steps before it, are appended: its uses stand from this place on up to the other, and those of the rest follow
-  abbrev pub LetPlaced : HashMap ℕ ℕ S → LetTerm → (from to : ℕ) → Owned → List CodeStep → List CodeStep → Result Owned E → Type 0
-  LetPlaced last binding from to owned before after answer =
-      (us : List Var) (rest : BlockTerm) → AreLast last us → IsSound last owned →
-      drop from us ≡ uses_right binding.right ++ uses rest → to ≡ from + length (uses_right binding.right) →
-      IfOk answer (λ left. IsSound last left × (
-      steps_before after (placing (owned_vars left) rest) ≡ steps_before before (placing (owned_vars owned) (chain (binding ∷ []) rest))))
+  -- a binding, and the steps before it, are appended: its section stands between these places, and what the rest of the block uses follows
+  abbrev pub LetPlaced : List Entry → LetTerm → (from to : ℕ) → Owned → List CodeStep → List CodeStep → Result Owned E → Type 0
+  LetPlaced uses binding from to owned before after answer =
+      (es later : List Entry) (rest : BlockTerm) → IsSound es owned → drop from es ≡ section (listed_right binding.right) ++ listed rest →
+      drop from uses ≡ section (listed_right binding.right) ++ later → to ≡ from + length (section (listed_right binding.right)) →
+      IfOk answer (λ stay. IsSound es stay × (
+      steps_before after (placing (binding.targets ++ owned_vars stay) rest)
+      ≡ steps_before before (placing (owned_vars owned) (chain (binding ∷ []) rest))))
 
-module _ {E : Type 0} where
   -- each run of the code has the outcome of the core
   abbrev pub RunsAsTheCore : CoreTerm → Result Code E → Type 0
   RunsAsTheCore core answer =

@@ -3,18 +3,19 @@
 ghost use Rattle.std.specs.Prelude.{◌≡◌, IfOk, map};
 ghost use Rattle.core_ir.specs.declared.tree.Var.{Var};
 ghost use Rattle.sac_base.specs.declared.types.ArrayType.{ArrayType};
-ghost use Rattle.core_ir.specs.View.{fun_term, core_term};
+ghost use Rattle.core_ir.specs.View.{block_term, fun_term, core_term};
 ghost use Rattle.core_ir.specs.WellFormed.{IsWellFormed};
 ghost use Rattle.counted_code.specs.Counts.{IsWellCounted, IsUnmarked};
 ghost use Rattle.counted_code.specs.Prompt.{IsPrompt};
 ghost use Rattle.counted_code.specs.Terms.{core_of_code};
-ghost use Rattle.counted_code.specs.View.{code_fun_term, code_program};
+ghost use Rattle.counted_code.specs.View.{code_term, code_fun_term, code_program};
 ghost use Rattle.ref_counts.specs.Placements.{RunsAsTheCore, RunsLeaveNothing};
-ghost use Rattle.counted_placing.specs.Placing.{placing_fun, placing_core};
+ghost use Rattle.counted_placing.specs.Placing.{placing, placing_fun, placing_core};
 
 use crate::place::place_block;
-use core_ir::{Core, CoreFun, Var};
-use counted_code::{Code, CodeFun};
+use crate::uses::uses_of;
+use core_ir::{Block, Core, CoreFun, Var};
+use counted_code::{Code, CodeBlock, CodeFun};
 use sac_base::{ArrayType, Memory};
 use std::alloc::Global;
 
@@ -69,16 +70,25 @@ fn place_function(alloc: Global, function: CoreFun) -> Result<CodeFun, Memory>
         body,
         ends,
     } = function;
-    let own = param_vars(alloc, &params)?;
+    let body = place_body(alloc, &params, &body)?;
     Ok(CodeFun {
         name,
         site,
         params,
         results,
         inline,
-        body: place_block(alloc, &body, &own)?,
+        body,
         ends,
     })
+}
+
+// The body has the references of the function's arguments.
+fn place_body(alloc: Global, params: &[(Var, ArrayType)], body: &Block) -> Result<CodeBlock, Memory>
+    ensures { IfOk result (λ c. code_term c ≡ placing (map (λ (p : Var × ArrayType). p.0) params.now) (block_term body.now)) }
+{
+    let own = param_vars(alloc, params)?;
+    let uses = uses_of(alloc, body)?;
+    place_block(alloc, body, &uses, 0, &own)
 }
 
 fn param_vars(alloc: Global, params: &[(Var, ArrayType)]) -> Result<Vec<Var>, Memory>

@@ -1,20 +1,22 @@
 //! The variables whose references a block has at a place.
 
-ghost use Rattle.std.specs.Prelude.{◌≡◌, ◌∷◌, ◌++◌, IfOk};
+ghost use Rattle.std.specs.Prelude.{◌≡◌, ◌∷◌, ◌++◌, List, take, IfOk};
+ghost use Rattle.listed_uses.specs.Latest.{IsLast};
+ghost use Rattle.listed_uses.specs.declared.list.Entry.{Entry as Listed};
 ghost use Rattle.ref_counts.specs.Owning.{owned_vars, IsSound, IsBound, EndsOf, ends};
 
 use core_ir::Var;
-use ref_rules::{LastUses, is_used_from};
+use listed_uses::Uses;
 use sac_base::Memory;
 use std::alloc::Global;
 
-/// Variables in an order, as a tree. A fork says before which place each of its variables is used once more, so those that are used no more are
-/// found without a walk over the others. What was taken out leaves its place, so the depth is the logarithm of the number of variables that were put
-/// in.
+/// Variables in an order, as a tree, each with the place behind its last use in the block. A fork says before which place each of its variables is used
+/// once more, so those that are used no more are found without a walk over the others. What was taken out leaves its place, so the depth is the
+/// logarithm of the number of variables that were put in.
 #[derive(Drop)]
 pub enum Owned {
     Gone,
-    One(Var),
+    One(Var, usize),
     Fork {
         leaves: usize,
         used_before: usize,
@@ -32,26 +34,23 @@ fn count_leaves(tree: &Owned) -> usize {
 }
 
 /// A place before which each of the variables is used at that place or later.
-fn bound_of(tree: &Owned, last: &LastUses) -> usize
-    ensures { IsSound last.now tree.now → IsBound last.now (owned_vars tree.now) result }
+fn bound_of(tree: &Owned) -> usize
+    ensures { (es : List Listed) → IsSound es tree.now → IsBound es (owned_vars tree.now) result }
 {
     match tree {
         Owned::Gone => usize::MAX,
-        Owned::One(x) => match last.get(&x.0) {
-            Some(place) => place.saturating_add(1),
-            None => 0,
-        },
+        Owned::One(_, behind) => *behind,
         Owned::Fork { used_before, .. } => *used_before,
     }
 }
 
 /// The variables of the first tree, then those of the second.
-fn fork(alloc: Global, last: &LastUses, first: Owned, second: Owned) -> Result<Owned, Memory>
+fn fork(alloc: Global, first: Owned, second: Owned) -> Result<Owned, Memory>
     ensures vars { IfOk result (λ t. owned_vars t ≡ owned_vars first ++ owned_vars second) }
-    ensures sound { IsSound last.now first → IsSound last.now second → IfOk result (λ t. IsSound last.now t) }
+    ensures sound { (es : List Listed) → IsSound es first → IsSound es second → IfOk result (λ t. IsSound es t) }
 {
     let leaves = count_leaves(&first).saturating_add(count_leaves(&second));
-    let used_before = bound_of(&first, last).min(bound_of(&second, last));
+    let used_before = bound_of(&first).min(bound_of(&second));
     Ok(Owned::Fork {
         leaves,
         used_before,
@@ -61,13 +60,13 @@ fn fork(alloc: Global, last: &LastUses, first: Owned, second: Owned) -> Result<O
 }
 
 /// The tree with one variable more, before the others.
-pub fn with_front(alloc: Global, tree: Owned, last: &LastUses, x: Var) -> Result<Owned, Memory>
+fn with_front(alloc: Global, tree: Owned, x: Var, behind: usize) -> Result<Owned, Memory>
     ensures vars { IfOk result (λ t. owned_vars t ≡ x ∷ owned_vars tree) }
-    ensures sound { IsSound last.now tree → IfOk result (λ t. IsSound last.now t) }
+    ensures sound { (es : List Listed) → IsLast es x behind → IsSound es tree → IfOk result (λ t. IsSound es t) }
 {
     match tree {
-        Owned::Gone => fork(alloc, last, Owned::One(x), Owned::Gone),
-        Owned::One(y) => fork(alloc, last, Owned::One(x), Owned::One(y)),
+        Owned::Gone => fork(alloc, Owned::One(x, behind), Owned::Gone),
+        Owned::One(y, place) => fork(alloc, Owned::One(x, behind), Owned::One(y, place)),
         Owned::Fork {
             leaves,
             used_before,
@@ -75,8 +74,8 @@ pub fn with_front(alloc: Global, tree: Owned, last: &LastUses, x: Var) -> Result
             second,
         } => {
             if count_leaves(&first) < count_leaves(&second) {
-                let first = with_front(alloc, Box::into_inner(first), last, x)?;
-                return fork(alloc, last, first, Box::into_inner(second));
+                let first = with_front(alloc, Box::into_inner(first), x, behind)?;
+                return fork(alloc, first, Box::into_inner(second));
             }
             let tree = Owned::Fork {
                 leaves,
@@ -84,21 +83,28 @@ pub fn with_front(alloc: Global, tree: Owned, last: &LastUses, x: Var) -> Result
                 first,
                 second,
             };
-            fork(alloc, last, Owned::One(x), tree)
+            fork(alloc, Owned::One(x, behind), tree)
         }
     }
 }
 
-/// The tree with more variables, before the others.
-pub fn with_all(alloc: Global, tree: Owned, last: &LastUses, xs: &[Var]) -> Result<Owned, Memory>
+/// The tree with more variables, before the others, for a block whose uses stand before `end`.
+pub fn with_all(
+    alloc: Global,
+    tree: Owned,
+    uses: &Uses,
+    end: usize,
+    xs: &[Var],
+) -> Result<Owned, Memory>
     ensures vars { IfOk result (λ t. owned_vars t ≡ xs.now ++ owned_vars tree) }
-    ensures sound { IsSound last.now tree → IfOk result (λ t. IsSound last.now t) }
+    ensures sound { IsSound (take end uses.now) tree → IfOk result (λ t. IsSound (take end uses.now) t) }
 {
     let mut tree = tree;
     let mut left = xs.len();
     while left > 0 {
         left -= 1;
-        tree = with_front(alloc, tree, last, xs[left])?;
+        let x = xs[left];
+        tree = with_front(alloc, tree, x, uses.used_before(end, x))?;
     }
     Ok(tree)
 }
@@ -107,17 +113,16 @@ pub fn with_all(alloc: Global, tree: Owned, last: &LastUses, xs: &[Var]) -> Resu
 pub fn take_unused(
     alloc: Global,
     tree: Owned,
-    last: &LastUses,
     from: usize,
     out: &mut Vec<Var>,
 ) -> Result<Owned, Memory>
-    ensures { IsSound last.now tree → IfOk result (λ t. EndsOf last.now (ends last.now from) tree t out.old.items out.new.items) }
+    ensures { (es : List Listed) → IsSound es tree → IfOk result (λ t. EndsOf es (ends es from) tree t out.old.items out.new.items) }
 {
     match tree {
         Owned::Gone => Ok(Owned::Gone),
-        Owned::One(x) => {
-            if is_used_from(last, from, x) {
-                return Ok(Owned::One(x));
+        Owned::One(x, behind) => {
+            if from < behind {
+                return Ok(Owned::One(x, behind));
             }
             out.push(x)?;
             Ok(Owned::Gone)
@@ -136,9 +141,9 @@ pub fn take_unused(
                     second,
                 });
             }
-            let first = take_unused(alloc, Box::into_inner(first), last, from, out)?;
-            let second = take_unused(alloc, Box::into_inner(second), last, from, out)?;
-            fork(alloc, last, first, second)
+            let first = take_unused(alloc, Box::into_inner(first), from, out)?;
+            let second = take_unused(alloc, Box::into_inner(second), from, out)?;
+            fork(alloc, first, second)
         }
     }
 }
@@ -149,7 +154,7 @@ pub fn add_vars(tree: &Owned, out: &mut Vec<Var>) -> Result<(), Memory>
 {
     match tree {
         Owned::Gone => Ok(()),
-        Owned::One(x) => {
+        Owned::One(x, _) => {
             out.push(*x)?;
             Ok(())
         }

@@ -1,14 +1,13 @@
 //! Steps that are appended, and what right sides hand on.
 
-ghost use Rattle.std.specs.Prelude.{◌≡◌, IfOk, length};
+ghost use Rattle.std.specs.Prelude.{◌≡◌, IfOk};
 ghost use Rattle.core_ir.specs.View.{right_term};
-ghost use Rattle.counted_code.specs.Prompt.{uses_right, hands};
+ghost use Rattle.counted_code.specs.Prompt.{hands};
 ghost use Rattle.counted_code.specs.Terms.{Binding};
 ghost use Rattle.counted_code.specs.View.{code_right_term};
 ghost use Rattle.ref_counts.specs.Endings.{ends_some, read_place};
 ghost use Rattle.ref_rules.specs.Appending.{Appended};
 
-use crate::uses::add_right;
 use core_ir::{Right, Var};
 use counted_code::{CodeLet, CodeRight, CodeStep};
 use sac_base::{Memory, Site};
@@ -19,15 +18,6 @@ pub fn copy_vars(alloc: Global, vars: &[Var]) -> Result<Vec<Var>, Memory>
     ensures { IfOk result (λ v. v.items ≡ vars.now) }
 {
     Ok(Vec::from_slice(alloc, vars)?)
-}
-
-/// How many uses of variables the right side has.
-pub fn count_uses(alloc: Global, right: &Right) -> Result<usize, Memory>
-    ensures { IfOk result (λ n. n ≡ length (uses_right (right_term right.now))) }
-{
-    let mut uses = Vec::new(alloc);
-    add_right(right, &mut uses)?;
-    Ok(uses.len())
 }
 
 /// The variables whose references the right side hands on.
@@ -62,7 +52,7 @@ pub fn read_from(right: &Right, from: usize, to: usize) -> usize
     ensures { result ≡ read_place (right_term right.now) from to }
 {
     match right {
-        Right::Loop { start, .. } => from.saturating_add(start.len()),
+        Right::Loop { start, .. } => from.saturating_add(1).saturating_add(start.len()),
         _ => to,
     }
 }

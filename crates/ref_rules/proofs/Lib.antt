@@ -1,4 +1,3 @@
 pub mod Appended
 pub mod Counted
-pub mod Recorded
 pub mod Taken

@@ -1,75 +1,28 @@
 -- The ends of the arms of a walk over a right side, a generator and a part.
-use Rattle.std.proofs.Common.{◌≡◌, ℕ, Bool, List, [], ◌∷◌, map, Option, refl, sym, ap, ◌∙◌}
+use Rattle.std.proofs.Common.{◌≡◌, ℕ, Bool, List, [], ◌∷◌, map, Option, sym, ap, ◌∙◌}
 use Rattle.std.specs.Prelude.{Vec, Result, Ok, Err, IfOk, OnOk}
 use Rattle.std.specs.declared.alloc.Global.{Global}
 use Rattle.sac_base.specs.declared.memory.Memory.{Memory}
 use Rattle.sac_base.specs.declared.site.Site.{Site}
 use Rattle.core_ir.specs.declared.tree.Var.{Var}
 use Rattle.core_ir.specs.declared.tree.Block.{Block}
-use Rattle.core_ir.specs.declared.tree.CoreGen.{CoreGen, CoreGen', CoreGen-F, out-CoreGen, roll-CoreGen, out-roll-CoreGen}
-use Rattle.core_ir.specs.declared.tree.CorePart.{CorePart, CorePart', CorePart-F, out-CorePart, roll-CorePart, out-roll-CorePart}
+use Rattle.core_ir.specs.declared.tree.CoreGen.{CoreGen, out-CoreGen, roll-CoreGen}
+use Rattle.core_ir.specs.declared.tree.CorePart.{CorePart, out-CorePart, roll-CorePart}
 use Rattle.core_ir.specs.declared.tree.Right.{Right}
-use Rattle.core_ir.specs.declared.tree.WithLoop.{WithLoop}
-use Rattle.core_ir.specs.declared.tree.PartedLoop.{PartedLoop}
+use Rattle.core_ir.specs.declared.tree.PartedLoop.{PartedLoop, PartedLoop-F, out-PartedLoop, roll-PartedLoop}
 use Rattle.core_ir.specs.declared.tree.Right.TheVariants as right
 use Rattle.core_ir.specs.declared.tree.Right.TheBlock.{the_data, the_data-1, the_data-2, the_data-3, the_data-4, the_data-5, the_data-6}
-use Rattle.core_ir.specs.Terms.{PlainTerm, RightTerm, GenTerm, PartTerm, Plain}
-use Rattle.core_ir.specs.View.{block_term, gen_term, part_term, right_term}
-use Rattle.core_facts.specs.Facts.{Facts, note_all, right_facts, in_part}
+use Rattle.core_ir.specs.Terms.{PlainTerm, RightTerm, Plain}
+use Rattle.core_ir.specs.View.{block_term, gen_term, part_term, parted_term, right_term}
+use Rattle.core_ir.proofs.Trees.{parted_out, parted_roll}
+use Rattle.core_facts.specs.Facts.{Facts, note_all, right_facts, in_part, known_shape, parted_shape, shape_fact}
 use Rattle.fact_table.specs.Table.{fact_of}
-use Rattle.plain_facts.specs.Rights.{fact_of_right}
 use Rattle.core_selections.specs.Vectors.{next, next_right, vectored, vectored_right}
-use Rattle.vector_selections.specs.declared.known.KnownRight.{KnownRight}
+use Rattle.known_rights.specs.Anywhere.{IsKnownAnywhere}
+use Rattle.known_rights.specs.declared.known.KnownRight.{KnownRight}
+use Rattle.known_rights.proofs.Fields.{shown_gen, shown_part, gen_out, gen_roll, part_out, part_roll}
+use Rattle.known_rights.proofs.Plain.{IsOther, other_plain}
 use Rattle.vector_selections.specs.Vectored.{vectored_gen, next_gen, vectored_part, next_part}
-
-abbrev shown_gen : CoreGen-F the_data the_data-1 the_data-2 the_data-3 the_data-4 the_data-5 the_data-6 → GenTerm
-shown_gen x = record {
-  head = record { lower = x.lower; lower_closed = x.lower_closed; upper = x.upper; upper_closed = x.upper_closed; step = x.step; width = x.width; index = x.index; names = x.names.items; site = x.site };
-  body = block_term x.body;
-}
-
-gen_out : (g : CoreGen) → gen_term g ≡ shown_gen (out-CoreGen g)
-unfolding out-CoreGen denote.Hole.Carrier.out
-gen_out (CoreGen' a b c d e f h i j k) = refl
-
-gen_roll : (x : CoreGen-F the_data the_data-1 the_data-2 the_data-3 the_data-4 the_data-5 the_data-6) → gen_term (roll-CoreGen x) ≡ shown_gen x
-gen_roll x = gen_out (roll-CoreGen x) ∙ ap shown_gen (out-roll-CoreGen x)
-
-abbrev shown_part : CorePart-F the_data the_data-1 the_data-2 the_data-3 the_data-4 the_data-5 the_data-6 → PartTerm
-shown_part x = record { head = record { grid = x.grid; index = x.index; site = x.site }; body = block_term x.body }
-
-part_out : (p : CorePart) → part_term p ≡ shown_part (out-CorePart p)
-unfolding out-CorePart denote.Hole.Carrier.out
-part_out (CorePart' a b c d) = refl
-
-part_roll : (x : CorePart-F the_data the_data-1 the_data-2 the_data-3 the_data-4 the_data-5 the_data-6) → part_term (roll-CorePart x) ≡ shown_part x
-part_roll x = part_out (roll-CorePart x) ∙ ap shown_part (out-roll-CorePart x)
-
-abbrev pub IsOther : Right → Type 0
-IsOther r = ((x : Var) (a b : Block) → r ≡ right.If x a b → ⊥)
-    × ((head : Bool) (start params : Vec Var Global) (test body : Block) (site : Site) → r ≡ right.Loop head start params test body site → ⊥)
-    × ((group : ℕ) (args : Vec Var Global) → r ≡ right.Call group args → ⊥)
-    × ((w : WithLoop) → r ≡ right.With w → ⊥)
-    × ((p : PartedLoop) → r ≡ right.Parted p → ⊥)
-
-other_plain : (r : Right) → IsOther r → (p : PlainTerm) × (right_term r ≡ Plain p)
-other_plain (right.If x a b) o = absurd (o.0 x a b refl)
-other_plain (right.Loop head start params test body site) o = absurd (o.1 head start params test body site refl)
-other_plain (right.Call group args) o = absurd (o.2 group args refl)
-other_plain (right.With w) o = absurd (o.3 w refl)
-other_plain (right.Parted p) o = absurd (o.4 p refl)
-other_plain (right.Const a) o = (PlainTerm.Const a, refl)
-other_plain (right.Copy x) o = (PlainTerm.Copy x, refl)
-other_plain (right.Unary op x) o = (PlainTerm.Unary op x, refl)
-other_plain (right.Binary op x y) o = (PlainTerm.Binary op x y, refl)
-other_plain (right.Literal xs) o = (PlainTerm.Literal xs.items, refl)
-other_plain (right.Dim x) o = (PlainTerm.Dim x, refl)
-other_plain (right.ShapeOf x) o = (PlainTerm.ShapeOf x, refl)
-other_plain (right.Reshape x y) o = (PlainTerm.Reshape x y, refl)
-other_plain (right.Select x y) o = (PlainTerm.Select x y, refl)
-other_plain (right.Replace x y z) o = (PlainTerm.Replace x y z, refl)
-other_plain (right.Always k) o = (PlainTerm.Always k, refl)
-other_plain (right.Check x t) o = (PlainTerm.Check x t, refl)
 
 module _ (called : ℕ → List (Option (List ℕ))) where
   pub gen_end : (k k' : Facts) (n : ℕ) (g : CoreGen) (b : Block) → k' ≡ note_all k ((out-CoreGen g).index ∷ (out-CoreGen g).names.items) [] → block_term b ≡ vectored called (block_term (out-CoreGen g).body) k' n
@@ -123,22 +76,20 @@ module _ (called : ℕ → List (Option (List ℕ))) where
   plain_next : (k : Facts) (n : ℕ) (r : RightTerm) (p : PlainTerm) → r ≡ Plain p → n ≡ next_right called r k n
   plain_next k n r p e = λ i. next_right called (sym e i) k n
 
-  plain_known : (k : Facts) (r : RightTerm) (p : PlainTerm) → r ≡ Plain p → fact_of_right r k ∷ [] ≡ right_facts called r k
-  plain_known k r p e = ap (λ t. fact_of_right t k ∷ []) e ∙ ap (λ t. right_facts called t k) (sym e)
-
   pub other_vectored : (k : Facts) (n : ℕ) (r : Right) (new : Result KnownRight Memory) → IsOther r → IfOk new (λ (x : KnownRight). right_term x.right ≡ right_term r) → IfOk new (λ (x : KnownRight). right_term x.right ≡ vectored_right called (right_term r) k n)
   other_vectored k n r (Ok x) o h = let w = other_plain r o in h ∙ plain_stays k n (right_term r) w.0 w.1
   other_vectored k n r (Err m) o h = tt
-
-  pub other_known : (k : Facts) (r : Right) (new : Result KnownRight Memory) → IsOther r → IfOk new (λ (x : KnownRight). map fact_of x.values.items ≡ fact_of_right (right_term r) k ∷ [])
-      → IfOk new (λ (x : KnownRight). map fact_of x.values.items ≡ right_facts called (right_term r) k)
-  other_known k r (Ok x) o h = let w = other_plain r o in h ∙ plain_known k (right_term r) w.0 w.1
-  other_known k r (Err m) o h = tt
 
   pub other_next : (k : Facts) (n : ℕ) (r : Right) (new : Result KnownRight Memory) → IsOther r → OnOk new (n ≡ next_right called (right_term r) k n)
   other_next k n r (Ok x) o = let w = other_plain r o in plain_next k n (right_term r) w.0 w.1
   other_next k n r (Err m) o = tt
 
-pub kept : {A : Type 0} (new : Result KnownRight Memory) (table : A) → OnOk new (table ≡ table)
-kept (Ok n) table = refl
-kept (Err m) table = tt
+  -- a loop with other parts has the same shape
+  pub parted_known : (k : Facts) (new : Result KnownRight Memory) (x : PartedLoop-F the_data the_data-1 the_data-2 the_data-3 the_data-4 the_data-5 the_data-6) (w : PartedLoop) → x.frame ≡ (out-PartedLoop w).frame → x.cell ≡ (out-PartedLoop w).cell → x.op ≡ (out-PartedLoop w).op
+      → IfOk new (λ (n : KnownRight). right_term n.right ≡ parted_term (roll-PartedLoop x)) → IfOk new (λ (n : KnownRight). IsKnownAnywhere (right_term n.right) (map fact_of n.values.items)) → IfOk new (λ (n : KnownRight). map fact_of n.values.items ≡ right_facts called (parted_term w) k)
+  parted_known k (Ok n) x w f c o h q =
+      q called k
+      ∙ ap (λ t. right_facts called t k) (h ∙ parted_roll x)
+      ∙ (λ i. shape_fact (known_shape (parted_shape (f i) (c i) (o i))) ∷ [])
+      ∙ ap (λ t. right_facts called t k) (sym (parted_out w))
+  parted_known k (Err m) x w f c o h q = tt

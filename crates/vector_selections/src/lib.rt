@@ -3,7 +3,6 @@
 
 mod choice;
 mod functions;
-mod known;
 mod walk;
 
 pub use functions::select_by_vectors;

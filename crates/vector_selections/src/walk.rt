@@ -1,23 +1,19 @@
 //! One walk over a block.
 
-ghost use Rattle.std.specs.Prelude.{◌≡◌, ◌-◌, [], ◌∷◌, IfOk, OnOk, map, drop, length};
+ghost use Rattle.std.specs.Prelude.{◌≡◌, ◌-◌, IfOk, OnOk, map, drop, length};
 ghost use Rattle.core_ir.specs.Terms.{BlockTerm, chain};
 ghost use Rattle.core_ir.specs.View.{block_term, let_term, right_term, with_term, gen_term, parted_term, part_term};
 ghost use Rattle.core_facts.specs.Facts.{note_all, block_facts, right_facts};
 ghost use Rattle.core_selections.specs.Vectors.{next, next_right, vectored, vectored_right};
 ghost use Rattle.fact_table.specs.Table.{fact_of, facts_of};
 ghost use Rattle.plain_facts.specs.Called.{shapes_of};
-ghost use Rattle.plain_facts.specs.Rights.{fact_of_right};
 ghost use Rattle.vector_selections.specs.Vectored.{bind_vectored, next_let, vectored_gen, next_gen, vectored_part, next_part};
 
 use crate::choice::{push_binding, scalar_selection};
-use crate::known::{KnownBlock, KnownRight};
 use core_ir::{Block, CoreGen, CorePart, Let, PartedLoop, Right, WithLoop};
-use fact_table::{FactTable, Known};
-use plain_facts::{
-    CalledShapes, common_facts, forget, forget_index, known_of, learn_all, learn_index,
-    parted_shape, plain_fact,
-};
+use fact_table::FactTable;
+use known_rights::{KnownBlock, KnownRight};
+use plain_facts::{CalledShapes, forget, forget_index, known_of, learn_all, learn_index};
 use sac_base::Memory;
 use std::alloc::Global;
 
@@ -104,15 +100,7 @@ fn in_right(
         Right::If { cond, yes, no } => {
             let yes = in_block(alloc, yes, called, table, fresh)?;
             let no = in_block(alloc, no, called, table, fresh)?;
-            let values = common_facts(alloc, &yes.results, &no.results)?;
-            Ok(KnownRight {
-                right: Right::If {
-                    cond,
-                    yes: yes.block,
-                    no: no.block,
-                },
-                values,
-            })
+            KnownRight::of_if(alloc, cond, yes, no)
         }
         Right::Loop {
             first_body,
@@ -127,40 +115,18 @@ fn in_right(
             let test = in_block(alloc, test, called, table, fresh)?;
             let body = in_block(alloc, body, called, table, fresh)?;
             table.undo(outer);
-            Ok(KnownRight {
-                right: Right::Loop {
-                    first_body,
-                    start,
-                    params,
-                    test: test.block,
-                    body: body.block,
-                    test_site,
-                },
-                values: Vec::new(alloc),
-            })
+            Ok(KnownRight::of_loop(
+                alloc, first_body, start, params, test.block, body.block, test_site,
+            ))
         }
-        Right::Call { group, args } => Ok(KnownRight {
-            right: Right::Call { group, args },
-            values: called.facts(alloc, group)?,
-        }),
-        Right::With(w) => Ok(KnownRight {
-            right: Right::With(in_with(alloc, w, called, table, fresh)?),
-            values: Vec::new(alloc),
-        }),
+        Right::Call { group, args } => KnownRight::of_call(alloc, group, args, called),
+        Right::With(w) => {
+            let with = in_with(alloc, w, called, table, fresh)?;
+            Ok(KnownRight::of_with(alloc, with))
+        }
         Right::Parted(p) => in_parted(alloc, p, called, table, fresh),
-        plain => one_value(alloc, plain, table),
+        plain => KnownRight::of_plain(alloc, plain, table),
     }
-}
-
-/// A right side without blocks and calls.
-fn one_value(alloc: Global, right: Right, table: &FactTable) -> Result<KnownRight, Memory>
-    ensures right { IfOk result (λ new. right_term new.right ≡ right_term right) }
-    ensures known { IfOk result (λ new. map fact_of new.values.items ≡ fact_of_right (right_term right) (facts_of table.now) ∷ []) }
-{
-    let known = plain_fact(alloc, &right, table)?;
-    let mut values = Vec::new(alloc);
-    values.push(known)?;
-    Ok(KnownRight { right, values })
 }
 
 #[cycle(vectoring)]
@@ -249,18 +215,16 @@ fn in_parted(
     for part in parts {
         done.push(in_part(alloc, part, called, table, fresh)?)?;
     }
-    let mut values = Vec::new(alloc);
-    values.push(Known::of_shape(parted_shape(alloc, &frame, &cell, op)))?;
-    Ok(KnownRight {
-        right: Right::Parted(PartedLoop {
+    KnownRight::of_parted(
+        alloc,
+        PartedLoop {
             frame,
             base,
             cell,
             op,
             parts: done,
-        }),
-        values,
-    })
+        },
+    )
 }
 
 #[cycle(vectoring)]

@@ -1,15 +1,15 @@
-use Rattle.std.proofs.Common.{◌-◌, ◌∙◌, ap, refl, sym, map, length, List}
+use Rattle.std.proofs.Common.{◌≡◌, ◌-◌, ◌∙◌, [], ap, refl, sym, map, length, List}
 use Rattle.std.specs.Prelude.{drop}
 use Rattle.core_ir.specs.declared.tree.Let.{Let}
-use Rattle.core_ir.specs.declared.tree.PartedLoop.{out-PartedLoop}
-use Rattle.core_ir.specs.Terms.{chain}
-use Rattle.core_ir.specs.View.{let_term}
-use Rattle.core_facts.specs.Facts.{shape_fact}
-use Rattle.core_cleaning.specs.Checks.{simplified}
+use Rattle.core_ir.specs.Terms.{RightTerm, chain}
+use Rattle.core_ir.specs.View.{block_term, let_term, right_term}
+use Rattle.core_facts.specs.Facts.{block_facts, common_facts, note_all, right_facts}
+use Rattle.core_cleaning.specs.Checks.{simplified, simplified_right}
 use Rattle.fact_table.specs.Table.{facts_of}
 use Rattle.plain_facts.specs.Called.{shapes_of}
 use Rattle.scoped_table.proofs.Marks.{earlier_on, none_gone}
-use Rattle.const_shape.proofs.Steps.{let_turn, known_turn, none_left, block_end, known_end, with_end, parted_settled, parted_known}
+use Rattle.const_shape.proofs.Steps.{let_turn, known_turn, none_left, block_end, known_end, with_end, parted_settled, choice_end, turns_end}
+use Rattle.known_rights.proofs.Told.{holds_of, holds_on, known_here, known_of, with_known}
 use Rattle.const_shape.proofs.walk.+settling.Goals as goal
 
 pub settle_block-loop-binding-init : goal.settle_block-loop-binding-init
@@ -65,20 +65,64 @@ settle_gen-returns-clause-table t c =
 
 pub settle_parted-returns-clause-settled : goal.settle_parted-returns-clause-settled
 settle_parted-returns-clause-settled t c =
-    let w = out-PartedLoop c.args.parted in
     let none = none_left c.loop-part.part-iterator.rest.len c.loop-part.part-iterator.rest.items c.in-None.ensures.steps.0 c.loop-part.part-iterator.rest.ok.0 in
-    parted_settled (shapes_of c.args.called.now) (facts_of c.args.table.now) c.of_one.result c.loop-part.part-iterator.rest.items c.into_iter-part-iterator.result.rest.items
-    (record { frame = w.frame; base = w.base; cell = w.cell; op = w.op; parts = c.loop-part.settled }) c.args.parted
-    c.of_one.ensures.right c.loop-part.invariant.items none c.into_iter-part-iterator.ensures.into_iter_gives.0 refl refl refl refl
+    parted_settled (shapes_of c.args.called.now) (facts_of c.args.table.now) c.of_parted.result c.loop-part.part-iterator.rest.items c.into_iter-part-iterator.result.rest.items
+    c.loop-part.settled c.args.parted c.of_parted.ensures.right c.loop-part.invariant.items none c.into_iter-part-iterator.ensures.into_iter_gives.0
 
 pub settle_parted-returns-clause-known : goal.settle_parted-returns-clause-known
-settle_parted-returns-clause-known t c =
-    let w = out-PartedLoop c.args.parted in
-    parted_known (shapes_of c.args.called.now) (facts_of c.args.table.now) c.of_one.result (record { frame = w.frame; base = w.base; cell = w.cell; op = w.op; parts = c.loop-part.settled }) _
-    c.of_one.ensures.right c.of_one.ensures.known (c.of_shape.ensures ∙ ap shape_fact c.parted_shape-shape.ensures)
+settle_parted-returns-clause-known t c = known_here (shapes_of c.args.called.now) (facts_of c.args.table.now) c.of_parted.result c.of_parted.ensures.known
 
 pub settle_with-returns-clause-settled : goal.settle_with-returns-clause-settled
 settle_with-returns-clause-settled t c =
     let none = none_left c.loop-generator.generator-iterator.rest.len c.loop-generator.generator-iterator.rest.items c.in-None.ensures.steps.0 c.loop-generator.generator-iterator.rest.ok.0 in
     with_end (shapes_of c.args.called.now) (facts_of c.args.table.now) c.loop-generator.generator-iterator.rest.items c.into_iter-generator-iterator.result.rest.items _ c.args.with
     c.loop-generator.invariant.items none c.into_iter-generator-iterator.ensures.into_iter_gives.0 refl
+
+pub settle_right-returns-in_ok-no-in-If-clause-settled : goal.settle_right-returns-in_ok-no-in-If-clause-settled
+settle_right-returns-in_ok-no-in-If-clause-settled t c =
+    let called = shapes_of c.args.called.now in
+    let k = facts_of c.args.table.now in
+    holds_of (λ new. new ≡ simplified_right called (right_term c.args.right) k) c.of_if.result _ c.of_if.ensures.right
+    (choice_end called k (facts_of c.settle_block.new.table) c.in-If.cond c.in-If.yes c.in-If.no c.in_ok-yes-in-If.yes.block c.in_ok-no-in-If.no.block c.args.right c.in-If.is
+    (ap facts_of c.in_ok-yes-in-If.ensures.table) c.in_ok-yes-in-If.ensures.settled c.in_ok-no-in-If.ensures.settled)
+
+pub settle_right-returns-in_ok-no-in-If-clause-known : goal.settle_right-returns-in_ok-no-in-If-clause-known
+settle_right-returns-in_ok-no-in-If-clause-known t c =
+    let called = shapes_of c.args.called.now in
+    let yes = block_term c.in_ok-yes-in-If.yes.block in
+    let no = block_term c.in_ok-no-in-If.no.block in
+    known_of called (facts_of c.args.table.now) c.of_if.result (RightTerm.If c.in-If.cond yes no) _ c.of_if.ensures.right c.of_if.ensures.known
+    (λ i. common_facts (c.in_ok-yes-in-If.ensures.known i) ((c.in_ok-no-in-If.ensures.known ∙ ap (λ n. block_facts called no (facts_of n)) c.in_ok-yes-in-If.ensures.table) i))
+
+pub settle_right-returns-in_ok-no-in-If-clause-table : goal.settle_right-returns-in_ok-no-in-If-clause-table
+settle_right-returns-in_ok-no-in-If-clause-table t c = holds_on c.of_if.result (c.in_ok-no-in-If.ensures.table ∙ c.in_ok-yes-in-If.ensures.table)
+
+pub settle_right-returns-in_ok-body-in-Loop-clause-settled : goal.settle_right-returns-in_ok-body-in-Loop-clause-settled
+settle_right-returns-in_ok-body-in-Loop-clause-settled t c =
+    let k = facts_of c.args.table.now in
+    c.of_loop.ensures.right
+    ∙ turns_end (shapes_of c.args.called.now) k (facts_of c.forget.new.table) (facts_of c.settle_block-in-Loop.new.table)
+    c.in-Loop.first_body c.in-Loop.start c.in-Loop.params c.in-Loop.test_site c.in-Loop.test c.in-Loop.body c.in_ok-test-in-Loop.test.block c.in_ok-body-in-Loop.body.block c.args.right c.in-Loop.is
+    (c.in_ok-forget-in-Loop.ensures.forgotten ∙ ap (λ xs. note_all k xs []) c.deref.ensures.value) (ap facts_of c.in_ok-test-in-Loop.ensures.table) c.in_ok-test-in-Loop.ensures.settled c.in_ok-body-in-Loop.ensures.settled
+
+pub settle_right-returns-in_ok-body-in-Loop-clause-known : goal.settle_right-returns-in_ok-body-in-Loop-clause-known
+settle_right-returns-in_ok-body-in-Loop-clause-known t c = c.of_loop.ensures.known ∙ ap (λ new. right_facts (shapes_of c.args.called.now) new (facts_of c.args.table.now)) (sym c.of_loop.ensures.right)
+
+pub settle_right-returns-in-Call : goal.settle_right-returns-in-Call
+settle_right-returns-in-Call t c =
+    let called = shapes_of c.args.called.now in
+    let k = facts_of c.args.table.now in
+    let new = c.of_call.result in
+    let call = RightTerm.Call c.in-Call.group c.in-Call.args.items in
+    record {
+      settled = holds_of (λ q. q ≡ simplified_right called (right_term c.args.right) k) new call c.of_call.ensures.right (λ i. simplified_right called (right_term (sym c.in-Call.is i)) k);
+      known = known_of called k new call _ c.of_call.ensures.right c.of_call.ensures.known refl;
+      table = holds_on new refl;
+    }
+
+pub settle_right-returns-in_ok-with-in-With-clause-settled : goal.settle_right-returns-in_ok-with-in-With-clause-settled
+settle_right-returns-in_ok-with-in-With-clause-settled t c =
+    c.of_with.ensures.right ∙ c.in_ok-with-in-With.ensures.settled ∙ (λ i. simplified_right (shapes_of c.args.called.now) (right_term (sym c.in-With.is i)) (facts_of c.args.table.now))
+
+pub settle_right-returns-in_ok-with-in-With-clause-known : goal.settle_right-returns-in_ok-with-in-With-clause-known
+settle_right-returns-in_ok-with-in-With-clause-known t c = with_known c.of_with.result c.in_ok-with-in-With.with c.of_with.ensures.right c.of_with.ensures.known (shapes_of c.args.called.now) (facts_of c.args.table.now)

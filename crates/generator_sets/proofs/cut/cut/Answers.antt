@@ -4,7 +4,7 @@ use Rattle.std.specs.List.{All}
 use Rattle.grid_sets.specs.Segments.{IsUniform, IsAxisCount}
 use Rattle.generator_sets.specs.Pieces.{axis_grids, products}
 use Rattle.generator_sets.specs.Counts.{IsCanonicalCount}
-use Rattle.generator_sets.proofs.CutSteps.{CutSoFar, cut_none, cut_more, cut_even, axis_due}
+use Rattle.generator_sets.proofs.CutSteps.{CutSoFar, cut_none, cut_more, cut_even, axis_due, as_many}
 use Rattle.generator_sets.proofs.cut.cut.Goals as goal
 
 pub loop-left-init : goal.loop-left-init
@@ -24,7 +24,7 @@ loop-left-preserved c =
     let next : c.loop-left.left ≡ suc (c.loop-left.left - 1) = omega arith in
     cut_more c.args.generators.now c.axes-axes.result.now c.args.limit (c.loop-left.left - 1) c.index-axes-left.result c.in-Ok.runs.items c.loop-left.pieces.grids.items
     c.in_ok-pieces-in-Ok.pieces.grids.items c.loop-left.pieces.count c.in_ok-pieces-in-Ok.pieces.count
-    c.index-axes-left.is low (λ i d l. c.requires.axes i d l ∙ sym (ap length c.axes-axes.ensures.axes))
+    c.index-axes-left.is low
     c.in-Ok.ensures.split
     (subst (λ g. All (IsUniform g) c.in-Ok.runs.items) column c.in-Ok.ensures.uniform)
     (subst (λ g. (greatest m : ℕ) → IsAxisCount g c.index-axes-left.result.hi c.index-axes-left.result.lo greatest m → (greatest ≤ c.args.limit) × (length c.in-Ok.runs.items ≡ m)) column c.in-Ok.ensures.count)
@@ -36,3 +36,8 @@ loop-left-preserved c =
 pub returns-clause-uniform : goal.returns-clause-uniform
 returns-clause-uniform c =
     cut_even c.args.generators.now c.axes-axes.result.now c.args.limit c.loop-left.left c.loop-left.pieces.grids.items c.loop-left.pieces.count (omega arith) c.loop-left.invariant
+
+pub returns-clause-count : goal.returns-clause-count
+returns-clause-count c greatest count counted =
+    as_many c.args.generators.now c.axes-axes.result.now c.args.limit c.loop-left.left c.loop-left.pieces.grids.items c.loop-left.pieces.count greatest count (omega arith) (omega arith) c.loop-left.invariant
+    (subst (λ l. IsCanonicalCount c.args.generators.now 0 l greatest count) (sym c.axes-axes.ensures.axes) counted)

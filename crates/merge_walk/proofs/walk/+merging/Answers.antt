@@ -13,8 +13,12 @@ use Rattle.core_ir.specs.View.{block_term, gen_term, let_term, part_term, right_
 use Rattle.core_facts.specs.Facts.{Facts, note_all}
 use Rattle.core_loops.specs.Steps.{facts_after}
 use Rattle.merge_walk.specs.Lists.{GenWalked, PartWalked}
-use Rattle.merge_walk.specs.Walking.{BlockWalked}
-use Rattle.merge_walk.proofs.Ends.{IsOther, binding_end, call_end, choice_end, cut_end, earlier_end, gen_end, generators_end, kept, known_at, known_here, learned_end, other_known, other_walked, part_end, turns_end, with_known}
+use Rattle.merge_walk.specs.Walking.{BlockWalked, RightWalked}
+use Rattle.merge_walk.proofs.Ends.{binding_end, call_end, choice_end, cut_end, earlier_end, gen_end, generators_end, known_at, learned_end, other_walked, part_end, turns_end}
+use Rattle.known_rights.proofs.Told.{holds_of, holds_on, known_here, known_of, with_known}
+use Rattle.known_rights.proofs.Plain.{IsOther, other_facts}
+use Rattle.core_ir.specs.Terms.{RightTerm}
+use Rattle.core_facts.specs.Facts.{block_facts, common_facts, right_facts}
 use Rattle.merge_walk.proofs.Turns.{block_end, facts_turn, gens_begin, gens_turn, known_end, lets_begin, lets_turn, none_left, parts_begin, parts_turn}
 use Rattle.merge_walk.proofs.walk.+merging.Goals as goal
 
@@ -113,7 +117,7 @@ merge_with-returns-clause-walked t c =
     c.loop-generator.invariant.so_far none c.into_iter-generator-iterator.ensures.into_iter_gives.0 refl refl c.of_with.ensures.right
 
 pub merge_with-returns-clause-known : goal.merge_with-returns-clause-known
-merge_with-returns-clause-known t c = with_known (shapes_of c.args.called.now) (facts_of c.args.table.now) (roll-WithLoop (record { gens = c.loop-generator.merged; op = (out-WithLoop c.args.with).op })) _ _ c.of_with.ensures.known c.of_with.ensures.right
+merge_with-returns-clause-known t c = with_known c.of_with.result (roll-WithLoop (record { gens = c.loop-generator.merged; op = (out-WithLoop c.args.with).op })) c.of_with.ensures.right c.of_with.ensures.known (shapes_of c.args.called.now) (facts_of c.args.table.now)
 
 pub merge_gen-returns-clause-walked : goal.merge_gen-returns-clause-walked
 merge_gen-returns-clause-walked t c =
@@ -174,28 +178,55 @@ merge_parted-returns-clause-walked t c =
     let none = none_left rest.len rest.items c.in-None.ensures.steps.0 rest.ok.0 in
     let w = out-PartedLoop c.args.parted in
     cut_end (shapes_of c.args.called.now) (facts_of c.args.table.now) c.args.progress.now c.loop-part.progress _ rest.items c.loop-part.merged.items (record { frame = w.frame; base = w.base; cell = w.cell; op = w.op; parts = c.loop-part.merged }) c.args.parted
-    c.known_loop.result c.loop-part.invariant.so_far none c.into_iter-part-iterator.ensures.into_iter_gives.0 refl refl refl refl refl c.known_loop.ensures.right
+    c.of_parted.result c.loop-part.invariant.so_far none c.into_iter-part-iterator.ensures.into_iter_gives.0 refl refl refl refl refl c.of_parted.ensures.right
 
 pub merge_parted-returns-clause-known : goal.merge_parted-returns-clause-known
-merge_parted-returns-clause-known t c = known_here c.known_loop.result (shapes_of c.args.called.now) (facts_of c.args.table.now) c.known_loop.ensures.known
+merge_parted-returns-clause-known t c = known_here (shapes_of c.args.called.now) (facts_of c.args.table.now) c.of_parted.result c.of_parted.ensures.known
 
 -- ---- right sides
 
-pub merge_right-returns-in_ok-values-in-If-clause-walked : goal.merge_right-returns-in_ok-values-in-If-clause-walked
-merge_right-returns-in_ok-values-in-If-clause-walked t c =
-    choice_end (shapes_of c.args.called.now) (facts_of c.args.table.now) (facts_of c.merge_block.new.table) c.args.progress.now c.merge_block.new.progress c.merge_block-in-If.new.progress
-    c.in-If.cond c.in-If.yes c.in-If.no c.in_ok-yes-in-If.yes.block c.in_ok-no-in-If.no.block c.args.right c.in-If.is (ap facts_of c.in_ok-yes-in-If.ensures.table) c.in_ok-yes-in-If.ensures.walked c.in_ok-no-in-If.ensures.walked
+pub merge_right-returns-in_ok-no-in-If-clause-walked : goal.merge_right-returns-in_ok-no-in-If-clause-walked
+merge_right-returns-in_ok-no-in-If-clause-walked t c =
+    let called = shapes_of c.args.called.now in
+    let k = facts_of c.args.table.now in
+    holds_of (λ new. RightWalked called k c.args.progress.now c.merge_block-in-If.new.progress (right_term c.args.right) new) c.of_if.result _ c.of_if.ensures.right
+    (choice_end called k (facts_of c.merge_block.new.table) c.args.progress.now c.merge_block.new.progress c.merge_block-in-If.new.progress
+    c.in-If.cond c.in-If.yes c.in-If.no c.in_ok-yes-in-If.yes.block c.in_ok-no-in-If.no.block c.args.right c.in-If.is (ap facts_of c.in_ok-yes-in-If.ensures.table) c.in_ok-yes-in-If.ensures.walked c.in_ok-no-in-If.ensures.walked)
+
+pub merge_right-returns-in_ok-no-in-If-clause-known : goal.merge_right-returns-in_ok-no-in-If-clause-known
+merge_right-returns-in_ok-no-in-If-clause-known t c =
+    let called = shapes_of c.args.called.now in
+    let k = facts_of c.args.table.now in
+    let yes = block_term c.in_ok-yes-in-If.yes.block in
+    let no = block_term c.in_ok-no-in-If.no.block in
+    known_of called k c.of_if.result (RightTerm.If c.in-If.cond yes no) _ c.of_if.ensures.right c.of_if.ensures.known
+    (λ i. common_facts (c.in_ok-yes-in-If.ensures.known i) ((c.in_ok-no-in-If.ensures.known ∙ ap (λ n. block_facts called no (facts_of n)) c.in_ok-yes-in-If.ensures.table) i))
+
+pub merge_right-returns-in_ok-no-in-If-clause-table : goal.merge_right-returns-in_ok-no-in-If-clause-table
+merge_right-returns-in_ok-no-in-If-clause-table t c = holds_on c.of_if.result (c.in_ok-no-in-If.ensures.table ∙ c.in_ok-yes-in-If.ensures.table)
 
 pub merge_right-returns-in_ok-body-in-Loop-clause-walked : goal.merge_right-returns-in_ok-body-in-Loop-clause-walked
 merge_right-returns-in_ok-body-in-Loop-clause-walked t c =
+    let called = shapes_of c.args.called.now in
     let k = facts_of c.args.table.now in
-    turns_end (shapes_of c.args.called.now) k (facts_of c.forget.new.table) (facts_of c.merge_block-in-Loop.new.table) c.args.progress.now c.merge_block-in-Loop.new.progress c.merge_block-in-Loop-2.new.progress
+    subst (λ (new : RightTerm). RightWalked called k c.args.progress.now c.merge_block-in-Loop-2.new.progress (right_term c.args.right) new) (sym c.of_loop.ensures.right)
+    (turns_end called k (facts_of c.forget.new.table) (facts_of c.merge_block-in-Loop.new.table) c.args.progress.now c.merge_block-in-Loop.new.progress c.merge_block-in-Loop-2.new.progress
     c.in-Loop.first_body c.in-Loop.start c.in-Loop.params c.in-Loop.test_site c.in-Loop.test c.in-Loop.body c.in_ok-test-in-Loop.test.block c.in_ok-body-in-Loop.body.block c.args.right c.in-Loop.is
-    (c.in_ok-forget-in-Loop.ensures.forgotten ∙ ap (λ xs. note_all k xs []) c.deref-in-Loop.ensures.value) (ap facts_of c.in_ok-test-in-Loop.ensures.table) c.in_ok-test-in-Loop.ensures.walked c.in_ok-body-in-Loop.ensures.walked
+    (c.in_ok-forget-in-Loop.ensures.forgotten ∙ ap (λ xs. note_all k xs []) c.deref.ensures.value) (ap facts_of c.in_ok-test-in-Loop.ensures.table) c.in_ok-test-in-Loop.ensures.walked c.in_ok-body-in-Loop.ensures.walked)
 
-pub merge_right-returns-in_ok-facts-in-Call-clause-walked : goal.merge_right-returns-in_ok-facts-in-Call-clause-walked
-merge_right-returns-in_ok-facts-in-Call-clause-walked t c =
-    call_end (shapes_of c.args.called.now) (facts_of c.args.table.now) c.args.progress.now c.in-Call.group c.in-Call.args c.args.right c.in-Call.is
+pub merge_right-returns-in_ok-body-in-Loop-clause-known : goal.merge_right-returns-in_ok-body-in-Loop-clause-known
+merge_right-returns-in_ok-body-in-Loop-clause-known t c = c.of_loop.ensures.known ∙ ap (λ new. right_facts (shapes_of c.args.called.now) new (facts_of c.args.table.now)) (sym c.of_loop.ensures.right)
+
+pub merge_right-returns-in-Call : goal.merge_right-returns-in-Call
+merge_right-returns-in-Call t c =
+    let called = shapes_of c.args.called.now in
+    let k = facts_of c.args.table.now in
+    let new = c.of_call.result in
+    record {
+      walked = holds_of (λ q. RightWalked called k c.args.progress.now c.args.progress.now (right_term c.args.right) q) new _ c.of_call.ensures.right (call_end called k c.args.progress.now c.in-Call.group c.in-Call.args c.args.right c.in-Call.is);
+      known = known_of called k new (RightTerm.Call c.in-Call.group c.in-Call.args.items) _ c.of_call.ensures.right c.of_call.ensures.known refl;
+      table = holds_on new refl;
+    }
 
 pub merge_right-returns-in_default : goal.merge_right-returns-in_default
 merge_right-returns-in_default t c =
@@ -205,6 +236,6 @@ merge_right-returns-in_default t c =
     let other : IsOther c.args.right = (arm.not-If, arm.not-Loop, arm.not-Call, arm.not-With, arm.not-Parted) in
     record {
       walked = other_walked called k c.args.progress.now c.args.right c.of_plain.result other c.of_plain.ensures.right;
-      known = other_known called k c.args.right _ c.of_plain.result other refl c.of_plain.ensures.right c.of_plain.ensures.known;
-      table = kept c.of_plain.result c.args.table.now;
+      known = known_of called k c.of_plain.result (right_term c.args.right) _ c.of_plain.ensures.right c.of_plain.ensures.known (other_facts called k c.args.right other);
+      table = holds_on c.of_plain.result refl;
     }

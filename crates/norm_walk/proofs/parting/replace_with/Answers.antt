@@ -1,15 +1,18 @@
-use Rattle.std.proofs.Common.{subst, List}
-use Rattle.std.specs.Prelude.{Option, IfNone, IfSome, map}
+use Rattle.std.proofs.Common.{subst, List, ◌∙◌}
+use Rattle.std.specs.Prelude.{Ok, Option, IfNone, IfSome, map}
 use Rattle.sac_base.specs.declared.site.Site.{Site}
 use Rattle.core_ir.specs.declared.tree.CoreGen.{CoreGen}
 use Rattle.core_ir.specs.Terms.{gens_of}
 use Rattle.core_ir.specs.View.{gen_term}
+use Rattle.core_ir.proofs.Trees.{with_roll}
 use Rattle.fact_table.specs.Table.{facts_of}
 use Rattle.plain_facts.specs.Called.{shapes_of}
 use Rattle.variable_bases.specs.Table.{base_in}
 use Rattle.norm_walk.specs.declared.parting.BasedPlan.{BasedPlan}
 use Rattle.norm_walk.specs.Replacing.{IsLeft, IsPlanned}
 use Rattle.norm_walk.proofs.Ends.{replaced_lent, unchanged_end}
+use Rattle.known_rights.proofs.Told.{with_known}
+use Rattle.core_ir.specs.declared.tree.WithLoop.{roll-WithLoop}
 use Rattle.norm_walk.proofs.parting.replace_with.Goals as goal
 
 pub returns-in-Some-clause-walked : goal.returns-in-Some-clause-walked
@@ -29,5 +32,8 @@ returns-in-None-clause-walked c =
     let bases = base_in given.bases.now in
     let p = c.args.progress.now in
     let left = subst (λ (o : Option BasedPlan). IfNone o ((s : Site) → IsLeft bases given.first p.next k s c.args.op (gens_of (map gen_term c.deref.result.now)))) c.in-None.is c.in_ok-planned.ensures.left in
-    unchanged_end (shapes_of given.called.now) bases given.first k p c.args.site c.args.op (gens_of (map gen_term c.args.gens.items)) c.unchanged.result c.unchanged.ensures.right
+    unchanged_end (shapes_of given.called.now) bases given.first k p c.args.site c.args.op (gens_of (map gen_term c.args.gens.items)) (Ok c.of_with.result) (c.of_with.ensures.right ∙ with_roll (record { gens = c.args.gens; op = c.args.op }))
     (subst (λ (gs : List CoreGen). (s : Site) → IsLeft bases given.first p.next k s c.args.op (gens_of (map gen_term gs))) c.deref.ensures.value left)
+
+pub returns-in-None-clause-known : goal.returns-in-None-clause-known
+returns-in-None-clause-known c = with_known c.of_with.result (roll-WithLoop (record { gens = c.args.gens; op = c.args.op })) c.of_with.ensures.right c.of_with.ensures.known

@@ -8,11 +8,13 @@ use Rattle.norm_walk.proofs.Noting.{none_left}
 use Rattle.core_ir.specs.declared.tree.CoreGen.{CoreGen, out-CoreGen}
 use Rattle.core_ir.specs.declared.tree.CorePart.{out-CorePart}
 use Rattle.core_ir.specs.View.{block_term, gen_term, part_term, right_term}
-use Rattle.core_ir.specs.Terms.{gens_of}
+use Rattle.core_ir.specs.Terms.{RightTerm, gens_of}
 use Rattle.fact_table.specs.Notes.{Note}
-use Rattle.core_facts.specs.Facts.{Facts, note_all}
-use Rattle.norm_walk.specs.Replacing.{BlockWalked, GensWalked, GenWalked, PartWalked}
-use Rattle.norm_walk.proofs.Ends.{gen_end, part_end, let_end, with_end, parted_end, known_here, choice_end, turns_end, call_end, IsOther, other_known, kept, other_walked}
+use Rattle.core_facts.specs.Facts.{Facts, block_facts, common_facts, note_all, right_facts}
+use Rattle.norm_walk.specs.Replacing.{BlockWalked, RightWalked, GensWalked, GenWalked, PartWalked}
+use Rattle.norm_walk.proofs.Ends.{gen_end, part_end, let_end, with_end, parted_end, choice_end, turns_end, call_end, other_walked}
+use Rattle.known_rights.proofs.Told.{holds_of, holds_on, known_here, known_of}
+use Rattle.known_rights.proofs.Plain.{IsOther, other_facts}
 use Rattle.norm_walk.proofs.Walking.{going_first, going_on, block_walked, block_known, gens_first, gens_on, gens_done, parts_first, parts_on}
 use Rattle.norm_walk.proofs.walk.+norming.Goals as goal
 
@@ -140,11 +142,11 @@ pub norm_parted-returns-clause-walked : goal.norm_parted-returns-clause-walked
 norm_parted-returns-clause-walked t c =
     let given = c.args.given.now in
     let none = none_left c.loop-part.part-iterator.rest.len c.loop-part.part-iterator.rest.items c.in-None.ensures.steps.0 c.loop-part.part-iterator.rest.ok.0 in
-    parted_end (shapes_of given.called.now) (base_in given.bases.now) given.first (facts_of c.args.table.now) c.args.progress.now c.loop-part.progress c.known_parted.result
-    c.into_iter-part-iterator.result.rest.items c.loop-part.part-iterator.rest.items c.loop-part.normal c.args.parted c.known_parted.ensures.right c.loop-part.invariant.going none c.into_iter-part-iterator.ensures.into_iter_gives.0
+    parted_end (shapes_of given.called.now) (base_in given.bases.now) given.first (facts_of c.args.table.now) c.args.progress.now c.loop-part.progress c.of_parted.result
+    c.into_iter-part-iterator.result.rest.items c.loop-part.part-iterator.rest.items c.loop-part.normal c.args.parted c.of_parted.ensures.right c.loop-part.invariant.going none c.into_iter-part-iterator.ensures.into_iter_gives.0
 
 pub norm_parted-returns-clause-known : goal.norm_parted-returns-clause-known
-norm_parted-returns-clause-known t c = known_here c.known_parted.result (shapes_of c.args.given.now.called.now) (facts_of c.args.table.now) c.known_parted.ensures.known
+norm_parted-returns-clause-known t c = known_here (shapes_of c.args.given.now.called.now) (facts_of c.args.table.now) c.of_parted.result c.of_parted.ensures.known
 
 pub norm_with-returns-clause-walked : goal.norm_with-returns-clause-walked
 norm_with-returns-clause-walked t c =
@@ -153,7 +155,7 @@ norm_with-returns-clause-walked t c =
     c.replace_with.result (ap facts_of c.in_ok-gens.ensures.table) c.in_ok-gens.ensures.walked c.replace_with.ensures.walked
 
 pub norm_with-returns-clause-known : goal.norm_with-returns-clause-known
-norm_with-returns-clause-known t c = known_here c.replace_with.result (shapes_of c.args.given.now.called.now) (facts_of c.args.table.now) c.replace_with.ensures.known
+norm_with-returns-clause-known t c = known_here (shapes_of c.args.given.now.called.now) (facts_of c.args.table.now) c.replace_with.result c.replace_with.ensures.known
 
 pub norm_binding-returns-clause-walked : goal.norm_binding-returns-clause-walked
 norm_binding-returns-clause-walked t c =
@@ -161,24 +163,52 @@ norm_binding-returns-clause-walked t c =
     let old = c.args.binding in
     let_end (shapes_of given.called.now) (base_in given.bases.now) given.first (facts_of c.args.table.now) c.args.progress.now c.norm_right.new.progress old.targets.items old.site (right_term old.right) (right_term c.in_ok-right.field-0.right) c.in_ok-right.ensures.walked
 
-pub norm_right-returns-in_ok-values-in-If-clause-walked : goal.norm_right-returns-in_ok-values-in-If-clause-walked
-norm_right-returns-in_ok-values-in-If-clause-walked t c =
+pub norm_right-returns-in_ok-no-in-If-clause-walked : goal.norm_right-returns-in_ok-no-in-If-clause-walked
+norm_right-returns-in_ok-no-in-If-clause-walked t c =
     let given = c.args.given.now in
-    choice_end (shapes_of given.called.now) (base_in given.bases.now) given.first (facts_of c.args.table.now) (facts_of c.norm_block.new.table) c.args.progress.now c.norm_block.new.progress c.norm_block-in-If.new.progress c.args.site
-    c.in-If.cond c.in-If.yes c.in-If.no c.in_ok-yes-in-If.yes.block c.in_ok-no-in-If.no.block c.args.right c.in-If.is (ap facts_of c.in_ok-yes-in-If.ensures.table) c.in_ok-yes-in-If.ensures.walked c.in_ok-no-in-If.ensures.walked
+    let called = shapes_of given.called.now in
+    let k = facts_of c.args.table.now in
+    holds_of (λ new. RightWalked called (base_in given.bases.now) given.first k c.args.progress.now c.norm_block-in-If.new.progress c.args.site (right_term c.args.right) new) c.of_if.result _ c.of_if.ensures.right
+    (choice_end called (base_in given.bases.now) given.first k (facts_of c.norm_block.new.table) c.args.progress.now c.norm_block.new.progress c.norm_block-in-If.new.progress c.args.site
+    c.in-If.cond c.in-If.yes c.in-If.no c.in_ok-yes-in-If.yes.block c.in_ok-no-in-If.no.block c.args.right c.in-If.is (ap facts_of c.in_ok-yes-in-If.ensures.table) c.in_ok-yes-in-If.ensures.walked c.in_ok-no-in-If.ensures.walked)
+
+pub norm_right-returns-in_ok-no-in-If-clause-known : goal.norm_right-returns-in_ok-no-in-If-clause-known
+norm_right-returns-in_ok-no-in-If-clause-known t c =
+    let called = shapes_of c.args.given.now.called.now in
+    let k = facts_of c.args.table.now in
+    let yes = block_term c.in_ok-yes-in-If.yes.block in
+    let no = block_term c.in_ok-no-in-If.no.block in
+    known_of called k c.of_if.result (RightTerm.If c.in-If.cond yes no) _ c.of_if.ensures.right c.of_if.ensures.known
+    (λ i. common_facts (c.in_ok-yes-in-If.ensures.known i) ((c.in_ok-no-in-If.ensures.known ∙ ap (λ n. block_facts called no (facts_of n)) c.in_ok-yes-in-If.ensures.table) i))
+
+pub norm_right-returns-in_ok-no-in-If-clause-table : goal.norm_right-returns-in_ok-no-in-If-clause-table
+norm_right-returns-in_ok-no-in-If-clause-table t c = holds_on c.of_if.result (c.in_ok-no-in-If.ensures.table ∙ c.in_ok-yes-in-If.ensures.table)
 
 pub norm_right-returns-in_ok-body-in-Loop-clause-walked : goal.norm_right-returns-in_ok-body-in-Loop-clause-walked
 norm_right-returns-in_ok-body-in-Loop-clause-walked t c =
     let given = c.args.given.now in
+    let called = shapes_of given.called.now in
     let k = facts_of c.args.table.now in
-    turns_end (shapes_of given.called.now) (base_in given.bases.now) given.first k (facts_of c.forget.new.table) (facts_of c.norm_block-in-Loop.new.table) c.args.progress.now c.norm_block-in-Loop.new.progress c.norm_block-in-Loop-2.new.progress c.args.site
+    subst (λ (new : RightTerm). RightWalked called (base_in given.bases.now) given.first k c.args.progress.now c.norm_block-in-Loop-2.new.progress c.args.site (right_term c.args.right) new) (sym c.of_loop.ensures.right)
+    (turns_end called (base_in given.bases.now) given.first k (facts_of c.forget.new.table) (facts_of c.norm_block-in-Loop.new.table) c.args.progress.now c.norm_block-in-Loop.new.progress c.norm_block-in-Loop-2.new.progress c.args.site
     c.in-Loop.first_body c.in-Loop.start c.in-Loop.params c.in-Loop.test_site c.in-Loop.test c.in-Loop.body c.in_ok-test-in-Loop.test.block c.in_ok-body-in-Loop.body.block c.args.right c.in-Loop.is
-    (c.in_ok-forget-in-Loop.ensures.forgotten ∙ ap (λ xs. note_all k xs []) c.deref-in-Loop.ensures.value) (ap facts_of c.in_ok-test-in-Loop.ensures.table) c.in_ok-test-in-Loop.ensures.walked c.in_ok-body-in-Loop.ensures.walked
+    (c.in_ok-forget-in-Loop.ensures.forgotten ∙ ap (λ xs. note_all k xs []) c.deref.ensures.value) (ap facts_of c.in_ok-test-in-Loop.ensures.table) c.in_ok-test-in-Loop.ensures.walked c.in_ok-body-in-Loop.ensures.walked)
 
-pub norm_right-returns-in_ok-facts-in-Call-clause-walked : goal.norm_right-returns-in_ok-facts-in-Call-clause-walked
-norm_right-returns-in_ok-facts-in-Call-clause-walked t c =
+pub norm_right-returns-in_ok-body-in-Loop-clause-known : goal.norm_right-returns-in_ok-body-in-Loop-clause-known
+norm_right-returns-in_ok-body-in-Loop-clause-known t c = c.of_loop.ensures.known ∙ ap (λ new. right_facts (shapes_of c.args.given.now.called.now) new (facts_of c.args.table.now)) (sym c.of_loop.ensures.right)
+
+pub norm_right-returns-in-Call : goal.norm_right-returns-in-Call
+norm_right-returns-in-Call t c =
     let given = c.args.given.now in
-    call_end (shapes_of given.called.now) (base_in given.bases.now) given.first (facts_of c.args.table.now) c.args.progress.now c.args.site c.in-Call.group c.in-Call.args c.args.right c.in-Call.is
+    let called = shapes_of given.called.now in
+    let k = facts_of c.args.table.now in
+    let p = c.args.progress.now in
+    let new = c.of_call.result in
+    record {
+      walked = holds_of (λ q. RightWalked called (base_in given.bases.now) given.first k p p c.args.site (right_term c.args.right) q) new _ c.of_call.ensures.right (call_end called (base_in given.bases.now) given.first k p c.args.site c.in-Call.group c.in-Call.args c.args.right c.in-Call.is);
+      known = known_of called k new (RightTerm.Call c.in-Call.group c.in-Call.args.items) _ c.of_call.ensures.right c.of_call.ensures.known refl;
+      table = holds_on new refl;
+    }
 
 pub norm_right-returns-in_default : goal.norm_right-returns-in_default
 norm_right-returns-in_default t c =
@@ -189,6 +219,6 @@ norm_right-returns-in_default t c =
     let other : IsOther c.args.right = (arm.not-If, arm.not-Loop, arm.not-Call, arm.not-With, arm.not-Parted) in
     record {
       walked = other_walked called (base_in given.bases.now) given.first k c.args.progress.now c.args.site c.args.right c.of_plain.result other c.of_plain.ensures.right;
-      known = other_known called k c.args.right _ c.of_plain.result other refl c.of_plain.ensures.right c.of_plain.ensures.known;
-      table = kept c.of_plain.result c.args.table.now;
+      known = known_of called k c.of_plain.result (right_term c.args.right) _ c.of_plain.ensures.right c.of_plain.ensures.known (other_facts called k c.args.right other);
+      table = holds_on c.of_plain.result refl;
     }

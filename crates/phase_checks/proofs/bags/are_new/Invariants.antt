@@ -7,4 +7,6 @@ abbrev pub invariant-loop-place : goal.invariant-loop-place
 invariant-loop-place l = record {
   distinct : Distinct (drop l.place l.xs) → Distinct l.xs;
   outside : NoneIn (drop l.place l.xs) l.scope → NoneIn l.xs l.scope;
+  still_distinct : Distinct l.xs → Distinct (drop l.place l.xs);
+  still_outside : NoneIn l.xs l.scope → NoneIn (drop l.place l.xs) l.scope;
 }

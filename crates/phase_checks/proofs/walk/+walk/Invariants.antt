@@ -13,7 +13,7 @@ use Rattle.counted_code.specs.View.{steps_before}
 use Rattle.phase_checks.proofs.Sizes.{gens_size, parts_size}
 use Rattle.phase_checks.proofs.walk.+walk.Given as goal
 use Rattle.phase_checks.specs.Terms.{gens_term, parts_term}
-use Rattle.phase_checks.specs.Walks.{results_in, IsCounted}
+use Rattle.phase_checks.specs.Walks.{results_in, IsCounted, IsCountedOnlyWith}
 
 abbrev pub decreases-gens_are_counted : goal.decreases-gens_are_counted
 decreases-gens_are_counted l = 8 * gens_size l.gens.now + 4
@@ -55,17 +55,22 @@ abbrev pub decreases-parted_is_counted : goal.decreases-parted_is_counted
 decreases-parted_is_counted l = 8 * size-CodeParted l.parted.now + 3
 
 abbrev pub invariant-gens_are_counted-loop-generator : goal.invariant-gens_are_counted-loop-generator
-invariant-gens_are_counted-loop-generator l =
-    CountedGens (results_in l.code) l.outer (gens_term (drop l.generator-index l.gens)) × UnmarkedGens (gens_term (drop l.generator-index l.gens)) → CountedGens (results_in l.code) l.outer (gens_term l.gens) × UnmarkedGens (gens_term l.gens)
+invariant-gens_are_counted-loop-generator l = record {
+  whole : CountedGens (results_in l.code) l.outer (gens_term (drop l.generator-index l.gens)) × UnmarkedGens (gens_term (drop l.generator-index l.gens)) → CountedGens (results_in l.code) l.outer (gens_term l.gens) × UnmarkedGens (gens_term l.gens);
+  rest : CountedGens (results_in l.code) l.outer (gens_term l.gens) × UnmarkedGens (gens_term l.gens) → CountedGens (results_in l.code) l.outer (gens_term (drop l.generator-index l.gens)) × UnmarkedGens (gens_term (drop l.generator-index l.gens));
+}
 
 abbrev pub invariant-parts_are_counted-loop-part : goal.invariant-parts_are_counted-loop-part
-invariant-parts_are_counted-loop-part l =
-    CountedParts (results_in l.code) l.outer (parts_term (drop l.part-index l.parts)) × UnmarkedParts (parts_term (drop l.part-index l.parts)) → CountedParts (results_in l.code) l.outer (parts_term l.parts) × UnmarkedParts (parts_term l.parts)
+invariant-parts_are_counted-loop-part l = record {
+  whole : CountedParts (results_in l.code) l.outer (parts_term (drop l.part-index l.parts)) × UnmarkedParts (parts_term (drop l.part-index l.parts)) → CountedParts (results_in l.code) l.outer (parts_term l.parts) × UnmarkedParts (parts_term l.parts);
+  rest : CountedParts (results_in l.code) l.outer (parts_term l.parts) × UnmarkedParts (parts_term l.parts) → CountedParts (results_in l.code) l.outer (parts_term (drop l.part-index l.parts)) × UnmarkedParts (parts_term (drop l.part-index l.parts));
+}
 
 abbrev pub invariant-block_refs-loop-left : goal.invariant-block_refs-loop-left
 invariant-block_refs-loop-left l = record {
   within : l.left ≤ length l.block.steps.items;
   counted : IsCounted (results_in l.code) l.results l.outer l.refs.items (steps_before (drop l.left l.block.steps.items) (Giving l.block.results.items));
+  only : IsCountedOnlyWith (results_in l.code) l.results l.outer l.refs.items (steps_before (drop l.left l.block.steps.items) (Giving l.block.results.items));
 }
 
 abbrev pub decreases-block_refs-loop-left : goal.decreases-block_refs-loop-left

@@ -1,0 +1,5 @@
+pub mod Closed
+pub mod Needed
+pub mod Nested
+pub mod Sizes
+pub mod Trees

@@ -1,0 +1,4 @@
+pub mod Nested
+pub mod Needs
+pub mod Rows
+pub mod Promised

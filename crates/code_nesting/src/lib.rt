@@ -1,0 +1,8 @@
+//! How deep blocks and calls nest in counted code.
+#![tactic(auto)]
+
+mod needs;
+mod nesting;
+mod walk;
+
+pub use nesting::Nesting;
