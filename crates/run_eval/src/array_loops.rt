@@ -27,6 +27,7 @@ use sac_base::{Array, Base, Cell, FaultKind, Form, Op, Site, Stop, fault};
 
 /// The result of a with-loop.
 #[cycle(run)]
+#[inline(never)]
 pub fn run_with<P: Phases>(
     with: &CodeWith,
     site: Site,
@@ -87,6 +88,7 @@ pub fn run_with<P: Phases>(
 
 /// The result of a parted loop.
 #[cycle(run)]
+#[inline(never)]
 pub fn run_parted<P: Phases>(
     parted: &CodeParted,
     site: Site,
@@ -137,6 +139,7 @@ pub fn run_parted<P: Phases>(
 
 /// The result of a loop whose checks have passed.
 #[cycle(run)]
+#[inline(never)]
 pub fn run_cell_loop<P: Phases>(
     work: &CellLoop<'_>,
     context: &Context<'_>,

@@ -197,6 +197,7 @@ fn run_right<P: Phases>(
 
 /// Appends the values of a right side.
 #[cycle(run)]
+#[inline(never)]
 fn run_rights<P: Phases>(
     right: &CodeRight,
     site: Site,
@@ -276,6 +277,7 @@ fn run_one<P: Phases>(
 
 /// Runs the turns of a loop over these values.
 #[cycle(run)]
+#[inline(never)]
 fn run_loop<P: Phases>(
     turn: &Turn<'_>,
     first_body: bool,
@@ -392,6 +394,7 @@ fn run_turn<P: Phases>(
 
 /// Appends the results of a call.
 #[cycle(run)]
+#[inline(never)]
 fn run_call<P: Phases>(
     group: u32,
     args: &[RunValue],
@@ -417,6 +420,7 @@ fn run_call<P: Phases>(
 
 /// Appends the results of a function.
 #[cycle(run)]
+#[inline(never)]
 pub fn run_function<P: Phases>(
     function: &CodeFun,
     args: &[RunValue],

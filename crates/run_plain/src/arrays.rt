@@ -36,6 +36,7 @@ pub fn read_all(
 }
 
 /// An operator of one operand.
+#[inline(never)]
 pub fn unary_array(alloc: Global, heap: &Store<'_>, op: Op, a: RunValue) -> Result<Array, Stop>
     ensures { (m : MachineHeap) → Stands heap.now m → Tells result (Ok (unary_arrays op (read m (value_of a)))) }
 {
@@ -44,6 +45,7 @@ pub fn unary_array(alloc: Global, heap: &Store<'_>, op: Op, a: RunValue) -> Resu
 }
 
 /// An operator of two operands.
+#[inline(never)]
 pub fn binary_array(
     alloc: Global,
     heap: &Store<'_>,
@@ -63,6 +65,7 @@ pub fn binary_array(
 }
 
 /// An array literal.
+#[inline(never)]
 pub fn literal_array(
     alloc: Global,
     heap: &Store<'_>,
@@ -76,6 +79,7 @@ pub fn literal_array(
     placed(literal(alloc, &arrays), site)
 }
 
+#[inline(never)]
 fn reshape_array(
     alloc: Global,
     heap: &Store<'_>,
@@ -90,6 +94,7 @@ fn reshape_array(
     placed(reshape(alloc, &shape, &array), site)
 }
 
+#[inline(never)]
 fn replace_array(
     alloc: Global,
     heap: &Store<'_>,

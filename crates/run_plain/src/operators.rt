@@ -58,6 +58,24 @@ pub fn binary_value(
 {
     match (a, b) {
         (RunValue::Word(_, x), RunValue::Word(_, y)) => word_binary(op, x, y, site),
+        _ => wide_binary(alloc, heap, op, a, b, site),
+    }
+}
+
+// An operator of operands that are not both scalars.
+#[inline(never)]
+fn wide_binary(
+    alloc: Global,
+    heap: &mut Store<'_>,
+    op: Op,
+    a: RunValue,
+    b: RunValue,
+    site: Site,
+) -> Result<RunValue, Stop>
+    ensures told { (m : MachineHeap) → Stands heap.old m → TellsPlaced result heap.new m (binary_in m op a b site) }
+    ensures lender { lender_of heap.new ≡ lender_of heap.old }
+{
+    match (a, b) {
         (RunValue::Short(_, x), RunValue::Short(_, y)) => few_binary(op, &x, &y, site),
         (RunValue::Short(_, x), RunValue::Word(_, y)) => few_binary(op, &x, &all(y, &x), site),
         (RunValue::Word(_, x), RunValue::Short(_, y)) => few_binary(op, &all(x, &y), &y, site),
@@ -68,6 +86,7 @@ pub fn binary_value(
     }
 }
 
+#[inline(always)]
 fn word_binary(op: Op, x: Cell, y: Cell, site: Site) -> Result<RunValue, Stop>
     ensures { (h : StoreOf) (m : MachineHeap) → Stands h m → (s t : BaseOf)
         → TellsPlaced result h m (at_site site (binary_arrays op (scalar s x) (scalar t y))) }
@@ -78,6 +97,7 @@ fn word_binary(op: Op, x: Cell, y: Cell, site: Site) -> Result<RunValue, Stop>
     }
 }
 
+#[inline(never)]
 fn few_binary(op: Op, x: &Few, y: &Few, site: Site) -> Result<RunValue, Stop>
     ensures { (h : StoreOf) (m : MachineHeap) → Stands h m → (s t : BaseOf)
         → TellsPlaced result h m (at_site site (binary_arrays op (vector s (numbers x.now)) (vector t (numbers y.now)))) }
@@ -89,6 +109,7 @@ fn few_binary(op: Op, x: &Few, y: &Few, site: Site) -> Result<RunValue, Stop>
 }
 
 // The number in each place that another list has.
+#[inline(never)]
 fn all(n: Cell, other: &Few) -> Few
     ensures { numbers result ≡ map (λ _. n) (numbers other.now) }
 {
@@ -100,6 +121,7 @@ fn all(n: Cell, other: &Few) -> Few
 }
 
 /// An array literal.
+#[inline(never)]
 pub fn literal_value(
     alloc: Global,
     heap: &mut Store<'_>,

@@ -40,13 +40,30 @@ pub fn plain_value(
         CodeRight::Binary(op, x, y) => {
             binary_value(alloc, heap, *op, frames.get(*x), frames.get(*y), site)
         }
+        CodeRight::Select(x, y) => select_value(alloc, heap, frames.get(*x), frames.get(*y), site),
+        _ => other_value(right, site, alloc, heap, frames),
+    }
+}
+
+// The value of a right side that loops over scalars seldom have. A function of its own, so that those which they have run in a small frame.
+#[inline(never)]
+fn other_value(
+    right: &CodeRight,
+    site: Site,
+    alloc: Global,
+    heap: &mut Store<'_>,
+    frames: &Frames,
+) -> Result<RunValue, Stop>
+    ensures told { (m : MachineHeap) → Stands heap.old m → TellsPlain (code_right_term right.now) site (current frames.now) result heap.new m }
+    ensures lender { lender_of heap.new ≡ lender_of heap.old }
+{
+    match right {
         CodeRight::Literal(xs) => literal_value(alloc, heap, frames, xs, site),
         CodeRight::Dim(x) => Ok(dim_value(&frames.get(*x))),
         CodeRight::ShapeOf(x) => shape_value(&frames.get(*x)),
         CodeRight::Reshape(x, y) => {
             reshape_value(alloc, heap, frames.get(*x), frames.get(*y), site)
         }
-        CodeRight::Select(x, y) => select_value(alloc, heap, frames.get(*x), frames.get(*y), site),
         CodeRight::Replace(x, y, z) => {
             let array = frames.get(*x);
             replace_value(alloc, heap, array, frames.get(*y), frames.get(*z), site)
@@ -57,6 +74,7 @@ pub fn plain_value(
     }
 }
 
+#[inline(never)]
 fn const_value(alloc: Global, heap: &mut Store<'_>, array: &Array) -> Result<RunValue, Stop>
     ensures told { (m : MachineHeap) → Stands heap.old m → TellsPlaced result heap.new m (Ok array.now) }
     ensures lender { lender_of heap.new ≡ lender_of heap.old }

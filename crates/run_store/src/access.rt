@@ -41,6 +41,7 @@ pub fn keep(heap: &mut Store<'_>, value: RunValue) -> Result<(), Memory>
     }
 }
 
+#[inline(never)]
 fn keep_buffer(heap: &mut Store<'_>, id: BufferId) -> Result<(), Memory>
     ensures kept { (m : MachineHeap) → Stands heap.old m → OnOk result (Stands heap.new (with_count m id.born (count_of m id.born + 1))) }
     ensures lender { lender_of heap.new ≡ lender_of heap.old }
@@ -95,6 +96,7 @@ pub fn release(heap: &mut Store<'_>, value: RunValue) -> Result<(), Memory>
     }
 }
 
+#[inline(never)]
 fn release_buffer(heap: &mut Store<'_>, id: BufferId) -> Result<(), Memory>
     ensures released { (m : MachineHeap) → Stands heap.old m → OnOk result (Stands heap.new (release_count id.born (count_of m id.born) m)) }
     ensures lender { lender_of heap.new ≡ lender_of heap.old }

@@ -110,6 +110,7 @@ pub(crate) fn extents_of(shape: &Shape) -> Few
 }
 
 // A value in a new buffer.
+#[inline(never)]
 fn put_cells(
     heap: &mut Store<'_>,
     base: Base,
@@ -157,6 +158,7 @@ pub fn place_own(heap: &mut Store<'_>, array: Array) -> Result<RunValue, Memory>
 }
 
 /// A value of its own for an answer.
+#[inline(never)]
 pub fn place_result(heap: &mut Store<'_>, answer: Result<Array, Stop>) -> Result<RunValue, Stop>
     ensures told { (m : MachineHeap) → Stands heap.old m → (meant : Ends ArrayValue) → Tells answer meant → TellsPlaced result heap.new m meant }
     ensures lender { lender_of heap.new ≡ lender_of heap.old }

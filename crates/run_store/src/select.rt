@@ -39,6 +39,7 @@ pub fn select_value(
 }
 
 // The part at any index.
+#[inline(never)]
 fn select_part(
     alloc: Global,
     heap: &mut Store<'_>,

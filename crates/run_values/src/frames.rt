@@ -61,6 +61,7 @@ impl Frames {
     }
 
     /// The value of a variable.
+    #[inline(always)]
     pub fn get(&self, x: Var) -> RunValue
         ensures { value_of result ≡ current self.now x }
     {
@@ -135,6 +136,7 @@ impl Frames {
 }
 
 // Makes slots up to this one.
+#[inline(never)]
 fn grow(slots: &mut Vec<RunValue>, slot: usize) -> Result<(), Memory>
     ensures same { slots_of slots.new.items ≡ slots_of slots.old.items }
     ensures there { OnOk result (slot < length slots.new.items) }
@@ -150,6 +152,7 @@ fn grow(slots: &mut Vec<RunValue>, slot: usize) -> Result<(), Memory>
 }
 
 // Whether nothing is bound in this slot.
+#[inline(always)]
 fn is_free(slots: &[RunValue], slot: usize) -> bool
     ensures { IsTrue result → slots_of slots.now slot ≡ RunValue.Unbound }
 {

@@ -11,6 +11,7 @@ use crate::few::Few;
 use sac_base::{FaultKind, Op, ZeroDivisor, apply1, apply2};
 
 /// An operator of one operand at each element.
+#[inline(never)]
 pub fn short_unary(op: Op, a: &Few) -> Few
     ensures { numbers result ≡ map (apply_one op) (numbers a.now) }
 {
@@ -22,6 +23,7 @@ pub fn short_unary(op: Op, a: &Few) -> Few
 }
 
 /// An operator of two operands at each pair of elements. Faults: F3 where there are not equally many, and F2 for a zero divisor.
+#[inline(never)]
 pub fn short_binary(op: Op, a: &Few, b: &Few) -> Result<Few, FaultKind>
     ensures { (s t : BaseOf) → GivesShort (result_base op) result (binary op (vector s (numbers a.now)) (vector t (numbers b.now))) }
 {

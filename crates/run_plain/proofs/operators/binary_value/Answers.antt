@@ -1,7 +1,6 @@
-use Rattle.std.proofs.Common.{rules, ℤ, FitsSigned, w32, to_z, of_z, map, ap, ◌∙◌}
+use Rattle.std.proofs.Common.{rules, FitsSigned, w32, to_z, of_z}
 use Rattle.std.proofs.lemmas.Int.{to_z-of_z}
-use Rattle.run_values.specs.Numbers.{numbers}
-use Rattle.run_plain.proofs.Operands.{two_words, word_and_short, short_and_word}
+use Rattle.run_plain.proofs.Operands.{two_words}
 use Rattle.run_plain.proofs.operators.binary_value.Goals as goal
 
 pub returns-in-Word-Word-clause-told : goal.returns-in-Word-Word-clause-told
@@ -11,17 +10,3 @@ returns-in-Word-Word-clause-told c m stands =
     let fits_y : FitsSigned w32 c.in-Word-Word.y = search rules in
     two_words c.word_binary.result c.args.heap.now m c.args.site c.args.op c.args.a c.args.b w.field-0-0 w.field-0-1 w.x w.y (to_z w32 (of_z w32 w.x)) (to_z w32 (of_z w32 w.y)) w.is-0 w.is-1
     (to_z-of_z w32 w.x fits_x) (to_z-of_z w32 w.y fits_y) (c.word_binary.ensures c.args.heap.now m stands w.field-0-0 w.field-0-1)
-
-pub returns-in-Word-Short-clause-told : goal.returns-in-Word-Short-clause-told
-returns-in-Word-Short-clause-told c m stands =
-    let w = c.in-Word-Short in
-    let fits : FitsSigned w32 c.in-Word-Short.x = search rules in
-    word_and_short c.few_binary.result c.args.heap.now m c.args.site c.args.op c.args.a c.args.b w.field-0-0 w.field-0-1 w.x w.y c.all.result w.is-0 w.is-1
-    (c.all.ensures ∙ ap (λ (z : ℤ). map (λ (_ : ℤ). z) (numbers w.y)) (to_z-of_z w32 w.x fits)) (c.few_binary.ensures c.args.heap.now m stands w.field-0-0 w.field-0-1)
-
-pub returns-in-Short-Word-clause-told : goal.returns-in-Short-Word-clause-told
-returns-in-Short-Word-clause-told c m stands =
-    let w = c.in-Short-Word in
-    let fits : FitsSigned w32 c.in-Short-Word.y = search rules in
-    short_and_word c.few_binary-in-Short-Word.result c.args.heap.now m c.args.site c.args.op c.args.a c.args.b w.field-0-0 w.field-0-1 w.x c.all-in-Short-Word.result w.y w.is-0 w.is-1
-    (c.all-in-Short-Word.ensures ∙ ap (λ (z : ℤ). map (λ (_ : ℤ). z) (numbers w.x)) (to_z-of_z w32 w.y fits)) (c.few_binary-in-Short-Word.ensures c.args.heap.now m stands w.field-0-0 w.field-0-1)

@@ -9,7 +9,7 @@ use Rattle.run_values.specs.Scopes.{current}
 use Rattle.run_values.specs.Shown.{value_of}
 use Rattle.run_plain.specs.Reads.{arrays_of, TellsPlain}
 use Rattle.run_plain.proofs.Rights.{dim_plain, literal_plain, replace_plain, shape_plain}
-use Rattle.run_plain.proofs.right.plain_value.Goals as goal
+use Rattle.run_plain.proofs.right.other_value.Goals as goal
 
 pub returns-in-Literal-clause-told : goal.returns-in-Literal-clause-told
 returns-in-Literal-clause-told c m stands =
