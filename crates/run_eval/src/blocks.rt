@@ -17,7 +17,7 @@ use run_loops::{
     Context, Outside, Phases, State, Turn, bind_all, bind_params, condition, deeper, first_of,
     push_values, value_at,
 };
-use run_plain::plain_value;
+use run_plain::{plain_value, scalar_value};
 use run_store::{keep, release};
 use run_types::{all_have, choose};
 use run_values::RunValue;
@@ -73,6 +73,11 @@ fn run_let<P: Phases>(
     ensures lender { lender_of state.new.heap ≡ lender_of state.old.heap }
 {
     if binding.targets.len() == 1 {
+        if let Some(word) = scalar_value(&binding.right, &state.frames) {
+            let value = RunValue::Word(word.base, word.number);
+            state.frames.bind(binding.targets[0], value)?;
+            return Ok(());
+        }
         let value = run_right(&binding.right, binding.site, context, outside, state)?;
         state.frames.bind(binding.targets[0], value)?;
         return Ok(());

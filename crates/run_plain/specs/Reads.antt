@@ -1,20 +1,21 @@
 -- What right sides without blocks and calls tell of the machine.
-use Rattle.std.specs.Prelude.{◌≡◌, ℕ, List, Result, Ok, Err, map, ⊤}
+use Rattle.std.specs.Prelude.{◌≡◌, ℕ, List, [], ◌∷◌, Result, Ok, Err, map, ⊤}
 use Rattle.core_ir.specs.declared.tree.Var.{Var}
 use Rattle.sac_base.specs.declared.site.Site.{Site}
-use Rattle.sac_base.specs.Arrays.{ArrayValue}
+use Rattle.sac_base.specs.Arrays.{ArrayValue, scalar}
 use Rattle.sac_base.specs.declared.op.Op.{Op}
 use Rattle.sac_base.specs.Operators.{binary}
 use Rattle.sac_base.specs.Outcomes.{Ends, at_site}
 use Rattle.sac_base.specs.Parts.{literal, replace, reshape}
 use Rattle.run_store.specs.declared.store.Store.{Store}
 use Rattle.counted_code.specs.Terms.{CodeRightTerm, PlainCode}
-use Rattle.counted_code.specs.Values.{Heap, Value, Ended, Done, Failed, read}
-use Rattle.counted_code.specs.Machine.{Values, plain_does}
+use Rattle.counted_code.specs.Values.{Heap, Value, Small, Ended, Done, Failed, read}
+use Rattle.counted_code.specs.Machine.{Values, DoesCalls, plain_does, right_does}
 use Rattle.sac_base.specs.declared.stop.Stop.{Stop}
 use Rattle.sac_base.specs.declared.stop.Stop.TheVariants.{Faulted, Memory}
 use Rattle.run_store.specs.Stands.{Stands}
 use Rattle.run_values.specs.declared.value.RunValue.{RunValue}
+use Rattle.run_values.specs.declared.value.Word.{Word}
 use Rattle.run_values.specs.Shown.{value_of}
 
 -- the arrays of variables
@@ -51,6 +52,11 @@ abbrev pub TellsChecked : Result RunValue Stop → RunValue → Ends ArrayValue 
 TellsChecked (Ok v) value (Ok a) = v ≡ value
 TellsChecked (Err (Faulted f)) value (Err g) = f ≡ g
 TellsChecked _ _ _ = ⊥
+
+-- the right side is this scalar, in every heap, which it leaves as it is
+abbrev pub IsScalarOf : CodeRightTerm → Values → Word → Type 0
+IsScalarOf r e w =
+    (calls : DoesCalls) (turns : ℕ) (s : Site) (m : Heap) → right_does calls turns r s e m ≡ Done (Small (scalar w.base w.number) ∷ []) m
 
 -- a right side that has no block and no call
 abbrev pub IsPlain : CodeRightTerm → Type 0

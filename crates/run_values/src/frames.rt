@@ -1,12 +1,14 @@
 //! The variables of all calls, in one stack.
 
-ghost use Rattle.std.specs.Prelude.{◌≡◌, ◌<◌, ◌≤◌, ◌∷◌, [], List, length, IsTrue, OnOk, IfOk};
+ghost use Rattle.std.specs.Prelude.{◌≡◌, ◌<◌, ◌≤◌, ◌∷◌, [], List, length, IsTrue, OnOk, IfOk, IfSome};
 ghost use Rattle.core_ir.specs.declared.tree.Var.{Var};
 ghost use Rattle.counted_code.specs.Machine.{Values, no_values, bind_value, missing_value};
+ghost use Rattle.counted_code.specs.Values.{Small};
+ghost use Rattle.sac_base.specs.Arrays.{scalar};
 ghost use Rattle.run_values.specs.Scopes.{slots_of, without, current, outer};
 ghost use Rattle.run_values.specs.Shown.{value_of};
 
-use crate::value::RunValue;
+use crate::value::{RunValue, Word};
 use core_ir::Var;
 use sac_base::Memory;
 use std::alloc::Global;
@@ -71,6 +73,17 @@ impl Frames {
                 None => RunValue::Unbound,
             },
             None => RunValue::Unbound,
+        }
+    }
+
+    /// The scalar that a variable is bound to, if it is one.
+    #[inline(always)]
+    pub fn word(&self, x: Var) -> Option<Word>
+        ensures { IfSome result (λ w. current self.now x ≡ Small (scalar w.base w.number)) }
+    {
+        match self.get(x) {
+            RunValue::Word(base, number) => Some(Word { base, number }),
+            _ => None,
         }
     }
 

@@ -9,4 +9,4 @@ mod value;
 pub use few::Few;
 pub use frames::Frames;
 pub use operators::{short_binary, short_unary};
-pub use value::{RunValue, small_value};
+pub use value::{RunValue, Word, small_value};

@@ -23,6 +23,13 @@ pub enum RunValue {
     Buffer(Base, BufferId, Few),
 }
 
+/// A scalar by itself.
+#[derive(Clone, Copy, Debug)]
+pub struct Word {
+    pub base: Base,
+    pub number: Cell,
+}
+
 impl RunValue {
     /// The base of its elements.
     pub fn base(&self) -> Base
