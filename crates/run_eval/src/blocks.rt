@@ -13,6 +13,7 @@ ghost use Rattle.std.specs.Prelude.{◌≡◌, ◌∷◌, [], OnOk, map};
 
 use crate::array_loops::{run_parted, run_with};
 use counted_code::{CodeBlock, CodeFun, CodeLet, CodeRight, CodeStep};
+use run_kernels::loop_values;
 use run_loops::{
     Context, Outside, Phases, State, Turn, bind_all, bind_params, condition, deeper, first_of,
     push_values, value_at,
@@ -232,6 +233,19 @@ fn run_rights<P: Phases>(
             body,
             test_site,
         } => {
+            let turns = context.turns;
+            let alloc = context.alloc;
+            if let Some(found) = loop_values(
+                right,
+                site,
+                turns,
+                alloc,
+                &state.heap,
+                &state.frames,
+            )? {
+                values.extend_from_slice(&found)?;
+                return Ok(());
+            }
             let turn = Turn {
                 params,
                 test,
