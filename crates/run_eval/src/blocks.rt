@@ -12,6 +12,7 @@ ghost use Rattle.run_values.specs.Shown.{value_of};
 ghost use Rattle.std.specs.Prelude.{◌≡◌, ◌∷◌, [], OnOk, map};
 
 use crate::array_loops::{run_parted, run_with};
+use crate::updates::update_first;
 use counted_code::{CodeBlock, CodeFun, CodeLet, CodeRight, CodeStep};
 use run_kernels::loop_values;
 use run_loops::{
@@ -36,8 +37,14 @@ fn run_steps<P: Phases>(
     ensures scopes { OnOk result (SameOuter state.old.frames state.new.frames) }
     ensures lender { lender_of state.new.heap ≡ lender_of state.old.heap }
 {
-    for step in steps {
-        run_step(step, context, outside, state)?;
+    let mut next = 0;
+    while next < steps.len() {
+        if update_first(&steps[next..], state)? {
+            next += 2;
+        } else {
+            run_step(&steps[next], context, outside, state)?;
+            next += 1;
+        }
     }
     Ok(())
 }

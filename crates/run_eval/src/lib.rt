@@ -7,6 +7,7 @@ mod in_order;
 mod marked_loops;
 mod program;
 mod trace;
+mod updates;
 
 pub use in_order::{body_in_order, cell_in_order, run_in_order, run_over_in_order};
 pub use program::{Plan, run, run_with_phases};
