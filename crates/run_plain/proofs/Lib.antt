@@ -3,6 +3,5 @@ pub mod Literals
 pub mod Operands
 pub mod Rest
 pub mod Rights
-pub mod SmallSteps
 pub mod Shorts
 pub mod Words

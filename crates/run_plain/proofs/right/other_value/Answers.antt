@@ -24,7 +24,7 @@ returns-in-Dim-clause-told c m stands =
     let e = current c.args.frames.now in
     let h = c.args.heap.now in
     subst (λ (t : CodeRight). TellsPlain (code_right_term t) c.args.site e (Ok c.dim_value.result) h m) (sym c.in-Dim.is)
-    (dim_plain h m c.args.site e c.in-Dim.x (value_of c.get-in-Dim.result) c.dim_value.result c.get-in-Dim.ensures stands (c.dim_value.ensures m))
+    (dim_plain h m c.args.site e c.in-Dim.x (value_of c.get.result) c.dim_value.result c.get.ensures stands (c.dim_value.ensures m))
 
 pub returns-in-ShapeOf-clause-told : goal.returns-in-ShapeOf-clause-told
 returns-in-ShapeOf-clause-told c m stands =
