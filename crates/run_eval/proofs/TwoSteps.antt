@@ -20,7 +20,7 @@ use Rattle.run_loops.specs.declared.state.Context.{Context}
 use Rattle.run_loops.specs.declared.state.State.{State}
 use Rattle.run_loops.specs.Running.{does_in, right_in, IsAt, Reaches}
 use Rattle.run_loops.proofs.Binding.{release_phases}
-use Rattle.run_plain.specs.Updates.{IsUpdated}
+use Rattle.run_store.specs.Updates.{IsUpdated}
 use Rattle.run_values.specs.declared.value.RunValue.{RunValue}
 use Rattle.run_values.specs.Scopes.{current}
 use Rattle.run_values.specs.Shown.{value_of}

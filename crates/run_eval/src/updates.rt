@@ -9,7 +9,7 @@ ghost use Rattle.run_store.specs.Stands.{lender_of};
 use core_ir::Var;
 use counted_code::{CodeLet, CodeRight, CodeStep};
 use run_loops::State;
-use run_plain::update_element;
+use run_store::update_element;
 use sac_base::Memory;
 
 /// Makes the first two steps at once, where they replace one element of an array and then release that array, and no other reference leads to its

@@ -6,10 +6,8 @@ mod operators;
 mod right;
 mod scalars;
 mod together;
-mod update;
 
 pub use arrays::{read_all, replace_value, reshape_value};
 pub use operators::{binary_value, literal_value, unary_value};
 pub use right::plain_value;
 pub use scalars::scalar_value;
-pub use update::update_element;

@@ -53,8 +53,8 @@ pub fn take_array(alloc: Global, heap: &mut Store<'_>, value: RunValue) -> Resul
     Ok(array)
 }
 
-/// The cells of a buffer of the own heap to which one reference leads, which is given back. None: it is no such buffer, and nothing has changed.
-pub fn take_cells(heap: &mut Store<'_>, id: BufferId) -> Option<Vec<Cell>>
+// The cells of a buffer of the own heap to which one reference leads, which is given back.
+fn take_cells(heap: &mut Store<'_>, id: BufferId) -> Option<Vec<Cell>>
     ensures cells { (m : MachineHeap) → Stands heap.old m → IfSome result (λ cells. cells.items ≡ cells_of m id.born) }
     ensures released { (m : MachineHeap) → Stands heap.old m
         → IfSome result (λ _. Stands heap.new (release_count id.born (count_of m id.born) m)) }

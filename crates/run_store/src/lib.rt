@@ -12,9 +12,9 @@ mod target;
 
 pub use access::{buffer_cells, keep, release};
 pub use arrays::{
-    array_of, place_array, place_cells, place_own, place_result, read_array, take_array, take_cells,
+    array_of, place_array, place_cells, place_own, place_result, read_array, take_array,
 };
 pub use lent::{ChunkPart, Lent, lent_counts};
-pub use select::{cell_place, index_numbers, select_value};
+pub use select::select_value;
 pub use store::Store;
 pub use target::{Target, claim, copy_into, fits, is_small, overwrite, same_sizes, settle, write};
