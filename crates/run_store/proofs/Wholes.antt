@@ -98,6 +98,12 @@ pub own_cells : (s : Store) (m : Heap) (b n : ℕ) (zs : List ℤ) → IsLive s.
 own_cells s m b n zs live content stands =
     held_cells (whole s) m (behind_lent s b) n zs (own_live s b (IsNamed n) live) (ap content_of (own_at s b) ∙ content) stands.all
 
+-- the number of a live buffer is one of the machine's
+pub own_within : (s : Store) (m : Heap) (b n : ℕ) → IsLive s.own b (IsNamed n) → Stands s m → n < length m.buffers
+own_within s m b n live stands =
+    let there = some_there (whole s) (behind_lent s b) (IsNamed n) (own_live s b (IsNamed n) live) in
+    subst (λ k. k < length m.buffers) there.2.1 (stands.all.stored (behind_lent s b) there.0 there.1).1
+
 -- one reference more
 pub own_kept : (s : Store) (m : Heap) (b n : ℕ) → IsLive s.own b (IsNamed n) → Stands s m
     → Stands (record s { own = with_place s.own b (with_count (at s.own b) (count_of (at s.own b) + 1)) }) (machine.with_count m n (machine.count_of m n + 1))

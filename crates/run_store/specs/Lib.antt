@@ -2,3 +2,4 @@ pub mod Lents
 pub mod Stands
 pub mod Targets
 pub mod Selects
+pub mod Updates

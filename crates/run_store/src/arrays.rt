@@ -1,6 +1,6 @@
 //! Arrays as values, and values as arrays.
 
-ghost use Rattle.std.specs.Prelude.{◌≡◌, length, map, pos, unsigned_abs, IfNone, IfOk, IfSome, OnOk, Ok};
+ghost use Rattle.std.specs.Prelude.{◌≡◌, ◌<◌, length, map, pos, unsigned_abs, IfNone, IfOk, IfSome, OnOk, Ok};
 ghost use Rattle.counted_code.specs.Values.{Heap as MachineHeap, read, is_small, place_value, place_as, cells_of, count_of, release as released, release_count};
 ghost use Rattle.std.specs.Prelude.{false};
 ghost use Rattle.sac_base.specs.Arrays.{size, MOST};
@@ -54,10 +54,11 @@ pub fn take_array(alloc: Global, heap: &mut Store<'_>, value: RunValue) -> Resul
 }
 
 // The cells of a buffer of the own heap to which one reference leads, which is given back.
-fn take_cells(heap: &mut Store<'_>, id: BufferId) -> Option<Vec<Cell>>
+pub(crate) fn take_cells(heap: &mut Store<'_>, id: BufferId) -> Option<Vec<Cell>>
     ensures cells { (m : MachineHeap) → Stands heap.old m → IfSome result (λ cells. cells.items ≡ cells_of m id.born) }
     ensures released { (m : MachineHeap) → Stands heap.old m
         → IfSome result (λ _. Stands heap.new (release_count id.born (count_of m id.born) m)) }
+    ensures within { (m : MachineHeap) → Stands heap.old m → IfSome result (λ _. id.born < length m.buffers) }
     ensures unchanged { IfNone result (heap.new ≡ heap.old) }
     ensures lender { lender_of heap.new ≡ lender_of heap.old }
 {

@@ -9,6 +9,7 @@ mod select;
 mod slices;
 mod store;
 mod target;
+mod update;
 
 pub use access::{buffer_cells, keep, release};
 pub use arrays::{
@@ -18,3 +19,4 @@ pub use lent::{ChunkPart, Lent, lent_counts};
 pub use select::select_value;
 pub use store::Store;
 pub use target::{Target, claim, copy_into, fits, is_small, overwrite, same_sizes, settle, write};
+pub use update::update_element;

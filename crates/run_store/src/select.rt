@@ -75,7 +75,7 @@ fn copy_part(
 }
 
 // The numbers of an index that the value holds itself.
-fn index_numbers(index: &RunValue) -> Option<Few>
+pub(crate) fn index_numbers(index: &RunValue) -> Option<Few>
     ensures { (m : MachineHeap) → IfSome result (λ few. numbers_of (read m (value_of index.now)) ≡ Some (numbers few)) }
 {
     match index {
@@ -157,7 +157,7 @@ fn cell_at(cells: &[Cell], place: usize) -> Option<Cell>
 }
 
 // The row-major place of an index of full length, where it lies in the extents and is no greater than that of any array.
-fn cell_place(extents: &[Cell], index: &[Cell]) -> Option<usize>
+pub(crate) fn cell_place(extents: &[Cell], index: &[Cell]) -> Option<usize>
     ensures { IfSome result (λ k. part_at (map unsigned_abs extents.now) index.now ≡ Some (record { start = k; shape = [] })) }
 {
     if extents.len() != index.len() {

@@ -179,7 +179,7 @@ pub fn write(
     }
 }
 
-fn write_word(cells: &mut [Cell], start: usize, n: Cell) -> Result<(), Memory>
+pub(crate) fn write_word(cells: &mut [Cell], start: usize, n: Cell) -> Result<(), Memory>
     ensures { OnOk result (IsWritten start (n ∷ []) cells.old cells.new) }
 {
     if start >= cells.len() {
