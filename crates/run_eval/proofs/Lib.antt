@@ -9,7 +9,7 @@ pub mod MarkedJobs
 pub mod PartJobs
 pub mod Trees
 pub mod Turns
-pub mod TwoSteps
+pub mod Replacing
 pub mod WholeRuns
 pub mod WithJobs
 pub mod WithTerms

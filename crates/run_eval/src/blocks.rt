@@ -39,8 +39,9 @@ fn run_steps<P: Phases>(
 {
     let mut next = 0;
     while next < steps.len() {
-        if update_first(&steps[next..], state)? {
-            next += 2;
+        let made = update_first(&steps[next..], state)?;
+        if made > 0 {
+            next += made;
         } else {
             run_step(&steps[next], context, outside, state)?;
             next += 1;
