@@ -70,7 +70,7 @@ fn mention_all(xs: &[Var], frames: &Frames, all: &mut Vec<Var>) -> Result<(), Me
 
 // Adds a variable, if it is bound and has not been added yet.
 fn mention(x: Var, frames: &Frames, all: &mut Vec<Var>) -> Result<(), Memory> {
-    if is_bound(x, frames) && !contains(all, x) {
+    if is_bound(x, frames) && !all.contains(&x) {
         all.push(x)?;
     }
     Ok(())
@@ -78,8 +78,4 @@ fn mention(x: Var, frames: &Frames, all: &mut Vec<Var>) -> Result<(), Memory> {
 
 fn is_bound(x: Var, frames: &Frames) -> bool {
     !matches!(frames.get(x), RunValue::Unbound)
-}
-
-fn contains(all: &[Var], x: Var) -> bool {
-    all.iter().any(|y| y.0 == x.0)
 }

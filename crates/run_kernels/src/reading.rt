@@ -58,11 +58,13 @@ fn right_reads(right: &CodeRight, frames: &Frames) -> bool
         CodeRight::Copy(x) | CodeRight::Check(x, _) => is_outside(*x, frames),
         CodeRight::If { yes, no, .. } => block_reads(yes, frames) && block_reads(no, frames),
         CodeRight::Loop {
-            start,
-            test,
-            body,
-            ..
-        } => all_outside(start, frames) && block_reads(test, frames) && block_reads(body, frames),
+            start, test, body, ..
+        } => {
+            if !all_outside(start, frames) {
+                return false;
+            }
+            block_reads(test, frames) && block_reads(body, frames)
+        }
         _ => false,
     }
 }

@@ -14,7 +14,16 @@ use std::alloc::Global;
 
 /// Whether all that is held are scalars.
 pub fn are_words(results: &[Held]) -> bool {
-    results.iter().all(|held| matches!(held, Held::Word(_, _) | Held::Number(_, _)))
+    for held in results {
+        if !is_word(*held) {
+            return false;
+        }
+    }
+    true
+}
+
+fn is_word(held: Held) -> bool {
+    matches!(held, Held::Word(_, _) | Held::Number(_, _))
 }
 
 /// The scalars that are held. None where something else is.
