@@ -57,7 +57,7 @@ released :
     (context : Context) (e : Values) (y x : Var) (w : Value) (other : eqb y.0 x.0 ≡ false) (steps : List CodeStep) (n : ℕ) → ReleasesAt e y x steps n
     → (k : Heap) (rest : CodeTerm) → does_in context (steps_before (take (suc n) steps) rest) (bind_value e y w) k ≡ does_in context rest (bind_value e y w) (release (e x) k)
 released context e y x w other [] n at k rest = absurd at
-released context e y x w other (step.Bind b ∷ steps) n at k rest = absurd at
+released context e y x w other (step.Bind' targets site r ∷ steps) n at k rest = absurd at
 released context e y x w other (step.Keep z ∷ steps) n at k rest = absurd at
 released context e y x w other (step.Release z ∷ steps) zero at k rest =
     ap (λ (v : Var). does_in context rest (bind_value e y w) (release (cond (eqb y.0 v.0) w (e v)) k)) at

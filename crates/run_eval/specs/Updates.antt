@@ -15,7 +15,7 @@ OnlyTarget b x y = (b.targets.items ≡ y ∷ []) × (eqb y.0 x.0 ≡ false)
 -- the step at a place releases x, and those before it release other variables than y, which hold their arrays themselves
 abbrev pub ReleasesAt : Values → Var → Var → List CodeStep → ℕ → Type 0
 ReleasesAt e y x [] k = ⊥
-ReleasesAt e y x (step.Bind b ∷ steps) k = ⊥
+ReleasesAt e y x (step.Bind' targets site r ∷ steps) k = ⊥
 ReleasesAt e y x (step.Keep z ∷ steps) k = ⊥
 ReleasesAt e y x (step.Release z ∷ steps) zero = z ≡ x
 ReleasesAt e y x (step.Release z ∷ steps) (suc k) = (eqb y.0 z.0 ≡ false) × ((a : ArrayValue) × (e z ≡ Small a)) × ReleasesAt e y x steps k
