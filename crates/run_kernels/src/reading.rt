@@ -58,7 +58,10 @@ fn right_reads(right: &CodeRight, frames: &Frames) -> bool
         CodeRight::Copy(x) | CodeRight::Check(x, _) => is_outside(*x, frames),
         CodeRight::If { yes, no, .. } => block_reads(yes, frames) && block_reads(no, frames),
         CodeRight::Loop {
-            start, test, body, ..
+            start,
+            test,
+            body,
+            ..
         } => {
             if !all_outside(start, frames) {
                 return false;

@@ -1,10 +1,8 @@
-use Rattle.std.proofs.Common.{rules, All, IsTrue, ap, refl, subst, sym, ◌∙◌}
-use Rattle.core_ir.specs.declared.tree.Var.{Var}
-use Rattle.counted_code.specs.Terms.{Giving}
-use Rattle.counted_code.specs.View.{code_right_term, code_term, steps_before}
+use Rattle.std.proofs.Common.{All, ap, refl, subst, sym, ◌∙◌}
+use Rattle.counted_code.specs.View.{code_right_term}
 use Rattle.kernel_lower.proofs.Trees.{if_term, loop_term}
 use Rattle.run_values.specs.Scopes.{current}
-use Rattle.run_kernels.specs.Reads.{OnlyReads, Outside, RightOnlyReads}
+use Rattle.run_kernels.specs.Reads.{Outside, RightOnlyReads}
 use Rattle.run_kernels.specs.Scopes.{refers}
 use Rattle.run_kernels.proofs.Walks.{reads_more}
 use Rattle.run_kernels.proofs.reading.+reading.Goals as goal
