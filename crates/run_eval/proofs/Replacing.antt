@@ -20,7 +20,7 @@ use Rattle.run_loops.specs.declared.state.Context.{Context}
 use Rattle.run_loops.specs.declared.state.State.{State}
 use Rattle.run_loops.specs.Running.{does_in, right_in, IsAt, Reaches}
 use Rattle.run_loops.proofs.Binding.{release_phases}
-use Rattle.run_eval.specs.Updates.{OnlyTarget, ReleasesAt}
+use Rattle.run_eval.specs.Updates.{IsSmall, OnlyTarget, ReleasesAt}
 use Rattle.run_store.specs.Updates.{IsUpdated}
 use Rattle.run_values.specs.declared.value.RunValue.{RunValue}
 use Rattle.run_values.specs.Scopes.{current}
@@ -52,6 +52,10 @@ placed_phases : (small : Bool) (a : ArrayValue) (m k : Heap) (w : Value) → pla
 placed_phases true a m k w is = sym (ap (λ (h : Heap). h.phases) (done_heap (Small a) w m k is))
 placed_phases false a m k w is = sym (ap (λ (h : Heap). h.phases) (done_heap (Ref (length m.buffers) a.base a.shape) w (take_buffer a.cells m) k is))
 
+small_released : (v : Value) (k : Heap) → IsSmall v → release v k ≡ k
+small_released (Small a) k small = refl
+small_released (Ref place base shape) k small = absurd small
+
 -- releases of what is in no buffer change nothing, and then the array is released
 released :
     (context : Context) (e : Values) (y x : Var) (w : Value) (other : eqb y.0 x.0 ≡ false) (steps : List CodeStep) (n : ℕ) → ReleasesAt e y x steps n
@@ -64,7 +68,7 @@ released context e y x w other (step.Release z ∷ steps) zero at k rest =
     ∙ ap (λ (q : Bool). does_in context rest (bind_value e y w) (release (cond q w (e x)) k)) other
 released context e y x w other (step.Release z ∷ steps) (suc n) at k rest =
     ap (λ (q : Bool). does_in context (steps_before (take (suc n) steps) rest) (bind_value e y w) (release (cond q w (e z)) k)) at.0
-    ∙ ap (λ (v : Value). does_in context (steps_before (take (suc n) steps) rest) (bind_value e y w) (release v k)) at.1.1
+    ∙ ap (does_in context (steps_before (take (suc n) steps) rest) (bind_value e y w)) (small_released (e z) k at.1)
     ∙ released context e y x w other steps n at.2 k rest
 
 module _ (context : Context) (b : CodeLet) (x i p y : Var) (s t : State) (m : Heap) where

@@ -1,12 +1,16 @@
 -- Steps behind a replacement.
-use Rattle.std.specs.Prelude.{◌≡◌, ℕ, zero, suc, false, eqb, List, [], ◌∷◌}
-use Rattle.sac_base.specs.Arrays.{ArrayValue}
+use Rattle.std.specs.Prelude.{◌≡◌, ℕ, zero, suc, false, eqb, List, [], ◌∷◌, ⊤}
 use Rattle.core_ir.specs.declared.tree.Var.{Var}
 use Rattle.counted_code.specs.declared.tree.CodeLet.{CodeLet}
 use Rattle.counted_code.specs.declared.tree.CodeStep.{CodeStep}
 use Rattle.counted_code.specs.declared.tree.CodeStep.TheVariants as step
 use Rattle.counted_code.specs.Machine.{Values}
-use Rattle.counted_code.specs.Values.{Value, Small}
+use Rattle.counted_code.specs.Values.{Value, Small, Ref}
+
+-- a value that holds its array itself
+abbrev pub IsSmall : Value → Type 0
+IsSmall (Small a) = ⊤
+IsSmall (Ref place base shape) = ⊥
 
 -- the binding has one target, which is not x
 abbrev pub OnlyTarget : CodeLet → Var → Var → Type 0
@@ -18,4 +22,4 @@ ReleasesAt e y x [] k = ⊥
 ReleasesAt e y x (step.Bind' targets site r ∷ steps) k = ⊥
 ReleasesAt e y x (step.Keep z ∷ steps) k = ⊥
 ReleasesAt e y x (step.Release z ∷ steps) zero = z ≡ x
-ReleasesAt e y x (step.Release z ∷ steps) (suc k) = (eqb y.0 z.0 ≡ false) × ((a : ArrayValue) × (e z ≡ Small a)) × ReleasesAt e y x steps k
+ReleasesAt e y x (step.Release z ∷ steps) (suc k) = (eqb y.0 z.0 ≡ false) × IsSmall (e z) × ReleasesAt e y x steps k

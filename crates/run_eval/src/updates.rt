@@ -1,14 +1,13 @@
 //! Replacements in place.
 
 ghost use Rattle.std.specs.Prelude.{◌≡◌, ◌≤◌, IfOk, IfSome, IsTrue, OnOk, [], length, take};
-ghost use Rattle.counted_code.specs.Values.{Heap as MachineHeap, Small};
-ghost use Rattle.run_eval.specs.Updates.{ReleasesAt, OnlyTarget};
+ghost use Rattle.counted_code.specs.Values.{Heap as MachineHeap};
+ghost use Rattle.run_eval.specs.Updates.{IsSmall, OnlyTarget, ReleasesAt};
 ghost use Rattle.run_loops.specs.declared.state.Context.{Context as ContextOf};
 ghost use Rattle.run_loops.specs.Running.{IsAt, Reaches, SameOuter};
 ghost use Rattle.run_store.specs.Stands.{lender_of};
 ghost use Rattle.run_values.specs.Scopes.{current};
 ghost use Rattle.run_values.specs.Shown.{value_of};
-ghost use Rattle.sac_base.specs.Arrays.{ArrayValue};
 
 use core_ir::Var;
 use counted_code::{CodeLet, CodeRight, CodeStep};
@@ -77,7 +76,7 @@ fn release_place(steps: &[CodeStep], array: Var, target: Var, frames: &Frames) -
 
 // Whether a value is no reference to a buffer.
 fn is_no_buffer(value: &RunValue) -> bool
-    ensures { IsTrue result → (a : ArrayValue) × (value_of value.now ≡ Small a) }
+    ensures { IsTrue result → IsSmall (value_of value.now) }
 {
     match value {
         RunValue::Unbound => true,
