@@ -12,6 +12,8 @@ mod making;
 #[cfg(test)]
 mod offset;
 #[cfg(test)]
+mod ranges;
+#[cfg(test)]
 mod stencil;
 #[cfg(test)]
 mod strips;

@@ -1,20 +1,22 @@
 -- A kernel that reads of a buffer its own element alone gives the same whatever other elements the buffer has.
 use Rattle.std.proofs.Common.{◌≡◌, ℕ, zero, suc, ◌-◌, ◌≤◌, ℤ, pos, Bool, true, false, ◌&&◌, eqb, nat_eq, nat_le, List, [], ◌∷◌, length, get_or-set_other, Result, Ok, Err, refl, ap, sym, ◌∙◌, arith}
 use Rattle.std.specs.Prelude.{if◌then◌else◌, slice_set}
+use Rattle.std.specs.Int.{int_gap}
 use Rattle.std.specs.List.{list_all}
 use Rattle.std.proofs.lemmas.Bool.{eqb-true}
 use Rattle.sac_base.specs.declared.base.Base.TheVariants.{Int}
+use Rattle.sac_base.specs.declared.faults.FaultKind.TheVariants.{F8}
 use Rattle.sac_base.specs.declared.op.Op.{Op}
 use Rattle.sac_base.specs.declared.op.Op.TheVariants as op
 use Rattle.sac_base.specs.declared.op.ZeroDivisor.{ZeroDivisor}
 use Rattle.sac_base.specs.declared.site.Site.{Site}
-use Rattle.sac_base.specs.Arrays.{ArrayValue, is_true, vector}
+use Rattle.sac_base.specs.Arrays.{ArrayValue, MOST, is_true, vector}
 use Rattle.sac_base.specs.Operators.{apply_two}
-use Rattle.sac_base.specs.Outcomes.{Ends, and_then, at_site}
+use Rattle.sac_base.specs.Outcomes.{Ends, and_then, at_site, fault}
 use Rattle.sac_base.specs.Parts.{select}
 use Rattle.kernel_tree.specs.declared.tree.KernelStep.{KernelStep}
 use Rattle.kernel_tree.specs.declared.tree.KernelStep.TheVariants as step
-use Rattle.kernel_tree.specs.Terms.{Doing, KernelTerm, Over, LineThen, IfThen, TurnsThen, EachThen, buffer, each_gives, gives, numbers_between, line_gives, loop_gives, put, put_element, put_result, put_value, register, step_gives, turns_give, two}
+use Rattle.kernel_tree.specs.Terms.{Doing, KernelTerm, Over, LineThen, IfThen, TurnsThen, EachThen, BetweenThen, between_gives, buffer, end_number, first_number, each_gives, gives, numbers_between, line_gives, loop_gives, put, put_element, put_result, put_value, register, step_gives, turns_give, two}
 use Rattle.kernel_rows.specs.Kernels.{HasIndex}
 use Rattle.own_kernels.specs.Statements.{SameAt}
 use Rattle.own_kernels.specs.Steps.{is_own, own_load, own_step}
@@ -181,6 +183,16 @@ module _ (rank at : ℕ) (index : List ℤ) (long : length index ≡ rank) (bs c
       then_alike index (each_gives i (gives turns cs body) (numbers_between from to) r) (each_gives i (gives turns bs body) (numbers_between from to) r) (gives turns cs k) (gives turns bs k)
       (each_alike index i (gives turns cs body) (gives turns bs body) (le_to i (is_own rank at body) both)
       (λ u held. gives_alike turns body u (and_right (nat_le rank i) (is_own rank at body) both) held) (numbers_between from to) r has)
+      (λ u held. gives_alike turns k u (and_right inner (is_own rank at k) own) held)
+  gives_alike turns (BetweenThen i from low to high body site k) r own has =
+      let inner = nat_le rank i && is_own rank at body in
+      let both = and_left inner (is_own rank at k) own in
+      let first = first_number low (register r from) in
+      let last = end_number high (register r to) in
+      then_alike index (between_gives i site (gives turns cs body) first last r) (between_gives i site (gives turns bs body) first last r) (gives turns cs k) (gives turns bs k)
+      (if_alike index (nat_le (int_gap first last) MOST) (each_gives i (gives turns cs body) (numbers_between first last) r) (each_gives i (gives turns bs body) (numbers_between first last) r) (fault F8 site) (fault F8 site)
+      (each_alike index i (gives turns cs body) (gives turns bs body) (le_to i (is_own rank at body) both)
+      (λ u held. gives_alike turns body u (and_right (nat_le rank i) (is_own rank at body) both) held) (numbers_between first last) r has) (refl, tt))
       (λ u held. gives_alike turns k u (and_right inner (is_own rank at k) own) held)
 
 pub gives_same : (turns rank at : ℕ) (k : KernelTerm) (index r : List ℤ) (bs cs : List ArrayValue) → is_own rank at k ≡ true → length index ≡ rank → HasIndex r index → SameAt at index bs cs → gives turns cs k r ≡ gives turns bs k r

@@ -8,7 +8,7 @@ use Rattle.kernel_tree.specs.declared.tree.KernelPart.{KernelPart}
 use Rattle.kernel_tree.specs.declared.tree.KernelPart.TheVariants as part
 use Rattle.kernel_tree.specs.Terms.{KernelTerm, Over}
 use Rattle.kernel_tree.specs.View.{kernel_term, part_then, parts_then}
-use Rattle.kernel_tree.proofs.Trees.{each_part, if_part, turns_part}
+use Rattle.kernel_tree.proofs.Trees.{between_part, each_part, if_part, turns_part}
 use Rattle.own_kernels.specs.Steps.{is_own, own_step}
 use Rattle.own_kernels.proofs.Bools.{and_over}
 
@@ -19,6 +19,7 @@ module _ (rank buffer : ℕ) where
   own_over (part.If' c sa a sb b) t = and_over _ (is_own rank buffer t)
   own_over (part.Turns' first sa a c sb b site) t = and_over _ (is_own rank buffer t)
   own_over (part.Each' index from to sa a) t = and_over _ (is_own rank buffer t)
+  own_over (part.Between' index from low to high sa a site) t = and_over _ (is_own rank buffer t)
 
   -- a part more
   pub own_at : (ps : List KernelPart) (k : ℕ) (d : KernelPart) → k < length ps → is_own rank buffer (parts_then (drop k ps) Over) ≡ (is_own rank buffer (part_then (get_or ps k d) Over) && is_own rank buffer (parts_then (drop (k + 1) ps) Over))
@@ -53,3 +54,8 @@ module _ (rank buffer : ℕ) where
   pub own_each : (p : KernelPart) (index : ℕ) (from to : ℤ) (a : KernelBlock) → p ≡ part.Each index from to a → is_own rank buffer (part_then p Over) ≡ (nat_le rank index && is_own rank buffer (kernel_term a))
   own_each p index from to a is =
       ap (λ (q : KernelPart). is_own rank buffer (part_then q Over)) is ∙ ap (is_own rank buffer) (each_part index from to a Over) ∙ two_over (nat_le rank index) (is_own rank buffer (kernel_term a))
+
+  pub own_between : (p : KernelPart) (index from : ℕ) (low : Bool) (to : ℕ) (high : Bool) (a : KernelBlock) (site : Site) → p ≡ part.Between index from low to high a site
+      → is_own rank buffer (part_then p Over) ≡ (nat_le rank index && is_own rank buffer (kernel_term a))
+  own_between p index from low to high a site is =
+      ap (λ (q : KernelPart). is_own rank buffer (part_then q Over)) is ∙ ap (is_own rank buffer) (between_part index from low to high a site Over) ∙ two_over (nat_le rank index) (is_own rank buffer (kernel_term a))

@@ -3,7 +3,7 @@ use Rattle.std.specs.Prelude.{ℕ, Bool, true, ◌&&◌, ◌||◌, not, nat_eq, 
 use Rattle.std.specs.List.{list_all}
 use Rattle.kernel_tree.specs.declared.tree.KernelStep.{KernelStep}
 use Rattle.kernel_tree.specs.declared.tree.KernelStep.TheVariants as step
-use Rattle.kernel_tree.specs.Terms.{KernelTerm, Over, LineThen, IfThen, TurnsThen, EachThen}
+use Rattle.kernel_tree.specs.Terms.{KernelTerm, Over, LineThen, IfThen, TurnsThen, EachThen, BetweenThen}
 
 -- the register that a step writes
 abbrev pub target : KernelStep → Option ℕ
@@ -51,3 +51,4 @@ is_own rank buffer (LineThen ss k) = list_all (own_step rank buffer) ss && is_ow
 is_own rank buffer (IfThen c a b k) = (is_own rank buffer a && is_own rank buffer b) && is_own rank buffer k
 is_own rank buffer (TurnsThen first test c body site k) = (is_own rank buffer test && is_own rank buffer body) && is_own rank buffer k
 is_own rank buffer (EachThen index from to body k) = (nat_le rank index && is_own rank buffer body) && is_own rank buffer k
+is_own rank buffer (BetweenThen index from from_closed to to_closed body site k) = (nat_le rank index && is_own rank buffer body) && is_own rank buffer k

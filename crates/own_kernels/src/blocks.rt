@@ -38,6 +38,9 @@ fn is_own_part(part: &KernelPart, rank: usize, buffer: u8) -> bool
         KernelPart::Each { index, body, .. } => {
             is_behind(*index, rank) && is_own_block(body, rank, buffer)
         }
+        KernelPart::Between { index, body, .. } => {
+            is_behind(*index, rank) && is_own_block(body, rank, buffer)
+        }
     }
 }
 

@@ -1,5 +1,5 @@
 -- A replacement and the releases behind it, made at once.
-use Rattle.std.proofs.Common.{◌≡◌, ℕ, ◌+◌, Bool, true, false, cond, eqb, zero, suc, List, [], ◌∷◌, ◌++◌, length, take, drop, Ok, refl, sym, ap, ◌∙◌, subst}
+use Rattle.std.proofs.Common.{◌≡◌, ℕ, ◌+◌, Bool, true, false, cond, eqb, zero, suc, List, [], ◌∷◌, ◌++◌, length, take, drop, Ok, refl, sym, ap, ◌∙◌, subst, arith}
 use Rattle.std.proofs.lemmas.List.{take-append-drop}
 use Rattle.sac_base.specs.Arrays.{ArrayValue}
 use Rattle.sac_base.specs.Outcomes.{at_site}
@@ -42,6 +42,13 @@ next_steps context steps s m first left t u here told = record {
       ∙ ap (λ c. does_in context c (current t.frames) here.heap) (before_append first left rest)
       ∙ told.goes_on (steps_before left rest);
 }
+
+two_more : (n : ℕ) → n + 2 ≡ suc (suc n)
+two_more n = omega arith
+
+-- one step and so many behind it
+pub front : {A : Type 0} (n : ℕ) (x : A) (xs steps : List A) → steps ≡ x ∷ xs → take (n + 2) steps ≡ x ∷ take (suc n) xs
+front n x xs steps is = ap (take (n + 2)) is ∙ ap (λ k. take k (x ∷ xs)) (two_more n)
 
 -- ---- a replacement and the releases
 

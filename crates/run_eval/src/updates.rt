@@ -1,6 +1,7 @@
 //! Replacements in place.
 
-ghost use Rattle.std.specs.Prelude.{◌≡◌, ◌≤◌, IfOk, IfSome, IsTrue, OnOk, [], length, take};
+ghost use Rattle.std.specs.Prelude.{◌≡◌, ◌<◌, ◌≤◌, IfOk, IfSome, IsTrue, OnOk, [], ◌∷◌, drop, length, take};
+ghost use Rattle.counted_code.specs.declared.tree.CodeStep.TheVariants.{Bind};
 ghost use Rattle.counted_code.specs.Values.{Heap as MachineHeap};
 ghost use Rattle.run_eval.specs.Updates.{IsSmall, OnlyTarget, ReleasesAt};
 ghost use Rattle.run_loops.specs.declared.state.Context.{Context as ContextOf};
@@ -26,7 +27,7 @@ pub(crate) fn update_first(steps: &[CodeStep], state: &mut State<'_>) -> Result<
     ensures scopes { OnOk result (SameOuter state.old.frames state.new.frames) }
     ensures lender { lender_of state.new.heap ≡ lender_of state.old.heap }
 {
-    let Some(CodeStep::Bind(binding)) = steps.first() else {
+    let Some(binding) = first_binding(steps) else {
         return Ok(0);
     };
     let CodeRight::Replace(array, index, part) = &binding.right else {
@@ -47,6 +48,16 @@ pub(crate) fn update_first(steps: &[CodeStep], state: &mut State<'_>) -> Result<
     Ok(releases + 2)
 }
 
+// The binding at the head of steps, if there is one.
+fn first_binding(steps: &[CodeStep]) -> Option<&CodeLet>
+    ensures { IfSome result (λ b. steps.now ≡ Bind b.now ∷ drop 1 steps.now) }
+{
+    match steps.first() {
+        Some(CodeStep::Bind(binding)) => Some(binding),
+        _ => None,
+    }
+}
+
 // The only target of a binding, if it is another variable than this one.
 fn other_target(binding: &CodeLet, x: Var) -> Option<Var>
     ensures { IfSome result (OnlyTarget binding.now x) }
@@ -59,7 +70,8 @@ fn other_target(binding: &CodeLet, x: Var) -> Option<Var>
 
 // The place of the step that releases an array, where the steps before it release what refers to no buffer, and not this target.
 fn release_place(steps: &[CodeStep], array: Var, target: Var, frames: &Frames) -> Option<usize>
-    ensures { IfSome result (ReleasesAt (current frames.now) target array steps.now) }
+    ensures released { IfSome result (ReleasesAt (current frames.now) target array steps.now) }
+    ensures within { IfSome result (λ k. k < length steps.now) }
 {
     let Some(CodeStep::Release(x)) = steps.first() else {
         return None;

@@ -1,4 +1,4 @@
-use Rattle.std.proofs.Common.{◌≡◌, ◌+◌, ◌*◌, max, map, drop}
+use Rattle.std.proofs.Common.{◌≡◌, ◌≤◌, ◌+◌, ◌-◌, ◌*◌, max, length, map, drop}
 use Rattle.counted_code.specs.declared.tree.CodeBlock.{size-CodeBlock}
 use Rattle.counted_code.specs.declared.tree.CodeLet.{size-CodeLet}
 use Rattle.counted_code.specs.declared.tree.CodeRight.{size-CodeRight}
@@ -68,12 +68,16 @@ decreases-blocks::run_call g l = rank_of l.context.now
 abbrev pub decreases-blocks::run_function : goal.decreases-blocks::run_function
 decreases-blocks::run_function g l = rank_of l.context.now + 8 * body_size l.function.now + 4
 
-abbrev pub invariant-blocks::run_steps-loop-step : goal.invariant-blocks::run_steps-loop-step
-invariant-blocks::run_steps-loop-step g l = record {
-  told : (m : Heap) → IsAt l.initial.state m → Reaches l.context l.steps l.initial.state m (drop l.step-index l.steps) l.state;
+abbrev pub invariant-blocks::run_steps-loop-next : goal.invariant-blocks::run_steps-loop-next
+invariant-blocks::run_steps-loop-next g l = record {
+  told : (m : Heap) → IsAt l.initial.state m → Reaches l.context l.steps l.initial.state m (drop l.next l.steps) l.state;
+  within : l.next ≤ length l.steps;
   scopes : SameOuter l.initial.state.frames l.state.frames;
   lender : lender_of l.state.heap ≡ lender_of l.initial.state.heap;
 }
+
+abbrev pub decreases-blocks::run_steps-loop-next : goal.decreases-blocks::run_steps-loop-next
+decreases-blocks::run_steps-loop-next g l = length l.steps - l.next
 
 abbrev pub invariant-blocks::repeat-loop-left : goal.invariant-blocks::repeat-loop-left
 invariant-blocks::repeat-loop-left g l = record {

@@ -3,7 +3,7 @@ use Rattle.kernel_tree.specs.declared.tree.KernelPart.{KernelPart}
 use Rattle.kernel_tree.specs.Terms.{Over}
 use Rattle.kernel_tree.specs.View.{kernel_term, parts_then}
 use Rattle.own_kernels.specs.Steps.{is_own}
-use Rattle.own_kernels.proofs.Parts.{not_own, own_each, own_if, own_next, own_turns}
+use Rattle.own_kernels.proofs.Parts.{not_own, own_between, own_each, own_if, own_next, own_turns}
 use Rattle.own_kernels.proofs.blocks.+own.Goals as goal
 
 pub is_own_block-returns-then-not-is_own_part : goal.is_own_block-returns-then-not-is_own_part
@@ -59,3 +59,17 @@ is_own_part-returns-else-is_behind t c =
     let second = is_own c.args.rank c.args.buffer (kernel_term i.body) in
     c.if-is_behind.false
     ∙ sym (own_each c.args.rank c.args.buffer c.args.part.now i.index i.from i.to i.body i.is ∙ ap (λ b. b && second) (sym c.is_behind.ensures ∙ c.if-is_behind.false))
+
+pub is_own_part-returns-then-is_behind-2 : goal.is_own_part-returns-then-is_behind-2
+is_own_part-returns-then-is_behind-2 t c =
+    let i = c.in-Between in
+    let second = is_own c.args.rank c.args.buffer (kernel_term i.body) in
+    c.is_own_block-then-is_behind-2.ensures
+    ∙ sym (own_between c.args.rank c.args.buffer c.args.part.now i.index i.from i.from_closed i.to i.to_closed i.body i.site i.is ∙ ap (λ b. b && second) (sym c.is_behind-in-Between.ensures ∙ c.if-is_behind-2.true))
+
+pub is_own_part-returns-else-is_behind-2 : goal.is_own_part-returns-else-is_behind-2
+is_own_part-returns-else-is_behind-2 t c =
+    let i = c.in-Between in
+    let second = is_own c.args.rank c.args.buffer (kernel_term i.body) in
+    c.if-is_behind-2.false
+    ∙ sym (own_between c.args.rank c.args.buffer c.args.part.now i.index i.from i.from_closed i.to i.to_closed i.body i.site i.is ∙ ap (λ b. b && second) (sym c.is_behind-in-Between.ensures ∙ c.if-is_behind-2.false))
