@@ -1,6 +1,6 @@
 -- A replacement and the releases behind it, made at once.
-use Rattle.std.proofs.Common.{◌≡◌, ℕ, ◌+◌, Bool, true, false, cond, eqb, zero, suc, List, [], ◌∷◌, ◌++◌, length, take, drop, Ok, refl, sym, ap, ◌∙◌, subst, arith}
-use Rattle.std.proofs.lemmas.List.{take-append-drop}
+use Rattle.std.proofs.Common.{◌≡◌, ℕ, ◌+◌, ◌-◌, Bool, true, false, cond, eqb, zero, suc, List, [], ◌∷◌, ◌++◌, length, take, drop, Ok, refl, sym, ap, ◌∙◌, subst, arith}
+use Rattle.std.proofs.lemmas.List.{length-drop, take_all}
 use Rattle.sac_base.specs.Arrays.{ArrayValue}
 use Rattle.sac_base.specs.Outcomes.{at_site}
 use Rattle.sac_base.specs.Parts.{replace}
@@ -33,15 +33,22 @@ before_append [] left rest = refl
 before_append (x ∷ first) left rest = ap (step_term x) (before_append first left rest)
 
 pub next_steps :
-    (context : Context) (steps : List CodeStep) (s : State) (m : Heap) (first left : List CodeStep) (t u : State)
-    → (here : Reaches context steps s m (first ++ left) t) → Reaches context first t here.heap [] u → Reaches context steps s m left u
-next_steps context steps s m first left t u here told = record {
+    (context : Context) (steps : List CodeStep) (s : State) (m : Heap) (ahead first left : List CodeStep) (t u : State)
+    → (here : Reaches context steps s m ahead t) → ahead ≡ first ++ left → Reaches context first t here.heap [] u → Reaches context steps s m left u
+next_steps context steps s m ahead first left t u here split told = record {
   heap = told.heap;
   stands = told.stands;
   goes_on = λ (rest : CodeTerm). here.goes_on rest
-      ∙ ap (λ c. does_in context c (current t.frames) here.heap) (before_append first left rest)
+      ∙ ap (λ c. does_in context c (current t.frames) here.heap) (ap (λ d. steps_before d rest) split ∙ before_append first left rest)
       ∙ told.goes_on (steps_before left rest);
 }
+
+-- the rest of a slice
+pub rest_of : {A : Type 0} (k : ℕ) (xs : List A) → take (length xs - k) (drop k xs) ≡ drop k xs
+rest_of k xs = take_all (length xs - k) (drop k xs) (omega (arith, length-drop k xs))
+
+pub rest_length : {A : Type 0} (k : ℕ) (xs : List A) → length (take (length xs - k) (drop k xs)) ≡ length xs - k
+rest_length k xs = ap length (rest_of k xs) ∙ length-drop k xs
 
 two_more : (n : ℕ) → n + 2 ≡ suc (suc n)
 two_more n = omega arith

@@ -16,8 +16,8 @@ use Rattle.run_eval.proofs.+run.Answers.WithAnswers as with_answers
 pub blocks::run_steps-run_step-requires : goal.blocks::run_steps-run_step-requires
 blocks::run_steps-run_step-requires = block_answers.run_steps-run_step-requires
 
-pub blocks::run_steps-loop-step-preserved : goal.blocks::run_steps-loop-step-preserved
-blocks::run_steps-loop-step-preserved = block_answers.run_steps-loop-step-preserved
+pub blocks::run_steps-loop-next-preserved-then-made-gt0 : goal.blocks::run_steps-loop-next-preserved-then-made-gt0
+blocks::run_steps-loop-next-preserved-then-made-gt0 = block_answers.run_steps-loop-next-preserved-then-made-gt0
 
 pub blocks::run_steps-returns-in_err-run_step : goal.blocks::run_steps-returns-in_err-run_step
 blocks::run_steps-returns-in_err-run_step = block_answers.run_steps-returns-in_err-run_step
@@ -238,8 +238,8 @@ blocks::run_rights-returns-else-branch = right_answers.run_rights-returns-else-b
 pub blocks::run_rights-returns-in_err-run_loop-in-Loop : goal.blocks::run_rights-returns-in_err-run_loop-in-Loop
 blocks::run_rights-returns-in_err-run_loop-in-Loop = right_answers.run_rights-returns-in_err-run_loop-in-Loop
 
-pub blocks::run_rights-returns-in_ok-extend_from_slice-in-Loop : goal.blocks::run_rights-returns-in_ok-extend_from_slice-in-Loop
-blocks::run_rights-returns-in_ok-extend_from_slice-in-Loop = right_answers.run_rights-returns-in_ok-extend_from_slice-in-Loop
+pub blocks::run_rights-returns-in_ok-extend_from_slice-in-Loop-2 : goal.blocks::run_rights-returns-in_ok-extend_from_slice-in-Loop-2
+blocks::run_rights-returns-in_ok-extend_from_slice-in-Loop-2 = right_answers.run_rights-returns-in_ok-extend_from_slice-in-Loop-2
 
 pub blocks::run_rights-returns-in_ok-push_values-in-Call : goal.blocks::run_rights-returns-in_ok-push_values-in-Call
 blocks::run_rights-returns-in_ok-push_values-in-Call = right_answers.run_rights-returns-in_ok-push_values-in-Call

@@ -1,7 +1,7 @@
 -- Answers for blocks and their steps.
-use Rattle.std.proofs.Common.{rules, ◌≡◌, ◌+◌, [], ◌∷◌, ◌++◌, Err, ap, sym, ◌∙◌, subst, arith, map, drop, List, refl}
-use Rattle.std.proofs.lemmas.List.{drop_all, drop_more}
-use Rattle.counted_code.specs.declared.tree.CodeStep.{size-CodeStep}
+use Rattle.std.proofs.Common.{rules, ◌≡◌, ◌+◌, [], ◌∷◌, ◌++◌, Err, ap, sym, ◌∙◌, subst, arith, map, drop, take, List, refl}
+use Rattle.std.proofs.lemmas.List.{drop_all, drop-drop, drop_more, take-append-drop}
+use Rattle.counted_code.specs.declared.tree.CodeStep.{CodeStep, size-CodeStep}
 use Rattle.counted_code.specs.declared.tree.CodeStep.TheVariants as step
 use Rattle.counted_code.specs.Machine.{bind_value, bind_values, first_of, first_value}
 use Rattle.counted_code.specs.Values.{Value, Ended, give, go_on}
@@ -12,27 +12,34 @@ use Rattle.run_loops.specs.Running.{does_in, right_in, Told, ToldSteps, IsValue,
 use Rattle.run_loops.proofs.Binding.{let_goes, let_stops, one_target, keep_goes, release_goes}
 use Rattle.run_loops.proofs.Measures.{steps_size}
 use Rattle.run_loops.proofs.Sizes.{steps_below, step_below, let_below, right_below}
-use Rattle.run_loops.proofs.Steps.{moved, given, tell, stop_then, next_step, last_step, results_given, block_stops, on_ok, handed, no_scopes}
+use Rattle.run_loops.proofs.Steps.{moved, given, tell, stop_then, last_step, results_given, block_stops, on_ok, handed, no_scopes}
+use Rattle.run_eval.proofs.Replacing.{next_steps, rest_length, rest_of}
 use Rattle.run_eval.proofs.+run.Goals as goal
 
 pub run_steps-run_step-requires : goal.blocks::run_steps-run_step-requires
-run_steps-run_step-requires g t c κs p = (omega (arith, c.decreases, step_below c.args.steps.now c.loop-step.step-index c.step-item.result c.loop-step-test.true, ap size-CodeStep c.step-item.is), p)
+run_steps-run_step-requires g t c κs p =
+    let item = c.index-steps-next.result.now in
+    (omega (arith, c.decreases, step_below c.args.steps.now c.loop-next.next item c.loop-next-test.true, ap size-CodeStep c.index-steps-next.ensures), p)
 
-pub run_steps-loop-step-preserved : goal.blocks::run_steps-loop-step-preserved
-run_steps-loop-step-preserved g t c =
+pub run_steps-loop-next-preserved-then-made-gt0 : goal.blocks::run_steps-loop-next-preserved-then-made-gt0
+run_steps-loop-next-preserved-then-made-gt0 g t c =
     let ctx = c.args.context.now in
     let steps = c.args.steps.now in
     let s = c.args.state.now in
-    let k = c.loop-step.step-index in
-    let item = c.step-item.result in
-    let st = c.loop-step.state in
-    let split : drop k steps ≡ item ∷ drop (k + 1) steps = drop_more steps k item c.loop-step-test.true ∙ ap (λ x. x ∷ drop (k + 1) steps) (sym c.step-item.is) in
+    let k = c.loop-next.next in
+    let st = c.loop-next.state in
+    let u = c.update_first.new.state in
+    let n = c.in_ok-made.made in
     record {
       told = λ m at.
-          let here = subst (λ left. Reaches ctx steps s m left st) split (c.loop-step.invariant.told m at) in
-          next_step ctx steps s m item (drop (k + 1) steps) st c.run_step.new.state here (c.in_ok-run_step.ensures.told here.heap here.stands);
-      scopes = c.in_ok-run_step.ensures.scopes ∙ c.loop-step.invariant.scopes;
-      lender = c.in_ok-run_step.ensures.lender ∙ c.loop-step.invariant.lender;
+          let here = c.loop-next.invariant.told m at in
+          let made = c.in_ok-made.ensures.made ctx here.heap here.stands (omega (arith, c.if-made-gt0.true)) in
+          let first = subst (λ (ahead : List CodeStep). Reaches ctx (take n ahead) st here.heap [] u) (rest_of k steps) made in
+          subst (λ (left : List CodeStep). Reaches ctx steps s m left u) (drop-drop n k steps)
+          (next_steps ctx steps s m (drop k steps) (take n (drop k steps)) (drop n (drop k steps)) st u here (sym (take-append-drop n (drop k steps))) first);
+      within = omega (arith, c.in_ok-made.ensures.some, rest_length k steps, c.loop-next.invariant.within);
+      scopes = c.in_ok-made.ensures.scopes ∙ c.loop-next.invariant.scopes;
+      lender = c.in_ok-made.ensures.lender ∙ c.loop-next.invariant.lender;
     }
 
 pub run_steps-returns-in_err-run_step : goal.blocks::run_steps-returns-in_err-run_step
@@ -40,18 +47,21 @@ run_steps-returns-in_err-run_step g t c =
     let ctx = c.args.context.now in
     let steps = c.args.steps.now in
     let s = c.args.state.now in
-    let k = c.loop-step.step-index in
-    let item = c.step-item.result in
-    let st = c.loop-step.state in
-    let split : drop k steps ≡ item ∷ drop (k + 1) steps = drop_more steps k item c.loop-step-test.true ∙ ap (λ x. x ∷ drop (k + 1) steps) (sym c.step-item.is) in
+    let k = c.loop-next.next in
+    let item = c.index-steps-next.result.now in
+    let st = c.loop-next.state in
+    let mid = c.update_first.new.state in
+    let same : mid ≡ st = c.in_ok-made.ensures.unchanged (omega (arith, c.if-made-gt0.false)) in
+    let split : drop k steps ≡ item ∷ drop (k + 1) steps = drop_more steps k item c.loop-next-test.true ∙ ap (λ x. x ∷ drop (k + 1) steps) (sym c.index-steps-next.ensures) in
     let stop = c.in_err-run_step.field-0.0 in
-    let is : c.from_residual.result ≡ Err stop = search rules in
+    let is : c.from_residual-in_err-run_step.result ≡ Err stop = search rules in
     record {
       told = λ m at.
-          let here = subst (λ left. Reaches ctx steps s m left st) split (c.loop-step.invariant.told m at) in
-          subst (λ r. ToldSteps ctx steps s c.run_step.new.state m r) (sym is) (last_step ctx steps s m item (drop (k + 1) steps) st c.run_step.new.state here stop (c.in_err-run_step.ensures.told here.heap here.stands));
-      scopes = no_scopes (SameOuter s.frames c.run_step.new.state.frames) c.from_residual.result stop is;
-      lender = c.in_err-run_step.ensures.lender ∙ c.loop-step.invariant.lender;
+          let before = subst (λ left. Reaches ctx steps s m left st) split (c.loop-next.invariant.told m at) in
+          let here = subst (λ x. Reaches ctx steps s m (item ∷ drop (k + 1) steps) x) (sym same) before in
+          subst (λ r. ToldSteps ctx steps s c.run_step.new.state m r) (sym is) (last_step ctx steps s m item (drop (k + 1) steps) mid c.run_step.new.state here stop (c.in_err-run_step.ensures.told here.heap here.stands));
+      scopes = no_scopes (SameOuter s.frames c.run_step.new.state.frames) c.from_residual-in_err-run_step.result stop is;
+      lender = c.in_err-run_step.ensures.lender ∙ c.in_ok-made.ensures.lender ∙ c.loop-next.invariant.lender;
     }
 
 pub run_steps-returns : goal.blocks::run_steps-returns
@@ -60,9 +70,9 @@ run_steps-returns g t c =
     let steps = c.args.steps.now in
     let s = c.args.state.now in
     record {
-      told = λ m at. subst (λ left. Reaches ctx steps s m left c.loop-step.state) (drop_all c.loop-step.step-index steps (omega (arith, c.loop-step-test.false))) (c.loop-step.invariant.told m at);
-      scopes = c.loop-step.invariant.scopes;
-      lender = c.loop-step.invariant.lender;
+      told = λ m at. subst (λ left. Reaches ctx steps s m left c.loop-next.state) (drop_all c.loop-next.next steps (omega (arith, c.loop-next-test.false))) (c.loop-next.invariant.told m at);
+      scopes = c.loop-next.invariant.scopes;
+      lender = c.loop-next.invariant.lender;
     }
 
 pub run_step-run_let-requires : goal.blocks::run_step-run_let-requires
@@ -115,10 +125,10 @@ run_let-returns-in_err-value g t c =
     let b = c.args.binding.now in
     let st = c.run_right.new.state in
     let stop = c.in_err-value.field-0.0 in
-    let is : c.from_residual.result ≡ Err stop = search rules in
+    let is : c.from_residual-in_err-value.result ≡ Err stop = search rules in
     record {
       told = λ m at. subst (λ r. ToldSteps ctx (step.Bind b ∷ []) s st m r) (sym is) (let_stops ctx b s m stop st (c.in_err-value.ensures.told m at));
-      scopes = no_scopes (SameOuter s.frames st.frames) c.from_residual.result stop is;
+      scopes = no_scopes (SameOuter s.frames st.frames) c.from_residual-in_err-value.result stop is;
       lender = c.in_err-value.ensures.lender;
     }
 
@@ -129,16 +139,16 @@ run_let-returns-then-len-eq1 g t c =
     let b = c.args.binding.now in
     let mid = c.run_right.new.state in
     let v = value_of c.in_ok-value.value in
-    let x = c.index.result.now in
-    let new = record mid { frames = c.bind.new.self } in
+    let x = c.index-then-len-eq1.result.now in
+    let new = record mid { frames = c.bind-then-len-eq1.new.self } in
     let scopes' = c.in_ok-value.ensures.scopes in
     record {
       told = λ m at.
           let g = given IsFirst c.in_ok-value.value mid (right_in ctx (code_right_term b.right) b.site (current s.frames) m) (c.in_ok-value.ensures.told m at) in
           let_goes ctx b s m new g.value g.heap g.is
-          (c.in_ok-bind.ensures.current ∙ ap (λ e. bind_value e x v) scopes'.0 ∙ one_target (current s.frames) b.targets.items x g.value v (omega (arith, c.if-len-eq1.true, c.len.ensures)) c.index.ensures g.agrees)
+          (c.in_ok-bind-2.ensures.current ∙ ap (λ e. bind_value e x v) scopes'.0 ∙ one_target (current s.frames) b.targets.items x g.value v (omega (arith, c.if-len-eq1.true, c.len.ensures)) c.index-then-len-eq1.ensures g.agrees)
           (moved mid new g.heap refl refl g.stands);
-      scopes = c.in_ok-bind.ensures.outer ∙ scopes'.1;
+      scopes = c.in_ok-bind-2.ensures.outer ∙ scopes'.1;
       lender = c.in_ok-value.ensures.lender;
     }
 

@@ -253,7 +253,7 @@ run_rights-returns-in_err-run_loop-in-Loop g t c =
     let st = c.run_loop.new.state in
     let stop = c.in_err-run_loop-in-Loop.field-0.0 in
     let is : c.from_residual-in_err-run_loop-in-Loop.result ≡ Err stop = search rules in
-    let started = c.in_ok-push_values-in-Loop.ensures ∙ (λ j. map value_of (c.new-own.ensures.items j) ++ map e (c.deref-in-Loop.ensures.value j)) in
+    let started = c.in_ok-push_values-in-Loop.ensures ∙ (λ j. map value_of (c.new-own.ensures.items j) ++ map e (c.deref-in-Loop-2.ensures.value j)) in
     record {
       told = λ m at.
           let whole' = ap (λ r. right_in ctx (code_right_term r) site e m) i.is ∙ ap (λ r. right_in ctx r site e m) (loop_term i.first_body i.start i.params i.test i.body i.test_site) in
@@ -265,8 +265,8 @@ run_rights-returns-in_err-run_loop-in-Loop g t c =
       lender = c.in_err-run_loop-in-Loop.ensures.lender;
     }
 
-pub run_rights-returns-in_ok-extend_from_slice-in-Loop : goal.blocks::run_rights-returns-in_ok-extend_from_slice-in-Loop
-run_rights-returns-in_ok-extend_from_slice-in-Loop g t c =
+pub run_rights-returns-in_ok-extend_from_slice-in-Loop-2 : goal.blocks::run_rights-returns-in_ok-extend_from_slice-in-Loop-2
+run_rights-returns-in_ok-extend_from_slice-in-Loop-2 g t c =
     let i = c.in-Loop in
     let ctx = c.args.context.now in
     let s = c.args.state.now in
@@ -274,8 +274,8 @@ run_rights-returns-in_ok-extend_from_slice-in-Loop g t c =
     let site = c.args.site in
     let st = c.run_loop.new.state in
     let own = c.run_loop.new.values.items in
-    let new = c.extend_from_slice.new.self.items in
-    let started = c.in_ok-push_values-in-Loop.ensures ∙ (λ j. map value_of (c.new-own.ensures.items j) ++ map e (c.deref-in-Loop.ensures.value j)) in
+    let new = c.extend_from_slice-in-Loop.new.self.items in
+    let started = c.in_ok-push_values-in-Loop.ensures ∙ (λ j. map value_of (c.new-own.ensures.items j) ++ map e (c.deref-in-Loop-2.ensures.value j)) in
     record {
       told = λ m at.
           let whole' = ap (λ r. right_in ctx (code_right_term r) site e m) i.is ∙ ap (λ r. right_in ctx r site e m) (loop_term i.first_body i.start i.params i.test i.body i.test_site) in
@@ -284,7 +284,7 @@ run_rights-returns-in_ok-extend_from_slice-in-Loop g t c =
           ((λ j. turns_do i.first_body ctx.turns site i.test_site (test_in ctx (c.deref.ensures.value j) (code_term i.test) e) (turn_in ctx (c.deref.ensures.value j) (code_term i.body) e) (started j) m) ∙ sym whole')
           (c.in_ok-run_loop-in-Loop.ensures.told m at)) in
           tell (λ (_ : Unit {0}) ws. Appends c.args.values.now.items new ws) tt st end g.value g.heap g.is
-          (appended c.args.values.now.items own new g.value (c.in_ok-extend_from_slice-in-Loop.ensures.items ∙ ap (λ xs. c.args.values.now.items ++ xs) c.deref-in-Loop-2.ensures.value) g.agrees) g.stands;
+          (appended c.args.values.now.items own new g.value (c.in_ok-extend_from_slice-in-Loop-2.ensures.items ∙ ap (λ xs. c.args.values.now.items ++ xs) c.deref-in-Loop-3.ensures.value) g.agrees) g.stands;
       scopes = c.in_ok-run_loop-in-Loop.ensures.scopes;
       lender = c.in_ok-run_loop-in-Loop.ensures.lender;
     }
