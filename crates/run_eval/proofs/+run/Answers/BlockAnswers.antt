@@ -18,7 +18,7 @@ use Rattle.run_eval.proofs.+run.Goals as goal
 
 pub run_steps-run_step-requires : goal.blocks::run_steps-run_step-requires
 run_steps-run_step-requires g t c κs p =
-    let item = c.index-steps-next.result.now in
+    let item = c.index-steps-next.result in
     (omega (arith, c.decreases, step_below c.args.steps.now c.loop-next.next item c.loop-next-test.true, ap size-CodeStep c.index-steps-next.ensures), p)
 
 pub run_steps-loop-next-preserved-then-made-gt0 : goal.blocks::run_steps-loop-next-preserved-then-made-gt0
@@ -48,7 +48,7 @@ run_steps-returns-in_err-run_step g t c =
     let steps = c.args.steps.now in
     let s = c.args.state.now in
     let k = c.loop-next.next in
-    let item = c.index-steps-next.result.now in
+    let item = c.index-steps-next.result in
     let st = c.loop-next.state in
     let mid = c.update_first.new.state in
     let same : mid ≡ st = c.in_ok-made.ensures.unchanged (omega (arith, c.if-made-gt0.false)) in

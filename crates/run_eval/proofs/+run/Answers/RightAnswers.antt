@@ -259,7 +259,7 @@ run_rights-returns-in_err-run_loop-in-Loop g t c =
           let whole' = ap (λ r. right_in ctx (code_right_term r) site e m) i.is ∙ ap (λ r. right_in ctx r site e m) (loop_term i.first_body i.start i.params i.test i.body i.test_site) in
           handed (λ (_ : Unit {0}) ws. Appends c.args.values.now.items c.args.values.now.items ws) c.from_residual-in_err-run_loop-in-Loop.result stop st (right_in ctx (code_right_term c.args.right.now) site e m) is
           (subst (λ (end : Ended (List Value)). ToldStop stop st end)
-          ((λ j. turns_do i.first_body ctx.turns site i.test_site (test_in ctx (c.deref.ensures.value j) (code_term i.test) e) (turn_in ctx (c.deref.ensures.value j) (code_term i.body) e) (started j) m) ∙ sym whole')
+          ((λ j. turns_do i.first_body ctx.turns site i.test_site (test_in ctx (c.deref-in-Loop.ensures.value j) (code_term i.test) e) (turn_in ctx (c.deref-in-Loop.ensures.value j) (code_term i.body) e) (started j) m) ∙ sym whole')
           (c.in_err-run_loop-in-Loop.ensures.told m at));
       scopes = no_scopes (SameScopes s.frames st.frames) c.from_residual-in_err-run_loop-in-Loop.result stop is;
       lender = c.in_err-run_loop-in-Loop.ensures.lender;
@@ -281,7 +281,7 @@ run_rights-returns-in_ok-extend_from_slice-in-Loop-2 g t c =
           let whole' = ap (λ r. right_in ctx (code_right_term r) site e m) i.is ∙ ap (λ r. right_in ctx r site e m) (loop_term i.first_body i.start i.params i.test i.body i.test_site) in
           let end = right_in ctx (code_right_term c.args.right.now) site e m in
           let g = given (λ (_ : Unit {0}) ws. map value_of own ≡ ws) tt st end (subst (λ (end : Ended (List Value)). Told (λ (_ : Unit {0}) ws. map value_of own ≡ ws) (Ok tt) st end)
-          ((λ j. turns_do i.first_body ctx.turns site i.test_site (test_in ctx (c.deref.ensures.value j) (code_term i.test) e) (turn_in ctx (c.deref.ensures.value j) (code_term i.body) e) (started j) m) ∙ sym whole')
+          ((λ j. turns_do i.first_body ctx.turns site i.test_site (test_in ctx (c.deref-in-Loop.ensures.value j) (code_term i.test) e) (turn_in ctx (c.deref-in-Loop.ensures.value j) (code_term i.body) e) (started j) m) ∙ sym whole')
           (c.in_ok-run_loop-in-Loop.ensures.told m at)) in
           tell (λ (_ : Unit {0}) ws. Appends c.args.values.now.items new ws) tt st end g.value g.heap g.is
           (appended c.args.values.now.items own new g.value (c.in_ok-extend_from_slice-in-Loop-2.ensures.items ∙ ap (λ xs. c.args.values.now.items ++ xs) c.deref-in-Loop-3.ensures.value) g.agrees) g.stands;
