@@ -19,7 +19,7 @@ use Rattle.run_eval.proofs.+run.Goals as goal
 pub run_steps-run_step-requires : goal.blocks::run_steps-run_step-requires
 run_steps-run_step-requires g t c κs p =
     let item = c.index-steps-next.result in
-    (omega (arith, c.decreases, step_below c.args.steps.now c.loop-next.next item c.loop-next-test.true, ap size-CodeStep c.index-steps-next.ensures), p)
+    (omega (arith, c.decreases, step_below c.args.steps.now c.loop-next.next item c.loop-next-test.true, ap size-CodeStep c.index-steps-next.is), p)
 
 pub run_steps-loop-next-preserved-then-made-gt0 : goal.blocks::run_steps-loop-next-preserved-then-made-gt0
 run_steps-loop-next-preserved-then-made-gt0 g t c =
@@ -52,7 +52,7 @@ run_steps-returns-in_err-run_step g t c =
     let st = c.loop-next.state in
     let mid = c.update_first.new.state in
     let same : mid ≡ st = c.in_ok-made.ensures.unchanged (omega (arith, c.if-made-gt0.false)) in
-    let split : drop k steps ≡ item ∷ drop (k + 1) steps = drop_more steps k item c.loop-next-test.true ∙ ap (λ x. x ∷ drop (k + 1) steps) (sym c.index-steps-next.ensures) in
+    let split : drop k steps ≡ item ∷ drop (k + 1) steps = drop_more steps k item c.loop-next-test.true ∙ ap (λ x. x ∷ drop (k + 1) steps) (sym c.index-steps-next.is) in
     let stop = c.in_err-run_step.field-0.0 in
     let is : c.from_residual-in_err-run_step.result ≡ Err stop = search rules in
     record {
