@@ -9,6 +9,9 @@ use run_values::{Frames, RunValue};
 use sac_base::Memory;
 use std::alloc::Global;
 
+// A loop that reads more variables from outside has no kernel, so that this list, which is searched for each of them, stays short.
+const MOST_MENTIONED: usize = 256;
+
 /// The variables that a right side without loops over cells mentions and that are bound in the call that runs, each once.
 pub fn mentions_of(alloc: Global, right: &CodeRight, frames: &Frames) -> Result<Vec<Var>, Memory> {
     let mut all = Vec::new(alloc);
@@ -68,9 +71,9 @@ fn mention_all(xs: &[Var], frames: &Frames, all: &mut Vec<Var>) -> Result<(), Me
     Ok(())
 }
 
-// Adds a variable, if it is bound and has not been added yet.
+// Adds a variable, if it is bound, has not been added yet and few have been.
 fn mention(x: Var, frames: &Frames, all: &mut Vec<Var>) -> Result<(), Memory> {
-    if is_bound(x, frames) && !all.contains(&x) {
+    if all.len() < MOST_MENTIONED && is_bound(x, frames) && !all.contains(&x) {
         all.push(x)?;
     }
     Ok(())
