@@ -11,6 +11,8 @@ mod devices;
 #[cfg(test)]
 mod files;
 #[cfg(test)]
+mod loops;
+#[cfg(test)]
 mod making;
 #[cfg(test)]
 mod marked_loops;
