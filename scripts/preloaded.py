@@ -8,7 +8,7 @@ ROOT = pathlib.Path(__file__).resolve().parent.parent
 # A loop in a loop, 47 deep, around a value.
 DEEP = "with { ([0] <= iv < [1]) : " * 47, "; } : fold(+, 0)" * 47
 
-# One source of each kind: a single value, two loops of which one reads the other, a few cells of an array replaced, a loop in each cell, a fault in a cell, deep nests of calls.
+# One source of each kind: a single value, two loops of which one reads the other, a few cells of an array replaced, a loop in each cell, a loop over scalars and one that replaces elements, a fault in a cell, deep nests of calls.
 SMALL = {
     "value": ("int main() { return (2 + 3 * 4); }", None),
     "loop_of_a_loop": ("""int[*] main() {
@@ -32,6 +32,14 @@ SMALL = {
   return (with {
     ([0] <= iv < [4]) { x = 1 / (iv[0] - 1); } : with { } : genarray([0], x);
   } : genarray([4], []));
+}
+""", None),
+    "loops_and_replacements": ("""int[*] main() {
+  a = with { ([0] <= [i] < [20]) : i * 7 % 20; } : genarray([20], 0);
+  s = 0;
+  for (i = 0; i < 20; i++) { if (a[i] > s) { s = s + a[i] / 2; } }
+  for (i = 0; i < 20; i++) { a[a[i]] = s - a[i]; }
+  return (a);
 }
 """, None),
     "deep_calls": (f"""int f(int n) {{ r = 0; if (n > 0) {{ r = {DEEP[0]}f(n - 1){DEEP[1]}; }} return (r); }}
