@@ -20,6 +20,7 @@ HERE = pathlib.Path(__file__).resolve().parent / "works"
 CELLS = {
     "neighbours": 1_000 * 1_000,
     "life": 1_000 * 1_000,
+    "flows": 1_000 * 1_000,
     "border": 1_000 * 1_000,
     "plus_one": 1_000 * 1_000,
     "sum": 1_000 * 1_000,

@@ -17,6 +17,22 @@ static void neighbours(const int32_t *a, int32_t *b) {
     }
 }
 
+static int32_t flow(int32_t here, int32_t there) {
+    int32_t d = there - here;
+    return (d < -50 ? -50 : d > 50 ? 50 : d) / 5;
+}
+
+static void flows(const int32_t *a, int32_t *b) {
+#pragma omp parallel for
+    for (int i = 0; i < SIDE; i++) {
+        memcpy(b + i * SIDE, a + i * SIDE, sizeof(int32_t) * SIDE);
+        for (int j = 1; j < SIDE - 1 && 0 < i && i < SIDE - 1; j++) {
+            const int32_t *m = a + i * SIDE + j;
+            b[i * SIDE + j] = *m + flow(*m, m[-SIDE]) + flow(*m, m[SIDE]) + flow(*m, m[-1]) + flow(*m, m[1]);
+        }
+    }
+}
+
 static void life(const int32_t *a, int32_t *b) {
 #pragma omp parallel for
     for (int i = 0; i < SIDE; i++) {
@@ -261,6 +277,7 @@ int main(int count, char **words) {
     memcpy(first, a, sizeof first);
     for (int t = 0; t < rounds; t++) {
         if (!strcmp(work, "neighbours")) neighbours(a, b);
+        else if (!strcmp(work, "flows")) flows(a, b);
         else if (is_life) life(a, b);
         else if (!strcmp(work, "border")) border(a, b);
         else if (!strcmp(work, "plus_one")) plus_one(a, b);

@@ -27,6 +27,20 @@ function steps.neighbours(a)
     return b
 end
 
+local function flow(here, there)
+    return quotient(math.min(math.max(there - here, -50), 50), 5)
+end
+
+function steps.flows(a)
+    local b = table.move(a, 1, SIDE * SIDE, 1, {})
+    for i = 1, SIDE - 2 do
+        for at = i * SIDE + 2, i * SIDE + SIDE - 1 do
+            b[at] = a[at] + flow(a[at], a[at - SIDE]) + flow(a[at], a[at + SIDE]) + flow(a[at], a[at - 1]) + flow(a[at], a[at + 1])
+        end
+    end
+    return b
+end
+
 function steps.life(a)
     local b = {}
     for at = 1, SIDE * SIDE do b[at] = 0 end

@@ -34,6 +34,18 @@ def neighbours(a):
     return b
 
 
+def flow(here, there):
+    return quotient(min(max(there - here, -50), 50), 5)
+
+
+def flows(a):
+    b = a[:]
+    for i in range(1, SIDE - 1):
+        for at in range(i * SIDE + 1, i * SIDE + SIDE - 1):
+            b[at] = a[at] + flow(a[at], a[at - SIDE]) + flow(a[at], a[at + SIDE]) + flow(a[at], a[at - 1]) + flow(a[at], a[at + 1])
+    return b
+
+
 def life(a):
     b = [0] * (SIDE * SIDE)
     for i in range(1, SIDE - 1):
@@ -193,7 +205,7 @@ def by_loops(work, rounds):
             a = [i + j + t for i in range(WIDE) for j in range(WIDE)]
         return a[WIDE + 1]
     a = first = start(work)
-    steps = {"neighbours": neighbours, "life": life, "border": border, "chain": chain, "convolution": convolution, "plus_one": lambda a: [x + 1 for x in a],
+    steps = {"neighbours": neighbours, "flows": flows, "life": life, "border": border, "chain": chain, "convolution": convolution, "plus_one": lambda a: [x + 1 for x in a],
              "sum": lambda a: [x + y for x, y in zip(first, a)]}
     for _ in range(rounds):
         a = steps[work](a)
@@ -225,6 +237,11 @@ def by_numpy(work, rounds):
             b = a.copy()
             total = a[:-2, 1:-1] + a[2:, 1:-1] + a[1:-1, :-2] + a[1:-1, 2:]
             b[1:-1, 1:-1] = np.trunc(total / 4).astype(np.int32) if (total < 0).any() else total // 4
+            a = b
+        elif work == "flows":
+            inner, b = a[1:-1, 1:-1], a.copy()
+            near = (a[:-2, 1:-1], a[2:, 1:-1], a[1:-1, :-2], a[1:-1, 2:])
+            b[1:-1, 1:-1] += sum(np.trunc(np.clip(there - inner, -50, 50) / 5).astype(np.int32) for there in near)
             a = b
         elif work == "life":
             n = (a[:-2, :-2] + a[:-2, 1:-1] + a[:-2, 2:] + a[1:-1, :-2] + a[1:-1, 2:] + a[2:, :-2] + a[2:, 1:-1] + a[2:, 2:])
