@@ -17,7 +17,7 @@ use counted_code::{CodeBlock, CodeFun, CodeLet, CodeRight, CodeStep};
 use run_kernels::loop_values;
 use run_loops::{
     Context, Outside, Phases, State, Turn, bind_all, bind_params, condition, deeper, first_of,
-    push_values, value_at,
+    levels_of, push_values, value_at,
 };
 use run_plain::{plain_value, scalar_value};
 use run_store::{keep, release};
@@ -241,12 +241,12 @@ fn run_rights<P: Phases>(
             body,
             test_site,
         } => {
-            let turns = context.turns;
+            let levels = levels_of(context);
             let alloc = context.alloc;
             if let Some(found) = loop_values(
                 right,
                 site,
-                turns,
+                levels,
                 alloc,
                 &state.heap,
                 &state.frames,

@@ -1,5 +1,5 @@
 pub mod Ends
 pub mod Known
-pub mod OnlyReads
+pub mod Plain
 pub mod Results
 pub mod Walks

@@ -1,3 +1,4 @@
+pub mod Calls
 pub mod Loops
-pub mod Reads
+pub mod Plain
 pub mod Scopes

@@ -47,6 +47,7 @@ fn mention_right(right: &CodeRight, frames: &Frames, all: &mut Vec<Var>) -> Resu
             mention_block(test, frames, all)?;
             mention_block(body, frames, all)
         }
+        CodeRight::Call { args, .. } => mention_all(args, frames, all),
         _ => mention_operands(right, frames, all),
     }
 }

@@ -1,8 +1,9 @@
 //! Whether a loop reads buffers and does nothing else with them.
 
-ghost use Rattle.std.specs.Prelude.{All, IsTrue};
+ghost use Rattle.std.specs.Prelude.{◌≡◌, All, IsTrue};
 ghost use Rattle.counted_code.specs.View.{code_right_term, code_term, step_term};
-ghost use Rattle.run_kernels.specs.Reads.{OnlyReads, Outside, RightOnlyReads};
+ghost use Rattle.only_reads.specs.Reads.{OnlyReads, Outside, RightOnlyReads};
+ghost use Rattle.run_kernels.specs.Plain.{plain_in};
 ghost use Rattle.run_kernels.specs.Scopes.{StepOnlyReads, refers};
 ghost use Rattle.run_values.specs.Scopes.{current};
 
@@ -10,23 +11,23 @@ use core_ir::Var;
 use counted_code::{CodeBlock, CodeRight, CodeStep};
 use run_values::{Frames, RunValue};
 
-/// Whether a right side is a loop that only reads the buffers to which variables of the call that runs refer. False also where it has
-/// something that no kernel does.
-pub fn only_reads(right: &CodeRight, frames: &Frames) -> bool
-    ensures { IsTrue result → RightOnlyReads (refers (current frames.now)) (code_right_term right.now) }
+/// Whether a right side is a loop that only reads the buffers to which variables of the call that runs refer, and calls groups alone that a table says to be
+/// plain. False also where it has something that no kernel does.
+pub fn only_reads(right: &CodeRight, frames: &Frames, plain: &[bool]) -> bool
+    ensures { IsTrue result → RightOnlyReads (plain_in plain.now) (refers (current frames.now)) (code_right_term right.now) }
 {
     match right {
-        CodeRight::Loop { .. } => right_reads(right, frames),
+        CodeRight::Loop { .. } => right_reads(right, frames, plain),
         _ => false,
     }
 }
 
 #[cycle(reading)]
-fn block_reads(block: &CodeBlock, frames: &Frames) -> bool
-    ensures { IsTrue result → OnlyReads (refers (current frames.now)) (code_term block.now) }
+pub(crate) fn block_reads(block: &CodeBlock, frames: &Frames, plain: &[bool]) -> bool
+    ensures { IsTrue result → OnlyReads (plain_in plain.now) (refers (current frames.now)) (code_term block.now) }
 {
     for step in &block.steps {
-        if !step_reads(step, frames) {
+        if !step_reads(step, frames, plain) {
             return false;
         }
     }
@@ -34,18 +35,18 @@ fn block_reads(block: &CodeBlock, frames: &Frames) -> bool
 }
 
 #[cycle(reading)]
-fn step_reads(step: &CodeStep, frames: &Frames) -> bool
-    ensures { IsTrue result → StepOnlyReads (refers (current frames.now)) (step_term step.now) }
+fn step_reads(step: &CodeStep, frames: &Frames, plain: &[bool]) -> bool
+    ensures { IsTrue result → StepOnlyReads (plain_in plain.now) (refers (current frames.now)) (step_term step.now) }
 {
     match step {
-        CodeStep::Bind(binding) => right_reads(&binding.right, frames),
+        CodeStep::Bind(binding) => right_reads(&binding.right, frames, plain),
         CodeStep::Keep(x) | CodeStep::Release(x) => is_outside(*x, frames),
     }
 }
 
 #[cycle(reading)]
-fn right_reads(right: &CodeRight, frames: &Frames) -> bool
-    ensures { IsTrue result → RightOnlyReads (refers (current frames.now)) (code_right_term right.now) }
+fn right_reads(right: &CodeRight, frames: &Frames, plain: &[bool]) -> bool
+    ensures { IsTrue result → RightOnlyReads (plain_in plain.now) (refers (current frames.now)) (code_right_term right.now) }
 {
     match right {
         CodeRight::Const(_)
@@ -56,7 +57,9 @@ fn right_reads(right: &CodeRight, frames: &Frames) -> bool
         | CodeRight::Dim(_)
         | CodeRight::Always(_) => true,
         CodeRight::Copy(x) | CodeRight::Check(x, _) => is_outside(*x, frames),
-        CodeRight::If { yes, no, .. } => block_reads(yes, frames) && block_reads(no, frames),
+        CodeRight::Call { group, args } => is_plain(*group, plain) && all_outside(args, frames),
+        CodeRight::If { yes, no, .. } => block_reads(yes, frames, plain)
+            && block_reads(no, frames, plain),
         CodeRight::Loop {
             start,
             test,
@@ -66,7 +69,7 @@ fn right_reads(right: &CodeRight, frames: &Frames) -> bool
             if !all_outside(start, frames) {
                 return false;
             }
-            block_reads(test, frames) && block_reads(body, frames)
+            block_reads(test, frames, plain) && block_reads(body, frames, plain)
         }
         _ => false,
     }
@@ -91,5 +94,15 @@ fn is_outside(x: Var, frames: &Frames) -> bool
     match frames.get(x) {
         RunValue::Buffer(_, _, _) => false,
         _ => true,
+    }
+}
+
+// Whether a table says that a group is plain.
+pub(crate) fn is_plain(group: u32, plain: &[bool]) -> bool
+    ensures { result ≡ plain_in plain.now group }
+{
+    match plain.get(group as usize) {
+        Some(plain) => *plain,
+        None => false,
     }
 }

@@ -2,11 +2,14 @@
 
 ghost use Rattle.sac_base.specs.Parts.{condition as condition_value};
 ghost use Rattle.counted_code.specs.Values.{Heap as MachineHeap, read};
-ghost use Rattle.run_loops.specs.Running.{Deeper, SaysTruth};
+ghost use Rattle.run_kernels.specs.Calls.{calls_at};
+ghost use Rattle.run_loops.specs.Running.{calls_in, Deeper, SaysTruth};
+ghost use Rattle.std.specs.Prelude.{◌≡◌};
 ghost use Rattle.run_values.specs.Shown.{value_of};
 
 use crate::state::Context;
 use counted_code::CodeFun;
+use run_kernels::CallLevels;
 use run_values::RunValue;
 use sac_base::{FaultKind, Site, Stop, fault};
 
@@ -42,4 +45,17 @@ pub fn deeper<'a>(
         inner.nest = context.code.get().functions.len() as u64;
     }
     Ok(inner)
+}
+
+/// The program and how far calls may go on, as kernels of loops take them.
+pub fn levels_of<'a>(context: &Context<'a>) -> CallLevels<'a>
+    ensures calls { calls_at result ≡ calls_in context.now }
+    ensures turns { result.turns ≡ context.now.turns }
+{
+    CallLevels {
+        plain: context.code.plain(),
+        turns: context.turns,
+        left: context.left,
+        nest: context.nest,
+    }
 }

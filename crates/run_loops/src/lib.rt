@@ -21,6 +21,6 @@ pub use cell_loop::{
 pub use cells::{Background, begin, count, count_elements, finish, formed, put_cell};
 pub use folds::{Sum, add_cell, begin_fold, finish_fold, start};
 pub use in_place::{begin_in_place, has_shape, is_written_over, put_in_place};
-pub use levels::{condition, deeper};
+pub use levels::{condition, deeper, levels_of};
 pub use phases::{Never, Outside, Phases};
 pub use state::{Context, CountedCode, State, Turn};

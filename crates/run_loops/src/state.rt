@@ -11,6 +11,7 @@ use core_ir::Var;
 use counted_code::{Code, CodeBlock, CodeGen, CodePart};
 use phase_count::PhaseCount;
 use reach_checks::{cells_are_clear, clear_groups, parted_cells_are_clear};
+use run_kernels::PlainGroups;
 use run_store::Store;
 use run_values::Frames;
 use sac_base::{Memory, Site};
@@ -24,10 +25,12 @@ pub struct CountedCode<'a> {
     // which groups reach no mark, if there was memory to see it
     clear: Vec<bool>,
     seen: bool,
+    // which groups loops may call in kernels
+    plain: PlainGroups<'a>,
 }
 
 impl<'a> Model for CountedCode<'a> {
-    ghost use Rattle.std.specs.Prelude.{IsTrue};
+    ghost use Rattle.std.specs.Prelude.{◌≡◌, IsTrue};
     ghost use Rattle.counted_code.specs.Counts.{IsWellCounted};
     ghost use Rattle.counted_code.specs.View.{code_program};
     ghost use Rattle.counted_marks.specs.Marks.{IsWellMarked};
@@ -43,7 +46,7 @@ impl<'a> Model for CountedCode<'a> {
     ghost view = { λ c. c.code.now };
 
     ghost invariant = { λ c. IsWellCounted (code_program c.code.now) × IsWellMarked (code_program c.code.now)
-        × (IsTrue c.seen → ReachesNone (code_program c.code.now) (clear_in c.clear.items)) };
+        × (IsTrue c.seen → ReachesNone (code_program c.code.now) (clear_in c.clear.items)) × (c.plain ≡ c.code.now) };
 }
 
 impl<'a> CountedCode<'a> {
@@ -58,11 +61,13 @@ impl<'a> CountedCode<'a> {
                 code,
                 clear,
                 seen: true,
+                plain: PlainGroups::of(alloc, code),
             },
             Err(Memory) => CountedCode {
                 code,
                 clear: Vec::new(alloc),
                 seen: false,
+                plain: PlainGroups::of(alloc, code),
             },
         }
     }
@@ -74,6 +79,13 @@ impl<'a> CountedCode<'a> {
         ensures marked { IsWellMarked (code_program self.now) }
     {
         self.code
+    }
+
+    /// Its groups that loops may call where they are run as kernels.
+    pub fn plain(&self) -> &PlainGroups<'a>
+        ensures { result.now ≡ self.now }
+    {
+        &self.plain
     }
 
     /// Whether the cells of a with-loop were seen to reach no mark.
