@@ -1,13 +1,13 @@
 //! Loops that are run as kernels where the thread of a program meets them, and elements that are replaced in place.
 
-use crate::making::{few, one, vector};
+use crate::making::{few, int, one, vector};
 use buffer_heap::Heap;
 use core_ir::Var;
-use counted_code::{CodeBlock, CodeLet, CodeRight, CodeStep};
-use run_kernels::loop_values;
+use counted_code::{Code, CodeBlock, CodeFun, CodeLet, CodeRight, CodeStep};
+use run_kernels::{CallLevels, PlainGroups, loop_values};
 use run_store::{Store, keep, place_own, read_array, update_element};
 use run_values::{Frames, RunValue};
-use sac_base::{Base, Cell, Fault, FaultKind, Memory, Op, Site, Stop};
+use sac_base::{Base, Cell, Fault, FaultKind, Memory, Name, Op, Part, Site, Stop};
 use std::alloc::Global;
 
 const HERE: Site = Site { line: 2, col: 5 };
@@ -32,15 +32,60 @@ fn block(alloc: Global, target: u32, right: CodeRight) -> CodeBlock {
     }
 }
 
-// A loop that doubles a variable while it is less than the variable 2.
-fn doubling(alloc: Global, x: u32) -> CodeRight {
+// A variable more once.
+fn twice(x: u32) -> CodeRight {
+    CodeRight::Binary(Op::Add, Var(x), Var(x))
+}
+
+// A loop that makes a variable anew while it is less than the variable 2.
+fn looping(alloc: Global, x: u32, turn: CodeRight) -> CodeRight {
     CodeRight::Loop {
         first_body: false,
         start: one(alloc, Var(x)),
         params: one(alloc, Var(10)),
         test: block(alloc, 11, CodeRight::Binary(Op::Lt, Var(10), Var(2))),
-        body: block(alloc, 12, CodeRight::Binary(Op::Add, Var(10), Var(10))),
+        body: block(alloc, 12, turn),
         test_site: HERE,
+    }
+}
+
+// A loop that doubles a variable.
+fn doubling(alloc: Global, x: u32) -> CodeRight {
+    looping(alloc, x, twice(10))
+}
+
+// The same by a call of the group 0.
+fn calling(alloc: Global, x: u32) -> CodeRight {
+    let call = CodeRight::Call {
+        group: 0,
+        args: one(alloc, Var(10)),
+    };
+    looping(alloc, x, call)
+}
+
+// A function of one scalar, twice of which it gives.
+fn double(alloc: Global, name: Name) -> CodeFun {
+    CodeFun {
+        name,
+        site: HERE,
+        params: one(alloc, (Var(0), int(Part::Rank(0)))),
+        results: one(alloc, int(Part::Rank(0))),
+        inline: false,
+        body: block(alloc, 1, twice(0)),
+        ends: HERE,
+    }
+}
+
+// A program of that function, which is the group 0.
+fn program(alloc: Global) -> Code {
+    let functions = match Name::from_bytes(alloc, b"double") {
+        Ok(Some(name)) => one(alloc, double(alloc, name)),
+        _ => Vec::new(alloc),
+    };
+    Code {
+        functions,
+        groups: one(alloc, one(alloc, 0)),
+        main: 0,
     }
 }
 
@@ -49,8 +94,21 @@ fn bind(frames: &mut Frames, x: u32, value: RunValue) -> Result<(), Memory> {
     frames.bind(Var(x), value)
 }
 
-// What a loop comes to where the variable 1 is 7, the variable 2 is 100, and the variable 3 a vector in a buffer.
-fn run(alloc: Global, right: &CodeRight, turns: u64) -> Result<Option<Vec<RunValue>>, Stop> {
+// What a loop comes to where the variable 1 is 7, the variable 2 is 100, and the variable 3 a vector in a buffer, with so many turns and levels of calls.
+fn run(
+    alloc: Global,
+    right: &CodeRight,
+    turns: u64,
+    left: u64,
+) -> Result<Option<Vec<RunValue>>, Stop> {
+    let code = program(alloc);
+    let plain = PlainGroups::of(alloc, &code);
+    let levels = CallLevels {
+        plain: &plain,
+        turns,
+        left,
+        nest: 0,
+    };
     let mut store = Store::of(Heap::new(alloc));
     let mut frames = Frames::new(alloc);
     bind(&mut frames, 1, RunValue::Word(Base::Int, 7))?;
@@ -60,12 +118,12 @@ fn run(alloc: Global, right: &CodeRight, turns: u64) -> Result<Option<Vec<RunVal
         3,
         place_own(&mut store, vector(alloc, &INPUT)?)?,
     )?;
-    loop_values(right, HERE, turns, alloc, &store, &frames)
+    loop_values(right, HERE, levels, alloc, &store, &frames)
 }
 
-// The one scalar that a loop over a variable ends with. None where it is left to the evaluator.
-fn ends(alloc: Global, x: u32, turns: u64) -> Result<Option<Cell>, Stop> {
-    match run(alloc, &doubling(alloc, x), turns)? {
+// The one scalar that a loop ends with. None where it is left to the evaluator.
+fn ended(alloc: Global, right: &CodeRight, turns: u64, left: u64) -> Result<Option<Cell>, Stop> {
+    match run(alloc, right, turns, left)? {
         Some(values) => match values.first() {
             Some(RunValue::Word(Base::Int, n)) => Ok(Some(*n)),
             _ => Err(Stop::Memory),
@@ -74,12 +132,29 @@ fn ends(alloc: Global, x: u32, turns: u64) -> Result<Option<Cell>, Stop> {
     }
 }
 
+// That of the loop that doubles a variable.
+fn ends(alloc: Global, x: u32, turns: u64) -> Result<Option<Cell>, Stop> {
+    ended(alloc, &doubling(alloc, x), turns, 0)
+}
+
+// That of the loop that does it by a call, where so many levels are left.
+fn ends_by_calls(alloc: Global, left: u64) -> Result<Option<Cell>, Stop> {
+    ended(alloc, &calling(alloc, 1), 4, left)
+}
+
 #[test]
 fn loops_over_scalars_are_kernels(rt: HostRuntime) {
     let alloc = rt.alloc();
     assert!(rt; matches!(ends(alloc, 1, 4), Ok(Some(112))));
     assert!(rt; matches!(ends(alloc, 2, 4), Ok(Some(100))));
     assert!(rt; matches!(ends(alloc, 3, 4), Ok(None)));
+}
+
+#[test]
+fn loops_that_call_functions_of_scalars_are_kernels(rt: HostRuntime) {
+    let alloc = rt.alloc();
+    assert!(rt; matches!(ends_by_calls(alloc, 1), Ok(Some(112))));
+    assert!(rt; matches!(ends_by_calls(alloc, 0), Ok(None)));
 }
 
 // Whether a loop has more turns than these.
