@@ -142,7 +142,7 @@ pub fn are_in(alloc: Global, types: &[ArrayType], held: &[Held]) -> bool
         return false;
     }
     for k in 0..types.len() {
-        if fits(alloc, held[k], &types[k]) != Some(true) {
+        if !fits(alloc, held[k], &types[k]).unwrap_or(false) {
             return false;
         }
     }
