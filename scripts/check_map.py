@@ -44,12 +44,14 @@ def sources(crate):
     return "\n".join(said)
 
 
-def below(crate, own):
-    """The repository's crates that one stands on, those below included."""
-    found = set()
-    for use in own[crate]:
-        found |= {use} | below(use, own)
-    return found
+def below(crate, own, known={}):
+    """The repository's crates that one stands on, those below included. What was found before is kept by crate."""
+    if crate not in known:
+        found = set()
+        for use in own[crate]:
+            found |= {use} | below(use, own)
+        known[crate] = found
+    return known[crate]
 
 
 def layers(own):
