@@ -23,11 +23,17 @@ const LEAST: Cell = -2_147_483_648;
 
 const GREATEST: Cell = 2_147_483_647;
 
-// A bound: a variable, and whether it is an index itself.
-type Bound = (u32, bool);
+/// A bound: a variable, and whether it is an index itself.
+pub type Bound = (u32, bool);
 
-// The sum of a body's cells from one bound to another. Its index vector is variable 30, and the component variable 31.
-fn sum(alloc: Global, lower: Bound, upper: Bound, steps: Vec<CodeStep>, value: u32) -> CodeBlock {
+/// The sum of a body's cells from one bound to another. Its index vector is variable 30, the component variable 31, and the number 0 is variable 3.
+pub fn sum(
+    alloc: Global,
+    lower: Bound,
+    upper: Bound,
+    steps: Vec<CodeStep>,
+    value: u32,
+) -> CodeBlock {
     let mut whole = Vec::new(alloc);
     bind(
         alloc,

@@ -5,3 +5,4 @@ mod common;
 mod folds;
 mod loads;
 mod quotients;
+mod ranges;
