@@ -1,5 +1,5 @@
-use Rattle.std.proofs.Common.{◌≡◌, ◌<◌, ◌≤◌, ◌+◌, Bool, true, false, drop, get_or, length, arith, sym, ap, subst, ◌∙◌}
-use Rattle.std.proofs.lemmas.List.{drop_all, drop_more, length-map}
+use Rattle.std.proofs.Common.{◌<◌, ◌≤◌, ◌+◌, true, drop, get_or, length, arith, sym, ◌∙◌}
+use Rattle.std.proofs.lemmas.List.{drop_all, drop_more}
 use Rattle.sac_base.specs.declared.base.Base.TheVariants.{Int}
 use Rattle.kernel_tree.specs.declared.tree.Held.TheVariants.{Word}
 use Rattle.kernel_code.specs.Relations.{Fits}

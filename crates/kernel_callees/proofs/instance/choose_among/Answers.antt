@@ -1,4 +1,4 @@
-use Rattle.std.proofs.Common.{◌≤◌, map, length, arith, sym, ◌∙◌}
+use Rattle.std.proofs.Common.{map, sym, ◌∙◌}
 use Rattle.core_ir.specs.Outcome.{instances}
 use Rattle.kernel_code.specs.Relations.{array_of}
 use Rattle.kernel_callees.specs.Choosing.{functions_of}

@@ -1,4 +1,4 @@
-use Rattle.std.proofs.Common.{◌≡◌, ◌<◌, true, false, length, get_or, map, arith, sym, ap, ◌∙◌}
+use Rattle.std.proofs.Common.{◌<◌, length, get_or, map, arith, sym, ap, ◌∙◌}
 use Rattle.sac_base.specs.Types.{all_have, all_below}
 use Rattle.kernel_code.specs.Relations.{array_of}
 use Rattle.kernel_callees.specs.Choosing.{types_of}

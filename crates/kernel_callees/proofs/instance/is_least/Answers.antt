@@ -1,7 +1,6 @@
-use Rattle.std.proofs.Common.{◌≡◌, ◌≤◌, length, map, arith, true, false, ap, sym, ◌∙◌}
+use Rattle.std.proofs.Common.{◌≤◌, length, map, arith, true, false, ap, sym, ◌∙◌}
 use Rattle.std.specs.Prelude.{◌&&◌}
 use Rattle.std.specs.List.{list_all}
-use Rattle.sac_base.specs.Types.{all_have}
 use Rattle.core_ir.specs.Outcome.{Instance, instances}
 use Rattle.kernel_code.specs.Relations.{array_of}
 use Rattle.kernel_callees.specs.Choosing.{functions_of, types_of, is_beside}
