@@ -1,2 +1,4 @@
 pub mod CallMeans
+mod Choices
+mod Fitting
 pub mod Reach
