@@ -1,6 +1,7 @@
 use crate::making::{OUTSIDE, bind, constant, gives, one, result_of, run, vector};
 use core_ir::Var;
 use counted_code::{CodeBlock, CodeRight};
+use kernel_callees::Lowering;
 use kernel_lower::kernel_of;
 use kernel_tree::{Held, Kernel};
 use sac_base::{Base, Op};
@@ -38,7 +39,7 @@ fn border_kernel(alloc: Global) -> Option<Kernel> {
         (Var(0), Held::Whole(Base::Int, 1, 0)),
         (Var(1), Held::Word(Base::Int, 0)),
     ];
-    kernel_of(alloc, &border(alloc), &known, 1).ok()?
+    kernel_of(Lowering::without_calls(alloc), &border(alloc), &known, 1).ok()?
 }
 
 #[test]

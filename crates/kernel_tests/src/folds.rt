@@ -1,6 +1,7 @@
 use crate::making::{OUTSIDE, SITE, one, result_of, run, vector};
 use core_ir::{PartedOp, Var};
 use counted_code::{CodeBlock, CodeLet, CodePart, CodeParted, CodeRight, CodeStep};
+use kernel_callees::Lowering;
 use kernel_lower::kernel_of;
 use kernel_tree::{Held, Kernel};
 use sac_base::{Base, Cell, Fault, FaultKind, Grid, Grid1, Op, Shape};
@@ -96,7 +97,7 @@ fn kernel(alloc: Global, right: CodeRight) -> Option<Kernel> {
         steps,
         results: one(alloc, Var(20)),
     };
-    kernel_of(alloc, &block, &KNOWN, 2).ok()?
+    kernel_of(Lowering::without_calls(alloc), &block, &KNOWN, 2).ok()?
 }
 
 // Whether the kernel of a right side has these values, or comes to these faults, at these rows.
@@ -361,7 +362,7 @@ fn a_fold_within_a_loop_is_a_kernel(rt: HostRuntime) {
         ),
         results: one(alloc, Var(20)),
     };
-    let made = kernel_of(alloc, &block, &KNOWN, 2);
+    let made = kernel_of(Lowering::without_calls(alloc), &block, &KNOWN, 2);
     let Ok(Some(kernel)) = made else {
         assert!(rt; false);
         return;

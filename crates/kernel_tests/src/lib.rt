@@ -4,6 +4,8 @@
 #[cfg(test)]
 mod border;
 #[cfg(test)]
+mod callees;
+#[cfg(test)]
 mod folds;
 #[cfg(test)]
 mod loops;

@@ -1,6 +1,7 @@
 use crate::making::{SITE, one, result_of, run, vector};
 use core_ir::Var;
 use counted_code::{CodeBlock, CodeLet, CodeRight, CodeStep};
+use kernel_callees::Lowering;
 use kernel_lower::kernel_of;
 use kernel_tree::{Held, Kernel};
 use sac_base::{Base, Cell, Fault, FaultKind, Op};
@@ -101,7 +102,13 @@ fn loop_block(alloc: Global, turning: &Turning<'_>) -> CodeBlock {
 }
 
 fn loop_kernel(alloc: Global, turning: &Turning<'_>) -> Option<Kernel> {
-    kernel_of(alloc, &loop_block(alloc, turning), &KNOWN, 2).ok()?
+    kernel_of(
+        Lowering::without_calls(alloc),
+        &loop_block(alloc, turning),
+        &KNOWN,
+        2,
+    )
+    .ok()?
 }
 
 // Whether the loop's kernel has these values, or comes to these faults, at these rows and columns, where each loop makes at most 9 turns.

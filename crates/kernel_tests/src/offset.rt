@@ -2,6 +2,7 @@ use crate::making::{OUTSIDE, bind, constant, gives, result_of, run, vector};
 use crate::stencil::squares;
 use core_ir::Var;
 use counted_code::{CodeBlock, CodeRight};
+use kernel_callees::Lowering;
 use kernel_lower::kernel_of;
 use kernel_tree::{Held, Kernel};
 use sac_base::{Base, Op};
@@ -30,7 +31,13 @@ fn neighbour_kernel(alloc: Global) -> Option<Kernel> {
         (Var(0), Held::Whole(Base::Int, 2, 0)),
         (Var(1), Held::Short(Base::Int, [0, 1, 0, 0, 0, 0, 0, 0], 2)),
     ];
-    kernel_of(alloc, &right_neighbour(alloc), &known, 2).ok()?
+    kernel_of(
+        Lowering::without_calls(alloc),
+        &right_neighbour(alloc),
+        &known,
+        2,
+    )
+    .ok()?
 }
 
 #[test]

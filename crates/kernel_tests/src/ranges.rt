@@ -1,6 +1,7 @@
 use crate::making::{OUTSIDE, SITE, bind, gives, one, result_of, run, vector};
 use core_ir::{CoreOp, Var};
 use counted_code::{CodeBlock, CodeGen, CodeRight, CodeStep, CodeWith};
+use kernel_callees::Lowering;
 use kernel_lower::kernel_of;
 use kernel_tree::Held;
 use sac_base::{Base, Cell, Fault, FaultKind, Op};
@@ -72,7 +73,7 @@ pub fn sum(
 
 // Whether the kernel of a block has these values, or comes to these faults, at these rows and columns.
 fn has(alloc: Global, block: CodeBlock, cases: &[(Cell, Cell, Result<Cell, Fault>)]) -> bool {
-    let Ok(Some(kernel)) = kernel_of(alloc, &block, &KNOWN, 2) else {
+    let Ok(Some(kernel)) = kernel_of(Lowering::without_calls(alloc), &block, &KNOWN, 2) else {
         return false;
     };
     let Some(register) = result_of(&kernel) else {
