@@ -88,12 +88,7 @@ fn with_calls(alloc: Global, code: &Code) -> Lowering<'_> {
     }
 }
 
-fn has_kernel(
-    lowering: Lowering<'_>,
-    part: &CodePart,
-    form: &Form,
-    known: &[(Var, Held)],
-) -> bool {
+fn has_kernel(lowering: Lowering<'_>, part: &CodePart, form: &Form, known: &[(Var, Held)]) -> bool {
     let rank = part.grid.axes().len();
     match cell_kernel(lowering, &part.body, part.index, &[], rank, form, known) {
         Ok(kernel) => kernel.is_some(),
