@@ -1,0 +1,2 @@
+pub mod CallMeans
+pub mod Reach
