@@ -3,6 +3,7 @@
 use crate::sources::accepted;
 use core_ir::Var;
 use counted_code::{Code, CodeFun, CodePart, CodeParted, CodeRight, CodeStep};
+use kernel_callees::{Callees, Lowering};
 use kernel_rows::cell_kernel;
 use kernel_tree::Held;
 use sac_base::{Base, Form, Shape};
@@ -10,7 +11,7 @@ use sac_build::compile;
 use std::alloc::Global;
 
 // Loops over an array of ten rows of ten numbers whose cells are steps on registers.
-const WITH_KERNELS: [&str; 13] = [
+const WITH_KERNELS: [&str; 14] = [
     // The four neighbours.
     "int[*] main(int[10,10] a) { return (with { ([1, 1] <= [i, j] < [9, 9]) :
       (a[i - 1, j] + a[i + 1, j] + a[i, j - 1] + a[i, j + 1]) / 4; } : modarray(a)); }",
@@ -41,9 +42,13 @@ const WITH_KERNELS: [&str; 13] = [
     // A product's fold.
     "int[*] main(int[10,10] a) { return (with { ([0, 0] <= [i, j] < [10, 10]) :
       with { ([0] <= [k] < [10]) : a[i, k] * a[k, j]; } : fold(+, 0); } : genarray([10, 10], 0)); }",
+    // Calls of functions that are not inline, one within another.
+    "int steps(int n, int most) { k = 0; while (n > 1 && k < most) { n = n / 2; k = k + 1; } return (k); }
+    int further(int n, int i) { return (n > i ? steps(n - i, 9) : steps(i - n, 9)); }
+    int[*] main(int[10,10] a) { return (with { ([0, 0] <= [i, j] < [10, 10]) : further(a[i, j], i) + j; } : genarray([10, 10], 0)); }",
 ];
 
-// Loops whose cells are left to the evaluator: their cells are rows, or they call a function.
+// Loops whose cells are left to the evaluator: their cells are rows, or they call a function that calls itself.
 const WITHOUT_KERNELS: [&str; 2] = [
     "int[*] main(int[10,10] a) { return (with { ([0] <= [i] < [10]) : a[i] + a[9 - i]; } : genarray([10], [0, 0, 0, 0, 0, 0, 0, 0, 0, 0])); }",
     "int steps(int n) { return (n < 2 ? 0 : steps(n / 2) + 1); }
@@ -70,22 +75,35 @@ fn params_of(alloc: Global, function: &CodeFun) -> Vec<(Var, Held)> {
     known
 }
 
-fn has_kernel(alloc: Global, part: &CodePart, form: &Form, known: &[(Var, Held)]) -> bool {
+// Kernels with calls of a program's functions.
+fn with_calls(alloc: Global, code: &Code) -> Lowering<'_> {
+    Lowering {
+        alloc,
+        callees: Some(Callees {
+            code,
+            left: 1000,
+            nest: code.functions.len() as u64,
+            budget: 1 << 20,
+        }),
+    }
+}
+
+fn has_kernel(lowering: Lowering<'_>, part: &CodePart, form: &Form, known: &[(Var, Held)]) -> bool {
     let rank = part.grid.axes().len();
-    match cell_kernel(alloc, &part.body, part.index, &[], rank, form, known) {
+    match cell_kernel(lowering, &part.body, part.index, &[], rank, form, known) {
         Ok(kernel) => kernel.is_some(),
         Err(_) => false,
     }
 }
 
 // Whether each part of a loop has a kernel.
-fn have_kernels(alloc: Global, parted: &CodeParted, known: &[(Var, Held)]) -> bool {
+fn have_kernels(lowering: Lowering<'_>, parted: &CodeParted, known: &[(Var, Held)]) -> bool {
     let form = Form {
         base: parted.base,
         shape: parted.cell.copy(),
     };
     for part in &parted.parts {
-        if !has_kernel(alloc, part, &form, known) {
+        if !has_kernel(lowering, part, &form, known) {
             return false;
         }
     }
@@ -98,12 +116,13 @@ fn is_kernels(alloc: Global, code: &Code) -> bool {
         return false;
     };
     let known = params_of(alloc, main);
+    let lowering = with_calls(alloc, code);
     let mut found = false;
     for step in &main.body.steps {
         if let CodeStep::Bind(binding) = step {
             if let CodeRight::Parted(parted) = &binding.right {
                 found = true;
-                if !have_kernels(alloc, parted, &known) {
+                if !have_kernels(lowering, parted, &known) {
                     return false;
                 }
             }
@@ -129,10 +148,10 @@ fn counted(alloc: Global, sources: &[&str]) -> (u64, u64) {
 
 #[test]
 fn bodies_that_people_write_become_kernels(rt: HostRuntime) {
-    assert_eq!(rt; counted(rt.alloc(), &WITH_KERNELS), (13, 13));
+    assert_eq!(rt; counted(rt.alloc(), &WITH_KERNELS), (14, 14));
 }
 
 #[test]
-fn cells_that_are_rows_and_calls_become_none(rt: HostRuntime) {
+fn cells_that_are_rows_or_call_without_end_become_none(rt: HostRuntime) {
     assert_eq!(rt; counted(rt.alloc(), &WITHOUT_KERNELS), (0, 2));
 }

@@ -11,7 +11,7 @@ use Rattle.sac_base.specs.Arrays.{ArrayValue, same_form}
 use Rattle.sac_base.specs.Grids.{has_vector}
 use Rattle.sac_base.specs.Outcomes.{Ends, and_then, fault}
 use Rattle.core_ir.specs.declared.tree.Var.{Var}
-use Rattle.core_ir.specs.Meaning.{Answer, CallMeaning, Env, cell_at, cell_form, cells, first, held, run}
+use Rattle.core_ir.specs.Meaning.{Answer, Env, cell_at, cell_form, cells, first, held, run}
 use Rattle.counted_code.specs.declared.tree.CodePart.{CodePart}
 use Rattle.counted_code.specs.Terms.{core_of, core_of_parts}
 use Rattle.counted_code.specs.View.{code_term}
@@ -19,6 +19,7 @@ use Rattle.kernel_tree.specs.declared.tree.Held.{Held}
 use Rattle.kernel_tree.specs.declared.tree.Held.TheVariants.{Word, Number, Short, Whole}
 use Rattle.kernel_tree.specs.Terms.{gives}
 use Rattle.kernel_tree.specs.View.{kernel_term}
+use Rattle.kernel_code.specs.Calls.{Calls}
 use Rattle.kernel_code.specs.Relations.{Known, array_of, found}
 use Rattle.kernel_rows.specs.declared.kernels.CellKernel.{CellKernel}
 use Rattle.kernel_rows.specs.Kernels.{AreCellKernels, Body, HasCellForm, HasIndex, HoldsCell, IsCellKernel, body_env}
@@ -85,25 +86,25 @@ answer_element shape site form h bs (Err f) (Err g) has holds = tt
 some_body : (b c : Body) → ◌≡◌ {A = Option Body} (Some b) (Some c) → c ≡ b
 some_body b c e = sym (cc)
 
-module _ (calls : CallMeaning) (turns : ℕ) (bs : List ArrayValue) (e : Env) (index : List ℤ) (few : length index ≤ 8) (rank : ℕ) (long : length index ≡ rank) (form : Form) (shape : ArrayValue) where
+module _ (calls : Calls) (turns : ℕ) (bs : List ArrayValue) (e : Env) (index : List ℤ) (few : length index ≤ 8) (rank : ℕ) (long : length index ≡ rank) (form : Form) (shape : ArrayValue) where
   -- the cell that a body has at the index
   abbrev body_cell : Site → Body → Ends (Option ArrayValue)
-  body_cell site b = and_then (first (run calls turns (core_of (code_term b.block)) (body_env e b index))) (held shape site)
+  body_cell site b = and_then (first (run (calls.means turns) turns (core_of (code_term b.block)) (body_env e b index))) (held shape site)
 
-  body_element : (site : Site) (b : Body) (o : Option CellKernel) → is_kernel_for rank o ≡ true → IfSome o (λ k. (c : Body) × (◌≡◌ {A = Option Body} (Some b) (Some c)) × IsCellKernel bs e form c k) → IsElement (body_cell site b)
+  body_element : (site : Site) (b : Body) (o : Option CellKernel) → is_kernel_for rank o ≡ true → IfSome o (λ k. (c : Body) × (◌≡◌ {A = Option Body} (Some b) (Some c)) × IsCellKernel calls bs e form c k) → IsElement (body_cell site b)
   body_element site b None own is = absurd (cc)
   body_element site b (Some k) own is =
       let ranked : k.rank ≡ rank = eqb-true k.rank rank own in
       let r = registers_of index few in
-      let this : IsCellKernel bs e form b k = subst (λ (c : Body). IsCellKernel bs e form c k) (some_body b is.0 is.1) is.2 in
-      answer_element shape site form k.result bs (run calls turns (core_of (code_term b.block)) (body_env e b index)) (gives turns bs (kernel_term k.block) r.0) this.fits (this.cell calls turns r.0 index r.1 (long ∙ sym ranked) r.2)
+      let this : IsCellKernel calls bs e form b k = subst (λ (c : Body). IsCellKernel calls bs e form c k) (some_body b is.0 is.1) is.2 in
+      answer_element shape site form k.result bs (run (calls.means turns) turns (core_of (code_term b.block)) (body_env e b index)) (gives turns bs (kernel_term k.block) r.0) this.fits (this.cell turns r.0 index r.1 (long ∙ sym ranked) r.2)
 
   -- ---- all parts
 
   abbrev loop_cell : List CodePart → Ends (Option ArrayValue)
-  loop_cell parts = cell_at shape (cells calls turns (core_of_parts (parts_term parts)) e) index
+  loop_cell parts = cell_at shape (cells (calls.means turns) turns (core_of_parts (parts_term parts)) e) index
 
-  parts_element : (parts : List CodePart) (kernels : List (Option CellKernel)) → length kernels ≡ length parts → list_all (is_kernel_for rank) kernels ≡ true → AreCellKernels bs e form (map part_body parts) kernels
+  parts_element : (parts : List CodePart) (kernels : List (Option CellKernel)) → length kernels ≡ length parts → list_all (is_kernel_for rank) kernels ≡ true → AreCellKernels calls bs e form (map part_body parts) kernels
       → (loop_cell parts ≡ Ok None → ⊥) → IsElement (loop_cell parts)
   parts_element [] kernels many own are there = elim (there refl) [ ]
   parts_element (p ∷ parts) [] many own are there = absurd (omega (arith, many))
@@ -116,18 +117,18 @@ module _ (calls : CallMeaning) (turns : ℕ) (bs : List ArrayValue) (e : Env) (i
 
 -- ---- all kernels
 
-own_elements : (calls : CallMeaning) (turns : ℕ) (parts : List CodePart) (form : Form) (known : Known) (kernels : List (Option CellKernel)) (bs : List ArrayValue) (e : Env) → AreCellKernels bs e form (map part_body parts) kernels
+own_elements : (calls : Calls) (turns : ℕ) (parts : List CodePart) (form : Form) (known : Known) (kernels : List (Option CellKernel)) (bs : List ArrayValue) (e : Env) → AreCellKernels calls bs e form (map part_body parts) kernels
     → (x : Var) (rank : ℕ) (o : Option Held) → length kernels ≡ length parts → rank ≤ 8 → own_in kernels known x rank o ≡ true → (shape : ArrayValue) (index : List ℤ) → length index ≡ rank
-    → (cell_at shape (cells calls turns (core_of_parts (parts_term parts)) e) index ≡ Ok None → ⊥) → IsElement (cell_at shape (cells calls turns (core_of_parts (parts_term parts)) e) index)
+    → (cell_at shape (cells (calls.means turns) turns (core_of_parts (parts_term parts)) e) index ≡ Ok None → ⊥) → IsElement (cell_at shape (cells (calls.means turns) turns (core_of_parts (parts_term parts)) e) index)
 own_elements calls turns parts form known kernels bs e are x rank (Some (Whole base r b)) many few own shape index long there =
     parts_element calls turns bs e index (omega (arith, long, few)) rank long form shape parts kernels many (kernels_for rank b kernels (and_right (holds_alone known x b) (kernels_own kernels rank b) own)) are there
 own_elements calls turns parts form known kernels bs e are x rank None many few own shape index long there =
     parts_element calls turns bs e index (omega (arith, long, few)) rank long form shape parts kernels many own are there
 own_elements calls turns parts form known kernels bs e are x rank o many few own shape index long there = absurd (cc)
 
-pub elements_own : (calls : CallMeaning) (turns : ℕ) (parts : List CodePart) (form : Form) (known : Known) (kernels : List (Option CellKernel)) (bs : List ArrayValue) (e : Env) → AreCellKernels bs e form (map part_body parts) kernels
+pub elements_own : (calls : Calls) (turns : ℕ) (parts : List CodePart) (form : Form) (known : Known) (kernels : List (Option CellKernel)) (bs : List ArrayValue) (e : Env) → AreCellKernels calls bs e form (map part_body parts) kernels
     → (x : Var) (rank : ℕ) → parts_own kernels (length parts) known x rank ≡ true → (shape : ArrayValue) (index : List ℤ) → length index ≡ rank
-    → (cell_at shape (cells calls turns (core_of_parts (parts_term parts)) e) index ≡ Ok None → ⊥) → IsElement (cell_at shape (cells calls turns (core_of_parts (parts_term parts)) e) index)
+    → (cell_at shape (cells (calls.means turns) turns (core_of_parts (parts_term parts)) e) index ≡ Ok None → ⊥) → IsElement (cell_at shape (cells (calls.means turns) turns (core_of_parts (parts_term parts)) e) index)
 elements_own calls turns parts form known kernels bs e are x rank own shape index long there =
     let counts = nat_eq (length kernels) (length parts) && nat_le rank 8 in
     let place = own_in kernels known x rank (found x known) in

@@ -10,7 +10,7 @@ use crate::holders::only_holder;
 use core_ir::Var;
 use counted_code::CodePart;
 use own_kernels::{own_kernels_read_own, parts_read_own};
-use phase_kernels::{KernelCells, Scope, scope_of, source_kernels};
+use phase_kernels::{KernelCells, Scope, lowering_of, scope_of, source_kernels};
 use phase_loop_cells::part_ranges;
 use run_loops::CellSource;
 use run_values::RunValue;
@@ -76,7 +76,8 @@ fn cells_read_own(
     let Scope { known, buffers: _ } = scope;
     let ranges = part_ranges(alloc, parts)?;
     let source = CellSource::Parts(parts);
-    let kernels = source_kernels(alloc, &source, &ranges, form, &known)?;
+    let lowering = lowering_of(&cells.cells.context);
+    let kernels = source_kernels(lowering, &source, &ranges, form, &known)?;
     own_kernels_read_own();
     Ok(parts_read_own(&kernels, parts.len(), &known, array, rank))
 }

@@ -10,7 +10,7 @@ use Rattle.sac_base.specs.Arrays.{ArrayValue}
 use Rattle.sac_base.specs.Grids.{has_vector}
 use Rattle.sac_base.specs.Outcomes.{Ends, and_then}
 use Rattle.core_ir.specs.declared.tree.Var.{Var}
-use Rattle.core_ir.specs.Meaning.{Answer, CallMeaning, Env, cell_at, cell_form, cells, first, held, run}
+use Rattle.core_ir.specs.Meaning.{Answer, Env, cell_at, cell_form, cells, first, held, run}
 use Rattle.counted_code.specs.declared.tree.CodePart.{CodePart}
 use Rattle.counted_code.specs.Terms.{core_of, core_of_parts}
 use Rattle.counted_code.specs.View.{code_term}
@@ -18,11 +18,12 @@ use Rattle.kernel_tree.specs.declared.tree.Held.{Held}
 use Rattle.kernel_tree.specs.declared.tree.Held.TheVariants.{Word, Number, Short, Whole}
 use Rattle.kernel_tree.specs.Terms.{gives}
 use Rattle.kernel_tree.specs.View.{kernel_term}
+use Rattle.kernel_code.specs.Calls.{Calls}
 use Rattle.kernel_code.specs.Relations.{Known, array_of, found}
 use Rattle.kernel_rows.specs.declared.kernels.CellKernel.{CellKernel}
 use Rattle.kernel_rows.specs.Kernels.{AreCellKernels, Body, HasCellForm, HasIndex, HoldsCell, IsCellKernel, IsScope, body_env}
 use Rattle.phase_checks.specs.Terms.{parts_term}
-use Rattle.phase_laws.specs.Spending.{CallSpending, parts_take, spends}
+use Rattle.phase_laws.specs.Spending.{parts_take, spends}
 use Rattle.own_kernels.specs.Kernels.{ArePartKernels, holds_alone, is_kernel_for, is_own_kernel, kernels_own, own_in, part_body, parts_own}
 use Rattle.over_phases.specs.Own.{PartsReadOwn, SameButAt}
 use Rattle.own_kernels.specs.Statements.{SameAt}
@@ -63,43 +64,43 @@ answers_same form h bs cs (Ok us) n (Err f) has one other = absurd one
 abbrev GivesTheSame : (turns rank : ℕ) → (index : List ℤ) → (bs cs : List ArrayValue) → CellKernel → Type 0
 GivesTheSame turns rank index bs cs k = (k.rank ≡ rank) × ((r : List ℤ) → HasIndex r index → gives turns cs (kernel_term k.block) r ≡ gives turns bs (kernel_term k.block) r)
 
-module _ (calls : CallMeaning) (turns : ℕ) (spent : CallSpending) (bs cs : List ArrayValue) (e f : Env) (index : List ℤ) (few : length index ≤ 8) (rank : ℕ) (long : length index ≡ rank) (form : Form) where
+module _ (calls : Calls) (turns : ℕ) (bs cs : List ArrayValue) (e f : Env) (index : List ℤ) (few : length index ≤ 8) (rank : ℕ) (long : length index ≡ rank) (form : Form) where
   -- what the body's block comes to, and takes
   abbrev body_runs : Env → Body → Answer
-  body_runs ρ b = run calls turns (core_of (code_term b.block)) (body_env ρ b index)
+  body_runs ρ b = run (calls.means turns) turns (core_of (code_term b.block)) (body_env ρ b index)
 
   abbrev body_takes : Env → Body → ℕ
-  body_takes ρ b = (spends calls turns spent (code_term b.block) (body_env ρ b index)).taken
+  body_takes ρ b = (spends (calls.means turns) turns (calls.spends turns) (code_term b.block) (body_env ρ b index)).taken
 
-  body_same : (b : Body) (k : CellKernel) → GivesTheSame turns rank index bs cs k → IsCellKernel bs e form b k → IsCellKernel cs f form b k → (body_runs f b ≡ body_runs e b) × (body_takes f b ≡ body_takes e b)
+  body_same : (b : Body) (k : CellKernel) → GivesTheSame turns rank index bs cs k → IsCellKernel calls bs e form b k → IsCellKernel calls cs f form b k → (body_runs f b ≡ body_runs e b) × (body_takes f b ≡ body_takes e b)
   body_same b k alike old new =
       let wanted : length index ≡ k.rank = long ∙ sym alike.0 in
       let r = registers_of index few in (
         answers_same form k.result bs cs (body_runs f b) (body_runs e b) (gives turns bs (kernel_term k.block) r.0) old.fits
-            (subst (HoldsCell cs k.result (body_runs f b)) (alike.1 r.0 r.2) (new.cell calls turns r.0 index r.1 wanted r.2)) (old.cell calls turns r.0 index r.1 wanted r.2),
-        new.takes calls turns spent r.0 index r.1 wanted r.2 ∙ sym (old.takes calls turns spent r.0 index r.1 wanted r.2),
+            (subst (HoldsCell cs k.result (body_runs f b)) (alike.1 r.0 r.2) (new.cell turns r.0 index r.1 wanted r.2)) (old.cell turns r.0 index r.1 wanted r.2),
+        new.takes turns r.0 index r.1 wanted r.2 ∙ sym (old.takes turns r.0 index r.1 wanted r.2),
       )
 
   module _ (passes : Option CellKernel → Bool) (some : passes None ≡ true → ⊥) (alike : (k : CellKernel) → passes (Some k) ≡ true → GivesTheSame turns rank index bs cs k) where
     -- the kernel of a body that is there
-    kernel_same : (b : Body) (o : Option CellKernel) → passes o ≡ true → IfSome o (λ k. (c : Body) × (◌≡◌ {A = Option Body} (Some b) (Some c)) × IsCellKernel bs e form c k)
-        → IfSome o (λ k. (c : Body) × (◌≡◌ {A = Option Body} (Some b) (Some c)) × IsCellKernel cs f form c k) → (body_runs f b ≡ body_runs e b) × (body_takes f b ≡ body_takes e b)
+    kernel_same : (b : Body) (o : Option CellKernel) → passes o ≡ true → IfSome o (λ k. (c : Body) × (◌≡◌ {A = Option Body} (Some b) (Some c)) × IsCellKernel calls bs e form c k)
+        → IfSome o (λ k. (c : Body) × (◌≡◌ {A = Option Body} (Some b) (Some c)) × IsCellKernel calls cs f form c k) → (body_runs f b ≡ body_runs e b) × (body_takes f b ≡ body_takes e b)
     kernel_same b None pass old new = absurd (some pass)
     kernel_same b (Some k) pass old new =
         let was : old.0 ≡ b = some_body b old.0 old.1 in
         let is : new.0 ≡ b = some_body b new.0 new.1 in
-        body_same b k (alike k pass) (subst (λ (c : Body). IsCellKernel bs e form c k) was old.2) (subst (λ (c : Body). IsCellKernel cs f form c k) is new.2)
+        body_same b k (alike k pass) (subst (λ (c : Body). IsCellKernel calls bs e form c k) was old.2) (subst (λ (c : Body). IsCellKernel calls cs f form c k) is new.2)
 
     module _ (shape : ArrayValue) where
       abbrev loop_cell : Env → List CodePart → Ends (Option ArrayValue)
-      loop_cell ρ parts = cell_at shape (cells calls turns (core_of_parts (parts_term parts)) ρ) index
+      loop_cell ρ parts = cell_at shape (cells (calls.means turns) turns (core_of_parts (parts_term parts)) ρ) index
 
       abbrev loop_takes : Env → List CodePart → ℕ
-      loop_takes ρ parts = parts_take calls turns spent (parts_term parts) ρ index
+      loop_takes ρ parts = parts_take (calls.means turns) turns (calls.spends turns) (parts_term parts) ρ index
 
       -- the parts one by one
       pub parts_same : (parts : List CodePart) (kernels : List (Option CellKernel)) → length kernels ≡ length parts → list_all passes kernels ≡ true
-          → AreCellKernels bs e form (map part_body parts) kernels → AreCellKernels cs f form (map part_body parts) kernels
+          → AreCellKernels calls bs e form (map part_body parts) kernels → AreCellKernels calls cs f form (map part_body parts) kernels
           → (loop_cell f parts ≡ loop_cell e parts) × (loop_takes f parts ≡ loop_takes e parts)
       parts_same [] kernels many all old new = (refl, refl)
       parts_same (p ∷ parts) [] many all old new = absurd (omega (arith, many))
@@ -121,29 +122,29 @@ own_gives turns rank buffer index bs cs long same k own =
 none_fails : false ≡ true → ⊥
 none_fails e = cc
 
-own_parts : (calls : CallMeaning) (turns : ℕ) (spent : CallSpending) (parts : List CodePart) (form : Form) (known : Known) (kernels : List (Option CellKernel)) → ArePartKernels known form parts kernels
+own_parts : (calls : Calls) (turns : ℕ) (parts : List CodePart) (form : Form) (known : Known) (kernels : List (Option CellKernel)) → ArePartKernels calls known form parts kernels
     → (v : Var) (rank : ℕ) (o : Option Held) → found v known ≡ o → length kernels ≡ length parts → rank ≤ 8 → own_in kernels known v rank o ≡ true
     → (bs : List ArrayValue) (e : Env) → IsScope bs e known → (shape : ArrayValue) (index : List ℤ) → length index ≡ rank → (f : Env) → SameButAt v index e f
-    → (cell_at shape (cells calls turns (core_of_parts (parts_term parts)) f) index ≡ cell_at shape (cells calls turns (core_of_parts (parts_term parts)) e) index)
-    × (parts_take calls turns spent (parts_term parts) f index ≡ parts_take calls turns spent (parts_term parts) e index)
-own_parts calls turns spent parts form known kernels are v rank (Some (Whole base r b)) there many few own bs e scope shape index long f same =
+    → (cell_at shape (cells (calls.means turns) turns (core_of_parts (parts_term parts)) f) index ≡ cell_at shape (cells (calls.means turns) turns (core_of_parts (parts_term parts)) e) index)
+    × (parts_take (calls.means turns) turns (calls.spends turns) (parts_term parts) f index ≡ parts_take (calls.means turns) turns (calls.spends turns) (parts_term parts) e index)
+own_parts calls turns parts form known kernels are v rank (Some (Whole base r b)) there many few own bs e scope shape index long f same =
     let alone = and_left (holds_alone known v b) (kernels_own kernels rank b) own in
     let cs = slice_set bs b (f v) in
-    parts_same calls turns spent bs cs e f index (omega (arith, long, few)) rank long form (is_own_kernel rank b) none_fails
+    parts_same calls turns bs cs e f index (omega (arith, long, few)) rank long form (is_own_kernel rank b) none_fails
     (own_gives turns rank b index bs cs long (same_at bs e f known v index base r b scope there same)) shape parts kernels many
     (and_right (holds_alone known v b) (kernels_own kernels rank b) own) (are bs e scope) (are cs f (scope_set bs e f known v index base r b scope there same alone))
-own_parts calls turns spent parts form known kernels are v rank None unknown many few own bs e scope shape index long f same =
-    parts_same calls turns spent bs bs e f index (omega (arith, long, few)) rank long form (is_kernel_for rank) none_fails (λ k ranked. (eqb-true k.rank rank ranked, λ r has. refl)) shape parts kernels many
+own_parts calls turns parts form known kernels are v rank None unknown many few own bs e scope shape index long f same =
+    parts_same calls turns bs bs e f index (omega (arith, long, few)) rank long form (is_kernel_for rank) none_fails (λ k ranked. (eqb-true k.rank rank ranked, λ r has. refl)) shape parts kernels many
     own (are bs e scope) (are bs f (scope_unknown bs e f known v index scope unknown same))
-own_parts calls turns spent parts form known kernels are v rank o there many few own bs e scope shape index long f same = absurd (cc)
+own_parts calls turns parts form known kernels are v rank o there many few own bs e scope shape index long f same = absurd (cc)
 
-pub cells_read_own : (calls : CallMeaning) (turns : ℕ) (spent : CallSpending) (parts : List CodePart) (form : Form) (known : Known) (kernels : List (Option CellKernel)) → ArePartKernels known form parts kernels
+pub cells_read_own : (calls : Calls) (turns : ℕ) (parts : List CodePart) (form : Form) (known : Known) (kernels : List (Option CellKernel)) → ArePartKernels calls known form parts kernels
     → (v : Var) (rank : ℕ) → parts_own kernels (length parts) known v rank ≡ true → (bs : List ArrayValue) (e : Env) → IsScope bs e known
-    → (indices : List (List ℤ)) → All (λ index. length index ≡ rank) indices → (base : Base) → PartsReadOwn calls turns spent (parts_term parts) base v indices e
-cells_read_own calls turns spent parts form known kernels are v rank own bs e scope indices all base p f lt same =
+    → (indices : List (List ℤ)) → All (λ index. length index ≡ rank) indices → (base : Base) → PartsReadOwn (calls.means turns) turns (calls.spends turns) (parts_term parts) base v indices e
+cells_read_own calls turns parts form known kernels are v rank own bs e scope indices all base p f lt same =
     let counts = nat_eq (length kernels) (length parts) && nat_le rank 8 in
     let place = own_in kernels known v rank (found v known) in
     let counted = and_left counts place own in
-    own_parts calls turns spent parts form known kernels are v rank (found v known) refl
+    own_parts calls turns parts form known kernels are v rank (found v known) refl
     (eqb-true (length kernels) (length parts) (and_left (nat_eq (length kernels) (length parts)) (nat_le rank 8) counted)) (leb-true rank 8 (and_right (nat_eq (length kernels) (length parts)) (nat_le rank 8) counted))
     (and_right counts place own) bs e scope (cell_form base []) (get_or indices p []) (all p [] lt) f same

@@ -9,6 +9,7 @@ use Rattle.counted_code.specs.declared.tree.CodePart.{CodePart}
 use Rattle.kernel_tree.specs.declared.tree.Held.{Held}
 use Rattle.kernel_tree.specs.declared.tree.Held.TheVariants.{Whole}
 use Rattle.kernel_tree.specs.View.{kernel_term}
+use Rattle.kernel_code.specs.Calls.{Calls}
 use Rattle.kernel_code.specs.Relations.{Known, found}
 use Rattle.kernel_rows.specs.declared.kernels.CellKernel.{CellKernel}
 use Rattle.kernel_rows.specs.Kernels.{AreCellKernels, Body, IsScope}
@@ -55,6 +56,6 @@ parts_own kernels count known v rank = (nat_eq (length kernels) count && nat_le 
 abbrev pub part_body : CodePart → Body
 part_body p = record { block = p.body; index = p.index; names = [] }
 
--- the kernels are those of the parts, whatever arrays the known variables have
-abbrev pub ArePartKernels : Known → Form → List CodePart → List (Option CellKernel) → Type 0
-ArePartKernels known form parts kernels = (bs : List ArrayValue) (e : Env) → IsScope bs e known → AreCellKernels bs e form (map part_body parts) kernels
+-- the kernels are those of the parts where calls mean this, whatever arrays the known variables have
+abbrev pub ArePartKernels : Calls → Known → Form → List CodePart → List (Option CellKernel) → Type 0
+ArePartKernels c known form parts kernels = (bs : List ArrayValue) (e : Env) → IsScope bs e known → AreCellKernels c bs e form (map part_body parts) kernels

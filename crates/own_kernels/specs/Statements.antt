@@ -6,14 +6,14 @@ use Rattle.sac_base.specs.declared.form.Form.{Form}
 use Rattle.sac_base.specs.Arrays.{ArrayValue, vector}
 use Rattle.sac_base.specs.Parts.{select}
 use Rattle.core_ir.specs.declared.tree.Var.{Var}
-use Rattle.core_ir.specs.Meaning.{CallMeaning, Env}
+use Rattle.core_ir.specs.Meaning.{Env}
 use Rattle.counted_code.specs.declared.tree.CodePart.{CodePart}
 use Rattle.kernel_tree.specs.Terms.{KernelTerm, buffer, gives}
+use Rattle.kernel_code.specs.Calls.{Calls}
 use Rattle.kernel_code.specs.Relations.{Known}
 use Rattle.kernel_rows.specs.declared.kernels.CellKernel.{CellKernel}
 use Rattle.kernel_rows.specs.Kernels.{HasIndex, IsScope}
 use Rattle.phase_checks.specs.Terms.{parts_term}
-use Rattle.phase_laws.specs.Spending.{CallSpending}
 use Rattle.own_kernels.specs.Kernels.{ArePartKernels, parts_own}
 use Rattle.over_phases.specs.Own.{PartsReadOwn}
 use Rattle.own_kernels.specs.Steps.{is_own}
@@ -32,7 +32,7 @@ OwnKernelsGiveTheSame =
 -- parts with kernels that read of a variable's array their own element alone: so do their cells
 abbrev pub OwnKernelsReadOwn : Type 0
 OwnKernelsReadOwn =
-    (calls : CallMeaning) (turns : ℕ) (spent : CallSpending) (parts : List CodePart) (form : Form) (known : Known) (kernels : List (Option CellKernel))
-    → ArePartKernels known form parts kernels → (v : Var) (rank : ℕ) → IsTrue (parts_own kernels (length parts) known v rank)
+    (c : Calls) (turns : ℕ) (parts : List CodePart) (form : Form) (known : Known) (kernels : List (Option CellKernel))
+    → ArePartKernels c known form parts kernels → (v : Var) (rank : ℕ) → IsTrue (parts_own kernels (length parts) known v rank)
     → (bs : List ArrayValue) (e : Env) → IsScope bs e known → (indices : List (List ℤ)) → All (λ index. length index ≡ rank) indices
-    → (base : Base) → PartsReadOwn calls turns spent (parts_term parts) base v indices e
+    → (base : Base) → PartsReadOwn (c.means turns) turns (c.spends turns) (parts_term parts) base v indices e

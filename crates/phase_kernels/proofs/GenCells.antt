@@ -12,6 +12,7 @@ use Rattle.core_ir.specs.Meaning.{Answer, CallMeaning, Env, first, generator, ge
 use Rattle.counted_code.specs.declared.tree.CodeGen.{CodeGen}
 use Rattle.counted_code.specs.Terms.{core_of, core_of_gens}
 use Rattle.counted_code.specs.View.{code_term}
+use Rattle.kernel_code.specs.Calls.{Calls}
 use Rattle.kernel_rows.specs.declared.kernels.CellKernel.{CellKernel}
 use Rattle.kernel_rows.specs.Kernels.{AreCellKernels, Body, CellFaults, CellIs, body_env}
 use Rattle.loop_code.specs.Runs.{HoldsFirst}
@@ -51,21 +52,21 @@ module _ (calls : CallMeaning) (turns : ℕ) (call_spends : CallSpending) (e : E
 abbrev formed : Form → Site → Answer → Ends (Option ArrayValue)
 formed form site answer = and_then (first answer) (λ c. if fits_form form c then Ok (Some c) else fault F6 site)
 
-module _ (calls : CallMeaning) (turns : ℕ) (call_spends : CallSpending) (bs : List ArrayValue) (e : Env) (form : Form) (gens : List CodeGen) (kernels : List (Option CellKernel)) (are : AreCellKernels bs e form (map gen_body gens) kernels) (ranges : List Range) (v : List ℤ) where
+module _ (calls : Calls) (turns : ℕ) (bs : List ArrayValue) (e : Env) (form : Form) (gens : List CodeGen) (kernels : List (Option CellKernel)) (are : AreCellKernels calls bs e form (map gen_body gens) kernels) (ranges : List Range) (v : List ℤ) where
   -- the cell is that of the body's answer, and takes what the body takes
   answered : (answer : Answer) → BodyAnswers calls turns e (map gen_body gens) ranges v answer
-      → (g : CodeGen) × (cell_at form (generators calls turns (core_of_gens (gens_term gens)) e) ranges v ≡ formed form g.site answer) × (gens_take calls turns call_spends (gens_term gens) e ranges v ≡ 0)
+      → (g : CodeGen) × (cell_at form (generators (calls.means turns) turns (core_of_gens (gens_term gens)) e) ranges v ≡ formed form g.site answer) × (gens_take (calls.means turns) turns (calls.spends turns) (gens_term gens) e ranges v ≡ 0)
   answered answer is =
       let g = body_of gen_body gens is.place is.body is.there in
-      let at = holder_at calls turns call_spends e v gens ranges is.place g.0 g.1 is.first in (
+      let at = holder_at (calls.means turns) turns (calls.spends turns) e v gens ranges is.place g.0 g.1 is.first in (
         g.0,
-        ap (λ (o : Option Generator). held_cell form o v) at.0 ∙ ap (λ (b : Body). formed form g.0.site (run calls turns (core_of (code_term b.block)) (body_env e b v))) g.2 ∙ ap (formed form g.0.site) is.answers,
-        at.1 ∙ ap (λ (b : Body). (spends calls turns call_spends (code_term b.block) (body_env e b v)).taken) g.2 ∙ is.takes call_spends,
+        ap (λ (o : Option Generator). held_cell form o v) at.0 ∙ ap (λ (b : Body). formed form g.0.site (run (calls.means turns) turns (core_of (code_term b.block)) (body_env e b v))) g.2 ∙ ap (formed form g.0.site) is.answers,
+        at.1 ∙ ap (λ (b : Body). (spends (calls.means turns) turns (calls.spends turns) (code_term b.block) (body_env e b v)).taken) g.2 ∙ is.takes,
       )
 
   -- a kernel's number is the cell
   pub gen_value : (fill : Option (List ℤ)) (n : ℤ) → CellIs turns bs ranges kernels v n
-      → (as_cell fill (cell_at form (generators calls turns (core_of_gens (gens_term gens)) e) ranges v) ≡ Ok (Some (n ∷ []))) × (gens_take calls turns call_spends (gens_term gens) e ranges v ≡ 0) × (size form.shape ≡ 1)
+      → (as_cell fill (cell_at form (generators (calls.means turns) turns (core_of_gens (gens_term gens)) e) ranges v) ≡ Ok (Some (n ∷ []))) × (gens_take (calls.means turns) turns (calls.spends turns) (gens_term gens) e ranges v ≡ 0) × (size form.shape ≡ 1)
   gen_value fill n is =
       let a = value_answers calls turns bs e form (map gen_body gens) kernels are ranges v n is in
       let g = answered (Ok (a.0 ∷ [])) a.1 in (
@@ -75,5 +76,5 @@ module _ (calls : CallMeaning) (turns : ℕ) (call_spends : CallSpending) (bs : 
       )
 
   -- and its fault the cell's
-  pub gen_fault : (fill : Option (List ℤ)) (f : Fault) → CellFaults turns bs ranges kernels v f → as_cell fill (cell_at form (generators calls turns (core_of_gens (gens_term gens)) e) ranges v) ≡ Err f
+  pub gen_fault : (fill : Option (List ℤ)) (f : Fault) → CellFaults turns bs ranges kernels v f → as_cell fill (cell_at form (generators (calls.means turns) turns (core_of_gens (gens_term gens)) e) ranges v) ≡ Err f
   gen_fault fill f is = ap (as_cell fill) (answered (Err f) (fault_answers calls turns bs e form (map gen_body gens) kernels are ranges v f is)).1

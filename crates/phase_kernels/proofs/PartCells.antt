@@ -14,6 +14,7 @@ use Rattle.core_ir.specs.Meaning.{Answer, CallMeaning, Env, bind, cell_at, cell_
 use Rattle.counted_code.specs.declared.tree.CodePart.{CodePart}
 use Rattle.counted_code.specs.Terms.{core_of, core_of_parts}
 use Rattle.counted_code.specs.View.{code_term}
+use Rattle.kernel_code.specs.Calls.{Calls}
 use Rattle.kernel_rows.specs.declared.kernels.CellKernel.{CellKernel}
 use Rattle.kernel_rows.specs.Kernels.{AreCellKernels, Body, CellFaults, CellIs, body_env}
 use Rattle.loop_code.specs.Runs.{HoldsFirst}
@@ -58,21 +59,21 @@ module _ (calls : CallMeaning) (turns : ℕ) (call_spends : CallSpending) (e : E
 abbrev formed : Form → Site → Answer → Ends (Option ArrayValue)
 formed form site answer = and_then (first answer) (held (cell_form form.base form.shape) site)
 
-module _ (calls : CallMeaning) (turns : ℕ) (call_spends : CallSpending) (bs : List ArrayValue) (e : Env) (form : Form) (parts : List CodePart) (kernels : List (Option CellKernel)) (are : AreCellKernels bs e form (map part_body parts) kernels) (ranges : List Range) (hold : AreRanges ranges parts) (v : List ℤ) where
+module _ (calls : Calls) (turns : ℕ) (bs : List ArrayValue) (e : Env) (form : Form) (parts : List CodePart) (kernels : List (Option CellKernel)) (are : AreCellKernels calls bs e form (map part_body parts) kernels) (ranges : List Range) (hold : AreRanges ranges parts) (v : List ℤ) where
   -- the cell is that of the body's answer, and takes what the body takes
   answered : (answer : Answer) → BodyAnswers calls turns e (map part_body parts) ranges v answer
-      → (p : CodePart) × (cell_at (cell_form form.base form.shape) (cells calls turns (core_of_parts (parts_term parts)) e) v ≡ formed form p.site answer) × (parts_take calls turns call_spends (parts_term parts) e v ≡ 0)
+      → (p : CodePart) × (cell_at (cell_form form.base form.shape) (cells (calls.means turns) turns (core_of_parts (parts_term parts)) e) v ≡ formed form p.site answer) × (parts_take (calls.means turns) turns (calls.spends turns) (parts_term parts) e v ≡ 0)
   answered answer is =
       let p = body_of part_body parts is.place is.body is.there in
-      let at = part_at calls turns call_spends e (cell_form form.base form.shape) v parts ranges is.place p.0 hold p.1 is.first in (
+      let at = part_at (calls.means turns) turns (calls.spends turns) e (cell_form form.base form.shape) v parts ranges is.place p.0 hold p.1 is.first in (
         p.0,
-        at.0 ∙ ap (λ (b : Body). formed form p.0.site (run calls turns (core_of (code_term b.block)) (body_env e b v))) p.2 ∙ ap (formed form p.0.site) is.answers,
-        at.1 ∙ ap (λ (b : Body). (spends calls turns call_spends (code_term b.block) (body_env e b v)).taken) p.2 ∙ is.takes call_spends,
+        at.0 ∙ ap (λ (b : Body). formed form p.0.site (run (calls.means turns) turns (core_of (code_term b.block)) (body_env e b v))) p.2 ∙ ap (formed form p.0.site) is.answers,
+        at.1 ∙ ap (λ (b : Body). (spends (calls.means turns) turns (calls.spends turns) (code_term b.block) (body_env e b v)).taken) p.2 ∙ is.takes,
       )
 
   -- a kernel's number is the cell
   pub part_value : (fill : Option (List ℤ)) (n : ℤ) → CellIs turns bs ranges kernels v n
-      → (as_cell fill (cell_at (cell_form form.base form.shape) (cells calls turns (core_of_parts (parts_term parts)) e) v) ≡ Ok (Some (n ∷ []))) × (parts_take calls turns call_spends (parts_term parts) e v ≡ 0) × (size form.shape ≡ 1)
+      → (as_cell fill (cell_at (cell_form form.base form.shape) (cells (calls.means turns) turns (core_of_parts (parts_term parts)) e) v) ≡ Ok (Some (n ∷ []))) × (parts_take (calls.means turns) turns (calls.spends turns) (parts_term parts) e v ≡ 0) × (size form.shape ≡ 1)
   part_value fill n is =
       let a = value_answers calls turns bs e form (map part_body parts) kernels are ranges v n is in
       let p = answered (Ok (a.0 ∷ [])) a.1 in (
@@ -82,5 +83,5 @@ module _ (calls : CallMeaning) (turns : ℕ) (call_spends : CallSpending) (bs : 
       )
 
   -- and its fault the cell's
-  pub part_fault : (fill : Option (List ℤ)) (f : Fault) → CellFaults turns bs ranges kernels v f → as_cell fill (cell_at (cell_form form.base form.shape) (cells calls turns (core_of_parts (parts_term parts)) e) v) ≡ Err f
+  pub part_fault : (fill : Option (List ℤ)) (f : Fault) → CellFaults turns bs ranges kernels v f → as_cell fill (cell_at (cell_form form.base form.shape) (cells (calls.means turns) turns (core_of_parts (parts_term parts)) e) v) ≡ Err f
   part_fault fill f is = ap (as_cell fill) (answered (Err f) (fault_answers calls turns bs e form (map part_body parts) kernels are ranges v f is)).1

@@ -3,12 +3,14 @@
 
 mod cells;
 mod kernels;
+mod lowering;
 mod scope;
 mod scratch;
 mod worth;
 
 pub use cells::KernelCells;
 pub use kernels::source_kernels;
+pub use lowering::lowering_of;
 pub use scope::{Scope, scope_of};
 pub use scratch::KernelScratch;
 pub use worth::strip_steps;

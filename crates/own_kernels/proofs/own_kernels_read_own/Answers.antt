@@ -6,4 +6,4 @@ pub returns-clause-gives : goal.returns-clause-gives
 returns-clause-gives c turns rank at k index r bs cs own long has same = gives_same turns rank at k index r bs cs own long has same
 
 pub returns-clause-cells : goal.returns-clause-cells
-returns-clause-cells c calls turns spent parts form known kernels are v rank own bs e scope indices all base p f lt same = cells_read_own calls turns spent parts form known kernels are v rank own bs e scope indices all base p f lt same
+returns-clause-cells c calls turns parts form known kernels are v rank own bs e scope indices all base p f lt same = cells_read_own calls turns parts form known kernels are v rank own bs e scope indices all base p f lt same

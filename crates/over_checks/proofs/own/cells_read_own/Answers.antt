@@ -3,7 +3,8 @@ use Rattle.core_ir.specs.Meaning.{cell_form}
 use Rattle.kernel_rows.specs.Kernels.{IsScope}
 use Rattle.own_kernels.specs.Kernels.{ArePartKernels, parts_own}
 use Rattle.over_checks.proofs.Elements.{elements_own}
-use Rattle.phase_loop_cells.specs.Opened.{lent_env, meaning_in, spending_in}
+use Rattle.phase_kernels.specs.Calls.{calls_in}
+use Rattle.phase_loop_cells.specs.Opened.{lent_env}
 use Rattle.run_values.specs.Scopes.{current}
 use Rattle.over_checks.proofs.own.cells_read_own.Goals as goal
 
@@ -18,8 +19,9 @@ returns c own =
     let kernels = c.in_ok-kernels.kernels.items in
     let e = lent_env s.heap.now (current s.frames.now) in
     let is : parts_own kernels (length parts) known c.args.array c.args.rank ≡ true = (λ i. parts_own (sym c.deref-3.ensures.value i) (length parts) (sym c.deref-4.ensures.value i) c.args.array c.args.rank) ∙ sym c.parts_read_own.ensures ∙ own in
-    let are : ArePartKernels known form parts kernels = λ bs f scope. c.in_ok-kernels.ensures bs f (subst (IsScope bs f) (sym c.deref-2.ensures.value) scope) in
+    let calls = calls_in context in
+    let are : ArePartKernels calls known form parts kernels = λ bs f scope. c.in_ok-kernels.ensures calls bs f c.lowering_of.ensures (subst (IsScope bs f) (sym c.deref-2.ensures.value) scope) in
     record {
-      own = λ indices long. c.own_kernels_read_own.ensures.cells (meaning_in context) context.turns (spending_in context) parts form known kernels are c.args.array c.args.rank is bs e c.in_ok-scope.ensures indices long form.base;
-      elements = λ index long there. elements_own (meaning_in context) context.turns parts form known kernels bs e (are bs e c.in_ok-scope.ensures) c.args.array c.args.rank is (cell_form form.base []) index long there;
+      own = λ indices long. c.own_kernels_read_own.ensures.cells calls context.turns parts form known kernels are c.args.array c.args.rank is bs e c.in_ok-scope.ensures indices long form.base;
+      elements = λ index long there. elements_own calls context.turns parts form known kernels bs e (are bs e c.in_ok-scope.ensures) c.args.array c.args.rank is (cell_form form.base []) index long there;
     }

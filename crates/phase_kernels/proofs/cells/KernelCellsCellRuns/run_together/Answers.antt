@@ -5,6 +5,7 @@ use Rattle.kernel_rows.specs.Kernels.{HaveStrips}
 use Rattle.kernel_rows.proofs.Bodies.{have_strips, same_cell}
 use Rattle.phase_loop_cells.specs.Cells.{index_at, source_cell}
 use Rattle.phase_loop_cells.specs.Opened.{lent_env}
+use Rattle.phase_kernels.specs.Calls.{calls_in}
 use Rattle.phase_kernels.specs.Bodies.{source_bodies}
 use Rattle.phase_loop_cells.specs.Ranges.{ranges_of}
 use Rattle.phase_kernels.proofs.SourceCells.{source_value}
@@ -16,7 +17,7 @@ run_row-done-requires-clause-strips c =
     let cells = c.args.self.now.cells in
     let scratch = c.args.scratch.now in
     let e = lent_env cells.heap.now (current cells.frames.now) in
-    subst HaveStrips (sym c.deref-2.ensures.value) (have_strips scratch.buffers.items e cells.plan.now.form (source_bodies cells.source) scratch.kernels.items c.requires.ready.2)
+    subst HaveStrips (sym c.deref-2.ensures.value) (have_strips (calls_in cells.context) scratch.buffers.items e cells.plan.now.form (source_bodies cells.source) scratch.kernels.items c.requires.ready.2)
 
 pub returns-then-done-gt0-clause-tells : goal.returns-then-done-gt0-clause-tells
 returns-then-done-gt0-clause-tells c = λ j lt.
