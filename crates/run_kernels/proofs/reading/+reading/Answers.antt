@@ -20,5 +20,5 @@ right_reads-returns-then-block_reads t c told =
 pub right_reads-returns-then-block_reads-2 : goal.right_reads-returns-then-block_reads-2
 right_reads-returns-then-block_reads-2 t c told =
     let w = c.in-Loop in
-    let outside = subst (All (Outside (refers (current c.args.frames.now)))) c.deref.ensures.value (c.if-not-all_outside.ensures refl) in
+    let outside = subst (All (Outside (refers (current c.args.frames.now)))) c.deref-in-Loop.ensures.value (c.if-not-all_outside.ensures refl) in
     subst (RightOnlyReads (plain_in c.args.plain.now) (refers (current c.args.frames.now))) (sym (ap code_right_term w.is ∙ loop_term w.first_body w.start w.params w.test w.body w.test_site)) (outside, c.if-block_reads-2.ensures refl, c.block_reads-then-block_reads-2.ensures told)
