@@ -57,7 +57,8 @@ fn right_reads(right: &CodeRight, frames: &Frames, plain: &[bool]) -> bool
         | CodeRight::Dim(_)
         | CodeRight::Always(_) => true,
         CodeRight::Copy(x) | CodeRight::Check(x, _) => is_outside(*x, frames),
-        CodeRight::Call { group, args } => is_plain(*group, plain) && all_outside(args, frames),
+        CodeRight::Call { group, args } => is_plain(*group as usize, plain)
+            && all_outside(args, frames),
         CodeRight::If { yes, no, .. } => block_reads(yes, frames, plain)
             && block_reads(no, frames, plain),
         CodeRight::Loop {
@@ -98,10 +99,10 @@ fn is_outside(x: Var, frames: &Frames) -> bool
 }
 
 // Whether a table says that a group is plain.
-pub(crate) fn is_plain(group: u32, plain: &[bool]) -> bool
+pub(crate) fn is_plain(group: usize, plain: &[bool]) -> bool
     ensures { result ≡ plain_in plain.now group }
 {
-    match plain.get(group as usize) {
+    match plain.get(group) {
         Some(plain) => *plain,
         None => false,
     }
