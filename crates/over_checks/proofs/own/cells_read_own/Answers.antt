@@ -20,7 +20,7 @@ returns c own =
     let e = lent_env s.heap.now (current s.frames.now) in
     let is : parts_own kernels (length parts) known c.args.array c.args.rank ≡ true = (λ i. parts_own (sym c.deref-3.ensures.value i) (length parts) (sym c.deref-4.ensures.value i) c.args.array c.args.rank) ∙ sym c.parts_read_own.ensures ∙ own in
     let calls = calls_in context in
-    let are : ArePartKernels calls known form parts kernels = λ bs f scope. c.in_ok-kernels.ensures calls bs f c.lowering_of.ensures (subst (IsScope bs f) (sym c.deref-2.ensures.value) scope) in
+    let are : ArePartKernels calls known form parts kernels = λ bs f scope. c.in_ok-kernels.ensures calls bs f c.lowering_of-lowering.ensures (subst (IsScope bs f) (sym c.deref-2.ensures.value) scope) in
     record {
       own = λ indices long. c.own_kernels_read_own.ensures.cells calls context.turns parts form known kernels are c.args.array c.args.rank is bs e c.in_ok-scope.ensures indices long form.base;
       elements = λ index long there. elements_own calls context.turns parts form known kernels bs e (are bs e c.in_ok-scope.ensures) c.args.array c.args.rank is (cell_form form.base []) index long there;
