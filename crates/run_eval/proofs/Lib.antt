@@ -5,6 +5,7 @@ pub mod CellMakings
 pub mod CellRuns
 pub mod CellScopes
 pub mod CellTold
+pub mod KernelLoops
 pub mod MarkedJobs
 pub mod PartJobs
 pub mod Trees

@@ -1,6 +1,7 @@
 -- The answers of the cycle, which stand by topic in the folder of this file's name.
 mod BlockAnswers
 mod CellAnswers
+mod LoopAnswers
 mod MarkedAnswers
 mod RightAnswers
 mod TurnAnswers
@@ -8,6 +9,7 @@ mod WithAnswers
 use Rattle.run_eval.proofs.+run.Goals as goal
 use Rattle.run_eval.proofs.+run.Answers.BlockAnswers as block_answers
 use Rattle.run_eval.proofs.+run.Answers.CellAnswers as cell_answers
+use Rattle.run_eval.proofs.+run.Answers.LoopAnswers as loop_answers
 use Rattle.run_eval.proofs.+run.Answers.MarkedAnswers as marked_answers
 use Rattle.run_eval.proofs.+run.Answers.RightAnswers as right_answers
 use Rattle.run_eval.proofs.+run.Answers.TurnAnswers as turn_answers
@@ -438,3 +440,9 @@ marked_loops::fill_in_place-loop-place-preserved = marked_answers.fill_in_place-
 
 pub marked_loops::fill_in_place-returns : goal.marked_loops::fill_in_place-returns
 marked_loops::fill_in_place-returns = marked_answers.fill_in_place-returns
+
+pub blocks::run_rights-returns-in_err-found-in-Loop-clause-told : goal.blocks::run_rights-returns-in_err-found-in-Loop-clause-told
+blocks::run_rights-returns-in_err-found-in-Loop-clause-told = loop_answers.run_rights-returns-in_err-found-in-Loop-clause-told
+
+pub blocks::run_rights-returns-in-Some-clause-told : goal.blocks::run_rights-returns-in-Some-clause-told
+blocks::run_rights-returns-in-Some-clause-told = loop_answers.run_rights-returns-in-Some-clause-told
