@@ -4,6 +4,7 @@ use crate::ranges::{Bound, sum};
 use core_ir::Var;
 use counted_code::CodeRight;
 use kernel_buffers::Buffer;
+use kernel_callees::Lowering;
 use kernel_lower::kernel_of;
 use kernel_strip::{Strips, strip_of};
 use kernel_tree::{Held, Kernel};
@@ -39,7 +40,7 @@ fn window(alloc: Global, lower: Bound, upper: Bound, numbers: [Cell; 2]) -> Opti
     );
     bind(alloc, &mut steps, 34, CodeRight::Select(Var(7), Var(33)));
     let block = sum(alloc, lower, upper, steps, 34);
-    kernel_of(alloc, &block, &known, 1).ok()?
+    kernel_of(Lowering::without_calls(alloc), &block, &known, 1).ok()?
 }
 
 fn strips(alloc: Global, kernel: &Kernel) -> Option<Strips> {
