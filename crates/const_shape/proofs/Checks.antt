@@ -2,7 +2,7 @@
 use Rattle.std.proofs.Common.{◌≡◌, List, [], ◌∷◌, refl, sym, ap, ◌∙◌}
 use Rattle.core_ir.specs.Terms.{RightTerm, Plain}
 use Rattle.core_facts.specs.Facts.{Fact, Facts}
-use Rattle.core_cleaning.proofs.Checks.{same_plain_fact}
+use Rattle.core_forms.proofs.cleaning.Checks.{same_plain_fact}
 use Rattle.plain_facts.specs.Rights.{fact_of_right}
 use Rattle.const_shape.specs.Settling.{literal_plain, settled_plain, without_check}
 

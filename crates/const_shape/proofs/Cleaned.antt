@@ -4,14 +4,14 @@ use Rattle.core_ir.specs.Outcome.{SameHeads, SameOutside}
 use Rattle.core_ir.specs.Terms.{BlockTerm, FunTerm, CoreTerm}
 use Rattle.core_ir.specs.WellFormed.{IsWellFormed}
 use Rattle.core_facts.specs.Settled.{IsSettled}
-use Rattle.core_calls.specs.Arrays.{SameOutcomeOnArrays}
-use Rattle.core_settled.specs.Called.{called, params_facts}
-use Rattle.core_cleaning.specs.Bodies.{with_bodies}
-use Rattle.core_cleaning.specs.Checks.{simplified, simplified_core}
-use Rattle.core_cleaning.specs.Copies.{forwarded, forwarded_core}
-use Rattle.core_cleaning.specs.Unused.{swept, swept_core}
-use Rattle.core_cleaning.proofs.Simplified.{simplified_well, simplified_outcome, simplified_settled}
-use Rattle.core_cleaning.proofs.Laws.{forwarded_well, forwarded_outcome, swept_well, swept_outcome}
+use Rattle.core_facts.specs.calls.Arrays.{SameOutcomeOnArrays}
+use Rattle.core_facts.specs.constants.Called.{called, params_facts}
+use Rattle.core_forms.specs.cleaning.Bodies.{with_bodies}
+use Rattle.core_forms.specs.cleaning.Checks.{simplified, simplified_core}
+use Rattle.core_forms.specs.cleaning.Copies.{forwarded, forwarded_core}
+use Rattle.core_forms.specs.cleaning.Unused.{swept, swept_core}
+use Rattle.core_forms.proofs.cleaning.Simplified.{simplified_well, simplified_outcome, simplified_settled}
+use Rattle.core_forms.proofs.cleaning.Laws.{forwarded_well, forwarded_outcome, swept_well, swept_outcome}
 use Rattle.const_shape.specs.Cleaned.{cleaned}
 
 pub cleaned_well : (core : CoreTerm) → IsWellFormed core → IsWellFormed (cleaned core)

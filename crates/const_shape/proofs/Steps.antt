@@ -18,7 +18,7 @@ use Rattle.core_ir.specs.View.{block_term, let_term, right_term, gen_term, part_
 use Rattle.core_ir.proofs.Trees.{block_out, block_roll, with_out, with_roll, parted_out, parted_roll}
 use Rattle.sac_base.specs.declared.memory.Memory.{Memory}
 use Rattle.core_facts.specs.Facts.{Fact, Facts, note_all, right_facts, block_facts}
-use Rattle.core_cleaning.specs.Checks.{simplified, simplified_right, simplified_gens, simplified_parts}
+use Rattle.core_forms.specs.cleaning.Checks.{simplified, simplified_right, simplified_gens, simplified_parts}
 use Rattle.known_rights.specs.declared.known.KnownRight.{KnownRight}
 use Rattle.const_shape.specs.Settling.{settled_let, settled_gen, settled_part}
 

@@ -4,8 +4,8 @@ use Rattle.std.specs.Prelude.{ℕ, List, [], ◌∷◌, Option}
 use Rattle.core_ir.specs.Terms.{RightTerm, LetTerm, GenTerm, PartTerm, FunTerm, Plain}
 use Rattle.core_facts.specs.Facts.{Facts, note_all, plain_literal, in_part}
 use Rattle.core_facts.specs.Settled.{constant_or}
-use Rattle.core_cleaning.specs.Checks.{unchecked_plain, simplified, simplified_right}
-use Rattle.core_settled.specs.Called.{params_facts}
+use Rattle.core_forms.specs.cleaning.Checks.{unchecked_plain, simplified, simplified_right}
+use Rattle.core_facts.specs.constants.Called.{params_facts}
 
 -- the constant in the place of a literal right side without blocks and calls; any other stays
 abbrev pub literal_plain : RightTerm → Facts → RightTerm

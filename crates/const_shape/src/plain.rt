@@ -5,7 +5,7 @@ ghost use Rattle.core_ir.specs.Terms.{PlainTerm, Plain};
 ghost use Rattle.core_ir.specs.View.{right_term};
 ghost use Rattle.fact_table.specs.Table.{fact_of, facts_of};
 ghost use Rattle.plain_facts.specs.Rights.{fact_of_right};
-ghost use Rattle.core_cleaning.specs.Checks.{fits};
+ghost use Rattle.core_forms.specs.cleaning.Checks.{fits};
 ghost use Rattle.const_shape.specs.Settling.{literal_plain, settled_plain, without_check};
 
 use core_ir::Right;

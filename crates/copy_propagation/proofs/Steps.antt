@@ -14,7 +14,7 @@ use Rattle.core_ir.specs.Terms.{BlockTerm, RightTerm, Gives, Bind, Gen, Part, Le
 use Rattle.core_ir.specs.View.{block_term, let_term, right_term, gen_term, part_term, with_term, parted_term}
 use Rattle.core_ir.proofs.Trees.{block_out, block_roll, with_out, with_roll, parted_out, parted_roll}
 use Rattle.core_subst.specs.Substitution.{core_op_with, parted_op_with}
-use Rattle.core_cleaning.specs.Copies.{behind, forwarded, forwarded_right, forwarded_gens, forwarded_parts, source}
+use Rattle.core_forms.specs.cleaning.Copies.{behind, forwarded, forwarded_right, forwarded_gens, forwarded_parts, source}
 use Rattle.copy_propagation.specs.Forwarded.{forwarded_gen, forwarded_part}
 use Rattle.copy_propagation.specs.Notes.{Note}
 use Rattle.copy_propagation.specs.Table.{source_in}

@@ -2,7 +2,7 @@
 use Rattle.core_ir.specs.declared.tree.Var.{Var}
 use Rattle.core_ir.specs.Terms.{GenTerm, PartTerm, FunTerm}
 use Rattle.core_subst.specs.Substitution.{gen_head_with}
-use Rattle.core_cleaning.specs.Copies.{forwarded}
+use Rattle.core_forms.specs.cleaning.Copies.{forwarded}
 
 abbrev pub forwarded_gen : GenTerm → (Var → Var) → GenTerm
 forwarded_gen g f = record { head = gen_head_with f g.head; body = forwarded g.body f }

@@ -3,8 +3,8 @@
 ghost use Rattle.std.specs.Prelude.{◌≡◌, IfOk, map};
 ghost use Rattle.core_ir.specs.View.{core_term, fun_term};
 ghost use Rattle.core_ir.specs.WellFormed.{IsWellFormed};
-ghost use Rattle.core_calls.specs.Arrays.{SameOutcomeOnArrays};
-ghost use Rattle.core_cleaning.specs.Copies.{forwarded_core};
+ghost use Rattle.core_facts.specs.calls.Arrays.{SameOutcomeOnArrays};
+ghost use Rattle.core_forms.specs.cleaning.Copies.{forwarded_core};
 ghost use Rattle.copy_propagation.specs.Forwarded.{forwarded_function};
 
 use crate::sources::Sources;

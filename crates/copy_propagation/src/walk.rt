@@ -2,7 +2,7 @@
 
 ghost use Rattle.std.specs.Prelude.{◌≡◌, ◌-◌, Some, IfOk, OnOk, drop, length};
 ghost use Rattle.core_ir.specs.View.{block_term, right_term, with_term, gen_term, parted_term, part_term};
-ghost use Rattle.core_cleaning.specs.Copies.{behind, forwarded, forwarded_right, source as source_of};
+ghost use Rattle.core_forms.specs.cleaning.Copies.{behind, forwarded, forwarded_right, source as source_of};
 ghost use Rattle.copy_propagation.specs.Forwarded.{forwarded_gen, forwarded_part};
 ghost use Rattle.copy_propagation.specs.Table.{source_in};
 

@@ -9,7 +9,7 @@ use Rattle.shape_types.proofs.Inclusion.{and_left, and_right, and_both}
 use Rattle.core_ir.specs.Terms.{FunTerm, CoreTerm}
 use Rattle.core_ir.specs.Outcome.{Instance, param_types, instance_of, instances, is_least, least_among, group_at, chosen}
 use Rattle.core_ir.specs.WellFormed.{IsWellFormed, PlacesShare}
-use Rattle.core_calls.specs.Nests.{StandsIn}
+use Rattle.core_facts.specs.calls.Nests.{StandsIn}
 use Rattle.core_groups.specs.Specialised.{IsNarrowed, IsSpecialised}
 use Rattle.core_groups.proofs.Known.{all_below_of, all_have_of, clash}
 use Rattle.core_groups.proofs.Lists.{some_same, none_some, stands_left, stands_right, stands_cases, stands_map, mapped_stands, related, none_either, some_within, all_found, all_at}

@@ -14,7 +14,7 @@ use Rattle.core_ir.specs.Scopes.{Scoped}
 use Rattle.core_ir.specs.Terms.{BlockTerm, RightTerm, GensTerm, PartsTerm, FunTerm, CoreTerm, Gives, Bind, Plain, NoGens, Gen, NoParts, Part}
 use Rattle.core_ir.specs.Outcome.{param_types, param_vars, group_at}
 use Rattle.core_ir.specs.WellFormed.{Bases, GroupBases, BlockBases, RightBases, GensBases, PartsBases, Distinct, IsFunction, MayShareName, PlacesShare, CallsBackward, IsWellFormed, bases, ints, param_bases, calls_in}
-use Rattle.core_calls.specs.Nests.{StandsIn}
+use Rattle.core_facts.specs.calls.Nests.{StandsIn}
 use Rattle.core_groups.specs.Specialised.{IsCopy, IsSpecialised, LaterElsewhere}
 use Rattle.core_groups.proofs.Known.{stand_before, all_below_on}
 use Rattle.core_groups.proofs.Lists.{some_same, stands_left, stands_map, mapped_stands, stands_contained, contained_stands, all_by, pairs_append, pairs_map, pairs_weaker, some_within, all_found, all_by_place}

@@ -12,9 +12,9 @@ use Rattle.core_ir.specs.Terms.{FunTerm, CoreTerm}
 use Rattle.core_ir.specs.Meaning.{bind_all, no_variables, run}
 use Rattle.core_ir.specs.Outcome.{RunMeaning, param_types, param_vars, function_value, body_of, results_in, chosen, run_chosen, call_chosen, call_by, run_inline, run_deeper, call_at, start_of_source, main_value, outcome}
 use Rattle.core_ir.specs.WellFormed.{IsWellFormed}
-use Rattle.core_calls.specs.Nests.{CallsAll, InlineBelow}
-use Rattle.core_calls.proofs.Agreeing.{agreeing, weaker, everywhere}
-use Rattle.core_bases.proofs.Backward.{below}
+use Rattle.core_facts.specs.calls.Nests.{CallsAll, InlineBelow}
+use Rattle.core_facts.proofs.calls.Agreeing.{agreeing, weaker, everywhere}
+use Rattle.core_facts.proofs.bases.Backward.{below}
 use Rattle.core_groups.specs.Specialised.{IsCopy, IsSpecialised}
 use Rattle.core_groups.proofs.Choice.{Chosen, decided, down, chosen_same}
 

@@ -8,8 +8,8 @@ use Rattle.core_ir.specs.Terms.{FunTerm, CoreTerm}
 use Rattle.core_ir.specs.Outcome.{group_at}
 use Rattle.core_ir.specs.WellFormed.{IsWellFormed}
 use Rattle.core_facts.specs.Facts.{one_shape}
-use Rattle.core_settled.specs.Called.{shape_of_type, common_shapes, result_shapes, shapes_at, called}
-use Rattle.core_calls.specs.Nests.{StandsIn}
+use Rattle.core_facts.specs.constants.Called.{shape_of_type, common_shapes, result_shapes, shapes_at, called}
+use Rattle.core_facts.specs.calls.Nests.{StandsIn}
 use Rattle.core_groups.specs.Specialised.{IsSpecialised}
 use Rattle.core_groups.proofs.Lists.{none_either}
 use Rattle.core_groups.proofs.Choice.{group_both, member}

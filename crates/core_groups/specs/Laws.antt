@@ -6,7 +6,7 @@ use Rattle.sac_base.specs.Types.{all_have}
 use Rattle.core_ir.specs.Outcome.{param_types, outcome}
 use Rattle.core_ir.specs.Terms.{FunTerm, CoreTerm}
 use Rattle.core_ir.specs.WellFormed.{IsWellFormed}
-use Rattle.core_settled.specs.Called.{called}
+use Rattle.core_facts.specs.constants.Called.{called}
 use Rattle.core_groups.specs.Specialised.{IsSpecialised}
 
 -- the outcome stays on arguments that both main functions take, or both do not

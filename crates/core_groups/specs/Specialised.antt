@@ -8,7 +8,7 @@ use Rattle.sac_base.specs.Types.{all_below}
 use Rattle.core_ir.specs.Outcome.{param_types, param_vars, group_at}
 use Rattle.core_ir.specs.Terms.{FunTerm, CoreTerm}
 use Rattle.core_ir.specs.WellFormed.{bases as bases_of}
-use Rattle.core_calls.specs.Nests.{StandsIn}
+use Rattle.core_facts.specs.calls.Nests.{StandsIn}
 
 abbrev pub is_known : Part → Bool
 is_known (Known shape) = true

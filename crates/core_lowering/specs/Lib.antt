@@ -3,3 +3,5 @@ pub mod Lowering
 pub mod Programs
 pub mod Standing
 pub mod Typed
+pub mod steps
+pub mod acceptance

@@ -5,7 +5,7 @@ use Rattle.std.proofs.lemmas.Slice.Eq.{bytes_eq-Decides}
 use Rattle.sac_base.specs.declared.name.Name.{Name}
 use Rattle.core_ir.specs.declared.tree.Var.{Var}
 use Rattle.core_scopes.specs.declared.scope.Scope.{Scope, out-Scope, roll-Scope, map-Scope, fold-roll-Scope, fold_out-Scope}
-use Rattle.core_lowering_steps.specs.Looks.{Look, with_var}
+use Rattle.core_lowering.specs.steps.Looks.{Look, with_var}
 use Rattle.core_scopes.specs.Looks.{own, or_else, over, outer_of, scope_step, look}
 
 pub name_turned : (a b : Name) → bytes_eq a b ≡ bytes_eq b a

@@ -2,8 +2,8 @@
 use Rattle.std.specs.Prelude.{List, map}
 use Rattle.core_ir.specs.declared.tree.Var.{Var}
 use Rattle.core_ir.specs.View.{let_term}
-use Rattle.core_lowering_steps.specs.Looks.{Look}
-use Rattle.core_lowering_steps.specs.Building.{Built, Made, MadeNames}
+use Rattle.core_lowering.specs.steps.Looks.{Look}
+use Rattle.core_lowering.specs.steps.Building.{Built, Made, MadeNames}
 use Rattle.core_scopes.specs.declared.builder.Builder.{Builder}
 
 abbrev pub built : Builder → Built

@@ -5,7 +5,7 @@ use Rattle.std.specs.Borrow.{Bor}
 use Rattle.indexmap.specs.IndexMap.{IndexMap, get_by_text}
 use Rattle.sac_base.specs.declared.name.Name.{Name}
 use Rattle.core_ir.specs.declared.tree.Var.{Var}
-use Rattle.core_lowering_steps.specs.Looks.{Look, unbound}
+use Rattle.core_lowering.specs.steps.Looks.{Look, unbound}
 use Rattle.core_scopes.specs.declared.scope.Scope.{Scope, Scope-F, fold-Scope}
 
 -- the names that texts are

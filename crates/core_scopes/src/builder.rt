@@ -3,7 +3,7 @@
 ghost use Rattle.std.specs.Prelude.{◌≡◌, [], ◌∷◌, IfOk, OnOk};
 ghost use Rattle.core_ir.specs.Terms.{Gives, chain};
 ghost use Rattle.core_ir.specs.View.{block_term, right_term};
-ghost use Rattle.core_lowering_steps.specs.Building.{Built, bound_at, fresh_at, nested, resumed, with_let};
+ghost use Rattle.core_lowering.specs.steps.Building.{Built, bound_at, fresh_at, nested, resumed, with_let};
 ghost use Rattle.core_scopes.specs.Built.{built, made};
 
 use core_ir::{Block, Let, Right, Var};

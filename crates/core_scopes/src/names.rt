@@ -4,7 +4,7 @@ ghost use Rattle.std.specs.Prelude.{◌≡◌, ◌++◌, [], IfOk, OnOk};
 ghost use Rattle.sac_ast.specs.View.{block, stmt};
 ghost use Rattle.source_meaning.specs.Meaning.{names as target_names};
 ghost use Rattle.core_lowering.specs.Lowering.{bound_names, names_bound, once as once_value};
-ghost use Rattle.core_lowering_steps.specs.Building.{bound_in, bound_in_both};
+ghost use Rattle.core_lowering.specs.steps.Building.{bound_in, bound_in_both};
 ghost use Rattle.core_scopes.specs.Looks.{look, texts};
 
 use crate::scope::Scope;

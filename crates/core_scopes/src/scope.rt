@@ -1,8 +1,8 @@
 //! The variables of names.
 
 ghost use Rattle.std.specs.Prelude.{◌≡◌, IfOk, OnOk};
-ghost use Rattle.core_lowering_steps.specs.Building.{declared};
-ghost use Rattle.core_lowering_steps.specs.Looks.{unbound, vars_of, with_var};
+ghost use Rattle.core_lowering.specs.steps.Building.{declared};
+ghost use Rattle.core_lowering.specs.steps.Looks.{unbound, vars_of, with_var};
 ghost use Rattle.core_scopes.specs.Looks.{look, own, texts};
 ghost use Rattle.core_scopes.specs.Built.{built, made_names};
 

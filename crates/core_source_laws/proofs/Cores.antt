@@ -3,10 +3,10 @@ use Rattle.std.proofs.Common.{ℕ, ◌<◌, ◌^◌, List, length, arith}
 use Rattle.sac_ast.specs.Tree.{ProgramTree}
 use Rattle.core_ir.specs.WellFormed.{IsWellFormed}
 use Rattle.core_lowering.specs.Programs.{HasOutcomeOf, lowered_program}
-use Rattle.core_acceptance.specs.Formed.{ProgramFormed}
-use Rattle.core_acceptance.specs.Stands.{MainStands}
-use Rattle.core_acceptance.proofs.Cores as accepted
-use Rattle.core_acceptance.proofs.Mains.{accepted_main}
+use Rattle.core_lowering.specs.acceptance.Formed.{ProgramFormed}
+use Rattle.core_lowering.specs.acceptance.Stands.{MainStands}
+use Rattle.core_lowering.proofs.acceptance.Cores as accepted
+use Rattle.core_lowering.proofs.acceptance.Mains.{accepted_main}
 use Rattle.sac_due.specs.Source.{IsProgramOf}
 use Rattle.core_source_laws.proofs.Read.{formed, few}
 

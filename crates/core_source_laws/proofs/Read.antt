@@ -5,7 +5,7 @@ use Rattle.std.proofs.lemmas.List.{length-map}
 use Rattle.sac_ast.specs.Texts.{Lexeme}
 use Rattle.sac_ast.specs.Tree.{ProgramTree}
 use Rattle.sac_ast.specs.Grammar.{IsProgram}
-use Rattle.core_acceptance.specs.Formed.{ProgramFormed}
+use Rattle.core_lowering.specs.acceptance.Formed.{ProgramFormed}
 use Rattle.sac_print_law.proofs.Given.{IsProper}
 use Rattle.sac_print_law.proofs.Actions.{every_tree_fits}
 use Rattle.sac_print_law.proofs.Sources.{source_proper}

@@ -6,8 +6,8 @@ ghost use Rattle.sac_ast.specs.Tree.{ProgramTree};
 ghost use Rattle.sac_ast.specs.Grammar.{IsProgram};
 ghost use Rattle.core_ir.specs.WellFormed.{IsWellFormed};
 ghost use Rattle.core_lowering.specs.Programs.{HasOutcomeOf, lowered_program};
-ghost use Rattle.core_acceptance.specs.Formed.{ProgramFormed};
-ghost use Rattle.core_acceptance.specs.Stands.{MainStands};
+ghost use Rattle.core_lowering.specs.acceptance.Formed.{ProgramFormed};
+ghost use Rattle.core_lowering.specs.acceptance.Stands.{MainStands};
 ghost use Rattle.sac_due.specs.Source.{IsTokensOf, IsProgramOf};
 
 /// Law: the tree that the tokens of a source have in the grammar is of the form that laws of accepted programs ask for: its numbers fit 32 bits,

@@ -1,6 +1,10 @@
 //! Laws of counted code: a run of the machine with a heap ends as its core does, leaves no buffer, and gives back each buffer that it took.
 #![tactic(auto)]
 
+pub mod mark_places;
+pub mod mark_removal;
+pub mod placing;
+
 ghost use Rattle.counted_laws.specs.Statements.{SameOutcome, RunsLeaveNothing, RunsGiveAllBack, CostsAreEven};
 
 /// Law: well-counted code without marks has the outcome of its core, and at the end of its run no buffer is live.

@@ -17,8 +17,8 @@ use Rattle.core_uses.specs.Tests.{none_is}
 use Rattle.counted_code.specs.Loops.{parted_folds}
 use Rattle.counted_code.specs.Terms.{CodeTerm, CodePartsTerm, Giving, Binding, Keeping, Releasing}
 use Rattle.counted_code.specs.Values.{is_small}
-use Rattle.counted_placing.proofs.Lists.{same_var, self, not_true, and_left, and_right, is_false, or_left, or_right}
-use Rattle.mark_places.specs.Places.{releases_next}
+use Rattle.counted_laws.proofs.placing.Lists.{same_var, self, not_true, and_left, and_right, is_false, or_left, or_right}
+use Rattle.counted_laws.specs.mark_places.Places.{releases_next}
 use Rattle.counted_marks.specs.Known.{Given, Known}
 use Rattle.counted_marks.specs.Marks.{MayReuse, IsCandidate, own_parts}
 use Rattle.counted_marks.specs.Marking.{is_base, is_known_shape, makes_buffer, may_reuse, is_candidate, released_next, lesser, least}

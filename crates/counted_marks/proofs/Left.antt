@@ -8,9 +8,9 @@ use Rattle.core_ir.specs.declared.tree.PartedOp.{PartedOp}
 use Rattle.core_ir.specs.Terms.{RightTerm, CoreTerm}
 use Rattle.counted_code.specs.Counts.{Unmarked, UnmarkedRight, UnmarkedGens, UnmarkedParts, UnmarkedFunctions, IsUnmarked}
 use Rattle.counted_code.specs.Terms.{CodeTerm, CodeRightTerm, CodeGensTerm, CodePartsTerm, CodeFunTerm, CodeProgram, Giving, Binding, Keeping, Releasing, PlainCode, IfCode, LoopCode, CallCode, WithCode, PartedCode, NoCodeGens, GenCode, NoCodeParts, PartCode, core_of_right, core_of_parts, core_of_fun, core_of_code}
-use Rattle.mark_places.specs.Places.{without_release, releases_next, Marked}
-use Rattle.mark_places.proofs.Cores.{right_same, parts_same, releases_same}
-use Rattle.mark_places.proofs.Programs.{code_core}
+use Rattle.counted_laws.specs.mark_places.Places.{without_release, releases_next, Marked}
+use Rattle.counted_laws.proofs.mark_places.Cores.{right_same, parts_same, releases_same}
+use Rattle.counted_laws.proofs.mark_places.Programs.{code_core}
 use Rattle.counted_marks.specs.Known.{Given, Known, learned, in_loop, in_gen, in_part, at_start, given}
 use Rattle.counted_marks.specs.Marks.{MayReuse, IsCandidate, WellMarked, WellMarkedRight, WellMarkedGens, WellMarkedParts, WellMarkedFunctions, IsWellMarked, NoneLeft, NoneLeftRight, NoneLeftGens, NoneLeftParts, NoneLeftFunctions, HasNoneLeft}
 use Rattle.counted_marks.specs.Marking.{is_candidate, released_next, choice, with_mark, released_by, marking, marking_right, marking_gens, marking_parts, marking_fun, marking_code}

@@ -7,7 +7,7 @@ use Rattle.core_ir.specs.declared.tree.Var.{Var}
 use Rattle.core_ir.specs.declared.tree.PartedOp.{PartedOp}
 use Rattle.core_ir.specs.Binders.{is_in}
 use Rattle.counted_code.specs.Terms.{CodeTerm, CodeRightTerm, CodeGensTerm, CodePartsTerm, CodeFunTerm, CodeProgram, Giving, Binding, Keeping, Releasing, PlainCode, IfCode, LoopCode, CallCode, WithCode, PartedCode, NoCodeGens, GenCode, NoCodeParts, PartCode, core_of_right, core_of_fun, core_of_code}
-use Rattle.mark_places.specs.Places.{Marked, MarkedRight, MarkedGens, MarkedParts, MarkedFunction, MarkedFunctions, MarkedCode, giving, binding, taking, keeping, releasing, plain, branches, turns, call, cells, parts, no_gens, gen, no_parts, part}
+use Rattle.counted_laws.specs.mark_places.Places.{Marked, MarkedRight, MarkedGens, MarkedParts, MarkedFunction, MarkedFunctions, MarkedCode, giving, binding, taking, keeping, releasing, plain, branches, turns, call, cells, parts, no_gens, gen, no_parts, part}
 use Rattle.counted_marks.specs.Known.{Given, Known, learned, in_loop, in_gen, in_part, at_start, given}
 use Rattle.counted_marks.specs.Marks.{IsCandidate}
 use Rattle.counted_marks.specs.Marking.{is_candidate, least, released_next, choice, with_mark, released_by, marking, marking_right, marking_gens, marking_parts, marking_fun, marking_code}

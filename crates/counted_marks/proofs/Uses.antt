@@ -8,8 +8,8 @@ use Rattle.core_facts.specs.Facts
 use Rattle.core_loops.specs.Indices.{IndexFacts, Other, own_index, note_index, note_others, learn_index}
 use Rattle.core_uses.specs.Tests.{none_is, head_avoided}
 use Rattle.counted_code.specs.Terms.{CodeTerm, CodeRightTerm, CodeGensTerm, CodePartsTerm, Giving, Binding, Keeping, Releasing, PartedCode, core_of_right}
-use Rattle.mark_places.specs.Places.{without_release, Marked, MarkedRight, MarkedGens, MarkedParts, giving, binding, taking, keeping, releasing, plain, branches, turns, call, cells, parts, no_gens, gen, no_parts, part}
-use Rattle.mark_places.proofs.Cores.{right_same, parts_same}
+use Rattle.counted_laws.specs.mark_places.Places.{without_release, Marked, MarkedRight, MarkedGens, MarkedParts, giving, binding, taking, keeping, releasing, plain, branches, turns, call, cells, parts, no_gens, gen, no_parts, part}
+use Rattle.counted_laws.proofs.mark_places.Cores.{right_same, parts_same}
 use Rattle.counted_marks.specs.Marks.{own_only, own_right, own_gens, own_inner, own_parts}
 
 module _ (called : ℕ → List (Option (List ℕ))) (v : Var) (n : ℕ) where

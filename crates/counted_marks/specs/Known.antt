@@ -5,7 +5,7 @@ use Rattle.core_ir.specs.declared.tree.Var.{Var}
 use Rattle.core_ir.specs.Terms.{RightTerm, FunTerm, CoreTerm, GenHead, PartHead}
 use Rattle.core_facts.specs.Facts.{Facts, note_all, right_facts}
 use Rattle.core_facts.specs.Facts
-use Rattle.core_settled.specs.Called.{called, params_facts}
+use Rattle.core_facts.specs.constants.Called.{called, params_facts}
 use Rattle.counted_marks.specs.Bases.{BaseFacts, note_bases, note_ints, right_bases, typed, params_bases}
 
 -- what calls of each group give

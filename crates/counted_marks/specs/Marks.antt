@@ -19,7 +19,7 @@ use Rattle.counted_code.specs.Terms.{CodeTerm, CodeRightTerm, CodeGensTerm, Code
 use Rattle.counted_code.specs.Terms.{Releasing, PlainCode, IfCode, LoopCode, CallCode, WithCode, PartedCode, NoCodeGens, GenCode, NoCodeParts}
 use Rattle.counted_code.specs.Terms.{PartCode, core_of_right, core_of_fun, core_of_code}
 use Rattle.counted_code.specs.Values.{is_small}
-use Rattle.mark_places.specs.Places.{releases_next}
+use Rattle.counted_laws.specs.mark_places.Places.{releases_next}
 use Rattle.counted_marks.specs.Known.{Given, Known, learned, in_loop, in_gen, in_part, at_start, given}
 
 -- ---- uses of an array in a loop's cells

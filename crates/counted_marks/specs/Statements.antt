@@ -3,7 +3,7 @@ use Rattle.std.specs.Prelude.{◌≡◌}
 use Rattle.counted_code.specs.Counts.{IsWellCounted, IsUnmarked}
 use Rattle.counted_code.specs.Prompt.{IsPrompt}
 use Rattle.counted_code.specs.Terms.{CodeProgram, core_of_code}
-use Rattle.mark_places.specs.Places.{MarkedCode}
+use Rattle.counted_laws.specs.mark_places.Places.{MarkedCode}
 use Rattle.counted_marks.specs.Marks.{IsWellMarked, HasNoneLeft}
 use Rattle.counted_marks.specs.Marking.{marking_code}
 

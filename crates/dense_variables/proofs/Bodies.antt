@@ -12,15 +12,15 @@ use Rattle.core_ir.specs.WellFormed.{Distinct, IsFunction, IsWellFormed, base_of
 use Rattle.core_ir.proofs.Renamed as meaning
 use Rattle.core_ir.proofs.Variables.{same_number}
 use Rattle.core_copy.proofs.Renaming.{bound_mapped}
-use Rattle.core_calls.specs.Arrays.{SameOutcomeOnArrays}
+use Rattle.core_facts.specs.calls.Arrays.{SameOutcomeOnArrays}
 use Rattle.core_loops.specs.Steps.{itself}
-use Rattle.core_edits.proofs.Mapping.{calls_mapped}
-use Rattle.core_inlined_bodies.proofs.Names.{distinct_left, distinct_right, distinct_apart, distinct_both, in_left, clash, not_in}
-use Rattle.core_cleaning.proofs.Bodies.{KeepsForm, KeepsMeaning, well_formed, same_outcome}
-use Rattle.core_norm_forms.specs.Copied.{AreFrom}
-use Rattle.core_norm_forms.proofs.Copies.{alike, renamed}
-use Rattle.core_norm_forms.proofs.Scopes.{copy_scoped, in_right}
-use Rattle.core_norm_forms.proofs.Typing.{copy_bases}
+use Rattle.core_forms.proofs.edits.Mapping.{calls_mapped}
+use Rattle.core_forms.proofs.inlined_bodies.Names.{distinct_left, distinct_right, distinct_apart, distinct_both, in_left, clash, not_in}
+use Rattle.core_forms.proofs.cleaning.Bodies.{KeepsForm, KeepsMeaning, well_formed, same_outcome}
+use Rattle.core_forms.specs.norm.Copied.{AreFrom}
+use Rattle.core_forms.proofs.norm.Copies.{alike, renamed}
+use Rattle.core_forms.proofs.norm.Scopes.{copy_scoped, in_right}
+use Rattle.core_forms.proofs.norm.Typing.{copy_bases}
 use Rattle.dense_variables.specs.Dense.{behind_params, number_in, dense_body, dense_core, numbered_function, IsDense}
 use Rattle.dense_variables.proofs.Numbers.{order, new_once, new_off, low_stays, apart, below_above}
 

@@ -7,9 +7,9 @@ use Rattle.core_ir.specs.Binders.{is_in}
 use Rattle.core_ir.specs.WellFormed.{Distinct}
 use Rattle.core_ir.proofs.Variables.{or_false, same_number}
 use Rattle.core_subst.specs.Names.{above_all, variable}
-use Rattle.core_inlined_bodies.proofs.Names.{behind_first, clash, in_either, not_in}
-use Rattle.core_norm_forms.specs.Copied.{AreFrom}
-use Rattle.core_norm_forms.proofs.Named.{order_distinct, order_between}
+use Rattle.core_forms.proofs.inlined_bodies.Names.{behind_first, clash, in_either, not_in}
+use Rattle.core_forms.specs.norm.Copied.{AreFrom}
+use Rattle.core_forms.proofs.norm.Named.{order_distinct, order_between}
 use Rattle.parted_bodies.specs.Numbering.{named, numbered}
 
 -- ---- which variable stands for one

@@ -6,8 +6,8 @@ use Rattle.core_ir.specs.Outcome.{param_vars}
 use Rattle.core_ir.specs.Terms.{BlockTerm, FunTerm, CoreTerm}
 use Rattle.core_subst.specs.Names.{above_all}
 use Rattle.core_copy.specs.Mapped.{mapped}
-use Rattle.core_cleaning.specs.Bodies.{with_bodies}
-use Rattle.core_norm_forms.specs.Copied.{AreFrom}
+use Rattle.core_forms.specs.cleaning.Bodies.{with_bodies}
+use Rattle.core_forms.specs.norm.Copied.{AreFrom}
 use Rattle.parted_bodies.specs.Numbering.{numbered}
 
 -- the first number behind those of the parameters

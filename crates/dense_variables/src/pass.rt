@@ -5,7 +5,7 @@ ghost use Rattle.core_ir.specs.Outcome.{SameOutside};
 ghost use Rattle.core_ir.specs.View.{core_term, fun_term};
 ghost use Rattle.core_ir.specs.WellFormed.{IsWellFormed};
 ghost use Rattle.core_subst.specs.Names.{above_all};
-ghost use Rattle.core_calls.specs.Arrays.{SameOutcomeOnArrays};
+ghost use Rattle.core_facts.specs.calls.Arrays.{SameOutcomeOnArrays};
 ghost use Rattle.dense_variables.specs.Dense.{dense_core, numbered_function, IsDense};
 
 use core_ir::{Core, CoreFun, Var};

@@ -8,7 +8,7 @@ use Rattle.std.proofs.lemmas.Int.{ints}
 use Rattle.std.proofs.lemmas.List.Elements.{All-nil, All-cons, All-head, All-tail}
 use Rattle.sac_base.specs.declared.grid.Grid1.{Grid1}
 use Rattle.sac_base.specs.Grids.{has_vector, members}
-use Rattle.core_index_facts.proofs.Members.{member_has}
+use Rattle.core_loops.proofs.index_facts.Members.{member_has}
 use Rattle.generator_sets.specs.Pieces.{moved}
 use Rattle.moved_grids.specs.Within.{IsWithin}
 use Rattle.fold_pieces.specs.Pieces.{vectors}

@@ -8,7 +8,7 @@ use Rattle.sac_base.specs.declared.grid.Grid1.{Grid1}
 use Rattle.sac_base.specs.WithLoops.{Axis}
 use Rattle.sac_base.specs.Grids.{has_index, has_vector, within, members, times_vector, SplitsVectors}
 use Rattle.core_ir.specs.WellFormed.{Covered}
-use Rattle.core_index_facts.proofs.Members.{member_has}
+use Rattle.core_loops.proofs.index_facts.Members.{member_has}
 use Rattle.core_loops.specs.Loops.{axis_of, grid_range}
 use Rattle.core_loops.specs.Pairs.{all_moved_back, box_range}
 use Rattle.generator_sets.specs.Pieces.{in_box, moved, IsUniformVector}

@@ -20,7 +20,7 @@ use Rattle.core_loops.specs.Pairs.{Producer, PartsFold, offsets, offsets_right, 
 use Rattle.core_loops.specs.Steps.{facts_after}
 use Rattle.foldable_pairs.specs.declared.producer.Producer.{Producer as Source}
 use Rattle.foldable_pairs.specs.Pairs.{CanProduce, producer_of, IsNear, IsPlanned, Takes}
-use Rattle.fold_laws.specs.Made.{FoldMade, FoldMadeOf}
+use Rattle.fold_walk.specs.fold_laws.Made.{FoldMade, FoldMadeOf}
 use Rattle.fold_walk.specs.Left.{IsNearProducer, IsPairAt, NoPairAt}
 use Rattle.fold_walk.specs.Making.{CannotTake, GetsMany}
 use Rattle.fold_walk.specs.Pairing.{BindsLoop, BindsNoLoop, loop_let}
@@ -81,8 +81,8 @@ module _ (called : ℕ → List (Option (List ℕ))) (function : ℕ) (k : Facts
           alone = reverse_lets x user.after user.others.1;
           behind = chain_avoids x (reverse user.before) (Gives rs) (reverse_lets x user.before user.others.0) user.unreturned;
           room = made.room;
-          made = subst (λ (v : Var). Rattle.fold_laws.specs.Made.PartsMade v sources made.old made.plans p.next made.parts q.next) var
-              (subst (λ (ps : List CorePart). Rattle.fold_laws.specs.Made.PartsMade source.var (map part_term ps) made.old made.plans p.next made.parts q.next) parts made.made);
+          made = subst (λ (v : Var). Rattle.fold_walk.specs.fold_laws.Made.PartsMade v sources made.old made.plans p.next made.parts q.next) var
+              (subst (λ (ps : List CorePart). Rattle.fold_walk.specs.fold_laws.Made.PartsMade source.var (map part_term ps) made.old made.plans p.next made.parts q.next) parts made.made);
           few = made.few;
           before = λ i. Bind (own i).targets l.site (own i).right (chain between (Bind (made.before i).targets (made.before i).site (made.before i).right rest));
           after = λ i. chain between (Bind (made.after i).targets (made.after i).site (made.after i).right rest);

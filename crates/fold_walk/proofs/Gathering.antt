@@ -11,7 +11,7 @@ use Rattle.core_ir.specs.View.{part_term}
 use Rattle.fold_pieces.specs.declared.keeping.FoldPiece.{FoldPiece}
 use Rattle.foldable_pairs.specs.declared.plan.PartPlan.{PartPlan}
 use Rattle.folded_parts.specs.Making.{PiecesMade}
-use Rattle.fold_laws.specs.Made.{due_pieces, has_members, numbered_grid, numbered_grids, PartsMade}
+use Rattle.fold_walk.specs.fold_laws.Made.{due_pieces, has_members, numbered_grid, numbered_grids, PartsMade}
 use Rattle.generator_sets.specs.Pieces.{lows}
 use Rattle.fold_walk.specs.Making.{AllDue, AllMade, PieceVec, due_count, piece_count}
 use Rattle.fold_walk.proofs.Learned.{next_is}

@@ -13,7 +13,7 @@ use Rattle.foldable_pairs.specs.declared.producer.Producer.{Producer as Source}
 use Rattle.foldable_pairs.specs.Pairs.{producer_of, IsNear, IsPlanned, Takes}
 use Rattle.foldable_pairs.specs.declared.plan.PartPlan.{PartPlan}
 use Rattle.folded_parts.specs.Making.{PiecesMade}
-use Rattle.fold_laws.specs.Made.{due_pieces, numbered_grids}
+use Rattle.fold_walk.specs.fold_laws.Made.{due_pieces, numbered_grids}
 
 -- the pieces of one part, as the code holds them
 abbrev pub PieceVec : Type 0

@@ -16,7 +16,7 @@ use Rattle.fact_table.specs.Notes.{Note}
 use Rattle.foldable_pairs.specs.declared.plan.PartPlan.{PartPlan}
 use Rattle.foldable_pairs.specs.declared.producer.Producer.{Producer as Source}
 use Rattle.foldable_pairs.specs.Pairs.{producer_of, IsPlanned}
-use Rattle.fold_laws.specs.Made.{FoldMadeOf, PartsMade}
+use Rattle.fold_walk.specs.fold_laws.Made.{FoldMadeOf, PartsMade}
 use Rattle.fold_walk.specs.declared.state.Fold.{Fold}
 use Rattle.fold_walk.specs.declared.state.Folding.{Folding}
 use Rattle.fold_walk.specs.Making.{CannotTake}

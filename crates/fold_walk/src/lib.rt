@@ -1,6 +1,7 @@
 //! One walk over a block in which pairs of parted loops are folded.
 #![tactic(auto)]
 
+pub mod fold_laws;
 mod level;
 mod making;
 mod pairing;

@@ -4,7 +4,7 @@ ghost use Rattle.std.specs.Prelude.{◌≡◌, ◌≤◌, ◌<◌, ◌++◌, [],
 ghost use Rattle.sac_base.specs.Grids.{has_vector};
 ghost use Rattle.generator_sets.specs.Pieces.{lows};
 ghost use Rattle.core_ir.specs.View.{part_term};
-ghost use Rattle.fold_laws.specs.Made.{due_pieces as pieces_due, has_members as have_members, numbered_grid, numbered_grids};
+ghost use Rattle.fold_walk.specs.fold_laws.Made.{due_pieces as pieces_due, has_members as have_members, numbered_grid, numbered_grids};
 ghost use Rattle.fold_walk.specs.Making.{AllDue, AllMade, piece_count};
 
 use core_ir::{CorePart, Var};

@@ -12,7 +12,7 @@ use Rattle.core_ir.specs.Terms.{PlainTerm, BlockTerm, LetTerm, PartTerm, Gives, 
 use Rattle.core_ir.specs.View.{block_term, let_term, part_term}
 use Rattle.core_ir.proofs.Trees.{block_out}
 use Rattle.core_copy.specs.Mapped.{mapped}
-use Rattle.core_inlining.specs.Inlined.{bindings, results}
+use Rattle.core_forms.specs.inlining.Inlined.{bindings, results}
 use Rattle.core_subst.specs.Names.{variable}
 use Rattle.parted_bodies.specs.declared.names.Progress.{Progress}
 use Rattle.parted_bodies.specs.Numbering.{named, numbered}

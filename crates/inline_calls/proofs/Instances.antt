@@ -6,12 +6,12 @@ use Rattle.sac_base.specs.declared.site.Site.{Site}
 use Rattle.core_ir.specs.declared.tree.Var.{Var}
 use Rattle.core_ir.specs.Outcome.{group_at}
 use Rattle.core_ir.specs.Terms.{BlockTerm, RightTerm, LetTerm, FunTerm, CoreTerm, Bind}
-use Rattle.core_inlining.specs.Inlined.{inlined}
-use Rattle.core_inlined_bodies.specs.declared.growth.Growth.{Growth}
-use Rattle.core_inlined_bodies.specs.Inlining.{IsInstance, Fits, grown, BlockInlined, placed}
+use Rattle.core_forms.specs.inlining.Inlined.{inlined}
+use Rattle.core_forms.specs.declared.inlined_bodies.growth.Growth.{Growth}
+use Rattle.core_forms.specs.inlined_bodies.Inlining.{IsInstance, Fits, grown, BlockInlined, placed}
 use Rattle.core_subst.specs.Names.{variable, variable_at, above_function}
-use Rattle.core_calls.specs.Replaced.{replaced_at}
-use Rattle.core_inlined_bodies.specs.Functions.{Anywhere, unchanged, FunctionInlined}
+use Rattle.core_facts.specs.calls.Replaced.{replaced_at}
+use Rattle.core_forms.specs.inlined_bodies.Functions.{Anywhere, unchanged, FunctionInlined}
 use Rattle.inline_calls.proofs.Turns.{unchanged_block}
 use Rattle.inline_calls.proofs.Passes.{itself_there}
 use Rattle.inline_calls.specs.Placed.{StandFor}

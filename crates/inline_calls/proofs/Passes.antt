@@ -9,10 +9,10 @@ use Rattle.core_ir.specs.Outcome.{SameOutcome, SameOutside}
 use Rattle.core_ir.specs.Terms.{FunTerm, CoreTerm}
 use Rattle.core_ir.specs.View.{fun_term}
 use Rattle.core_ir.specs.WellFormed.{IsWellFormed}
-use Rattle.core_calls.specs.Replaced.{replaced_at}
-use Rattle.core_inlined_bodies.proofs.Whole.{functions_may_be_inlined, passes_go_on}
+use Rattle.core_facts.specs.calls.Replaced.{replaced_at}
+use Rattle.core_forms.proofs.inlined_bodies.Whole.{functions_may_be_inlined, passes_go_on}
 use Rattle.unreached_functions.proofs.Outside.{outside_replaced}
-use Rattle.core_inlined_bodies.specs.Functions.{FunctionInlined, LeavesLarge, DoneBelow, ComeTo, OnlyLargeLeft}
+use Rattle.core_forms.specs.inlined_bodies.Functions.{FunctionInlined, LeavesLarge, DoneBelow, ComeTo, OnlyLargeLeft}
 
 no_place : (n : ℕ) → n < 0 → ⊥
 no_place n h = omega arith

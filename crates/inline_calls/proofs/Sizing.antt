@@ -4,8 +4,8 @@ use Rattle.std.specs.Prelude.{slice_get, unwrap_or}
 use Rattle.core_ir.specs.declared.tree.CoreFun.{CoreFun}
 use Rattle.core_ir.specs.Terms.{FunTerm, CoreTerm}
 use Rattle.core_ir.specs.View.{fun_term}
-use Rattle.core_calls.specs.Replaced.{replaced_at}
-use Rattle.core_inlined_bodies.specs.Inlining.{IsInstance}
+use Rattle.core_facts.specs.calls.Replaced.{replaced_at}
+use Rattle.core_forms.specs.inlined_bodies.Inlining.{IsInstance}
 use Rattle.inline_calls.specs.declared.sizes.Size.{Size}
 use Rattle.inline_calls.specs.Measures.{IsSize, AreSizes}
 use Rattle.inline_calls.proofs.Passes.{set_term}

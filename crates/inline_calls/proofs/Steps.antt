@@ -15,7 +15,7 @@ use Rattle.core_ir.proofs.Trees.{block_out}
 use Rattle.core_subst.specs.Names.{above, above_all, above_function}
 use Rattle.core_copy.specs.Mapped.{raised, raised_within, mapped}
 use Rattle.core_copy.proofs.Within.{all_same, fits}
-use Rattle.core_inlining.specs.Inlined.{bindings, results, checks, inlined}
+use Rattle.core_forms.specs.inlining.Inlined.{bindings, results, checks, inlined}
 
 pub map_snoc : {A B : Type 0} (f : A → B) (xs : List A) (x : A) → map f (xs ++ (x ∷ [])) ≡ map f xs ++ (f x ∷ [])
 map_snoc f [] x = refl

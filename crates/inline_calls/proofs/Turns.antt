@@ -12,9 +12,9 @@ use Rattle.core_ir.specs.declared.tree.Right.TheBlock.{the_data, the_data-1, the
 use Rattle.core_ir.specs.Terms.{PlainTerm, BlockTerm, RightTerm, GensTerm, PartsTerm, LetTerm, GenTerm, PartTerm, CoreTerm, Gives, Bind, Plain, NoGens, Gen, NoParts, Part, chain, gens_of, parts_of}
 use Rattle.core_ir.specs.View.{block_term, let_term, with_term, gen_term, parted_term, part_term}
 use Rattle.core_ir.proofs.Trees.{block_out, block_roll, with_out, with_roll, parted_out, parted_roll}
-use Rattle.core_inlined_bodies.specs.declared.growth.Growth.{Growth}
-use Rattle.core_inlined_bodies.specs.Inlining.{BlockInlined, RightInlined, GensInlined, PartsInlined, ends, kept, plain, left, branches, turns, generated, divided, no_gens, a_gen, no_parts, a_part}
-use Rattle.core_inlined_bodies.specs.Functions.{Anywhere}
+use Rattle.core_forms.specs.declared.inlined_bodies.growth.Growth.{Growth}
+use Rattle.core_forms.specs.inlined_bodies.Inlining.{BlockInlined, RightInlined, GensInlined, PartsInlined, ends, kept, plain, left, branches, turns, generated, divided, no_gens, a_gen, no_parts, a_part}
+use Rattle.core_forms.specs.inlined_bodies.Functions.{Anywhere}
 use Rattle.inline_calls.specs.Bindings.{LetInlined, MayStay, GenInlined, PartInlined}
 use Rattle.inline_calls.proofs.Steps.{map_snoc, chain_both}
 
@@ -188,7 +188,7 @@ module _ (core : CoreTerm) (s : Growth) (full : 2 ^ 32 ≤ s.above) where
     unchanged_right (Plain p) = plain
     unchanged_right (RightTerm.If x a b) = branches (unchanged_block a) (unchanged_block b)
     unchanged_right (RightTerm.Loop first start params a b u) = turns (unchanged_block a) (unchanged_block b)
-    unchanged_right (RightTerm.Call g xs) = left (λ place f i. inr (no_room s.above (Rattle.core_inlined_bodies.specs.Inlining.greatest f) full))
+    unchanged_right (RightTerm.Call g xs) = left (λ place f i. inr (no_room s.above (Rattle.core_forms.specs.inlined_bodies.Inlining.greatest f) full))
     unchanged_right (RightTerm.With o gens) = generated (unchanged_gens gens)
     unchanged_right (RightTerm.Parted f t c o parts) = divided (unchanged_parts parts)
 

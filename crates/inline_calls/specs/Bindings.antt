@@ -5,9 +5,9 @@ use Rattle.core_ir.specs.declared.tree.Let.{Let}
 use Rattle.core_ir.specs.declared.tree.Var.{Var}
 use Rattle.core_ir.specs.Terms.{BlockTerm, RightTerm, LetTerm, GenTerm, PartTerm, CoreTerm, Bind, chain}
 use Rattle.core_ir.specs.View.{let_term}
-use Rattle.core_inlined_bodies.specs.declared.growth.Growth.{Growth}
-use Rattle.core_inlined_bodies.specs.Inlining.{IsLeft, BlockInlined, RightInlined}
-use Rattle.core_inlined_bodies.specs.Functions.{Anywhere}
+use Rattle.core_forms.specs.declared.inlined_bodies.growth.Growth.{Growth}
+use Rattle.core_forms.specs.inlined_bodies.Inlining.{IsLeft, BlockInlined, RightInlined}
+use Rattle.core_forms.specs.inlined_bodies.Functions.{Anywhere}
 use Rattle.inline_calls.specs.declared.call.Inlined.{Inlined}
 
 -- put before any block with calls inlined, the bindings are the binding and that block with calls inlined

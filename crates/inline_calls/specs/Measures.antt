@@ -2,7 +2,7 @@
 use Rattle.std.specs.Prelude.{◌≡◌, ℕ, ◌-◌, ◌^◌, min, List, Some, slice_get}
 use Rattle.core_ir.specs.Terms.{FunTerm, CoreTerm}
 use Rattle.core_subst.specs.Names.{above_function}
-use Rattle.core_inlined_bodies.specs.Inlining.{weight}
+use Rattle.core_forms.specs.inlined_bodies.Inlining.{weight}
 use Rattle.inline_calls.specs.declared.sizes.Size.{Size}
 
 -- as far as the numbers can be told

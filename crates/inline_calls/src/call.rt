@@ -3,13 +3,13 @@
 ghost use Rattle.std.specs.Prelude.{◌≡◌, ℕ, IfOk, IfSome, IfNone, map};
 ghost use Rattle.core_ir.specs.Terms.{FunTerm};
 ghost use Rattle.core_ir.specs.View.{core_term, fun_term, let_term};
-ghost use Rattle.core_inlined_bodies.specs.Inlining.{IsInstance, IsLeft, Fits, TooGreat, grown};
+ghost use Rattle.core_forms.specs.inlined_bodies.Inlining.{IsInstance, IsLeft, Fits, TooGreat, grown};
 ghost use Rattle.inline_calls.specs.Measures.{IsSize};
 ghost use Rattle.inline_calls.specs.Bindings.{GivesCall, LetInlined, MayStay};
 
 use crate::place::inlined_bindings;
 use crate::sizes::{Measured, Size, size_of};
-use core_inlined_bodies::Growth;
+use core_forms::inlined_bodies::Growth;
 use core_ir::{Core, CoreFun, Let, Right, Var};
 use sac_base::{Memory, Site};
 use std::alloc::Global;

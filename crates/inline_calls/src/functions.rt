@@ -5,11 +5,11 @@ ghost use Rattle.core_ir.specs.Outcome.{SameOutcome, SameOutside};
 ghost use Rattle.core_ir.specs.View.{core_term};
 ghost use Rattle.core_ir.specs.WellFormed.{IsWellFormed};
 ghost use Rattle.inline_calls.specs.Measures.{AreSizes};
-ghost use Rattle.core_inlined_bodies.specs.Functions.{FunctionInlined, ComeTo, OnlyLargeLeft};
+ghost use Rattle.core_forms.specs.inlined_bodies.Functions.{FunctionInlined, ComeTo, OnlyLargeLeft};
 
 use crate::sizes::{Measured, Size, note_size, size_of, sizes_of};
 use crate::walk::inline_block;
-use core_inlined_bodies::Growth;
+use core_forms::inlined_bodies::Growth;
 use core_ir::Core;
 use core_subst::fresh;
 use sac_base::Memory;

@@ -5,7 +5,7 @@ ghost use Rattle.core_ir.specs.Terms.{Plain, Check};
 ghost use Rattle.core_ir.specs.View.{block_term, fun_term, let_term};
 ghost use Rattle.core_subst.specs.Names.{above_function};
 ghost use Rattle.core_copy.specs.Mapped.{raised_within};
-ghost use Rattle.core_inlining.specs.Inlined.{bindings, checks};
+ghost use Rattle.core_forms.specs.inlining.Inlined.{bindings, checks};
 ghost use Rattle.inline_calls.specs.Placed.{StandFor};
 
 use core_copy::{copy_raised, raise};
@@ -48,7 +48,7 @@ pub fn inlined_bindings(
 /// Pushes the bindings of a block, and gives its results.
 fn push_body(lets: &mut Vec<Let>, body: Block) -> Result<Vec<Var>, Memory>
     ensures lets { OnOk result (map let_term lets.new.items ≡ map let_term lets.old.items ++ bindings (block_term body)) }
-    ensures results { IfOk result (λ xs. xs.items ≡ Rattle.core_inlining.specs.Inlined.results (block_term body)) }
+    ensures results { IfOk result (λ xs. xs.items ≡ Rattle.core_forms.specs.inlining.Inlined.results (block_term body)) }
 {
     let Block {
         lets: mut inner,

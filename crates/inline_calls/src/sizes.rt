@@ -4,7 +4,7 @@ ghost use Rattle.std.specs.Prelude.{◌≡◌, ℕ, IfOk, IfSome, set};
 ghost use Rattle.std.proofs.Props.{props};
 ghost use Rattle.core_ir.specs.Terms.{FunTerm};
 ghost use Rattle.core_ir.specs.View.{core_term, fun_term};
-ghost use Rattle.core_inlined_bodies.specs.Inlining.{IsInstance};
+ghost use Rattle.core_forms.specs.inlined_bodies.Inlining.{IsInstance};
 ghost use Rattle.inline_calls.specs.Measures.{IsSize, AreSizes};
 
 use core_ir::{Core, CoreFun, nodes};

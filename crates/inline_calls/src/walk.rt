@@ -2,13 +2,13 @@
 
 ghost use Rattle.std.specs.Prelude.{◌≡◌, IfOk, OnOk};
 ghost use Rattle.core_ir.specs.View.{core_term, block_term, let_term, right_term, with_term, gen_term, parted_term, part_term};
-ghost use Rattle.core_inlined_bodies.specs.Inlining.{BlockInlined, RightInlined};
-ghost use Rattle.core_inlined_bodies.specs.Functions.{Anywhere};
+ghost use Rattle.core_forms.specs.inlined_bodies.Inlining.{BlockInlined, RightInlined};
+ghost use Rattle.core_forms.specs.inlined_bodies.Functions.{Anywhere};
 ghost use Rattle.inline_calls.specs.Bindings.{Pushed, RightWalked, GenInlined, PartInlined};
 
 use crate::call::{Inlined, inlined_call};
 use crate::sizes::Measured;
-use core_inlined_bodies::Growth;
+use core_forms::inlined_bodies::Growth;
 use core_ir::{Block, CoreGen, CorePart, Let, PartedLoop, Right, Var, WithLoop};
 use sac_base::{Memory, copy_array, copy_type};
 use std::alloc::Global;

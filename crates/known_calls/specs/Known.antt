@@ -4,7 +4,7 @@ use Rattle.sac_base.specs.declared.types.ArrayType.{ArrayType}
 use Rattle.core_ir.specs.declared.tree.Var.{Var}
 use Rattle.core_ir.specs.Terms.{BlockTerm, RightTerm, GensTerm, PartsTerm, Gives, Bind, Plain, NoGens, Gen, NoParts, Part}
 use Rattle.core_facts.specs.Facts.{Facts, no_facts, shape_fact, note_all, right_facts, in_part}
-use Rattle.core_settled.specs.Called.{shape_of_type}
+use Rattle.core_facts.specs.constants.Called.{shape_of_type}
 
 -- a group, and the shapes of the arguments of a call of it
 abbrev pub GroupAndShapes : Type 0

@@ -4,7 +4,7 @@ ghost use Rattle.std.specs.Prelude.{◌≡◌, ◌++◌, IfOk, OnOk, map};
 ghost use Rattle.core_ir.specs.Outcome.{param_vars};
 ghost use Rattle.core_ir.specs.View.{fun_term};
 ghost use Rattle.core_facts.specs.Facts.{shape_fact};
-ghost use Rattle.core_settled.specs.Called.{shape_of_type};
+ghost use Rattle.core_facts.specs.constants.Called.{shape_of_type};
 ghost use Rattle.fact_table.specs.Table.{fact_of, facts_of};
 ghost use Rattle.plain_facts.specs.Called.{shapes_of};
 ghost use Rattle.known_calls.specs.Known.{known_in, typed_facts, shapes_known as shapes_in, call_known};

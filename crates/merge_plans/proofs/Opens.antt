@@ -20,7 +20,7 @@ use Rattle.core_ir.proofs.Trees.{block_out, parted_out, with_out}
 use Rattle.core_facts.specs.Facts.{Facts}
 use Rattle.core_loops.specs.Indices.{IndexFacts}
 use Rattle.core_loops.specs.Pairs.{IsNest}
-use Rattle.core_merge_forms.proofs.Straight.{StraightLets, StraightRight, around_straight, chain_append}
+use Rattle.core_forms.proofs.merge.Straight.{StraightLets, StraightRight, around_straight, chain_append}
 use Rattle.merge_plans.specs.Openings.{Opened, behind, is_parted, lets_of, opened, results_of}
 
 abbrev nothing_opened : Opened

@@ -22,7 +22,7 @@ use Rattle.merge_plans.specs.Mergeable.{CanMerge, PlanOf}
 use Rattle.merge_plans.specs.Openings.{is_parted}
 use Rattle.merge_plans.proofs.Opens.{not_parted}
 use Rattle.merged_parts.specs.Merging.{merged_all, PartFits}
-use Rattle.planned_merges.proofs.Whole.{fits}
+use Rattle.merge_walk.proofs.planned_merges.Whole.{fits}
 use Rattle.known_rights.specs.declared.known.KnownRight.{KnownRight}
 use Rattle.merge_walk.specs.Here.{BindingMerged, IsMerged, MergedOrNot}
 

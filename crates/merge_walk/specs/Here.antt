@@ -6,7 +6,7 @@ use Rattle.core_ir.specs.Terms.{BlockTerm, RightTerm, Bind}
 use Rattle.core_facts.specs.Facts.{Facts}
 use Rattle.parted_bodies.specs.declared.names.Progress.{Progress}
 use Rattle.merge_plans.specs.Mergeable.{CanMerge}
-use Rattle.planned_merges.specs.Planned.{MergesPlanned}
+use Rattle.merge_walk.specs.planned_merges.Planned.{MergesPlanned}
 
 module _ (called : ℕ → List (Option (List ℕ))) (k : Facts) (old new : Progress) where
   pub record IsMerged (r q : RightTerm) : Type 0 where

@@ -5,7 +5,7 @@ use Rattle.core_ir.specs.Terms.{BlockTerm, RightTerm, GensTerm, PartsTerm}
 use Rattle.core_facts.specs.Facts.{Facts}
 use Rattle.core_loops.specs.Steps.{fact_ways}
 use Rattle.parted_bodies.specs.declared.names.Progress.{Progress}
-use Rattle.planned_merges.specs.Planned.{MergesPlanned}
+use Rattle.merge_walk.specs.planned_merges.Planned.{MergesPlanned}
 use Rattle.merge_walk.specs.NoneLeft.{NoneMergeable, NoneMergeableRight}
 
 -- So many steps, each from the number at which the one before ended.

@@ -2,6 +2,7 @@
 #![tactic(auto)]
 
 mod here;
+pub mod planned_merges;
 mod walk;
 
 pub use walk::merge_block;

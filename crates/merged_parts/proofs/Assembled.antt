@@ -15,8 +15,8 @@ use Rattle.core_ir.specs.View.{block_term, part_term, parted_term}
 use Rattle.core_copy.specs.Mapped.{mapped}
 use Rattle.core_copy.proofs.Renaming.{bound_mapped}
 use Rattle.core_subst.specs.Names.{variable}
-use Rattle.core_merge_forms.specs.Built.{picks}
-use Rattle.core_merge_forms.proofs.Straight.{chain_append}
+use Rattle.core_forms.specs.merge.Built.{picks}
+use Rattle.core_forms.proofs.merge.Straight.{chain_append}
 use Rattle.merge_plans.specs.Inners.{parts_in}
 use Rattle.merge_plans.specs.Mergeable.{FitBehind}
 use Rattle.merge_plans.specs.Openings.{Opened, lets_of, opened}

@@ -10,7 +10,7 @@ use Rattle.core_ir.specs.Binders.{bound_in, bound_in_right}
 use Rattle.core_ir.specs.Terms.{PlainTerm, BlockTerm, RightTerm, LetTerm, Plain, Gives, Bind, chain}
 use Rattle.core_ir.specs.View.{let_term}
 use Rattle.core_subst.specs.Names.{variable}
-use Rattle.core_merge_forms.specs.Built.{picks}
+use Rattle.core_forms.specs.merge.Built.{picks}
 use Rattle.merge_plans.specs.Openings.{lets_of}
 use Rattle.merged_parts.specs.Merging.{every_other, merged_names}
 use Rattle.parted_bodies.specs.declared.names.Progress.{Progress}

@@ -5,7 +5,7 @@ use Rattle.core_ir.specs.declared.tree.Var.{Var}
 use Rattle.core_ir.specs.Binders.{bound_in}
 use Rattle.core_ir.specs.Terms.{BlockTerm, PartsTerm, LetTerm, PartTerm, PartHead, NoParts, Part, chain}
 use Rattle.core_subst.specs.Names.{variable}
-use Rattle.core_merge_forms.specs.Built.{merged_body}
+use Rattle.core_forms.specs.merge.Built.{merged_body}
 use Rattle.parted_bodies.specs.Making.{binds_of}
 use Rattle.parted_bodies.specs.Numbering.{numbered}
 use Rattle.merge_plans.specs.Inners.{parts_in}

@@ -5,7 +5,7 @@ ghost use Rattle.sac_base.specs.declared.base.Base.TheVariants.{Int};
 ghost use Rattle.sac_base.specs.Arrays.{scalar};
 ghost use Rattle.core_ir.specs.Terms.{PlainTerm, Plain};
 ghost use Rattle.core_ir.specs.View.{let_term, right_term};
-ghost use Rattle.core_merge_forms.specs.Built.{picks};
+ghost use Rattle.core_forms.specs.merge.Built.{picks};
 ghost use Rattle.merged_parts.specs.Merging.{every_other};
 
 use core_ir::{Let, Right, Var};

@@ -2,8 +2,8 @@
 use Rattle.std.proofs.Common.{◌≡◌, ◌<◌, true, refl}
 use Rattle.core_ir.specs.declared.tree.Var.{Var}
 use Rattle.core_ir.specs.Binders.{is_in}
-use Rattle.core_inlined_bodies.proofs.Names.{clash, in_either, none_at}
-use Rattle.core_norm_forms.proofs.Places.{all_member}
+use Rattle.core_forms.proofs.inlined_bodies.Names.{clash, in_either, none_at}
+use Rattle.core_forms.proofs.norm.Places.{all_member}
 use Rattle.numbered_variables.specs.Laws.{NumbersKeepApart}
 use Rattle.numbered_variables.proofs.Numbered.{numbered_good}
 

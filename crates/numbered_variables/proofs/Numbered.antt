@@ -6,10 +6,10 @@ use Rattle.core_ir.specs.Binders.{is_in}
 use Rattle.core_ir.specs.WellFormed.{Distinct}
 use Rattle.core_ir.proofs.Variables.{or_false, same_number}
 use Rattle.core_subst.specs.Names.{variable}
-use Rattle.core_inlined_bodies.proofs.Names.{behind_first, clash, itself}
+use Rattle.core_forms.proofs.inlined_bodies.Names.{behind_first, clash, itself}
 use Rattle.parted_bodies.specs.Numbering.{named, numbered}
 use Rattle.parted_bodies.specs.Making.{component_names}
-use Rattle.core_norm_forms.specs.Copied.{AreFrom}
+use Rattle.core_forms.specs.norm.Copied.{AreFrom}
 
 -- ---- numbers
 

@@ -3,7 +3,7 @@ use Rattle.std.specs.Prelude.{◌≡◌, ℕ, ◌<◌, true, eqb, List, ◌++◌
 use Rattle.core_ir.specs.declared.tree.Var.{Var}
 use Rattle.core_ir.specs.Binders.{NoneIn, is_in}
 use Rattle.core_ir.specs.WellFormed.{Distinct}
-use Rattle.core_norm_forms.specs.Copied.{AreFrom}
+use Rattle.core_forms.specs.norm.Copied.{AreFrom}
 use Rattle.parted_bodies.specs.Numbering.{numbered}
 
 -- the new numbers of a list that has each variable once are in order

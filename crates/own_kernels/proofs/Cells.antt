@@ -25,7 +25,7 @@ use Rattle.kernel_rows.specs.Kernels.{AreCellKernels, Body, HasCellForm, HasInde
 use Rattle.phase_checks.specs.Terms.{parts_term}
 use Rattle.phase_laws.specs.Spending.{parts_take, spends}
 use Rattle.own_kernels.specs.Kernels.{ArePartKernels, holds_alone, is_kernel_for, is_own_kernel, kernels_own, own_in, part_body, parts_own}
-use Rattle.over_phases.specs.Own.{PartsReadOwn, SameButAt}
+use Rattle.phase_loop_laws.specs.over_phases.Own.{PartsReadOwn, SameButAt}
 use Rattle.own_kernels.specs.Statements.{SameAt}
 use Rattle.own_kernels.specs.Steps.{is_own}
 use Rattle.own_kernels.proofs.Bools.{and_left, and_right}

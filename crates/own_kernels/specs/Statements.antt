@@ -15,7 +15,7 @@ use Rattle.kernel_rows.specs.declared.kernels.CellKernel.{CellKernel}
 use Rattle.kernel_rows.specs.Kernels.{HasIndex, IsScope}
 use Rattle.phase_checks.specs.Terms.{parts_term}
 use Rattle.own_kernels.specs.Kernels.{ArePartKernels, parts_own}
-use Rattle.over_phases.specs.Own.{PartsReadOwn}
+use Rattle.phase_loop_laws.specs.over_phases.Own.{PartsReadOwn}
 use Rattle.own_kernels.specs.Steps.{is_own}
 
 -- the buffers differ in one alone, which has the same element at the index

@@ -11,7 +11,7 @@ use Rattle.grid_sets.proofs.Keeping.{count_cons}
 use Rattle.generator_sets.specs.Counts.{IsCanonicalCount, no_axes, and_axis}
 use Rattle.generator_sets.specs.Unions.{NamesFirst}
 use Rattle.generator_sets.proofs.CountFacts.{one_canonical}
-use Rattle.core_norm.specs.Norm.{NameFirst}
+use Rattle.core_loops.specs.norm.Norm.{NameFirst}
 use Rattle.partable_loops.specs.Framings.{IsVoid}
 use Rattle.partable_loops.specs.Planned.{Covers, CoversHeld, Label}
 use Rattle.partable_loops.proofs.Boxes.{void_axis, void_vector}

@@ -20,7 +20,7 @@ use Rattle.core_ir.specs.Terms.{GensTerm, NoGens, Gen}
 use Rattle.core_ir.specs.WellFormed.{IsFrame}
 use Rattle.core_facts.specs.Facts.{Facts}
 use Rattle.core_facts.proofs.Shapes.{ok_same}
-use Rattle.core_norm.specs.Norm.{NameFirst}
+use Rattle.core_loops.specs.norm.Norm.{NameFirst}
 use Rattle.core_loops.specs.Loops.{AllLiteral, IsPartable, RoomInGens, front, frame_spans, grid_range, spanned}
 use Rattle.generator_sets.specs.Counts.{IsCanonicalCount}
 use Rattle.generator_sets.proofs.CountFacts.{some_canonical}

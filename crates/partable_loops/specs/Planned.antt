@@ -14,7 +14,7 @@ use Rattle.core_ir.specs.Meaning.{extents}
 use Rattle.core_ir.specs.Terms.{GensTerm, NoGens, Gen}
 use Rattle.core_ir.specs.WellFormed.{IsFrame}
 use Rattle.core_facts.specs.Facts.{Facts}
-use Rattle.core_norm.specs.Norm.{NameFirst}
+use Rattle.core_loops.specs.norm.Norm.{NameFirst}
 use Rattle.partable_loops.specs.declared.planning.PartPlan.{PartPlan}
 use Rattle.core_loops.specs.Loops.{IsPartable}
 use Rattle.partable_loops.specs.Counted.{generator_count}

@@ -3,7 +3,7 @@
 ghost use Rattle.std.specs.Prelude.{◌≡◌, ◌≤◌, ◌⊎◌, ◌↔◌, IsTrue, IfOk, ℕ, pos, [], length, map, filter, is_some, Option};
 ghost use Rattle.std.specs.List.{All};
 ghost use Rattle.sac_base.specs.Grids.{SplitsVectors, has_vector};
-ghost use Rattle.core_norm.specs.Norm.{NameFirst};
+ghost use Rattle.core_loops.specs.norm.Norm.{NameFirst};
 ghost use Rattle.generator_sets.specs.Counts.{IsCanonicalCount};
 ghost use Rattle.partable_loops.specs.Framings.{IsVoid};
 ghost use Rattle.partable_loops.specs.Planned.{CoversHeld, Label};

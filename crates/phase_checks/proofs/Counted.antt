@@ -10,8 +10,8 @@ use Rattle.counted_code.specs.declared.tree.CodeStep.TheVariants as step
 use Rattle.counted_code.specs.Counts.{Reordered, stays, through, Counted, CountedRight}
 use Rattle.counted_code.specs.Terms.{CodeTerm, CodeRightTerm, Giving, Binding, Keeping, Releasing, PlainCode, IfCode, LoopCode, CallCode, WithCode, PartedCode}
 use Rattle.counted_code.specs.View.{code_right_term, steps_before}
-use Rattle.counted_placing.proofs.Lists.{in_front, in_back, in_either}
-use Rattle.counted_placing.proofs.Orders.{same_order, turned, reversed, reordered_in}
+use Rattle.counted_laws.proofs.placing.Lists.{in_front, in_back, in_either}
+use Rattle.counted_laws.proofs.placing.Orders.{same_order, turned, reversed, reordered_in}
 use Rattle.phase_checks.specs.Walks.{IsCounted, IsCountedRight, Leads}
 
 module _ (results_of : ℕ → ℕ) where

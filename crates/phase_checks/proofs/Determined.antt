@@ -11,9 +11,9 @@ use Rattle.counted_code.specs.declared.tree.CodeStep.TheVariants as step
 use Rattle.counted_code.specs.Counts.{Reordered, stays, through, CountedRight}
 use Rattle.counted_code.specs.Terms.{CodeTerm, CodeRightTerm, Giving, PlainCode, IfCode, LoopCode, CallCode, WithCode, PartedCode}
 use Rattle.counted_code.specs.View.{code_right_term, step_term, steps_before}
-use Rattle.counted_placing.specs.Placing.{without}
-use Rattle.counted_placing.proofs.Lists.{here}
-use Rattle.counted_placing.proofs.Orders.{turned, behind, reversed, reordered_in}
+use Rattle.counted_laws.specs.placing.Placing.{without}
+use Rattle.counted_laws.proofs.placing.Lists.{here}
+use Rattle.counted_laws.proofs.placing.Orders.{turned, behind, reversed, reordered_in}
 use Rattle.phase_checks.proofs.Orders.{front_gone, in_order, opposite, same_before, none_in_same}
 use Rattle.phase_checks.proofs.Scopes.{same_scope_right}
 use Rattle.phase_checks.proofs.Taken.{one_taken}

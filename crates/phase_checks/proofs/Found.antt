@@ -13,7 +13,7 @@ use Rattle.core_ir.specs.Terms.{PlainTerm}
 use Rattle.core_ir.specs.WellFormed.{Distinct}
 use Rattle.counted_code.specs.Counts.{Reordered, none, plain_hands, CountedGens, CountedParts, UnmarkedGens, UnmarkedParts}
 use Rattle.counted_code.specs.Terms.{CodeTerm, CodeRightTerm, CodeGensTerm, CodePartsTerm, PlainCode, IfCode, LoopCode, CallCode, WithCode, PartedCode}
-use Rattle.counted_placing.proofs.Orders.{reversed}
+use Rattle.counted_laws.proofs.placing.Orders.{reversed}
 use Rattle.phase_checks.proofs.Counted.{in_any_order}
 use Rattle.phase_checks.proofs.Orders.{in_order, nothing, opposite, same_before}
 use Rattle.phase_checks.specs.Walks.{IsCounted, IsCountedRight, IsValue, OnlyReads}

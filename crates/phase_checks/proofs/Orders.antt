@@ -7,9 +7,9 @@ use Rattle.core_ir.specs.Binders.{is_in, NoneIn}
 use Rattle.core_ir.specs.Scopes.{AllIn}
 use Rattle.core_ir.specs.WellFormed.{Distinct}
 use Rattle.counted_code.specs.Counts.{Reordered, none, stays, swaps, through}
-use Rattle.counted_placing.specs.Placing.{without}
-use Rattle.counted_placing.proofs.Lists.{same_var, self, here, append_assoc}
-use Rattle.counted_placing.proofs.Orders.{same_order, reversed, reordered_in}
+use Rattle.counted_laws.specs.placing.Placing.{without}
+use Rattle.counted_laws.proofs.placing.Lists.{same_var, self, here, append_assoc}
+use Rattle.counted_laws.proofs.placing.Orders.{same_order, reversed, reordered_in}
 use Rattle.phase_checks.proofs.Taken.{in_either}
 
 -- ---- what two lists have in common

@@ -13,8 +13,8 @@ use Rattle.core_ir.specs.Terms.{PlainTerm}
 use Rattle.core_ir.specs.WellFormed.{Distinct}
 use Rattle.counted_code.specs.Counts.{Reordered, none, plain_hands, PlainGives, CountedGens, CountedParts, UnmarkedGens, UnmarkedParts}
 use Rattle.counted_code.specs.Terms.{CodeTerm, CodeRightTerm, CodeGensTerm, CodePartsTerm, PlainCode, IfCode, LoopCode, CallCode, WithCode, PartedCode}
-use Rattle.counted_placing.proofs.Lists.{here}
-use Rattle.counted_placing.proofs.Orders.{same_order}
+use Rattle.counted_laws.proofs.placing.Lists.{here}
+use Rattle.counted_laws.proofs.placing.Orders.{same_order}
 use Rattle.phase_checks.specs.Walks.{IsCounted, IsCountedRight}
 
 -- what follows of an answer

@@ -5,9 +5,9 @@ use Rattle.std.proofs.lemmas.List.{take_more}
 use Rattle.core_ir.specs.declared.tree.Var.{Var}
 use Rattle.core_ir.specs.Binders.{is_in}
 use Rattle.counted_code.specs.Counts.{Reordered, stays, swaps, through}
-use Rattle.counted_placing.specs.Placing.{without}
-use Rattle.counted_placing.proofs.Lists.{append_assoc, same_var}
-use Rattle.counted_placing.proofs.Orders.{same_order, behind, reversed}
+use Rattle.counted_laws.specs.placing.Placing.{without}
+use Rattle.counted_laws.proofs.placing.Lists.{append_assoc, same_var}
+use Rattle.counted_laws.proofs.placing.Orders.{same_order, behind, reversed}
 
 -- in one list or the other
 pub in_either : (x : Var) (xs ys : List Var) → is_in x (xs ++ ys) ≡ (is_in x xs || is_in x ys)

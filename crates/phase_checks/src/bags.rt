@@ -6,7 +6,7 @@ ghost use Rattle.core_ir.specs.Binders.{is_in, NoneIn};
 ghost use Rattle.core_ir.specs.Scopes.{AllIn};
 ghost use Rattle.core_ir.specs.WellFormed.{Distinct};
 ghost use Rattle.counted_code.specs.Counts.{Reordered};
-ghost use Rattle.counted_placing.specs.Placing.{without};
+ghost use Rattle.counted_laws.specs.placing.Placing.{without};
 
 use core_ir::Var;
 use sac_base::Memory;

@@ -4,6 +4,7 @@
 mod cells;
 mod kernels;
 mod lowering;
+pub mod over_checks;
 mod scope;
 mod scratch;
 mod worth;

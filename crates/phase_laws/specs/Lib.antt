@@ -6,3 +6,4 @@ pub mod Numbers
 pub mod Phased
 pub mod Spending
 pub mod Statements
+pub mod only_reads

@@ -2,6 +2,8 @@
 //! than the arrays of its variables; so the cells of a phase may be run in chunks.
 #![tactic(auto)]
 
+pub mod only_reads;
+
 ghost use Rattle.phase_laws.specs.Statements.{BlocksSpend, CallsDoWhatTheyMean, CallsSpendAsOnArrays, RunsSpend, WithCellsStandAlone};
 ghost use Rattle.phase_laws.specs.Statements.{PartedCellsStandAlone, CellsAreAlikeElsewhere, CellsInOrderLeave, CellsInOrderTell, BlocksAreBlind};
 ghost use Rattle.phase_laws.specs.Statements.{RightSidesAreBlind, GeneratorsAreBlind, PartsAreBlind, CellsAreBlind, CallsOfEachLevelAreBlind};

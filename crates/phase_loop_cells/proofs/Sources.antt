@@ -18,7 +18,7 @@ use Rattle.phase_laws.specs.Spending.{gens_take, parts_take}
 use Rattle.phase_laws.proofs.Blind.{gens_blind, parts_blind, calls_blind}
 use Rattle.phase_laws.proofs.Growing.{cell_grows, gens_grow, parts_grow, calls_grow}
 use Rattle.phase_laws.proofs.Loops.{readable_in}
-use Rattle.reached_marks.proofs.Standing.{clear_gens_alone, clear_parts_alone}
+use Rattle.phase_loop_laws.proofs.reached_marks.Standing.{clear_gens_alone, clear_parts_alone}
 use Rattle.sac_base.specs.declared.form.Form.{Form}
 use Rattle.sac_base.specs.Grids.{has_vector}
 use Rattle.sac_base.specs.WithLoops.{Range, holds, cell_at as with_cell_at}

@@ -1,6 +1,10 @@
 //! Laws of parallel phases: what the workers of a phase compute is what the machine of counted code does in order.
 #![tactic(auto)]
 
+pub mod mark_laws;
+pub mod over_phases;
+pub mod reached_marks;
+
 ghost use Rattle.phase_loop_laws.specs.Laws.{CellsComeToValues, CellsComeToFault, PhasesComeToResults, PhasesComeToFault, PlacesCostTogether};
 ghost use Rattle.phase_loop_laws.specs.Laws.{LoopsAreMade, PartedLoopsAreMade, FoldsAreMade, PhasesEndAsMade, LoopCellsHaveForm, PartCellsHaveForm};
 ghost use Rattle.phase_loop_laws.specs.Laws.{LoopsStandAlone, PartedLoopsStandAlone};

@@ -14,7 +14,7 @@ use Rattle.counted_code.specs.Values.{Heap, Value, Small, Ref, read, count_of, c
 use Rattle.counted_code.specs.View.{code_program}
 use Rattle.counted_laws.specs.Simulation.{live, Backed, AllBacked, Shows}
 use Rattle.phase_laws.specs.Alone.{Readable}
-use Rattle.reached_marks.proofs.Standing.{clear_gens_stand, clear_parts_stand}
+use Rattle.phase_loop_laws.proofs.reached_marks.Standing.{clear_gens_stand, clear_parts_stand}
 use Rattle.run_store.specs.Stands.{HasContent, StandsFor}
 use Rattle.sac_base.specs.declared.form.Form.{Form}
 use Rattle.sac_base.specs.WithLoops.{Range}

@@ -15,9 +15,9 @@ use Rattle.counted_code.specs.Machine.{Values}
 use Rattle.counted_code.specs.Terms.{core_of_parts}
 use Rattle.counted_code.specs.Values.{Heap, Value, Small, Ref, count_of, cells_of, is_small}
 use Rattle.counted_code.specs.View.{code_program}
-use Rattle.over_checks.specs.Holders.{is_apart, is_elsewhere}
-use Rattle.over_checks.specs.Over.{IsFilled, MayBeOver}
-use Rattle.over_phases.specs.Statements.{AreElements, EndsOver, IsApart, PhasesEndOver}
+use Rattle.phase_kernels.specs.over_checks.Holders.{is_apart, is_elsewhere}
+use Rattle.phase_kernels.specs.over_checks.Over.{IsFilled, MayBeOver}
+use Rattle.phase_loop_laws.specs.over_phases.Statements.{AreElements, EndsOver, IsApart, PhasesEndOver}
 use Rattle.phase_books.specs.Alive.{AreAlive}
 use Rattle.phase_books.specs.Homes.{ComputesAll, handed}
 use Rattle.phase_books.specs.Over.{settled_over}

@@ -6,7 +6,7 @@ use Rattle.std.proofs.lemmas.List.{get_or-set_same, get_or-set_other, length-set
 use Rattle.std.proofs.Math.Nat.{mod-add-mod}
 use Rattle.buffer_heap.specs.Heaps.{Content, In, Out, Held, HeapValue, at, IsLive, with_content, content_of, len_of, lifted}
 use Rattle.counted_code.specs.Values.{Buffer, Heap, buffer_at, count_of, cells_of}
-use Rattle.over_phases.specs.Statements.{PassedOver, reusing}
+use Rattle.phase_loop_laws.specs.over_phases.Statements.{PassedOver, reusing}
 use Rattle.phase_books.specs.Homes.{IsBehind, handed}
 use Rattle.phase_books.specs.Over.{reused_at, settled_over}
 use Rattle.phase_workers.proofs.Handing.{added}

@@ -1,7 +1,7 @@
 -- Two lists place by place: behind the end of one of them there is nothing more.
 use Rattle.std.proofs.Common.{◌≡◌, ◌≤◌, ℕ, zero, suc, List, [], ◌∷◌, drop, length, map, Option, refl, min, arith}
 use Rattle.core_facts.specs.Facts.{Fact, common_facts}
-use Rattle.core_settled.specs.Called.{common_shapes}
+use Rattle.core_facts.specs.constants.Called.{common_shapes}
 use Rattle.fact_table.specs.declared.known.Known.{Known}
 use Rattle.fact_table.specs.Table.{fact_of}
 

@@ -3,7 +3,7 @@
 ghost use Rattle.std.specs.Prelude.{◌≡◌, IfOk, map, slice_get};
 ghost use Rattle.core_ir.specs.View.{core_term, fun_term};
 ghost use Rattle.core_facts.specs.Facts.{shape_fact};
-ghost use Rattle.core_settled.specs.Called.{called, common_shapes, result_shapes, shape_of_type, shapes_at};
+ghost use Rattle.core_facts.specs.constants.Called.{called, common_shapes, result_shapes, shape_of_type, shapes_at};
 ghost use Rattle.fact_table.specs.Table.{fact_of};
 ghost use Rattle.plain_facts.specs.Called.{shapes_of};
 

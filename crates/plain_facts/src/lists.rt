@@ -5,7 +5,7 @@ ghost use Rattle.core_ir.specs.declared.tree.Var.{Var as Variable};
 ghost use Rattle.core_ir.specs.Outcome.{param_types, param_vars};
 ghost use Rattle.core_ir.specs.View.{fun_term};
 ghost use Rattle.core_facts.specs.Facts.{Facts, common_facts as common, note, note_all, shape_fact};
-ghost use Rattle.core_settled.specs.Called.{shape_of_type};
+ghost use Rattle.core_facts.specs.constants.Called.{shape_of_type};
 ghost use Rattle.sac_base.specs.declared.types.ArrayType.{ArrayType as TypeOf};
 ghost use Rattle.fact_table.specs.Table.{fact_of, facts_of};
 

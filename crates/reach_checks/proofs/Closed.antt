@@ -2,10 +2,10 @@
 use Rattle.std.proofs.Common.{◌≡◌, ℕ, zero, suc, ◌+◌, Bool, true, false, true≢false, not, ◌&&◌, ◌||◌, List, [], ◌∷◌, map, Option, Some, None, ◌⊎◌, inl, inr, refl, ap, sym, subst, ◌∙◌, arith}
 use Rattle.std.specs.Prelude.{replicate, slice_get, slice_index_or, unwrap_or}
 use Rattle.core_ir.specs.Outcome.{group_at}
-use Rattle.core_calls.specs.Nests.{CallsAll, StandsIn}
+use Rattle.core_facts.specs.calls.Nests.{CallsAll, StandsIn}
 use Rattle.counted_code.specs.Counts.{Unmarked}
 use Rattle.counted_code.specs.Terms.{CodeFunTerm, CodeProgram, core_of, core_of_code}
-use Rattle.mark_removal.specs.Reached.{IsOne, ReachesNone}
+use Rattle.counted_laws.specs.mark_removal.Reached.{IsOne, ReachesNone}
 use Rattle.reach_checks.specs.Clear.{is_clear}
 use Rattle.reach_checks.specs.Groups.{all_clear, clear_in, groups_are_clear, member_is_clear, members_are_clear, narrowed, IsGreatest}
 use Rattle.reach_checks.proofs.Exact.{block_calls, block_has_none, block_says, both, first, second}

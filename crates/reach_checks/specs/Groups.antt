@@ -1,7 +1,7 @@
 -- Which groups of functions are clear: no mark is reached from them.
 use Rattle.std.specs.Prelude.{◌≡◌, ℕ, zero, suc, Bool, true, not, ◌&&◌, ◌||◌, List, [], ◌∷◌, Option, Some, None, slice_get, slice_index_or}
 use Rattle.counted_code.specs.Terms.{CodeFunTerm, CodeProgram}
-use Rattle.mark_removal.specs.Reached.{IsOne, ReachesNone}
+use Rattle.counted_laws.specs.mark_removal.Reached.{IsOne, ReachesNone}
 use Rattle.reach_checks.specs.Clear.{is_clear}
 
 -- what a table says of a group; of those behind its end there are no functions

@@ -1,9 +1,9 @@
 -- Loops whose cells reach no mark.
 use Rattle.std.specs.Prelude.{ℕ, Bool}
-use Rattle.core_calls.specs.Nests.{CallsAllGens, CallsAllParts}
+use Rattle.core_facts.specs.calls.Nests.{CallsAllGens, CallsAllParts}
 use Rattle.counted_code.specs.Counts.{UnmarkedGens, UnmarkedParts}
 use Rattle.counted_code.specs.Terms.{CodeGensTerm, CodePartsTerm, CodeProgram, core_of_gens, core_of_parts}
-use Rattle.mark_removal.specs.Reached.{IsOne, ReachesNone}
+use Rattle.counted_laws.specs.mark_removal.Reached.{IsOne, ReachesNone}
 
 abbrev pub ClearGens : CodeProgram → CodeGensTerm → Type 0
 ClearGens code gens =

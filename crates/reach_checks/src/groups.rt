@@ -2,7 +2,7 @@
 
 ghost use Rattle.std.specs.Prelude.{◌≡◌, ◌<◌, ◌&&◌, ◌||◌, [], IfOk, length, map, not, replicate, slice_get, slice_index_or, true};
 ghost use Rattle.counted_code.specs.View.{code_fun_term, code_program};
-ghost use Rattle.mark_removal.specs.Reached.{ReachesNone};
+ghost use Rattle.counted_laws.specs.mark_removal.Reached.{ReachesNone};
 ghost use Rattle.reach_checks.specs.Groups.{all_clear, clear_in, member_is_clear as member_clear, members_are_clear as members_clear};
 ghost use Rattle.reach_checks.specs.Groups.{narrowed as narrowed_groups, IsGreatest};
 

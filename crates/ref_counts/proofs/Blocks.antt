@@ -11,7 +11,7 @@ use Rattle.core_ir.proofs.Trees.{block_out}
 use Rattle.counted_code.specs.declared.tree.CodeStep.{CodeStep}
 use Rattle.counted_code.specs.Terms.{Giving}
 use Rattle.counted_code.specs.View.{steps_before}
-use Rattle.counted_placing.specs.Placing.{placing}
+use Rattle.counted_laws.specs.placing.Placing.{placing}
 use Rattle.listed_uses.specs.declared.list.Entry.{Entry}
 use Rattle.listed_uses.specs.declared.list.Entry.TheVariants.{Section}
 use Rattle.listed_uses.specs.Latest.{section, EndsAt}

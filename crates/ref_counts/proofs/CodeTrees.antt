@@ -17,7 +17,7 @@ use Rattle.counted_code.specs.declared.tree.CodeParted.{CodeParted, CodeParted',
 use Rattle.counted_code.specs.Terms.{CodeTerm, Giving, IfCode, LoopCode, WithCode, PartedCode, GenCode, PartCode}
 use Rattle.counted_code.specs.View.{code_term, steps_before, steps_term, step_term, code_with_term, code_gens_term, code_parted_term, code_parts_term}
 use Rattle.ref_counts.specs.Pieces.{CodeGenTerm, CodePartTerm, code_gen_term, code_part_term, code_gens_of, code_parts_of, placing_gen, placing_part}
-use Rattle.counted_placing.specs.Placing.{placing, placing_right, placing_gens, placing_parts}
+use Rattle.counted_laws.specs.placing.Placing.{placing, placing_right, placing_gens, placing_parts}
 
 steps_items : {n : _} → (k : Row_of-CodeStep n) (rs : List Var) → steps_term k rs ≡ steps_before (items-the_row-CodeStep n k) (Giving rs)
 steps_items end_of-CodeStep rs = refl

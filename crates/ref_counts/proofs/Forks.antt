@@ -5,7 +5,7 @@ use Rattle.std.proofs.lemmas.Bool.{lt-ltb, le-ltb}
 use Rattle.std.proofs.lemmas.List.Elements.{filter-append}
 use Rattle.core_ir.specs.declared.tree.Var.{Var}
 use Rattle.core_ir.specs.Binders.{is_in}
-use Rattle.counted_placing.proofs.Lists.{same_var, self, or_left, or_right, or_either, append_assoc}
+use Rattle.counted_laws.proofs.placing.Lists.{same_var, self, or_left, or_right, or_either, append_assoc}
 use Rattle.core_ir.specs.Terms.{RightTerm}
 use Rattle.listed_uses.specs.declared.list.Entry.{Entry}
 use Rattle.listed_uses.specs.Latest.{is_used, IsLast}

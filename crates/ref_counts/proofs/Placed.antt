@@ -21,8 +21,8 @@ use Rattle.ref_counts.specs.declared.held.Owned.{Owned}
 use Rattle.ref_counts.specs.Endings.{ends_some, ends_in, read_place}
 use Rattle.ref_counts.specs.Listing.{each, listed, listed_right}
 use Rattle.ref_counts.specs.Owning.{owned_vars, IsSound, ends, EndsOf}
-use Rattle.counted_placing.specs.Placing.{keeps, releases, used, unused, surplus, read_after, takes, placing, placing_right}
-use Rattle.counted_placing.proofs.Lists.{append_assoc}
+use Rattle.counted_laws.specs.placing.Placing.{keeps, releases, used, unused, surplus, read_after, takes, placing, placing_right}
+use Rattle.counted_laws.proofs.placing.Lists.{append_assoc}
 use Rattle.ref_counts.proofs.Collected.{assoc}
 use Rattle.ref_counts.proofs.Listings.{vars_each, vars_block, vars_right}
 

@@ -12,7 +12,7 @@ use Rattle.core_ir.specs.Terms.{BlockTerm, RightTerm, Gives, chain}
 use Rattle.core_ir.specs.View.{block_term, let_term, with_term, parted_term, gen_term, part_term}
 use Rattle.counted_code.specs.declared.tree.CodeStep.{CodeStep}
 use Rattle.counted_code.specs.View.{steps_before}
-use Rattle.counted_placing.specs.Placing.{placing}
+use Rattle.counted_laws.specs.placing.Placing.{placing}
 use Rattle.listed_uses.specs.declared.list.Entry.{Entry}
 use Rattle.listed_uses.specs.declared.list.Entry.TheVariants.{Use}
 use Rattle.listed_uses.specs.Latest.{section, EndsAt}

@@ -5,7 +5,7 @@ use Rattle.counted_code.specs.declared.tree.CodePart.{CodePart}
 use Rattle.core_ir.specs.Terms.{GenHead, PartHead, GenTerm, PartTerm}
 use Rattle.counted_code.specs.Terms.{CodeTerm, CodeGensTerm, CodePartsTerm, NoCodeGens, GenCode, NoCodeParts, PartCode}
 use Rattle.counted_code.specs.View.{code_term}
-use Rattle.counted_placing.specs.Placing.{placing}
+use Rattle.counted_laws.specs.placing.Placing.{placing}
 
 pub record CodeGenTerm : Type 0 where
   pub head : GenHead

@@ -11,7 +11,7 @@ use Rattle.counted_code.specs.Outcome.{whole_run, outcome_of}
 use Rattle.counted_code.specs.Terms.{Giving}
 use Rattle.counted_code.specs.View.{code_program, steps_before}
 use Rattle.counted_laws.specs.Simulation.{LeavesNothing}
-use Rattle.counted_placing.specs.Placing.{placing}
+use Rattle.counted_laws.specs.placing.Placing.{placing}
 use Rattle.ref_counts.specs.declared.held.Owned.{Owned}
 use Rattle.listed_uses.specs.declared.list.Entry.{Entry}
 use Rattle.listed_uses.specs.Latest.{section}

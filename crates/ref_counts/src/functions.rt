@@ -10,7 +10,7 @@ ghost use Rattle.counted_code.specs.Prompt.{IsPrompt};
 ghost use Rattle.counted_code.specs.Terms.{core_of_code};
 ghost use Rattle.counted_code.specs.View.{code_term, code_fun_term, code_program};
 ghost use Rattle.ref_counts.specs.Placements.{RunsAsTheCore, RunsLeaveNothing};
-ghost use Rattle.counted_placing.specs.Placing.{placing, placing_fun, placing_core};
+ghost use Rattle.counted_laws.specs.placing.Placing.{placing, placing_fun, placing_core};
 
 use crate::place::place_block;
 use crate::uses::uses_of;

@@ -10,7 +10,7 @@ ghost use Rattle.ref_counts.specs.Listing.{listed, listed_right};
 ghost use Rattle.ref_counts.specs.Owning.{IsSound, EndsOf};
 ghost use Rattle.ref_counts.specs.Pieces.{code_gen_term, code_part_term, placing_gen, placing_part};
 ghost use Rattle.ref_counts.specs.Placements.{ResultsPlaced, LetPlaced};
-ghost use Rattle.counted_placing.specs.Placing.{placing, placing_right};
+ghost use Rattle.counted_laws.specs.placing.Placing.{placing, placing_right};
 
 use crate::held::{Owned, add_vars, take_unused, with_all};
 use crate::steps::{copy_vars, handed_on, may_end, push_binding, read_from};

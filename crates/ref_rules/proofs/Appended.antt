@@ -5,7 +5,7 @@ use Rattle.counted_code.specs.declared.tree.CodeStep.{CodeStep}
 use Rattle.counted_code.specs.declared.tree.CodeStep.TheVariants as step
 use Rattle.counted_code.specs.Terms.{CodeTerm}
 use Rattle.counted_code.specs.View.{steps_before, step_term}
-use Rattle.counted_placing.specs.Placing.{keeps, releases}
+use Rattle.counted_laws.specs.placing.Placing.{keeps, releases}
 
 steps_append : (xs ys : List CodeStep) (t : CodeTerm) → steps_before (xs ++ ys) t ≡ steps_before xs (steps_before ys t)
 steps_append [] ys t = refl

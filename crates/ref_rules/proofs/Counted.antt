@@ -7,8 +7,8 @@ use Rattle.std.proofs.lemmas.List.{at_drop_all}
 use Rattle.core_ir.specs.declared.tree.Var.{Var}
 use Rattle.core_ir.specs.Binders.{is_in}
 use Rattle.counted_code.specs.Prompt.{times}
-use Rattle.counted_placing.specs.Placing.{without, surplus}
-use Rattle.counted_placing.proofs.Lists.{same_var, self}
+use Rattle.counted_laws.specs.placing.Placing.{without, surplus}
+use Rattle.counted_laws.proofs.placing.Lists.{same_var, self}
 use Rattle.ref_rules.specs.Counts.{or_none, count_of, AreCounts}
 use Rattle.ref_rules.proofs.Taken.{without_none, more_needed}
 

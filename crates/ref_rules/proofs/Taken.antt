@@ -4,8 +4,8 @@ use Rattle.std.specs.Prelude.{slice_index_or}
 use lib.Seq.{drop-cons}
 use Rattle.core_ir.specs.declared.tree.Var.{Var}
 use Rattle.core_ir.specs.Binders.{is_in}
-use Rattle.counted_placing.specs.Placing.{without, surplus}
-use Rattle.counted_placing.proofs.Lists.{or_none}
+use Rattle.counted_laws.specs.placing.Placing.{without, surplus}
+use Rattle.counted_laws.proofs.placing.Lists.{or_none}
 
 -- the element at a place, and the rest
 pub drop_here : {A : Type 0} (xs : List A) (i : ℕ) (d : A) → i < length xs → drop i xs ≡ slice_index_or xs i d ∷ drop (i + 1) xs

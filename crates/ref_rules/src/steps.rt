@@ -1,7 +1,7 @@
 //! Steps that keep and release.
 
 ghost use Rattle.std.specs.Prelude.{IfOk};
-ghost use Rattle.counted_placing.specs.Placing.{keeps, releases};
+ghost use Rattle.counted_laws.specs.placing.Placing.{keeps, releases};
 ghost use Rattle.ref_rules.specs.Appending.{Appended};
 
 use core_ir::Var;

@@ -3,7 +3,7 @@
 ghost use Rattle.std.specs.Prelude.{◌≡◌, List, IfOk};
 ghost use Rattle.core_ir.specs.Binders.{is_in};
 ghost use Rattle.core_ir.specs.declared.tree.Var.{Var as Variable};
-ghost use Rattle.counted_placing.specs.Placing.{without, surplus};
+ghost use Rattle.counted_laws.specs.placing.Placing.{without, surplus};
 ghost use Rattle.ref_rules.specs.Counts.{count_of, AreCounts};
 
 use core_ir::Var;

@@ -3,7 +3,7 @@ use Rattle.std.specs.Prelude.{ℕ, Bool, ◌&&◌, ◌||◌, not, List, [], ◌�
 use Rattle.core_ir.specs.Terms.{PlainTerm, RightTerm, Plain}
 use Rattle.core_facts.specs.Facts.{Facts, is_some}
 use Rattle.core_loops.specs.Indices.{Other, is_division, no_zero, may_be_row, in_range}
-use Rattle.core_cleaning.specs.Unused.{never_faults}
+use Rattle.core_forms.specs.cleaning.Unused.{never_faults}
 
 -- whether the right side is known to have a value, where the shape of its value is known to be this
 abbrev pub removable_shaped : Option (List ℕ) → RightTerm → Facts → Bool

@@ -20,7 +20,7 @@ use Rattle.counted_code.specs.View.{code_parted_term, code_right_term, code_with
 use Rattle.counted_marks.specs.Known.{Given, Known}
 use Rattle.counted_marks.specs.Marks.{own_parts}
 use Rattle.counted_marks.specs.Marking.{choice, is_base, is_candidate, is_known_shape, least, lesser, makes_buffer, may_reuse, released_next}
-use Rattle.mark_places.specs.Places.{releases_next}
+use Rattle.counted_laws.specs.mark_places.Places.{releases_next}
 use Rattle.reuse_candidates.specs.Chosen.{buffer_of, fits, fitting}
 use Rattle.reuse_candidates.specs.Pieces.{code_part_term, code_parts_of}
 use Rattle.reuse_candidates.proofs.Pairs.{drop_over}

@@ -10,7 +10,7 @@ use Rattle.counted_code.specs.Terms.{CodeTerm}
 use Rattle.counted_code.specs.Values.{is_small}
 use Rattle.counted_marks.specs.Known.{Known}
 use Rattle.counted_marks.specs.Marking.{is_base, is_known_shape, makes_buffer, released_next}
-use Rattle.mark_places.specs.Places.{releases_next}
+use Rattle.counted_laws.specs.mark_places.Places.{releases_next}
 
 -- a variable that is known to have this base and shape
 abbrev pub has_form : Known → Base → List ℕ → Var → Bool

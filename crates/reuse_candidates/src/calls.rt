@@ -2,7 +2,7 @@
 
 ghost use Rattle.std.specs.Prelude.{◌≡◌, IfOk, map, slice_get};
 ghost use Rattle.core_ir.specs.View.{core_term, fun_term};
-ghost use Rattle.core_settled.specs.Called.{called};
+ghost use Rattle.core_facts.specs.constants.Called.{called};
 ghost use Rattle.counted_code.specs.Terms.{core_of_code};
 ghost use Rattle.counted_code.specs.View.{code_program, code_fun_term};
 ghost use Rattle.counted_marks.specs.Bases.{bases_at, both_bases as both_of, common_bases, result_bases, typed};

@@ -5,7 +5,7 @@ ghost use Rattle.counted_code.specs.Terms.{Giving};
 ghost use Rattle.counted_code.specs.Values.{is_small as is_small_shape};
 ghost use Rattle.counted_code.specs.View.{steps_before, code_parted_term, code_right_term};
 ghost use Rattle.counted_marks.specs.Marking.{choice, is_base as base_is, is_known_shape, lesser as lesser_of, released_next as next_released};
-ghost use Rattle.mark_places.specs.Places.{releases_next as is_released_next};
+ghost use Rattle.counted_laws.specs.mark_places.Places.{releases_next as is_released_next};
 ghost use Rattle.reuse_candidates.specs.Calls.{given_by};
 ghost use Rattle.reuse_candidates.specs.Chosen.{buffer_of, fits as fits_of, fitting as fitting_of, has_form as form_is, large as large_of};
 ghost use Rattle.reuse_candidates.specs.Scopes.{known_in};

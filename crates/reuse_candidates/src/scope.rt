@@ -3,7 +3,7 @@
 ghost use Rattle.std.specs.Prelude.{◌≡◌, ◌∷◌, [], IfOk, OnOk, map, length};
 ghost use Rattle.core_ir.specs.declared.tree.Var.{Var as Variable};
 ghost use Rattle.core_facts.specs.Facts.{note_all, no_facts, shape_fact};
-ghost use Rattle.core_settled.specs.Called.{shape_of_type};
+ghost use Rattle.core_facts.specs.constants.Called.{shape_of_type};
 ghost use Rattle.counted_marks.specs.Bases.{no_bases, note_bases, note_ints};
 ghost use Rattle.counted_marks.specs.Known.{in_loop};
 ghost use Rattle.sac_base.specs.declared.types.ArrayType.{ArrayType as TypeOf};

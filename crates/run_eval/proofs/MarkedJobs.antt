@@ -16,7 +16,7 @@ use Rattle.counted_code.specs.Loops.{Job, Old, cells_do, job_does, loop_does, pa
 use Rattle.counted_code.specs.Machine.{Values, one_value, reads}
 use Rattle.counted_code.specs.Values.{Heap, Value, Small, Ref, Ended, Done, go_on, is_small, pure_end, release}
 use Rattle.array_with_loops.specs.Plans.{plan_of}
-use Rattle.mark_laws.proofs.Jobs.{IsSpared, job_over, job_rest, reusing}
+use Rattle.phase_loop_laws.proofs.mark_laws.Jobs.{IsSpared, job_over, job_rest, reusing}
 use Rattle.phase_count.proofs.Tallying.{counts_as}
 use Rattle.run_over.specs.Soles.{is_only}
 use Rattle.run_store.specs.Stands.{Stands}

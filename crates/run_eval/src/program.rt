@@ -1,7 +1,7 @@
 //! A whole program.
 
 ghost use Rattle.std.specs.Prelude.{◌≡◌, ◌≤◌, ◌∷◌, [], IfOk, OnOk, map};
-ghost use Rattle.core_calls.specs.Arrays.{AllFull};
+ghost use Rattle.core_facts.specs.calls.Arrays.{AllFull};
 ghost use Rattle.counted_code.specs.Counts.{IsWellCounted};
 ghost use Rattle.counted_code.specs.Outcome.{copied_out, cost_of, outcome_of, whole_run};
 ghost use Rattle.counted_code.specs.Values.{Heap as MachineHeap, place_all as all_placed, read, release_all as all_released};

@@ -2,7 +2,7 @@
 
 ghost use Rattle.std.specs.Prelude.{◌≡◌, All, IsTrue};
 ghost use Rattle.counted_code.specs.View.{code_right_term, code_term, step_term};
-ghost use Rattle.only_reads.specs.Reads.{OnlyReads, Outside, RightOnlyReads};
+ghost use Rattle.phase_laws.specs.only_reads.Reads.{OnlyReads, Outside, RightOnlyReads};
 ghost use Rattle.run_kernels.specs.Plain.{plain_in};
 ghost use Rattle.run_kernels.specs.Scopes.{StepOnlyReads, refers};
 ghost use Rattle.run_values.specs.Scopes.{current};

@@ -5,7 +5,7 @@ use Rattle.sac_base.specs.declared.grid.Grid1.{Grid1}
 use Rattle.sac_base.specs.Arrays.{ArrayValue}
 use Rattle.sac_base.specs.Grids.{members}
 use Rattle.sac_base.specs.WithLoops.{Plan, Range, combined}
-use Rattle.core_fold.specs.Cells.{IsBox}
+use Rattle.core_loops.specs.folds.Cells.{IsBox}
 use Rattle.core_ir.specs.Meaning.{elements_of, extents, joined}
 use Rattle.counted_code.specs.Loops.{Job, Source, holder, job_does, part_holder}
 use Rattle.counted_code.specs.Machine.{Values}

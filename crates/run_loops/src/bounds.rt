@@ -1,7 +1,7 @@
 //! The operands of with-loops, and the plans of parted loops.
 
 ghost use Rattle.std.specs.Prelude.{◌≡◌, ◌↔◌, ◌++◌, ◌-ℤ◌, [], IfOk, IfSome, IsTrue, All, map, option_map, pos, unsigned_abs};
-ghost use Rattle.core_fold.specs.Cells.{IsBox};
+ghost use Rattle.core_loops.specs.folds.Cells.{IsBox};
 ghost use Rattle.core_ir.specs.Meaning.{extents, name_count};
 ghost use Rattle.counted_code.specs.Machine.{bounds_of, reads};
 ghost use Rattle.counted_code.specs.Values.{Heap as MachineHeap};

@@ -34,7 +34,7 @@ impl<'a> Model for CountedCode<'a> {
     ghost use Rattle.counted_code.specs.Counts.{IsWellCounted};
     ghost use Rattle.counted_code.specs.View.{code_program};
     ghost use Rattle.counted_marks.specs.Marks.{IsWellMarked};
-    ghost use Rattle.mark_removal.specs.Reached.{ReachesNone};
+    ghost use Rattle.counted_laws.specs.mark_removal.Reached.{ReachesNone};
     ghost use Rattle.reach_checks.specs.Groups.{clear_in};
     ghost use Rattle.counted_code.specs.contracts.tree.Code as tree;
     ghost use Rattle.counted_code.specs.declared.tree.Code.{Code};

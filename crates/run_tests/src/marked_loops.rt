@@ -2,7 +2,7 @@
 
 ghost use Rattle.std.specs.Prelude.{IfOk};
 ghost use Rattle.sac_ast.specs.View.{program as tree};
-ghost use Rattle.core_acceptance.specs.Formed.{ProgramFormed};
+ghost use Rattle.core_lowering.specs.acceptance.Formed.{ProgramFormed};
 ghost use Rattle.counted_code.specs.Counts.{IsWellCounted};
 ghost use Rattle.counted_code.specs.View.{code_program};
 ghost use Rattle.counted_marks.specs.Marks.{IsWellMarked};

@@ -1,7 +1,7 @@
 -- Arrays have as many elements as their shapes say.
 use Rattle.std.proofs.Common.{List, [], ◌∷◌}
 use Rattle.sac_base.specs.Arrays.{ArrayValue}
-use Rattle.core_calls.specs.Arrays.{AllFull}
+use Rattle.core_facts.specs.calls.Arrays.{AllFull}
 use Rattle.sac_build.specs.Arguments.{AreArrays}
 
 pub all_full : (values : List ArrayValue) → AreArrays values → AllFull values

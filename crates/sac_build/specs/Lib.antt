@@ -1,3 +1,4 @@
 pub mod Arguments
 pub mod Loops
 pub mod Mains
+pub mod loop_turns

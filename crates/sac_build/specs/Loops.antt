@@ -13,7 +13,7 @@ use Rattle.counted_marks.specs.Marks.{HasNoneLeft}
 use Rattle.with_norm.specs.Normed.{AllNormal}
 use Rattle.scalarise.specs.Scalarised.{NoneLeft}
 use Rattle.wl_folding.specs.Folded.{HasNoPairs}
-use Rattle.loop_turns.specs.Steps.{Turns}
+use Rattle.sac_build.specs.loop_turns.Steps.{Turns}
 use Rattle.sac_build.specs.Arguments.{AreArrays}
 
 -- in a function in which no right side always faults, no with-loop is left that can become a parted loop

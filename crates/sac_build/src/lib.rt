@@ -2,5 +2,6 @@
 #![tactic(auto)]
 
 mod compiler;
+pub mod loop_turns;
 
 pub use compiler::{Compiled, compile};

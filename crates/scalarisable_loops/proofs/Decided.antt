@@ -9,7 +9,7 @@ use Rattle.core_loops.specs.Indices.{own_index}
 use Rattle.core_loops.specs.Pairs.{AvoidsLets, total_around}
 use Rattle.core_uses.specs.Tests.{is_avoided_right}
 use Rattle.core_uses.proofs.Decided.{right_decided}
-use Rattle.core_merge_forms.proofs.Around.{total_alike}
+use Rattle.core_forms.proofs.merge.Around.{total_alike}
 use Rattle.scalarisable_loops.specs.Around.{are_total, none_uses}
 
 both_true : (a b : Bool) → (a && b) ≡ true → (a ≡ true) × (b ≡ true)

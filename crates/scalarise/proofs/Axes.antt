@@ -16,7 +16,7 @@ use Rattle.core_ir.specs.WellFormed.{Bases, BlockBases, RightBases, GensBases, P
 use Rattle.core_facts.specs.Facts.{Facts, note_all, right_facts, in_part}
 use Rattle.core_facts.proofs.Settle.{has_length}
 use Rattle.core_loops.specs.Pairs.{IsScalarisable, Nests}
-use Rattle.core_settled.specs.Called.{called, params_facts}
+use Rattle.core_facts.specs.constants.Called.{called, params_facts}
 use Rattle.core_subst.specs.Names.{above_function}
 use Rattle.merge_plans.specs.Mergeable.{GridsFit, IsMergeable, MOST_AXES}
 use Rattle.merge_walk.specs.NoneLeft.{NoneHere, NoneMergeable, NoneMergeableRight, NoneMergeableGens, NoneMergeableParts}

@@ -6,18 +6,18 @@ use Rattle.core_ir.specs.Binders.{bound_in}
 use Rattle.core_ir.specs.Outcome.{SameHead, SameHeads, param_vars}
 use Rattle.core_ir.specs.Terms.{BlockTerm, FunTerm, CoreTerm}
 use Rattle.core_ir.specs.WellFormed.{IsFunction, IsWellFormed}
-use Rattle.core_calls.specs.Replaced.{replaced_at}
-use Rattle.core_settled.specs.Called.{called, params_facts}
+use Rattle.core_facts.specs.calls.Replaced.{replaced_at}
+use Rattle.core_facts.specs.constants.Called.{called, params_facts}
 use Rattle.core_subst.specs.Names.{above_function}
-use Rattle.core_inlined_bodies.proofs.Counts.{all_at}
-use Rattle.core_inlined_bodies.proofs.Names.{distinct_right, fresh_below, fresh_left, fresh_more, fresh_right, own_fresh, own_vars}
-use Rattle.core_inlined_bodies.proofs.Stepped.{stepped}
-use Rattle.core_norm_forms.specs.Copied.{IsPlaced}
-use Rattle.core_norm_forms.specs.Walks.{core_weight}
-use Rattle.core_norm_forms.proofs.Laws.{all_by}
-use Rattle.core_norm_forms.proofs.Replaced.{at_length, put_at, same_called, same_core, same_heads}
-use Rattle.core_merge_forms.specs.Walks.{BlockMerges, FunctionMerges, core_parted, no_step}
-use Rattle.core_merge_forms.proofs.Whole.{go_on, merges_keep}
+use Rattle.core_forms.proofs.inlined_bodies.Counts.{all_at}
+use Rattle.core_forms.proofs.inlined_bodies.Names.{distinct_right, fresh_below, fresh_left, fresh_more, fresh_right, own_fresh, own_vars}
+use Rattle.core_forms.proofs.inlined_bodies.Stepped.{stepped}
+use Rattle.core_forms.specs.norm.Copied.{IsPlaced}
+use Rattle.core_forms.specs.norm.Walks.{core_weight}
+use Rattle.core_forms.proofs.norm.Laws.{all_by}
+use Rattle.core_forms.proofs.norm.Replaced.{at_length, put_at, same_called, same_core, same_heads}
+use Rattle.core_forms.specs.merge.Walks.{BlockMerges, FunctionMerges, core_parted, no_step}
+use Rattle.core_forms.proofs.merge.Whole.{go_on, merges_keep}
 use Rattle.merge_walk.specs.NoneLeft.{NoneMergeable}
 use Rattle.scalarise.specs.Scalarised.{AllMerged, FunctionMerged, Kept, NoneLeft, NoneLeftIn, Round, Scalarised}
 use Rattle.scalarise.proofs.Walks.{still, walk_is}

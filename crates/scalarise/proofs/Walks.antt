@@ -3,11 +3,11 @@ use Rattle.std.proofs.Common.{◌≡◌, ℕ, ◌≤◌, List, Option, refl, ari
 use Rattle.core_ir.specs.declared.tree.Var.{Var}
 use Rattle.core_ir.specs.Terms.{BlockTerm}
 use Rattle.core_facts.specs.Facts.{Facts}
-use Rattle.core_norm_forms.specs.Copied.{IsPlaced}
-use Rattle.core_norm_forms.specs.Walks.{done, step}
-use Rattle.core_merge_forms.specs.Walks.{BlockMerges}
-use Rattle.planned_merges.specs.Planned.{PlannedMerges}
-use Rattle.planned_merges.proofs.Placing.{walks_placed}
+use Rattle.core_forms.specs.norm.Copied.{IsPlaced}
+use Rattle.core_forms.specs.norm.Walks.{done, step}
+use Rattle.core_forms.specs.merge.Walks.{BlockMerges}
+use Rattle.merge_walk.specs.planned_merges.Planned.{PlannedMerges}
+use Rattle.merge_walk.proofs.planned_merges.Placing.{walks_placed}
 use Rattle.merge_walk.specs.Walking.{Walk, BlockStep, stays, goes}
 
 module _ (called : ℕ → List (Option (List ℕ))) (k : Facts) where

@@ -8,7 +8,7 @@ use Rattle.core_ir.specs.Terms.{BlockTerm, RightTerm, GensTerm, PartsTerm, FunTe
 use Rattle.core_ir.specs.WellFormed.{IsWellFormed, part_grids}
 use Rattle.core_facts.specs.Facts.{Facts, note_all, right_facts, in_part}
 use Rattle.core_loops.specs.Pairs.{IsScalarisable}
-use Rattle.core_settled.specs.Called.{called, params_facts}
+use Rattle.core_facts.specs.constants.Called.{called, params_facts}
 use Rattle.core_subst.specs.Names.{above_function}
 use Rattle.scalarise.specs.Scalarised.{NoneLeft}
 

@@ -3,11 +3,11 @@ use Rattle.std.specs.Prelude.{◌≡◌, ℕ, ◌+◌, ◌≤◌, List, [], ◌�
 use Rattle.core_ir.specs.Outcome.{SameOutside}
 use Rattle.core_ir.specs.Terms.{BlockTerm, FunTerm, CoreTerm}
 use Rattle.core_ir.specs.WellFormed.{IsWellFormed}
-use Rattle.core_calls.specs.Arrays.{SameOutcomeOnArrays}
-use Rattle.core_settled.specs.Called.{called, params_facts}
+use Rattle.core_facts.specs.calls.Arrays.{SameOutcomeOnArrays}
+use Rattle.core_facts.specs.constants.Called.{called, params_facts}
 use Rattle.core_subst.specs.Names.{above_function}
-use Rattle.core_norm_forms.specs.Walks.{core_weight}
-use Rattle.core_merge_forms.specs.Walks.{MergeSteps, core_parted}
+use Rattle.core_forms.specs.norm.Walks.{core_weight}
+use Rattle.core_forms.specs.merge.Walks.{MergeSteps, core_parted}
 use Rattle.merge_walk.specs.NoneLeft.{NoneMergeable}
 use Rattle.merge_walk.specs.Walking.{BlockWalked}
 

@@ -10,8 +10,8 @@ use Rattle.core_ir.specs.View.{core_term}
 use Rattle.core_ir.specs.WellFormed.{IsWellFormed}
 use Rattle.check_rules.specs.Accepted.{IsAccepted}
 use Rattle.core_lowering.specs.Programs.{HasOutcomeOf, lowered_program}
-use Rattle.core_acceptance.specs.Formed.{ProgramFormed}
-use Rattle.core_acceptance.proofs.Cores.{core_well_formed, core_outcome}
+use Rattle.core_lowering.specs.acceptance.Formed.{ProgramFormed}
+use Rattle.core_lowering.proofs.acceptance.Cores.{core_well_formed, core_outcome}
 
 pub as_many : (fs : List Function) → length fs < 2 ^ 32 → length (functions fs) < 2 ^ 32
 as_many fs few =

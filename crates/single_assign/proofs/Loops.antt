@@ -14,7 +14,7 @@ use Rattle.core_ir.specs.declared.tree.CoreGen.{CoreGen, CoreGen', CoreGen-F, ou
 use Rattle.core_ir.specs.declared.tree.Right.TheBlock.{the_data, the_data-1, the_data-2, the_data-3, the_data-4, the_data-5, the_data-6}
 use Rattle.core_ir.specs.Terms.{GenTerm}
 use Rattle.core_ir.specs.View.{block_term, gen_term}
-use Rattle.core_lowering_steps.specs.Parts.{is_call}
+use Rattle.core_lowering.specs.steps.Parts.{is_call}
 
 -- the term of a generator's fields
 abbrev pub gen_shown : CoreGen-F the_data the_data-1 the_data-2 the_data-3 the_data-4 the_data-5 the_data-6 → GenTerm

@@ -13,11 +13,11 @@ use Rattle.core_ir.specs.declared.tree.Var.{Var}
 use Rattle.core_ir.specs.Terms.{BlockTerm, FunTerm, CoreTerm, Gives, chain}
 use Rattle.source_meaning.specs.Calls.{is_main}
 use Rattle.core_lowering.specs.Programs.{function_names, lowered_program, place_in, places_of}
-use Rattle.core_lowering_steps.specs.Behind.{anew}
-use Rattle.core_lowering_steps.specs.Looks.{Look, unbound}
-use Rattle.core_lowering_steps.specs.Building.{Built, MadeList, MadeScope, make_block, make_all}
-use Rattle.core_lowering_steps.specs.Functions.{MadeParams, params_declared, function_by}
-use Rattle.core_lowering_steps.proofs.Whole.{function_is}
+use Rattle.core_lowering.specs.steps.Behind.{anew}
+use Rattle.core_lowering.specs.steps.Looks.{Look, unbound}
+use Rattle.core_lowering.specs.steps.Building.{Built, MadeList, MadeScope, make_block, make_all}
+use Rattle.core_lowering.specs.steps.Functions.{MadeParams, params_declared, function_by}
+use Rattle.core_lowering.proofs.steps.Whole.{function_is}
 use Rattle.core_scopes.specs.Looks.{texts}
 use Rattle.single_assign.specs.Views.{made_list, made_scope}
 use Rattle.single_assign.specs.Functions.{functions_by, params_made}

@@ -7,9 +7,9 @@ use Rattle.sac_ast.specs.Tree.{FunctionTree}
 use Rattle.core_ir.specs.declared.tree.Var.{Var}
 use Rattle.core_ir.specs.Terms.{FunTerm}
 use Rattle.core_lowering.specs.Programs.{name_base}
-use Rattle.core_lowering_steps.specs.Looks.{Look}
-use Rattle.core_lowering_steps.specs.Building.{Built}
-use Rattle.core_lowering_steps.specs.Functions.{MadeParams, function_by}
+use Rattle.core_lowering.specs.steps.Looks.{Look}
+use Rattle.core_lowering.specs.steps.Building.{Built}
+use Rattle.core_lowering.specs.steps.Functions.{MadeParams, function_by}
 use Rattle.single_assign.specs.declared.context.Context.{Context}
 use Rattle.single_assign.specs.Views.{group_in, base_of_in, name_base_in}
 

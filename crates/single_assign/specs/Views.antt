@@ -14,11 +14,11 @@ use Rattle.core_ir.specs.Terms.{BlockTerm, GenTerm, gens_of}
 use Rattle.core_ir.specs.View.{let_term, gen_term, right_term}
 use Rattle.source_meaning.specs.Meaning.{or_int}
 use Rattle.core_lowering.specs.Programs.{place_in}
-use Rattle.core_lowering_steps.specs.Looks.{Look}
-use Rattle.core_lowering_steps.specs.Building.{Built, Made, MadeList, MadeOption, MadeScope, MadeNames, MadeBlock, MadeGen, MadeGens, MadeOperation}
-use Rattle.core_lowering_steps.specs.Building.{MadeGiven, make, make_all, make_maybe, make_bound, make_gen, make_gens, make_operation, make_stmt}
-use Rattle.core_lowering_steps.specs.Building.{make_block, make_starts}
-use Rattle.core_lowering_steps.specs.Parts.{make_default, make_inside, make_cell, make_turn, make_if, make_while, make_do}
+use Rattle.core_lowering.specs.steps.Looks.{Look}
+use Rattle.core_lowering.specs.steps.Building.{Built, Made, MadeList, MadeOption, MadeScope, MadeNames, MadeBlock, MadeGen, MadeGens, MadeOperation}
+use Rattle.core_lowering.specs.steps.Building.{MadeGiven, make, make_all, make_maybe, make_bound, make_gen, make_gens, make_operation, make_stmt}
+use Rattle.core_lowering.specs.steps.Building.{make_block, make_starts}
+use Rattle.core_lowering.specs.steps.Parts.{make_default, make_inside, make_cell, make_turn, make_if, make_while, make_do}
 use Rattle.single_assign.specs.declared.context.Context.{Context}
 use Rattle.single_assign.specs.declared.lower.Given.{Given}
 use Rattle.single_assign.specs.declared.lower.Making.{Making}

@@ -7,7 +7,7 @@ ghost use Rattle.sac_ast.specs.View.{expr, exprs, maybe, bound, index_view, gene
 ghost use Rattle.core_ir.specs.Terms.{Plain, PlainTerm, RightTerm, gens_of};
 ghost use Rattle.core_ir.specs.View.{block_term, gen_term, right_term};
 ghost use Rattle.core_lowering.specs.Lowering.{built_in as built_in_value};
-ghost use Rattle.core_lowering_steps.specs.Building.{block_giving, block_of, bound_at, first_var, given_bound, index_declared, start_at, use_at};
+ghost use Rattle.core_lowering.specs.steps.Building.{block_giving, block_of, bound_at, first_var, given_bound, index_declared, start_at, use_at};
 ghost use Rattle.core_scopes.specs.Looks.{look, texts};
 ghost use Rattle.core_scopes.specs.Built.{built, made, made_names};
 ghost use Rattle.single_assign.specs.Views.{made_list, made_option, made_scope, made_block, made_gen, made_gens};

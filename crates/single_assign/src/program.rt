@@ -6,9 +6,9 @@ ghost use Rattle.sac_ast.specs.View.{function, functions as trees, program as tr
 ghost use Rattle.core_ir.specs.View.{core_term, fun_term};
 ghost use Rattle.core_ir.specs.WellFormed.{IsWellFormed};
 ghost use Rattle.source_meaning.specs.Calls.{is_main};
-ghost use Rattle.core_acceptance.specs.Formed.{ProgramFormed};
+ghost use Rattle.core_lowering.specs.acceptance.Formed.{ProgramFormed};
 ghost use Rattle.core_lowering.specs.Programs.{function_names as names_of_functions, HasOutcomeOf, lowered_program, places_of as places_of_name};
-ghost use Rattle.core_lowering_steps.specs.Functions.{params_declared};
+ghost use Rattle.core_lowering.specs.steps.Functions.{params_declared};
 ghost use Rattle.single_assign.specs.Functions.{function_in, function_of, functions_by, params_made, with_place};
 ghost use Rattle.core_scopes.specs.Looks.{look, texts};
 ghost use Rattle.core_scopes.specs.Built.{built};

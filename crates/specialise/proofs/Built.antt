@@ -9,7 +9,7 @@ use Rattle.core_ir.specs.declared.tree.Var.{Var}
 use Rattle.core_ir.specs.Outcome.{param_types, param_vars, group_at}
 use Rattle.core_ir.specs.Terms.{FunTerm, CoreTerm}
 use Rattle.core_ir.specs.WellFormed.{bases}
-use Rattle.core_calls.specs.Nests.{StandsIn}
+use Rattle.core_facts.specs.calls.Nests.{StandsIn}
 use Rattle.core_groups.specs.Specialised.{IsCopy, IsNarrowed, IsSpecialised}
 use Rattle.core_groups.specs.Specialised
 use Rattle.core_groups.proofs.Lists.{some_same, none_some, mapped_stands, pairs_map, some_within, none_either}

@@ -11,7 +11,7 @@ use Rattle.sac_base.specs.Types.{all_have_forms, all_below}
 use Rattle.core_ir.specs.Outcome.{param_types, group_at}
 use Rattle.core_ir.specs.Terms.{FunTerm, CoreTerm}
 use Rattle.core_ir.specs.WellFormed.{IsWellFormed, bases as bases_of}
-use Rattle.core_calls.specs.Nests.{StandsIn}
+use Rattle.core_facts.specs.calls.Nests.{StandsIn}
 use Rattle.core_groups.specs.Specialised.{all_known, IsNarrowed}
 use Rattle.core_groups.proofs.Lists.{some_same, none_some, stands_left, stands_right, stands_cases, pairs_append, pairs_weaker}
 use Rattle.core_groups.proofs.Choice.{group_is, group_there, member}

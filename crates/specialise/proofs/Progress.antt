@@ -14,7 +14,7 @@ use Rattle.sac_base.specs.Types.{has_form, has_shape, all_have_forms, all_below,
 use Rattle.core_ir.specs.Outcome.{param_types, group_at}
 use Rattle.core_ir.specs.Terms.{FunTerm, CoreTerm}
 use Rattle.core_ir.specs.WellFormed.{IsWellFormed, PlacesShare}
-use Rattle.core_calls.specs.Nests.{StandsIn}
+use Rattle.core_facts.specs.calls.Nests.{StandsIn}
 use Rattle.core_groups.specs.Specialised.{all_known}
 use Rattle.core_groups.proofs.Lists.{some_same, none_some, stands_left, stands_right, stands_cases, stands_at, all_at, all_found, pairs_head, pairs_tail}
 use Rattle.core_groups.proofs.Choice.{group_is, group_there, member}

@@ -13,8 +13,8 @@ use Rattle.shape_types.proofs.Inclusion.{and_left, and_right, and_both}
 use Rattle.core_ir.specs.Outcome.{param_types, param_vars, group_at}
 use Rattle.core_ir.specs.Terms.{FunTerm, CoreTerm}
 use Rattle.core_ir.specs.WellFormed.{IsWellFormed}
-use Rattle.core_calls.specs.Nests.{StandsIn}
-use Rattle.core_settled.specs.Called.{called, params_facts}
+use Rattle.core_facts.specs.calls.Nests.{StandsIn}
+use Rattle.core_facts.specs.constants.Called.{called, params_facts}
 use Rattle.core_groups.specs.Specialised.{IsSpecialised}
 use Rattle.core_groups.proofs.Known.{all_below_on}
 use Rattle.core_groups.proofs.Lists.{some_same, stands_map, all_by_place}

@@ -6,8 +6,8 @@ use Rattle.sac_base.specs.declared.types.ArrayType.{ArrayType}
 use Rattle.sac_base.specs.Types.{has_shape}
 use Rattle.core_ir.specs.Outcome.{group_at, param_vars}
 use Rattle.core_ir.specs.Terms.{FunTerm, CoreTerm}
-use Rattle.core_calls.specs.Nests.{StandsIn}
-use Rattle.core_settled.specs.Called.{called}
+use Rattle.core_facts.specs.calls.Nests.{StandsIn}
+use Rattle.core_facts.specs.constants.Called.{called}
 use Rattle.known_calls.specs.declared.calls.KnownCall.{KnownCall}
 use Rattle.known_calls.specs.Known.{GroupAndShapes, known_in, typed_facts}
 use Rattle.known_calls.specs.Told.{told}

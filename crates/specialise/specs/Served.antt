@@ -5,8 +5,8 @@ use Rattle.sac_base.specs.declared.types.ArrayType.{ArrayType}
 use Rattle.sac_base.specs.Types.{all_have_forms}
 use Rattle.core_ir.specs.Outcome.{param_types, group_at}
 use Rattle.core_ir.specs.Terms.{FunTerm, CoreTerm}
-use Rattle.core_calls.specs.Nests.{StandsIn}
-use Rattle.core_settled.specs.Called.{called, params_facts}
+use Rattle.core_facts.specs.calls.Nests.{StandsIn}
+use Rattle.core_facts.specs.constants.Called.{called, params_facts}
 use Rattle.known_calls.specs.Known.{GroupAndShapes, known_in}
 use Rattle.specialise.specs.Tables.{known_count}
 use Rattle.specialise.specs.Mains.{AreExact}

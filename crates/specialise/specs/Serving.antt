@@ -6,7 +6,7 @@ use Rattle.sac_base.specs.declared.types.ArrayType.{ArrayType}
 use Rattle.sac_base.specs.Types.{all_have_forms, all_below, all_compatible}
 use Rattle.core_ir.specs.Outcome.{param_types, group_at}
 use Rattle.core_ir.specs.Terms.{FunTerm, CoreTerm}
-use Rattle.core_calls.specs.Nests.{StandsIn}
+use Rattle.core_facts.specs.calls.Nests.{StandsIn}
 use Rattle.specialise.specs.Plans.{Entry, joined}
 use Rattle.specialise.specs.Tables.{types_at, exact, has_same, known_count}
 

@@ -3,7 +3,7 @@
 ghost use Rattle.std.specs.Prelude.{◌≡◌, ◌<◌, ◌^◌, length, IfOk, OnOk};
 ghost use Rattle.core_ir.specs.View.{core_term};
 ghost use Rattle.core_ir.specs.WellFormed.{IsWellFormed};
-ghost use Rattle.core_settled.specs.Called.{called as called_in};
+ghost use Rattle.core_facts.specs.constants.Called.{called as called_in};
 ghost use Rattle.plain_facts.specs.Called.{shapes_of};
 ghost use Rattle.specialise.specs.Plans.{entries, members, IsPlan};
 ghost use Rattle.specialise.specs.Progress.{Grows, EntryPlannedAt, AllPlanned, AreCallsAt};

@@ -12,7 +12,7 @@ use Rattle.sac_base.specs.Shapes.{IsShape}
 use Rattle.core_facts.specs.Facts.{is_some}
 use Rattle.core_facts.proofs.Extents.{is_shape_decides}
 use Rattle.core_loops.specs.Indices.{at_offset, are_extents}
-use Rattle.core_index_facts.proofs.Members.{and_both, member_has}
+use Rattle.core_loops.proofs.index_facts.Members.{and_both, member_has}
 use Rattle.generator_sets.specs.Pieces.{moved}
 use Rattle.grid_spans.specs.Spans.{IsSpan}
 use Rattle.moved_grids.specs.Within.{number_at_first, numbers_behind, HaveMembers}

@@ -9,9 +9,9 @@ use Rattle.sac_base.specs.Types.{all_have}
 use Rattle.core_ir.specs.Meaning.{bind_all, no_variables}
 use Rattle.core_ir.specs.Outcome.{RunMeaning, param_types, param_vars, results_in, function_value, body_of, instances, group_at, chosen, run_chosen, call_chosen, call_by, run_inline, run_deeper, call_at, main_value, SameOutcome, SameOutside}
 use Rattle.core_ir.specs.Terms.{FunTerm, CoreTerm}
-use Rattle.core_calls.specs.Nests.{StandsIn}
-use Rattle.core_calls.proofs.Agreeing.{agreeing, weaker}
-use Rattle.core_calls.proofs.Nested.{same_chosen, chosen_in, same_count}
+use Rattle.core_facts.specs.calls.Nests.{StandsIn}
+use Rattle.core_facts.proofs.calls.Agreeing.{agreeing, weaker}
+use Rattle.core_facts.proofs.calls.Nested.{same_chosen, chosen_in, same_count}
 use Rattle.unreached_functions.specs.Closed.{IsMarked, IsClosed}
 
 module _ (a b : CoreTerm) (groups functions : List Bool) (same : SameOutside a b) (closed : IsClosed a groups functions)

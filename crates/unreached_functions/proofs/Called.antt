@@ -14,7 +14,7 @@ use Rattle.core_ir.specs.Terms.{BlockTerm, RightTerm, GensTerm, PartsTerm, Gives
 use Rattle.core_ir.specs.View.{block_term, right_term, with_term, parted_term, let_term, gen_term, part_term}
 use Rattle.core_ir.specs.WellFormed.{calls_in, calls_in_right, calls_in_gens, calls_in_parts}
 use Rattle.core_ir.proofs.Trees.{block_out, with_out, parted_out}
-use Rattle.core_calls.specs.Nests.{CallsAll, CallsAllRight, CallsAllGens, CallsAllParts}
+use Rattle.core_facts.specs.calls.Nests.{CallsAll, CallsAllRight, CallsAllGens, CallsAllParts}
 
 abbrev pub lets_calls : List Let → List ℕ
 lets_calls [] = []

@@ -15,16 +15,16 @@ use Rattle.core_ir.specs.declared.tree.CoreFun.{CoreFun}
 use Rattle.core_ir.specs.Terms.{BlockTerm, FunTerm, CoreTerm, Gives, Bind, Plain, Always}
 use Rattle.core_ir.specs.View.{fun_term}
 use Rattle.core_ir.specs.WellFormed.{Bases, base_of, HasBases, bases, param_bases, Distinct, IsFunction, IsWellFormed}
-use Rattle.core_bases.proofs.Backward.{below}
-use Rattle.core_calls.specs.Nests.{CallsAll, InlineBelow, CallsBelow}
-use Rattle.core_calls.specs.Replaced.{replaced_at}
-use Rattle.core_calls.proofs.Agreeing.{weaker}
-use Rattle.core_calls.proofs.Replaced.{heads_kept, at_place}
+use Rattle.core_facts.proofs.bases.Backward.{below}
+use Rattle.core_facts.specs.calls.Nests.{CallsAll, InlineBelow, CallsBelow}
+use Rattle.core_facts.specs.calls.Replaced.{replaced_at}
+use Rattle.core_facts.proofs.calls.Agreeing.{weaker}
+use Rattle.core_facts.proofs.calls.Replaced.{heads_kept, at_place}
 use Rattle.core_subst.specs.Names.{variable, variable_at, above_function}
-use Rattle.core_inlined_bodies.proofs.Names.{itself, behind_first, in_left, none_by, distinct_both, distinct_left, fresh_left, fresh_below, own_fresh}
-use Rattle.core_inlined_bodies.proofs.Scopes.{other_way}
-use Rattle.core_inlined_bodies.proofs.Counts.{all_at}
-use Rattle.core_inlined_bodies.proofs.Stepped.{stepped, still_below, well_stepped}
+use Rattle.core_forms.proofs.inlined_bodies.Names.{itself, behind_first, in_left, none_by, distinct_both, distinct_left, fresh_left, fresh_below, own_fresh}
+use Rattle.core_forms.proofs.inlined_bodies.Scopes.{other_way}
+use Rattle.core_forms.proofs.inlined_bodies.Counts.{all_at}
+use Rattle.core_forms.proofs.inlined_bodies.Stepped.{stepped, still_below, well_stepped}
 use Rattle.unreached_functions.specs.Closed.{IsMarked, IsClosed}
 use Rattle.unreached_functions.specs.Emptied.{numbered, empty_body, FunctionEmptied}
 use Rattle.unreached_functions.proofs.Agreeing.{outcomes_reached}

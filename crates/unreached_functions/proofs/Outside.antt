@@ -3,8 +3,8 @@ use Rattle.std.proofs.Common.{◌≡◌, ℕ, List, [], ◌∷◌, Some, refl, s
 use Rattle.std.specs.Prelude.{slice_get}
 use Rattle.core_ir.specs.Outcome.{param_types, SameHeads, SameOutside}
 use Rattle.core_ir.specs.Terms.{BlockTerm, FunTerm, CoreTerm}
-use Rattle.core_calls.specs.Replaced.{replaced_at}
-use Rattle.core_calls.proofs.Replaced.{heads_kept}
+use Rattle.core_facts.specs.calls.Replaced.{replaced_at}
+use Rattle.core_facts.proofs.calls.Replaced.{heads_kept}
 use Rattle.unreached_functions.specs.Emptied.{empty_body, FunctionEmptied}
 
 heads_itself : (fs : List FunTerm) → SameHeads fs fs

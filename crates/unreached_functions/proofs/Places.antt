@@ -5,7 +5,7 @@ use Rattle.std.proofs.lemmas.Bool.{cases_lt}
 use Rattle.std.proofs.lemmas.Option.{slice_get_within}
 use Rattle.core_ir.specs.Outcome.{group_at}
 use Rattle.core_ir.specs.Terms.{FunTerm, CoreTerm}
-use Rattle.core_calls.specs.Nests.{CallsAll, StandsIn}
+use Rattle.core_facts.specs.calls.Nests.{CallsAll, StandsIn}
 use Rattle.unreached_functions.specs.Closed.{IsMarked}
 
 -- ---- one place

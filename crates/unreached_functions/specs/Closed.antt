@@ -2,7 +2,7 @@
 use Rattle.std.specs.Prelude.{◌≡◌, ℕ, Bool, true, List, Some, slice_get}
 use Rattle.core_ir.specs.Outcome.{group_at}
 use Rattle.core_ir.specs.Terms.{FunTerm, CoreTerm}
-use Rattle.core_calls.specs.Nests.{CallsAll, StandsIn}
+use Rattle.core_facts.specs.calls.Nests.{CallsAll, StandsIn}
 
 -- the place is marked
 abbrev pub IsMarked : List Bool → ℕ → Type 0

@@ -3,7 +3,7 @@ use Rattle.std.specs.Prelude.{◌≡◌, ℕ, zero, suc, List, [], ◌∷◌, le
 use Rattle.sac_base.specs.declared.faults.FaultKind.TheVariants.{F10}
 use Rattle.core_ir.specs.declared.tree.Var.{Var}
 use Rattle.core_ir.specs.Terms.{BlockTerm, FunTerm, CoreTerm, Gives, Bind, Plain, Always}
-use Rattle.core_calls.specs.Replaced.{replaced_at}
+use Rattle.core_facts.specs.calls.Replaced.{replaced_at}
 use Rattle.core_subst.specs.Names.{variable, above_function}
 
 -- so many variables, from a number on

@@ -4,7 +4,7 @@ ghost use Rattle.std.specs.Prelude.{◌≡◌, ℕ, Bool, true, false, All, IfOk
 ghost use Rattle.core_ir.specs.Outcome.{group_at};
 ghost use Rattle.core_ir.specs.Terms.{FunTerm};
 ghost use Rattle.core_ir.specs.View.{core_term, block_term};
-ghost use Rattle.core_calls.specs.Nests.{CallsAll, StandsIn};
+ghost use Rattle.core_facts.specs.calls.Nests.{CallsAll, StandsIn};
 ghost use Rattle.unreached_functions.specs.Closed.{IsMarked, IsClosed};
 
 use crate::calls::add_calls;

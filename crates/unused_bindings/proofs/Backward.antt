@@ -10,7 +10,7 @@ use Rattle.core_ir.specs.Terms.{BlockTerm, Gives, Bind, LetTerm, chain}
 use Rattle.core_ir.specs.View.{block_term, let_term}
 use Rattle.core_ir.proofs.Trees.{block_roll}
 use Rattle.core_subst.specs.Names.{used_in, used_in_right}
-use Rattle.core_cleaning.specs.Unused.{is_unused}
+use Rattle.core_forms.specs.cleaning.Unused.{is_unused}
 use Rattle.unused_bindings.specs.declared.swept.SweptLet.{SweptLet}
 use Rattle.unused_bindings.specs.Passed.{passed_term}
 use Rattle.unused_bindings.specs.Swept.{PassedTerm, IsStep, needed_before}

@@ -2,7 +2,7 @@
 use Rattle.std.proofs.Common.{◌≡◌, refl}
 use Rattle.core_ir.specs.Terms.{PlainTerm, RightTerm, Plain}
 use Rattle.core_facts.specs.Facts.{Facts}
-use Rattle.core_cleaning.specs.Unused.{is_removable}
+use Rattle.core_forms.specs.cleaning.Unused.{is_removable}
 use Rattle.plain_facts.specs.Rights.{right_shape}
 use Rattle.removal_rules.specs.Total.{removable_shaped}
 

@@ -14,7 +14,7 @@ use Rattle.core_ir.specs.Terms.{BlockTerm, RightTerm, Gives, Gen, Part, GenTerm,
 use Rattle.core_ir.specs.View.{block_term, let_term, right_term, gen_term, part_term, with_term, parted_term}
 use Rattle.core_ir.proofs.Trees.{block_out, with_out, parted_out}
 use Rattle.core_facts.specs.Facts.{Fact, Facts, note_all, right_facts, block_facts}
-use Rattle.core_cleaning.specs.Unused.{bind_if_needed, is_removable, swept, swept_right, swept_gens, swept_parts}
+use Rattle.core_forms.specs.cleaning.Unused.{bind_if_needed, is_removable, swept, swept_right, swept_gens, swept_parts}
 use Rattle.fact_table.specs.declared.known.Known.{Known}
 use Rattle.fact_table.specs.Table.{fact_of}
 use Rattle.unused_bindings.specs.declared.swept.SweptBlock.{SweptBlock}

@@ -3,9 +3,9 @@ use Rattle.std.specs.Prelude.{◌≡◌, ℕ, Bool, List, [], ◌∷◌, ◌++�
 use Rattle.core_ir.specs.declared.tree.Var.{Var}
 use Rattle.core_ir.specs.Terms.{BlockTerm, LetTerm, GenTerm, PartTerm, FunTerm, chain}
 use Rattle.core_facts.specs.Facts.{Facts, note_all, in_part}
-use Rattle.core_settled.specs.Called.{params_facts}
+use Rattle.core_facts.specs.constants.Called.{params_facts}
 use Rattle.core_subst.specs.Names.{used_in}
-use Rattle.core_cleaning.specs.Unused.{bind_if_needed, swept, swept_right}
+use Rattle.core_forms.specs.cleaning.Unused.{bind_if_needed, swept, swept_right}
 use Rattle.removal_rules.specs.Uses.{among}
 
 module _ (called : ℕ → List (Option (List ℕ))) where

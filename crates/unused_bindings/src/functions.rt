@@ -3,8 +3,8 @@
 ghost use Rattle.std.specs.Prelude.{◌≡◌, IfOk, map};
 ghost use Rattle.core_ir.specs.View.{core_term, fun_term};
 ghost use Rattle.core_ir.specs.WellFormed.{IsWellFormed};
-ghost use Rattle.core_calls.specs.Arrays.{SameOutcomeOnArrays};
-ghost use Rattle.core_cleaning.specs.Unused.{swept_core};
+ghost use Rattle.core_facts.specs.calls.Arrays.{SameOutcomeOnArrays};
+ghost use Rattle.core_forms.specs.cleaning.Unused.{swept_core};
 ghost use Rattle.plain_facts.specs.Called.{shapes_of};
 ghost use Rattle.unused_bindings.specs.Swept.{swept_function};
 

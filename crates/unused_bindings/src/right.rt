@@ -6,7 +6,7 @@ ghost use Rattle.core_ir.specs.Terms.{RightTerm, gens_of, parts_of};
 ghost use Rattle.core_ir.specs.View.{block_term, right_term};
 ghost use Rattle.core_facts.specs.Facts.{common_facts as common, known_shape, parted_shape as shape_of_parts, shape_fact};
 ghost use Rattle.core_subst.specs.Names.{used_in_right};
-ghost use Rattle.core_cleaning.specs.Unused.{is_removable};
+ghost use Rattle.core_forms.specs.cleaning.Unused.{is_removable};
 ghost use Rattle.fact_table.specs.Table.{fact_of, facts_of};
 ghost use Rattle.plain_facts.specs.Rights.{fact_of_right};
 ghost use Rattle.unused_bindings.specs.Passed.{gen_terms, part_terms};

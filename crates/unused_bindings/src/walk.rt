@@ -3,7 +3,7 @@
 ghost use Rattle.std.specs.Prelude.{◌≡◌, ◌-◌, IfOk, OnOk, map, drop, length};
 ghost use Rattle.core_ir.specs.View.{block_term, let_term, right_term, with_term, gen_term, parted_term, part_term};
 ghost use Rattle.core_facts.specs.Facts.{note_all, block_facts, right_facts};
-ghost use Rattle.core_cleaning.specs.Unused.{is_removable, swept, swept_right};
+ghost use Rattle.core_forms.specs.cleaning.Unused.{is_removable, swept, swept_right};
 ghost use Rattle.fact_table.specs.Table.{fact_of, facts_of};
 ghost use Rattle.plain_facts.specs.Called.{shapes_of};
 ghost use Rattle.unused_bindings.specs.Swept.{swept_let, swept_gen, swept_part};

@@ -23,9 +23,9 @@ use Rattle.core_ir.specs.View.{block_term, let_term, right_term, with_term, gen_
 use Rattle.core_ir.proofs.Trees.{block_out, with_out, parted_out}
 use Rattle.core_ir.specs.Terms.{PlainTerm, BlockTerm, RightTerm, GensTerm, PartsTerm, GenTerm, PartTerm, Gives, Bind, Plain, Gen, Part, chain, gens_of, parts_of}
 use Rattle.core_ir.specs.WellFormed.{Bases, OperationBase, ints}
-use Rattle.core_norm_steps.specs.Step.{Within}
-use Rattle.core_norm_steps.specs.Step.{BaseTable as AllBases}
-use Rattle.core_norm_steps.proofs.Places.{within_zip, within_ints, within_one}
+use Rattle.core_loops.specs.norm_steps.Step.{Within}
+use Rattle.core_loops.specs.norm_steps.Step.{BaseTable as AllBases}
+use Rattle.core_loops.proofs.norm_steps.Places.{within_zip, within_ints, within_one}
 use Rattle.variable_bases.specs.declared.signatures.Signatures.{Signatures}
 use Rattle.variable_bases.specs.declared.table.BaseTable.{BaseTable}
 use Rattle.variable_bases.specs.Instances.{Instance}

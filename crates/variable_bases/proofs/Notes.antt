@@ -8,7 +8,7 @@ use Rattle.sac_base.specs.declared.types.ArrayType.{ArrayType}
 use Rattle.core_ir.specs.declared.tree.Var.{Var}
 use Rattle.core_ir.specs.WellFormed.{Bases, base_of}
 use Rattle.core_ir.proofs.Variables.{same_number}
-use Rattle.core_norm_steps.specs.Step.{BaseTable as AllBases, AllNumbers}
+use Rattle.core_loops.specs.norm_steps.Step.{BaseTable as AllBases, AllNumbers}
 use Rattle.variable_bases.specs.declared.table.BaseTable.{BaseTable}
 use Rattle.variable_bases.specs.Learned.{HasParams, Noted, Keeps, Notes, Takes, Numbers}
 use Rattle.variable_bases.specs.Table.{base_in, Tells, IsTold}

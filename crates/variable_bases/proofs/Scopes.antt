@@ -11,7 +11,7 @@ use Rattle.sac_base.specs.Arrays.{same_base}
 use Rattle.core_ir.specs.declared.tree.Var.{Var}
 use Rattle.core_ir.specs.WellFormed.{Bases, base_of, HasBases, AllHave, LiteralBase, ints}
 use Rattle.core_ir.proofs.Variables.{same_number}
-use Rattle.core_norm_steps.specs.Step.{BaseTable as AllBases}
+use Rattle.core_loops.specs.norm_steps.Step.{BaseTable as AllBases}
 use Rattle.variable_bases.specs.declared.table.BaseTable.{BaseTable}
 use Rattle.variable_bases.specs.Learned.{HasParams, Noted, Keeps, ScopeTold}
 use Rattle.variable_bases.specs.Table.{base_in, Tells, IsTold, may_be, may_have}

@@ -8,8 +8,8 @@ use Rattle.std.specs.Prelude.{IfSome, IfNone}
 use Rattle.core_ir.specs.Terms.{PlainTerm, Plain}
 use Rattle.core_ir.specs.WellFormed.{Bases, HasBase, AllHave, LiteralBase}
 use Rattle.variable_bases.specs.Learned.{TellsLiteral, TellsNothing, TellsRight}
-use Rattle.core_norm_steps.specs.Step.{Within}
-use Rattle.core_norm_steps.specs.Step.{BaseTable as AllBases}
+use Rattle.core_loops.specs.norm_steps.Step.{Within}
+use Rattle.core_loops.specs.norm_steps.Step.{BaseTable as AllBases}
 use Rattle.variable_bases.specs.declared.table.BaseTable.{BaseTable}
 use Rattle.variable_bases.specs.Table.{base_in, Tells, IsTold, may_be, may_have}
 use Rattle.variable_bases.proofs.Scopes.{literal_all_told}

@@ -5,8 +5,8 @@ use Rattle.sac_base.specs.declared.base.Base.{Base}
 use Rattle.core_ir.specs.declared.tree.Var.{Var}
 use Rattle.core_ir.specs.Terms.{BlockTerm, LetTerm, CoreTerm, Gives, Bind, chain}
 use Rattle.core_ir.specs.WellFormed.{Bases, HasBases, BlockBases}
-use Rattle.core_norm_steps.specs.Step.{BaseTable, Within, Follows}
-use Rattle.core_norm_steps.proofs.Places.{within_zip}
+use Rattle.core_loops.specs.norm_steps.Step.{BaseTable, Within, Follows}
+use Rattle.core_loops.proofs.norm_steps.Places.{within_zip}
 use Rattle.variable_bases.specs.Sources.{results}
 
 pub have_all : (m : BaseTable) (g : Bases) (xs : List Var) (ts : List Base) → Within m g → HasBases g xs ts → map m xs ≡ ts

@@ -7,8 +7,8 @@ use Rattle.core_ir.specs.declared.tree.Var.{Var}
 use Rattle.core_ir.specs.Terms.{BlockTerm, RightTerm, GensTerm, PartsTerm, GenTerm, PartTerm, CoreTerm, Plain, NoGens, NoParts}
 use Rattle.core_ir.specs.WellFormed.{Bases, base_of, LiteralBase, BlockBases, RightBases, GensBases, PartsBases, ints}
 use Rattle.sac_base.specs.declared.base.Base.TheVariants.{Int}
-use Rattle.core_norm_steps.specs.Step.{Within, AllNumbers, Follows, FollowsRight, FollowsGens, FollowsParts}
-use Rattle.core_norm_steps.specs.Step.{BaseTable as AllBases}
+use Rattle.core_loops.specs.norm_steps.Step.{Within, AllNumbers, Follows, FollowsRight, FollowsGens, FollowsParts}
+use Rattle.core_loops.specs.norm_steps.Step.{BaseTable as AllBases}
 use Rattle.variable_bases.specs.declared.signatures.Signatures.{Signatures}
 use Rattle.variable_bases.specs.declared.table.BaseTable.{BaseTable}
 use Rattle.variable_bases.specs.Instances.{HasInstances, AreUnique}

@@ -5,8 +5,8 @@ use Rattle.sac_base.specs.Arrays.{same_base}
 use Rattle.core_ir.specs.declared.tree.Var.{Var}
 use Rattle.core_ir.specs.Terms.{FunTerm, CoreTerm}
 use Rattle.core_ir.specs.WellFormed.{BlockBases, bases, param_bases}
-use Rattle.core_norm_steps.specs.Step.{Within, Follows}
-use Rattle.core_norm_steps.specs.Step.{BaseTable as AllBases}
+use Rattle.core_loops.specs.norm_steps.Step.{Within, Follows}
+use Rattle.core_loops.specs.norm_steps.Step.{BaseTable as AllBases}
 use Rattle.variable_bases.specs.declared.signatures.Signature.{Signature}
 use Rattle.variable_bases.specs.declared.signatures.Signatures.{Signatures}
 use Rattle.variable_bases.specs.declared.table.BaseTable.{BaseTable}

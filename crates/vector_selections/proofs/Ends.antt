@@ -17,7 +17,7 @@ use Rattle.core_ir.specs.View.{block_term, gen_term, part_term, parted_term, rig
 use Rattle.core_ir.proofs.Trees.{parted_out, parted_roll}
 use Rattle.core_facts.specs.Facts.{Facts, note_all, right_facts, in_part, known_shape, parted_shape, shape_fact}
 use Rattle.fact_table.specs.Table.{fact_of}
-use Rattle.core_selections.specs.Vectors.{next, next_right, vectored, vectored_right}
+use Rattle.core_forms.specs.selections.Vectors.{next, next_right, vectored, vectored_right}
 use Rattle.known_rights.specs.Anywhere.{IsKnownAnywhere}
 use Rattle.known_rights.specs.declared.known.KnownRight.{KnownRight}
 use Rattle.known_rights.proofs.Fields.{shown_gen, shown_part, gen_out, gen_roll, part_out, part_roll}

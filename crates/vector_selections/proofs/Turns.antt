@@ -17,7 +17,7 @@ use Rattle.core_ir.specs.View.{block_term, let_term, gen_term, part_term, with_t
 use Rattle.core_ir.proofs.Trees.{block_out, block_roll, with_out, with_roll, parted_out, parted_roll}
 use Rattle.core_subst.specs.Names.{variable}
 use Rattle.core_facts.specs.Facts.{Fact, Facts, note_all, right_facts, block_facts}
-use Rattle.core_selections.specs.Vectors.{next, next_right, next_gens, next_parts, vectored, vectored_right, vectored_gens, vectored_parts}
+use Rattle.core_forms.specs.selections.Vectors.{next, next_right, next_gens, next_parts, vectored, vectored_right, vectored_gens, vectored_parts}
 use Rattle.vector_selections.specs.Vectored.{bind_vectored, next_let, vectored_gen, next_gen, vectored_part, next_part}
 
 map_snoc : {A B : Type 0} (f : A → B) (xs : List A) (x : A) → map f (xs ++ (x ∷ [])) ≡ map f xs ++ (f x ∷ [])

@@ -7,9 +7,9 @@ use Rattle.core_ir.specs.Outcome.{SameHeads, SameOutside}
 use Rattle.core_ir.specs.Terms.{BlockTerm, RightTerm, GensTerm, PartsTerm, FunTerm, CoreTerm, Gives, Bind, Plain, NoGens, Gen, NoParts, Part}
 use Rattle.core_subst.specs.Names.{above_function}
 use Rattle.core_facts.specs.Facts.{Facts, note_all, right_facts, in_part}
-use Rattle.core_settled.specs.Called.{called as called_in, params_facts}
-use Rattle.core_selections.specs.Vectors.{Selection, by_scalar, bind_vector, behind, next, next_right, next_gens, next_parts, vectored, vectored_right, vectored_gens, vectored_parts, vectored_core}
-use Rattle.core_inlined_bodies.proofs.Counts.{trans}
+use Rattle.core_facts.specs.constants.Called.{called as called_in, params_facts}
+use Rattle.core_forms.specs.selections.Vectors.{Selection, by_scalar, bind_vector, behind, next, next_right, next_gens, next_parts, vectored, vectored_right, vectored_gens, vectored_parts, vectored_core}
+use Rattle.core_forms.proofs.inlined_bodies.Counts.{trans}
 use Rattle.vector_selections.specs.Vectored.{vectored_function, vectors_in, vectors_in_core}
 
 pub both_give : {X Y : Type 0} (r : Result X Y) (P Q R : X → Type 0) → ((x : X) → P x → Q x → R x) → IfOk r P → IfOk r Q → IfOk r R

@@ -1,6 +1,6 @@
 -- The selection that the code chooses.
 use Rattle.std.specs.Prelude.{Option, Some, None}
-use Rattle.core_selections.specs.Vectors.{Selection as SelectionTerm}
+use Rattle.core_forms.specs.selections.Vectors.{Selection as SelectionTerm}
 use Rattle.vector_selections.specs.declared.choice.Selection.{Selection}
 
 abbrev pub chosen : Option Selection → Option SelectionTerm

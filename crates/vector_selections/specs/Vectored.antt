@@ -4,8 +4,8 @@ use Rattle.std.specs.List.{sum}
 use Rattle.core_ir.specs.Terms.{BlockTerm, LetTerm, GenTerm, PartTerm, FunTerm, CoreTerm}
 use Rattle.core_subst.specs.Names.{above_function}
 use Rattle.core_facts.specs.Facts.{Facts, note_all, in_part}
-use Rattle.core_settled.specs.Called.{called as called_in, params_facts}
-use Rattle.core_selections.specs.Vectors.{Selection, bind_vector, behind, by_scalar, next, next_right, vectored, vectored_right}
+use Rattle.core_facts.specs.constants.Called.{called as called_in, params_facts}
+use Rattle.core_forms.specs.selections.Vectors.{Selection, bind_vector, behind, by_scalar, next, next_right, vectored, vectored_right}
 
 -- a binding before a block, with a choice made for it
 abbrev pub bind_chosen : Option Selection → ℕ → LetTerm → BlockTerm → BlockTerm

@@ -4,7 +4,7 @@ ghost use Rattle.std.specs.Prelude.{◌≡◌, ◌&&◌, not, [], ◌∷◌, Som
 ghost use Rattle.core_ir.specs.Terms.{BlockTerm, chain};
 ghost use Rattle.core_ir.specs.View.{let_term, right_term};
 ghost use Rattle.core_loops.specs.Indices.{is_scalar_shape};
-ghost use Rattle.core_selections.specs.Vectors.{behind, by_scalar, is_open_scalar as is_open};
+ghost use Rattle.core_forms.specs.selections.Vectors.{behind, by_scalar, is_open_scalar as is_open};
 ghost use Rattle.fact_table.specs.Table.{fact_of, facts_of};
 ghost use Rattle.vector_selections.specs.Choice.{chosen};
 ghost use Rattle.vector_selections.specs.Vectored.{bind_chosen};

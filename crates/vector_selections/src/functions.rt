@@ -6,8 +6,8 @@ ghost use Rattle.core_ir.specs.Outcome.{SameOutside};
 ghost use Rattle.core_ir.specs.View.{core_term, fun_term};
 ghost use Rattle.core_ir.specs.WellFormed.{IsWellFormed};
 ghost use Rattle.core_subst.specs.Names.{above_function};
-ghost use Rattle.core_calls.specs.Arrays.{SameOutcomeOnArrays};
-ghost use Rattle.core_selections.specs.Vectors.{vectored_core};
+ghost use Rattle.core_facts.specs.calls.Arrays.{SameOutcomeOnArrays};
+ghost use Rattle.core_forms.specs.selections.Vectors.{vectored_core};
 ghost use Rattle.plain_facts.specs.Called.{shapes_of};
 ghost use Rattle.vector_selections.specs.Vectored.{vectored_function, vectors_in, vectors_in_core};
 

@@ -4,7 +4,7 @@ ghost use Rattle.std.specs.Prelude.{◌≡◌, ◌-◌, IfOk, OnOk, map, drop, l
 ghost use Rattle.core_ir.specs.Terms.{BlockTerm, chain};
 ghost use Rattle.core_ir.specs.View.{block_term, let_term, right_term, with_term, gen_term, parted_term, part_term};
 ghost use Rattle.core_facts.specs.Facts.{note_all, block_facts, right_facts};
-ghost use Rattle.core_selections.specs.Vectors.{next, next_right, vectored, vectored_right};
+ghost use Rattle.core_forms.specs.selections.Vectors.{next, next_right, vectored, vectored_right};
 ghost use Rattle.fact_table.specs.Table.{fact_of, facts_of};
 ghost use Rattle.plain_facts.specs.Called.{shapes_of};
 ghost use Rattle.vector_selections.specs.Vectored.{bind_vectored, next_let, vectored_gen, next_gen, vectored_part, next_part};

@@ -14,16 +14,16 @@ use Rattle.core_ir.proofs.Variables.{same_number}
 use Rattle.core_subst.specs.Names.{variable}
 use Rattle.core_copy.specs.Mapped.{mapped}
 use Rattle.core_copy.proofs.Renaming.{bound_mapped}
-use Rattle.core_edits.proofs.Wider.{bound_new}
-use Rattle.core_inlined_bodies.proofs.Names.{clash, distinct_left, distinct_right, in_either, in_left, itself, none_at}
+use Rattle.core_forms.proofs.edits.Wider.{bound_new}
+use Rattle.core_forms.proofs.inlined_bodies.Names.{clash, distinct_left, distinct_right, in_either, in_left, itself, none_at}
 use Rattle.core_loops.specs.Steps as loops
-use Rattle.core_norm_steps.specs.Genarray.{GenAt, NamedBody}
+use Rattle.core_loops.specs.norm_steps.Genarray.{GenAt, NamedBody}
 use Rattle.parted_bodies.specs.Numbering.{named, numbered}
 use Rattle.parted_bodies.specs.Making.{component_lets, component_names, part_body}
-use Rattle.core_norm_forms.specs.Alike.{NamedAlike}
-use Rattle.core_norm_forms.specs.Copied.{AreFrom, components}
-use Rattle.core_norm_forms.proofs.Named.{copies_named}
-use Rattle.core_norm_forms.proofs.Places.{all_member}
+use Rattle.core_forms.specs.norm.Alike.{NamedAlike}
+use Rattle.core_forms.specs.norm.Copied.{AreFrom, components}
+use Rattle.core_forms.proofs.norm.Named.{copies_named}
+use Rattle.core_forms.proofs.norm.Places.{all_member}
 use Rattle.numbered_variables.proofs.Numbered.{Good, And, Those, AreComponents, apart_if, components_good, components_off, components_order, components_same, named_at, named_good, named_off, numbered_good, numbered_off, numbered_order}
 
 -- ---- a generator at its place
@@ -214,9 +214,9 @@ module _ (scope : List Var) (low : ℕ) (below : All (λ (x : Var). x.0 < low) s
   names_good = components_good names (named (λ x. x) index (variable n)) (And index (In scope)) (suc n) index_good names_once.1 names_off
 
   in_all : (a : Var) → Those names (And index (In scope)) a → is_in a ((index ∷ names) ++ scope) ≡ true
-  in_all a (inl h) = Rattle.core_inlined_bodies.proofs.Names.behind_first a index (names ++ scope) (in_left a names scope h)
+  in_all a (inl h) = Rattle.core_forms.proofs.inlined_bodies.Names.behind_first a index (names ++ scope) (in_left a names scope h)
   in_all a (inr (inl e)) = in_left a (index ∷ names) scope (λ i. e i || is_in a names)
-  in_all a (inr (inr s)) = Rattle.core_norm_forms.proofs.Scopes.in_right a (index ∷ names) scope s
+  in_all a (inr (inr s)) = Rattle.core_forms.proofs.norm.Scopes.in_right a (index ∷ names) scope s
 
   bound_off : (a : Var) → is_in a bound ≡ true → Those names (And index (In scope)) a → ⊥
   bound_off a h t = clash (is_in a ((index ∷ names) ++ scope)) (in_all a t) (none_at a bound ((index ∷ names) ++ scope) bound_out h)
@@ -243,10 +243,10 @@ module _ (scope : List Var) (low : ℕ) (below : All (λ (x : Var). x.0 < low) s
 
   -- which variable stands for one
   unbound : (x : Var) → Those names (And index (In scope)) x → is_in x bound ≡ false
-  unbound x t = Rattle.core_inlined_bodies.proofs.Names.not_in x bound (λ h. bound_off x h t)
+  unbound x t = Rattle.core_forms.proofs.inlined_bodies.Names.not_in x bound (λ h. bound_off x h t)
 
   unnamed : (x : Var) → And index (In scope) x → is_in x names ≡ false
-  unnamed x t = Rattle.core_inlined_bodies.proofs.Names.not_in x names (λ h. names_off x h t)
+  unnamed x t = Rattle.core_forms.proofs.inlined_bodies.Names.not_in x names (λ h. names_off x h t)
 
   outer_stays : (x : Var) → is_in x scope ≡ true → f x ≡ x
   outer_stays x h =

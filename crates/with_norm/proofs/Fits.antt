@@ -17,18 +17,18 @@ use Rattle.core_ir.specs.Scopes.{Scoped, ScopedRight, ScopedGens}
 use Rattle.core_ir.specs.Terms.{BlockTerm, RightTerm, GensTerm, PartsTerm, GenTerm, Bind, With, Parted, gens_of, parts_of}
 use Rattle.core_ir.specs.WellFormed.{Distinct, Fit, PartedFits}
 use Rattle.core_facts.specs.Facts.{Facts}
-use Rattle.core_inlined_bodies.proofs.Names.{distinct_left, distinct_right}
-use Rattle.core_norm.specs.Norm.{NameFirst}
-use Rattle.core_norm_steps.specs.Step.{BaseTable}
-use Rattle.core_norm_steps.specs.Genarray.{LabelledParts, count_gens}
-use Rattle.core_norm_steps.specs.Modarray.{OldLabelled}
-use Rattle.core_norm_steps.specs.Fold.{FoldLabelled}
-use Rattle.core_norm_forms.specs.Alike.{LabelledAlike}
-use Rattle.core_norm_forms.specs.Copied.{IsPlaced}
-use Rattle.core_norm_forms.specs.Fresh.{FreshHere, IsBetween, count_parts}
-use Rattle.core_norm_forms.proofs.Grids.{splits_fit, splits_cover, some_fit}
-use Rattle.core_norm_forms.proofs.Named.{in_order}
-use Rattle.core_norm_forms.proofs.Places.{all_member}
+use Rattle.core_forms.proofs.inlined_bodies.Names.{distinct_left, distinct_right}
+use Rattle.core_loops.specs.norm.Norm.{NameFirst}
+use Rattle.core_loops.specs.norm_steps.Step.{BaseTable}
+use Rattle.core_loops.specs.norm_steps.Genarray.{LabelledParts, count_gens}
+use Rattle.core_loops.specs.norm_steps.Modarray.{OldLabelled}
+use Rattle.core_loops.specs.norm_steps.Fold.{FoldLabelled}
+use Rattle.core_forms.specs.norm.Alike.{LabelledAlike}
+use Rattle.core_forms.specs.norm.Copied.{IsPlaced}
+use Rattle.core_forms.specs.norm.Fresh.{FreshHere, IsBetween, count_parts}
+use Rattle.core_forms.proofs.norm.Grids.{splits_fit, splits_cover, some_fit}
+use Rattle.core_forms.proofs.norm.Named.{in_order}
+use Rattle.core_forms.proofs.norm.Places.{all_member}
 use Rattle.partable_loops.specs.declared.planning.PartPlan.{PartPlan}
 use Rattle.partable_loops.specs.Counted.{generator_count}
 use Rattle.partable_loops.specs.Planned.{AllNamed, Label, IsPlan, needed_parts}

@@ -17,14 +17,14 @@ use Rattle.core_ir.specs.Scopes.{ScopedGens}
 use Rattle.core_ir.specs.Terms.{BlockTerm, GensTerm, PartsTerm, GenTerm, PartTerm, GenHead, PartHead, NoParts, Part, gens_of, parts_of}
 use Rattle.core_ir.specs.WellFormed.{Distinct, part_grids}
 use Rattle.core_subst.specs.Names.{variable}
-use Rattle.core_norm.specs.Norm.{NameFirst}
+use Rattle.core_loops.specs.norm.Norm.{NameFirst}
 use Rattle.core_loops.specs.Steps as loops
-use Rattle.core_norm_steps.specs.Genarray.{GenAt, NamedBody, LabelledParts, count_gens}
-use Rattle.core_norm_steps.specs.Modarray.{OldLabelled}
-use Rattle.core_norm_steps.specs.Fold.{FoldLabelled}
-use Rattle.core_norm_forms.specs.Alike.{NamedAlike, LabelledAlike}
-use Rattle.core_norm_forms.specs.Copied.{AreFrom}
-use Rattle.core_norm_forms.specs.Fresh.{count_parts}
+use Rattle.core_loops.specs.norm_steps.Genarray.{GenAt, NamedBody, LabelledParts, count_gens}
+use Rattle.core_loops.specs.norm_steps.Modarray.{OldLabelled}
+use Rattle.core_loops.specs.norm_steps.Fold.{FoldLabelled}
+use Rattle.core_forms.specs.norm.Alike.{NamedAlike, LabelledAlike}
+use Rattle.core_forms.specs.norm.Copied.{AreFrom}
+use Rattle.core_forms.specs.norm.Fresh.{count_parts}
 use Rattle.partable_loops.specs.Planned.{AllNamed, Label}
 use Rattle.parted_bodies.specs.Making.{binds_of, generator_part, label_part, made_parts, part_body}
 use Rattle.numbered_variables.proofs.Numbered.{apart_if, order_append}
@@ -104,7 +104,7 @@ module _ (grids : List (List Grid1)) (gens : List GenTerm) (same : length grids 
       by false q = q
       by true q =
           let inside : m < length gens = subst (λ n. m < n) same (found_within (λ g. has_vector g v) grids m (f q)) in
-          Rattle.core_inlined_bodies.proofs.Names.clash (is_some (slice_get gens m)) (slice_some gens m inside) (ap is_some e)
+          Rattle.core_forms.proofs.inlined_bodies.Names.clash (is_some (slice_get gens m)) (slice_some gens m inside) (ap is_some e)
 
   pub kept_times : (ps : List Label) (v : List ℤ) → NameFirst grids ps → times (kept gens ps) v ≡ times ps v
   kept_times [] v h = refl
@@ -131,7 +131,7 @@ module _ (grids : List (List Grid1)) (gens : List GenTerm) (same : length grids 
       by rec (Some g) e = subst (λ t. NameFirst grids (cond t ((grid, Some m) ∷ kept gens ps) (kept gens ps))) (ap is_some (sym e)) (h.0, rec)
 
 either_false : (a b : Bool) → (a || b) ≡ false → (a ≡ false) × (b ≡ false)
-either_false true b e = Rattle.core_inlined_bodies.proofs.Names.clash true refl e
+either_false true b e = Rattle.core_forms.proofs.inlined_bodies.Names.clash true refl e
 either_false false b e = (refl, e)
 
 pub kept_any : (gens : List GenTerm) (ps : List Label) (v : List ℤ) → list_any (λ (p : Label). has_vector p.0 v) ps ≡ false → list_any (λ (p : Label). has_vector p.0 v) (kept gens ps) ≡ false
@@ -182,7 +182,7 @@ module _ (scope : List Var) (op : CoreOp) (s : Site) (gens : List GenTerm) (scop
   gen_order grid m n None e = tt
   gen_order grid m n (Some g) e =
       let at = gen_place gens m g scope e scoped once in
-      let own = Rattle.core_inlined_bodies.proofs.Names.distinct_right (g.head.index ∷ g.head.names) (bound_in g.body) at.once in
+      let own = Rattle.core_forms.proofs.inlined_bodies.Names.distinct_right (g.head.index ∷ g.head.names) (bound_in g.body) at.once in
       (refl, subst (AreFrom (suc n)) (sym (append-nil (bound_in (part_body g (variable n) (suc n))))) (part_order g n own))
 
   label_order : (o : CoreOp) (grid : List Grid1) (l : Option ℕ) (n : ℕ) → AreFrom n (bound_in_parts (parts_of (option_to_list (label_part o s gens grid l n))))

@@ -12,18 +12,18 @@ use Rattle.core_ir.specs.Binders.{bound_in}
 use Rattle.core_ir.specs.Outcome.{SameHeads, param_types, param_vars}
 use Rattle.core_ir.specs.Terms.{BlockTerm, FunTerm, CoreTerm}
 use Rattle.core_ir.specs.WellFormed.{GroupBases, IsFunction, IsWellFormed, PlacesShare, bases}
-use Rattle.core_calls.specs.Replaced.{replaced_at}
-use Rattle.core_settled.specs.Called.{called, params_facts}
+use Rattle.core_facts.specs.calls.Replaced.{replaced_at}
+use Rattle.core_facts.specs.constants.Called.{called, params_facts}
 use Rattle.core_subst.specs.Names.{above, above_all, above_function}
-use Rattle.core_inlined_bodies.proofs.Counts.{all_at}
-use Rattle.core_inlined_bodies.proofs.Names.{distinct_right, fresh_below, fresh_left, fresh_more, fresh_right, own_fresh, own_vars}
-use Rattle.core_inlined_bodies.proofs.Stepped.{old_at, stepped}
-use Rattle.core_norm_steps.proofs.Tables.{has_table}
-use Rattle.core_norm_forms.specs.Copied.{IsPlaced}
-use Rattle.core_norm_forms.specs.Walks.{no_step, FunctionWalk, BlockWalk, core_weight}
-use Rattle.core_norm_forms.proofs.Laws.{all_by}
-use Rattle.core_norm_forms.proofs.Whole.{walks_keep, go_on}
-use Rattle.core_norm_forms.proofs.Replaced.{at_length, put_at, same_called, same_core, same_heads}
+use Rattle.core_forms.proofs.inlined_bodies.Counts.{all_at}
+use Rattle.core_forms.proofs.inlined_bodies.Names.{distinct_right, fresh_below, fresh_left, fresh_more, fresh_right, own_fresh, own_vars}
+use Rattle.core_forms.proofs.inlined_bodies.Stepped.{old_at, stepped}
+use Rattle.core_loops.proofs.norm_steps.Tables.{has_table}
+use Rattle.core_forms.specs.norm.Copied.{IsPlaced}
+use Rattle.core_forms.specs.norm.Walks.{no_step, FunctionWalk, BlockWalk, core_weight}
+use Rattle.core_forms.proofs.norm.Laws.{all_by}
+use Rattle.core_forms.proofs.norm.Whole.{walks_keep, go_on}
+use Rattle.core_forms.proofs.norm.Replaced.{at_length, put_at, same_called, same_core, same_heads}
 use Rattle.variable_bases.specs.declared.signatures.Signatures.{Signatures}
 use Rattle.partable_loops.specs.Planned.{IsPlannable}
 use Rattle.variable_bases.specs.Instances.{AreUnique, HasInstances, OnlyInstances}

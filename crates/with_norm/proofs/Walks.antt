@@ -6,12 +6,12 @@ use Rattle.core_ir.specs.Edits.{Edited}
 use Rattle.core_ir.specs.Terms.{BlockTerm}
 use Rattle.core_facts.specs.Facts.{Facts}
 use Rattle.core_loops.specs.Steps.{fact_ways}
-use Rattle.core_norm_steps.specs.Step.{BaseTable}
-use Rattle.core_norm_forms.specs.Copied.{IsPlaced}
-use Rattle.core_norm_forms.specs.Fresh.{FreshHere}
-use Rattle.core_norm_forms.specs.Walks.{Steps, done, step, BlockWalk}
-use Rattle.core_norm_forms.proofs.Placing.{walk_placed}
-use Rattle.core_norm_forms.proofs.Walking.{by_other}
+use Rattle.core_loops.specs.norm_steps.Step.{BaseTable}
+use Rattle.core_forms.specs.norm.Copied.{IsPlaced}
+use Rattle.core_forms.specs.norm.Fresh.{FreshHere}
+use Rattle.core_forms.specs.norm.Walks.{Steps, done, step, BlockWalk}
+use Rattle.core_forms.proofs.norm.Placing.{walk_placed}
+use Rattle.core_forms.proofs.norm.Walking.{by_other}
 use Rattle.parted_bodies.specs.declared.names.Progress.{Progress}
 use Rattle.norm_walk.specs.Replacing.{ReplacedHere, Walked, stays, goes}
 use Rattle.norm_walk.proofs.Walking.{one_more}

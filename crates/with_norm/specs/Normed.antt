@@ -3,10 +3,10 @@ use Rattle.std.specs.Prelude.{◌≡◌, ℕ, ◌+◌, ◌≤◌, List, [], ◌�
 use Rattle.core_ir.specs.Outcome.{SameOutside}
 use Rattle.core_ir.specs.Terms.{BlockTerm, FunTerm, CoreTerm}
 use Rattle.core_ir.specs.WellFormed.{IsWellFormed}
-use Rattle.core_calls.specs.Arrays.{SameOutcomeOnArrays}
-use Rattle.core_settled.specs.Called.{called, params_facts}
+use Rattle.core_facts.specs.calls.Arrays.{SameOutcomeOnArrays}
+use Rattle.core_facts.specs.constants.Called.{called, params_facts}
 use Rattle.core_subst.specs.Names.{above_function}
-use Rattle.core_norm_forms.specs.Walks.{NormSteps, core_weight}
+use Rattle.core_forms.specs.norm.Walks.{NormSteps, core_weight}
 use Rattle.variable_bases.specs.declared.signatures.Signatures.{Signatures}
 use Rattle.variable_bases.specs.declared.table.BaseTable.{BaseTable}
 use Rattle.partable_loops.specs.Planned.{IsPlannable}

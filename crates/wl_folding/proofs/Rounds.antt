@@ -6,16 +6,16 @@ use Rattle.std.proofs.lemmas.List.Elements.{All-nil, All-cons}
 use Rattle.core_ir.specs.Outcome.{SameHead, SameHeads}
 use Rattle.core_ir.specs.Terms.{FunTerm, CoreTerm}
 use Rattle.core_ir.specs.WellFormed.{IsWellFormed}
-use Rattle.core_calls.specs.Replaced.{replaced_at}
-use Rattle.core_settled.specs.Called.{called, params_facts}
+use Rattle.core_facts.specs.calls.Replaced.{replaced_at}
+use Rattle.core_facts.specs.constants.Called.{called, params_facts}
 use Rattle.core_subst.specs.Names.{above_function}
-use Rattle.core_inlined_bodies.proofs.Stepped.{stepped}
-use Rattle.core_norm_forms.specs.Walks.{core_weight}
-use Rattle.core_norm_forms.proofs.Replaced.{at_length, put_at, same_called, same_core, same_heads}
-use Rattle.core_fold_forms.specs.Walks.{Entry, Pair, FoldSteps, no_fold, entries_at, parted_count}
-use Rattle.core_fold_forms.proofs.Whole.{folds_keep, go_on}
-use Rattle.fold_laws.specs.Walks.{PairsFolded, FunctionFolded}
-use Rattle.fold_laws.proofs.Walks.{function_fresh}
+use Rattle.core_forms.proofs.inlined_bodies.Stepped.{stepped}
+use Rattle.core_forms.specs.norm.Walks.{core_weight}
+use Rattle.core_forms.proofs.norm.Replaced.{at_length, put_at, same_called, same_core, same_heads}
+use Rattle.core_forms.specs.fold.Walks.{Entry, Pair, FoldSteps, no_fold, entries_at, parted_count}
+use Rattle.core_forms.proofs.fold.Whole.{folds_keep, go_on}
+use Rattle.fold_walk.specs.fold_laws.Walks.{PairsFolded, FunctionFolded}
+use Rattle.fold_walk.proofs.fold_laws.Walks.{function_fresh}
 use Rattle.fold_walk.specs.declared.state.Fold.{Fold}
 use Rattle.fold_walk.specs.Left.{EachBinding, NoPairAt}
 use Rattle.wl_folding.specs.Folded.{AllWalked, CoreFolded, FunctionWalked, HasNoPair, HasNoPairs, Kept, Round, entries_of, entry_of}

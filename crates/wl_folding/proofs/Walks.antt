@@ -6,10 +6,10 @@ use Rattle.core_ir.specs.Edits.{Edited, EditedRight, EditedGens, EditedParts, he
 use Rattle.core_ir.specs.Terms.{BlockTerm, RightTerm, GensTerm, PartsTerm}
 use Rattle.core_facts.specs.Facts.{Facts}
 use Rattle.core_loops.specs.Steps.{fact_ways}
-use Rattle.core_fold_forms.specs.Walks.{Entry, Pair, entries_at}
-use Rattle.fold_laws.specs.Made.{FoldMadeOf}
-use Rattle.fold_laws.specs.Walks.{PairsFolded}
-use Rattle.fold_laws.specs.Walks as laws
+use Rattle.core_forms.specs.fold.Walks.{Entry, Pair, entries_at}
+use Rattle.fold_walk.specs.fold_laws.Made.{FoldMadeOf}
+use Rattle.fold_walk.specs.fold_laws.Walks.{PairsFolded}
+use Rattle.fold_walk.specs.fold_laws.Walks as laws
 use Rattle.fold_walk.specs.declared.state.Fold.{Fold}
 use Rattle.fold_walk.specs.Walking.{State, FoldedHere, Walked, stays, goes}
 use Rattle.wl_folding.specs.Folded.{entries_of}

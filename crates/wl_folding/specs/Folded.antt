@@ -3,11 +3,11 @@ use Rattle.std.specs.Prelude.{◌≡◌, ℕ, suc, ◌+◌, ◌≤◌, List, [],
 use Rattle.core_ir.specs.Outcome.{SameOutside}
 use Rattle.core_ir.specs.Terms.{BlockTerm, FunTerm, CoreTerm}
 use Rattle.core_ir.specs.WellFormed.{IsWellFormed}
-use Rattle.core_calls.specs.Arrays.{SameOutcomeOnArrays}
-use Rattle.core_settled.specs.Called.{called, params_facts}
+use Rattle.core_facts.specs.calls.Arrays.{SameOutcomeOnArrays}
+use Rattle.core_facts.specs.constants.Called.{called, params_facts}
 use Rattle.core_subst.specs.Names.{above_function}
-use Rattle.core_norm_forms.specs.Walks.{core_weight}
-use Rattle.core_fold_forms.specs.Walks.{Entry, FoldSteps, parted_count}
+use Rattle.core_forms.specs.norm.Walks.{core_weight}
+use Rattle.core_forms.specs.fold.Walks.{Entry, FoldSteps, parted_count}
 use Rattle.fold_walk.specs.declared.state.Fold.{Fold}
 use Rattle.fold_walk.specs.Left.{EachBinding, NoPairAt}
 use Rattle.fold_walk.specs.Walking.{BlockWalked}

@@ -4,9 +4,9 @@ ghost use Rattle.std.specs.Prelude.{◌≡◌, ◌≤◌, ◌+◌, [], IfOk, len
 ghost use Rattle.core_ir.specs.Outcome.{SameOutside};
 ghost use Rattle.core_ir.specs.View.{core_term, fun_term};
 ghost use Rattle.core_ir.specs.WellFormed.{IsWellFormed};
-ghost use Rattle.core_calls.specs.Arrays.{SameOutcomeOnArrays};
-ghost use Rattle.core_norm_forms.specs.Walks.{core_weight};
-ghost use Rattle.core_fold_forms.specs.Walks.{FoldSteps, parted_count};
+ghost use Rattle.core_facts.specs.calls.Arrays.{SameOutcomeOnArrays};
+ghost use Rattle.core_forms.specs.norm.Walks.{core_weight};
+ghost use Rattle.core_forms.specs.fold.Walks.{FoldSteps, parted_count};
 ghost use Rattle.core_subst.specs.Names.{above_function};
 ghost use Rattle.plain_facts.specs.Called.{shapes_of};
 ghost use Rattle.wl_folding.specs.Folded.{AllWalked, CoreFolded, FunctionWalked, HasNoPairs, Round, entries_of};

@@ -8,7 +8,7 @@ use Rattle.counted_marks.specs.Marking.{marking_code}
 use Rattle.counted_marks.specs.Marks.{HasNoneLeft, IsWellMarked}
 use Rattle.counted_marks.proofs.Left.{code_left, code_well}
 use Rattle.counted_marks.proofs.Marked.{code_marked}
-use Rattle.mark_places.proofs.Programs.{code_core, code_counted, code_prompt}
+use Rattle.counted_laws.proofs.mark_places.Programs.{code_core, code_counted, code_prompt}
 use Rattle.buffer_reuse.proofs.functions.mark_reuse.Goals as goal
 
 -- what holds of the program that is meant holds of the code

@@ -2,9 +2,9 @@ use Rattle.std.proofs.Common.{◌≡◌, ap, ◌∙◌}
 use Rattle.std.proofs.lemmas.Result.{IfOk-weaker}
 use Rattle.core_ir.specs.declared.tree.Core.{Core}
 use Rattle.core_ir.specs.View.{core_term}
-use Rattle.core_cleaning.specs.Checks.{simplified_core}
-use Rattle.core_cleaning.specs.Copies.{forwarded_core}
-use Rattle.core_cleaning.specs.Unused.{swept_core}
+use Rattle.core_forms.specs.cleaning.Checks.{simplified_core}
+use Rattle.core_forms.specs.cleaning.Copies.{forwarded_core}
+use Rattle.core_forms.specs.cleaning.Unused.{swept_core}
 use Rattle.const_shape.specs.Cleaned.{cleaned}
 use Rattle.const_shape.proofs.functions.clean.Goals as goal
 

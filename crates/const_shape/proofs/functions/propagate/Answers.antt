@@ -6,8 +6,8 @@ use Rattle.core_ir.specs.Terms.{FunTerm, CoreTerm}
 use Rattle.core_ir.specs.View.{core_term}
 use Rattle.core_ir.specs.WellFormed.{IsWellFormed}
 use Rattle.core_facts.specs.Settled.{IsSettled}
-use Rattle.core_calls.specs.Arrays.{SameOutcomeOnArrays}
-use Rattle.core_settled.specs.Called.{called, params_facts}
+use Rattle.core_facts.specs.calls.Arrays.{SameOutcomeOnArrays}
+use Rattle.core_facts.specs.constants.Called.{called, params_facts}
 use Rattle.const_shape.specs.Cleaned.{cleaned}
 use Rattle.const_shape.proofs.Cleaned.{cleaned_well, cleaned_outcome, cleaned_outside, cleaned_settled}
 use Rattle.const_shape.proofs.functions.propagate.Goals as goal

@@ -4,7 +4,7 @@ use Rattle.core_ir.specs.declared.tree.Let.{Let}
 use Rattle.core_ir.specs.Terms.{RightTerm, chain}
 use Rattle.core_ir.specs.View.{block_term, let_term, right_term}
 use Rattle.core_facts.specs.Facts.{block_facts, common_facts, note_all, right_facts}
-use Rattle.core_cleaning.specs.Checks.{simplified, simplified_right}
+use Rattle.core_forms.specs.cleaning.Checks.{simplified, simplified_right}
 use Rattle.fact_table.specs.Table.{facts_of}
 use Rattle.plain_facts.specs.Called.{shapes_of}
 use Rattle.scoped_table.proofs.Marks.{earlier_on, none_gone}

@@ -3,7 +3,7 @@ use Rattle.std.specs.Prelude.{drop}
 use Rattle.core_ir.specs.Terms.{BlockTerm, chain}
 use Rattle.core_ir.specs.View.{let_term, gen_term, part_term}
 use Rattle.core_facts.specs.Facts.{block_facts}
-use Rattle.core_cleaning.specs.Checks.{simplified}
+use Rattle.core_forms.specs.cleaning.Checks.{simplified}
 use Rattle.fact_table.specs.Table.{facts_of}
 use Rattle.plain_facts.specs.Called.{shapes_of}
 use Rattle.const_shape.proofs.Steps.{gens_settled, parts_settled}

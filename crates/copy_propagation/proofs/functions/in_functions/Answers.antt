@@ -1,4 +1,4 @@
-use Rattle.core_cleaning.proofs.Functions.{function_turn, all_done}
+use Rattle.core_forms.proofs.cleaning.Functions.{function_turn, all_done}
 use Rattle.copy_propagation.proofs.Steps.{none_left}
 use Rattle.copy_propagation.specs.Forwarded.{forwarded_function}
 use Rattle.copy_propagation.proofs.functions.in_functions.Goals as goal

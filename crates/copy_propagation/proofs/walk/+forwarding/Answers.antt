@@ -6,7 +6,7 @@ use Rattle.core_ir.specs.declared.tree.WithLoop.{out-WithLoop}
 use Rattle.core_ir.specs.Terms.{chain}
 use Rattle.core_ir.specs.View.{let_term, right_term}
 use Rattle.core_subst.specs.Substitution.{core_op_with, parted_op_with}
-use Rattle.core_cleaning.specs.Copies.{behind, forwarded, source}
+use Rattle.core_forms.specs.cleaning.Copies.{behind, forwarded, source}
 use Rattle.copy_propagation.specs.Table.{source_in}
 use Rattle.copy_propagation.proofs.Steps.{earlier_on, none_gone, let_turn, gen_turn, part_turn, none_left, block_end, with_end, parted_end}
 use Rattle.copy_propagation.proofs.walk.+forwarding.Goals as goal

@@ -2,7 +2,7 @@ use Rattle.std.proofs.Common.{◌≡◌, ◌++◌, ◌-◌, map, length}
 use Rattle.std.specs.Prelude.{drop}
 use Rattle.core_ir.specs.Terms.{BlockTerm, chain}
 use Rattle.core_ir.specs.View.{let_term, gen_term, part_term}
-use Rattle.core_cleaning.specs.Copies.{forwarded}
+use Rattle.core_forms.specs.cleaning.Copies.{forwarded}
 use Rattle.copy_propagation.specs.Table.{source_in}
 use Rattle.copy_propagation.proofs.Steps.{gens_with, parts_with}
 use Rattle.copy_propagation.proofs.walk.+forwarding.Given as goal

@@ -1,5 +1,5 @@
 use Rattle.std.proofs.Common.{◌≡◌, ◌++◌, drop}
-use Rattle.core_lowering_steps.specs.Building.{bound_in}
+use Rattle.core_lowering.specs.steps.Building.{bound_in}
 use Rattle.core_scopes.specs.Looks.{look, texts}
 use Rattle.core_scopes.proofs.names.known.Given as goal
 

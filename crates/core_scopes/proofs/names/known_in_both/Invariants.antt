@@ -1,5 +1,5 @@
 use Rattle.std.proofs.Common.{◌≡◌, ◌++◌, drop}
-use Rattle.core_lowering_steps.specs.Building.{bound_in_both}
+use Rattle.core_lowering.specs.steps.Building.{bound_in_both}
 use Rattle.core_scopes.specs.Looks.{look, texts}
 use Rattle.core_scopes.proofs.names.known_in_both.Given as goal
 

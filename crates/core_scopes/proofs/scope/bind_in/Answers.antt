@@ -2,7 +2,7 @@ use Rattle.std.proofs.Common.{ap, ◌∙◌, Some}
 use Rattle.std.specs.Prelude.{if◌then◌else◌}
 use Rattle.std.specs.String.{string_bytes}
 use Rattle.std.proofs.lemmas.Map.Text.{hash_map_updates_text}
-use Rattle.core_lowering_steps.specs.Looks.{with_var}
+use Rattle.core_lowering.specs.steps.Looks.{with_var}
 use Rattle.core_scopes.specs.Looks.{own}
 use Rattle.core_scopes.proofs.Scopes.{name_turned}
 use Rattle.core_scopes.proofs.scope.bind_in.Goals as goal

@@ -1,4 +1,4 @@
-use Rattle.core_cleaning.proofs.Functions.{function_turn, all_done}
+use Rattle.core_forms.proofs.cleaning.Functions.{function_turn, all_done}
 use Rattle.dense_variables.specs.Dense.{numbered_function}
 use Rattle.dense_variables.proofs.Bodies.{none_left}
 use Rattle.dense_variables.proofs.pass.in_functions.Goals as goal

@@ -5,7 +5,7 @@ use Rattle.core_ir.specs.Outcome.{SameOutside}
 use Rattle.core_ir.specs.Terms.{CoreTerm}
 use Rattle.core_ir.specs.View.{core_term}
 use Rattle.core_ir.specs.WellFormed.{IsWellFormed}
-use Rattle.core_calls.specs.Arrays.{SameOutcomeOnArrays}
+use Rattle.core_facts.specs.calls.Arrays.{SameOutcomeOnArrays}
 use Rattle.dense_variables.specs.Dense.{dense_core, IsDense}
 use Rattle.dense_variables.proofs.Bodies.{all_dense, dense_outcome, dense_outside, dense_well}
 use Rattle.dense_variables.proofs.pass.number_densely.Goals as goal

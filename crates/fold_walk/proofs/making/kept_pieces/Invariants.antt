@@ -1,5 +1,5 @@
 use Rattle.std.proofs.Common.{◌≡◌, ◌++◌}
-use Rattle.fold_laws.specs.Made.{numbered_grids}
+use Rattle.fold_walk.specs.fold_laws.Made.{numbered_grids}
 use Rattle.fold_walk.proofs.Gathering.{kept}
 use Rattle.fold_walk.proofs.making.kept_pieces.Given as goal
 

@@ -4,8 +4,8 @@ use Rattle.core_ir.specs.View.{core_term, fun_term, block_term}
 use Rattle.core_ir.specs.declared.tree.Core.{Core}
 use Rattle.core_ir.specs.declared.tree.CoreFun.{CoreFun}
 use Rattle.core_subst.specs.Names.{above_function}
-use Rattle.core_inlined_bodies.specs.Inlining.{BlockInlined}
-use Rattle.core_inlined_bodies.specs.Functions.{Anywhere}
+use Rattle.core_forms.specs.inlined_bodies.Inlining.{BlockInlined}
+use Rattle.core_forms.specs.inlined_bodies.Functions.{Anywhere}
 use Rattle.inline_calls.proofs.Passes.{set_term}
 use Rattle.inline_calls.proofs.Sizing.{size_kept}
 use Rattle.inline_calls.proofs.Instances.{mapped_at, read_at, none_full, some_exact, function_stays, function_put}

@@ -3,7 +3,7 @@ use Rattle.core_ir.specs.declared.tree.Core.{Core}
 use Rattle.core_ir.specs.Outcome.{SameOutcome, SameOutside}
 use Rattle.core_ir.specs.View.{core_term, fun_term}
 use Rattle.core_ir.specs.WellFormed.{IsWellFormed}
-use Rattle.core_inlined_bodies.specs.Functions.{ComeTo}
+use Rattle.core_forms.specs.inlined_bodies.Functions.{ComeTo}
 use Rattle.inline_calls.specs.declared.sizes.Size.{Size}
 use Rattle.inline_calls.specs.Measures.{AreSizes}
 use Rattle.unreached_functions.proofs.Outside.{outside_itself, outside_through}

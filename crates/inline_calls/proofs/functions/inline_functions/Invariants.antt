@@ -2,7 +2,7 @@ use Rattle.std.proofs.Common.{◌≡◌, length}
 use Rattle.core_ir.specs.Outcome.{SameOutcome, SameOutside}
 use Rattle.core_ir.specs.View.{core_term}
 use Rattle.core_ir.specs.WellFormed.{IsWellFormed}
-use Rattle.core_inlined_bodies.specs.Functions.{ComeTo}
+use Rattle.core_forms.specs.inlined_bodies.Functions.{ComeTo}
 use Rattle.inline_calls.specs.Measures.{AreSizes}
 use Rattle.inline_calls.proofs.functions.inline_functions.Given as goal
 

@@ -1,6 +1,6 @@
 use Rattle.std.proofs.Common.{◌≡◌, ◌++◌, map, drop}
 use Rattle.core_ir.specs.View.{let_term}
-use Rattle.core_inlining.specs.Inlined.{checks}
+use Rattle.core_forms.specs.inlining.Inlined.{checks}
 use Rattle.inline_calls.proofs.place.push_checks.Given as goal
 
 abbrev pub invariant-loop-k : goal.invariant-loop-k

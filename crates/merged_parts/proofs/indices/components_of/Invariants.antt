@@ -1,6 +1,6 @@
 use Rattle.std.proofs.Common.{◌≡◌, ◌+◌, ◌-◌, ◌++◌, suc, map}
 use Rattle.core_ir.specs.View.{let_term}
-use Rattle.core_merge_forms.specs.Built.{picks}
+use Rattle.core_forms.specs.merge.Built.{picks}
 use Rattle.merged_parts.specs.Merging.{every_other}
 use Rattle.merged_parts.proofs.indices.components_of.Given as goal
 

@@ -4,7 +4,7 @@ use Rattle.sac_base.specs.declared.grid.Grid1.{Grid1}
 use Rattle.core_ir.specs.Terms.{gens_of}
 use Rattle.core_ir.specs.View.{gen_term}
 use Rattle.core_loops.specs.Loops.{AllLiteral}
-use Rattle.core_norm.specs.Norm.{NameFirst}
+use Rattle.core_loops.specs.norm.Norm.{NameFirst}
 use Rattle.fact_table.specs.Table.{facts_of}
 use Rattle.generator_sets.specs.Counts.{IsCanonicalCount}
 use Rattle.core_loops.specs.Loops.{frame_spans}

@@ -1,7 +1,7 @@
 use Rattle.std.proofs.Common.{◌≡◌, [], length, ap, arith}
 use Rattle.std.proofs.lemmas.Bool.Decides.{nat_tests}
 use Rattle.std.proofs.lemmas.List.{nil_from_length}
-use Rattle.counted_placing.proofs.Orders.{reversed}
+use Rattle.counted_laws.proofs.placing.Orders.{reversed}
 use Rattle.phase_checks.proofs.Orders.{all_taken_back, nothing, opposite}
 use Rattle.phase_checks.proofs.Taken.{all_taken}
 use Rattle.phase_checks.proofs.bags.are_same.Goals as goal

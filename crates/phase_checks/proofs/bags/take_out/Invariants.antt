@@ -1,6 +1,6 @@
 use Rattle.std.proofs.Common.{◌≡◌, ◌++◌, drop, take}
 use Rattle.core_ir.specs.Binders.{is_in}
-use Rattle.counted_placing.specs.Placing.{without}
+use Rattle.counted_laws.specs.placing.Placing.{without}
 use Rattle.phase_checks.proofs.bags.take_out.Given as goal
 
 abbrev pub invariant-loop-place : goal.invariant-loop-place

@@ -1,5 +1,5 @@
 use Rattle.std.proofs.Common.{◌≡◌, ◌++◌, drop}
-use Rattle.core_settled.specs.Called.{common_shapes}
+use Rattle.core_facts.specs.constants.Called.{common_shapes}
 use Rattle.plain_facts.proofs.called.common.Given as goal
 
 abbrev pub invariant-loop-k : goal.invariant-loop-k

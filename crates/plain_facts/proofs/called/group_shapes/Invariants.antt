@@ -1,6 +1,6 @@
 use Rattle.std.proofs.Common.{◌≡◌, ◌<◌, drop, length, map}
 use Rattle.core_ir.specs.View.{fun_term}
-use Rattle.core_settled.specs.Called.{shapes_at}
+use Rattle.core_facts.specs.constants.Called.{shapes_at}
 use Rattle.plain_facts.proofs.called.group_shapes.Given as goal
 
 abbrev pub invariant-loop-k : goal.invariant-loop-k

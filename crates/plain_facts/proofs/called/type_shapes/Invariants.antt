@@ -1,5 +1,5 @@
 use Rattle.std.proofs.Common.{◌≡◌, ◌++◌, drop, map}
-use Rattle.core_settled.specs.Called.{shape_of_type}
+use Rattle.core_facts.specs.constants.Called.{shape_of_type}
 use Rattle.plain_facts.proofs.called.type_shapes.Given as goal
 
 abbrev pub invariant-loop-ty : goal.invariant-loop-ty

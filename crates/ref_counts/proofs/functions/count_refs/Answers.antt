@@ -9,9 +9,9 @@ use Rattle.counted_code.specs.Terms.{CodeProgram, core_of_code}
 use Rattle.counted_code.specs.View.{code_program}
 use Rattle.counted_laws.specs.Simulation.{LeavesNothing}
 use Rattle.counted_laws.proofs.Outcomes.{ends_as_core}
-use Rattle.counted_placing.specs.Placing.{placing_core}
-use Rattle.counted_placing.proofs.Cores.{same_core_code, no_marks}
-use Rattle.counted_placing.proofs.Derived.{well_counted, prompt}
+use Rattle.counted_laws.specs.placing.Placing.{placing_core}
+use Rattle.counted_laws.proofs.placing.Cores.{same_core_code, no_marks}
+use Rattle.counted_laws.proofs.placing.Derived.{well_counted, prompt}
 use Rattle.ref_counts.proofs.functions.count_refs.Goals as goal
 
 -- what holds of the placed core holds of the code

@@ -3,7 +3,7 @@ use Rattle.std.specs.Prelude.{IfOk}
 use Rattle.core_ir.specs.View.{block_term}
 use Rattle.counted_code.specs.View.{code_term}
 use Rattle.listed_uses.specs.Latest.{section}
-use Rattle.counted_placing.specs.Placing.{placing}
+use Rattle.counted_laws.specs.placing.Placing.{placing}
 use Rattle.ref_counts.specs.Listing.{listed}
 use Rattle.ref_counts.proofs.Collected.{append_nil}
 use Rattle.ref_counts.proofs.functions.place_body.Goals as goal

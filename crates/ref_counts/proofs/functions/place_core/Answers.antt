@@ -1,6 +1,6 @@
 use Rattle.std.proofs.Common.{map, ◌∙◌}
 use Rattle.core_ir.specs.View.{fun_term}
-use Rattle.counted_placing.specs.Placing.{placing_fun}
+use Rattle.counted_laws.specs.placing.Placing.{placing_fun}
 use Rattle.ref_counts.proofs.Whole.{twice}
 use Rattle.ref_counts.proofs.functions.place_core.Goals as goal
 

@@ -2,7 +2,7 @@ use Rattle.std.proofs.Common.{◌≡◌, ◌++◌, length, map}
 use Rattle.std.specs.Vec.Iter.{into_iter_items, into_iter_len}
 use Rattle.core_ir.specs.View.{fun_term}
 use Rattle.counted_code.specs.View.{code_fun_term}
-use Rattle.counted_placing.specs.Placing.{placing_fun}
+use Rattle.counted_laws.specs.placing.Placing.{placing_fun}
 use Rattle.ref_counts.proofs.functions.place_functions.Given as goal
 
 abbrev pub invariant-loop-function : goal.invariant-loop-function

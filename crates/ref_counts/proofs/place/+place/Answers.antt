@@ -8,7 +8,7 @@ use Rattle.core_ir.specs.Terms.{Gives, chain}
 use Rattle.core_ir.specs.View.{block_term, let_term, right_term, gen_term, part_term}
 use Rattle.listed_uses.specs.declared.list.Entry.TheVariants.{Use, Section}
 use Rattle.listed_uses.specs.Latest.{section}
-use Rattle.counted_placing.specs.Placing.{placing_right}
+use Rattle.counted_laws.specs.placing.Placing.{placing_right}
 use Rattle.ref_counts.specs.Listing.{each, listed, listed_right}
 use Rattle.ref_counts.specs.Owning.{owned_vars}
 use Rattle.ref_counts.specs.Pieces.{code_gen_term, code_part_term, placing_gen, placing_part}

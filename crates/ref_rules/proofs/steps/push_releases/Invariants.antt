@@ -1,7 +1,7 @@
 use Rattle.std.proofs.Common.{◌≡◌, drop}
 use Rattle.counted_code.specs.Terms.{CodeTerm}
 use Rattle.counted_code.specs.View.{steps_before}
-use Rattle.counted_placing.specs.Placing.{releases}
+use Rattle.counted_laws.specs.placing.Placing.{releases}
 use Rattle.ref_rules.proofs.steps.push_releases.Given as goal
 
 abbrev pub invariant-loop-x : goal.invariant-loop-x

@@ -1,5 +1,5 @@
 use Rattle.std.proofs.Common.{◌+◌, ◌++◌, drop, arith, ap, ◌∙◌}
-use Rattle.counted_placing.specs.Placing.{surplus}
+use Rattle.counted_laws.specs.placing.Placing.{surplus}
 use Rattle.ref_rules.proofs.Counted.{due_more, all_due}
 use Rattle.ref_rules.proofs.Taken.{drop_here, added, not_added}
 use Rattle.ref_rules.proofs.surplus.needing_more.Goals as goal

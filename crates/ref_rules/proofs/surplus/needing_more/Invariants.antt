@@ -1,5 +1,5 @@
 use Rattle.std.proofs.Common.{drop}
-use Rattle.counted_placing.specs.Placing.{surplus}
+use Rattle.counted_laws.specs.placing.Placing.{surplus}
 use Rattle.ref_rules.proofs.Counted.{Due}
 use Rattle.ref_rules.proofs.surplus.needing_more.Given as goal
 

@@ -1,7 +1,7 @@
 use Rattle.std.proofs.Common.{◌≡◌, [], drop}
 use Rattle.counted_code.specs.Terms.{Giving}
 use Rattle.counted_code.specs.View.{steps_before}
-use Rattle.mark_places.specs.Places.{releases_next}
+use Rattle.counted_laws.specs.mark_places.Places.{releases_next}
 use Rattle.reuse_candidates.proofs.candidate.is_released.Given as goal
 
 abbrev pub invariant-loop-step : goal.invariant-loop-step

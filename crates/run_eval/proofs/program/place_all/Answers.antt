@@ -1,5 +1,5 @@
 use Rattle.std.proofs.Common.{◌∙◌, sym, subst}
-use Rattle.core_calls.specs.Arrays.{AllFull}
+use Rattle.core_facts.specs.calls.Arrays.{AllFull}
 use Rattle.counted_code.specs.Values.{place_all}
 use Rattle.run_eval.proofs.WholeRuns.{place_turn}
 use Rattle.run_eval.proofs.program.place_all.Goals as goal

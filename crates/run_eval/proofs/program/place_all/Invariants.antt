@@ -1,5 +1,5 @@
 use Rattle.std.proofs.Common.{◌≡◌, map}
-use Rattle.core_calls.specs.Arrays.{AllFull}
+use Rattle.core_facts.specs.calls.Arrays.{AllFull}
 use Rattle.counted_code.specs.Values.{Heap, place_all}
 use Rattle.run_store.specs.Stands.{Stands, lender_of}
 use Rattle.run_values.specs.Shown.{value_of}

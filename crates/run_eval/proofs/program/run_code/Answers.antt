@@ -4,7 +4,7 @@ use Rattle.counted_code.specs.Values.{empty_heap}
 use Rattle.counted_code.specs.Outcome.{cost_of, outcome_of, whole_run}
 use Rattle.counted_code.specs.View.{code_program}
 use Rattle.counted_laws.proofs.Outcomes.{even_cost}
-use Rattle.mark_laws.proofs.Outcomes.{ends_as_core}
+use Rattle.phase_loop_laws.proofs.mark_laws.Outcomes.{ends_as_core}
 use Rattle.run_store.specs.Stands.{lender_in}
 use Rattle.run_loops.specs.declared.state.State.{State}
 use Rattle.run_eval.specs.declared.trace.Trace.{Trace}

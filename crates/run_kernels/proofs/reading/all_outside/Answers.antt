@@ -1,7 +1,7 @@
 use Rattle.std.proofs.Common.{All, refl, subst, take_all}
 use Rattle.std.proofs.lemmas.List.Elements.{All-more}
 use Rattle.run_values.specs.Scopes.{current}
-use Rattle.only_reads.specs.Reads.{Outside}
+use Rattle.phase_laws.specs.only_reads.Reads.{Outside}
 use Rattle.run_kernels.specs.Scopes.{refers}
 use Rattle.run_kernels.proofs.reading.all_outside.Goals as goal
 

@@ -1,6 +1,6 @@
 use Rattle.std.proofs.Common.{All, take}
 use Rattle.run_values.specs.Scopes.{current}
-use Rattle.only_reads.specs.Reads.{Outside}
+use Rattle.phase_laws.specs.only_reads.Reads.{Outside}
 use Rattle.run_kernels.specs.Scopes.{refers}
 use Rattle.run_kernels.proofs.reading.all_outside.Given as goal
 

@@ -1,5 +1,5 @@
 use Rattle.std.proofs.Common.{sym, subst}
-use Rattle.core_acceptance.specs.Formed.{ProgramFormed}
+use Rattle.core_lowering.specs.acceptance.Formed.{ProgramFormed}
 use Rattle.sac_ast.specs.View as View
 use Rattle.run_tests.proofs.marked_loops.code_of.Goals as goal
 

@@ -3,12 +3,12 @@ use Rattle.core_ir.specs.Terms.{CoreTerm}
 use Rattle.core_ir.specs.View.{core_term}
 use Rattle.counted_code.specs.Outcome.{outcome_of, whole_run}
 use Rattle.counted_code.specs.View.{code_program}
-use Rattle.mark_laws.proofs.Outcomes.{marking_keeps}
+use Rattle.phase_loop_laws.proofs.mark_laws.Outcomes.{marking_keeps}
 use Rattle.sac_ast.specs.View.{program as tree}
 use Rattle.with_norm.specs.Normed.{AllNormal}
 use Rattle.scalarise.specs.Scalarised.{NoneLeft}
 use Rattle.wl_folding.specs.Folded.{HasNoPairs}
-use Rattle.loop_turns.specs.Steps.{Turns}
+use Rattle.sac_build.specs.loop_turns.Steps.{Turns}
 use Rattle.sac_build.proofs.Arrays.{all_full}
 use Rattle.sac_build.proofs.Mains.{main_takes_forms}
 use Rattle.sac_build.proofs.compiler.compile.Goals as goal

@@ -3,7 +3,7 @@ use Rattle.sac_base.specs.declared.types.ArrayType.{ArrayType}
 use Rattle.core_ir.specs.Outcome.{param_types, param_vars}
 use Rattle.core_ir.specs.View.{fun_term, block_term}
 use Rattle.core_facts.specs.Facts.{Facts, note_all, shape_fact}
-use Rattle.core_settled.specs.Called.{shape_of_type}
+use Rattle.core_facts.specs.constants.Called.{shape_of_type}
 use Rattle.fact_table.specs.Notes.{Note}
 use Rattle.fact_table.specs.Table.{facts_of}
 use Rattle.plain_facts.specs.Called.{shapes_of}

@@ -7,10 +7,10 @@ use Rattle.sac_ast.proofs.Lists.{generators-drop}
 use Rattle.core_ir.specs.View.{gen_term}
 use Rattle.source_meaning.specs.Meaning.{default_base}
 use Rattle.std.proofs.lemmas.List.{drop_all}
-use Rattle.core_lowering_steps.specs.Building.{bound_at}
-use Rattle.core_lowering_steps.specs.Parts.{after_gens}
-use Rattle.core_lowering_steps.proofs.Arms.{with_arm, assign_call_arm, assign_arm, generator_arm, genarray_arm}
-use Rattle.core_lowering_steps.proofs.Steps.{gens_step, gens_end}
+use Rattle.core_lowering.specs.steps.Building.{bound_at}
+use Rattle.core_lowering.specs.steps.Parts.{after_gens}
+use Rattle.core_lowering.proofs.steps.Arms.{with_arm, assign_call_arm, assign_arm, generator_arm, genarray_arm}
+use Rattle.core_lowering.proofs.steps.Steps.{gens_step, gens_end}
 use Rattle.core_scopes.specs.Looks.{look, texts}
 use Rattle.core_scopes.specs.Built.{built, made}
 use Rattle.single_assign.specs.Views.{made_scope, made_gen, group_in, base_of_in, name_base_in, make_in, make_all_in, make_gen_in, make_gens_in, make_operation_in, make_stmt_in}

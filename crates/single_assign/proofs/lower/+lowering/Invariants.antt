@@ -9,7 +9,7 @@ use Rattle.sac_ast.specs.View.{exprs, generators, block}
 use Rattle.sac_ast.proofs.Lists.{exprs_size, block_size, cells_size, maybe_size}
 use Rattle.core_scopes.specs.Looks.{look}
 use Rattle.core_ir.specs.View.{gen_term}
-use Rattle.core_lowering_steps.specs.Parts.{after_list, after_gens}
+use Rattle.core_lowering.specs.steps.Parts.{after_list, after_gens}
 use Rattle.core_scopes.specs.Built.{built}
 use Rattle.single_assign.specs.Views.{make_all_in, make_gens_in, make_block_in}
 use Rattle.single_assign.proofs.lower.+lowering.Given as goal

@@ -1,5 +1,5 @@
 use Rattle.std.proofs.Common.{◌≡◌, drop}
-use Rattle.core_lowering_steps.specs.Parts.{after_list}
+use Rattle.core_lowering.specs.steps.Parts.{after_list}
 use Rattle.core_scopes.specs.Looks.{look, texts}
 use Rattle.core_scopes.specs.Built.{built}
 use Rattle.single_assign.specs.Views.{make_starts_in}

@@ -1,7 +1,7 @@
 use Rattle.std.proofs.Common.{ap, ◌∙◌}
 use Rattle.sac_ast.specs.View.{function, block, exprs}
 use Rattle.core_ir.specs.View.{block_term}
-use Rattle.core_lowering_steps.specs.Functions.{params_declared}
+use Rattle.core_lowering.specs.steps.Functions.{params_declared}
 use Rattle.core_scopes.specs.Looks.{look}
 use Rattle.core_scopes.specs.Built.{built}
 use Rattle.single_assign.specs.Views.{group_in, base_of_in, name_base_in, make_block_in, make_all_in}

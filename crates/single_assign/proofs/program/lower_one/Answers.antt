@@ -4,7 +4,7 @@ use Rattle.sac_ast.specs.Bases.{base, base_of_name, call_bases_in}
 use Rattle.sac_ast.specs.View.{function, functions}
 use Rattle.core_ir.specs.View.{fun_term}
 use Rattle.source_meaning.specs.Meaning.{or_int}
-use Rattle.core_lowering_steps.specs.Functions.{function_by}
+use Rattle.core_lowering.specs.steps.Functions.{function_by}
 use Rattle.single_assign.specs.Views.{place_by}
 use Rattle.single_assign.proofs.program.lower_one.Goals as goal
 

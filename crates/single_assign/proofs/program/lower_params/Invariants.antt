@@ -1,7 +1,7 @@
 use Rattle.std.proofs.Common.{◌≡◌, drop}
 use Rattle.core_scopes.specs.Looks.{look}
-use Rattle.core_lowering_steps.specs.Functions.{params_declared}
-use Rattle.core_lowering_steps.specs.Parts.{after_params}
+use Rattle.core_lowering.specs.steps.Functions.{params_declared}
+use Rattle.core_lowering.specs.steps.Parts.{after_params}
 use Rattle.core_scopes.specs.Built.{built}
 use Rattle.single_assign.proofs.program.lower_params.Given as goal
 

@@ -1,5 +1,5 @@
 use Rattle.plain_facts.specs.Called.{shapes_of}
-use Rattle.core_cleaning.proofs.Functions.{function_turn, all_done}
+use Rattle.core_forms.proofs.cleaning.Functions.{function_turn, all_done}
 use Rattle.unused_bindings.specs.Swept.{swept_function}
 use Rattle.unused_bindings.proofs.Turns.{none_left}
 use Rattle.unused_bindings.proofs.functions.in_functions.Goals as goal

@@ -3,9 +3,9 @@ use Rattle.std.proofs.lemmas.Result.{IfOk-weaker}
 use Rattle.core_ir.specs.declared.tree.Core.{Core}
 use Rattle.core_ir.specs.View.{core_term}
 use Rattle.core_ir.specs.WellFormed.{IsWellFormed}
-use Rattle.core_calls.specs.Arrays.{SameOutcomeOnArrays}
-use Rattle.core_cleaning.specs.Unused.{swept_core}
-use Rattle.core_cleaning.proofs.Laws.{swept_well, swept_outcome}
+use Rattle.core_facts.specs.calls.Arrays.{SameOutcomeOnArrays}
+use Rattle.core_forms.specs.cleaning.Unused.{swept_core}
+use Rattle.core_forms.proofs.cleaning.Laws.{swept_well, swept_outcome}
 use Rattle.unused_bindings.proofs.functions.remove_unused.Goals as goal
 
 pub returns-clause-outcome : goal.returns-clause-outcome

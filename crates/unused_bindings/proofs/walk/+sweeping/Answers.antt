@@ -3,7 +3,7 @@ use Rattle.std.specs.Prelude.{drop}
 use Rattle.core_ir.specs.declared.tree.CoreGen.{out-CoreGen}
 use Rattle.core_ir.specs.Terms.{chain}
 use Rattle.core_ir.specs.View.{let_term}
-use Rattle.core_cleaning.specs.Unused.{swept}
+use Rattle.core_forms.specs.cleaning.Unused.{swept}
 use Rattle.fact_table.specs.Table.{facts_of}
 use Rattle.plain_facts.specs.Called.{shapes_of}
 use Rattle.scoped_table.proofs.Marks.{earlier_on, none_gone}

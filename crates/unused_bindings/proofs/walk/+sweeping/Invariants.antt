@@ -3,7 +3,7 @@ use Rattle.std.specs.Prelude.{drop}
 use Rattle.core_ir.specs.Terms.{BlockTerm, chain}
 use Rattle.core_ir.specs.View.{let_term}
 use Rattle.core_facts.specs.Facts.{block_facts}
-use Rattle.core_cleaning.specs.Unused.{swept}
+use Rattle.core_forms.specs.cleaning.Unused.{swept}
 use Rattle.fact_table.specs.Table.{facts_of}
 use Rattle.plain_facts.specs.Called.{shapes_of}
 use Rattle.unused_bindings.specs.Passed.{passed_term, gen_terms, part_terms}

@@ -1,5 +1,5 @@
 use Rattle.plain_facts.specs.Called.{shapes_of}
-use Rattle.core_cleaning.proofs.Functions.{function_turn, all_done}
+use Rattle.core_forms.proofs.cleaning.Functions.{function_turn, all_done}
 use Rattle.vector_selections.specs.Vectored.{vectored_function, vectors_in}
 use Rattle.vector_selections.proofs.Turns.{none_left, count_turn, count_end}
 use Rattle.vector_selections.proofs.functions.in_functions.Goals as goal

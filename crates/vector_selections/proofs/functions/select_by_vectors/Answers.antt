@@ -4,9 +4,9 @@ use Rattle.core_ir.specs.declared.tree.Core.{Core}
 use Rattle.core_ir.specs.Outcome.{SameOutside}
 use Rattle.core_ir.specs.View.{core_term}
 use Rattle.core_ir.specs.WellFormed.{IsWellFormed}
-use Rattle.core_calls.specs.Arrays.{SameOutcomeOnArrays}
-use Rattle.core_selections.specs.Vectors.{vectored_core}
-use Rattle.core_selections.proofs.Laws.{vectored_well, vectored_outcome}
+use Rattle.core_facts.specs.calls.Arrays.{SameOutcomeOnArrays}
+use Rattle.core_forms.specs.selections.Vectors.{vectored_core}
+use Rattle.core_forms.proofs.selections.Laws.{vectored_well, vectored_outcome}
 use Rattle.vector_selections.specs.Vectored.{vectors_in_core}
 use Rattle.vector_selections.proofs.Unchanged.{both_give, core_stays, outside_stays}
 use Rattle.vector_selections.proofs.functions.select_by_vectors.Goals as goal

@@ -3,7 +3,7 @@ use Rattle.std.specs.Prelude.{drop}
 use Rattle.core_ir.specs.declared.tree.Let.{Let}
 use Rattle.core_ir.specs.Terms.{RightTerm, chain}
 use Rattle.core_ir.specs.View.{block_term, let_term, gen_term, part_term, parted_term, right_term}
-use Rattle.core_selections.specs.Vectors.{vectored, vectored_right, next_right}
+use Rattle.core_forms.specs.selections.Vectors.{vectored, vectored_right, next_right}
 use Rattle.fact_table.specs.Table.{facts_of}
 use Rattle.plain_facts.specs.Called.{shapes_of}
 use Rattle.scoped_table.proofs.Marks.{earlier_on, none_gone}

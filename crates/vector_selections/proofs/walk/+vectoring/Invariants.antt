@@ -3,7 +3,7 @@ use Rattle.std.specs.Prelude.{drop}
 use Rattle.core_ir.specs.Terms.{BlockTerm, chain, gens_of, parts_of}
 use Rattle.core_ir.specs.View.{let_term, gen_term, part_term}
 use Rattle.core_facts.specs.Facts.{block_facts}
-use Rattle.core_selections.specs.Vectors.{next, next_gens, next_parts, vectored, vectored_gens, vectored_parts}
+use Rattle.core_forms.specs.selections.Vectors.{next, next_gens, next_parts, vectored, vectored_gens, vectored_parts}
 use Rattle.fact_table.specs.Table.{facts_of}
 use Rattle.plain_facts.specs.Called.{shapes_of}
 use Rattle.vector_selections.proofs.Turns.{gens_then, parts_then}

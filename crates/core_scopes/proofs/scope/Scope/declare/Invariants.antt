@@ -1,6 +1,6 @@
 use Rattle.std.proofs.Common.{◌≡◌, drop}
-use Rattle.core_lowering_steps.specs.Building.{declared}
-use Rattle.core_lowering_steps.specs.Parts.{after_names}
+use Rattle.core_lowering.specs.steps.Building.{declared}
+use Rattle.core_lowering.specs.steps.Parts.{after_names}
 use Rattle.core_scopes.specs.Looks.{look, texts}
 use Rattle.core_scopes.specs.Built.{built}
 use Rattle.core_scopes.proofs.scope.Scope.declare.Given as goal

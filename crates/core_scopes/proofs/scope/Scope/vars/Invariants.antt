@@ -1,5 +1,5 @@
 use Rattle.std.proofs.Common.{◌≡◌, ◌++◌, drop}
-use Rattle.core_lowering_steps.specs.Looks.{vars_of}
+use Rattle.core_lowering.specs.steps.Looks.{vars_of}
 use Rattle.core_scopes.specs.Looks.{look, texts}
 use Rattle.core_scopes.proofs.scope.Scope.vars.Given as goal
 

@@ -1,6 +1,6 @@
 use Rattle.std.proofs.Common.{◌≡◌, ◌++◌, drop, map}
 use Rattle.core_ir.specs.View.{fun_term}
-use Rattle.core_settled.specs.Called.{shapes_at}
+use Rattle.core_facts.specs.constants.Called.{shapes_at}
 use Rattle.plain_facts.proofs.Groups.{group_lists, shape_lists}
 use Rattle.plain_facts.proofs.called.CalledShapes.of_core.Given as goal
 

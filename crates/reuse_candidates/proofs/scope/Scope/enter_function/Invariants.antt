@@ -2,7 +2,7 @@ use Rattle.std.proofs.Common.{◌≡◌, Some, drop, map}
 use Rattle.sac_base.specs.declared.types.ArrayType.{ArrayType}
 use Rattle.core_ir.specs.declared.tree.Var.{Var}
 use Rattle.core_facts.specs.Facts.{note_all, shape_fact}
-use Rattle.core_settled.specs.Called.{shape_of_type}
+use Rattle.core_facts.specs.constants.Called.{shape_of_type}
 use Rattle.counted_marks.specs.Bases.{note_bases}
 use Rattle.fact_table.specs.Table.{facts_of}
 use Rattle.reuse_candidates.specs.Tables.{bases_of}

@@ -1,5 +1,0 @@
-use Rattle.core_acceptance.proofs.Cores.{core_well_formed, core_outcome}
-use Rattle.core_acceptance.proofs.laws.accepted_core.Goals as goal
-
-pub returns : goal.returns
-returns c = record { well_formed = core_well_formed; outcome = core_outcome }

@@ -1,8 +1,0 @@
-//! What acceptance of a program says for its lowering to the core.
-#![tactic(auto)]
-
-mod laws;
-
-pub use laws::{
-    accepted_core, accepted_definite, accepted_main, accepted_standing, accepted_typed,
-};

@@ -1,5 +1,0 @@
-use Rattle.core_fold_steps.proofs.Producer.{producer_cells}
-use Rattle.core_fold_steps.proofs.producers_have_cells.Goals as goal
-
-pub returns : goal.returns
-returns c = λ core calls turns called frame parts k g t e typed fit total bases once full ty s words covered. producer_cells core calls turns typed called fit frame parts k g t e total bases once full ty s words covered

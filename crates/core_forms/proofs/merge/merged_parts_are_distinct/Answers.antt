@@ -1,0 +1,9 @@
+use Rattle.core_forms.proofs.merge.Laws.{still_distinct}
+use Rattle.core_forms.proofs.merge.Placing.{still_placed}
+use Rattle.core_forms.proofs.merge.merged_parts_are_distinct.Goals as goal
+
+pub returns-clause-distinct : goal.returns-clause-distinct
+returns-clause-distinct c = still_distinct
+
+pub returns-clause-placed : goal.returns-clause-placed
+returns-clause-placed c = still_placed

@@ -1,9 +1,0 @@
-use Rattle.core_norm_forms.proofs.Laws.{lighter}
-use Rattle.core_norm_forms.proofs.Weights.{weights}
-use Rattle.core_norm_forms.proofs.weight_falls.Goals as goal
-
-pub returns-clause-falls : goal.returns-clause-falls
-returns-clause-falls c = lighter
-
-pub returns-clause-stays : goal.returns-clause-stays
-returns-clause-stays c = weights

@@ -1,8 +1,0 @@
-//! Tests whether a loop over the array of a marked variable may be a phase.
-#![tactic(auto)]
-
-mod arrays;
-mod holders;
-mod own;
-
-pub use own::may_be_over;

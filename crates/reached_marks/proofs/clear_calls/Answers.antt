@@ -1,8 +1,0 @@
-use Rattle.reached_marks.proofs.Standing.{clear_match, clear_spend}
-use Rattle.reached_marks.proofs.clear_calls.Goals as goal
-
-pub returns-clause-meaning : goal.returns-clause-meaning
-returns-clause-meaning c code counted reached clear turns left nest g is vs s h others owns = clear_match code counted reached clear turns left nest g is vs s h others owns
-
-pub returns-clause-spending : goal.returns-clause-spending
-returns-clause-spending c code counted reached clear turns left nest g is vs s h others owns = clear_spend code counted reached clear turns left nest g is vs s h others owns
