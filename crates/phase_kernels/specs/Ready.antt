@@ -14,5 +14,5 @@ use Rattle.run_values.specs.Scopes.{current}
 abbrev pub HasKernels : KernelCells → KernelScratch → Type 0
 HasKernels s scratch =
     IfSome scratch.cells (IsReady s.cells) × AreMade s.cells.source scratch.ranges.items
-    × AreCellKernels (calls_in s.cells.context) scratch.buffers.items (lent_env s.cells.heap.now (current s.cells.frames.now)) s.cells.plan.now.form (source_bodies s.cells.source)
-    scratch.kernels.items
+    × AreCellKernels (calls_in s.cells.context) scratch.buffers.items (lent_env s.cells.heap.now (current s.cells.frames.now)) s.cells.plan.now.form
+    (source_bodies s.cells.source) scratch.kernels.items
