@@ -1,5 +1,5 @@
 -- The values of the variables in each scope that is open, as the stack of slots has them.
-use Rattle.std.specs.Prelude.{ℕ, ◌+◌, ◌-◌, ◌≤◌, ⊥, Unit, cond, eqb, nat_lt, List, [], ◌∷◌, ◌++◌, length, reverse, slice_index_or}
+use Rattle.std.specs.Prelude.{ℕ, ◌+◌, ◌-◌, ◌≤◌, cond, eqb, nat_lt, List, [], ◌∷◌, ◌++◌, length, reverse, slice_index_or}
 use Rattle.counted_code.specs.Machine.{Values}
 use Rattle.run_values.specs.declared.frames.Frames.{Frames}
 use Rattle.run_values.specs.declared.frames.Undo.{Undo}

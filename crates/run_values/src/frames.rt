@@ -5,7 +5,7 @@ ghost use Rattle.core_ir.specs.declared.tree.Var.{Var};
 ghost use Rattle.counted_code.specs.Machine.{Values, no_values, bind_value, missing_value};
 ghost use Rattle.counted_code.specs.Values.{Small};
 ghost use Rattle.sac_base.specs.Arrays.{scalar};
-ghost use Rattle.run_values.specs.Scopes.{IsBehind, all_slots, slots_of, own_without, own_below, current, outer};
+ghost use Rattle.run_values.specs.Scopes.{IsBehind, all_slots, slots_of, own_without, own_below, seen, current, outer};
 ghost use Rattle.run_values.specs.Shown.{value_of};
 
 use crate::value::{RunValue, Word};
@@ -54,27 +54,33 @@ impl<'a> Frames<'a> {
         ensures current { current result ≡ no_values }
         ensures outer { outer result ≡ [] }
     {
-        Frames {
-            outside: &[],
-            slots: Vec::new(alloc),
-            base: 0,
-            trail: Vec::new(alloc),
-        }
+        Frames::over(alloc, &[], Vec::new(alloc))
     }
 
     /// The variables of the call that runs, and of no other one. They are read where they stand, unless some of them stand elsewhere and some here.
     pub fn lent(&self, alloc: Global) -> Result<Frames<'_>, Memory>
         ensures { IfOk result (λ frames. current frames ≡ current self.now) }
     {
-        let own = self.base.saturating_sub(self.outside.len());
-        let mut frames = Frames::new(alloc);
-        if self.base >= self.outside.len() {
-            frames.outside = rest(&self.slots, own);
-            return Ok(frames);
+        let mut slots = Vec::new(alloc);
+        if let Some(own) = self.base.checked_sub(self.outside.len()) {
+            return Ok(Frames::over(alloc, rest(&self.slots, own), slots));
         }
-        frames.slots.extend_from_slice(rest(self.outside, self.base))?;
-        frames.slots.extend_from_slice(rest(&self.slots, own))?;
-        Ok(frames)
+        slots.extend_from_slice(rest(self.outside, self.base))?;
+        slots.extend_from_slice(&self.slots)?;
+        Ok(Frames::over(alloc, &[], slots))
+    }
+
+    // Slots outside and others behind them, of one call.
+    fn over(alloc: Global, outside: &'a [RunValue], slots: Vec<RunValue>) -> Frames<'a>
+        ensures current { current result ≡ seen (slots_of (outside.now ++ slots.items)) 0 }
+        ensures outer { outer result ≡ [] }
+    {
+        Frames {
+            outside,
+            slots,
+            base: 0,
+            trail: Vec::new(alloc),
+        }
     }
 
     /// The value of a variable.
@@ -84,7 +90,11 @@ impl<'a> Frames<'a> {
     {
         match self.base.checked_add(x.0 as usize) {
             Some(slot) => self.value_at(slot),
-            None => RunValue::Unbound,
+            None => {
+                // what is counted by a word has no slot of a larger number
+                let _count = self.count();
+                RunValue::Unbound
+            }
         }
     }
 
@@ -114,7 +124,15 @@ impl<'a> Frames<'a> {
     pub fn slots(&self) -> usize
         ensures { (x : Var) → result ≤ x.0 → current self.now x ≡ missing_value }
     {
-        (self.outside.len() + self.slots.len()).saturating_sub(self.base)
+        self.count().saturating_sub(self.base)
+    }
+
+    // How many slots there are.
+    #[inline(always)]
+    fn count(&self) -> usize
+        ensures { result ≡ length (all_slots self.now) }
+    {
+        self.outside.len() + self.slots.len()
     }
 
     /// Binds a variable that is not bound. One that is bound counts as want of memory.
@@ -184,7 +202,7 @@ impl<'a> Frames<'a> {
         ensures outer { OnOk result (outer self.new ≡ current self.old ∷ outer self.old) }
     {
         self.trail.push(Undo::Call(self.base))?;
-        self.base = self.outside.len() + self.slots.len();
+        self.base = self.count();
         Ok(())
     }
 
@@ -237,7 +255,10 @@ fn is_free(slots: &[RunValue], slot: usize) -> bool
 fn free(outside: &[RunValue], slots: &mut Vec<RunValue>, slot: usize)
     ensures { slots_of (outside.now ++ slots.new.items) ≡ own_without (length outside.now) slot (slots_of (outside.now ++ slots.old.items)) }
 {
-    if let Some(own) = slot.checked_sub(outside.len()) && own < slots.len() {
+    let Some(own) = slot.checked_sub(outside.len()) else {
+        return;
+    };
+    if own < slots.len() {
         slots[own] = RunValue::Unbound;
     }
 }

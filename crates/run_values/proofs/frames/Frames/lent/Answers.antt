@@ -1,18 +1,22 @@
-use Rattle.std.proofs.Common.{rules, ap, ◌∙◌, ◌≡◌, ◌≤◌, ◌++◌, ◌-◌, drop, take, length}
-use Rattle.run_values.proofs.Slots.{copied, none_copied, rest_taken}
-use Rattle.run_values.proofs.frames.Frames.copy.Goals as goal
+use Rattle.std.proofs.Common.{rules, ap, ◌∙◌, ◌≡◌, ◌<◌, ◌+◌, ◌++◌, drop, length}
+use Rattle.run_values.proofs.Outside.{lent_behind, lent_both}
+use Rattle.run_values.proofs.Slots.{copied}
+use Rattle.run_values.proofs.frames.Frames.lent.Goals as goal
 
-pub returns-then-self-len : goal.returns-then-self-len
-returns-then-self-len c =
-    let past : length c.args.self.now.slots.items ≤ c.args.self.now.base = search rules in
-    c.new.ensures.current ∙ none_copied c.args.self.now.slots.items c.args.self.now.base past
+pub returns-in-Some : goal.returns-in-Some
+returns-in-Some c =
+    let f = c.args.self.now in
+    let place : f.base ≡ length f.outside.now + c.in-Some.own = search rules in
+    let rest : c.rest.result.now ≡ drop c.in-Some.own f.slots.items = c.rest.ensures ∙ ap (drop c.in-Some.own) c.deref.ensures.value in
+    c.over.ensures.current
+    ∙ copied (f.outside.now ++ f.slots.items) (c.rest.result.now ++ c.new-slots.result.items) f.base (ap (λ zs. c.rest.result.now ++ zs) c.new-slots.ensures.items ∙ lent_behind f.outside.now f.slots.items c.rest.result.now f.base c.in-Some.own place rest)
 
 pub returns : goal.returns
 returns c =
-    let base = c.args.self.now.base in
-    let items : c.extend_from_slice.new.self.items ≡ drop base c.args.self.now.slots.items =
-    c.in_ok-extend_from_slice.ensures.items
-    ∙ ap (λ ys. ys ++ take (length c.deref.result.now - base) (drop base c.deref.result.now)) c.new-slots.ensures.items
-    ∙ rest_taken c.deref.result.now base
-    ∙ ap (drop base) c.deref.ensures.value in
-    copied c.args.self.now.slots.items c.extend_from_slice.new.self.items base items
+    let f = c.args.self.now in
+    let items = c.extend_from_slice-2.new.self.items in
+    let inside : f.base < length f.outside.now = search rules in
+    let first = c.in_ok-extend_from_slice.ensures.items ∙ ap (λ ys. ys ++ c.rest-2.result.now) c.new-slots.ensures.items ∙ c.rest-2.ensures in
+    let both : items ≡ drop f.base f.outside.now ++ f.slots.items =
+    c.in_ok-extend_from_slice-2.ensures.items ∙ ap (λ ys. ys ++ c.deref-2.result.now) first ∙ ap (λ ys. drop f.base f.outside.now ++ ys) c.deref-2.ensures.value in
+    c.over-2.ensures.current ∙ copied (f.outside.now ++ f.slots.items) items f.base (lent_both f.outside.now f.slots.items items f.base inside both)
