@@ -1,8 +1,8 @@
 -- Slots that stand behind others, which are only read.
 use Rattle.std.proofs.Common.{◌≡◌, ℕ, zero, suc, ◌+◌, ◌-◌, ◌<◌, ◌≤◌, Bool, true, false, cond, eqb, List, [], ◌∷◌, ◌++◌, length, take, reverse, refl, ap, ◌∙◌, sym, subst, slice_set, arith}
-use Rattle.std.specs.Prelude.{All, drop, nat_lt, slice_index_or}
+use Rattle.std.specs.Prelude.{All, drop, nat_lt}
 use Rattle.std.proofs.lemmas.Bool.{eqb-true, le-ltb, ltb-true, ltb-false}
-use Rattle.std.proofs.lemmas.List.{append-nil, drop-append-le, get_or_past, get_or-take, length-append, length-take, reverse-append, set-append_right}
+use Rattle.std.proofs.lemmas.List.{drop-append-le, get_or_past, get_or-take, length-append, length-take, reverse-append, set-append_right}
 use Rattle.std.proofs.lemmas.List.Elements.{All-head, All-push, All-tail}
 use Rattle.std.proofs.Math.Seq.{drop-append-add, take-append-add}
 use Rattle.run_values.specs.declared.frames.Undo.{Undo}
@@ -10,7 +10,6 @@ use Rattle.run_values.specs.declared.frames.Undo.TheVariants.{Bound, Scope, Call
 use Rattle.run_values.specs.declared.value.RunValue.{RunValue}
 use Rattle.run_values.specs.declared.value.RunValue.TheVariants.{Unbound}
 use Rattle.run_values.specs.Scopes.{IsBehind, Slots, around, below, own_below, own_without, seen, slots_of, without}
-use Rattle.run_values.specs.Shown.{value_of}
 use Rattle.run_values.proofs.Slots.{set_at, take_whole}
 
 later : (x : RunValue) (xs ys : List RunValue) → slots_of xs ≡ slots_of ys → slots_of (x ∷ xs) ≡ slots_of (x ∷ ys)
@@ -51,6 +50,15 @@ cut_at ys m i = go (nat_lt i m) refl
     go true e = get_or-take m ys i Unbound (ltb-true i m e)
     go false e = get_or_past (take m ys) i Unbound (omega (arith, length-take m ys, ltb-false i m e))
 
+-- a last slot in which nothing is bound may be left out
+pub trimmed : (xs : List RunValue) (k : ℕ) → slots_of xs k ≡ Unbound → slots_of (take (k + 1) xs) ≡ slots_of xs → slots_of (take k xs) ≡ slots_of xs
+trimmed xs k free same = λ j i. (cut_at xs k i ∙ at i (nat_lt i k) (nat_lt i (k + 1)) refl refl) j
+  where
+    at : (i : ℕ) (below next : Bool) → nat_lt i k ≡ below → nat_lt i (k + 1) ≡ next → cond below (slots_of xs i) Unbound ≡ slots_of xs i
+    at i true next e f = refl
+    at i false true e f = sym (ap (slots_of xs) (omega (arith, ltb-false i k e, ltb-true i (k + 1) f)) ∙ free)
+    at i false false e f = sym (ap (λ s. s i) (sym same) ∙ get_or_past (take (k + 1) xs) i Unbound (omega (arith, length-take (k + 1) xs, ltb-false i (k + 1) f)))
+
 pub cut_behind : (o xs ys : List RunValue) (base : ℕ) → ys ≡ take (base - length o) xs → slots_of (o ++ ys) ≡ own_below (length o) base (slots_of (o ++ xs))
 cut_behind o xs ys base is =
     ap (λ zs. slots_of (o ++ zs)) is
@@ -78,8 +86,8 @@ turned n [] are = are
 turned n (u ∷ us) are = subst (All (IsBehind n)) (sym (reverse-append (u ∷ []) us)) (All-push (IsBehind n) (reverse us) u (turned n us (All-tail (IsBehind n) u us are)) (All-head (IsBehind n) u us are))
 
 -- the slots of a call that stand behind, as slots of their own
-pub lent_behind : (o xs ys : List RunValue) (base own : ℕ) → base ≡ length o + own → ys ≡ drop own xs → ys ++ [] ≡ drop base (o ++ xs)
-lent_behind o xs ys base own is rest = append-nil ys ∙ rest ∙ sym (ap (λ k. drop k (o ++ xs)) is ∙ drop-append-add o xs own)
+pub lent_behind : (o xs ys : List RunValue) (base own : ℕ) → base ≡ length o + own → ys ≡ drop own xs → ys ≡ drop base (o ++ xs)
+lent_behind o xs ys base own is rest = rest ∙ sym (ap (λ k. drop k (o ++ xs)) is ∙ drop-append-add o xs own)
 
 -- and those that stand on both sides
 pub lent_both : (o xs ys : List RunValue) (base : ℕ) → base < length o → ys ≡ drop base o ++ xs → ys ≡ drop base (o ++ xs)

@@ -63,7 +63,8 @@ impl<'a> Frames<'a> {
     {
         let mut slots = Vec::new(alloc);
         if let Some(own) = self.base.checked_sub(self.outside.len()) {
-            return Ok(Frames::over(alloc, rest(&self.slots, own), slots));
+            let outside = up_to_last(rest(&self.slots, own));
+            return Ok(Frames::over(alloc, outside, slots));
         }
         slots.extend_from_slice(rest(self.outside, self.base))?;
         slots.extend_from_slice(&self.slots)?;
@@ -278,6 +279,17 @@ fn rest(slots: &[RunValue], base: usize) -> &[RunValue]
         return &[];
     }
     &slots[base..]
+}
+
+// The slots up to the last in which something is bound, so that what is bound later stands behind them.
+fn up_to_last(slots: &[RunValue]) -> &[RunValue]
+    ensures { slots_of result.now ≡ slots_of slots.now }
+{
+    let mut count = slots.len();
+    while count > 0 && is_free(slots, count - 1) {
+        count -= 1;
+    }
+    &slots[..count]
 }
 
 // What stands in one of these slots.

@@ -1,4 +1,4 @@
-use Rattle.std.proofs.Common.{rules, ap, sym, arith, ◌+◌, ◌++◌, ◌<◌, ◌≤◌, ◌^◌, length}
+use Rattle.std.proofs.Common.{rules, ap, sym, arith, ◌+◌, ◌++◌, ◌<◌, ◌≤◌, ◌^◌}
 use Rattle.std.proofs.lemmas.List.{get_or_past}
 use Rattle.run_values.specs.declared.value.RunValue.TheVariants.{Unbound}
 use Rattle.run_values.specs.Shown.{value_of}

@@ -1,4 +1,6 @@
 use Rattle.std.proofs.Common.{rules, ap, ◌∙◌, ◌≡◌, ◌<◌, ◌+◌, ◌++◌, drop, length}
+use Rattle.std.proofs.lemmas.List.{append-nil}
+use Rattle.run_values.specs.Scopes.{seen, slots_of}
 use Rattle.run_values.proofs.Outside.{lent_behind, lent_both}
 use Rattle.run_values.proofs.Slots.{copied}
 use Rattle.run_values.proofs.frames.Frames.lent.Goals as goal
@@ -9,7 +11,10 @@ returns-in-Some c =
     let place : f.base ≡ length f.outside.now + c.in-Some.own = search rules in
     let rest : c.rest.result.now ≡ drop c.in-Some.own f.slots.items = c.rest.ensures ∙ ap (drop c.in-Some.own) c.deref.ensures.value in
     c.over.ensures.current
-    ∙ copied (f.outside.now ++ f.slots.items) (c.rest.result.now ++ c.new-slots.result.items) f.base (ap (λ zs. c.rest.result.now ++ zs) c.new-slots.ensures.items ∙ lent_behind f.outside.now f.slots.items c.rest.result.now f.base c.in-Some.own place rest)
+    ∙ ap (λ zs. seen (slots_of (c.up_to_last-outside.result.now ++ zs)) 0) c.new-slots.ensures.items
+    ∙ ap (λ zs. seen (slots_of zs) 0) (append-nil c.up_to_last-outside.result.now)
+    ∙ ap (λ s. seen s 0) c.up_to_last-outside.ensures
+    ∙ copied (f.outside.now ++ f.slots.items) c.rest.result.now f.base (lent_behind f.outside.now f.slots.items c.rest.result.now f.base c.in-Some.own place rest)
 
 pub returns : goal.returns
 returns c =
