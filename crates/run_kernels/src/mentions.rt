@@ -13,7 +13,11 @@ use std::alloc::Global;
 const MOST_MENTIONED: usize = 256;
 
 /// The variables that a right side without loops over cells mentions and that are bound in the call that runs, each once.
-pub fn mentions_of(alloc: Global, right: &CodeRight, frames: &Frames<'_>) -> Result<Vec<Var>, Memory> {
+pub fn mentions_of(
+    alloc: Global,
+    right: &CodeRight,
+    frames: &Frames<'_>,
+) -> Result<Vec<Var>, Memory> {
     let mut all = Vec::new(alloc);
     mention_right(right, frames, &mut all)?;
     Ok(all)
@@ -52,7 +56,11 @@ fn mention_right(right: &CodeRight, frames: &Frames<'_>, all: &mut Vec<Var>) -> 
     }
 }
 
-fn mention_operands(right: &CodeRight, frames: &Frames<'_>, all: &mut Vec<Var>) -> Result<(), Memory> {
+fn mention_operands(
+    right: &CodeRight,
+    frames: &Frames<'_>,
+    all: &mut Vec<Var>,
+) -> Result<(), Memory> {
     match right {
         CodeRight::Copy(x) | CodeRight::Unary(_, x) | CodeRight::Dim(x) | CodeRight::Check(x, _) =>
             { mention(*x, frames, all) }

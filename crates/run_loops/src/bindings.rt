@@ -75,7 +75,12 @@ pub fn push_values(
 }
 
 /// Binds the index of a cell, and its components to the names.
-pub fn bind_index(state: &mut State<'_, '_>, index: Var, names: &[Var], v: &[i32]) -> Result<(), Memory>
+pub fn bind_index(
+    state: &mut State<'_, '_>,
+    index: Var,
+    names: &[Var],
+    v: &[i32],
+) -> Result<(), Memory>
     ensures bound { OnOk result (Binds state.old state.new
         (bind_values (bind_value (current state.old.frames) index (Small (vector Base.Int v.now))) names.now
         (map (λ z. Small (scalar Base.Int z)) v.now))) }
