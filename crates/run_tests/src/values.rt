@@ -148,6 +148,20 @@ fn in_call(frames: &mut Frames<'_>) -> Result<(Option<Cell>, Option<Cell>), Memo
     Ok((before, word(frames, 3)?))
 }
 
+/// What a variable is for a worker that binds it in a scope, within the scope and after it.
+fn in_worker(
+    frames: &Frames<'_>,
+    alloc: Global,
+    x: u32,
+) -> Result<(Option<Cell>, Option<Cell>), Memory> {
+    let mut own = frames.lent(alloc)?;
+    enter(&mut own)?;
+    bind(&mut own, x, 10)?;
+    let within = word(&own, x)?;
+    leave(&mut own);
+    Ok((within, word(&own, x)?))
+}
+
 #[test]
 fn what_a_scope_binds_ends_with_it(rt: HostRuntime) {
     let mut frames = Frames::new(rt.alloc());
@@ -157,5 +171,16 @@ fn what_a_scope_binds_ends_with_it(rt: HostRuntime) {
     leave(&mut frames);
     assert!(rt; holds(&frames, 10, 30));
     leave(&mut frames);
+    assert!(rt; holds(&frames, 0, 30));
+}
+
+#[test]
+fn what_a_worker_binds_is_its_own(rt: HostRuntime) {
+    let alloc = rt.alloc();
+    let mut frames = Frames::new(alloc);
+    assert_eq!(rt; bind(&mut frames, 3, 30), Ok(()));
+    assert_eq!(rt; in_worker(&frames, alloc, 5), Ok((Some(10), Some(0))));
+    assert_eq!(rt; in_worker(&frames, alloc, 1), Ok((Some(10), Some(0))));
+    assert_eq!(rt; in_worker(&frames, alloc, 3), Err(Memory));
     assert!(rt; holds(&frames, 0, 30));
 }
