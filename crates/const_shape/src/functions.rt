@@ -26,7 +26,7 @@ use unused_bindings::remove_unused;
 /// from. Checks that cannot fail and copies go, their sources are used in their place, and bindings that are then not used and whose right side is known to
 /// have a value go.
 ///
-/// The new core is exactly that of the four passes one after another, as `core_cleaning` defines them. The groups, main, and the types of all functions
+/// The new core is exactly that of the four passes one after another, as `core_forms::cleaning` defines them. The groups, main, and the types of all functions
 /// stay. Of a well-formed core the result is well formed and has the same outcome on arrays, under all limits. In each function of the result, by what is
 /// known in it of its parameters and of the results of calls, each literal variable is bound by a constant.
 ///

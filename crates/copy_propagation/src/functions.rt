@@ -15,7 +15,7 @@ use std::alloc::Global;
 
 /// Uses the sources of copies in the place of the copies, in each function of a core. The copies stay as bindings.
 ///
-/// The new core is exactly the one that `core_cleaning` defines. Of a well-formed core it is well formed and has the same outcome on arrays, under all
+/// The new core is exactly the one that `core_forms::cleaning` defines. Of a well-formed core it is well formed and has the same outcome on arrays, under all
 /// limits.
 ///
 /// # Errors

@@ -19,7 +19,7 @@ use std::alloc::Global;
 /// operand, `Dim` and `ShapeOf`; operators of two operands whose known shapes fit, but `/` and `%` only by literals without a zero; literals of one known
 /// shape; selections from a known shape at a literal index in range. What only such bindings use is not used either.
 ///
-/// The new core is exactly the one that `core_cleaning` defines. Of a well-formed core it is well formed and has the same outcome on arrays, under all
+/// The new core is exactly the one that `core_forms::cleaning` defines. Of a well-formed core it is well formed and has the same outcome on arrays, under all
 /// limits.
 ///
 /// # Errors

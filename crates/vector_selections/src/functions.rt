@@ -22,7 +22,7 @@ use std::alloc::Global;
 /// Lets the selections of a core by scalars that are not literal go by vectors of one number, which are bound before them to new variables. Then the index
 /// of a loop over one axis is a vector wherever an array is selected from by it.
 ///
-/// The new core is exactly the one that `core_selections` defines, and the number says how many vectors are new: where there is none, the core is as it
+/// The new core is exactly the one that `core_forms::selections` defines, and the number says how many vectors are new: where there is none, the core is as it
 /// was. The groups, main, and the types of all functions stay. Of a well-formed core the result is well formed and has the same outcome on arrays, under
 /// all limits.
 ///
