@@ -18,7 +18,7 @@ use std::alloc::Global;
 pub fn alive_in(
     alloc: Global,
     source: &CellSource<'_>,
-    frames: &Frames,
+    frames: &Frames<'_>,
     heap: &Heap,
 ) -> Result<Vec<Var>, Memory>
     ensures { IfOk result (λ xs. AreAlive heap.now (current frames.now) xs.items) }
@@ -31,7 +31,7 @@ pub fn alive_in(
 fn alive_among(
     alloc: Global,
     variables: &[Var],
-    frames: &Frames,
+    frames: &Frames<'_>,
     heap: &Heap,
 ) -> Result<Vec<Var>, Memory>
     ensures { IfOk result (λ xs. AreAlive heap.now (current frames.now) xs.items) }

@@ -17,8 +17,8 @@ pub struct LoopCall<F, O> {
 
 impl<F, O> Phases for LoopCall<F, O>
 where
-    F: Fn(&CellLoop<'_>, &Context<'_>, &mut State<'_>) -> Result<RunValue, Stop>,
-    O: Fn(&CellLoop<'_>, RunValue, &Context<'_>, &mut State<'_>) -> Result<RunValue, Stop>,
+    F: Fn(&CellLoop<'_>, &Context<'_>, &mut State<'_, '_>) -> Result<RunValue, Stop>,
+    O: Fn(&CellLoop<'_>, RunValue, &Context<'_>, &mut State<'_, '_>) -> Result<RunValue, Stop>,
 {
     ghost runs = { λ c.
         F.IsAlwaysCallable c.run
@@ -31,7 +31,7 @@ where
         &self,
         work: &CellLoop<'_>,
         context: &Context<'_>,
-        state: &mut State<'_>,
+        state: &mut State<'_, '_>,
     ) -> Result<RunValue, Stop> {
         (self.run)(work, context, state)
     }
@@ -41,7 +41,7 @@ where
         work: &CellLoop<'_>,
         array: RunValue,
         context: &Context<'_>,
-        state: &mut State<'_>,
+        state: &mut State<'_, '_>,
     ) -> Result<RunValue, Stop> {
         (self.over)(work, array, context, state)
     }

@@ -39,7 +39,7 @@ pub fn begin_phase(
     alloc: Global,
     shape: &Shape,
     positions: usize,
-    state: &mut State<'_>,
+    state: &mut State<'_, '_>,
 ) -> Result<Begun, Memory>
     ensures begun { (m : MachineHeap) (n : ℕ) → n ≡ positions → IsAt state.old m
         → IfOk result (λ b. IsBegun (target_of b.target) state.new
@@ -74,7 +74,7 @@ pub fn open_books(phases: &mut PhaseCount, heap: &Heap, positions: usize) -> Res
 }
 
 /// Ends a phase without a fault: the main heap takes over the workers' heap, and the tally comes back.
-pub fn end_phase(books: Books, state: &mut State<'_>)
+pub fn end_phase(books: Books, state: &mut State<'_, '_>)
     requires empty { (b : ℕ) → at books.home b ≡ None }
     requires later { state.old.heap.own.births ≤ books.home.births }
     requires tally { Has books.count state.old.phases }
@@ -90,7 +90,7 @@ pub fn end_phase(books: Books, state: &mut State<'_>)
 
 /// Ends a phase with a fault: what workers have left is given back, the main heap counts all that they have taken and given
 /// back, and the tally comes back.
-pub fn stop_phase(books: Books, state: &mut State<'_>)
+pub fn stop_phase(books: Books, state: &mut State<'_, '_>)
     requires tally { Has books.count state.old.phases }
     ensures taken { state.new.heap.own.taken ≡ (state.old.heap.own.taken + books.home.taken) % 2 ^ 64 }
     ensures given { state.new.heap.own.given ≡ (state.old.heap.own.given + books.home.taken) % 2 ^ 64 }
@@ -109,7 +109,7 @@ pub fn finish_phase(
     target: Target,
     base: Base,
     shape: &Shape,
-    state: &mut State<'_>,
+    state: &mut State<'_, '_>,
 ) -> Result<RunValue, Stop>
     ensures told { (m : MachineHeap) → IsAt state.old m
         → Told IsValue result state.new (settled (target_of target) (record { base = base; shape = shape.now; cells = target.cells.items }) m) }

@@ -46,7 +46,7 @@ impl<'a, G: Gate, R: Threads + Sync> Workers<'a, G, R> {
 
 /// How many steps a cell of a source takes at most that reads these variables, and as many as there are numbers where it has
 /// loops or calls.
-pub fn steps_of(source: &CellSource<'_>, live: &[Var], frames: &Frames) -> u64 {
+pub fn steps_of(source: &CellSource<'_>, live: &[Var], frames: &Frames<'_>) -> u64 {
     let greatest = match source {
         CellSource::Generators(gens) => gens_steps(gens),
         CellSource::Parts(parts) => parts_steps(parts),
@@ -71,7 +71,7 @@ fn parts_steps(parts: &[CodePart]) -> u64 {
 }
 
 // How many steps an operator takes whose operands are no larger than the largest of these variables.
-fn operator_steps(live: &[Var], frames: &Frames) -> u64 {
+fn operator_steps(live: &[Var], frames: &Frames<'_>) -> u64 {
     let mut greatest = 0u64;
     for x in live {
         greatest = greatest.max(elements_of(frames.get(*x)));

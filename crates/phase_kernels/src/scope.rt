@@ -29,7 +29,7 @@ pub struct Scope<'a> {
 pub fn scope_of<'a>(
     alloc: Global,
     live: &[Var],
-    frames: &Frames,
+    frames: &Frames<'_>,
     heap: &'a Heap,
 ) -> Result<Scope<'a>, Memory>
     ensures { IfOk result (λ s. IsScope s.buffers.items (lent_env heap.now (current frames.now)) s.known.items) }

@@ -14,17 +14,17 @@ use sac_base::{Cell, Memory};
 /// generator or part, the buffers that kernels read, and room for their runs.
 #[derive(Drop)]
 pub struct KernelScratch<'a> {
-    pub cells: Option<CellScratch>,
+    pub cells: Option<CellScratch<'a>>,
     pub ranges: Vec<Range>,
     pub kernels: Vec<Option<CellKernel>>,
     pub buffers: Vec<Buffer<'a>>,
     pub room: KernelRoom,
 }
 
-/// Makes what the evaluator needs, if it is not there: it has a copy of the call's variables, which kernels do without.
-pub(crate) fn begin_once(
-    cells: &LoopCells<'_>,
-    scratch: &mut Option<CellScratch>,
+/// Makes what the evaluator needs, if it is not there: kernels do without.
+pub(crate) fn begin_once<'a>(
+    cells: &LoopCells<'a>,
+    scratch: &mut Option<CellScratch<'a>>,
 ) -> Result<(), Memory>
     requires { IfSome scratch.old (IsReady cells.now) }
     ensures { IfSome scratch.new (IsReady cells.now) }

@@ -33,7 +33,7 @@ use std::mem;
 pub struct LoopCells<'a> {
     pub context: Context<'a>,
     pub heap: &'a Heap,
-    pub frames: &'a Frames,
+    pub frames: &'a Frames<'a>,
     /// Where the cells come from.
     pub source: CellSource<'a>,
     /// The indices, what each cell must be, and the ranges of generators.
@@ -43,7 +43,7 @@ pub struct LoopCells<'a> {
 }
 
 impl<'a> CellRuns for LoopCells<'a> {
-    type Scratch = CellScratch;
+    type Scratch = CellScratch<'a>;
 
     ghost cell = { λ s p. source_cell s.context s.heap.now (current s.frames.now) s.source s.plan.now s.background p };
 
@@ -63,13 +63,13 @@ impl<'a> CellRuns for LoopCells<'a> {
         self.heap
     }
 
-    fn begin(&self) -> Result<CellScratch, Memory> {
+    fn begin(&self) -> Result<CellScratch<'a>, Memory> {
         CellScratch::of(self.frames, &self.source, self.plan, self.context.alloc)
     }
 
     fn run(
         &self,
-        scratch: &mut CellScratch,
+        scratch: &mut CellScratch<'a>,
         store: &mut Store<'_>,
         position: usize,
         into: &mut [Cell],
@@ -95,7 +95,7 @@ fn cell_at(
     cells: &LoopCells<'_>,
     position: usize,
     walk: &mut Walk,
-    state: &mut State<'_>,
+    state: &mut State<'_, '_>,
     into: &mut [Cell],
 ) -> Result<bool, Stop>
     requires walk { IsWalk cells.now.source cells.now.plan.now walk.old }

@@ -64,7 +64,7 @@ module _ (code_sync : IsSync code.the_row) where
       (
         as_row_sync (shr_ref_field l heap.the_row tt) (shr_sync _ _ heap.the_row heap_shared.the_sync),
         (
-          as_row_sync (shr_ref_field l frames.the_row tt) (shr_sync _ _ frames.the_row frames_shared.the_sync),
+          as_row_sync (shr_ref_field l (frames.the_row l) tt) (shr_sync _ _ (frames.the_row l) (frames_shared.the_sync l)),
           (
             source_sync l,
             (

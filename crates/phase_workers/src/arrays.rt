@@ -36,7 +36,7 @@ pub fn array_by_workers<'a, G: Gate, R: Threads + Sync>(
     work: &CellLoop<'a>,
     live: &[Var],
     context: &Context<'a>,
-    state: &mut State<'_>,
+    state: &mut State<'_, '_>,
 ) -> Result<RunValue, Stop>
     requires apart { StandsApart context.now state.old work.now.source live.now }
     requires large { MakesLarge work.now.result work.now.plan.now }
@@ -78,7 +78,7 @@ pub fn array_cells<'a, G: Gate, R: Threads + Sync>(
     live: &'a [Var],
     background: Option<Background<'a>>,
     context: Context<'a>,
-    state: &'a State<'_>,
+    state: &'a State<'_, '_>,
     begun: &mut Begun,
 ) -> Result<(), Stop>
     requires counted { SourceIn (code_program context.code.now) work.source live.now }

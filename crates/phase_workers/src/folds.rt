@@ -62,7 +62,7 @@ pub fn fold_by_workers<'a, G: Gate, R: Threads + Sync>(
     neutral: Array,
     live: &[Var],
     context: &Context<'a>,
-    state: &mut State<'_>,
+    state: &mut State<'_, '_>,
 ) -> Result<RunValue, Stop>
     requires apart { StandsApart context.now state.old work.now.source live.now }
     requires op { IsTrue (folds_value work.now.plan.now.form.base op) }
@@ -103,7 +103,7 @@ fn fold_in<'a, G: Gate, R: Threads + Sync>(
     op: Op,
     live: &'a [Var],
     context: Context<'a>,
-    state: &'a State<'_>,
+    state: &'a State<'_, '_>,
     begun: &mut Begun,
 ) -> Result<(), Stop>
     requires counted { SourceIn (code_program context.code.now) work.source live.now }

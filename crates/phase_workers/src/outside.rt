@@ -29,7 +29,7 @@ pub fn loop_outside<'a, G: Gate, R: Threads + Sync>(
     workers: &Workers<'_, G, R>,
     work: &CellLoop<'a>,
     context: &Context<'a>,
-    state: &mut State<'_>,
+    state: &mut State<'_, '_>,
 ) -> Result<RunValue, Stop>
     ensures told { (m : MachineHeap) → IsAt state.old m
         → Told IsValue result state.new (job_does None (job_of context.now (current state.old.frames) m work.now) m) }
@@ -49,7 +49,7 @@ fn array_outside<'a, G: Gate, R: Threads + Sync>(
     workers: &Workers<'_, G, R>,
     work: &CellLoop<'a>,
     context: &Context<'a>,
-    state: &mut State<'_>,
+    state: &mut State<'_, '_>,
 ) -> Result<RunValue, Stop>
     ensures told { (m : MachineHeap) → IsAt state.old m
         → Told IsValue result state.new (job_does None (job_of context.now (current state.old.frames) m work.now) m) }
@@ -83,7 +83,7 @@ fn fold_outside<'a, G: Gate, R: Threads + Sync>(
     op: Op,
     neutral: &Array,
     context: &Context<'a>,
-    state: &mut State<'_>,
+    state: &mut State<'_, '_>,
 ) -> Result<RunValue, Stop>
     requires { work.now.result ≡ Folded op neutral }
     ensures told { (m : MachineHeap) → IsAt state.old m

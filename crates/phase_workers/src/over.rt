@@ -43,7 +43,7 @@ pub fn over_outside<G: Gate, R: Threads + Sync>(
     work: &CellLoop<'_>,
     array: RunValue,
     context: &Context<'_>,
-    state: &mut State<'_>,
+    state: &mut State<'_, '_>,
 ) -> Result<RunValue, Stop>
     ensures told { (m : MachineHeap) → IsAt state.old m → IsOver work.now (value_of array) m
         → Told IsValue result state.new (over_does context.now (current state.old.frames) work.now (value_of array) m) }
@@ -71,7 +71,7 @@ fn is_phase_over<'a>(
     array: RunValue,
     live: &'a [Var],
     context: Context<'a>,
-    state: &'a State<'_>,
+    state: &'a State<'_, '_>,
 ) -> Result<bool, Memory>
     ensures { IfOk result (λ over. IsTrue over →
         MayBeOver context.entry state.now.heap.own (current state.now.frames) parts.now plan.now.form plan.now.shape live.now (value_of array)) }
@@ -98,7 +98,7 @@ fn over_by_workers<'a, G: Gate, R: Threads + Sync>(
     array: RunValue,
     live: &[Var],
     context: &Context<'_>,
-    state: &mut State<'_>,
+    state: &mut State<'_, '_>,
 ) -> Result<RunValue, Stop>
     requires counted { PartsIn (code_program context.now.code.now) (parts_term parts.now) live.now }
     requires alive { AreAlive state.old.heap.own (current state.old.frames) live.now }

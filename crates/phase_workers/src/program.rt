@@ -59,7 +59,7 @@ pub fn run<G: Gate, R: Threads + Sync>(
         nesting: &nesting,
     };
     let calls = LoopCall {
-        run: |work: &CellLoop<'_>, context: &Context<'_>, state: &mut State<'_>| -> Result<
+        run: |work: &CellLoop<'_>, context: &Context<'_>, state: &mut State<'_, '_>| -> Result<
             RunValue,
             Stop,
         >

@@ -18,7 +18,7 @@ pub fn live_apart<G: Gate, R: Threads + Sync>(
     workers: &Workers<'_, G, R>,
     source: &CellSource<'_>,
     context: &Context<'_>,
-    state: &State<'_>,
+    state: &State<'_, '_>,
 ) -> Result<Option<Vec<Var>>, Memory>
     ensures { IfOk result (λ found. IfSome found (λ live. StandsApart context.now state.now source.now live.items)) }
 {

@@ -17,7 +17,7 @@ pub fn team_for<'a, 'b, G: Gate, R: Threads + Sync>(
     plan: &'a Plan,
     live: &'a [Var],
     context: Context<'a>,
-    state: &'a State<'_>,
+    state: &'a State<'_, '_>,
 ) -> Workers<'b, G, R> {
     let count = plan.frame.count();
     let steps = steps_of(&source, live, &state.frames);

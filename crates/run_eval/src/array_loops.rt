@@ -33,7 +33,7 @@ pub fn run_with<P: Phases>(
     site: Site,
     context: &Context<'_>,
     outside: Option<&Outside<P>>,
-    state: &mut State<'_>,
+    state: &mut State<'_, '_>,
 ) -> Result<RunValue, Stop>
     ensures told { (m : MachineHeap) → IsAt state.old m
         → Told IsOnly result state.new (right_in context.now (code_with_term with.now) site (current state.old.frames) m) }
@@ -94,7 +94,7 @@ pub fn run_parted<P: Phases>(
     site: Site,
     context: &Context<'_>,
     outside: Option<&Outside<P>>,
-    state: &mut State<'_>,
+    state: &mut State<'_, '_>,
 ) -> Result<RunValue, Stop>
     ensures told { (m : MachineHeap) → IsAt state.old m
         → Told IsOnly result state.new (right_in context.now (code_parted_term parted.now) site (current state.old.frames) m) }
@@ -144,7 +144,7 @@ pub fn run_cell_loop<P: Phases>(
     work: &CellLoop<'_>,
     context: &Context<'_>,
     outside: Option<&Outside<P>>,
-    state: &mut State<'_>,
+    state: &mut State<'_, '_>,
 ) -> Result<RunValue, Stop>
     ensures told { (m : MachineHeap) → IsAt state.old m
         → Told IsValue result state.new (job_does None (job_of context.now (current state.old.frames) m work.now) m) }
@@ -180,7 +180,7 @@ fn run_array<P: Phases>(
     background: Option<Background<'_>>,
     context: &Context<'_>,
     outside: Option<&Outside<P>>,
-    state: &mut State<'_>,
+    state: &mut State<'_, '_>,
 ) -> Result<RunValue, Stop>
     ensures told { (m : MachineHeap) → IsAt state.old m
         → Told IsValue result state.new (job_does None
@@ -201,7 +201,7 @@ fn fill<P: Phases>(
     background: Option<Background<'_>>,
     context: &Context<'_>,
     outside: Option<&Outside<P>>,
-    state: &mut State<'_>,
+    state: &mut State<'_, '_>,
     cells: &mut Vec<Cell>,
 ) -> Result<(), Stop>
     ensures told { (m : MachineHeap) → IsAt state.old m
@@ -235,7 +235,7 @@ fn run_fold<P: Phases>(
     neutral: &Array,
     context: &Context<'_>,
     outside: Option<&Outside<P>>,
-    state: &mut State<'_>,
+    state: &mut State<'_, '_>,
 ) -> Result<RunValue, Stop>
     ensures told { (m : MachineHeap) → IsAt state.old m
         → Told IsValue result state.new (job_does None
@@ -258,7 +258,7 @@ fn fold_cells<P: Phases>(
     first: Sum,
     context: &Context<'_>,
     outside: Option<&Outside<P>>,
-    state: &mut State<'_>,
+    state: &mut State<'_, '_>,
 ) -> Result<Sum, Stop>
     ensures told { (m : MachineHeap) → IsAt state.old m
         → Told (λ s found. array_of s ≡ fold (combined op) (array_of first) found) result state.new
@@ -293,7 +293,7 @@ pub fn loop_cell<P: Phases>(
     index: &[i32],
     context: &Context<'_>,
     outside: Option<&Outside<P>>,
-    state: &mut State<'_>,
+    state: &mut State<'_, '_>,
 ) -> Result<Option<RunValue>, Stop>
     ensures told { (m : MachineHeap) → IsAt state.old m
         → Told IsPresent result state.new (unreleased form.now (source_at context.now (current state.old.frames) source.now ranges.now index.now) m) }
@@ -317,7 +317,7 @@ pub fn run_cell<P: Phases>(
     index: &[i32],
     context: &Context<'_>,
     outside: Option<&Outside<P>>,
-    state: &mut State<'_>,
+    state: &mut State<'_, '_>,
 ) -> Result<RunValue, Stop>
     ensures told { (m : MachineHeap) → IsAt state.old m
         → Told IsValue result state.new (body_cell context.now (body_of body.now) form.now index.now (current state.old.frames) m) }

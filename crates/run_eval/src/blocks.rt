@@ -31,7 +31,7 @@ fn run_steps<P: Phases>(
     steps: &[CodeStep],
     context: &Context<'_>,
     outside: Option<&Outside<P>>,
-    state: &mut State<'_>,
+    state: &mut State<'_, '_>,
 ) -> Result<(), Stop>
     ensures told { (m : MachineHeap) → IsAt state.old m → ToldSteps context.now steps.now state.old state.new m result }
     ensures scopes { OnOk result (SameOuter state.old.frames state.new.frames) }
@@ -56,7 +56,7 @@ fn run_step<P: Phases>(
     step: &CodeStep,
     context: &Context<'_>,
     outside: Option<&Outside<P>>,
-    state: &mut State<'_>,
+    state: &mut State<'_, '_>,
 ) -> Result<(), Stop>
     ensures told { (m : MachineHeap) → IsAt state.old m → ToldSteps context.now (step.now ∷ []) state.old state.new m result }
     ensures scopes { OnOk result (SameOuter state.old.frames state.new.frames) }
@@ -75,7 +75,7 @@ fn run_let<P: Phases>(
     binding: &CodeLet,
     context: &Context<'_>,
     outside: Option<&Outside<P>>,
-    state: &mut State<'_>,
+    state: &mut State<'_, '_>,
 ) -> Result<(), Stop>
     ensures told { (m : MachineHeap) → IsAt state.old m → ToldSteps context.now (CodeStep.Bind binding.now ∷ []) state.old state.new m result }
     ensures scopes { OnOk result (SameOuter state.old.frames state.new.frames) }
@@ -110,7 +110,7 @@ fn run_open<P: Phases>(
     block: &CodeBlock,
     context: &Context<'_>,
     outside: Option<&Outside<P>>,
-    state: &mut State<'_>,
+    state: &mut State<'_, '_>,
     values: &mut Vec<RunValue>,
 ) -> Result<(), Stop>
     ensures told { (m : MachineHeap) → IsAt state.old m → Told (λ _ ws. Appends values.old.items values.new.items ws) result state.new
@@ -130,7 +130,7 @@ fn run_block<P: Phases>(
     block: &CodeBlock,
     context: &Context<'_>,
     outside: Option<&Outside<P>>,
-    state: &mut State<'_>,
+    state: &mut State<'_, '_>,
     values: &mut Vec<RunValue>,
 ) -> Result<(), Stop>
     ensures told { (m : MachineHeap) → IsAt state.old m → Told (λ _ ws. Appends values.old.items values.new.items ws) result state.new
@@ -148,7 +148,7 @@ pub fn run_first<P: Phases>(
     block: &CodeBlock,
     context: &Context<'_>,
     outside: Option<&Outside<P>>,
-    state: &mut State<'_>,
+    state: &mut State<'_, '_>,
 ) -> Result<RunValue, Stop>
     ensures told { (m : MachineHeap) → IsAt state.old m
         → Told IsValue result state.new (first_value (does_in context.now (code_term block.now) (current state.old.frames)) m) }
@@ -167,7 +167,7 @@ fn run_inner<P: Phases>(
     block: &CodeBlock,
     context: &Context<'_>,
     outside: Option<&Outside<P>>,
-    state: &mut State<'_>,
+    state: &mut State<'_, '_>,
 ) -> Result<RunValue, Stop>
     ensures told { (m : MachineHeap) → IsAt state.old m
         → Told IsValue result state.new (first_value (does_in context.now (code_term block.now) (current state.old.frames)) m) }
@@ -185,7 +185,7 @@ fn run_right<P: Phases>(
     site: Site,
     context: &Context<'_>,
     outside: Option<&Outside<P>>,
-    state: &mut State<'_>,
+    state: &mut State<'_, '_>,
 ) -> Result<RunValue, Stop>
     ensures told { (m : MachineHeap) → IsAt state.old m
         → Told IsFirst result state.new (right_in context.now (code_right_term right.now) site (current state.old.frames) m) }
@@ -217,7 +217,7 @@ fn run_rights<P: Phases>(
     site: Site,
     context: &Context<'_>,
     outside: Option<&Outside<P>>,
-    state: &mut State<'_>,
+    state: &mut State<'_, '_>,
     values: &mut Vec<RunValue>,
 ) -> Result<(), Stop>
     ensures told { (m : MachineHeap) → IsAt state.old m → Told (λ _ ws. Appends values.old.items values.new.items ws) result state.new
@@ -287,7 +287,7 @@ fn run_one<P: Phases>(
     site: Site,
     context: &Context<'_>,
     outside: Option<&Outside<P>>,
-    state: &mut State<'_>,
+    state: &mut State<'_, '_>,
 ) -> Result<RunValue, Stop>
     ensures told { (m : MachineHeap) → IsAt state.old m
         → Told IsOnly result state.new (right_in context.now (code_right_term right.now) site (current state.old.frames) m) }
@@ -310,7 +310,7 @@ fn run_loop<P: Phases>(
     first_body: bool,
     context: &Context<'_>,
     outside: Option<&Outside<P>>,
-    state: &mut State<'_>,
+    state: &mut State<'_, '_>,
     values: &mut Vec<RunValue>,
 ) -> Result<(), Stop>
     ensures told { (m : MachineHeap) → IsAt state.old m
@@ -346,7 +346,7 @@ fn repeat<P: Phases>(
     most: u64,
     context: &Context<'_>,
     outside: Option<&Outside<P>>,
-    state: &mut State<'_>,
+    state: &mut State<'_, '_>,
     values: &mut Vec<RunValue>,
     next: &mut Vec<RunValue>,
 ) -> Result<(), Stop>
@@ -377,7 +377,7 @@ fn run_test<P: Phases>(
     turn: &Turn<'_>,
     context: &Context<'_>,
     outside: Option<&Outside<P>>,
-    state: &mut State<'_>,
+    state: &mut State<'_, '_>,
     values: &[RunValue],
 ) -> Result<bool, Stop>
     ensures told { (m : MachineHeap) → IsAt state.old m
@@ -401,7 +401,7 @@ fn run_turn<P: Phases>(
     turn: &Turn<'_>,
     context: &Context<'_>,
     outside: Option<&Outside<P>>,
-    state: &mut State<'_>,
+    state: &mut State<'_, '_>,
     values: &mut Vec<RunValue>,
     next: &mut Vec<RunValue>,
 ) -> Result<(), Stop>
@@ -428,7 +428,7 @@ fn run_call<P: Phases>(
     site: Site,
     context: &Context<'_>,
     outside: Option<&Outside<P>>,
-    state: &mut State<'_>,
+    state: &mut State<'_, '_>,
     values: &mut Vec<RunValue>,
 ) -> Result<(), Stop>
     ensures told { (m : MachineHeap) → IsAt state.old m
@@ -453,7 +453,7 @@ pub fn run_function<P: Phases>(
     args: &[RunValue],
     context: &Context<'_>,
     outside: Option<&Outside<P>>,
-    state: &mut State<'_>,
+    state: &mut State<'_, '_>,
     values: &mut Vec<RunValue>,
 ) -> Result<(), Stop>
     ensures told { (m : MachineHeap) → IsAt state.old m → Told (λ _ ws. Appends values.old.items values.new.items ws) result state.new

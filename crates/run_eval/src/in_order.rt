@@ -21,7 +21,7 @@ use sac_base::{Form, Stop};
 pub fn run_in_order(
     work: &CellLoop<'_>,
     context: &Context<'_>,
-    state: &mut State<'_>,
+    state: &mut State<'_, '_>,
 ) -> Result<RunValue, Stop>
     ensures told { (m : MachineHeap) → IsAt state.old m
         → Told IsValue result state.new (job_does None (job_of context.now (current state.old.frames) m work.now) m) }
@@ -36,7 +36,7 @@ pub fn run_over_in_order(
     work: &CellLoop<'_>,
     array: RunValue,
     context: &Context<'_>,
-    state: &mut State<'_>,
+    state: &mut State<'_, '_>,
 ) -> Result<RunValue, Stop>
     ensures told { (m : MachineHeap) → IsAt state.old m → IsOver work.now (value_of array) m
         → Told IsValue result state.new (over_does context.now (current state.old.frames) work.now (value_of array) m) }
@@ -53,7 +53,7 @@ pub fn cell_in_order(
     form: &Form,
     index: &[i32],
     context: &Context<'_>,
-    state: &mut State<'_>,
+    state: &mut State<'_, '_>,
 ) -> Result<Option<RunValue>, Stop>
     ensures told { (m : MachineHeap) → IsAt state.old m
         → Told IsPresent result state.new (unreleased form.now (source_at context.now (current state.old.frames) source.now ranges.now index.now) m) }
@@ -69,7 +69,7 @@ pub fn body_in_order(
     form: &Form,
     index: &[i32],
     context: &Context<'_>,
-    state: &mut State<'_>,
+    state: &mut State<'_, '_>,
 ) -> Result<Option<RunValue>, Stop>
     ensures told { (m : MachineHeap) → IsAt state.old m
         → Told IsPresent result state.new (unreleased form.now (source_of_body context.now (current state.old.frames) index.now body.entry) m) }

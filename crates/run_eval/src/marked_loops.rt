@@ -34,7 +34,7 @@ pub fn run_marked<P: Phases>(
     site: Site,
     context: &Context<'_>,
     outside: Option<&Outside<P>>,
-    state: &mut State<'_>,
+    state: &mut State<'_, '_>,
 ) -> Result<RunValue, Stop>
     ensures told { (m : MachineHeap) → IsAt state.old m
         → Told IsOnly result state.new (right_in context.now (code_parted_term parted.now) site (current state.old.frames) m) }
@@ -74,7 +74,7 @@ fn run_marked_loop<P: Phases>(
     in_order: bool,
     context: &Context<'_>,
     outside: Option<&Outside<P>>,
-    state: &mut State<'_>,
+    state: &mut State<'_, '_>,
 ) -> Result<RunValue, Stop>
     ensures told { (m : MachineHeap) → IsAt state.old m → (IsTrue in_order → AreIndicesOf work.now.plan.now.shape work.now.plan.now.frame)
         → Told IsValue result state.new (job_does (Some (value_of array)) (job_of context.now (current state.old.frames) m work.now) m) }
@@ -106,7 +106,7 @@ pub fn run_over<P: Phases>(
     array: RunValue,
     context: &Context<'_>,
     outside: Option<&Outside<P>>,
-    state: &mut State<'_>,
+    state: &mut State<'_, '_>,
 ) -> Result<RunValue, Stop>
     ensures told { (m : MachineHeap) → IsAt state.old m → IsOver work.now (value_of array) m
         → Told IsValue result state.new (over_does context.now (current state.old.frames) work.now (value_of array) m) }
@@ -126,7 +126,7 @@ fn run_in_place<P: Phases>(
     array: RunValue,
     context: &Context<'_>,
     outside: Option<&Outside<P>>,
-    state: &mut State<'_>,
+    state: &mut State<'_, '_>,
 ) -> Result<RunValue, Stop>
     ensures told { (m : MachineHeap) → IsAt state.old m → is_small_shape work.now.plan.now.shape ≡ false → is_only m (value_of array) ≡ true
         → Told IsValue result state.new (over_does context.now (current state.old.frames) work.now (value_of array) m) }
@@ -151,7 +151,7 @@ fn fill_in_place<P: Phases>(
     buffer: BufferId,
     context: &Context<'_>,
     outside: Option<&Outside<P>>,
-    state: &mut State<'_>,
+    state: &mut State<'_, '_>,
 ) -> Result<(), Stop>
     ensures told { (m : MachineHeap) → IsAt state.old m
         → Told (λ _ found. Unit {0}) result state.new (cells_written buffer.born context.now (current state.old.frames) work.now m) }

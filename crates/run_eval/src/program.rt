@@ -185,7 +185,7 @@ fn run_main<P: Phases>(
     args: Vec<Array>,
     context: &Context<'_>,
     outside: Option<&Outside<P>>,
-    state: &mut State<'_>,
+    state: &mut State<'_, '_>,
 ) -> Result<Vec<Array>, Stop>
     ensures told { (m : MachineHeap) → IsAt state.old m → Told AreArrays result state.new (main_in context.now args.items m) }
     ensures full { OnOk result (AllFull args.items) }
@@ -226,7 +226,7 @@ fn place_all(
 fn copy_out(
     values: &[RunValue],
     context: &Context<'_>,
-    state: &mut State<'_>,
+    state: &mut State<'_, '_>,
 ) -> Result<Vec<Array>, Stop>
     ensures told { (m : MachineHeap) → IsAt state.old m → Told AreArrays result state.new (copied_out (map value_of values.now) m) }
     ensures lender { lender_of state.new.heap ≡ lender_of state.old.heap }

@@ -19,7 +19,7 @@ use sac_base::Memory;
 
 /// Makes the first steps at once, where they replace one element of an array and then release the array, to whose buffer no other reference leads: its
 /// cells are then written where they lie. How many steps were made: where there is none, nothing has changed.
-pub(crate) fn update_first(steps: &[CodeStep], state: &mut State<'_>) -> Result<usize, Memory>
+pub(crate) fn update_first(steps: &[CodeStep], state: &mut State<'_, '_>) -> Result<usize, Memory>
     ensures made { (context : ContextOf) (m : MachineHeap) → IsAt state.old m
         → IfOk result (λ n. 1 ≤ n → Reaches context (take n steps.now) state.old m [] state.new) }
     ensures some { IfOk result (λ n. n ≤ length steps.now) }
@@ -69,7 +69,7 @@ fn other_target(binding: &CodeLet, x: Var) -> Option<Var>
 }
 
 // The place of the step that releases an array, where the steps before it release what refers to no buffer, and not this target.
-fn release_place(steps: &[CodeStep], array: Var, target: Var, frames: &Frames) -> Option<usize>
+fn release_place(steps: &[CodeStep], array: Var, target: Var, frames: &Frames<'_>) -> Option<usize>
     ensures released { IfSome result (ReleasesAt (current frames.now) target array steps.now) }
     ensures within { IfSome result (λ k. k < length steps.now) }
 {

@@ -13,14 +13,18 @@ use std::alloc::Global;
 const MOST_MENTIONED: usize = 256;
 
 /// The variables that a right side without loops over cells mentions and that are bound in the call that runs, each once.
-pub fn mentions_of(alloc: Global, right: &CodeRight, frames: &Frames) -> Result<Vec<Var>, Memory> {
+pub fn mentions_of(
+    alloc: Global,
+    right: &CodeRight,
+    frames: &Frames<'_>,
+) -> Result<Vec<Var>, Memory> {
     let mut all = Vec::new(alloc);
     mention_right(right, frames, &mut all)?;
     Ok(all)
 }
 
 #[cycle(mention)]
-fn mention_block(block: &CodeBlock, frames: &Frames, all: &mut Vec<Var>) -> Result<(), Memory> {
+fn mention_block(block: &CodeBlock, frames: &Frames<'_>, all: &mut Vec<Var>) -> Result<(), Memory> {
     for step in &block.steps {
         if let CodeStep::Bind(binding) = step {
             mention_right(&binding.right, frames, all)?;
@@ -30,7 +34,7 @@ fn mention_block(block: &CodeBlock, frames: &Frames, all: &mut Vec<Var>) -> Resu
 }
 
 #[cycle(mention)]
-fn mention_right(right: &CodeRight, frames: &Frames, all: &mut Vec<Var>) -> Result<(), Memory> {
+fn mention_right(right: &CodeRight, frames: &Frames<'_>, all: &mut Vec<Var>) -> Result<(), Memory> {
     match right {
         CodeRight::If { cond, yes, no } => {
             mention(*cond, frames, all)?;
@@ -52,7 +56,11 @@ fn mention_right(right: &CodeRight, frames: &Frames, all: &mut Vec<Var>) -> Resu
     }
 }
 
-fn mention_operands(right: &CodeRight, frames: &Frames, all: &mut Vec<Var>) -> Result<(), Memory> {
+fn mention_operands(
+    right: &CodeRight,
+    frames: &Frames<'_>,
+    all: &mut Vec<Var>,
+) -> Result<(), Memory> {
     match right {
         CodeRight::Copy(x) | CodeRight::Unary(_, x) | CodeRight::Dim(x) | CodeRight::Check(x, _) =>
             { mention(*x, frames, all) }
@@ -65,7 +73,7 @@ fn mention_operands(right: &CodeRight, frames: &Frames, all: &mut Vec<Var>) -> R
     }
 }
 
-fn mention_all(xs: &[Var], frames: &Frames, all: &mut Vec<Var>) -> Result<(), Memory> {
+fn mention_all(xs: &[Var], frames: &Frames<'_>, all: &mut Vec<Var>) -> Result<(), Memory> {
     for x in xs {
         mention(*x, frames, all)?;
     }
@@ -73,13 +81,13 @@ fn mention_all(xs: &[Var], frames: &Frames, all: &mut Vec<Var>) -> Result<(), Me
 }
 
 // Adds a variable, if it is bound, has not been added yet and few have been.
-fn mention(x: Var, frames: &Frames, all: &mut Vec<Var>) -> Result<(), Memory> {
+fn mention(x: Var, frames: &Frames<'_>, all: &mut Vec<Var>) -> Result<(), Memory> {
     if all.len() < MOST_MENTIONED && is_bound(x, frames) && !all.contains(&x) {
         all.push(x)?;
     }
     Ok(())
 }
 
-fn is_bound(x: Var, frames: &Frames) -> bool {
+fn is_bound(x: Var, frames: &Frames<'_>) -> bool {
     !matches!(frames.get(x), RunValue::Unbound)
 }

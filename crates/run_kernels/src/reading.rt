@@ -13,7 +13,7 @@ use run_values::{Frames, RunValue};
 
 /// Whether a right side is a loop that only reads the buffers to which variables of the call that runs refer, and calls groups alone that a table says to be
 /// plain. False also where it has something that no kernel does.
-pub fn only_reads(right: &CodeRight, frames: &Frames, plain: &[bool]) -> bool
+pub fn only_reads(right: &CodeRight, frames: &Frames<'_>, plain: &[bool]) -> bool
     ensures { IsTrue result → RightOnlyReads (plain_in plain.now) (refers (current frames.now)) (code_right_term right.now) }
 {
     match right {
@@ -23,7 +23,7 @@ pub fn only_reads(right: &CodeRight, frames: &Frames, plain: &[bool]) -> bool
 }
 
 #[cycle(reading)]
-pub(crate) fn block_reads(block: &CodeBlock, frames: &Frames, plain: &[bool]) -> bool
+pub(crate) fn block_reads(block: &CodeBlock, frames: &Frames<'_>, plain: &[bool]) -> bool
     ensures { IsTrue result → OnlyReads (plain_in plain.now) (refers (current frames.now)) (code_term block.now) }
 {
     for step in &block.steps {
@@ -35,7 +35,7 @@ pub(crate) fn block_reads(block: &CodeBlock, frames: &Frames, plain: &[bool]) ->
 }
 
 #[cycle(reading)]
-fn step_reads(step: &CodeStep, frames: &Frames, plain: &[bool]) -> bool
+fn step_reads(step: &CodeStep, frames: &Frames<'_>, plain: &[bool]) -> bool
     ensures { IsTrue result → StepOnlyReads (plain_in plain.now) (refers (current frames.now)) (step_term step.now) }
 {
     match step {
@@ -45,7 +45,7 @@ fn step_reads(step: &CodeStep, frames: &Frames, plain: &[bool]) -> bool
 }
 
 #[cycle(reading)]
-fn right_reads(right: &CodeRight, frames: &Frames, plain: &[bool]) -> bool
+fn right_reads(right: &CodeRight, frames: &Frames<'_>, plain: &[bool]) -> bool
     ensures { IsTrue result → RightOnlyReads (plain_in plain.now) (refers (current frames.now)) (code_right_term right.now) }
 {
     match right {
@@ -77,7 +77,7 @@ fn right_reads(right: &CodeRight, frames: &Frames, plain: &[bool]) -> bool
 }
 
 // Whether none of these variables refers to a buffer.
-fn all_outside(xs: &[Var], frames: &Frames) -> bool
+fn all_outside(xs: &[Var], frames: &Frames<'_>) -> bool
     ensures { IsTrue result → All (Outside (refers (current frames.now))) xs.now }
 {
     for x in xs {
@@ -89,7 +89,7 @@ fn all_outside(xs: &[Var], frames: &Frames) -> bool
 }
 
 // Whether a variable refers to no buffer.
-fn is_outside(x: Var, frames: &Frames) -> bool
+fn is_outside(x: Var, frames: &Frames<'_>) -> bool
     ensures { IsTrue result → Outside (refers (current frames.now)) x }
 {
     match frames.get(x) {

@@ -31,7 +31,7 @@ pub struct Scope<'a> {
 pub fn scope_of<'a>(
     alloc: Global,
     mentioned: &[Var],
-    frames: &Frames,
+    frames: &Frames<'_>,
     heap: &'a Store<'_>,
 ) -> Result<Scope<'a>, Memory>
     ensures { (m : MachineHeap) → Stands heap.now m → IfOk result (λ s. IsScope s.buffers.items (reads m (current frames.now)) s.known.items) }

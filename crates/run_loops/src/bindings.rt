@@ -15,7 +15,7 @@ use run_values::{Few, RunValue};
 use sac_base::{ArrayType, Base, Memory};
 
 /// Binds variables to values, and those for which there is none to the number 0.
-pub fn bind_all(state: &mut State<'_>, vars: &[Var], values: &[RunValue]) -> Result<(), Memory>
+pub fn bind_all(state: &mut State<'_, '_>, vars: &[Var], values: &[RunValue]) -> Result<(), Memory>
     ensures bound { OnOk result (Binds state.old state.new (bind_values (current state.old.frames) vars.now (map value_of values.now))) }
     ensures lender { lender_of state.new.heap ≡ lender_of state.old.heap }
 {
@@ -27,7 +27,7 @@ pub fn bind_all(state: &mut State<'_>, vars: &[Var], values: &[RunValue]) -> Res
 
 /// Binds parameters to arguments, and those for which there is none to the number 0.
 pub fn bind_params(
-    state: &mut State<'_>,
+    state: &mut State<'_, '_>,
     params: &[(Var, ArrayType)],
     args: &[RunValue],
 ) -> Result<(), Memory>
@@ -51,7 +51,7 @@ pub fn value_at(values: &[RunValue], k: usize) -> RunValue
 }
 
 /// The value of the first variable.
-pub fn first_of(state: &State<'_>, vars: &[Var]) -> RunValue
+pub fn first_of(state: &State<'_, '_>, vars: &[Var]) -> RunValue
     ensures { value_of result ≡ first_value_of (map (current state.now.frames) vars.now) }
 {
     match vars.first() {
@@ -62,7 +62,7 @@ pub fn first_of(state: &State<'_>, vars: &[Var]) -> RunValue
 
 /// Appends the values of variables.
 pub fn push_values(
-    state: &State<'_>,
+    state: &State<'_, '_>,
     vars: &[Var],
     values: &mut Vec<RunValue>,
 ) -> Result<(), Memory>
@@ -75,7 +75,12 @@ pub fn push_values(
 }
 
 /// Binds the index of a cell, and its components to the names.
-pub fn bind_index(state: &mut State<'_>, index: Var, names: &[Var], v: &[i32]) -> Result<(), Memory>
+pub fn bind_index(
+    state: &mut State<'_, '_>,
+    index: Var,
+    names: &[Var],
+    v: &[i32],
+) -> Result<(), Memory>
     ensures bound { OnOk result (Binds state.old state.new
         (bind_values (bind_value (current state.old.frames) index (Small (vector Base.Int v.now))) names.now
         (map (λ z. Small (scalar Base.Int z)) v.now))) }

@@ -30,7 +30,7 @@ use std::alloc::Global;
 pub fn all_bounds(
     gens: &[CodeGen],
     context: &Context<'_>,
-    state: &State<'_>,
+    state: &State<'_, '_>,
 ) -> Result<Vec<Bounds>, Memory>
     ensures { (m : MachineHeap) → Stands state.now.heap m
         → IfOk result (λ v. v.items ≡ map (λ g. bounds_of (gen_head g) (reads m (current state.now.frames))) gens.now) }
@@ -42,7 +42,7 @@ pub fn all_bounds(
     Ok(bounds)
 }
 
-fn bounds_in(g: &CodeGen, context: &Context<'_>, state: &State<'_>) -> Result<Bounds, Memory>
+fn bounds_in(g: &CodeGen, context: &Context<'_>, state: &State<'_, '_>) -> Result<Bounds, Memory>
     ensures { (m : MachineHeap) → Stands state.now.heap m → IfOk result (λ b. b ≡ bounds_of (gen_head g.now) (reads m (current state.now.frames))) }
 {
     Ok(Bounds {
@@ -72,7 +72,7 @@ fn count_names(names: &[Var]) -> Option<usize>
 fn operand(
     x: Option<Var>,
     context: &Context<'_>,
-    state: &State<'_>,
+    state: &State<'_, '_>,
 ) -> Result<Option<Array>, Memory>
     ensures { (m : MachineHeap) → Stands state.now.heap m → IfOk result (λ o. o ≡ option_map (reads m (current state.now.frames)) x) }
 {

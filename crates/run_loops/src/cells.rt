@@ -41,7 +41,7 @@ pub fn count_elements(shape: &Shape) -> Result<usize, Memory>
 pub fn count(
     alloc: Global,
     positions: usize,
-    state: &mut State<'_>,
+    state: &mut State<'_, '_>,
     counts: bool,
 ) -> Result<(), Memory>
     ensures stands { (m : MachineHeap) (n : ℕ) → n ≡ positions → IsAt state.old m → OnOk result (IsAt state.new (count_phase counts n m)) }
@@ -59,7 +59,7 @@ pub fn begin(
     shape: &Shape,
     positions: usize,
     context: &Context<'_>,
-    state: &mut State<'_>,
+    state: &mut State<'_, '_>,
 ) -> Result<Target, Memory>
     ensures cells { IfOk result (λ t. t.cells.items ≡ []) }
     ensures begun { (m : MachineHeap) (n : ℕ) → n ≡ positions → IsAt state.old m
@@ -79,7 +79,7 @@ pub fn finish(
     target: Target,
     base: Base,
     shape: &Shape,
-    state: &mut State<'_>,
+    state: &mut State<'_, '_>,
 ) -> Result<RunValue, Stop>
     ensures told { (m : MachineHeap) → IsAt state.old m
         → Told IsValue result state.new (settled (target_of target) (record { base = base; shape = shape.now; cells = target.cells.items }) m) }

@@ -41,7 +41,7 @@ pub fn begin_fold(
     shape: &Shape,
     positions: usize,
     context: &Context<'_>,
-    state: &mut State<'_>,
+    state: &mut State<'_, '_>,
 ) -> Result<Option<Target>, Memory>
     ensures begun { (m : MachineHeap) (n : ℕ) → n ≡ positions → IsAt state.old m
         → IfOk result (λ t. IsBegun (fold_target t) state.new (claimed (is_small_shape shape.now) None (size shape.now) (count_phase true n m))) }
@@ -117,7 +117,7 @@ fn word_with(op: Op, base: Base, n: i32, m: i32) -> Sum
 pub fn finish_fold(
     sum: Sum,
     target: Option<Target>,
-    state: &mut State<'_>,
+    state: &mut State<'_, '_>,
 ) -> Result<RunValue, Stop>
     ensures told { (m : MachineHeap) → IsAt state.old m → Told IsValue result state.new (settled (fold_target target) (array_of sum) m) }
     ensures frames { OnOk result (state.new.frames ≡ state.old.frames) }
@@ -142,7 +142,7 @@ fn small_result(sum: Sum) -> Option<RunValue>
     }
 }
 
-fn finish_whole(sum: Sum, target: Target, state: &mut State<'_>) -> Result<RunValue, Stop>
+fn finish_whole(sum: Sum, target: Target, state: &mut State<'_, '_>) -> Result<RunValue, Stop>
     ensures told { (m : MachineHeap) → IsAt state.old m → Told IsValue result state.new (settled (target_of target) (array_of sum) m) }
     ensures frames { OnOk result (state.new.frames ≡ state.old.frames) }
     ensures lender { lender_of state.new.heap ≡ lender_of state.old.heap }

@@ -40,7 +40,7 @@ pub fn begin_in_place(
     positions: usize,
     buffer: BufferId,
     context: &Context<'_>,
-    state: &mut State<'_>,
+    state: &mut State<'_, '_>,
 ) -> Result<(), Memory>
     ensures begun { (m : MachineHeap) (n : ℕ) → n ≡ positions → IsAt state.old m
         → OnOk result (IsAt state.new (record (count_phase true n m) { reused = m.reused + 1 })) }

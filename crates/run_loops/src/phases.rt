@@ -25,7 +25,7 @@ pub trait Phases {
         &self,
         work: &CellLoop<'_>,
         context: &Context<'_>,
-        state: &mut State<'_>,
+        state: &mut State<'_, '_>,
     ) -> Result<RunValue, Stop>
         requires { runs self.now }
         ensures told { (m : MachineHeap) → IsAt state.old m
@@ -39,7 +39,7 @@ pub trait Phases {
         work: &CellLoop<'_>,
         array: RunValue,
         context: &Context<'_>,
-        state: &mut State<'_>,
+        state: &mut State<'_, '_>,
     ) -> Result<RunValue, Stop>
         requires { runs self.now }
         ensures told { (m : MachineHeap) → IsAt state.old m → IsOver work.now (value_of array) m
@@ -59,7 +59,7 @@ impl Phases for Never {
         &self,
         _work: &CellLoop<'_>,
         _context: &Context<'_>,
-        _state: &mut State<'_>,
+        _state: &mut State<'_, '_>,
     ) -> Result<RunValue, Stop> {
         Err(Stop::Memory)
     }
@@ -69,7 +69,7 @@ impl Phases for Never {
         _work: &CellLoop<'_>,
         _array: RunValue,
         _context: &Context<'_>,
-        _state: &mut State<'_>,
+        _state: &mut State<'_, '_>,
     ) -> Result<RunValue, Stop> {
         Err(Stop::Memory)
     }
@@ -102,7 +102,7 @@ impl<P: Phases> Outside<P> {
         &self,
         work: &CellLoop<'_>,
         context: &Context<'_>,
-        state: &mut State<'_>,
+        state: &mut State<'_, '_>,
     ) -> Result<RunValue, Stop>
         ensures told { (m : MachineHeap) → IsAt state.old m
             → Told IsValue result state.new (job_does None (job_of context.now (current state.old.frames) m work.now) m) }
@@ -118,7 +118,7 @@ impl<P: Phases> Outside<P> {
         work: &CellLoop<'_>,
         array: RunValue,
         context: &Context<'_>,
-        state: &mut State<'_>,
+        state: &mut State<'_, '_>,
     ) -> Result<RunValue, Stop>
         ensures told { (m : MachineHeap) → IsAt state.old m → IsOver work.now (value_of array) m
             → Told IsValue result state.new (over_does context.now (current state.old.frames) work.now (value_of array) m) }

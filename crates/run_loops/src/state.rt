@@ -118,15 +118,15 @@ pub struct Context<'a> {
 
 /// The variables, the buffers and the phases so far.
 #[derive(Drop)]
-pub struct State<'a> {
-    pub frames: Frames,
+pub struct State<'f, 'a> {
+    pub frames: Frames<'f>,
     pub heap: Store<'a>,
     pub phases: PhaseCount,
 }
 
-impl<'a> State<'a> {
+impl<'f, 'a> State<'f, 'a> {
     /// The variables and the buffers.
-    pub fn into_parts(self) -> (Frames, Store<'a>)
+    pub fn into_parts(self) -> (Frames<'f>, Store<'a>)
         ensures frames { result.0 ≡ self.entry.frames }
         ensures heap { result.1 ≡ self.entry.heap }
     {

@@ -23,7 +23,7 @@ use std::alloc::Global;
 pub fn read_all(
     alloc: Global,
     heap: &Store<'_>,
-    frames: &Frames,
+    frames: &Frames<'_>,
     xs: &[Var],
 ) -> Result<Vec<Array>, Memory>
     ensures { (m : MachineHeap) → Stands heap.now m → IfOk result (λ arrays. arrays.items ≡ arrays_of m (current frames.now) xs.now) }
@@ -69,7 +69,7 @@ pub fn binary_array(
 pub fn literal_array(
     alloc: Global,
     heap: &Store<'_>,
-    frames: &Frames,
+    frames: &Frames<'_>,
     xs: &[Var],
     site: Site,
 ) -> Result<Array, Stop>

@@ -125,7 +125,7 @@ fn all(n: Cell, other: &Few) -> Few
 pub fn literal_value(
     alloc: Global,
     heap: &mut Store<'_>,
-    frames: &Frames,
+    frames: &Frames<'_>,
     xs: &[Var],
     site: Site,
 ) -> Result<RunValue, Stop>
@@ -142,7 +142,7 @@ pub fn literal_value(
 }
 
 // The vector of words of one base, of which there are at most 8.
-fn words(frames: &Frames, xs: &[Var]) -> Option<RunValue>
+fn words(frames: &Frames<'_>, xs: &[Var]) -> Option<RunValue>
     ensures { (h : StoreOf) (m : MachineHeap) → Stands h m → (s : SiteOf)
         → IfSome result (λ v. TellsPlaced (Ok v) h m (literal_in m (current frames.now) xs.now s)) }
 {

@@ -28,7 +28,7 @@ pub fn plain_value(
     site: Site,
     alloc: Global,
     heap: &mut Store<'_>,
-    frames: &Frames,
+    frames: &Frames<'_>,
 ) -> Result<RunValue, Stop>
     ensures told { (m : MachineHeap) → Stands heap.old m → TellsPlain (code_right_term right.now) site (current frames.now) result heap.new m }
     ensures lender { lender_of heap.new ≡ lender_of heap.old }
@@ -52,7 +52,7 @@ fn other_value(
     site: Site,
     alloc: Global,
     heap: &mut Store<'_>,
-    frames: &Frames,
+    frames: &Frames<'_>,
 ) -> Result<RunValue, Stop>
     ensures told { (m : MachineHeap) → Stands heap.old m → TellsPlain (code_right_term right.now) site (current frames.now) result heap.new m }
     ensures lender { lender_of heap.new ≡ lender_of heap.old }

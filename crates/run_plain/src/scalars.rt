@@ -12,7 +12,7 @@ use run_values::{Frames, Word};
 use sac_base::{Array, Op, ZeroDivisor, apply1, apply2, result_base};
 
 /// The scalar that a right side is: a constant, a copy, or an operator of scalars that has a value there. None says nothing.
-pub fn scalar_value(right: &CodeRight, frames: &Frames) -> Option<Word>
+pub fn scalar_value(right: &CodeRight, frames: &Frames<'_>) -> Option<Word>
     ensures { IfSome result (IsScalarOf (code_right_term right.now) (current frames.now)) }
 {
     match right {

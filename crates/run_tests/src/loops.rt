@@ -90,7 +90,7 @@ fn program(alloc: Global) -> Code {
 }
 
 // Binds a variable. What is bound behind it is no matter of its callers.
-fn bind(frames: &mut Frames, x: u32, value: RunValue) -> Result<(), Memory> {
+fn bind(frames: &mut Frames<'_>, x: u32, value: RunValue) -> Result<(), Memory> {
     frames.bind(Var(x), value)
 }
 

@@ -11,12 +11,12 @@ use std::alloc::Global;
 const HERE: Site = Site { line: 1, col: 1 };
 
 // Binds a variable. What is bound behind it is no matter of its callers.
-fn bind(frames: &mut Frames, x: u32, value: RunValue) -> Result<(), Memory> {
+fn bind(frames: &mut Frames<'_>, x: u32, value: RunValue) -> Result<(), Memory> {
     frames.bind(Var(x), value)
 }
 
 // The variable 1 is 7, the variable 2 is `[4, 5]`, and the variable 0 is not bound.
-fn bound(alloc: Global) -> Result<Frames, Memory> {
+fn bound(alloc: Global) -> Result<Frames<'static>, Memory> {
     let mut frames = Frames::new(alloc);
     bind(&mut frames, 1, RunValue::Word(Base::Int, 7))?;
     bind(&mut frames, 2, RunValue::Short(Base::Int, few(&[4, 5])))?;
@@ -27,7 +27,7 @@ fn bound(alloc: Global) -> Result<Frames, Memory> {
 fn array_of(
     alloc: Global,
     store: &mut Store<'_>,
-    frames: &Frames,
+    frames: &Frames<'_>,
     right: &CodeRight,
 ) -> Result<Option<Array>, Memory> {
     match plain_value(right, HERE, alloc, store, frames) {

@@ -108,40 +108,40 @@ fn operators_go_element_by_element(rt: HostRuntime) {
 }
 
 // The steps on variables, of which a test needs no fact.
-fn bind(frames: &mut Frames, x: u32, n: Cell) -> Result<(), Memory> {
+fn bind(frames: &mut Frames<'_>, x: u32, n: Cell) -> Result<(), Memory> {
     frames.bind(Var(x), RunValue::Word(Base::Int, n))
 }
 
-fn enter(frames: &mut Frames) -> Result<(), Memory> {
+fn enter(frames: &mut Frames<'_>) -> Result<(), Memory> {
     frames.enter()
 }
 
-fn enter_call(frames: &mut Frames) -> Result<(), Memory> {
+fn enter_call(frames: &mut Frames<'_>) -> Result<(), Memory> {
     frames.enter_call()
 }
 
-fn leave(frames: &mut Frames) {
+fn leave(frames: &mut Frames<'_>) {
     frames.leave();
 }
 
-fn word(frames: &Frames, x: u32) -> Result<Option<Cell>, Memory> {
+fn word(frames: &Frames<'_>, x: u32) -> Result<Option<Cell>, Memory> {
     frames.get(Var(x)).as_word()
 }
 
 /// Whether the variables 1 and 3 hold these.
-fn holds(frames: &Frames, first: Cell, third: Cell) -> bool {
+fn holds(frames: &Frames<'_>, first: Cell, third: Cell) -> bool {
     word(frames, 1) == Ok(Some(first)) && word(frames, 3) == Ok(Some(third))
 }
 
 /// The variable 3 in a scope and the variable 1 in one within it.
-fn two_scopes(frames: &mut Frames) -> Result<(), Memory> {
+fn two_scopes(frames: &mut Frames<'_>) -> Result<(), Memory> {
     bind(frames, 3, 30)?;
     enter(frames)?;
     bind(frames, 1, 10)
 }
 
 /// What the variable 3 is in a call, before and after it is bound there.
-fn in_call(frames: &mut Frames) -> Result<(Option<Cell>, Option<Cell>), Memory> {
+fn in_call(frames: &mut Frames<'_>) -> Result<(Option<Cell>, Option<Cell>), Memory> {
     enter_call(frames)?;
     let before = word(frames, 3)?;
     bind(frames, 3, 33)?;

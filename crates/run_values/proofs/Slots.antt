@@ -1,7 +1,7 @@
 -- The slots of variables after one has changed.
 use Rattle.std.proofs.Common.{◌≡◌, ℕ, zero, suc, ◌+◌, ◌-◌, ◌<◌, ◌≤◌, Bool, true, false, cond, eqb, List, [], ◌∷◌, ◌++◌, length, take, replicate, reverse, refl, ap, ◌∙◌, sym, subst, slice_set, arith}
 use Rattle.std.specs.Prelude.{slice_index_or, drop}
-use Rattle.std.proofs.lemmas.Bool.{eqb-true, eq-eqb, true≢false}
+use Rattle.std.proofs.lemmas.Bool.{eqb-true, eq-eqb, le-ltb, true≢false}
 use Rattle.std.proofs.lemmas.List.{get_or-set_same, get_or-set_other, get_or-drop, length-drop, reverse-append}
 use Rattle.core_ir.specs.declared.tree.Var.{Var}
 use Rattle.counted_code.specs.Machine.{no_values, bind_value}
@@ -25,7 +25,7 @@ extended (x ∷ xs) k (suc i) = extended xs k i
 none_below : {n : ℕ} → suc n ≤ 0 → ⊥
 none_below le = omega (arith, le)
 
-take_whole : (xs : List RunValue) (n : ℕ) → length xs ≤ n → take n xs ≡ xs
+pub take_whole : (xs : List RunValue) (n : ℕ) → length xs ≤ n → take n xs ≡ xs
 take_whole [] zero le = refl
 take_whole [] (suc n) le = refl
 take_whole (x ∷ xs) zero le = elim (none_below le) [ ]
@@ -35,7 +35,7 @@ take_whole (x ∷ xs) (suc n) le = ap (λ ys. x ∷ ys) (take_whole xs n (omega 
 pub grown : (xs : List RunValue) (n k : ℕ) → length xs ≤ n → slots_of (take n xs ++ replicate k Unbound) ≡ slots_of xs
 grown xs n k le = ap (λ ys. slots_of (ys ++ replicate k Unbound)) (take_whole xs n le) ∙ (λ j i. extended xs k i j)
 
-set_at : (xs : List RunValue) (k i : ℕ) (v : RunValue) → k < length xs → slots_of (slice_set xs k v) i ≡ cond (eqb k i) v (slots_of xs i)
+pub set_at : (xs : List RunValue) (k i : ℕ) (v : RunValue) → k < length xs → slots_of (slice_set xs k v) i ≡ cond (eqb k i) v (slots_of xs i)
 set_at xs k i v there = go (eqb k i) refl
   where
     go : (same : Bool) → eqb k i ≡ same → slots_of (slice_set xs k v) i ≡ cond same v (slots_of xs i)
@@ -72,10 +72,11 @@ bound_seen xs ys k base x v is there same = (λ j y. at y j) ∙ ap (λ s. bind_
         ∙ chosen (eqb x.0 y.0) (slots_of xs (base + y.0))
 
 -- and the scopes around are as before
-pub bound_around : (xs ys : List RunValue) (us ts : List Undo) (k base : ℕ) (v : RunValue) → k < length xs → slots_of xs k ≡ Unbound → slots_of xs ≡ slots_of ys → us ≡ ts ++ Bound k ∷ [] → around (reverse us) (slots_of (slice_set xs k v)) base ≡ around (reverse ts) (slots_of ys) base
-bound_around xs ys us ts k base v there free same is =
-    ap (λ ws. around ws (slots_of (slice_set xs k v)) base) (ap reverse is ∙ reverse-append ts (Bound k ∷ []))
-    ∙ ap (λ s. around (reverse ts) s base) ((λ j i. freed xs k i v there free j) ∙ same)
+pub bound_around : (xs ys : List RunValue) (us ts : List Undo) (n k base : ℕ) (v : RunValue) → k < length xs → slots_of xs k ≡ Unbound → slots_of xs ≡ slots_of ys → us ≡ ts ++ Bound k ∷ [] → n ≤ k → around n (reverse us) (slots_of (slice_set xs k v)) base ≡ around n (reverse ts) (slots_of ys) base
+bound_around xs ys us ts n k base v there free same is le =
+    ap (λ ws. around n ws (slots_of (slice_set xs k v)) base) (ap reverse is ∙ reverse-append ts (Bound k ∷ []))
+    ∙ ap (λ t. around n (reverse ts) (cond t (slots_of (slice_set xs k v)) (without k (slots_of (slice_set xs k v)))) base) (le-ltb k n le)
+    ∙ ap (λ s. around n (reverse ts) s base) ((λ j i. freed xs k i v there free j) ∙ same)
 
 -- the slots from one on, as slots of their own
 pub copied : (xs ys : List RunValue) (base : ℕ) → ys ≡ drop base xs → seen (slots_of ys) 0 ≡ seen (slots_of xs) base

@@ -12,7 +12,7 @@ use core_ir::Var;
 use run_values::{Frames, RunValue};
 
 /// The one of these variables that has a reference to a buffer, where no other of them has.
-pub fn only_holder(variables: &[Var], id: BufferId, frames: &Frames) -> Option<Var>
+pub fn only_holder(variables: &[Var], id: BufferId, frames: &Frames<'_>) -> Option<Var>
     ensures { IfSome result (λ x. HoldsAlone id.born x variables.now (current frames.now)) }
 {
     let holder = first_holder(variables, id, frames)?;
@@ -24,7 +24,7 @@ pub fn only_holder(variables: &[Var], id: BufferId, frames: &Frames) -> Option<V
 }
 
 // The first of these variables that has a reference to a buffer.
-fn first_holder(variables: &[Var], id: BufferId, frames: &Frames) -> Option<Var>
+fn first_holder(variables: &[Var], id: BufferId, frames: &Frames<'_>) -> Option<Var>
     ensures { IfSome result (λ x. is_in x variables.now ≡ true) }
 {
     for x in variables {
@@ -36,13 +36,13 @@ fn first_holder(variables: &[Var], id: BufferId, frames: &Frames) -> Option<Var>
 }
 
 // Whether each of these variables is the holder, or has no reference to the buffer.
-fn are_apart(variables: &[Var], holder: Var, id: BufferId, frames: &Frames) -> bool
+fn are_apart(variables: &[Var], holder: Var, id: BufferId, frames: &Frames<'_>) -> bool
     ensures { result ≡ list_all (apart id.born holder (current frames.now)) variables.now }
 {
     variables.iter().all(|x| is_apart(x, holder, id, frames))
 }
 
-fn is_apart(x: &Var, holder: Var, id: BufferId, frames: &Frames) -> bool
+fn is_apart(x: &Var, holder: Var, id: BufferId, frames: &Frames<'_>) -> bool
     ensures { result ≡ apart id.born holder (current frames.now) x.now }
 {
     x.0 == holder.0 || is_elsewhere(frames.get(*x), id)
