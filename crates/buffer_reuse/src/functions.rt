@@ -39,15 +39,9 @@ fn mark_code(alloc: Global, code: Code) -> Result<Code, Memory>
     ensures { IfOk result (λ marked. code_program marked ≡ marking_code (code_program code)) }
 {
     let calls = calls_of(alloc, &code)?;
-    let Code {
-        functions,
-        groups,
-        main,
-    } = code;
     Ok(Code {
-        functions: mark_functions(alloc, functions, &calls)?,
-        groups,
-        main,
+        functions: mark_functions(alloc, code.functions, &calls)?,
+        ..code
     })
 }
 
@@ -68,25 +62,11 @@ fn mark_functions(
 fn mark_function(alloc: Global, function: CodeFun, calls: &Calls) -> Result<CodeFun, Memory>
     ensures { IfOk result (λ marked. code_fun_term marked ≡ marking_fun (given_by calls.now) (code_fun_term function)) }
 {
-    let CodeFun {
-        name,
-        site,
-        params,
-        results,
-        inline,
-        body,
-        ends,
-    } = function;
     let mut scope = Scope::new(alloc);
-    scope.enter_function(&params)?;
-    let marked = mark_block(alloc, &body, calls, &mut scope)?;
+    scope.enter_function(&function.params)?;
+    let marked = mark_block(alloc, &function.body, calls, &mut scope)?;
     Ok(CodeFun {
-        name,
-        site,
-        params,
-        results,
-        inline,
         body: marked.block,
-        ends,
+        ..function
     })
 }

@@ -32,17 +32,8 @@ pub fn propagate_copies(alloc: Global, core: Core) -> Result<Core, Memory>
 fn in_core(alloc: Global, core: Core) -> Result<Core, Memory>
     ensures { IfOk result (λ new. core_term new ≡ forwarded_core (core_term core)) }
 {
-    let Core {
-        functions,
-        groups,
-        main,
-    } = core;
-    let functions = in_functions(alloc, functions)?;
-    Ok(Core {
-        functions,
-        groups,
-        main,
-    })
+    let functions = in_functions(alloc, core.functions)?;
+    Ok(Core { functions, ..core })
 }
 
 fn in_functions(alloc: Global, functions: Vec<CoreFun>) -> Result<Vec<CoreFun>, Memory>
@@ -59,23 +50,6 @@ fn in_function(alloc: Global, function: CoreFun) -> Result<CoreFun, Memory>
     ensures { IfOk result (λ new. fun_term new ≡ forwarded_function (fun_term function)) }
 {
     let mut sources = Sources::new(alloc);
-    let CoreFun {
-        name,
-        site,
-        params,
-        results,
-        inline,
-        body,
-        ends,
-    } = function;
-    let body = in_block(alloc, body, &mut sources)?;
-    Ok(CoreFun {
-        name,
-        site,
-        params,
-        results,
-        inline,
-        body,
-        ends,
-    })
+    let body = in_block(alloc, function.body, &mut sources)?;
+    Ok(CoreFun { body, ..function })
 }

@@ -35,17 +35,8 @@ pub fn number_densely(alloc: Global, core: Core) -> Result<Core, Memory>
 fn in_core(alloc: Global, core: Core) -> Result<Core, Memory>
     ensures { IfOk result (λ new. core_term new ≡ dense_core (core_term core)) }
 {
-    let Core {
-        functions,
-        groups,
-        main,
-    } = core;
-    let functions = in_functions(alloc, functions)?;
-    Ok(Core {
-        functions,
-        groups,
-        main,
-    })
+    let functions = in_functions(alloc, core.functions)?;
+    Ok(Core { functions, ..core })
 }
 
 fn in_functions(alloc: Global, functions: Vec<CoreFun>) -> Result<Vec<CoreFun>, Memory>
@@ -61,32 +52,15 @@ fn in_functions(alloc: Global, functions: Vec<CoreFun>) -> Result<Vec<CoreFun>, 
 fn in_function(alloc: Global, function: CoreFun) -> Result<CoreFun, Memory>
     ensures { IfOk result (λ new. fun_term new ≡ numbered_function (fun_term function)) }
 {
-    let CoreFun {
-        name,
-        site,
-        params,
-        results,
-        inline,
-        body,
-        ends,
-    } = function;
     let mut progress = Progress {
-        next: above_params(&params),
+        next: above_params(&function.params),
         replaced: 0,
     };
-    let bound = bound_in(alloc, &body)?;
+    let bound = bound_in(alloc, &function.body)?;
     let mut names = Names::new(alloc);
     names.set_all(&bound, &mut progress)?;
-    let body = copy_block(alloc, &body, &names)?;
-    Ok(CoreFun {
-        name,
-        site,
-        params,
-        results,
-        inline,
-        body,
-        ends,
-    })
+    let body = copy_block(alloc, &function.body, &names)?;
+    Ok(CoreFun { body, ..function })
 }
 
 /// The first number above those of the parameters.

@@ -14,7 +14,7 @@ use Rattle.kernel_tree.specs.declared.tree.Held.{Held}
 use Rattle.kernel_tree.specs.declared.tree.Held.TheVariants.{Word, Number, Short, Whole}
 use Rattle.kernel_tree.specs.Terms.{buffer}
 use Rattle.kernel_code.specs.Relations.{HasForm, Known, array_of, found, later}
-use Rattle.kernel_rows.specs.Kernels.{IsFixed, IsScope}
+use Rattle.kernel_code.specs.Relations.{IsFixed, IsScope}
 use Rattle.own_kernels.specs.Kernels.{holds_alone, is_apart, is_in}
 use Rattle.phase_loop_laws.specs.over_phases.Own.{SameButAt}
 use Rattle.own_kernels.specs.Statements.{SameAt}

@@ -12,7 +12,8 @@ use Rattle.kernel_tree.specs.View.{kernel_term}
 use Rattle.kernel_code.specs.Calls.{Calls}
 use Rattle.kernel_code.specs.Relations.{Known, found}
 use Rattle.kernel_rows.specs.declared.kernels.CellKernel.{CellKernel}
-use Rattle.kernel_rows.specs.Kernels.{AreCellKernels, Body, IsScope}
+use Rattle.kernel_code.specs.Relations.{IsScope}
+use Rattle.kernel_rows.specs.Kernels.{AreCellKernels, Body}
 use Rattle.own_kernels.specs.Steps.{is_own}
 
 -- a kernel is there, is for indices of so many components, and reads its own element alone

@@ -12,7 +12,8 @@ use Rattle.kernel_tree.specs.Terms.{KernelTerm, buffer, gives}
 use Rattle.kernel_code.specs.Calls.{Calls}
 use Rattle.kernel_code.specs.Relations.{Known}
 use Rattle.kernel_rows.specs.declared.kernels.CellKernel.{CellKernel}
-use Rattle.kernel_rows.specs.Kernels.{HasIndex, IsScope}
+use Rattle.kernel_code.specs.Relations.{IsScope}
+use Rattle.kernel_rows.specs.Kernels.{HasIndex}
 use Rattle.phase_checks.specs.Terms.{parts_term}
 use Rattle.own_kernels.specs.Kernels.{ArePartKernels, parts_own}
 use Rattle.phase_loop_laws.specs.over_phases.Own.{PartsReadOwn}

@@ -3,7 +3,7 @@
 ghost use Rattle.std.specs.Prelude.{◌≡◌, ◌≤◌, IfOk, IfSome, OnOk, map, unsigned_abs};
 ghost use Rattle.core_ir.specs.Meaning.{Env};
 ghost use Rattle.counted_code.specs.Values.{Ref};
-ghost use Rattle.kernel_rows.specs.Kernels.{IsScope};
+ghost use Rattle.kernel_code.specs.Relations.{IsScope};
 ghost use Rattle.phase_loop_cells.specs.Opened.{lent_array, lent_env};
 ghost use Rattle.run_values.specs.Numbers.{numbers};
 ghost use Rattle.run_values.specs.Scopes.{current};

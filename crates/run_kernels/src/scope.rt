@@ -5,7 +5,7 @@ ghost use Rattle.core_ir.specs.Meaning.{Env};
 ghost use Rattle.counted_code.specs.Machine.{reads};
 ghost use Rattle.counted_code.specs.Values.{Heap as MachineHeap, Ref, read};
 ghost use Rattle.kernel_tree.specs.declared.tree.Held.TheVariants.{Whole};
-ghost use Rattle.run_kernels.specs.Scopes.{IsScope};
+ghost use Rattle.kernel_code.specs.Relations.{IsScope};
 ghost use Rattle.run_store.specs.Stands.{Stands};
 ghost use Rattle.run_values.specs.Numbers.{numbers};
 ghost use Rattle.run_values.specs.Scopes.{current};

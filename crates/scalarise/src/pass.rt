@@ -74,17 +74,8 @@ fn round(alloc: Global, core: Core) -> Result<(Core, u64), Memory>
     ensures { IfOk result (λ new. Round (core_term core) (core_term new.0) new.1) }
 {
     let called = CalledShapes::of_core(alloc, &core)?;
-    let Core {
-        functions,
-        groups,
-        main,
-    } = core;
-    let (functions, merged) = merge_functions(alloc, functions, &called)?;
-    let core = Core {
-        functions,
-        groups,
-        main,
-    };
+    let (functions, merged) = merge_functions(alloc, core.functions, &called)?;
+    let core = Core { functions, ..core };
     Ok((core, merged))
 }
 
@@ -122,24 +113,10 @@ fn merge_function(
         next: first,
         replaced: merged,
     };
-    let CoreFun {
-        name,
-        site,
-        params,
-        results,
-        inline,
-        body,
-        ends,
-    } = function;
-    let body = merge_block(alloc, body, called, &mut table, &mut progress)?;
+    let body = merge_block(alloc, function.body, called, &mut table, &mut progress)?;
     let function = CoreFun {
-        name,
-        site,
-        params,
-        results,
-        inline,
         body: body.block,
-        ends,
+        ..function
     };
     Ok((function, progress.replaced))
 }

@@ -37,17 +37,8 @@ fn in_core(alloc: Global, core: Core) -> Result<Core, Memory>
     ensures { IfOk result (λ new. core_term new ≡ swept_core (core_term core)) }
 {
     let called = CalledShapes::of_core(alloc, &core)?;
-    let Core {
-        functions,
-        groups,
-        main,
-    } = core;
-    let functions = in_functions(alloc, functions, &called)?;
-    Ok(Core {
-        functions,
-        groups,
-        main,
-    })
+    let functions = in_functions(alloc, core.functions, &called)?;
+    Ok(Core { functions, ..core })
 }
 
 fn in_functions(
@@ -69,23 +60,6 @@ fn in_function(alloc: Global, function: CoreFun, called: &CalledShapes) -> Resul
 {
     let mut table = FactTable::new(alloc);
     learn_params(&function, &mut table)?;
-    let CoreFun {
-        name,
-        site,
-        params,
-        results,
-        inline,
-        body,
-        ends,
-    } = function;
-    let body = in_block(alloc, body, called, &mut table)?.block;
-    Ok(CoreFun {
-        name,
-        site,
-        params,
-        results,
-        inline,
-        body,
-        ends,
-    })
+    let body = in_block(alloc, function.body, called, &mut table)?.block;
+    Ok(CoreFun { body, ..function })
 }

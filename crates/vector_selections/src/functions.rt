@@ -46,17 +46,8 @@ fn in_core(alloc: Global, core: Core) -> Result<(Core, u64), Memory>
     ensures count { IfOk result (λ new. new.1 ≡ vectors_in_core (core_term core)) }
 {
     let called = CalledShapes::of_core(alloc, &core)?;
-    let Core {
-        functions,
-        groups,
-        main,
-    } = core;
-    let (functions, count) = in_functions(alloc, functions, &called)?;
-    let core = Core {
-        functions,
-        groups,
-        main,
-    };
+    let (functions, count) = in_functions(alloc, core.functions, &called)?;
+    let core = Core { functions, ..core };
     Ok((core, count))
 }
 
@@ -95,25 +86,8 @@ fn in_function(
     let mut fresh = first;
     let mut table = FactTable::new(alloc);
     learn_params(&function, &mut table)?;
-    let CoreFun {
-        name,
-        site,
-        params,
-        results,
-        inline,
-        body,
-        ends,
-    } = function;
-    let body = in_block(alloc, body, called, &mut table, &mut fresh)?.block;
-    let function = CoreFun {
-        name,
-        site,
-        params,
-        results,
-        inline,
-        body,
-        ends,
-    };
+    let body = in_block(alloc, function.body, called, &mut table, &mut fresh)?.block;
+    let function = CoreFun { body, ..function };
     Ok((function, u64::from(fresh.saturating_sub(first))))
 }
 

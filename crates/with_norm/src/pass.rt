@@ -68,17 +68,8 @@ fn round(alloc: Global, core: Core) -> Result<(Core, u64), Memory>
 {
     let called = CalledShapes::of_core(alloc, &core)?;
     let signatures = Signatures::of_core(alloc, &core)?;
-    let Core {
-        functions,
-        groups,
-        main,
-    } = core;
-    let (functions, replaced) = norm_functions(alloc, functions, &called, &signatures)?;
-    let core = Core {
-        functions,
-        groups,
-        main,
-    };
+    let (functions, replaced) = norm_functions(alloc, core.functions, &called, &signatures)?;
+    let core = Core { functions, ..core };
     Ok((core, replaced))
 }
 
@@ -129,24 +120,10 @@ fn norm_function(
         next: first,
         replaced,
     };
-    let CoreFun {
-        name,
-        site,
-        params,
-        results,
-        inline,
-        body,
-        ends,
-    } = function;
-    let body = norm_block(alloc, body, &given, &mut table, &mut progress)?;
+    let body = norm_block(alloc, function.body, &given, &mut table, &mut progress)?;
     let function = CoreFun {
-        name,
-        site,
-        params,
-        results,
-        inline,
         body: body.block,
-        ends,
+        ..function
     };
     Ok((function, progress.replaced))
 }

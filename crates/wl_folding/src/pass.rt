@@ -79,17 +79,8 @@ fn round(alloc: Global, core: Core) -> Result<(Core, Vec<Fold>), Memory>
     ensures { IfOk result (λ new. Round (core_term core) (core_term new.0) new.1.items) }
 {
     let called = CalledShapes::of_core(alloc, &core)?;
-    let Core {
-        functions,
-        groups,
-        main,
-    } = core;
-    let (functions, folds) = fold_functions(alloc, functions, &called)?;
-    let core = Core {
-        functions,
-        groups,
-        main,
-    };
+    let (functions, folds) = fold_functions(alloc, core.functions, &called)?;
+    let core = Core { functions, ..core };
     Ok((core, folds))
 }
 
@@ -146,25 +137,8 @@ fn fold_function(
         },
         folds,
     };
-    let CoreFun {
-        name,
-        site,
-        params,
-        results,
-        inline,
-        body,
-        ends,
-    } = function;
-    let body = fold_block(body, &given, &mut table, &mut folding)?;
-    let function = CoreFun {
-        name,
-        site,
-        params,
-        results,
-        inline,
-        body,
-        ends,
-    };
+    let body = fold_block(function.body, &given, &mut table, &mut folding)?;
+    let function = CoreFun { body, ..function };
     Ok((function, folding.folds))
 }
 

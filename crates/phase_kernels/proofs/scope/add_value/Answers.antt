@@ -5,8 +5,8 @@ use Rattle.kernel_tree.specs.declared.tree.Held.TheVariants.{Number}
 use Rattle.kernel_code.specs.Relations.{HasForm}
 use Rattle.phase_loop_cells.specs.Opened.{lent_array}
 use Rattle.run_values.specs.Shown.{value_of}
-use Rattle.kernel_rows.specs.Kernels.{IsScope}
-use Rattle.kernel_rows.proofs.Scopes.{scope_add, scope_pushed}
+use Rattle.kernel_code.specs.Relations.{IsScope}
+use Rattle.kernel_code.proofs.Scopes.{scope_add, scope_pushed}
 use Rattle.phase_kernels.proofs.scope.add_value.Goals as goal
 
 pub returns-in_ok-push-in-Word : goal.returns-in_ok-push-in-Word

@@ -1,4 +1,4 @@
-use Rattle.kernel_rows.specs.Kernels.{IsScope}
+use Rattle.kernel_code.specs.Relations.{IsScope}
 use Rattle.phase_loop_cells.specs.Opened.{lent_env}
 use Rattle.run_values.specs.Scopes.{current}
 use Rattle.phase_kernels.proofs.scope.scope_of.Given as goal

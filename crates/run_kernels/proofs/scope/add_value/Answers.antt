@@ -5,8 +5,8 @@ use Rattle.kernel_tree.specs.declared.tree.Held.TheVariants.{Number}
 use Rattle.kernel_code.specs.Relations.{HasForm}
 use Rattle.counted_code.specs.Values.{read}
 use Rattle.run_values.specs.Shown.{value_of}
-use Rattle.run_kernels.specs.Scopes.{IsScope}
-use Rattle.run_kernels.proofs.Known.{scope_add, scope_pushed}
+use Rattle.kernel_code.specs.Relations.{IsScope}
+use Rattle.kernel_code.proofs.Scopes.{scope_add, scope_pushed}
 use Rattle.run_kernels.proofs.scope.add_value.Goals as goal
 
 pub returns-in_ok-push-in-Word : goal.returns-in_ok-push-in-Word

@@ -2,7 +2,7 @@ use Rattle.counted_code.specs.Machine.{reads}
 use Rattle.counted_code.specs.Values.{Heap}
 use Rattle.run_store.specs.Stands.{Stands}
 use Rattle.run_values.specs.Scopes.{current}
-use Rattle.run_kernels.specs.Scopes.{IsScope}
+use Rattle.kernel_code.specs.Relations.{IsScope}
 use Rattle.run_kernels.proofs.scope.scope_of.Given as goal
 
 abbrev pub invariant-loop-x : goal.invariant-loop-x

@@ -1,6 +1,6 @@
 use Rattle.std.proofs.Common.{◌≡◌, true, [], length, sym, subst, ◌∙◌}
 use Rattle.core_ir.specs.Meaning.{cell_form}
-use Rattle.kernel_rows.specs.Kernels.{IsScope}
+use Rattle.kernel_code.specs.Relations.{IsScope}
 use Rattle.own_kernels.specs.Kernels.{ArePartKernels, parts_own}
 use Rattle.phase_kernels.proofs.over_checks.Elements.{elements_own}
 use Rattle.phase_kernels.specs.Calls.{calls_in}
