@@ -202,9 +202,8 @@ impl<'a> Frames<'a> {
         ensures current { OnOk result (current self.new ≡ no_values) }
         ensures outer { OnOk result (outer self.new ≡ current self.old ∷ outer self.old) }
     {
-        let first = self.count();
         self.trail.push(Undo::Call(self.base))?;
-        self.base = first;
+        self.base = self.count();
         Ok(())
     }
 
