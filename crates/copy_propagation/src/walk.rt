@@ -160,14 +160,23 @@ fn in_parted(alloc: Global, parted: PartedLoop, sources: &mut Sources) -> Result
     ensures forwarded { IfOk result (λ p. parted_term p ≡ forwarded_right (parted_term parted) (source_in sources.old)) }
     ensures sources { OnOk result (sources.new ≡ sources.old) }
 {
+    let PartedLoop {
+        frame,
+        base,
+        cell,
+        op,
+        parts,
+    } = parted;
     let mut forwarded = Vec::new(alloc);
-    for part in parted.parts {
+    for part in parts {
         forwarded.push(in_part(alloc, part, sources)?)?;
     }
     Ok(PartedLoop {
-        op: in_parted_op(parted.op, sources),
+        frame,
+        base,
+        cell,
+        op: in_parted_op(op, sources),
         parts: forwarded,
-        ..parted
     })
 }
 

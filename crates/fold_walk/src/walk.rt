@@ -150,11 +150,34 @@ fn fold_gen(
         (state_of folding.old) (state_of folding.new) (gen_term generator) (gen_term new)) }
     ensures table { OnOk result (table.new ≡ table.old) }
 {
+    let CoreGen {
+        lower,
+        lower_closed,
+        upper,
+        upper_closed,
+        step,
+        width,
+        index,
+        names,
+        body,
+        site,
+    } = generator;
     let outer = table.mark();
-    forget_index(given.alloc, table, generator.index, &generator.names)?;
-    let body = fold_block(generator.body, given, table, folding)?;
+    forget_index(given.alloc, table, index, &names)?;
+    let body = fold_block(body, given, table, folding)?;
     table.undo(outer);
-    Ok(CoreGen { body, ..generator })
+    Ok(CoreGen {
+        lower,
+        lower_closed,
+        upper,
+        upper_closed,
+        step,
+        width,
+        index,
+        names,
+        body,
+        site,
+    })
 }
 
 /// The pairs in the bodies of parts.
@@ -169,13 +192,23 @@ fn fold_parted(
         (state_of folding.old) (state_of folding.new) (parted_term parted) (parted_term new)) }
     ensures table { OnOk result (table.new ≡ table.old) }
 {
+    let PartedLoop {
+        frame,
+        base,
+        cell,
+        op,
+        parts,
+    } = parted;
     let mut folded = Vec::new(given.alloc);
-    for part in parted.parts {
+    for part in parts {
         folded.push(fold_part(part, given, table, folding)?)?;
     }
     Ok(PartedLoop {
+        frame,
+        base,
+        cell,
+        op,
         parts: folded,
-        ..parted
     })
 }
 
@@ -190,9 +223,20 @@ fn fold_part(
         (state_of folding.old) (state_of folding.new) (part_term part) (part_term new)) }
     ensures table { OnOk result (table.new ≡ table.old) }
 {
+    let CorePart {
+        grid,
+        index,
+        body,
+        site,
+    } = part;
     let outer = table.mark();
-    learn_index(given.alloc, table, part.index, &part.grid)?;
-    let body = fold_block(part.body, given, table, folding)?;
+    learn_index(given.alloc, table, index, &grid)?;
+    let body = fold_block(body, given, table, folding)?;
     table.undo(outer);
-    Ok(CorePart { body, ..part })
+    Ok(CorePart {
+        grid,
+        index,
+        body,
+        site,
+    })
 }

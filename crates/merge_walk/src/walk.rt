@@ -164,13 +164,33 @@ fn merge_gen(
         (gen_term g)) }
     ensures table { OnOk result (table.new ≡ table.old) }
 {
+    let CoreGen {
+        lower,
+        lower_closed,
+        upper,
+        upper_closed,
+        step,
+        width,
+        index,
+        names,
+        body,
+        site,
+    } = generator;
     let outer = table.mark();
-    forget_index(alloc, table, generator.index, &generator.names)?;
-    let body = merge_block(alloc, generator.body, called, table, progress)?;
+    forget_index(alloc, table, index, &names)?;
+    let body = merge_block(alloc, body, called, table, progress)?;
     table.undo(outer);
     Ok(CoreGen {
+        lower,
+        lower_closed,
+        upper,
+        upper_closed,
+        step,
+        width,
+        index,
+        names,
         body: body.block,
-        ..generator
+        site,
     })
 }
 
@@ -187,15 +207,25 @@ fn merge_parted(
     ensures known { IfOk result (λ new. map fact_of new.values.items ≡ right_facts (shapes_of called.now) (right_term new.right) (facts_of table.old)) }
     ensures table { OnOk result (table.new ≡ table.old) }
 {
+    let PartedLoop {
+        frame,
+        base,
+        cell,
+        op,
+        parts,
+    } = parted;
     let mut merged = Vec::new(alloc);
-    for part in parted.parts {
+    for part in parts {
         merged.push(merge_part(alloc, part, called, table, progress)?)?;
     }
     KnownRight::of_parted(
         alloc,
         PartedLoop {
+            frame,
+            base,
+            cell,
+            op,
             parts: merged,
-            ..parted
         },
     )
 }
@@ -212,12 +242,20 @@ fn merge_part(
         (part_term p)) }
     ensures table { OnOk result (table.new ≡ table.old) }
 {
+    let CorePart {
+        grid,
+        index,
+        body,
+        site,
+    } = part;
     let outer = table.mark();
-    learn_index(alloc, table, part.index, &part.grid)?;
-    let body = merge_block(alloc, part.body, called, table, progress)?;
+    learn_index(alloc, table, index, &grid)?;
+    let body = merge_block(alloc, body, called, table, progress)?;
     table.undo(outer);
     Ok(CorePart {
+        grid,
+        index,
         body: body.block,
-        ..part
+        site,
     })
 }

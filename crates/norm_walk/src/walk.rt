@@ -182,13 +182,33 @@ fn norm_gen(
         progress.old progress.new (gen_term generator) (gen_term new)) }
     ensures table { OnOk result (table.new ≡ table.old) }
 {
+    let CoreGen {
+        lower,
+        lower_closed,
+        upper,
+        upper_closed,
+        step,
+        width,
+        index,
+        names,
+        body,
+        site,
+    } = generator;
     let outer = table.mark();
-    forget_index(alloc, table, generator.index, &generator.names)?;
-    let body = norm_block(alloc, generator.body, given, table, progress)?;
+    forget_index(alloc, table, index, &names)?;
+    let body = norm_block(alloc, body, given, table, progress)?;
     table.undo(outer);
     Ok(CoreGen {
+        lower,
+        lower_closed,
+        upper,
+        upper_closed,
+        step,
+        width,
+        index,
+        names,
         body: body.block,
-        ..generator
+        site,
     })
 }
 
@@ -207,15 +227,25 @@ fn norm_parted(
         ≡ right_facts (shapes_of given.now.called.now) (right_term new.right) (facts_of table.old)) }
     ensures table { OnOk result (table.new ≡ table.old) }
 {
+    let PartedLoop {
+        frame,
+        base,
+        cell,
+        op,
+        parts,
+    } = parted;
     let mut normal = Vec::new(alloc);
-    for part in parted.parts {
+    for part in parts {
         normal.push(norm_part(alloc, part, given, table, progress)?)?;
     }
     KnownRight::of_parted(
         alloc,
         PartedLoop {
+            frame,
+            base,
+            cell,
+            op,
             parts: normal,
-            ..parted
         },
     )
 }
@@ -232,12 +262,20 @@ fn norm_part(
         progress.old progress.new (part_term part) (part_term new)) }
     ensures table { OnOk result (table.new ≡ table.old) }
 {
+    let CorePart {
+        grid,
+        index,
+        body,
+        site,
+    } = part;
     let outer = table.mark();
-    learn_index(alloc, table, part.index, &part.grid)?;
-    let body = norm_block(alloc, part.body, given, table, progress)?;
+    learn_index(alloc, table, index, &grid)?;
+    let body = norm_block(alloc, body, given, table, progress)?;
     table.undo(outer);
     Ok(CorePart {
+        grid,
+        index,
         body: body.block,
-        ..part
+        site,
     })
 }

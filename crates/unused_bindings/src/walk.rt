@@ -158,22 +158,36 @@ fn in_gen(
     ensures swept { IfOk result (λ new. gen_term new.generator ≡ swept_gen (shapes_of called.now) (gen_term generator) (facts_of table.old)) }
     ensures table { OnOk result (table.new ≡ table.old) }
 {
+    let CoreGen {
+        lower,
+        lower_closed,
+        upper,
+        upper_closed,
+        step,
+        width,
+        index,
+        names,
+        body,
+        site,
+    } = generator;
     let outer = table.mark();
-    forget_index(alloc, table, generator.index, &generator.names)?;
-    let body = in_block(alloc, generator.body, called, table)?;
+    forget_index(alloc, table, index, &names)?;
+    let body = in_block(alloc, body, called, table)?;
     table.undo(outer);
     let mut used = body.used;
-    add_head(
-        &mut used,
-        generator.lower,
-        generator.upper,
-        generator.step,
-        generator.width,
-    )?;
+    add_head(&mut used, lower, upper, step, width)?;
     Ok(SweptGen {
         generator: CoreGen {
+            lower,
+            lower_closed,
+            upper,
+            upper_closed,
+            step,
+            width,
+            index,
+            names,
             body: body.block,
-            ..generator
+            site,
         },
         used,
     })

@@ -161,13 +161,33 @@ fn in_gen(
     ensures fresh { OnOk result (fresh.new ≡ next_gen (shapes_of called.now) (gen_term generator) (facts_of table.old) fresh.old) }
     ensures table { OnOk result (table.new ≡ table.old) }
 {
+    let CoreGen {
+        lower,
+        lower_closed,
+        upper,
+        upper_closed,
+        step,
+        width,
+        index,
+        names,
+        body,
+        site,
+    } = generator;
     let outer = table.mark();
-    forget_index(alloc, table, generator.index, &generator.names)?;
-    let body = in_block(alloc, generator.body, called, table, fresh)?;
+    forget_index(alloc, table, index, &names)?;
+    let body = in_block(alloc, body, called, table, fresh)?;
     table.undo(outer);
     Ok(CoreGen {
+        lower,
+        lower_closed,
+        upper,
+        upper_closed,
+        step,
+        width,
+        index,
+        names,
         body: body.block,
-        ..generator
+        site,
     })
 }
 
@@ -184,15 +204,25 @@ fn in_parted(
     ensures fresh { OnOk result (fresh.new ≡ next_right (shapes_of called.now) (parted_term parted) (facts_of table.old) fresh.old) }
     ensures table { OnOk result (table.new ≡ table.old) }
 {
+    let PartedLoop {
+        frame,
+        base,
+        cell,
+        op,
+        parts,
+    } = parted;
     let mut done = Vec::new(alloc);
-    for part in parted.parts {
+    for part in parts {
         done.push(in_part(alloc, part, called, table, fresh)?)?;
     }
     KnownRight::of_parted(
         alloc,
         PartedLoop {
+            frame,
+            base,
+            cell,
+            op,
             parts: done,
-            ..parted
         },
     )
 }
@@ -209,12 +239,20 @@ fn in_part(
     ensures fresh { OnOk result (fresh.new ≡ next_part (shapes_of called.now) (part_term part) (facts_of table.old) fresh.old) }
     ensures table { OnOk result (table.new ≡ table.old) }
 {
+    let CorePart {
+        grid,
+        index,
+        body,
+        site,
+    } = part;
     let outer = table.mark();
-    learn_index(alloc, table, part.index, &part.grid)?;
-    let body = in_block(alloc, part.body, called, table, fresh)?;
+    learn_index(alloc, table, index, &grid)?;
+    let body = in_block(alloc, body, called, table, fresh)?;
     table.undo(outer);
     Ok(CorePart {
+        grid,
+        index,
         body: body.block,
-        ..part
+        site,
     })
 }
