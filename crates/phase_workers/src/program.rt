@@ -67,6 +67,7 @@ pub fn run<G: Gate, R: Threads + Sync>(
         { loop_outside(&workers, work, context, state) },
         over: |work: &CellLoop<'_>, array: RunValue, context: &Context<'_>, state: &mut State<
             '_,
+            '_,
         >| -> Result<RunValue, Stop>
             ensures { IsRunOver context.now work.now array state.old result state.new }
         { over_outside(&workers, work, array, context, state) },
