@@ -1,0 +1,160 @@
+#!/usr/bin/env python3
+"""prove_kept.py [--tests] [--edits] [--lanes N] [CRATE..]
+
+Proves the crates of this repository as `rt ci` does, several side by side, and keeps what is proved, so that a second run proves only what
+changed since, and what stands on it. It is for versions of the toolchain whose `rt ci` keeps nothing; the gate itself is `rt ci`.
+With crates, only these and all that they stand on. With --tests it proves and runs tests too, with --edits it has the must-fail edits refused.
+A result holds for the checksum of all that it was made from; results are in out/kept.json of each crate, what was said in out/kept.KIND.log.
+Status 1 where something failed.
+"""
+import argparse
+import copy
+import functools
+import hashlib
+import importlib.machinery
+import importlib.util
+import json
+import os
+import shutil
+import subprocess
+import sys
+import time
+from concurrent.futures import FIRST_COMPLETED, ThreadPoolExecutor, wait
+
+TOP = os.path.dirname(os.path.dirname(os.path.abspath(__file__)))
+KINDS = ("proof", "tests", "edits")
+
+
+def toolchain():
+    """The toolchain's own commands, as modules: `rt` and the library that it stands on."""
+    command = os.path.realpath(shutil.which("rt"))
+    sys.path.insert(0, os.path.dirname(command))
+    loader = importlib.machinery.SourceFileLoader("rt", command)
+    rt = importlib.util.module_from_spec(importlib.util.spec_from_loader("rt", loader))
+    loader.exec_module(rt)
+    rt.rtlib.Crate = rt.Crate
+    rt.Crate.allowed = rt.handles_of(TOP)
+    # a crate's proof loads the statements of those below it, as under rt ci
+    rt.Crate.cuts_libraries = True
+    rt.rtlib.guarded()
+    # the crates below one are found once, and not again on each way to it
+    rt.rtlib.Crate.below = functools.lru_cache(maxsize=None)(rt.rtlib.Crate.below)
+    return rt
+
+
+def checksums(rt, crates):
+    """By crate and kind, the checksum of all that a result is made from. Crates stand behind those that they use."""
+    found, proofs = {}, {}
+    for crate in crates:
+        summed = hashlib.sha256(repr((sorted(crate.of_kit), [proofs[it.name] for it in crate.deps])).encode())
+        for file in rt.rtlib.files_of(crate.folder):
+            with open(file, "rb") as text:
+                summed.update(repr((os.path.relpath(file, crate.folder), text.read())).encode())
+        proofs[crate.name] = summed.hexdigest()
+        for edit in rt.edits_of(crate)[0]:
+            with open(edit, "rb") as text:
+                summed.update(text.read())
+        found[crate.name] = {kind: summed.hexdigest() if kind == "edits" else proofs[crate.name] for kind in KINDS}
+    return found
+
+
+def kept_of(crate):
+    try:
+        with open(f"{crate.folder}/out/kept.json", encoding="utf-8") as file:
+            return json.load(file)
+    except (OSError, ValueError):
+        return {}
+
+
+def is_kept(crate, kind, sums):
+    there = kind != "proof" or crate.is_program or os.path.isdir(crate.rlib)
+    return there and kept_of(crate).get(kind) == sums[crate.name][kind]
+
+
+def prove(rt, crate):
+    """Proves a library and builds it for the crates above it, or proves and builds a program."""
+    if crate.is_program:
+        return crate.ci(["--jobs", "1"], False) == 0 and rt.run(crate, False)
+    folder = os.path.dirname(crate.rlib)
+    shutil.rmtree(folder, ignore_errors=True)
+    os.makedirs(folder)
+    words = crate.words(["--jobs", "1"], keeps=False)
+    return crate.prove(["build", *words, "--statements", "-o", crate.rlib]) == 0
+
+
+def refuse_edits(rt, crate):
+    good, bad = rt.edits_of(crate)
+    tried = rt.must_fail_all(crate, good, ["--jobs", "1"])
+    print("\n".join(text for _, text in tried), file=crate.out)
+    return not bad and all(refused for refused, _ in tried)
+
+
+def work(rt, crate, kind, sums):
+    """Does one piece of work, keeps it if it went well, and returns whether it did."""
+    begun, crate = time.time(), copy.copy(crate)
+    os.makedirs(f"{crate.folder}/out", exist_ok=True)
+    with open(f"{crate.folder}/out/kept.{kind}.log", "w", encoding="utf-8") as crate.out:
+        if kind == "proof":
+            well = prove(rt, crate)
+        elif kind == "tests":
+            well = crate.ci(["--jobs", "1"], True) == 0 and rt.run(crate, True)
+        else:
+            well = refuse_edits(rt, crate)
+    if well:
+        kept = {**kept_of(crate), kind: sums[crate.name][kind]}
+        with open(f"{crate.folder}/out/kept.json", "w", encoding="utf-8") as file:
+            json.dump(kept, file)
+    print(f"{time.strftime('%H:%M:%S')} {crate.name} {kind}: {'well' if well else 'FAILED'}, {time.time() - begun:.0f} s", flush=True)
+    return well
+
+
+def lines_behind(crates):
+    """By crate, the lines of the longest chain of crates that stand on it, itself included: the longest chain goes first."""
+    behind = {}
+    for crate in reversed(crates):
+        behind[crate.name] = behind.get(crate.name, 0) + crate.count(rb"\n")
+        for below in crate.deps:
+            behind[below.name] = max(behind.get(below.name, 0), behind[crate.name])
+    return behind
+
+
+def main():
+    parser = argparse.ArgumentParser(description=__doc__, formatter_class=argparse.RawDescriptionHelpFormatter)
+    parser.add_argument("crates", nargs="*", metavar="CRATE")
+    parser.add_argument("--tests", action="store_true")
+    parser.add_argument("--edits", action="store_true")
+    parser.add_argument("--lanes", type=int, default=len(os.sched_getaffinity(0)))
+    given = parser.parse_args()
+    os.chdir(TOP)
+    rt = toolchain()
+    crates = sorted(rt.rtlib.crates_below(TOP), key=lambda it: len(it.below()))
+    if given.crates:
+        asked = [it for it in crates if it.name in given.crates]
+        crates = [it for it in crates if it in asked or any(it in above.below() for above in asked)]
+    sums, behind = checksums(rt, crates), lines_behind(crates)
+    done = {(it.name, kind) for it in crates for kind in KINDS if is_kept(it, kind, sums)}
+    left = [(it, "proof") for it in sorted(crates, key=lambda it: -behind[it.name])]
+    left += [(it, "tests") for it in crates if given.tests and it.has_tests()]
+    left += [(it, "edits") for it in crates if given.edits and rt.edits_of(it)[0]]
+    left, failed, running = [it for it in left if (it[0].name, it[1]) not in done], [], {}
+    with ThreadPoolExecutor(given.lanes) as pool:
+        while True:
+            for crate, kind in left[:]:
+                stands = crate.below() if kind == "proof" else [*crate.below(), crate]
+                if len(running) < given.lanes and all((it.name, "proof") in done for it in stands):
+                    left.remove((crate, kind))
+                    running[pool.submit(work, rt, crate, kind, sums)] = crate, kind
+            if not running:
+                break
+            for it in wait(running, return_when=FIRST_COMPLETED).done:
+                crate, kind = running.pop(it)
+                if it.result():
+                    done.add((crate.name, kind))
+                else:
+                    failed.append(f"{crate.name} {kind}")
+    print(f"{len(done)} well, {len(failed)} failed{': ' if failed else ''}{', '.join(failed)}; {len(left)} not tried")
+    return 1 if failed or left else 0
+
+
+if __name__ == "__main__":
+    sys.exit(main())
