@@ -1,15 +1,17 @@
 #!/usr/bin/env python3
-"""prove_kept.py [--tests] [--edits] [--lanes N] [CRATE..]
+"""prove_kept.py [--tests] [--edits] [--all-edits] [--lanes N] [CRATE..]
 
 Proves the crates of this repository as `rt ci` does, several side by side, and keeps what is proved, so that a second run proves only what
 changed since, and what stands on it. It is for versions of the toolchain whose `rt ci` keeps nothing; the gate itself is `rt ci`.
-With crates, only these and all that they stand on. With --tests it proves and runs tests too, with --edits it has the must-fail edits refused.
+With crates, only these and all that they stand on. With --tests it proves and runs their tests too, with --edits it has their must-fail edits refused,
+with --all-edits those of edits/CRATE/ as well, which the gate leaves out for its time.
 A result holds for the checksum of all that it was made from; results are in out/kept.json of each crate, what was said in out/kept.KIND.log.
 Status 1 where something failed.
 """
 import argparse
 import copy
 import functools
+import glob
 import hashlib
 import importlib.machinery
 import importlib.util
@@ -42,7 +44,13 @@ def toolchain():
     return rt
 
 
-def checksums(rt, crates):
+def edits_of(rt, crate, with_others):
+    """The edits that are to be refused: those of the gate, and with the others those that it leaves out."""
+    others = sorted(glob.glob(f"{TOP}/edits/{crate.name}/*.edit")) if with_others else []
+    return rt.edits_of(crate)[0] + others
+
+
+def checksums(rt, crates, with_others):
     """By crate and kind, the checksum of all that a result is made from. Crates stand behind those that they use."""
     found, proofs = {}, {}
     for crate in crates:
@@ -51,7 +59,7 @@ def checksums(rt, crates):
             with open(file, "rb") as text:
                 summed.update(repr((os.path.relpath(file, crate.folder), text.read())).encode())
         proofs[crate.name] = summed.hexdigest()
-        for edit in rt.edits_of(crate)[0]:
+        for edit in edits_of(rt, crate, with_others):
             with open(edit, "rb") as text:
                 summed.update(text.read())
         found[crate.name] = {kind: summed.hexdigest() if kind == "edits" else proofs[crate.name] for kind in KINDS}
@@ -82,14 +90,13 @@ def prove(rt, crate):
     return crate.prove(["build", *words, "--statements", "-o", crate.rlib]) == 0
 
 
-def refuse_edits(rt, crate):
-    good, bad = rt.edits_of(crate)
-    tried = rt.must_fail_all(crate, good, ["--jobs", "1"])
+def refuse(rt, crate, edits):
+    tried = rt.must_fail_all(crate, edits, ["--jobs", "1"])
     print("\n".join(text for _, text in tried), file=crate.out)
-    return not bad and all(refused for refused, _ in tried)
+    return not rt.edits_of(crate)[1] and all(refused for refused, _ in tried)
 
 
-def work(rt, crate, kind, sums):
+def work(rt, crate, kind, sums, with_others):
     """Does one piece of work, keeps it if it went well, and returns whether it did."""
     begun, crate = time.time(), copy.copy(crate)
     os.makedirs(f"{crate.folder}/out", exist_ok=True)
@@ -99,7 +106,7 @@ def work(rt, crate, kind, sums):
         elif kind == "tests":
             well = crate.ci(["--jobs", "1"], True) == 0 and rt.run(crate, True)
         else:
-            well = refuse_edits(rt, crate)
+            well = refuse(rt, crate, edits_of(rt, crate, with_others))
     if well:
         kept = {**kept_of(crate), kind: sums[crate.name][kind]}
         with open(f"{crate.folder}/out/kept.json", "w", encoding="utf-8") as file:
@@ -123,19 +130,20 @@ def main():
     parser.add_argument("crates", nargs="*", metavar="CRATE")
     parser.add_argument("--tests", action="store_true")
     parser.add_argument("--edits", action="store_true")
+    parser.add_argument("--all-edits", action="store_true")
     parser.add_argument("--lanes", type=int, default=len(os.sched_getaffinity(0)))
     given = parser.parse_args()
     os.chdir(TOP)
     rt = toolchain()
     crates = sorted(rt.rtlib.crates_below(TOP), key=lambda it: len(it.below()))
-    if given.crates:
-        asked = [it for it in crates if it.name in given.crates]
-        crates = [it for it in crates if it in asked or any(it in above.below() for above in asked)]
-    sums, behind = checksums(rt, crates), lines_behind(crates)
+    asked = [it for it in crates if not given.crates or it.name in given.crates]
+    crates = [it for it in crates if it in asked or any(it in above.below() for above in asked)]
+    sums, behind = checksums(rt, crates, given.all_edits), lines_behind(crates)
     done = {(it.name, kind) for it in crates for kind in KINDS if is_kept(it, kind, sums)}
     left = [(it, "proof") for it in sorted(crates, key=lambda it: -behind[it.name])]
-    left += [(it, "tests") for it in crates if given.tests and it.has_tests()]
-    left += [(it, "edits") for it in crates if given.edits and rt.edits_of(it)[0]]
+    left += [(it, "tests") for it in asked if given.tests and it.has_tests()]
+    if given.edits or given.all_edits:
+        left += [(it, "edits") for it in asked if edits_of(rt, it, given.all_edits)]
     left, failed, running = [it for it in left if (it[0].name, it[1]) not in done], [], {}
     with ThreadPoolExecutor(given.lanes) as pool:
         while True:
@@ -143,7 +151,7 @@ def main():
                 stands = crate.below() if kind == "proof" else [*crate.below(), crate]
                 if len(running) < given.lanes and all((it.name, "proof") in done for it in stands):
                     left.remove((crate, kind))
-                    running[pool.submit(work, rt, crate, kind, sums)] = crate, kind
+                    running[pool.submit(work, rt, crate, kind, sums, given.all_edits)] = crate, kind
             if not running:
                 break
             for it in wait(running, return_when=FIRST_COMPLETED).done:
