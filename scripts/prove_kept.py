@@ -80,9 +80,11 @@ def is_kept(crate, kind, sums):
 
 
 def prove(rt, crate):
-    """Proves a library and builds it for the crates above it, or proves and builds a program."""
+    """Proves a library and builds it for the crates above it, or proves a program and runs it as each compiler builds it."""
     if crate.is_program:
-        return crate.ci(["--jobs", "1"], False) == 0 and rt.run(crate, False)
+        well = crate.ci(["--jobs", "1"], False) == 0
+        endings = [it for it in rt.BACKENDS.values() if os.path.isfile(f"{crate.folder}/out/{crate.name}{it}")]
+        return well and all(rt.run(crate, False, it) for it in endings)
     folder = os.path.dirname(crate.rlib)
     shutil.rmtree(folder, ignore_errors=True)
     os.makedirs(folder)
