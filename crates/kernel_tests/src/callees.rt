@@ -1,10 +1,10 @@
 use crate::making::{OUTSIDE, SITE, bind, constant, gives, one, result_of, run, vector};
 use core_ir::Var;
-use counted_code::{Code, CodeBlock, CodeFun, CodeRight};
+use counted_code::{Code, CodeBlock, CodeFun, CodeLet, CodeRight, CodeStep};
 use kernel_callees::{Callees, Lowering};
 use kernel_lower::kernel_of;
 use kernel_tree::{Held, Kernel};
-use sac_base::{ArrayType, Base, Memory, Name, Op, Part, Shape};
+use sac_base::{ArrayType, Base, Cell, Fault, FaultKind, Memory, Name, Op, Part, Shape, Site};
 use std::alloc::Global;
 
 // Variable 0 is a vector, and variable 1 is the row.
@@ -12,6 +12,17 @@ const KNOWN: [(Var, Held); 2] = [
     (Var(0), Held::Whole(Base::Int, 1, 0)),
     (Var(1), Held::Word(Base::Int, 0)),
 ];
+
+// Where `down` calls itself.
+const DEEPER: Site = Site { line: 5, col: 1 };
+
+// The fault of a call for which no level is left.
+fn too_deep(site: Site) -> Fault {
+    Fault {
+        kind: FaultKind::F10,
+        site,
+    }
+}
 
 fn typed(var: u32, part: Part) -> (Var, ArrayType) {
     let base = Base::Int;
@@ -73,7 +84,49 @@ fn itself(alloc: Global) -> CodeBlock {
     gives(alloc, steps, 3)
 }
 
-// Group 0 is `before`, group 1 the inline `element_before`, and group 2 `endless`.
+// `down(x - 1) + 1`, where `x` is variable 2.
+fn one_deeper(alloc: Global) -> CodeBlock {
+    let mut steps = Vec::new(alloc);
+    bind(alloc, &mut steps, 4, constant(alloc, 1));
+    bind(
+        alloc,
+        &mut steps,
+        5,
+        CodeRight::Binary(Op::Sub, Var(2), Var(4)),
+    );
+    let _ = steps.push(CodeStep::Bind(CodeLet {
+        targets: one(alloc, Var(6)),
+        site: DEEPER,
+        right: call(alloc, 3, 5),
+    }));
+    bind(
+        alloc,
+        &mut steps,
+        7,
+        CodeRight::Binary(Op::Add, Var(6), Var(4)),
+    );
+    gives(alloc, steps, 7)
+}
+
+// `x ? down(x - 1) + 1 : 0`, where `x` is variable 2.
+fn down(alloc: Global) -> CodeBlock {
+    let mut last = Vec::new(alloc);
+    bind(alloc, &mut last, 8, constant(alloc, 0));
+    let mut steps = Vec::new(alloc);
+    bind(
+        alloc,
+        &mut steps,
+        3,
+        CodeRight::If {
+            cond: Var(2),
+            yes: one_deeper(alloc),
+            no: gives(alloc, last, 8),
+        },
+    );
+    gives(alloc, steps, 3)
+}
+
+// Group 0 is `before`, group 1 the inline `element_before`, group 2 `endless`, and group 3 `down`.
 fn program(alloc: Global) -> Result<Code, Memory> {
     let mut taken = one(alloc, typed(5, Part::Rank(1)));
     taken.push(typed(6, number(alloc)))?;
@@ -83,8 +136,10 @@ fn program(alloc: Global) -> Result<Code, Memory> {
     functions.push(function(alloc, taken, true, element_before(alloc))?)?;
     let x = one(alloc, typed(2, number(alloc)));
     functions.push(function(alloc, x, false, itself(alloc))?)?;
+    let x = one(alloc, typed(2, number(alloc)));
+    functions.push(function(alloc, x, false, down(alloc))?)?;
     let mut groups = Vec::new(alloc);
-    for group in 0..3 {
+    for group in 0..4 {
         groups.push(one(alloc, group))?;
     }
     Ok(Code {
@@ -134,12 +189,42 @@ fn a_call_is_its_body(rt: HostRuntime) {
     }
 }
 
+// What a block's kernel gives in a row, where so many levels are left.
+fn given(
+    alloc: Global,
+    code: &Code,
+    left: u64,
+    block: &CodeBlock,
+    row: Cell,
+) -> Option<Result<Cell, Fault>> {
+    let kernel = kernel(alloc, code, left, block)?;
+    let register = result_of(&kernel)?;
+    let array = vector(alloc, &[10, 20, 30]).ok()?;
+    Some(run(&kernel, register, &array, row, row))
+}
+
+// A call of a group with the row.
+fn calling(alloc: Global, group: u32) -> CodeBlock {
+    let mut steps = Vec::new(alloc);
+    bind(alloc, &mut steps, 2, call(alloc, group, 1));
+    gives(alloc, steps, 2)
+}
+
 #[test]
 fn calls_end_with_the_levels(rt: HostRuntime) {
     let code = program(rt.alloc()).expect(&rt, "memory");
-    assert!(rt; kernel(rt.alloc(), &code, 0, &cell(rt.alloc())).is_none());
-    let mut steps = Vec::new(rt.alloc());
-    bind(rt.alloc(), &mut steps, 2, call(rt.alloc(), 2, 1));
-    let endless = gives(rt.alloc(), steps, 2);
+    let last = given(rt.alloc(), &code, 0, &cell(rt.alloc()), 1);
+    assert_eq!(rt; last, Some(Err(too_deep(SITE))));
+    let endless = calling(rt.alloc(), 2);
     assert!(rt; kernel(rt.alloc(), &code, 1000, &endless).is_none());
+}
+
+#[test]
+fn recursion_goes_as_deep_as_the_levels(rt: HostRuntime) {
+    let code = program(rt.alloc()).expect(&rt, "memory");
+    let block = calling(rt.alloc(), 3);
+    let cases = [(0, Ok(0)), (1, Ok(1)), (2, Err(too_deep(DEEPER)))];
+    for (row, wanted) in cases {
+        assert_eq!(rt; given(rt.alloc(), &code, 2, &block, row), Some(wanted));
+    }
 }
