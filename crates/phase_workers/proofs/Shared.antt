@@ -18,6 +18,7 @@ use Rattle.phase_loop_cells.specs.contracts.copies.Background as background
 use Rattle.phase_loop_cells.proofs.copies.Background.TheSendSync as background_shared
 use Rattle.phase_loop_cells.specs.contracts.loops.LoopCells as cells
 use Rattle.phase_workers.specs.contracts.covered.CoveredCells as covered
+use Rattle.run_kernels.specs.contracts.calls.CallKernel as call
 use Rattle.run_kernels.specs.contracts.groups.PlainGroups as groups
 use Rattle.run_kernels.specs.contracts.groups.PlainGroups.TheInside as groups_inside
 use Rattle.run_loops.specs.contracts.cell_loop.CellSource as source
@@ -32,11 +33,14 @@ use Rattle.std.specs.contracts.option.Option as option
 use Rattle.std.specs.contracts.vec.Vec as vec
 use Rattle.std.proofs.Crossing.{Vec-sync}
 
-module _ (code_sync : IsSync code.the_row) where
+module _ (code_sync : IsSync code.the_row) (call_sync : IsSync call.the_row) where
   groups_sync : (l : _) → IsSync (groups.the_row l)
   groups_sync l = view_sync (groups_inside.the_row l) _ _ _ _ (declared_sync (groups_inside.the_type l) (
     as_row_sync (shr_ref_field l code.the_row tt) (shr_sync _ _ code.the_row code_sync),
-    (as_row_sync (vec.the_field bool global.the_row ghosts) (search (Vec-sync, sendable) depth 20), tt),
+    (
+      as_row_sync (vec.the_field bool global.the_row ghosts) (search (Vec-sync, sendable) depth 20),
+      (as_row_sync (vec.the_field call.the_row global.the_row ghosts) (search (Vec-sync, sendable, call_sync) depth 20), tt),
+    ),
   ))
 
   counted_sync : (l : _) → IsSync (counted.the_row l)

@@ -23,6 +23,7 @@ use phase_cells::CellRuns;
 use phase_kernels::{KernelCells, KernelScratch};
 use phase_loop_cells::LoopCells;
 use phase_team::{CellEnd, Gate};
+use run_kernels::CallKernel;
 use run_loops::body_at;
 use run_store::Store;
 use sac_base::{Cell, Memory, Stop, elements};
@@ -153,6 +154,7 @@ fn each_cell<G: Gate, R: Threads + Sync>(
     shares::<CodePart>();
     shares::<CodeGen>();
     shares::<Code>();
+    shares::<CallKernel>();
     compute_array(team, covered, count, width, into, books)
 }
 

@@ -31,6 +31,7 @@ use phase_books::{
 use phase_kernels::KernelCells;
 use phase_loop_cells::LoopCells;
 use phase_team::Gate;
+use run_kernels::CallKernel;
 use run_loops::{CellLoop, Context, State};
 use run_values::RunValue;
 use sac_base::{Array, Base, Cell, Op, Stop};
@@ -181,6 +182,7 @@ fn each_fold<G: Gate, R: Threads + Sync>(
     shares::<CodePart>();
     shares::<CodeGen>();
     shares::<Code>();
+    shares::<CallKernel>();
     let base = cells.cells.plan.form.base;
     compute_fold(team, cells, count, base, op, value, books)
 }

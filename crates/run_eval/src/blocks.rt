@@ -14,7 +14,7 @@ ghost use Rattle.std.specs.Prelude.{◌≡◌, ◌∷◌, [], OnOk, map};
 use crate::array_loops::{run_parted, run_with};
 use crate::updates::update_first;
 use counted_code::{CodeBlock, CodeFun, CodeLet, CodeRight, CodeStep};
-use run_kernels::loop_values;
+use run_kernels::{call_values, loop_values};
 use run_loops::{
     Context, Outside, Phases, State, Turn, bind_all, bind_params, condition, deeper, first_of,
     levels_of, push_values, value_at,
@@ -419,10 +419,35 @@ fn run_turn<P: Phases>(
     Ok(())
 }
 
-/// Appends the results of a call.
+/// Appends the results of a call: those of its kernel, if it has one that does not go too deep.
 #[cycle(run)]
 #[inline(never)]
 fn run_call<P: Phases>(
+    group: u32,
+    args: &[RunValue],
+    site: Site,
+    context: &Context<'_>,
+    outside: Option<&Outside<P>>,
+    state: &mut State<'_, '_>,
+    values: &mut Vec<RunValue>,
+) -> Result<(), Stop>
+    ensures told { (m : MachineHeap) → IsAt state.old m
+        → Told (λ _ ws. Appends values.old.items values.new.items ws) result state.new (calls_in context.now group (map value_of args.now) site m) }
+    ensures scopes { OnOk result (SameScopes state.old.frames state.new.frames) }
+    ensures lender { lender_of state.new.heap ≡ lender_of state.old.heap }
+{
+    let levels = levels_of(context);
+    if let Some(found) = call_values(levels, group, args, context.alloc)? {
+        values.extend_from_slice(&found)?;
+        return Ok(());
+    }
+    run_chosen(group, args, site, context, outside, state, values)
+}
+
+/// Appends the results of a call, which takes a function of the group.
+#[cycle(run)]
+#[inline(never)]
+fn run_chosen<P: Phases>(
     group: u32,
     args: &[RunValue],
     site: Site,
@@ -441,7 +466,7 @@ fn run_call<P: Phases>(
         return Err(fault(FaultKind::F7, site));
     };
     let function = &code.functions[place];
-    let inner = deeper(function, site, context)?;
+    let inner = deeper(function, group, site, context)?;
     run_function(function, args, &inner, outside, state, values)
 }
 

@@ -130,6 +130,7 @@ fn run_code<P: Phases>(
         turns: plan.caps.turns,
         left: plan.caps.depth,
         nest: code.functions.len() as u64,
+        tried: plan.caps.depth,
     };
     let answer = run_main(args, &context, outside, &mut state);
     let State {

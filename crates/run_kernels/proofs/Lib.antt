@@ -1,4 +1,6 @@
+pub mod CallKernels
 pub mod Ends
+pub mod FewerLevels
 pub mod Plain
 pub mod Results
 pub mod Walks

@@ -12,4 +12,6 @@ pub struct CallLevels<'a> {
     pub left: u64,
     /// How many calls of inline functions may be nested.
     pub nest: u64,
+    /// Calls are tried as kernels where no more levels are left than so many.
+    pub tried: u64,
 }

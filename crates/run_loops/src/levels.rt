@@ -23,9 +23,10 @@ pub fn condition(value: RunValue, site: Site) -> Result<bool, Stop>
     }
 }
 
-/// How far a function may go on that is called here.
+/// How far a function of a group may go on that is called here.
 pub fn deeper<'a>(
     function: &CodeFun,
+    group: u32,
     site: Site,
     context: &Context<'a>,
 ) -> Result<Context<'a>, Stop>
@@ -43,8 +44,21 @@ pub fn deeper<'a>(
         }
         inner.left = context.left - 1;
         inner.nest = context.code.get().functions.len() as u64;
+        inner.tried = tried_within(group, context);
     }
     Ok(inner)
+}
+
+// At how many levels that are left calls are tried as kernels within a call of a group that is not run as one. Where it has a kernel, the call went too
+// deep for it, and so would most of the calls within: the next ones are tried half as many levels deeper as the kernel has.
+fn tried_within(group: u32, context: &Context<'_>) -> u64 {
+    if context.left > context.tried {
+        return context.tried;
+    }
+    match context.code.plain().kernel_levels(group) {
+        Some(levels) => context.left.saturating_sub(levels / 2),
+        None => context.tried,
+    }
 }
 
 /// The program and how far calls may go on, as kernels of loops take them.
@@ -57,5 +71,6 @@ pub fn levels_of<'a>(context: &Context<'a>) -> CallLevels<'a>
         turns: context.turns,
         left: context.left,
         nest: context.nest,
+        tried: context.tried,
     }
 }

@@ -114,6 +114,8 @@ pub struct Context<'a> {
     pub left: u64,
     /// How many calls of inline functions may be nested.
     pub nest: u64,
+    /// Calls are tried as kernels where no more levels are left than so many.
+    pub tried: u64,
 }
 
 /// The variables, the buffers and the phases so far.

@@ -5,6 +5,8 @@
 #[cfg(test)]
 mod base;
 #[cfg(test)]
+mod calls;
+#[cfg(test)]
 mod data;
 #[cfg(test)]
 mod devices;

@@ -108,6 +108,7 @@ fn run(
         turns,
         left,
         nest: 0,
+        tried: left,
     };
     let mut store = Store::of(Heap::new(alloc));
     let mut frames = Frames::new(alloc);

@@ -1,5 +1,6 @@
 -- The answers of the cycle, which stand by topic in the folder of this file's name.
 mod BlockAnswers
+mod CallAnswers
 mod CellAnswers
 mod LoopAnswers
 mod MarkedAnswers
@@ -8,6 +9,7 @@ mod TurnAnswers
 mod WithAnswers
 use Rattle.run_eval.proofs.+run.Goals as goal
 use Rattle.run_eval.proofs.+run.Answers.BlockAnswers as block_answers
+use Rattle.run_eval.proofs.+run.Answers.CallAnswers as call_answers
 use Rattle.run_eval.proofs.+run.Answers.CellAnswers as cell_answers
 use Rattle.run_eval.proofs.+run.Answers.LoopAnswers as loop_answers
 use Rattle.run_eval.proofs.+run.Answers.MarkedAnswers as marked_answers
@@ -219,11 +221,20 @@ blocks::run_right-returns-in_ok-run_rights-in-Loop = right_answers.run_right-ret
 pub blocks::run_right-returns-in_default : goal.blocks::run_right-returns-in_default
 blocks::run_right-returns-in_default = right_answers.run_right-returns-in_default
 
-pub blocks::run_call-run_function-requires : goal.blocks::run_call-run_function-requires
-blocks::run_call-run_function-requires = right_answers.run_call-run_function-requires
+pub blocks::run_call-run_chosen-requires : goal.blocks::run_call-run_chosen-requires
+blocks::run_call-run_chosen-requires = call_answers.run_call-run_chosen-requires
 
-pub blocks::run_call-returns-in_default : goal.blocks::run_call-returns-in_default
-blocks::run_call-returns-in_default = right_answers.run_call-returns-in_default
+pub blocks::run_call-returns-in_err-found-clause-told : goal.blocks::run_call-returns-in_err-found-clause-told
+blocks::run_call-returns-in_err-found-clause-told = call_answers.run_call-returns-in_err-found-clause-told
+
+pub blocks::run_call-returns-in-Some-clause-told : goal.blocks::run_call-returns-in-Some-clause-told
+blocks::run_call-returns-in-Some-clause-told = call_answers.run_call-returns-in-Some-clause-told
+
+pub blocks::run_chosen-run_function-requires : goal.blocks::run_chosen-run_function-requires
+blocks::run_chosen-run_function-requires = right_answers.run_chosen-run_function-requires
+
+pub blocks::run_chosen-returns-in_default : goal.blocks::run_chosen-returns-in_default
+blocks::run_chosen-returns-in_default = right_answers.run_chosen-returns-in_default
 
 pub blocks::run_one-returns-in_default : goal.blocks::run_one-returns-in_default
 blocks::run_one-returns-in_default = right_answers.run_one-returns-in_default
@@ -258,11 +269,11 @@ blocks::run_one-returns-in-With = right_answers.run_one-returns-in-With
 pub blocks::run_one-returns-in-Parted : goal.blocks::run_one-returns-in-Parted
 blocks::run_one-returns-in-Parted = right_answers.run_one-returns-in-Parted
 
-pub blocks::run_call-returns-in_err-inner : goal.blocks::run_call-returns-in_err-inner
-blocks::run_call-returns-in_err-inner = right_answers.run_call-returns-in_err-inner
+pub blocks::run_chosen-returns-in_err-inner : goal.blocks::run_chosen-returns-in_err-inner
+blocks::run_chosen-returns-in_err-inner = right_answers.run_chosen-returns-in_err-inner
 
-pub blocks::run_call-returns : goal.blocks::run_call-returns
-blocks::run_call-returns = right_answers.run_call-returns
+pub blocks::run_chosen-returns : goal.blocks::run_chosen-returns
+blocks::run_chosen-returns = right_answers.run_chosen-returns
 
 pub blocks::run_function-run_open-requires : goal.blocks::run_function-run_open-requires
 blocks::run_function-run_open-requires = right_answers.run_function-run_open-requires

@@ -63,7 +63,10 @@ abbrev pub decreases-blocks::run_turn : goal.decreases-blocks::run_turn
 decreases-blocks::run_turn g l = rank_of l.context.now + 8 * size-CodeBlock l.turn.now.body.now + 5
 
 abbrev pub decreases-blocks::run_call : goal.decreases-blocks::run_call
-decreases-blocks::run_call g l = rank_of l.context.now
+decreases-blocks::run_call g l = rank_of l.context.now + 1
+
+abbrev pub decreases-blocks::run_chosen : goal.decreases-blocks::run_chosen
+decreases-blocks::run_chosen g l = rank_of l.context.now
 
 abbrev pub decreases-blocks::run_function : goal.decreases-blocks::run_function
 decreases-blocks::run_function g l = rank_of l.context.now + 8 * body_size l.function.now + 4

@@ -150,8 +150,8 @@ run_right-returns-in_default g t c =
       lender = c.run_one.ensures.lender;
     }
 
-pub run_call-run_function-requires : goal.blocks::run_call-run_function-requires
-run_call-run_function-requires g t c κs p =
+pub run_chosen-run_function-requires : goal.blocks::run_chosen-run_function-requires
+run_chosen-run_function-requires g t c κs p =
     let ctx = c.args.context.now in
     let fs = ctx.code.now.functions.items in
     let f = c.index-function.result.now in
@@ -160,8 +160,8 @@ run_call-run_function-requires g t c κs p =
     let is = place_same c.get-code.result.now ctx.code.now place f c.get-code.ensures.same c.index-function.ensures in
     (omega (arith, c.decreases, falls c.in_ok-inner.inner ctx f.inline c.args.site c.in_ok-inner.ensures, body_below fs place f inside, ap body_size is), p)
 
-pub run_call-returns-in_default : goal.blocks::run_call-returns-in_default
-run_call-returns-in_default g t c =
+pub run_chosen-returns-in_default : goal.blocks::run_chosen-returns-in_default
+run_chosen-returns-in_default g t c =
     let ctx = c.args.context.now in
     let s = c.args.state.now in
     let vs = map value_of c.args.args.now in
@@ -355,8 +355,8 @@ run_one-returns-in-Parted g t c =
       lender = c.run_parted.ensures.lender;
     }
 
-pub run_call-returns-in_err-inner : goal.blocks::run_call-returns-in_err-inner
-run_call-returns-in_err-inner g t c =
+pub run_chosen-returns-in_err-inner : goal.blocks::run_chosen-returns-in_err-inner
+run_chosen-returns-in_err-inner g t c =
     let ctx = c.args.context.now in
     let s = c.args.state.now in
     let fs = ctx.code.now.functions.items in
@@ -376,8 +376,8 @@ run_call-returns-in_err-inner g t c =
       lender = refl;
     }
 
-pub run_call-returns : goal.blocks::run_call-returns
-run_call-returns g t c =
+pub run_chosen-returns : goal.blocks::run_chosen-returns
+run_chosen-returns g t c =
     let ctx = c.args.context.now in
     let s = c.args.state.now in
     let fs = ctx.code.now.functions.items in
