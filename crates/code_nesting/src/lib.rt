@@ -1,6 +1,7 @@
 //! How deep blocks and calls nest in counted code.
 #![tactic(auto)]
 
+mod called;
 mod needs;
 mod nesting;
 mod walk;

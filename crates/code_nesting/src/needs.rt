@@ -4,7 +4,8 @@ ghost use Rattle.std.specs.Prelude.{◌≡◌, ◌<◌, ◌≤◌, ℕ, IfOk, If
 ghost use Rattle.counted_code.specs.View.{code_program};
 ghost use Rattle.code_nesting.specs.Needs.{IsBound, IsClosed, IsClosedAt};
 
-use crate::walk::block_need;
+use crate::called::called_places;
+use crate::walk::{block_need, need_at};
 use counted_code::Code;
 use sac_base::Memory;
 use std::alloc::Global;
@@ -25,6 +26,7 @@ pub fn needs_of(alloc: Global, code: &Code, levels: u64) -> Result<Option<Vec<u3
     let functions = code.functions.len();
     let mut below = vec![in alloc; 0; functions]?;
     let mut here = vec![in alloc; 0; functions]?;
+    pass_over_uncalled(alloc, code, &mut here)?;
     if !settle(code, &below, &mut here) {
         return Ok(None);
     }
@@ -38,6 +40,19 @@ pub fn needs_of(alloc: Global, code: &Code, levels: u64) -> Result<Option<Vec<u3
         }
     }
     Ok(Some(here))
+}
+
+// Puts more than the limit for each function that no call takes, as `main`, so that its body, which may be long, is not looked at for each level.
+fn pass_over_uncalled(alloc: Global, code: &Code, here: &mut Vec<u32>) -> Result<(), Memory>
+    ensures { length here.new.items ≡ length here.old.items }
+{
+    let called = called_places(alloc, code)?;
+    for place in 0..here.len().min(called.len()) {
+        if !called[place] {
+            here[place] = LIMIT + 1;
+        }
+    }
+    Ok(())
 }
 
 // Raises what each function needs at a level to what its body shows, where `below` is what they need at the level below it.
@@ -73,6 +88,20 @@ fn raise(code: &Code, below: &[u32], here: &mut Vec<u32>) -> bool
 
 // The same of the function at a place.
 fn raise_at(place: usize, code: &Code, below: &[u32], here: &mut Vec<u32>) -> bool
+    requires within { place < length code.now.functions.items }
+    requires sized { length here.old.items ≡ length code.now.functions.items }
+    ensures sized { length here.new.items ≡ length here.old.items }
+    ensures kept { result ≡ false → here.new.items ≡ here.old.items }
+    ensures closed { result ≡ false → IsClosedAt (code_program code.now) below.now here.old.items place }
+{
+    if need_at(place, here) > LIMIT {
+        return false;
+    }
+    raise_body(place, code, below, here)
+}
+
+// The same by its body.
+fn raise_body(place: usize, code: &Code, below: &[u32], here: &mut Vec<u32>) -> bool
     requires within { place < length code.now.functions.items }
     requires sized { length here.old.items ≡ length code.now.functions.items }
     ensures sized { length here.new.items ≡ length here.old.items }

@@ -145,7 +145,8 @@ fn is_inline(place: usize, code: &Code) -> bool
     }
 }
 
-fn need_at(place: usize, needs: &[u32]) -> u32
+/// What a table has of the function at a place.
+pub fn need_at(place: usize, needs: &[u32]) -> u32
     ensures { result ≡ slice_index needs.now place }
 {
     match needs.get(place) {

@@ -11,7 +11,7 @@ loop-level-init c =
     let here = c.settle.new.here.items in
     let closed : IsClosed code below here = subst (λ (t : List ℕ). IsClosed code t here) c.deref.ensures.value (c.settle.ensures.closed c.if-not-settle.false) in (
       omega (arith, c.in_ok-below.ensures.len, c.len-functions.ensures),
-      omega (arith, c.in_ok-here.ensures.len, c.len-functions.ensures, c.settle.ensures.sized),
+      omega (arith, c.in_ok-here.ensures.len, c.len-functions.ensures, c.pass_over_uncalled.ensures, c.settle.ensures.sized),
       closed,
       level_bound code below here closed zero (λ k is. absurd (omega (arith, is))),
     )

@@ -3,7 +3,7 @@ use Rattle.std.proofs.lemmas.Grind.{get_or_default_zero}
 use Rattle.counted_code.specs.View.{code_program, code_term}
 use Rattle.code_nesting.specs.Needs.{Needs}
 use Rattle.code_nesting.proofs.Closed.{closed_at}
-use Rattle.code_nesting.proofs.needs.raise_at.Goals as goal
+use Rattle.code_nesting.proofs.needs.raise_body.Goals as goal
 
 pub returns-then-need-index-clause-closed : goal.returns-then-need-index-clause-closed
 returns-then-need-index-clause-closed c _ =
