@@ -9,7 +9,7 @@ use std::alloc::Global;
 // The most steps of a function of such a group. A kernel has the steps of a body once for each call that it goes deep.
 const MOST_STEPS: usize = 128;
 
-/// Whether a function of a group calls the group in its own body, and all are short.
+/// Whether a function of a group calls the group in its own body, and all are short and without loops.
 pub fn calls_itself(code: &Code, group: u32) -> bool {
     let Some(places) = code.groups.get(group as usize) else {
         return false;
@@ -26,7 +26,7 @@ pub fn calls_itself(code: &Code, group: u32) -> bool {
     calls
 }
 
-// How many steps a block has, with those of the blocks in it.
+// How many steps a block has, with those of the blocks in it; more than any number where it has loops.
 #[cycle(steps)]
 fn block_steps(block: &CodeBlock) -> usize {
     let mut steps = block.steps.len();
@@ -42,7 +42,8 @@ fn block_steps(block: &CodeBlock) -> usize {
 fn right_steps(right: &CodeRight) -> usize {
     match right {
         CodeRight::If { yes, no, .. } => block_steps(yes).saturating_add(block_steps(no)),
-        CodeRight::Loop { test, body, .. } => block_steps(test).saturating_add(block_steps(body)),
+        // a kernel that goes too deep has made its turns in vain
+        CodeRight::Loop { .. } => usize::MAX,
         _ => 0,
     }
 }
