@@ -75,25 +75,25 @@ pub fn result_of(kernel: &Kernel) -> Option<u8> {
 
 /// A kernel that is ready to be run, with its result in a register.
 #[derive(Drop)]
-pub struct Runnable {
+pub struct RunnableKernel {
     block: LinearBlock,
     register: u8,
 }
 
 /// Makes a kernel ready, if its result is in a register.
-pub fn runnable(alloc: Global, kernel: Kernel) -> Option<Runnable> {
+pub fn runnable(alloc: Global, kernel: Kernel) -> Option<RunnableKernel> {
     let register = result_of(&kernel)?;
     runnable_block(alloc, kernel.block, register)
 }
 
 /// Makes a block ready, whose result is in a register.
-pub fn runnable_block(alloc: Global, block: KernelBlock, register: u8) -> Option<Runnable> {
+pub fn runnable_block(alloc: Global, block: KernelBlock, register: u8) -> Option<RunnableKernel> {
     let block = LinearBlock::of(alloc, block).ok()?;
-    Some(Runnable { block, register })
+    Some(RunnableKernel { block, register })
 }
 
 /// The result of a run that begins with a row in register 0 and a column in register 1.
-pub fn run(kernel: &Runnable, array: &Array, row: Cell, column: Cell) -> Result<Cell, Fault> {
+pub fn run(kernel: &RunnableKernel, array: &Array, row: Cell, column: Cell) -> Result<Cell, Fault> {
     let mut registers: Registers = [row; 256];
     registers[1] = column;
     kernel.block.run(&[Buffer::of(array)], &mut registers, 9)?;

@@ -1,4 +1,4 @@
-use crate::making::{Runnable, matrix, one, run, runnable_block};
+use crate::making::{RunnableKernel, matrix, one, run, runnable_block};
 use kernel_tree::{KernelBlock, KernelPart, KernelStep};
 use sac_base::{Array, Memory, Site};
 use std::alloc::Global;
@@ -30,7 +30,7 @@ pub fn squares(alloc: Global) -> Result<Array, Memory> {
 }
 
 // A line of steps, with the result in register 15.
-fn line(alloc: Global, steps: &[KernelStep]) -> Option<Runnable> {
+fn line(alloc: Global, steps: &[KernelStep]) -> Option<RunnableKernel> {
     let steps = Vec::from_slice(alloc, steps).ok()?;
     let block = KernelBlock {
         parts: one(alloc, KernelPart::Line(steps)),
