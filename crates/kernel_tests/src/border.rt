@@ -1,4 +1,4 @@
-use crate::making::{OUTSIDE, bind, constant, gives, one, result_of, run, vector};
+use crate::making::{OUTSIDE, bind, constant, gives, one, run, runnable, vector};
 use core_ir::Var;
 use counted_code::{CodeBlock, CodeRight};
 use kernel_callees::Lowering;
@@ -45,10 +45,10 @@ fn border_kernel(alloc: Global) -> Option<Kernel> {
 #[test]
 fn a_border_test_is_a_kernel(rt: HostRuntime) {
     let kernel = border_kernel(rt.alloc()).expect(&rt, "a kernel");
-    let register = result_of(&kernel).expect(&rt, "a result in a register");
+    let kernel = runnable(rt.alloc(), kernel).expect(&rt, "a result in a register");
     let array = vector(rt.alloc(), &[10, 20, 30]).expect(&rt, "memory");
     let cases = [(0, Ok(0)), (1, Ok(10)), (3, Ok(30)), (4, Err(OUTSIDE))];
     for (i, wanted) in cases {
-        assert_eq!(rt; run(&kernel, register, &array, i, i), wanted);
+        assert_eq!(rt; run(&kernel, &array, i, i), wanted);
     }
 }

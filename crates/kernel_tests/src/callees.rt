@@ -1,4 +1,4 @@
-use crate::making::{OUTSIDE, SITE, bind, constant, gives, one, result_of, run, vector};
+use crate::making::{OUTSIDE, SITE, bind, constant, gives, one, run, runnable, vector};
 use core_ir::Var;
 use counted_code::{Code, CodeBlock, CodeFun, CodeLet, CodeRight, CodeStep};
 use kernel_callees::{Callees, Lowering};
@@ -176,7 +176,7 @@ fn cell(alloc: Global) -> CodeBlock {
 fn a_call_is_its_body(rt: HostRuntime) {
     let code = program(rt.alloc()).expect(&rt, "memory");
     let kernel = kernel(rt.alloc(), &code, 1, &cell(rt.alloc())).expect(&rt, "a kernel");
-    let register = result_of(&kernel).expect(&rt, "a result in a register");
+    let kernel = runnable(rt.alloc(), kernel).expect(&rt, "a result in a register");
     let array = vector(rt.alloc(), &[10, 20, 30]).expect(&rt, "memory");
     let cases = [
         (0, Err(OUTSIDE)),
@@ -185,7 +185,7 @@ fn a_call_is_its_body(rt: HostRuntime) {
         (4, Err(OUTSIDE)),
     ];
     for (i, wanted) in cases {
-        assert_eq!(rt; run(&kernel, register, &array, i, i), wanted);
+        assert_eq!(rt; run(&kernel, &array, i, i), wanted);
     }
 }
 
@@ -198,9 +198,9 @@ fn given(
     row: Cell,
 ) -> Option<Result<Cell, Fault>> {
     let kernel = kernel(alloc, code, left, block)?;
-    let register = result_of(&kernel)?;
+    let kernel = runnable(alloc, kernel)?;
     let array = vector(alloc, &[10, 20, 30]).ok()?;
-    Some(run(&kernel, register, &array, row, row))
+    Some(run(&kernel, &array, row, row))
 }
 
 // A call of a group with the row.

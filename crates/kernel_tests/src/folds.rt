@@ -1,4 +1,4 @@
-use crate::making::{OUTSIDE, SITE, one, result_of, run, vector};
+use crate::making::{OUTSIDE, SITE, one, run, runnable, vector};
 use core_ir::{PartedOp, Var};
 use counted_code::{CodeBlock, CodeLet, CodePart, CodeParted, CodeRight, CodeStep};
 use kernel_callees::Lowering;
@@ -105,14 +105,14 @@ fn gives(alloc: Global, right: CodeRight, cases: &[(Cell, Result<Cell, Fault>)])
     let Some(kernel) = kernel(alloc, right) else {
         return false;
     };
-    let Some(register) = result_of(&kernel) else {
+    let Some(kernel) = runnable(alloc, kernel) else {
         return false;
     };
     let Ok(array) = vector(alloc, &[5, 7, 11, 13]) else {
         return false;
     };
     for (row, wanted) in cases {
-        if run(&kernel, register, &array, *row, 0) != *wanted {
+        if run(&kernel, &array, *row, 0) != *wanted {
             return false;
         }
     }
@@ -367,10 +367,10 @@ fn a_fold_within_a_loop_is_a_kernel(rt: HostRuntime) {
         assert!(rt; false);
         return;
     };
-    let register = result_of(&kernel).expect(&rt, "a register");
+    let kernel = runnable(alloc, kernel).expect(&rt, "a register");
     let array = vector(alloc, &[0]).expect(&rt, "memory");
     for (row, wanted) in [(0, 0), (1, 3), (4, 12)] {
-        assert_eq!(rt; run(&kernel, register, &array, row, 0), Ok(wanted));
+        assert_eq!(rt; run(&kernel, &array, row, 0), Ok(wanted));
     }
 }
 

@@ -1,4 +1,4 @@
-use crate::making::{SITE, one, result_of, run, vector};
+use crate::making::{SITE, one, run, runnable, vector};
 use core_ir::Var;
 use counted_code::{CodeBlock, CodeLet, CodeRight, CodeStep};
 use kernel_callees::Lowering;
@@ -120,14 +120,14 @@ fn gives(
     let Some(kernel) = loop_kernel(alloc, turning) else {
         return false;
     };
-    let Some(register) = result_of(&kernel) else {
+    let Some(kernel) = runnable(alloc, kernel) else {
         return false;
     };
     let Ok(array) = vector(alloc, &[0]) else {
         return false;
     };
     for (row, column, wanted) in cases {
-        if run(&kernel, register, &array, *row, *column) != *wanted {
+        if run(&kernel, &array, *row, *column) != *wanted {
             return false;
         }
     }

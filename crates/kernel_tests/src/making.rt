@@ -3,8 +3,8 @@
 use core_ir::Var;
 use counted_code::{CodeBlock, CodeLet, CodeRight, CodeStep};
 use kernel_buffers::Buffer;
-use kernel_run::run_block;
-use kernel_tree::{Held, Kernel, Registers};
+use kernel_run::LinearBlock;
+use kernel_tree::{Held, Kernel, KernelBlock, Registers};
 use sac_base::{Array, Base, Cell, Fault, FaultKind, Memory, Site};
 use std::alloc::Global;
 
@@ -73,16 +73,29 @@ pub fn result_of(kernel: &Kernel) -> Option<u8> {
     }
 }
 
-/// What a register has behind a run that begins with a row in register 0 and a column in register 1.
-pub fn run(
-    kernel: &Kernel,
+/// A kernel that is ready to be run, with its result in a register.
+#[derive(Drop)]
+pub struct RunnableKernel {
+    block: LinearBlock,
     register: u8,
-    array: &Array,
-    row: Cell,
-    column: Cell,
-) -> Result<Cell, Fault> {
+}
+
+/// Makes a kernel ready, if its result is in a register.
+pub fn runnable(alloc: Global, kernel: Kernel) -> Option<RunnableKernel> {
+    let register = result_of(&kernel)?;
+    runnable_block(alloc, kernel.block, register)
+}
+
+/// Makes a block ready, whose result is in a register.
+pub fn runnable_block(alloc: Global, block: KernelBlock, register: u8) -> Option<RunnableKernel> {
+    let block = LinearBlock::of(alloc, block).ok()?;
+    Some(RunnableKernel { block, register })
+}
+
+/// The result of a run that begins with a row in register 0 and a column in register 1.
+pub fn run(kernel: &RunnableKernel, array: &Array, row: Cell, column: Cell) -> Result<Cell, Fault> {
     let mut registers: Registers = [row; 256];
     registers[1] = column;
-    run_block(&kernel.block, &[Buffer::of(array)], &mut registers, 9)?;
-    Ok(registers[register as usize])
+    kernel.block.run(&[Buffer::of(array)], &mut registers, 9)?;
+    Ok(registers[kernel.register as usize])
 }

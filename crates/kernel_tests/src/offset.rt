@@ -1,4 +1,4 @@
-use crate::making::{OUTSIDE, bind, constant, gives, result_of, run, vector};
+use crate::making::{OUTSIDE, bind, constant, gives, run, runnable, vector};
 use crate::stencil::squares;
 use core_ir::Var;
 use counted_code::{CodeBlock, CodeRight};
@@ -43,7 +43,7 @@ fn neighbour_kernel(alloc: Global) -> Option<Kernel> {
 #[test]
 fn a_constant_offset_is_a_kernel(rt: HostRuntime) {
     let kernel = neighbour_kernel(rt.alloc()).expect(&rt, "a kernel");
-    let register = result_of(&kernel).expect(&rt, "a result in a register");
+    let kernel = runnable(rt.alloc(), kernel).expect(&rt, "a result in a register");
     let array = squares(rt.alloc()).expect(&rt, "memory");
     let cases = [
         (0, 0, Ok(1)),
@@ -52,6 +52,6 @@ fn a_constant_offset_is_a_kernel(rt: HostRuntime) {
         (1, 3, Err(OUTSIDE)),
     ];
     for (row, column, wanted) in cases {
-        assert_eq!(rt; run(&kernel, register, &array, row, column), wanted);
+        assert_eq!(rt; run(&kernel, &array, row, column), wanted);
     }
 }

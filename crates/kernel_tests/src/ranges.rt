@@ -1,4 +1,4 @@
-use crate::making::{OUTSIDE, SITE, bind, gives, one, result_of, run, vector};
+use crate::making::{OUTSIDE, SITE, bind, gives, one, run, runnable, vector};
 use core_ir::{CoreOp, Var};
 use counted_code::{CodeBlock, CodeGen, CodeRight, CodeStep, CodeWith};
 use kernel_callees::Lowering;
@@ -76,14 +76,14 @@ fn has(alloc: Global, block: CodeBlock, cases: &[(Cell, Cell, Result<Cell, Fault
     let Ok(Some(kernel)) = kernel_of(Lowering::without_calls(alloc), &block, &KNOWN, 2) else {
         return false;
     };
-    let Some(register) = result_of(&kernel) else {
+    let Some(kernel) = runnable(alloc, kernel) else {
         return false;
     };
     let Ok(array) = vector(alloc, &[5, 7, 11, 13]) else {
         return false;
     };
     for (row, column, wanted) in cases {
-        if run(&kernel, register, &array, *row, *column) != *wanted {
+        if run(&kernel, &array, *row, *column) != *wanted {
             return false;
         }
     }

@@ -1,8 +1,6 @@
-use crate::making::matrix;
-use kernel_buffers::Buffer;
-use kernel_run::run_line;
-use kernel_tree::{KernelStep, Registers};
-use sac_base::{Array, Cell, Memory, Site};
+use crate::making::{RunnableKernel, matrix, one, run, runnable_block};
+use kernel_tree::{KernelBlock, KernelPart, KernelStep};
+use sac_base::{Array, Memory, Site};
 use std::alloc::Global;
 
 const HERE: Site = Site { line: 1, col: 1 };
@@ -31,19 +29,19 @@ pub fn squares(alloc: Global) -> Result<Array, Memory> {
     matrix(alloc, [3, 4], &cells)
 }
 
-// What register 15 has behind a line of steps at a row and a column, where there is no fault.
-fn cell_at(steps: &[KernelStep], array: &Array, row: Cell, column: Cell) -> Option<Cell> {
-    let mut registers: Registers = [row; 256];
-    registers[1] = column;
-    match run_line(steps, &[Buffer::of(array)], &mut registers) {
-        Ok(()) => Some(registers[15]),
-        Err(_) => None,
-    }
+// A line of steps, with the result in register 15.
+fn line(alloc: Global, steps: &[KernelStep]) -> Option<RunnableKernel> {
+    let steps = Vec::from_slice(alloc, steps).ok()?;
+    let block = KernelBlock {
+        parts: one(alloc, KernelPart::Line(steps)),
+    };
+    runnable_block(alloc, block, 15)
 }
 
 #[test]
 fn one_cell_has_its_value_or_a_fault(rt: HostRuntime) {
     let array = squares(rt.alloc()).expect(&rt, "memory");
+    let mean = line(rt.alloc(), &FOUR).expect(&rt, "memory");
     let cases = [
         (1, 1, Some(33)),
         (1, 2, Some(44)),
@@ -51,6 +49,6 @@ fn one_cell_has_its_value_or_a_fault(rt: HostRuntime) {
         (2, 1, None),
     ];
     for (row, column, wanted) in cases {
-        assert_eq!(rt; cell_at(&FOUR, &array, row, column), wanted);
+        assert_eq!(rt; run(&mean, &array, row, column).ok(), wanted);
     }
 }

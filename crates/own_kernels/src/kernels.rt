@@ -17,7 +17,7 @@ use kernel_tree::Held;
 pub fn reads_own(kernel: &CellKernel, buffer: u8) -> bool
     ensures { result ≡ is_own kernel.now.rank buffer (kernel_term kernel.now.block) }
 {
-    is_own_block(&kernel.block, kernel.rank, buffer)
+    is_own_block(kernel.block.tree(), kernel.rank, buffer)
 }
 
 // Whether there is a kernel, for indices of so many components, that reads its own element alone.

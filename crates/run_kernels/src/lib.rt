@@ -5,6 +5,7 @@ mod calls;
 mod fewer_levels;
 mod groups;
 mod levels;
+mod linear;
 mod mentions;
 mod reading;
 mod recursion;

@@ -9,8 +9,8 @@ use std::alloc::Global;
 // The most steps of a function of such a group. A kernel has the steps of a body once for each call that it goes deep.
 const MOST_STEPS: usize = 128;
 
-/// Whether a function of a group calls the group in its own body, and all are short and without loops.
-pub fn calls_itself(code: &Code, group: u32) -> bool {
+/// Whether a function of a group calls the group in its own body, and all functions of the group are short and without loops.
+pub fn is_short_recursion(code: &Code, group: u32) -> bool {
     let Some(places) = code.groups.get(group as usize) else {
         return false;
     };

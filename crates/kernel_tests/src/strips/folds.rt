@@ -1,11 +1,10 @@
 use super::common::{HERE, RESULT, fold, gives, line, refuses, strips};
-use crate::making::{matrix, one};
+use crate::making::{matrix, one, run, runnable_block};
 use crate::stencil::squares;
 use kernel_buffers::Buffer;
-use kernel_run::run_block;
 use kernel_strip::Strips;
-use kernel_tree::{KernelBlock, KernelPart, KernelStep, Registers};
-use sac_base::{Array, Cell, Fault, FaultKind};
+use kernel_tree::{KernelBlock, KernelPart, KernelStep};
+use sac_base::{Fault, FaultKind};
 use std::alloc::Global;
 
 // Register 0 is the column, 1 the row, and 2 the index of the fold.
@@ -62,13 +61,6 @@ const QUOTIENT: [KernelStep; 4] = [
     KernelStep::Add(RESULT, RESULT, 5),
 ];
 
-// The cell of a column alone.
-fn cell_at(block: &KernelBlock, array: &Array, column: Cell) -> Result<Cell, Fault> {
-    let mut registers: Registers = [column; 256];
-    run_block(block, &[Buffer::of(array)], &mut registers, 9)?;
-    Ok(registers[RESULT as usize])
-}
-
 #[test]
 fn a_fault_of_a_middle_turn_refuses(rt: HostRuntime) {
     let alloc = rt.alloc();
@@ -81,8 +73,9 @@ fn a_fault_of_a_middle_turn_refuses(rt: HostRuntime) {
         kind: FaultKind::F2,
         site: HERE,
     };
-    assert_eq!(rt; cell_at(&cell, &a, 0), Ok(19));
-    assert_eq!(rt; cell_at(&cell, &a, 1), Err(division));
+    let cell = runnable_block(alloc, cell, RESULT).expect(&rt, "memory");
+    assert_eq!(rt; run(&cell, &a, 0, 0), Ok(19));
+    assert_eq!(rt; run(&cell, &a, 1, 1), Err(division));
 }
 
 // The greatest element of the column so far, in register 9, is added to the result, and then compared with the next one.

@@ -1,5 +1,5 @@
 use super::common::{gives, refuses};
-use crate::making::{OUTSIDE, bind, one, result_of, run, vector};
+use crate::making::{OUTSIDE, bind, one, result_of, run, runnable, vector};
 use crate::ranges::{Bound, sum};
 use core_ir::Var;
 use counted_code::CodeRight;
@@ -49,23 +49,23 @@ fn strips(alloc: Global, kernel: &Kernel) -> Option<Strips> {
 }
 
 // Whether a kernel has these values at the indices from 0 on, in strips and cell by cell, and the fault of a selection behind them.
-fn has_cells(alloc: Global, kernel: &Kernel, array: &Array, wanted: &[Cell]) -> bool {
-    let Some(strips) = strips(alloc, kernel) else {
+fn has_cells(alloc: Global, kernel: Kernel, array: &Array, wanted: &[Cell]) -> bool {
+    let Some(strips) = strips(alloc, &kernel) else {
         return false;
     };
-    let Some(register) = result_of(kernel) else {
+    let Some(kernel) = runnable(alloc, kernel) else {
         return false;
     };
     let mut index: Cell = 0;
     for cell in wanted {
-        if run(kernel, register, array, index, 0) != Ok(*cell) {
+        if run(&kernel, array, index, 0) != Ok(*cell) {
             return false;
         }
         index = index.wrapping_add(1);
     }
     let buffers = [Buffer::of(array)];
     gives(alloc, &strips, &buffers, 0, wanted)
-        && run(kernel, register, array, index, 0) == Err(OUTSIDE)
+        && run(&kernel, array, index, 0) == Err(OUTSIDE)
         && refuses(alloc, &strips, &buffers, 0, wanted.len().saturating_add(1))
 }
 
@@ -74,7 +74,7 @@ fn has_window(alloc: Global, lower: (Cell, bool), upper: (Cell, bool), wanted: &
         return false;
     };
     match vector(alloc, &[5, 7, 11, 13]) {
-        Ok(array) => has_cells(alloc, &kernel, &array, wanted),
+        Ok(array) => has_cells(alloc, kernel, &array, wanted),
         Err(_) => false,
     }
 }
