@@ -1,19 +1,19 @@
 use Rattle.std.proofs.Common.{rules, ◌≡◌, ℕ, ◌<◌, ◌+◌, ◌++◌, List, [], ◌∷◌, Bor, Option, Some, refl, sym, ap, ◌∙◌, subst, length, take, drop}
 use Rattle.std.specs.Prelude.{IfOk, OnOk}
 use Rattle.sac_ast.specs.Tree
-use Rattle.sac_ast.specs.View.{expr, exprs, stmt, block, generators}
-use Rattle.sac_ast.proofs.Views.{expr_literal, expr_unary, expr_binary, expr_select, expr_builtin, expr_call, expr_choice, stmt_assign, stmt_replace, stmt_if}
-use Rattle.check_rules.specs.Accepted.{Known, with_names, target_names, no_names, bound_after, bound_behind, base_of}
+use Rattle.sac_ast.specs.View.{expr, exprs, stmt, block, bound, maybe, index_view, generators}
+use Rattle.sac_ast.proofs.Views.{expr_literal, expr_unary, expr_binary, expr_select, expr_builtin, expr_call, expr_choice, stmt_assign, stmt_replace, stmt_if, stmt_while}
+use Rattle.check_rules.specs.Accepted.{Known, with_names, target_names, no_names, index_targets, bound_after, bound_behind, base_of}
 use Rattle.check_rules.specs.declared.violation.Violation.{Violation}
 use Rattle.check_rules.specs.First.{earlier, unless}
 use Rattle.check_rules.specs.declared.code.CheckCode.TheVariants.{C4}
 use Rattle.sac_base.specs.declared.base.Base.TheVariants.{Int}
 use Rattle.sac_base.specs.Operators.{result_base}
-use Rattle.sac_ast.specs.Bases.{agree, literal_base, builtin_base, may_be, operand_base, operands_fit}
+use Rattle.sac_ast.specs.Bases.{agree, are_int, literal_base, builtin_base, may_be, operand_base, operands_fit}
 use Rattle.check_walk.specs.Found.{found_base}
 use Rattle.check_rules.specs.Places.{place}
 use Rattle.check_rules.specs.Tables.{among, has, with_common, entered}
-use Rattle.check_rules.specs.Walk.{Judgement, builtin_rules, in_value, in_values, in_generators, in_statement, in_block, in_targets, repeated_targets, bound_by_both}
+use Rattle.check_rules.specs.Walk.{Judgement, builtin_rules, in_value, in_values, in_generators, in_statement, in_block, in_targets, in_bound, in_maybe, in_index_names, in_branches, condition_first, repeated_targets, bound_by_both}
 use Rattle.check_rules.proofs.Places.{kept_twice}
 use Rattle.check_walk.proofs.Walks.{values_first, values_bases, values_known, generators_first, generators_cells, generators_known, block_first, block_known, block_names, choice_from, called_first, called_known, plain_first, plain_known, replaced_from, both_bound}
 use Rattle.check_walk.proofs.walk.+walk.Goals as goal
@@ -311,6 +311,92 @@ statement-returns-in_ok-own_base-in-Replace-clause-first t c =
     to.ensures.first to.ensures.base to.ensures.known
     own.ensures.known (own.ensures.base ∙ ap (λ m. base_of m i.target.name) (sym own.ensures.known))
     ∙ ap (λ s. (in_statement p s b n).first) (sym (ap stmt i.is ∙ stmt_replace i.target i.bracket i.index i.e))
+
+pub limits-returns : goal.limits-returns
+limits-returns t c =
+    let p = place c.args.here.now in
+    let g = c.args.g.now in
+    let folds = c.args.folds in
+    let targets = index_targets (index_view g.index) in
+    let upper = bound g.upper in
+    let int = Some Int in
+    let one = c.in_ok-least.ensures in
+    let two = c.in_ok-indices.ensures in
+    let three = c.in_ok-most.ensures in
+    let four = c.in_ok-steps.ensures in
+    let five = c.in_ok-widths.ensures in
+    let kept3 = three.kept ∙ one.kept in
+    let kept4 = four.kept ∙ kept3 in
+    let first2 = two.first ∙ (λ j. earlier (repeated_targets no_names targets) (in_index_names targets (one.known j)).first) in
+    let known2 = two.known ∙ (λ j. (in_index_names targets (one.known j)).known) in
+    let first3 = three.first ∙ (λ j. (in_bound p upper folds (among (one.kept j)) (known2 j)).first) in
+    let base3 = three.base ∙ (λ j. (in_bound p upper folds (among (one.kept j)) (known2 j)).base) in
+    let known3 = three.known ∙ (λ j. (in_bound p upper folds (among (one.kept j)) (known2 j)).known) in
+    let first4 = four.first ∙ (λ j. (in_maybe p (maybe g.step) int (among (kept3 j)) (known3 j)).first) in
+    let base4 = four.base ∙ (λ j. (in_maybe p (maybe g.step) int (among (kept3 j)) (known3 j)).base) in
+    let known4 = four.known ∙ (λ j. (in_maybe p (maybe g.step) int (among (kept3 j)) (known3 j)).known) in
+    let first5 = five.first ∙ (λ j. (in_maybe p (maybe g.width) int (among (kept4 j)) (known4 j)).first) in
+    let base5 = five.base ∙ (λ j. (in_maybe p (maybe g.width) int (among (kept4 j)) (known4 j)).base) in
+    record {
+      first = c.limits_found.ensures.first ∙ (λ j. earlier (earlier (earlier (earlier (one.first j) (first2 j)) (first3 j)) (first4 j)) (first5 j));
+      fits = c.limits_found.ensures.fits ∙ (λ j. are_int (one.base j) (base3 j) (base4 j) (base5 j));
+      known = five.known ∙ (λ j. (in_maybe p (maybe g.width) int (among (kept4 j)) (known4 j)).known);
+      kept = five.kept ∙ kept4;
+    }
+
+pub statement-returns-in_ok-blocks-in-If-clause-first : goal.statement-returns-in_ok-blocks-in-If-clause-first
+statement-returns-in_ok-blocks-in-If-clause-first t c =
+    let p = place c.args.here.now in
+    let i = c.in-If in
+    let b = among c.args.bound.now.trail.items in
+    let n = entered c.args.known.now in
+    let one = c.in_ok-test-in-If.ensures in
+    let two = c.in_ok-blocks-in-If.ensures in
+    let yes' = block c.deref-in-If.result.now in
+    let no' = block c.deref-in-If-2.result.now in
+    let tree = (λ j. Tree.if_else (expr i.cond) (block (c.deref-in-If.ensures.value j)) (block (c.deref-in-If-2.ensures.value j)) i.site) ∙ sym (ap stmt i.is ∙ stmt_if i.cond i.yes i.no i.site) in
+    let test = c.condition.ensures ∙ (λ j. condition_first (one.first j) (one.base j) i.site) in
+    let inside = two.first ∙ (λ j. (in_branches p yes' no' (among (one.kept j)) (one.known j)).first) in
+    c.earlier.ensures ∙ (λ j. earlier (test j) (inside j)) ∙ ap (λ s. (in_statement p s b n).first) tree
+
+pub statement-returns-in_ok-blocks-in-If-clause-known : goal.statement-returns-in_ok-blocks-in-If-clause-known
+statement-returns-in_ok-blocks-in-If-clause-known t c =
+    let p = place c.args.here.now in
+    let i = c.in-If in
+    let b = among c.args.bound.now.trail.items in
+    let n = entered c.args.known.now in
+    let one = c.in_ok-test-in-If.ensures in
+    let two = c.in_ok-blocks-in-If.ensures in
+    let yes' = block c.deref-in-If.result.now in
+    let no' = block c.deref-in-If-2.result.now in
+    let tree = (λ j. Tree.if_else (expr i.cond) (block (c.deref-in-If.ensures.value j)) (block (c.deref-in-If-2.ensures.value j)) i.site) ∙ sym (ap stmt i.is ∙ stmt_if i.cond i.yes i.no i.site) in
+    two.known ∙ (λ j. (in_branches p yes' no' (among (one.kept j)) (one.known j)).known) ∙ ap (λ s. (in_statement p s b n).known) tree
+
+pub statement-returns-in_ok-turn-in-While-clause-first : goal.statement-returns-in_ok-turn-in-While-clause-first
+statement-returns-in_ok-turn-in-While-clause-first t c =
+    let p = place c.args.here.now in
+    let i = c.in-While in
+    let b = among c.args.bound.now.trail.items in
+    let n = entered c.args.known.now in
+    let one = c.in_ok-test-in-While.ensures in
+    let two = c.in_ok-turn-in-While.ensures in
+    let body = block c.deref-in-While.result.now in
+    let tree = ap (λ ss. Tree.while_do (expr i.cond) (block ss) i.site) c.deref-in-While.ensures.value ∙ sym (ap stmt i.is ∙ stmt_while i.cond i.body i.site) in
+    let test = c.condition-in-While.ensures ∙ (λ j. condition_first (one.first j) (one.base j) i.site) in
+    let turn = two.first ∙ (λ j. (in_block p body (among (one.kept j)) (one.known j)).first) in
+    c.earlier-in-While.ensures ∙ (λ j. earlier (test j) (turn j)) ∙ ap (λ s. (in_statement p s b n).first) tree
+
+pub statement-returns-in_ok-turn-in-While-clause-known : goal.statement-returns-in_ok-turn-in-While-clause-known
+statement-returns-in_ok-turn-in-While-clause-known t c =
+    let p = place c.args.here.now in
+    let i = c.in-While in
+    let b = among c.args.bound.now.trail.items in
+    let n = entered c.args.known.now in
+    let one = c.in_ok-test-in-While.ensures in
+    let two = c.in_ok-turn-in-While.ensures in
+    let body = block c.deref-in-While.result.now in
+    let tree = ap (λ ss. Tree.while_do (expr i.cond) (block ss) i.site) c.deref-in-While.ensures.value ∙ sym (ap stmt i.is ∙ stmt_while i.cond i.body i.site) in
+    two.known ∙ (λ j. (in_block p body (among (one.kept j)) (one.known j)).known) ∙ ap (λ s. (in_statement p s b n).known) tree
 
 pub statement-returns-in_ok-blocks-in-If-clause-names : goal.statement-returns-in_ok-blocks-in-If-clause-names
 statement-returns-in_ok-blocks-in-If-clause-names t c =

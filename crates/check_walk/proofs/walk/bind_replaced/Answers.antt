@@ -1,4 +1,4 @@
-use Rattle.std.proofs.Common.{◌≡◌, ap, ◌∙◌}
+use Rattle.std.proofs.Common.{ap, ◌∙◌}
 use Rattle.check_rules.specs.Accepted.{base_of}
 use Rattle.check_walk.proofs.walk.bind_replaced.Goals as goal
 
