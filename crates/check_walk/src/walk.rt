@@ -1,12 +1,21 @@
 //! The walk over the phrases of a function, in the order of its tree.
 
-ghost use Rattle.std.specs.Prelude.{◌≡◌, [], ◌∷◌, take, length, IfOk, OnOk};
-ghost use Rattle.check_rules.specs.Accepted.{bound_after, bound_behind, is_fold as is_fold_tree};
-ghost use Rattle.sac_ast.specs.Bases.{are_int as int_bases};
+ghost use Rattle.std.specs.Prelude.{◌≡◌, [], ◌∷◌, take, drop, length, Some, None, IfOk, OnOk};
+ghost use Rattle.check_rules.specs.Accepted.{bound_after, bound_behind, is_fold as is_fold_tree, index_targets, no_names, target_names, with_names};
+ghost use Rattle.check_rules.specs.Accepted.{bind as bind_name, base_of as base_known};
+ghost use Rattle.check_rules.specs.First.{earlier as earlier_of, unless as unless_holds};
+ghost use Rattle.check_rules.specs.declared.code.CheckCode.TheVariants.{C4};
+ghost use Rattle.sac_ast.specs.Bases.{are_int as int_bases, agree as all_agree, literal_base as base_of_literal, may_be as is_base};
+ghost use Rattle.sac_ast.specs.Bases.{operand_base as base_of_operand, operands_fit as are_operands, builtin_base as base_of_builtin};
+ghost use Rattle.sac_base.specs.declared.base.Base.TheVariants.{Int};
+ghost use Rattle.sac_base.specs.Operators.{result_base as base_of_result};
 ghost use Rattle.sac_ast.specs.Tree;
 ghost use Rattle.sac_ast.specs.View;
 ghost use Rattle.check_rules.specs.Places.{place};
-ghost use Rattle.check_rules.specs.Tables.{among, entered};
+ghost use Rattle.check_rules.specs.Tables.{among, entered, has, with_common};
+ghost use Rattle.check_rules.specs.Walk.{builtin_rules as rules_of_builtin, cell_rules as rules_of_cells, in_targets, in_index_names};
+ghost use Rattle.check_rules.specs.Walk.{repeated_targets as targets_repeated};
+ghost use Rattle.check_walk.specs.Found.{found_base};
 ghost use Rattle.check_rules.specs.Walk.{in_value, in_values, in_maybe, in_bound, in_generators, in_operation, in_statement, in_block, in_limits};
 ghost use Rattle.check_rules.specs.Walk.{in_inside, in_branches, in_generator, bound_by_both, choice_first, choice_found, condition_first};
 ghost use Rattle.check_rules.specs.Walk.{replaced_first};
@@ -21,12 +30,14 @@ use check_rules::targets::{
 };
 use check_rules::uses::{builtin_rules, cell_rules, first_cell, several_targets, use_rules};
 use check_rules::violation::{Violation, earlier, unless};
-use indexmap::IndexMap;
+use indexmap::{IndexMap, IndexSet};
 use sac_ast::{
-    Bound as BoundTree, Expression, Generator, Operation, Statement, Target, agree, builtin_base,
-    choice_base, first_base, literal_base, may_be, may_match, operand_base, operands_fit,
+    Bound as BoundTree, Builtin, Expression, Generator, Index, Operation, Statement, Target, agree,
+    builtin_base, choice_base, first_base, literal_base, may_be, may_match, operand_base,
+    operands_fit,
 };
-use sac_base::{Base, Memory, Site, result_base};
+use sac_base::{Base, Memory, Name, Op, Site, result_base};
+use std::alloc::Global;
 
 type Known<'a> = IndexMap<&'a str, Option<Base>>;
 
@@ -52,25 +63,16 @@ pub fn expression<'a>(
         }
         Expression::Literal(es, site) => {
             let elements = expressions(es, here, bound, known)?;
-            let own = unless(agree(&elements.bases), CheckCode::C4, *site);
-            Ok(judge(own, elements.first, literal_base(&elements.bases)))
+            Ok(literal(elements, *site))
         }
         Expression::Unary(op, e, site) => {
             let operand = expression(e, here, bound, known)?;
-            let fits = may_be(operand_base(*op), operand.base);
-            let own = unless(fits, CheckCode::C4, *site);
-            Ok(judge(own, operand.first, Some(result_base(*op))))
+            Ok(unary(*op, operand, *site))
         }
         Expression::Binary(op, e, f, site) => {
             let left = expression(e, here, bound, known)?;
             let right = expression(f, here, bound, known)?;
-            let own = unless(
-                operands_fit(*op, left.base, right.base),
-                CheckCode::C4,
-                *site,
-            );
-            let inside = earlier(left.first, right.first);
-            Ok(judge(own, inside, Some(result_base(*op))))
+            Ok(binary(*op, left, right, *site))
         }
         Expression::Choice(c, e, f, site) => {
             let test = expression(c, here, bound, known)?;
@@ -81,8 +83,7 @@ pub fn expression<'a>(
         Expression::Select(e, i, site) => {
             let array = expression(e, here, bound, known)?;
             let index = expression(i, here, bound, known)?;
-            let own = unless(may_be(Base::Int, index.base), CheckCode::C4, *site);
-            Ok(judge(own, earlier(array.first, index.first), array.base))
+            Ok(selection(array, index, *site))
         }
         Expression::Call(name, es, site) => {
             let args = expressions(es, here, bound, known)?;
@@ -94,16 +95,77 @@ pub fn expression<'a>(
         }
         Expression::Builtin(builtin, es, site) => {
             let args = expressions(es, here, bound, known)?;
-            let own = builtin_rules(*builtin, &args.bases, *site);
-            Ok(judge(own, args.first, builtin_base(*builtin, &args.bases)))
+            Ok(built_in(*builtin, args, *site))
         }
         Expression::With(gs, op, _) => {
             let loops = generators(gs, is_fold(op), here, bound, known)?;
             let cells = operation(op, first_cell(&loops.cells), here, bound, known)?;
-            let own = cell_rules(cells.base, &loops.cells);
-            Ok(judge(own, earlier(loops.first, cells.first), cells.base))
+            Ok(with_loop(loops, cells))
         }
     }
+}
+
+// An array of elements, which have one base.
+fn literal(elements: JudgedAll, site: Site) -> Judged
+    ensures first { result.first ≡ earlier_of (unless_holds (all_agree elements.bases.items) C4 site) elements.first }
+    ensures base { result.base
+        ≡ found_base (unless_holds (all_agree elements.bases.items) C4 site) elements.first (base_of_literal elements.bases.items) }
+{
+    let own = unless(agree(&elements.bases), CheckCode::C4, site);
+    judge(own, elements.first, literal_base(&elements.bases))
+}
+
+// An operator's value by those of its operands, which have the bases that it takes.
+fn unary(op: Op, operand: Judged, site: Site) -> Judged
+    ensures first { result.first ≡ earlier_of (unless_holds (is_base (base_of_operand op) operand.base) C4 site) operand.first }
+    ensures base { result.base
+        ≡ found_base (unless_holds (is_base (base_of_operand op) operand.base) C4 site) operand.first (Some (base_of_result op)) }
+{
+    let fits = may_be(operand_base(op), operand.base);
+    let own = unless(fits, CheckCode::C4, site);
+    judge(own, operand.first, Some(result_base(op)))
+}
+
+fn binary(op: Op, left: Judged, right: Judged, site: Site) -> Judged
+    ensures first { result.first
+        ≡ earlier_of (unless_holds (are_operands op left.base right.base) C4 site) (earlier_of left.first right.first) }
+    ensures base { result.base
+        ≡ found_base (unless_holds (are_operands op left.base right.base) C4 site) (earlier_of left.first right.first) (Some (base_of_result op)) }
+{
+    let fits = operands_fit(op, left.base, right.base);
+    let own = unless(fits, CheckCode::C4, site);
+    let inside = earlier(left.first, right.first);
+    judge(own, inside, Some(result_base(op)))
+}
+
+// A selection from an array, whose index is int.
+fn selection(array: Judged, index: Judged, site: Site) -> Judged
+    ensures first { result.first ≡ earlier_of (unless_holds (is_base Int index.base) C4 site) (earlier_of array.first index.first) }
+    ensures base { result.base
+        ≡ found_base (unless_holds (is_base Int index.base) C4 site) (earlier_of array.first index.first) array.base }
+{
+    let own = unless(may_be(Base::Int, index.base), CheckCode::C4, site);
+    judge(own, earlier(array.first, index.first), array.base)
+}
+
+// A built-in function's value by its arguments.
+fn built_in(builtin: Builtin, args: JudgedAll, site: Site) -> Judged
+    ensures first { result.first ≡ earlier_of (rules_of_builtin builtin args.bases.items site) args.first }
+    ensures base { result.base
+        ≡ found_base (rules_of_builtin builtin args.bases.items site) args.first (base_of_builtin builtin args.bases.items) }
+{
+    let own = builtin_rules(builtin, &args.bases, site);
+    judge(own, args.first, builtin_base(builtin, &args.bases))
+}
+
+// A with-loop by its generators and its operation, whose base the cells have.
+fn with_loop(loops: JudgedCells, cells: Judged) -> Judged
+    ensures first { result.first ≡ earlier_of (rules_of_cells cells.base loops.cells.items) (earlier_of loops.first cells.first) }
+    ensures base { result.base
+        ≡ found_base (rules_of_cells cells.base loops.cells.items) (earlier_of loops.first cells.first) cells.base }
+{
+    let own = cell_rules(cells.base, &loops.cells);
+    judge(own, earlier(loops.first, cells.first), cells.base)
 }
 
 // A conditional expression, by its parts.
@@ -210,18 +272,46 @@ fn limits<'a>(
     ensures kept { OnOk result (bound.new.trail.items ≡ bound.old.trail.items) }
 {
     let least = limit(&g.lower, folds, here, bound, known)?;
-    let targets = index_parts(&g.index);
-    let twice = repeated_targets(targets, here.alloc)?;
-    let indices = bind_index_names(targets, known)?;
+    let indices = bind_index(&g.index, here.alloc, known)?;
     let most = limit(&g.upper, folds, here, bound, known)?;
     let steps = optional(&g.step, Some(Base::Int), here, bound, known)?;
     let widths = optional(&g.width, Some(Base::Int), here, bound, known)?;
-    let first = earlier(least.first, earlier(twice, indices));
-    let first = earlier(earlier(first, most.first), steps.first);
-    Ok(Limits {
-        first: earlier(first, widths.first),
+    Ok(limits_found(least, indices, most, steps, widths))
+}
+
+// Binds the names of an index, of which no two are alike.
+fn bind_index<'a>(
+    index: &'a Index,
+    alloc: Global,
+    known: &mut Known<'a>,
+) -> Result<Option<Violation>, Memory>
+    ensures first { IfOk result (λ r. r ≡ earlier_of (targets_repeated no_names (index_targets (View.index_view index.now)))
+        (in_index_names (index_targets (View.index_view index.now)) (entered known.old)).first) }
+    ensures known { OnOk result (entered known.new ≡ (in_index_names (index_targets (View.index_view index.now)) (entered known.old)).known) }
+{
+    let targets = index_parts(index);
+    let twice = repeated_targets(targets, alloc)?;
+    let indices = bind_index_names(targets, known)?;
+    Ok(earlier(twice, indices))
+}
+
+// A generator's bounds, index, step and width, by what is found in each.
+fn limits_found(
+    least: Judged,
+    indices: Option<Violation>,
+    most: Judged,
+    steps: Judged,
+    widths: Judged,
+) -> Limits
+    ensures first { result.first
+        ≡ earlier_of (earlier_of (earlier_of (earlier_of least.first indices) most.first) steps.first) widths.first }
+    ensures fits { result.fits ≡ int_bases least.base most.base steps.base widths.base }
+{
+    let first = earlier(earlier(least.first, indices), most.first);
+    Limits {
+        first: earlier(earlier(first, steps.first), widths.first),
         fits: are_int(least.base, most.base, steps.base, widths.base),
-    })
+    }
 }
 
 fn are_int(least: Option<Base>, most: Option<Base>, step: Option<Base>, width: Option<Base>) -> bool
@@ -379,9 +469,7 @@ fn statement<'a>(
             let own = use_rules(here, &target.name, target.site, bound);
             let place = expression(index, here, bound, known)?;
             let value = expression(e, here, bound, known)?;
-            bind(known, &target.name, None)?;
-            let own_base = base_of(known, &target.name);
-            bound.push(target.name.as_str())?;
+            let own_base = bind_replaced(&target.name, bound, known)?;
             Ok(replacement(own, place, *bracket, value, own_base, target.site))
         }
         Statement::If {
@@ -413,6 +501,23 @@ fn statement<'a>(
             Ok(earlier(earlier(turn, own), again.first))
         }
     }
+}
+
+// Binds the name of an array of which something is replaced, which tells it no base, and gives the base that it has.
+fn bind_replaced<'a>(
+    name: &'a Name,
+    bound: &mut Bound<'a>,
+    known: &mut Known<'a>,
+) -> Result<Option<Base>, Memory>
+    ensures base { IfOk result (λ r. r ≡ base_known (bind_name name.now None (entered known.old)) name.now) }
+    ensures known { OnOk result (entered known.new ≡ bind_name name.now None (entered known.old)) }
+    ensures names { OnOk result (among bound.new.trail.items ≡ with_names (name.now ∷ []) (among bound.old.trail.items)) }
+    ensures kept { OnOk result (take (length bound.old.trail.items) bound.new.trail.items ≡ bound.old.trail.items) }
+{
+    bind(known, name, None)?;
+    let base = base_of(known, name);
+    bound.push(name.as_str())?;
+    Ok(base)
 }
 
 // A condition is bool.
@@ -459,20 +564,42 @@ fn assign<'a>(
         Expression::Call(name, es, site) => {
             let args = expressions(es, here, bound, known)?;
             let called = call_results(here, name, &args, targets.len(), *site)?;
-            let twice = repeated_targets(targets, here.alloc)?;
-            let fits = bind_targets(targets, &called.bases, known)?;
-            push_targets(targets, bound)?;
-            Ok(earlier(earlier(called.first, twice), fits))
+            bind_values(
+                targets,
+                called.first,
+                &called.bases,
+                here.alloc,
+                bound,
+                known,
+            )
         }
         _ => {
             let value = expression(e, here, bound, known)?;
-            let twice = repeated_targets(targets, here.alloc)?;
-            let fits = bind_targets(targets, &[value.base], known)?;
-            push_targets(targets, bound)?;
             let own = earlier(several_targets(targets), value.first);
-            Ok(earlier(earlier(own, twice), fits))
+            bind_values(targets, own, &[value.base], here.alloc, bound, known)
         }
     }
+}
+
+// Binds targets, of which no two are alike, to values of these bases.
+fn bind_values<'a>(
+    targets: &'a [Target],
+    own: Option<Violation>,
+    bases: &[Option<Base>],
+    alloc: Global,
+    bound: &mut Bound<'a>,
+    known: &mut Known<'a>,
+) -> Result<Option<Violation>, Memory>
+    ensures first { IfOk result (λ r. r ≡ earlier_of (earlier_of own (targets_repeated no_names targets.now))
+        (in_targets targets.now bases.now (entered known.old)).first) }
+    ensures known { OnOk result (entered known.new ≡ (in_targets targets.now bases.now (entered known.old)).known) }
+    ensures names { OnOk result (among bound.new.trail.items ≡ with_names (target_names targets.now) (among bound.old.trail.items)) }
+    ensures kept { OnOk result (take (length bound.old.trail.items) bound.new.trail.items ≡ bound.old.trail.items) }
+{
+    let twice = repeated_targets(targets, alloc)?;
+    let fits = bind_targets(targets, bases, known)?;
+    push_targets(targets, bound)?;
+    Ok(earlier(earlier(own, twice), fits))
 }
 
 // The blocks of a conditional: behind it a name is bound where both bind it.
@@ -493,13 +620,35 @@ fn branches<'a>(
 {
     let mark = bound.mark();
     let one = block(yes, here, bound, known)?;
-    let first = bound.since(here.alloc, mark)?;
-    bound.leave(mark);
+    let first = taken(mark, here.alloc, bound)?;
     let other = block(no, here, bound, known)?;
-    let second = bound.since(here.alloc, mark)?;
-    bound.leave(mark);
-    bound.push_common(&first, &second)?;
+    bind_common(first, mark, here.alloc, bound)?;
     Ok(earlier(one, other))
+}
+
+// The names that were bound after the first ones, which they are taken off.
+fn taken<'a>(mark: usize, alloc: Global, bound: &mut Bound<'a>) -> Result<IndexSet<&'a str>, Memory>
+    ensures names { IfOk result (λ names. has names ≡ among (drop mark bound.old.trail.items)) }
+    ensures left { OnOk result (bound.new.trail.items ≡ take mark bound.old.trail.items) }
+{
+    let names = bound.since(alloc, mark)?;
+    bound.leave(mark);
+    Ok(names)
+}
+
+// Leaves bound after the first names those that are in a set as well.
+fn bind_common<'a>(
+    first: IndexSet<&'a str>,
+    mark: usize,
+    alloc: Global,
+    bound: &mut Bound<'a>,
+) -> Result<(), Memory>
+    ensures names { OnOk result (among bound.new.trail.items
+        ≡ with_common (has first.entry) (among (drop mark bound.old.trail.items)) (among (take mark bound.old.trail.items))) }
+    ensures kept { OnOk result (take (length (take mark bound.old.trail.items)) bound.new.trail.items ≡ take mark bound.old.trail.items) }
+{
+    let second = taken(mark, alloc, bound)?;
+    bound.push_common(&first, &second)
 }
 
 #[cycle(walk)]

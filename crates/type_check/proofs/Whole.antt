@@ -7,11 +7,10 @@ use Rattle.check_rules.specs.declared.code.CheckCode.TheVariants.{C3, C4, C6, C8
 use Rattle.sac_ast.specs.declared.Function.{Function}
 use Rattle.sac_ast.specs.Tree.{FunctionTree, ProgramTree}
 use Rattle.sac_ast.specs.View.{function, functions}
-use Rattle.check_rules.specs.Accepted.{Names, Known, Place, with_names, no_names, bound_behind, param_names, known_params, none_known, names_in, values_fit, is_named, main_name, may_stand_together, violations}
+use Rattle.check_rules.specs.Accepted.{Place, with_names, no_names, bound_behind, param_names, known_params, none_known, names_in, values_fit, is_named, main_name, may_stand_together, violations}
 use Rattle.check_rules.specs.Accepted as a
 use Rattle.check_rules.specs.Walk as w
-use Rattle.check_rules.specs.Programs.{stands_with, mains, main_counted, inline_mains, one_function, ended_first, in_functions, in_program}
-use Rattle.sac_base.specs.declared.base.Base.{Base}
+use Rattle.check_rules.specs.Programs.{stands_with, mains, main_counted, inline_mains, one_function, in_functions, in_program}
 use Rattle.check_rules.specs.declared.violation.Violation.{Violation}
 use Rattle.check_rules.specs.First.{earlier, unless, first_of}
 use Rattle.check_rules.proofs.Earliest.{earlier_grouped}
@@ -74,18 +73,3 @@ functions_step acc found fs k f h at e =
     earlier_grouped acc found (in_functions all (functions (take (k + 1) fs)) rest)
     ∙ (λ i. earlier acc (earlier (e i) (in_functions all (longer i) rest)))
     ∙ ap (λ gs. earlier acc (in_functions all before (functions gs))) (sym (drop_more fs k f h ∙ ap (λ x. x ∷ drop (k + 1) fs) (sym at)))
-
--- a function, by what is found in its parts
-pub ended_from : (fs before : List FunctionTree) (f : FunctionTree) (listed b1 b2 : Names) (n1 n2 : Known) (twice body inside : Option Violation) (bases : List (Option Base))
-    → listed ≡ names_in f → b1 ≡ with_names (param_names f.params) no_names → n1 ≡ known_params f.params none_known → twice ≡ w.repeated_params no_names f.params
-    → (let p : Place = record { functions = fs; before = before; inline = f.inline; listed = listed } in
-    (body ≡ (w.in_block p f.body b1 n1).first) × (n2 ≡ (w.in_block p f.body b1 n1).known) × (b2 ≡ bound_behind f.body b1)
-    × (inside ≡ (w.in_values p f.values b2 n2).first) × (bases ≡ (w.in_values p f.values b2 n2).bases))
-    → ended_first twice body inside bases f ≡ w.in_function fs before f
-ended_from fs before f listed b1 b2 n1 n2 twice body inside bases el eb en et h =
-    let body' = h.0 ∙ (λ i. let p : Place = record { functions = fs; before = before; inline = f.inline; listed = el i } in (w.in_block p f.body (eb i) (en i)).first) in
-    let known' = h.1 ∙ (λ i. let p : Place = record { functions = fs; before = before; inline = f.inline; listed = el i } in (w.in_block p f.body (eb i) (en i)).known) in
-    let bound' = h.2 ∙ ap (bound_behind f.body) eb in
-    let inside' = h.3 ∙ (λ i. let p : Place = record { functions = fs; before = before; inline = f.inline; listed = el i } in (w.in_values p f.values (bound' i) (known' i)).first) in
-    let bases' = h.4 ∙ (λ i. let p : Place = record { functions = fs; before = before; inline = f.inline; listed = el i } in (w.in_values p f.values (bound' i) (known' i)).bases) in
-    λ i. ended_first (et i) (body' i) (inside' i) (bases' i) f

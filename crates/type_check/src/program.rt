@@ -8,6 +8,10 @@ ghost use Rattle.check_rules.specs.First.{earlier as earlier_of};
 ghost use Rattle.check_rules.specs.Programs.{in_functions as functions_first, in_program as program_first, main_counted, mains, inline_main};
 ghost use Rattle.check_rules.specs.Programs.{inline_mains, main_bases as main_bases_of, one_function, ended_first, is_main_named};
 ghost use Rattle.check_rules.specs.Walk.{in_function as function_first};
+ghost use Rattle.check_rules.specs.Accepted.{with_names, param_names, no_names, none_known, known_params as known_params_of};
+ghost use Rattle.check_rules.specs.Places.{place};
+ghost use Rattle.check_rules.specs.Tables.{among, entered};
+ghost use Rattle.type_check.specs.Inside.{found_inside};
 ghost use Rattle.type_check.specs.Refusals.{IsRefusal};
 
 use crate::checked::Checked;
@@ -26,6 +30,8 @@ use sac_ast::{Function, Param, Program, may_be};
 use sac_base::{ArrayType, Base, Memory, Site};
 use std::alloc::Global;
 use thiserror::Error;
+
+type Known<'a> = IndexMap<&'a str, Option<Base>>;
 
 /// Why a program is not accepted.
 #[derive(Clone, Copy, Debug, PartialEq, Eq, Error)]
@@ -110,10 +116,6 @@ fn inside_function<'a>(
         (View.functions (take at functions.now.all.now)) (View.function f.now)) }
 {
     let twice = repeated_params(&f.params, alloc)?;
-    let mut bound = Bound::new(alloc);
-    push_params(&f.params, &mut bound)?;
-    let mut known = IndexMap::new(alloc);
-    bind_params(&f.params, &mut known)?;
     let here = Place {
         functions,
         at,
@@ -121,8 +123,53 @@ fn inside_function<'a>(
         listed: listed(f, alloc)?,
         alloc,
     };
-    let body = block(&f.body, &here, &mut bound, &mut known)?;
-    let values = expressions(&f.values, &here, &mut bound, &mut known)?;
+    in_place(twice, f, &here)
+}
+
+// The walk over a function at its place, behind its parameters.
+fn in_place<'a>(
+    twice: Option<Violation>,
+    f: &'a Function,
+    here: &Place<'a>,
+) -> Result<Option<Violation>, Memory>
+    ensures { IfOk result (λ r. r ≡ found_inside twice (place here.now) (View.function f.now)
+        (with_names (param_names f.now.params.items) no_names) (known_params_of f.now.params.items none_known)) }
+{
+    let mut bound = bound_params(&f.params, here.alloc)?;
+    let mut known = known_params(&f.params, here.alloc)?;
+    behind_params(twice, f, here, &mut bound, &mut known)
+}
+
+// The names of parameters.
+fn bound_params(params: &[Param], alloc: Global) -> Result<Bound<'_>, Memory>
+    ensures { IfOk result (λ bound. among bound.trail.items ≡ with_names (param_names params.now) no_names) }
+{
+    let mut bound = Bound::new(alloc);
+    push_params(params, &mut bound)?;
+    Ok(bound)
+}
+
+// What the names of parameters are bound to.
+fn known_params(params: &[Param], alloc: Global) -> Result<Known<'_>, Memory>
+    ensures { IfOk result (λ known. entered known ≡ known_params_of params.now none_known) }
+{
+    let mut known = IndexMap::new(alloc);
+    bind_params(params, &mut known)?;
+    Ok(known)
+}
+
+fn behind_params<'a>(
+    twice: Option<Violation>,
+    f: &'a Function,
+    here: &Place<'a>,
+    bound: &mut Bound<'a>,
+    known: &mut Known<'a>,
+) -> Result<Option<Violation>, Memory>
+    ensures { IfOk result (λ r. r
+        ≡ found_inside twice (place here.now) (View.function f.now) (among bound.old.trail.items) (entered known.old)) }
+{
+    let body = block(&f.body, here, bound, known)?;
+    let values = expressions(&f.values, here, bound, known)?;
     Ok(ended(twice, body, &values, f))
 }
 
