@@ -6,7 +6,7 @@ Compares crates.txt, the sources, docs/ARCHITECTURE.md and the READMEs, and prin
 - A crate uses what crates.txt lists for it, no more: each use is named in one of its files, or in an edit that calls it.
 - The table of docs/ARCHITECTURE.md has each crate once, below all that it stands on, and its second column lists what it
   stands on: the crates that it uses, without those that stand below another one of them.
-- Each crate has a README.md, and README.md names no crate that is not there.
+- Each crate has a README.md, and README.md and docs/PROVED.md name no crate that is not there.
 
 With --write the table is put in order and its second column written anew; what a crate promises stays as it is.
 """
@@ -16,6 +16,7 @@ import sys
 
 TOP = os.path.dirname(os.path.dirname(os.path.abspath(__file__)))
 MAP = "docs/ARCHITECTURE.md"
+PROVED = "docs/PROVED.md"
 HEAD = "| Crate | Stands on | What it promises the layer above |"
 
 
@@ -115,10 +116,11 @@ def main():
     if not wrong and there != wanted:
         wrong += [f"{MAP}: is {a} and is to be {b}" for a, b in zip(there, wanted) if a != b][:3]
         wrong.append(f"{MAP}: the table is to be written anew, by scripts/check_map.py --write")
-    for word in re.findall(r"`([a-z0-9]+(?:_[a-z0-9]+)+)(?:::[a-z_0-9]+)?`", text_of("README.md")):
-        prefixes = {name.split("_")[0] for name in own}
-        if word.split("_")[0] in prefixes and word not in own and word not in {"sac_main"}:
-            wrong.append(f"README.md: there is no crate {word}")
+    for page in ("README.md", PROVED):
+        for word in re.findall(r"`([a-z0-9]+(?:_[a-z0-9]+)+)(?:::[a-z_0-9]+)?`", text_of(page)):
+            prefixes = {name.split("_")[0] for name in own}
+            if word.split("_")[0] in prefixes and word not in own and word not in {"sac_main"}:
+                wrong.append(f"{page}: there is no crate {word}")
     print("\n".join(wrong) if wrong else f"the map fits: {len(own)} crates")
     return 1 if wrong else 0
 
