@@ -89,8 +89,9 @@ impl Model for Heap {
 // Where the stack of vacant places ends: no place of a heap.
 const NO_PLACE: usize = usize::MAX;
 
-// The most cells that are kept as spare ones: 16 MB. To fill more with zeros takes little beside all that is done with them.
-const MOST_SPARE: usize = 4_194_304;
+// The most cells that are kept as spare ones, as many as an array may have: cells that the kernel of the machine hands out anew cost a fault for each
+// page, on the one thread that fills them with zeros.
+const MOST_SPARE: usize = 16_777_216;
 
 impl Heap {
     /// A heap with no buffer, all its counters 0. It allocates nothing.
@@ -249,7 +250,8 @@ impl Heap {
         Ok((id, cells))
     }
 
-    // So many cells of any numbers: the spare ones, if there are as many. They are given up for more.
+    // So many cells of any numbers: the spare ones, if there are as many. They are given up for at least a quarter as many, so that what is kept
+    // besides the live buffers stays small beside them.
     fn take_spare(&mut self, len: usize) -> Result<Vec<Cell>, Memory>
         ensures length { IfOk result (λ cells. length cells.items ≡ len) }
         ensures heap { self.new ≡ self.old }
@@ -257,7 +259,7 @@ impl Heap {
         if self.spare.len() == len {
             return Ok(mem::replace(&mut self.spare, Vec::new(self.alloc)));
         }
-        if self.spare.len() < len {
+        if self.spare.len() / 4 <= len {
             self.spare = Vec::new(self.alloc);
         }
         let mut cells = Vec::new(self.alloc);

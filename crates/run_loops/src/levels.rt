@@ -50,13 +50,14 @@ pub fn deeper<'a>(
 }
 
 // At how many levels that are left calls are tried as kernels within a call of a group that is not run as one. Where it has a kernel, the call went too
-// deep for it, and so would most of the calls within: the next ones are tried half as many levels deeper as the kernel has.
+// deep for it, and so would the calls within: the next ones are tried an eighth as many levels deeper as the kernel has. A try that goes too deep costs
+// about as much as a turn of the evaluator for eight levels, and a kernel that is run as high as it can be saves most of the calls that stand below.
 fn tried_within(group: u32, context: &Context<'_>) -> u64 {
     if context.left > context.tried {
         return context.tried;
     }
     match context.code.plain().kernel_levels(group) {
-        Some(levels) => context.left.saturating_sub(levels / 2),
+        Some(levels) => context.left.saturating_sub((levels / 8).max(1)),
         None => context.tried,
     }
 }
