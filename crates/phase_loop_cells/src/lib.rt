@@ -13,6 +13,3 @@ pub use loops::LoopCells;
 pub use ranges::{made_ranges, part_ranges, source_ranges};
 pub use scratch::CellScratch;
 pub use walk::Walk;
-
-#[cfg(test)]
-mod tests;
