@@ -11,7 +11,7 @@ use Rattle.counted_code.specs.View.{code_term, steps_before, step_term}
 use Rattle.counted_marks.specs.Known.{Given, Known, learned}
 use Rattle.counted_marks.specs.Marking.{choice, marking, marking_right, released_by, with_mark}
 use Rattle.counted_laws.specs.mark_places.Places.{without_release}
-use Rattle.scoped_table.proofs.Marks.{earlier_on, none_gone}
+use Rattle.fact_table.proofs.scoped_table.Marks.{earlier_on, none_gone}
 use Rattle.reuse_candidates.specs.Scopes.{Told, mark_of, taken_back, told_block}
 use Rattle.reuse_candidates.specs.declared.scope.Scope.{Scope}
 use Rattle.reuse_candidates.proofs.Choices.{choice_same}

@@ -19,7 +19,7 @@ use Rattle.core_ir.proofs.Trees.{block_out, block_roll, with_out, with_roll, par
 use Rattle.sac_base.specs.declared.memory.Memory.{Memory}
 use Rattle.core_facts.specs.Facts.{Fact, Facts, note_all, right_facts, block_facts}
 use Rattle.core_forms.specs.cleaning.Checks.{simplified, simplified_right, simplified_gens, simplified_parts}
-use Rattle.known_rights.specs.declared.known.KnownRight.{KnownRight}
+use Rattle.plain_facts.specs.declared.known_rights.known.KnownRight.{KnownRight}
 use Rattle.const_shape.specs.Settling.{settled_let, settled_gen, settled_part}
 
 -- ---- lists of generators and parts

@@ -10,7 +10,7 @@ ghost use Rattle.const_shape.specs.Settling.{literal_plain, settled_plain, witho
 
 use core_ir::Right;
 use fact_table::{FactTable, Known};
-use known_rights::KnownRight;
+use plain_facts::known_rights::KnownRight;
 use plain_facts::plain_fact;
 use sac_base::{Array, ArrayType, Memory, copy_array, part_has};
 use std::alloc::Global;

@@ -11,7 +11,7 @@ ghost use Rattle.const_shape.specs.Settling.{settled_let, settled_gen, settled_p
 use crate::plain::settle_plain;
 use core_ir::{Block, CoreGen, CorePart, Let, PartedLoop, Right, WithLoop};
 use fact_table::FactTable;
-use known_rights::{KnownBlock, KnownRight};
+use plain_facts::known_rights::{KnownBlock, KnownRight};
 use plain_facts::{CalledShapes, forget, forget_index, known_of, learn_all, learn_index};
 use sac_base::Memory;
 use std::alloc::Global;

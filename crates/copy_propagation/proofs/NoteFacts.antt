@@ -3,8 +3,8 @@ use Rattle.std.proofs.Common.{◌≡◌, ℕ, zero, suc, ◌-◌, Bool, true, fa
 use Rattle.std.specs.Prelude.{drop, unwrap_or}
 use Rattle.std.proofs.lemmas.Bool.{eqb-true}
 use Rattle.core_ir.specs.declared.tree.Var.{Var}
-use Rattle.scoped_table.specs.Notes as scoped
-use Rattle.scoped_table.specs.Notes.{noted}
+use Rattle.fact_table.specs.scoped_table.Notes as scoped
+use Rattle.fact_table.specs.scoped_table.Notes.{noted}
 use Rattle.copy_propagation.specs.Table.{source_in, source_note}
 
 same_var : (x y : Var) → x.0 ≡ y.0 → x ≡ y

@@ -1,7 +1,7 @@
 -- What stands for a variable by the notes of a table.
 use Rattle.std.specs.Prelude.{cond, eqb, List, [], ◌∷◌, unwrap_or}
 use Rattle.core_ir.specs.declared.tree.Var.{Var}
-use Rattle.scoped_table.specs.Notes as scoped
+use Rattle.fact_table.specs.scoped_table.Notes as scoped
 use Rattle.copy_propagation.specs.Notes.{Note}
 
 -- the source of the latest note of the variable, or itself

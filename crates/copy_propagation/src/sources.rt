@@ -4,8 +4,8 @@ ghost use Rattle.std.specs.Prelude.{◌≡◌, ◌-◌, [], ◌∷◌, length, d
 ghost use Rattle.copy_propagation.specs.Table.{source_in};
 
 use core_ir::Var;
+use fact_table::scoped_table::ScopedTable;
 use sac_base::Memory;
-use scoped_table::ScopedTable;
 use std::alloc::Global;
 use std::marker::Model;
 

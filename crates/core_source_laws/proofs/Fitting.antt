@@ -8,7 +8,7 @@ use Rattle.sac_ast.specs.declared.Builtin.TheVariants.{Dim, Shape, Reshape}
 use Rattle.sac_ast.specs.Tree.{IndexTree, named, parts, Expr, Exprs, no_exprs, expr_and, MaybeExpr, left_out, given, Stmt, Block, no_stmts, stmt_and, BoundTree, dot, at, Gen, gen, Gens, no_gens, gen_and, OperationTree, FunctionTree, ProgramTree, number, truth, variable, literal, unary, binary, choice, select, call, builtin, with_loop, assign, replace, if_else, while_do, do_while, genarray, modarray, fold}
 use Rattle.core_lowering.specs.Definite.{HasName}
 use Rattle.core_lowering.specs.acceptance.Formed.{TakesOne, TakesTwo, IsFolding, HasArguments, IsFormed, AreFormed, MaybeFormed, BoundFormed, GenFormed, GensFormed, OperationFormed, StmtFormed, BlockFormed, FunctionsFormed, ProgramFormed}
-use Rattle.sac_print_law.proofs.Fits.{is_prefix, is_binary, is_foldop, FitsIndex, count, arity, Fits, FitAll, FitsMaybe, FitsStmt, FitBlock, FitsBound, FitsGen, FitGens, FitsOperation, FitValues, FitsFunction, FitsProgram}
+use Rattle.core_source_laws.proofs.printing.Fits.{is_prefix, is_binary, is_foldop, FitsIndex, count, arity, Fits, FitAll, FitsMaybe, FitsStmt, FitBlock, FitsBound, FitsGen, FitGens, FitsOperation, FitValues, FitsFunction, FitsProgram}
 
 takes_one : (op : Op) → is_prefix op ≡ true → TakesOne op
 takes_one Neg h = tt

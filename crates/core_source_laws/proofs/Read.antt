@@ -6,9 +6,9 @@ use Rattle.sac_ast.specs.Texts.{Lexeme}
 use Rattle.sac_ast.specs.Tree.{ProgramTree}
 use Rattle.sac_ast.specs.Grammar.{IsProgram}
 use Rattle.core_lowering.specs.acceptance.Formed.{ProgramFormed}
-use Rattle.sac_print_law.proofs.Given.{IsProper}
-use Rattle.sac_print_law.proofs.Actions.{every_tree_fits}
-use Rattle.sac_print_law.proofs.Sources.{source_proper}
+use Rattle.core_source_laws.proofs.printing.Given.{IsProper}
+use Rattle.core_source_laws.proofs.printing.Actions.{every_tree_fits}
+use Rattle.core_source_laws.proofs.printing.Sources.{source_proper}
 use Rattle.sac_due.specs.Source.{plain, IsTokensOf}
 use Rattle.core_source_laws.proofs.Fitting.{program_formed}
 use Rattle.core_source_laws.proofs.Lengths.{functions_before_end, few_tokens}

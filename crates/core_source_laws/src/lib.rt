@@ -5,5 +5,6 @@
 #![tactic(auto)]
 
 mod laws;
+pub mod printing;
 
 pub use laws::{compiled_core, read_programs};

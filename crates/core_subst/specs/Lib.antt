@@ -1,2 +1,3 @@
 pub mod Names
 pub mod Substitution
+pub mod copy

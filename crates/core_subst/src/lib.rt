@@ -1,6 +1,7 @@
 //! Free and new variables of the core, and substitution.
 #![tactic(auto)]
 
+pub mod copy;
 mod greatest;
 mod replace;
 mod unbound;

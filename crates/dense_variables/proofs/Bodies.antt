@@ -11,7 +11,7 @@ use Rattle.core_ir.specs.Terms.{FunTerm, CoreTerm}
 use Rattle.core_ir.specs.WellFormed.{Distinct, IsFunction, IsWellFormed, base_of, bases, param_bases}
 use Rattle.core_ir.proofs.Renamed as meaning
 use Rattle.core_ir.proofs.Variables.{same_number}
-use Rattle.core_copy.proofs.Renaming.{bound_mapped}
+use Rattle.core_subst.proofs.copy.Renaming.{bound_mapped}
 use Rattle.core_facts.specs.calls.Arrays.{SameOutcomeOnArrays}
 use Rattle.core_loops.specs.Steps.{itself}
 use Rattle.core_forms.proofs.edits.Mapping.{calls_mapped}

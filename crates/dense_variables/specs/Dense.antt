@@ -5,7 +5,7 @@ use Rattle.core_ir.specs.Binders.{bound_in}
 use Rattle.core_ir.specs.Outcome.{param_vars}
 use Rattle.core_ir.specs.Terms.{BlockTerm, FunTerm, CoreTerm}
 use Rattle.core_subst.specs.Names.{above_all}
-use Rattle.core_copy.specs.Mapped.{mapped}
+use Rattle.core_subst.specs.copy.Mapped.{mapped}
 use Rattle.core_forms.specs.cleaning.Bodies.{with_bodies}
 use Rattle.core_forms.specs.norm.Copied.{AreFrom}
 use Rattle.parted_bodies.specs.Numbering.{numbered}

@@ -3,8 +3,8 @@ use Rattle.std.proofs.Common.{◌≡◌, ℕ, zero, suc, ◌-◌, Bool, true, fa
 use Rattle.std.specs.Prelude.{drop}
 use Rattle.core_ir.specs.declared.tree.Var.{Var}
 use Rattle.core_facts.specs.Facts.{Fact}
-use Rattle.scoped_table.specs.Notes as scoped
-use Rattle.scoped_table.specs.Notes.{noted}
+use Rattle.fact_table.specs.scoped_table.Notes as scoped
+use Rattle.fact_table.specs.scoped_table.Notes.{noted}
 use Rattle.fact_table.specs.declared.known.Known.{Known}
 use Rattle.fact_table.specs.Notes.{Note}
 use Rattle.fact_table.specs.Table.{facts_of, fact_or_none, fact_note}

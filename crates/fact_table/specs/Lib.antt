@@ -1,2 +1,3 @@
 pub mod Notes
 pub mod Table
+pub mod scoped_table

@@ -1,7 +1,7 @@
 -- The facts that a table's notes are.
 use Rattle.std.specs.Prelude.{List, [], ◌∷◌, Option, Some, None}
 use Rattle.core_facts.specs.Facts.{Fact, Facts, unknown, no_facts, note}
-use Rattle.scoped_table.specs.Notes as scoped
+use Rattle.fact_table.specs.scoped_table.Notes as scoped
 use Rattle.fact_table.specs.declared.known.Known.{Known}
 use Rattle.fact_table.specs.Notes.{Note}
 

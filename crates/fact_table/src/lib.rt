@@ -2,6 +2,8 @@
 #![tactic(auto)]
 
 mod known;
+pub mod scoped_table;
+pub mod shapes;
 mod table;
 
 pub use known::Known;

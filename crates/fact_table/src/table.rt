@@ -5,9 +5,9 @@ ghost use Rattle.core_facts.specs.Facts.{Fact};
 ghost use Rattle.fact_table.specs.Table.{fact_of, facts_of};
 
 use crate::known::Known;
+use crate::scoped_table::ScopedTable;
 use core_ir::Var;
 use sac_base::Memory;
-use scoped_table::ScopedTable;
 use std::alloc::Global;
 use std::marker::Model;
 

@@ -10,7 +10,7 @@ use Rattle.sac_base.specs.declared.grid.Grid1.{Grid1}
 use Rattle.sac_base.specs.Grids.{has_vector, members}
 use Rattle.core_loops.proofs.index_facts.Members.{member_has}
 use Rattle.generator_sets.specs.Pieces.{moved}
-use Rattle.moved_grids.specs.Within.{IsWithin}
+use Rattle.grid_spans.specs.moved.Within.{IsWithin}
 use Rattle.fold_pieces.specs.Pieces.{vectors}
 use Rattle.fold_pieces.specs.Cuts.{IsDense, IsInside, have_step_one}
 

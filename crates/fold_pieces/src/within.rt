@@ -7,7 +7,7 @@ ghost use Rattle.fold_pieces.specs.Pieces.{vectors};
 ghost use Rattle.std.specs.Ordering.{int_eq};
 ghost use Rattle.fold_pieces.specs.Cuts.{IsDense, IsInside, have_step_one};
 
-use moved_grids::is_within;
+use grid_spans::moved::is_within;
 use sac_base::{Grid, Grid1, Memory};
 use std::alloc::Global;
 

@@ -10,9 +10,9 @@ use Rattle.core_loops.specs.Indices.{note_index, Plus, Other}
 use Rattle.core_uses.specs.Tests.{is_avoided}
 use Rattle.core_uses.proofs.Decided.{block_decided}
 use Rattle.fold_pieces.specs.Pieces.{vectors}
-use Rattle.loop_selections.specs.Selecting.{is_selecting}
-use Rattle.loop_selections.specs.Statements.{SelectingIsDecided}
-use Rattle.loop_selections.specs.Told.{offset_told, told, known_if}
+use Rattle.total_cells.specs.loop_selections.Selecting.{is_selecting}
+use Rattle.total_cells.specs.loop_selections.Statements.{SelectingIsDecided}
+use Rattle.total_cells.specs.loop_selections.Told.{offset_told, told, known_if}
 use Rattle.foldable_pairs.specs.Selected.{part_offsets, OnlySelects, FlatSelects}
 use Rattle.foldable_pairs.proofs.Avoiding.{avoids_none, none_avoids}
 

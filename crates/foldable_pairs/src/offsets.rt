@@ -5,8 +5,8 @@ ghost use Rattle.core_ir.specs.View.{block_term, part_term};
 ghost use Rattle.core_uses.specs.Tests.{is_avoided};
 ghost use Rattle.fact_table.specs.Table.{facts_of};
 ghost use Rattle.fold_pieces.specs.Pieces.{vectors};
-ghost use Rattle.loop_selections.specs.Selecting.{is_selecting};
-ghost use Rattle.loop_selections.specs.Told.{offset_told, told};
+ghost use Rattle.total_cells.specs.loop_selections.Selecting.{is_selecting};
+ghost use Rattle.total_cells.specs.loop_selections.Told.{offset_told, told};
 ghost use Rattle.plain_facts.specs.Called.{shapes_of};
 ghost use Rattle.foldable_pairs.specs.Selected.{body_offsets, part_offsets, OnlySelects, FlatSelects};
 
@@ -14,10 +14,10 @@ use core_ir::{Block, CorePart, Var};
 use core_uses::avoids;
 use fact_table::{FactTable, Known};
 use index_table::{IndexTable, Relation};
-use loop_selections::{Sought, selecting, selections};
 use plain_facts::CalledShapes;
 use sac_base::{Grid, Memory, Shape};
 use std::alloc::Global;
+use total_cells::loop_selections::{Sought, selecting, selections};
 
 /// The offsets of all selections from a producer in a part's body, in order, where it is used in selections at the part's index plus numbers alone, and where
 /// a body that selects has no with-loop and no parted loop.

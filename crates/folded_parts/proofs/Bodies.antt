@@ -11,7 +11,7 @@ use Rattle.core_ir.specs.Binders.{bound_in}
 use Rattle.core_ir.specs.Terms.{PlainTerm, BlockTerm, LetTerm, PartTerm, Gives, Plain, chain}
 use Rattle.core_ir.specs.View.{block_term, let_term, part_term}
 use Rattle.core_ir.proofs.Trees.{block_out}
-use Rattle.core_copy.specs.Mapped.{mapped}
+use Rattle.core_subst.specs.copy.Mapped.{mapped}
 use Rattle.core_forms.specs.inlining.Inlined.{bindings, results}
 use Rattle.core_subst.specs.Names.{variable}
 use Rattle.parted_bodies.specs.declared.names.Progress.{Progress}

@@ -4,7 +4,7 @@ use Rattle.sac_base.specs.declared.site.Site.{Site}
 use Rattle.core_ir.specs.declared.tree.Var.{Var}
 use Rattle.core_ir.specs.Binders.{bound_in}
 use Rattle.core_ir.specs.Terms.{PlainTerm, BlockTerm, RightTerm, LetTerm, PartTerm, Gives, Bind, Plain, chain}
-use Rattle.core_copy.specs.Mapped.{mapped}
+use Rattle.core_subst.specs.copy.Mapped.{mapped}
 use Rattle.core_forms.specs.inlining.Inlined.{bindings, results}
 use Rattle.core_subst.specs.Names.{variable}
 use Rattle.parted_bodies.specs.Numbering.{named, numbered}

@@ -5,7 +5,7 @@ use Rattle.sac_base.specs.declared.grid.Grid1.{Grid1}
 use Rattle.core_ir.specs.declared.tree.Var.{Var}
 use Rattle.core_ir.specs.Binders.{bound_in}
 use Rattle.core_ir.specs.Terms.{BlockTerm, PartTerm}
-use Rattle.core_copy.specs.Mapped.{mapped}
+use Rattle.core_subst.specs.copy.Mapped.{mapped}
 use Rattle.core_subst.specs.Names.{variable}
 use Rattle.parted_bodies.specs.Numbering.{named, numbered}
 use Rattle.folded_parts.specs.Folding.{BlockFolded}

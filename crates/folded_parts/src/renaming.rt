@@ -1,7 +1,7 @@
 //! Copies of bodies with new variables.
 
 ghost use Rattle.std.specs.Prelude.{◌≡◌, ◌+◌, IfOk, OnOk, length};
-ghost use Rattle.core_copy.specs.Mapped.{mapped};
+ghost use Rattle.core_subst.specs.copy.Mapped.{mapped};
 ghost use Rattle.core_ir.specs.Binders.{bound_in as binders_of};
 ghost use Rattle.core_ir.specs.View.{block_term};
 ghost use Rattle.parted_bodies.specs.Numbering.{named, numbered};

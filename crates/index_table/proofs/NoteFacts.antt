@@ -3,8 +3,8 @@ use Rattle.std.proofs.Common.{◌≡◌, ℕ, zero, suc, ◌-◌, Bool, true, fa
 use Rattle.std.specs.Prelude.{drop}
 use Rattle.core_ir.specs.declared.tree.Var.{Var}
 use Rattle.core_loops.specs.Indices.{IndexFact}
-use Rattle.scoped_table.specs.Notes as scoped
-use Rattle.scoped_table.specs.Notes.{noted}
+use Rattle.fact_table.specs.scoped_table.Notes as scoped
+use Rattle.fact_table.specs.scoped_table.Notes.{noted}
 use Rattle.index_table.specs.declared.relation.Relation.{Relation}
 use Rattle.index_table.specs.Notes.{Note}
 use Rattle.index_table.specs.Table.{indices_of, index_or_other, index_note}

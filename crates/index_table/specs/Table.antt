@@ -2,7 +2,7 @@
 use Rattle.std.specs.Prelude.{List, [], ◌∷◌, Option, Some, None}
 use Rattle.core_ir.specs.declared.tree.Var.{Var}
 use Rattle.core_loops.specs.Indices.{IndexFact, IndexFacts, Plus, Component, Other, note_index}
-use Rattle.scoped_table.specs.Notes as scoped
+use Rattle.fact_table.specs.scoped_table.Notes as scoped
 use Rattle.index_table.specs.declared.relation.Relation.{Relation}
 use Rattle.index_table.specs.declared.relation.Relation.TheVariants as relation
 use Rattle.index_table.specs.Notes.{Note}

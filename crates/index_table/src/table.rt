@@ -5,8 +5,8 @@ ghost use Rattle.index_table.specs.Table.{index_of, indices_of};
 
 use crate::relation::Relation;
 use core_ir::Var;
+use fact_table::scoped_table::ScopedTable;
 use sac_base::Memory;
-use scoped_table::ScopedTable;
 use std::alloc::Global;
 use std::marker::Model;
 

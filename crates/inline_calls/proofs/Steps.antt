@@ -13,8 +13,8 @@ use Rattle.core_ir.specs.Terms.{BlockTerm, LetTerm, FunTerm, Gives, Bind, Plain,
 use Rattle.core_ir.specs.View.{block_term, let_term}
 use Rattle.core_ir.proofs.Trees.{block_out}
 use Rattle.core_subst.specs.Names.{above, above_all, above_function}
-use Rattle.core_copy.specs.Mapped.{raised, raised_within, mapped}
-use Rattle.core_copy.proofs.Within.{all_same, fits}
+use Rattle.core_subst.specs.copy.Mapped.{raised, raised_within, mapped}
+use Rattle.core_subst.proofs.copy.Within.{all_same, fits}
 use Rattle.core_forms.specs.inlining.Inlined.{bindings, results, checks, inlined}
 
 pub map_snoc : {A B : Type 0} (f : A → B) (xs : List A) (x : A) → map f (xs ++ (x ∷ [])) ≡ map f xs ++ (f x ∷ [])

@@ -4,12 +4,12 @@ ghost use Rattle.std.specs.Prelude.{◌≡◌, ◌+◌, ◌≤◌, ◌^◌, ◌+
 ghost use Rattle.core_ir.specs.Terms.{Plain, Check};
 ghost use Rattle.core_ir.specs.View.{block_term, fun_term, let_term};
 ghost use Rattle.core_subst.specs.Names.{above_function};
-ghost use Rattle.core_copy.specs.Mapped.{raised_within};
+ghost use Rattle.core_subst.specs.copy.Mapped.{raised_within};
 ghost use Rattle.core_forms.specs.inlining.Inlined.{bindings, checks};
 ghost use Rattle.inline_calls.specs.Placed.{StandFor};
 
-use core_copy::{copy_raised, raise};
 use core_ir::{Block, CoreFun, Let, Right, Var};
+use core_subst::copy::{copy_raised, raise};
 use sac_base::{ArrayType, Memory, Site, copy_type};
 use std::alloc::Global;
 

@@ -12,8 +12,8 @@ ghost use Rattle.known_calls.specs.Told.{told, AreShapes};
 
 use crate::walk::find_in_block;
 use core_ir::{CoreFun, Var};
+use fact_table::shapes::type_shape;
 use fact_table::{FactTable, Known};
-use known_shapes::type_shape;
 use plain_facts::{CalledShapes, learn_all};
 use sac_base::{ArrayType, Memory, Shape};
 use std::alloc::Global;

@@ -13,8 +13,8 @@ use Rattle.core_facts.specs.Facts.{Facts, in_part}
 use Rattle.core_loops.specs.Indices.{own_index}
 use Rattle.core_loops.specs.Loops.{binders, FEW}
 use Rattle.core_loops.specs.Pairs.{AvoidsLets, count_parts}
-use Rattle.scalarisable_loops.specs.Around.{are_total, none_uses}
-use Rattle.scalarisable_loops.proofs.Decided.{totals_decided, uses_decided}
+use Rattle.merge_plans.specs.scalarisable.Around.{are_total, none_uses}
+use Rattle.merge_plans.proofs.scalarisable.Decided.{totals_decided, uses_decided}
 use Rattle.merge_plans.specs.Inners.{HasInner, IsInner, parts_in}
 use Rattle.merge_plans.specs.Mergeable.{FitBehind}
 use Rattle.merge_plans.specs.declared.finding.Nest.{Nest}

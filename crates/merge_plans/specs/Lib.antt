@@ -3,3 +3,4 @@ pub mod Mergeable
 pub mod Inners
 pub mod Filled
 pub mod Seen
+pub mod scalarisable

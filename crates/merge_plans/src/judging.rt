@@ -9,19 +9,19 @@ ghost use Rattle.core_loops.specs.Loops.{binders as bound_number, FEW};
 ghost use Rattle.core_loops.specs.Pairs.{AvoidsLets, count_parts};
 ghost use Rattle.fact_table.specs.Table.{facts_of};
 ghost use Rattle.plain_facts.specs.Called.{shapes_of};
-ghost use Rattle.scalarisable_loops.specs.Around.{are_total};
+ghost use Rattle.merge_plans.specs.scalarisable.Around.{are_total};
 ghost use Rattle.merge_plans.specs.Inners.{HasInner, IsInner, parts_in};
 ghost use Rattle.merge_plans.specs.Mergeable.{FitBehind, MOST_AXES};
 ghost use Rattle.merge_plans.specs.Openings.{nest_term, opened};
 
 use crate::finding::{Nest, nest_of};
 use crate::grids::same_axes;
+use crate::scalarisable::{are_passed, none_use};
 use core_ir::{CorePart, Let, PartedLoop, PartedOp, Var};
 use core_uses::binders;
 use fact_table::FactTable;
 use plain_facts::CalledShapes;
 use sac_base::{Base, Grid, Memory};
-use scalarisable_loops::{are_passed, none_use};
 use std::alloc::Global;
 
 /// The most variables in a body.

@@ -6,6 +6,7 @@ mod finding;
 mod grids;
 mod judging;
 mod planning;
+pub mod scalarisable;
 
 pub use finding::{Nest, nest_of};
 pub use grids::joined_grid;

@@ -17,9 +17,9 @@ use Rattle.core_ir.specs.Terms.{RightTerm, GenTerm, PartTerm}
 use Rattle.core_ir.specs.View.{block_term, gen_term, part_term, right_term, with_term, parted_term}
 use Rattle.core_facts.specs.Facts.{Fact, Facts, note_all, in_part, right_facts}
 use Rattle.parted_bodies.specs.declared.names.Progress.{Progress}
-use Rattle.known_rights.specs.declared.known.KnownRight.{KnownRight}
-use Rattle.known_rights.proofs.Fields.{shown_gen, shown_part, gen_out, gen_roll, part_out, part_roll}
-use Rattle.known_rights.proofs.Plain.{IsOther, other_plain}
+use Rattle.plain_facts.specs.declared.known_rights.known.KnownRight.{KnownRight}
+use Rattle.plain_facts.proofs.known_rights.Fields.{shown_gen, shown_part, gen_out, gen_roll, part_out, part_roll}
+use Rattle.plain_facts.proofs.known_rights.Plain.{IsOther, other_plain}
 use Rattle.merge_walk.specs.Here.{BindingMerged}
 use Rattle.merge_walk.specs.Lists.{GenWalked, LetsWalked, PartWalked}
 use Rattle.merge_walk.specs.Walking.{BlockWalked, RightWalked}

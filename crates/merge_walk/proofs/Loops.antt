@@ -23,7 +23,7 @@ use Rattle.merge_plans.specs.Openings.{is_parted}
 use Rattle.merge_plans.proofs.Opens.{not_parted}
 use Rattle.merged_parts.specs.Merging.{merged_all, PartFits}
 use Rattle.merge_walk.proofs.planned_merges.Whole.{fits}
-use Rattle.known_rights.specs.declared.known.KnownRight.{KnownRight}
+use Rattle.plain_facts.specs.declared.known_rights.known.KnownRight.{KnownRight}
 use Rattle.merge_walk.specs.Here.{BindingMerged, IsMerged, MergedOrNot}
 
 module _ (called : ℕ → List (Option (List ℕ))) (k : Facts) where

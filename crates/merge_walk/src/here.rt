@@ -9,11 +9,11 @@ ghost use Rattle.merge_walk.specs.Here.{BindingMerged, MergedOrNot};
 
 use core_ir::{PartedLoop, PartedOp, Right, Var};
 use fact_table::FactTable;
-use known_rights::KnownRight;
 use merge_plans::merge_plan;
 use merged_parts::merged_parts;
 use parted_bodies::Progress;
 use plain_facts::CalledShapes;
+use plain_facts::known_rights::KnownRight;
 use sac_base::{Memory, Shape};
 use std::alloc::Global;
 

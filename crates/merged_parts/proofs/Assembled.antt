@@ -12,8 +12,8 @@ use Rattle.core_ir.specs.declared.tree.Var.{Var}
 use Rattle.core_ir.specs.Binders.{bound_in, bound_in_parts}
 use Rattle.core_ir.specs.Terms.{PlainTerm, BlockTerm, LetTerm, PartTerm, PartHead, Plain, chain, parts_of}
 use Rattle.core_ir.specs.View.{block_term, part_term, parted_term}
-use Rattle.core_copy.specs.Mapped.{mapped}
-use Rattle.core_copy.proofs.Renaming.{bound_mapped}
+use Rattle.core_subst.specs.copy.Mapped.{mapped}
+use Rattle.core_subst.proofs.copy.Renaming.{bound_mapped}
 use Rattle.core_subst.specs.Names.{variable}
 use Rattle.core_forms.specs.merge.Built.{picks}
 use Rattle.core_forms.proofs.merge.Straight.{chain_append}

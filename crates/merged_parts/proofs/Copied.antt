@@ -8,7 +8,7 @@ use Rattle.core_ir.specs.declared.tree.Var.{Var}
 use Rattle.core_ir.specs.Terms.{BlockTerm, Gives, Bind, chain}
 use Rattle.core_ir.specs.View.{block_term, let_term}
 use Rattle.core_ir.proofs.Trees.{block_out, block_roll}
-use Rattle.core_copy.specs.Mapped.{mapped, mapped_right}
+use Rattle.core_subst.specs.copy.Mapped.{mapped, mapped_right}
 use Rattle.core_forms.proofs.merge.Straight.{chain_append}
 use Rattle.merge_plans.specs.Openings.{lets_of}
 use Rattle.merge_plans.proofs.Opens.{lets_chain}

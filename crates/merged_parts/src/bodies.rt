@@ -5,7 +5,7 @@ ghost use Rattle.core_ir.specs.declared.tree.Var.{Var as Variable};
 ghost use Rattle.core_ir.specs.Binders.{bound_in as binders_of};
 ghost use Rattle.core_ir.specs.Terms.{LetTerm, PlainTerm, Plain, chain};
 ghost use Rattle.core_ir.specs.View.{block_term, let_term};
-ghost use Rattle.core_copy.specs.Mapped.{mapped};
+ghost use Rattle.core_subst.specs.copy.Mapped.{mapped};
 ghost use Rattle.merge_plans.specs.Openings.{lets_of};
 ghost use Rattle.merged_parts.specs.Merging.{merged_names};
 ghost use Rattle.parted_bodies.specs.Numbering.{named_in};

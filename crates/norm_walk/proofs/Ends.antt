@@ -25,9 +25,9 @@ use Rattle.partable_loops.specs.Planned.{IsPlannable}
 use Rattle.partable_loops.specs.declared.planning.PartPlan.{PartPlan}
 use Rattle.parted_bodies.specs.declared.names.Progress.{Progress}
 use Rattle.parted_bodies.specs.Making.{binds_of, made_parts, parted_op}
-use Rattle.known_rights.specs.declared.known.KnownRight.{KnownRight}
-use Rattle.known_rights.proofs.Fields.{shown_gen, shown_part, gen_out, gen_roll, part_out, part_roll}
-use Rattle.known_rights.proofs.Plain.{IsOther, other_plain}
+use Rattle.plain_facts.specs.declared.known_rights.known.KnownRight.{KnownRight}
+use Rattle.plain_facts.proofs.known_rights.Fields.{shown_gen, shown_part, gen_out, gen_roll, part_out, part_roll}
+use Rattle.plain_facts.proofs.known_rights.Plain.{IsOther, other_plain}
 use Rattle.norm_walk.specs.Replacing.{BlockWalked, RightWalked, LetWalked, GensWalked, GenWalked, PartWalked, WithWalked, IsLeft, IsPlanned, EachWithRight}
 use Rattle.norm_walk.proofs.Walking.{PartsGoing, parts_done, with_walked, left_walked, replaced_walked, right_stays, if_walked, loop_walked}
 

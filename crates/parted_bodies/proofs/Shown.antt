@@ -13,8 +13,8 @@ use Rattle.core_ir.specs.Binders.{bound_in}
 use Rattle.core_ir.specs.Terms.{BlockTerm, LetTerm, GenTerm, PartTerm, PartHead, Gives, Bind, chain}
 use Rattle.core_ir.specs.View.{block_term, gen_term, let_term, part_term}
 use Rattle.core_ir.proofs.Trees.{block_out, block_roll}
-use Rattle.core_copy.specs.Mapped.{mapped}
-use Rattle.core_copy.proofs.Renaming.{bound_mapped}
+use Rattle.core_subst.specs.copy.Mapped.{mapped}
+use Rattle.core_subst.proofs.copy.Renaming.{bound_mapped}
 use Rattle.core_subst.specs.Names.{variable}
 use Rattle.parted_bodies.specs.Numbering.{named, numbered}
 use Rattle.parted_bodies.specs.Making.{binds_of, component_lets, component_names, part_body, generator_part}

@@ -11,7 +11,7 @@ use Rattle.core_ir.specs.declared.tree.PartedOp.{PartedOp}
 use Rattle.core_ir.specs.declared.tree.PartedOp.TheVariants as parted
 use Rattle.core_ir.specs.Binders.{bound_in, bound_in_parts}
 use Rattle.core_ir.specs.Terms.{PlainTerm, BlockTerm, LetTerm, GenTerm, PartTerm, Gives, Bind, Plain, chain, parts_of}
-use Rattle.core_copy.specs.Mapped.{mapped}
+use Rattle.core_subst.specs.copy.Mapped.{mapped}
 use Rattle.core_subst.specs.Names.{variable}
 use Rattle.parted_bodies.specs.Numbering.{named, numbered}
 

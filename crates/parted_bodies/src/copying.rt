@@ -3,7 +3,7 @@
 ghost use Rattle.std.specs.Prelude.{◌≡◌, IfOk, map, option_map};
 ghost use Rattle.core_ir.specs.View.{block_term, let_term, right_term, with_term, gen_term, parted_term, part_term};
 ghost use Rattle.core_subst.specs.Substitution.{core_op_with, parted_op_with};
-ghost use Rattle.core_copy.specs.Mapped.{mapped, mapped_right, mapped_let, mapped_gen, mapped_part};
+ghost use Rattle.core_subst.specs.copy.Mapped.{mapped, mapped_right, mapped_let, mapped_gen, mapped_part};
 ghost use Rattle.parted_bodies.specs.Numbering.{named_in};
 
 use crate::names::Names;

@@ -1,3 +1,4 @@
 pub mod Rights
 pub mod Called
 pub mod Literals
+pub mod known_rights

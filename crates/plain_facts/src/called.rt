@@ -9,7 +9,7 @@ ghost use Rattle.plain_facts.specs.Called.{shapes_of};
 
 use core_ir::{Core, CoreFun};
 use fact_table::Known;
-use known_shapes::{one_shape, type_shape};
+use fact_table::shapes::{one_shape, type_shape};
 use sac_base::{ArrayType, Memory, Shape};
 use std::alloc::Global;
 use std::marker::Model;

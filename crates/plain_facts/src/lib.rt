@@ -3,6 +3,7 @@
 
 mod called;
 mod frame;
+pub mod known_rights;
 mod lists;
 mod literals;
 mod notes;

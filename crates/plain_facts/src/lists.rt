@@ -10,8 +10,8 @@ ghost use Rattle.sac_base.specs.declared.types.ArrayType.{ArrayType as TypeOf};
 ghost use Rattle.fact_table.specs.Table.{fact_of, facts_of};
 
 use core_ir::{CoreFun, Var};
+use fact_table::shapes::{one_shape, type_shape};
 use fact_table::{FactTable, Known};
-use known_shapes::{one_shape, type_shape};
 use sac_base::Memory;
 use std::alloc::Global;
 use std::vec::IntoIter;

@@ -12,8 +12,8 @@ ghost use Rattle.plain_facts.specs.Literals.{checked_of, combined_of, negated_of
 
 use array_ops::{ArrayError, binary, literal, unary};
 use core_ir::Var;
+use fact_table::shapes::common_shape;
 use fact_table::{FactTable, Known};
-use known_shapes::common_shape;
 use sac_base::{Array, ArrayType, Base, Memory, Op, Shape, contains, copy_array};
 use std::alloc::Global;
 

@@ -10,10 +10,10 @@ use crate::literals::{
 };
 use crate::rows::{known_shape, row_shape};
 use core_ir::Right;
-use fact_table::{FactTable, Known};
-use known_shapes::{
+use fact_table::shapes::{
     both_shapes, rank_shape, scalar_shape, selected_shape, shape_literal, type_shape,
 };
+use fact_table::{FactTable, Known};
 use sac_base::{Array, Memory, Shape, copy_array};
 use std::alloc::Global;
 

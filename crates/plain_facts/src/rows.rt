@@ -7,7 +7,7 @@ ghost use Rattle.fact_table.specs.Table.{facts_of};
 
 use core_ir::Var;
 use fact_table::FactTable;
-use known_shapes::one_shape;
+use fact_table::shapes::one_shape;
 use sac_base::Shape;
 use std::alloc::Global;
 

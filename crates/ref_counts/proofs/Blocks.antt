@@ -12,9 +12,9 @@ use Rattle.counted_code.specs.declared.tree.CodeStep.{CodeStep}
 use Rattle.counted_code.specs.Terms.{Giving}
 use Rattle.counted_code.specs.View.{steps_before}
 use Rattle.counted_laws.specs.placing.Placing.{placing}
-use Rattle.listed_uses.specs.declared.list.Entry.{Entry}
-use Rattle.listed_uses.specs.declared.list.Entry.TheVariants.{Section}
-use Rattle.listed_uses.specs.Latest.{section, EndsAt}
+use Rattle.ref_rules.specs.declared.listed_uses.list.Entry.{Entry}
+use Rattle.ref_rules.specs.declared.listed_uses.list.Entry.TheVariants.{Section}
+use Rattle.ref_rules.specs.listed_uses.Latest.{section, EndsAt}
 use Rattle.ref_counts.specs.Listing.{each, listed, listed_right}
 use Rattle.ref_counts.proofs.Collected.{assoc, let_listed, lets_listed, block_listed}
 use Rattle.ref_rules.proofs.Taken.{drop_here}

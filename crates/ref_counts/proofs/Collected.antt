@@ -15,9 +15,9 @@ use Rattle.core_ir.specs.Scopes.{op_uses, parted_uses, head_uses}
 use Rattle.core_ir.specs.Terms.{Gives, chain, gens_of, parts_of}
 use Rattle.core_ir.specs.View.{block_term, right_term, with_term, parted_term, let_term, gen_term, part_term}
 use Rattle.core_ir.proofs.Trees.{block_out, with_out, parted_out}
-use Rattle.listed_uses.specs.declared.list.Entry.{Entry}
-use Rattle.listed_uses.specs.declared.list.Entry.TheVariants.{Use, Section}
-use Rattle.listed_uses.specs.Latest.{section}
+use Rattle.ref_rules.specs.declared.listed_uses.list.Entry.{Entry}
+use Rattle.ref_rules.specs.declared.listed_uses.list.Entry.TheVariants.{Use, Section}
+use Rattle.ref_rules.specs.listed_uses.Latest.{section}
 use Rattle.ref_counts.specs.Listing.{each, listed, listed_right, listed_gens, listed_parts, Closes}
 
 pub assoc : {A : Type 0} (xs ys zs : List A) → xs ++ (ys ++ zs) ≡ (xs ++ ys) ++ zs

@@ -7,9 +7,9 @@ use Rattle.core_ir.specs.declared.tree.Var.{Var}
 use Rattle.core_ir.specs.Binders.{is_in}
 use Rattle.counted_laws.proofs.placing.Lists.{same_var, self, or_left, or_right, or_either, append_assoc}
 use Rattle.core_ir.specs.Terms.{RightTerm}
-use Rattle.listed_uses.specs.declared.list.Entry.{Entry}
-use Rattle.listed_uses.specs.Latest.{is_used, IsLast}
-use Rattle.listed_uses.proofs.Recorded.{in_append}
+use Rattle.ref_rules.specs.declared.listed_uses.list.Entry.{Entry}
+use Rattle.ref_rules.specs.listed_uses.Latest.{is_used, IsLast}
+use Rattle.ref_rules.proofs.listed_uses.Recorded.{in_append}
 use Rattle.ref_counts.specs.declared.held.Owned.{Owned, Gone, One}
 use Rattle.ref_counts.specs.Endings.{ends_some, ends_in, read_place}
 use Rattle.ref_counts.specs.Owning.{owned_vars, IsBound, IsSound, ends, EndsOf}

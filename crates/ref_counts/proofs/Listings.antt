@@ -4,8 +4,8 @@ use Rattle.core_ir.specs.declared.tree.Var.{Var}
 use Rattle.core_ir.specs.Scopes.{plain_uses, op_uses, parted_uses, head_uses}
 use Rattle.core_ir.specs.Terms.{BlockTerm, RightTerm, GensTerm, PartsTerm, Gives, Bind, Plain, NoGens, Gen, NoParts, Part}
 use Rattle.counted_code.specs.Prompt.{uses, uses_right, uses_gens, uses_parts}
-use Rattle.listed_uses.specs.Latest.{vars_of, section}
-use Rattle.listed_uses.proofs.Recorded.{vars_append}
+use Rattle.ref_rules.specs.listed_uses.Latest.{vars_of, section}
+use Rattle.ref_rules.proofs.listed_uses.Recorded.{vars_append}
 use Rattle.ref_counts.specs.Listing.{each, listed, listed_right, listed_gens, listed_parts}
 
 pub vars_each : (xs : List Var) → vars_of (each xs) ≡ xs

@@ -13,10 +13,10 @@ use Rattle.counted_code.specs.declared.tree.CodeStep.{CodeStep}
 use Rattle.counted_code.specs.Prompt.{uses, uses_right, hands}
 use Rattle.counted_code.specs.Terms.{CodeTerm, CodeRightTerm, Giving, Binding}
 use Rattle.counted_code.specs.View.{steps_before}
-use Rattle.listed_uses.specs.declared.list.Entry.{Entry}
-use Rattle.listed_uses.specs.declared.list.Entry.TheVariants.{Section}
-use Rattle.listed_uses.specs.Latest.{vars_of, section}
-use Rattle.listed_uses.proofs.Recorded.{in_append, vars_append}
+use Rattle.ref_rules.specs.declared.listed_uses.list.Entry.{Entry}
+use Rattle.ref_rules.specs.declared.listed_uses.list.Entry.TheVariants.{Section}
+use Rattle.ref_rules.specs.listed_uses.Latest.{vars_of, section}
+use Rattle.ref_rules.proofs.listed_uses.Recorded.{in_append, vars_append}
 use Rattle.ref_counts.specs.declared.held.Owned.{Owned}
 use Rattle.ref_counts.specs.Endings.{ends_some, ends_in, read_place}
 use Rattle.ref_counts.specs.Listing.{each, listed, listed_right}

@@ -13,9 +13,9 @@ use Rattle.core_ir.specs.View.{block_term, let_term, with_term, parted_term, gen
 use Rattle.counted_code.specs.declared.tree.CodeStep.{CodeStep}
 use Rattle.counted_code.specs.View.{steps_before}
 use Rattle.counted_laws.specs.placing.Placing.{placing}
-use Rattle.listed_uses.specs.declared.list.Entry.{Entry}
-use Rattle.listed_uses.specs.declared.list.Entry.TheVariants.{Use}
-use Rattle.listed_uses.specs.Latest.{section, EndsAt}
+use Rattle.ref_rules.specs.declared.listed_uses.list.Entry.{Entry}
+use Rattle.ref_rules.specs.declared.listed_uses.list.Entry.TheVariants.{Use}
+use Rattle.ref_rules.specs.listed_uses.Latest.{section, EndsAt}
 use Rattle.ref_counts.specs.declared.held.Owned.{Owned}
 use Rattle.ref_counts.specs.Listing.{each, listed, listed_right}
 use Rattle.ref_counts.specs.Owning.{owned_vars, IsSound}

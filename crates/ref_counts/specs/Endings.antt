@@ -2,7 +2,7 @@
 use Rattle.std.specs.Prelude.{◌+◌, ◌-◌, ◌^◌, ◌&&◌, min, length, ℕ, Bool, true, false, List}
 use Rattle.core_ir.specs.declared.tree.Var.{Var}
 use Rattle.core_ir.specs.Terms.{PlainTerm, RightTerm, Plain}
-use Rattle.listed_uses.specs.declared.list.Entry.{Entry}
+use Rattle.ref_rules.specs.declared.listed_uses.list.Entry.{Entry}
 use Rattle.ref_counts.specs.Owning.{ends}
 
 -- it hands on what it uses first, or is a conditional

@@ -3,9 +3,9 @@ use Rattle.std.specs.Prelude.{◌≡◌, ℕ, List, [], ◌∷◌, ◌++◌, len
 use Rattle.core_ir.specs.declared.tree.Var.{Var}
 use Rattle.core_ir.specs.Scopes.{plain_uses, op_uses, parted_uses, head_uses}
 use Rattle.core_ir.specs.Terms.{BlockTerm, RightTerm, GensTerm, PartsTerm, Gives, Bind, Plain, NoGens, Gen, NoParts, Part}
-use Rattle.listed_uses.specs.declared.list.Entry.{Entry}
-use Rattle.listed_uses.specs.declared.list.Entry.TheVariants.{Use, Section}
-use Rattle.listed_uses.specs.Latest.{section}
+use Rattle.ref_rules.specs.declared.listed_uses.list.Entry.{Entry}
+use Rattle.ref_rules.specs.declared.listed_uses.list.Entry.TheVariants.{Use, Section}
+use Rattle.ref_rules.specs.listed_uses.Latest.{section}
 
 abbrev pub each : List Var → List Entry
 each [] = []

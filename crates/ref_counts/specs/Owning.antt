@@ -2,8 +2,8 @@
 use Rattle.std.specs.Prelude.{◌≡◌, ◌<◌, ℕ, Bool, true, not, filter, List, [], ◌∷◌, ◌++◌}
 use Rattle.core_ir.specs.declared.tree.Var.{Var}
 use Rattle.core_ir.specs.Binders.{is_in}
-use Rattle.listed_uses.specs.declared.list.Entry.{Entry}
-use Rattle.listed_uses.specs.Latest.{is_used, IsLast}
+use Rattle.ref_rules.specs.declared.listed_uses.list.Entry.{Entry}
+use Rattle.ref_rules.specs.listed_uses.Latest.{is_used, IsLast}
 use Rattle.ref_counts.specs.declared.held.Owned.{Owned, Gone, One, Fork'}
 
 -- from the first to the last

@@ -13,8 +13,8 @@ use Rattle.counted_code.specs.View.{code_program, steps_before}
 use Rattle.counted_laws.specs.Simulation.{LeavesNothing}
 use Rattle.counted_laws.specs.placing.Placing.{placing}
 use Rattle.ref_counts.specs.declared.held.Owned.{Owned}
-use Rattle.listed_uses.specs.declared.list.Entry.{Entry}
-use Rattle.listed_uses.specs.Latest.{section}
+use Rattle.ref_rules.specs.declared.listed_uses.list.Entry.{Entry}
+use Rattle.ref_rules.specs.listed_uses.Latest.{section}
 use Rattle.ref_counts.specs.Listing.{each, listed, listed_right}
 use Rattle.ref_counts.specs.Owning.{owned_vars, IsSound}
 

@@ -1,12 +1,12 @@
 //! The variables whose references a block has at a place.
 
 ghost use Rattle.std.specs.Prelude.{◌≡◌, ◌∷◌, ◌++◌, List, take, IfOk};
-ghost use Rattle.listed_uses.specs.Latest.{IsLast};
-ghost use Rattle.listed_uses.specs.declared.list.Entry.{Entry as Listed};
+ghost use Rattle.ref_rules.specs.listed_uses.Latest.{IsLast};
+ghost use Rattle.ref_rules.specs.declared.listed_uses.list.Entry.{Entry as Listed};
 ghost use Rattle.ref_counts.specs.Owning.{owned_vars, IsSound, IsBound, EndsOf, ends};
 
 use core_ir::Var;
-use listed_uses::Uses;
+use ref_rules::listed_uses::Uses;
 use sac_base::Memory;
 use std::alloc::Global;
 

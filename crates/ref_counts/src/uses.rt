@@ -3,12 +3,12 @@
 ghost use Rattle.std.specs.Prelude.{◌≡◌, ◌<◌, ◌++◌, ◌∷◌, [], length, option_to_list, slice_set, IfOk};
 ghost use Rattle.core_ir.specs.View.{block_term, let_term, right_term, with_term, parted_term, gen_term};
 ghost use Rattle.core_ir.specs.Scopes.{head_uses};
-ghost use Rattle.listed_uses.specs.Latest.{section};
-ghost use Rattle.listed_uses.specs.declared.list.Entry.TheVariants.{Section};
+ghost use Rattle.ref_rules.specs.listed_uses.Latest.{section};
+ghost use Rattle.ref_rules.specs.declared.listed_uses.list.Entry.TheVariants.{Section};
 ghost use Rattle.ref_counts.specs.Listing.{Closes, each, listed, listed_right};
 
 use core_ir::{Block, CoreGen, Let, PartedLoop, Right, Var, WithLoop};
-use listed_uses::{Entry, Uses};
+use ref_rules::listed_uses::{Entry, Uses};
 use sac_base::Memory;
 use std::alloc::Global;
 

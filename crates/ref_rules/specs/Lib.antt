@@ -1,2 +1,3 @@
 pub mod Appending
 pub mod Counts
+pub mod listed_uses

@@ -1,6 +1,7 @@
 //! The rules by which references are kept and released.
 #![tactic(auto)]
 
+pub mod listed_uses;
 mod steps;
 mod surplus;
 

@@ -2,7 +2,7 @@
 use Rattle.std.proofs.Common.{◌≡◌, Bool, true, false, cond, eqb, List, [], ◌∷◌, Option, refl}
 use Rattle.sac_base.specs.declared.base.Base.{Base}
 use Rattle.core_ir.specs.declared.tree.Var.{Var}
-use Rattle.scoped_table.specs.Notes.{Note, noted}
+use Rattle.fact_table.specs.scoped_table.Notes.{Note, noted}
 use Rattle.reuse_candidates.specs.Tables.{base_noted, bases_of}
 
 chosen : (same : Bool) (value rest : Option (Option Base)) (base : Option Base) → base_noted rest ≡ base → base_noted (cond same value rest) ≡ cond same (base_noted value) base

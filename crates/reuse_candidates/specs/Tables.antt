@@ -3,7 +3,7 @@ use Rattle.std.specs.Prelude.{List, [], ◌∷◌, Option, Some, None}
 use Rattle.sac_base.specs.declared.base.Base.{Base}
 use Rattle.fact_table.specs.Notes as fact
 use Rattle.fact_table.specs.Table.{facts_of}
-use Rattle.scoped_table.specs.Notes.{Note}
+use Rattle.fact_table.specs.scoped_table.Notes.{Note}
 use Rattle.counted_marks.specs.Bases.{BaseFacts, no_bases, note_base}
 use Rattle.counted_marks.specs.Known.{Known}
 

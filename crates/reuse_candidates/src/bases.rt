@@ -11,8 +11,8 @@ ghost use Rattle.reuse_candidates.specs.Tables.{bases_of};
 
 use core_ir::{CoreOp, Var};
 use counted_code::CodeRight;
+use fact_table::scoped_table::ScopedTable;
 use sac_base::{Base, Memory, result_base};
-use scoped_table::ScopedTable;
 use std::alloc::Global;
 
 /// The base of each variable where it is known, by the latest note of it.

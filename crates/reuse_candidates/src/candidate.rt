@@ -13,12 +13,12 @@ ghost use Rattle.reuse_candidates.specs.Scopes.{known_in};
 use crate::bases::base_at;
 use crate::calls::Calls;
 use crate::own::own_parts;
+use crate::rules::lesser;
 use crate::scope::Scope;
 use core_ir::{PartedOp, Var};
 use core_uses::avoids_all;
 use counted_code::{CodeParted, CodeRight, CodeStep};
 use plain_facts::parted_shape;
-use reuse_rules::lesser;
 use sac_base::{Base, Grid, Memory, Shape, same_base, same_shape};
 use std::alloc::Global;
 

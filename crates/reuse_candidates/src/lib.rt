@@ -8,6 +8,7 @@ mod copies;
 mod heads;
 mod own;
 mod plain;
+pub mod rules;
 mod scope;
 
 pub use bases::{BaseTable, bases_at, either_bases, loop_base, plain_base};

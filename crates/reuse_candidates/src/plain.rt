@@ -13,13 +13,13 @@ ghost use Rattle.reuse_candidates.specs.Plain.{is_own_plain, plain_core};
 ghost use Rattle.reuse_candidates.specs.Told.{known_if, seen};
 
 use crate::copies::core_right;
+use crate::rules::is_own;
 use core_ir::Var;
 use core_uses::avoids_all;
 use counted_code::CodeRight;
 use fact_table::{FactTable, Known};
 use index_table::IndexTable;
 use plain_facts::{CalledShapes, known_of, plain_fact};
-use reuse_rules::is_own;
 use sac_base::Memory;
 use std::alloc::Global;
 

@@ -11,11 +11,11 @@ ghost use Rattle.reuse_candidates.specs.Scopes.{known_in, learned_in, mark_of, o
 
 use crate::bases::{BaseTable, bases_at, learn_bases, learn_ints};
 use core_ir::Var;
+use fact_table::scoped_table::ScopedTable;
+use fact_table::shapes::type_shape;
 use fact_table::{FactTable, Known};
-use known_shapes::type_shape;
 use plain_facts::{forget, forget_index, known_of, learn_all, learn_index};
 use sac_base::{ArrayType, Base, Grid, Memory};
-use scoped_table::ScopedTable;
 use std::alloc::Global;
 
 /// What is known of variables at a place: their facts, and their bases.

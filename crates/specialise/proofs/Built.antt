@@ -10,9 +10,9 @@ use Rattle.core_ir.specs.Outcome.{param_types, param_vars, group_at}
 use Rattle.core_ir.specs.Terms.{FunTerm, CoreTerm}
 use Rattle.core_ir.specs.WellFormed.{bases}
 use Rattle.core_facts.specs.calls.Nests.{StandsIn}
-use Rattle.core_groups.specs.Specialised.{IsCopy, IsNarrowed, IsSpecialised}
-use Rattle.core_groups.specs.Specialised
-use Rattle.core_groups.proofs.Lists.{some_same, none_some, mapped_stands, pairs_map, some_within, none_either}
+use Rattle.specialise.specs.groups.Specialised.{IsCopy, IsNarrowed, IsSpecialised}
+use Rattle.specialise.specs.groups.Specialised
+use Rattle.specialise.proofs.groups.Lists.{some_same, none_some, mapped_stands, pairs_map, some_within, none_either}
 use Rattle.specialise.specs.declared.order.Key.{Key}
 use Rattle.specialise.specs.Plans.{Entry, retyped, made_by, function_at, IsEntry, LaterElsewhere, HasFurther, IsPlan}
 use Rattle.specialise.specs.Orders.{numbers, IsBuilt}

@@ -12,7 +12,7 @@ use Rattle.sac_base.specs.Types.{has_form, has_shape, part_below, below, all_hav
 use Rattle.shape_types.proofs.Inclusion.{and_left, and_right, and_both, same-shape, same_itself}
 use Rattle.core_ir.specs.WellFormed.{bases}
 use Rattle.core_facts.specs.calls.Nests.{StandsIn}
-use Rattle.core_groups.specs.Specialised.{is_known, all_known}
+use Rattle.specialise.specs.groups.Specialised.{is_known, all_known}
 use Rattle.specialise.specs.Plans.{Entry}
 use Rattle.specialise.specs.Tables.{types_at, exact, are_same, has_same}
 

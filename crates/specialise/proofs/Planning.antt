@@ -12,9 +12,9 @@ use Rattle.core_ir.specs.Outcome.{param_types, group_at}
 use Rattle.core_ir.specs.Terms.{FunTerm, CoreTerm}
 use Rattle.core_ir.specs.WellFormed.{IsWellFormed, bases as bases_of}
 use Rattle.core_facts.specs.calls.Nests.{StandsIn}
-use Rattle.core_groups.specs.Specialised.{all_known, IsNarrowed}
-use Rattle.core_groups.proofs.Lists.{some_same, none_some, stands_left, stands_right, stands_cases, pairs_append, pairs_weaker}
-use Rattle.core_groups.proofs.Choice.{group_is, group_there, member}
+use Rattle.specialise.specs.groups.Specialised.{all_known, IsNarrowed}
+use Rattle.specialise.proofs.groups.Lists.{some_same, none_some, stands_left, stands_right, stands_cases, pairs_append, pairs_weaker}
+use Rattle.specialise.proofs.groups.Choice.{group_is, group_there, member}
 use Rattle.specialise.specs.Plans.{Entry, owns, joined, IsEntry, LaterElsewhere, HasFurther, IsPlan, Keeps}
 use Rattle.specialise.specs.Tables.{types_in, types_at, exact, has_same, known_count}
 use Rattle.specialise.specs.Serving.{types_within, wants_more, IsSource, IsServed, IsLeft, Serves}

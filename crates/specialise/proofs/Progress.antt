@@ -15,9 +15,9 @@ use Rattle.core_ir.specs.Outcome.{param_types, group_at}
 use Rattle.core_ir.specs.Terms.{FunTerm, CoreTerm}
 use Rattle.core_ir.specs.WellFormed.{IsWellFormed, PlacesShare}
 use Rattle.core_facts.specs.calls.Nests.{StandsIn}
-use Rattle.core_groups.specs.Specialised.{all_known}
-use Rattle.core_groups.proofs.Lists.{some_same, none_some, stands_left, stands_right, stands_cases, stands_at, all_at, all_found, pairs_head, pairs_tail}
-use Rattle.core_groups.proofs.Choice.{group_is, group_there, member}
+use Rattle.specialise.specs.groups.Specialised.{all_known}
+use Rattle.specialise.proofs.groups.Lists.{some_same, none_some, stands_left, stands_right, stands_cases, stands_at, all_at, all_found, pairs_head, pairs_tail}
+use Rattle.specialise.proofs.groups.Choice.{group_is, group_there, member}
 use Rattle.known_calls.specs.Known.{GroupAndShapes}
 use Rattle.specialise.specs.Plans.{Entry, joined, HasFurther, IsPlan, Keeps}
 use Rattle.specialise.specs.Tables.{types_in, types_at, exact, are_same, has_same, known_count, forms_by}

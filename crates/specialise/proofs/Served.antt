@@ -15,11 +15,11 @@ use Rattle.core_ir.specs.Terms.{FunTerm, CoreTerm}
 use Rattle.core_ir.specs.WellFormed.{IsWellFormed}
 use Rattle.core_facts.specs.calls.Nests.{StandsIn}
 use Rattle.core_facts.specs.constants.Called.{called, params_facts}
-use Rattle.core_groups.specs.Specialised.{IsSpecialised}
-use Rattle.core_groups.proofs.Known.{all_below_on}
-use Rattle.core_groups.proofs.Lists.{some_same, stands_map, all_by_place}
-use Rattle.core_groups.proofs.Choice.{group_is, group_there, member, member_cases}
-use Rattle.core_groups.proofs.Results.{same_results}
+use Rattle.specialise.specs.groups.Specialised.{IsSpecialised}
+use Rattle.specialise.proofs.groups.Known.{all_below_on}
+use Rattle.specialise.proofs.groups.Lists.{some_same, stands_map, all_by_place}
+use Rattle.specialise.proofs.groups.Choice.{group_is, group_there, member, member_cases}
+use Rattle.specialise.proofs.groups.Results.{same_results}
 use Rattle.known_calls.specs.Known.{GroupAndShapes, known_in, typed_facts}
 use Rattle.specialise.specs.Plans.{Entry, IsPlan}
 use Rattle.specialise.specs.Tables.{types_in, types_at, exact, are_same, has_same, known_count, forms_by}

@@ -17,7 +17,7 @@ use Rattle.core_ir.specs.Outcome.{param_types}
 use Rattle.core_ir.specs.Terms.{FunTerm, CoreTerm}
 use Rattle.core_ir.specs.View.{fun_term}
 use Rattle.core_facts.specs.calls.Nests.{StandsIn}
-use Rattle.core_groups.proofs.Lists.{some_same, none_some, stands_at, stands_there}
+use Rattle.specialise.proofs.groups.Lists.{some_same, none_some, stands_at, stands_there}
 use Rattle.specialise.specs.declared.plan.Item.{Item}
 use Rattle.specialise.specs.declared.order.Key.{Key}
 use Rattle.specialise.specs.Plans.{Entry, entry, entries, members, owns, joined}

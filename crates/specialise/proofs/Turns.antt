@@ -7,7 +7,7 @@ use Rattle.std.proofs.lemmas.Option.{slice_get_within}
 use Rattle.core_ir.specs.Outcome.{param_vars}
 use Rattle.core_ir.specs.Terms.{FunTerm, CoreTerm}
 use Rattle.core_ir.specs.WellFormed.{IsWellFormed}
-use Rattle.core_groups.proofs.Lists.{some_same, some_within}
+use Rattle.specialise.proofs.groups.Lists.{some_same, some_within}
 use Rattle.core_facts.specs.constants.Called.{called}
 use Rattle.known_calls.specs.declared.calls.KnownCall.{KnownCall}
 use Rattle.known_calls.specs.Known.{GroupAndShapes, known_in, typed_facts}

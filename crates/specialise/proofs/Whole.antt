@@ -11,10 +11,10 @@ use Rattle.sac_base.specs.Types.{has, all_have, all_have_forms, all_below}
 use Rattle.core_ir.specs.Outcome.{param_types, outcome}
 use Rattle.core_ir.specs.Terms.{FunTerm, CoreTerm}
 use Rattle.core_ir.specs.WellFormed.{IsWellFormed}
-use Rattle.core_groups.specs.Specialised.{IsSpecialised}
-use Rattle.core_groups.proofs.Formed.{formed}
-use Rattle.core_groups.proofs.Lists.{some_same}
-use Rattle.core_groups.proofs.Outcomes.{outcomes}
+use Rattle.specialise.specs.groups.Specialised.{IsSpecialised}
+use Rattle.specialise.proofs.groups.Formed.{formed}
+use Rattle.specialise.proofs.groups.Lists.{some_same}
+use Rattle.specialise.proofs.groups.Outcomes.{outcomes}
 use Rattle.specialise.specs.Plans.{Entry, owns, retyped, IsEntry, IsPlan, Keeps}
 use Rattle.specialise.specs.Tables.{types_in, types_at, exact}
 use Rattle.specialise.specs.Orders.{numbers, IsBuilt}

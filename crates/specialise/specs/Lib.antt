@@ -5,3 +5,4 @@ pub mod Serving
 pub mod Progress
 pub mod Mains
 pub mod Served
+pub mod groups

@@ -8,7 +8,7 @@ use Rattle.core_ir.specs.Outcome.{param_types, param_vars}
 use Rattle.core_ir.specs.Terms.{FunTerm, CoreTerm}
 use Rattle.core_ir.specs.WellFormed.{bases as bases_of}
 use Rattle.core_facts.specs.calls.Nests.{StandsIn}
-use Rattle.core_groups.specs.Specialised.{IsNarrowed}
+use Rattle.specialise.specs.groups.Specialised.{IsNarrowed}
 use Rattle.specialise.specs.declared.plan.Item.{Item}
 
 -- a function of the core, by its place, and types for its parameters

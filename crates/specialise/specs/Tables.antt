@@ -4,7 +4,7 @@ use Rattle.sac_base.specs.declared.form.Form.{Form}
 use Rattle.sac_base.specs.declared.types.ArrayType.{ArrayType}
 use Rattle.sac_base.specs.declared.types.Part.TheVariants.{Known}
 use Rattle.sac_base.specs.Types.{all_below}
-use Rattle.core_groups.specs.Specialised.{all_known}
+use Rattle.specialise.specs.groups.Specialised.{all_known}
 use Rattle.specialise.specs.Plans.{Entry}
 
 abbrev pub types_in : Option Entry → List ArrayType

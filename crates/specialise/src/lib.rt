@@ -2,6 +2,7 @@
 #![tactic(auto)]
 
 mod building;
+pub mod groups;
 mod order;
 mod pass;
 mod plan;

@@ -2,7 +2,7 @@
 
 ghost use Rattle.std.specs.Prelude.{◌≡◌, map, IfOk};
 ghost use Rattle.sac_base.specs.Types.{all_below as are_all_below};
-ghost use Rattle.core_groups.specs.Specialised.{all_known};
+ghost use Rattle.specialise.specs.groups.Specialised.{all_known};
 ghost use Rattle.shape_types.specs.Instances.{types_of as types_in};
 ghost use Rattle.specialise.specs.Plans.{entries};
 ghost use Rattle.specialise.specs.Tables.{types_at, exact, are_same as same_types, has_same as has_same_types, known_count as count_known, forms_by};
@@ -171,7 +171,7 @@ pub fn are_known(types: &[ArrayType]) -> bool
 }
 
 fn is_known(ty: &ArrayType) -> bool
-    ensures { result ≡ Rattle.core_groups.specs.Specialised.is_known ty.now.part }
+    ensures { result ≡ Rattle.specialise.specs.groups.Specialised.is_known ty.now.part }
 {
     matches!(ty.part, Part::Known(_))
 }

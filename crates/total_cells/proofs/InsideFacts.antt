@@ -15,8 +15,8 @@ use Rattle.core_loops.specs.Indices.{at_offset, are_extents}
 use Rattle.core_loops.proofs.index_facts.Members.{and_both, member_has}
 use Rattle.generator_sets.specs.Pieces.{moved}
 use Rattle.grid_spans.specs.Spans.{IsSpan}
-use Rattle.moved_grids.specs.Within.{number_at_first, numbers_behind, HaveMembers}
-use Rattle.moved_grids.proofs.WithinFacts.{both, never, by_moved, some_vector}
+use Rattle.grid_spans.specs.moved.Within.{number_at_first, numbers_behind, HaveMembers}
+use Rattle.grid_spans.proofs.moved.WithinFacts.{both, never, by_moved, some_vector}
 use Rattle.operand_checks.proofs.Index.{further_some}
 use Rattle.total_cells.specs.Inside.{IsAxisInside, AreInside}
 

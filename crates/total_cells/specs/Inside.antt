@@ -2,7 +2,7 @@
 use Rattle.std.specs.Prelude.{◌≡◌, ◌&&◌, true, List, [], ◌∷◌, ℤ, pos, ◌+ℤ◌, ◌≤ℤ◌, ◌<ℤ◌}
 use Rattle.sac_base.specs.declared.grid.Grid1.{Grid1}
 use Rattle.sac_base.specs.Grids.{has_index}
-use Rattle.moved_grids.specs.Within.{number_at_first, numbers_behind}
+use Rattle.grid_spans.specs.moved.Within.{number_at_first, numbers_behind}
 
 -- all members, with a number added, are from 0 on and below an extent
 abbrev pub IsAxisInside : Grid1 → ℤ → ℤ → Type 0

@@ -5,8 +5,8 @@ ghost use Rattle.sac_base.specs.Grids.{has_index, has_vector};
 ghost use Rattle.core_loops.specs.Indices.{at_offset};
 ghost use Rattle.total_cells.specs.Inside.{IsAxisInside, AreInside};
 
+use grid_spans::moved::{first_number, has_members, other_numbers};
 use grid_spans::span_of;
-use moved_grids::{first_number, has_members, other_numbers};
 use sac_base::{Grid, Grid1, Shape};
 
 /// Whether an array of a shape has a part at each member of a grid, with these numbers added to it as whole numbers.

@@ -2,6 +2,7 @@
 #![tactic(auto)]
 
 mod inside;
+pub mod loop_selections;
 mod plain;
 mod walk;
 

@@ -18,10 +18,10 @@ use Rattle.core_ir.proofs.Trees.{parted_out, parted_roll}
 use Rattle.core_facts.specs.Facts.{Facts, note_all, right_facts, in_part, known_shape, parted_shape, shape_fact}
 use Rattle.fact_table.specs.Table.{fact_of}
 use Rattle.core_forms.specs.selections.Vectors.{next, next_right, vectored, vectored_right}
-use Rattle.known_rights.specs.Anywhere.{IsKnownAnywhere}
-use Rattle.known_rights.specs.declared.known.KnownRight.{KnownRight}
-use Rattle.known_rights.proofs.Fields.{shown_gen, shown_part, gen_out, gen_roll, part_out, part_roll}
-use Rattle.known_rights.proofs.Plain.{IsOther, other_plain}
+use Rattle.plain_facts.specs.known_rights.Anywhere.{IsKnownAnywhere}
+use Rattle.plain_facts.specs.declared.known_rights.known.KnownRight.{KnownRight}
+use Rattle.plain_facts.proofs.known_rights.Fields.{shown_gen, shown_part, gen_out, gen_roll, part_out, part_roll}
+use Rattle.plain_facts.proofs.known_rights.Plain.{IsOther, other_plain}
 use Rattle.vector_selections.specs.Vectored.{vectored_gen, next_gen, vectored_part, next_part}
 
 module _ (called : ℕ → List (Option (List ℕ))) where

@@ -12,7 +12,7 @@ ghost use Rattle.vector_selections.specs.Vectored.{bind_vectored, next_let, vect
 use crate::choice::{push_binding, scalar_selection};
 use core_ir::{Block, CoreGen, CorePart, Let, PartedLoop, Right, WithLoop};
 use fact_table::FactTable;
-use known_rights::{KnownBlock, KnownRight};
+use plain_facts::known_rights::{KnownBlock, KnownRight};
 use plain_facts::{CalledShapes, forget, forget_index, known_of, learn_all, learn_index};
 use sac_base::Memory;
 use std::alloc::Global;

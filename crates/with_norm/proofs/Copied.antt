@@ -12,8 +12,8 @@ use Rattle.core_ir.specs.Terms.{PlainTerm, BlockTerm, GensTerm, GenTerm, Bind, P
 use Rattle.core_ir.specs.WellFormed.{Distinct}
 use Rattle.core_ir.proofs.Variables.{same_number}
 use Rattle.core_subst.specs.Names.{variable}
-use Rattle.core_copy.specs.Mapped.{mapped}
-use Rattle.core_copy.proofs.Renaming.{bound_mapped}
+use Rattle.core_subst.specs.copy.Mapped.{mapped}
+use Rattle.core_subst.proofs.copy.Renaming.{bound_mapped}
 use Rattle.core_forms.proofs.edits.Wider.{bound_new}
 use Rattle.core_forms.proofs.inlined_bodies.Names.{clash, distinct_left, distinct_right, in_either, in_left, itself, none_at}
 use Rattle.core_loops.specs.Steps as loops
@@ -24,7 +24,7 @@ use Rattle.core_forms.specs.norm.Alike.{NamedAlike}
 use Rattle.core_forms.specs.norm.Copied.{AreFrom, components}
 use Rattle.core_forms.proofs.norm.Named.{copies_named}
 use Rattle.core_forms.proofs.norm.Places.{all_member}
-use Rattle.numbered_variables.proofs.Numbered.{Good, And, Those, AreComponents, apart_if, components_good, components_off, components_order, components_same, named_at, named_good, named_off, numbered_good, numbered_off, numbered_order}
+use Rattle.dense_variables.proofs.numbered.Numbered.{Good, And, Those, AreComponents, apart_if, components_good, components_off, components_order, components_same, named_at, named_good, named_off, numbered_good, numbered_off, numbered_order}
 
 -- ---- a generator at its place
 

@@ -27,7 +27,7 @@ use Rattle.core_forms.specs.norm.Copied.{AreFrom}
 use Rattle.core_forms.specs.norm.Fresh.{count_parts}
 use Rattle.partable_loops.specs.Planned.{AllNamed, Label}
 use Rattle.parted_bodies.specs.Making.{binds_of, generator_part, label_part, made_parts, part_body}
-use Rattle.numbered_variables.proofs.Numbered.{apart_if, order_append}
+use Rattle.dense_variables.proofs.numbered.Numbered.{apart_if, order_append}
 use Rattle.with_norm.proofs.Copied.{gen_place, copy_is, part_order}
 
 -- ---- labels of generators that are there

@@ -15,7 +15,7 @@ use Rattle.core_ir.specs.Scopes.{AllIn, Scoped, ScopedRight, ScopedGens, ScopedP
 use Rattle.core_ir.specs.Terms.{PlainTerm, BlockTerm, RightTerm, GensTerm, PartsTerm, GenHead, CoreTerm, Gives, Bind, Plain, NoGens, Gen, NoParts, Part}
 use Rattle.core_ir.specs.WellFormed.{Bases, base_of, HasBase, HasBases, AllHave, OptionHas, ints, LiteralBase, PlainBases, OperationBase, PartedBase, PartedFits, part_grids, BlockBases, RightBases, GensBases, PartsBases, Distinct, calls_in, calls_in_right, calls_in_gens, calls_in_parts}
 use Rattle.core_subst.specs.Substitution.{plain_with, core_op_with, parted_op_with}
-use Rattle.core_copy.specs.Mapped.{mapped, mapped_right, mapped_gens, mapped_parts, mapped_gen_head}
+use Rattle.core_subst.specs.copy.Mapped.{mapped, mapped_right, mapped_gens, mapped_parts, mapped_gen_head}
 use Rattle.core_forms.specs.edits.Within.{KeepsApart, bases_mapped}
 
 -- ---- uses and calls

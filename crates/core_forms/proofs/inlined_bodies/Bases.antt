@@ -14,8 +14,8 @@ use Rattle.core_ir.specs.Uses.{targets_of}
 use Rattle.core_ir.specs.WellFormed.{Bases, base_of, HasBases, bases, ints, part_grids, PartedFits, param_bases, BlockBases, RightBases, GensBases, PartsBases, Distinct, IsFunction}
 use Rattle.core_ir.proofs.Variables.{or_false, same_number, in_more}
 use Rattle.core_subst.specs.Names.{above_all, above_function}
-use Rattle.core_copy.specs.Mapped.{raised, mapped}
-use Rattle.core_copy.proofs.Within.{raised_apart}
+use Rattle.core_subst.specs.copy.Mapped.{raised, mapped}
+use Rattle.core_subst.proofs.copy.Within.{raised_apart}
 use Rattle.core_forms.specs.edits.Within.{bases_mapped}
 use Rattle.core_forms.proofs.edits.Mapping.{block_has, distinct_mapped}
 use Rattle.core_forms.proofs.edits.Wider.{block_bases_wider}

@@ -12,7 +12,7 @@ use Rattle.core_facts.specs.calls.Nests.{CallsAll, CallsAllRight, CallsAllGens, 
 use Rattle.core_facts.proofs.calls.Agreeing.{weaker, weaker_right}
 use Rattle.core_subst.specs.Names.{above, above_all, above_option, above_head, above_right, above_gens, above_parts, above_function}
 use Rattle.core_subst.specs.Substitution.{plain_with, core_op_with, parted_op_with}
-use Rattle.core_copy.specs.Mapped.{raised, mapped, mapped_right, mapped_gens, mapped_parts, mapped_gen_head}
+use Rattle.core_subst.specs.copy.Mapped.{raised, mapped, mapped_right, mapped_gens, mapped_parts, mapped_gen_head}
 use Rattle.core_forms.proofs.edits.Mapping.{plain_uses_mapped, op_uses_mapped, parted_uses_mapped}
 use Rattle.core_forms.specs.inlining.Inlined.{bindings, results, checks, inlined, CanInline}
 use Rattle.core_forms.proofs.inlining.Backward.{inlined_calls}

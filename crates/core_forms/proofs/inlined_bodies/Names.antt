@@ -13,9 +13,9 @@ use Rattle.core_ir.specs.WellFormed.{Distinct, IsFunction}
 use Rattle.core_ir.proofs.Variables.{in_more, or_false}
 use Rattle.core_subst.specs.Names.{above, above_all, above_function, variable}
 use Rattle.core_subst.proofs.Above.{block_new}
-use Rattle.core_copy.specs.Mapped.{raised, mapped}
-use Rattle.core_copy.proofs.Renaming.{bound_mapped}
-use Rattle.core_copy.proofs.Within.{raised_apart}
+use Rattle.core_subst.specs.copy.Mapped.{raised, mapped}
+use Rattle.core_subst.proofs.copy.Renaming.{bound_mapped}
+use Rattle.core_subst.proofs.copy.Within.{raised_apart}
 use Rattle.core_forms.proofs.edits.Mapping.{distinct_mapped}
 use Rattle.core_forms.specs.inlining.Inlined.{bindings, results, checks, inlined, CanInline}
 use Rattle.core_forms.proofs.inlining.Bodies.{results_mapped}

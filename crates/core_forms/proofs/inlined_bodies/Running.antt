@@ -11,7 +11,7 @@ use Rattle.core_ir.specs.Meaning.{CallMeaning, bind, bind_all, first, one, loop_
 use Rattle.core_ir.specs.Outcome.{RunMeaning, param_types, param_vars, call_by, run_inline}
 use Rattle.core_ir.specs.Terms.{BlockTerm, RightTerm, GensTerm, PartsTerm, LetTerm, FunTerm, CoreTerm, chain}
 use Rattle.core_facts.specs.calls.Nests.{CallsAll, CallsAllRight, CallsAllGens, CallsAllParts, StandsIn, InlineBelow, CallsBelow}
-use Rattle.core_copy.specs.Mapped.{raised, mapped}
+use Rattle.core_subst.specs.copy.Mapped.{raised, mapped}
 use Rattle.core_forms.specs.inlining.Inlined.{bindings, results, checks, inlined, CanInline}
 use Rattle.core_forms.proofs.inlining.Calls.{inlined_call}
 use Rattle.core_forms.specs.declared.inlined_bodies.growth.Growth.{Growth}

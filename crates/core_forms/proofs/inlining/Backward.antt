@@ -11,7 +11,7 @@ use Rattle.core_facts.specs.calls.Nests.{CallsAll, CallsAllRight, CallsAllGens, 
 use Rattle.core_facts.specs.calls.Replaced.{replaced_at}
 use Rattle.core_facts.proofs.calls.Agreeing.{weaker}
 use Rattle.core_facts.proofs.calls.Replaced.{at_place}
-use Rattle.core_copy.specs.Mapped.{mapped, mapped_right, mapped_gens, mapped_parts, raised}
+use Rattle.core_subst.specs.copy.Mapped.{mapped, mapped_right, mapped_gens, mapped_parts, raised}
 use Rattle.core_forms.specs.inlining.Inlined.{bindings, checks, inlined, results}
 use Rattle.core_forms.specs.inlining.Step.{Nothing, no_ways, InlinedHere, InlineStep, InlineSteps, none, step}
 use Rattle.core_forms.proofs.inlining.Step.{inline_outcome}

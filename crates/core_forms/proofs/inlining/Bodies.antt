@@ -19,9 +19,9 @@ use Rattle.core_ir.proofs.Coincide.{same_on}
 use Rattle.core_ir.proofs.Splice.{unused_all}
 use Rattle.core_subst.specs.Names.{above, above_all, variable}
 use Rattle.core_subst.proofs.Above.{block_new}
-use Rattle.core_copy.specs.Mapped.{raised, mapped}
-use Rattle.core_copy.proofs.Renaming.{renamed, agree}
-use Rattle.core_copy.proofs.Within.{raised_apart}
+use Rattle.core_subst.specs.copy.Mapped.{raised, mapped}
+use Rattle.core_subst.proofs.copy.Renaming.{renamed, agree}
+use Rattle.core_subst.proofs.copy.Within.{raised_apart}
 use Rattle.core_forms.specs.inlining.Inlined.{bindings, results, checks, inlined, CanInline, instance_value}
 use Rattle.core_forms.proofs.inlining.Checks.{and_then_assoc, checks_run, spliced}
 

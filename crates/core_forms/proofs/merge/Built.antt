@@ -10,7 +10,7 @@ use Rattle.core_ir.specs.Terms.{BlockTerm, LetTerm, PartHead, Bind, chain}
 use Rattle.core_ir.specs.Uses.{Avoids, AvoidsEach, targets_of}
 use Rattle.core_ir.specs.WellFormed.{Distinct}
 use Rattle.core_ir.proofs.Variables.{or_false, same_number}
-use Rattle.core_copy.specs.Mapped.{mapped}
+use Rattle.core_subst.specs.copy.Mapped.{mapped}
 use Rattle.core_loops.specs.Steps.{itself}
 use Rattle.core_loops.specs.merge_steps.Step.{MergedBody, Picks}
 use Rattle.core_forms.proofs.inlined_bodies.Names.{behind_first, clash, in_either, in_left, not_in}

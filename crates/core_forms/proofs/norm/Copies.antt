@@ -14,7 +14,7 @@ use Rattle.core_ir.specs.Scopes.{AllIn, Scoped, ScopedRight, ScopedGens, ScopedP
 use Rattle.core_ir.specs.Terms.{PlainTerm, BlockTerm, RightTerm, GensTerm, PartsTerm, GenHead, Gives, Bind, Plain, NoGens, Gen, NoParts, Part}
 use Rattle.core_ir.proofs.Variables.{in_more, same_number}
 use Rattle.core_subst.specs.Substitution.{plain_with, core_op_with, parted_op_with}
-use Rattle.core_copy.specs.Mapped.{mapped, mapped_right, mapped_gens, mapped_parts, mapped_gen_head}
+use Rattle.core_subst.specs.copy.Mapped.{mapped, mapped_right, mapped_gens, mapped_parts, mapped_gen_head}
 use Rattle.core_forms.proofs.inlined_bodies.Names.{in_left, itself, behind_first}
 use Rattle.core_forms.specs.norm.Alike.{Alike, AlikeRight, AlikeGens, AlikeParts}
 use Rattle.core_forms.proofs.norm.Scopes.{in_right, turned}

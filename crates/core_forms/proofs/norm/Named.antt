@@ -20,7 +20,7 @@ use Rattle.core_ir.specs.Scopes.{AllIn, Scoped, ScopedRight, ScopedGens, ScopedP
 use Rattle.core_ir.specs.Terms.{PlainTerm, BlockTerm, RightTerm, GensTerm, PartsTerm, GenHead, Gives, Bind, Plain, NoGens, Gen, NoParts, Part}
 use Rattle.core_ir.specs.Uses.{AvoidsAll, Avoids, AvoidsRight, AvoidsGens, AvoidsParts}
 use Rattle.core_subst.specs.Substitution.{plain_with, core_op_with, parted_op_with}
-use Rattle.core_copy.specs.Mapped.{mapped, mapped_right, mapped_gens, mapped_parts, mapped_gen_head}
+use Rattle.core_subst.specs.copy.Mapped.{mapped, mapped_right, mapped_gens, mapped_parts, mapped_gen_head}
 use Rattle.core_loops.specs.Steps.{itself}
 use Rattle.core_loops.specs.norm_steps.Genarray.{NamedBody}
 use Rattle.core_forms.specs.norm.Alike.{NamedAlike}

@@ -6,7 +6,7 @@ use Rattle.core_ir.specs.Binders.{NoneIn, bound_in}
 use Rattle.core_ir.specs.Scopes.{Scoped}
 use Rattle.core_ir.specs.Terms.{BlockTerm, CoreTerm}
 use Rattle.core_ir.specs.WellFormed.{Bases, BlockBases, Distinct, calls_in}
-use Rattle.core_copy.specs.Mapped.{mapped}
+use Rattle.core_subst.specs.copy.Mapped.{mapped}
 use Rattle.core_forms.specs.edits.Within.{AreWithin, BasesWithin, KeepsApart, bases_mapped}
 
 -- a block stays scoped where further variables are in scope that it does not bind

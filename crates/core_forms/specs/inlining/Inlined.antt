@@ -12,7 +12,7 @@ use Rattle.core_ir.specs.Outcome.{param_types, param_vars, function_value}
 use Rattle.core_ir.specs.Scopes.{Scoped}
 use Rattle.core_ir.specs.Terms.{BlockTerm, LetTerm, FunTerm, Gives, Bind, Plain, Check, chain}
 use Rattle.core_subst.specs.Names.{above, above_all}
-use Rattle.core_copy.specs.Mapped.{raised, mapped}
+use Rattle.core_subst.specs.copy.Mapped.{raised, mapped}
 
 -- the bindings of a block, and its results
 abbrev pub bindings : BlockTerm → List LetTerm

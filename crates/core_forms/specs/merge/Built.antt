@@ -5,7 +5,7 @@ use Rattle.sac_base.specs.declared.site.Site.{Site}
 use Rattle.sac_base.specs.Arrays.{scalar}
 use Rattle.core_ir.specs.declared.tree.Var.{Var}
 use Rattle.core_ir.specs.Terms.{PlainTerm, BlockTerm, PartsTerm, LetTerm, PartHead, Plain, NoParts, Part, chain}
-use Rattle.core_copy.specs.Mapped.{mapped}
+use Rattle.core_subst.specs.copy.Mapped.{mapped}
 
 -- the components of u from the j-th on, each by a constant and a selection
 abbrev pub picks : Site → Var → ℕ → List Var → List Var → List LetTerm

@@ -15,7 +15,7 @@ use Rattle.core_facts.specs.Facts.{Facts}
 use Rattle.core_loops.specs.Loops.{parted_in, weight}
 use Rattle.core_loops.specs.Steps.{fact_ways}
 use Rattle.core_subst.specs.Names.{above_function}
-use Rattle.core_copy.specs.Mapped.{mapped}
+use Rattle.core_subst.specs.copy.Mapped.{mapped}
 use Rattle.core_loops.specs.merge_steps.Step.{MergedBody}
 use Rattle.core_forms.specs.norm.Alike.{Alike}
 use Rattle.core_forms.specs.norm.Copied.{IsPlaced}

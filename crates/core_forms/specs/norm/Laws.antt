@@ -11,7 +11,7 @@ use Rattle.core_ir.specs.Scopes.{Scoped}
 use Rattle.core_ir.specs.Terms.{BlockTerm, CoreTerm}
 use Rattle.core_ir.specs.WellFormed.{Covered, Distinct, Fit, IsWellFormed}
 use Rattle.core_facts.specs.calls.Arrays.{SameOutcomeOnArrays}
-use Rattle.core_copy.specs.Mapped.{mapped}
+use Rattle.core_subst.specs.copy.Mapped.{mapped}
 use Rattle.core_facts.specs.Facts.{Facts}
 use Rattle.core_loops.specs.Loops.{weight}
 use Rattle.core_loops.specs.Steps.{fact_ways}

@@ -6,7 +6,7 @@ use Rattle.core_ir.specs.Scopes.{plain_uses, op_uses, parted_uses, head_uses}
 use Rattle.core_ir.specs.Terms.{BlockTerm, RightTerm, GensTerm, PartsTerm, GenHead, Gives, Bind, Plain, NoGens, Gen, NoParts, Part}
 use Rattle.core_ir.specs.Uses.{AvoidsAll, Avoids, AvoidsRight, AvoidsGens, AvoidsParts}
 use Rattle.core_subst.specs.Substitution.{plain_with}
-use Rattle.core_copy.specs.Mapped.{mapped, mapped_right, mapped_gens, mapped_parts, mapped_gen_head}
+use Rattle.core_subst.specs.copy.Mapped.{mapped, mapped_right, mapped_gens, mapped_parts, mapped_gen_head}
 use Rattle.core_forms.proofs.edits.Mapping.{plain_uses_mapped, op_uses_mapped, parted_uses_mapped}
 
 module _ (x : Var) (f : Var → Var) (keeps : (u : Var) → eqb x.0 u.0 ≡ false → eqb x.0 (f u).0 ≡ false) where

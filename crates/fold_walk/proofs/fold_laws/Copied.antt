@@ -10,8 +10,8 @@ use Rattle.core_ir.specs.Terms.{BlockTerm}
 use Rattle.core_ir.specs.WellFormed.{Distinct}
 use Rattle.core_ir.proofs.Variables.{same_number}
 use Rattle.core_subst.specs.Names.{variable}
-use Rattle.core_copy.specs.Mapped.{mapped}
-use Rattle.core_copy.proofs.Renaming.{bound_mapped}
+use Rattle.core_subst.specs.copy.Mapped.{mapped}
+use Rattle.core_subst.proofs.copy.Renaming.{bound_mapped}
 use Rattle.core_forms.proofs.edits.Wider.{bound_new}
 use Rattle.core_forms.proofs.inlined_bodies.Names.{clash, in_either, in_left, itself, none_at, not_in}
 use Rattle.core_loops.specs.Steps as loops
@@ -19,7 +19,7 @@ use Rattle.core_forms.specs.norm.Copied.{AreFrom}
 use Rattle.core_forms.proofs.norm.Copies.{copies_renamed}
 use Rattle.core_forms.proofs.norm.Places.{all_member}
 use Rattle.parted_bodies.specs.Numbering.{named, numbered}
-use Rattle.numbered_variables.proofs.Numbered.{Good, And, Those, apart_if, named_at, named_good, named_off, numbered_good, numbered_off, numbered_order}
+use Rattle.dense_variables.proofs.numbered.Numbered.{Good, And, Those, apart_if, named_at, named_good, named_off, numbered_good, numbered_off, numbered_order}
 
 or_later : {P : Type 0} (a b : Bool) → (a || b) ≡ true → (a ≡ true → P) → (b ≡ true → P) → P
 or_later true b e f g = f refl

@@ -9,9 +9,9 @@ use Rattle.core_ir.specs.Uses.{AvoidsAll, Avoids, AvoidsRight}
 use Rattle.core_forms.specs.inlining.Inlined.{bindings, results}
 use Rattle.core_forms.proofs.inlined_bodies.Names.{Names, both, same}
 use Rattle.core_subst.specs.Names.{variable}
-use Rattle.core_copy.specs.Mapped.{mapped}
+use Rattle.core_subst.specs.copy.Mapped.{mapped}
 use Rattle.folded_parts.specs.Folding.{BlockFolded, RightFolded, ends, takes, keeps, stays, branches, turns, copied, copy_binds, last_copy, taken}
-use Rattle.numbered_variables.proofs.Numbered.{apart_if}
+use Rattle.dense_variables.proofs.numbered.Numbered.{apart_if}
 use Rattle.fold_walk.proofs.fold_laws.Copied.{IsSameOrNew, renumbered, same_or_new}
 use Rattle.fold_walk.proofs.fold_laws.Avoiding.{avoids_mapped}
 use Rattle.fold_walk.proofs.fold_laws.Chosen.{chosen_is, Single, SingleRight}

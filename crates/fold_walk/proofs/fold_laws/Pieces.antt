@@ -18,8 +18,8 @@ use Rattle.core_facts.specs.Facts.{Facts, in_part}
 use Rattle.core_forms.proofs.inlined_bodies.Names.{Names, Fresh, fresh_more, fresh_below, clash, none_at, in_none, behind_first, both}
 use Rattle.core_forms.proofs.inlined_bodies.Names as names
 use Rattle.core_subst.specs.Names.{variable}
-use Rattle.core_copy.specs.Mapped.{mapped}
-use Rattle.core_copy.proofs.Renaming.{bound_mapped}
+use Rattle.core_subst.specs.copy.Mapped.{mapped}
+use Rattle.core_subst.proofs.copy.Renaming.{bound_mapped}
 use Rattle.core_loops.specs.Indices.{own_index}
 use Rattle.core_loops.specs.Pairs.{Producer, Selects, offsets, grids_of}
 use Rattle.core_loops.specs.Steps.{Folded, PiecesFold}

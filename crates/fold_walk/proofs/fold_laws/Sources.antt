@@ -13,7 +13,7 @@ use Rattle.core_facts.specs.Facts.{Fact, Facts, note_all, right_facts, block_fac
 use Rattle.core_forms.specs.inlining.Inlined.{bindings, results}
 use Rattle.core_forms.proofs.inlining.Bodies.{results_mapped}
 use Rattle.core_forms.proofs.inlined_bodies.Names.{Names, clash, in_none, distinct_left, distinct_right, bound_bindings}
-use Rattle.core_copy.proofs.Renaming.{bound_mapped}
+use Rattle.core_subst.proofs.copy.Renaming.{bound_mapped}
 use Rattle.core_loops.specs.Pairs.{TotalParts, one_scalar}
 use Rattle.core_forms.specs.norm.Copied.{AreFrom}
 use Rattle.core_forms.proofs.norm.Named.{order_between, order_distinct}

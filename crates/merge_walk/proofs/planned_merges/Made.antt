@@ -8,8 +8,8 @@ use Rattle.core_ir.specs.Binders.{bound_in, bound_in_parts}
 use Rattle.core_ir.specs.Terms.{PlainTerm, BlockTerm, PartsTerm, LetTerm, PartTerm, PartHead, Plain, NoParts, Part, chain, parts_of}
 use Rattle.core_ir.specs.Uses.{targets_of}
 use Rattle.core_ir.specs.WellFormed.{Distinct}
-use Rattle.core_copy.specs.Mapped.{mapped}
-use Rattle.core_copy.proofs.Renaming.{bound_mapped}
+use Rattle.core_subst.specs.copy.Mapped.{mapped}
+use Rattle.core_subst.proofs.copy.Renaming.{bound_mapped}
 use Rattle.core_subst.specs.Names.{variable}
 use Rattle.core_forms.specs.merge.Built.{AllParts, picks}
 use Rattle.core_forms.proofs.merge.Straight.{chain_append}

@@ -13,7 +13,7 @@ use Rattle.core_ir.specs.Uses.{AvoidsParts, targets_of}
 use Rattle.core_ir.specs.WellFormed.{Distinct, part_grids}
 use Rattle.core_ir.proofs.Variables.{or_false}
 use Rattle.core_facts.specs.Facts.{Facts, in_part}
-use Rattle.core_copy.specs.Mapped.{mapped}
+use Rattle.core_subst.specs.copy.Mapped.{mapped}
 use Rattle.core_loops.specs.Indices.{own_index}
 use Rattle.core_loops.specs.Pairs.{IsNest, Nests}
 use Rattle.core_loops.specs.Steps.{append_parts}

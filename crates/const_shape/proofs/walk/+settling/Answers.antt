@@ -7,9 +7,9 @@ use Rattle.core_facts.specs.Facts.{block_facts, common_facts, note_all, right_fa
 use Rattle.core_forms.specs.cleaning.Checks.{simplified, simplified_right}
 use Rattle.fact_table.specs.Table.{facts_of}
 use Rattle.plain_facts.specs.Called.{shapes_of}
-use Rattle.scoped_table.proofs.Marks.{earlier_on, none_gone}
+use Rattle.fact_table.proofs.scoped_table.Marks.{earlier_on, none_gone}
 use Rattle.const_shape.proofs.Steps.{let_turn, known_turn, none_left, block_end, known_end, with_end, parted_settled, choice_end, turns_end}
-use Rattle.known_rights.proofs.Told.{holds_of, holds_on, known_here, known_of, with_known}
+use Rattle.plain_facts.proofs.known_rights.Told.{holds_of, holds_on, known_here, known_of, with_known}
 use Rattle.const_shape.proofs.walk.+settling.Goals as goal
 
 pub settle_block-loop-binding-init : goal.settle_block-loop-binding-init

@@ -2,7 +2,7 @@ use Rattle.std.proofs.Common.{◌≡◌, ap, ◌∙◌, List, map}
 use Rattle.sac_base.specs.declared.types.ArrayType.{ArrayType}
 use Rattle.core_ir.specs.declared.tree.Var.{Var}
 use Rattle.core_ir.specs.View.{fun_term}
-use Rattle.core_copy.specs.Mapped.{mapped}
+use Rattle.core_subst.specs.copy.Mapped.{mapped}
 use Rattle.core_subst.specs.Names.{above_all}
 use Rattle.parted_bodies.specs.Numbering.{named_in, numbered}
 use Rattle.dense_variables.specs.Dense.{behind_params, number_in}

@@ -2,7 +2,7 @@ use Rattle.std.proofs.Common.{◌≡◌, true, false, sym, subst, refl, ◌∙�
 use Rattle.std.specs.List.{All}
 use Rattle.std.proofs.lemmas.List.{take_all}
 use Rattle.std.proofs.lemmas.List.Elements.{All-more, All-map}
-use Rattle.moved_grids.specs.Within.{IsWithin}
+use Rattle.grid_spans.specs.moved.Within.{IsWithin}
 use Rattle.fold_pieces.proofs.Insides.{IsIn, Here, here_in, here_out, at_place}
 use Rattle.fold_pieces.proofs.within.is_inside.Goals as goal
 

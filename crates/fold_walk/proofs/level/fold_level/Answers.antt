@@ -4,7 +4,7 @@ use Rattle.core_ir.specs.View.{let_term}
 use Rattle.fact_table.specs.Notes.{Note}
 use Rattle.fact_table.specs.Table.{facts_of}
 use Rattle.plain_facts.specs.Called.{shapes_of}
-use Rattle.scoped_table.proofs.Marks.{earlier_on, none_gone}
+use Rattle.fact_table.proofs.scoped_table.Marks.{earlier_on, none_gone}
 use Rattle.fold_walk.specs.Walking.{state_of}
 use Rattle.binding_users.specs.Users.{AreUsers}
 use Rattle.fold_walk.proofs.Levels.{level_end, level_first, level_turn, turn_inside, users_behind}

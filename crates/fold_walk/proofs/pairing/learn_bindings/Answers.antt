@@ -1,4 +1,4 @@
-use Rattle.scoped_table.proofs.Marks.{earlier_on, none_gone}
+use Rattle.fact_table.proofs.scoped_table.Marks.{earlier_on, none_gone}
 use Rattle.fact_table.specs.Table.{facts_of}
 use Rattle.plain_facts.specs.Called.{shapes_of}
 use Rattle.fold_walk.proofs.Learned.{back_end, back_first, back_turn}

@@ -3,7 +3,7 @@ use Rattle.core_ir.specs.View.{let_term}
 use Rattle.core_loops.specs.Steps.{facts_after}
 use Rattle.fact_table.specs.Table.{facts_of}
 use Rattle.plain_facts.specs.Called.{shapes_of}
-use Rattle.scoped_table.proofs.Marks.{earlier_on}
+use Rattle.fact_table.proofs.scoped_table.Marks.{earlier_on}
 use Rattle.fold_walk.proofs.Learned.{after_turn, results_known}
 use Rattle.fold_walk.proofs.values.+knowing.Goals as goal
 

@@ -2,7 +2,7 @@ use Rattle.std.proofs.Common.{◌-◌, ◌∙◌, [], ◌∷◌, ap, refl, sym, 
 use Rattle.std.specs.Prelude.{drop}
 use Rattle.fact_table.specs.Table.{facts_of}
 use Rattle.plain_facts.specs.Called.{shapes_of}
-use Rattle.scoped_table.proofs.Marks.{earlier_on, none_gone}
+use Rattle.fact_table.proofs.scoped_table.Marks.{earlier_on, none_gone}
 use Rattle.core_ir.specs.declared.tree.Block.{out-Block}
 use Rattle.core_ir.specs.declared.tree.CoreGen.{out-CoreGen}
 use Rattle.core_ir.specs.declared.tree.CorePart.{out-CorePart}

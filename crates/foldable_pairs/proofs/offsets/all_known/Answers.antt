@@ -1,6 +1,6 @@
 use Rattle.std.proofs.Common.{ap, Ok}
 use Rattle.fold_pieces.specs.Pieces.{vectors}
-use Rattle.loop_selections.specs.Told.{told}
+use Rattle.total_cells.specs.loop_selections.Told.{told}
 use Rattle.foldable_pairs.proofs.Selecting.{somes, known_turn, known_end, known_none}
 use Rattle.foldable_pairs.proofs.offsets.all_known.Goals as goal
 

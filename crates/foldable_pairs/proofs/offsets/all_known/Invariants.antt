@@ -1,6 +1,6 @@
 use Rattle.std.proofs.Common.{◌≡◌, ◌++◌, drop}
 use Rattle.fold_pieces.specs.Pieces.{vectors}
-use Rattle.loop_selections.specs.Told.{told}
+use Rattle.total_cells.specs.loop_selections.Told.{told}
 use Rattle.foldable_pairs.proofs.Selecting.{somes}
 use Rattle.foldable_pairs.proofs.offsets.all_known.Given as goal
 

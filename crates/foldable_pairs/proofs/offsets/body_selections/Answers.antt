@@ -7,7 +7,7 @@ use Rattle.core_loops.specs.Indices.{note_index, Plus, Other}
 use Rattle.core_loops.specs.Pairs.{offsets}
 use Rattle.fact_table.specs.Table.{fact_of, facts_of}
 use Rattle.index_table.specs.Table.{indices_of}
-use Rattle.loop_selections.specs.Told.{seen, told}
+use Rattle.total_cells.specs.loop_selections.Told.{seen, told}
 use Rattle.plain_facts.specs.Called.{shapes_of}
 use Rattle.foldable_pairs.proofs.Selecting.{is_known}
 use Rattle.foldable_pairs.proofs.offsets.body_selections.Goals as goal

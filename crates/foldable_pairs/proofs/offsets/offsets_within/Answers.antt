@@ -1,8 +1,8 @@
 use Rattle.std.proofs.Common.{rules, ◌≡◌, List, ℤ, subst, true}
 use Rattle.core_ir.specs.View.{part_term}
 use Rattle.fact_table.specs.Table.{facts_of}
-use Rattle.loop_selections.specs.Selecting.{is_selecting}
-use Rattle.loop_selections.specs.Told.{told}
+use Rattle.total_cells.specs.loop_selections.Selecting.{is_selecting}
+use Rattle.total_cells.specs.loop_selections.Told.{told}
 use Rattle.plain_facts.specs.Called.{shapes_of}
 use Rattle.foldable_pairs.specs.Selected.{part_offsets}
 use Rattle.foldable_pairs.proofs.Selecting.{somes, flat_unknown}

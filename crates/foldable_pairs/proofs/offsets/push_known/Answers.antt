@@ -1,6 +1,6 @@
 use Rattle.std.proofs.Common.{rules, ◌≡◌, ◌++◌, ◌∷◌, [], Some, ap, sym, ◌∙◌}
 use Rattle.fold_pieces.specs.Pieces.{vectors}
-use Rattle.loop_selections.specs.Told.{offset_told}
+use Rattle.total_cells.specs.loop_selections.Told.{offset_told}
 use Rattle.foldable_pairs.proofs.Selecting.{somes, pushed_known}
 use Rattle.foldable_pairs.proofs.offsets.push_known.Goals as goal
 

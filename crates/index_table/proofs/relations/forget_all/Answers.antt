@@ -4,7 +4,7 @@ use Rattle.core_ir.specs.declared.tree.Var.{Var}
 use Rattle.core_loops.specs.Indices.{note_others}
 use Rattle.index_table.specs.Notes.{Note}
 use Rattle.index_table.specs.Table.{indices_of}
-use Rattle.scoped_table.proofs.Marks.{behind_more}
+use Rattle.fact_table.proofs.scoped_table.Marks.{behind_more}
 use Rattle.index_table.proofs.relations.forget_all.Goals as goal
 
 pub loop-x-preserved : goal.loop-x-preserved

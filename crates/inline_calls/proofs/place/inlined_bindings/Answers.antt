@@ -2,7 +2,7 @@ use Rattle.std.proofs.Common.{◌++◌, ◌∙◌, ap, map}
 use Rattle.sac_base.specs.declared.types.ArrayType.{ArrayType}
 use Rattle.core_ir.specs.declared.tree.Var.{Var}
 use Rattle.core_ir.specs.View.{block_term, fun_term, let_term}
-use Rattle.core_copy.specs.Mapped.{raised_within}
+use Rattle.core_subst.specs.copy.Mapped.{raised_within}
 use Rattle.core_forms.specs.inlining.Inlined.{checks}
 use Rattle.inline_calls.proofs.Steps.{placed}
 use Rattle.inline_calls.proofs.place.inlined_bindings.Goals as goal

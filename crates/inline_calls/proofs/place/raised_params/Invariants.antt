@@ -1,5 +1,5 @@
 use Rattle.std.proofs.Common.{◌≡◌, map, take}
-use Rattle.core_copy.specs.Mapped.{raised_within}
+use Rattle.core_subst.specs.copy.Mapped.{raised_within}
 use Rattle.inline_calls.proofs.place.raised_params.Given as goal
 
 abbrev pub invariant-loop-var : goal.invariant-loop-var

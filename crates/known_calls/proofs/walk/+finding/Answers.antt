@@ -7,7 +7,7 @@ use Rattle.fact_table.specs.Table.{facts_of}
 use Rattle.plain_facts.specs.Called.{shapes_of}
 use Rattle.known_calls.specs.Told.{told, known_gen, known_part}
 use Rattle.known_calls.proofs.Finding.{let_turn, facts_turn, gen_turn, part_turn, lets_end, known_end, gens_end, parts_end, drop_over, on_ok}
-use Rattle.scoped_table.proofs.Marks.{earlier_on}
+use Rattle.fact_table.proofs.scoped_table.Marks.{earlier_on}
 use Rattle.known_calls.proofs.walk.+finding.Goals as goal
 
 pub find_in_block-loop-binding-preserved : goal.find_in_block-loop-binding-preserved

@@ -4,7 +4,7 @@ use Rattle.core_ir.specs.Terms.{PartTerm}
 use Rattle.core_ir.specs.View.{let_term}
 use Rattle.fact_table.specs.Table.{facts_of}
 use Rattle.plain_facts.specs.Called.{shapes_of}
-use Rattle.scalarisable_loops.specs.Around.{are_total}
+use Rattle.merge_plans.specs.scalarisable.Around.{are_total}
 use Rattle.merge_plans.proofs.Parts.{part_out}
 use Rattle.merge_plans.proofs.judging.is_passed.Goals as goal
 

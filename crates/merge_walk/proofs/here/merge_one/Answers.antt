@@ -1,6 +1,6 @@
 use Rattle.fact_table.specs.Table.{facts_of}
 use Rattle.plain_facts.specs.Called.{shapes_of}
-use Rattle.known_rights.proofs.Told.{known_here}
+use Rattle.plain_facts.proofs.known_rights.Told.{known_here}
 use Rattle.merge_walk.proofs.Loops.{here_end, other_kept}
 use Rattle.merge_walk.proofs.here.merge_one.Goals as goal
 

@@ -3,7 +3,7 @@ use Rattle.std.specs.Prelude.{drop}
 use Rattle.fact_table.specs.Notes.{Note}
 use Rattle.fact_table.specs.Table.{facts_of}
 use Rattle.plain_facts.specs.Called.{shapes_of}
-use Rattle.scoped_table.proofs.Marks.{earlier_on, none_gone}
+use Rattle.fact_table.proofs.scoped_table.Marks.{earlier_on, none_gone}
 use Rattle.core_ir.specs.declared.tree.CoreGen.{out-CoreGen}
 use Rattle.core_ir.specs.declared.tree.CorePart.{out-CorePart}
 use Rattle.core_ir.specs.declared.tree.Let.{Let}
@@ -15,8 +15,8 @@ use Rattle.core_loops.specs.Steps.{facts_after}
 use Rattle.merge_walk.specs.Lists.{GenWalked, PartWalked}
 use Rattle.merge_walk.specs.Walking.{BlockWalked, RightWalked}
 use Rattle.merge_walk.proofs.Ends.{binding_end, call_end, choice_end, cut_end, earlier_end, gen_end, generators_end, known_at, learned_end, other_walked, part_end, turns_end}
-use Rattle.known_rights.proofs.Told.{holds_of, holds_on, known_here, known_of, with_known}
-use Rattle.known_rights.proofs.Plain.{IsOther, other_facts}
+use Rattle.plain_facts.proofs.known_rights.Told.{holds_of, holds_on, known_here, known_of, with_known}
+use Rattle.plain_facts.proofs.known_rights.Plain.{IsOther, other_facts}
 use Rattle.core_ir.specs.Terms.{RightTerm}
 use Rattle.core_facts.specs.Facts.{block_facts, common_facts, right_facts}
 use Rattle.merge_walk.proofs.Turns.{block_end, facts_turn, gens_begin, gens_turn, known_end, lets_begin, lets_turn, none_left, parts_begin, parts_turn}

@@ -11,7 +11,7 @@ use Rattle.variable_bases.specs.Table.{base_in}
 use Rattle.norm_walk.specs.declared.parting.BasedPlan.{BasedPlan}
 use Rattle.norm_walk.specs.Replacing.{IsLeft, IsPlanned}
 use Rattle.norm_walk.proofs.Ends.{replaced_lent, unchanged_end}
-use Rattle.known_rights.proofs.Told.{with_known}
+use Rattle.plain_facts.proofs.known_rights.Told.{with_known}
 use Rattle.core_ir.specs.declared.tree.WithLoop.{roll-WithLoop}
 use Rattle.norm_walk.proofs.parting.replace_with.Goals as goal
 

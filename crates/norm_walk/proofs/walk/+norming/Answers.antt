@@ -3,7 +3,7 @@ use Rattle.std.specs.Prelude.{drop}
 use Rattle.fact_table.specs.Table.{facts_of}
 use Rattle.plain_facts.specs.Called.{shapes_of}
 use Rattle.variable_bases.specs.Table.{base_in}
-use Rattle.scoped_table.proofs.Marks.{earlier_on, none_gone}
+use Rattle.fact_table.proofs.scoped_table.Marks.{earlier_on, none_gone}
 use Rattle.norm_walk.proofs.Noting.{none_left}
 use Rattle.core_ir.specs.declared.tree.CoreGen.{CoreGen, out-CoreGen}
 use Rattle.core_ir.specs.declared.tree.CorePart.{out-CorePart}
@@ -13,8 +13,8 @@ use Rattle.fact_table.specs.Notes.{Note}
 use Rattle.core_facts.specs.Facts.{Facts, block_facts, common_facts, note_all, right_facts}
 use Rattle.norm_walk.specs.Replacing.{BlockWalked, RightWalked, GensWalked, GenWalked, PartWalked}
 use Rattle.norm_walk.proofs.Ends.{gen_end, part_end, let_end, with_end, parted_end, choice_end, turns_end, call_end, other_walked}
-use Rattle.known_rights.proofs.Told.{holds_of, holds_on, known_here, known_of}
-use Rattle.known_rights.proofs.Plain.{IsOther, other_facts}
+use Rattle.plain_facts.proofs.known_rights.Told.{holds_of, holds_on, known_here, known_of}
+use Rattle.plain_facts.proofs.known_rights.Plain.{IsOther, other_facts}
 use Rattle.norm_walk.proofs.Walking.{going_first, going_on, block_walked, block_known, gens_first, gens_on, gens_done, parts_first, parts_on}
 use Rattle.norm_walk.proofs.walk.+norming.Goals as goal
 

@@ -2,9 +2,9 @@ use Rattle.std.proofs.Common.{◌≡◌, ℕ, ◌+◌, ◌<◌, List, [], ◌∷
 use Rattle.std.proofs.lemmas.List.{map_more, map-append}
 use Rattle.core_ir.specs.Terms.{PlainTerm, RightTerm, Plain}
 use Rattle.core_ir.specs.View.{right_term, let_term, gen_term, part_term}
-use Rattle.core_copy.specs.Mapped.{mapped_right, mapped_let, mapped_gen, mapped_part}
+use Rattle.core_subst.specs.copy.Mapped.{mapped_right, mapped_let, mapped_gen, mapped_part}
 use Rattle.parted_bodies.specs.Numbering.{named_in}
-use Rattle.core_copy.proofs.Steps.{mapped_whole, block_copied, with_copied, parted_copied}
+use Rattle.core_subst.proofs.copy.Steps.{mapped_whole, block_copied, with_copied, parted_copied}
 use Rattle.parted_bodies.proofs.copying.+copying.Goals as goal
 
 -- an item more has its copy

@@ -1,6 +1,6 @@
 use Rattle.std.proofs.Common.{◌≡◌, map, take}
 use Rattle.core_ir.specs.View.{let_term, gen_term, part_term}
-use Rattle.core_copy.specs.Mapped.{mapped_let, mapped_gen, mapped_part}
+use Rattle.core_subst.specs.copy.Mapped.{mapped_let, mapped_gen, mapped_part}
 use Rattle.parted_bodies.specs.Numbering.{named_in}
 use Rattle.parted_bodies.proofs.copying.+copying.Given as goal
 

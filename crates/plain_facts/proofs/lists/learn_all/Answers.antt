@@ -4,7 +4,7 @@ use Rattle.core_ir.specs.declared.tree.Var.{Var}
 use Rattle.core_facts.specs.Facts.{note_all}
 use Rattle.fact_table.specs.Notes.{Note}
 use Rattle.fact_table.specs.Table.{fact_of, facts_of}
-use Rattle.scoped_table.proofs.Marks.{behind_more}
+use Rattle.fact_table.proofs.scoped_table.Marks.{behind_more}
 use Rattle.plain_facts.proofs.lists.learn_all.Goals as goal
 
 pub loop-x-preserved : goal.loop-x-preserved

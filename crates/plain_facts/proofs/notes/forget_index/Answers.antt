@@ -1,5 +1,5 @@
 use Rattle.std.proofs.lemmas.Result.{on_ok_weaker}
-use Rattle.scoped_table.proofs.Marks.{one_earlier}
+use Rattle.fact_table.proofs.scoped_table.Marks.{one_earlier}
 use Rattle.plain_facts.proofs.notes.forget_index.Goals as goal
 
 pub returns-clause-behind : goal.returns-clause-behind

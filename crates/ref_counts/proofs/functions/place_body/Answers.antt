@@ -2,7 +2,7 @@ use Rattle.std.proofs.Common.{◌≡◌, [], sym, subst, ◌∙◌}
 use Rattle.std.specs.Prelude.{IfOk}
 use Rattle.core_ir.specs.View.{block_term}
 use Rattle.counted_code.specs.View.{code_term}
-use Rattle.listed_uses.specs.Latest.{section}
+use Rattle.ref_rules.specs.listed_uses.Latest.{section}
 use Rattle.counted_laws.specs.placing.Placing.{placing}
 use Rattle.ref_counts.specs.Listing.{listed}
 use Rattle.ref_counts.proofs.Collected.{append_nil}

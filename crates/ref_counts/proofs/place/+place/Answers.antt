@@ -6,8 +6,8 @@ use Rattle.core_ir.specs.declared.tree.PartedLoop.{out-PartedLoop}
 use Rattle.core_ir.specs.Scopes.{op_uses, parted_uses, head_uses}
 use Rattle.core_ir.specs.Terms.{Gives, chain}
 use Rattle.core_ir.specs.View.{block_term, let_term, right_term, gen_term, part_term}
-use Rattle.listed_uses.specs.declared.list.Entry.TheVariants.{Use, Section}
-use Rattle.listed_uses.specs.Latest.{section}
+use Rattle.ref_rules.specs.declared.listed_uses.list.Entry.TheVariants.{Use, Section}
+use Rattle.ref_rules.specs.listed_uses.Latest.{section}
 use Rattle.counted_laws.specs.placing.Placing.{placing_right}
 use Rattle.ref_counts.specs.Listing.{each, listed, listed_right}
 use Rattle.ref_counts.specs.Owning.{owned_vars}

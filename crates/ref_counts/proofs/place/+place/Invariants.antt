@@ -1,8 +1,8 @@
 use Rattle.std.proofs.Common.{◌≡◌, List, ◌++◌, drop, take, map}
 use Rattle.core_ir.specs.View.{block_term, with_term, parted_term, gen_term, part_term}
 use Rattle.core_ir.specs.declared.tree.Block.{out-Block}
-use Rattle.listed_uses.specs.declared.list.Entry.{Entry}
-use Rattle.listed_uses.specs.Latest.{section}
+use Rattle.ref_rules.specs.declared.listed_uses.list.Entry.{Entry}
+use Rattle.ref_rules.specs.listed_uses.Latest.{section}
 use Rattle.ref_counts.specs.Listing.{listed, listed_right}
 use Rattle.ref_counts.specs.Pieces.{code_gen_term, code_part_term, placing_gen, placing_part}
 use Rattle.ref_counts.proofs.Collected.{gen_listed, part_listed}

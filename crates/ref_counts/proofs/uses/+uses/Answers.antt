@@ -1,6 +1,6 @@
 use Rattle.std.proofs.Common.{◌++◌, drop, ◌+◌, arith, ap, ◌∙◌}
 use Rattle.core_ir.specs.View.{right_term}
-use Rattle.listed_uses.specs.Latest.{section}
+use Rattle.ref_rules.specs.listed_uses.Latest.{section}
 use Rattle.ref_counts.specs.Listing.{each, listed_right}
 use Rattle.ref_counts.proofs.Blocks.{item_here}
 use Rattle.ref_counts.proofs.Collected.{closed, block_collected, let_collected, with_collected, parted_collected}

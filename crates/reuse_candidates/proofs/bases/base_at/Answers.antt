@@ -1,5 +1,5 @@
 use Rattle.std.proofs.Common.{rules, ◌≡◌, Some, None, ap, ◌∙◌}
-use Rattle.scoped_table.specs.Notes.{noted}
+use Rattle.fact_table.specs.scoped_table.Notes.{noted}
 use Rattle.reuse_candidates.specs.Tables.{base_noted}
 use Rattle.reuse_candidates.proofs.BaseNotes.{found}
 use Rattle.reuse_candidates.proofs.bases.base_at.Goals as goal

@@ -3,8 +3,8 @@ use Rattle.std.proofs.lemmas.List.{drop_more}
 use Rattle.sac_base.specs.declared.base.Base.{Base}
 use Rattle.core_ir.specs.declared.tree.Var.{Var}
 use Rattle.counted_marks.specs.Bases.{note_bases}
-use Rattle.scoped_table.specs.Notes.{Note}
-use Rattle.scoped_table.proofs.Marks.{behind_more}
+use Rattle.fact_table.specs.scoped_table.Notes.{Note}
+use Rattle.fact_table.proofs.scoped_table.Marks.{behind_more}
 use Rattle.reuse_candidates.specs.Tables.{bases_of}
 use Rattle.reuse_candidates.proofs.bases.learn_bases.Goals as goal
 

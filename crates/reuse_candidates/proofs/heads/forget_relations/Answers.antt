@@ -4,7 +4,7 @@ use Rattle.core_ir.specs.declared.tree.Var.{Var}
 use Rattle.core_loops.specs.Indices.{note_others}
 use Rattle.index_table.specs.Notes.{Note}
 use Rattle.index_table.specs.Table.{indices_of}
-use Rattle.scoped_table.proofs.Marks.{behind_more}
+use Rattle.fact_table.proofs.scoped_table.Marks.{behind_more}
 use Rattle.reuse_candidates.proofs.heads.forget_relations.Goals as goal
 
 pub loop-var-preserved : goal.loop-var-preserved

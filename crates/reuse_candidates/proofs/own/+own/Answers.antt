@@ -16,7 +16,7 @@ use Rattle.core_uses.specs.Tests.{none_is}
 use Rattle.fact_table.specs.Table.{fact_of, facts_of}
 use Rattle.index_table.specs.Table.{indices_of}
 use Rattle.plain_facts.specs.Called.{shapes_of}
-use Rattle.scoped_table.proofs.Marks.{earlier_on, none_gone, one_earlier}
+use Rattle.fact_table.proofs.scoped_table.Marks.{earlier_on, none_gone, one_earlier}
 use Rattle.reuse_candidates.specs.Pieces.{code_gen_term, code_part_term, own_gen, own_inner_part}
 use Rattle.reuse_candidates.specs.Told.{known_if, seen}
 use Rattle.reuse_candidates.proofs.OwnEnds.{with_used, with_stopped, with_passed, parted_used, parted_stopped, parted_passed}

@@ -2,7 +2,7 @@ use Rattle.std.proofs.Common.{◌≡◌, ◌∙◌, ap, sym, subst, refl, arith,
 use Rattle.std.specs.Prelude.{slice_get, unwrap_or}
 use Rattle.std.proofs.lemmas.Option.{slice_get-get_or}
 use Rattle.core_ir.specs.View.{core_term}
-use Rattle.core_groups.proofs.Lists.{stands_there}
+use Rattle.specialise.proofs.groups.Lists.{stands_there}
 use Rattle.specialise.specs.Plans.{entries, members}
 use Rattle.specialise.proofs.Progress.{grows_itself, grows_through, grows_place, planned_place, enough_place, place_done, all_places, no_room}
 use Rattle.specialise.proofs.serve.serve_call.Goals as goal

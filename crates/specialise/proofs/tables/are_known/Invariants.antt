@@ -1,5 +1,5 @@
 use Rattle.std.proofs.Common.{◌≡◌, drop}
-use Rattle.core_groups.specs.Specialised.{all_known}
+use Rattle.specialise.specs.groups.Specialised.{all_known}
 use Rattle.specialise.proofs.tables.are_known.Given as goal
 
 abbrev pub invariant-loop-k : goal.invariant-loop-k

@@ -1,6 +1,6 @@
 use Rattle.std.proofs.Common.{◌≡◌, ◌↔◌, IsTrue, List, map, subst, ℤ, pos}
 use Rattle.sac_base.specs.declared.grid.Grid1.{Grid1}
-use Rattle.moved_grids.specs.Within.{HaveMembers}
+use Rattle.grid_spans.specs.moved.Within.{HaveMembers}
 use Rattle.total_cells.specs.Inside.{AreInside}
 use Rattle.total_cells.proofs.InsideFacts.{inside_is, nowhere_is}
 use Rattle.total_cells.proofs.inside.is_inside.Goals as goal

@@ -9,7 +9,7 @@ use Rattle.index_table.specs.Table.{indices_of}
 use Rattle.plain_facts.specs.Called.{shapes_of}
 use Rattle.std.proofs.lemmas.List.{drop_more}
 use Rattle.total_cells.specs.Totals.{known_if, seen}
-use Rattle.scoped_table.proofs.Marks.{earlier_on, none_gone}
+use Rattle.fact_table.proofs.scoped_table.Marks.{earlier_on, none_gone}
 use Rattle.total_cells.proofs.WalkFacts.{total_turn, known_turn, block_known, block_unknown, is_known, is_unknown, choice_known, choice_unknown}
 use Rattle.total_cells.proofs.walk.+total.Goals as goal
 use Rattle.total_cells.proofs.walk.+total.Goals.{total_results-then-branch+in_ok-known_of, total_results-else-branch}

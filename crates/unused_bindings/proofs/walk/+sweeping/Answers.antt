@@ -6,7 +6,7 @@ use Rattle.core_ir.specs.View.{let_term}
 use Rattle.core_forms.specs.cleaning.Unused.{swept}
 use Rattle.fact_table.specs.Table.{facts_of}
 use Rattle.plain_facts.specs.Called.{shapes_of}
-use Rattle.scoped_table.proofs.Marks.{earlier_on, none_gone}
+use Rattle.fact_table.proofs.scoped_table.Marks.{earlier_on, none_gone}
 use Rattle.unused_bindings.specs.declared.swept.SweptLet.{SweptLet}
 use Rattle.unused_bindings.specs.Passed.{passed_term}
 use Rattle.unused_bindings.specs.Swept.{needed_before}

@@ -6,14 +6,14 @@ use Rattle.core_ir.specs.View.{block_term, let_term, gen_term, part_term, parted
 use Rattle.core_forms.specs.selections.Vectors.{vectored, vectored_right, next_right}
 use Rattle.fact_table.specs.Table.{facts_of}
 use Rattle.plain_facts.specs.Called.{shapes_of}
-use Rattle.scoped_table.proofs.Marks.{earlier_on, none_gone}
+use Rattle.fact_table.proofs.scoped_table.Marks.{earlier_on, none_gone}
 use Rattle.vector_selections.specs.Vectored.{vectored_gen, next_gen, vectored_part, next_part}
 use Rattle.vector_selections.proofs.Turns.{let_turn, next_turn, known_turn, none_left, block_end, next_end, known_end, gen_turn, gen_number, part_turn, part_number, with_end, with_number, parted_end, parted_number}
 use Rattle.core_ir.specs.declared.tree.CoreGen.{out-CoreGen}
 use Rattle.core_facts.specs.Facts.{block_facts, common_facts, note_all, right_facts}
 use Rattle.vector_selections.proofs.Ends.{gen_end, gen_next, part_end, part_next, choice_end, choice_next, turns_end, turns_next, other_vectored, other_next, parted_known}
-use Rattle.known_rights.proofs.Told.{holds_of, holds_on, told_as}
-use Rattle.known_rights.proofs.Plain.{IsOther, other_facts}
+use Rattle.plain_facts.proofs.known_rights.Told.{holds_of, holds_on, told_as}
+use Rattle.plain_facts.proofs.known_rights.Plain.{IsOther, other_facts}
 use Rattle.core_ir.specs.declared.tree.PartedLoop.{out-PartedLoop}
 use Rattle.core_ir.proofs.Trees.{with_out}
 use Rattle.vector_selections.proofs.walk.+vectoring.Goals as goal

@@ -1,6 +1,6 @@
 use Rattle.std.proofs.Common.{rules, ◌≡◌, Some, None, ap, ◌∙◌}
 use Rattle.std.specs.Prelude.{unwrap_or}
-use Rattle.scoped_table.specs.Notes.{noted}
+use Rattle.fact_table.specs.scoped_table.Notes.{noted}
 use Rattle.copy_propagation.specs.Table.{source_in}
 use Rattle.copy_propagation.proofs.NoteFacts.{found}
 use Rattle.copy_propagation.proofs.sources.Sources.source.Goals as goal

@@ -1,5 +1,5 @@
 use Rattle.std.proofs.Common.{rules, ◌≡◌, Some, None, ap, ◌∙◌, sym}
-use Rattle.scoped_table.specs.Notes.{noted}
+use Rattle.fact_table.specs.scoped_table.Notes.{noted}
 use Rattle.fact_table.specs.Table.{fact_or_none, facts_of}
 use Rattle.fact_table.proofs.NoteFacts.{found}
 use Rattle.fact_table.proofs.table.FactTable.fact.Goals as goal

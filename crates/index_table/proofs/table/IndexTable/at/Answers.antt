@@ -1,5 +1,5 @@
 use Rattle.std.proofs.Common.{rules, ◌≡◌, Some, None, ap, ◌∙◌, sym}
-use Rattle.scoped_table.specs.Notes.{noted}
+use Rattle.fact_table.specs.scoped_table.Notes.{noted}
 use Rattle.index_table.specs.Table.{index_or_other, indices_of}
 use Rattle.index_table.proofs.NoteFacts.{found}
 use Rattle.index_table.proofs.table.IndexTable.at.Goals as goal

@@ -1,4 +1,4 @@
-use Rattle.scoped_table.proofs.Marks.{one_earlier}
+use Rattle.fact_table.proofs.scoped_table.Marks.{one_earlier}
 use Rattle.reuse_candidates.proofs.scope.Scope.enter_gen.Goals as goal
 
 pub returns-clause-behind : goal.returns-clause-behind

@@ -1,6 +1,0 @@
-//! Copies of blocks with other variables.
-#![tactic(auto)]
-
-mod raising;
-
-pub use raising::{copy_raised, raise};

@@ -1,6 +1,0 @@
-//! Blocks and right sides that a walk makes anew, with what is known of their values.
-#![tactic(auto)]
-
-mod known;
-
-pub use known::{KnownBlock, KnownRight};

@@ -1,8 +1,0 @@
-use Rattle.listed_uses.proofs.Recorded.{IsLastFrom}
-use Rattle.listed_uses.proofs.list.Uses.used_before.Given as goal
-
-abbrev pub invariant-loop-behind : goal.invariant-loop-behind
-invariant-loop-behind l = IsLastFrom l.self-inside.entries.items l.fn.x l.end l.behind
-
-abbrev pub decreases-loop-behind : goal.decreases-loop-behind
-decreases-loop-behind l = l.behind

@@ -1,6 +1,0 @@
-ghost use Rattle.loop_selections.specs.Statements.{SelectingIsDecided};
-
-/// Law: the test of the walk is true exactly where a block uses the variable in selections from it alone, and has no with-loop and no parted loop.
-pub fn selecting()
-    ensures { SelectingIsDecided }
-{}

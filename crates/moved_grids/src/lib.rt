@@ -1,6 +1,0 @@
-//! Whether a grid that is moved lies inside of another.
-#![tactic(auto)]
-
-mod inside;
-
-pub use inside::{first_number, has_members, is_within, other_numbers};

@@ -1,9 +1,0 @@
-use Rattle.numbered_variables.proofs.Numbered.{numbered_order}
-use Rattle.numbered_variables.proofs.Apart.{kept_apart}
-use Rattle.numbered_variables.proofs.numbers_keep_apart.Goals as goal
-
-pub returns-clause-order : goal.returns-clause-order
-returns-clause-order c = numbered_order
-
-pub returns-clause-apart : goal.returns-clause-apart
-returns-clause-apart c = kept_apart

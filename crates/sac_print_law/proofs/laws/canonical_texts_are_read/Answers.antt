@@ -1,5 +1,0 @@
-use Rattle.sac_print_law.proofs.Sources.{read_again, nested_again, few_tokens}
-use Rattle.sac_print_law.proofs.laws.canonical_texts_are_read.Goals as goal
-
-pub returns : goal.returns
-returns c = record { read_again = read_again; nested_again = nested_again; few_tokens = few_tokens }

@@ -1,8 +1,0 @@
-//! The law of the canonical text: what is printed is read as the same tree.
-//!
-//! It stands on the definitions of the lexer, the grammar and the printer, and has no code of its own.
-#![tactic(auto)]
-
-mod laws;
-
-pub use laws::canonical_texts_are_read;

@@ -1,7 +1,0 @@
-use Rattle.std.proofs.Common.{◌≡◌, drop, map}
-use Rattle.core_ir.specs.View.{let_term}
-use Rattle.scalarisable_loops.specs.Around.{none_uses}
-use Rattle.scalarisable_loops.proofs.around.none_use.Given as goal
-
-abbrev pub invariant-loop-binding : goal.invariant-loop-binding
-invariant-loop-binding l = none_uses l.x (map let_term (drop l.binding-index l.bindings)) ≡ none_uses l.x (map let_term l.bindings)

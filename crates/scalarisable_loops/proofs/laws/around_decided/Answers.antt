@@ -1,8 +1,0 @@
-use Rattle.scalarisable_loops.proofs.Decided.{totals_decided, uses_decided}
-use Rattle.scalarisable_loops.proofs.laws.around_decided.Goals as goal
-
-pub returns-clause-uses : goal.returns-clause-uses
-returns-clause-uses c = uses_decided
-
-pub returns-clause-totals : goal.returns-clause-totals
-returns-clause-totals c = totals_decided

@@ -1,7 +1,0 @@
-ghost use Rattle.scalarisable_loops.specs.Laws.{TotalsAreDecided, UsesAreDecided};
-
-/// Law: the tests of `none_use` and `are_passed` are true exactly where bindings around an inner loop do not use it, and never fault.
-pub fn around_decided()
-    ensures uses { UsesAreDecided }
-    ensures totals { TotalsAreDecided }
-{}
