@@ -11,8 +11,8 @@ ghost use Rattle.reuse_candidates.specs.Scopes.{known_in, learned_in, mark_of, o
 
 use crate::bases::{BaseTable, bases_at, learn_bases, learn_ints};
 use core_ir::Var;
-use fact_table::shapes::type_shape;
 use fact_table::scoped_table::ScopedTable;
+use fact_table::shapes::type_shape;
 use fact_table::{FactTable, Known};
 use plain_facts::{forget, forget_index, known_of, learn_all, learn_index};
 use sac_base::{ArrayType, Base, Grid, Memory};
