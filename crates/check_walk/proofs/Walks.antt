@@ -21,7 +21,7 @@ use Rattle.check_rules.specs.declared.violation.Violation.{Violation}
 use Rattle.check_rules.specs.declared.judged.Cell.{Cell}
 use Rattle.check_rules.specs.First.{earlier}
 use Rattle.check_rules.specs.Tables.{among, with_common}
-use Rattle.check_rules.specs.Walk.{Walked, in_value, in_values, in_generator, in_generators, in_statement, in_block, in_targets, repeated_targets, several_targets, call_first, call_bases, choice_found, replaced_first, use_rules, bound_by_both}
+use Rattle.check_rules.specs.Walk.{Walked, in_value, in_values, in_generator, in_generators, in_statement, in_block, in_targets, repeated_targets, several_targets, call_first, call_bases, replaced_first, use_rules, bound_by_both}
 use Rattle.check_rules.proofs.Earliest.{earlier_grouped}
 use denote.Ref.{Bor}
 
@@ -93,23 +93,6 @@ module _ (p : Place) (ss : List Statement) (k : ℕ) (s : Statement) (h : k < le
 
   pub block_names : bound_behind (block (drop (k + 1) ss)) b' ≡ bound_behind (block (drop k ss)) b
   block_names = (λ i. bound_behind (block (drop (k + 1) ss)) (after i)) ∙ ap (λ t. bound_behind t b) (sym next_statement)
-
--- ---- conditional expressions
-
-pub choice_from : (p : Place) (c e f : Tree.Expr) (site : Site) (b b1 b2 : Names) (n n1 n2 : Known) (v1 v2 v3 : Option Violation) (a1 a2 a3 : Option Base)
-    → v1 ≡ (in_value p c b n).first → a1 ≡ (in_value p c b n).base → n1 ≡ (in_value p c b n).known → b1 ≡ b
-    → v2 ≡ (in_value p e b1 n1).first → a2 ≡ (in_value p e b1 n1).base → n2 ≡ (in_value p e b1 n1).known → b2 ≡ b1
-    → v3 ≡ (in_value p f b2 n2).first → a3 ≡ (in_value p f b2 n2).base
-    → choice_found v1 a1 v2 a2 v3 a3 site ≡ (in_value p (Tree.choice c e f site) b n).base
-choice_from p c e f site b b1 b2 n n1 n2 v1 v2 v3 a1 a2 a3 ev1 ea1 en1 eb1 ev2 ea2 en2 eb2 ev3 ea3 =
-    let second = in_value p c b n in
-    let v2' = ev2 ∙ (λ i. (in_value p e (eb1 i) (en1 i)).first) in
-    let a2' = ea2 ∙ (λ i. (in_value p e (eb1 i) (en1 i)).base) in
-    let n2' = en2 ∙ (λ i. (in_value p e (eb1 i) (en1 i)).known) in
-    let b2' = eb2 ∙ eb1 in
-    let v3' = ev3 ∙ (λ i. (in_value p f (b2' i) (n2' i)).first) in
-    let a3' = ea3 ∙ (λ i. (in_value p f (b2' i) (n2' i)).base) in
-    λ i. choice_found (ev1 i) (ea1 i) (v2' i) (a2' i) (v3' i) (a3' i) site
 
 -- ---- assignments
 

@@ -1,21 +1,22 @@
-use Rattle.std.proofs.Common.{rules, ◌≡◌, ℕ, ◌<◌, ◌+◌, ◌++◌, List, [], ◌∷◌, Bor, Option, Some, refl, sym, ap, ◌∙◌, subst, length, take, drop}
+use Rattle.std.proofs.Common.{rules, ◌≡◌, ℕ, ◌<◌, ◌+◌, ◌++◌, List, [], ◌∷◌, Bor, Option, Some, None, refl, sym, ap, ◌∙◌, subst, length, take, drop}
 use Rattle.std.specs.Prelude.{IfOk, OnOk}
+use Rattle.std.proofs.Math.Seq.{take-length}
 use Rattle.sac_ast.specs.Tree
-use Rattle.sac_ast.specs.View.{expr, exprs, stmt, block, bound, maybe, index_view, generators}
-use Rattle.sac_ast.proofs.Views.{expr_literal, expr_unary, expr_binary, expr_select, expr_builtin, expr_call, expr_choice, stmt_assign, stmt_replace, stmt_if, stmt_while}
-use Rattle.check_rules.specs.Accepted.{Known, with_names, target_names, no_names, index_targets, bound_after, bound_behind, base_of}
+use Rattle.sac_ast.specs.View.{expr, exprs, stmt, block, bound, maybe, index_view, generators, operation}
+use Rattle.sac_ast.proofs.Views.{expr_literal, expr_unary, expr_binary, expr_select, expr_builtin, expr_call, expr_choice, expr_with, stmt_assign, stmt_replace, stmt_if, stmt_while, stmt_do, generator_is, operation_genarray, operation_fold}
+use Rattle.check_rules.specs.Accepted.{Known, with_names, target_names, no_names, index_targets, bound_after, bound_behind, base_of, bind, is_fold}
 use Rattle.check_rules.specs.declared.violation.Violation.{Violation}
 use Rattle.check_rules.specs.First.{earlier, unless}
 use Rattle.check_rules.specs.declared.code.CheckCode.TheVariants.{C4}
-use Rattle.sac_base.specs.declared.base.Base.TheVariants.{Int}
+use Rattle.sac_base.specs.declared.base.Base.TheVariants.{Int, Bool as Truth}
 use Rattle.sac_base.specs.Operators.{result_base}
-use Rattle.sac_ast.specs.Bases.{agree, are_int, literal_base, builtin_base, may_be, operand_base, operands_fit}
+use Rattle.sac_ast.specs.Bases.{agree, are_int, first_base, literal_base, builtin_base, may_be, operand_base, operands_fit}
 use Rattle.check_walk.specs.Found.{found_base}
 use Rattle.check_rules.specs.Places.{place}
 use Rattle.check_rules.specs.Tables.{among, has, with_common, entered}
-use Rattle.check_rules.specs.Walk.{Judgement, builtin_rules, in_value, in_values, in_generators, in_statement, in_block, in_targets, in_bound, in_maybe, in_index_names, in_branches, condition_first, repeated_targets, bound_by_both}
+use Rattle.check_rules.specs.Walk.{Judgement, builtin_rules, in_value, in_values, in_generator, in_generators, in_operation, in_inside, in_statement, in_block, in_targets, in_bound, in_maybe, in_index_names, in_branches, condition_first, choice_first, choice_found, call_first, call_bases, first_cell, cell_rules, repeated_targets, bound_by_both}
 use Rattle.check_rules.proofs.Places.{kept_twice}
-use Rattle.check_walk.proofs.Walks.{values_first, values_bases, values_known, generators_first, generators_cells, generators_known, block_first, block_known, block_names, choice_from, called_first, called_known, plain_first, plain_known, replaced_from, both_bound}
+use Rattle.check_walk.proofs.Walks.{values_first, values_bases, values_known, generators_first, generators_cells, generators_known, block_first, block_known, block_names, called_first, called_known, plain_first, plain_known, replaced_from, both_bound}
 use Rattle.check_walk.proofs.walk.+walk.Goals as goal
 
 pub expressions-loop-e-preserved : goal.expressions-loop-e-preserved
@@ -169,28 +170,6 @@ expression-returns-in_ok-args-in-Builtin t c =
       known = told.known ∙ ap (λ e. (in_value p e b n).known) tree;
       kept = told.kept;
     }
-
-pub expression-returns-in_ok-second-in-Choice-clause-base : goal.expression-returns-in_ok-second-in-Choice-clause-base
-expression-returns-in_ok-second-in-Choice-clause-base t c =
-    let p = place c.args.here.now in
-    let i = c.in-Choice in
-    let b = among c.args.bound.now.trail.items in
-    let n = entered c.args.known.now in
-    let one = c.in_ok-test-in-Choice in
-    let two = c.in_ok-first-in-Choice in
-    let three = c.in_ok-second-in-Choice in
-    let b1 = among c.expression-in-Choice.new.bound.trail.items in
-    let b2 = among c.expression-in-Choice-2.new.bound.trail.items in
-    let n1 = entered c.expression-in-Choice.new.known in
-    let n2 = entered c.expression-in-Choice-2.new.known in
-    let tree = (λ j. Tree.choice (expr (c.deref-in-Choice.ensures j)) (expr (c.deref-in-Choice-2.ensures j)) (expr (c.deref-in-Choice-3.ensures j)) i.site) ∙ sym (ap expr i.is ∙ expr_choice i.c i.e i.f i.site) in
-    c.choice.ensures.base
-    ∙ choice_from p (expr c.deref-in-Choice.result.now) (expr c.deref-in-Choice-2.result.now) (expr c.deref-in-Choice-3.result.now) i.site b b1 b2 n n1 n2
-    one.test.first two.first.first three.second.first one.test.base two.first.base three.second.base
-    one.ensures.first one.ensures.base one.ensures.known (ap among one.ensures.kept)
-    two.ensures.first two.ensures.base two.ensures.known (ap among two.ensures.kept)
-    three.ensures.first three.ensures.base
-    ∙ ap (λ e. (in_value p e b n).base) tree
 
 pub assign-returns-in_ok-called-in-Call : goal.assign-returns-in_ok-called-in-Call
 assign-returns-in_ok-called-in-Call t c =
@@ -405,3 +384,245 @@ statement-returns-in_ok-blocks-in-If-clause-names t c =
     c.in_ok-blocks-in-If.ensures.names
     ∙ (λ j. bound_by_both (block (c.deref-in-If.ensures.value j)) (block (c.deref-in-If-2.ensures.value j)) (among (c.in_ok-test-in-If.ensures.kept j)))
     ∙ ap (λ s. bound_after s b) (sym (ap stmt i.is ∙ stmt_if i.cond i.yes i.no i.site))
+
+pub expression-returns-in_ok-second-in-Choice : goal.expression-returns-in_ok-second-in-Choice
+expression-returns-in_ok-second-in-Choice t c =
+    let p = place c.args.here.now in
+    let i = c.in-Choice in
+    let b = among c.args.bound.now.trail.items in
+    let n = entered c.args.known.now in
+    let one = c.in_ok-test-in-Choice.ensures in
+    let two = c.in_ok-first-in-Choice.ensures in
+    let three = c.in_ok-second-in-Choice.ensures in
+    let e = expr c.deref-in-Choice-2.result.now in
+    let f = expr c.deref-in-Choice-3.result.now in
+    let kept2 = two.kept ∙ one.kept in
+    let first2 = two.first ∙ (λ j. (in_value p e (among (one.kept j)) (one.known j)).first) in
+    let base2 = two.base ∙ (λ j. (in_value p e (among (one.kept j)) (one.known j)).base) in
+    let known2 = two.known ∙ (λ j. (in_value p e (among (one.kept j)) (one.known j)).known) in
+    let first3 = three.first ∙ (λ j. (in_value p f (among (kept2 j)) (known2 j)).first) in
+    let base3 = three.base ∙ (λ j. (in_value p f (among (kept2 j)) (known2 j)).base) in
+    let known3 = three.known ∙ (λ j. (in_value p f (among (kept2 j)) (known2 j)).known) in
+    let tree = (λ j. Tree.choice (expr (c.deref-in-Choice.ensures j)) (expr (c.deref-in-Choice-2.ensures j)) (expr (c.deref-in-Choice-3.ensures j)) i.site) ∙ sym (ap expr i.is ∙ expr_choice i.c i.e i.f i.site) in
+    record {
+      first = c.choice.ensures.first ∙ (λ j. choice_first (one.first j) (one.base j) (first2 j) (base2 j) (first3 j) (base3 j) i.site) ∙ ap (λ e. (in_value p e b n).first) tree;
+      base = c.choice.ensures.base ∙ (λ j. choice_found (one.first j) (one.base j) (first2 j) (base2 j) (first3 j) (base3 j) i.site) ∙ ap (λ e. (in_value p e b n).base) tree;
+      known = known3 ∙ ap (λ e. (in_value p e b n).known) tree;
+      kept = three.kept ∙ kept2;
+    }
+
+pub expression-returns-in_ok-results-in-Call : goal.expression-returns-in_ok-results-in-Call
+expression-returns-in_ok-results-in-Call t c =
+    let p = place c.args.here.now in
+    let i = c.in-Call in
+    let b = among c.args.bound.now.trail.items in
+    let n = entered c.args.known.now in
+    let told = c.in_ok-args-in-Call.ensures in
+    let result = c.in_ok-results-in-Call.ensures in
+    let tree = ap (λ es. Tree.call i.name (exprs es) i.site) c.deref-in-Call.ensures.value ∙ sym (ap expr i.is ∙ expr_call i.name i.es i.site) in
+    record {
+      first = result.first ∙ (λ j. call_first p i.name (told.first j) (told.bases j) 1 i.site) ∙ ap (λ e. (in_value p e b n).first) tree;
+      base = c.first_base.ensures ∙ ap first_base (c.deref-in-Call-2.ensures.value ∙ result.bases)
+          ∙ (λ j. first_base (call_bases p i.name (told.first j) (told.bases j) 1 i.site)) ∙ ap (λ e. (in_value p e b n).base) tree;
+      known = told.known ∙ ap (λ e. (in_value p e b n).known) tree;
+      kept = told.kept;
+    }
+
+pub expression-returns-in_ok-cells-in-With : goal.expression-returns-in_ok-cells-in-With
+expression-returns-in_ok-cells-in-With t c =
+    let p = place c.args.here.now in
+    let i = c.in-With in
+    let b = among c.args.bound.now.trail.items in
+    let n = entered c.args.known.now in
+    let one = c.in_ok-loops-in-With.ensures in
+    let two = c.in_ok-cells-in-With.ensures in
+    let gs = generators c.deref-in-With.result.now in
+    let op = operation c.deref-in-With-3.result.now in
+    let folds = c.is_fold.ensures ∙ (λ j. is_fold (operation ((c.deref-in-With-2.ensures ∙ sym c.deref-in-With-3.ensures) j))) in
+    let first1 = one.first ∙ (λ j. (in_generators p gs (folds j) b n).first) in
+    let cells1 = one.cells ∙ (λ j. (in_generators p gs (folds j) b n).cells) in
+    let known1 = one.known ∙ (λ j. (in_generators p gs (folds j) b n).known) in
+    let cell = c.first_cell.ensures ∙ ap first_cell (c.deref-in-With-4.ensures.value ∙ cells1) in
+    let first2 = two.first ∙ (λ j. (in_operation p op (cell j) (among (one.kept j)) (known1 j)).first) in
+    let base2 = two.base ∙ (λ j. (in_operation p op (cell j) (among (one.kept j)) (known1 j)).base) in
+    let known2 = two.known ∙ (λ j. (in_operation p op (cell j) (among (one.kept j)) (known1 j)).known) in
+    let tree = (λ j. Tree.with_loop (generators (c.deref-in-With.ensures.value j)) (operation (c.deref-in-With-3.ensures j)) i.field-2) ∙ sym (ap expr i.is ∙ expr_with i.gs i.op i.field-2) in
+    record {
+      first = c.with_loop.ensures.first ∙ (λ j. earlier (cell_rules (base2 j) (cells1 j)) (earlier (first1 j) (first2 j))) ∙ ap (λ e. (in_value p e b n).first) tree;
+      base = c.with_loop.ensures.base ∙ (λ j. found_base (cell_rules (base2 j) (cells1 j)) (earlier (first1 j) (first2 j)) (base2 j)) ∙ ap (λ e. (in_value p e b n).base) tree;
+      known = known2 ∙ ap (λ e. (in_value p e b n).known) tree;
+      kept = two.kept ∙ one.kept;
+    }
+
+pub inside-returns : goal.inside-returns
+inside-returns t c =
+    let p = place c.args.here.now in
+    let g = c.args.g.now in
+    let start = c.args.bound.now.trail.items in
+    let n = entered c.args.known.now in
+    let pushed = c.in_ok-push_targets.ensures in
+    let one = c.in_ok-body.ensures in
+    let two = c.in_ok-cell.ensures in
+    let names = pushed.names ∙ (λ j. with_names (target_names (c.index_parts.ensures j)) (among start)) in
+    let body = c.deref.ensures.value in
+    let first1 = one.first ∙ (λ j. (in_block p (block (body j)) (names j) n).first) in
+    let known1 = one.known ∙ (λ j. (in_block p (block (body j)) (names j) n).known) in
+    let names1 = one.names ∙ (λ j. bound_behind (block (body j)) (names j)) in
+    let cell = expr g.cell in
+    record {
+      first = c.earlier.ensures ∙ (λ j. earlier (first1 j) ((two.first ∙ (λ j. (in_value p cell (names1 j) (known1 j)).first)) j));
+      base = two.base ∙ (λ j. (in_value p cell (names1 j) (known1 j)).base);
+      known = two.known ∙ (λ j. (in_value p cell (names1 j) (known1 j)).known);
+      kept = c.leave.ensures ∙ (λ j. take (c.mark-mark.ensures j) (two.kept j)) ∙ kept_twice start c.push_targets.new.bound.trail.items c.block.new.bound.trail.items pushed.kept one.kept;
+    }
+
+pub generator-returns : goal.generator-returns
+generator-returns t c =
+    let p = place c.args.here.now in
+    let g = c.args.g.now in
+    let folds = c.args.folds in
+    let b = among c.args.bound.now.trail.items in
+    let n = entered c.args.known.now in
+    let one = c.in_ok-outside.ensures in
+    let two = c.in_ok-within.ensures in
+    let first2 = two.first ∙ (λ j. (in_inside p g (among (one.kept j)) (one.known j)).first) in
+    let base2 = two.base ∙ (λ j. (in_inside p g (among (one.kept j)) (one.known j)).base) in
+    let known2 = two.known ∙ (λ j. (in_inside p g (among (one.kept j)) (one.known j)).known) in
+    let tree = sym (generator_is g) in
+    record {
+      first = c.earlier.ensures ∙ (λ j. earlier (one.first j) (first2 j)) ∙ ap (λ x. (in_generator p x folds b n).first) tree;
+      cell = (λ j. record { fits = one.fits j; base = base2 j; site = g.site } ∷ []) ∙ ap (λ x. (in_generator p x folds b n).cells) tree;
+      known = known2 ∙ ap (λ x. (in_generator p x folds b n).known) tree;
+      kept = two.kept ∙ one.kept;
+    }
+
+pub operation-returns-in_ok-default-in-Genarray : goal.operation-returns-in_ok-default-in-Genarray
+operation-returns-in_ok-default-in-Genarray t c =
+    let p = place c.args.here.now in
+    let i = c.in-Genarray in
+    let cell = c.args.cell in
+    let b = among c.args.bound.now.trail.items in
+    let n = entered c.args.known.now in
+    let one = c.in_ok-extents-in-Genarray.ensures in
+    let two = c.in_ok-default-in-Genarray.ensures in
+    let value = maybe i.default in
+    let first2 = two.first ∙ (λ j. (in_maybe p value cell (among (one.kept j)) (one.known j)).first) in
+    let base2 = two.base ∙ (λ j. (in_maybe p value cell (among (one.kept j)) (one.known j)).base) in
+    let known2 = two.known ∙ (λ j. (in_maybe p value cell (among (one.kept j)) (one.known j)).known) in
+    let own = c.unless-own.ensures ∙ (λ j. unless (c.may_be.ensures j) C4 i.site) ∙ (λ j. unless (may_be Int (one.base j)) C4 i.site) in
+    let inner = c.earlier.ensures ∙ (λ j. earlier (own j) (one.first j)) in
+    let tree = sym (ap operation i.is ∙ operation_genarray i.shape i.default i.site) in
+    record {
+      first = c.earlier-in-Genarray.ensures ∙ (λ j. earlier (inner j) (first2 j)) ∙ ap (λ o. (in_operation p o cell b n).first) tree;
+      base = base2 ∙ ap (λ o. (in_operation p o cell b n).base) tree;
+      known = known2 ∙ ap (λ o. (in_operation p o cell b n).known) tree;
+      kept = two.kept ∙ one.kept;
+    }
+
+pub operation-returns-in_ok-neutral-in-Fold : goal.operation-returns-in_ok-neutral-in-Fold
+operation-returns-in_ok-neutral-in-Fold t c =
+    let p = place c.args.here.now in
+    let i = c.in-Fold in
+    let cell = c.args.cell in
+    let b = among c.args.bound.now.trail.items in
+    let n = entered c.args.known.now in
+    let one = c.in_ok-neutral-in-Fold.ensures in
+    let own = c.unless.ensures ∙ (λ j. unless (c.operands_fit-fits.ensures j) C4 i.site) ∙ (λ j. unless (operands_fit i.op (one.base j) (one.base j)) C4 i.site) in
+    let tree = sym (ap operation i.is ∙ operation_fold i.op i.neutral i.site) in
+    record {
+      first = c.earlier-in-Fold.ensures ∙ (λ j. earlier (own j) (one.first j)) ∙ ap (λ o. (in_operation p o cell b n).first) tree;
+      base = one.base ∙ ap (λ o. (in_operation p o cell b n).base) tree;
+      known = one.known ∙ ap (λ o. (in_operation p o cell b n).known) tree;
+      kept = one.kept;
+    }
+
+pub statement-returns-in_ok-again-in-Do : goal.statement-returns-in_ok-again-in-Do
+statement-returns-in_ok-again-in-Do t c =
+    let p = place c.args.here.now in
+    let i = c.in-Do in
+    let start = c.args.bound.now.trail.items in
+    let b = among start in
+    let n = entered c.args.known.now in
+    let one = c.in_ok-turn-in-Do.ensures in
+    let two = c.in_ok-again-in-Do.ensures in
+    let cond = expr i.cond in
+    let body = c.deref-in-Do.ensures.value in
+    let turned = block c.deref-in-Do.result.now in
+    let first2 = two.first ∙ (λ j. (in_value p cond (one.names j) (one.known j)).first) in
+    let base2 = two.base ∙ (λ j. (in_value p cond (one.names j) (one.known j)).base) in
+    let known2 = two.known ∙ (λ j. (in_value p cond (one.names j) (one.known j)).known) in
+    let own = c.unless-own.ensures ∙ (λ j. unless (c.may_be.ensures j) C4 i.test) ∙ (λ j. unless (may_be Truth (base2 j)) C4 i.test) in
+    let inner = c.earlier-in-Do.ensures ∙ (λ j. earlier (one.first j) (own j)) in
+    let tree = (λ j. Tree.do_while (block (body j)) cond i.site i.test) ∙ sym (ap stmt i.is ∙ stmt_do i.body i.cond i.site i.test) in
+    record {
+      first = c.earlier-in-Do-2.ensures ∙ (λ j. earlier (inner j) (first2 j)) ∙ ap (λ s. (in_statement p s b n).first) tree;
+      known = known2 ∙ ap (λ s. (in_statement p s b n).known) tree;
+      names = ap among two.kept ∙ one.names ∙ ap (λ s. bound_after s b) tree;
+      kept = (λ j. take (length start) (two.kept j)) ∙ one.kept;
+    }
+
+pub statement-returns-in_ok-turn-in-While-clause-kept : goal.statement-returns-in_ok-turn-in-While-clause-kept
+statement-returns-in_ok-turn-in-While-clause-kept t c =
+    let start = c.args.bound.now.trail.items in
+    let whole : c.leave.new.self.trail.items ≡ start =
+    c.leave.ensures ∙ ap (λ k. take k c.block.new.bound.trail.items) c.mark-mark.ensures ∙ c.in_ok-turn-in-While.ensures.kept ∙ c.in_ok-test-in-While.ensures.kept in
+    ap (take (length start)) whole ∙ take-length start
+
+pub statement-returns-in_ok-turn-in-While-clause-names : goal.statement-returns-in_ok-turn-in-While-clause-names
+statement-returns-in_ok-turn-in-While-clause-names t c =
+    let i = c.in-While in
+    let start = c.args.bound.now.trail.items in
+    let whole : c.leave.new.self.trail.items ≡ start =
+    c.leave.ensures ∙ ap (λ k. take k c.block.new.bound.trail.items) c.mark-mark.ensures ∙ c.in_ok-turn-in-While.ensures.kept ∙ c.in_ok-test-in-While.ensures.kept in
+    ap among whole ∙ ap (λ s. bound_after s (among start)) (sym (ap stmt i.is ∙ stmt_while i.cond i.body i.site))
+
+pub statement-returns-in_ok-blocks-in-If-clause-kept : goal.statement-returns-in_ok-blocks-in-If-clause-kept
+statement-returns-in_ok-blocks-in-If-clause-kept t c =
+    subst (λ (ts : List (Bor (List ℕ))). take (length ts) c.branches.new.bound.trail.items ≡ ts) c.in_ok-test-in-If.ensures.kept c.in_ok-blocks-in-If.ensures.kept
+
+pub statement-returns-in_ok-own_base-in-Replace-clause-known : goal.statement-returns-in_ok-own_base-in-Replace-clause-known
+statement-returns-in_ok-own_base-in-Replace-clause-known t c =
+    let p = place c.args.here.now in
+    let i = c.in-Replace in
+    let b = among c.args.bound.now.trail.items in
+    let n = entered c.args.known.now in
+    let one = c.in_ok-place-in-Replace.ensures in
+    let two = c.in_ok-value-in-Replace.ensures in
+    let known2 = two.known ∙ (λ j. (in_value p (expr i.e) (among (one.kept j)) (one.known j)).known) in
+    c.in_ok-own_base-in-Replace.ensures.known ∙ (λ j. bind i.target.name None (known2 j))
+    ∙ ap (λ s. (in_statement p s b n).known) (sym (ap stmt i.is ∙ stmt_replace i.target i.bracket i.index i.e))
+
+pub statement-returns-in_ok-own_base-in-Replace-clause-names : goal.statement-returns-in_ok-own_base-in-Replace-clause-names
+statement-returns-in_ok-own_base-in-Replace-clause-names t c =
+    let i = c.in-Replace in
+    let b = among c.args.bound.now.trail.items in
+    c.in_ok-own_base-in-Replace.ensures.names
+    ∙ (λ j. with_names (i.target.name ∷ []) (among ((c.in_ok-value-in-Replace.ensures.kept ∙ c.in_ok-place-in-Replace.ensures.kept) j)))
+    ∙ ap (λ s. bound_after s b) (sym (ap stmt i.is ∙ stmt_replace i.target i.bracket i.index i.e))
+
+pub statement-returns-in_ok-own_base-in-Replace-clause-kept : goal.statement-returns-in_ok-own_base-in-Replace-clause-kept
+statement-returns-in_ok-own_base-in-Replace-clause-kept t c =
+    subst (λ (ts : List (Bor (List ℕ))). take (length ts) c.bind_replaced.new.bound.trail.items ≡ ts) (c.in_ok-value-in-Replace.ensures.kept ∙ c.in_ok-place-in-Replace.ensures.kept) c.in_ok-own_base-in-Replace.ensures.kept
+
+pub branches-returns-clause-first : goal.branches-returns-clause-first
+branches-returns-clause-first t c =
+    let p = place c.args.here.now in
+    let no' = block c.args.no.now in
+    let start = c.args.bound.now.trail.items in
+    let one = c.in_ok-one.ensures in
+    let two = c.in_ok-other.ensures in
+    let front = ap (λ k. take k c.block.new.bound.trail.items) c.mark-mark.ensures ∙ one.kept in
+    let back : c.taken.new.bound.trail.items ≡ start = c.in_ok-first.ensures.left ∙ front in
+    let second = two.first ∙ (λ j. (in_block p no' (among (back j)) (one.known j)).first) in
+    c.earlier.ensures ∙ (λ j. earlier (one.first j) (second j))
+
+pub branches-returns-clause-known : goal.branches-returns-clause-known
+branches-returns-clause-known t c =
+    let p = place c.args.here.now in
+    let no' = block c.args.no.now in
+    let start = c.args.bound.now.trail.items in
+    let one = c.in_ok-one.ensures in
+    let two = c.in_ok-other.ensures in
+    let front = ap (λ k. take k c.block.new.bound.trail.items) c.mark-mark.ensures ∙ one.kept in
+    let back : c.taken.new.bound.trail.items ≡ start = c.in_ok-first.ensures.left ∙ front in
+    two.known ∙ (λ j. (in_block p no' (among (back j)) (one.known j)).known)
