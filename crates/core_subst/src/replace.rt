@@ -1,6 +1,6 @@
 //! Other variables in the place of free ones.
 
-ghost use Rattle.std.specs.Prelude.{◌≡◌, [], ◌∷◌, IfOk, OnOk, map, option_map, take, length, eqb, cond, unwrap_or};
+ghost use Rattle.std.specs.Prelude.{◌≡◌, [], ◌∷◌, ◌++◌, IfOk, OnOk, map, option_map, take, length, eqb, cond, unwrap_or};
 ghost use Rattle.std.specs.Ordering.{nat_cmp};
 ghost use Rattle.std.specs.BTreeMap.{get};
 ghost use Rattle.core_ir.specs.declared.tree.Var.{Var};
@@ -68,12 +68,12 @@ fn in_block(
             right,
         } = binding;
         let right = in_right(alloc, right, partners, hidden)?;
-        hide(partners, hidden, &targets)?;
-        replaced.push(Let {
+        let binding = Let {
             targets,
             site,
             right,
-        })?;
+        };
+        place(&mut replaced, binding, partners, hidden)?;
     }
     let results = in_vars(alloc, &results, partners, hidden)?;
     hidden.truncate(outer);
@@ -81,6 +81,23 @@ fn in_block(
         lets: replaced,
         results,
     })
+}
+
+/// Adds a binding, whose targets are hidden behind it.
+fn place(
+    replaced: &mut Vec<Let>,
+    binding: Let,
+    partners: &BTreeMap<u32, Var>,
+    hidden: &mut Vec<Var>,
+) -> Result<(), Memory>
+    ensures placed { OnOk result (replaced.new.items ≡ replaced.old.items ++ (binding ∷ [])) }
+    ensures outer { OnOk result (take (length hidden.old.items) hidden.new.items ≡ hidden.old.items) }
+    ensures below { OnOk result (image partners.now hidden.new.items ≡ below binding.targets.items (image partners.now hidden.old.items)) }
+{
+    let targets_hidden = hide(partners, hidden, &binding.targets);
+    replaced.push(binding)?;
+    targets_hidden?;
+    Ok(())
 }
 
 #[cycle(substitute)]

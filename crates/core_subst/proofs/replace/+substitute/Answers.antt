@@ -11,16 +11,16 @@ pub in_block-loop-binding-preserved : goal.in_block-loop-binding-preserved
 in_block-loop-binding-preserved t c =
     let v = c.loop-binding.invariant in
     let m = c.args.partners.now in
-    let shown = below_same m _ _ _ _ _ c.in_ok-right.ensures.hidden c.deref.ensures.value c.in_ok-hide.ensures.below in
+    let shown = below_same m _ _ _ _ _ c.in_ok-right.ensures.hidden refl c.in_ok-place.ensures.below in
     record {
-      replaced = λ end. let_turn (image m c.loop-binding.hidden.items) _ c.loop-binding.replaced.items _ c.loop-binding.binding-iterator.rest.items _ c.in-Some.binding _ end _ (v.replaced end) c.in-Some.ensures.steps.0 c.in_ok-push.ensures.items (λ i. record { targets = c.in-Some.binding.targets.items; site = c.in-Some.binding.site; right = c.in_ok-right.ensures.replaced i }) shown;
-      outer = front_kept _ c.loop-binding.hidden.items _ _ _ v.outer (search rules) c.in_ok-right.ensures.hidden c.in_ok-hide.ensures.outer;
+      replaced = λ end. let_turn (image m c.loop-binding.hidden.items) _ c.loop-binding.replaced.items _ c.loop-binding.binding-iterator.rest.items _ c.in-Some.binding _ end _ (v.replaced end) c.in-Some.ensures.steps.0 c.in_ok-place.ensures.placed (λ i. record { targets = c.in-Some.binding.targets.items; site = c.in-Some.binding.site; right = c.in_ok-right.ensures.replaced i }) shown;
+      outer = front_kept _ c.loop-binding.hidden.items _ _ _ v.outer (search rules) c.in_ok-right.ensures.hidden c.in_ok-place.ensures.outer;
     }
 
 pub in_block-returns-clause-replaced : goal.in_block-returns-clause-replaced
 in_block-returns-clause-replaced t c =
     let none = none_left c.loop-binding.binding-iterator.rest.len c.loop-binding.binding-iterator.rest.items c.in-None.ensures.steps.0 c.loop-binding.binding-iterator.rest.ok.0 in
-    block_end (image c.args.partners.now c.loop-binding.hidden.items) (image c.args.partners.now c.args.hidden.now.items) c.loop-binding.binding-iterator.rest.items _ _ _ c.args.block c.loop-binding.invariant.replaced none c.into_iter-binding-iterator.ensures.into_iter_gives.0 (c.in_ok-results.ensures ∙ (λ i. map (image c.args.partners.now (c.deref-3.ensures.value i)) c.deref-2.result.now)) c.deref-2.ensures.value
+    block_end (image c.args.partners.now c.loop-binding.hidden.items) (image c.args.partners.now c.args.hidden.now.items) c.loop-binding.binding-iterator.rest.items _ _ _ c.args.block c.loop-binding.invariant.replaced none c.into_iter-binding-iterator.ensures.into_iter_gives.0 (c.in_ok-results.ensures ∙ (λ i. map (image c.args.partners.now (c.deref-2.ensures.value i)) c.deref.result.now)) c.deref.ensures.value
 
 pub in_parted-loop-part-preserved : goal.in_parted-loop-part-preserved
 in_parted-loop-part-preserved t c =
