@@ -69,17 +69,33 @@ fn sum_of_pairs(start: Cell, turns: usize) -> Cell {
 #[test]
 fn several_numbers_are_carried(rt: HostRuntime) {
     let alloc = rt.alloc();
-    let start = [KernelStep::Set(RESULT, 0), KernelStep::Set(9, 0), KernelStep::Move(10, 0)];
+    let start = [
+        KernelStep::Set(RESULT, 0),
+        KernelStep::Set(9, 0),
+        KernelStep::Move(10, 0),
+    ];
     let cell = fold(alloc, &start, 2, (-7, 593), line(alloc, &PAIR));
     let found = strips(alloc, &cell).expect(&rt, "strips");
-    let wanted = [sum_of_pairs(1, 600), sum_of_pairs(2, 600), sum_of_pairs(3, 600)];
+    let wanted = [
+        sum_of_pairs(1, 600),
+        sum_of_pairs(2, 600),
+        sum_of_pairs(3, 600),
+    ];
     assert!(rt; gives(alloc, &found, &[], 1, &wanted));
 }
 
-// How many of the elements, taken again and again, are the column, and 1 more.
-fn count(alloc: Global, elements: Cell) -> KernelBlock {
+// Steps as a part.
+fn part(alloc: Global, steps: &[KernelStep]) -> KernelPart {
+    match Vec::from_slice(alloc, steps) {
+        Ok(line) => KernelPart::Line(line),
+        Err(_) => KernelPart::Line(Vec::new(alloc)),
+    }
+}
+
+// How many of seven elements, taken again and again, are the column, and 1 more.
+fn count(alloc: Global, turns: Cell) -> KernelBlock {
     let steps = [
-        KernelStep::Set(7, 100),
+        KernelStep::Set(7, 7),
         KernelStep::Rem(8, 2, 7, HERE),
         KernelStep::Load1(3, 0, 8, HERE),
         KernelStep::Eq(4, 3, 0),
@@ -90,31 +106,29 @@ fn count(alloc: Global, elements: Cell) -> KernelBlock {
         yes: line(alloc, &[KernelStep::Set(5, 1)]),
         no: line(alloc, &[KernelStep::Set(5, 0)]),
     });
-    let _ = body.parts.push(KernelPart::Line(match Vec::from_slice(
-        alloc,
-        &[KernelStep::Add(RESULT, RESULT, 5)],
-    ) {
-        Ok(line) => line,
-        Err(_) => Vec::new(alloc),
-    }));
-    let mut cell = fold(alloc, &ZERO, 2, (0, elements), body);
+    let _ = body
+        .parts
+        .push(part(alloc, &[KernelStep::Add(RESULT, RESULT, 5)]));
+    let mut cell = fold(alloc, &ZERO, 2, (0, turns), body);
     let behind = [KernelStep::Set(6, 1), KernelStep::Add(RESULT, RESULT, 6)];
-    for part in line(alloc, &behind).parts {
-        let _ = cell.parts.push(part);
-    }
+    let _ = cell.parts.push(part(alloc, &behind));
     cell
 }
 
 #[test]
 fn elements_are_counted(rt: HostRuntime) {
     let alloc = rt.alloc();
-    let mut elements = [0; 100];
-    for k in 0..100usize {
-        elements[k] = (k % 7) as Cell;
-    }
-    let a = vector(alloc, &elements).expect(&rt, "memory");
     let found = strips(alloc, &count(alloc, 1500)).expect(&rt, "strips");
-    assert!(rt; gives(alloc, &found, &[Buffer::of(&a)], 0, &[226, 226, 211, 211, 211, 211, 211, 1]));
-    let short = vector(alloc, &elements[..99]).expect(&rt, "memory");
+    let a = vector(alloc, &[0, 1, 2, 3, 4, 5, 6]).expect(&rt, "memory");
+    assert!(rt;
+        gives(
+            alloc,
+            &found,
+            &[Buffer::of(&a)],
+            0,
+            &[216, 216, 215, 215, 215, 215, 215, 1]
+        )
+    );
+    let short = vector(alloc, &[0, 1, 2, 3, 4, 5]).expect(&rt, "memory");
     assert!(rt; refuses(alloc, &found, &[Buffer::of(&short)], 0, 8));
 }
