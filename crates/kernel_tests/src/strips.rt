@@ -4,5 +4,6 @@ mod branches;
 mod common;
 mod folds;
 mod loads;
+mod long_folds;
 mod quotients;
 mod ranges;

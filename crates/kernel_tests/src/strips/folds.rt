@@ -103,15 +103,13 @@ fn a_choice_is_kept_for_the_next_turn(rt: HostRuntime) {
     assert!(rt; gives(alloc, &strips, &[Buffer::of(&a)], 0, &[10, 5, 0]));
 }
 
-// No turn, too many of them, and turns without a step.
+// No turn, and turns without a step.
 #[test]
 fn turns_are_counted(rt: HostRuntime) {
     let alloc = rt.alloc();
     let none = fold(alloc, &ZERO, 2, (3, 3), line(alloc, &PRODUCT));
     let found = strips(alloc, &none).expect(&rt, "strips");
     assert!(rt; gives(alloc, &found, &[], 0, &[0, 0]));
-    let long = fold(alloc, &ZERO, 2, (0, 1000000), line(alloc, &PRODUCT));
-    assert!(rt; strips(alloc, &long).is_none());
     let empty = KernelBlock {
         parts: one(alloc, KernelPart::Line(Vec::new(alloc))),
     };
@@ -122,12 +120,14 @@ fn turns_are_counted(rt: HostRuntime) {
 // `k * j`, which is added to the result.
 const MULTIPLE: [KernelStep; 2] = [KernelStep::Mul(3, 2, 0), KernelStep::Add(RESULT, RESULT, 3)];
 
+// A fold that is not unrolled has no other such fold in it.
 #[test]
 fn steps_are_counted(rt: HostRuntime) {
     let alloc = rt.alloc();
     let many = fold(alloc, &ZERO, 2, (0, 500), line(alloc, &MULTIPLE));
     let found = strips(alloc, &many).expect(&rt, "strips");
     assert!(rt; gives(alloc, &found, &[], 3, &[374250, 499000]));
-    let long = fold(alloc, &ZERO, 2, (0, 512), line(alloc, &MULTIPLE));
-    assert!(rt; strips(alloc, &long).is_none());
+    let long = fold(alloc, &[], 2, (0, 512), line(alloc, &MULTIPLE));
+    let twice = fold(alloc, &ZERO, 4, (0, 512), long);
+    assert!(rt; strips(alloc, &twice).is_none());
 }
