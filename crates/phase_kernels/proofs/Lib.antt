@@ -1,3 +1,4 @@
+mod Bare
 mod GenCells
 pub mod Named
 mod PartCells

@@ -5,6 +5,7 @@ use Rattle.array_with_loops.specs.declared.plans.Plan.{Plan}
 use Rattle.counted_code.specs.Machine.{Values}
 use Rattle.kernel_rows.specs.declared.kernels.CellKernel.{CellKernel}
 use Rattle.kernel_rows.specs.Kernels.{AreCellKernels, CellFaults, CellIs}
+use Rattle.phase_kernels.specs.declared.cells.KernelCells.{KernelCells}
 use Rattle.phase_kernels.specs.Calls.{calls_in}
 use Rattle.phase_kernels.specs.Bodies.{source_bodies}
 use Rattle.phase_kernels.proofs.GenCells.{gen_fault, gen_value}
@@ -18,7 +19,16 @@ use Rattle.run_loops.specs.declared.cell_loop.CellSource.TheVariants.{Generators
 use Rattle.run_loops.specs.declared.state.Context.{Context}
 use Rattle.sac_base.specs.Arrays.{ArrayValue, size}
 use Rattle.sac_base.specs.declared.faults.Fault.{Fault}
+use Rattle.run_values.specs.Scopes.{current}
+use Rattle.sac_base.specs.Outcomes.{Ends}
 use Rattle.sac_base.specs.WithLoops.{Range}
+
+-- what the cell of a position comes to, and how many buffers it takes
+abbrev pub cell_of : KernelCells → ℕ → Ends (Option (List ℤ))
+cell_of s = source_cell s.cells.context s.cells.heap.now (current s.cells.frames.now) s.cells.source s.cells.plan.now s.cells.background
+
+abbrev pub taken_of : KernelCells → ℕ → ℕ
+taken_of s = source_taken s.cells.context s.cells.heap.now (current s.cells.frames.now) s.cells.source s.cells.plan.now
 
 module _ (context : Context) (lends : HeapValue) (e : Values) (plan : Plan) (background : Option Background) (made : List Range) (bs : List ArrayValue) (kernels : List (Option CellKernel)) (place : ℕ) where
   -- a kernel's number is the cell

@@ -7,6 +7,7 @@ mod lowering;
 pub mod over_checks;
 mod scope;
 mod scratch;
+mod shared;
 mod worth;
 
 pub use cells::KernelCells;
@@ -14,4 +15,4 @@ pub use kernels::source_kernels;
 pub use lowering::lowering_of;
 pub use scope::{Scope, scope_of};
 pub use scratch::KernelScratch;
-pub use worth::strip_steps;
+pub use shared::PhaseKernels;

@@ -3,22 +3,17 @@
 ghost use Rattle.std.specs.Prelude.{◌≡◌, ◌∷◌, [], IfSome, IsTrue};
 ghost use Rattle.phase_loop_cells.specs.Ready.{IsReady};
 
-use array_with_loops::Range;
-use kernel_buffers::Buffer;
 use kernel_rows::{CellKernel, KernelRoom};
 use phase_cells::CellRuns;
 use phase_loop_cells::{CellScratch, LoopCells};
 use sac_base::{Cell, Memory};
+use std::alloc::Global;
 
-/// What a worker has besides its store: what the evaluator needs, once it has run a cell, the ranges of parts, the kernel of each
-/// generator or part, the buffers that kernels read, and room for their runs.
+/// What a worker has besides its store: what the evaluator needs, once it has run a cell, and room for runs of kernels, once one was run.
 #[derive(Drop)]
 pub struct KernelScratch<'a> {
     pub cells: Option<CellScratch<'a>>,
-    pub ranges: Vec<Range>,
-    pub kernels: Vec<Option<CellKernel>>,
-    pub buffers: Vec<Buffer<'a>>,
-    pub room: KernelRoom,
+    pub room: Option<KernelRoom>,
 }
 
 /// Makes what the evaluator needs, if it is not there: kernels do without.
@@ -33,6 +28,17 @@ pub(crate) fn begin_once<'a>(
         *scratch = Some(cells.begin()?);
     }
     Ok(())
+}
+
+/// Makes room for runs of these kernels, if it is not there and memory is found.
+pub(crate) fn make_room(
+    alloc: Global,
+    kernels: &[Option<CellKernel>],
+    room: &mut Option<KernelRoom>,
+) {
+    if room.is_none() {
+        *room = KernelRoom::new(alloc, kernels).ok();
+    }
 }
 
 /// Writes the one element of a cell, if there is room for one.

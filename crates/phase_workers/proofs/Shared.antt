@@ -7,13 +7,20 @@ use denote.Param.SendFields.{as_row_sync, declared_sync}
 use denote.Struct.Field.{bool-field, shr_ref_field, shr_slice_field}
 use Rattle.array_with_loops.specs.contracts.plans.Plan as plan
 use Rattle.array_with_loops.proofs.plans.Plan.TheSendSync as plan_shared
+use Rattle.array_with_loops.specs.contracts.ranges.Range as range
+use Rattle.array_with_loops.proofs.ranges.Range.TheSendSync as range_shared
 use Rattle.buffer_heap.specs.contracts.heap.Heap as heap
 use Rattle.buffer_heap.proofs.heap.Heap.TheSendSync as heap_shared
 use Rattle.core_ir.specs.contracts.tree.Var as var
 use Rattle.counted_code.specs.contracts.tree.Code as code
 use Rattle.counted_code.specs.contracts.tree.CodeGen as gen
 use Rattle.counted_code.specs.contracts.tree.CodePart as part
+use Rattle.kernel_buffers.specs.contracts.buffer.Buffer as buffer
+use Rattle.kernel_buffers.proofs.buffer.Buffer.TheSendSync as buffer_shared
+use Rattle.kernel_rows.specs.contracts.kernels.CellKernel as kernel
 use Rattle.phase_kernels.specs.contracts.cells.KernelCells as kernels
+use Rattle.phase_kernels.specs.contracts.shared.PhaseKernels as phase
+use Rattle.phase_kernels.specs.contracts.shared.PhaseKernels.TheInside as phase_inside
 use Rattle.phase_loop_cells.specs.contracts.copies.Background as background
 use Rattle.phase_loop_cells.proofs.copies.Background.TheSendSync as background_shared
 use Rattle.phase_loop_cells.specs.contracts.loops.LoopCells as cells
@@ -80,11 +87,24 @@ module _ (code_sync : IsSync code.the_row) (call_sync : IsSync call.the_row) whe
       ),
     )
 
-    pub kernels_sync : (l : _) → IsSync (kernels.the_row l)
+    kernels_sync : (l : _) → IsSync (kernels.the_row l)
     kernels_sync l = declared_sync (kernels.the_type l) (
       cells_sync l,
       (as_row_sync (shr_slice_field l var.the_row tt) (shr_slice_sync _ _ var.the_row (search (sendable))), tt),
     )
 
-    pub covered_sync : (l : _) → IsSync (covered.the_row l)
-    covered_sync l = declared_sync (covered.the_type l) (kernels_sync l, tt)
+    module _ (kernel_sync : IsSync (option.the_row kernel.the_row)) where
+      pub phase_sync : (l : _) → IsSync (phase.the_row l)
+      phase_sync l = view_sync (phase_inside.the_row l) _ _ _ _ (declared_sync (phase_inside.the_type l) (
+        kernels_sync l,
+        (
+          as_row_sync (vec.the_field range.the_row global.the_row ghosts) (search (Vec-sync, sendable, range_shared.the_sync) depth 20),
+          (
+            as_row_sync (vec.the_field (option.the_row kernel.the_row) global.the_row ghosts) (search (Vec-sync, sendable, kernel_sync) depth 20),
+            (as_row_sync (vec.the_field (buffer.the_row l) global.the_row ghosts) (search (Vec-sync, sendable, buffer_shared.the_sync) depth 20), tt),
+          ),
+        ),
+      ))
+
+      pub covered_sync : (l : _) → IsSync (covered.the_row l)
+      covered_sync l = declared_sync (covered.the_type l) (as_row_sync (phase.the_field l) (phase_sync l), tt)

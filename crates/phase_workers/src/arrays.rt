@@ -18,7 +18,7 @@ ghost use Rattle.run_store.specs.Stands.{lender_of};
 ghost use Rattle.run_values.specs.Scopes.{current};
 
 use crate::backgrounds::{background_of, base_of, set_aside};
-use crate::covered::{CoveredCells, all_cells};
+use crate::covered::all_cells;
 use core_ir::Var;
 use phase_books::{Begun, Workers, begin_phase, end_phase, finish_phase, stop_phase};
 use phase_kernels::KernelCells;
@@ -32,7 +32,7 @@ use std::thread::Threads;
 /// The result of a loop that makes a large array, and whose cells stand alone where these variables are read. An old array is
 /// read where it lies, beside the result.
 pub fn array_by_workers<'a, G: Gate, R: Threads + Sync>(
-    team: &Workers<'_, G, R>,
+    workers: &Workers<'_, G, R>,
     work: &CellLoop<'a>,
     live: &[Var],
     context: &Context<'a>,
@@ -55,7 +55,9 @@ pub fn array_by_workers<'a, G: Gate, R: Threads + Sync>(
     let mut begun = begin_phase(context.alloc, &plan.shape, positions, state)?;
     state.heap.own.buffers_are_numbered();
     let background = background_of(work, size as usize, &aside, &state.heap.own);
-    let end = array_cells(team, *work, live, background, *context, state, &mut begun);
+    let end = array_cells(
+        workers, *work, live, background, *context, state, &mut begun,
+    );
     let Begun { target, books } = begun;
     match end {
         Ok(_) => {
@@ -73,7 +75,7 @@ pub fn array_by_workers<'a, G: Gate, R: Threads + Sync>(
 /// Computes the cells of all indices, each at its place in the result of a phase that has begun. Where it says anything, each
 /// index has a cell, or something stands there.
 pub fn array_cells<'a, G: Gate, R: Threads + Sync>(
-    team: &Workers<'_, G, R>,
+    workers: &Workers<'_, G, R>,
     work: CellLoop<'a>,
     live: &'a [Var],
     background: Option<Background<'a>>,
@@ -95,18 +97,16 @@ pub fn array_cells<'a, G: Gate, R: Threads + Sync>(
         → source_cell context.entry state.now.heap.own (current state.now.frames) loop.source loop.plan.now background.entry place ≢ Ok None) }
     ensures buffer { begun.new.target.buffer ≡ begun.old.target.buffer }
 {
-    let covered = CoveredCells {
-        cells: KernelCells {
-            cells: LoopCells {
-                context,
-                heap: &state.heap.own,
-                frames: &state.frames,
-                source: work.source,
-                plan: work.plan,
-                background,
-            },
-            live,
+    let cells = KernelCells {
+        cells: LoopCells {
+            context,
+            heap: &state.heap.own,
+            frames: &state.frames,
+            source: work.source,
+            plan: work.plan,
+            background,
         },
+        live,
     };
-    all_cells(team, &covered, &mut begun.target.cells, &mut begun.books)
+    all_cells(workers, &cells, &mut begun.target.cells, &mut begun.books)
 }

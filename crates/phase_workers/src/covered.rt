@@ -6,7 +6,7 @@ ghost use Rattle.counted_code.specs.View.{code_program};
 ghost use Rattle.phase_books.specs.Alive.{AreAlive};
 ghost use Rattle.phase_books.specs.Homes.{ComputesAll, IsBooked, left_in, new_behind};
 ghost use Rattle.phase_cells.specs.Idle.{IsLending};
-ghost use Rattle.phase_kernels.specs.Ready.{HasKernels};
+ghost use Rattle.phase_kernels.specs.Ready.{IsKernelReady};
 ghost use Rattle.phase_loop_cells.specs.Opened.{OpenSource, SourceIn};
 ghost use Rattle.phase_team.specs.Segments.{IsComputed, Tells, cells_from, cost_from};
 ghost use Rattle.phase_workers.specs.Covered.{AreCovered, AreWhole, EndsIf, IfEnded, IsWhole, cell_of, must_be_there, taken_of};
@@ -15,12 +15,14 @@ ghost use Rattle.run_values.specs.Scopes.{current};
 ghost use Rattle.sac_base.specs.Arrays.{size};
 ghost use Rattle.wl_core.specs.Machine.{CellValue};
 
+use crate::teams::{kernels_for, team_for};
 use array_with_loops::IndexVector;
 use buffer_heap::Heap;
 use counted_code::{Code, CodeGen, CodePart};
+use kernel_rows::CellKernel;
 use phase_books::{Books, Workers, compute_array};
 use phase_cells::CellRuns;
-use phase_kernels::{KernelCells, KernelScratch};
+use phase_kernels::{KernelCells, KernelScratch, PhaseKernels};
 use phase_loop_cells::LoopCells;
 use phase_team::{CellEnd, Gate};
 use run_kernels::CallKernel;
@@ -30,9 +32,9 @@ use sac_base::{Cell, Memory, Stop, elements};
 use std::thread::Threads;
 
 /// The cells of a loop, where a position without one counts as want of memory.
-#[derive(Clone, Copy)]
+#[derive(Drop)]
 pub struct CoveredCells<'a> {
-    pub cells: KernelCells<'a>,
+    pub cells: PhaseKernels<'a>,
 }
 
 impl<'a> CellRuns for CoveredCells<'a> {
@@ -50,7 +52,7 @@ impl<'a> CellRuns for CoveredCells<'a> {
 
     ghost opens = { λ s k. OpenSource s.cells.cells.context s.cells.cells.heap.now (current s.cells.cells.frames.now) s.cells.cells.source k };
 
-    ghost ready = { λ s scratch. HasKernels s.cells scratch };
+    ghost ready = { λ s scratch. IsKernelReady s.cells scratch };
 
     fn heap(&self) -> &Heap {
         self.cells.heap()
@@ -104,58 +106,62 @@ fn covered(end: CellEnd) -> CellEnd
 /// Computes the cells of all indices, each at its place. Where it says anything, each index has a cell, or something stands
 /// there.
 pub fn all_cells<G: Gate, R: Threads + Sync>(
-    team: &Workers<'_, G, R>,
-    covered: &CoveredCells<'_>,
+    workers: &Workers<'_, G, R>,
+    cells: &KernelCells<'_>,
     into: &mut [Cell],
     books: &mut Books,
 ) -> Result<(), Stop>
-    requires counted { SourceIn (code_program covered.now.cells.cells.context.code.now) covered.now.cells.cells.source covered.now.cells.live.now }
-    requires alive { AreAlive covered.now.cells.cells.heap.now (current covered.now.cells.cells.frames.now) covered.now.cells.live.now }
-    requires home { books.old.home ≡ new_behind covered.now.cells.cells.heap.now }
-    ensures booked { IsBooked (length covered.now.cells.cells.plan.now.frame) books.old books.new result }
-    ensures computed { ComputesAll (cells_from (cell_of covered.now.cells) 0 (length covered.now.cells.cells.plan.now.frame)) covered.now.cells.cells.heap.now
-        (cost_from (taken_of covered.now.cells) 0 (length covered.now.cells.cells.plan.now.frame)) into.new (left_in books.new.home result) }
-    ensures there { IfEnded result ((place : ℕ) → place < length covered.now.cells.cells.plan.now.frame → cell_of covered.now.cells place ≢ Ok None) }
+    requires counted { SourceIn (code_program cells.now.cells.context.code.now) cells.now.cells.source cells.now.live.now }
+    requires alive { AreAlive cells.now.cells.heap.now (current cells.now.cells.frames.now) cells.now.live.now }
+    requires home { books.old.home ≡ new_behind cells.now.cells.heap.now }
+    ensures booked { IsBooked (length cells.now.cells.plan.now.frame) books.old books.new result }
+    ensures computed { ComputesAll (cells_from (cell_of cells.now) 0 (length cells.now.cells.plan.now.frame)) cells.now.cells.heap.now
+        (cost_from (taken_of cells.now) 0 (length cells.now.cells.plan.now.frame)) into.new (left_in books.new.home result) }
+    ensures there { IfEnded result ((place : ℕ) → place < length cells.now.cells.plan.now.frame → cell_of cells.now place ≢ Ok None) }
 {
-    let cells = &covered.cells.cells;
-    let _code = cells.context.code.get();
-    cells.heap.buffers_are_numbered();
-    let Some(size) = elements(&cells.plan.form.shape) else {
+    let _code = cells.cells.context.code.get();
+    cells.cells.heap.buffers_are_numbered();
+    let plan = cells.cells.plan;
+    let Some(size) = elements(&plan.form.shape) else {
         return Err(Stop::Memory);
     };
     let width = size as usize;
-    let count = cells.plan.frame.count();
+    let count = plan.frame.count();
     if count > MOST || count.checked_mul(width) != Some(into.len()) {
         return Err(Stop::Memory);
     }
-    let end = each_cell(team, covered, count, width, into, books);
-    believed(end, &covered.cells)
+    let end = each_cell(workers, cells, count, width, into, books);
+    believed(end, cells)
 }
 
 // The same of so many positions and elements of a cell.
 fn each_cell<G: Gate, R: Threads + Sync>(
-    team: &Workers<'_, G, R>,
-    covered: &CoveredCells<'_>,
+    workers: &Workers<'_, G, R>,
+    cells: &KernelCells<'_>,
     count: usize,
     width: usize,
     into: &mut [Cell],
     books: &mut Books,
 ) -> Result<(), Stop>
-    requires positions { (count ≤ 16777216) × (count ≡ length covered.now.cells.cells.plan.now.frame)
-        × (width ≡ size covered.now.cells.cells.plan.now.form.shape) }
-    requires lending { IsLending (OpenSource covered.now.cells.cells.context covered.now.cells.cells.heap.now
-        (current covered.now.cells.cells.frames.now) covered.now.cells.cells.source) covered.now.cells.cells.heap.now }
+    requires positions { (count ≤ 16777216) × (count ≡ length cells.now.cells.plan.now.frame)
+        × (width ≡ size cells.now.cells.plan.now.form.shape) }
+    requires lending { IsLending (OpenSource cells.now.cells.context cells.now.cells.heap.now
+        (current cells.now.cells.frames.now) cells.now.cells.source) cells.now.cells.heap.now }
     requires room { length into.old ≡ count * width }
-    requires home { books.old.home ≡ new_behind covered.now.cells.cells.heap.now }
+    requires home { books.old.home ≡ new_behind cells.now.cells.heap.now }
     ensures booked { IsBooked count books.old books.new result }
-    ensures computed { ComputesAll (cells_from (λ p. must_be_there (cell_of covered.now.cells p)) 0 count) covered.now.cells.cells.heap.now
-        (cost_from (taken_of covered.now.cells) 0 count) into.new (left_in books.new.home result) }
+    ensures computed { ComputesAll (cells_from (λ p. must_be_there (cell_of cells.now p)) 0 count) cells.now.cells.heap.now
+        (cost_from (taken_of cells.now) 0 count) into.new (left_in books.new.home result) }
 {
     shares::<CodePart>();
     shares::<CodeGen>();
     shares::<Code>();
     shares::<CallKernel>();
-    compute_array(team, covered, count, width, into, books)
+    shares::<Option<CellKernel>>();
+    let kernels = kernels_for(workers, *cells);
+    let team = team_for(workers, &kernels);
+    let covered = CoveredCells { cells: kernels };
+    compute_array(&team, &covered, count, width, into, books)
 }
 
 // The end of a phase of such cells, in which a fault is believed only where each position has a cell or something stands

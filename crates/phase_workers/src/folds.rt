@@ -22,9 +22,11 @@ ghost use Rattle.sac_base.specs.Verdict.{folds as folds_value};
 ghost use Rattle.sac_base.specs.WithLoops.{combined, fits_form as fits_form_value};
 
 use crate::covered::{MOST, shares};
+use crate::teams::{kernels_for, team_for};
 use array_with_loops::{Plan, fits_form};
 use core_ir::Var;
 use counted_code::{Code, CodeGen, CodePart};
+use kernel_rows::CellKernel;
 use phase_books::{
     Begun, Books, Workers, begin_phase, compute_fold, end_phase, finish_phase, stop_phase,
 };
@@ -57,7 +59,7 @@ fn folds(base: Base, op: Op) -> bool
 /// The cells of a loop combined, beginning with a neutral value that has their form, where the cells stand alone where these
 /// variables are read.
 pub fn fold_by_workers<'a, G: Gate, R: Threads + Sync>(
-    team: &Workers<'_, G, R>,
+    workers: &Workers<'_, G, R>,
     work: &CellLoop<'a>,
     op: Op,
     neutral: Array,
@@ -82,7 +84,7 @@ pub fn fold_by_workers<'a, G: Gate, R: Threads + Sync>(
     let mut begun = begin_phase(context.alloc, &plan.shape, positions, state)?;
     begun.target.cells = value;
     state.heap.own.buffers_are_numbered();
-    let end = fold_in(team, *work, op, live, *context, state, &mut begun);
+    let end = fold_in(workers, *work, op, live, *context, state, &mut begun);
     let Begun { target, books } = begun;
     match end {
         Ok(_) => {
@@ -99,7 +101,7 @@ pub fn fold_by_workers<'a, G: Gate, R: Threads + Sync>(
 
 // Combines what stands in the place of the result of a phase that has begun with the cells of all indices that have one.
 fn fold_in<'a, G: Gate, R: Threads + Sync>(
-    team: &Workers<'_, G, R>,
+    workers: &Workers<'_, G, R>,
     work: CellLoop<'a>,
     op: Op,
     live: &'a [Var],
@@ -131,12 +133,18 @@ fn fold_in<'a, G: Gate, R: Threads + Sync>(
         },
         live,
     };
-    fold_cells(team, &cells, op, &mut begun.target.cells, &mut begun.books)
+    fold_cells(
+        workers,
+        &cells,
+        op,
+        &mut begun.target.cells,
+        &mut begun.books,
+    )
 }
 
 // Combines a value with the cells of all indices that have one.
 fn fold_cells<G: Gate, R: Threads + Sync>(
-    team: &Workers<'_, G, R>,
+    workers: &Workers<'_, G, R>,
     cells: &KernelCells<'_>,
     op: Op,
     value: &mut [Cell],
@@ -157,12 +165,12 @@ fn fold_cells<G: Gate, R: Threads + Sync>(
     if count > MOST {
         return Err(Stop::Memory);
     }
-    each_fold(team, cells, count, op, value, books)
+    each_fold(workers, cells, count, op, value, books)
 }
 
 // The same of so many positions.
 fn each_fold<G: Gate, R: Threads + Sync>(
-    team: &Workers<'_, G, R>,
+    workers: &Workers<'_, G, R>,
     cells: &KernelCells<'_>,
     count: usize,
     op: Op,
@@ -183,6 +191,9 @@ fn each_fold<G: Gate, R: Threads + Sync>(
     shares::<CodeGen>();
     shares::<Code>();
     shares::<CallKernel>();
+    shares::<Option<CellKernel>>();
     let base = cells.cells.plan.form.base;
-    compute_fold(team, cells, count, base, op, value, books)
+    let kernels = kernels_for(workers, *cells);
+    let team = team_for(workers, &kernels);
+    compute_fold(&team, &kernels, count, base, op, value, books)
 }

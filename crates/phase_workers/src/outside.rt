@@ -13,7 +13,6 @@ ghost use Rattle.run_values.specs.Scopes.{current};
 use crate::arrays::array_by_workers;
 use crate::folds::{fold_by_workers, is_fold};
 use crate::sources::live_apart;
-use crate::teams::team_for;
 use phase_books::Workers;
 use phase_team::Gate;
 use run_eval::run_in_order;
@@ -62,8 +61,7 @@ fn array_outside<'a, G: Gate, R: Threads + Sync>(
     let Some(live) = live_apart(workers, &work.source, context, state)? else {
         return run_in_order(work, context, state);
     };
-    let team = team_for(workers, work.source, work.plan, &live, *context, state);
-    array_by_workers(&team, work, &live, context, state)
+    array_by_workers(workers, work, &live, context, state)
 }
 
 // Whether an array is made that is no small one.
@@ -98,6 +96,5 @@ fn fold_outside<'a, G: Gate, R: Threads + Sync>(
         return run_in_order(work, context, state);
     };
     let neutral = copy_array(neutral)?;
-    let team = team_for(workers, work.source, work.plan, &live, *context, state);
-    fold_by_workers(&team, work, op, neutral, &live, context, state)
+    fold_by_workers(workers, work, op, neutral, &live, context, state)
 }

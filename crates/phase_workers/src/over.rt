@@ -17,7 +17,6 @@ ghost use Rattle.run_values.specs.Shown.{value_of};
 
 use crate::arrays::array_cells;
 use crate::sources::live_apart;
-use crate::teams::team_for;
 use array_with_loops::Plan;
 use core_ir::Var;
 use counted_code::CodePart;
@@ -60,8 +59,7 @@ pub fn over_outside<G: Gate, R: Threads + Sync>(
     if !is_phase_over(parts, work.plan, array, &live, *context, state)? {
         return run_over_in_order(work, array, context, state);
     }
-    let team = team_for(workers, source, work.plan, &live, *context, state);
-    over_by_workers(&team, parts, work.plan, array, &live, context, state)
+    over_by_workers(workers, parts, work.plan, array, &live, context, state)
 }
 
 // Whether all cells may be computed before one of them is written over the array.
@@ -92,7 +90,7 @@ fn is_phase_over<'a>(
 
 // The same of a loop that is a phase: the cells are computed from what stands in the array, and then written over it.
 fn over_by_workers<'a, G: Gate, R: Threads + Sync>(
-    team: &Workers<'_, G, R>,
+    workers: &Workers<'_, G, R>,
     parts: &'a [CodePart],
     plan: &'a Plan,
     array: RunValue,
@@ -130,7 +128,7 @@ fn over_by_workers<'a, G: Gate, R: Threads + Sync>(
         plan,
         result: LoopResult::Joined,
     };
-    let end = array_cells(team, work, live, None, *context, state, &mut begun);
+    let end = array_cells(workers, work, live, None, *context, state, &mut begun);
     let Begun { target, books } = begun;
     let Target { cells, buffer: _ } = target;
     match end {

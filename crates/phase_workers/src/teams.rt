@@ -1,45 +1,46 @@
-//! Teams of phases.
+//! Kernels and teams of phases.
 
-use array_with_loops::Plan;
-use core_ir::Var;
-use phase_books::{FEW_IN_STRIPS, Workers, steps_of};
-use phase_kernels::{KernelCells, strip_steps};
-use phase_loop_cells::LoopCells;
+ghost use Rattle.std.specs.Prelude.{◌≡◌};
+
+use phase_books::{Workers, steps_of};
+use phase_kernels::{KernelCells, PhaseKernels};
 use phase_team::Gate;
-use run_loops::{CellSource, Context, State};
 use std::thread::Threads;
 
-/// The workers of a phase of the cells of a source, which read these variables: the thread that met it alone where its cells take less time than the
-/// start of further threads, by the steps of the evaluator or by those of strips.
-pub fn team_for<'a, 'b, G: Gate, R: Threads + Sync>(
+/// The most steps of the evaluator in which the cells of a phase are computed sooner than their kernels are made (`docs/DECISIONS.md`).
+const FEW: u64 = 128;
+
+/// The cells of a phase with their kernels, which all of its workers share, or without where they are few and short. Where a size of chunks was given
+/// there are kernels for few cells too.
+pub fn kernels_for<'a, G: Gate, R: Threads + Sync>(
+    workers: &Workers<'_, G, R>,
+    cells: KernelCells<'a>,
+) -> PhaseKernels<'a>
+    ensures { result ≡ cells.entry }
+{
+    let count = cells.cells.plan.frame.count() as u64;
+    if !workers.chunked && count.saturating_mul(cell_steps(&cells)) <= FEW {
+        PhaseKernels::without(cells)
+    } else {
+        PhaseKernels::of(cells)
+    }
+}
+
+/// The workers of a phase: the thread that met it alone where its cells take less time than the start of further threads, by the steps of strips where
+/// each cell is computed by these, and else by those of the evaluator.
+pub fn team_for<'b, G: Gate, R: Threads + Sync>(
     workers: &Workers<'b, G, R>,
-    source: CellSource<'a>,
-    plan: &'a Plan,
-    live: &'a [Var],
-    context: Context<'a>,
-    state: &'a State<'_, '_>,
+    kernels: &PhaseKernels<'_>,
 ) -> Workers<'b, G, R> {
-    let count = plan.frame.count();
-    let steps = steps_of(&source, live, &state.frames);
-    let team = workers.of_phase(count, steps);
-    // However short their bodies are, more cells than these take more than few steps, so that nobody needs to make kernels to see it.
-    let is_certain = count as u64 > FEW_IN_STRIPS;
-    if team.workers == 1 || team.chunked || is_certain {
-        return team;
-    }
-    let cells = KernelCells {
-        cells: LoopCells {
-            context,
-            heap: &state.heap.own,
-            frames: &state.frames,
-            source,
-            plan,
-            background: None,
-        },
-        live,
-    };
-    match strip_steps(&cells) {
+    let cells = kernels.cells();
+    let count = cells.cells.plan.frame.count();
+    match kernels.strip_steps() {
         Some(steps) => workers.of_strips(count, steps),
-        None => team,
+        None => workers.of_phase(count, cell_steps(cells)),
     }
+}
+
+// How many steps of the evaluator a cell takes at most.
+fn cell_steps(cells: &KernelCells<'_>) -> u64 {
+    steps_of(&cells.cells.source, cells.live, cells.cells.frames)
 }

@@ -10,13 +10,13 @@ use Rattle.phase_workers.proofs.covered.all_cells.Goals as goal
 
 pub each_cell-end-requires-clause-lending : goal.each_cell-end-requires-clause-lending
 each_cell-end-requires-clause-lending g c κs within =
-    let s = c.args.covered.now.cells in
+    let s = c.args.cells.now in
     let numbered = c.buffers_are_numbered.ensures in
     lending_source s.cells.context s.cells.heap.now (current s.cells.frames.now) s.cells.source s.live.now c.get-code.ensures.counted c.requires.counted c.requires.alive numbered.referred numbered.below numbered.single numbered.counters
 
 pub returns-clause-computed : goal.returns-clause-computed
 returns-clause-computed g c =
-    let s = c.args.covered.now.cells in
+    let s = c.args.cells.now in
     let h = s.cells.heap.now in
     let p = s.cells.plan.now in
     let es = c.each_cell-end.new.into in
@@ -30,13 +30,13 @@ returns-clause-computed g c =
 
 pub returns-clause-booked : goal.returns-clause-booked
 returns-clause-booked g c =
-    let s = c.args.covered.now.cells in
+    let s = c.args.cells.now in
     booked_if (AreWhole s) (length s.cells.plan.now.frame) c.args.books.now c.each_cell-end.new.books c.each_cell-end.result c.believed.result c.believed.ensures
     (subst (λ (k : ℕ). IsBooked k c.args.books.now c.each_cell-end.new.books c.each_cell-end.result) c.count-count.ensures c.each_cell-end.ensures.booked)
 
 pub returns-clause-there : goal.returns-clause-there
 returns-clause-there g c =
-    let s = c.args.covered.now.cells in
+    let s = c.args.cells.now in
     let h = s.cells.heap.now in
     let p = s.cells.plan.now in
     let es = c.each_cell-end.new.into in
