@@ -34,8 +34,9 @@ pub fn combine_held(op: Op, into: &mut [Cell], held: bool, value: &[Cell], more:
     true
 }
 
-// Combines a number with others, one after another.
-fn fold_numbers(op: Op, first: Cell, numbers: &[Cell]) -> Cell
+// The loop of every operator: it is inlined where the operator is known, so that each operator has a loop of its own.
+#[inline(always)]
+fn fold_by(op: Op, first: Cell, numbers: &[Cell]) -> Cell
     ensures { result ≡ fold (fold_op op) first numbers.now }
 {
     let mut value = first;
@@ -43,6 +44,21 @@ fn fold_numbers(op: Op, first: Cell, numbers: &[Cell]) -> Cell
         value = apply2(op, value, numbers[i]).unwrap_or(0);
     }
     value
+}
+
+// Combines a number with others, one after another.
+fn fold_numbers(op: Op, first: Cell, numbers: &[Cell]) -> Cell
+    ensures { result ≡ fold (fold_op op) first numbers.now }
+{
+    match op {
+        Op::Add => fold_by(Op::Add, first, numbers),
+        Op::Mul => fold_by(Op::Mul, first, numbers),
+        Op::Min => fold_by(Op::Min, first, numbers),
+        Op::Max => fold_by(Op::Max, first, numbers),
+        Op::And => fold_by(Op::And, first, numbers),
+        Op::Or => fold_by(Op::Or, first, numbers),
+        _ => fold_by(op, first, numbers),
+    }
 }
 
 /// Combines a value of one element, which may be missing, with numbers one after another.

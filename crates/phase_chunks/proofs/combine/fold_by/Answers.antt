@@ -5,7 +5,7 @@ use Rattle.std.proofs.lemmas.Int.{to_z-of_z}
 use Rattle.std.proofs.lemmas.List.{take_more}
 use Rattle.std.proofs.lemmas.List.Sums.{fold_push}
 use Rattle.sac_base.specs.Verdict.{fold_op}
-use Rattle.phase_chunks.proofs.combine.fold_numbers.Goals as goal
+use Rattle.phase_chunks.proofs.combine.fold_by.Goals as goal
 
 pub loop-i-preserved : goal.loop-i-preserved
 loop-i-preserved c =
