@@ -3,4 +3,5 @@ pub mod Ends
 pub mod FewerLevels
 pub mod Plain
 pub mod Results
+pub mod Shown
 pub mod Walks

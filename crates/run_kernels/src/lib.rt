@@ -1,4 +1,4 @@
-//! Loops over scalars and calls with scalars as kernels, where the thread that runs a program meets them.
+//! Loops over scalars and calls with scalars and short vectors as kernels, where the thread that runs a program meets them.
 #![tactic(auto)]
 
 mod calls;
@@ -7,6 +7,7 @@ mod groups;
 mod levels;
 mod linear;
 mod mentions;
+mod passing;
 mod reading;
 mod recursion;
 mod run;
@@ -18,3 +19,4 @@ pub use fewer_levels::fewer_levels_end_alike;
 pub use groups::PlainGroups;
 pub use levels::CallLevels;
 pub use run::loop_values;
+pub use scope::{ReadsBuffers, Scope, scope_of};

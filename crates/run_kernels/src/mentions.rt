@@ -68,6 +68,7 @@ fn mention_operands(
             mention(*x, frames, all)?;
             mention(*y, frames, all)
         }
+        CodeRight::Replace(a, x, y) => mention_all(&[*a, *x, *y], frames, all),
         CodeRight::Literal(xs) => mention_all(xs, frames, all),
         _ => Ok(()),
     }

@@ -57,6 +57,7 @@ fn right_reads(right: &CodeRight, frames: &Frames<'_>, plain: &[bool]) -> bool
         | CodeRight::Dim(_)
         | CodeRight::Always(_) => true,
         CodeRight::Copy(x) | CodeRight::Check(x, _) => is_outside(*x, frames),
+        CodeRight::Replace(a, _, _) => is_outside(*a, frames),
         CodeRight::Call { group, args } => is_plain(*group as usize, plain)
             && all_outside(args, frames),
         CodeRight::If { yes, no, .. } => block_reads(yes, frames, plain)

@@ -4,8 +4,8 @@ use Rattle.run_values.specs.Numbers.{numbers}
 use Rattle.run_kernels.proofs.scope.borrowed.Goals as goal
 
 pub returns : goal.returns
-returns c m stands =
+returns g c =
     let s = c.in_ok-shape.shape in
+    let cells = c.in_ok-cells.cells.now in
     let shape : s ≡ map unsigned_abs (numbers c.args.extents.now) = sym (abs_pos s) ∙ ap (map unsigned_abs) (c.in_ok-shape.ensures.value ∙ c.as_slice.ensures.numbers) in
-    let cells = rw c.in-Ok.is at c.buffer_cells.ensures m stands in
-    c.new.ensures ∙ (λ i. record { base = c.args.base; shape = shape i; cells = cells i })
+    (cells, c.in_ok-cells.ensures, c.new.ensures ∙ (λ i. record { base = c.args.base; shape = shape i; cells = cells }))

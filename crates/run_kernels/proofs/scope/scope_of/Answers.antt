@@ -1,9 +1,7 @@
-use Rattle.std.proofs.Common.{sym, ap}
-use Rattle.counted_code.specs.Machine.{reads}
-use Rattle.counted_code.specs.Values.{read}
-use Rattle.run_values.specs.Scopes.{current}
+use Rattle.std.proofs.Common.{sym}
+use Rattle.run_kernels.proofs.Shown.{shown_as}
 use Rattle.run_kernels.proofs.scope.scope_of.Goals as goal
 
 pub loop-x-preserved : goal.loop-x-preserved
-loop-x-preserved c m stands =
-    c.in_ok-add_value.ensures m (reads m (current c.args.frames.now)) stands (ap (read m) (sym c.get.ensures)) (c.loop-x.invariant m stands)
+loop-x-preserved g c e shown =
+    c.in_ok-add_value.ensures e (shown_as (g.H.ReadsBuffers.has c.args.heap.now) _ _ _ (sym c.get.ensures) (shown _)) (c.loop-x.invariant e shown)
