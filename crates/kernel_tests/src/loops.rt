@@ -3,9 +3,11 @@ use core_ir::Var;
 use counted_code::{CodeBlock, CodeLet, CodeRight, CodeStep};
 use kernel_callees::Lowering;
 use kernel_lower::kernel_of;
-use kernel_tree::{Held, Kernel};
+use kernel_strip::strip_of;
+use kernel_tree::{Held, Kernel, Registers};
 use sac_base::{Base, Cell, Fault, FaultKind, Op};
 use std::alloc::Global;
+use strip_runs::{StripRoom, run_strip};
 
 // Variables 1 and 2 are the row and the column, and 3 to 6 are numbers.
 const KNOWN: [(Var, Held); 6] = [
@@ -182,36 +184,44 @@ fn a_loop_has_the_values_of_its_last_turn(rt: HostRuntime) {
     );
 }
 
+// Whether a point is within the bound yet, and has made less than 8 turns.
+const IS_INSIDE: [Line; 10] = [
+    (30, Op::Mul, 11, 11),
+    (31, Op::Mul, 12, 12),
+    (32, Op::Add, 30, 31),
+    (33, Op::Mul, 6, 6),
+    (34, Op::Mul, 33, 5),
+    (35, Op::Mul, 34, 5),
+    (36, Op::Le, 32, 35),
+    (37, Op::Sub, 6, 5),
+    (38, Op::Lt, 10, 37),
+    (39, Op::And, 36, 38),
+];
+
+// A turn of a point whose second coordinate is in a variable.
+fn next_point(y: u32) -> [Line; 10] {
+    [
+        (40, Op::Mul, 11, 11),
+        (41, Op::Mul, 12, 12),
+        (42, Op::Sub, 40, 41),
+        (43, Op::Div, 42, 6),
+        (44, Op::Add, 43, 1),
+        (45, Op::Mul, 11, 12),
+        (46, Op::Mul, 45, 5),
+        (47, Op::Div, 46, 6),
+        (48, Op::Add, 47, y),
+        (49, Op::Add, 10, 4),
+    ]
+}
+
 // How many turns a point takes in a Mandelbrot set of tenths, up to 8.
 #[test]
 fn a_mandelbrot_cell_is_a_kernel(rt: HostRuntime) {
     let mandelbrot = Turning {
         first_body: false,
         start: &[3, 3, 3],
-        test: &[
-            (30, Op::Mul, 11, 11),
-            (31, Op::Mul, 12, 12),
-            (32, Op::Add, 30, 31),
-            (33, Op::Mul, 6, 6),
-            (34, Op::Mul, 33, 5),
-            (35, Op::Mul, 34, 5),
-            (36, Op::Le, 32, 35),
-            (37, Op::Sub, 6, 5),
-            (38, Op::Lt, 10, 37),
-            (39, Op::And, 36, 38),
-        ],
-        body: &[
-            (40, Op::Mul, 11, 11),
-            (41, Op::Mul, 12, 12),
-            (42, Op::Sub, 40, 41),
-            (43, Op::Div, 42, 6),
-            (44, Op::Add, 43, 1),
-            (45, Op::Mul, 11, 12),
-            (46, Op::Mul, 45, 5),
-            (47, Op::Div, 46, 6),
-            (48, Op::Add, 47, 2),
-            (49, Op::Add, 10, 4),
-        ],
+        test: &IS_INSIDE,
+        body: &next_point(2),
         results: &[49, 44, 48],
     };
     assert!(rt;
@@ -227,6 +237,41 @@ fn a_mandelbrot_cell_is_a_kernel(rt: HostRuntime) {
             ]
         )
     );
+}
+
+// The cells at rows from one on, where both coordinates are the row.
+fn diagonal(alloc: Global, first: Cell, count: usize) -> Option<Vec<Cell>> {
+    let mandelbrot = Turning {
+        first_body: false,
+        start: &[3, 3, 3],
+        test: &IS_INSIDE,
+        body: &next_point(1),
+        results: &[49, 44, 48],
+    };
+    let kernel = loop_kernel(alloc, &mandelbrot)?;
+    let held = *kernel.results.first()?;
+    let strips = strip_of(alloc, &kernel.block, held, 0).ok()??;
+    let mut room = StripRoom::new(alloc, strips.size()).ok()?;
+    let mut registers: Registers = [0; 256];
+    registers[0] = first;
+    let mut out = vec![in alloc; 0; count].ok()?;
+    if run_strip(&strips, &[], &registers, 10, &mut room, &mut out) {
+        Some(out)
+    } else {
+        None
+    }
+}
+
+// The numbers of the points (-20, -20) to (20, 20), which were computed apart.
+const DIAGONAL: [Cell; 41] = [
+    1, 1, 1, 1, 1, 1, 2, 2, 3, 3, 3, 3, 4, 7, 8, 8, 8, 8, 8, 8, 8, 8, 8, 8, 8, 5, 3, 3, 2, 2, 2, 2,
+    2, 2, 2, 1, 1, 1, 1, 1, 1,
+];
+
+#[test]
+fn a_mandelbrot_row_has_strips(rt: HostRuntime) {
+    let cells = diagonal(rt.alloc(), -20, DIAGONAL.len()).expect(&rt, "strips");
+    assert!(rt; cells.as_slice() == DIAGONAL.as_slice());
 }
 
 // A quotient whose divisor is 0 in the third turn, and a loop whose first turn precedes the first test.

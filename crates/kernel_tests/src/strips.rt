@@ -5,5 +5,6 @@ mod common;
 mod folds;
 mod loads;
 mod long_folds;
+mod loops;
 mod quotients;
 mod ranges;

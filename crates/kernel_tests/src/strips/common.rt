@@ -1,14 +1,18 @@
 use crate::making::one;
 use kernel_buffers::Buffer;
-use kernel_strip::{StripRoom, Strips, run_strip, strip_of};
+use kernel_strip::{Strips, strip_of};
 use kernel_tree::{Held, KernelBlock, KernelPart, KernelStep, Registers};
 use sac_base::{Base, Cell, Memory, Site};
 use std::alloc::Global;
+use strip_runs::{StripRoom, run_strip};
 
 pub const HERE: Site = Site { line: 1, col: 1 };
 
 /// Where the result of each kernel here is.
 pub const RESULT: u8 = 20;
+
+/// How many turns each execution of a loop may make, as in `making::run`.
+const TURNS: u64 = 9;
 
 /// One line as a block.
 pub fn line(alloc: Global, steps: &[KernelStep]) -> KernelBlock {
@@ -67,7 +71,8 @@ fn run(
     let mut room = StripRoom::new(alloc, strips.size())?;
     let mut registers: Registers = [0; 256];
     registers[0] = first;
-    Ok(run_strip(strips, buffers, &registers, &mut room, out))
+    let done = run_strip(strips, buffers, &registers, TURNS, &mut room, out);
+    Ok(done)
 }
 
 // The cells of a row, or none where the strip is refused.
