@@ -1,11 +1,11 @@
 //! What is known of variables before the first turn of a loop, or the first cell.
 
-ghost use Rattle.std.specs.Prelude.{◌≡◌, ◌≤◌, ℕ, ℤ, List, IfOk, IfSome, OnOk, map, unsigned_abs};
+ghost use Rattle.std.specs.Prelude.{◌≡◌, ◌≤◌, ℕ, ℤ, List, IfOk, IfSome, OnOk, length, map, take, unsigned_abs};
 ghost use Rattle.buffer_heap.specs.Heaps.{In, IsLive, IsNamed, at, content_of};
 ghost use Rattle.core_ir.specs.declared.tree.Var.{Var};
 ghost use Rattle.core_ir.specs.Meaning.{Env};
 ghost use Rattle.counted_code.specs.Values.{Heap as MachineHeap, cells_of};
-ghost use Rattle.kernel_tree.specs.declared.tree.Held.TheVariants.{Whole};
+ghost use Rattle.kernel_tree.specs.declared.tree.Held.TheVariants.{Numbers, Whole};
 ghost use Rattle.kernel_code.specs.Relations.{IsScope};
 ghost use Rattle.run_kernels.specs.Scopes.{IsShown};
 ghost use Rattle.run_store.specs.Stands.{Stands};
@@ -54,7 +54,7 @@ impl ReadsBuffers for Heap {
     }
 }
 
-/// Where the values of variables are that are scalars or buffers of rank 1 or 2, and these buffers.
+/// Where the values of variables are that are scalars, short vectors, or buffers of rank 1 or 2, and these buffers.
 #[derive(Drop)]
 pub struct Scope<'a> {
     pub known: Vec<(Var, Held)>,
@@ -79,7 +79,7 @@ pub fn scope_of<'a, H: ReadsBuffers>(
     Ok(Scope { known, buffers })
 }
 
-// Adds a variable with its value, if that is a scalar, or a buffer of rank 1 or 2 and there are not too many.
+// Adds a variable with its value, if that is a scalar or a short vector, or a buffer of rank 1 or 2 and there are not too many.
 fn add_value<'a, H: ReadsBuffers>(
     alloc: Global,
     known: &mut Vec<(Var, Held)>,
@@ -96,6 +96,10 @@ fn add_value<'a, H: ReadsBuffers>(
             known.push((x, Held::Number(base, n)))?;
             Ok(())
         }
+        RunValue::Short(base, few) => {
+            known.push((x, numbers_of(base, &few)))?;
+            Ok(())
+        }
         RunValue::Buffer(base, id, extents) => {
             let Some(buffer) = borrowed(alloc, base, id, &extents, heap) else {
                 return Ok(());
@@ -109,8 +113,20 @@ fn add_value<'a, H: ReadsBuffers>(
             known.push((x, whole(base, rank, number)))?;
             Ok(())
         }
-        _ => Ok(()),
+        RunValue::Unbound => Ok(()),
     }
+}
+
+// A short vector, whose numbers are known.
+fn numbers_of(base: Base, few: &Few) -> Held
+    ensures { (ks : List ℤ) × (result ≡ Numbers base ks (length (numbers few.now))) × (take (length (numbers few.now)) ks ≡ numbers few.now) }
+{
+    let mut cells = [0; 8];
+    let list = few.as_slice();
+    for k in 0..list.len() {
+        cells[k] = list[k];
+    }
+    Held::Numbers(base, cells, list.len() as u8)
 }
 
 // The buffer of this number.

@@ -1,6 +1,7 @@
 //! Calls of a function that calls itself, as kernels.
 
-use crate::making::{int, one};
+use crate::making::{few, int, one};
+use crate::marked_loops::code_of;
 use core_ir::Var;
 use counted_code::{Code, CodeBlock, CodeFun, CodeLet, CodeRight, CodeStep};
 use run_kernels::{CallLevels, PlainGroups, call_values};
@@ -106,4 +107,70 @@ fn calls_that_call_themselves_are_kernels(rt: HostRuntime) {
     assert!(rt; matches!(sum_to(alloc, 5, 100), Ok(Some(15))));
     assert!(rt; matches!(sum_to(alloc, 5, 1), Ok(None)));
     assert!(rt; matches!(sum_to(alloc, 99, 100), Ok(None)));
+}
+
+// A function that calls itself in a loop, with a vector.
+const BRANCHING: &[u8] = b"int ways(int[2] v, int n) {
+  count = 0;
+  if (n == 0) {
+    count = v[0];
+  } else {
+    for (k = 0; k < 2; k++) { count = count + ways(v, n - 1); }
+  }
+  return (count);
+}
+int main() { return (ways([3, 4], 2)); }";
+
+// A function that calls itself, with a loop of its own beside that.
+const LOOPING: &[u8] = b"int ways(int[2] v, int n) {
+  count = 0;
+  for (k = 0; k < n; k++) { count = count + v[1]; }
+  if (n > 0) { count = count + ways(v, n - 1); }
+  return (count);
+}
+int main() { return (ways([3, 4], 2)); }";
+
+// The group of a program's function of this name.
+fn group_of(code: &Code, name: &str) -> Option<u32> {
+    for group in 0..code.groups.len() {
+        let place = *code.groups[group].first()?;
+        if code.functions.get(place as usize)?.name.as_str() == name {
+            return u32::try_from(group).ok();
+        }
+    }
+    None
+}
+
+// What a call of `ways` with a vector of these numbers and a number gives as a kernel. None where it is left to the evaluator.
+fn ways_of(alloc: Global, source: &[u8], v: &[Cell], n: Cell) -> Result<Option<Cell>, Stop> {
+    let code = code_of(alloc, source, &[])?;
+    let plain = PlainGroups::of(alloc, &code);
+    let levels = CallLevels {
+        plain: &plain,
+        turns: 10,
+        left: 100,
+        nest: 0,
+        tried: 100,
+    };
+    let Some(group) = group_of(&code, "ways") else {
+        return Err(Stop::Memory);
+    };
+    let args = [RunValue::Short(Base::Int, few(v)), RunValue::Word(Base::Int, n)];
+    match call_values(levels, group, &args, alloc)? {
+        Some(values) => match values.first() {
+            Some(RunValue::Word(Base::Int, count)) => Ok(Some(*count)),
+            _ => Err(Stop::Memory),
+        },
+        None => Ok(None),
+    }
+}
+
+#[test]
+fn calls_with_short_vectors_in_loops_are_kernels(rt: HostRuntime) {
+    let alloc = rt.alloc();
+    assert!(rt; matches!(ways_of(alloc, BRANCHING, &[3, 4], 0), Ok(Some(3))));
+    assert!(rt; matches!(ways_of(alloc, BRANCHING, &[3, 4], 3), Ok(Some(24))));
+    assert!(rt; matches!(ways_of(alloc, BRANCHING, &[3, 4], 80), Ok(None)));
+    assert!(rt; matches!(ways_of(alloc, BRANCHING, &[3, 4, 5], 3), Ok(None)));
+    assert!(rt; matches!(ways_of(alloc, LOOPING, &[3, 4], 3), Ok(None)));
 }

@@ -84,7 +84,7 @@ fn program(alloc: Global, source: &[u8]) -> Result<Program, Memory>
 }
 
 /// The code of a source for arguments of these forms.
-fn code_of(alloc: Global, source: &[u8], forms: &[Form]) -> Result<Code, Memory>
+pub(crate) fn code_of(alloc: Global, source: &[u8], forms: &[Form]) -> Result<Code, Memory>
     ensures counted { IfOk result (λ code. IsWellCounted (code_program code)) }
     ensures marked { IfOk result (λ code. IsWellMarked (code_program code)) }
 {
