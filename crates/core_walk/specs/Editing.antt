@@ -34,6 +34,16 @@ module _ (called : ℕ → List (Option (List ℕ))) (Holds : Facts → BlockTer
     EachInParts NoParts k = Unit {0}
     EachInParts (Part h b rest) k = EachBinding b (in_part k h) × EachInParts rest k
 
+  -- the same of what begins at the block's own bindings alone
+  abbrev pub EachBegun : BlockTerm → Facts → Type 0
+  EachBegun (Gives xs) k = Unit {0}
+  EachBegun (Bind xs s r b) k = Holds k (Bind xs s r b) × EachBegun b (note_all k xs (right_facts called r k))
+
+  -- and in the blocks of their right sides
+  abbrev pub EachInside : BlockTerm → Facts → Type 0
+  EachInside (Gives xs) k = Unit {0}
+  EachInside (Bind xs s r b) k = EachInRight r k × EachInside b (note_all k xs (right_facts called r k))
+
 -- A step by a rule: the right side changes, and what is known of its values is what the new one tells, or nothing is to do and it stays.
 module _ (called : ℕ → List (Option (List ℕ))) (P : Type 0) (count : P → ℕ) (Rule : P → P → Facts → BlockTerm → BlockTerm → Type 0)
     (Left : P → Facts → BlockTerm → Type 0) where
