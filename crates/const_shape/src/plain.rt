@@ -21,7 +21,11 @@ pub fn is_plain(right: &Right) -> bool
 {
     !matches!(
         right,
-        Right::If { .. } | Right::Loop { .. } | Right::Call { .. } | Right::With(_) | Right::Parted(_)
+        Right::If { .. }
+            | Right::Loop { .. }
+            | Right::Call { .. }
+            | Right::With(_)
+            | Right::Parted(_)
     )
 }
 

@@ -35,6 +35,7 @@ pub fn settle_block(
 }
 
 /// Settles right sides without blocks and calls.
+#[derive(Drop)]
 struct Settling<'a> {
     /// The known shapes of the results of calls.
     called: &'a CalledShapes,

@@ -171,8 +171,11 @@ module _ (called : ℕ → List (Option (List ℕ))) (P : Type 0) (count : P →
     verdict = both P count p q u ((m ≡ r) × EachInRight called (Left p) r k) ((t ≡ m) × ((rest : BlockTerm) → Here q k (Bind xs s m rest)))
         ((record { targets = xs; site = s; right = t } ≡ record { targets = xs; site = s; right = r }) × ((rest : BlockTerm) → Here p k (Bind xs s r rest)) × EachInRight called (Left p) r k)
         v.verdict (edit_verdict k q u xs s m t h.edit)
-        (λ e a b. ((λ i. record { targets = xs; site = s; right = (b.0 ∙ a.0) i }),
-          (λ rest. subst (λ (n : P). Here n k (Bind xs s r rest)) e (subst (λ (z : RightTerm). Here q k (Bind xs s z rest)) a.0 (b.1 rest))), a.1));
+        (λ e a b. (
+          (λ i. record { targets = xs; site = s; right = (b.0 ∙ a.0) i }),
+          (λ rest. subst (λ (n : P). Here n k (Bind xs s r rest)) e (subst (λ (z : RightTerm). Here q k (Bind xs s z rest)) a.0 (b.1 rest))),
+          a.1,
+        ));
   }
 
   lets_told : (k j h : Facts) (p q u : P) (l : LetTerm) (ls ms ns : List LetTerm) → LetTold k j p q l ms → LetsTold j h q u ls ns → LetsTold k h p u (l ∷ ls) (ms ++ ns)
@@ -185,12 +188,19 @@ module _ (called : ℕ → List (Option (List ℕ))) (P : Type 0) (count : P →
             (lift P count (Bind m.targets m.site m.right) (λ _ _ _ _ e. later e) (subst (λ (f : Facts). BlockWalk f q u (chain ls end) (chain ns end)) v.known (w.walked end)));
         verdict = both P count p q u ((m ≡ l) × ((rest : BlockTerm) → Here p k (Bind l.targets l.site l.right rest)) × EachInRight called (Left p) l.right k)
             (LetsLeft j h q ls ns) (LetsLeft k h p (l ∷ ls) (m ∷ ns)) v.verdict w.verdict (λ e a b.
-              let same : j ≡ note_all k l.targets (right_facts called l.right k) = v.known ∙ (λ i. note_all k (a.0 i).targets (right_facts called (a.0 i).right k)) in
-              ((λ i. a.0 i ∷ b.0 i),
-                (λ end x. (a.2, subst (λ (f : Facts). EachInside called (Left p) (chain ls end) f) same
-                (subst (λ (n : P). EachInside called (Left n) (chain ls end) j) e (b.1 end (subst (λ (n : P). EachInside called (Left n) end h) (sym e) x))))),
-                (λ end x. (a.1 (chain ls end), subst (λ (f : Facts). EachBegun called (Here p) (chain ls end) f) same
-                (subst (λ (n : P). EachBegun called (Here n) (chain ls end) j) e (b.2 end (subst (λ (n : P). EachBegun called (Here n) end h) (sym e) x)))))));
+            let same : j ≡ note_all k l.targets (right_facts called l.right k) = v.known ∙ (λ i. note_all k (a.0 i).targets (right_facts called (a.0 i).right k)) in (
+              (λ i. a.0 i ∷ b.0 i),
+              (λ end x. (
+                a.2,
+                subst (λ (f : Facts). EachInside called (Left p) (chain ls end) f) same
+                    (subst (λ (n : P). EachInside called (Left n) (chain ls end) j) e (b.1 end (subst (λ (n : P). EachInside called (Left n) end h) (sym e) x))),
+              )),
+              (λ end x. (
+                a.1 (chain ls end),
+                subst (λ (f : Facts). EachBegun called (Here p) (chain ls end) f) same
+                    (subst (λ (n : P). EachBegun called (Here n) (chain ls end) j) e (b.2 end (subst (λ (n : P). EachBegun called (Here n) end h) (sym e) x))),
+              )),
+            ));
       })
 
   -- ---- a block at its end
@@ -207,17 +217,18 @@ module _ (called : ℕ → List (Option (List ℕ))) (P : Type 0) (count : P →
   block_told : (k j : Facts) (p q u : P) (ls ns : List LetTerm) (rs : List Var) (c : BlockTerm) (vs : List Fact) → LetsTold k j p q ls ns → EditFinish k q u (chain ns (Gives rs)) (map j rs) c vs →
       BlockTold k p u (chain ls (Gives rs)) c × (vs ≡ block_facts called c k)
   block_told k j p q u ls ns rs c vs w f =
-      let old = chain ls (Gives rs) in
-      (record {
+      let old = chain ls (Gives rs) in (
+        record {
           walked = join P count (w.walked (Gives rs)) f.walked;
           verdict = both P count p q u (LetsLeft k j p ls ns) ((c ≡ chain ns (Gives rs)) × (EachBegun called (Here q) (chain ns (Gives rs)) k → EachBegun called (Left q) (chain ns (Gives rs)) k))
               ((c ≡ old) × EachBinding called (Left p) old k) w.verdict f.verdict (λ e a b.
-                let same : chain ns (Gives rs) ≡ old = ap (λ (z : List LetTerm). chain z (Gives rs)) a.0 in
-                let begun : EachBegun called (Here p) old k → EachBegun called (Left p) old k =
-                subst (λ (n : P). EachBegun called (Here n) old k → EachBegun called (Left n) old k) e (subst (λ (t : BlockTerm). EachBegun called (Here q) t k → EachBegun called (Left q) t k) same b.1) in
-                (b.0 ∙ same, both_each (Left p) old k (a.1 (Gives rs) tt) (begun (a.2 (Gives rs) tt))));
+              let same : chain ns (Gives rs) ≡ old = ap (λ (z : List LetTerm). chain z (Gives rs)) a.0 in
+              let begun : EachBegun called (Here p) old k → EachBegun called (Left p) old k =
+              subst (λ (n : P). EachBegun called (Here n) old k → EachBegun called (Left n) old k) e (subst (λ (t : BlockTerm). EachBegun called (Here q) t k → EachBegun called (Left q) t k) same b.1) in
+              (b.0 ∙ same, both_each (Left p) old k (a.1 (Gives rs) tt) (begun (a.2 (Gives rs) tt))));
         },
-        f.known (ap (λ (m : Facts). map m rs) w.known ∙ sym (known_behind called ns rs k)))
+        f.known (ap (λ (m : Facts). map m rs) w.known ∙ sym (known_behind called ns rs k)),
+      )
 
 -- ---- a whole trace, whose steps and finished blocks are seen as edits
 

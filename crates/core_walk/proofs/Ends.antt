@@ -103,9 +103,11 @@ module _ (called : ℕ → List (Option (List ℕ))) (P : Type 0)
       let last : List LetTerm = record { targets = xs; site = s; right = t } ∷ [] in
       let step = subst (λ (l : List Var). Step k q u l s m vs ms t ws) y (subst (λ (f : Facts). Step f q u ys s m vs ms t ws) same h) in
       let one : LetTraced called P Step Finish k (note_all k xs ws) p u (record { targets = xs; site = s; right = r }) (ms ++ last) = bound w step in
-      let known : j ≡ note_all k xs ws = learned ∙ (λ i. note_all (still i) (z i) ws) in
-      (ms ++ last, e ∙ ap (λ (l : List LetTerm). l ++ last) d ∙ append_assoc old ms last,
-        subst (λ (f : Facts). LetTraced called P Step Finish k f p u (record { targets = xs; site = s; right = r }) (ms ++ last)) (sym known) one)
+      let known : j ≡ note_all k xs ws = learned ∙ (λ i. note_all (still i) (z i) ws) in (
+        ms ++ last,
+        e ∙ ap (λ (l : List LetTerm). l ++ last) d ∙ append_assoc old ms last,
+        subst (λ (f : Facts). LetTraced called P Step Finish k f p u (record { targets = xs; site = s; right = r }) (ms ++ last)) (sym known) one,
+      )
 
   -- ---- generators and parts
 

@@ -38,5 +38,6 @@ NoneAt called p k (Gives xs) = Unit {0}
 NoneAt called p k (Bind xs s r b) = NoneHere called p.next xs r k
 
 -- what the walk does with a right side
-abbrev pub MergeStep : (ℕ → List (Option (List ℕ))) → Facts → Progress → Progress → List Var → Site → RightTerm → List Fact → List LetTerm → RightTerm → List Fact → Type 0
+abbrev pub MergeStep :
+    (ℕ → List (Option (List ℕ))) → Facts → Progress → Progress → List Var → Site → RightTerm → List Fact → List LetTerm → RightTerm → List Fact → Type 0
 MergeStep called = EditStep called Progress (λ p. p.replaced) (λ p q. MergesPlanned called p.next q.next) (NoneAt called)

@@ -41,6 +41,7 @@ pub fn merge_block(
 }
 
 /// Merges each loop when the bodies of its parts have been walked through.
+#[derive(Drop)]
 struct Merging<'a> {
     /// The known shapes of the results of calls.
     called: &'a CalledShapes,

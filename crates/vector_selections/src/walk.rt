@@ -35,6 +35,7 @@ pub fn in_block(
 }
 
 /// Binds a vector before each selection that goes by one.
+#[derive(Drop)]
 struct Vectoring<'a> {
     /// The known shapes of the results of calls.
     called: &'a CalledShapes,
