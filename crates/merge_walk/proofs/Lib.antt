@@ -1,5 +1,2 @@
 pub mod Walks
-pub mod Lines
-pub mod Turns
 pub mod Loops
-pub mod Ends

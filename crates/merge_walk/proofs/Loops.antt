@@ -107,3 +107,8 @@ module _ (called : ℕ → List (Option (List ℕ))) (k : Facts) where
       IfOk found (λ (n : KnownRight). BindingMerged called k old new xs r (right_term n.right))
   one_end old new xs r (Ok n) e h = one_merged old new xs r (right_term n.right) e h
   one_end old new xs r (Err m) e h = tt
+
+-- what holds of what was made holds whatever else does
+pub since_known : {P : KnownRight → Type 0} (found : Result KnownRight Memory) (A : Type 0) → IfOk found P → IfOk found (λ (n : KnownRight). A → P n)
+since_known (Ok n) A h = λ a. h
+since_known (Err m) A h = tt

@@ -1,70 +1,100 @@
--- Merges one after another, in a term and in what stands around it.
-use Rattle.std.proofs.Common.{◌≡◌, ℕ, suc, ◌+◌, refl, sym, subst, arith}
+-- What the walk did with a right side, and with a block.
+use Rattle.std.proofs.Common.{◌≡◌, ◌⊎◌, ℕ, suc, ◌+◌, ◌<◌, List, [], ◌∷◌, ◌++◌, map, Option, inl, inr, refl, sym, subst, arith}
+use Rattle.std.specs.Prelude.{Result, Ok, Err, IfOk}
+use Rattle.sac_base.specs.declared.memory.Memory.{Memory}
+use Rattle.sac_base.specs.declared.site.Site.{Site}
+use Rattle.core_ir.specs.declared.tree.Var.{Var}
+use Rattle.core_ir.specs.Terms.{BlockTerm, RightTerm, GensTerm, PartsTerm, LetTerm, Gives, Bind, Plain, NoGens, Gen, NoParts, Part}
+use Rattle.core_ir.specs.View.{block_term, right_term}
+use Rattle.core_facts.specs.Facts.{Fact, Facts, note_all, block_facts, right_facts, in_part}
+use Rattle.core_walk.specs.Traced.{BlockTraced, Finished}
+use Rattle.core_walk.specs.Editing.{Changed, Kept, EachBinding, EachInRight, EachInGens, EachInParts}
+use Rattle.core_walk.specs.Editing.{stays as kept, goes as more}
+use Rattle.core_walk.proofs.Edits.{BlockTold, BlockWalk, Verdict, edited_block}
+use Rattle.core_walk.proofs.Turns.{append_nil}
+use Rattle.fact_table.specs.Table.{fact_of}
 use Rattle.parted_bodies.specs.declared.names.Progress.{Progress}
-use Rattle.merge_walk.specs.Walking.{Walk, Walked, stays, goes}
+use Rattle.plain_facts.specs.declared.known_rights.known.KnownBlock.{KnownBlock}
+use Rattle.plain_facts.specs.declared.known_rights.known.KnownRight.{KnownRight}
+use Rattle.merge_walk.specs.planned_merges.Planned.{MergesPlanned}
+use Rattle.merge_walk.specs.Here.{BindingMerged}
+use Rattle.merge_walk.specs.NoneLeft.{NoneMergeable, NoneMergeableRight, NoneMergeableGens, NoneMergeableParts}
+use Rattle.merge_walk.specs.Walking.{Walk, BlockStep, BlockWalked, MergeStep, NoneAt, stays, goes}
 
--- ---- steps
-
-module _ (A : Type 0) (Step : ℕ → ℕ → A → A → Type 0) where
-  pub join : (n m low mid high : ℕ) (a b c : A) → Walk A Step n low mid a b → Walk A Step m mid high b c → Walk A Step (n + m) low high a c
-  join n m low mid high a b c w v = go w v
-    where
-      front : (m : ℕ) → m ≡ 0 + m
-      front m = omega arith
-
-      more : (n m : ℕ) → suc (n + m) ≡ suc n + m
-      more n m = omega arith
-
-      go : {n m low mid high : ℕ} {a b c : A} → Walk A Step n low mid a b → Walk A Step m mid high b c → Walk A Step (n + m) low high a c
-      go {m = m} {low = low} {high = high} {a = a} {c = c} stays v = subst (λ x. Walk A Step x low high a c) (front m) v
-      go {m = m} {low = low} {high = high} {a = a} {c = c} (goes {count = count} h rest) v = subst (λ x. Walk A Step x low high a c) (more count m) (goes h (go rest v))
-
-  pub no_step : {n low high : ℕ} {a b : A} → Walk A Step n low high a b → n ≡ 0 → (low ≡ high) × (a ≡ b)
-  no_step stays e = (refl, refl)
-  no_step (goes {count = count} h rest) e = absurd (omega (arith, e))
-
-  pub one_step : (low high : ℕ) (a b : A) → Step low high a b → Walk A Step 1 low high a b
-  one_step low high a b h = goes h stays
-
-module _ (A B : Type 0) (S : ℕ → ℕ → A → A → Type 0) (T : ℕ → ℕ → B → B → Type 0) (F : A → B) (f : (low high : ℕ) (a b : A) → S low high a b → T low high (F a) (F b)) where
-  pub lift : {n low high : ℕ} {a b : A} → Walk A S n low high a b → Walk B T n low high (F a) (F b)
-  lift stays = stays
-  lift (goes {low = low} {mid = mid} {a = a} {b = b} h rest) = goes (f low mid a b h) (lift rest)
-
--- ---- what was done
-
-pub add_none : (r : ℕ) → r ≡ r + 0
+add_none : (r : ℕ) → r ≡ r + 0
 add_none r = omega arith
 
-pub add_both : (r s t n m : ℕ) → s ≡ r + n → t ≡ s + m → t ≡ r + (n + m)
-add_both r s t n m p q = omega (arith, p, q)
+add_one : (p q r n : ℕ) → q ≡ suc p → r ≡ q + n → r ≡ p + suc n
+add_one p q r n e f = omega (arith, e, f)
 
-pub first_none : (n m : ℕ) → n + m ≡ 0 → n ≡ 0
-first_none n m e = omega (arith, e)
+not_less : (p q n : ℕ) → p < q → q ≡ p + n → n ≡ 0 → ⊥
+not_less p q n l e z = omega (arith, l, e, z)
 
-pub second_none : (n m : ℕ) → n + m ≡ 0 → m ≡ 0
-second_none n m e = omega (arith, e)
+module _ (called : ℕ → List (Option (List ℕ))) where
+  -- ---- a right side
 
-pub untouched : (A : Type 0) (S : ℕ → ℕ → A → A → Type 0) (N : ℕ → A → Type 0) (p : Progress) (a : A) → N p.next a → Walked A (Walk A S) N p p a a
-untouched A S N p a h = record { count = 0; walk = stays; counted = add_none p.replaced; none = λ e. h }
+  edit_of : (k : Facts) (p q : Progress) (xs : List Var) (s : Site) (r t : RightTerm) → BindingMerged called k p q xs r t →
+      Changed called Progress (λ n. n.replaced) (λ a b. MergesPlanned called a.next b.next) (NoneAt called) k p q xs s r t
+      ⊎ Kept called Progress (λ n. n.replaced) (λ a b. MergesPlanned called a.next b.next) (NoneAt called) k p q xs s r t
+  edit_of k p q [] s r t h = inr (record { still = h.0; same = h.1; left = λ rest. tt })
+  edit_of k p q (x ∷ []) s r t (inl h) = inl (record { counted = h.counted; rule = λ rest. h.step x s rest })
+  edit_of k p q (x ∷ []) s r t (inr h) = inr (record { still = h.0; same = h.1; left = λ rest. h.2 })
+  edit_of k p q (x ∷ y ∷ xs) s r t h = inr (record { still = h.0; same = h.1; left = λ rest. tt })
 
-pub lifted :
-    (A B : Type 0) (S : ℕ → ℕ → A → A → Type 0) (T : ℕ → ℕ → B → B → Type 0) (N : ℕ → A → Type 0) (M : ℕ → B → Type 0) (F : A → B) →
-    ((low high : ℕ) (a b : A) → S low high a b → T low high (F a) (F b)) → ((above : ℕ) (a : A) → N above a → M above (F a)) → (old new : Progress) (a b : A) →
-    Walked A (Walk A S) N old new a b → Walked B (Walk B T) M old new (F a) (F b)
-lifted A B S T N M F f g old new a b w = record { count = w.count; walk = lift A B S T F f w.walk; counted = w.counted; none = λ e. g old.next b (w.none e) }
+  pub step_end : (k : Facts) (p q : Progress) (xs : List Var) (s : Site) (r : RightTerm) (vs : List Fact) (done : List LetTerm) (new : Result KnownRight Memory) →
+      IfOk new (λ (n : KnownRight). BindingMerged called k p q xs r (right_term n.right)) →
+      IfOk new (λ (n : KnownRight). vs ≡ right_facts called r k → map fact_of n.values.items ≡ right_facts called (right_term n.right) k) →
+      IfOk new (λ (n : KnownRight). (ms : List LetTerm) × (done ≡ done ++ ms) × MergeStep called k p q xs s r vs ms (right_term n.right) (map fact_of n.values.items))
+  step_end k p q xs s r vs done (Ok n) h known = ([], sym (append_nil done), record { none = refl; known = known; edit = edit_of k p q xs s r (right_term n.right) h })
+  step_end k p q xs s r vs done (Err m) h known = tt
 
-pub lifted_two :
-    (A B C : Type 0) (S : ℕ → ℕ → A → A → Type 0) (T : ℕ → ℕ → B → B → Type 0) (U : ℕ → ℕ → C → C → Type 0) (N : ℕ → A → Type 0) (M : ℕ → B → Type 0) (O : ℕ → C → Type 0) (F : A → B → C) →
-    ((low high : ℕ) (a b : A) (y : B) → S low high a b → U low high (F a y) (F b y)) → ((low high : ℕ) (a b : B) (x : A) → T low high a b → U low high (F x a) (F x b)) →
-    ((above : ℕ) (a : A) (b : B) → N above a → M above b → O above (F a b)) → (old mid new : Progress) (a b : A) (c d : B) →
-    Walked A (Walk A S) N old mid a b → Walked B (Walk B T) M mid new c d → Walked C (Walk C U) O old new (F a c) (F b d)
-lifted_two A B C S T U N M O F f g h old mid new a b c d w v = record {
-  count = w.count + v.count;
-  walk = join C U w.count v.count old.next mid.next new.next (F a c) (F b c) (F b d) (lift A C S U (λ x. F x c) (λ low high x y k. f low high x y c k) w.walk)
-      (lift B C T U (F b) (λ low high x y k. g low high x y b k) v.walk);
-  counted = add_both old.replaced mid.replaced new.replaced w.count v.count w.counted v.counted;
-  none = λ e.
-      let still = (no_step A S w.walk (first_none w.count v.count e)).0 in
-      h old.next b d (w.none (first_none w.count v.count e)) (subst (λ n. M n d) (sym still) (v.none (second_none w.count v.count e)));
-}
+  -- ---- a block
+
+  walk_is : {k : Facts} {p q : Progress} {b c : BlockTerm} → BlockWalk called Progress (λ n. n.replaced) (λ a b. MergesPlanned called a.next b.next) (NoneAt called) (NoneAt called) k p q b c →
+      (n : ℕ) × (Walk BlockTerm (BlockStep called k) n p.next q.next b c × (q.replaced ≡ p.replaced + n))
+  walk_is (kept {p = p}) = (0, (stays, add_none p.replaced))
+  walk_is (more {p = p} {q = q} {r = r} e s w) = let v = walk_is w in (suc v.0, (goes s v.1.0, add_one p.replaced q.replaced r.replaced v.0 e v.1.1))
+
+  module _ (p : Progress) where
+    mutual
+      none_block : (b : BlockTerm) (k : Facts) → EachBinding called (NoneAt called p) b k → NoneMergeable called p.next b k
+      none_block (Gives xs) k h = tt
+      none_block (Bind xs s r b) k h = (h.1, none_right r k h.0, none_block b (note_all k xs (right_facts called r k)) h.2)
+
+      none_right : (r : RightTerm) (k : Facts) → EachInRight called (NoneAt called p) r k → NoneMergeableRight called p.next r k
+      none_right (Plain q) k h = tt
+      none_right (RightTerm.If x a c) k h = (none_block a k h.0, none_block c k h.1)
+      none_right (RightTerm.Loop f start params test body t) k h = (none_block test (note_all k params []) h.0, none_block body (note_all k params []) h.1)
+      none_right (RightTerm.Call g ys) k h = tt
+      none_right (RightTerm.With op gens) k h = none_gens gens k h
+      none_right (RightTerm.Parted frame base cell op parts) k h = none_parts parts k h
+
+      none_gens : (gens : GensTerm) (k : Facts) → EachInGens called (NoneAt called p) gens k → NoneMergeableGens called p.next gens k
+      none_gens NoGens k h = tt
+      none_gens (Gen g b rest) k h = (none_block b (note_all k (g.index ∷ g.names) []) h.0, none_gens rest k h.1)
+
+      none_parts : (parts : PartsTerm) (k : Facts) → EachInParts called (NoneAt called p) parts k → NoneMergeableParts called p.next parts k
+      none_parts NoParts k h = tt
+      none_parts (Part g b rest) k h = (none_block b (in_part k g) h.0, none_parts rest k h.1)
+
+  none_left : (k : Facts) (p q : Progress) (b c : BlockTerm) (n : ℕ) → Verdict Progress (λ m. m.replaced) p q ((c ≡ b) × EachBinding called (NoneAt called p) b k) → q.replaced ≡ p.replaced + n → n ≡ 0 →
+      NoneMergeable called p.next c k
+  none_left k p q b c n (inl h) e z = subst (λ (t : BlockTerm). NoneMergeable called p.next t k) (sym h.1.0) (none_block p b k h.1.1)
+  none_left k p q b c n (inr l) e z = absurd (not_less p.replaced q.replaced n l e z)
+
+  walked_block : (k : Facts) (p q : Progress) (b c : BlockTerm) → BlockTold called Progress (λ n. n.replaced) (λ a b. MergesPlanned called a.next b.next) (NoneAt called) (NoneAt called) k p q b c → BlockWalked called k p q b c
+  walked_block k p q b c told =
+      let w = walk_is told.walked in
+      record { count = w.0; walk = w.1.0; counted = w.1.1; none = none_left k p q b c w.0 told.verdict w.1.1 }
+
+  pub walked_end : (k : Facts) (p q : Progress) (b : BlockTerm) (new : Result KnownBlock Memory) →
+      IfOk new (λ (n : KnownBlock). BlockTraced called Progress (MergeStep called) Finished k p q b (block_term n.block) (map fact_of n.results.items)) →
+      IfOk new (λ (n : KnownBlock). BlockWalked called k p q b (block_term n.block))
+  walked_end k p q b (Ok n) t = walked_block k p q b (block_term n.block) (edited_block called Progress (λ m. m.replaced) (λ x y. MergesPlanned called x.next y.next) (NoneAt called) t).0
+  walked_end k p q b (Err m) t = tt
+
+  pub known_end : (k : Facts) (p q : Progress) (b : BlockTerm) (new : Result KnownBlock Memory) →
+      IfOk new (λ (n : KnownBlock). BlockTraced called Progress (MergeStep called) Finished k p q b (block_term n.block) (map fact_of n.results.items)) →
+      IfOk new (λ (n : KnownBlock). map fact_of n.results.items ≡ block_facts called (block_term n.block) k)
+  known_end k p q b (Ok n) t = (edited_block called Progress (λ m. m.replaced) (λ x y. MergesPlanned called x.next y.next) (NoneAt called) t).1
+  known_end k p q b (Err m) t = tt

@@ -1,7 +1,7 @@
 -- Blocks in which no loop can be merged with the loops in its cells.
 use Rattle.std.specs.Prelude.{ℕ, List, [], ◌∷◌, Option}
 use Rattle.core_ir.specs.declared.tree.Var.{Var}
-use Rattle.core_ir.specs.Terms.{BlockTerm, RightTerm, GensTerm, PartsTerm, LetTerm, Gives, Bind, Plain, NoGens, Gen, NoParts, Part}
+use Rattle.core_ir.specs.Terms.{BlockTerm, RightTerm, GensTerm, PartsTerm, Gives, Bind, Plain, NoGens, Gen, NoParts, Part}
 use Rattle.core_facts.specs.Facts.{Facts, note_all, right_facts, in_part}
 use Rattle.merge_plans.specs.Mergeable.{CanMerge}
 
@@ -32,9 +32,3 @@ module _ (called : ℕ → List (Option (List ℕ))) (above : ℕ) where
     pub NoneMergeableParts : PartsTerm → Facts → Type 0
     NoneMergeableParts NoParts k = Unit {0}
     NoneMergeableParts (Part h b rest) k = NoneMergeable b (in_part k h) × NoneMergeableParts rest k
-
-  -- none in bindings, one after another
-  abbrev pub NoneLets : List LetTerm → Facts → Type 0
-  NoneLets [] k = Unit {0}
-  NoneLets (l ∷ ls) k =
-      NoneHere l.targets l.right k × NoneMergeableRight l.right k × NoneLets ls (note_all k l.targets (right_facts called l.right k))

@@ -1,12 +1,15 @@
 -- Merges in a term, one after another, whose numbers have no gaps.
 use Rattle.std.specs.Prelude.{◌≡◌, ℕ, suc, ◌+◌, List, Option}
-use Rattle.core_ir.specs.Edits.{Edited, EditedRight, EditedGens, EditedParts}
-use Rattle.core_ir.specs.Terms.{BlockTerm, RightTerm, GensTerm, PartsTerm}
-use Rattle.core_facts.specs.Facts.{Facts}
+use Rattle.sac_base.specs.declared.site.Site.{Site}
+use Rattle.core_ir.specs.declared.tree.Var.{Var}
+use Rattle.core_ir.specs.Edits.{Edited}
+use Rattle.core_ir.specs.Terms.{BlockTerm, RightTerm, LetTerm, Gives, Bind}
+use Rattle.core_facts.specs.Facts.{Fact, Facts}
 use Rattle.core_loops.specs.Steps.{fact_ways}
+use Rattle.core_walk.specs.Editing.{EditStep}
 use Rattle.parted_bodies.specs.declared.names.Progress.{Progress}
 use Rattle.merge_walk.specs.planned_merges.Planned.{MergesPlanned}
-use Rattle.merge_walk.specs.NoneLeft.{NoneMergeable, NoneMergeableRight}
+use Rattle.merge_walk.specs.NoneLeft.{NoneHere, NoneMergeable}
 
 -- So many steps, each from the number at which the one before ended.
 module _ (A : Type 0) (Step : ℕ → ℕ → A → A → Type 0) where
@@ -25,18 +28,16 @@ module _ (called : ℕ → List (Option (List ℕ))) (k : Facts) where
   abbrev pub BlockStep : ℕ → ℕ → BlockTerm → BlockTerm → Type 0
   BlockStep low high b c = Edited Facts (fact_ways called) (MergesPlanned called low high) k b c
 
-  abbrev pub RightStep : ℕ → ℕ → RightTerm → RightTerm → Type 0
-  RightStep low high r q = EditedRight Facts (fact_ways called) (MergesPlanned called low high) k r q
-
-  abbrev pub GensStep : ℕ → ℕ → GensTerm → GensTerm → Type 0
-  GensStep low high g h = EditedGens Facts (fact_ways called) (MergesPlanned called low high) k g h
-
-  abbrev pub PartsStep : ℕ → ℕ → PartsTerm → PartsTerm → Type 0
-  PartsStep low high p q = EditedParts Facts (fact_ways called) (MergesPlanned called low high) k p q
-
-  -- a block, and a right side
+  -- a block
   abbrev pub BlockWalked : Progress → Progress → BlockTerm → BlockTerm → Type 0
   BlockWalked = Walked BlockTerm (Walk BlockTerm BlockStep) (λ above b. NoneMergeable called above b k)
 
-  abbrev pub RightWalked : Progress → Progress → RightTerm → RightTerm → Type 0
-  RightWalked = Walked RightTerm (Walk RightTerm RightStep) (λ above r. NoneMergeableRight called above r k)
+-- no loop that can be merged is bound first
+abbrev pub NoneAt : (ℕ → List (Option (List ℕ))) → Progress → Facts → BlockTerm → Type 0
+NoneAt called p k (Gives xs) = Unit {0}
+NoneAt called p k (Bind xs s r b) = NoneHere called p.next xs r k
+
+-- what the walk does with a right side
+abbrev pub MergeStep :
+    (ℕ → List (Option (List ℕ))) → Facts → Progress → Progress → List Var → Site → RightTerm → List Fact → List LetTerm → RightTerm → List Fact → Type 0
+MergeStep called = EditStep called Progress (λ p. p.replaced) (λ p q. MergesPlanned called p.next q.next) (NoneAt called)

@@ -26,10 +26,10 @@ pub fn merge_here(
     table: &mut FactTable,
     progress: &mut Progress,
 ) -> Result<KnownRight, Memory>
-    requires known { map fact_of known.values.items ≡ right_facts (shapes_of called.now) (right_term known.right) (facts_of table.old) }
     ensures merged { IfOk result (λ new. BindingMerged (shapes_of called.now) (facts_of table.old) progress.old progress.new targets.now
         (right_term known.right) (right_term new.right)) }
-    ensures known { IfOk result (λ new. map fact_of new.values.items ≡ right_facts (shapes_of called.now) (right_term new.right) (facts_of table.old)) }
+    ensures known { IfOk result (λ new. map fact_of known.values.items ≡ right_facts (shapes_of called.now) (right_term known.right) (facts_of table.old)
+        → map fact_of new.values.items ≡ right_facts (shapes_of called.now) (right_term new.right) (facts_of table.old)) }
     ensures table { OnOk result (table.new ≡ table.old) }
 {
     if targets.len() != 1 {
@@ -46,10 +46,10 @@ fn merge_one(
     table: &mut FactTable,
     progress: &mut Progress,
 ) -> Result<KnownRight, Memory>
-    requires known { map fact_of known.values.items ≡ right_facts (shapes_of called.now) (right_term known.right) (facts_of table.old) }
     ensures merged { IfOk result (λ new. MergedOrNot (shapes_of called.now) (facts_of table.old) progress.old progress.new (right_term known.right)
         (right_term new.right)) }
-    ensures known { IfOk result (λ new. map fact_of new.values.items ≡ right_facts (shapes_of called.now) (right_term new.right) (facts_of table.old)) }
+    ensures known { IfOk result (λ new. map fact_of known.values.items ≡ right_facts (shapes_of called.now) (right_term known.right) (facts_of table.old)
+        → map fact_of new.values.items ≡ right_facts (shapes_of called.now) (right_term new.right) (facts_of table.old)) }
     ensures table { OnOk result (table.new ≡ table.old) }
 {
     let KnownRight { right, values } = known;

@@ -1,3 +1,3 @@
-pub mod Noting
 pub mod Walking
 mod Ends
+mod Steps

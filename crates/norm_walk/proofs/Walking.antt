@@ -1,99 +1,25 @@
--- Walks that replace with-loops: within a larger term, one after another, and those that replace none.
-use Rattle.std.proofs.Common.{◌≡◌, ℕ, suc, ◌≤◌, List, [], ◌∷◌, ◌++◌, map, Option, refl, sym, ap, subst, ◌∙◌, arith}
+-- Walks that replace with-loops, and those that replace none.
+use Rattle.std.proofs.Common.{◌≡◌, ◌⊎◌, ℕ, suc, ◌<◌, ◌≤◌, List, [], ◌∷◌, Option, inl, inr, refl, sym, ap, subst, arith}
 use Rattle.sac_base.specs.declared.base.Base.{Base}
-use Rattle.sac_base.specs.declared.base.Base.TheVariants.{Int}
-use Rattle.sac_base.specs.declared.grid.Grid1.{Grid1}
 use Rattle.sac_base.specs.declared.site.Site.{Site}
 use Rattle.core_ir.specs.declared.tree.Var.{Var}
-use Rattle.core_ir.specs.declared.tree.CoreOp.{CoreOp}
-use Rattle.core_ir.specs.declared.tree.CoreOp.TheVariants as making
-use Rattle.core_ir.specs.declared.tree.PartedOp.{PartedOp}
-use Rattle.core_ir.specs.declared.tree.PartedOp.TheVariants as parted
-use Rattle.core_ir.specs.declared.tree.Let.{Let}
-use Rattle.core_ir.specs.declared.tree.CoreGen.{CoreGen}
-use Rattle.core_ir.specs.declared.tree.CorePart.{CorePart}
-use Rattle.core_ir.specs.declared.tree.Block.{Block, Block-F, out-Block, roll-Block}
-use Rattle.core_ir.specs.declared.tree.Right.TheBlock.{the_data, the_data-1, the_data-2, the_data-3, the_data-4, the_data-5, the_data-6}
-use Rattle.core_ir.specs.View.{block_term, let_term, right_term, gen_term, part_term}
-use Rattle.core_ir.proofs.Trees.{block_out, block_roll}
 use Rattle.core_ir.specs.Edits.{Edited, EditedRight, EditedGens, EditedParts, here, later, inside, in_then, in_else, in_test, in_body, in_gens, in_parts, this_gen, later_gen, this_part, later_part}
-use Rattle.core_ir.specs.Terms.{BlockTerm, RightTerm, GensTerm, PartsTerm, LetTerm, GenTerm, PartTerm, GenHead, PartHead, Gives, Bind, With, Parted, NoGens, Gen, NoParts, Part, chain, gens_of, parts_of}
+use Rattle.core_ir.specs.Terms.{BlockTerm, RightTerm, GensTerm, PartsTerm, Gives, Bind, Plain, NoGens, Gen, NoParts, Part}
 use Rattle.core_facts.specs.Facts.{Fact, Facts, note_all, block_facts, right_facts, in_part}
-use Rattle.core_loops.specs.Steps.{fact_ways, facts_after}
-use Rattle.norm_walk.proofs.Noting.{map_snoc, chain_snoc}
+use Rattle.core_loops.specs.Steps.{fact_ways}
+use Rattle.core_walk.specs.Traced.{BlockTraced, Finished}
+use Rattle.core_walk.specs.Editing.{Walk, EachBinding, EachInRight, EachInGens, EachInParts}
+use Rattle.core_walk.specs.Editing.{stays as kept, goes as more}
+use Rattle.core_walk.proofs.Edits.{BlockWalk, Verdict, edited_block}
 use Rattle.parted_bodies.specs.declared.names.Progress.{Progress}
-use Rattle.norm_walk.specs.Replacing.{ReplacedAt, ReplacedHere, IsLeft, EachWith, EachWithRight, EachWithGens, EachWithParts, Walked, stays, goes, BlockWalked, RightWalked, LetWalked, GensWalked, GenWalked, PartWalked, WithWalked}
-
-abbrev right_in : RightTerm → BlockTerm → RightTerm
-right_in r (Gives xs) = r
-right_in r (Bind xs s q b) = q
-
-abbrev pub gens_before : List GenTerm → GensTerm → GensTerm
-gens_before [] rest = rest
-gens_before (g ∷ gs) rest = Gen g.head g.body (gens_before gs rest)
-
-abbrev pub parts_before : List PartTerm → PartsTerm → PartsTerm
-parts_before [] rest = rest
-parts_before (g ∷ gs) rest = Part g.head g.body (parts_before gs rest)
-
-pub gens_ended : (gs : List GenTerm) → gens_before gs NoGens ≡ gens_of gs
-gens_ended [] = refl
-gens_ended (g ∷ gs) = ap (Gen g.head g.body) (gens_ended gs)
-
-pub parts_ended : (gs : List PartTerm) → parts_before gs NoParts ≡ parts_of gs
-parts_ended [] = refl
-parts_ended (g ∷ gs) = ap (Part g.head g.body) (parts_ended gs)
-
-pub gens_snoc : (gs : List GenTerm) (g : GenTerm) (rest : GensTerm) → gens_before (gs ++ (g ∷ [])) rest ≡ gens_before gs (Gen g.head g.body rest)
-gens_snoc [] g rest = refl
-gens_snoc (x ∷ gs) g rest = ap (Gen x.head x.body) (gens_snoc gs g rest)
-
-pub parts_snoc : (gs : List PartTerm) (g : PartTerm) (rest : PartsTerm) → parts_before (gs ++ (g ∷ [])) rest ≡ parts_before gs (Part g.head g.body rest)
-parts_snoc [] g rest = refl
-parts_snoc (x ∷ gs) g rest = ap (Part x.head x.body) (parts_snoc gs g rest)
-
-abbrev targets_in : List Var → BlockTerm → List Var
-targets_in d (Gives xs) = d
-targets_in d (Bind xs s q b) = xs
-
--- what is known behind bindings
-pub after_snoc : (called : ℕ → List (Option (List ℕ))) (ls : List LetTerm) (l : LetTerm) (k : Facts) → facts_after called (ls ++ (l ∷ [])) k ≡ note_all (facts_after called ls k) l.targets (right_facts called l.right (facts_after called ls k))
-after_snoc called [] l k = refl
-after_snoc called (m ∷ ls) l k = after_snoc called ls l (note_all k m.targets (right_facts called m.right k))
-
-pub known_behind : (called : ℕ → List (Option (List ℕ))) (ls : List LetTerm) (rs : List Var) (k : Facts) → block_facts called (chain ls (Gives rs)) k ≡ map (facts_after called ls k) rs
-known_behind called [] rs k = refl
-known_behind called (l ∷ ls) rs k = known_behind called ls rs (note_all k l.targets (right_facts called l.right k))
-
-no_var : Var
-no_var = record { 0 = 0 }
-
-no_site : Site
-no_site = record { line = 0; col = 0 }
+use Rattle.norm_walk.specs.Replacing.{ReplacedHere, NoneAt, NormStep, IsLeft, EachWith, EachWithRight, EachWithGens, EachWithParts, Walked, stays, goes, BlockWalked}
 
 module _ (called : ℕ → List (Option (List ℕ))) (bases : Var → Option Base) (first : ℕ) where
-  abbrev pub Changed : Progress → Progress → Facts → BlockTerm → BlockTerm → Type 0
-  Changed p q = Edited Facts (fact_ways called) (ReplacedHere bases first p q)
-
   up_one : (p q r : ℕ) → q ≡ suc p → q ≤ r → p ≤ r
   up_one p q r a b = omega (arith, a, b)
 
   not_still : (p q r : ℕ) → q ≡ suc p → q ≤ r → r ≡ p → ⊥
   not_still p q r a b e = omega (arith, a, b, e)
-
-  -- ---- within a larger term
-
-  pub lift : {k m : Facts} {p q : Progress} {b c : BlockTerm} (C : BlockTerm → BlockTerm) → ((u v : Progress) (x y : BlockTerm) → Changed u v m x y → Changed u v k (C x) (C y)) → Walked called bases first m p q b c → Walked called bases first k p q (C b) (C c)
-  lift C e stays = stays
-  lift C e (goes s w) = goes (e _ _ _ _ s) (lift C e w)
-
-  pub join : {k : Facts} {p q r : Progress} {b c d : BlockTerm} → Walked called bases first k p q b c → Walked called bases first k q r c d → Walked called bases first k p r b d
-  join stays v = v
-  join (goes s w) v = goes s (join w v)
-
-  pub through : (ls : List LetTerm) {k : Facts} {p q : Progress} {b c : BlockTerm} → Walked called bases first (facts_after called ls k) p q b c → Walked called bases first k p q (chain ls b) (chain ls c)
-  through [] w = w
-  through (l ∷ ls) w = lift (Bind l.targets l.site l.right) (λ u v x y s. later s) (through ls w)
 
   -- ---- how many
 
@@ -129,214 +55,45 @@ module _ (called : ℕ → List (Option (List ℕ))) (bases : Var → Option Bas
   still stays e = (refl, refl)
   still (goes {p = p} {q = q} {r = r} s w) e = absurd (not_still p.replaced q.replaced r.replaced (one_more p q s) (rises w) e)
 
-  -- ---- terms of terms
+  -- ---- what was walked through
 
-  -- two walks, the second behind the first, of which both replaced none
-  both : (p q r : ℕ) → p ≤ q → q ≤ r → r ≡ p → (q ≡ p) × (r ≡ q)
-  both p q r a b e = (omega (arith, a, b, e), omega (arith, a, b, e))
+  walk_is : {k : Facts} {p q : Progress} {b c : BlockTerm} → BlockWalk called Progress (λ p. p.replaced) (ReplacedHere bases first) (NoneAt bases first) (NoneAt bases first) k p q b c → Walked called bases first k p q b c
+  walk_is kept = stays
+  walk_is (more n s w) = goes s (walk_is w)
 
-  pub if_walked : (k : Facts) (p q r : Progress) (s : Site) (x : Var) (a b c d : BlockTerm) → BlockWalked called bases first k p q a c → BlockWalked called bases first k q r b d → RightWalked called bases first k p r s (RightTerm.If x a b) (RightTerm.If x c d)
-  if_walked k p q r s x a b c d u v = record {
-    walked = λ xs rest. join (lift (λ t. Bind xs s (RightTerm.If x t b) rest) (λ _ _ _ _ w. inside (in_then w)) u.walked) (lift (λ t. Bind xs s (RightTerm.If x c t) rest) (λ _ _ _ _ w. inside (in_else w)) v.walked);
-    none = λ e.
-        let w = both p.replaced q.replaced r.replaced (rises u.walked) (rises v.walked) e in
-        let same = (still u.walked w.0).0 in
-        (u.none w.0, subst (λ (t : Progress). EachWith called (IsLeft bases first t.next) b k) (sym same) (v.none w.1));
-  }
+  module _ (p : Progress) where
+    mutual
+      each_with : (b : BlockTerm) (k : Facts) → EachBinding called (NoneAt bases first p) b k → EachWith called (IsLeft bases first p.next) b k
+      each_with (Gives xs) k h = tt
+      each_with (Bind xs s r b) k h = (each_right xs s r b k h.0 h.1, each_with b (note_all k xs (right_facts called r k)) h.2)
 
-  pub loop_walked : (k : Facts) (p q r : Progress) (s : Site) (f : _) (xs ys : List Var) (t : Site) (a b c d : BlockTerm) → BlockWalked called bases first (note_all k ys []) p q a c → BlockWalked called bases first (note_all k ys []) q r b d → RightWalked called bases first k p r s (RightTerm.Loop f xs ys a b t) (RightTerm.Loop f xs ys c d t)
-  loop_walked k p q r s f xs ys t a b c d u v = record {
-    walked = λ zs rest. join (lift (λ m. Bind zs s (RightTerm.Loop f xs ys m b t) rest) (λ _ _ _ _ w. inside (in_test w)) u.walked) (lift (λ m. Bind zs s (RightTerm.Loop f xs ys c m t) rest) (λ _ _ _ _ w. inside (in_body w)) v.walked);
-    none = λ e.
-        let w = both p.replaced q.replaced r.replaced (rises u.walked) (rises v.walked) e in
-        let same = (still u.walked w.0).0 in
-        (u.none w.0, subst (λ (m : Progress). EachWith called (IsLeft bases first m.next) b (note_all k ys [])) (sym same) (v.none w.1));
-  }
+      each_right : (xs : List Var) (s : Site) (r : RightTerm) (b : BlockTerm) (k : Facts) → EachInRight called (NoneAt bases first p) r k → NoneAt bases first p k (Bind xs s r b) →
+          EachWithRight called (IsLeft bases first p.next) s r k
+      each_right xs s (Plain q) b k h l = tt
+      each_right xs s (RightTerm.If x a c) b k h l = (each_with a k h.0, each_with c k h.1)
+      each_right xs s (RightTerm.Loop f start params test body t) b k h l = (each_with test (note_all k params []) h.0, each_with body (note_all k params []) h.1)
+      each_right xs s (RightTerm.Call g ys) b k h l = tt
+      each_right xs s (RightTerm.With op gens) b k h l = (l, each_gens gens k h)
+      each_right xs s (RightTerm.Parted frame base cell op parts) b k h l = each_parts parts k h
 
-  pub right_stays : (k : Facts) (p : Progress) (s : Site) (r : RightTerm) → EachWithRight called (IsLeft bases first p.next) s r k → RightWalked called bases first k p p s r r
-  right_stays k p s r h = record { walked = λ xs rest. stays; none = λ e. h }
+      each_gens : (gens : GensTerm) (k : Facts) → EachInGens called (NoneAt bases first p) gens k → EachWithGens called (IsLeft bases first p.next) gens k
+      each_gens NoGens k h = tt
+      each_gens (Gen g b rest) k h = (each_with b (note_all k (g.index ∷ g.names) []) h.0, each_gens rest k h.1)
 
-  -- ---- generators and parts
+      each_parts : (parts : PartsTerm) (k : Facts) → EachInParts called (NoneAt bases first p) parts k → EachWithParts called (IsLeft bases first p.next) parts k
+      each_parts NoParts k h = tt
+      each_parts (Part g b rest) k h = (each_with b (in_part k g) h.0, each_parts rest k h.1)
 
-  -- an edit of the generators behind some is one of all
-  behind_gens : (gs : List GenTerm) {u v : Progress} {k : Facts} {g h : GensTerm} → EditedGens Facts (fact_ways called) (ReplacedHere bases first u v) k g h → EditedGens Facts (fact_ways called) (ReplacedHere bases first u v) k (gens_before gs g) (gens_before gs h)
-  behind_gens [] e = e
-  behind_gens (x ∷ gs) e = later_gen (behind_gens gs e)
+  not_less : (p q : ℕ) → p < q → q ≡ p → ⊥
+  not_less p q l e = omega (arith, l, e)
 
-  behind_parts : (gs : List PartTerm) {u v : Progress} {k : Facts} {g h : PartsTerm} → EditedParts Facts (fact_ways called) (ReplacedHere bases first u v) k g h → EditedParts Facts (fact_ways called) (ReplacedHere bases first u v) k (parts_before gs g) (parts_before gs h)
-  behind_parts [] e = e
-  behind_parts (x ∷ gs) e = later_part (behind_parts gs e)
+  none_left : (k : Facts) (p q : Progress) (b c : BlockTerm) → Verdict Progress (λ r. r.replaced) p q ((c ≡ b) × EachBinding called (NoneAt bases first p) b k) → q.replaced ≡ p.replaced →
+      EachWith called (IsLeft bases first p.next) b k
+  none_left k p q b c (inl h) e = each_with p b k h.1.1
+  none_left k p q b c (inr l) e = absurd (not_less p.replaced q.replaced l e)
 
-  -- the body of a generator behind others
-  pub gen_walked : (gs : List GenTerm) (k : Facts) (p q : Progress) (g h : GenTerm) (rest : GensTerm) → GenWalked called bases first k p q g h → (xs : List Var) (s : Site) (op : CoreOp) (end : BlockTerm) → Walked called bases first k p q (Bind xs s (With op (gens_before gs (Gen g.head g.body rest))) end) (Bind xs s (With op (gens_before gs (Gen h.head h.body rest))) end)
-  gen_walked gs k p q g h rest u xs s op end =
-      subst (λ (head : GenHead). Walked called bases first k p q (Bind xs s (With op (gens_before gs (Gen g.head g.body rest))) end) (Bind xs s (With op (gens_before gs (Gen head h.body rest))) end)) (sym u.head)
-      (lift (λ t. Bind xs s (With op (gens_before gs (Gen g.head t rest))) end) (λ _ _ _ _ w. inside (in_gens (behind_gens gs (this_gen w)))) u.body.walked)
-
-  pub part_walked : (gs : List PartTerm) (k : Facts) (p q : Progress) (g h : PartTerm) (rest : PartsTerm) → PartWalked called bases first k p q g h → (xs : List Var) (s : Site) (frame : _) (base : _) (cell : _) (op : _) (end : BlockTerm) → Walked called bases first k p q (Bind xs s (Parted frame base cell op (parts_before gs (Part g.head g.body rest))) end) (Bind xs s (Parted frame base cell op (parts_before gs (Part h.head h.body rest))) end)
-  part_walked gs k p q g h rest u xs s frame base cell op end =
-      subst (λ (head : PartHead). Walked called bases first k p q (Bind xs s (Parted frame base cell op (parts_before gs (Part g.head g.body rest))) end) (Bind xs s (Parted frame base cell op (parts_before gs (Part head h.body rest))) end)) (sym u.head)
-      (lift (λ t. Bind xs s (Parted frame base cell op (parts_before gs (Part g.head t rest))) end) (λ _ _ _ _ w. inside (in_parts (behind_parts gs (this_part w)))) u.body.walked)
-
-  -- ---- a with-loop, its generators first
-
-  pub with_walked : (k : Facts) (p q r : Progress) (s : Site) (op : CoreOp) (g h : GensTerm) (t : RightTerm) → GensWalked called bases first k p q g h → WithWalked called bases first k q r s op h t → RightWalked called bases first k p r s (With op g) t
-  with_walked k p q r s op g h t u v = record {
-    walked = λ xs rest. join (u.walked xs s op rest) (v.walked xs rest);
-    none = λ e.
-        let one = u.walked [] s op (Gives []) in
-        let w = both p.replaced q.replaced r.replaced (rises one) (rises (v.walked [] (Gives []))) e in
-        let same = still one w.0 in
-        let left = v.none w.1 in
-        let gens : With op g ≡ With op h = ap (right_in (With op g)) same.1 in
-        (λ small exact. left_of (sym gens) (sym same.0) left small exact, u.none w.0);
-  }
-    where
-      gens_in : GensTerm → RightTerm → GensTerm
-      gens_in d (With o x) = x
-      gens_in d _ = d
-
-      left_of : With op h ≡ With op g → q ≡ p → IsLeft bases first q.next k s op h → IsLeft bases first p.next k s op g
-      left_of e f l = subst (λ (m : Progress). IsLeft bases first m.next k s op g) f (subst (λ (x : GensTerm). IsLeft bases first q.next k s op x) (ap (gens_in h) e) l)
-
-  -- ---- a binding more
-
-  pub let_turn : (ls : List LetTerm) (k k' : Facts) (p q r : Progress) (x y : LetTerm) (rest : BlockTerm) (whole : BlockTerm) → k' ≡ facts_after called ls k → Walked called bases first k p q whole (chain ls (Bind x.targets x.site x.right rest)) → LetWalked called bases first k' q r x y → Walked called bases first k p r whole (chain ls (Bind y.targets y.site y.right rest))
-  let_turn ls k k' p q r x y rest whole e w u =
-      join w (through ls (subst (λ (f : Facts). Walked called bases first f q r (Bind x.targets x.site x.right rest) (Bind y.targets y.site y.right rest)) e (u.walked rest)))
-
-  -- what was walked through so far, and what is left of the bindings
-  pub record Going (k : Facts) (p : Progress) (all : List Let) (now : Facts) (q : Progress) (done rest : List Let) : Type 0 where
-    pub walked : (end : BlockTerm) → Walked called bases first k p q (chain (map let_term all) end) (chain (map let_term done) (chain (map let_term rest) end))
-    pub known : now ≡ facts_after called (map let_term done) k
-    pub none : q.replaced ≡ p.replaced → (end : BlockTerm) → EachWith called (IsLeft bases first p.next) (chain (map let_term rest) end) now → EachWith called (IsLeft bases first p.next) (chain (map let_term all) end) k
-
-  pub going_first : (k : Facts) (p : Progress) (all done : List Let) → done ≡ [] → Going k p all k p done all
-  going_first k p all done e = record {
-    walked = λ end. subst (λ (ls : List Let). Walked called bases first k p p (chain (map let_term all) end) (chain (map let_term ls) (chain (map let_term all) end))) (sym e) stays;
-    known = ap (λ ls. facts_after called (map let_term ls) k) (sym e);
-    none = λ _ end h. h;
-  }
-
-  pub going_on : (k : Facts) (p : Progress) (all : List Let) (now after : Facts) (q r : Progress) (done done' before rest : List Let) (x y : Let) → Going k p all now q done before → before ≡ x ∷ rest → done' ≡ done ++ (y ∷ []) → LetWalked called bases first now q r (let_term x) (let_term y) → after ≡ note_all now y.targets.items (right_facts called (right_term y.right) now) → Going k p all after r done' rest
-  going_on k p all now after q r done done' before rest x y v b d u learned = record {
-    walked = λ end.
-        subst (λ (t : BlockTerm). Walked called bases first k p r (chain (map let_term all) end) t)
-        (sym ((λ i. chain (map let_term (d i)) (chain (map let_term rest) end)) ∙ ap (λ z. chain z (chain (map let_term rest) end)) (map_snoc let_term done y) ∙ chain_snoc (map let_term done) (let_term y) (chain (map let_term rest) end)))
-        (let_turn (map let_term done) k now p q r (let_term x) (let_term y) (chain (map let_term rest) end) (chain (map let_term all) end) v.known
-        (subst (λ (ls : List Let). Walked called bases first k p q (chain (map let_term all) end) (chain (map let_term done) (chain (map let_term ls) end))) b (v.walked end)) u);
-    known =
-        learned ∙ (λ i. note_all (v.known i) y.targets.items (right_facts called (right_term y.right) (v.known i))) ∙ sym (after_snoc called (map let_term done) (let_term y) k)
-        ∙ ap (λ ls. facts_after called ls k) (sym (map_snoc let_term done y)) ∙ (λ i. facts_after called (map let_term (sym d i)) k);
-    none = λ e end h.
-        let w = both p.replaced q.replaced r.replaced (rises (v.walked end)) (rises (u.walked (Gives []))) e in
-        let same = (still (v.walked end) w.0).0 in
-        let equal = (still (u.walked (Gives [])) w.1).1 in
-        let right : right_term x.right ≡ right_term y.right = ap (right_in (right_term x.right)) equal in
-        let targets : x.targets.items ≡ y.targets.items = ap (targets_in x.targets.items) equal in
-        let facts : after ≡ note_all now x.targets.items (right_facts called (right_term x.right) now) = learned ∙ (λ i. note_all now (sym targets i) (right_facts called (sym right i) now)) in
-        v.none w.0 end (subst (λ (ls : List Let). EachWith called (IsLeft bases first p.next) (chain (map let_term ls) end) now) (sym b) (
-          subst (λ (m : Progress). EachWithRight called (IsLeft bases first m.next) x.site (right_term x.right) now) (sym same) (u.none w.1),
-          subst (λ (f : Facts). EachWith called (IsLeft bases first p.next) (chain (map let_term rest) end) f) facts h,
-        ));
-  }
-
-  pub block_walked : (k : Facts) (p q : Progress) (all done rest : List Let) (now : Facts) (x : Block-F the_data the_data-1 the_data-2 the_data-3 the_data-4 the_data-5 the_data-6) (b : Block) → Going k p all now q done rest → rest ≡ [] → all ≡ (out-Block b).lets.items → x.lets.items ≡ done → x.results.items ≡ (out-Block b).results.items → BlockWalked called bases first k p q (block_term b) (block_term (roll-Block x))
-  block_walked k p q all done rest now x b v r a d e =
-      let rs = (out-Block b).results.items in
-      let old : chain (map let_term all) (Gives rs) ≡ block_term b = (λ i. chain (map let_term (a i)) (Gives rs)) ∙ sym (block_out b) in
-      let new : chain (map let_term done) (chain (map let_term rest) (Gives rs)) ≡ block_term (roll-Block x) =
-      (λ i. chain (map let_term (sym d i)) (chain (map let_term (r i)) (Gives (sym e i)))) ∙ sym (block_roll x) in
-      record {
-        walked = subst (λ (t : BlockTerm). Walked called bases first k p q t (block_term (roll-Block x))) old (subst (λ (t : BlockTerm). Walked called bases first k p q (chain (map let_term all) (Gives rs)) t) new (v.walked (Gives rs)));
-        none = λ z. subst (λ (t : BlockTerm). EachWith called (IsLeft bases first p.next) t k) old (v.none z (Gives rs) (subst (λ (ls : List Let). EachWith called (IsLeft bases first p.next) (chain (map let_term ls) (Gives rs)) now) (sym r) tt));
-      }
-
-  pub block_known : (k : Facts) (p q : Progress) (all done rest : List Let) (now : Facts) (x : Block-F the_data the_data-1 the_data-2 the_data-3 the_data-4 the_data-5 the_data-6) (known : List Fact) → Going k p all now q done rest → x.lets.items ≡ done → known ≡ map now x.results.items → known ≡ block_facts called (block_term (roll-Block x)) k
-  block_known k p q all done rest now x known v d e =
-      e ∙ (λ i. map (v.known i) x.results.items) ∙ (λ i. map (facts_after called (map let_term (sym d i)) k) x.results.items)
-      ∙ sym (known_behind called (map let_term x.lets.items) x.results.items k) ∙ ap (λ t. block_facts called t k) (sym (block_roll x))
-
-  -- ---- lists of generators and parts
-
-  pub record GensGoing (k : Facts) (p : Progress) (all : List CoreGen) (q : Progress) (done rest : List CoreGen) : Type 0 where
-    pub walked : (xs : List Var) (s : Site) (op : CoreOp) (end : BlockTerm) → Walked called bases first k p q (Bind xs s (With op (gens_of (map gen_term all))) end) (Bind xs s (With op (gens_before (map gen_term done) (gens_of (map gen_term rest)))) end)
-    pub none : q.replaced ≡ p.replaced → EachWithGens called (IsLeft bases first p.next) (gens_of (map gen_term rest)) k → EachWithGens called (IsLeft bases first p.next) (gens_of (map gen_term all)) k
-
-  pub gens_on : (k : Facts) (p : Progress) (all : List CoreGen) (q r : Progress) (done done' before rest : List CoreGen) (x y : CoreGen) → GensGoing k p all q done before → before ≡ x ∷ rest → done' ≡ done ++ (y ∷ []) → GenWalked called bases first k q r (gen_term x) (gen_term y) → GensGoing k p all r done' rest
-  gens_on k p all q r done done' before rest x y v b d u = record {
-    walked = λ xs s op end.
-        subst (λ (t : GensTerm). Walked called bases first k p r (Bind xs s (With op (gens_of (map gen_term all))) end) (Bind xs s (With op t) end))
-        (sym ((λ i. gens_before (map gen_term (d i)) (gens_of (map gen_term rest))) ∙ ap (λ z. gens_before z (gens_of (map gen_term rest))) (map_snoc gen_term done y) ∙ gens_snoc (map gen_term done) (gen_term y) (gens_of (map gen_term rest))))
-        (join (subst (λ (ls : List CoreGen). Walked called bases first k p q (Bind xs s (With op (gens_of (map gen_term all))) end) (Bind xs s (With op (gens_before (map gen_term done) (gens_of (map gen_term ls)))) end)) b (v.walked xs s op end))
-        (gen_walked (map gen_term done) k q r (gen_term x) (gen_term y) (gens_of (map gen_term rest)) u xs s op end));
-    none = λ e h.
-        let one = v.walked [] no_site (making.Modarray no_var) (Gives []) in
-        let w = both p.replaced q.replaced r.replaced (rises one) (rises u.body.walked) e in
-        let same = (still one w.0).0 in
-        v.none w.0 (subst (λ (ls : List CoreGen). EachWithGens called (IsLeft bases first p.next) (gens_of (map gen_term ls)) k) (sym b)
-        (subst (λ (m : Progress). EachWith called (IsLeft bases first m.next) (gen_term x).body (note_all k ((gen_term x).head.index ∷ (gen_term x).head.names) [])) (sym same) (u.body.none w.1), h));
-  }
-
-  pub gens_done : (k : Facts) (p q : Progress) (all done rest : List CoreGen) → GensGoing k p all q done rest → rest ≡ [] → GensWalked called bases first k p q (gens_of (map gen_term all)) (gens_of (map gen_term done))
-  gens_done k p q all done rest v r = record {
-    walked = λ xs s op end.
-        subst (λ (t : GensTerm). Walked called bases first k p q (Bind xs s (With op (gens_of (map gen_term all))) end) (Bind xs s (With op t) end))
-        ((λ i. gens_before (map gen_term done) (gens_of (map gen_term (r i)))) ∙ gens_ended (map gen_term done)) (v.walked xs s op end);
-    none = λ e. v.none e (subst (λ (ls : List CoreGen). EachWithGens called (IsLeft bases first p.next) (gens_of (map gen_term ls)) k) (sym r) tt);
-  }
-
-  pub record PartsGoing (k : Facts) (p : Progress) (all : List CorePart) (q : Progress) (done rest : List CorePart) : Type 0 where
-    pub walked : (xs : List Var) (s : Site) (frame : List Grid1) (base : Base) (cell : List ℕ) (op : PartedOp) (end : BlockTerm) → Walked called bases first k p q (Bind xs s (Parted frame base cell op (parts_of (map part_term all))) end) (Bind xs s (Parted frame base cell op (parts_before (map part_term done) (parts_of (map part_term rest)))) end)
-    pub none : q.replaced ≡ p.replaced → EachWithParts called (IsLeft bases first p.next) (parts_of (map part_term rest)) k → EachWithParts called (IsLeft bases first p.next) (parts_of (map part_term all)) k
-
-  pub parts_on : (k : Facts) (p : Progress) (all : List CorePart) (q r : Progress) (done done' before rest : List CorePart) (x y : CorePart) → PartsGoing k p all q done before → before ≡ x ∷ rest → done' ≡ done ++ (y ∷ []) → PartWalked called bases first k q r (part_term x) (part_term y) → PartsGoing k p all r done' rest
-  parts_on k p all q r done done' before rest x y v b d u = record {
-    walked = λ xs s frame base cell op end.
-        subst (λ (t : PartsTerm). Walked called bases first k p r (Bind xs s (Parted frame base cell op (parts_of (map part_term all))) end) (Bind xs s (Parted frame base cell op t) end))
-        (sym ((λ i. parts_before (map part_term (d i)) (parts_of (map part_term rest))) ∙ ap (λ z. parts_before z (parts_of (map part_term rest))) (map_snoc part_term done y) ∙ parts_snoc (map part_term done) (part_term y) (parts_of (map part_term rest))))
-        (join (subst (λ (ls : List CorePart). Walked called bases first k p q (Bind xs s (Parted frame base cell op (parts_of (map part_term all))) end) (Bind xs s (Parted frame base cell op (parts_before (map part_term done) (parts_of (map part_term ls)))) end)) b (v.walked xs s frame base cell op end))
-        (part_walked (map part_term done) k q r (part_term x) (part_term y) (parts_of (map part_term rest)) u xs s frame base cell op end));
-    none = λ e h.
-        let one = v.walked [] no_site [] Int [] parted.Genarray (Gives []) in
-        let w = both p.replaced q.replaced r.replaced (rises one) (rises u.body.walked) e in
-        let same = (still one w.0).0 in
-        v.none w.0 (subst (λ (ls : List CorePart). EachWithParts called (IsLeft bases first p.next) (parts_of (map part_term ls)) k) (sym b)
-        (subst (λ (m : Progress). EachWith called (IsLeft bases first m.next) (part_term x).body (in_part k (part_term x).head)) (sym same) (u.body.none w.1), h));
-  }
-
-  pub parts_done : (k : Facts) (p q : Progress) (s : Site) (all done rest : List CorePart) (frame : List Grid1) (base : Base) (cell : List ℕ) (op : PartedOp) → PartsGoing k p all q done rest → rest ≡ [] → RightWalked called bases first k p q s (Parted frame base cell op (parts_of (map part_term all))) (Parted frame base cell op (parts_of (map part_term done)))
-  parts_done k p q s all done rest frame base cell op v r = record {
-    walked = λ xs end.
-        subst (λ (t : PartsTerm). Walked called bases first k p q (Bind xs s (Parted frame base cell op (parts_of (map part_term all))) end) (Bind xs s (Parted frame base cell op t) end))
-        ((λ i. parts_before (map part_term done) (parts_of (map part_term (r i)))) ∙ parts_ended (map part_term done)) (v.walked xs s frame base cell op end);
-    none = λ e. v.none e (subst (λ (ls : List CorePart). EachWithParts called (IsLeft bases first p.next) (parts_of (map part_term ls)) k) (sym r) tt);
-  }
-
-  pub gens_first : (k : Facts) (p : Progress) (all done : List CoreGen) → done ≡ [] → GensGoing k p all p done all
-  gens_first k p all done e = record {
-    walked = λ xs s op end. subst (λ (ls : List CoreGen). Walked called bases first k p p (Bind xs s (With op (gens_of (map gen_term all))) end) (Bind xs s (With op (gens_before (map gen_term ls) (gens_of (map gen_term all)))) end)) (sym e) stays;
-    none = λ _ h. h;
-  }
-
-  pub parts_first : (k : Facts) (p : Progress) (all done : List CorePart) → done ≡ [] → PartsGoing k p all p done all
-  parts_first k p all done e = record {
-    walked = λ xs s frame base cell op end. subst (λ (ls : List CorePart). Walked called bases first k p p (Bind xs s (Parted frame base cell op (parts_of (map part_term all))) end) (Bind xs s (Parted frame base cell op (parts_before (map part_term ls) (parts_of (map part_term all)))) end)) (sym e) stays;
-    none = λ _ h. h;
-  }
-
-  -- ---- the with-loop itself
-
-  -- a with-loop that stays
-  pub left_walked : (k : Facts) (p : Progress) (s : Site) (op : CoreOp) (gens : GensTerm) (t : RightTerm) → t ≡ With op gens → IsLeft bases first p.next k s op gens → WithWalked called bases first k p p s op gens t
-  left_walked k p s op gens t e l = record {
-    walked = λ xs rest. subst (λ (r : RightTerm). Walked called bases first k p p (Bind xs s (With op gens) rest) (Bind xs s r rest)) (sym e) stays;
-    none = λ _. l;
-  }
-
-  -- one that becomes a parted loop
-  pub replaced_walked : (k : Facts) (p q : Progress) (s : Site) (op : CoreOp) (gens : List GenTerm) (t : RightTerm) → ReplacedAt bases first p q k s op gens t → WithWalked called bases first k p q s op (gens_of gens) t
-  replaced_walked k p q s op gens t at = record {
-    walked = λ xs rest. goes (here (record { targets = xs; site = s; op = op; gens = gens; right = t; rest = rest; at = at; before = refl; now = refl })) stays;
-    none = λ e. let more = ap (λ (r : Progress). r.replaced) at.after in absurd (omega (arith, more, e));
-  }
+  pub walked_block : (k : Facts) (p q : Progress) (b c : BlockTerm) (vs : List Fact) → BlockTraced called Progress (NormStep called bases first) Finished k p q b c vs →
+      BlockWalked called bases first k p q b c × (vs ≡ block_facts called c k)
+  walked_block k p q b c vs t =
+      let told = edited_block called Progress (λ r. r.replaced) (ReplacedHere bases first) (NoneAt bases first) t in
+      (record { walked = walk_is told.0.walked; none = none_left k p q b c told.0.verdict }, told.1)

@@ -1,5 +1,5 @@
 -- With-loops that become parted loops on one walk over a block.
-use Rattle.std.specs.Prelude.{◌≡◌, ℕ, suc, ◌+◌, ◌<◌, nat_lt, if◌then◌else◌, List, [], ◌∷◌, Option, Some, None}
+use Rattle.std.specs.Prelude.{◌≡◌, ◌⊎◌, ℕ, suc, ◌+◌, ◌<◌, nat_lt, if◌then◌else◌, List, [], ◌∷◌, Option, Some, None}
 use Rattle.sac_base.specs.declared.base.Base.{Base}
 use Rattle.sac_base.specs.declared.site.Site.{Site}
 use Rattle.core_ir.specs.declared.tree.Var.{Var}
@@ -7,8 +7,9 @@ use Rattle.core_ir.specs.declared.tree.CoreOp.{CoreOp}
 use Rattle.core_ir.specs.Edits.{Edited}
 use Rattle.core_ir.specs.Terms.{BlockTerm, RightTerm, GensTerm, PartsTerm, LetTerm, GenTerm, PartTerm}
 use Rattle.core_ir.specs.Terms.{Gives, Bind, Plain, With, Parted, NoGens, Gen, NoParts, Part, gens_of, parts_of}
-use Rattle.core_facts.specs.Facts.{Facts, note_all, right_facts, in_part}
+use Rattle.core_facts.specs.Facts.{Fact, Facts, note_all, right_facts, in_part}
 use Rattle.core_loops.specs.Steps.{fact_ways}
+use Rattle.core_walk.specs.Editing.{EditStep}
 use Rattle.partable_loops.specs.Planned.{IsPlannable, PlanFits}
 use Rattle.partable_loops.specs.declared.planning.PartPlan.{PartPlan}
 use Rattle.parted_bodies.specs.declared.names.Progress.{Progress}
@@ -53,6 +54,15 @@ module _ (bases : Var → Option Base) (first : ℕ) where
     pub before : b ≡ Bind targets site (With op (gens_of gens)) rest
     pub now : c ≡ Bind targets site right rest
 
+  -- a with-loop whose generators have been walked through became a parted loop, or nothing is left to do
+  abbrev pub ReplacedOrLeft : Progress → Progress → Facts → Site → CoreOp → List GenTerm → RightTerm → Type 0
+  ReplacedOrLeft p q k s op gens t = ReplacedAt p q k s op gens t ⊎ ((q ≡ p) × (t ≡ With op (gens_of gens)) × IsLeft bases first p.next k s op (gens_of gens))
+
+  -- no with-loop that is left to do is bound first
+  abbrev pub NoneAt : Progress → Facts → BlockTerm → Type 0
+  NoneAt p k (Bind xs s (With op gens) rest) = IsLeft bases first p.next k s op gens
+  NoneAt p k _ = Unit {0}
+
 -- ---- all with-loops of a term
 
 -- each with-loop of the term, by what is known where it stands
@@ -81,6 +91,10 @@ module _ (called : ℕ → List (Option (List ℕ))) (P : Facts → Site → Cor
 -- ---- a walk
 
 module _ (called : ℕ → List (Option (List ℕ))) (bases : Var → Option Base) (first : ℕ) where
+  -- what the walk does with a right side
+  abbrev pub NormStep : Facts → Progress → Progress → List Var → Site → RightTerm → List Fact → List LetTerm → RightTerm → List Fact → Type 0
+  NormStep = EditStep called Progress (λ p. p.replaced) (ReplacedHere bases first) (NoneAt bases first)
+
   -- with-loops were replaced one after another
   pub data Walked : Facts → Progress → Progress → BlockTerm → BlockTerm → Type 0 where
     stays : {k : Facts} {p : Progress} {b : BlockTerm} → Walked k p p b b
@@ -91,29 +105,3 @@ module _ (called : ℕ → List (Option (List ℕ))) (bases : Var → Option Bas
   pub record BlockWalked (k : Facts) (p q : Progress) (b c : BlockTerm) : Type 0 where
     pub walked : Walked k p q b c
     pub none : q.replaced ≡ p.replaced → EachWith called (IsLeft bases first p.next) b k
-
-  pub record RightWalked (k : Facts) (p q : Progress) (s : Site) (r t : RightTerm) : Type 0 where
-    pub walked : (xs : List Var) (rest : BlockTerm) → Walked k p q (Bind xs s r rest) (Bind xs s t rest)
-    pub none : q.replaced ≡ p.replaced → EachWithRight called (IsLeft bases first p.next) s r k
-
-  pub record LetWalked (k : Facts) (p q : Progress) (l m : LetTerm) : Type 0 where
-    pub walked : (rest : BlockTerm) → Walked k p q (Bind l.targets l.site l.right rest) (Bind m.targets m.site m.right rest)
-    pub none : q.replaced ≡ p.replaced → EachWithRight called (IsLeft bases first p.next) l.site l.right k
-
-  pub record GensWalked (k : Facts) (p q : Progress) (g h : GensTerm) : Type 0 where
-    pub walked : (xs : List Var) (s : Site) (op : CoreOp) (rest : BlockTerm) → Walked k p q (Bind xs s (With op g) rest) (Bind xs s (With op h) rest)
-    pub none : q.replaced ≡ p.replaced → EachWithGens called (IsLeft bases first p.next) g k
-
-  -- a with-loop whose generators have been walked through
-  pub record WithWalked (k : Facts) (p q : Progress) (s : Site) (op : CoreOp) (gens : GensTerm) (t : RightTerm) : Type 0 where
-    pub walked : (xs : List Var) (rest : BlockTerm) → Walked k p q (Bind xs s (With op gens) rest) (Bind xs s t rest)
-    pub none : q.replaced ≡ p.replaced → IsLeft bases first p.next k s op gens
-
-  -- the body of a generator alone, and that of a part
-  pub record GenWalked (k : Facts) (p q : Progress) (g h : GenTerm) : Type 0 where
-    pub head : h.head ≡ g.head
-    pub body : BlockWalked (note_all k (g.head.index ∷ g.head.names) []) p q g.body h.body
-
-  pub record PartWalked (k : Facts) (p q : Progress) (g h : PartTerm) : Type 0 where
-    pub head : h.head ≡ g.head
-    pub body : BlockWalked (in_part k g.head) p q g.body h.body

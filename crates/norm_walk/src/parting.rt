@@ -9,9 +9,8 @@ ghost use Rattle.fact_table.specs.Table.{fact_of, facts_of};
 ghost use Rattle.plain_facts.specs.known_rights.Anywhere.{IsKnownAnywhere};
 ghost use Rattle.parted_bodies.specs.Making.{binds_of, made_parts};
 ghost use Rattle.parted_bodies.specs.Making.{parted_op as parted_op_of};
-ghost use Rattle.plain_facts.specs.Called.{shapes_of};
 ghost use Rattle.variable_bases.specs.Table.{base_in};
-ghost use Rattle.norm_walk.specs.Replacing.{IsLeft, IsPlanned, WithWalked};
+ghost use Rattle.norm_walk.specs.Replacing.{IsLeft, IsPlanned, ReplacedOrLeft};
 ghost use Rattle.norm_walk.specs.Replacing.{old_base as old_base_of};
 
 use crate::given::Given;
@@ -40,8 +39,8 @@ pub fn replace_with(
     table: &FactTable,
     progress: &mut Progress,
 ) -> Result<KnownRight, Memory>
-    ensures walked { IfOk result (λ new. WithWalked (shapes_of given.now.called.now) (base_in given.now.bases.now) given.now.first (facts_of table.now)
-        progress.old progress.new site op (gens_of (map gen_term gens.items)) (right_term new.right)) }
+    ensures replaced { IfOk result (λ new. ReplacedOrLeft (base_in given.now.bases.now) given.now.first progress.old progress.new (facts_of table.now)
+        site op (map gen_term gens.items) (right_term new.right)) }
     ensures known { IfOk result (λ new. IsKnownAnywhere (right_term new.right) (map fact_of new.values.items)) }
 {
     match plan_of(alloc, op, &gens, given, table, progress.next)? {

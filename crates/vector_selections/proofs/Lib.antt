@@ -1,3 +1,3 @@
 mod Turns
 mod Unchanged
-mod Ends
+mod Walked

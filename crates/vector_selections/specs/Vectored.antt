@@ -1,39 +1,36 @@
--- A binding, a generator, a part and a function alone, whose selections by scalars go by vectors.
-use Rattle.std.specs.Prelude.{ℕ, ◌-◌, List, [], ◌∷◌, Option, map}
+-- A right side and a function alone, whose selections by scalars go by vectors.
+use Rattle.std.specs.Prelude.{◌≡◌, ℕ, ◌-◌, List, [], ◌∷◌, Option, Some, None, map}
 use Rattle.std.specs.List.{sum}
-use Rattle.core_ir.specs.Terms.{BlockTerm, LetTerm, GenTerm, PartTerm, FunTerm, CoreTerm}
-use Rattle.core_subst.specs.Names.{above_function}
-use Rattle.core_facts.specs.Facts.{Facts, note_all, in_part}
+use Rattle.sac_base.specs.declared.site.Site.{Site}
+use Rattle.core_ir.specs.declared.tree.Var.{Var}
+use Rattle.core_ir.specs.Terms.{PlainTerm, RightTerm, LetTerm, FunTerm, CoreTerm, Plain}
+use Rattle.core_subst.specs.Names.{above_function, variable}
+use Rattle.core_facts.specs.Facts.{Fact, Facts}
 use Rattle.core_facts.specs.constants.Called.{called as called_in, params_facts}
-use Rattle.core_forms.specs.selections.Vectors.{Selection, bind_vector, behind, by_scalar, next, next_right, vectored, vectored_right}
+use Rattle.core_forms.specs.selections.Vectors.{Selection, behind, by_scalar, next, vectored}
 
--- a binding before a block, with a choice made for it
-abbrev pub bind_chosen : Option Selection → ℕ → LetTerm → BlockTerm → BlockTerm
-bind_chosen choice n l end = bind_vector choice n l.targets l.site l.right end
+-- the binding of the variable of this number to the vector of a number
+abbrev pub vector_let : ℕ → Site → Var → LetTerm
+vector_let n s i = record { targets = variable n ∷ []; site = s; right = Plain (PlainTerm.Literal (i ∷ [])) }
+
+-- the binding before a selection for which this choice was made, and the selection
+abbrev pub before_choice : Option Selection → ℕ → Site → List LetTerm
+before_choice None n s = []
+before_choice (Some x) n s = vector_let n s x.index ∷ []
+
+abbrev pub by_choice : Option Selection → ℕ → RightTerm → RightTerm
+by_choice None n r = r
+by_choice (Some x) n r = Plain (PlainTerm.Select x.array (variable n))
+
+-- what the walk does with a right side
+pub record VectorStep (k : Facts) (n m : ℕ) (xs : List Var) (s : Site) (r : RightTerm) (vs : List Fact) (ms : List LetTerm) (t : RightTerm) (ws : List Fact) :
+    Type 0 where
+  pub known : ws ≡ vs
+  pub number : m ≡ behind (by_scalar r k) n
+  pub before : ms ≡ before_choice (by_scalar r k) n s
+  pub right : t ≡ by_choice (by_scalar r k) n r
 
 module _ (called : ℕ → List (Option (List ℕ))) where
-  -- what the binding becomes before a block
-  abbrev pub bind_vectored : LetTerm → Facts → ℕ → BlockTerm → BlockTerm
-  bind_vectored l k n end = bind_vector (by_scalar l.right k) (next_right called l.right k n) l.targets l.site (vectored_right called l.right k n) end
-
-  abbrev pub next_let : LetTerm → Facts → ℕ → ℕ
-  next_let l k n = behind (by_scalar l.right k) (next_right called l.right k n)
-
-  abbrev pub in_gen : GenTerm → Facts → Facts
-  in_gen g k = note_all k (g.head.index ∷ g.head.names) []
-
-  abbrev pub vectored_gen : GenTerm → Facts → ℕ → GenTerm
-  vectored_gen g k n = record g { body = vectored called g.body (in_gen g k) n }
-
-  abbrev pub next_gen : GenTerm → Facts → ℕ → ℕ
-  next_gen g k n = next called g.body (in_gen g k) n
-
-  abbrev pub vectored_part : PartTerm → Facts → ℕ → PartTerm
-  vectored_part p k n = record p { body = vectored called p.body (in_part k p.head) n }
-
-  abbrev pub next_part : PartTerm → Facts → ℕ → ℕ
-  next_part p k n = next called p.body (in_part k p.head) n
-
   abbrev pub vectored_function : FunTerm → FunTerm
   vectored_function f = record f { body = vectored called f.body (params_facts f) (above_function f) }
 

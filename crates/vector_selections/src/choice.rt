@@ -1,17 +1,16 @@
-//! Which selections go by vectors, and their bindings.
+//! Which selections go by vectors, and the bindings of these.
 
-ghost use Rattle.std.specs.Prelude.{◌≡◌, ◌&&◌, not, [], ◌∷◌, Some, suc, IfOk, OnOk, map};
-ghost use Rattle.core_ir.specs.Terms.{BlockTerm, chain};
+ghost use Rattle.std.specs.Prelude.{◌≡◌, ◌&&◌, ◌++◌, not, [], ◌∷◌, suc, IfOk, OnOk, map};
 ghost use Rattle.core_ir.specs.View.{let_term, right_term};
 ghost use Rattle.core_loops.specs.Indices.{is_scalar_shape};
-ghost use Rattle.core_forms.specs.selections.Vectors.{behind, by_scalar, is_open_scalar as is_open};
+ghost use Rattle.core_forms.specs.selections.Vectors.{by_scalar, is_open_scalar as is_open};
 ghost use Rattle.fact_table.specs.Table.{fact_of, facts_of};
 ghost use Rattle.vector_selections.specs.Choice.{chosen};
-ghost use Rattle.vector_selections.specs.Vectored.{bind_chosen};
+ghost use Rattle.vector_selections.specs.Vectored.{vector_let};
 
 use core_ir::{Let, Right, Var};
 use fact_table::{FactTable, Known};
-use sac_base::{Memory, Shape};
+use sac_base::{Memory, Shape, Site};
 use std::alloc::Global;
 
 /// A selection from an array at an index.
@@ -55,56 +54,31 @@ fn is_scalar(shape: &Option<Shape>) -> bool
     }
 }
 
-/// Adds a binding. A selection that goes by a vector has the vector bound before it, to the next variable.
+/// Binds the next variable to the vector of a number.
 ///
 /// # Errors
 ///
 /// `Memory`: there is none for a binding, or no number of 32 bits for another variable.
-pub fn push_binding(
+pub fn bind_vector(
     alloc: Global,
-    binding: Let,
-    choice: Option<Selection>,
+    site: Site,
+    number: Var,
     fresh: &mut u32,
     done: &mut Vec<Let>,
-) -> Result<(), Memory>
-    ensures bound { OnOk result ((end : BlockTerm) → chain (map let_term done.new.items) end
-        ≡ chain (map let_term done.old.items) (bind_chosen (chosen choice) fresh.old (let_term binding) end)) }
-    ensures fresh { OnOk result (fresh.new ≡ behind (chosen choice) fresh.old) }
-{
-    match choice {
-        Some(selection) => push_vector(alloc, binding, selection, fresh, done),
-        None => {
-            done.push(binding)?;
-            Ok(())
-        }
-    }
-}
-
-fn push_vector(
-    alloc: Global,
-    binding: Let,
-    selection: Selection,
-    fresh: &mut u32,
-    done: &mut Vec<Let>,
-) -> Result<(), Memory>
-    ensures bound { OnOk result ((end : BlockTerm) → chain (map let_term done.new.items) end
-        ≡ chain (map let_term done.old.items) (bind_chosen (chosen (Some selection)) fresh.old (let_term binding) end)) }
+) -> Result<Var, Memory>
+    ensures taken { IfOk result (λ var. var.0 ≡ fresh.old) }
+    ensures bound { OnOk result (map let_term done.new.items ≡ map let_term done.old.items ++ (vector_let fresh.old site number ∷ [])) }
     ensures fresh { OnOk result (fresh.new ≡ suc fresh.old) }
 {
     let vector = take(fresh)?;
     let targets = one(alloc, vector)?;
-    let numbers = one(alloc, selection.index)?;
+    let numbers = one(alloc, number)?;
     done.push(Let {
         targets,
-        site: binding.site,
+        site,
         right: Right::Literal(numbers),
     })?;
-    done.push(Let {
-        targets: binding.targets,
-        site: binding.site,
-        right: Right::Select(selection.array, vector),
-    })?;
-    Ok(())
+    Ok(vector)
 }
 
 /// The variable of the next number.

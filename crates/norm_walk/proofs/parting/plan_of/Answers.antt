@@ -16,4 +16,4 @@ returns-in-None-clause-left c =
     let given = c.args.given.now in
     let gens = gens_of (map gen_term c.args.gens.now) in
     let refused = subst (λ (o : Option PartPlan). IfNone o ((s : Site) → IsPlannable (facts_of c.args.table.now) c.args.above s c.args.op gens → ⊥)) c.in-None.is c.in_ok-plan.ensures.refused in
-    left_refused (shapes_of given.called.now) (base_in given.bases.now) given.first (facts_of c.args.table.now) c.args.above c.args.op gens refused
+    left_refused (base_in given.bases.now) given.first (facts_of c.args.table.now) c.args.above c.args.op gens refused

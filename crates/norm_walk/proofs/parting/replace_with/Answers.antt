@@ -15,24 +15,24 @@ use Rattle.plain_facts.proofs.known_rights.Told.{with_known}
 use Rattle.core_ir.specs.declared.tree.WithLoop.{roll-WithLoop}
 use Rattle.norm_walk.proofs.parting.replace_with.Goals as goal
 
-pub returns-in-Some-clause-walked : goal.returns-in-Some-clause-walked
-returns-in-Some-clause-walked c =
+pub returns-in-Some-clause-replaced : goal.returns-in-Some-clause-replaced
+returns-in-Some-clause-replaced c =
     let given = c.args.given.now in
     let k = facts_of c.args.table.now in
     let bases = base_in given.bases.now in
     let p = c.args.progress.now in
     let planned = subst (λ (o : Option BasedPlan). IfSome o (λ (n : BasedPlan). IsPlanned bases given.first k p.next c.args.op (gens_of (map gen_term c.deref.result.now)) n.base n.plan)) c.in-Some.is c.in_ok-planned.ensures.planned in
-    replaced_lent (shapes_of given.called.now) bases given.first k p c.parted_loop.new.progress c.args.site c.args.op c.args.gens.items c.deref.result.now c.deref-in-Some.result.now c.in-Some.planned.base c.in-Some.planned.plan c.parted_loop.result
+    replaced_lent bases given.first k p c.parted_loop.new.progress c.args.site c.args.op c.args.gens.items c.deref.result.now c.deref-in-Some.result.now c.in-Some.planned.base c.in-Some.planned.plan c.parted_loop.result
     c.deref.ensures.value c.deref-in-Some.ensures.value planned c.parted_loop.ensures.right c.parted_loop.ensures.after
 
-pub returns-in-None-clause-walked : goal.returns-in-None-clause-walked
-returns-in-None-clause-walked c =
+pub returns-in-None-clause-replaced : goal.returns-in-None-clause-replaced
+returns-in-None-clause-replaced c =
     let given = c.args.given.now in
     let k = facts_of c.args.table.now in
     let bases = base_in given.bases.now in
     let p = c.args.progress.now in
     let left = subst (λ (o : Option BasedPlan). IfNone o ((s : Site) → IsLeft bases given.first p.next k s c.args.op (gens_of (map gen_term c.deref.result.now)))) c.in-None.is c.in_ok-planned.ensures.left in
-    unchanged_end (shapes_of given.called.now) bases given.first k p c.args.site c.args.op (gens_of (map gen_term c.args.gens.items)) (Ok c.of_with.result) (c.of_with.ensures.right ∙ with_roll (record { gens = c.args.gens; op = c.args.op }))
+    unchanged_end bases given.first k p c.args.site c.args.op (map gen_term c.args.gens.items) (Ok c.of_with.result) (c.of_with.ensures.right ∙ with_roll (record { gens = c.args.gens; op = c.args.op }))
     (subst (λ (gs : List CoreGen). (s : Site) → IsLeft bases given.first p.next k s c.args.op (gens_of (map gen_term gs))) c.deref.ensures.value left)
 
 pub returns-in-None-clause-known : goal.returns-in-None-clause-known
