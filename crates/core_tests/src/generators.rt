@@ -1,4 +1,4 @@
-ghost use Rattle.std.specs.Prelude.{◌≡◌, pos, IfOk, ◌∷◌, []};
+ghost use Rattle.std.specs.Prelude.{◌≡◌, ◌≤◌, ◌∷◌, [], pos, length, All, IfOk};
 
 use crate::grids::{BY_FOUR, BY_SIX, FINE, FINER, members};
 use generator_sets::{GenError, Parts, meet, minus, partition, shift};
@@ -48,32 +48,15 @@ fn line(alloc: Global, side: Grid1) -> Result<Grid, Memory>
     Ok(Grid::new(Vec::from_array(alloc, [side])?))
 }
 
-/// A grid of two axes, which are both one.
-fn two(alloc: Global, side: Grid1) -> Result<Grid, Memory>
-    ensures { IfOk result (λ grid. grid ≡ side ∷ side ∷ []) }
+/// A grid of so many axes, which are all one.
+fn cube(alloc: Global, axes: usize, side: Grid1) -> Result<Grid, Memory>
+    requires { axes ≤ 8 }
+    ensures axes { IfOk result (λ grid. length grid ≡ axes) }
+    ensures unit { side.step ≡ pos 1 → IfOk result (λ grid. All (λ axis. axis.step ≡ pos 1) grid) }
 {
-    Ok(Grid::new(Vec::from_array(alloc, [side, side])?))
-}
-
-/// A grid of three axes, which are all one.
-fn three(alloc: Global, side: Grid1) -> Result<Grid, Memory>
-    ensures { IfOk result (λ grid. grid ≡ side ∷ side ∷ side ∷ []) }
-{
-    Ok(Grid::new(Vec::from_array(alloc, [side, side, side])?))
-}
-
-/// A grid of six axes, which are all one.
-fn six(alloc: Global, side: Grid1) -> Result<Grid, Memory>
-    ensures { IfOk result (λ grid. grid ≡ side ∷ side ∷ side ∷ side ∷ side ∷ side ∷ []) }
-{
-    Ok(Grid::new(Vec::from_array(alloc, [side, side, side, side, side, side])?))
-}
-
-/// A grid of seven axes, which are all one.
-fn seven(alloc: Global, side: Grid1) -> Result<Grid, Memory>
-    ensures { IfOk result (λ grid. grid ≡ side ∷ side ∷ side ∷ side ∷ side ∷ side ∷ side ∷ []) }
-{
-    Ok(Grid::new(Vec::from_array(alloc, [side, side, side, side, side, side, side])?))
+    let mut sides = Vec::new(alloc);
+    sides.resize(axes, side)?;
+    Ok(Grid::new(sides))
 }
 
 /// The numbers below 64 that are members of grids of one axis, one bit each; what is met twice is left out.
@@ -85,20 +68,32 @@ fn bits(pieces: &[Grid]) -> u64 {
     seen
 }
 
-/// The members of both, and the number of pieces.
-fn met(alloc: Global, a: Grid1, b: Grid1) -> Result<(u64, usize), GenError> {
-    let a = line(alloc, a)?;
-    let b = line(alloc, b)?;
-    let pieces = meet(alloc, &a, &b)?;
-    Ok((bits(&pieces), pieces.len()))
+/// The pieces of the members of both, on so many axes.
+fn met(alloc: Global, axes: usize, a: Grid1, b: Grid1) -> Result<Vec<Grid>, GenError>
+    requires { axes ≤ 8 }
+{
+    let a = cube(alloc, axes, a)?;
+    let b = cube(alloc, axes, b)?;
+    meet(alloc, &a, &b)
+}
+
+/// The pieces of the members of the first alone.
+fn left(alloc: Global, axes: usize, a: Grid1, b: Grid1) -> Result<Vec<Grid>, GenError>
+    requires { axes ≤ 8 }
+{
+    let a = cube(alloc, axes, a)?;
+    let b = cube(alloc, axes, b)?;
+    minus(alloc, &a, &b)
+}
+
+/// The members of both, on one axis.
+fn met_members(alloc: Global, a: Grid1, b: Grid1) -> Result<u64, GenError> {
+    Ok(bits(&met(alloc, 1, a, b)?))
 }
 
 /// The members of the first alone.
-fn left(alloc: Global, a: Grid1, b: Grid1) -> Result<u64, GenError> {
-    let a = line(alloc, a)?;
-    let b = line(alloc, b)?;
-    let pieces = minus(alloc, &a, &b)?;
-    Ok(bits(&pieces))
+fn left_members(alloc: Global, a: Grid1, b: Grid1) -> Result<u64, GenError> {
+    Ok(bits(&left(alloc, 1, a, b)?))
 }
 
 /// The members of a grid that is moved by 3.
@@ -110,86 +105,75 @@ fn moved(alloc: Global) -> Result<u64, GenError> {
 #[test]
 fn members_of_stepped_grids(rt: HostRuntime) {
     let alloc = rt.alloc();
-    let both = met(alloc, BY_FOUR, BY_SIX).map(|found| found.0);
-    assert_eq!(rt; both, Ok(0b0111_0101_0111));
-    assert_eq!(rt; left(alloc, BY_FOUR, BY_SIX), Ok(0b10_0000));
+    assert_eq!(rt; met_members(alloc, BY_FOUR, BY_SIX), Ok(0b0111_0101_0111));
+    assert_eq!(rt; left_members(alloc, BY_FOUR, BY_SIX), Ok(0b10_0000));
     assert_eq!(rt; moved(alloc), Ok(0b011_1110_1111_1000));
 }
 
-/// How many pieces there are of the even numbers on six axes.
-fn met6(alloc: Global) -> Result<usize, GenError> {
-    let whole = six(alloc, all(0, 100))?;
-    let half = six(alloc, EVEN)?;
-    Ok(meet(alloc, &whole, &half)?.len())
+/// How many pieces there are of the even numbers of the first hundred, on so many axes.
+fn even(alloc: Global, axes: usize) -> Result<usize, GenError>
+    requires { axes ≤ 8 }
+{
+    Ok(met(alloc, axes, all(0, 100), EVEN)?.len())
 }
 
-/// How many pieces there are of what is not even on six axes.
-fn left6(alloc: Global) -> Result<usize, GenError> {
-    let whole = six(alloc, all(0, 100))?;
-    let half = six(alloc, EVEN)?;
-    Ok(minus(alloc, &whole, &half)?.len())
+/// How many pieces there are of what is not even.
+fn odd(alloc: Global, axes: usize) -> Result<usize, GenError>
+    requires { axes ≤ 8 }
+{
+    Ok(left(alloc, axes, all(0, 100), EVEN)?.len())
 }
 
-/// How many parts a frame of six axes has.
-fn parts6(alloc: Global, frame: (i64, i64), generator: Grid1) -> Result<usize, GenError> {
-    let frame = six(alloc, all(frame.0, frame.1))?;
-    let generators = [six(alloc, generator)?];
-    Ok(partition(alloc, &frame, &generators)?.parts.len())
-}
-
-fn met7(alloc: Global) -> Result<usize, GenError> {
-    let whole = seven(alloc, all(0, 100))?;
-    let half = seven(alloc, EVEN)?;
-    Ok(meet(alloc, &whole, &half)?.len())
-}
-
-fn left7(alloc: Global) -> Result<usize, GenError> {
-    let whole = seven(alloc, all(0, 100))?;
-    let half = seven(alloc, EVEN)?;
-    Ok(minus(alloc, &whole, &half)?.len())
-}
-
-fn parts7(alloc: Global) -> Result<usize, GenError> {
-    let frame = seven(alloc, all(0, 100))?;
-    let generators = [seven(alloc, EVEN)?];
+/// How many parts a frame of so many axes has, with one generator.
+fn parts(alloc: Global, axes: usize, frame: (i64, i64), generator: Grid1) -> Result<usize, GenError>
+    requires { axes ≤ 8 }
+{
+    let frame = cube(alloc, axes, all(frame.0, frame.1))?;
+    let generators = [cube(alloc, axes, generator)?];
     Ok(partition(alloc, &frame, &generators)?.parts.len())
 }
 
 #[test]
 fn periods_and_counts_at_their_limits(rt: HostRuntime) {
     let alloc = rt.alloc();
-    assert_eq!(rt; met(alloc, FINE, FINER), Err(GenError::TooFine));
-    assert_eq!(rt; left(alloc, FINE, FINER), Err(GenError::TooFine));
-    let counts = [met6(alloc), left6(alloc), parts6(alloc, (0, 100), EVEN)];
+    assert_eq!(rt; met_members(alloc, FINE, FINER), Err(GenError::TooFine));
+    assert_eq!(rt; left_members(alloc, FINE, FINER), Err(GenError::TooFine));
+    let counts = [
+        even(alloc, 6),
+        odd(alloc, 6),
+        parts(alloc, 6, (0, 100), EVEN),
+    ];
     assert_eq!(rt; counts, [Ok(1), Ok(63), Ok(64)]);
-    let counts = [met7(alloc), left7(alloc), parts7(alloc)];
+    let counts = [
+        even(alloc, 7),
+        odd(alloc, 7),
+        parts(alloc, 7, (0, 100), EVEN),
+    ];
     assert_eq!(rt; counts, [Err(GenError::TooMany); 3]);
 }
 
-/// How many parts a frame of one axis has.
-fn parts1(alloc: Global, frame: (i64, i64), generator: Grid1) -> Result<usize, GenError> {
-    let frame = line(alloc, all(frame.0, frame.1))?;
-    let generators = [line(alloc, generator)?];
-    Ok(partition(alloc, &frame, &generators)?.parts.len())
+/// How many pieces there are of the members of both, on one axis.
+fn met_pieces(alloc: Global, a: Grid1, b: Grid1) -> Result<usize, GenError> {
+    Ok(met(alloc, 1, a, b)?.len())
 }
 
 #[test]
 fn a_lone_grid_may_have_any_step(rt: HostRuntime) {
     let alloc = rt.alloc();
     let apart = all(5_000_000_000_000, 5_000_000_000_001);
-    assert_eq!(rt; met(alloc, COARSE, apart), Ok((0, 0)));
-    assert_eq!(rt; left(alloc, COARSE, apart), Ok(0b111_1111));
-    let parts = parts1(alloc, (0, 5_000_000_000_000), COARSE);
-    assert_eq!(rt; parts, Err(GenError::TooFine));
+    assert_eq!(rt; met_pieces(alloc, COARSE, apart), Ok(0));
+    assert_eq!(rt; left_members(alloc, COARSE, apart), Ok(0b111_1111));
+    let count = parts(alloc, 1, (0, 5_000_000_000_000), COARSE);
+    assert_eq!(rt; count, Err(GenError::TooFine));
 }
 
 /// The first ten numbers with three generators.
 fn three_generators(alloc: Global) -> Result<Parts, GenError> {
-    let frame = line(alloc, all(0, 10))?;
+    let frame = cube(alloc, 1, all(0, 10))?;
     let generators = [
-        line(alloc, all(2, 5))?,
-        line(alloc, EVEN)?,
-        line(alloc, all(4, 8))?,
+        cube(alloc, 1, all(2, 5))?,
+        cube(alloc, 1, EVEN)?,
+        cube(alloc, 1, all(4, 8))?,
     ];
     partition(alloc, &frame, &generators)
 }
@@ -236,24 +220,10 @@ fn each_part_has_its_first_generator(rt: HostRuntime) {
     }
 }
 
-/// How many parts a frame of two axes has.
-fn parts2(alloc: Global, frame: (i64, i64), generator: Grid1) -> Result<usize, GenError> {
-    let frame = two(alloc, all(frame.0, frame.1))?;
-    let generators = [two(alloc, generator)?];
-    Ok(partition(alloc, &frame, &generators)?.parts.len())
-}
-
 /// How many parts a frame of two axes has with a generator within another.
 fn nested_parts2(alloc: Global) -> Result<usize, GenError> {
-    let frame = two(alloc, all(0, 10))?;
-    let generators = [two(alloc, all(2, 8))?, two(alloc, all(1, 9))?];
-    Ok(partition(alloc, &frame, &generators)?.parts.len())
-}
-
-/// How many parts a frame of three axes has.
-fn parts3(alloc: Global, frame: (i64, i64), generator: Grid1) -> Result<usize, GenError> {
-    let frame = three(alloc, all(frame.0, frame.1))?;
-    let generators = [three(alloc, generator)?];
+    let frame = cube(alloc, 2, all(0, 10))?;
+    let generators = [cube(alloc, 2, all(2, 8))?, cube(alloc, 2, all(1, 9))?];
     Ok(partition(alloc, &frame, &generators)?.parts.len())
 }
 
@@ -262,11 +232,11 @@ fn neighbours_of_one_first_generator_are_joined(rt: HostRuntime) {
     let alloc = rt.alloc();
     let inner = all(1, 9);
     let counts = [
-        parts1(alloc, (0, 10), inner),
-        parts2(alloc, (0, 10), inner),
+        parts(alloc, 1, (0, 10), inner),
+        parts(alloc, 2, (0, 10), inner),
         nested_parts2(alloc),
-        parts3(alloc, (0, 10), inner),
-        parts6(alloc, (0, 10), inner),
+        parts(alloc, 3, (0, 10), inner),
+        parts(alloc, 6, (0, 10), inner),
     ];
     assert_eq!(rt;
         counts,
@@ -276,8 +246,8 @@ fn neighbours_of_one_first_generator_are_joined(rt: HostRuntime) {
 
 /// How many parts the first hundred numbers have with a generator for each half.
 fn halves(alloc: Global) -> Result<usize, GenError> {
-    let frame = line(alloc, all(0, 100))?;
-    let generators = [line(alloc, all(0, 50))?, line(alloc, all(50, 100))?];
+    let frame = cube(alloc, 1, all(0, 100))?;
+    let generators = [cube(alloc, 1, all(0, 50))?, cube(alloc, 1, all(50, 100))?];
     Ok(partition(alloc, &frame, &generators)?.parts.len())
 }
 
@@ -285,10 +255,10 @@ fn halves(alloc: Global) -> Result<usize, GenError> {
 fn other_parts_stay_as_they_are(rt: HostRuntime) {
     let alloc = rt.alloc();
     let counts = [
-        parts1(alloc, (0, 100), EVEN),
+        parts(alloc, 1, (0, 100), EVEN),
         halves(alloc),
-        parts1(alloc, (0, 100), BLOCKS),
-        parts2(alloc, (0, 100), BLOCKS),
+        parts(alloc, 1, (0, 100), BLOCKS),
+        parts(alloc, 2, (0, 100), BLOCKS),
     ];
     assert_eq!(rt; counts, [Ok(2), Ok(2), Ok(2), Ok(4)]);
 }

@@ -6,4 +6,3 @@ pub mod Labelling
 pub mod Framers
 pub mod Operations
 pub mod Verdict
-pub mod Bodies

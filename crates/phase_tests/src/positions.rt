@@ -13,37 +13,7 @@ const LINE: Grid1 = Grid1 {
     width: 1,
 };
 
-// Two in each four of them, and the two behind.
-const FIRST_TWO: Grid1 = Grid1 {
-    lo: 0,
-    hi: 10,
-    step: 4,
-    width: 2,
-};
-
-const NEXT_TWO: Grid1 = Grid1 {
-    lo: 2,
-    hi: 10,
-    step: 4,
-    width: 2,
-};
-
-// Every third of them.
-const THIRDS: Grid1 = Grid1 {
-    lo: 0,
-    hi: 10,
-    step: 3,
-    width: 1,
-};
-
-const TWO_TO_FIVE: Grid1 = Grid1 {
-    lo: 2,
-    hi: 5,
-    step: 1,
-    width: 1,
-};
-
-// Ten numbers from 2 ^ 40 on, and two in each four of them.
+// Ten numbers from 2 ^ 40 on.
 const FAR_LINE: Grid1 = Grid1 {
     lo: 1_099_511_627_776,
     hi: 1_099_511_627_786,
@@ -51,14 +21,7 @@ const FAR_LINE: Grid1 = Grid1 {
     width: 1,
 };
 
-const FAR_TWO: Grid1 = Grid1 {
-    lo: 1_099_511_627_776,
-    hi: 1_099_511_627_786,
-    step: 4,
-    width: 2,
-};
-
-// The last three numbers below the greatest of 64 bits, and the one in the middle.
+// The last three numbers below the greatest of 64 bits.
 const LAST_LINE: Grid1 = Grid1 {
     lo: 9_223_372_036_854_775_804,
     hi: 9_223_372_036_854_775_807,
@@ -66,12 +29,33 @@ const LAST_LINE: Grid1 = Grid1 {
     width: 1,
 };
 
-const LAST_MIDDLE: Grid1 = Grid1 {
-    lo: 9_223_372_036_854_775_805,
-    hi: 9_223_372_036_854_775_806,
-    step: 1,
+// Every third of the whole numbers from 0 on and below 10.
+const THIRDS: Grid1 = Grid1 {
+    lo: 0,
+    hi: 10,
+    step: 3,
     width: 1,
 };
+
+// The whole numbers from `lo` on and below `hi`.
+fn all(lo: i64, hi: i64) -> Grid1 {
+    Grid1 {
+        lo,
+        hi,
+        step: 1,
+        width: 1,
+    }
+}
+
+// Two in each four of them.
+fn pairs(lo: i64, hi: i64) -> Grid1 {
+    Grid1 {
+        lo,
+        hi,
+        step: 4,
+        width: 2,
+    }
+}
 
 // The grid of one axis.
 fn line(alloc: Global, axis: Grid1) -> Result<Grid, Memory>
@@ -116,7 +100,7 @@ fn run(from: u64, count: u64, part: u64) -> Run {
 
 #[test]
 fn each_position_has_the_part_that_has_its_member(rt: HostRuntime) {
-    let runs = on_line(rt.alloc(), FIRST_TWO, NEXT_TWO).expect(&rt, "memory");
+    let runs = on_line(rt.alloc(), pairs(0, 10), pairs(2, 10)).expect(&rt, "memory");
     let wanted = [
         run(0, 2, 0),
         run(2, 2, 1),
@@ -129,15 +113,15 @@ fn each_position_has_the_part_that_has_its_member(rt: HostRuntime) {
 
 #[test]
 fn a_position_of_two_parts_is_the_first_ones_and_one_of_no_part_is_in_no_run(rt: HostRuntime) {
-    let runs = on_line(rt.alloc(), TWO_TO_FIVE, THIRDS).expect(&rt, "memory");
+    let runs = on_line(rt.alloc(), all(2, 5), THIRDS).expect(&rt, "memory");
     let wanted = [run(0, 1, 1), run(2, 3, 0), run(6, 1, 1), run(9, 1, 1)];
     assert!(rt; runs.rows.as_slice() == wanted.as_slice());
 }
 
 #[test]
 fn runs_end_with_the_rows_of_a_frame(rt: HostRuntime) {
-    let first = (TWO_TO_FIVE, FIRST_TWO);
-    let second = (TWO_TO_FIVE, NEXT_TWO);
+    let first = (all(2, 5), pairs(0, 10));
+    let second = (all(2, 5), pairs(2, 10));
     let runs = on_plane(rt.alloc(), first, second).expect(&rt, "memory");
     let mut wanted = Vec::new(rt.alloc());
     for row in 2..5 {
@@ -148,11 +132,13 @@ fn runs_end_with_the_rows_of_a_frame(rt: HostRuntime) {
     assert!(rt; runs.rows.as_slice() == wanted.as_slice());
 }
 
-// The runs of one part over a frame of two axes whose numbers have more than 32 bits.
+// The runs of one part over a frame of two axes whose numbers have more than 32 bits: two in each four numbers of the second axis, at the middle of the first.
 fn far_away(alloc: Global) -> Result<Runs, Memory> {
     let frame = plane(alloc, LAST_LINE, FAR_LINE)?;
     let mut parts = Vec::new(alloc);
-    parts.push(plane(alloc, LAST_MIDDLE, FAR_TWO)?)?;
+    let middle = all(9_223_372_036_854_775_805, 9_223_372_036_854_775_806);
+    let far_pairs = pairs(FAR_LINE.lo, FAR_LINE.hi);
+    parts.push(plane(alloc, middle, far_pairs)?)?;
     rows(alloc, &frame, &parts)
 }
 

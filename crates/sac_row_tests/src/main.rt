@@ -17,6 +17,7 @@ mod wanting;
 use case::Case;
 use directive::Directive;
 use row::Row;
+use runs::{Shown, with_workers};
 use std::alloc::Global;
 use std::process::ExitCode;
 use std::thread::Threads;
@@ -45,9 +46,9 @@ fn run_case<R: Threads + Sync + Print>(
     directive: &Directive<'_>,
 ) -> Option<()> {
     match directive {
-        Directive::Run(workers) => runs::with_workers(rt, alloc, case, workers),
-        Directive::Phases(workers) => runs::of_phases(rt, alloc, case, workers),
-        Directive::Counters(workers) => runs::of_counters(rt, alloc, case, workers),
+        Directive::Run(workers) => with_workers(rt, alloc, case, workers, Shown::Status),
+        Directive::Phases(workers) => with_workers(rt, alloc, case, workers, Shown::Phases),
+        Directive::Counters(workers) => with_workers(rt, alloc, case, workers, Shown::Counters),
         Directive::Meet => runs::of_meeting(rt, alloc, case),
         Directive::Hold(numbers) => runs::of_holding(rt, alloc, case, numbers),
         Directive::Devices(fetch, call) => {

@@ -102,50 +102,34 @@ fn show_counters<R: Print>(rt: &R, sink: &MemSink, ran: &Ran) -> Option<()> {
     println!(rt; "taken {taken}, given {given}, reused {reused}").ok()
 }
 
-/// Runs the case with each of these numbers of workers.
+/// What is printed of a run beside the text that its sink took.
+#[derive(Clone, Copy)]
+pub enum Shown {
+    /// The exit status, and how many buffers are left.
+    Status,
+    /// These, and how many phases there were.
+    Phases,
+    /// All these, and how many buffers were taken, given back and reused.
+    Counters,
+}
+
+/// Runs the case with each of these numbers of workers, and prints what is to be shown of each run.
 pub fn with_workers<R: Threads + Sync + Print>(
     rt: &R,
     alloc: Global,
     case: &Case,
     workers: &str,
+    shown: Shown,
 ) -> Option<()> {
     for count in workers.split_whitespace() {
         let mut files = case.files(alloc, Vec::new(alloc))?;
         let mut sink = MemSink::new(alloc, ROOM, Vec::new(alloc));
         let ran = run(rt, alloc, case.words.as_str(), count, &mut files, &mut sink)?;
-        show(rt, &sink, &ran)?;
-    }
-    Some(())
-}
-
-/// Runs the case with each of these numbers of workers, and prints how many phases there were.
-pub fn of_phases<R: Threads + Sync + Print>(
-    rt: &R,
-    alloc: Global,
-    case: &Case,
-    workers: &str,
-) -> Option<()> {
-    for count in workers.split_whitespace() {
-        let mut files = case.files(alloc, Vec::new(alloc))?;
-        let mut sink = MemSink::new(alloc, ROOM, Vec::new(alloc));
-        let ran = run(rt, alloc, case.words.as_str(), count, &mut files, &mut sink)?;
-        show_phases(rt, &sink, &ran)?;
-    }
-    Some(())
-}
-
-/// Runs the case with each of these numbers of workers, and prints how many buffers were taken, given back and reused.
-pub fn of_counters<R: Threads + Sync + Print>(
-    rt: &R,
-    alloc: Global,
-    case: &Case,
-    workers: &str,
-) -> Option<()> {
-    for count in workers.split_whitespace() {
-        let mut files = case.files(alloc, Vec::new(alloc))?;
-        let mut sink = MemSink::new(alloc, ROOM, Vec::new(alloc));
-        let ran = run(rt, alloc, case.words.as_str(), count, &mut files, &mut sink)?;
-        show_counters(rt, &sink, &ran)?;
+        match shown {
+            Shown::Status => show(rt, &sink, &ran)?,
+            Shown::Phases => show_phases(rt, &sink, &ran)?,
+            Shown::Counters => show_counters(rt, &sink, &ran)?,
+        }
     }
     Some(())
 }
