@@ -4,7 +4,7 @@ ghost use Rattle.std.specs.Prelude.{◌≡◌, ◌-◌, ◌&&◌, ◌∷◌, [],
 ghost use Rattle.core_ir.specs.Terms.{BlockTerm, chain};
 ghost use Rattle.core_ir.specs.View.{block_term, let_term, right_term};
 ghost use Rattle.core_facts.specs.Facts.{block_facts, note, note_all, right_facts, shape_fact};
-ghost use Rattle.core_loops.specs.Indices.{is_scalar_shape, learn_index, note_index, total_block, total_right, Plus};
+ghost use Rattle.core_loops.specs.Indices.{is_scalar_shape, learn_index as learned_index, note_index, total_block, total_right, Plus};
 ghost use Rattle.fact_table.specs.Table.{fact_of, facts_of};
 ghost use Rattle.index_table.specs.Table.{index_of, indices_of};
 ghost use Rattle.plain_facts.specs.Called.{shapes_of};
@@ -14,7 +14,7 @@ use crate::plain::plain_values;
 use core_ir::{Block, Let, Right, Var};
 use fact_table::{FactTable, Known};
 use index_table::{IndexTable, Relation, learn_relation};
-use plain_facts::{CalledShapes, common_facts, known_of, learn_all};
+use plain_facts::{CalledShapes, common_facts, known_of, learn_all, learn_index};
 use sac_base::{Grid, Memory, Shape};
 use std::alloc::Global;
 
@@ -122,7 +122,7 @@ fn pass_binding(
     ensures known { result ≡ Ok true → facts_of facts.new ≡ note_all (facts_of facts.old) (let_term binding.now).targets
         (right_facts (shapes_of called.now) (let_term binding.now).right (facts_of facts.old)) }
     ensures beside { result ≡ Ok true → indices_of indices.new
-        ≡ learn_index (length grid.now) (indices_of indices.old) (let_term binding.now).targets (let_term binding.now).right (facts_of facts.old) }
+        ≡ learned_index (length grid.now) (indices_of indices.old) (let_term binding.now).targets (let_term binding.now).right (facts_of facts.old) }
     ensures facts { OnOk result (drop (length facts.new - length facts.old) facts.new ≡ facts.old) }
     ensures indices { OnOk result (drop (length indices.new - length indices.old) indices.new ≡ indices.old) }
 {
@@ -215,10 +215,7 @@ pub fn body_results(
     let facts_before = facts.mark();
     let indices_before = indices.mark();
     let axes = grid.axes().len();
-    facts.learn(
-        index,
-        Known::of_shape(Some(Shape::vector(alloc, axes as i32))),
-    )?;
+    learn_index(alloc, facts, index, grid)?;
     indices.learn(index, Relation::Plus(zeros(alloc, axes)?))?;
     let found = total_results(alloc, body, called, grid, facts, indices)?;
     facts.undo(facts_before);

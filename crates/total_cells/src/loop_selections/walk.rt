@@ -8,7 +8,7 @@ ghost use Rattle.core_facts.specs.Facts.{block_facts, note_all, right_facts};
 ghost use Rattle.core_loops.specs.Indices.{learn_index};
 ghost use Rattle.core_loops.specs.Pairs.{offsets, offsets_right};
 ghost use Rattle.core_uses.specs.Tests.{none_is};
-ghost use Rattle.fact_table.specs.Table.{fact_of, facts_of};
+ghost use Rattle.fact_table.specs.Table.{facts_of};
 ghost use Rattle.index_table.specs.Table.{index_of, indices_of};
 ghost use Rattle.plain_facts.specs.Called.{shapes_of};
 ghost use Rattle.total_cells.specs.loop_selections.Selecting.{is_selecting, is_selecting_right, turns_select};
@@ -19,7 +19,7 @@ use core_ir::{Block, Let, Right, Var};
 use core_uses::avoids_all;
 use fact_table::{FactTable, Known};
 use index_table::{IndexTable, learn_relation};
-use plain_facts::{CalledShapes, common_facts, learn_all};
+use plain_facts::{CalledShapes, common_facts, known_of, learn_all};
 use sac_base::Memory;
 use std::alloc::Global;
 
@@ -237,15 +237,4 @@ fn known_results(
     } else {
         Ok(None)
     }
-}
-
-/// What is known of variables.
-fn known_of(alloc: Global, table: &FactTable, vars: &[Var]) -> Result<Vec<Known>, Memory>
-    ensures { IfOk result (λ known. map fact_of known.items ≡ map (facts_of table.now) vars.now) }
-{
-    let mut known = Vec::new(alloc);
-    for var in vars {
-        known.push(table.fact(*var).copy()?)?;
-    }
-    Ok(known)
 }
