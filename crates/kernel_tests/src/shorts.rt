@@ -100,10 +100,10 @@ fn an_element_is_replaced(rt: HostRuntime) {
 }
 
 // `v[2]` of a `v` that was checked to have so many elements.
-fn checked(alloc: Global, count: Cell) -> CodeBlock {
+fn checked(alloc: Global, count: u8) -> CodeBlock {
     let ty = ArrayType {
         base: Base::Int,
-        part: Part::Known(Shape::vector(alloc, count)),
+        part: Part::Known(Shape::vector(alloc, Cell::from(count))),
     };
     let mut steps = Vec::new(alloc);
     bind(alloc, &mut steps, 3, CodeRight::Check(Var(0), ty));
