@@ -16,6 +16,8 @@ mod offset;
 #[cfg(test)]
 mod ranges;
 #[cfg(test)]
+mod shorts;
+#[cfg(test)]
 mod stencil;
 #[cfg(test)]
 mod strips;

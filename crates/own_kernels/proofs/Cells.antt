@@ -15,7 +15,7 @@ use Rattle.counted_code.specs.declared.tree.CodePart.{CodePart}
 use Rattle.counted_code.specs.Terms.{core_of, core_of_parts}
 use Rattle.counted_code.specs.View.{code_term}
 use Rattle.kernel_tree.specs.declared.tree.Held.{Held}
-use Rattle.kernel_tree.specs.declared.tree.Held.TheVariants.{Word, Number, Short, Whole}
+use Rattle.kernel_tree.specs.declared.tree.Held.TheVariants.{Word, Number, Short, Numbers, Whole}
 use Rattle.kernel_tree.specs.Terms.{gives}
 use Rattle.kernel_tree.specs.View.{kernel_term}
 use Rattle.kernel_code.specs.Calls.{Calls}
@@ -47,6 +47,7 @@ held_same : (form : Form) (h : Held) (r : List ℤ) (bs cs : List ArrayValue) �
 held_same form (Word base k) r bs cs has = refl
 held_same form (Number base n) r bs cs has = refl
 held_same form (Short base ks n) r bs cs has = absurd has
+held_same form (Numbers base zs n) r bs cs has = absurd has
 held_same form (Whole base rank b) r bs cs has = absurd has
 
 some_body : (b c : Body) → ◌≡◌ {A = Option Body} (Some b) (Some c) → c ≡ b

@@ -11,7 +11,7 @@ use Rattle.core_ir.specs.declared.tree.Var.{Var}
 use Rattle.core_ir.specs.Meaning.{Env}
 use Rattle.core_ir.proofs.Variables.{same_number}
 use Rattle.kernel_tree.specs.declared.tree.Held.{Held}
-use Rattle.kernel_tree.specs.declared.tree.Held.TheVariants.{Word, Number, Short, Whole}
+use Rattle.kernel_tree.specs.declared.tree.Held.TheVariants.{Word, Number, Short, Numbers, Whole}
 use Rattle.kernel_tree.specs.Terms.{buffer}
 use Rattle.kernel_code.specs.Relations.{HasForm, Known, array_of, found, later}
 use Rattle.kernel_code.specs.Relations.{IsFixed, IsScope}
@@ -77,9 +77,10 @@ module _ (bs : List ArrayValue) (e f : Env) (known : Known) (v : Var) (index : L
     element = ap (λ (a : ArrayValue). select a (vector Int index)) (buffer_there bs b (f v) inside) ∙ same.element ∙ ap (λ (a : ArrayValue). select a (vector Int index)) here_is;
   }
 
-  -- a number, or another buffer
+  -- what is known, or another buffer
   fixed_set : (h : Held) → IsFixed bs h → is_in b h ≡ false → IsFixed (slice_set bs b (f v)) h × ((r : List ℤ) → array_of r (slice_set bs b (f v)) h ≡ array_of r bs h)
   fixed_set (Number c n) fixed differ = (tt, λ r. refl)
+  fixed_set (Numbers c zs n) fixed differ = (tt, λ r. refl)
   fixed_set (Whole c m k) fixed differ =
       let kept : buffer (slice_set bs b (f v)) k ≡ buffer bs k = buffer_other bs b k (f v) differ in
       ((subst (λ n. k < n) (sym (length-set bs b (f v))) fixed.0, subst (HasForm c m) (sym kept) fixed.1), λ r. kept)
