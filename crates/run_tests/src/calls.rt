@@ -155,7 +155,10 @@ fn ways_of(alloc: Global, source: &[u8], v: &[Cell], n: Cell) -> Result<Option<C
     let Some(group) = group_of(&code, "ways") else {
         return Err(Stop::Memory);
     };
-    let args = [RunValue::Short(Base::Int, few(v)), RunValue::Word(Base::Int, n)];
+    let args = [
+        RunValue::Short(Base::Int, few(v)),
+        RunValue::Word(Base::Int, n),
+    ];
     match call_values(levels, group, &args, alloc)? {
         Some(values) => match values.first() {
             Some(RunValue::Word(Base::Int, count)) => Ok(Some(*count)),
