@@ -1,5 +1,6 @@
 mod Bare
 mod GenCells
+mod Lent
 pub mod Named
 mod PartCells
 mod Placed

@@ -13,6 +13,6 @@ mod worth;
 pub use cells::KernelCells;
 pub use kernels::source_kernels;
 pub use lowering::lowering_of;
-pub use scope::{Scope, scope_of};
+pub use scope::lent_scope;
 pub use scratch::KernelScratch;
 pub use shared::PhaseKernels;

@@ -10,7 +10,7 @@ ghost use Rattle.sac_base.specs.Arrays.{size};
 use crate::cells::KernelCells;
 use crate::kernels::source_kernels;
 use crate::lowering::lowering_of;
-use crate::scope::{Scope, scope_of};
+use crate::scope::lent_scope;
 use crate::scratch::{KernelScratch, begin_once, make_room, put_one};
 use crate::worth::most_steps;
 use array_with_loops::Range;
@@ -20,6 +20,7 @@ use kernel_rows::{CellKernel, LoopKernels, run_cell, run_row};
 use phase_cells::CellRuns;
 use phase_loop_cells::{LoopCells, made_ranges, source_ranges};
 use phase_team::CellEnd;
+use run_kernels::Scope;
 use run_store::Store;
 use sac_base::{Cell, Memory, Stop};
 use std::marker::Model;
@@ -100,7 +101,7 @@ fn with_kernels<'a>(cells: KernelCells<'a>) -> Result<PhaseKernels<'a>, Memory>
         background: _,
     } = cells.cells;
     let alloc = context.alloc;
-    let Scope { known, buffers } = scope_of(alloc, cells.live, frames, heap)?;
+    let Scope { known, buffers } = lent_scope(alloc, cells.live, frames, heap)?;
     let ranges = made_ranges(alloc, &source)?;
     let kernels = source_kernels(
         lowering_of(&context),

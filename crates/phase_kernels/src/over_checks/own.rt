@@ -7,11 +7,12 @@ ghost use Rattle.run_values.specs.Shown.{value_of};
 
 use crate::over_checks::arrays::{is_array_in, is_filled};
 use crate::over_checks::holders::only_holder;
-use crate::{KernelCells, Scope, lowering_of, scope_of, source_kernels};
+use crate::{KernelCells, lent_scope, lowering_of, source_kernels};
 use core_ir::Var;
 use counted_code::CodePart;
 use own_kernels::{own_kernels_read_own, parts_read_own};
 use phase_loop_cells::part_ranges;
+use run_kernels::Scope;
 use run_loops::CellSource;
 use run_values::RunValue;
 use sac_base::{Memory, Shape};
@@ -72,7 +73,7 @@ fn cells_read_own(
 {
     let alloc = cells.cells.context.alloc;
     let form = &cells.cells.plan.form;
-    let scope = scope_of(alloc, cells.live, cells.cells.frames, cells.cells.heap)?;
+    let scope = lent_scope(alloc, cells.live, cells.cells.frames, cells.cells.heap)?;
     let Scope { known, buffers: _ } = scope;
     let ranges = part_ranges(alloc, parts)?;
     let source = CellSource::Parts(parts);
