@@ -7,9 +7,9 @@ use Rattle.core_ir.specs.declared.tree.Var.{Var}
 use Rattle.core_ir.specs.declared.tree.Let.{Let}
 use Rattle.core_ir.specs.Terms.{PlainTerm, BlockTerm, RightTerm, LetTerm, GenTerm, PartTerm, Gives, Bind, Gen, Part, Plain, With, Parted, chain, gens_of, parts_of}
 use Rattle.core_ir.specs.View.{block_term, let_term}
-use Rattle.core_facts.specs.Facts.{Fact, Facts, common_facts, note_all, block_facts, right_facts, in_part}
+use Rattle.core_facts.specs.Facts.{Fact, Facts, common_facts, note_all, block_facts, right_facts}
 use Rattle.core_forms.specs.selections.Vectors.{Selection, behind, bind_vector, by_scalar, next, next_right, next_gens, next_parts, vectored, vectored_right, vectored_gens, vectored_parts}
-use Rattle.core_walk.specs.Traced.{BlockTraced, LetsTraced, LetTraced, RightTraced, GensTraced, GenTraced, PartsTraced, PartTraced, Finished}
+use Rattle.core_walk.specs.Traced.{BlockTraced, LetsTraced, LetTraced, RightTraced, GensTraced, PartsTraced, Finished}
 use Rattle.core_walk.specs.Traced.{finished, no_lets, more_lets, bound, plain, call, choice, turns, within_gens, within_parts, no_gens, more_gens, gen_body, no_parts, more_parts, part_body}
 use Rattle.core_walk.proofs.Turns.{append_nil, pushed}
 use Rattle.fact_table.specs.Table.{fact_of}
