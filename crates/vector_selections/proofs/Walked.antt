@@ -34,25 +34,31 @@ pub taken_step : (k : Facts) (n m : ℕ) (xs : List Var) (s : Site) (r : RightTe
     found ≡ Some x → v.0 ≡ n → new ≡ old ++ (vector_let n s x.index ∷ []) → m ≡ suc n →
     (ms : List LetTerm) × (new ≡ old ++ ms) × VectorStep k n m xs s r vs ms (Plain (PlainTerm.Select x.array v)) vs
 taken_step k n m xs s r vs old new found x v h is e d number =
-    let made : Some (record { array = x.array; index = x.index }) ≡ by_scalar r k = sym (ap chosen is) ∙ h in
-    (vector_let n s x.index ∷ [], d, record {
+    let made : Some (record { array = x.array; index = x.index }) ≡ by_scalar r k = sym (ap chosen is) ∙ h in (
+      vector_let n s x.index ∷ [],
+      d,
+      record {
         known = refl;
         number = number ∙ ap (λ (c : Option Selection). behind c n) made;
         before = ap (λ (c : Option Selection). before_choice c n s) made;
         right = (λ i. Plain (PlainTerm.Select x.array (record { 0 = e i }))) ∙ ap (λ (c : Option Selection). by_choice c n r) made;
-      })
+      },
+    )
 
 -- or it stays
 pub kept_step : (k : Facts) (n : ℕ) (xs : List Var) (s : Site) (r : RightTerm) (vs : List Fact) (old : List LetTerm) (found : Option Choice) → chosen found ≡ by_scalar r k → found ≡ None →
     (ms : List LetTerm) × (old ≡ old ++ ms) × VectorStep k n n xs s r vs ms r vs
 kept_step k n xs s r vs old found h is =
-    let made : None ≡ by_scalar r k = sym (ap chosen is) ∙ h in
-    ([], sym (append_nil old), record {
+    let made : None ≡ by_scalar r k = sym (ap chosen is) ∙ h in (
+      [],
+      sym (append_nil old),
+      record {
         known = refl;
         number = ap (λ (c : Option Selection). behind c n) made;
         before = ap (λ (c : Option Selection). before_choice c n s) made;
         right = ap (λ (c : Option Selection). by_choice c n r) made;
-      })
+      },
+    )
 
 pub vector_bound : (old new : List Let) (x : Let) (v : Var) (n : ℕ) (s : Site) (i : Var) → new ≡ old ++ (x ∷ []) → let_term x ≡ record { targets = v ∷ []; site = s; right = Plain (PlainTerm.Literal (i ∷ [])) } →
     v.0 ≡ n → map let_term new ≡ map let_term old ++ (vector_let n s i ∷ [])
