@@ -14,7 +14,8 @@ use Rattle.core_ir.specs.declared.tree.Var.{Var}
 use Rattle.core_ir.specs.Terms.{RightTerm, PartTerm, Bind, Plain, parts_of}
 use Rattle.core_ir.specs.View.{part_term, parted_term, right_term}
 use Rattle.core_ir.proofs.Trees.{parted_out, parted_roll}
-use Rattle.core_facts.specs.Facts.{Facts}
+use Rattle.core_facts.specs.Facts.{Facts, right_facts}
+use Rattle.fact_table.specs.Table.{fact_of}
 use Rattle.parted_bodies.specs.Making.{binds_of}
 use Rattle.parted_bodies.specs.declared.names.Progress.{Progress}
 use Rattle.merge_plans.specs.declared.planning.MergePlan.{MergePlan}
@@ -108,7 +109,8 @@ module _ (called : ℕ → List (Option (List ℕ))) (k : Facts) where
   one_end old new xs r (Ok n) e h = one_merged old new xs r (right_term n.right) e h
   one_end old new xs r (Err m) e h = tt
 
--- what holds of what was made holds whatever else does
-pub since_known : {P : KnownRight → Type 0} (found : Result KnownRight Memory) (A : Type 0) → IfOk found P → IfOk found (λ (n : KnownRight). A → P n)
-since_known (Ok n) A h = λ a. h
-since_known (Err m) A h = tt
+  -- what is known of what was made is known whatever else holds
+  pub since_known : (found : Result KnownRight Memory) (A : Type 0) → IfOk found (λ (n : KnownRight). map fact_of n.values.items ≡ right_facts called (right_term n.right) k) →
+      IfOk found (λ (n : KnownRight). A → map fact_of n.values.items ≡ right_facts called (right_term n.right) k)
+  since_known (Ok n) A h = λ a. h
+  since_known (Err m) A h = tt

@@ -1,5 +1,5 @@
 -- What the walk did with a right side.
-use Rattle.std.proofs.Common.{◌≡◌, ◌⊎◌, ℕ, suc, List, [], ◌++◌, map, Option, inl, inr, refl, sym, ap, subst, ◌∙◌}
+use Rattle.std.proofs.Common.{◌≡◌, ◌⊎◌, ℕ, List, [], ◌++◌, map, Option, inl, inr, refl, sym, ap, subst, ◌∙◌}
 use Rattle.std.specs.Prelude.{Result, Ok, Err, IfOk}
 use Rattle.sac_base.specs.declared.base.Base.{Base}
 use Rattle.sac_base.specs.declared.memory.Memory.{Memory}
@@ -12,7 +12,7 @@ use Rattle.core_ir.specs.declared.tree.WithLoop.{WithLoop, out-WithLoop}
 use Rattle.core_ir.specs.Terms.{BlockTerm, RightTerm, LetTerm, GenTerm, Bind, With, gens_of}
 use Rattle.core_ir.specs.View.{block_term, gen_term, right_term}
 use Rattle.core_ir.proofs.Trees.{parted_out, with_out}
-use Rattle.core_facts.specs.Facts.{Fact, Facts, block_facts, right_facts}
+use Rattle.core_facts.specs.Facts.{Fact, Facts, block_facts}
 use Rattle.fact_table.specs.Table.{fact_of}
 use Rattle.plain_facts.specs.known_rights.Anywhere.{IsKnownAnywhere}
 use Rattle.plain_facts.specs.declared.known_rights.known.KnownBlock.{KnownBlock}

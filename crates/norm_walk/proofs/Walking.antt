@@ -1,5 +1,5 @@
 -- Walks that replace with-loops, and those that replace none.
-use Rattle.std.proofs.Common.{◌≡◌, ◌⊎◌, ℕ, suc, ◌<◌, ◌≤◌, List, [], ◌∷◌, Option, inl, inr, refl, sym, ap, subst, arith}
+use Rattle.std.proofs.Common.{◌≡◌, ℕ, suc, ◌<◌, ◌≤◌, List, [], ◌∷◌, Option, inl, inr, refl, ap, arith}
 use Rattle.sac_base.specs.declared.base.Base.{Base}
 use Rattle.sac_base.specs.declared.site.Site.{Site}
 use Rattle.core_ir.specs.declared.tree.Var.{Var}
@@ -8,7 +8,7 @@ use Rattle.core_ir.specs.Terms.{BlockTerm, RightTerm, GensTerm, PartsTerm, Gives
 use Rattle.core_facts.specs.Facts.{Fact, Facts, note_all, block_facts, right_facts, in_part}
 use Rattle.core_loops.specs.Steps.{fact_ways}
 use Rattle.core_walk.specs.Traced.{BlockTraced, Finished}
-use Rattle.core_walk.specs.Editing.{Walk, EachBinding, EachInRight, EachInGens, EachInParts}
+use Rattle.core_walk.specs.Editing.{EachBinding, EachInRight, EachInGens, EachInParts}
 use Rattle.core_walk.specs.Editing.{stays as kept, goes as more}
 use Rattle.core_walk.proofs.Edits.{BlockWalk, Verdict, edited_block}
 use Rattle.parted_bodies.specs.declared.names.Progress.{Progress}

@@ -7,9 +7,9 @@ use Rattle.core_ir.specs.declared.tree.Var.{Var}
 use Rattle.core_ir.specs.declared.tree.Let.{Let}
 use Rattle.core_ir.specs.Terms.{PlainTerm, BlockTerm, RightTerm, LetTerm, GenTerm, PartTerm, Gives, Bind, Gen, Part, Plain, With, Parted, chain, gens_of, parts_of}
 use Rattle.core_ir.specs.View.{block_term, let_term}
-use Rattle.core_facts.specs.Facts.{Fact, Facts, common_facts, note_all, block_facts, right_facts, in_part}
+use Rattle.core_facts.specs.Facts.{Fact, Facts, common_facts, note_all, block_facts, right_facts}
 use Rattle.core_forms.specs.selections.Vectors.{Selection, behind, bind_vector, by_scalar, next, next_right, next_gens, next_parts, vectored, vectored_right, vectored_gens, vectored_parts}
-use Rattle.core_walk.specs.Traced.{BlockTraced, LetsTraced, LetTraced, RightTraced, GensTraced, GenTraced, PartsTraced, PartTraced, Finished}
+use Rattle.core_walk.specs.Traced.{BlockTraced, LetsTraced, LetTraced, RightTraced, GensTraced, PartsTraced, Finished}
 use Rattle.core_walk.specs.Traced.{finished, no_lets, more_lets, bound, plain, call, choice, turns, within_gens, within_parts, no_gens, more_gens, gen_body, no_parts, more_parts, part_body}
 use Rattle.core_walk.proofs.Turns.{append_nil, pushed}
 use Rattle.fact_table.specs.Table.{fact_of}
@@ -34,25 +34,31 @@ pub taken_step : (k : Facts) (n m : ℕ) (xs : List Var) (s : Site) (r : RightTe
     found ≡ Some x → v.0 ≡ n → new ≡ old ++ (vector_let n s x.index ∷ []) → m ≡ suc n →
     (ms : List LetTerm) × (new ≡ old ++ ms) × VectorStep k n m xs s r vs ms (Plain (PlainTerm.Select x.array v)) vs
 taken_step k n m xs s r vs old new found x v h is e d number =
-    let made : Some (record { array = x.array; index = x.index }) ≡ by_scalar r k = sym (ap chosen is) ∙ h in
-    (vector_let n s x.index ∷ [], d, record {
+    let made : Some (record { array = x.array; index = x.index }) ≡ by_scalar r k = sym (ap chosen is) ∙ h in (
+      vector_let n s x.index ∷ [],
+      d,
+      record {
         known = refl;
         number = number ∙ ap (λ (c : Option Selection). behind c n) made;
         before = ap (λ (c : Option Selection). before_choice c n s) made;
         right = (λ i. Plain (PlainTerm.Select x.array (record { 0 = e i }))) ∙ ap (λ (c : Option Selection). by_choice c n r) made;
-      })
+      },
+    )
 
 -- or it stays
 pub kept_step : (k : Facts) (n : ℕ) (xs : List Var) (s : Site) (r : RightTerm) (vs : List Fact) (old : List LetTerm) (found : Option Choice) → chosen found ≡ by_scalar r k → found ≡ None →
     (ms : List LetTerm) × (old ≡ old ++ ms) × VectorStep k n n xs s r vs ms r vs
 kept_step k n xs s r vs old found h is =
-    let made : None ≡ by_scalar r k = sym (ap chosen is) ∙ h in
-    ([], sym (append_nil old), record {
+    let made : None ≡ by_scalar r k = sym (ap chosen is) ∙ h in (
+      [],
+      sym (append_nil old),
+      record {
         known = refl;
         number = ap (λ (c : Option Selection). behind c n) made;
         before = ap (λ (c : Option Selection). before_choice c n s) made;
         right = ap (λ (c : Option Selection). by_choice c n r) made;
-      })
+      },
+    )
 
 pub vector_bound : (old new : List Let) (x : Let) (v : Var) (n : ℕ) (s : Site) (i : Var) → new ≡ old ++ (x ∷ []) → let_term x ≡ record { targets = v ∷ []; site = s; right = Plain (PlainTerm.Literal (i ∷ [])) } →
     v.0 ≡ n → map let_term new ≡ map let_term old ++ (vector_let n s i ∷ [])

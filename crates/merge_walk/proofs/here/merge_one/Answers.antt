@@ -13,7 +13,7 @@ returns-in_ok-made-in-Parted-clause-merged c =
     c.in-Parted.is c.in_ok-made-in-Parted.ensures.merged c.of_parted.ensures.right
 
 pub returns-in_ok-made-in-Parted-clause-known : goal.returns-in_ok-made-in-Parted-clause-known
-returns-in_ok-made-in-Parted-clause-known c = since_known c.of_parted.result (map fact_of c.args.known.values.items ≡ right_facts (shapes_of c.args.called.now) (right_term c.args.known.right) (facts_of c.args.table.now))
+returns-in_ok-made-in-Parted-clause-known c = since_known (shapes_of c.args.called.now) (facts_of c.args.table.now) c.of_parted.result (map fact_of c.args.known.values.items ≡ right_facts (shapes_of c.args.called.now) (right_term c.args.known.right) (facts_of c.args.table.now))
     (known_here (shapes_of c.args.called.now) (facts_of c.args.table.now) c.of_parted.result c.of_parted.ensures.known)
 
 pub returns-in_default-clause-merged : goal.returns-in_default-clause-merged

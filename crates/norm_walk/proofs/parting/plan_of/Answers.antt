@@ -6,7 +6,6 @@ use Rattle.core_ir.specs.View.{gen_term}
 use Rattle.fact_table.specs.Table.{facts_of}
 use Rattle.partable_loops.specs.Planned.{IsPlannable}
 use Rattle.partable_loops.specs.declared.planning.PartPlan.{PartPlan}
-use Rattle.plain_facts.specs.Called.{shapes_of}
 use Rattle.variable_bases.specs.Table.{base_in}
 use Rattle.norm_walk.proofs.Ends.{left_refused}
 use Rattle.norm_walk.proofs.parting.plan_of.Goals as goal

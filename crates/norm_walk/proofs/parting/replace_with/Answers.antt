@@ -6,7 +6,6 @@ use Rattle.core_ir.specs.Terms.{gens_of}
 use Rattle.core_ir.specs.View.{gen_term}
 use Rattle.core_ir.proofs.Trees.{with_roll}
 use Rattle.fact_table.specs.Table.{facts_of}
-use Rattle.plain_facts.specs.Called.{shapes_of}
 use Rattle.variable_bases.specs.Table.{base_in}
 use Rattle.norm_walk.specs.declared.parting.BasedPlan.{BasedPlan}
 use Rattle.norm_walk.specs.Replacing.{IsLeft, IsPlanned}

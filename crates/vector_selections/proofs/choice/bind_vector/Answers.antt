@@ -1,4 +1,3 @@
-use Rattle.std.proofs.Common.{refl}
 use Rattle.core_ir.specs.Terms.{PlainTerm, Plain}
 use Rattle.vector_selections.proofs.Walked.{vector_bound}
 use Rattle.vector_selections.proofs.choice.bind_vector.Goals as goal
