@@ -16,7 +16,7 @@ use Rattle.counted_code.specs.declared.tree.CodePart.{CodePart}
 use Rattle.counted_code.specs.Terms.{core_of, core_of_parts}
 use Rattle.counted_code.specs.View.{code_term}
 use Rattle.kernel_tree.specs.declared.tree.Held.{Held}
-use Rattle.kernel_tree.specs.declared.tree.Held.TheVariants.{Word, Number, Short, Whole}
+use Rattle.kernel_tree.specs.declared.tree.Held.TheVariants.{Word, Number, Short, Numbers, Whole}
 use Rattle.kernel_tree.specs.Terms.{gives}
 use Rattle.kernel_tree.specs.View.{kernel_term}
 use Rattle.kernel_code.specs.Calls.{Calls}
@@ -68,6 +68,7 @@ one_element : (form : Form) (h : Held) (r : List ℤ) (bs : List ArrayValue) →
 one_element form (Word base k) r bs has = refl
 one_element form (Number base n) r bs has = refl
 one_element form (Short base ks n) r bs has = absurd has
+one_element form (Numbers base zs n) r bs has = absurd has
 one_element form (Whole base rank b) r bs has = absurd has
 
 -- so the cell of an answer that a kernel holds is one element
