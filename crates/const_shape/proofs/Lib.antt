@@ -1,3 +1,3 @@
 mod Checks
 mod Cleaned
-mod Steps
+mod Walked

@@ -6,7 +6,7 @@ ghost use Rattle.core_ir.specs.View.{right_term};
 ghost use Rattle.fact_table.specs.Table.{fact_of, facts_of};
 ghost use Rattle.plain_facts.specs.Rights.{fact_of_right};
 ghost use Rattle.core_forms.specs.cleaning.Checks.{fits};
-ghost use Rattle.const_shape.specs.Settling.{literal_plain, settled_plain, without_check};
+ghost use Rattle.const_shape.specs.Settling.{literal_plain, settled_plain, without_check, is_plain as is_plain_term};
 
 use core_ir::Right;
 use fact_table::{FactTable, Known};
@@ -14,6 +14,20 @@ use plain_facts::known_rights::KnownRight;
 use plain_facts::plain_fact;
 use sac_base::{Array, ArrayType, Memory, copy_array, part_has};
 use std::alloc::Global;
+
+/// Whether a right side has no blocks and is no call.
+pub fn is_plain(right: &Right) -> bool
+    ensures { result ≡ is_plain_term (right_term right.now) }
+{
+    !matches!(
+        right,
+        Right::If { .. }
+            | Right::Loop { .. }
+            | Right::Call { .. }
+            | Right::With(_)
+            | Right::Parted(_)
+    )
+}
 
 /// The constant in the place of a literal right side, and a copy in that of another check that cannot fail. Any other stays.
 pub fn settle_plain(alloc: Global, right: Right, table: &FactTable) -> Result<KnownRight, Memory>

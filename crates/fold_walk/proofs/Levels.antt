@@ -1,15 +1,12 @@
 -- The pairs that are bound in one block, one producer after another.
-use Rattle.std.proofs.Common.{◌≡◌, ℕ, zero, suc, ◌+◌, ◌≤◌, ◌<◌, List, [], ◌∷◌, ◌++◌, map, length, get_or, drop, reverse, Option, Some, None, refl, sym, ap, subst, ◌∙◌, append-nil, arith}
+use Rattle.std.proofs.Common.{◌≡◌, ℕ, zero, suc, ◌+◌, ◌≤◌, ◌<◌, List, [], ◌∷◌, ◌++◌, map, length, get_or, drop, reverse, Option, Some, None, refl, sym, ap, subst, ◌∙◌, arith}
 use Rattle.std.proofs.lemmas.List.{length-append, reverse-append, reverse-reverse}
 use Rattle.std.specs.Prelude.{IfNone, IfSome, slice_set}
 use Rattle.core_ir.specs.declared.tree.Var.{Var}
 use Rattle.core_ir.specs.declared.tree.Let.{Let}
-use Rattle.core_ir.specs.declared.tree.Block.{Block, Block-F, out-Block, roll-Block}
-use Rattle.core_ir.specs.declared.tree.Right.TheBlock.{the_data, the_data-1, the_data-2, the_data-3, the_data-4, the_data-5, the_data-6}
 use Rattle.core_ir.specs.Edits.{here}
 use Rattle.core_ir.specs.Terms.{BlockTerm, LetTerm, Gives, Bind, chain}
-use Rattle.core_ir.specs.View.{block_term, let_term}
-use Rattle.core_ir.proofs.Trees.{block_out, block_roll}
+use Rattle.core_ir.specs.View.{let_term}
 use Rattle.core_facts.specs.Facts.{Facts, note_all, right_facts}
 use Rattle.core_loops.specs.Steps.{facts_after}
 use Rattle.fact_table.specs.Notes.{Note}
@@ -17,11 +14,12 @@ use Rattle.fact_table.specs.Table.{facts_of}
 use Rattle.binding_users.specs.declared.users.Users.{Users}
 use Rattle.binding_users.specs.Users.{AreUsers}
 use Rattle.binding_users.proofs.Noted.{users_less}
-use Rattle.fold_walk.specs.Left.{EachBegun, EachBinding, NoPairAt}
-use Rattle.fold_walk.specs.Walking.{State, BlockWalked, FirstFolded, LevelFolded, TurnFolded, TurnKept, Walked, stays, goes}
-use Rattle.fold_walk.proofs.Firsts.{bindings_in, bindings_of, chain_both}
+use Rattle.fold_walk.specs.Left.{EachBegun, NoPairAt}
+use Rattle.fold_walk.specs.Walking.{State, FirstFolded, LevelFolded, TurnFolded, TurnKept, Walked, stays, goes}
+use Rattle.fold_walk.proofs.Firsts.{chain_both}
 use Rattle.fold_walk.proofs.Learned.{reverse_cons}
-use Rattle.fold_walk.proofs.Walking.{EachInner, Going, after_snoc, chain_snoc, join, map_snoc, quiet, rises, still, through}
+use Rattle.core_walk.proofs.Turns.{map_snoc}
+use Rattle.fold_walk.proofs.Walking.{after_snoc, chain_snoc, join, rises, still, through}
 
 -- ---- lists the other way round
 
@@ -164,36 +162,3 @@ module _ (called : ℕ → List (Option (List ℕ))) (function : ℕ) (k : Facts
     walked = subst (λ (ls : List Let). Walked called function k p q (chain lets end) (chain (map let_term done) (chain (reverse (map let_term ls)) end))) e v.walked;
     none = λ same. v.none (ap length same) (subst (λ (ls : List Let). EachBegun called (NoPairAt called p.next) (reverse (map let_term ls)) end now) (sym e) tt);
   }
-
--- ---- a block: blocks of its bindings, and then its bindings
-
-module _ (called : ℕ → List (Option (List ℕ))) (function : ℕ) (above : ℕ) where
-  each_binding : (ls : List LetTerm) (rs : List Var) (k : Facts) → EachInner called function above ls k → EachBegun called (NoPairAt called above) ls (Gives rs) k → EachBinding called (NoPairAt called above) (chain ls (Gives rs)) k
-  each_binding [] rs k u v = tt
-  each_binding (l ∷ ls) rs k u v = (u.0, v.0, each_binding ls rs (note_all k l.targets (right_facts called l.right k)) u.1 v.1)
-
-module _ (called : ℕ → List (Option (List ℕ))) (function : ℕ) (k : Facts) (p q r : State) where
-  pub block_walked : (all inner rest new : List Let) (now : Facts) (x : Block-F the_data the_data-1 the_data-2 the_data-3 the_data-4 the_data-5 the_data-6) (b : Block) → Going called function k p all now q inner rest → rest ≡ [] →
-      LevelFolded called function k q r (map let_term inner) (map let_term new) (out-Block b).results.items → all ≡ (out-Block b).lets.items → x.lets.items ≡ new → x.results.items ≡ (out-Block b).results.items → BlockWalked called function k p r (block_term b) (block_term (roll-Block x))
-  block_walked all inner rest new now x b v z w a d e =
-      let rs = (out-Block b).results.items in
-      let old : chain (map let_term all) (Gives rs) ≡ block_term b = (λ i. chain (map let_term (a i)) (Gives rs)) ∙ sym (block_out b) in
-      let made : chain (map let_term new) (Gives rs) ≡ block_term (roll-Block x) = (λ i. chain (map let_term (sym d i)) (Gives (sym e i))) ∙ sym (block_roll x) in
-      let first : Walked called function k p q (chain (map let_term all) (Gives rs)) (chain (map let_term inner) (Gives rs)) =
-      subst (λ (ls : List Let). Walked called function k p q (chain (map let_term all) (Gives rs)) (chain (map let_term inner) (chain (map let_term ls) (Gives rs)))) z (v.walked (Gives rs)) in
-      record {
-        walked = subst (λ (t : BlockTerm). Walked called function k p r t (block_term (roll-Block x))) old (subst (λ (t : BlockTerm). Walked called function k p r (chain (map let_term all) (Gives rs)) t) made (join called function first w.walked));
-        none = λ same.
-            let s = between (length p.folds) (length q.folds) (length r.folds) (rises called function first) (rises called function w.walked) (ap length same) in
-            let alike = still called function first s.0 in
-            let lists : map let_term all ≡ map let_term inner =
-            sym (bindings_of (map let_term all) (Gives rs) ∙ append-nil (map let_term all)) ∙ ap bindings_in alike.1 ∙ bindings_of (map let_term inner) (Gives rs) ∙ append-nil (map let_term inner) in
-            let begun : EachBegun called (NoPairAt called p.next) (map let_term all) (Gives rs) k =
-            subst (λ (ls : List LetTerm). EachBegun called (NoPairAt called p.next) ls (Gives rs) k) (sym lists)
-            (subst (λ (m : State). EachBegun called (NoPairAt called m.next) (map let_term inner) (Gives rs) k) (sym alike.0) (w.none (quiet called function w.walked s.1))) in
-            let each = v.none s.0 (subst (λ (ls : List Let). EachInner called function p.next (map let_term ls) now) (sym z) tt) in
-            subst (λ (t : BlockTerm). EachBinding called (NoPairAt called p.next) t k) old (each_binding called function p.next (map let_term all) rs k each begun);
-      }
-    where
-      between : (a b c : ℕ) → a ≤ b → b ≤ c → c ≡ a → (b ≡ a) × (c ≡ b)
-      between a b c h g e = (omega (arith, h, g, e), omega (arith, h, g, e))

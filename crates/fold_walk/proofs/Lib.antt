@@ -6,4 +6,4 @@ pub mod Folds
 pub mod Places
 pub mod Walking
 pub mod Levels
-pub mod Ends
+pub mod Traces

@@ -5,9 +5,8 @@ use Rattle.sac_base.specs.declared.grid.Grid1.{Grid1}
 use Rattle.sac_base.specs.declared.site.Site.{Site}
 use Rattle.core_ir.specs.declared.tree.Var.{Var}
 use Rattle.core_ir.specs.declared.tree.PartedOp.{PartedOp}
-use Rattle.core_ir.specs.Terms.{BlockTerm, RightTerm, GensTerm, PartsTerm, LetTerm, PartTerm}
-use Rattle.core_ir.specs.Terms.{Gives, Bind, Plain, NoGens, Gen, NoParts, Part, Parted, chain, parts_of}
-use Rattle.core_facts.specs.Facts.{Facts, note_all, right_facts, in_part}
+use Rattle.core_ir.specs.Terms.{BlockTerm, LetTerm, PartTerm, Bind, Parted, chain, parts_of}
+use Rattle.core_facts.specs.Facts.{Facts, note_all, right_facts}
 use Rattle.core_loops.specs.Pairs.{Producer, IsFoldable, grids_of}
 use Rattle.core_loops.specs.Steps.{facts_after}
 use Rattle.fold_pieces.specs.Cuts.{IsDense}
@@ -40,31 +39,9 @@ IsNearProducer p = IsDense p.frame × AreNear (grids_of p.parts)
 abbrev pub NoPairAt : (ℕ → List (Option (List ℕ))) → ℕ → Facts → BlockTerm → Type 0
 NoPairAt called above k b = (h : IsPairAt called above k b) → IsNearProducer h.producer → GetsMany called h.later h.producer h.op h.old
 
--- ---- all bindings of a term
+-- ---- the bindings of one block
 
--- this holds of what begins at each binding, by what is known there
 module _ (called : ℕ → List (Option (List ℕ))) (P : Facts → BlockTerm → Type 0) where
-  abbrev mutual
-    pub EachBinding : BlockTerm → Facts → Type 0
-    EachBinding (Gives xs) k = Unit {0}
-    EachBinding (Bind xs s r b) k = EachInRight r k × P k (Bind xs s r b) × EachBinding b (note_all k xs (right_facts called r k))
-
-    pub EachInRight : RightTerm → Facts → Type 0
-    EachInRight (Plain p) k = Unit {0}
-    EachInRight (RightTerm.If x a b) k = EachBinding a k × EachBinding b k
-    EachInRight (RightTerm.Loop first start params test body t) k = EachBinding test (note_all k params []) × EachBinding body (note_all k params [])
-    EachInRight (RightTerm.Call g xs) k = Unit {0}
-    EachInRight (RightTerm.With o gens) k = EachInGens gens k
-    EachInRight (RightTerm.Parted frame base cell o parts) k = EachInParts parts k
-
-    pub EachInGens : GensTerm → Facts → Type 0
-    EachInGens NoGens k = Unit {0}
-    EachInGens (Gen h b rest) k = EachBinding b (note_all k (h.index ∷ h.names) []) × EachInGens rest k
-
-    pub EachInParts : PartsTerm → Facts → Type 0
-    EachInParts NoParts k = Unit {0}
-    EachInParts (Part h b rest) k = EachBinding b (in_part k h) × EachInParts rest k
-
   -- of what begins at each of these bindings alone, those in blocks of theirs left out
   abbrev pub EachBegun : List LetTerm → BlockTerm → Facts → Type 0
   EachBegun [] end k = Unit {0}

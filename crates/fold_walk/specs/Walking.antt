@@ -5,11 +5,10 @@ use Rattle.sac_base.specs.declared.grid.Grid1.{Grid1}
 use Rattle.sac_base.specs.declared.site.Site.{Site}
 use Rattle.core_ir.specs.declared.tree.Var.{Var}
 use Rattle.core_ir.specs.declared.tree.Let.{Let}
-use Rattle.core_ir.specs.declared.tree.CoreOp.{CoreOp}
 use Rattle.core_ir.specs.declared.tree.PartedOp.{PartedOp}
 use Rattle.core_ir.specs.Edits.{Edited}
-use Rattle.core_ir.specs.Terms.{BlockTerm, RightTerm, GensTerm, PartsTerm, LetTerm, GenTerm, PartTerm, Gives, Gives, Bind, With, Parted, chain, parts_of}
-use Rattle.core_facts.specs.Facts.{Facts, note_all, right_facts, in_part}
+use Rattle.core_ir.specs.Terms.{BlockTerm, RightTerm, LetTerm, PartTerm, Gives, Bind, chain, parts_of}
+use Rattle.core_facts.specs.Facts.{Fact, Facts, block_facts, note_all, right_facts}
 use Rattle.core_loops.specs.Steps.{fact_ways, facts_after}
 use Rattle.core_ir.specs.View.{let_term, part_term}
 use Rattle.fact_table.specs.Notes.{Note}
@@ -21,7 +20,9 @@ use Rattle.fold_walk.specs.declared.state.Fold.{Fold}
 use Rattle.fold_walk.specs.declared.state.Folding.{Folding}
 use Rattle.fold_walk.specs.Making.{CannotTake}
 use Rattle.fold_walk.specs.Pairing.{loop_let}
-use Rattle.fold_walk.specs.Left.{EachBinding, EachInRight, EachInGens, EachInParts, EachBegun, NoPairAt}
+use Rattle.core_walk.specs.Editing.{EachBinding}
+use Rattle.core_walk.specs.Traced.{Unchanged}
+use Rattle.fold_walk.specs.Left.{EachBegun, NoPairAt}
 
 -- the next number of a variable, and the pairs that were folded
 pub record State : Type 0 where
@@ -54,23 +55,6 @@ module _ (called : ℕ → List (Option (List ℕ))) (function : ℕ) where
   pub record BlockWalked (k : Facts) (p q : State) (b c : BlockTerm) : Type 0 where
     pub walked : Walked k p q b c
     pub none : q.folds ≡ p.folds → EachBinding called (NoPairAt called p.next) b k
-
-  pub record RightWalked (k : Facts) (p q : State) (r t : RightTerm) : Type 0 where
-    pub walked : (xs : List Var) (s : Site) (rest : BlockTerm) → Walked k p q (Bind xs s r rest) (Bind xs s t rest)
-    pub none : q.folds ≡ p.folds → EachInRight called (NoPairAt called p.next) r k
-
-  pub record LetWalked (k : Facts) (p q : State) (l m : LetTerm) : Type 0 where
-    pub walked : (rest : BlockTerm) → Walked k p q (Bind l.targets l.site l.right rest) (Bind m.targets m.site m.right rest)
-    pub none : q.folds ≡ p.folds → EachInRight called (NoPairAt called p.next) l.right k
-
-  -- the body of a generator alone, and that of a part
-  pub record GenWalked (k : Facts) (p q : State) (g h : GenTerm) : Type 0 where
-    pub head : h.head ≡ g.head
-    pub body : BlockWalked (note_all k (g.head.index ∷ g.head.names) []) p q g.body h.body
-
-  pub record PartWalked (k : Facts) (p q : State) (g h : PartTerm) : Type 0 where
-    pub head : h.head ≡ g.head
-    pub body : BlockWalked (in_part k g.head) p q g.body h.body
 
   -- ---- the bindings of one block, those in blocks of theirs left out
 
@@ -113,6 +97,23 @@ module _ (called : ℕ → List (Option (List ℕ))) (function : ℕ) where
   pub record LevelFolded (k : Facts) (p q : State) (lets new : List LetTerm) (results : List Var) : Type 0 where
     pub walked : Walked k p q (chain lets (Gives results)) (chain new (Gives results))
     pub none : q.folds ≡ p.folds → EachBegun called (NoPairAt called p.next) lets (Gives results) k
+
+-- ---- what the walk does
+
+-- nothing with a right side
+abbrev pub FoldStep : Facts → Folding → Folding → List Var → Site → RightTerm → List Fact → List LetTerm → RightTerm → List Fact → Type 0
+FoldStep k p q xs s r vs ms t ws = Unchanged p q r vs ms t ws
+
+-- with a block it folds the pairs that are bound in it
+pub record FoldFinish (called : ℕ → List (Option (List ℕ))) (function : ℕ) (k : Facts) (p q : Folding) (b : BlockTerm) (vs : List Fact) (c : BlockTerm)
+    (ws : List Fact) : Type 0 where
+  pub lets : List LetTerm
+  pub new : List LetTerm
+  pub results : List Var
+  pub folded : LevelFolded called function k (state_of p) (state_of q) lets new results
+  pub before : b ≡ chain lets (Gives results)
+  pub after : c ≡ chain new (Gives results)
+  pub known : ws ≡ block_facts called c k
 
 -- one turn over the bindings of a block, of which those that are left come last first: a binding in the place of another
 pub record TurnFolded (left left' passed passed' : List Let) (notes notes' : List Note) (place : ℕ) (new : Let) : Type 0 where

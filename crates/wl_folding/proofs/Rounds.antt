@@ -17,7 +17,8 @@ use Rattle.core_forms.proofs.fold.Whole.{folds_keep, go_on}
 use Rattle.fold_walk.specs.fold_laws.Walks.{PairsFolded, FunctionFolded}
 use Rattle.fold_walk.proofs.fold_laws.Walks.{function_fresh}
 use Rattle.fold_walk.specs.declared.state.Fold.{Fold}
-use Rattle.fold_walk.specs.Left.{EachBinding, NoPairAt}
+use Rattle.core_walk.specs.Editing.{EachBinding}
+use Rattle.fold_walk.specs.Left.{NoPairAt}
 use Rattle.wl_folding.specs.Folded.{AllWalked, CoreFolded, FunctionWalked, HasNoPair, HasNoPairs, Kept, Round, entries_of, entry_of}
 use Rattle.wl_folding.proofs.Walks.{logged, as_many, same_entries, pairs_of, unchanged}
 

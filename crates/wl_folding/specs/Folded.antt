@@ -9,7 +9,8 @@ use Rattle.core_subst.specs.Names.{above_function}
 use Rattle.core_forms.specs.norm.Walks.{core_weight}
 use Rattle.core_forms.specs.fold.Walks.{Entry, FoldSteps, parted_count}
 use Rattle.fold_walk.specs.declared.state.Fold.{Fold}
-use Rattle.fold_walk.specs.Left.{EachBinding, NoPairAt}
+use Rattle.core_walk.specs.Editing.{EachBinding}
+use Rattle.fold_walk.specs.Left.{NoPairAt}
 use Rattle.fold_walk.specs.Walking.{BlockWalked}
 
 -- ---- the log

@@ -1,7 +1,7 @@
 use Rattle.plain_facts.specs.Called.{shapes_of}
 use Rattle.core_forms.proofs.cleaning.Functions.{function_turn, all_done}
 use Rattle.const_shape.specs.Settling.{settled_by}
-use Rattle.const_shape.proofs.Steps.{none_left}
+use Rattle.core_walk.proofs.Turns.{none_left}
 use Rattle.const_shape.proofs.functions.settle_all.Goals as goal
 
 pub loop-function-preserved : goal.loop-function-preserved

@@ -8,7 +8,7 @@ use Rattle.fact_table.proofs.scoped_table.Marks.{earlier_on, none_gone}
 use Rattle.fold_walk.specs.Walking.{state_of}
 use Rattle.binding_users.specs.Users.{AreUsers}
 use Rattle.fold_walk.proofs.Levels.{level_end, level_first, level_turn, turn_inside, users_behind}
-use Rattle.fold_walk.proofs.Walking.{none_left}
+use Rattle.core_walk.proofs.Turns.{none_left}
 use Rattle.fold_walk.proofs.level.fold_level.Goals as goal
 
 pub loop-binding-init : goal.loop-binding-init
