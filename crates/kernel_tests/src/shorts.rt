@@ -4,7 +4,7 @@ use counted_code::{CodeBlock, CodeRight};
 use kernel_callees::Lowering;
 use kernel_lower::kernel_of;
 use kernel_tree::Held;
-use sac_base::{ArrayType, Base, Cell, Fault, FaultKind, Part, Shape};
+use sac_base::{ArrayType, Base, Cell, Fault, FaultKind, Op, Part, Shape};
 use std::alloc::Global;
 
 // Variable 0 is `v`, the vector [10, 20, 30]; variable 1 is the row, and variable 2 the column.
@@ -93,8 +93,31 @@ fn an_element_is_replaced(rt: HostRuntime) {
     for (column, wanted) in cases {
         assert_eq!(rt; given(rt.alloc(), &block, 99, column), Some(wanted));
     }
+}
+
+// `w = v; w[i] = row; w + row` with a number `i`, at which there is no element.
+fn replaced_outside(alloc: Global, i: Cell) -> CodeBlock {
+    let mut steps = Vec::new(alloc);
+    bind(alloc, &mut steps, 3, constant(alloc, i));
+    bind(
+        alloc,
+        &mut steps,
+        4,
+        CodeRight::Replace(Var(0), Var(3), Var(1)),
+    );
+    bind(
+        alloc,
+        &mut steps,
+        5,
+        CodeRight::Binary(Op::Add, Var(4), Var(1)),
+    );
+    gives(alloc, steps, 5)
+}
+
+#[test]
+fn an_element_outside_is_not_replaced(rt: HostRuntime) {
     for i in [-1, 3] {
-        let block = replaced(rt.alloc(), i);
+        let block = replaced_outside(rt.alloc(), i);
         assert_eq!(rt; given(rt.alloc(), &block, 99, 0), Some(Err(OUTSIDE)));
     }
 }
@@ -114,6 +137,23 @@ fn checked(alloc: Global, count: u8) -> CodeBlock {
     gives(alloc, steps, 7)
 }
 
+// `v + row` of a `v` that was checked to have six elements, and has three.
+fn checked_wrongly(alloc: Global) -> CodeBlock {
+    let ty = ArrayType {
+        base: Base::Int,
+        part: Part::Known(Shape::vector(alloc, 6)),
+    };
+    let mut steps = Vec::new(alloc);
+    bind(alloc, &mut steps, 3, CodeRight::Check(Var(0), ty));
+    bind(
+        alloc,
+        &mut steps,
+        4,
+        CodeRight::Binary(Op::Add, Var(3), Var(1)),
+    );
+    gives(alloc, steps, 4)
+}
+
 #[test]
 fn extents_decide_checks(rt: HostRuntime) {
     let fits = checked(rt.alloc(), 3);
@@ -122,6 +162,6 @@ fn extents_decide_checks(rt: HostRuntime) {
         kind: FaultKind::F7,
         site: SITE,
     };
-    let differs = checked(rt.alloc(), 6);
+    let differs = checked_wrongly(rt.alloc());
     assert_eq!(rt; given(rt.alloc(), &differs, 0, 0), Some(Err(other)));
 }
