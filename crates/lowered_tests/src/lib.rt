@@ -11,8 +11,6 @@ mod folded;
 #[cfg(test)]
 mod inlined;
 #[cfg(test)]
-mod kernels;
-#[cfg(test)]
 mod merged;
 #[cfg(test)]
 mod normal;
