@@ -1,24 +1,35 @@
+ghost use Rattle.std.specs.Prelude.{◌≡◌};
 ghost use Rattle.buffer_parts.specs.Spans.{KeepsPlace, KeepPlaces};
 
 use buffer_parts::Part;
 use index_cutter::{Cuts, cut, lend};
 
+/// Positions in so many chunks of a size.
+fn cuts(positions: u64, size: u64, count: u64) -> Cuts
+    ensures { result ≡ record { positions = positions; size = size; count = count } }
+{
+    Cuts {
+        positions,
+        size,
+        count,
+    }
+}
+
 #[test]
 fn positions_are_cut(rt: HostRuntime) {
-    let cases = [
-        (10, 4, None, 3, 4),
-        (10, 4, Some(4), 4, 3),
-        (0, 4, None, 1, 0),
-        (16777216, 4, Some(1), 4096, 4096),
+    let found = [
+        cut(10, 4, None),
+        cut(10, 4, Some(4)),
+        cut(0, 4, None),
+        cut(16_777_216, 4, Some(1)),
     ];
-    for (positions, workers, chunk, size, count) in cases {
-        let want = Cuts {
-            positions,
-            size,
-            count,
-        };
-        assert_eq!(rt; cut(positions, workers, chunk), want);
-    }
+    let wanted = [
+        cuts(10, 3, 4),
+        cuts(10, 4, 3),
+        cuts(0, 1, 0),
+        cuts(16_777_216, 4096, 4096),
+    ];
+    assert_eq!(rt; found, wanted);
 }
 
 fn with_first_written(part: Part<i32>) -> Part<i32>
@@ -55,12 +66,14 @@ fn write_last(parts: Vec<Part<i32>>, _seen: usize) -> (Vec<Part<i32>>, usize)
 #[test]
 fn a_buffer_is_lent_in_chunks(rt: HostRuntime) {
     let mut buffer = [0; 10];
-    let cuts = Cuts {
-        positions: 10,
-        size: 3,
-        count: 4,
-    };
     let mut seen = 0;
-    let lent = lend(rt.alloc(), &mut buffer, &cuts, 1, &mut seen, write_last);
+    let lent = lend(
+        rt.alloc(),
+        &mut buffer,
+        &cuts(10, 3, 4),
+        1,
+        &mut seen,
+        write_last,
+    );
     assert!(rt; lent.is_ok() && buffer == [0, 0, 0, 0, 0, 0, 0, 0, 0, 9] && seen == 3331);
 }

@@ -48,8 +48,15 @@ fn left(alloc: Global, a: &Grid1, b: &Grid1) -> Result<u64, GridError> {
 #[test]
 fn stepped_grids(rt: HostRuntime) {
     let alloc = rt.alloc();
-    assert_eq!(rt; met(alloc, &BY_FOUR, &BY_SIX), Ok(0b0111_0101_0111));
-    assert_eq!(rt; left(alloc, &BY_FOUR, &BY_SIX), Ok(0b10_0000));
-    assert_eq!(rt; met(alloc, &FINE, &FINER), Err(GridError::TooFine));
-    assert_eq!(rt; left(alloc, &FINE, &FINER), Err(GridError::TooFine));
+    let found = [
+        met(alloc, &BY_FOUR, &BY_SIX),
+        left(alloc, &BY_FOUR, &BY_SIX),
+        met(alloc, &FINE, &FINER),
+        left(alloc, &FINE, &FINER),
+    ];
+    let too_fine = Err(GridError::TooFine);
+    assert_eq!(rt;
+        found,
+        [Ok(0b0111_0101_0111), Ok(0b10_0000), too_fine, too_fine]
+    );
 }

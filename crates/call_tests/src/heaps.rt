@@ -34,14 +34,20 @@ fn release(heap: &mut Heap, id: BufferId) -> Option<Released> {
     }
 }
 
+// Whether a buffer with a second reference has one alone, and what becomes of it as each of the two goes.
+fn keep_and_release(heap: &mut Heap) -> Result<(Option<bool>, [Option<Released>; 2]), Memory> {
+    let a = take(heap, 16)?;
+    let sole = keep(heap, a);
+    Ok((sole, [release(heap, a), release(heap, a)]))
+}
+
 #[test]
 fn the_last_reference_frees_the_buffer(rt: HostRuntime) {
     let mut heap = Heap::new(rt.alloc());
-    let a = take(&mut heap, 16).expect(&rt, "memory");
-    assert_eq!(rt; keep(&mut heap, a), Some(false));
-    assert_eq!(rt; release(&mut heap, a), Some(Released::More));
-    assert_eq!(rt; release(&mut heap, a), Some(Released::Freed));
-    assert_eq!(rt; (heap.live(), heap.taken(), heap.given()), (0, 1, 1));
+    let found = keep_and_release(&mut heap);
+    let figures = (heap.live(), heap.taken(), heap.given());
+    let wanted = (Some(false), [Some(Released::More), Some(Released::Freed)]);
+    assert!(rt; found == Ok(wanted) && figures == (0, 1, 1));
 }
 
 // Takes three buffers and gives them back, the middle one first.

@@ -20,20 +20,20 @@ fn fault_of(position: u32) -> Fault {
     }
 }
 
-fn cell(alloc: Global, position: u32, faulting: &[u32]) -> CellResult {
+fn cell(alloc: Global, position: u32, value: Cell, faulting: &[u32]) -> CellResult {
     if faulting.contains(&position) {
         return CellResult::Faults(fault_of(position));
     }
     let mut elements = Vec::new(alloc);
-    let _ = elements.push(10 + position as Cell);
+    let _ = elements.push(value);
     CellResult::Value(elements)
 }
 
 // The phase of which these positions fault. Where there is no memory, it has fewer cells.
 fn four(alloc: Global, job: Job, faulting: &[u32]) -> Setup {
     let mut cells = Vec::new(alloc);
-    for position in 0u32..4 {
-        let _ = cells.push(cell(alloc, position, faulting));
+    for (position, value) in [(0, 10), (1, 11), (2, 12), (3, 13)] {
+        let _ = cells.push(cell(alloc, position, value, faulting));
     }
     let mut counts = Vec::new(alloc);
     let _ = counts.push(1);
@@ -69,17 +69,25 @@ fn are_refused(setup: &Setup, state: &mut State, refused: &[(Event, Refused)]) -
     all
 }
 
+fn outcome_of(alloc: Global, setup: &Setup, state: &State) -> Option<Verdict>
+    requires { IsReached setup.now state.now }
+{
+    if !finished(setup, state) {
+        return None;
+    }
+    outcome(alloc, setup, state).ok()
+}
+
 // What a phase comes to by these events, which finish it.
 fn outcome_by(alloc: Global, setup: &Setup, events: &[Event]) -> Option<Verdict> {
     if !is_setup(setup) {
         return None;
     }
     let mut state = open_state(alloc, setup).ok()?;
-    if are_done(setup, &mut state, events) && finished(setup, &state) {
-        outcome(alloc, setup, &state).ok()
-    } else {
-        None
+    if !are_done(setup, &mut state, events) {
+        return None;
     }
+    outcome_of(alloc, setup, &state)
 }
 
 fn verdict(alloc: Global, job: Job, faulting: &[u32], events: &[Event]) -> Option<Verdict> {

@@ -16,13 +16,17 @@ fn one<T: Drop>(alloc: Global, thing: T) -> Vec<T> {
     list
 }
 
-/// Appends a binding.
-fn bind(alloc: Global, lets: &mut Vec<Let>, target: u32, right: Right) {
-    let _ = lets.push(Let {
+fn binding(alloc: Global, target: u32, right: Right) -> Let {
+    Let {
         targets: one(alloc, Var(target)),
         site: SITE,
         right,
-    });
+    }
+}
+
+/// Appends a binding.
+fn bind(alloc: Global, lets: &mut Vec<Let>, target: u32, right: Right) {
+    let _ = lets.push(binding(alloc, target, right));
 }
 
 /// Appends a binding of a number.

@@ -1,35 +1,60 @@
 ghost use Rattle.std.specs.Prelude.{◌≡◌, false, length};
 
 use count_table::{Phase, Tally, WorkerSeat};
-use std::test::Fail;
-use std::thread;
+use sac_base::Memory;
+use std::alloc::Global;
+use std::thread::{self, Threads};
 
-#[test]
-fn two_seats_draw_two_parts(rt: HostRuntime) -> Result<(), Fail> {
-    let parts = vec![in rt.alloc(); 10u64, 20]?;
-    let Ok((phase, mut frame)) = Phase::open_parts(rt.alloc(), &[1, 2], parts) else {
-        panic!(rt; "there is memory")
+/// What two seats of a phase of two buffers and two chunks met.
+#[derive(Drop, PartialEq)]
+struct Met {
+    parts: [u64; 2],
+    nones: [Option<u64>; 2],
+    sole: bool,
+    counts: [u64; 2],
+    closed: (u64, u64),
+}
+
+/// Each of two seats draws a chunk, takes its part and draws again, and one of them keeps a buffer for a while.
+fn by_turns(alloc: Global, parts: Vec<u64>) -> Option<Met> {
+    let Ok((phase, mut frame)) = Phase::open_parts(alloc, &[1, 2], parts) else {
+        return None;
     };
     let mut first = phase.seat(&mut frame);
     let mut second = phase.seat(&mut frame);
-    let Some(0) = phase.draw(&mut first) else {
-        panic!(rt; "the first chunk is 0")
+    let (Some(0), Some(1)) = (phase.draw(&mut first), phase.draw(&mut second)) else {
+        return None;
     };
-    let Some(1) = phase.draw(&mut second) else {
-        panic!(rt; "the second chunk is 1")
-    };
-    assert!(rt; phase.take(&mut second) == 20 && phase.take(&mut first) == 10);
-    assert!(rt; phase.draw(&mut first).is_none() && phase.draw(&mut second).is_none());
+    let parts = [phase.take(&mut first), phase.take(&mut second)];
+    let nones = [phase.draw(&mut first), phase.draw(&mut second)];
     phase.keep(&mut first, 0);
-    assert!(rt; !phase.is_sole(&mut first, 0));
+    let sole = phase.is_sole(&mut first, 0);
     phase.release(&mut first, 0);
     phase.leave(second, &mut frame);
     phase.leave(first, &mut frame);
     let mut counts = [0; 2];
     let mut tally = Tally::new();
     phase.close(frame, &mut counts, &mut tally);
-    assert!(rt; counts == [1, 2] && tally.phases() == 1 && tally.draws() == 2);
-    Ok(())
+    Some(Met {
+        parts,
+        nones,
+        sole,
+        counts,
+        closed: (tally.phases(), tally.draws()),
+    })
+}
+
+#[test]
+fn two_seats_draw_two_parts(rt: HostRuntime) {
+    let parts = Vec::from_array(rt.alloc(), [10, 20]).expect(&rt, "memory");
+    let wanted = Met {
+        parts: [10, 20],
+        nones: [None; 2],
+        sole: false,
+        counts: [1, 2],
+        closed: (1, 2),
+    };
+    assert!(rt; by_turns(rt.alloc(), parts) == Some(wanted));
 }
 
 // How often the seat drew each of the two chunks until it drew None.
@@ -49,13 +74,16 @@ fn draw_until_none(phase: &Phase<()>, mut seat: WorkerSeat<()>) -> (WorkerSeat<(
     (seat, times)
 }
 
-#[test]
-fn two_threads_draw_each_chunk_once(rt: HostRuntime) -> Result<(), Fail> {
-    let (phase, mut frame) = Phase::open(rt.alloc(), &[1, 2], 2)?;
+/// How often each of two chunks was drawn by two threads together, the counts at the end, and the tally's phases and draws.
+fn by_threads<R: Threads + Sync>(
+    rt: &R,
+    alloc: Global,
+) -> Result<([u64; 2], [u64; 2], (u64, u64)), Memory> {
+    let (phase, mut frame) = Phase::open(alloc, &[1, 2], 2)?;
     let first = phase.seat(&mut frame);
     let second = phase.seat(&mut frame);
     let (one, other) = thread::join(
-        &rt,
+        rt,
         || draw_until_none(&phase, first),
         || draw_until_none(&phase, second),
     );
@@ -66,7 +94,12 @@ fn two_threads_draw_each_chunk_once(rt: HostRuntime) -> Result<(), Fail> {
     let mut counts = [0; 2];
     let mut tally = Tally::new();
     phase.close(frame, &mut counts, &mut tally);
-    assert!(rt; one[0].wrapping_add(other[0]) == 1 && one[1].wrapping_add(other[1]) == 1);
-    assert!(rt; counts == [1, 2] && tally.phases() == 1 && tally.draws() == 2);
-    Ok(())
+    let times = [one[0].wrapping_add(other[0]), one[1].wrapping_add(other[1])];
+    Ok((times, counts, (tally.phases(), tally.draws())))
+}
+
+#[test]
+fn two_threads_draw_each_chunk_once(rt: HostRuntime) {
+    let found = by_threads(&rt, rt.alloc());
+    assert_eq!(rt; found, Ok(([1, 1], [1, 2], (1, 2))));
 }
