@@ -16,14 +16,14 @@ SameHeadAt None None = Unit {0}
 SameHeadAt (Some f) (Some g) = SameHead f g
 SameHeadAt _ _ = ⊥
 
-heads_at : (fs gs : List FunTerm) → SameHeads fs gs → (i : ℕ) → SameHeadAt (slice_get fs i) (slice_get gs i)
+pub heads_at : (fs gs : List FunTerm) → SameHeads fs gs → (i : ℕ) → SameHeadAt (slice_get fs i) (slice_get gs i)
 heads_at [] [] h i = tt
 heads_at (f ∷ fs) (g ∷ gs) h zero = h.0
 heads_at (f ∷ fs) (g ∷ gs) h (suc i) = heads_at fs gs h.1 i
 heads_at [] (g ∷ gs) h i = absurd h
 heads_at (f ∷ fs) [] h i = absurd h
 
-same_count : (fs gs : List FunTerm) → SameHeads fs gs → length fs ≡ length gs
+pub same_count : (fs gs : List FunTerm) → SameHeads fs gs → length fs ≡ length gs
 same_count [] [] h = refl
 same_count (f ∷ fs) (g ∷ gs) h = ap suc (same_count fs gs h.1)
 same_count [] (g ∷ gs) h = absurd h
@@ -52,7 +52,7 @@ main_same turns C D None (Some g) args h p q = absurd h
 main_same turns C D (Some f) None args h p q = absurd h
 
 module _ (a b : CoreTerm) (same : SameOutside a b) where
-  same_chosen : (group : ℕ) (args : List ArrayValue) → chosen a group args ≡ chosen b group args
+  pub same_chosen : (group : ℕ) (args : List ArrayValue) → chosen a group args ≡ chosen b group args
   same_chosen group args =
       let p : instances a.functions (group_at a group) ≡ instances b.functions (group_at b group) = same_instances a.functions b.functions (group_at a group) same.heads ∙ (λ i. instances b.functions (unwrap_or (slice_get (same.groups i) group) [])) in
       λ i. least_among (p i) args (p i)

@@ -1,3 +1,4 @@
 pub mod Marks
 mod SlotFacts
 mod NoteFacts
+pub mod Mapped

@@ -1,40 +1,17 @@
 -- Cores whose functions mean the same, where inline calls nest as deep as they need, have the same outcome.
 use Rattle.std.proofs.Common.{◌≡◌, ℕ, zero, suc, ◌<◌, Bool, true, false, List, [], ◌∷◌, ◌++◌, length, Option, Some, None, refl, sym, ap, subst, ◌∙◌, arith, ◌⊎◌, inl, inr}
-use Rattle.std.specs.Prelude.{slice_get, unwrap_or, if◌then◌else◌}
+use Rattle.std.specs.Prelude.{slice_get, if◌then◌else◌}
 use Rattle.sac_base.specs.declared.faults.FaultKind.TheVariants.{F7}
 use Rattle.sac_base.specs.declared.site.Site.{Site}
 use Rattle.sac_base.specs.Arrays.{ArrayValue}
 use Rattle.sac_base.specs.Outcomes.{fault}
 use Rattle.sac_base.specs.Types.{all_have}
 use Rattle.core_ir.specs.Terms.{FunTerm, CoreTerm}
-use Rattle.core_ir.specs.Meaning.{CallMeaning, run}
-use Rattle.core_ir.specs.Outcome.{Instance, RunMeaning, param_types, function_value, body_of, instance_of, instances, is_least, least_among, group_at, chosen, run_chosen, call_chosen, call_by, run_inline, run_deeper, call_at, start_of_source, main_value, outcome, SameOutcome, SameHead, SameHeads, SameOutside}
+use Rattle.core_ir.specs.Outcome.{Instance, RunMeaning, param_types, function_value, body_of, instance_of, instances, is_least, least_among, group_at, chosen, run_chosen, call_chosen, call_by, run_inline, run_deeper, call_at, start_of_source, main_value, outcome, SameOutcome, SameHead, SameOutside}
 use Rattle.core_ir.proofs.Outcomes.{SameHeadAt}
+pub use Rattle.core_ir.proofs.Outcomes.{heads_at, same_count, same_chosen}
 use Rattle.core_facts.specs.calls.Nests.{CallsAll, StandsIn, InlineBelow, CallsBelow, SameBodiesNested}
 use Rattle.core_facts.proofs.calls.Agreeing.{agreeing, weaker, everywhere}
-
-pub heads_at : (fs gs : List FunTerm) → SameHeads fs gs → (i : ℕ) → SameHeadAt (slice_get fs i) (slice_get gs i)
-heads_at [] [] h i = tt
-heads_at (f ∷ fs) (g ∷ gs) h zero = h.0
-heads_at (f ∷ fs) (g ∷ gs) h (suc i) = heads_at fs gs h.1 i
-heads_at [] (g ∷ gs) h i = absurd h
-heads_at (f ∷ fs) [] h i = absurd h
-
-pub same_count : (fs gs : List FunTerm) → SameHeads fs gs → length fs ≡ length gs
-same_count [] [] h = refl
-same_count (f ∷ fs) (g ∷ gs) h = ap suc (same_count fs gs h.1)
-same_count [] (g ∷ gs) h = absurd h
-same_count (f ∷ fs) [] h = absurd h
-
-same_instance : (place : ℕ) (x y : Option FunTerm) → SameHeadAt x y → instance_of place x ≡ instance_of place y
-same_instance place None None h = refl
-same_instance place (Some f) (Some g) h = λ i. record { place = place; types = h.types i } ∷ []
-same_instance place None (Some g) h = absurd h
-same_instance place (Some f) None h = absurd h
-
-same_instances : (fs gs : List FunTerm) (group : List ℕ) → SameHeads fs gs → instances fs group ≡ instances gs group
-same_instances fs gs [] h = refl
-same_instances fs gs (i ∷ is) h = λ j. same_instance i _ _ (heads_at fs gs h i) j ++ same_instances fs gs is h j
 
 pub below_length : {A : Type 0} (xs : List A) (i : ℕ) (x : A) → slice_get xs i ≡ Some x → i < length xs
 below_length [] i x p = absurd (let q : ◌≡◌ {A = Option _} None (Some x) = p in cc)
@@ -59,14 +36,6 @@ chosen_in all args fs (i ∷ is) place p = go (slice_get fs i) p (λ q. chosen_i
         by false m = inr (r m)
 
 module _ (a b : CoreTerm) (same : SameOutside a b) where
-  same_groups : (g : ℕ) → group_at a g ≡ group_at b g
-  same_groups g = λ i. unwrap_or (slice_get (same.groups i) g) []
-
-  pub same_chosen : (group : ℕ) (args : List ArrayValue) → chosen a group args ≡ chosen b group args
-  same_chosen group args =
-      let p : instances a.functions (group_at a group) ≡ instances b.functions (group_at b group) = same_instances a.functions b.functions (group_at a group) same.heads ∙ (λ i. instances b.functions (same_groups group i)) in
-      λ i. least_among (p i) args (p i)
-
   -- a call by meanings of functions that agree where the group can go
   same_run : (M N M' N' : RunMeaning) (place : ℕ) (x y : Option FunTerm) (args : List ArrayValue) (site : Site) → SameHeadAt x y → M ≡ M' → ((f : FunTerm) → x ≡ Some f → f.is_inline ≡ true → (args : List ArrayValue) (site : Site) → N place args site ≡ N' place args site)
       → run_chosen M N place x args site ≡ run_chosen M' N' place y args site
@@ -96,7 +65,7 @@ module _ (a b : CoreTerm) (same : SameOutside a b) where
 
       whole : (args : List ArrayValue) (site : Site) → call_by a M N g args site ≡ call_by b M' N' g args site
       whole args site =
-          ap (λ o. call_chosen a M N o args site) (same_chosen g args)
+          ap (λ o. call_chosen a M N o args site) (same_chosen a b same g args)
           ∙ at (chosen b g args) args site (λ place e. chosen_in (instances b.functions (group_at b g)) args b.functions (group_at b g) place e)
 
   module _ (turns : ℕ) (backward : CallsBelow a) (other_backward : CallsBelow b) (bodies : SameBodiesNested a b) where

@@ -13,15 +13,15 @@ use Rattle.core_ir.proofs.Splice.{unused_all}
 use Rattle.core_ir.proofs.Variables.{or_false}
 use Rattle.core_facts.specs.calls.Copies.{copies, CanCopy}
 
-and_then_assoc : {A B C : Type 0} (x : Ends A) (f : A → Ends B) (g : B → Ends C) → and_then (and_then x f) g ≡ and_then x (λ a. and_then (f a) g)
+pub and_then_assoc : {A B C : Type 0} (x : Ends A) (f : A → Ends B) (g : B → Ends C) → and_then (and_then x f) g ≡ and_then x (λ a. and_then (f a) g)
 and_then_assoc (Ok a) f g = refl
 and_then_assoc (Err k) f g = refl
 
-avoids_left : (xs ys : List Var) (b : BlockTerm) → AvoidsEach (xs ++ ys) b → AvoidsEach xs b
+pub avoids_left : (xs ys : List Var) (b : BlockTerm) → AvoidsEach (xs ++ ys) b → AvoidsEach xs b
 avoids_left [] ys b h = tt
 avoids_left (x ∷ xs) ys b h = (h.0, avoids_left xs ys b h.1)
 
-avoids_right : (xs ys : List Var) (b : BlockTerm) → AvoidsEach (xs ++ ys) b → AvoidsEach ys b
+pub avoids_right : (xs ys : List Var) (b : BlockTerm) → AvoidsEach (xs ++ ys) b → AvoidsEach ys b
 avoids_right [] ys b h = h
 avoids_right (x ∷ xs) ys b h = avoids_right xs ys b h.1
 
@@ -32,7 +32,7 @@ turned m n h = go (eqb n m) refl
     go true e = absurd (let q : eqb m n ≡ true = eq-eqb m n (sym (eqb-true n m e)) in let z = sym q ∙ h in cc)
     go false e = e
 
-not_in : (t : Var) (zs : List Var) (e : Env) (a : ArrayValue) → is_in t zs ≡ false → map (bind e t a) zs ≡ map e zs
+pub not_in : (t : Var) (zs : List Var) (e : Env) (a : ArrayValue) → is_in t zs ≡ false → map (bind e t a) zs ≡ map e zs
 not_in t [] e a h = refl
 not_in t (z ∷ zs) e a h = let w = or_false (eqb z.0 t.0) (is_in t zs) h in λ i. cond (turned z.0 t.0 w.0 i) a (e z) ∷ not_in t zs e a w.1 i
 

@@ -135,7 +135,7 @@ bases_below [] g wider k x t h = k x t h
 bases_below (z ∷ zs) g wider k x t h = base_more (eqb z.0.0 x.0) t (Some z.1) (base_of (zs ++ g) x) (base_of (zs ++ wider) x) (bases_below zs g wider k x t) h
 
 module _ (g wider : Bases) (k : BasesWithin g wider) where
-  has_wider : (xs : List Var) (ts : List Base) → HasBases g xs ts → HasBases wider xs ts
+  pub has_wider : (xs : List Var) (ts : List Base) → HasBases g xs ts → HasBases wider xs ts
   has_wider [] [] h = tt
   has_wider (x ∷ xs) (t ∷ ts) h = (k x t h.0, has_wider xs ts h.1)
   has_wider [] (t ∷ ts) h = absurd h
@@ -153,7 +153,7 @@ module _ (g wider : Bases) (k : BasesWithin g wider) where
   literal_wider [] t h = h
   literal_wider (x ∷ xs) t h = all_wider (x ∷ xs) t h
 
-  plain_wider : (p : PlainTerm) (ts : List Base) → PlainBases g p ts → PlainBases wider p ts
+  pub plain_wider : (p : PlainTerm) (ts : List Base) → PlainBases g p ts → PlainBases wider p ts
   plain_wider (PlainTerm.Const a) ts h = h
   plain_wider (PlainTerm.Copy x) ts h = (h.0, k x h.0 h.1, h.2)
   plain_wider (PlainTerm.Unary o x) ts h = (h.0, (h.1.0, k x h.0 h.1.1, h.1.2, h.1.3))

@@ -10,10 +10,10 @@ use Rattle.core_ir.specs.declared.tree.Var.{Var}
 use Rattle.core_ir.specs.Binders.{is_in, bound_in, bound_in_right, bound_in_parts}
 use Rattle.core_ir.specs.Renaming.{under}
 use Rattle.core_ir.specs.Terms.{PlainTerm, BlockTerm, RightTerm, PartsTerm, PartHead, CoreTerm, Gives, Bind, Plain, NoParts, Part, chain}
-use Rattle.core_ir.specs.WellFormed.{Bases, base_of, AllHave, HasBases, LiteralBase, PlainBases, BlockBases, RightBases, PartsBases, Distinct}
+use Rattle.core_ir.specs.WellFormed.{Bases, base_of, HasBases, PlainBases, BlockBases, RightBases, PartsBases, Distinct}
 use Rattle.core_ir.proofs.Variables.{same_number}
 use Rattle.core_forms.specs.edits.Within.{BasesWithin}
-use Rattle.core_forms.proofs.edits.Wider.{block_bases_wider}
+use Rattle.core_forms.proofs.edits.Wider.{block_bases_wider, has_wider, plain_wider}
 use Rattle.core_facts.specs.Facts.{Facts, note_all, right_facts, in_part}
 use Rattle.core_loops.specs.Indices.{IndexFacts, note_others, learn_index, own_index}
 use Rattle.core_loops.specs.Pairs.{Producer}
@@ -34,35 +34,6 @@ use Rattle.core_forms.proofs.fold.Chains.{behind, chain_bound}
 use Rattle.core_forms.proofs.fold.Producers.{part_bases, part_distinct}
 
 -- ---- terms as they were
-
-has_wider : (g wider : Bases) (xs : List Var) (ts : List Base) → BasesWithin g wider → HasBases g xs ts → HasBases wider xs ts
-has_wider g wider [] [] k h = tt
-has_wider g wider (x ∷ xs) (t ∷ ts) k h = (k x t h.0, has_wider g wider xs ts k h.1)
-has_wider g wider [] (t ∷ ts) k h = absurd h
-has_wider g wider (x ∷ xs) [] k h = absurd h
-
-module _ (g wider : Bases) (k : BasesWithin g wider) where
-  all_wider : (xs : List Var) (t : Base) → AllHave g xs t → AllHave wider xs t
-  all_wider [] t h = tt
-  all_wider (x ∷ xs) t h = (k x t h.0, all_wider xs t h.1)
-
-  literal_wider : (xs : List Var) (t : Base) → LiteralBase g xs t → LiteralBase wider xs t
-  literal_wider [] t h = h
-  literal_wider (x ∷ xs) t h = all_wider (x ∷ xs) t h
-
-  plain_wider : (p : PlainTerm) (ts : List Base) → PlainBases g p ts → PlainBases wider p ts
-  plain_wider (PlainTerm.Const a) ts h = h
-  plain_wider (PlainTerm.Copy x) ts h = (h.0, k x h.0 h.1, h.2)
-  plain_wider (PlainTerm.Unary o x) ts h = (h.0, (h.1.0, k x h.0 h.1.1, h.1.2, h.1.3))
-  plain_wider (PlainTerm.Binary o x y) ts h = (h.0, (h.1.0, k x h.0 h.1.1, k y h.0 h.1.2, h.1.3, h.1.4))
-  plain_wider (PlainTerm.Literal xs) ts h = (h.0, literal_wider xs h.0 h.1, h.2)
-  plain_wider (PlainTerm.Dim x) ts h = (h.0, k x h.0 h.1, h.2)
-  plain_wider (PlainTerm.ShapeOf x) ts h = (h.0, k x h.0 h.1, h.2)
-  plain_wider (PlainTerm.Reshape x y) ts h = (h.0, k x Int h.1, k y h.0 h.2, h.3)
-  plain_wider (PlainTerm.Select x y) ts h = (h.0, k x h.0 h.1, k y Int h.2, h.3)
-  plain_wider (PlainTerm.Replace x y z) ts h = (h.0, k x h.0 h.1, k y Int h.2, k z h.0 h.3, h.4)
-  plain_wider (PlainTerm.Always kind) ts h = tt
-  plain_wider (PlainTerm.Check x ty) ts h = (k x ty.base h.0, h.1)
 
 own_base : (g : Bases) (y : Var) (u : Base) → base_of ((y, u) ∷ g) y ≡ Some u
 own_base g y u = λ i. cond (eq-eqb y.0 y.0 refl i) (Some u) (base_of g y)
@@ -150,7 +121,7 @@ module _ (core : CoreTerm) (table : BaseTable) (called : ℕ → List (Option (L
       pub folded_bases :
           (b : BlockTerm) (k : Facts) (m : IndexFacts) (c : BlockTerm) (h : Folded called p n grid b k m c) → AllCopied called p n grid low high b k m c h → (g wider : Bases) (ts : List Base) → (d : BlockBases core g b ts) →
           Within table g → Follows core table b g ts d → BasesWithin g wider → BasesWithin around wider → Distinct (bound_in c) → Bare low (bound_in c) wider → BlockBases core wider c ts
-      folded_bases (Gives xs) k m c h a g wider ts d w f i o dc bc = subst (λ (x : BlockTerm). BlockBases core wider x ts) (sym h) (has_wider g wider xs ts i d)
+      folded_bases (Gives xs) k m c h a g wider ts d w f i o dc bc = subst (λ (x : BlockTerm). BlockBases core wider x ts) (sym h) (has_wider g wider i xs ts d)
       folded_bases (Bind xs s r b) k m c (inl h) a g wider ts d w f i o dc bc =
           let q = h.0 in
           let e = h.1.0 in
@@ -200,7 +171,7 @@ module _ (core : CoreTerm) (table : BaseTable) (called : ℕ → List (Option (L
           let j = bases_zip params ts g wider i in
           let l = table_zip table params ts around wider known f.0 o in
           subst (λ (z : RightTerm). RightBases core wider z ts) (sym h.1.1.0) (
-            has_wider g wider start ts i d.0,
+            has_wider g wider i start ts d.0,
             d.1,
             folded_bases test nk nm b h.1.1.1 a.0 (zip params ts ++ g) (zip params ts ++ wider) (Truth ∷ []) d.2 wz f.1 j l (distinct_left (bound_in b) (bound_in e) d2)
                 (bare_left low (bound_in b) (bound_in e) (zip params ts ++ wider) b2),
@@ -208,7 +179,7 @@ module _ (core : CoreTerm) (table : BaseTable) (called : ℕ → List (Option (L
                 (bare_right low (bound_in b) (bound_in e) (zip params ts ++ wider) b2),
           )
       right_bases s (RightTerm.Call group xs) k m q h a g wider ts d w f i o dc bc =
-          subst (λ (z : RightTerm). RightBases core wider z ts) (sym h) (d.0, (has_wider g wider xs d.0 i d.1.0, d.1.1))
+          subst (λ (z : RightTerm). RightBases core wider z ts) (sym h) (d.0, (has_wider g wider i xs d.0 d.1.0, d.1.1))
       right_bases s (RightTerm.With v gens) k m q h a g wider ts d w f i o dc bc =
           subst (λ (z : RightTerm). RightBases core wider z ts) (sym h) (kept_right core s p.var (RightTerm.With v gens) g wider ts i (d.0, d.1.2) d)
       right_bases s (RightTerm.Parted fr t cell v ps) k m q h a g wider ts d w f i o dc bc =

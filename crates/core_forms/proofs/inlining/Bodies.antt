@@ -17,13 +17,14 @@ use Rattle.core_ir.specs.Terms.{BlockTerm, LetTerm, FunTerm, Gives, Bind, chain}
 use Rattle.core_ir.specs.Uses.{AvoidsEach, targets_of}
 use Rattle.core_ir.proofs.Coincide.{same_on}
 use Rattle.core_ir.proofs.Splice.{unused_all}
+use Rattle.core_facts.proofs.calls.Spliced.{and_then_assoc}
 use Rattle.core_subst.specs.Names.{above, above_all, variable}
 use Rattle.core_subst.proofs.Above.{block_new}
 use Rattle.core_subst.specs.copy.Mapped.{raised, mapped}
 use Rattle.core_subst.proofs.copy.Renaming.{renamed, agree}
 use Rattle.core_subst.proofs.copy.Within.{raised_apart}
 use Rattle.core_forms.specs.inlining.Inlined.{bindings, results, checks, inlined, CanInline, instance_value}
-use Rattle.core_forms.proofs.inlining.Checks.{and_then_assoc, checks_run, spliced}
+use Rattle.core_forms.proofs.inlining.Checks.{checks_run, spliced}
 
 whole : (b : BlockTerm) → chain (bindings b) (Gives (results b)) ≡ b
 whole (Gives xs) = refl

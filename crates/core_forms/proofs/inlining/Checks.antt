@@ -1,45 +1,21 @@
 -- Checks one after another, and bindings before them.
-use Rattle.std.proofs.Common.{◌≡◌, ℕ, suc, Bool, true, false, cond, ◌&&◌, ◌||◌, eqb, List, [], ◌∷◌, ◌++◌, map, length, Ok, Err, refl, sym, ap, ◌∙◌, arith}
+use Rattle.std.proofs.Common.{◌≡◌, ℕ, suc, Bool, true, false, ◌&&◌, eqb, List, [], ◌∷◌, map, length, Ok, Err, refl, sym, ◌∙◌, arith}
 use Rattle.std.specs.Prelude.{if◌then◌else◌}
-use Rattle.std.proofs.lemmas.Bool.{eqb-true, eq-eqb}
 use Rattle.sac_base.specs.declared.faults.FaultKind.TheVariants.{F7}
 use Rattle.sac_base.specs.declared.site.Site.{Site}
 use Rattle.sac_base.specs.declared.types.ArrayType.{ArrayType}
-use Rattle.sac_base.specs.Arrays.{ArrayValue}
-use Rattle.sac_base.specs.Outcomes.{Ends, and_then, at_site, fault}
+use Rattle.sac_base.specs.Outcomes.{and_then, at_site, fault}
 use Rattle.sac_base.specs.Types.{has, all_have}
 use Rattle.core_ir.specs.declared.tree.Var.{Var}
 use Rattle.core_ir.specs.Binders.{is_in, NoneIn}
-use Rattle.core_ir.specs.Meaning.{Env, Answer, CallMeaning, bind, bind_all, one, run, right_value, checked}
+use Rattle.core_ir.specs.Meaning.{Env, CallMeaning, bind, bind_all, one, run, right_value}
 use Rattle.core_ir.specs.Outcome.{results_in}
-use Rattle.core_ir.specs.Terms.{BlockTerm, LetTerm, Gives, Bind, Plain, Check, chain}
+use Rattle.core_ir.specs.Terms.{BlockTerm, LetTerm, Gives, chain}
 use Rattle.core_ir.specs.Uses.{AvoidsEach, targets_of}
 use Rattle.core_ir.proofs.Splice.{unused_all}
 use Rattle.core_ir.proofs.Variables.{or_false}
+use Rattle.core_facts.proofs.calls.Spliced.{and_then_assoc, avoids_left, avoids_right, not_in}
 use Rattle.core_forms.specs.inlining.Inlined.{checks}
-
-pub and_then_assoc : {A B C : Type 0} (x : Ends A) (f : A → Ends B) (g : B → Ends C) → and_then (and_then x f) g ≡ and_then x (λ a. and_then (f a) g)
-and_then_assoc (Ok a) f g = refl
-and_then_assoc (Err k) f g = refl
-
-pub avoids_left : (xs ys : List Var) (b : BlockTerm) → AvoidsEach (xs ++ ys) b → AvoidsEach xs b
-avoids_left [] ys b h = tt
-avoids_left (x ∷ xs) ys b h = (h.0, avoids_left xs ys b h.1)
-
-pub avoids_right : (xs ys : List Var) (b : BlockTerm) → AvoidsEach (xs ++ ys) b → AvoidsEach ys b
-avoids_right [] ys b h = h
-avoids_right (x ∷ xs) ys b h = avoids_right xs ys b h.1
-
-turned : (m n : ℕ) → eqb m n ≡ false → eqb n m ≡ false
-turned m n h = go (eqb n m) refl
-  where
-    go : (b : Bool) → eqb n m ≡ b → eqb n m ≡ false
-    go true e = absurd (let q : eqb m n ≡ true = eq-eqb m n (sym (eqb-true n m e)) in let z = sym q ∙ h in cc)
-    go false e = e
-
-not_in : (t : Var) (zs : List Var) (e : Env) (a : ArrayValue) → is_in t zs ≡ false → map (bind e t a) zs ≡ map e zs
-not_in t [] e a h = refl
-not_in t (z ∷ zs) e a h = let w = or_false (eqb z.0 t.0) (is_in t zs) h in λ i. cond (turned z.0 t.0 w.0 i) a (e z) ∷ not_in t zs e a w.1 i
 
 -- none of the targets is a source further behind
 none_tail : (ts zs : List Var) (z : Var) → NoneIn ts (z ∷ zs) → NoneIn ts zs
