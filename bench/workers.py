@@ -2,9 +2,9 @@
 """workers.py SAC [WORK..]: how many times as fast four workers of SAC are as one, beside what the machine gives to four runs that share nothing.
 
 For each work of compare.py, in nanoseconds a cell and round: one worker alone; four runs of one worker each, side by side, by the slowest of them; four
-workers with an equal share of the positions each, and with chunks of a sixty-fourth of them. `machine` is how many times as much work the four runs
-do together as one alone: where memory or other work on the host is the limit, that is less than 4. `workers` is how many times as fast the better of the
-two runs with four workers is as one, and `share` is the one by the other, in percent. Each figure is the least of five.
+workers with an equal share of the positions each, and with the number of chunks, behind `by`, with which they are fastest. `machine` is how many times as
+much work the four runs do together as one alone: where memory or other work on the host is the limit, that is less than 4. `workers` is how many times as
+fast the best run with four workers is as one, and `share` is the one by the other, in percent. Each figure is the least of five.
 """
 import concurrent.futures
 import os
@@ -18,7 +18,7 @@ from compare import CELLS, LONG, run, sac
 SHARED = ["neighbours", "life", "flows", "border", "plus_one", "chain", "indices", "convolution", "product", "totals", "prefix", "histogram", "mandelbrot", "paths"]
 TRIES = 5
 # So many chunks has a phase where they are not an equal share of each worker.
-CHUNKS = 64
+CHUNKS = (16, 64, 256)
 
 
 def slowest_of_four(command):
@@ -40,24 +40,24 @@ def of_cell(command, work, rounds, elapsed):
 
 def main():
     program = os.path.abspath(sys.argv[1])
-    print("| Work | 1 worker | four runs | 4 workers | 4 workers, chunks | machine | workers | share |")
-    print("|---" * 8 + "|")
+    print("| Work | 1 worker | four runs | 4 workers | 4 workers, chunks | by | machine | workers | share |")
+    print("|---" * 9 + "|")
     with tempfile.TemporaryDirectory() as place:
         folder = pathlib.Path(place)
         one, four = sac(program, 1, folder), sac(program, 4, folder)
         for work in sys.argv[2:] or SHARED:
-            def chunked(work, rounds):
-                return [*four(work, rounds), "--chunk", str(max(1, positions(work) // CHUNKS))]
+            def in_chunks(count):
+                return lambda work, rounds: [*four(work, rounds), "--chunk", str(max(1, positions(work) // count))]
 
             once = run(one(work, 1))[0] - run(one(work, 0))[0]
             rounds = max(1, min(256, int(LONG / max(once, 0.001))))
             alone = of_cell(one, work, rounds, lambda command: run(command)[0])
             together = of_cell(one, work, rounds, slowest_of_four)
             shares = of_cell(four, work, rounds, lambda command: run(command)[0])
-            chunks = of_cell(chunked, work, rounds, lambda command: run(command)[0])
+            chunks, count = min((of_cell(in_chunks(count), work, rounds, lambda command: run(command)[0]), count) for count in CHUNKS)
             machine, workers = 4 * alone / together, alone / min(shares, chunks)
-            row = [f"{n:.2f}" for n in (alone, together, shares, chunks, machine, workers)]
-            print(f"| {work} | " + " | ".join(row) + f" | {100 * workers / machine:.0f} |", flush=True)
+            times = " | ".join(f"{n:.2f}" for n in (alone, together, shares, chunks))
+            print(f"| {work} | {times} | {count} | {machine:.2f} | {workers:.2f} | {100 * workers / machine:.0f} |", flush=True)
 
 
 if __name__ == "__main__":

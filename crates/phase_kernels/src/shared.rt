@@ -62,8 +62,8 @@ impl<'a> PhaseKernels<'a> {
         }
     }
 
-    /// These cells without kernels, for those that are computed sooner than kernels are made.
-    pub fn without(cells: KernelCells<'a>) -> PhaseKernels<'a>
+    // These cells without kernels.
+    fn without(cells: KernelCells<'a>) -> PhaseKernels<'a>
         ensures { result ≡ cells.entry }
     {
         let alloc = cells.cells.context.alloc;

@@ -15,7 +15,7 @@ ghost use Rattle.run_values.specs.Scopes.{current};
 ghost use Rattle.sac_base.specs.Arrays.{size};
 ghost use Rattle.wl_core.specs.Machine.{CellValue};
 
-use crate::teams::{kernels_for, team_for};
+use crate::teams::team_for;
 use array_with_loops::IndexVector;
 use buffer_heap::Heap;
 use counted_code::{Code, CodeGen, CodePart};
@@ -158,7 +158,7 @@ fn each_cell<G: Gate, R: Threads + Sync>(
     shares::<Code>();
     shares::<CallKernel>();
     shares::<Option<CellKernel>>();
-    let kernels = kernels_for(workers, *cells);
+    let kernels = PhaseKernels::of(*cells);
     let team = team_for(workers, &kernels);
     let covered = CoveredCells { cells: kernels };
     compute_array(&team, &covered, count, width, into, books)

@@ -22,7 +22,7 @@ ghost use Rattle.sac_base.specs.Verdict.{folds as folds_value};
 ghost use Rattle.sac_base.specs.WithLoops.{combined, fits_form as fits_form_value};
 
 use crate::covered::{MOST, shares};
-use crate::teams::{kernels_for, team_for};
+use crate::teams::team_for;
 use array_with_loops::{Plan, fits_form};
 use core_ir::Var;
 use counted_code::{Code, CodeGen, CodePart};
@@ -30,7 +30,7 @@ use kernel_rows::CellKernel;
 use phase_books::{
     Begun, Books, Workers, begin_phase, compute_fold, end_phase, finish_phase, stop_phase,
 };
-use phase_kernels::KernelCells;
+use phase_kernels::{KernelCells, PhaseKernels};
 use phase_loop_cells::LoopCells;
 use phase_team::Gate;
 use run_kernels::CallKernel;
@@ -193,7 +193,7 @@ fn each_fold<G: Gate, R: Threads + Sync>(
     shares::<CallKernel>();
     shares::<Option<CellKernel>>();
     let base = cells.cells.plan.form.base;
-    let kernels = kernels_for(workers, *cells);
+    let kernels = PhaseKernels::of(*cells);
     let team = team_for(workers, &kernels);
     compute_fold(&team, &kernels, count, base, op, value, books)
 }

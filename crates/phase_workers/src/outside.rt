@@ -22,8 +22,8 @@ use run_values::RunValue;
 use sac_base::{Array, Op, Stop, copy_array};
 use std::thread::Threads;
 
-/// The result of a loop whose checks have passed. It is run by the workers where it is a phase, its cells are known to stand
-/// alone, which cells that reach a mark do not, and none nests too deep, and else in order.
+/// The result of a loop whose checks have passed. It is run by the workers where it is a phase, its cells are not few and short and are known to
+/// stand alone, which cells that reach a mark do not, and none nests too deep, and else in order.
 pub fn loop_outside<'a, G: Gate, R: Threads + Sync>(
     workers: &Workers<'_, G, R>,
     work: &CellLoop<'a>,
@@ -58,7 +58,8 @@ fn array_outside<'a, G: Gate, R: Threads + Sync>(
     if !makes_large(work) {
         return run_in_order(work, context, state);
     }
-    let Some(live) = live_apart(workers, &work.source, context, state)? else {
+    let positions = work.plan.frame.count();
+    let Some(live) = live_apart(workers, &work.source, positions, context, state)? else {
         return run_in_order(work, context, state);
     };
     array_by_workers(workers, work, &live, context, state)
@@ -92,7 +93,8 @@ fn fold_outside<'a, G: Gate, R: Threads + Sync>(
     if !is_fold(work.plan, op, neutral) {
         return run_in_order(work, context, state);
     }
-    let Some(live) = live_apart(workers, &work.source, context, state)? else {
+    let positions = work.plan.frame.count();
+    let Some(live) = live_apart(workers, &work.source, positions, context, state)? else {
         return run_in_order(work, context, state);
     };
     let neutral = copy_array(neutral)?;

@@ -53,7 +53,8 @@ pub fn over_outside<G: Gate, R: Threads + Sync>(
         return run_over_in_order(work, array, context, state);
     };
     let source = CellSource::Parts(parts);
-    let Some(live) = live_apart(workers, &source, context, state)? else {
+    let positions = work.plan.frame.count();
+    let Some(live) = live_apart(workers, &source, positions, context, state)? else {
         return run_over_in_order(work, array, context, state);
     };
     if !is_phase_over(parts, work.plan, array, &live, *context, state)? {

@@ -1,30 +1,9 @@
 //! Kernels and teams of phases.
 
-ghost use Rattle.std.specs.Prelude.{◌≡◌};
-
 use phase_books::{Workers, steps_of};
 use phase_kernels::{KernelCells, PhaseKernels};
 use phase_team::Gate;
 use std::thread::Threads;
-
-/// The most steps of the evaluator in which the cells of a phase are computed sooner than their kernels are made (`docs/DECISIONS.md`).
-const FEW: u64 = 128;
-
-/// The cells of a phase with their kernels, which all of its workers share, or without where they are few and short. Where a size of chunks was given
-/// there are kernels for few cells too.
-pub fn kernels_for<'a, G: Gate, R: Threads + Sync>(
-    workers: &Workers<'_, G, R>,
-    cells: KernelCells<'a>,
-) -> PhaseKernels<'a>
-    ensures { result ≡ cells.entry }
-{
-    let count = cells.cells.plan.frame.count() as u64;
-    if !workers.chunked && count.saturating_mul(cell_steps(&cells)) <= FEW {
-        PhaseKernels::without(cells)
-    } else {
-        PhaseKernels::of(cells)
-    }
-}
 
 /// The workers of a phase: the thread that met it alone where its cells take less time than the start of further threads, by the steps of strips where
 /// each cell is computed by these, and else by those of the evaluator.

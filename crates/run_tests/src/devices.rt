@@ -1,5 +1,7 @@
-use sac_io::{FetchError, Fetched, Files, Sink};
-use sac_real::{DiskFiles, Out};
+//! Files of the machine, and room in a sink.
+
+use sac_io::{FetchError, Fetched, Files, MemSink};
+use sac_real::DiskFiles;
 use std::fs;
 use std::test::Fail;
 
@@ -20,9 +22,7 @@ fn a_file_of_the_machine_is_fetched(rt: HostRuntime) -> Result<(), Fail> {
 }
 
 #[test]
-fn standard_output_takes_some_of_a_piece(rt: HostRuntime) {
-    let mut out = Out::new(&rt);
-    let taken = out.write(b"a line of standard output\n");
-    assert!(rt; matches!(taken, Ok(1..=26)));
-    assert_eq!(rt; out.write(b""), Ok(0));
+fn room_is_reserved(rt: HostRuntime) {
+    let mut sink = MemSink::new(rt.alloc(), 8, Vec::new(rt.alloc()));
+    assert!(rt; sink.reserve(100).is_ok() && sink.spare() >= 100);
 }

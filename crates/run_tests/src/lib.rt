@@ -1,32 +1,10 @@
-//! Tests of operators and types, of arrays, of their texts, of files and devices, of values below the evaluator of counted code, and of runs of the
-//! evaluator.
+//! Tests of what no contract says and no row of `sac_row_tests` shows: that files of the machine are fetched, that loops and calls are run as kernels, and
+//! that elements are replaced in place.
 #![tactic(auto)]
 
 #[cfg(test)]
-mod base;
-#[cfg(test)]
-mod calls;
-#[cfg(test)]
-mod data;
-#[cfg(test)]
 mod devices;
 #[cfg(test)]
-mod files;
-#[cfg(test)]
-mod loops;
-#[cfg(test)]
-mod making;
-#[cfg(test)]
-mod marked_loops;
-#[cfg(test)]
-mod operators;
-#[cfg(test)]
-mod orders;
-#[cfg(test)]
-mod plain;
-#[cfg(test)]
-mod tests;
-#[cfg(test)]
-mod types;
+mod kernels;
 #[cfg(test)]
 mod values;

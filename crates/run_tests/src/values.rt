@@ -1,186 +1,49 @@
-use crate::making::few;
+//! The shape of a value, and elements that are replaced in place.
+
 use buffer_heap::Heap;
-use core_ir::Var;
-use run_values::{Few, Frames, RunValue, short_binary, short_unary, small_value};
-use sac_base::{Base, Cell, FaultKind, Memory, Op, Shape};
+use run_store::{Store, keep, place_own, read_array, update_element};
+use run_types::shape_of;
+use run_values::{Few, RunValue};
+use sac_base::{Array, Base, Cell, Memory};
 use std::alloc::Global;
 
-/// Whether the short list of these numbers has them, if there is one.
-fn short(cells: &[Cell]) -> Option<bool> {
-    let few = Few::from_slice(cells)?;
-    Some(few.as_slice() == cells && few.len() == cells.len())
-}
-
-fn is_pushed() -> bool {
-    let mut one = Few::one(7);
-    one.push(8) && one.as_slice() == [7, 8].as_slice()
+// The extents of a vector of five numbers.
+fn extents_of_five(alloc: Global) -> Result<Option<Cell>, Memory> {
+    let Some(five) = Few::from_slice(&[1, 2, 3, 4, 5]) else {
+        return Err(Memory);
+    };
+    let shape = shape_of(alloc, &RunValue::Short(Base::Int, five))?;
+    Ok(shape.extents().first().copied())
 }
 
 #[test]
-fn lists_of_up_to_eight_numbers_are_short(rt: HostRuntime) {
-    let cases: [(&[Cell], Option<bool>); 4] = [
-        (&[], Some(true)),
-        (&[-1, 2], Some(true)),
-        (&[1, 2, 3, 4, 5, 6, 7, 8], Some(true)),
-        (&[1, 2, 3, 4, 5, 6, 7, 8, 9], None),
-    ];
-    for (cells, want) in cases {
-        assert_eq!(rt; short(cells), want);
+fn a_value_has_a_shape(rt: HostRuntime) {
+    assert_eq!(rt; extents_of_five(rt.alloc()), Ok(Some(5)));
+}
+
+// The number at place 3 of a vector of twelve zeros where it is replaced with so many references to the vector, and how many buffers were taken and given
+// back. None where it is not replaced in place.
+fn replaced(alloc: Global, references: u32) -> Result<Option<(Cell, u64, u64)>, Memory> {
+    let mut store = Store::of(Heap::new(alloc));
+    let zeros = Array::vector(alloc, Base::Int, Vec::from_slice(alloc, &[0; 12])?);
+    let array = place_own(&mut store, zeros)?;
+    if references > 1 {
+        keep(&mut store, array)?;
     }
-    assert!(rt; is_pushed());
-    assert_eq!(rt; Few::empty().len(), 0);
-}
-
-fn has(value: &RunValue, base: Base, extents: &[Cell]) -> bool {
-    value.base() == base && value.rank() == extents.len() && value.extents().as_slice() == extents
-}
-
-/// Twelve bools in three rows.
-fn rows(alloc: Global) -> Result<RunValue, Memory> {
-    let id = Heap::new(alloc).take(12)?;
-    Ok(RunValue::Buffer(Base::Bool, id, few(&[3, 4])))
-}
-
-#[test]
-fn values_have_a_base_and_a_shape(rt: HostRuntime) {
-    let rows = rows(rt.alloc()).expect(&rt, "memory");
-    assert!(rt; has(&RunValue::Unbound, Base::Int, &[]));
-    assert!(rt; has(&RunValue::Word(Base::Bool, 1), Base::Bool, &[]));
-    assert!(rt;
-        has(
-            &RunValue::Short(Base::Int, few(&[5, 6, 7])),
-            Base::Int,
-            &[3]
-        )
-    );
-    assert!(rt; has(&rows, Base::Bool, &[3, 4]));
-}
-
-/// Whether two numbers are a short vector.
-fn is_short_vector(alloc: Global) -> bool {
-    match small_value(Base::Int, &Shape::vector(alloc, 2), &[4, 5]) {
-        Some(RunValue::Short(_, cells)) => cells.as_slice() == [4, 5].as_slice(),
-        _ => false,
-    }
-}
-
-/// Whether one number is a word.
-fn is_word(alloc: Global) -> bool {
-    match small_value(Base::Int, &Shape::empty(alloc), &[9]) {
-        Some(value) => value.as_word() == Ok(Some(9)),
-        None => false,
-    }
+    let index = RunValue::Short(Base::Int, Few::one(3));
+    let part = RunValue::Word(Base::Int, -1);
+    let Some(value) = update_element(&mut store, &array, &index, &part)? else {
+        return Ok(None);
+    };
+    let array = read_array(alloc, &store, value)?;
+    let Some(n) = array.cells().get(3) else {
+        return Err(Memory);
+    };
+    Ok(Some((*n, store.own.taken(), store.own.given())))
 }
 
 #[test]
-fn scalars_and_short_vectors_are_small(rt: HostRuntime) {
-    let alloc = rt.alloc();
-    assert!(rt; is_short_vector(alloc) && is_word(alloc));
-    assert_eq!(rt; RunValue::Short(Base::Int, few(&[1])).as_word(), Ok(None));
-}
-
-type Want<'a> = Result<&'a [Cell], FaultKind>;
-
-fn gives(op: Op, left: &[Cell], right: &[Cell], want: Want<'_>) -> bool {
-    match (short_binary(op, &few(left), &few(right)), want) {
-        (Ok(cells), Ok(wanted)) => cells.as_slice() == wanted,
-        (Err(kind), Err(wanted)) => kind == wanted,
-        _ => false,
-    }
-}
-
-fn negates(cells: &[Cell], want: &[Cell]) -> bool {
-    short_unary(Op::Neg, &few(cells)).as_slice() == want
-}
-
-#[test]
-fn operators_go_element_by_element(rt: HostRuntime) {
-    let cases: [(Op, &[Cell], &[Cell], Want<'static>); 4] = [
-        (Op::Sub, &[5, 6], &[1, 2], Ok(&[4, 4])),
-        (Op::Add, &[2147483647], &[1], Ok(&[-2147483648])),
-        (Op::Add, &[1, 2], &[1], Err(FaultKind::F3)),
-        (Op::Div, &[1, 2], &[1, 0], Err(FaultKind::F2)),
-    ];
-    for (op, left, right, want) in cases {
-        assert!(rt; gives(op, left, right, want));
-    }
-    assert!(rt; negates(&[3, -4], &[-3, 4]));
-}
-
-// The steps on variables, of which a test needs no fact.
-fn bind(frames: &mut Frames<'_>, x: u32, n: Cell) -> Result<(), Memory> {
-    frames.bind(Var(x), RunValue::Word(Base::Int, n))
-}
-
-fn enter(frames: &mut Frames<'_>) -> Result<(), Memory> {
-    frames.enter()
-}
-
-fn enter_call(frames: &mut Frames<'_>) -> Result<(), Memory> {
-    frames.enter_call()
-}
-
-fn leave(frames: &mut Frames<'_>) {
-    frames.leave();
-}
-
-fn word(frames: &Frames<'_>, x: u32) -> Result<Option<Cell>, Memory> {
-    frames.get(Var(x)).as_word()
-}
-
-/// Whether the variables 1 and 3 hold these.
-fn holds(frames: &Frames<'_>, first: Cell, third: Cell) -> bool {
-    word(frames, 1) == Ok(Some(first)) && word(frames, 3) == Ok(Some(third))
-}
-
-/// The variable 3 in a scope and the variable 1 in one within it.
-fn two_scopes(frames: &mut Frames<'_>) -> Result<(), Memory> {
-    bind(frames, 3, 30)?;
-    enter(frames)?;
-    bind(frames, 1, 10)
-}
-
-/// What the variable 3 is in a call, before and after it is bound there.
-fn in_call(frames: &mut Frames<'_>) -> Result<(Option<Cell>, Option<Cell>), Memory> {
-    enter_call(frames)?;
-    let before = word(frames, 3)?;
-    bind(frames, 3, 33)?;
-    Ok((before, word(frames, 3)?))
-}
-
-/// What a variable is for a worker that binds it in a scope, within the scope and after it.
-fn in_worker(
-    frames: &Frames<'_>,
-    alloc: Global,
-    x: u32,
-) -> Result<(Option<Cell>, Option<Cell>), Memory> {
-    let mut own = frames.lent(alloc)?;
-    enter(&mut own)?;
-    bind(&mut own, x, 10)?;
-    let within = word(&own, x)?;
-    leave(&mut own);
-    Ok((within, word(&own, x)?))
-}
-
-#[test]
-fn what_a_scope_binds_ends_with_it(rt: HostRuntime) {
-    let mut frames = Frames::new(rt.alloc());
-    assert_eq!(rt; two_scopes(&mut frames), Ok(()));
-    assert!(rt; holds(&frames, 10, 30));
-    assert_eq!(rt; in_call(&mut frames), Ok((Some(0), Some(33))));
-    leave(&mut frames);
-    assert!(rt; holds(&frames, 10, 30));
-    leave(&mut frames);
-    assert!(rt; holds(&frames, 0, 30));
-}
-
-#[test]
-fn what_a_worker_binds_is_its_own(rt: HostRuntime) {
-    let alloc = rt.alloc();
-    let mut frames = Frames::new(alloc);
-    assert_eq!(rt; bind(&mut frames, 3, 30), Ok(()));
-    assert_eq!(rt; in_worker(&frames, alloc, 5), Ok((Some(10), Some(0))));
-    assert_eq!(rt; in_worker(&frames, alloc, 1), Ok((Some(10), Some(0))));
-    assert_eq!(rt; in_worker(&frames, alloc, 3), Err(Memory));
-    assert!(rt; holds(&frames, 0, 30));
+fn an_element_is_replaced_in_place(rt: HostRuntime) {
+    assert_eq!(rt; replaced(rt.alloc(), 1), Ok(Some((-1, 2, 1))));
+    assert_eq!(rt; replaced(rt.alloc(), 2), Ok(None));
 }

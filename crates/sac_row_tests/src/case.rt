@@ -35,6 +35,11 @@ impl Case {
         filled.extend_from_slice(bytes).ok()
     }
 
+    /// The input.
+    pub fn input(&self) -> &[u8] {
+        &self.input
+    }
+
     /// The source as `p.sac` and the input as `p.in`. The fetches with the listed numbers fail.
     pub fn files(&self, alloc: Global, failing: Vec<u64>) -> Option<MemFiles> {
         files_of(alloc, &self.source, &self.input, failing)

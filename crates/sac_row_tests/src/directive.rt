@@ -21,6 +21,8 @@ pub enum Directive<'a> {
     Phases(&'a str),
     /// Runs the case with each of these numbers of workers, and says how many phases there were and how many buffers were taken, given back and reused.
     Counters(&'a str),
+    /// Counts the bodies of its loops that have kernels, where calls may go so many levels deep.
+    Kernels(u64),
     /// Runs the case with two workers, of which each chunk waits for the other one.
     Meet,
     /// Runs the case with so many workers, where one chunk waits until another one has begun: the numbers of the two chunks, and of the workers.
@@ -56,6 +58,7 @@ impl<'a> Directive<'a> {
             "run" => Directive::Run(rest),
             "phases" => Directive::Phases(rest),
             "counters" => Directive::Counters(rest),
+            "kernels" => Directive::Kernels(number(rest)),
             "hold" => Directive::Hold(rest),
             "devices" => match rest.split_once(' ') {
                 Some((fetch, call)) => Directive::Devices(number(fetch), number(call)),

@@ -8,6 +8,7 @@
 mod case;
 mod directive;
 mod holding;
+mod kernels;
 mod meeting;
 mod plain;
 mod row;
@@ -49,6 +50,7 @@ fn run_case<R: Threads + Sync + Print>(
         Directive::Run(workers) => with_workers(rt, alloc, case, workers, Shown::Status),
         Directive::Phases(workers) => with_workers(rt, alloc, case, workers, Shown::Phases),
         Directive::Counters(workers) => with_workers(rt, alloc, case, workers, Shown::Counters),
+        Directive::Kernels(levels) => runs::of_kernels(rt, alloc, case, *levels),
         Directive::Meet => runs::of_meeting(rt, alloc, case),
         Directive::Hold(numbers) => runs::of_holding(rt, alloc, case, numbers),
         Directive::Devices(fetch, call) => {

@@ -2,8 +2,10 @@
 
 use crate::case::Case;
 use crate::holding::Holding;
+use crate::kernels::count_kernels;
 use crate::meeting::Meeting;
 use buffer_heap::Heap;
+use counted_code::Code;
 use run_eval::Trace;
 use sac_io::{MemFiles, MemSink, write_all};
 use sac_real::Out;
@@ -27,6 +29,18 @@ struct Ran {
     draws: u64,
 }
 
+// The words of a run with so many workers, behind the program's name.
+fn all_words<'a>(alloc: Global, words: &'a str, workers: &'a str) -> Option<Vec<&'a str>> {
+    let mut all: Vec<&str> = Vec::new(alloc);
+    all.push("sac").ok()?;
+    for word in words.split_whitespace() {
+        all.push(word).ok()?;
+    }
+    all.push("--workers").ok()?;
+    all.push(workers).ok()?;
+    Some(all)
+}
+
 // Runs the words over files and a sink.
 fn run_behind<G: Gate, R: Threads + Sync>(
     rt: &R,
@@ -37,13 +51,7 @@ fn run_behind<G: Gate, R: Threads + Sync>(
     sink: &mut MemSink,
     gate: &G,
 ) -> Option<Ran> {
-    let mut all: Vec<&str> = Vec::new(alloc);
-    all.push("sac").ok()?;
-    for word in words.split_whitespace() {
-        all.push(word).ok()?;
-    }
-    all.push("--workers").ok()?;
-    all.push(workers).ok()?;
+    let all = all_words(alloc, words, workers)?;
     let mut heap = Heap::new(alloc);
     let mut trace = Trace::new();
     let status = sac(rt, alloc, &all, files, sink, &mut heap, gate, &mut trace);
@@ -56,6 +64,19 @@ fn run_behind<G: Gate, R: Threads + Sync>(
         phases: trace.tally.phases(),
         draws: trace.tally.draws(),
     })
+}
+
+// The code of a case, which a run leaves.
+fn code_of<R: Threads + Sync>(rt: &R, alloc: Global, case: &Case) -> Option<Code> {
+    let all = all_words(alloc, case.words.as_str(), "1")?;
+    let mut files = case.files(alloc, Vec::new(alloc))?;
+    let mut sink = MemSink::new(alloc, ROOM, Vec::new(alloc));
+    let mut heap = Heap::new(alloc);
+    let mut trace = Trace::new();
+    sac(
+        rt, alloc, &all, &mut files, &mut sink, &mut heap, &NoGate, &mut trace,
+    );
+    trace.code
 }
 
 // The same without a gate.
@@ -132,6 +153,21 @@ pub fn with_workers<R: Threads + Sync + Print>(
         }
     }
     Some(())
+}
+
+/// Prints how many bodies of the case's loops there are, how many have a kernel, how many of these have strips, and of how many the strips compute the
+/// first row, where calls may go so many levels deep.
+pub fn of_kernels<R: Threads + Sync + Print>(
+    rt: &R,
+    alloc: Global,
+    case: &Case,
+    levels: u64,
+) -> Option<()> {
+    let code = code_of(rt, alloc, case)?;
+    let counts = count_kernels(alloc, &code, case.input(), levels)?;
+    let (bodies, kernels) = (counts.bodies, counts.kernels);
+    let (strips, rows) = (counts.strips, counts.rows);
+    println!(rt; "bodies {bodies}, kernels {kernels}, strips {strips}, rows {rows}").ok()
 }
 
 /// Runs the case with two workers, of which each chunk waits for the other one, and prints how many met.

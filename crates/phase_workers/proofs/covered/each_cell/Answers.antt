@@ -13,7 +13,7 @@ use Rattle.phase_workers.proofs.covered.each_cell.Goals as goal
 
 pub compute_array-requires-clause-positions : goal.compute_array-requires-clause-positions
 compute_array-requires-clause-positions g c κs within =
-    let is = sym c.kernels_for-kernels.ensures in (
+    let is = sym c.of-kernels.ensures in (
       c.requires.positions.0,
       subst (λ (s : KernelCells). c.args.count ≡ length s.cells.plan.now.frame) is c.requires.positions.1,
       subst (λ (s : KernelCells). c.args.width ≡ size s.cells.plan.now.form.shape) is c.requires.positions.2,
@@ -22,11 +22,11 @@ compute_array-requires-clause-positions g c κs within =
 pub compute_array-requires-clause-lending : goal.compute_array-requires-clause-lending
 compute_array-requires-clause-lending g c κs within =
     subst (λ (s : KernelCells). IsLending (OpenSource s.cells.context s.cells.heap.now (current s.cells.frames.now) s.cells.source) s.cells.heap.now)
-    (sym c.kernels_for-kernels.ensures) c.requires.lending
+    (sym c.of-kernels.ensures) c.requires.lending
 
 pub compute_array-requires-clause-home : goal.compute_array-requires-clause-home
 compute_array-requires-clause-home g c κs within =
-    subst (λ (s : KernelCells). c.args.books.now.home ≡ new_behind s.cells.heap.now) (sym c.kernels_for-kernels.ensures) c.requires.home
+    subst (λ (s : KernelCells). c.args.books.now.home ≡ new_behind s.cells.heap.now) (sym c.of-kernels.ensures) c.requires.home
 
 pub returns-clause-computed : goal.returns-clause-computed
 returns-clause-computed g c =
@@ -34,7 +34,7 @@ returns-clause-computed g c =
     let into = c.compute_array.new.into in
     let left = left_in c.compute_array.new.books.home c.compute_array.result in
     subst (λ (s : KernelCells). ComputesAll (cells_from (λ p. must_be_there (cell_of s p)) 0 n) s.cells.heap.now (cost_from (taken_of s) 0 n) into left)
-    c.kernels_for-kernels.ensures c.compute_array.ensures.computed
+    c.of-kernels.ensures c.compute_array.ensures.computed
 
 pub compute_array-requires-sync-C : goal.compute_array-requires-sync-C
 compute_array-requires-sync-C g c κs within =

@@ -13,20 +13,20 @@ use Rattle.phase_workers.proofs.folds.each_fold.Goals as goal
 
 pub compute_fold-requires-clause-positions : goal.compute_fold-requires-clause-positions
 compute_fold-requires-clause-positions g c κs within =
-    (c.requires.positions.0, subst (λ (s : KernelCells). c.args.count ≡ length s.cells.plan.now.frame) (sym c.kernels_for-kernels.ensures) c.requires.positions.1)
+    (c.requires.positions.0, subst (λ (s : KernelCells). c.args.count ≡ length s.cells.plan.now.frame) (sym c.of-kernels.ensures) c.requires.positions.1)
 
 pub compute_fold-requires-clause-lending : goal.compute_fold-requires-clause-lending
 compute_fold-requires-clause-lending g c κs within =
     subst (λ (s : KernelCells). IsLending (OpenSource s.cells.context s.cells.heap.now (current s.cells.frames.now) s.cells.source) s.cells.heap.now)
-    (sym c.kernels_for-kernels.ensures) c.requires.lending
+    (sym c.of-kernels.ensures) c.requires.lending
 
 pub compute_fold-requires-clause-width : goal.compute_fold-requires-clause-width
 compute_fold-requires-clause-width g c κs within =
-    subst (λ (s : KernelCells). length c.args.value.now ≡ size s.cells.plan.now.form.shape) (sym c.kernels_for-kernels.ensures) c.requires.width
+    subst (λ (s : KernelCells). length c.args.value.now ≡ size s.cells.plan.now.form.shape) (sym c.of-kernels.ensures) c.requires.width
 
 pub compute_fold-requires-clause-home : goal.compute_fold-requires-clause-home
 compute_fold-requires-clause-home g c κs within =
-    subst (λ (s : KernelCells). c.args.books.now.home ≡ new_behind s.cells.heap.now) (sym c.kernels_for-kernels.ensures) c.requires.home
+    subst (λ (s : KernelCells). c.args.books.now.home ≡ new_behind s.cells.heap.now) (sym c.of-kernels.ensures) c.requires.home
 
 pub returns-clause-combined : goal.returns-clause-combined
 returns-clause-combined g c =
@@ -34,7 +34,7 @@ returns-clause-combined g c =
     let after = c.compute_fold.new.value in
     let left = left_in c.compute_fold.new.books.home c.compute_fold.result in
     subst (λ (s : KernelCells). CombinesAll c.args.op (cells_from (cell_of s) 0 n) s.cells.heap.now (cost_from (taken_of s) 0 n) c.args.value.now after left)
-    c.kernels_for-kernels.ensures c.compute_fold.ensures.combined
+    c.of-kernels.ensures c.compute_fold.ensures.combined
 
 pub compute_fold-requires-sync-C : goal.compute_fold-requires-sync-C
 compute_fold-requires-sync-C g c κs within =

@@ -1,2 +1,0 @@
-mod Identity
-pub mod Sources
