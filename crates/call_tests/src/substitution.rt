@@ -109,9 +109,9 @@ fn two_loops(alloc: Global) -> Block {
     gives(alloc, lets, 24)
 }
 
-/// A core with one function of no parameters.
-fn core_of(alloc: Global, name: Name, body: Block) -> Core {
-    let main = CoreFun {
+/// A function of no parameters.
+fn function(alloc: Global, name: Name, body: Block) -> CoreFun {
+    CoreFun {
         name,
         site: SITE,
         params: Vec::new(alloc),
@@ -119,7 +119,10 @@ fn core_of(alloc: Global, name: Name, body: Block) -> Core {
         inline: false,
         body,
         ends: SITE,
-    };
+    }
+}
+
+fn core_of(alloc: Global, main: CoreFun) -> Core {
     Core {
         functions: one(alloc, main),
         groups: one(alloc, one(alloc, 0)),
@@ -166,22 +169,27 @@ fn is_copied_core_closed(alloc: Global, core: &Core) -> bool {
 fn a_whole_function_has_no_free_variable(rt: HostRuntime) {
     let alloc = rt.alloc();
     let name = main_name(alloc).expect(&rt, "a name");
-    let core = core_of(alloc, name, two_loops(alloc));
+    let core = core_of(alloc, function(alloc, name, two_loops(alloc)));
     assert!(rt; is_copied_core_closed(alloc, &core));
 }
 
-/// The free variables of a block, and of the block where one stands for another.
-fn replaced(alloc: Global, block: Block, from: Var, to: Var) -> bool {
-    match substitute(alloc, block, &[(from, to)]) {
-        Ok(body) => has_free(alloc, &body, &[Var(17), to])
-            && body.results.first() == Some(&Var(20)),
-        Err(_) => false,
+/// A function's body, with a new variable in the place of another one.
+fn replaced(alloc: Global, function: CoreFun, from: Var) -> Option<Block> {
+    let new = fresh(&function)?;
+    substitute(alloc, function.body, &[(from, new)]).ok()
+}
+
+/// Whether the variable 21 stands for the array that a cell reads.
+fn is_replaced(alloc: Global, name: Name) -> bool {
+    match replaced(alloc, function(alloc, name, raised(alloc)), Var(12)) {
+        Some(body) => has_free(alloc, &body, &[Var(17), Var(21)]),
+        None => false,
     }
 }
 
 #[test]
 fn the_array_that_a_cell_reads_is_replaced(rt: HostRuntime) {
     let alloc = rt.alloc();
-    assert!(rt; has_free(alloc, &raised(alloc), &[Var(12), Var(17)]));
-    assert!(rt; replaced(alloc, raised(alloc), Var(12), Var(25)));
+    let name = main_name(alloc).expect(&rt, "a name");
+    assert!(rt; is_replaced(alloc, name));
 }

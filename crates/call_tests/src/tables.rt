@@ -16,7 +16,8 @@ struct Met {
 }
 
 /// Each of two seats draws a chunk, takes its part and draws again, and one of them keeps a buffer for a while.
-fn by_turns(alloc: Global, parts: Vec<u64>) -> Option<Met> {
+fn by_turns(alloc: Global) -> Option<Met> {
+    let parts = Vec::from_array(alloc, [10, 20]).ok()?;
     let Ok((phase, mut frame)) = Phase::open_parts(alloc, &[1, 2], parts) else {
         return None;
     };
@@ -46,7 +47,6 @@ fn by_turns(alloc: Global, parts: Vec<u64>) -> Option<Met> {
 
 #[test]
 fn two_seats_draw_two_parts(rt: HostRuntime) {
-    let parts = Vec::from_array(rt.alloc(), [10, 20]).expect(&rt, "memory");
     let wanted = Met {
         parts: [10, 20],
         nones: [None; 2],
@@ -54,7 +54,7 @@ fn two_seats_draw_two_parts(rt: HostRuntime) {
         counts: [1, 2],
         closed: (1, 2),
     };
-    assert!(rt; by_turns(rt.alloc(), parts) == Some(wanted));
+    assert!(rt; by_turns(rt.alloc()) == Some(wanted));
 }
 
 // How often the seat drew each of the two chunks until it drew None.
