@@ -11,8 +11,10 @@ pub mod Calls
 pub mod Places
 pub mod Laws
 pub mod Replaced
+pub mod Changing
 pub mod Stepped
 pub mod Whole
+pub mod Placement
 pub mod Placing
 pub mod Named
 pub mod Grids

@@ -1,29 +1,27 @@
 -- A core whose bodies are changed one by one stays well formed and keeps its outcome.
-use Rattle.std.proofs.Common.{◌≡◌, ℕ, zero, suc, ◌<◌, ◌^◌, Bool, true, false, ◌&&◌, cond, eqb, List, [], ◌∷◌, ◌++◌, map, length, get_or, Option, Some, None, refl, sym, ap, subst, ◌∙◌, All}
-use Rattle.std.specs.Prelude.{AllPairs, Contains, slice_get, unwrap_or, zip}
+use Rattle.std.proofs.Common.{◌≡◌, ℕ, zero, suc, ◌<◌, ◌^◌, List, [], ◌∷◌, ◌++◌, map, length, get_or, Option, Some, None, refl, sym, ap, subst, ◌∙◌, All}
+use Rattle.std.specs.Prelude.{AllPairs, Contains, slice_get, unwrap_or}
 use Rattle.std.proofs.lemmas.List.{length-map}
-use Rattle.std.proofs.lemmas.List.Elements.{All-head, All-tail, All-map, All-weaker}
+use Rattle.std.proofs.lemmas.List.Elements.{All-map, All-weaker}
 use Rattle.sac_base.specs.declared.base.Base.{Base}
-use Rattle.sac_base.specs.declared.base.Base.TheVariants.{Int, Bool as Truth}
-use Rattle.sac_base.specs.declared.types.ArrayType.{ArrayType}
-use Rattle.sac_base.specs.Arrays.{ArrayValue, same_base}
+use Rattle.sac_base.specs.Arrays.{ArrayValue}
 use Rattle.sac_base.specs.Outcomes.{and_then}
-use Rattle.sac_base.specs.Types.{has, has_shape, all_have}
-use Rattle.core_ir.specs.declared.tree.Var.{Var}
 use Rattle.core_ir.specs.Binders.{bound_in}
 use Rattle.core_ir.specs.Meaning.{CallMeaning, no_variables, bind_all, run}
-use Rattle.core_ir.specs.Outcome.{body_of, call_by, group_at, param_types, param_vars, results_in, run_inline, SameHeads}
+use Rattle.core_ir.specs.Outcome.{body_of, call_by, group_at, param_vars, results_in, run_inline, SameHeads}
 use Rattle.core_ir.specs.Scopes.{Scoped}
-use Rattle.core_ir.specs.Terms.{BlockTerm, RightTerm, GensTerm, PartsTerm, FunTerm, CoreTerm, Gives, Bind, Plain, NoGens, Gen, NoParts, Part}
-use Rattle.core_ir.specs.WellFormed.{Bases, BlockBases, CallsBackward, Distinct, GensBases, GroupBases, IsFunction, IsWellFormed, MayShareName, PartsBases, PlacesShare, RightBases, base_of, bases, calls_in, ints, param_bases}
+use Rattle.core_ir.specs.Terms.{BlockTerm, FunTerm, CoreTerm}
+use Rattle.core_ir.specs.WellFormed.{BlockBases, CallsBackward, Distinct, GroupBases, IsFunction, IsWellFormed, MayShareName, PlacesShare, bases, calls_in, param_bases}
 use Rattle.core_facts.specs.Facts.{AreSound, CallsFit}
 use Rattle.core_facts.specs.Full.{FullInside}
 use Rattle.core_facts.specs.calls.Arrays.{SameBodiesOnArrays, SameOutcomeOnArrays}
 use Rattle.core_facts.proofs.calls.OnArrays.{outcomes_on_arrays}
 use Rattle.core_facts.specs.bases.Typed.{CallsTyped, Typed}
 use Rattle.core_facts.proofs.bases.Backward.{below}
-use Rattle.core_facts.proofs.bases.Bound.{BoundBases, bound, distinct_left, vars}
+use Rattle.core_facts.proofs.bases.Bound.{distinct_left}
 use Rattle.core_facts.proofs.bases.Called.{calls_typed}
+use Rattle.core_facts.proofs.bases.Moved.{moved}
+use Rattle.core_loops.proofs.fold_steps.Whole.{function_at, params_typed}
 use Rattle.core_loops.proofs.values.Whole.{keeps_arrays}
 use Rattle.core_facts.specs.constants.Called.{called, common_shapes, params_facts, result_shapes, shapes_at}
 use Rattle.core_facts.proofs.constants.Whole.{calls_fit, params_sound}
@@ -44,75 +42,6 @@ KeepsMeaning core f body =
     (turns : ℕ) (C : CallMeaning) (args : List ArrayValue) → CallsTyped core C → CallsFit (called core) C → FullInside C turns f.body
     → Typed (param_bases f) (bind_all no_variables (param_vars f) args) → AreSound (params_facts f) (bind_all no_variables (param_vars f) args)
     → run C turns body (bind_all no_variables (param_vars f) args) ≡ run C turns f.body (bind_all no_variables (param_vars f) args)
-
--- ---- where a function begins
-
-and_both : (b c : Bool) → (b && c) ≡ true → (b ≡ true) × (c ≡ true)
-and_both true c h = (refl, h)
-and_both false c h = absurd (cc)
-
-same_bases : (t u : Base) → same_base t u ≡ true → u ≡ t
-same_bases Int Int h = refl
-same_bases Truth Truth h = refl
-same_bases Int Truth h = absurd (cc)
-same_bases Truth Int h = absurd (cc)
-
-abbrev pairs : List (Var × ArrayType) → Bases
-pairs ps = map (λ (p : Var × ArrayType). (p.0, p.1.base)) ps
-
-pair_vars : (ps : List (Var × ArrayType)) → vars (pairs ps) ≡ map (λ (p : Var × ArrayType). p.0) ps
-pair_vars [] = refl
-pair_vars (p ∷ ps) = λ i. p.0 ∷ pair_vars ps i
-
-pair_bases : (ps : List (Var × ArrayType)) (args : List ArrayValue) → all_have (map (λ (p : Var × ArrayType). p.1) ps) args ≡ true → BoundBases (pairs ps) args
-pair_bases [] args h = tt
-pair_bases (p ∷ ps) [] h = absurd (cc)
-pair_bases (p ∷ ps) (v ∷ vs) h =
-    let w = and_both (has p.1 v) (all_have (map (λ (p : Var × ArrayType). p.1) ps) vs) h in
-    (same_bases p.1.base v.base (and_both (same_base p.1.base v.base) (has_shape p.1.part v.shape) w.0).0, pair_bases ps vs w.1)
-
-no_more : (ps : Bases) (y : Var) → base_of (ps ++ []) y ≡ base_of ps y
-no_more [] y = refl
-no_more (p ∷ ps) y = λ i. cond (eqb p.0.0 y.0) (Some p.1) (no_more ps y i)
-
-nothing : Typed [] no_variables
-nothing x t p = absurd (let q : ◌≡◌ {A = Option Base} None (Some t) = p in cc)
-
-params_typed : (f : FunTerm) (args : List ArrayValue) → Distinct (param_vars f) → all_have (param_types f) args ≡ true → Typed (param_bases f) (bind_all no_variables (param_vars f) args)
-params_typed f args d h =
-    subst (λ xs. Typed (pairs f.params) (bind_all no_variables xs args)) (pair_vars f.params)
-    (λ y t p. bound (pairs f.params) [] no_variables args nothing (subst Distinct (sym (pair_vars f.params)) d) (pair_bases f.params args h) y t (no_more (pairs f.params) y ∙ p))
-
-function_at : (core : CoreTerm) (fs : List FunTerm) (place : ℕ) (f : FunTerm) → All (IsFunction core) fs → slice_get fs place ≡ Some f → IsFunction core f
-function_at core [] place f h e = absurd (let q : ◌≡◌ {A = Option FunTerm} None (Some f) = e in cc)
-function_at core (x ∷ fs) zero f h e = subst (IsFunction core) (ap (λ o. unwrap_or o x) e) (All-head (IsFunction core) x fs h)
-function_at core (x ∷ fs) (suc place) f h e = function_at core fs place f (All-tail (IsFunction core) x fs h) e
-
--- ---- bases by groups that are the same
-
-module _ (core next : CoreTerm) (groups : (group : ℕ) (us ts : List Base) → GroupBases core group us ts → GroupBases next group us ts) where
-  mutual
-    block_moved : (b : BlockTerm) (g : Bases) (ts : List Base) → BlockBases core g b ts → BlockBases next g b ts
-    block_moved (Gives xs) g ts h = h
-    block_moved (Bind xs s r b) g ts h = (h.0, (right_moved r g h.0 h.1.0, h.1.1, block_moved b (zip xs h.0 ++ g) ts h.1.2))
-
-    right_moved : (r : RightTerm) (g : Bases) (ts : List Base) → RightBases core g r ts → RightBases next g r ts
-    right_moved (Plain p) g ts h = h
-    right_moved (RightTerm.If x a b) g ts h = (h.0, block_moved a g ts h.1, block_moved b g ts h.2)
-    right_moved (RightTerm.Loop first start params test body s) g ts h =
-        (h.0, h.1, block_moved test (zip params ts ++ g) (Truth ∷ []) h.2, block_moved body (zip params ts ++ g) ts h.3)
-    right_moved (RightTerm.Call group xs) g ts h = (h.0, (h.1.0, groups group h.0 ts h.1.1))
-    right_moved (RightTerm.With o gens) g ts h = (h.0, (h.1.0, gens_moved gens g h.0 h.1.1, h.1.2))
-    right_moved (RightTerm.Parted frame t cell o parts) g ts h = (h.0, parts_moved parts g t h.1, h.2, h.3)
-
-    gens_moved : (gs : GensTerm) (g : Bases) (t : Base) → GensBases core g gs t → GensBases next g gs t
-    gens_moved NoGens g t h = tt
-    gens_moved (Gen j b rest) g t h =
-        (h.0, h.1, h.2, h.3, block_moved b (ints (j.index ∷ j.names) ++ g) (t ∷ []) h.4, gens_moved rest g t h.5)
-
-    parts_moved : (ps : PartsTerm) (g : Bases) (t : Base) → PartsBases core g ps t → PartsBases next g ps t
-    parts_moved NoParts g t h = tt
-    parts_moved (Part j b rest) g t h = (block_moved b ((j.index, Int) ∷ g) (t ∷ []) h.0, parts_moved rest g t h.1)
 
 module _ (core : CoreTerm) (change : FunTerm → BlockTerm) where
   abbrev changed : FunTerm → FunTerm
@@ -189,7 +118,7 @@ module _ (core : CoreTerm) (change : FunTerm → BlockTerm) where
     function_kept : (f : FunTerm) → IsFunction core f → IsFunction next (changed f)
     function_kept f is =
         let k = form f is in
-        record { once = k.once; scoped = k.scoped; agreeing = block_moved core next groups_kept (change f) (param_bases f) (bases f.results) k.agreeing }
+        record { once = k.once; scoped = k.scoped; agreeing = moved core next groups_kept (change f) (param_bases f) (bases f.results) k.agreeing }
 
     same_calls : (place : ℕ) (f : FunTerm) → slice_get core.functions place ≡ Some f → calls_in (change f) ≡ calls_in f.body
     same_calls place f e = (form f (function_at core core.functions place f well.functions e)).calls

@@ -11,12 +11,12 @@ use Rattle.core_ir.specs.WellFormed.{Bases, part_grids, GroupBases, BlockBases, 
 use Rattle.core_facts.specs.calls.Nests.{CallsAll}
 use Rattle.core_forms.specs.edits.Within.{AreWithin, BasesWithin}
 use Rattle.core_facts.specs.Facts.{Facts}
+use Rattle.core_facts.proofs.bases.Moved.{moved}
 use Rattle.core_loops.specs.Loops.{weight, weight_parts, parted_in, parted_in_parts}
 use Rattle.core_loops.specs.Pairs.{Producer}
 use Rattle.core_loops.specs.norm_steps.Step.{BaseTable, Within, Follows}
 use Rattle.core_loops.proofs.norm_steps.Places.{within_zip}
 use Rattle.core_forms.proofs.inlined_bodies.Names.{Names, same, both, distinct_left, distinct_right, Fresh, fresh_left, fresh_right, fresh_both, behind_first}
-use Rattle.core_forms.proofs.inlined_bodies.Stepped.{moved}
 use Rattle.core_forms.proofs.norm.Below.{OldBases, all_new}
 use Rattle.core_forms.proofs.norm.Scopes.{in_right}
 use Rattle.core_forms.proofs.norm.Tables.{Low, low_zip}

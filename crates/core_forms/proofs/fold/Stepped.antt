@@ -1,6 +1,6 @@
 -- One fold step with new variables: the core is well formed.
-use Rattle.std.proofs.Common.{◌≡◌, ℕ, zero, suc, ◌+◌, ◌<◌, ◌≤◌, List, [], ◌∷◌, ◌++◌, Option, Some, refl, sym, ap, subst, ◌∙◌, ◌⊎◌, arith}
-use Rattle.std.specs.Prelude.{slice_get, unwrap_or}
+use Rattle.std.proofs.Common.{◌≡◌, ℕ, ◌+◌, ◌≤◌, List, Option, Some, refl, arith}
+use Rattle.std.specs.Prelude.{slice_get}
 use Rattle.core_ir.specs.declared.tree.Var.{Var}
 use Rattle.core_ir.specs.Binders.{bound_in}
 use Rattle.core_ir.specs.Edits.{Edited}
@@ -11,7 +11,6 @@ use Rattle.core_ir.specs.WellFormed.{bases, param_bases, BlockBases, IsFunction,
 use Rattle.core_facts.proofs.bases.Backward.{below}
 use Rattle.core_facts.specs.calls.Arrays.{SameOutcomeOnArrays}
 use Rattle.core_facts.specs.calls.Nests.{CallsAll, InlineBelow}
-use Rattle.core_facts.specs.calls.Replaced.{replaced_at}
 use Rattle.core_facts.specs.Facts.{Facts}
 use Rattle.core_loops.specs.Loops.{weight, parted_in}
 use Rattle.core_loops.specs.Steps.{fact_ways, FoldsHere}
@@ -20,10 +19,10 @@ use Rattle.core_subst.specs.Names.{above, above_function}
 use Rattle.core_loops.proofs.norm_steps.Tables.{has_table}
 use Rattle.core_loops.specs.fold_steps.Step.{FoldStep}
 use Rattle.core_loops.proofs.fold_steps.Whole.{fold_outcome}
-use Rattle.core_forms.proofs.inlined_bodies.Counts.{all_at}
-use Rattle.core_forms.proofs.inlined_bodies.Names.{Names, same, both, distinct_right, Fresh, fresh_left, fresh_right, fresh_more, own_vars, own_fresh}
+use Rattle.core_forms.proofs.inlined_bodies.Names.{Names}
 use Rattle.core_forms.proofs.inlined_bodies.Stepped.{stepped, group_moved, well_stepped}
 use Rattle.core_forms.specs.norm.Walks.{functions_weight, core_weight}
+use Rattle.core_forms.proofs.norm.Changing.{IsBelow, falls_by_one, is_below, names_of_all, stays, total_at}
 use Rattle.core_forms.proofs.norm.Walking.{by_other, scoped_kept, calls_kept, bases_kept}
 use Rattle.core_forms.proofs.norm.Replaced.{found_after, low_params, above_after, still_backward, same_called}
 use Rattle.core_forms.specs.fold.Fresh.{FreshFold, FreshFoldOf, Folds}
@@ -71,28 +70,6 @@ lowered calls above less k b c l h =
 folds : (calls : ℕ → List (Option (List ℕ))) (x y : Var) (low high less : ℕ) → less ≤ low → (k : Facts) (b c : BlockTerm) → FreshFoldOf calls x y low high k b c → Folds calls x y less k b c
 folds calls x y low high less l k b c h = (lowered calls low less k b c l h.0.step, (h.1.0, h.1.1))
 
--- ---- functions at places
-
-second_same : (a b c : ℕ) → a + 1 ≡ b → (c + a) + 1 ≡ c + b
-second_same a b c h = omega (arith, h)
-
-first_same : (a b c : ℕ) → a + 1 ≡ b → (a + c) + 1 ≡ b + c
-first_same a b c h = omega (arith, h)
-
-counts_at : (fs : List FunTerm) (n : ℕ) (f g : FunTerm) → slice_get fs n ≡ Some f → (parted_in g.body + 1 ≡ parted_in f.body) × (weight g.body ≡ weight f.body) →
-    (functions_parted (replaced_at fs n g) + 1 ≡ functions_parted fs) × (functions_weight (replaced_at fs n g) ≡ functions_weight fs)
-counts_at [] n f g e h = absurd (let q : ◌≡◌ {A = Option FunTerm} Option.None (Some f) = e in cc)
-counts_at (x ∷ fs) zero f g e h =
-    let own : f ≡ x = sym (ap (λ o. unwrap_or o x) e) in
-    let w : (parted_in g.body + 1 ≡ parted_in x.body) × (weight g.body ≡ weight x.body) = subst (λ (y : FunTerm). (parted_in g.body + 1 ≡ parted_in y.body) × (weight g.body ≡ weight y.body)) own h in
-    (first_same (parted_in g.body) (parted_in x.body) (functions_parted fs) w.0, λ i. w.1 i + functions_weight fs)
-counts_at (x ∷ fs) (suc n) f g e h =
-    let w = counts_at fs n f g e h in
-    (second_same (functions_parted (replaced_at fs n g)) (functions_parted fs) (parted_in x.body) w.0, λ i. weight x.body + w.1 i)
-
-itself_most : (n : ℕ) → n ≤ n
-itself_most n = omega arith
-
 -- ---- one step
 
 pub record State (low : ℕ) (a : CoreTerm) (n : ℕ) (f : FunTerm) : Type 0 where
@@ -110,17 +87,8 @@ module _ (pair : Pair) (low high : ℕ) (a : CoreTerm) (n : ℕ) (f : FunTerm) (
   edited : Edited Facts (fact_ways (called a)) (FreshFold (called a) low high) (params_facts f) f.body c
   edited = unnamed (called a) pair.producer pair.consumer low high (params_facts f) f.body c given
 
-  is : IsFunction a f
-  is = all_at (IsFunction a) a.functions n f state.well.functions state.found
-
-  fresh : Fresh (own_vars f) low
-  fresh = fresh_more (own_vars f) (above_function f) low state.below (own_fresh f)
-
-  params_fresh : Fresh (param_vars f) low
-  params_fresh = fresh_left (param_vars f) (bound_in f.body) low fresh
-
-  bound_fresh : Fresh (bound_in f.body) low
-  bound_fresh = fresh_right (param_vars f) (bound_in f.body) low fresh
+  function : IsBelow low a f
+  function = is_below low a n f state.well state.found state.below
 
   pub rise : low ≤ high
   rise = still_rises (called a) low high (params_facts f) f.body c edited
@@ -128,21 +96,18 @@ module _ (pair : Pair) (low high : ℕ) (a : CoreTerm) (n : ℕ) (f : FunTerm) (
   names : Names (bound_in f.body) (bound_in c) low high
   names = names_after (called a) low high (params_facts f) f.body c edited
 
-  all_names : Names (own_vars f) (param_vars f ++ bound_in c) low high
-  all_names = both (param_vars f) (bound_in f.body) (param_vars f) (bound_in c) low low high (itself_most low) rise (same (param_vars f) low low) names
-
   pub scoped : Scoped (param_vars f) c
-  scoped = scoped_kept Facts (fact_ways (called a)) (FreshFold (called a) low high) low (λ k b c h. place_scoped (called a) low high k b c h) edited (param_vars f) is.scoped params_fresh bound_fresh
+  scoped = scoped_kept Facts (fact_ways (called a)) (FreshFold (called a) low high) low (λ k b c h. place_scoped (called a) low high k b c h) edited (param_vars f) function.is.scoped function.params_fresh function.bound_fresh
 
   pub based : BlockBases next (param_bases f) c (bases f.results)
   based =
-      let t = has_table a f is in
+      let t = has_table a f function.is in
       (bases_kept Facts (fact_ways (called a)) (FreshFold (called a) low high) 0 low t.0 a next (group_moved a n f c state.found)
       (λ k x y h g ts d w v l q o. place_bases (called a) low high k x y h t.0 a next (group_moved a n f c state.found) g ts d w v l q o)
-      edited (param_bases f) (bases f.results) is.agreeing t.1 t.2 (low_params f low params_fresh) bound_fresh (distinct_right (param_vars f) (bound_in f.body) is.once)).0
+      edited (param_bases f) (bases f.results) function.is.agreeing t.1 t.2 (low_params f low function.params_fresh) function.bound_fresh function.body_once).0
 
   pub function_after : IsFunction next own
-  function_after = record { once = all_names.once is.once fresh; scoped = scoped; agreeing = based }
+  function_after = record { once = (names_of_all low high f c rise names).once function.is.once function.fresh; scoped = scoped; agreeing = based }
 
   -- ---- calls
 
@@ -165,13 +130,17 @@ module _ (pair : Pair) (low high : ℕ) (a : CoreTerm) (n : ℕ) (f : FunTerm) (
   }
 
   pub counts_after : (parted_count next + 1 ≡ parted_count a) × (core_weight next ≡ core_weight a)
-  counts_after = counts_at a.functions n f own state.found (fewer (called a) low high (params_facts f) f.body c edited)
+  counts_after =
+      let less = fewer (called a) low high (params_facts f) f.body c edited in (
+        falls_by_one (parted_count next) (parted_in f.body) (parted_count a) (parted_in c) (total_at parted_in functions_parted (λ x fs. refl) a.functions n f own state.found) less.0,
+        stays (core_weight next) (weight f.body) (core_weight a) (weight c) (total_at weight functions_weight (λ x fs. refl) a.functions n f own state.found) less.1,
+      )
 
   pub called_after : called next ≡ called a
   called_after = same_called a n f c state.found
 
   pub state_after : State high next n own
-  state_after = record { well = well_after; found = found_after a.functions n f own state.found; below = above_after f c low high rise params_fresh bound_fresh names scoped }
+  state_after = record { well = well_after; found = found_after a.functions n f own state.found; below = above_after f c low high rise function.params_fresh function.bound_fresh names scoped }
 
 -- ---- a fold step on a pair is a fold step
 

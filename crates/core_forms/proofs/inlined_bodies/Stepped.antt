@@ -1,5 +1,5 @@
 -- Cores in which one function has another body.
-use Rattle.std.proofs.Common.{◌≡◌, ℕ, zero, suc, ◌^◌, ◌<◌, true, List, [], ◌∷◌, ◌++◌, map, length, zip, get_or, Some, refl, sym, ap, subst, ◌∙◌, ◌⊎◌, inl, inr, arith}
+use Rattle.std.proofs.Common.{◌≡◌, ℕ, zero, suc, ◌^◌, ◌<◌, List, [], ◌∷◌, ◌++◌, map, length, zip, get_or, Some, refl, sym, ap, subst, ◌∙◌, ◌⊎◌, inl, inr, arith}
 use Rattle.std.specs.Prelude.{All, Contains, slice_get, unwrap_or}
 use Rattle.std.proofs.lemmas.Option.{slice_get_within}
 use Rattle.std.proofs.lemmas.List.Elements.{All-append, All-contains}
@@ -12,6 +12,7 @@ use Rattle.core_ir.specs.WellFormed.{Bases, bases, ints, param_bases, GroupBases
 use Rattle.core_ir.specs.WellFormed.{calls_in, calls_in_right, calls_in_gens, calls_in_parts}
 use Rattle.core_facts.specs.calls.Nests.{CallsAll, CallsAllRight, CallsAllGens, CallsAllParts, StandsIn, InlineBelow, CallsBelow}
 use Rattle.core_facts.specs.calls.Replaced.{replaced_at}
+use Rattle.core_facts.proofs.bases.Moved.{moved}
 use Rattle.core_facts.proofs.calls.Nested.{same_count}
 use Rattle.core_facts.proofs.calls.Replaced.{heads_kept, at_place}
 
@@ -46,31 +47,8 @@ module _ (P : ℕ → Type 0) where
     from_parts NoParts h = no_call
     from_parts (Part k b rest) h = All-append P (calls_in b) (calls_in_parts rest) (from_calls b h.0) (from_parts rest h.1)
 
--- ---- bases in another core
+-- ---- groups that are called are there
 
-module _ (a b : CoreTerm) (into : (g : ℕ) (us vs : List Base) → GroupBases a g us vs → GroupBases b g us vs) where
-  mutual
-    pub moved : (c : BlockTerm) (g : Bases) (us : List Base) → BlockBases a g c us → BlockBases b g c us
-    moved (Gives xs) g us h = h
-    moved (Bind xs s r c) g us h = (h.0, (moved_right r g h.0 h.1.0, h.1.1, moved c (zip xs h.0 ++ g) us h.1.2))
-
-    moved_right : (r : RightTerm) (g : Bases) (us : List Base) → RightBases a g r us → RightBases b g r us
-    moved_right (Plain p) g us h = h
-    moved_right (RightTerm.If x c d) g us h = (h.0, moved c g us h.1, moved d g us h.2)
-    moved_right (RightTerm.Loop first start params c d s) g us h = (h.0, h.1, moved c (zip params us ++ g) (Truth ∷ []) h.2, moved d (zip params us ++ g) us h.3)
-    moved_right (RightTerm.Call group xs) g us h = (h.0, (h.1.0, into group h.0 us h.1.1))
-    moved_right (RightTerm.With o gens) g us h = (h.0, (h.1.0, moved_gens gens g h.0 h.1.1, h.1.2))
-    moved_right (RightTerm.Parted f t c o parts) g us h = (h.0, moved_parts parts g t h.1, h.2, h.3)
-
-    moved_gens : (gs : GensTerm) (g : Bases) (t : Base) → GensBases a g gs t → GensBases b g gs t
-    moved_gens NoGens g t h = tt
-    moved_gens (Gen k c rest) g t h = (h.0, h.1, h.2, h.3, moved c (ints (k.index ∷ k.names) ++ g) (t ∷ []) h.4, moved_gens rest g t h.5)
-
-    moved_parts : (ps : PartsTerm) (g : Bases) (t : Base) → PartsBases a g ps t → PartsBases b g ps t
-    moved_parts NoParts g t h = tt
-    moved_parts (Part k c rest) g t h = (moved c ((k.index, Int) ∷ g) (t ∷ []) h.0, moved_parts rest g t h.1)
-
--- groups that are called are there
 module _ (core : CoreTerm) where
   abbrev There : ℕ → Type 0
   There g = g < length core.groups

@@ -17,6 +17,7 @@ use Rattle.core_facts.specs.calls.Replaced.{replaced_at}
 use Rattle.core_facts.proofs.calls.Agreeing.{weaker, everywhere}
 use Rattle.core_facts.proofs.calls.Nested.{outcomes_nested}
 use Rattle.core_facts.proofs.calls.Replaced.{heads_kept, at_place}
+use Rattle.core_facts.proofs.bases.Moved.{moved}
 use Rattle.core_subst.specs.Names.{above, above_all, above_function}
 use Rattle.core_forms.specs.inlining.Inlined.{CanInline}
 use Rattle.core_forms.proofs.inlining.Backward.{inlined_calls}
@@ -29,7 +30,7 @@ use Rattle.core_forms.proofs.inlined_bodies.Names.{names, both, same, Fresh, fre
 use Rattle.core_forms.proofs.inlined_bodies.Scopes.{scoped}
 use Rattle.core_forms.proofs.inlined_bodies.Bases.{Low, typed}
 use Rattle.core_forms.proofs.inlined_bodies.Left.{sized, calls_left, large_left}
-use Rattle.core_forms.proofs.inlined_bodies.Stepped.{moved, stepped, group_moved, still_below, well_stepped}
+use Rattle.core_forms.proofs.inlined_bodies.Stepped.{stepped, group_moved, still_below, well_stepped}
 
 -- ---- the calls in a block
 

@@ -1,6 +1,6 @@
 -- One normalising step with new variables: the core is well formed, lighter, and has a table of bases that keeps the old ones.
-use Rattle.std.proofs.Common.{◌≡◌, ℕ, zero, suc, ◌+◌, ◌<◌, ◌≤◌, List, [], ◌∷◌, ◌++◌, Option, Some, refl, sym, ap, subst, ◌∙◌, ◌⊎◌, arith}
-use Rattle.std.specs.Prelude.{slice_get, unwrap_or}
+use Rattle.std.proofs.Common.{◌≡◌, ℕ, ◌<◌, ◌≤◌, Some, refl, sym, ◌∙◌, arith}
+use Rattle.std.specs.Prelude.{slice_get}
 use Rattle.sac_base.specs.declared.site.Site.{Site}
 use Rattle.core_ir.specs.declared.tree.Var.{Var}
 use Rattle.core_ir.specs.declared.tree.CoreOp.{CoreOp}
@@ -9,10 +9,9 @@ use Rattle.core_ir.specs.Binders.{bound_in}
 use Rattle.core_ir.specs.Edits.{Edited}
 use Rattle.core_ir.specs.Outcome.{param_vars}
 use Rattle.core_ir.specs.Terms.{BlockTerm, RightTerm, GensTerm, PartsTerm, FunTerm, CoreTerm}
-use Rattle.core_ir.specs.WellFormed.{bases, param_bases, BlockBases, Distinct, IsFunction, IsWellFormed}
+use Rattle.core_ir.specs.WellFormed.{bases, param_bases, BlockBases, IsFunction, IsWellFormed}
 use Rattle.core_facts.proofs.bases.Backward.{below}
 use Rattle.core_facts.specs.calls.Nests.{CallsAll, InlineBelow}
-use Rattle.core_facts.specs.calls.Replaced.{replaced_at}
 use Rattle.core_facts.specs.Facts.{Facts}
 use Rattle.core_loops.specs.Loops.{IsPartable, weight}
 use Rattle.core_loops.specs.Steps.{fact_ways}
@@ -20,13 +19,13 @@ use Rattle.core_facts.specs.constants.Called.{called, params_facts}
 use Rattle.core_subst.specs.Names.{above, above_function}
 use Rattle.core_loops.specs.norm_steps.Step.{BaseTable, Within, Follows, WithParted, NormHere, NormStep}
 use Rattle.core_loops.proofs.norm_steps.Tables.{has_table}
-use Rattle.core_forms.proofs.inlined_bodies.Counts.{all_at}
-use Rattle.core_forms.proofs.inlined_bodies.Names.{Names, same, both, distinct_right, Fresh, fresh_left, fresh_right, fresh_more, own_vars, own_fresh}
+use Rattle.core_forms.proofs.inlined_bodies.Names.{Names}
 use Rattle.core_forms.proofs.inlined_bodies.Stepped.{stepped, group_moved, well_stepped}
 use Rattle.core_forms.specs.norm.Alike.{LabelledAlike}
 use Rattle.core_forms.specs.norm.Fresh.{FreshHere, base_var, labels_of, parts_of}
 use Rattle.core_forms.specs.norm.Walks.{functions_weight, core_weight}
 use Rattle.core_forms.proofs.norm.Below.{OldBases, joined, joined_low, joined_within, joined_follows}
+use Rattle.core_forms.proofs.norm.Changing.{IsBelow, falls, is_below, names_of_all, total_at}
 use Rattle.core_forms.proofs.norm.Laws.{lighter, still_rises, names_after}
 use Rattle.core_forms.proofs.norm.Places.{place_scoped, place_bases, place_calls}
 use Rattle.core_forms.proofs.norm.Replaced.{found_after, low_params, above_after, still_backward, same_called}
@@ -112,21 +111,6 @@ norm_here first low high less m l k b c h =
     let s = h.step in
     record { targets = s.targets; site = s.site; op = s.op; gens = s.gens; right = s.right; rest = s.rest; parted = with_less m k low less s.site s.op s.gens s.right l s.parted; before = s.before; after = s.after }
 
--- ---- functions at places
-
-weight_at : (fs : List FunTerm) (n : ℕ) (f g : FunTerm) → slice_get fs n ≡ Some f → weight g.body < weight f.body → functions_weight (replaced_at fs n g) < functions_weight fs
-weight_at [] n f g e l = absurd (let q : ◌≡◌ {A = Option FunTerm} Option.None (Some f) = e in cc)
-weight_at (x ∷ fs) zero f g e l =
-    let own : x ≡ f = ap (λ o. unwrap_or o x) e in
-    less (weight g.body) (weight x.body) (functions_weight fs) (subst (λ (h : FunTerm). weight g.body < weight h.body) (sym own) l)
-  where
-    less : (a b c : ℕ) → a < b → a + c < b + c
-    less a b c h = omega arith
-weight_at (x ∷ fs) (suc n) f g e l = less (functions_weight (replaced_at fs n g)) (functions_weight fs) (weight x.body) (weight_at fs n f g e l)
-  where
-    less : (a b c : ℕ) → a < b → c + a < c + b
-    less a b c h = omega arith
-
 -- ---- one step
 
 pub record State (first low : ℕ) (m : BaseTable) (a : CoreTerm) (n : ℕ) (f : FunTerm) : Type 0 where
@@ -153,20 +137,8 @@ module _ (first low high : ℕ) (m : BaseTable) (a : CoreTerm) (n : ℕ) (f : Fu
   edited : Edited Facts (fact_ways (called a)) (FreshHere first low high t) (params_facts f) f.body c
   edited = by_other Facts (fact_ways (called a)) (FreshHere first low high m) (FreshHere first low high t) (with_table first low high m t state.same) given
 
-  is : IsFunction a f
-  is = all_at (IsFunction a) a.functions n f state.well.functions state.found
-
-  fresh : Fresh (own_vars f) low
-  fresh = fresh_more (own_vars f) (above_function f) low state.below (own_fresh f)
-
-  params_fresh : Fresh (param_vars f) low
-  params_fresh = fresh_left (param_vars f) (bound_in f.body) low fresh
-
-  bound_fresh : Fresh (bound_in f.body) low
-  bound_fresh = fresh_right (param_vars f) (bound_in f.body) low fresh
-
-  body_once : Distinct (bound_in f.body)
-  body_once = distinct_right (param_vars f) (bound_in f.body) is.once
+  function : IsBelow low a f
+  function = is_below low a n f state.well state.found state.below
 
   pub rise : low ≤ high
   rise = still_rises (called a) first low high t (params_facts f) f.body c edited
@@ -174,20 +146,17 @@ module _ (first low high : ℕ) (m : BaseTable) (a : CoreTerm) (n : ℕ) (f : Fu
   names : Names (bound_in f.body) (bound_in c) low high
   names = names_after (called a) first low high t (params_facts f) f.body c edited
 
-  all_names : Names (own_vars f) (param_vars f ++ bound_in c) low high
-  all_names = both (param_vars f) (bound_in f.body) (param_vars f) (bound_in c) low low high (omega arith) rise (same (param_vars f) low low) names
-
   pub scoped : Rattle.core_ir.specs.Scopes.Scoped (param_vars f) c
-  scoped = scoped_kept Facts (fact_ways (called a)) (FreshHere first low high t) low (λ k b c h. place_scoped first low high t k b c h) edited (param_vars f) is.scoped params_fresh bound_fresh
+  scoped = scoped_kept Facts (fact_ways (called a)) (FreshHere first low high t) low (λ k b c h. place_scoped first low high t k b c h) edited (param_vars f) function.is.scoped function.params_fresh function.bound_fresh
 
   pub based : (e : BlockBases next (param_bases f) c (bases f.results)) × OldBases next first t c (param_bases f) (bases f.results) e
   based =
       bases_kept Facts (fact_ways (called a)) (FreshHere first low high t) first low t a next (group_moved a n f c state.found)
       (λ k x y h g ts d w v l q o. place_bases first low high t k x y h a next (group_moved a n f c state.found) state.rise g ts d w v l q o)
-      edited (param_bases f) (bases f.results) state.agreeing state.params state.follows (low_params f low params_fresh) bound_fresh body_once
+      edited (param_bases f) (bases f.results) state.agreeing state.params state.follows (low_params f low function.params_fresh) function.bound_fresh function.body_once
 
   pub function_after : IsFunction next own
-  function_after = record { once = all_names.once is.once fresh; scoped = scoped; agreeing = based.0 }
+  function_after = record { once = (names_of_all low high f c rise names).once function.is.once function.fresh; scoped = scoped; agreeing = based.0 }
 
   -- ---- calls
 
@@ -214,7 +183,9 @@ module _ (first low high : ℕ) (m : BaseTable) (a : CoreTerm) (n : ℕ) (f : Fu
   }
 
   pub weight_after : core_weight next < core_weight a
-  weight_after = weight_at a.functions n f own state.found (lighter (called a) first low high t (params_facts f) f.body c edited)
+  weight_after =
+      falls (core_weight next) (weight f.body) (core_weight a) (weight c) (total_at weight functions_weight (λ x fs. refl) a.functions n f own state.found)
+      (lighter (called a) first low high t (params_facts f) f.body c edited)
 
   pub called_after : called next ≡ called a
   called_after = same_called a n f c state.found
@@ -228,7 +199,7 @@ module _ (first low high : ℕ) (m : BaseTable) (a : CoreTerm) (n : ℕ) (f : Fu
       let k = has_table next own function_after in record {
         well = well_after;
         found = found_after a.functions n f own state.found;
-        below = above_after f c low high rise params_fresh bound_fresh names scoped;
+        below = above_after f c low high rise function.params_fresh function.bound_fresh names scoped;
         rise = further first low high state.rise rise;
         table = joined first t k.0;
         same = λ x l. joined_low first t k.0 x l ∙ state.same x l;

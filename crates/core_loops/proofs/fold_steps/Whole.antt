@@ -76,7 +76,7 @@ params_typed f args d h =
 
 -- ---- functions
 
-function_at : (core : CoreTerm) (fs : List FunTerm) (place : ℕ) (f : FunTerm) → All (IsFunction core) fs → slice_get fs place ≡ Some f → IsFunction core f
+pub function_at : (core : CoreTerm) (fs : List FunTerm) (place : ℕ) (f : FunTerm) → All (IsFunction core) fs → slice_get fs place ≡ Some f → IsFunction core f
 function_at core [] place f h e = absurd (let q : ◌≡◌ {A = Option FunTerm} None (Some f) = e in cc)
 function_at core (x ∷ fs) zero f h e = subst (IsFunction core) (ap (λ o. unwrap_or o x) e) (All-head (IsFunction core) x fs h)
 function_at core (x ∷ fs) (suc place) f h e = function_at core fs place f (All-tail (IsFunction core) x fs h) e

@@ -5,44 +5,20 @@ use Rattle.std.proofs.lemmas.Bool.{false≢true}
 use Rattle.std.proofs.lemmas.List.{length-map}
 use Rattle.std.proofs.lemmas.Option.{slice_get_within}
 use Rattle.sac_base.specs.declared.base.Base.{Base}
-use Rattle.sac_base.specs.declared.base.Base.TheVariants.{Int, Bool as Truth}
 use Rattle.sac_base.specs.declared.types.ArrayType.{ArrayType}
 use Rattle.sac_base.specs.Types.{all_below, compatible}
 use Rattle.core_ir.specs.declared.tree.Var.{Var}
 use Rattle.core_ir.specs.Binders.{bound_in}
 use Rattle.core_ir.specs.Scopes.{Scoped}
-use Rattle.core_ir.specs.Terms.{BlockTerm, RightTerm, GensTerm, PartsTerm, FunTerm, CoreTerm, Gives, Bind, Plain, NoGens, Gen, NoParts, Part}
+use Rattle.core_ir.specs.Terms.{FunTerm, CoreTerm}
 use Rattle.core_ir.specs.Outcome.{param_types, param_vars, group_at}
-use Rattle.core_ir.specs.WellFormed.{Bases, GroupBases, BlockBases, RightBases, GensBases, PartsBases, Distinct, IsFunction, MayShareName, PlacesShare, CallsBackward, IsWellFormed, bases, ints, param_bases, calls_in}
+use Rattle.core_ir.specs.WellFormed.{GroupBases, BlockBases, Distinct, IsFunction, MayShareName, PlacesShare, CallsBackward, IsWellFormed, bases, param_bases, calls_in}
 use Rattle.core_facts.specs.calls.Nests.{StandsIn}
+use Rattle.core_facts.proofs.bases.Moved.{moved}
 use Rattle.specialise.specs.groups.Specialised.{IsCopy, IsSpecialised, LaterElsewhere}
 use Rattle.specialise.proofs.groups.Known.{stand_before, all_below_on}
 use Rattle.specialise.proofs.groups.Lists.{some_same, stands_left, stands_map, mapped_stands, stands_contained, contained_stands, all_by, pairs_append, pairs_map, pairs_weaker, some_within, all_found, all_by_place}
 use Rattle.specialise.proofs.groups.Choice.{group_is, member, sharing, member_cases}
-
--- ---- bases in another core
-
-module _ (a b : CoreTerm) (into : (g : ℕ) (us vs : List Base) → GroupBases a g us vs → GroupBases b g us vs) where
-  mutual
-    moved : (c : BlockTerm) (g : Bases) (us : List Base) → BlockBases a g c us → BlockBases b g c us
-    moved (Gives xs) g us h = h
-    moved (Bind xs s r c) g us h = (h.0, (moved_right r g h.0 h.1.0, h.1.1, moved c (zip xs h.0 ++ g) us h.1.2))
-
-    moved_right : (r : RightTerm) (g : Bases) (us : List Base) → RightBases a g r us → RightBases b g r us
-    moved_right (Plain p) g us h = h
-    moved_right (RightTerm.If x c d) g us h = (h.0, moved c g us h.1, moved d g us h.2)
-    moved_right (RightTerm.Loop first start params c d s) g us h = (h.0, h.1, moved c (zip params us ++ g) (Truth ∷ []) h.2, moved d (zip params us ++ g) us h.3)
-    moved_right (RightTerm.Call group xs) g us h = (h.0, (h.1.0, into group h.0 us h.1.1))
-    moved_right (RightTerm.With o gens) g us h = (h.0, (h.1.0, moved_gens gens g h.0 h.1.1, h.1.2))
-    moved_right (RightTerm.Parted f t c o parts) g us h = (h.0, moved_parts parts g t h.1, h.2, h.3)
-
-    moved_gens : (gs : GensTerm) (g : Bases) (t : Base) → GensBases a g gs t → GensBases b g gs t
-    moved_gens NoGens g t h = tt
-    moved_gens (Gen k c rest) g t h = (h.0, h.1, h.2, h.3, moved c (ints (k.index ∷ k.names) ++ g) (t ∷ []) h.4, moved_gens rest g t h.5)
-
-    moved_parts : (ps : PartsTerm) (g : Bases) (t : Base) → PartsBases a g ps t → PartsBases b g ps t
-    moved_parts NoParts g t h = tt
-    moved_parts (Part k c rest) g t h = (moved c ((k.index, Int) ∷ g) (t ∷ []) h.0, moved_parts rest g t h.1)
 
 -- ---- copies
 
