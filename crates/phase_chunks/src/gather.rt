@@ -1,9 +1,9 @@
 // Cells of one chunk that are combined.
 
 ghost use Rattle.std.specs.Prelude.{◌≡◌, ℕ, ◌+◌, ◌<◌, ◌≤◌, length, IfOk, Some, Ok};
-ghost use Rattle.phase_team.specs.Segments.{cells_from, value_if, Costs, Gathered};
+ghost use Rattle.phase_team.specs.Segments.{cells_from, value_if, Gathered};
 ghost use Rattle.phase_chunks.specs.Gathering.{GatheredNext};
-ghost use Rattle.phase_chunks.specs.Seats.{Suits, IsFresh};
+ghost use Rattle.phase_chunks.specs.Seats.{HasSpent, IsFresh, IsSuited};
 
 use crate::cells::PhaseCells;
 use crate::combine::{combine_held, combine_numbers};
@@ -24,16 +24,14 @@ pub(crate) fn gather<H, C: PhaseCells<H>>(
     row: &mut [Cell],
     spare: &mut [Cell],
 ) -> Result<bool, Stop>
-    requires suits { let all = work.now.cells.now in
-        Suits (C.cell all) (C.positions all) (C.width all) (C.shared all) work.now.table.now.buffers work.now.share }
+    requires suits { IsSuited C.cell C.positions C.width C.shared work.now }
     requires within { stretch.start + stretch.count ≤ C.positions work.now.cells.now }
     requires seat { IsFresh work.now.table.now worker.old.seat }
     requires worker { C.idle work.now.cells.now worker.old.context }
     requires rows { (length row.old ≡ work.now.share.width) × (length spare.old ≡ work.now.share.width) }
     ensures ran { Gathered op work.now.share.width (cells_from (C.cell work.now.cells.now) stretch.start stretch.count) row.new result }
     ensures worker { C.idle work.now.cells.now worker.new.context }
-    ensures spent { let all = work.now.cells.now in
-        IfOk result (λ _. Costs (C.cost all) stretch.start stretch.count (C.spent all worker.old.context) (C.spent all worker.new.context)) }
+    ensures spent { IfOk result (λ _. HasSpent C.cost C.spent work.now stretch.start stretch.count worker.old worker.new) }
     ensures seat { worker.new.seat ≡ worker.old.seat }
 {
     let mut held = false;
@@ -62,8 +60,7 @@ fn gather_next<H, C: PhaseCells<H>>(
     spare: &mut [Cell],
     held: &mut bool,
 ) -> Result<usize, Stop>
-    requires suits { let all = work.now.cells.now in
-        Suits (C.cell all) (C.positions all) (C.width all) (C.shared all) work.now.table.now.buffers work.now.share }
+    requires suits { IsSuited C.cell C.positions C.width C.shared work.now }
     requires within { stretch.start + stretch.count ≤ C.positions work.now.cells.now }
     requires seat { IsFresh work.now.table.now worker.old.seat }
     requires worker { C.idle work.now.cells.now worker.old.context }
@@ -72,8 +69,7 @@ fn gather_next<H, C: PhaseCells<H>>(
     ensures ran { GatheredNext op work.now.share.width (C.cell work.now.cells.now) stretch.start stretch.count
         (value_if held.old row.old) (value_if held.new row.new) result }
     ensures worker { C.idle work.now.cells.now worker.new.context }
-    ensures spent { let all = work.now.cells.now in
-        IfOk result (λ n. Costs (C.cost all) stretch.start n (C.spent all worker.old.context) (C.spent all worker.new.context)) }
+    ensures spent { IfOk result (λ n. HasSpent C.cost C.spent work.now stretch.start n worker.old worker.new) }
     ensures seat { worker.new.seat ≡ worker.old.seat }
 {
     if work.share.width == 1 {
@@ -95,8 +91,7 @@ fn gather_together<H, C: PhaseCells<H>>(
     row: &mut [Cell],
     held: bool,
 ) -> usize
-    requires suits { let all = work.now.cells.now in
-        Suits (C.cell all) (C.positions all) (C.width all) (C.shared all) work.now.table.now.buffers work.now.share }
+    requires suits { IsSuited C.cell C.positions C.width C.shared work.now }
     requires within { stretch.start + stretch.count ≤ C.positions work.now.cells.now }
     requires worker { C.idle work.now.cells.now worker.old.context }
     requires one { work.now.share.width ≡ 1 }
@@ -131,8 +126,7 @@ fn gather_one<H, C: PhaseCells<H>>(
     spare: &mut [Cell],
     held: &mut bool,
 ) -> Result<usize, Stop>
-    requires suits { let all = work.now.cells.now in
-        Suits (C.cell all) (C.positions all) (C.width all) (C.shared all) work.now.table.now.buffers work.now.share }
+    requires suits { IsSuited C.cell C.positions C.width C.shared work.now }
     requires within { position < C.positions work.now.cells.now }
     requires seat { IsFresh work.now.table.now worker.old.seat }
     requires worker { C.idle work.now.cells.now worker.old.context }
@@ -141,8 +135,7 @@ fn gather_one<H, C: PhaseCells<H>>(
         (value_if held.old row.old) (value_if held.new row.new) result }
     ensures one { IfOk result (λ k. k ≡ 1) }
     ensures worker { C.idle work.now.cells.now worker.new.context }
-    ensures spent { let all = work.now.cells.now in
-        IfOk result (λ n. Costs (C.cost all) position n (C.spent all worker.old.context) (C.spent all worker.new.context)) }
+    ensures spent { IfOk result (λ n. HasSpent C.cost C.spent work.now position n worker.old worker.new) }
     ensures seat { worker.new.seat ≡ worker.old.seat }
 {
     match work.cells.cell(

@@ -1,9 +1,9 @@
 // One worker, which computes the cells of one chunk.
 ghost use Rattle.std.specs.Prelude.{◌≡◌, ◌+◌, ◌*◌, ◌≤◌, length, take, IfOk};
 ghost use Rattle.wl_core.specs.declared.setup.Job.TheVariants.{Write as Store};
-ghost use Rattle.phase_team.specs.Segments.{cells_from, Costs, Gathered, Ran, StoredNext};
+ghost use Rattle.phase_team.specs.Segments.{cells_from, Gathered, Ran, StoredNext};
 ghost use Rattle.phase_chunks.specs.Chunks.{HasTwoRows, IsDone, IsPartial, PartFits};
-ghost use Rattle.phase_chunks.specs.Seats.{Suits, IsFresh};
+ghost use Rattle.phase_chunks.specs.Seats.{HasSpent, IsFresh, IsSuited};
 
 use crate::cells::PhaseCells;
 use crate::gather::gather;
@@ -20,18 +20,16 @@ fn fill_next<H, C: PhaseCells<H>>(
     stretch: Stretch,
     rows: &mut [Cell],
 ) -> Result<usize, Stop>
-    requires suits { let all = work.now.cells.now in
-        Suits (C.cell all) (C.positions all) (C.width all) (C.shared all) work.now.table.now.buffers work.now.share }
+    requires suits { IsSuited C.cell C.positions C.width C.shared work.now }
+    requires some { 1 ≤ stretch.count }
     requires within { stretch.start + stretch.count ≤ C.positions work.now.cells.now }
     requires job { work.now.share.job ≡ Store }
     requires seat { IsFresh work.now.table.now worker.old.seat }
     requires worker { C.idle work.now.cells.now worker.old.context }
-    requires some { 1 ≤ stretch.count }
     requires room { length rows.old ≡ stretch.count * work.now.share.width }
     ensures stored { StoredNext work.now.share.width (C.cell work.now.cells.now) stretch.start stretch.count rows.new result }
     ensures worker { C.idle work.now.cells.now worker.new.context }
-    ensures spent { let all = work.now.cells.now in
-        IfOk result (λ n. Costs (C.cost all) stretch.start n (C.spent all worker.old.context) (C.spent all worker.new.context)) }
+    ensures spent { IfOk result (λ n. HasSpent C.cost C.spent work.now stretch.start n worker.old worker.new) }
     ensures seat { worker.new.seat ≡ worker.old.seat }
 {
     let Stretch { start, count } = stretch;
@@ -60,8 +58,7 @@ fn fill<H, C: PhaseCells<H>>(
     stretch: Stretch,
     rows: &mut [Cell],
 ) -> Result<bool, Stop>
-    requires suits { let all = work.now.cells.now in
-        Suits (C.cell all) (C.positions all) (C.width all) (C.shared all) work.now.table.now.buffers work.now.share }
+    requires suits { IsSuited C.cell C.positions C.width C.shared work.now }
     requires within { stretch.start + stretch.count ≤ C.positions work.now.cells.now }
     requires job { work.now.share.job ≡ Store }
     requires seat { IsFresh work.now.table.now worker.old.seat }
@@ -69,8 +66,7 @@ fn fill<H, C: PhaseCells<H>>(
     requires room { length rows.old ≡ stretch.count * work.now.share.width }
     ensures ran { Ran Store work.now.share.width (cells_from (C.cell work.now.cells.now) stretch.start stretch.count) rows.new result }
     ensures worker { C.idle work.now.cells.now worker.new.context }
-    ensures spent { let all = work.now.cells.now in
-        IfOk result (λ _. Costs (C.cost all) stretch.start stretch.count (C.spent all worker.old.context) (C.spent all worker.new.context)) }
+    ensures spent { IfOk result (λ _. HasSpent C.cost C.spent work.now stretch.start stretch.count worker.old worker.new) }
     ensures seat { worker.new.seat ≡ worker.old.seat }
 {
     let mut done = 0;
@@ -96,8 +92,7 @@ fn gather_rows<H, C: PhaseCells<H>>(
     stretch: Stretch,
     rows: &mut [Cell],
 ) -> Result<bool, Stop>
-    requires suits { let all = work.now.cells.now in
-        Suits (C.cell all) (C.positions all) (C.width all) (C.shared all) work.now.table.now.buffers work.now.share }
+    requires suits { IsSuited C.cell C.positions C.width C.shared work.now }
     requires within { stretch.start + stretch.count ≤ C.positions work.now.cells.now }
     requires seat { IsFresh work.now.table.now worker.old.seat }
     requires worker { C.idle work.now.cells.now worker.old.context }
@@ -105,8 +100,7 @@ fn gather_rows<H, C: PhaseCells<H>>(
     ensures ran { let width = work.now.share.width in
         Gathered op width (cells_from (C.cell work.now.cells.now) stretch.start stretch.count) (take width rows.new) result }
     ensures worker { C.idle work.now.cells.now worker.new.context }
-    ensures spent { let all = work.now.cells.now in
-        IfOk result (λ _. Costs (C.cost all) stretch.start stretch.count (C.spent all worker.old.context) (C.spent all worker.new.context)) }
+    ensures spent { IfOk result (λ _. HasSpent C.cost C.spent work.now stretch.start stretch.count worker.old worker.new) }
     ensures seat { worker.new.seat ≡ worker.old.seat }
 {
     let (row, spare) = rows.split_at_mut(work.share.width);
@@ -120,8 +114,7 @@ fn fill_part<H, C: PhaseCells<H>>(
     stretch: Stretch,
     part: ChunkPart,
 ) -> (ChunkPart, Result<bool, Stop>)
-    requires suits { let all = work.now.cells.now in
-        Suits (C.cell all) (C.positions all) (C.width all) (C.shared all) work.now.table.now.buffers work.now.share }
+    requires suits { IsSuited C.cell C.positions C.width C.shared work.now }
     requires within { stretch.start + stretch.count ≤ C.positions work.now.cells.now }
     requires job { work.now.share.job ≡ Store }
     requires seat { IsFresh work.now.table.now worker.old.seat }
@@ -129,8 +122,7 @@ fn fill_part<H, C: PhaseCells<H>>(
     requires part { PartFits Store (stretch.count * work.now.share.width) part }
     ensures done { IsDone Store work.now.share.width (cells_from (C.cell work.now.cells.now) stretch.start stretch.count) part result.0 result.1 }
     ensures worker { C.idle work.now.cells.now worker.new.context }
-    ensures spent { let all = work.now.cells.now in
-        IfOk result.1 (λ _. Costs (C.cost all) stretch.start stretch.count (C.spent all worker.old.context) (C.spent all worker.new.context)) }
+    ensures spent { IfOk result.1 (λ _. HasSpent C.cost C.spent work.now stretch.start stretch.count worker.old worker.new) }
     ensures seat { worker.new.seat ≡ worker.old.seat }
 {
     let Some(mut own) = part else { unreachable!() };
@@ -146,8 +138,7 @@ pub fn run_chunk<H, C: PhaseCells<H>>(
     part: ChunkPart,
     rows: &mut [Cell],
 ) -> (ChunkPart, Result<bool, Stop>)
-    requires suits { let all = work.now.cells.now in
-        Suits (C.cell all) (C.positions all) (C.width all) (C.shared all) work.now.table.now.buffers work.now.share }
+    requires suits { IsSuited C.cell C.positions C.width C.shared work.now }
     requires within { stretch.start + stretch.count ≤ C.positions work.now.cells.now }
     requires seat { IsFresh work.now.table.now worker.old.seat }
     requires worker { C.idle work.now.cells.now worker.old.context }
@@ -158,8 +149,7 @@ pub fn run_chunk<H, C: PhaseCells<H>>(
     ensures combined { let share = work.now.share in
         IfOk result.1 (λ held. IsPartial share.job share.width (cells_from (C.cell work.now.cells.now) stretch.start stretch.count) held rows.new) }
     ensures worker { C.idle work.now.cells.now worker.new.context }
-    ensures spent { let all = work.now.cells.now in
-        IfOk result.1 (λ _. Costs (C.cost all) stretch.start stretch.count (C.spent all worker.old.context) (C.spent all worker.new.context)) }
+    ensures spent { IfOk result.1 (λ _. HasSpent C.cost C.spent work.now stretch.start stretch.count worker.old worker.new) }
     ensures seat { worker.new.seat ≡ worker.old.seat }
 {
     match work.share.job {
