@@ -1,4 +1,4 @@
-use Rattle.std.proofs.Common.{rules, ◌≡◌, ◌+◌, ◌<◌, ◌≤◌, Some, sym, ap, ◌∙◌, subst, length, drop, get_or, map}
+use Rattle.std.proofs.Common.{rules, ◌≡◌, ◌+◌, ◌<◌, ◌≤◌, Some, true, false, sym, ap, ◌∙◌, subst, length, drop, get_or, map}
 use Rattle.std.specs.Prelude.{IfOk, OnOk}
 use Rattle.std.proofs.lemmas.List.{drop_all, drop_more}
 use Rattle.sac_ast.specs.Tree
@@ -10,14 +10,15 @@ use Rattle.core_ir.specs.View.{block_term, gen_term}
 use Rattle.core_ir.specs.declared.tree.CoreOp.TheVariants as making
 use Rattle.source_meaning.specs.Meaning.{default_base}
 use Rattle.core_lowering.specs.Lowering.{built_in}
-use Rattle.core_lowering.specs.steps.Looks.{vars_of, with_var}
-use Rattle.core_lowering.specs.steps.Building.{block_giving, block_of, bound_at, bound_in, bound_in_both, declared, given_bound, use_at}
+use Rattle.core_lowering.specs.steps.Looks.{with_var}
+use Rattle.core_lowering.specs.steps.Building.{block_giving, block_of, bound_at, given_bound, nested, use_at}
 use Rattle.core_lowering.specs.steps.Parts.{after_gens, after_list}
-use Rattle.core_lowering.proofs.steps.Arms.{with_arm, assign_call_arm, assign_arm, generator_arm, genarray_arm, if_parts, while_parts, do_parts}
+use Rattle.core_lowering.proofs.steps.Arms.{with_arm, assign_call_arm, assign_arm, generator_arm, genarray_arm}
 use Rattle.core_lowering.proofs.steps.Steps.{all_step, list_end, gens_step, gens_end}
 use Rattle.core_scopes.specs.Looks.{look, texts}
 use Rattle.core_scopes.specs.Built.{built, made}
-use Rattle.single_assign.specs.Views.{made_block, made_gen, made_option, made_scope, group_in, base_of_in, name_base_in, make_in, make_all_in, make_maybe_in, make_bound_in, make_gen_in, make_gens_in, make_operation_in, make_inside_in, make_default_in, make_starts_in, make_stmt_in, make_block_in, make_turn_in, make_if_in, make_while_in, make_do_in}
+use Rattle.single_assign.specs.Views.{made_block, made_branch, made_gen, made_given, made_option, made_scope, group_in, base_of_in, name_base_in, make_in, make_all_in, make_maybe_in, make_bound_in, make_gen_in, make_gens_in, make_operation_in, make_inside_in, make_default_in, make_stmt_in, make_block_in, make_turn_in, make_if_in, make_while_in, make_do_in}
+use Rattle.single_assign.specs.Turns.{joined_from}
 use Rattle.core_scopes.proofs.Scopes.{on_ok_then}
 use Rattle.single_assign.proofs.Loops.{gen_roll, not_call, terms_next}
 use Rattle.single_assign.proofs.lower.+lowering.Goals as goal
@@ -372,45 +373,57 @@ pub lower_if-returns : goal.lower_if-returns
 lower_if-returns t c =
     let a = c.args in
     let cx = a.cx.now in
-    let first = look c.lower_block.new.scope in
-    let second = look c.lower_block-2.new.scope in
-    let names = c.in_ok-names.ensures ∙ ap (λ xs. bound_in_both first second (texts xs)) c.deref.ensures.value in
-    let yes = c.in_ok-yes.ensures ∙ ap (λ xs. block_giving (texts xs) (built c.lower.new.out) (made_scope (built c.lower_block.new.out) first)) c.deref-2.ensures.value in
-    let no = c.in_ok-no.ensures ∙ ap (λ xs. block_giving (texts xs) (built c.close_giving.new.out) (made_scope (built c.lower_block-2.new.out) second)) c.deref-3.ensures.value in
-    if_parts (group_in cx) (base_of_in cx) (name_base_in cx) (expr a.cond.now) (block a.yes.now) (block a.no.now) (look a.scope.now) (built a.out.now)
-    c.in_ok-cond.ensures c.in_ok-bound.ensures c.inside-first.ensures c.nested-yes_out.ensures c.in_ok-lower_block.ensures c.inside-second.ensures c.nested-no_out.ensures c.in_ok-lower_block-2.ensures names yes no
+    let l = look a.scope.now in
+    let yes = block a.yes.now in
+    let no = block a.no.now in
+    let p = c.in_ok-cond.ensures in
+    let q = c.in_ok-first.ensures ∙ (λ j. make_block_in cx yes l (nested (p j).state)) in
+    let r = c.in_ok-second.ensures ∙ (λ j. make_block_in cx no l (nested (built (c.deref.ensures j).bindings))) ∙ (λ j. make_block_in cx no l (nested (q j).state)) in
+    subst (λ m. IfOk c.joined.result (λ g. made_given (built c.joined.new.out) g ≡ m)) (λ j. joined_from (p j).state (p j).result yes no (q j) (r j)) c.joined.ensures
+
+pub lower_branch-returns : goal.lower_branch-returns
+lower_branch-returns t c =
+    let a = c.args in
+    ap made_branch c.in_ok-new.ensures.ok ∙ c.in_ok-lower_block.ensures ∙ (λ j. make_block_in a.cx.now (block a.ss.now) (c.inside-inside.ensures j) (c.nested-inner.ensures j))
 
 pub lower_turn-returns : goal.lower_turn-returns
 lower_turn-returns t c =
     let a = c.args in
-    let cx = a.cx.now in
-    let xs = texts a.names.now in
-    let s = built a.out.now in
-    let b = c.in_ok-lower_block.ensures ∙ (λ j. make_block_in cx (block a.ss.now) (c.inside-inside.ensures j) (c.nested-inner.ensures j)) in
-    subst (λ m. IfOk c.close_giving.result (λ b. made_block (built c.close_giving.new.out) (block_term b) ≡ m)) (ap (block_giving xs s) b) c.close_giving.ensures
+    subst (λ m. IfOk c.close_branch.result (λ b. made_block (built c.close_branch.new.out) (block_term b) ≡ m)) (ap (block_giving (texts a.names.now) (built a.out.now)) c.in_ok-turn.ensures) c.close_branch.ensures
 
 pub lower_while-returns : goal.lower_while-returns
 lower_while-returns t c =
     let a = c.args in
+    subst (λ m. IfOk c.lower_while_in.result (λ g. made_given (built c.lower_while_in.new.out) g ≡ m))
+    (ap (λ l. make_while_in a.cx.now (expr a.cond.now) (block a.body.now) a.test_site l (built a.out.now)) c.inside-inside.ensures) c.lower_while_in.ensures
+
+pub lower_while_in-returns : goal.lower_while_in-returns
+lower_while_in-returns t c =
+    let a = c.args in
     let cx = a.cx.now in
-    let l = look a.scope.now in
-    let names = c.in_ok-names.ensures ∙ ap (λ xs. bound_in l (texts xs)) c.deref.ensures.value in
-    let start = c.in_ok-start.ensures ∙ ap (λ xs. vars_of l (texts xs)) c.deref-2.ensures.value in
-    let params = c.in_ok-params.ensures ∙ ap (λ xs. declared (texts xs) (look c.inside-inside.result) (built a.out.now)) c.deref-3.ensures.value in
-    let turn = c.in_ok-body.ensures ∙ ap (λ xs. make_turn_in cx (texts xs) (block a.body.now) (look c.declare.new.self) (built c.lower_inside.new.out)) c.deref-4.ensures.value in
-    while_parts (group_in cx) (base_of_in cx) (name_base_in cx) (expr a.cond.now) (block a.body.now) a.test_site l (built a.out.now)
-    c.in_ok-bound.ensures names start c.inside-inside.ensures params c.in_ok-test.ensures turn
+    let body = block a.body.now in
+    let k = c.in_ok-names.ensures in
+    let test = c.in_ok-test.ensures ∙ (λ j. make_inside_in cx (expr a.cond.now) (k j).scope (k j).state) in
+    let turn = c.in_ok-body.ensures ∙ (λ j. make_turn_in cx (texts (c.deref.ensures.value j)) body (look c.carried_by_while.new.scope) (built c.lower_inside.new.out))
+    ∙ (λ j. make_turn_in cx (k j).names body (k j).scope (test j).state) in
+    λ j. record { state = (turn j).state; names = (k j).names; right = RightTerm.Loop false (k j).start (k j).params (test j).block (turn j).block a.test_site }
 
 pub lower_do-returns : goal.lower_do-returns
 lower_do-returns t c =
     let a = c.args in
+    subst (λ m. IfOk c.lower_do_in.result (λ g. made_given (built c.lower_do_in.new.out) g ≡ m))
+    (ap (λ l. make_do_in a.cx.now (block a.body.now) (expr a.cond.now) a.site a.test_site l (built a.out.now)) c.inside-inside.ensures) c.lower_do_in.ensures
+
+pub lower_do_in-returns : goal.lower_do_in-returns
+lower_do_in-returns t c =
+    let a = c.args in
     let cx = a.cx.now in
-    let l = look a.scope.now in
-    let start = c.in_ok-start.ensures ∙ ap (λ xs. make_starts_in cx a.site (texts xs) l (built a.out.now)) c.deref.ensures.value in
-    let params = c.in_ok-params.ensures ∙ ap (λ xs. declared (texts xs) (look c.inside-inside.result) (built c.starts.new.out)) c.deref-2.ensures.value in
-    let turn = c.in_ok-body.ensures ∙ ap (λ xs. make_turn_in cx (texts xs) (block a.body.now) (look c.declare.new.self) (built c.declare.new.out)) c.deref-3.ensures.value in
-    do_parts (group_in cx) (base_of_in cx) (name_base_in cx) (expr a.cond.now) (block a.body.now) a.site a.test_site l (built a.out.now)
-    c.in_ok-names.ensures start c.inside-inside.ensures params turn c.in_ok-test.ensures
+    let body = block a.body.now in
+    let k = c.in_ok-names.ensures in
+    let turn = c.in_ok-body.ensures ∙ (λ j. make_turn_in cx (texts (c.deref.ensures.value j)) body (look c.carried_by_do.new.scope) (built c.carried_by_do.new.out))
+    ∙ (λ j. make_turn_in cx (k j).names body (k j).scope (k j).state) in
+    let test = c.in_ok-test.ensures ∙ (λ j. make_inside_in cx (expr a.cond.now) (k j).scope (turn j).state) in
+    λ j. record { state = (test j).state; names = (k j).names; right = RightTerm.Loop true (k j).start (k j).params (test j).block (turn j).block a.test_site }
 
 pub lower_block-loop-s-preserved : goal.lower_block-loop-s-preserved
 lower_block-loop-s-preserved t c =
