@@ -20,9 +20,11 @@ use Rattle.core_lowering.specs.steps.Building.{MadeGiven, make, make_all, make_m
 use Rattle.core_lowering.specs.steps.Building.{make_block, make_starts}
 use Rattle.core_lowering.specs.steps.Parts.{make_default, make_inside, make_cell, make_turn, make_if, make_while, make_do}
 use Rattle.single_assign.specs.declared.context.Context.{Context}
+use Rattle.single_assign.specs.declared.lower.Branch.{Branch}
 use Rattle.single_assign.specs.declared.lower.Given.{Given}
 use Rattle.single_assign.specs.declared.lower.Making.{Making}
-use Rattle.core_scopes.specs.Looks.{texts}
+use Rattle.core_scopes.specs.Looks.{look, texts}
+use Rattle.core_scopes.specs.Built.{built}
 
 abbrev pub made_list : Built → List Var → MadeList
 made_list s xs = record { state = s; results = xs }
@@ -32,6 +34,9 @@ made_option s x = record { state = s; result = x }
 
 abbrev pub made_scope : Built → Look → MadeScope
 made_scope s scope = record { state = s; scope = scope }
+
+abbrev pub made_branch : Branch → MadeScope
+made_branch b = record { state = built b.bindings; scope = look b.scope }
 
 abbrev pub made_block : Built → BlockTerm → MadeBlock
 made_block s b = record { state = s; block = b }

@@ -7,10 +7,11 @@ ghost use Rattle.sac_ast.specs.View.{expr, exprs, maybe, bound, index_view, gene
 ghost use Rattle.core_ir.specs.Terms.{Plain, PlainTerm, RightTerm, gens_of};
 ghost use Rattle.core_ir.specs.View.{block_term, gen_term, right_term};
 ghost use Rattle.core_lowering.specs.Lowering.{built_in as built_in_value};
-ghost use Rattle.core_lowering.specs.steps.Building.{block_giving, block_of, bound_at, first_var, given_bound, index_declared, start_at, use_at};
+ghost use Rattle.core_lowering.specs.steps.Building.{block_giving, block_of, bound_at, first_var, given_bound, index_declared, nested, start_at, use_at};
 ghost use Rattle.core_scopes.specs.Looks.{look, texts};
 ghost use Rattle.core_scopes.specs.Built.{built, made, made_names};
-ghost use Rattle.single_assign.specs.Views.{made_list, made_option, made_scope, made_block, made_gen, made_gens};
+ghost use Rattle.single_assign.specs.Views.{made_list, made_option, made_scope, made_block, made_gen, made_gens, made_branch};
+ghost use Rattle.single_assign.specs.Turns.{do_carried_in, joined_from, made_carried, while_carried};
 ghost use Rattle.single_assign.specs.Views.{made_operation, make_in, make_all_in, make_maybe_in, make_bound_in, make_gen_in, make_gens_in};
 ghost use Rattle.single_assign.specs.Views.{make_operation_in, make_stmt_in, make_block_in, make_inside_in, make_cell_in, make_default_in};
 ghost use Rattle.single_assign.specs.Views.{make_starts_in, make_if_in, make_turn_in, make_while_in, make_do_in, made_given, name_base_in};
@@ -35,6 +36,21 @@ pub struct Making {
 pub struct Given<'n> {
     pub names: Vec<&'n str>,
     pub right: Right,
+}
+
+/// What the statements of a branch or of a turn come to: the variables of names behind them, and their bindings.
+#[derive(Drop)]
+pub struct Branch<'s> {
+    pub scope: Scope<'s>,
+    pub bindings: Builder,
+}
+
+/// The names that a loop carries, their first values, and the parameters that they are in the loop.
+#[derive(Drop)]
+pub struct Carried<'n> {
+    pub names: Vec<&'n str>,
+    pub start: Vec<Var>,
+    pub params: Vec<Var>,
 }
 
 fn constant(
@@ -100,20 +116,19 @@ fn close(cx: &Context<'_>, inner: Builder, var: Var, out: &mut Builder) -> Resul
     Ok(inner.finish(results))
 }
 
-// The block of what was made inside, which gives the variables of names.
-fn close_giving(
-    cx: &Context<'_>,
-    inner: Builder,
+// The block of a branch or of a turn, which gives the variables of names.
+fn close_branch(
+    branch: Box<Branch<'_>>,
     names: &[&str],
-    scope: &Scope<'_>,
+    cx: &Context<'_>,
     out: &mut Builder,
 ) -> Result<Block, Memory>
-    ensures { IfOk result (λ b. made_block (built out.new) (block_term b)
-        ≡ block_giving (texts names.now) (built out.old) (made_scope (built inner) (look scope.now))) }
+    ensures { IfOk result (λ b. made_block (built out.new) (block_term b) ≡ block_giving (texts names.now) (built out.old) (made_branch branch.entry.value)) }
 {
-    let results = scope.vars(cx.alloc, names)?;
-    out.resume(&inner);
-    Ok(inner.finish(results))
+    let results = branch.scope.vars(cx.alloc, names)?;
+    let Branch { bindings, .. } = Box::into_inner(branch);
+    out.resume(&bindings);
+    Ok(bindings.finish(results))
 }
 
 /// Binds what an expression needs, and tells the variable that has its value.
@@ -486,8 +501,14 @@ fn bind_given(
 ) -> Result<(), Memory>
     ensures { OnOk result (made_scope (built out.new) (look scope.new) ≡ given_bound site (look scope.old) (made_given (built out.old) given.entry)) }
 {
-    let targets = scope.declare(cx.alloc, &given.names, out)?;
-    out.push(targets, site, given.right)
+    match scope.declare(cx.alloc, &given.names, out) {
+        Ok(targets) => out.push(targets, site, given.right),
+        Err(Memory) => {
+            // The call takes the right side apart, where an early return would do so step by step.
+            drop(given);
+            Err(Memory)
+        }
+    }
 }
 
 #[cycle(lowering)]
@@ -503,16 +524,48 @@ fn lower_if<'n>(
         ≡ make_if_in cx.now (expr cond.now) (block yes.now) (block no.now) (look scope.now) (built out.old)) }
 {
     let cond = lower(cond, cx, scope, out)?;
+    let first = lower_branch(yes, cx, &*scope, out)?;
+    let second = lower_branch(no, cx, &*scope, &first.bindings)?;
+    joined(yes, no, cond, first, second, cx, out)
+}
+
+// The statements of a branch or of a turn, with variables from those of a builder on. What they come to stands in a box, whose drop is one call.
+#[cycle(lowering)]
+fn lower_branch<'s>(
+    ss: &[Statement],
+    cx: &Context<'_>,
+    scope: &'s Scope<'s>,
+    before: &Builder,
+) -> Result<Box<Branch<'s>>, Memory>
+    ensures { IfOk result (λ b. made_branch b.value ≡ make_block_in cx.now (block ss.now) (look scope.now) (nested (built before.now))) }
+{
+    let mut inside = scope.inside(cx.alloc);
+    let mut inner = before.nested(cx.alloc);
+    lower_block(ss, cx, &mut inside, &mut inner)?;
+    let branch = Branch {
+        scope: inside,
+        bindings: inner,
+    };
+    Ok(Box::new(cx.alloc, branch)?)
+}
+
+// What two branches give: the names that have a variable behind both.
+fn joined<'n>(
+    yes: &'n [Statement],
+    no: &'n [Statement],
+    cond: Var,
+    first: Box<Branch<'_>>,
+    second: Box<Branch<'_>>,
+    cx: &Context<'_>,
+    out: &mut Builder,
+) -> Result<Given<'n>, Memory>
+    ensures { IfOk result (λ g. made_given (built out.new) g
+        ≡ joined_from (built out.old) cond (block yes.now) (block no.now) (made_branch first.entry.value) (made_branch second.entry.value)) }
+{
     let bound = once_bound_in_either(cx.alloc, yes, no)?;
-    let mut first = (&*scope).inside(cx.alloc);
-    let mut yes_out = out.nested(cx.alloc);
-    lower_block(yes, cx, &mut first, &mut yes_out)?;
-    let mut second = (&*scope).inside(cx.alloc);
-    let mut no_out = yes_out.nested(cx.alloc);
-    lower_block(no, cx, &mut second, &mut no_out)?;
-    let names = known_in_both(cx.alloc, &bound, &first, &second)?;
-    let yes = close_giving(cx, yes_out, &names, &first, out)?;
-    let no = close_giving(cx, no_out, &names, &second, out)?;
+    let names = known_in_both(cx.alloc, &bound, &first.scope, &second.scope)?;
+    let yes = close_branch(first, &names, cx, out)?;
+    let no = close_branch(second, &names, cx, out)?;
     Ok(Given {
         names,
         right: Right::If { cond, yes, no },
@@ -531,10 +584,8 @@ fn lower_turn(
     ensures { IfOk result (λ b. made_block (built out.new) (block_term b)
         ≡ make_turn_in cx.now (texts names.now) (block ss.now) (look scope.now) (built out.old)) }
 {
-    let mut inner = out.nested(cx.alloc);
-    let mut inside = (&*scope).inside(cx.alloc);
-    lower_block(ss, cx, &mut inside, &mut inner)?;
-    close_giving(cx, inner, names, &inside, out)
+    let turn = lower_branch(ss, cx, &*scope, out)?;
+    close_branch(turn, names, cx, out)
 }
 
 #[cycle(lowering)]
@@ -549,13 +600,30 @@ fn lower_while<'n>(
     ensures { IfOk result (λ g. made_given (built out.new) g
         ≡ make_while_in cx.now (expr cond.now) (block body.now) test_site (look scope.now) (built out.old)) }
 {
-    let bound = once_bound(cx.alloc, body)?;
-    let names = known(cx.alloc, &bound, scope)?;
-    let start = scope.vars(cx.alloc, &names)?;
     let mut inside = (&*scope).inside(cx.alloc);
-    let params = inside.declare(cx.alloc, &names, out)?;
-    let test = lower_inside(cond, cx, &inside, out)?;
-    let body = lower_turn(body, &names, cx, &inside, out)?;
+    lower_while_in(body, cond, test_site, cx, &mut inside, out)
+}
+
+// A `while` in a scope of its own, which is its caller's, so that it is dropped in one place.
+#[cycle(lowering)]
+fn lower_while_in<'n>(
+    body: &'n [Statement],
+    cond: &'n Expression,
+    test_site: Site,
+    cx: &Context<'_>,
+    scope: &mut Scope<'_>,
+    out: &mut Builder,
+) -> Result<Given<'n>, Memory>
+    ensures { IfOk result (λ g. made_given (built out.new) g
+        ≡ make_while_in cx.now (expr cond.now) (block body.now) test_site (look scope.old) (built out.old)) }
+{
+    let Carried {
+        names,
+        start,
+        params,
+    } = carried_by_while(body, cx, scope, out)?;
+    let test = lower_inside(cond, cx, scope, out)?;
+    let body = lower_turn(body, &names, cx, scope, out)?;
     let right = Right::Loop {
         first_body: false,
         start,
@@ -565,6 +633,26 @@ fn lower_while<'n>(
         test_site,
     };
     Ok(Given { names, right })
+}
+
+// What a `while` carries: the names that it binds and that have a variable in front of it.
+fn carried_by_while<'n>(
+    body: &'n [Statement],
+    cx: &Context<'_>,
+    scope: &mut Scope<'_>,
+    out: &mut Builder,
+) -> Result<Carried<'n>, Memory>
+    ensures { IfOk result (λ c. made_carried (built out.new) c (look scope.new) ≡ while_carried (block body.now) (look scope.old) (built out.old)) }
+{
+    let bound = once_bound(cx.alloc, body)?;
+    let names = known(cx.alloc, &bound, scope)?;
+    let start = scope.vars(cx.alloc, &names)?;
+    let params = scope.declare(cx.alloc, &names, out)?;
+    Ok(Carried {
+        names,
+        start,
+        params,
+    })
 }
 
 // The first values of what a `do` carries: a name that has no variable has a value that is never read.
@@ -613,12 +701,31 @@ fn lower_do<'n>(
     ensures { IfOk result (λ g. made_given (built out.new) g
         ≡ make_do_in cx.now (block body.now) (expr cond.now) site test_site (look scope.now) (built out.old)) }
 {
-    let names = once_bound(cx.alloc, body)?;
-    let start = starts(&names, site, cx, scope, out)?;
     let mut inside = (&*scope).inside(cx.alloc);
-    let params = inside.declare(cx.alloc, &names, out)?;
-    let body = lower_turn(body, &names, cx, &inside, out)?;
-    let test = lower_inside(cond, cx, &inside, out)?;
+    lower_do_in(body, cond, site, test_site, cx, &mut inside, out)
+}
+
+// A `do` in a scope of its own, which is its caller's, so that it is dropped in one place.
+#[cycle(lowering)]
+fn lower_do_in<'n>(
+    body: &'n [Statement],
+    cond: &'n Expression,
+    site: Site,
+    test_site: Site,
+    cx: &Context<'_>,
+    scope: &mut Scope<'_>,
+    out: &mut Builder,
+) -> Result<Given<'n>, Memory>
+    ensures { IfOk result (λ g. made_given (built out.new) g
+        ≡ make_do_in cx.now (block body.now) (expr cond.now) site test_site (look scope.old) (built out.old)) }
+{
+    let Carried {
+        names,
+        start,
+        params,
+    } = carried_by_do(body, site, cx, scope, out)?;
+    let body = lower_turn(body, &names, cx, scope, out)?;
+    let test = lower_inside(cond, cx, scope, out)?;
     let right = Right::Loop {
         first_body: true,
         start,
@@ -628,6 +735,26 @@ fn lower_do<'n>(
         test_site,
     };
     Ok(Given { names, right })
+}
+
+// What a `do` carries: all names that it binds.
+fn carried_by_do<'n>(
+    body: &'n [Statement],
+    site: Site,
+    cx: &Context<'_>,
+    scope: &mut Scope<'_>,
+    out: &mut Builder,
+) -> Result<Carried<'n>, Memory>
+    ensures { IfOk result (λ c. made_carried (built out.new) c (look scope.new) ≡ do_carried_in cx.now site (block body.now) (look scope.old) (built out.old)) }
+{
+    let names = once_bound(cx.alloc, body)?;
+    let start = starts(&names, site, cx, scope, out)?;
+    let params = scope.declare(cx.alloc, &names, out)?;
+    Ok(Carried {
+        names,
+        start,
+        params,
+    })
 }
 
 /// Binds what the statements of a block need, one after another.

@@ -9,7 +9,7 @@ ghost use Rattle.source_meaning.specs.Calls.{is_main};
 ghost use Rattle.core_lowering.specs.acceptance.Formed.{ProgramFormed};
 ghost use Rattle.core_lowering.specs.Programs.{function_names as names_of_functions, HasOutcomeOf, lowered_program, places_of as places_of_name};
 ghost use Rattle.core_lowering.specs.steps.Functions.{params_declared};
-ghost use Rattle.single_assign.specs.Functions.{function_in, function_of, functions_by, params_made, with_place};
+ghost use Rattle.single_assign.specs.Functions.{function_from, function_in, function_of, functions_by, params_made, program_named, with_parts, with_place};
 ghost use Rattle.core_scopes.specs.Looks.{look, texts};
 ghost use Rattle.core_scopes.specs.Built.{built};
 ghost use Rattle.single_assign.specs.Views.{place_by};
@@ -17,7 +17,7 @@ ghost use Rattle.single_assign.specs.Views.{place_by};
 use crate::context::Context;
 use crate::lower::{lower_all, lower_block};
 use check_rules::functions::Functions;
-use core_ir::{Core, CoreFun, Var};
+use core_ir::{Block, Core, CoreFun, Var};
 use core_scopes::{Builder, Scope};
 use indexmap::IndexSet;
 use sac_ast::{Function, Param, Program};
@@ -25,6 +25,13 @@ use sac_base::{ArrayType, Memory, copy_name, copy_type};
 use sac_bases::known_in;
 use std::alloc::Global;
 use type_check::Checked;
+
+/// The parameters of a function as variables, and its block.
+#[derive(Drop)]
+pub struct Parts {
+    pub params: Vec<(Var, ArrayType)>,
+    pub body: Block,
+}
 
 /// The core of an accepted program: each assignment makes new variables, each conditional gives the variables bound in it, and each loop carries
 /// those that it binds.
@@ -57,9 +64,16 @@ fn lower_program(alloc: Global, program: &Program) -> Result<Core, Memory>
     ensures { IfOk result (λ core. core_term core ≡ lowered_program (tree program.now)) }
 {
     let names = function_names(alloc, &program.functions)?;
-    let functions = lower_functions(alloc, &program.functions, &names)?;
-    let groups = groups(alloc, &program.functions, &names)?;
+    lower_named(alloc, program, &names)
+}
+
+// The core of a program whose functions are called by these names. They are their caller's, so that they are dropped in one place.
+fn lower_named(alloc: Global, program: &Program, names: &IndexSet<&str>) -> Result<Core, Memory>
+    ensures { IfOk result (λ core. core_term core ≡ program_named (texts names.now.keys) (tree program.now)) }
+{
     let main = main_place(program)?;
+    let groups = groups(alloc, &program.functions, names)?;
+    let functions = lower_functions(alloc, &program.functions, names)?;
     Ok(Core {
         functions,
         groups,
@@ -148,9 +162,21 @@ fn lower_functions(
     ensures { IfOk result (λ v. map fun_term v.items ≡ functions_by (place_by names.now) (trees functions.now) (trees functions.now)) }
 {
     let by_name = Functions::new(alloc, functions)?;
+    lower_each(alloc, &by_name, names, functions)
+}
+
+// Functions of a program, one after another.
+fn lower_each(
+    alloc: Global,
+    all: &Functions<'_>,
+    names: &IndexSet<&str>,
+    functions: &[Function],
+) -> Result<Vec<CoreFun>, Memory>
+    ensures { IfOk result (λ v. map fun_term v.items ≡ functions_by (place_by names.now) (trees all.now.all.now) (trees functions.now)) }
+{
     let mut cores = Vec::new(alloc);
     for f in functions {
-        let core = lower_one(alloc, &by_name, names, f)?;
+        let core = lower_one(alloc, all, names, f)?;
         cores.push(core)?;
     }
     Ok(cores)
@@ -205,20 +231,37 @@ fn copy_types(alloc: Global, types: &[ArrayType]) -> Result<Vec<ArrayType>, Memo
 fn lower_function(f: &Function, cx: &Context<'_>) -> Result<CoreFun, Memory>
     ensures { IfOk result (λ core. fun_term core ≡ function_in cx.now (function f.now)) }
 {
-    let mut scope = Scope::new(cx.alloc);
-    let mut out = Builder::new(cx.alloc);
-    let params = lower_params(&f.params, cx.alloc, &mut scope, &mut out)?;
-    lower_block(&f.body, cx, &mut scope, &mut out)?;
-    let values = lower_all(&f.values, cx, &scope, &mut out)?;
+    let parts = lower_parts(f, cx)?;
     let name = copy_name(&f.name)?;
     let results = copy_types(cx.alloc, &f.results)?;
     Ok(CoreFun {
         name,
         site: f.site,
-        params,
+        params: parts.params,
         results,
         inline: f.inline,
-        body: out.finish(values),
+        body: parts.body,
         ends: f.ends,
+    })
+}
+
+fn lower_parts(f: &Function, cx: &Context<'_>) -> Result<Parts, Memory>
+    ensures { IfOk result (λ p. with_parts (function f.now) p ≡ function_in cx.now (function f.now)) }
+{
+    let mut scope = Scope::new(cx.alloc);
+    lower_parts_in(f, cx, &mut scope)
+}
+
+// The parts of a function in a scope. It is its caller's, so that it is dropped in one place.
+fn lower_parts_in(f: &Function, cx: &Context<'_>, scope: &mut Scope<'_>) -> Result<Parts, Memory>
+    ensures { IfOk result (λ p. with_parts (function f.now) p ≡ function_from cx.now (function f.now) (look scope.old)) }
+{
+    let mut out = Builder::new(cx.alloc);
+    let params = lower_params(&f.params, cx.alloc, scope, &mut out)?;
+    lower_block(&f.body, cx, scope, &mut out)?;
+    let values = lower_all(&f.values, cx, scope, &mut out)?;
+    Ok(Parts {
+        params,
+        body: out.finish(values),
     })
 }

@@ -15,55 +15,64 @@ use Rattle.single_assign.specs.Views.{make_all_in, make_gens_in, make_block_in}
 use Rattle.single_assign.proofs.lower.+lowering.Given as goal
 
 abbrev pub decreases-lower : goal.decreases-lower
-decreases-lower l = 4 * size-Expression l.e.now + 2
+decreases-lower l = 8 * size-Expression l.e.now + 2
 
 abbrev pub decreases-lower_all : goal.decreases-lower_all
-decreases-lower_all l = 4 * exprs_size l.es.now + 4
+decreases-lower_all l = 8 * exprs_size l.es.now + 4
 
 abbrev pub decreases-lower_inside : goal.decreases-lower_inside
-decreases-lower_inside l = 4 * size-Expression l.e.now + 3
+decreases-lower_inside l = 8 * size-Expression l.e.now + 3
 
 abbrev pub decreases-lower_maybe : goal.decreases-lower_maybe
-decreases-lower_maybe l = 4 * maybe_size l.e.now + 3
+decreases-lower_maybe l = 8 * maybe_size l.e.now + 3
 
 abbrev pub decreases-lower_default : goal.decreases-lower_default
-decreases-lower_default l = 4 * maybe_size l.e.now + 3
+decreases-lower_default l = 8 * maybe_size l.e.now + 3
 
 abbrev pub decreases-lower_bound : goal.decreases-lower_bound
-decreases-lower_bound l = 4 * size-Bound l.b.now + 2
+decreases-lower_bound l = 8 * size-Bound l.b.now + 2
 
 abbrev pub decreases-lower_generator : goal.decreases-lower_generator
-decreases-lower_generator l = 4 * size-Generator l.g.now + 3
+decreases-lower_generator l = 8 * size-Generator l.g.now + 3
 
 abbrev pub decreases-lower_cell : goal.decreases-lower_cell
-decreases-lower_cell l = 4 * size-Generator l.g.now + 2
+decreases-lower_cell l = 8 * size-Generator l.g.now + 2
 
 abbrev pub decreases-lower_generators : goal.decreases-lower_generators
-decreases-lower_generators l = 4 * cells_size l.gs.now + 4
+decreases-lower_generators l = 8 * cells_size l.gs.now + 4
 
 abbrev pub decreases-lower_operation : goal.decreases-lower_operation
-decreases-lower_operation l = 4 * size-Operation l.op.now + 2
+decreases-lower_operation l = 8 * size-Operation l.op.now + 2
 
 abbrev pub decreases-lower_statement : goal.decreases-lower_statement
-decreases-lower_statement l = 4 * size-Statement l.s.now + 3
+decreases-lower_statement l = 8 * size-Statement l.s.now + 3
 
 abbrev pub decreases-lower_assign : goal.decreases-lower_assign
-decreases-lower_assign l = 4 * size-Expression l.value.now + 3
+decreases-lower_assign l = 8 * size-Expression l.value.now + 3
 
 abbrev pub decreases-lower_if : goal.decreases-lower_if
-decreases-lower_if l = 4 * max (size-Expression l.cond.now) (max (block_size l.yes.now) (block_size l.no.now)) + 5
+decreases-lower_if l = 8 * max (size-Expression l.cond.now) (max (block_size l.yes.now) (block_size l.no.now)) + 6
+
+abbrev pub decreases-lower_branch : goal.decreases-lower_branch
+decreases-lower_branch l = 8 * block_size l.ss.now + 5
 
 abbrev pub decreases-lower_turn : goal.decreases-lower_turn
-decreases-lower_turn l = 4 * block_size l.ss.now + 5
+decreases-lower_turn l = 8 * block_size l.ss.now + 6
 
 abbrev pub decreases-lower_while : goal.decreases-lower_while
-decreases-lower_while l = 4 * max (block_size l.body.now) (size-Expression l.cond.now) + 6
+decreases-lower_while l = 8 * max (block_size l.body.now) (size-Expression l.cond.now) + 8
+
+abbrev pub decreases-lower_while_in : goal.decreases-lower_while_in
+decreases-lower_while_in l = 8 * max (block_size l.body.now) (size-Expression l.cond.now) + 7
 
 abbrev pub decreases-lower_do : goal.decreases-lower_do
-decreases-lower_do l = 4 * max (block_size l.body.now) (size-Expression l.cond.now) + 6
+decreases-lower_do l = 8 * max (block_size l.body.now) (size-Expression l.cond.now) + 8
+
+abbrev pub decreases-lower_do_in : goal.decreases-lower_do_in
+decreases-lower_do_in l = 8 * max (block_size l.body.now) (size-Expression l.cond.now) + 7
 
 abbrev pub decreases-lower_block : goal.decreases-lower_block
-decreases-lower_block l = 4 * block_size l.ss.now + 4
+decreases-lower_block l = 8 * block_size l.ss.now + 4
 
 abbrev pub invariant-lower_all-loop-e : goal.invariant-lower_all-loop-e
 invariant-lower_all-loop-e l =
