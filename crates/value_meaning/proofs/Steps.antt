@@ -1,5 +1,5 @@
 -- One step of a list of expressions, of a block and of a loop.
-use Rattle.std.proofs.Common.{◌≡◌, ℕ, ◌+◌, ◌<◌, List, [], ◌∷◌, ◌++◌, length, get_or, drop, Bool, true, false, refl, sym, ap, ◌∙◌, append_assoc, Ok, Err, Vec, Global}
+use Rattle.std.proofs.Common.{◌≡◌, ℕ, ◌+◌, ◌<◌, List, [], ◌∷◌, ◌++◌, length, get_or, drop, Bool, true, false, refl, sym, ap, ◌∙◌, subst, append_assoc, Result, Ok, Err, Vec, Global, Option}
 use Rattle.sac_base.specs.declared.site.Site.{Site}
 use Rattle.sac_base.specs.Arrays.{ArrayValue}
 use Rattle.sac_ast.specs.declared.Expression.{Expression, Expression-F, out-Expression, roll-Expression, roll-out-Expression}
@@ -13,11 +13,17 @@ use Rattle.sac_ast.specs.declared.Target.{Target}
 use Rattle.sac_ast.proofs.Views.{expression_opened, expression_layer}
 use Rattle.sac_ast.proofs.Lists.{exprs-drop}
 use Rattle.sac_ast.specs.Tree
-use Rattle.sac_ast.specs.View.{expr, exprs}
+use Rattle.sac_ast.specs.View.{expr, exprs, index_view}
+use Rattle.sac_ast.specs.View
 use Rattle.value_meaning.specs.declared.evaluate.Context.{Context}
+use Rattle.sac_base.specs.declared.stop.Stop.{Stop}
 use Rattle.sac_base.specs.Outcomes.{Ends, Env, and_then, with_variables}
-use Rattle.source_meaning.specs.Meaning.{names}
+use Rattle.array_ops.specs.Tells.{TellsStop, Tells, TellsItems, TellsEnv, TellsAs}
+use Rattle.array_ops.proofs.Steps.{same_stop, fault_then}
+use Rattle.sac_base.specs.WithLoops.{Bounds}
+use Rattle.source_meaning.specs.Meaning.{name_count, names}
 use Rattle.value_meaning.specs.Evaluation.{meaning_in, meanings_in, statement_in}
+use Rattle.value_meaning.specs.WithSource.{bound_in, maybe_in}
 
 -- ---- expressions from left to right
 
@@ -57,3 +63,40 @@ not_call e h = by_layer (out-Expression e) refl
     by_layer : (l : Expression-F Bound Expression Operation Statement Generator) → out-Expression e ≡ l → is_call (expr e) ≡ false
     by_layer (Expression-F.Call name es site) s = absurd (h name es site (sym (roll-out-Expression e) ∙ ap roll-Expression s ∙ rolls-Call name es site))
     by_layer l s = ap is_call (expression_opened e ∙ ap expression_layer s)
+
+-- ---- a stop that is passed on: where the meaning goes on from one that is a fault, it is that fault
+
+pub stopped : {A B : Type 0} (r : Result B Stop) (stop : Stop) (m : Ends A) (next : A → Ends B) (meant : Ends B) → r ≡ Err stop → meant ≡ and_then m next → TellsStop stop m → Tells r meant
+stopped r stop m next meant is whole h = subst (λ r. Tells r meant) (sym is) (same_stop stop m meant (λ f e. whole ∙ fault_then m next f e) h)
+
+pub stopped_items : {A B : Type 0} (r : Result (Vec B Global) Stop) (stop : Stop) (m : Ends A) (next : A → Ends (List B)) (meant : Ends (List B)) → r ≡ Err stop → meant ≡ and_then m next → TellsStop stop m → TellsItems r meant
+stopped_items r stop m next meant is whole h = subst (λ r. TellsItems r meant) (sym is) (same_stop stop m meant (λ f e. whole ∙ fault_then m next f e) h)
+
+pub stopped_env : {A B E : Type 0} (r : Result B Stop) (stop : Stop) (env : E) (m : Ends A) (next : A → Ends E) (meant : Ends E) → r ≡ Err stop → meant ≡ and_then m next → TellsStop stop m → TellsEnv r env meant
+stopped_env r stop env m next meant is whole h = subst (λ r. TellsEnv r env meant) (sym is) (same_stop stop m meant (λ f e. whole ∙ fault_then m next f e) h)
+
+pub stopped_as : {A B D : Type 0} (view : D → B) (r : Result D Stop) (stop : Stop) (m : Ends A) (next : A → Ends B) (meant : Ends B) → r ≡ Err stop → meant ≡ and_then m next → TellsStop stop m → TellsAs view r meant
+stopped_as view r stop m next meant is whole h = subst (λ r. TellsAs view r meant) (sym is) (same_stop stop m meant (λ f e. whole ∙ fault_then m next f e) h)
+
+-- ---- the bounds of a generator, from each of its parts on
+
+abbrev pub as_bounds : Generator → Option ArrayValue → Option ArrayValue → Option ArrayValue → Option ArrayValue → Ends Bounds
+as_bounds g l u s w = Ok (record {
+  lower = l;
+  lower_closed = g.lower_closed;
+  names = name_count (index_view g.index);
+  upper = u;
+  upper_closed = g.upper_closed;
+  step = s;
+  width = w;
+  site = g.site;
+})
+
+abbrev pub from_step : Context → Env → Generator → Option ArrayValue → Option ArrayValue → Option ArrayValue → Ends Bounds
+from_step context env g l u s = and_then (maybe_in context (View.maybe g.width) env) (as_bounds g l u s)
+
+abbrev pub from_upper : Context → Env → Generator → Option ArrayValue → Option ArrayValue → Ends Bounds
+from_upper context env g l u = and_then (maybe_in context (View.maybe g.step) env) (from_step context env g l u)
+
+abbrev pub from_lower : Context → Env → Generator → Option ArrayValue → Ends Bounds
+from_lower context env g l = and_then (bound_in context (View.bound g.upper) env) (from_upper context env g l)
