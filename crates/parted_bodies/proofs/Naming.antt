@@ -1,5 +1,5 @@
 -- What stands for variables after a step.
-use Rattle.std.proofs.Common.{◌≡◌, ℕ, zero, suc, ◌+◌, ◌<◌, ◌≤◌, List, [], ◌∷◌, ◌++◌, map, length, take, drop, get_or, refl, ap, sym, ◌∙◌, arith}
+use Rattle.std.proofs.Common.{◌≡◌, ℕ, suc, ◌+◌, ◌<◌, ◌≤◌, List, length, drop, get_or, sym, ◌∙◌, arith}
 use Rattle.std.proofs.Math.Seq.{drop-cons}
 use Rattle.std.proofs.lemmas.List.{at_drop_all}
 use Rattle.core_ir.specs.declared.tree.Var.{Var}
@@ -25,18 +25,3 @@ counted_done p q i xs a b e = let same : i ≡ length xs = omega arith in e ∙ 
 
 pub counted_turn : (p q r : Progress) (i : ℕ) → p ≡ record q { next = q.next + i } → r ≡ record p { next = suc p.next } → r ≡ record q { next = q.next + (i + 1) }
 counted_turn p q r i e f = let one : suc (q.next + i) ≡ q.next + (i + 1) = omega arith in f ∙ (λ j. record (e j) { next = suc (e j).next }) ∙ (λ j. record q { next = one j })
-
--- one variable more is copied
-take_more : (xs : List Var) (i : ℕ) (d : Var) → i < length xs → take (suc i) xs ≡ take i xs ++ (get_or xs i d ∷ [])
-take_more [] i d h = absurd (omega (arith, h))
-take_more (x ∷ xs) zero d h = refl
-take_more (x ∷ xs) (suc i) d h = ap (λ l. x ∷ l) (take_more xs i d (omega (arith, h)))
-
-map_snoc : (f : Var → Var) (xs : List Var) (x : Var) → map f (xs ++ (x ∷ [])) ≡ map f xs ++ (f x ∷ [])
-map_snoc f [] x = refl
-map_snoc f (y ∷ ys) x = ap (λ l. f y ∷ l) (map_snoc f ys x)
-
-pub copied_turn : (f : Var → Var) (xs : List Var) (i : ℕ) (d y : Var) (cs cs' : List Var) → i < length xs → cs ≡ map f (take i xs) → cs' ≡ cs ++ (y ∷ []) → y ≡ f (get_or xs i d) → cs' ≡ map f (take (i + 1) xs)
-copied_turn f xs i d y cs cs' h p q e =
-    let next : suc i ≡ i + 1 = omega arith in
-    q ∙ (λ j. p j ++ (e j ∷ [])) ∙ sym (map_snoc f (take i xs) (get_or xs i d)) ∙ ap (map f) (sym (take_more xs i d h)) ∙ (λ j. map f (take (next j) xs))

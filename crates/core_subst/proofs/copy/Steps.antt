@@ -1,5 +1,6 @@
 -- The lists of a copied tree.
-use Rattle.std.proofs.Common.{◌≡◌, ℕ, ◌≤◌, List, [], ◌∷◌, map, length, take, take_all, refl, sym, ap, ◌∙◌}
+use Rattle.std.proofs.Common.{◌≡◌, ℕ, ◌+◌, ◌<◌, ◌≤◌, List, [], ◌∷◌, ◌++◌, map, length, get_or, take, take_all, refl, sym, ap, ◌∙◌}
+use Rattle.std.proofs.lemmas.List.{map_more, map-append}
 use Rattle.core_ir.specs.declared.tree.Var.{Var}
 use Rattle.core_ir.specs.declared.tree.Let.{Let}
 use Rattle.core_ir.specs.declared.tree.CoreGen.{CoreGen}
@@ -8,7 +9,7 @@ use Rattle.core_ir.specs.declared.tree.Block.{Block, Block-F, out-Block, roll-Bl
 use Rattle.core_ir.specs.declared.tree.WithLoop.{WithLoop, WithLoop-F, out-WithLoop, roll-WithLoop}
 use Rattle.core_ir.specs.declared.tree.PartedLoop.{PartedLoop, PartedLoop-F, out-PartedLoop, roll-PartedLoop}
 use Rattle.core_ir.specs.declared.tree.Right.TheBlock.{the_data, the_data-1, the_data-2, the_data-3, the_data-4, the_data-5, the_data-6}
-use Rattle.core_ir.specs.Terms.{BlockTerm, RightTerm, Gives, Bind, Gen, Part, chain, gens_of, parts_of}
+use Rattle.core_ir.specs.Terms.{RightTerm, Gives, Bind, Gen, Part, chain, gens_of, parts_of}
 use Rattle.core_ir.specs.View.{block_term, let_term, right_term, gen_term, part_term, with_term, parted_term}
 use Rattle.core_ir.proofs.Trees.{block_out, block_roll, with_out, with_roll, parted_out, parted_roll}
 use Rattle.core_subst.specs.Substitution.{core_op_with, parted_op_with}
@@ -29,6 +30,18 @@ parts_mapped f (p ∷ ps) = let k = mapped_part f (part_term p) in ap (Part k.he
 -- after a loop over a list: what holds of the part so far holds of the whole
 pub mapped_whole : {A B C : Type 0} (f : A → C) (g : B → C) (xs : List A) (items : List B) (n : ℕ) (all : List B) → map f xs ≡ map g (take n items) → length items ≤ n → items ≡ all → map f xs ≡ map g all
 mapped_whole f g xs items n all p h q = p ∙ ap (map g) (take_all n items h ∙ q)
+
+-- an item more has its copy
+pub item_copied : {A B T : Type 0} (shown : A → T) (meant : B → T) (done after : List A) (items : List B) (k : ℕ) (y : A) (x : B) → k < length items → x ≡ get_or items k x → after ≡ done ++ y ∷ [] → shown y ≡ meant x → map shown done ≡ map meant (take k items) → map shown after ≡ map meant (take (k + 1) items)
+item_copied shown meant done after items k y x inside is e same before =
+    ap (map shown) e ∙ map-append shown done (y ∷ [])
+    ∙ (λ i. before i ++ same i ∷ [])
+    ∙ ap (λ z. map meant (take k items) ++ meant z ∷ []) is
+    ∙ sym (map_more meant items k x inside)
+
+-- and a variable more
+pub var_copied : (f : Var → Var) (xs : List Var) (i : ℕ) (d y : Var) (cs cs' : List Var) → i < length xs → cs ≡ map f (take i xs) → cs' ≡ cs ++ (y ∷ []) → y ≡ f (get_or xs i d) → cs' ≡ map f (take (i + 1) xs)
+var_copied f xs i d y cs cs' h p q e = q ∙ (λ j. p j ++ (e j ∷ [])) ∙ sym (map_more f xs i d h)
 
 pub block_copied : (f : Var → Var) (x : Block-F the_data the_data-1 the_data-2 the_data-3 the_data-4 the_data-5 the_data-6) (b : Block) → map let_term x.lets.items ≡ map (λ l. mapped_let f (let_term l)) (out-Block b).lets.items → x.results.items ≡ map f (out-Block b).results.items → block_term (roll-Block x) ≡ mapped f (block_term b)
 block_copied f x b p q =
