@@ -6,7 +6,7 @@ use Rattle.sac_base.specs.declared.types.ArrayType.{ArrayType}
 use Rattle.core_ir.specs.declared.tree.Core.{Core}
 use Rattle.core_ir.specs.declared.tree.CoreFun.{CoreFun}
 use Rattle.core_ir.specs.Outcome.{group_at}
-use Rattle.core_ir.specs.Terms.{FunTerm, CoreTerm}
+use Rattle.core_ir.specs.Terms.{FunTerm}
 use Rattle.core_ir.specs.View.{core_term, fun_term}
 use Rattle.core_facts.specs.constants.Called.{called, common_shapes, result_shapes, shape_of_type, shapes_at}
 use Rattle.counted_code.specs.declared.tree.Code.{Code}

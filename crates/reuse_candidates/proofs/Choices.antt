@@ -1,6 +1,6 @@
 -- The least of the arrays that a loop may take over, among those that fit.
-use Rattle.std.proofs.Common.{◌≡◌, ◌≤◌, ℕ, Bool, true, false, ◌&&◌, not, cond, if◌then◌else◌, List, [], ◌∷◌, ◌++◌, length, map, drop, Option, Some, None, refl, sym, ap, ◌∙◌, subst}
-use Rattle.std.specs.Prelude.{eqb, filter, unwrap_or}
+use Rattle.std.proofs.Common.{◌≡◌, ◌≤◌, ℕ, Bool, true, false, ◌&&◌, cond, if◌then◌else◌, List, [], ◌∷◌, length, map, drop, Option, Some, None, refl, sym, ap, ◌∙◌, subst}
+use Rattle.std.specs.Prelude.{eqb, unwrap_or}
 use Rattle.sac_base.specs.declared.base.Base.{Base}
 use Rattle.sac_base.specs.declared.grid.Grid1.{Grid1}
 use Rattle.core_ir.specs.declared.tree.Var.{Var}
@@ -8,6 +8,8 @@ use Rattle.core_ir.specs.declared.tree.PartedOp.{PartedOp}
 use Rattle.core_ir.specs.Meaning.{extents}
 use Rattle.core_uses.specs.Tests.{none_is}
 use Rattle.std.specs.Option.{is_some}
+use Rattle.counted_code.specs.declared.tree.CodeLet.{CodeLet}
+use Rattle.counted_code.specs.declared.tree.CodePart.{CodePart}
 use Rattle.counted_code.specs.declared.tree.CodeParted.{CodeParted, out-CodeParted}
 use Rattle.counted_code.specs.declared.tree.CodeRight.{CodeRight, CodeRight-F, out-CodeRight, roll-CodeRight, roll-out-CodeRight}
 use Rattle.counted_code.specs.declared.tree.CodeRight.TheBlock.{the_data, the_data-1, the_data-2, the_data-3, the_data-4, the_data-5, the_data-6, the_data-7}
@@ -21,7 +23,7 @@ use Rattle.counted_marks.specs.Known.{Given, Known}
 use Rattle.counted_marks.specs.Marks.{own_parts}
 use Rattle.counted_marks.specs.Marking.{choice, is_base, is_candidate, is_known_shape, least, lesser, makes_buffer, may_reuse, released_next}
 use Rattle.counted_laws.specs.mark_places.Places.{releases_next}
-use Rattle.reuse_candidates.specs.Chosen.{buffer_of, fits, fitting}
+use Rattle.reuse_candidates.specs.Chosen.{buffer_of, has_form}
 use Rattle.reuse_candidates.specs.Pieces.{code_part_term, code_parts_of}
 use Rattle.reuse_candidates.proofs.Pairs.{drop_over}
 use Rattle.reuse_candidates.proofs.Trees.{parted_out}
@@ -52,14 +54,6 @@ none_made n r m rest e = (λ i. n && (r && (e i && rest))) ∙ same n r
 
 -- ---- the least
 
-least_filter : (p q : Var → Bool) (found : Option Var) (xs : List Var) → least q found (filter p xs) ≡ least (λ v. p v && q v) found xs
-least_filter p q found [] = refl
-least_filter p q found (x ∷ xs) = first (p x) ∙ least_filter p q (if p x && q x then lesser x found else found) xs
-  where
-    first : (b : Bool) → least q found (cond b (x ∷ filter p xs) (filter p xs)) ≡ least q (if b && q x then lesser x found else found) (filter p xs)
-    first true = refl
-    first false = refl
-
 least_none : (p : Var → Bool) (found : Option Var) (xs : List Var) → ((v : Var) → p v ≡ false) → least p found xs ≡ found
 least_none p found [] none = refl
 least_none p found (x ∷ xs) none = (λ i. least p (if none x i then lesser x found else found) xs) ∙ least_none p found xs none
@@ -75,17 +69,18 @@ from_none true whole e = absurd (let q : ◌≡◌ {A = Option (List ℕ)} None 
 from_none false whole e = refl
 
 module _ (g : Given) (k : Known) (targets : List Var) (f : List Grid1) (b : Base) (l : List ℕ) (o : PartedOp) (ps : CodePartsTerm) (rest : CodeTerm) where
-  candidates : makes_buffer f l o ≡ true → (v : Var) → (fits k targets b (extents f) rest v && own_parts g.shapes v ps k.facts) ≡ is_candidate g k targets f b l o ps rest v
+  abbrev pub taken_for : List ℕ → Var → Bool
+  taken_for shape v = (has_form k b shape v && (none_is v targets && releases_next v rest)) && own_parts g.shapes v ps k.facts
+
+  candidates : makes_buffer f l o ≡ true → (v : Var) → taken_for (extents f) v ≡ is_candidate g k targets f b l o ps rest v
   candidates m v = ands (none_is v targets) (releases_next v rest) (makes_buffer f l o) (is_base b (k.bases v)) (is_known_shape (extents f) (k.facts v).shape) (own_parts g.shapes v ps k.facts) m
 
   -- the least of those that fit and are used at the own index alone
-  pub chosen : (shape : List ℕ) (found : Option Var) → Some shape ≡ buffer_of f l o → found ≡ least (λ v. own_parts g.shapes v ps k.facts) None (fitting k targets b shape rest)
-      → found ≡ choice g k targets (PartedCode f b l o ps None) rest
+  pub chosen : (shape : List ℕ) (found : Option Var) → Some shape ≡ buffer_of f l o → found ≡ least (taken_for shape) None (released_next rest) → found ≡ choice g k targets (PartedCode f b l o ps None) rest
   chosen shape found e h =
       let made = from_test (makes_buffer f l o) shape (extents f) e in
       h
-      ∙ (λ i. least (λ v. own_parts g.shapes v ps k.facts) None (fitting k targets b (made.1 i) rest))
-      ∙ least_filter (fits k targets b (extents f) rest) (λ v. own_parts g.shapes v ps k.facts) None (released_next rest)
+      ∙ (λ i. least (taken_for (made.1 i)) None (released_next rest))
       ∙ (λ i. least (λ v. candidates made.0 v i) None (released_next rest))
 
   pub none_chosen : None ≡ buffer_of f l o → None ≡ choice g k targets (PartedCode f b l o ps None) rest
@@ -100,9 +95,6 @@ unmarked None e = refl
 unmarked (Some v) e = absurd (let q : ◌≡◌ {A = Bool} true false = e in cc)
 
 module _ (g : Given) (k : Known) (targets : List Var) (p : CodeParted) (rest : CodeTerm) where
-  abbrev own : Var → Bool
-  own v = own_parts g.shapes v (code_parts_of (map code_part_term (out-CodeParted p).parts.items)) k.facts
-
   without_mark : is_some (out-CodeParted p).reuse ≡ false →
       choice g k targets (PartedCode (out-CodeParted p).frame (out-CodeParted p).base (out-CodeParted p).cell (out-CodeParted p).op (code_parts_of (map code_part_term (out-CodeParted p).parts.items)) None) rest ≡ choice g k targets (code_parted_term p) rest
   without_mark e =
@@ -121,11 +113,11 @@ module _ (g : Given) (k : Known) (targets : List Var) (p : CodeParted) (rest : C
   pub no_buffer : is_some (out-CodeParted p).reuse ≡ false → None ≡ buffer_of (out-CodeParted p).frame (out-CodeParted p).cell (out-CodeParted p).op → None ≡ choice g k targets (code_parted_term p) rest
   no_buffer e h = none_chosen g k targets (out-CodeParted p).frame (out-CodeParted p).base (out-CodeParted p).cell (out-CodeParted p).op (code_parts_of (map code_part_term (out-CodeParted p).parts.items)) rest h ∙ without_mark e
 
-  pub least_found : (shape : List ℕ) (found : Option Var) (items : List Var) (i : ℕ) → is_some (out-CodeParted p).reuse ≡ false → Some shape ≡ buffer_of (out-CodeParted p).frame (out-CodeParted p).cell (out-CodeParted p).op →
-      items ≡ fitting k targets (out-CodeParted p).base shape rest → length items ≤ i → least own found (drop i items) ≡ least own None items → found ≡ choice g k targets (code_parted_term p) rest
-  least_found shape found items i e h fit over whole =
+  pub least_found : (shape : List ℕ) (parts : List CodePart) (found : Option Var) → is_some (out-CodeParted p).reuse ≡ false → Some shape ≡ buffer_of (out-CodeParted p).frame (out-CodeParted p).cell (out-CodeParted p).op → parts ≡ (out-CodeParted p).parts.items →
+      found ≡ least (taken_for g k targets (out-CodeParted p).frame (out-CodeParted p).base (out-CodeParted p).cell (out-CodeParted p).op (code_parts_of (map code_part_term parts)) rest shape) None (released_next rest) → found ≡ choice g k targets (code_parted_term p) rest
+  least_found shape parts found e h same is =
       chosen g k targets (out-CodeParted p).frame (out-CodeParted p).base (out-CodeParted p).cell (out-CodeParted p).op (code_parts_of (map code_part_term (out-CodeParted p).parts.items)) rest shape found h
-      ((λ j. least own found (sym (drop_over items i over) j)) ∙ whole ∙ (λ j. least own None (fit j)))
+      (is ∙ (λ j. least (taken_for g k targets (out-CodeParted p).frame (out-CodeParted p).base (out-CodeParted p).cell (out-CodeParted p).op (code_parts_of (map code_part_term (same j))) rest shape) None (released_next rest)))
       ∙ without_mark e
 
 -- no other right side takes over an array
@@ -142,6 +134,23 @@ no_choice g k targets rest r other = by_layer (out-CodeRight r) refl
     by_layer l e = subst (λ (q : CodeRight). None ≡ choice g k targets (code_right_term q) rest) (sym (ap roll-CodeRight e) ∙ roll-out-CodeRight r) refl
 
 -- ---- steps up to the next binding
+
+-- one step of the search for the least, whose outcome is `whole`
+module _ (holds : Var → Bool) (found whole : Option Var) (x : CodeStep) (before rest : List CodeStep) (split : before ≡ x ∷ rest) (so_far : least holds found (released_next (steps_before before (Giving []))) ≡ whole) where
+  here : (y : CodeStep) → x ≡ y → least holds found (released_next (step_term y (steps_before rest (Giving [])))) ≡ whole
+  here y is = (λ i. least holds found (released_next (step_term (sym is i) (steps_before rest (Giving []))))) ∙ (λ i. least holds found (released_next (steps_before (sym split i) (Giving [])))) ∙ so_far
+
+  pub at_binding : (b : CodeLet) → x ≡ step.Bind b → found ≡ whole
+  at_binding b is = here (step.Bind b) is
+
+  pub past_keep : (v : Var) → x ≡ step.Keep v → least holds found (released_next (steps_before rest (Giving []))) ≡ whole
+  past_keep v is = here (step.Keep v) is
+
+  pub past_release : (v : Var) (found' : Option Var) → x ≡ step.Release v → found' ≡ (if holds v then lesser v found else found) → least holds found' (released_next (steps_before rest (Giving []))) ≡ whole
+  past_release v found' is e = (λ i. least holds (e i) (released_next (steps_before rest (Giving [])))) ∙ here (step.Release v) is
+
+pub no_more : (holds : Var → Bool) (found whole : Option Var) (ss : List CodeStep) (i : ℕ) → length ss ≤ i → least holds found (released_next (steps_before (drop i ss) (Giving []))) ≡ whole → found ≡ whole
+no_more holds found whole ss i over h = (λ j. least holds found (released_next (steps_before (sym (drop_over ss i over) j) (Giving [])))) ∙ h
 
 module _ (xs ys : List Var) where
   released_same : (ss : List CodeStep) → released_next (steps_before ss (Giving xs)) ≡ released_next (steps_before ss (Giving ys))

@@ -1,69 +1,34 @@
 -- One step of the walk through a loop's cells more, and its ends.
-use Rattle.std.specs.Prelude.{unwrap_or, Vec, IfOk, Result, Ok, Err}
+use Rattle.std.specs.Prelude.{unwrap_or, Vec, IfOk, OnOk, Result, Ok, Err}
 use Rattle.std.specs.Option.{is_some}
 use Rattle.std.specs.declared.alloc.Global.{Global}
-use Rattle.std.proofs.Common.{◌≡◌, ℕ, Bool, true, false, ◌&&◌, List, [], ◌∷◌, map, Option, Some, None, refl, sym, ap, ◌∙◌}
+use Rattle.std.proofs.Common.{◌≡◌, Bool, true, false, ◌&&◌, List, ◌∷◌, [], map, Option, Some, None, refl, sym, ap, ◌∙◌}
+use Rattle.sac_base.specs.declared.site.Site.{Site}
 use Rattle.core_ir.specs.declared.tree.Var.{Var}
-use Rattle.core_ir.specs.Terms.{RightTerm}
-use Rattle.core_facts.specs.Facts.{Fact, Facts, note_all, right_facts, block_facts}
-use Rattle.core_loops.specs.Indices.{IndexFacts, learn_index}
-use Rattle.core_uses.specs.Tests.{none_is}
+use Rattle.core_facts.specs.Facts.{Fact, block_facts, right_facts}
 use Rattle.counted_code.specs.declared.tree.CodeBlock.{CodeBlock}
 use Rattle.counted_code.specs.declared.tree.CodeStep.{CodeStep}
 use Rattle.counted_code.specs.Terms.{CodeTerm, CodeRightTerm, Giving, Binding, core_of, core_of_right}
 use Rattle.counted_code.specs.View.{code_term, steps_before, step_term}
-use Rattle.counted_marks.specs.Marks.{own_only, own_right}
 use Rattle.fact_table.specs.declared.known.Known.{Known}
 use Rattle.fact_table.specs.Table.{fact_of}
-use Rattle.reuse_candidates.specs.Plain.{plain_core}
-use Rattle.reuse_candidates.specs.Told.{known_if, seen}
+use Rattle.plain_facts.specs.Called.{shapes_of}
+use Rattle.fact_table.proofs.scoped_table.Marks.{earlier_on, none_gone}
+use Rattle.reuse_candidates.specs.declared.cells.CellScope.{CellScope}
+use Rattle.reuse_candidates.specs.declared.cells.Search.{Search}
+use Rattle.reuse_candidates.specs.Cells.{CellKnown, block_tells, cell_mark, is_own, known_if, learned_in_cell, right_tells, seen, told_if, undone}
 
--- a step that is passed
-pub own_turn : (called : ℕ → List (Option (List ℕ))) (v : Var) (n : ℕ) (k k' : Facts) (m m' : IndexFacts) (x : CodeStep) (before rest : List CodeStep) (end : CodeTerm) (whole : Bool) → before ≡ x ∷ rest →
-    own_only called v n (step_term x (steps_before rest end)) k m ≡ own_only called v n (steps_before rest end) k' m' → own_only called v n (steps_before before end) k m ≡ whole → own_only called v n (steps_before rest end) k' m' ≡ whole
-own_turn called v n k k' m m' x before rest end whole b e h = sym e ∙ (λ i. own_only called v n (steps_before (sym b i) end) k m) ∙ h
+-- ---- what an answer says
 
--- a step that is not
-pub own_stop : (called : ℕ → List (Option (List ℕ))) (v : Var) (n : ℕ) (k : Facts) (m : IndexFacts) (x : CodeStep) (before rest : List CodeStep) (end : CodeTerm) (whole : Bool) → before ≡ x ∷ rest →
-    own_only called v n (step_term x (steps_before rest end)) k m ≡ false → own_only called v n (steps_before before end) k m ≡ whole → whole ≡ false
-own_stop called v n k m x before rest end whole b e h = sym h ∙ (λ i. own_only called v n (steps_before (b i) end) k m) ∙ e
-
-pub known_turn : (called : ℕ → List (Option (List ℕ))) (k k' : Facts) (x : CodeStep) (before rest : List CodeStep) (end : CodeTerm) (whole : List Fact) → before ≡ x ∷ rest →
-    block_facts called (core_of (step_term x (steps_before rest end))) k ≡ block_facts called (core_of (steps_before rest end)) k' → block_facts called (core_of (steps_before before end)) k ≡ whole → block_facts called (core_of (steps_before rest end)) k' ≡ whole
-known_turn called k k' x before rest end whole b e h = sym e ∙ (λ i. block_facts called (core_of (steps_before (sym b i) end)) k) ∙ h
-
--- the whole block, where its steps are passed or not
-pub block_values : (called : ℕ → List (Option (List ℕ))) (v : Var) (n : ℕ) (b : CodeBlock) (k k' : Facts) (m m' : IndexFacts) (ss : List CodeStep) (rs : List Var) (passed : Bool) (o : Option (List Fact)) → ss ≡ b.steps.items → rs ≡ b.results.items
-    → ((end : CodeTerm) → own_only called v n (steps_before ss end) k m ≡ (passed && own_only called v n end k' m'))
-    → (passed ≡ true → (end : CodeTerm) → block_facts called (core_of (steps_before ss end)) k ≡ block_facts called (core_of end) k')
-    → o ≡ known_if (passed && none_is v rs) (map k' rs) → o ≡ known_if (own_only called v n (code_term b) k m) (block_facts called (core_of (code_term b)) k)
-block_values called v n b k k' m m' ss rs passed o l r t f e =
-    e
-    ∙ at passed t f
-    ∙ (λ i. known_if (own_only called v n (steps_before (l i) (Giving (r i))) k m) (block_facts called (core_of (steps_before (l i) (Giving (r i)))) k))
-  where
-    at : (passed : Bool) → ((end : CodeTerm) → own_only called v n (steps_before ss end) k m ≡ (passed && own_only called v n end k' m'))
-        → (passed ≡ true → (end : CodeTerm) → block_facts called (core_of (steps_before ss end)) k ≡ block_facts called (core_of end) k')
-        → known_if (passed && none_is v rs) (map k' rs) ≡ known_if (own_only called v n (steps_before ss (Giving rs)) k m) (block_facts called (core_of (steps_before ss (Giving rs))) k)
-    at true t f = λ i. known_if (sym (t (Giving rs)) i) (sym (f refl (Giving rs)) i)
-    at false t f = λ i. known_if (sym (t (Giving rs)) i) (block_facts called (core_of (steps_before ss (Giving rs))) k)
-
--- what a known answer says
-is_known : (b : Bool) (fs gs : List Fact) → Some fs ≡ known_if b gs → (b ≡ true) × (fs ≡ gs)
+pub is_known : (b : Bool) (fs gs : List Fact) → Some fs ≡ known_if b gs → (b ≡ true) × (fs ≡ gs)
 is_known true fs gs e = (refl, ap (λ (o : Option (List Fact)). unwrap_or o []) e)
 is_known false fs gs e = absurd (let q : ◌≡◌ {A = Option (List Fact)} (Some fs) None = e in cc)
 
-is_unknown : (b : Bool) (gs : List Fact) → None ≡ known_if b gs → b ≡ false
+pub is_unknown : (b : Bool) (gs : List Fact) → None ≡ known_if b gs → b ≡ false
 is_unknown true gs e = absurd (let q : ◌≡◌ {A = Option (List Fact)} None (Some gs) = e in cc)
 is_unknown false gs e = refl
 
-pub known_at : (o : Option (Vec Known Global)) (v : Vec Known Global) (b : Bool) (gs : List Fact) → o ≡ Some v → seen o ≡ known_if b gs → (b ≡ true) × (map fact_of v.items ≡ gs)
-known_at o v b gs is e = is_known b (map fact_of v.items) gs (ap seen (sym is) ∙ e)
-
-pub unknown_at : (o : Option (Vec Known Global)) (b : Bool) (gs : List Fact) → o ≡ None → seen o ≡ known_if b gs → b ≡ false
-unknown_at o b gs is e = is_unknown b gs (ap seen (sym is) ∙ e)
-
--- whether there is an answer
+-- whether there is one
 pub some_is : (o : Option (Vec Known Global)) (b : Bool) (fs : List Fact) → seen o ≡ known_if b fs → is_some o ≡ b
 some_is None true fs e = absurd (let q : ◌≡◌ {A = Option (List Fact)} None (Some fs) = e in cc)
 some_is None false fs e = refl
@@ -75,25 +40,51 @@ pub on_ok : {A E : Type 0} (P Q : A → Type 0) (r : Result A E) → ((a : A) �
 on_ok P Q (Ok a) f h = f a h
 on_ok P Q (Err e) f h = h
 
--- ---- conditionals
+pub if_done : {A E : Type 0} (P Q : Type 0) (r : Result A E) → (P → Q) → OnOk r P → OnOk r Q
+if_done P Q (Ok a) f h = f h
+if_done P Q (Err e) f h = h
 
-pub choice_unknown : (s a b : Bool) (fs : List Fact) → b ≡ false → None ≡ known_if (s && (a && b)) fs
-choice_unknown true true b fs e = λ i. known_if (sym e i) fs
-choice_unknown true false b fs e = refl
-choice_unknown false a b fs e = refl
+-- ---- notes
 
-pub choice_known : (s a b : Bool) (fs gs : List Fact) → s ≡ true → a ≡ true → b ≡ true → gs ≡ fs → Some gs ≡ known_if (s && (a && b)) fs
-choice_known s a b fs gs p q r e = (λ i. known_if (sym p i && (sym q i && sym r i)) (e i))
+pub cells_on : (a b c : CellScope) → undone (cell_mark a) b ≡ a → undone (cell_mark b) c ≡ b → undone (cell_mark a) c ≡ a
+cells_on a b c p q =
+    λ i. record {
+      facts = earlier_on a.facts b.facts c.facts (ap (λ (s : CellScope). s.facts) p) (ap (λ (s : CellScope). s.facts) q) i;
+      indices = earlier_on a.indices b.indices c.indices (ap (λ (s : CellScope). s.indices) p) (ap (λ (s : CellScope). s.indices) q) i;
+    }
 
--- ---- what a binding tells beside the index
+pub cells_stay : (a : CellScope) → undone (cell_mark a) a ≡ a
+cells_stay a = λ i. record { facts = none_gone a.facts i; indices = none_gone a.indices i }
 
--- of a right side with blocks or calls it is nothing, as of one that always faults
-pub learns_plain : (n : ℕ) (m : IndexFacts) (xs : List Var) (r : RightTerm) (k : Facts) → learn_index n m xs (plain_core r) k ≡ learn_index n m xs r k
-learns_plain n m [] r k = refl
-learns_plain n m (x ∷ []) (RightTerm.Plain p) k = refl
-learns_plain n m (x ∷ []) (RightTerm.If c a b) k = refl
-learns_plain n m (x ∷ []) (RightTerm.Loop first start params test body s) k = refl
-learns_plain n m (x ∷ []) (RightTerm.Call g ys) k = refl
-learns_plain n m (x ∷ []) (RightTerm.With o gens) k = refl
-learns_plain n m (x ∷ []) (RightTerm.Parted f t l o parts) k = refl
-learns_plain n m (x ∷ y ∷ xs) r k = refl
+module _ (s : Search) where
+  -- ---- steps
+
+  -- one that is passed
+  pub own_turn : (k k' : CellKnown) (x : CodeStep) (before rest : List CodeStep) (end : CodeTerm) (passed : Bool) (whole : Option (List Fact)) → before ≡ x ∷ rest → passed ≡ true →
+      block_tells s (step_term x (steps_before rest end)) k ≡ told_if passed (block_tells s (steps_before rest end) k') → block_tells s (steps_before before end) k ≡ whole → block_tells s (steps_before rest end) k' ≡ whole
+  own_turn k k' x before rest end passed whole b p e h =
+      (λ i. told_if (sym p i) (block_tells s (steps_before rest end) k')) ∙ sym e ∙ (λ i. block_tells s (steps_before (sym b i) end) k) ∙ h
+
+  -- one that is not
+  pub own_stop : (k k' : CellKnown) (x : CodeStep) (before rest : List CodeStep) (end : CodeTerm) (passed : Bool) (whole : Option (List Fact)) → before ≡ x ∷ rest → passed ≡ false →
+      block_tells s (step_term x (steps_before rest end)) k ≡ told_if passed (block_tells s (steps_before rest end) k') → block_tells s (steps_before before end) k ≡ whole → whole ≡ None
+  own_stop k k' x before rest end passed whole b p e h =
+      sym h ∙ (λ i. block_tells s (steps_before (b i) end) k) ∙ e ∙ (λ i. told_if (p i) (block_tells s (steps_before rest end) k'))
+
+  -- the whole block
+  pub whole_block : (b : CodeBlock) (k k' : CellKnown) (ss : List CodeStep) (rs : List Var) (passed : Bool) (o : Option (List Fact)) → ss ≡ b.steps.items → rs ≡ b.results.items →
+      ((end : CodeTerm) → block_tells s (steps_before ss end) k ≡ told_if passed (block_tells s end k')) → o ≡ told_if passed (block_tells s (Giving rs) k') → o ≡ block_tells s (code_term b) k
+  whole_block b k k' ss rs passed o l r t e = e ∙ sym (t (Giving rs)) ∙ (λ i. block_tells s (steps_before (l i) (Giving (r i))) k)
+
+  -- ---- bindings
+
+  pub bound : (k k' : CellKnown) (xs : List Var) (site : Site) (r : CodeRightTerm) (end : CodeTerm) (fs : List Fact) → Some fs ≡ right_tells s r k → k' ≡ learned_in_cell s.axes k xs (core_of_right r) fs →
+      block_tells s (Binding xs site r end) k ≡ block_tells s end k'
+  bound k k' xs site r end fs t e =
+      let w = is_known _ _ _ t in
+      (λ i. known_if (w.0 i && is_own s end (learned_in_cell s.axes k xs (core_of_right r) (sym w.1 i))) (block_facts (shapes_of s.called.now) (core_of end) (learned_in_cell s.axes k xs (core_of_right r) (sym w.1 i)).facts))
+      ∙ (λ i. block_tells s end (sym e i))
+
+  pub unbound : (k : CellKnown) (xs : List Var) (site : Site) (r : CodeRightTerm) (end : CodeTerm) → None ≡ right_tells s r k → block_tells s (Binding xs site r end) k ≡ None
+  unbound k xs site r end t =
+      λ i. known_if (is_unknown _ _ t i && is_own s end (learned_in_cell s.axes k xs (core_of_right r) (right_facts (shapes_of s.called.now) (core_of_right r) k.facts))) (block_facts (shapes_of s.called.now) (core_of (Binding xs site r end)) k.facts)

@@ -1,5 +1,5 @@
 -- Right sides with blocks and calls.
-use Rattle.std.proofs.Common.{◌≡◌, ℕ, Bool, List, Option, refl, sym, subst, inl, inr, Vec, Global}
+use Rattle.std.proofs.Common.{◌≡◌, ℕ, Bool, List, [], ◌∷◌, Option, refl, sym, subst, inl, inr, Vec, Global}
 use Rattle.std.specs.Prelude.{◌⊎◌}
 use Rattle.sac_base.specs.declared.base.Base.{Base}
 use Rattle.sac_base.specs.declared.grid.Grid1.{Grid1}
@@ -7,6 +7,9 @@ use Rattle.sac_base.specs.declared.site.Site.{Site}
 use Rattle.core_ir.specs.declared.tree.Var.{Var}
 use Rattle.core_ir.specs.declared.tree.CoreOp.{CoreOp}
 use Rattle.core_ir.specs.declared.tree.PartedOp.{PartedOp}
+use Rattle.core_ir.specs.Terms.{RightTerm}
+use Rattle.core_facts.specs.Facts.{Facts}
+use Rattle.core_loops.specs.Indices.{IndexFacts, learn_index}
 use Rattle.counted_code.specs.declared.tree.CodeBlock.{CodeBlock}
 use Rattle.counted_code.specs.declared.tree.CodeRight.{CodeRight}
 use Rattle.counted_code.specs.declared.tree.CodeRight.TheVariants as right
@@ -15,6 +18,7 @@ use Rattle.counted_code.specs.declared.tree.CodeParted.{CodeParted, CodeParted'}
 use Rattle.counted_code.specs.Terms.{CodeTerm, CodeRightTerm, CodeGensTerm, CodePartsTerm, IfCode, LoopCode, CallCode, WithCode, PartedCode}
 use Rattle.counted_code.specs.View.{code_term, code_right_term, code_with_term, code_parted_term}
 use Rattle.reuse_candidates.proofs.Trees.{if_term, loop_term}
+use Rattle.reuse_candidates.specs.Plain.{plain_core}
 
 -- as an arm over all of them says it
 abbrev pub HasBlocks : CodeRight → Type 0
@@ -42,3 +46,16 @@ module _ (P : CodeRightTerm → Type 0) (ifs : (x : Var) (a b : CodeTerm) → P 
   with_blocks r (inr (inr (inl (g, xs, e)))) = subst (λ q. P (code_right_term q)) (sym e) (calls g xs.items)
   with_blocks r (inr (inr (inr (inl (w, e))))) = subst (λ q. P (code_right_term q)) (sym e) (with_holds w)
   with_blocks r (inr (inr (inr (inr (p, e))))) = subst (λ q. P (code_right_term q)) (sym e) (parted_holds p)
+
+-- ---- what a binding tells beside the index
+
+-- of a right side with blocks or calls it is nothing, as of one that always faults
+pub learns_plain : (n : ℕ) (m : IndexFacts) (xs : List Var) (r : RightTerm) (k : Facts) → learn_index n m xs (plain_core r) k ≡ learn_index n m xs r k
+learns_plain n m [] r k = refl
+learns_plain n m (x ∷ []) (RightTerm.Plain p) k = refl
+learns_plain n m (x ∷ []) (RightTerm.If c a b) k = refl
+learns_plain n m (x ∷ []) (RightTerm.Loop first start params test body s) k = refl
+learns_plain n m (x ∷ []) (RightTerm.Call g ys) k = refl
+learns_plain n m (x ∷ []) (RightTerm.With o gens) k = refl
+learns_plain n m (x ∷ []) (RightTerm.Parted f t l o parts) k = refl
+learns_plain n m (x ∷ y ∷ xs) r k = refl

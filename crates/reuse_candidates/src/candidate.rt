@@ -4,10 +4,10 @@ ghost use Rattle.std.specs.Prelude.{◌≡◌, [], IfOk, OnOk, if◌then◌else�
 ghost use Rattle.counted_code.specs.Terms.{Giving};
 ghost use Rattle.counted_code.specs.Values.{is_small as is_small_shape};
 ghost use Rattle.counted_code.specs.View.{steps_before, code_parted_term, code_right_term};
-ghost use Rattle.counted_marks.specs.Marking.{choice, is_base as base_is, is_known_shape, lesser as lesser_of, released_next as next_released};
+ghost use Rattle.counted_marks.specs.Marking.{choice, is_base as base_is, is_known_shape, least, lesser as lesser_of, released_next};
 ghost use Rattle.counted_laws.specs.mark_places.Places.{releases_next as is_released_next};
 ghost use Rattle.reuse_candidates.specs.Calls.{given_by};
-ghost use Rattle.reuse_candidates.specs.Chosen.{buffer_of, fits as fits_of, fitting as fitting_of, has_form as form_is, large as large_of};
+ghost use Rattle.reuse_candidates.specs.Chosen.{buffer_of, fits as fits_of, has_form as form_is, large as large_of, takes};
 ghost use Rattle.reuse_candidates.specs.Scopes.{known_in};
 
 use crate::bases::base_at;
@@ -17,7 +17,7 @@ use crate::rules::lesser;
 use crate::scope::Scope;
 use core_ir::{PartedOp, Var};
 use core_uses::avoids_all;
-use counted_code::{CodeParted, CodeRight, CodeStep};
+use counted_code::{CodePart, CodeParted, CodeRight, CodeStep};
 use plain_facts::parted_shape;
 use sac_base::{Base, Grid, Memory, Shape, same_base, same_shape};
 use std::alloc::Global;
@@ -48,6 +48,16 @@ pub fn choose(
     }
 }
 
+/// A parted loop that makes an array of this base and shape: what it is bound to, its parts, and the steps behind it.
+#[derive(Clone, Copy)]
+struct Maker<'a> {
+    targets: &'a [Var],
+    base: Base,
+    shape: &'a Shape,
+    parts: &'a [CodePart],
+    later: &'a [CodeStep],
+}
+
 fn choose_for(
     alloc: Global,
     targets: &[Var],
@@ -66,45 +76,65 @@ fn choose_for(
     let Some(shape) = buffer_shape(alloc, &parted.frame, &parted.cell, parted.op) else {
         return Ok(None);
     };
-    let mut found = None;
-    for x in &fitting(alloc, targets, parted.base, &shape, later, scope)? {
-        let own = own_parts(alloc, *x, &parted.parts, &calls.shapes, &mut scope.facts)?;
-        found = lesser_if(own, *x, found);
-    }
-    Ok(found)
+    let maker = Maker {
+        targets,
+        base: parted.base,
+        shape: &shape,
+        parts: &parted.parts,
+        later,
+    };
+    least_taken(alloc, &maker, calls, scope)
 }
 
-/// What is released before the next binding, was there before the loop, and is known to have a base and a shape.
-fn fitting(
+/// The least of the arrays that are released before the next binding and may be taken over.
+fn least_taken(
     alloc: Global,
-    targets: &[Var],
-    base: Base,
-    shape: &Shape,
-    later: &[CodeStep],
-    scope: &Scope,
-) -> Result<Vec<Var>, Memory>
-    ensures { IfOk result (λ found. found.items ≡ fitting_of (known_in scope.now) targets.now base shape.now (steps_before later.now (Giving []))) }
+    maker: &Maker<'_>,
+    calls: &Calls,
+    scope: &mut Scope,
+) -> Result<Option<Var>, Memory>
+    ensures chosen { IfOk result (λ found. found ≡ least (takes (given_by calls.now) (known_in scope.old) maker.now) None
+        (released_next (steps_before maker.now.later.now (Giving [])))) }
+    ensures scope { OnOk result (scope.new ≡ scope.old) }
 {
-    let mut found = Vec::new(alloc);
-    for x in &released_next(alloc, later)? {
-        if fits(*x, targets, base, shape, later, scope) {
-            found.push(*x)?;
+    let mut found = None;
+    for step in maker.later {
+        match step {
+            CodeStep::Bind(_) => return Ok(found),
+            CodeStep::Keep(_) => {}
+            CodeStep::Release(x) => {
+                let taken = may_take(alloc, *x, maker, calls, scope)?;
+                found = lesser_if(taken, *x, found);
+            }
         }
     }
     Ok(found)
 }
 
-fn fits(
+/// Whether the loop may write its result over an array: it fits, and the cells use it at their own index alone.
+fn may_take(
+    alloc: Global,
     x: Var,
-    targets: &[Var],
-    base: Base,
-    shape: &Shape,
-    later: &[CodeStep],
-    scope: &Scope,
-) -> bool
-    ensures { result ≡ fits_of (known_in scope.now) targets.now base shape.now (steps_before later.now (Giving [])) x }
+    maker: &Maker<'_>,
+    calls: &Calls,
+    scope: &mut Scope,
+) -> Result<bool, Memory>
+    ensures taken { IfOk result (λ taken. taken ≡ takes (given_by calls.now) (known_in scope.old) maker.now x) }
+    ensures scope { OnOk result (scope.new ≡ scope.old) }
 {
-    has_form(x, base, shape, scope) && avoids_all(x, targets) && is_released(x, later)
+    if !fits(x, maker, scope) {
+        return Ok(false);
+    }
+    own_parts(alloc, x, maker.parts, &calls.shapes, &mut scope.facts)
+}
+
+/// Whether a variable is known to have the result's base and shape, was there before the loop, and is released next.
+fn fits(x: Var, maker: &Maker<'_>, scope: &Scope) -> bool
+    ensures { result ≡ fits_of (known_in scope.now) maker.now x }
+{
+    has_form(x, maker.base, maker.shape, scope)
+        && avoids_all(x, maker.targets)
+        && is_released(x, maker.later)
 }
 
 /// The shape of a parted loop's result, where the loop makes an array of scalar cells that has a buffer.
@@ -138,21 +168,6 @@ fn is_small(shape: &Shape) -> bool
         [n] => *n <= 8,
         _ => false,
     }
-}
-
-/// What is released before the next binding.
-fn released_next(alloc: Global, steps: &[CodeStep]) -> Result<Vec<Var>, Memory>
-    ensures { IfOk result (λ released. released.items ≡ next_released (steps_before steps.now (Giving []))) }
-{
-    let mut released = Vec::new(alloc);
-    for step in steps {
-        match step {
-            CodeStep::Bind(_) => return Ok(released),
-            CodeStep::Keep(_) => {}
-            CodeStep::Release(x) => released.push(*x)?,
-        }
-    }
-    Ok(released)
 }
 
 /// Whether a variable is known to have a base and a shape.

@@ -1,9 +1,10 @@
 //! What generators read, and the indices of parts.
 
 ghost use Rattle.std.specs.Prelude.{◌≡◌, ◌-◌, IfOk, OnOk, drop, length, option_to_list, pos, replicate};
+ghost use Rattle.core_loops.specs.Indices;
 ghost use Rattle.core_loops.specs.Indices.{note_others};
 ghost use Rattle.core_uses.specs.Tests.{none_is, head_avoided};
-ghost use Rattle.index_table.specs.Table.{indices_of};
+ghost use Rattle.index_table.specs.Table.{index_of, indices_of};
 ghost use Rattle.reuse_candidates.specs.Pieces.{code_gen_term};
 
 use core_ir::Var;
@@ -13,13 +14,13 @@ use index_table::{IndexTable, Relation};
 use sac_base::Memory;
 use std::alloc::Global;
 
-/// So many zeros.
-pub fn zeros(alloc: Global, count: usize) -> Result<Vec<i32>, Memory>
-    ensures { IfOk result (λ numbers. numbers.items ≡ replicate count (pos 0)) }
+/// The index itself, of so many components.
+pub fn own_relation(alloc: Global, axes: usize) -> Result<Relation, Memory>
+    ensures { IfOk result (λ relation. index_of relation ≡ Indices.Plus (replicate axes (pos 0))) }
 {
     let mut numbers = Vec::new(alloc);
-    numbers.resize(count, 0)?;
-    Ok(numbers)
+    numbers.resize(axes, 0)?;
+    Ok(Relation::Plus(numbers))
 }
 
 /// No variable of these has a relation to the index.

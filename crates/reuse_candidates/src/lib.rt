@@ -4,6 +4,7 @@
 mod bases;
 mod calls;
 mod candidate;
+mod cells;
 mod copies;
 mod heads;
 mod own;
@@ -16,4 +17,5 @@ pub use calls::{CalledBases, Calls, calls_of};
 pub use candidate::choose;
 pub use copies::{copy_plain, copy_vars, core_right};
 pub use own::own_parts;
+pub use plain::plain_known;
 pub use scope::{Scope, ScopeMark, Values};
