@@ -36,12 +36,13 @@ def uses():
 
 
 def sources(crate):
-    """All that the files of a crate say, in one text."""
+    """All that the files of a crate say, and its edits, in one text."""
     said = []
-    for folder, _, files in os.walk(os.path.join(TOP, "crates", crate)):
-        if "/out/" in folder + "/":
-            continue
-        said += [text_of(os.path.join(folder, file)) for file in files if file.endswith((".rt", ".antt", ".edit"))]
+    for top in ("crates", "edits"):
+        for folder, _, files in os.walk(os.path.join(TOP, top, crate)):
+            if "/out/" in folder + "/":
+                continue
+            said += [text_of(os.path.join(folder, file)) for file in files if file.endswith((".rt", ".antt", ".edit"))]
     return "\n".join(said)
 
 
