@@ -43,10 +43,11 @@ NO_NUMPY = {"prefix", "histogram", "mandelbrot", "paths", "scalars", "fib", "que
 LONG = 0.3
 
 
-def sac(program, workers, folder):
+def sac(program, workers, folder, sized=lambda work, text: text):
+    """Returns the command of a work and so many rounds, whose source is what `sized` makes of the one in works/."""
     def command(work, rounds):
         source = folder / f"{work}{rounds}.sac"
-        source.write_text((HERE / f"{work}.sac").read_text().replace("ROUNDS", str(rounds)))
+        source.write_text(sized(work, (HERE / f"{work}.sac").read_text()).replace("ROUNDS", str(rounds)))
         return [program, source, "--workers", str(workers)]
     return command
 
