@@ -14,9 +14,9 @@ use Rattle.counted_code.specs.Terms.{IfCode, LoopCode, WithCode, PartedCode, Gen
 use Rattle.counted_code.specs.View.{code_term, code_right_term, code_with_term, code_parted_term}
 use Rattle.counted_marks.specs.Known.{Given, Known, in_loop}
 use Rattle.counted_marks.specs.Marking.{marking, marking_gens, marking_parts, marking_right}
-use Rattle.reuse_candidates.specs.Pieces.{code_gen_term, code_part_term, code_gens_of, code_parts_of}
+use Rattle.counted_code.specs.Pieces.{code_gen_term, code_part_term, code_gens_of, code_parts_of}
 use Rattle.reuse_candidates.specs.Scopes.{Told, told_block, told_right}
-use Rattle.reuse_candidates.proofs.Trees.{if_term, loop_term, with_out, with_roll, parted_out, parted_roll}
+use Rattle.counted_code.proofs.Trees.{if_term, loop_term, with_out, with_roll, parted_out, parted_roll}
 use Rattle.buffer_reuse.specs.Marked.{marking_gen, marking_part}
 use Rattle.buffer_reuse.specs.Rights.{either_told, start_told, with_told, parted_told}
 

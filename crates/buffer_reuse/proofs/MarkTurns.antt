@@ -15,7 +15,7 @@ use Rattle.fact_table.proofs.scoped_table.Marks.{earlier_on, none_gone}
 use Rattle.reuse_candidates.specs.Scopes.{Told, mark_of, taken_back, told_block}
 use Rattle.reuse_candidates.specs.declared.scope.Scope.{Scope}
 use Rattle.reuse_candidates.proofs.Choices.{choice_same}
-use Rattle.reuse_candidates.proofs.Trees.{steps_append}
+use Rattle.counted_code.proofs.Trees.{steps_append}
 use Rattle.buffer_reuse.specs.Marked.{is_taken, made_with}
 use Rattle.buffer_reuse.specs.declared.walk.Made.{Made}
 

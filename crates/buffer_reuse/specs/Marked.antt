@@ -5,7 +5,7 @@ use Rattle.counted_code.specs.Terms.{CodeTerm}
 use Rattle.counted_code.specs.View.{steps_before}
 use Rattle.counted_marks.specs.Known.{Given, Known, in_gen, in_part}
 use Rattle.counted_marks.specs.Marking.{marking, released_by}
-use Rattle.reuse_candidates.specs.Pieces.{CodeGenTerm, CodePartTerm}
+use Rattle.counted_code.specs.Pieces.{CodeGenTerm, CodePartTerm}
 use Rattle.buffer_reuse.specs.declared.walk.Made.{Made}
 
 -- whether a variable is the array that a loop takes over

@@ -7,7 +7,7 @@ ghost use Rattle.counted_code.specs.View.{code_term, code_right_term, code_with_
 ghost use Rattle.counted_marks.specs.Known.{learned};
 ghost use Rattle.counted_marks.specs.Marking.{choice, marking, marking_right, released_by, with_mark};
 ghost use Rattle.reuse_candidates.specs.Calls.{given_by};
-ghost use Rattle.reuse_candidates.specs.Pieces.{code_gen_term, code_part_term};
+ghost use Rattle.counted_code.specs.Pieces.{code_gen_term, code_part_term};
 ghost use Rattle.reuse_candidates.specs.Scopes.{known_in, mark_of, taken_back, told, told_block, told_right};
 ghost use Rattle.buffer_reuse.specs.Marked.{is_taken as taken_is, made_with, marking_gen, marking_part};
 

@@ -1,4 +1,3 @@
 pub mod Closed
 pub mod Needed
 pub mod Nested
-pub mod Sizes

@@ -15,8 +15,8 @@ use Rattle.counted_code.specs.declared.tree.CodeWith.{CodeWith, out-CodeWith}
 use Rattle.counted_code.specs.Terms.{CodeTerm, CodeRightTerm, CodeGensTerm, CodePartsTerm, CodeProgram, Giving, Binding, Keeping, Releasing, PlainCode, IfCode, LoopCode, CallCode, WithCode, PartedCode, NoCodeGens, GenCode, NoCodeParts, PartCode}
 use Rattle.counted_code.specs.View.{code_term, code_right_term, code_with_term, code_parted_term, steps_before}
 use Rattle.code_nesting.specs.Needs.{called_need, PlacesNeed, Needs, RightNeeds, GensNeed, PartsNeed, StepNeeds, StepsNeed}
-use Rattle.phase_checks.specs.Terms.{gens_term, parts_term}
-use Rattle.phase_checks.proofs.Trees.{if_term, loop_term, with_out, parted_out}
+use Rattle.counted_code.specs.Pieces.{gens_term, parts_term}
+use Rattle.counted_code.proofs.Trees.{if_term, loop_term, with_out, parted_out}
 
 -- ---- numbers and lists
 

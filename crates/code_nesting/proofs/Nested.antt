@@ -5,7 +5,7 @@ use Rattle.counted_code.specs.declared.tree.CodeGen.{CodeGen}
 use Rattle.counted_code.specs.declared.tree.CodePart.{CodePart}
 use Rattle.counted_code.specs.View.{code_term}
 use Rattle.code_nesting.specs.Promised.{AreShallowGens, AreShallowParts}
-use Rattle.phase_checks.specs.Terms.{gens_term, parts_term}
+use Rattle.counted_code.specs.Pieces.{gens_term, parts_term}
 use Rattle.counted_code.specs.Terms.{CodeTerm, CodeRightTerm, CodeGensTerm, CodePartsTerm, CodeFunTerm, CodeProgram, Giving, Binding, Keeping, Releasing, PlainCode, IfCode, LoopCode, CallCode, WithCode, PartedCode, NoCodeGens, GenCode, NoCodeParts, PartCode}
 use Rattle.code_nesting.specs.Needs.{inlines, called_need, PlacesNeed, Needs, RightNeeds, GensNeed, PartsNeed, IsClosed, IsBound}
 use Rattle.code_nesting.specs.Nested.{HasBlock, RightHasBlock, GensHaveBlock, PartsHaveBlock, HasCall, IsInstance, Nests, alone, within, in_inline_call, in_call, most_nested}

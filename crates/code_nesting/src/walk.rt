@@ -4,7 +4,7 @@ ghost use Rattle.std.specs.Prelude.{◌≡◌, ◌≤◌, [], IsTrue, slice_get,
 ghost use Rattle.counted_code.specs.View.{code_program, code_right_term, code_term, code_with_term, code_parted_term};
 ghost use Rattle.code_nesting.specs.Needs.{GensNeed, Needs, PartsNeed, PlacesNeed, RightNeeds, StepNeeds, StepsNeed, called_need, inlines};
 ghost use Rattle.code_nesting.specs.Nested.{most_nested};
-ghost use Rattle.phase_checks.specs.Terms.{gens_term, parts_term};
+ghost use Rattle.counted_code.specs.Pieces.{gens_term, parts_term};
 
 use counted_code::{Code, CodeBlock, CodeGen, CodePart, CodeParted, CodeRight, CodeStep, CodeWith};
 

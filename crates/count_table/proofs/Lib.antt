@@ -7,3 +7,4 @@ pub mod Ending
 pub mod Sums
 pub mod HoldsReading
 pub mod Reading
+pub mod Bounds

@@ -2,6 +2,7 @@ pub mod Counts
 pub mod Loops
 pub mod Machine
 pub mod Outcome
+pub mod Pieces
 pub mod Prompt
 pub mod Terms
 pub mod Values

@@ -8,7 +8,6 @@ pub mod Folding
 pub mod Unchanged
 pub mod Pieces
 pub mod Members
-pub mod Selecting
 pub mod Parts
 pub mod Place
 pub mod Placing

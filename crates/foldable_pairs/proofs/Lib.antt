@@ -1,4 +1,4 @@
-mod Avoiding
+pub mod Avoiding
 mod Capping
 mod PartTrees
 mod Planning

@@ -4,11 +4,11 @@ use Rattle.std.specs.Prelude.{Result, Ok, Err, IfOk}
 use Rattle.sac_base.specs.declared.memory.Memory.{Memory}
 use Rattle.sac_base.specs.declared.site.Site.{Site}
 use Rattle.core_ir.specs.declared.tree.Var.{Var}
-use Rattle.core_ir.specs.Terms.{BlockTerm, RightTerm, GensTerm, PartsTerm, LetTerm, Gives, Bind, Plain, NoGens, Gen, NoParts, Part}
+use Rattle.core_ir.specs.Terms.{BlockTerm, RightTerm, LetTerm}
 use Rattle.core_ir.specs.View.{block_term, right_term}
-use Rattle.core_facts.specs.Facts.{Fact, Facts, note_all, block_facts, right_facts, in_part}
+use Rattle.core_facts.specs.Facts.{Fact, Facts, block_facts, right_facts}
 use Rattle.core_walk.specs.Traced.{BlockTraced, Finished}
-use Rattle.core_walk.specs.Editing.{Changed, Kept, EachBinding, EachInRight, EachInGens, EachInParts}
+use Rattle.core_walk.specs.Editing.{Changed, Kept, EachBinding}
 use Rattle.core_walk.specs.Editing.{stays as kept, goes as more}
 use Rattle.core_walk.proofs.Edits.{BlockTold, BlockWalk, Verdict, edited_block}
 use Rattle.core_walk.proofs.Turns.{append_nil}
@@ -18,7 +18,7 @@ use Rattle.plain_facts.specs.declared.known_rights.known.KnownBlock.{KnownBlock}
 use Rattle.plain_facts.specs.declared.known_rights.known.KnownRight.{KnownRight}
 use Rattle.merge_walk.specs.planned_merges.Planned.{MergesPlanned}
 use Rattle.merge_walk.specs.Here.{BindingMerged}
-use Rattle.merge_walk.specs.NoneLeft.{NoneMergeable, NoneMergeableRight, NoneMergeableGens, NoneMergeableParts}
+use Rattle.merge_walk.specs.NoneLeft.{NoneMergeable}
 use Rattle.merge_walk.specs.Walking.{Walk, BlockStep, BlockWalked, MergeStep, NoneAt, stays, goes}
 
 add_none : (r : ℕ) → r ≡ r + 0
@@ -55,31 +55,9 @@ module _ (called : ℕ → List (Option (List ℕ))) where
   walk_is (kept {p = p}) = (0, (stays, add_none p.replaced))
   walk_is (more {p = p} {q = q} {r = r} e s w) = let v = walk_is w in (suc v.0, (goes s v.1.0, add_one p.replaced q.replaced r.replaced v.0 e v.1.1))
 
-  module _ (p : Progress) where
-    mutual
-      none_block : (b : BlockTerm) (k : Facts) → EachBinding called (NoneAt called p) b k → NoneMergeable called p.next b k
-      none_block (Gives xs) k h = tt
-      none_block (Bind xs s r b) k h = (h.1, none_right r k h.0, none_block b (note_all k xs (right_facts called r k)) h.2)
-
-      none_right : (r : RightTerm) (k : Facts) → EachInRight called (NoneAt called p) r k → NoneMergeableRight called p.next r k
-      none_right (Plain q) k h = tt
-      none_right (RightTerm.If x a c) k h = (none_block a k h.0, none_block c k h.1)
-      none_right (RightTerm.Loop f start params test body t) k h = (none_block test (note_all k params []) h.0, none_block body (note_all k params []) h.1)
-      none_right (RightTerm.Call g ys) k h = tt
-      none_right (RightTerm.With op gens) k h = none_gens gens k h
-      none_right (RightTerm.Parted frame base cell op parts) k h = none_parts parts k h
-
-      none_gens : (gens : GensTerm) (k : Facts) → EachInGens called (NoneAt called p) gens k → NoneMergeableGens called p.next gens k
-      none_gens NoGens k h = tt
-      none_gens (Gen g b rest) k h = (none_block b (note_all k (g.index ∷ g.names) []) h.0, none_gens rest k h.1)
-
-      none_parts : (parts : PartsTerm) (k : Facts) → EachInParts called (NoneAt called p) parts k → NoneMergeableParts called p.next parts k
-      none_parts NoParts k h = tt
-      none_parts (Part g b rest) k h = (none_block b (in_part k g) h.0, none_parts rest k h.1)
-
   none_left : (k : Facts) (p q : Progress) (b c : BlockTerm) (n : ℕ) → Verdict Progress (λ m. m.replaced) p q ((c ≡ b) × EachBinding called (NoneAt called p) b k) → q.replaced ≡ p.replaced + n → n ≡ 0 →
       NoneMergeable called p.next c k
-  none_left k p q b c n (inl h) e z = subst (λ (t : BlockTerm). NoneMergeable called p.next t k) (sym h.1.0) (none_block p b k h.1.1)
+  none_left k p q b c n (inl h) e z = subst (λ (t : BlockTerm). NoneMergeable called p.next t k) (sym h.1.0) h.1.1
   none_left k p q b c n (inr l) e z = absurd (not_less p.replaced q.replaced n l e z)
 
   walked_block : (k : Facts) (p q : Progress) (b c : BlockTerm) → BlockTold called Progress (λ n. n.replaced) (λ a b. MergesPlanned called a.next b.next) (NoneAt called) (NoneAt called) k p q b c → BlockWalked called k p q b c

@@ -3,13 +3,13 @@ use Rattle.std.specs.Prelude.{◌≡◌, ℕ, suc, ◌+◌, List, Option}
 use Rattle.sac_base.specs.declared.site.Site.{Site}
 use Rattle.core_ir.specs.declared.tree.Var.{Var}
 use Rattle.core_ir.specs.Edits.{Edited}
-use Rattle.core_ir.specs.Terms.{BlockTerm, RightTerm, LetTerm, Gives, Bind}
+use Rattle.core_ir.specs.Terms.{BlockTerm, RightTerm, LetTerm}
 use Rattle.core_facts.specs.Facts.{Fact, Facts}
 use Rattle.core_loops.specs.Steps.{fact_ways}
 use Rattle.core_walk.specs.Editing.{EditStep}
 use Rattle.parted_bodies.specs.declared.names.Progress.{Progress}
 use Rattle.merge_walk.specs.planned_merges.Planned.{MergesPlanned}
-use Rattle.merge_walk.specs.NoneLeft.{NoneHere, NoneMergeable}
+use Rattle.merge_walk.specs.NoneLeft.{NoneFirst, NoneMergeable}
 
 -- So many steps, each from the number at which the one before ended.
 module _ (A : Type 0) (Step : ℕ → ℕ → A → A → Type 0) where
@@ -34,8 +34,7 @@ module _ (called : ℕ → List (Option (List ℕ))) (k : Facts) where
 
 -- no loop that can be merged is bound first
 abbrev pub NoneAt : (ℕ → List (Option (List ℕ))) → Progress → Facts → BlockTerm → Type 0
-NoneAt called p k (Gives xs) = Unit {0}
-NoneAt called p k (Bind xs s r b) = NoneHere called p.next xs r k
+NoneAt called p = NoneFirst called p.next
 
 -- what the walk does with a right side
 abbrev pub MergeStep :

@@ -1,18 +1,17 @@
 -- Walks that replace with-loops, and those that replace none.
-use Rattle.std.proofs.Common.{◌≡◌, ℕ, suc, ◌<◌, ◌≤◌, List, [], ◌∷◌, Option, inl, inr, refl, ap, arith}
+use Rattle.std.proofs.Common.{◌≡◌, ℕ, suc, ◌<◌, ◌≤◌, List, Option, inl, inr, refl, ap, arith}
 use Rattle.sac_base.specs.declared.base.Base.{Base}
-use Rattle.sac_base.specs.declared.site.Site.{Site}
 use Rattle.core_ir.specs.declared.tree.Var.{Var}
 use Rattle.core_ir.specs.Edits.{Edited, EditedRight, EditedGens, EditedParts, here, later, inside, in_then, in_else, in_test, in_body, in_gens, in_parts, this_gen, later_gen, this_part, later_part}
-use Rattle.core_ir.specs.Terms.{BlockTerm, RightTerm, GensTerm, PartsTerm, Gives, Bind, Plain, NoGens, Gen, NoParts, Part}
-use Rattle.core_facts.specs.Facts.{Fact, Facts, note_all, block_facts, right_facts, in_part}
+use Rattle.core_ir.specs.Terms.{BlockTerm, RightTerm, GensTerm, PartsTerm}
+use Rattle.core_facts.specs.Facts.{Fact, Facts, block_facts}
 use Rattle.core_loops.specs.Steps.{fact_ways}
 use Rattle.core_walk.specs.Traced.{BlockTraced, Finished}
-use Rattle.core_walk.specs.Editing.{EachBinding, EachInRight, EachInGens, EachInParts}
+use Rattle.core_walk.specs.Editing.{EachBinding}
 use Rattle.core_walk.specs.Editing.{stays as kept, goes as more}
 use Rattle.core_walk.proofs.Edits.{BlockWalk, Verdict, edited_block}
 use Rattle.parted_bodies.specs.declared.names.Progress.{Progress}
-use Rattle.norm_walk.specs.Replacing.{ReplacedHere, NoneAt, NormStep, IsLeft, EachWith, EachWithRight, EachWithGens, EachWithParts, Walked, stays, goes, BlockWalked}
+use Rattle.norm_walk.specs.Replacing.{ReplacedHere, NoneAt, NormStep, IsLeft, EachWith, Walked, stays, goes, BlockWalked}
 
 module _ (called : ℕ → List (Option (List ℕ))) (bases : Var → Option Base) (first : ℕ) where
   up_one : (p q r : ℕ) → q ≡ suc p → q ≤ r → p ≤ r
@@ -61,35 +60,12 @@ module _ (called : ℕ → List (Option (List ℕ))) (bases : Var → Option Bas
   walk_is kept = stays
   walk_is (more n s w) = goes s (walk_is w)
 
-  module _ (p : Progress) where
-    mutual
-      each_with : (b : BlockTerm) (k : Facts) → EachBinding called (NoneAt bases first p) b k → EachWith called (IsLeft bases first p.next) b k
-      each_with (Gives xs) k h = tt
-      each_with (Bind xs s r b) k h = (each_right xs s r b k h.0 h.1, each_with b (note_all k xs (right_facts called r k)) h.2)
-
-      each_right : (xs : List Var) (s : Site) (r : RightTerm) (b : BlockTerm) (k : Facts) → EachInRight called (NoneAt bases first p) r k → NoneAt bases first p k (Bind xs s r b) →
-          EachWithRight called (IsLeft bases first p.next) s r k
-      each_right xs s (Plain q) b k h l = tt
-      each_right xs s (RightTerm.If x a c) b k h l = (each_with a k h.0, each_with c k h.1)
-      each_right xs s (RightTerm.Loop f start params test body t) b k h l = (each_with test (note_all k params []) h.0, each_with body (note_all k params []) h.1)
-      each_right xs s (RightTerm.Call g ys) b k h l = tt
-      each_right xs s (RightTerm.With op gens) b k h l = (l, each_gens gens k h)
-      each_right xs s (RightTerm.Parted frame base cell op parts) b k h l = each_parts parts k h
-
-      each_gens : (gens : GensTerm) (k : Facts) → EachInGens called (NoneAt bases first p) gens k → EachWithGens called (IsLeft bases first p.next) gens k
-      each_gens NoGens k h = tt
-      each_gens (Gen g b rest) k h = (each_with b (note_all k (g.index ∷ g.names) []) h.0, each_gens rest k h.1)
-
-      each_parts : (parts : PartsTerm) (k : Facts) → EachInParts called (NoneAt bases first p) parts k → EachWithParts called (IsLeft bases first p.next) parts k
-      each_parts NoParts k h = tt
-      each_parts (Part g b rest) k h = (each_with b (in_part k g) h.0, each_parts rest k h.1)
-
   not_less : (p q : ℕ) → p < q → q ≡ p → ⊥
   not_less p q l e = omega (arith, l, e)
 
   none_left : (k : Facts) (p q : Progress) (b c : BlockTerm) → Verdict Progress (λ r. r.replaced) p q ((c ≡ b) × EachBinding called (NoneAt bases first p) b k) → q.replaced ≡ p.replaced →
-      EachWith called (IsLeft bases first p.next) b k
-  none_left k p q b c (inl h) e = each_with p b k h.1.1
+      EachWith (IsLeft bases first p.next) called b k
+  none_left k p q b c (inl h) e = h.1.1
   none_left k p q b c (inr l) e = absurd (not_less p.replaced q.replaced l e)
 
   pub walked_block : (k : Facts) (p q : Progress) (b c : BlockTerm) (vs : List Fact) → BlockTraced called Progress (NormStep called bases first) Finished k p q b c vs →

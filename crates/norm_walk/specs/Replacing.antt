@@ -1,19 +1,30 @@
 -- With-loops that become parted loops on one walk over a block.
-use Rattle.std.specs.Prelude.{◌≡◌, ◌⊎◌, ℕ, suc, ◌+◌, ◌<◌, nat_lt, if◌then◌else◌, List, [], ◌∷◌, Option, Some, None}
+use Rattle.std.specs.Prelude.{◌≡◌, ◌⊎◌, ℕ, suc, ◌+◌, ◌<◌, nat_lt, if◌then◌else◌, List, Option, Some, None}
 use Rattle.sac_base.specs.declared.base.Base.{Base}
 use Rattle.sac_base.specs.declared.site.Site.{Site}
 use Rattle.core_ir.specs.declared.tree.Var.{Var}
 use Rattle.core_ir.specs.declared.tree.CoreOp.{CoreOp}
 use Rattle.core_ir.specs.Edits.{Edited}
-use Rattle.core_ir.specs.Terms.{BlockTerm, RightTerm, GensTerm, PartsTerm, LetTerm, GenTerm}
-use Rattle.core_ir.specs.Terms.{Gives, Bind, Plain, With, Parted, NoGens, Gen, NoParts, Part, gens_of, parts_of}
-use Rattle.core_facts.specs.Facts.{Fact, Facts, note_all, right_facts, in_part}
+use Rattle.core_ir.specs.Terms.{BlockTerm, RightTerm, GensTerm, LetTerm, GenTerm, Bind, With, Parted, gens_of, parts_of}
+use Rattle.core_facts.specs.Facts.{Fact, Facts}
 use Rattle.core_loops.specs.Steps.{fact_ways}
-use Rattle.core_walk.specs.Editing.{EditStep}
+use Rattle.core_walk.specs.Editing.{EachBinding, EditStep}
 use Rattle.partable_loops.specs.Planned.{IsPlannable, PlanFits}
 use Rattle.partable_loops.specs.declared.planning.PartPlan.{PartPlan}
 use Rattle.parted_bodies.specs.declared.names.Progress.{Progress}
 use Rattle.parted_bodies.specs.Making.{base_var, binds_of, made_parts, parted_op}
+
+-- ---- all with-loops of a term
+
+module _ (P : Facts → Site → CoreOp → GensTerm → Type 0) where
+  -- of the with-loop that is bound first, by what is known there
+  abbrev pub WithFirst : Facts → BlockTerm → Type 0
+  WithFirst k (Bind xs s (With op gens) rest) = P k s op gens
+  WithFirst k _ = Unit {0}
+
+  -- of each with-loop
+  abbrev pub EachWith : (ℕ → List (Option (List ℕ))) → BlockTerm → Facts → Type 0
+  EachWith called b k = EachBinding called WithFirst b k
 
 -- ---- one with-loop
 
@@ -60,33 +71,7 @@ module _ (bases : Var → Option Base) (first : ℕ) where
 
   -- no with-loop that is left to do is bound first
   abbrev pub NoneAt : Progress → Facts → BlockTerm → Type 0
-  NoneAt p k (Bind xs s (With op gens) rest) = IsLeft bases first p.next k s op gens
-  NoneAt p k _ = Unit {0}
-
--- ---- all with-loops of a term
-
--- each with-loop of the term, by what is known where it stands
-module _ (called : ℕ → List (Option (List ℕ))) (P : Facts → Site → CoreOp → GensTerm → Type 0) where
-  abbrev mutual
-    pub EachWith : BlockTerm → Facts → Type 0
-    EachWith (Gives xs) k = Unit {0}
-    EachWith (Bind xs s r b) k = EachWithRight s r k × EachWith b (note_all k xs (right_facts called r k))
-
-    pub EachWithRight : Site → RightTerm → Facts → Type 0
-    EachWithRight s (Plain p) k = Unit {0}
-    EachWithRight s (RightTerm.If x a b) k = EachWith a k × EachWith b k
-    EachWithRight s (RightTerm.Loop first start params test body t) k = EachWith test (note_all k params []) × EachWith body (note_all k params [])
-    EachWithRight s (RightTerm.Call g xs) k = Unit {0}
-    EachWithRight s (RightTerm.With o gens) k = P k s o gens × EachWithGens gens k
-    EachWithRight s (RightTerm.Parted frame base cell o parts) k = EachWithParts parts k
-
-    pub EachWithGens : GensTerm → Facts → Type 0
-    EachWithGens NoGens k = Unit {0}
-    EachWithGens (Gen h b rest) k = EachWith b (note_all k (h.index ∷ h.names) []) × EachWithGens rest k
-
-    pub EachWithParts : PartsTerm → Facts → Type 0
-    EachWithParts NoParts k = Unit {0}
-    EachWithParts (Part h b rest) k = EachWith b (in_part k h) × EachWithParts rest k
+  NoneAt p = WithFirst (IsLeft bases first p.next)
 
 -- ---- a walk
 
@@ -104,4 +89,4 @@ module _ (called : ℕ → List (Option (List ℕ))) (bases : Var → Option Bas
   -- a walk that replaced none leaves none
   pub record BlockWalked (k : Facts) (p q : Progress) (b c : BlockTerm) : Type 0 where
     pub walked : Walked k p q b c
-    pub none : q.replaced ≡ p.replaced → EachWith called (IsLeft bases first p.next) b k
+    pub none : q.replaced ≡ p.replaced → EachWith (IsLeft bases first p.next) called b k

@@ -23,7 +23,7 @@ use Rattle.kernel_code.specs.Relations.{Known, array_of, found}
 use Rattle.kernel_rows.specs.declared.kernels.CellKernel.{CellKernel}
 use Rattle.kernel_code.specs.Relations.{IsScope}
 use Rattle.kernel_rows.specs.Kernels.{AreCellKernels, Body, HasCellForm, HasIndex, HoldsCell, IsCellKernel, body_env}
-use Rattle.phase_checks.specs.Terms.{parts_term}
+use Rattle.counted_code.specs.Pieces.{parts_term}
 use Rattle.phase_laws.specs.Spending.{parts_take, spends}
 use Rattle.own_kernels.specs.Kernels.{ArePartKernels, holds_alone, is_kernel_for, is_own_kernel, kernels_own, own_in, part_body, parts_own}
 use Rattle.phase_loop_laws.specs.over_phases.Own.{PartsReadOwn, SameButAt}

@@ -14,7 +14,7 @@ use Rattle.kernel_code.specs.Relations.{Known}
 use Rattle.kernel_rows.specs.declared.kernels.CellKernel.{CellKernel}
 use Rattle.kernel_code.specs.Relations.{IsScope}
 use Rattle.kernel_rows.specs.Kernels.{HasIndex}
-use Rattle.phase_checks.specs.Terms.{parts_term}
+use Rattle.counted_code.specs.Pieces.{parts_term}
 use Rattle.own_kernels.specs.Kernels.{ArePartKernels, parts_own}
 use Rattle.phase_loop_laws.specs.over_phases.Own.{PartsReadOwn}
 use Rattle.own_kernels.specs.Steps.{is_own}

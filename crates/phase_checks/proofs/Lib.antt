@@ -5,7 +5,5 @@ pub mod Orders
 pub mod Results
 pub mod Rights
 pub mod Scopes
-pub mod Sizes
 pub mod Taken
-pub mod Trees
 pub mod Variants

@@ -10,7 +10,7 @@ use Rattle.counted_code.specs.Counts.{Counted, CountedRight, CountedGens, Counte
 use Rattle.counted_code.specs.Counts.{Reordered}
 use Rattle.counted_code.specs.Terms.{CodeTerm, CodeRightTerm, PlainCode, IfCode, LoopCode, CallCode, core_of_code}
 use Rattle.counted_code.specs.View.{code_program, step_term}
-use Rattle.phase_checks.specs.Terms.{gens_term, parts_term}
+use Rattle.counted_code.specs.Pieces.{gens_term, parts_term}
 
 -- the number of results of each group of the code
 abbrev pub results_in : Code → ℕ → ℕ

@@ -3,7 +3,7 @@
 ghost use Rattle.std.specs.Prelude.{ℕ, IsTrue, [], option_to_list};
 ghost use Rattle.core_ir.specs.Scopes.{AllIn, op_uses, parted_uses, head_uses};
 ghost use Rattle.counted_code.specs.View.{code_right_term};
-ghost use Rattle.phase_checks.specs.Terms.{gen_head};
+ghost use Rattle.counted_code.specs.Pieces.{gen_head};
 ghost use Rattle.phase_checks.specs.Walks.{IsCountedRight, OnlyReads};
 
 use crate::bags::{all_in, stands_in};

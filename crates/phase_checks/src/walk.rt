@@ -9,7 +9,7 @@ ghost use Rattle.counted_code.specs.Counts.{CountedGens, CountedParts, Reordered
 ghost use Rattle.counted_code.specs.Terms.{core_of_code};
 ghost use Rattle.counted_code.specs.View.{code_program, code_term, code_right_term, code_with_term, code_parted_term};
 ghost use Rattle.counted_code.specs.declared.tree.CodeStep.TheVariants as step_of;
-ghost use Rattle.phase_checks.specs.Terms.{gens_term, parts_term};
+ghost use Rattle.counted_code.specs.Pieces.{gens_term, parts_term};
 ghost use Rattle.phase_checks.specs.Walks.{results_in, IsCounted, IsCountedRight, IsCountedGen, IsCountedPart, Leads, Determines, IsNested, IsValue};
 
 use crate::bags::{

@@ -1,4 +1,3 @@
-pub mod Bounds
 pub mod Reported
 pub mod Settling
 pub mod Teams

@@ -19,7 +19,7 @@ use Rattle.kernel_rows.specs.declared.kernels.CellKernel.{CellKernel}
 use Rattle.kernel_rows.specs.Kernels.{AreCellKernels, Body, CellFaults, CellIs, body_env}
 use Rattle.loop_code.specs.Runs.{HoldsFirst}
 use Rattle.kernel_rows.proofs.Bodies.{BodyAnswers, body_of, fault_answers, first_behind, value_answers}
-use Rattle.phase_checks.specs.Terms.{parts_term}
+use Rattle.counted_code.specs.Pieces.{parts_term}
 use Rattle.phase_laws.specs.Spending.{CallSpending, parts_take, spends}
 use Rattle.phase_loop_cells.specs.Cells.{as_cell}
 use Rattle.phase_loop_cells.specs.Ranges.{AreRanges}

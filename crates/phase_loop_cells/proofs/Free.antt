@@ -9,7 +9,7 @@ use Rattle.counted_code.specs.declared.tree.CodePart.{CodePart}
 use Rattle.counted_code.specs.Machine.{Values}
 use Rattle.counted_code.specs.Terms.{core_of, core_of_gens, core_of_parts}
 use Rattle.counted_code.specs.View.{code_term}
-use Rattle.phase_checks.specs.Terms.{gen_head, gens_term, parts_term}
+use Rattle.counted_code.specs.Pieces.{gen_head, gens_term, parts_term}
 use Rattle.phase_laws.specs.Spending.{CallSpending, gens_take, parts_take, spends}
 use Rattle.phase_loop_cells.specs.declared.copies.Background.{Background}
 use Rattle.phase_loop_cells.specs.Cells.{as_cell, fill_at, index_at, source_cell, source_means, source_taken, source_takes}

@@ -23,7 +23,7 @@ use Rattle.sac_base.specs.declared.form.Form.{Form}
 use Rattle.sac_base.specs.Grids.{has_vector}
 use Rattle.sac_base.specs.WithLoops.{Range, holds, cell_at as with_cell_at}
 use Rattle.run_loops.specs.declared.state.Context.{Context}
-use Rattle.phase_checks.specs.Terms.{gens_term, parts_term}
+use Rattle.counted_code.specs.Pieces.{gens_term, parts_term}
 use Rattle.phase_loop_cells.specs.Cells.{source_means, source_takes}
 use Rattle.phase_loop_cells.specs.Opened.{IsOpen, GensIn, PartsIn, OpenGens, OpenParts, OpenSource, meaning_in, spending_in, lent_env}
 use Rattle.run_loops.specs.declared.cell_loop.CellSource.{CellSource}

@@ -25,7 +25,7 @@ use Rattle.run_loops.specs.declared.cell_loop.CellSource.{CellSource}
 use Rattle.run_loops.specs.declared.cell_loop.CellSource.TheVariants.{Generators, Parts}
 use Rattle.run_loops.specs.declared.state.Context.{Context}
 use Rattle.run_loops.specs.declared.state.State.{State}
-use Rattle.phase_checks.specs.Terms.{gens_term, parts_term}
+use Rattle.counted_code.specs.Pieces.{gens_term, parts_term}
 use Rattle.phase_loop_cells.specs.Opened.{meaning_in, spending_in, lent_env}
 use Rattle.run_loops.specs.Running.{IsAt}
 

@@ -19,7 +19,7 @@ use Rattle.sac_base.specs.Arrays.{ArrayValue}
 use Rattle.run_loops.specs.declared.cell_loop.CellSource.{CellSource}
 use Rattle.run_loops.specs.declared.cell_loop.CellSource.TheVariants.{Generators, Parts}
 use Rattle.run_loops.specs.declared.state.Context.{Context}
-use Rattle.phase_checks.specs.Terms.{gens_term, parts_term}
+use Rattle.counted_code.specs.Pieces.{gens_term, parts_term}
 
 -- ---- calls
 

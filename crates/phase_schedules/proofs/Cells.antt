@@ -1,18 +1,17 @@
 -- Each action keeps what holds of the cells, beside the machine that is as far or farther.
-use Rattle.std.proofs.Common.{◌≡◌, ◌≢◌, ℕ, zero, suc, ◌+◌, ◌<◌, ◌≤◌, Bool, true, false, cond, eqb, ℤ, List, [], ◌∷◌, ◌++◌, length, Option, None, Some, Ok, Err, refl, sym, ap, subst, ◌∙◌, inl, inr, ⊎_elim, arith}
-use Rattle.std.proofs.lemmas.Bool.{eq-eqb, ne_eqb, cases_eq, cases_lt}
+use Rattle.std.proofs.Common.{◌≡◌, ◌≢◌, ℕ, zero, suc, ◌+◌, ◌<◌, ◌≤◌, Bool, true, false, ℤ, List, [], ◌∷◌, ◌++◌, length, Option, None, Some, Ok, Err, refl, sym, ap, subst, ◌∙◌, inl, inr, ⊎_elim, arith}
+use Rattle.std.proofs.lemmas.Bool.{cases_eq, cases_lt}
 use Rattle.std.specs.Prelude.{slice_get}
 use Rattle.sac_base.specs.declared.faults.Fault.{Fault}
-use Rattle.sac_base.specs.Verdict.{combined, present}
 use Rattle.wl_core.specs.declared.setup.Job.{Job}
 use Rattle.wl_core.specs.declared.setup.Job.TheVariants.{Write as Store, Fold}
 use Rattle.wl_core.specs.declared.events.Event.{Event}
 use Rattle.wl_core.specs.declared.events.Event.TheVariants.{Draw, Stop, Write}
 use Rattle.wl_core.specs.Facts.{cell_at, own, partial_by, stored_by, value_of}
-use Rattle.wl_core.specs.Machine.{Runs, IsSetup, Reached, SetupValue, StateValue, Steps, TakesBase, Works, both, combine, end, first, gather, listed, opened, put, store}
-use Rattle.wl_core.proofs.Combining.{adds, gathered, gathered_is, same}
-use Rattle.wl_core.proofs.FoldLaws.{foldable, elementwise-foldable}
+use Rattle.wl_core.specs.Machine.{Runs, IsSetup, Reached, SetupValue, StateValue, Steps, Works, both, combine, end, first, gather, listed, opened, put, store}
+use Rattle.wl_core.proofs.Combining.{gathered, gathered_is, same}
 use Rattle.wl_core.proofs.Functions.{put_same, put_other}
+use Rattle.wl_core.proofs.Written.{stored_more, partials_more}
 use Rattle.wl_core.proofs.Kept.{apart, first_below, reached_facts, reached_more}
 use Rattle.phase_schedules.specs.Along.{OnceOrBefore}
 use Rattle.phase_schedules.specs.Moments.{Work, met_fault, untouched, wrote}
@@ -57,12 +56,6 @@ made_none u = record {
   partials = λ w. partial_none u.job (length u.cells) (λ p. own w [] (cell_at u p)) (λ p. refl);
   as_far = λ c lt. absurd (omega arith);
 }
-
-own_same : (w : ℕ) (value : Option (List ℤ)) → own w (w ∷ []) value ≡ value
-own_same w value = let t : eqb w w ≡ true = eq-eqb w w refl in ap (λ (b : Bool). cond b value None) t
-
-own_other : (w v : ℕ) (value : Option (List ℤ)) → v ≢ w → own v (w ∷ []) value ≡ None
-own_other w v value ne = let f : eqb w v ≡ false = ne_eqb w v (λ e. ne (sym e)) in ap (λ (b : Bool). cond b value None) f
 
 module _ (u : SetupValue) (k : Work) (s : StateValue) (is : IsSetup u) (h : Made u k s) where
   -- ---- steps of the machine alone
@@ -149,43 +142,6 @@ module _ (u : SetupValue) (k : Work) (s : StateValue) (is : IsSetup u) (h : Made
   elsewhere : (c d p : ℕ) → k.next c < end u c → first u d ≤ p → p < end u d → d ≢ c → p ≢ k.next c
   elsewhere c d p below from lt ne e = ne (apart u d c p from lt (let x = from_first c in omega arith) (omega arith))
 
-  stored_more : (j : Job) (q w : ℕ) (value : Option (List ℤ)) → k.written q ≡ [] → cell_at u q ≡ value → ((p : ℕ) → k.stored p ≡ stored_by j (k.written p) (cell_at u p))
-      → (p : ℕ) → store j k.stored q value p ≡ stored_by j (put k.written q (k.written q ++ w ∷ []) p) (cell_at u p)
-  stored_more Store q w value empty cell old p = ⊎_elim
-      (λ (e : p ≡ q). put_same k.stored q value p e ∙ sym cell ∙ ap (cell_at u) (sym e) ∙ sym (ap (λ (l : List ℕ). stored_by Store l (cell_at u p)) (put_same k.written q (k.written q ++ w ∷ []) p e ∙ ap (λ (l : List ℕ). l ++ w ∷ []) empty)))
-      (λ (ne : p ≢ q). put_other k.stored q value p ne ∙ old p ∙ sym (ap (λ (l : List ℕ). stored_by Store l (cell_at u p)) (put_other k.written q (k.written q ++ w ∷ []) p ne)))
-      (cases_eq p q)
-  stored_more (Fold base op) q w value empty cell old p = old p
-
-  -- what the worker v wrote, after w wrote the position q
-  own_after : (q w v : ℕ) (value : Option (List ℤ)) → k.written q ≡ [] → cell_at u q ≡ value → (p : ℕ)
-      → own v (put k.written q (k.written q ++ w ∷ []) p) (cell_at u p) ≡ put (λ p. own v (k.written p) (cell_at u p)) q (own v (w ∷ []) value) p
-  own_after q w v value empty cell p = ⊎_elim
-      (λ (e : p ≡ q). (λ j. own v ((put_same k.written q (k.written q ++ w ∷ []) p e ∙ ap (λ (l : List ℕ). l ++ w ∷ []) empty) j) ((ap (cell_at u) e ∙ cell) j)) ∙ sym (put_same (λ p. own v (k.written p) (cell_at u p)) q (own v (w ∷ []) value) p e))
-      (λ (ne : p ≢ q). ap (λ (l : List ℕ). own v l (cell_at u p)) (put_other k.written q (k.written q ++ w ∷ []) p ne) ∙ sym (put_other (λ p. own v (k.written p) (cell_at u p)) q (own v (w ∷ []) value) p ne))
-      (cases_eq p q)
-
-  partials_more : (j : Job) (q w : ℕ) (value : Option (List ℤ)) → TakesBase j → q < length u.cells → k.written q ≡ [] → cell_at u q ≡ value → ((v : ℕ) → k.partial v ≡ partial_by j (own_written u k v))
-      → (v : ℕ) → gather j k.partial w value v ≡ partial_by j (listed (λ p. own v (put k.written q (k.written q ++ w ∷ []) p) (cell_at u p)) (length u.cells))
-  partials_more Store q w value takes lt empty cell old v = old v
-  partials_more (Fold base op) q w value takes lt empty cell old v =
-      let f : ℕ → Option (List ℤ) = λ p. own v (k.written p) (cell_at u p) in
-      let f' : ℕ → Option (List ℤ) = λ p. own v (put k.written q (k.written q ++ w ∷ []) p) (cell_at u p) in
-      let n = length u.cells in
-      let laws = elementwise-foldable _ (foldable base op takes) in
-      let none : f q ≡ None = ap (λ (l : List ℕ). own v l (cell_at u q)) empty in
-      let now : combined (combine op) (present (listed f' n)) ≡ both (combine op) (gathered (combine op) f n) (own v (w ∷ []) value) =
-      gathered_is (combine op) f' n ∙ same (combine op) f' (put f q (own v (w ∷ []) value)) n (λ p l. own_after q w v value empty cell p) ∙ adds (combine op) laws f q (own v (w ∷ []) value) n lt none in
-      let was : k.partial v ≡ gathered (combine op) f n = old v ∙ gathered_is (combine op) f n in
-      ⊎_elim
-      (λ (e : v ≡ w). put_same k.partial w (both (combine op) (k.partial w) value) v e ∙ (λ j. both (combine op) ((ap k.partial (sym e) ∙ was) j) ((sym (own_same w value) ∙ ap (λ (k : ℕ). own k (w ∷ []) value) (sym e)) j)) ∙ sym now)
-      (λ (ne : v ≢ w). put_other k.partial w (both (combine op) (k.partial w) value) v ne ∙ was ∙ sym (now ∙ ap (λ (x : Option (List ℤ)). both (combine op) (gathered (combine op) f n) x) (own_other w v value ne) ∙ both-none (gathered (combine op) f n)))
-      (cases_eq v w)
-    where
-      both-none : (x : Option (List ℤ)) → both (combine op) x None ≡ x
-      both-none None = refl
-      both-none (Some x) = refl
-
   -- a machine that is as far with all chunks, after the worker n wrote in c
   made_written : (t : StateValue) (n c : ℕ) (value : Option (List ℤ)) → t.taken ≡ s.taken → t.owner ≡ s.owner → c < s.taken → s.owner c ≡ n → k.next c < end u c
       → slice_get u.cells (k.next c) ≡ Some (Ok value) → ((d : ℕ) → d < t.taken → IsAsFar u (wrote u k n c value) t d) → Made u (wrote u k n c value) t
@@ -216,8 +172,8 @@ module _ (u : SetupValue) (k : Work) (s : StateValue) (is : IsSetup u) (h : Made
             (λ (e : d ≡ c). let z = moved d e in let z' = ap k.next e in other p (λ e'. omega arith) ∙ h.ahead d p (omega arith) below')
             (λ (ne : d ≢ c). let z = stays d ne in let f = from_first d in other p (elsewhere c d p below (omega arith) below' ne) ∙ h.ahead d p (omega arith) below')
             (cases_eq d c);
-        stored = stored_more u.job q n value was there h.stored;
-        partials = partials_more u.job q n value is.takes (omega arith) was there h.partials;
+        stored = stored_more u k.written k.stored u.job q n value was there h.stored;
+        partials = partials_more u k.written k.partial u.job q n value is.takes (omega arith) was there h.partials;
         as_far = far;
       }
 

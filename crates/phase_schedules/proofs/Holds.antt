@@ -10,9 +10,9 @@ use Rattle.count_table.specs.declared.view.FrameView.{FrameView}
 use Rattle.count_table.specs.declared.view.WorkerView.{WorkerView}
 use Rattle.count_table.specs.declared.view.View.{View}
 use Rattle.count_table.specs.declared.view.View.TheVariants.{Frame, Worker, Spent}
-use Rattle.count_table.specs.Views.{holds_of, is_out, times, total}
+use Rattle.count_table.specs.Views.{holds_of, is_out, times}
 use Rattle.count_table.specs.Rule.{Keeps}
-use Rattle.count_table.specs.Plays.{after_draw, after_keep, after_release, both_of, fresh, joined, left_of, moved_left, moved_right, right_of, seated}
+use Rattle.count_table.specs.Plays.{after_draw, after_keep, after_release, both_of, left_of, moved_left, moved_right, right_of}
 use Rattle.count_table.specs.HoldsReading.{IsHoldsReading}
 use Rattle.count_table.specs.Reading.{held_by}
 use Rattle.count_table.proofs.Totals.{total-set}
@@ -21,6 +21,7 @@ use Rattle.count_table.proofs.Facts.{frame_no_worker, held_twice}
 use Rattle.count_table.proofs.HoldsReading.{holds_are_events}
 use Rattle.phase_schedules.specs.Readings.{AtFrame}
 use Rattle.phase_schedules.proofs.Ahead.{SameTable}
+use Rattle.phase_schedules.proofs.Places.{at_first, at_frame, at_worker}
 use Rattle.phase_schedules.proofs.Readings.{ReadsDrawn}
 
 -- as `count_table` reads a table that no chunk is drawn from
@@ -54,19 +55,11 @@ module _ {T : Type 0} (u : SetupValue) where
   module _ (s : StateValue) where
     -- the machine's draw changes nothing of this
     pub drawn_held : (w : ℕ) (t : StateValue) (ws : List ℕ) (hs : List (Home (Option T))) (vs : List (View T)) → Keeps ws hs vs → ReadsHeld u ws vs s → Steps u s (Draw w) t → ReadsHeld u ws vs t
-    drawn_held w t [] hs vs k r st = absurd k
-    drawn_held w t (n ∷ cs) hs [] k r st = absurd k
-    drawn_held w t (n ∷ cs) hs (Worker v ∷ vs) k r st = absurd k
-    drawn_held w t (n ∷ cs) hs (Spent ∷ vs) k r st = absurd k
-    drawn_held w t (n ∷ cs) hs (Frame f ∷ vs) k r st = (holds_are_events u s n cs hs f vs k r).draw w t st
+    drawn_held w t ws hs vs = at_frame hs (λ us xs. ReadsHeld u us xs s → Steps u s (Draw w) t → ReadsHeld u us xs t) (λ n cs f xs k r st. (holds_are_events u s n cs hs f xs k r).draw w t st) ws vs
 
     pub number_below : (ws : List ℕ) (hs : List (Home (Option T))) (vs : List (View T)) (id : ℕ) (w : WorkerView T) → Keeps ws hs vs → ReadsHeld u ws vs s → get_elem? vs id ≡ some (Worker w) → w.number < u.workers
-    number_below [] hs vs id w k r at = absurd k
-    number_below (n ∷ cs) hs [] id w k r at = absurd k
-    number_below (n ∷ cs) hs (Worker v ∷ vs) id w k r at = absurd k
-    number_below (n ∷ cs) hs (Spent ∷ vs) id w k r at = absurd k
-    number_below (n ∷ cs) hs (Frame f ∷ vs) zero w k r at = absurd (frame_no_worker f w at)
-    number_below (n ∷ cs) hs (Frame f ∷ vs) (suc i) w k r at = let a = (k.fit i (Worker w) at).number_made in let b = r.few_seats in omega arith
+    number_below ws hs vs id w k r at =
+        at_worker hs w (λ us xs j. ReadsHeld u us xs s → w.number < u.workers) (λ n cs f xs i k at r. let a = (k.fit i (Worker w) at).number_made in let b = r.few_seats in omega arith) ws vs id k at r
 
     -- nor does a draw at the table
     undrawn_by : (k b n : ℕ) (w : WorkerView T) (c : Bool) → held_by {T = T} k b (Worker (cond c (record w { drawn = w.drawn ++ n ∷ [] }) (record w { ended = true }))) ≡ held_by k b (Worker w)
@@ -86,12 +79,8 @@ module _ {T : Type 0} (u : SetupValue) where
 
     pub draw_held : (x : ℕ) (ws : List ℕ) (hs : List (Home (Option T))) (vs : List (View T)) (id : ℕ) (w : WorkerView T) → Keeps ws hs vs → ReadsHeld u ws vs s → get_elem? vs id ≡ some (Worker w)
         → ReadsHeld u (set ws 0 x) (set vs id (Worker (after_draw w (get_or ws 0 0)))) s
-    draw_held x [] hs vs id w k r at = absurd k
-    draw_held x (n ∷ cs) hs [] id w k r at = absurd k
-    draw_held x (n ∷ cs) hs (Worker v ∷ vs) id w k r at = absurd k
-    draw_held x (n ∷ cs) hs (Spent ∷ vs) id w k r at = absurd k
-    draw_held x (n ∷ cs) hs (Frame f ∷ vs) zero w k r at = absurd (frame_no_worker f w at)
-    draw_held x (n ∷ cs) hs (Frame f ∷ vs) (suc i) w k r at = draw_at n cs f vs i w r at
+    draw_held x ws hs vs id w k r at =
+        at_worker hs w (λ us xs j. ReadsHeld u us xs s → ReadsHeld u (set us 0 x) (set xs j (Worker (after_draw w (get_or us 0 0)))) s) (λ n cs f xs i k at r. draw_at n cs f xs i w r at) ws vs id k at r
 
     -- an event leads to a state of which these words and views say this
     abbrev pub HeldOn : Event → List ℕ → List (View T) → Type 0
@@ -100,31 +89,21 @@ module _ {T : Type 0} (u : SetupValue) where
     keep_at : (ws : List ℕ) (hs : List (Home (Option T))) (vs : List (View T)) (id : ℕ) (w : WorkerView T) (b : ℕ) → Keeps ws hs vs → ReadsHeld u ws vs s → get_elem? vs id ≡ some (Worker w)
         → b < w.buffers → length w.holds < 2 ^ 56
         → HeldOn (Keep w.number b) (set ws (suc b) ((get_or ws (suc b) 0 + 1) % 2 ^ 64)) (set vs id (Worker (after_keep w b)))
-    keep_at [] hs vs id w b k r at lt room = absurd k
-    keep_at (n ∷ cs) hs [] id w b k r at lt room = absurd k
-    keep_at (n ∷ cs) hs (Worker v ∷ vs) id w b k r at lt room = absurd k
-    keep_at (n ∷ cs) hs (Spent ∷ vs) id w b k r at lt room = absurd k
-    keep_at (n ∷ cs) hs (Frame f ∷ vs) zero w b k r at lt room = absurd (frame_no_worker f w at)
-    keep_at (n ∷ cs) hs (Frame f ∷ vs) (suc i) w b k r at lt room = (holds_are_events u s n cs hs f vs k r).keep i w b at lt room
+    keep_at ws hs vs id w b k r at lt room =
+        at_worker hs w (λ us xs j. ReadsHeld u us xs s → HeldOn (Keep w.number b) (set us (suc b) ((get_or us (suc b) 0 + 1) % 2 ^ 64)) (set xs j (Worker (after_keep w b))))
+        (λ n cs f xs i k at r. (holds_are_events u s n cs hs f xs k r).keep i w b at lt room) ws vs id k at r
 
     release_at : (ws : List ℕ) (hs : List (Home (Option T))) (vs : List (View T)) (id : ℕ) (w : WorkerView T) (b : ℕ) → Keeps ws hs vs → ReadsHeld u ws vs s → get_elem? vs id ≡ some (Worker w)
         → 0 < times b w.holds
         → HeldOn (Release w.number b) (set ws (suc b) ((get_or ws (suc b) 0 + (2 ^ 64 - 1)) % 2 ^ 64)) (set vs id (Worker (after_release w b)))
-    release_at [] hs vs id w b k r at has = absurd k
-    release_at (n ∷ cs) hs [] id w b k r at has = absurd k
-    release_at (n ∷ cs) hs (Worker v ∷ vs) id w b k r at has = absurd k
-    release_at (n ∷ cs) hs (Spent ∷ vs) id w b k r at has = absurd k
-    release_at (n ∷ cs) hs (Frame f ∷ vs) zero w b k r at has = absurd (frame_no_worker f w at)
-    release_at (n ∷ cs) hs (Frame f ∷ vs) (suc i) w b k r at has = (holds_are_events u s n cs hs f vs k r).release i w b at has
+    release_at ws hs vs id w b k r at has =
+        at_worker hs w (λ us xs j. ReadsHeld u us xs s → HeldOn (Release w.number b) (set us (suc b) ((get_or us (suc b) 0 + (2 ^ 64 - 1)) % 2 ^ 64)) (set xs j (Worker (after_release w b))))
+        (λ n cs f xs i k at r. (holds_are_events u s n cs hs f xs k r).release i w b at has) ws vs id k at r
 
     look_at : (ws : List ℕ) (hs : List (Home (Option T))) (vs : List (View T)) (id : ℕ) (w : WorkerView T) (b : ℕ) → Keeps ws hs vs → ReadsHeld u ws vs s → get_elem? vs id ≡ some (Worker w)
         → ReadsHeld u (set ws (suc b) (get_or ws (suc b) 0)) (set vs id (Worker w)) s
-    look_at [] hs vs id w b k r at = absurd k
-    look_at (n ∷ cs) hs [] id w b k r at = absurd k
-    look_at (n ∷ cs) hs (Worker v ∷ vs) id w b k r at = absurd k
-    look_at (n ∷ cs) hs (Spent ∷ vs) id w b k r at = absurd k
-    look_at (n ∷ cs) hs (Frame f ∷ vs) zero w b k r at = absurd (frame_no_worker f w at)
-    look_at (n ∷ cs) hs (Frame f ∷ vs) (suc i) w b k r at = (holds_are_events u s n cs hs f vs k r).look i w b at
+    look_at ws hs vs id w b k r at =
+        at_worker hs w (λ us xs j. ReadsHeld u us xs s → ReadsHeld u (set us (suc b) (get_or us (suc b) 0)) (set xs j (Worker w)) s) (λ n cs f xs i k at r. (holds_are_events u s n cs hs f xs k r).look i w b at) ws vs id k at r
 
     module _ (ws : List ℕ) (hs : List (Home (Option T))) (vs : List (View T)) (id : ℕ) (w : WorkerView T) (b : ℕ) (k : Keeps ws hs vs) (r : ReadsHeld u ws vs s) (at : get_elem? vs id ≡ some (Worker w)) where
       pub keep_held : b < w.buffers → length w.holds < 2 ^ 56 → HeldOn (Keep w.number b) (set ws (b + 1) ((get_or ws (b + 1) 0 + 1) % 2 ^ 64)) (set vs id (Worker (after_keep w b)))
@@ -140,35 +119,24 @@ module _ {T : Type 0} (u : SetupValue) where
 
     pub seat_held : (ws : List ℕ) (hs : List (Home (Option T))) (vs : List (View T)) (f : FrameView T) → Keeps ws hs vs → ReadsHeld u ws vs s → get_elem? vs 0 ≡ some (Frame f) → f.made < u.workers
         → ReadsHeld u ws (set vs 0 (left_of (Frame f)) ++ right_of (Frame f) ∷ []) s
-    seat_held [] hs vs f k r at room = absurd k
-    seat_held (n ∷ cs) hs [] f k r at room = absurd k
-    seat_held (n ∷ cs) hs (Worker v ∷ vs) f k r at room = absurd k
-    seat_held (n ∷ cs) hs (Spent ∷ vs) f k r at room = absurd k
-    seat_held (n ∷ cs) hs (Frame g ∷ vs) f k r at room =
-        let e : g ≡ f = cc in
-        subst (λ (x : FrameView T). IsHoldsReading u cs (seated x) (vs ++ Worker (fresh x) ∷ []) s) e
-        ((holds_are_events u s n cs hs g vs k r).seat (subst (λ (x : FrameView T). x.made < u.workers) (sym e) room))
+    seat_held ws hs vs f k r at room =
+        at_first hs f (λ us xs. ReadsHeld u us xs s → ReadsHeld u us (set xs 0 (left_of (Frame f)) ++ right_of (Frame f) ∷ []) s) (λ n cs xs k r. (holds_are_events u s n cs hs f xs k r).seat room) ws vs k at r
 
     pub move_held : (ws : List ℕ) (hs : List (Home (Option T))) (vs : List (View T)) (id : ℕ) (w : WorkerView T) → Keeps ws hs vs → ReadsHeld u ws vs s → get_elem? vs id ≡ some (Worker w)
         → ReadsHeld u ws (set vs id (moved_left (Worker w)) ++ moved_right (Worker w) ∷ []) s
-    move_held [] hs vs id w k r at = absurd k
-    move_held (n ∷ cs) hs [] id w k r at = absurd k
-    move_held (n ∷ cs) hs (Worker v ∷ vs) id w k r at = absurd k
-    move_held (n ∷ cs) hs (Spent ∷ vs) id w k r at = absurd k
-    move_held (n ∷ cs) hs (Frame f ∷ vs) zero w k r at = absurd (frame_no_worker f w at)
-    move_held (n ∷ cs) hs (Frame f ∷ vs) (suc i) w k r at = (holds_are_events u s n cs hs f vs k r).move i w at
+    move_held ws hs vs id w k r at =
+        at_worker hs w (λ us xs j. ReadsHeld u us xs s → ReadsHeld u us (set xs j (moved_left (Worker w)) ++ moved_right (Worker w) ∷ []) s) (λ n cs f xs i k at r. (holds_are_events u s n cs hs f xs k r).move i w at) ws vs id k at r
 
     pub join_held : (ws : List ℕ) (hs : List (Home (Option T))) (vs : List (View T)) (f : FrameView T) (id : ℕ) (w : WorkerView T) → Keeps ws hs vs → ReadsHeld u ws vs s → get_elem? vs 0 ≡ some (Frame f)
         → get_elem? vs id ≡ some (Worker w) → w.holds ≡ []
         → ReadsHeld u ws (set (set vs 0 (both_of (Frame f) (Worker w))) id Spent) s
-    join_held [] hs vs f id w k r first at none = absurd k
-    join_held (n ∷ cs) hs [] f id w k r first at none = absurd k
-    join_held (n ∷ cs) hs (Worker v ∷ vs) f id w k r first at none = absurd k
-    join_held (n ∷ cs) hs (Spent ∷ vs) f id w k r first at none = absurd k
-    join_held (n ∷ cs) hs (Frame g ∷ vs) f zero w k r first at none = absurd (frame_no_worker g w at)
-    join_held (n ∷ cs) hs (Frame g ∷ vs) f (suc i) w k r first at none =
-        let e : g ≡ f = cc in
-        subst (λ (x : FrameView T). IsHoldsReading u cs (joined x w) (set vs i Spent) s) e ((holds_are_events u s n cs hs g vs k r).join i w at none)
+    join_held ws hs vs f id w k r first at none =
+        at_first hs f (λ us xs. get_elem? xs id ≡ some (Worker w) → ReadsHeld u us xs s → ReadsHeld u us (set (set xs 0 (both_of (Frame f) (Worker w))) id Spent) s) (λ n cs xs. joins n cs xs id) ws vs k first at r
+      where
+        joins : (n : ℕ) (cs : List ℕ) (xs : List (View T)) (j : ℕ) → Keeps (n ∷ cs) hs (Frame f ∷ xs) → get_elem? (Frame f ∷ xs) j ≡ some (Worker w) → ReadsHeld u (n ∷ cs) (Frame f ∷ xs) s
+            → ReadsHeld u (n ∷ cs) (set (set (Frame f ∷ xs) 0 (both_of (Frame f) (Worker w))) j Spent) s
+        joins n cs xs zero k at r = absurd (frame_no_worker f w at)
+        joins n cs xs (suc i) k at r = (holds_are_events u s n cs hs f xs k r).join i w at none
 
     -- ---- where no worker is out
 
@@ -178,14 +146,9 @@ module _ {T : Type 0} (u : SetupValue) where
     none_held n b Spent z = refl
 
     pub holds_nothing : (ws : List ℕ) (hs : List (Home (Option T))) (vs : List (View T)) (f : FrameView T) → Keeps ws hs vs → ReadsHeld u ws vs s → get_elem? vs 0 ≡ some (Frame f) → f.out ≡ 0 → HoldsNothing u s
-    holds_nothing [] hs vs f k r first out = absurd k
-    holds_nothing (n ∷ cs) hs [] f k r first out = absurd k
-    holds_nothing (n ∷ cs) hs (Worker v ∷ vs) f k r first out = absurd k
-    holds_nothing (n ∷ cs) hs (Spent ∷ vs) f k r first out = absurd k
-    holds_nothing (n ∷ cs) hs (Frame g ∷ vs) f k r first out =
-        let e : g ≡ f = cc in
-        let o : total is_out vs ≡ 0 = k.out_is ∙ ap (λ (x : FrameView T). x.out) e ∙ out in
-        λ w b few lt. r.holds_are w b few lt ∙ total-none (held_by w b) is_out vs (none_held w b) o
+    holds_nothing ws hs vs f k r first out =
+        at_first hs f (λ us xs. ReadsHeld u us xs s → HoldsNothing u s)
+        (λ n cs xs k r w b few lt. r.holds_are w b few lt ∙ total-none (held_by w b) is_out xs (none_held w b) (k.out_is ∙ out)) ws vs k first r
 
     none_holds : (b : ℕ) (v : View T) → is_out v ≡ 0 → holds_of b v ≡ 0
     none_holds b (Frame f) z = refl
@@ -194,17 +157,15 @@ module _ {T : Type 0} (u : SetupValue) where
 
     count_at : (ws : List ℕ) (hs : List (Home (Option T))) (vs : List (View T)) (f : FrameView T) → Keeps ws hs vs → ReadsHeld u ws vs s → get_elem? vs 0 ≡ some (Frame f) → f.out ≡ 0
         → (b : ℕ) → b < length u.counts → get_or ws (suc b) 0 ≡ get_or u.counts b 0
-    count_at [] hs vs f k r first out b lt = absurd k
-    count_at (n ∷ cs) hs [] f k r first out b lt = absurd k
-    count_at (n ∷ cs) hs (Worker v ∷ vs) f k r first out b lt = absurd k
-    count_at (n ∷ cs) hs (Spent ∷ vs) f k r first out b lt = absurd k
-    count_at (n ∷ cs) hs (Frame g ∷ vs) f k r first out b lt =
-        let e : g ≡ f = cc in
-        let o : total is_out vs ≡ 0 = k.out_is ∙ ap (λ (x : FrameView T). x.out) e ∙ out in
-        let z = total-none (holds_of b) is_out vs (none_holds b) o in
-        let within : b < length g.opening = (let l = ap length r.opening_is in omega arith) in
-        let c = k.count_is b within in
-        let same : get_or g.opening b 0 ≡ get_or u.counts b 0 = ap (λ (l : List ℕ). get_or l b 0) r.opening_is in omega arith
+    count_at ws hs vs f k r first out =
+        at_first hs f (λ us xs. ReadsHeld u us xs s → (b : ℕ) → b < length u.counts → get_or us (suc b) 0 ≡ get_or u.counts b 0) counts ws vs k first r
+      where
+        counts : (n : ℕ) (cs : List ℕ) (xs : List (View T)) → Keeps (n ∷ cs) hs (Frame f ∷ xs) → ReadsHeld u (n ∷ cs) (Frame f ∷ xs) s → (b : ℕ) → b < length u.counts → get_or (n ∷ cs) (suc b) 0 ≡ get_or u.counts b 0
+        counts n cs xs k r b lt =
+            let z = total-none (holds_of b) is_out xs (none_holds b) (k.out_is ∙ out) in
+            let within : b < length f.opening = (let l = ap length r.opening_is in omega arith) in
+            let c = k.count_is b within in
+            let same : get_or f.opening b 0 ≡ get_or u.counts b 0 = ap (λ (l : List ℕ). get_or l b 0) r.opening_is in omega arith
 
     pub counts_back : (ws : List ℕ) (hs : List (Home (Option T))) (vs : List (View T)) (f : FrameView T) → Keeps ws hs vs → ReadsHeld u ws vs s → get_elem? vs 0 ≡ some (Frame f) → f.out ≡ 0
         → (b : ℕ) → b < length u.counts → get_or ws (b + 1) 0 ≡ get_or u.counts b 0
@@ -212,12 +173,7 @@ module _ {T : Type 0} (u : SetupValue) where
 
 module _ {T : Type 0} where
   held_at : (ws : List ℕ) (hs : List (Home (Option T))) (vs : List (View T)) (id : ℕ) (w : WorkerView T) (b : ℕ) → Keeps ws hs vs → get_elem? vs id ≡ some (Worker w) → 0 < times b w.holds → 2 ≤ get_or ws (suc b) 0
-  held_at [] hs vs id w b k at has = absurd k
-  held_at (n ∷ cs) hs [] id w b k at has = absurd k
-  held_at (n ∷ cs) hs (Worker v ∷ vs) id w b k at has = absurd k
-  held_at (n ∷ cs) hs (Spent ∷ vs) id w b k at has = absurd k
-  held_at (n ∷ cs) hs (Frame f ∷ vs) zero w b k at has = absurd (frame_no_worker f w at)
-  held_at (n ∷ cs) hs (Frame f ∷ vs) (suc i) w b k at has = held_twice n cs hs f vs k i w at b has
+  held_at ws hs vs id w b k at has = at_worker hs w (λ us xs j. 2 ≤ get_or us (suc b) 0) (λ n cs f xs i k at. held_twice n cs hs f xs k i w at b has) ws vs id k at
 
   pub twice : (ws : List ℕ) (hs : List (Home (Option T))) (vs : List (View T)) (id : ℕ) (w : WorkerView T) (b : ℕ) → Keeps ws hs vs → get_elem? vs id ≡ some (Worker w) → 0 < times b w.holds → 2 ≤ get_or ws (b + 1) 0
   twice ws hs vs id w b k at has = subst (λ (i : ℕ). 2 ≤ get_or ws i 0) (sym (add-one b)) (held_at ws hs vs id w b k at has)

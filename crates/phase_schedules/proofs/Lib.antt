@@ -1,6 +1,7 @@
 pub mod Ahead
 pub mod Cells
 pub mod Tables
+pub mod Places
 pub mod Readings
 pub mod Holds
 pub mod Turning

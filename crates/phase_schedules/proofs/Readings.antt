@@ -13,13 +13,14 @@ use Rattle.count_table.specs.declared.view.View.{View}
 use Rattle.count_table.specs.declared.view.View.TheVariants.{Frame, Worker, Spent}
 use Rattle.count_table.specs.Views.{drawn_of, times}
 use Rattle.count_table.specs.Rule.{Counted, Keeps}
-use Rattle.count_table.specs.Plays.{after_draw, after_keep, after_release, both_of, fresh, joined, left_of, moved_left, moved_right, right_of, seated}
+use Rattle.count_table.specs.Plays.{after_draw, after_keep, after_release, both_of, left_of, moved_left, moved_right, right_of}
 use Rattle.count_table.specs.Reading.{IsReading, owned_by}
 use Rattle.count_table.proofs.Totals.{total_at}
 use Rattle.count_table.proofs.Facts.{frame_no_worker}
 use Rattle.count_table.proofs.Reading.{steps_are_events}
 use Rattle.phase_schedules.specs.Readings.{AtFrame}
 use Rattle.phase_schedules.proofs.Ahead.{SameTable}
+use Rattle.phase_schedules.proofs.Places.{at_first, at_worker}
 
 -- as `count_table` reads a table whose chunks are drawn
 abbrev pub ReadsDrawn : {T : Type 0} → SetupValue → List ℕ → List (View T) → StateValue → Type 0
@@ -74,12 +75,7 @@ module _ {T : Type 0} (u : SetupValue) where
 
   module _ (s : StateValue) where
     pub owns : (ws : List ℕ) (hs : List (Home (Option T))) (vs : List (View T)) (id : ℕ) (w : WorkerView T) → Keeps ws hs vs → ReadsDrawn u ws vs s → get_elem? vs id ≡ some (Worker w) → Owns w s
-    owns [] hs vs id w k r at = absurd k
-    owns (n ∷ cs) hs [] id w k r at = absurd k
-    owns (n ∷ cs) hs (Worker v ∷ vs) id w k r at = absurd k
-    owns (n ∷ cs) hs (Spent ∷ vs) id w k r at = absurd k
-    owns (n ∷ cs) hs (Frame f ∷ vs) zero w k r at = absurd (frame_no_worker f w at)
-    owns (n ∷ cs) hs (Frame f ∷ vs) (suc i) w k r at = owns_at n cs hs f vs i w s k r at
+    owns ws hs vs id w k r at = at_worker hs w (λ us xs j. ReadsDrawn u us xs s → Owns w s) (λ n cs f xs i k at r. owns_at n cs hs f xs i w s k r at) ws vs id k at r
 
     -- an event leads to a state that these words and views stand for
     abbrev pub LeadsOn : Event → List ℕ → List (View T) → Type 0
@@ -88,51 +84,37 @@ module _ {T : Type 0} (u : SetupValue) where
     pub draw_reads : (ws : List ℕ) (hs : List (Home (Option T))) (vs : List (View T)) (id : ℕ) (w : WorkerView T) → Keeps ws hs vs → ReadsDrawn u ws vs s → get_elem? vs id ≡ some (Worker w)
         → get_or ws 0 0 < chunks u → ((c : ℕ) → ¬ Works u s w.number c)
         → LeadsOn (Draw w.number) (set ws 0 ((get_or ws 0 0 + 1) % 2 ^ 64)) (set vs id (Worker (after_draw w (get_or ws 0 0))))
-    draw_reads [] hs vs id w k r at more idle = absurd k
-    draw_reads (n ∷ cs) hs [] id w k r at more idle = absurd k
-    draw_reads (n ∷ cs) hs (Worker v ∷ vs) id w k r at more idle = absurd k
-    draw_reads (n ∷ cs) hs (Spent ∷ vs) id w k r at more idle = absurd k
-    draw_reads (n ∷ cs) hs (Frame f ∷ vs) zero w k r at more idle = absurd (frame_no_worker f w at)
-    draw_reads (n ∷ cs) hs (Frame f ∷ vs) (suc i) w k r at more idle = (steps_are_events u s n cs hs f vs k r).draw i w at more idle
+    draw_reads ws hs vs id w k r at =
+        at_worker hs w
+        (λ us xs j. ReadsDrawn u us xs s → get_or us 0 0 < chunks u → ((c : ℕ) → ¬ Works u s w.number c)
+        → LeadsOn (Draw w.number) (set us 0 ((get_or us 0 0 + 1) % 2 ^ 64)) (set xs j (Worker (after_draw w (get_or us 0 0)))))
+        (λ n cs f xs i k at r more idle. (steps_are_events u s n cs hs f xs k r).draw i w at more idle) ws vs id k at r
 
     pub none_reads : (ws : List ℕ) (hs : List (Home (Option T))) (vs : List (View T)) (id : ℕ) (w : WorkerView T) → Keeps ws hs vs → ReadsDrawn u ws vs s → get_elem? vs id ≡ some (Worker w)
         → chunks u ≤ get_or ws 0 0
         → ReadsDrawn u (set ws 0 ((get_or ws 0 0 + 1) % 2 ^ 64)) (set vs id (Worker (after_draw w (get_or ws 0 0)))) s
-    none_reads [] hs vs id w k r at none = absurd k
-    none_reads (n ∷ cs) hs [] id w k r at none = absurd k
-    none_reads (n ∷ cs) hs (Worker v ∷ vs) id w k r at none = absurd k
-    none_reads (n ∷ cs) hs (Spent ∷ vs) id w k r at none = absurd k
-    none_reads (n ∷ cs) hs (Frame f ∷ vs) zero w k r at none = absurd (frame_no_worker f w at)
-    none_reads (n ∷ cs) hs (Frame f ∷ vs) (suc i) w k r at none = (steps_are_events u s n cs hs f vs k r).draw_none i w at none
+    none_reads ws hs vs id w k r at =
+        at_worker hs w (λ us xs j. ReadsDrawn u us xs s → chunks u ≤ get_or us 0 0 → ReadsDrawn u (set us 0 ((get_or us 0 0 + 1) % 2 ^ 64)) (set xs j (Worker (after_draw w (get_or us 0 0)))) s)
+        (λ n cs f xs i k at r none. (steps_are_events u s n cs hs f xs k r).draw_none i w at none) ws vs id k at r
 
     keep_at : (ws : List ℕ) (hs : List (Home (Option T))) (vs : List (View T)) (id : ℕ) (w : WorkerView T) (b : ℕ) → Keeps ws hs vs → ReadsDrawn u ws vs s → get_elem? vs id ≡ some (Worker w)
         → b < w.buffers → length w.holds < 2 ^ 56
         → LeadsOn (Keep w.number b) (set ws (suc b) ((get_or ws (suc b) 0 + 1) % 2 ^ 64)) (set vs id (Worker (after_keep w b)))
-    keep_at [] hs vs id w b k r at lt room = absurd k
-    keep_at (n ∷ cs) hs [] id w b k r at lt room = absurd k
-    keep_at (n ∷ cs) hs (Worker v ∷ vs) id w b k r at lt room = absurd k
-    keep_at (n ∷ cs) hs (Spent ∷ vs) id w b k r at lt room = absurd k
-    keep_at (n ∷ cs) hs (Frame f ∷ vs) zero w b k r at lt room = absurd (frame_no_worker f w at)
-    keep_at (n ∷ cs) hs (Frame f ∷ vs) (suc i) w b k r at lt room = (steps_are_events u s n cs hs f vs k r).keep i w b at lt room
+    keep_at ws hs vs id w b k r at lt room =
+        at_worker hs w (λ us xs j. ReadsDrawn u us xs s → LeadsOn (Keep w.number b) (set us (suc b) ((get_or us (suc b) 0 + 1) % 2 ^ 64)) (set xs j (Worker (after_keep w b))))
+        (λ n cs f xs i k at r. (steps_are_events u s n cs hs f xs k r).keep i w b at lt room) ws vs id k at r
 
     release_at : (ws : List ℕ) (hs : List (Home (Option T))) (vs : List (View T)) (id : ℕ) (w : WorkerView T) (b : ℕ) → Keeps ws hs vs → ReadsDrawn u ws vs s → get_elem? vs id ≡ some (Worker w)
         → 0 < times b w.holds
         → LeadsOn (Release w.number b) (set ws (suc b) ((get_or ws (suc b) 0 + (2 ^ 64 - 1)) % 2 ^ 64)) (set vs id (Worker (after_release w b)))
-    release_at [] hs vs id w b k r at has = absurd k
-    release_at (n ∷ cs) hs [] id w b k r at has = absurd k
-    release_at (n ∷ cs) hs (Worker v ∷ vs) id w b k r at has = absurd k
-    release_at (n ∷ cs) hs (Spent ∷ vs) id w b k r at has = absurd k
-    release_at (n ∷ cs) hs (Frame f ∷ vs) zero w b k r at has = absurd (frame_no_worker f w at)
-    release_at (n ∷ cs) hs (Frame f ∷ vs) (suc i) w b k r at has = (steps_are_events u s n cs hs f vs k r).release i w b at has
+    release_at ws hs vs id w b k r at has =
+        at_worker hs w (λ us xs j. ReadsDrawn u us xs s → LeadsOn (Release w.number b) (set us (suc b) ((get_or us (suc b) 0 + (2 ^ 64 - 1)) % 2 ^ 64)) (set xs j (Worker (after_release w b))))
+        (λ n cs f xs i k at r. (steps_are_events u s n cs hs f xs k r).release i w b at has) ws vs id k at r
 
     look_at : (ws : List ℕ) (hs : List (Home (Option T))) (vs : List (View T)) (id : ℕ) (w : WorkerView T) (b : ℕ) → Keeps ws hs vs → ReadsDrawn u ws vs s → get_elem? vs id ≡ some (Worker w)
         → ReadsDrawn u (set ws (suc b) (get_or ws (suc b) 0)) (set vs id (Worker w)) s
-    look_at [] hs vs id w b k r at = absurd k
-    look_at (n ∷ cs) hs [] id w b k r at = absurd k
-    look_at (n ∷ cs) hs (Worker v ∷ vs) id w b k r at = absurd k
-    look_at (n ∷ cs) hs (Spent ∷ vs) id w b k r at = absurd k
-    look_at (n ∷ cs) hs (Frame f ∷ vs) zero w b k r at = absurd (frame_no_worker f w at)
-    look_at (n ∷ cs) hs (Frame f ∷ vs) (suc i) w b k r at = (steps_are_events u s n cs hs f vs k r).look i w b at
+    look_at ws hs vs id w b k r at =
+        at_worker hs w (λ us xs j. ReadsDrawn u us xs s → ReadsDrawn u (set us (suc b) (get_or us (suc b) 0)) (set xs j (Worker w)) s) (λ n cs f xs i k at r. (steps_are_events u s n cs hs f xs k r).look i w b at) ws vs id k at r
 
     module _ (ws : List ℕ) (hs : List (Home (Option T))) (vs : List (View T)) (id : ℕ) (w : WorkerView T) (b : ℕ) (k : Keeps ws hs vs) (r : ReadsDrawn u ws vs s) (at : get_elem? vs id ≡ some (Worker w)) where
       pub keep_reads : b < w.buffers → length w.holds < 2 ^ 56 → LeadsOn (Keep w.number b) (set ws (b + 1) ((get_or ws (b + 1) 0 + 1) % 2 ^ 64)) (set vs id (Worker (after_keep w b)))
@@ -148,32 +130,21 @@ module _ {T : Type 0} (u : SetupValue) where
 
     pub seat_reads : (ws : List ℕ) (hs : List (Home (Option T))) (vs : List (View T)) (f : FrameView T) → Keeps ws hs vs → ReadsDrawn u ws vs s → get_elem? vs 0 ≡ some (Frame f) → f.made < u.workers
         → ReadsDrawn u ws (set vs 0 (left_of (Frame f)) ++ right_of (Frame f) ∷ []) s
-    seat_reads [] hs vs f k r at room = absurd k
-    seat_reads (n ∷ cs) hs [] f k r at room = absurd k
-    seat_reads (n ∷ cs) hs (Worker v ∷ vs) f k r at room = absurd k
-    seat_reads (n ∷ cs) hs (Spent ∷ vs) f k r at room = absurd k
-    seat_reads (n ∷ cs) hs (Frame g ∷ vs) f k r at room =
-        let e : g ≡ f = cc in
-        subst (λ (x : FrameView T). IsReading u n cs (seated x) (vs ++ Worker (fresh x) ∷ []) s) e
-        ((steps_are_events u s n cs hs g vs k r).seat (subst (λ (x : FrameView T). x.made < u.workers) (sym e) room))
+    seat_reads ws hs vs f k r at room =
+        at_first hs f (λ us xs. ReadsDrawn u us xs s → ReadsDrawn u us (set xs 0 (left_of (Frame f)) ++ right_of (Frame f) ∷ []) s) (λ n cs xs k r. (steps_are_events u s n cs hs f xs k r).seat room) ws vs k at r
 
     pub move_reads : (ws : List ℕ) (hs : List (Home (Option T))) (vs : List (View T)) (id : ℕ) (w : WorkerView T) → Keeps ws hs vs → ReadsDrawn u ws vs s → get_elem? vs id ≡ some (Worker w)
         → ReadsDrawn u ws (set vs id (moved_left (Worker w)) ++ moved_right (Worker w) ∷ []) s
-    move_reads [] hs vs id w k r at = absurd k
-    move_reads (n ∷ cs) hs [] id w k r at = absurd k
-    move_reads (n ∷ cs) hs (Worker v ∷ vs) id w k r at = absurd k
-    move_reads (n ∷ cs) hs (Spent ∷ vs) id w k r at = absurd k
-    move_reads (n ∷ cs) hs (Frame f ∷ vs) zero w k r at = absurd (frame_no_worker f w at)
-    move_reads (n ∷ cs) hs (Frame f ∷ vs) (suc i) w k r at = (steps_are_events u s n cs hs f vs k r).move i w at
+    move_reads ws hs vs id w k r at =
+        at_worker hs w (λ us xs j. ReadsDrawn u us xs s → ReadsDrawn u us (set xs j (moved_left (Worker w)) ++ moved_right (Worker w) ∷ []) s) (λ n cs f xs i k at r. (steps_are_events u s n cs hs f xs k r).move i w at) ws vs id k at r
 
     pub join_reads : (ws : List ℕ) (hs : List (Home (Option T))) (vs : List (View T)) (f : FrameView T) (id : ℕ) (w : WorkerView T) → Keeps ws hs vs → ReadsDrawn u ws vs s → get_elem? vs 0 ≡ some (Frame f)
         → get_elem? vs id ≡ some (Worker w) → w.holds ≡ []
         → ReadsDrawn u ws (set (set vs 0 (both_of (Frame f) (Worker w))) id Spent) s
-    join_reads [] hs vs f id w k r first at none = absurd k
-    join_reads (n ∷ cs) hs [] f id w k r first at none = absurd k
-    join_reads (n ∷ cs) hs (Worker v ∷ vs) f id w k r first at none = absurd k
-    join_reads (n ∷ cs) hs (Spent ∷ vs) f id w k r first at none = absurd k
-    join_reads (n ∷ cs) hs (Frame g ∷ vs) f zero w k r first at none = absurd (frame_no_worker g w at)
-    join_reads (n ∷ cs) hs (Frame g ∷ vs) f (suc i) w k r first at none =
-        let e : g ≡ f = cc in
-        subst (λ (x : FrameView T). IsReading u n cs (joined x w) (set vs i Spent) s) e ((steps_are_events u s n cs hs g vs k r).join i w at none)
+    join_reads ws hs vs f id w k r first at none =
+        at_first hs f (λ us xs. get_elem? xs id ≡ some (Worker w) → ReadsDrawn u us xs s → ReadsDrawn u us (set (set xs 0 (both_of (Frame f) (Worker w))) id Spent) s) (λ n cs xs. joins n cs xs id) ws vs k first at r
+      where
+        joins : (n : ℕ) (cs : List ℕ) (xs : List (View T)) (j : ℕ) → Keeps (n ∷ cs) hs (Frame f ∷ xs) → get_elem? (Frame f ∷ xs) j ≡ some (Worker w) → ReadsDrawn u (n ∷ cs) (Frame f ∷ xs) s
+            → ReadsDrawn u (n ∷ cs) (set (set (Frame f ∷ xs) 0 (both_of (Frame f) (Worker w))) j Spent) s
+        joins n cs xs zero k at r = absurd (frame_no_worker f w at)
+        joins n cs xs (suc i) k at r = (steps_are_events u s n cs hs f xs k r).join i w at none

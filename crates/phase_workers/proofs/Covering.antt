@@ -11,7 +11,7 @@ use Rattle.counted_code.specs.Machine.{Values}
 use Rattle.counted_code.specs.Terms.{core_of, core_of_gens, core_of_parts}
 use Rattle.counted_code.specs.View.{code_term}
 use Rattle.phase_books.specs.Homes.{ComputesAll, left_in}
-use Rattle.phase_checks.specs.Terms.{gen_head, gens_term, parts_term}
+use Rattle.counted_code.specs.Pieces.{gen_head, gens_term, parts_term}
 use Rattle.phase_loop_cells.specs.Cells.{as_cell, index_at, source_cell, source_means, stands_at}
 use Rattle.phase_loop_cells.specs.Opened.{lent_env, meaning_in}
 use Rattle.phase_loop_cells.specs.declared.copies.Background.{Background}

@@ -15,7 +15,7 @@ use Rattle.counted_code.specs.Values.{Heap}
 use Rattle.counted_code.specs.View.{code_program}
 use Rattle.phase_books.specs.Alive.{AreAlive}
 use Rattle.phase_books.specs.Homes.{CombinesAll, handed}
-use Rattle.phase_checks.specs.Terms.{gens_term, parts_term}
+use Rattle.counted_code.specs.Pieces.{gens_term, parts_term}
 use Rattle.phase_laws.specs.Folds.{IsOf}
 use Rattle.phase_loop_cells.specs.Cells.{as_cell, fill_at, index_at, source_means}
 use Rattle.phase_loop_cells.specs.Opened.{SourceIn, lent_env, meaning_in}

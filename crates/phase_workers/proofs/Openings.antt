@@ -24,7 +24,7 @@ use Rattle.run_loops.specs.declared.state.Context.{Context}
 use Rattle.run_loops.specs.Jobs.{source_of}
 use Rattle.run_loops.specs.Running as running
 use Rattle.run_loops.specs.Running.{calls_in, generator_in}
-use Rattle.phase_checks.specs.Terms.{gens_term, parts_term}
+use Rattle.counted_code.specs.Pieces.{gens_term, parts_term}
 use Rattle.phase_loop_laws.specs.Ordered.{StandsAlone, balanced}
 use Rattle.phase_loop_cells.specs.Cells.{source_means, source_takes}
 use Rattle.phase_loop_cells.specs.Opened.{OpenSource, SourceIn, named, cells_in, lent_array, lent_env, meaning_in, spending_in}

@@ -21,7 +21,7 @@ use Rattle.phase_loop_laws.specs.over_phases.Statements.{AreElements, EndsOver, 
 use Rattle.phase_books.specs.Alive.{AreAlive}
 use Rattle.phase_books.specs.Homes.{ComputesAll, handed}
 use Rattle.phase_books.specs.Over.{settled_over}
-use Rattle.phase_checks.specs.Terms.{parts_term}
+use Rattle.counted_code.specs.Pieces.{parts_term}
 use Rattle.phase_count.proofs.Tallying.{counts_as}
 use Rattle.phase_laws.specs.Spending.{parts_take, total}
 use Rattle.phase_loop_cells.specs.Cells.{as_cell, index_at}

@@ -5,7 +5,7 @@ use Rattle.counted_code.specs.Counts.{CountedGens, CountedParts, group_results}
 use Rattle.counted_code.specs.Terms.{CodeProgram, core_of_code}
 use Rattle.counted_code.specs.View.{code_program}
 use Rattle.phase_books.specs.Alive.{AreAlive}
-use Rattle.phase_checks.specs.Terms.{gens_term, parts_term}
+use Rattle.counted_code.specs.Pieces.{gens_term, parts_term}
 use Rattle.phase_loop_cells.specs.Opened.{SourceIn}
 use Rattle.reach_checks.specs.Loops.{ClearGens, ClearParts}
 use Rattle.run_loops.specs.declared.cell_loop.CellSource.{CellSource}

@@ -6,7 +6,7 @@ ghost use Rattle.counted_code.specs.Values.{Heap as MachineHeap, is_small as is_
 ghost use Rattle.counted_code.specs.View.{code_program};
 ghost use Rattle.phase_kernels.specs.over_checks.Over.{MayBeOver};
 ghost use Rattle.phase_books.specs.Alive.{AreAlive};
-ghost use Rattle.phase_checks.specs.Terms.{parts_term};
+ghost use Rattle.counted_code.specs.Pieces.{parts_term};
 ghost use Rattle.phase_loop_cells.specs.Opened.{PartsIn};
 ghost use Rattle.run_loops.specs.Jobs.{over_does, AreIndicesOf, IsOver};
 ghost use Rattle.run_loops.specs.Running.{IsAt, IsValue, SameScopes, Told, parts_job};

@@ -1,4 +1,3 @@
 pub mod Closed
 pub mod Exact
-pub mod Heights
 pub mod Trees

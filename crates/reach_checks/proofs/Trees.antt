@@ -12,8 +12,8 @@ use Rattle.counted_code.specs.declared.tree.CodeStep.TheVariants as step
 use Rattle.counted_code.specs.declared.tree.CodeWith.{CodeWith, out-CodeWith}
 use Rattle.counted_code.specs.Terms.{CodeTerm, Giving}
 use Rattle.counted_code.specs.View.{code_term, code_right_term, code_with_term, code_parted_term, step_term, steps_before}
-use Rattle.phase_checks.specs.Terms.{gens_term, parts_term}
-use Rattle.phase_checks.proofs.Trees.{if_term, loop_term, with_out, parted_out}
+use Rattle.counted_code.specs.Pieces.{gens_term, parts_term}
+use Rattle.counted_code.proofs.Trees.{if_term, loop_term, with_out, parted_out}
 use Rattle.reach_checks.specs.Clear.{is_clear, right_is_clear, gens_are_clear, parts_are_clear, step_is_clear}
 
 module _ (clear : ℕ → Bool) where

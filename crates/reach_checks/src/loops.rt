@@ -5,7 +5,7 @@ ghost use Rattle.core_facts.specs.calls.Nests.{CallsAllGens, CallsAllParts};
 ghost use Rattle.counted_code.specs.Counts.{UnmarkedGens, UnmarkedParts};
 ghost use Rattle.counted_code.specs.Terms.{core_of_gens, core_of_parts};
 ghost use Rattle.counted_laws.specs.mark_removal.Reached.{IsOne};
-ghost use Rattle.phase_checks.specs.Terms.{gens_term, parts_term};
+ghost use Rattle.counted_code.specs.Pieces.{gens_term, parts_term};
 ghost use Rattle.reach_checks.specs.Groups.{clear_in};
 
 use crate::walk::{gens_are_clear, parts_are_clear};

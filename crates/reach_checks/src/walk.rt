@@ -7,7 +7,7 @@ ghost use Rattle.counted_code.specs.declared.tree.CodeParted.{out-CodeParted};
 ghost use Rattle.reach_checks.specs.Clear.{is_clear as block_clear, right_is_clear as right_clear, gens_are_clear as gens_clear};
 ghost use Rattle.reach_checks.specs.Clear.{parts_are_clear as parts_clear, step_is_clear as step_clear};
 ghost use Rattle.reach_checks.specs.Groups.{clear_in};
-ghost use Rattle.phase_checks.specs.Terms.{gens_term, parts_term};
+ghost use Rattle.counted_code.specs.Pieces.{gens_term, parts_term};
 
 use counted_code::{CodeBlock, CodeGen, CodePart, CodeParted, CodeRight, CodeStep, CodeWith};
 

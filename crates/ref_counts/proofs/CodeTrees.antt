@@ -10,49 +10,16 @@ use Rattle.core_ir.specs.declared.tree.PartedLoop.{PartedLoop, out-PartedLoop}
 use Rattle.core_ir.specs.View.{block_term, with_term, parted_term, gen_term, part_term}
 use Rattle.core_ir.proofs.Trees as core
 use Rattle.core_ir.specs.Terms.{BlockTerm, GenTerm, PartTerm, gens_of, parts_of}
-use Rattle.counted_code.specs.declared.tree.CodeBlock.{CodeBlock, Row_of-CodeStep, end_of-CodeStep, more_of-CodeStep, items-the_row-CodeStep, items_shown-the_row-CodeStep-0, items_hidden-the_row-CodeStep-0}
+use Rattle.counted_code.specs.declared.tree.CodeBlock.{CodeBlock}
 use Rattle.counted_code.specs.declared.tree.CodeRight.TheBlock.{the_data, the_data-1, the_data-2, the_data-3, the_data-4, the_data-5, the_data-6, the_data-7, hidden-the_row-CodeStep-0}
-use Rattle.counted_code.specs.declared.tree.CodeWith.{CodeWith, CodeWith', CodeWith-F, out-CodeWith, roll-CodeWith, out-roll-CodeWith, outs-CodeWith', Row_of-CodeGen, end_of-CodeGen, more_of-CodeGen, items-the_row-CodeGen, items_shown-the_row-CodeGen-2}
-use Rattle.counted_code.specs.declared.tree.CodeParted.{CodeParted, CodeParted', CodeParted-F, out-CodeParted, roll-CodeParted, out-roll-CodeParted, outs-CodeParted', Row_of-CodePart, end_of-CodePart, more_of-CodePart, items-the_row-CodePart, items_shown-the_row-CodePart-1}
-use Rattle.counted_code.specs.Terms.{CodeTerm, Giving, IfCode, LoopCode, WithCode, PartedCode, GenCode, PartCode}
-use Rattle.counted_code.specs.View.{code_term, steps_before, steps_term, step_term, code_with_term, code_gens_term, code_parted_term, code_parts_term}
-use Rattle.ref_counts.specs.Pieces.{CodeGenTerm, CodePartTerm, code_gen_term, code_part_term, code_gens_of, code_parts_of, placing_gen, placing_part}
+use Rattle.counted_code.specs.declared.tree.CodeWith.{CodeWith-F, roll-CodeWith}
+use Rattle.counted_code.specs.declared.tree.CodeParted.{CodeParted-F, roll-CodeParted}
+use Rattle.counted_code.specs.Terms.{CodeTerm, IfCode, LoopCode, WithCode, PartedCode, GenCode, PartCode}
+use Rattle.counted_code.specs.View.{code_term, steps_term, code_with_term, code_parted_term}
+use Rattle.counted_code.specs.Pieces.{CodeGenTerm, CodePartTerm, code_gen_term, code_part_term, code_gens_of, code_parts_of}
+use Rattle.counted_code.proofs.Trees.{block_hidden, with_roll, parted_roll}
+use Rattle.ref_counts.specs.Pieces.{placing_gen, placing_part}
 use Rattle.counted_laws.specs.placing.Placing.{placing, placing_right, placing_gens, placing_parts}
-
-steps_items : {n : _} → (k : Row_of-CodeStep n) (rs : List Var) → steps_term k rs ≡ steps_before (items-the_row-CodeStep n k) (Giving rs)
-steps_items end_of-CodeStep rs = refl
-steps_items (more_of-CodeStep s rest) rs = ap (step_term s) (steps_items rest rs)
-
-pub block_hidden : (b : CodeBlock) → steps_term (hidden-the_row-CodeStep-0 b.steps) b.results.items ≡ code_term b
-block_hidden b = steps_items (hidden-the_row-CodeStep-0 b.steps) b.results.items ∙ ap (λ ss. steps_before ss (Giving b.results.items)) (items_hidden-the_row-CodeStep-0 b.steps)
-
-gens_items : {n : _} → (k : Row_of-CodeGen n) → code_gens_term k ≡ code_gens_of (map code_gen_term (items-the_row-CodeGen n k))
-gens_items end_of-CodeGen = refl
-gens_items (more_of-CodeGen lower lower_closed upper upper_closed step width index names shape body results site rest) =
-    λ i. GenCode (record { lower = lower; lower_closed = lower_closed; upper = upper; upper_closed = upper_closed; step = step; width = width; index = index; names = names.items; site = site })
-    ((steps_items body results.items ∙ ap (λ ss. steps_before ss (Giving results.items)) (sym (items_shown-the_row-CodeStep-0 shape body))) i)
-    (gens_items rest i)
-
-parts_items : {n : _} → (k : Row_of-CodePart n) → code_parts_term k ≡ code_parts_of (map code_part_term (items-the_row-CodePart n k))
-parts_items end_of-CodePart = refl
-parts_items (more_of-CodePart grid index shape body results site rest) =
-    λ i. PartCode (record { grid = grid; index = index; site = site })
-    ((steps_items body results.items ∙ ap (λ ss. steps_before ss (Giving results.items)) (sym (items_shown-the_row-CodeStep-0 shape body))) i)
-    (parts_items rest i)
-
-pub with_out : (w : CodeWith) → code_with_term w ≡ WithCode (out-CodeWith w).op (code_gens_of (map code_gen_term (out-CodeWith w).gens.items))
-with_out (CodeWith' shape row op) =
-    ap (WithCode op) (gens_items row) ∙ ap (λ ls. WithCode op (code_gens_of (map code_gen_term ls))) (sym (items_shown-the_row-CodeGen-2 shape row)) ∙ ap (λ x. WithCode x.op (code_gens_of (map code_gen_term x.gens.items))) (sym (outs-CodeWith' shape row op))
-
-pub with_roll : (x : CodeWith-F the_data the_data-1 the_data-2 the_data-3 the_data-4 the_data-5 the_data-6 the_data-7) → code_with_term (roll-CodeWith x) ≡ WithCode x.op (code_gens_of (map code_gen_term x.gens.items))
-with_roll x = with_out (roll-CodeWith x) ∙ ap (λ y. WithCode y.op (code_gens_of (map code_gen_term y.gens.items))) (out-roll-CodeWith x)
-
-pub parted_out : (p : CodeParted) → code_parted_term p ≡ PartedCode (out-CodeParted p).frame (out-CodeParted p).base (out-CodeParted p).cell (out-CodeParted p).op (code_parts_of (map code_part_term (out-CodeParted p).parts.items)) (out-CodeParted p).reuse
-parted_out (CodeParted' frame base cell op shape row reuse) =
-    ap (λ ps. PartedCode frame base cell op ps reuse) (parts_items row) ∙ ap (λ ls. PartedCode frame base cell op (code_parts_of (map code_part_term ls)) reuse) (sym (items_shown-the_row-CodePart-1 shape row)) ∙ ap (λ x. PartedCode x.frame x.base x.cell x.op (code_parts_of (map code_part_term x.parts.items)) x.reuse) (sym (outs-CodeParted' frame base cell op shape row reuse))
-
-pub parted_roll : (x : CodeParted-F the_data the_data-1 the_data-2 the_data-3 the_data-4 the_data-5 the_data-6 the_data-7) → code_parted_term (roll-CodeParted x) ≡ PartedCode x.frame x.base x.cell x.op (code_parts_of (map code_part_term x.parts.items)) x.reuse
-parted_roll x = parted_out (roll-CodeParted x) ∙ ap (λ y. PartedCode y.frame y.base y.cell y.op (code_parts_of (map code_part_term y.parts.items)) y.reuse) (out-roll-CodeParted x)
 
 -- ---- what is placed in lists
 

@@ -1,49 +1,11 @@
--- Generators and parts alone, as terms.
-use Rattle.std.specs.Prelude.{List, [], ◌∷◌}
-use Rattle.counted_code.specs.declared.tree.CodeGen.{CodeGen}
-use Rattle.counted_code.specs.declared.tree.CodePart.{CodePart}
-use Rattle.core_ir.specs.Terms.{GenHead, PartHead, GenTerm, PartTerm}
-use Rattle.counted_code.specs.Terms.{CodeTerm, CodeGensTerm, CodePartsTerm, NoCodeGens, GenCode, NoCodeParts, PartCode}
-use Rattle.counted_code.specs.View.{code_term}
+-- Generators and parts alone, as terms with the references that are kept and released in them.
+use Rattle.std.specs.Prelude.{[], ◌∷◌}
+use Rattle.core_ir.specs.Terms.{GenTerm, PartTerm}
+use Rattle.counted_code.specs.Pieces.{CodeGenTerm, CodePartTerm}
 use Rattle.counted_laws.specs.placing.Placing.{placing}
-
-pub record CodeGenTerm : Type 0 where
-  pub head : GenHead
-  pub body : CodeTerm
-
-pub record CodePartTerm : Type 0 where
-  pub head : PartHead
-  pub body : CodeTerm
-
-abbrev pub code_gen_term : CodeGen → CodeGenTerm
-code_gen_term g = record {
-  head = record {
-    lower = g.lower;
-    lower_closed = g.lower_closed;
-    upper = g.upper;
-    upper_closed = g.upper_closed;
-    step = g.step;
-    width = g.width;
-    index = g.index;
-    names = g.names.items;
-    site = g.site;
-  };
-  body = code_term g.body;
-}
-
-abbrev pub code_part_term : CodePart → CodePartTerm
-code_part_term p = record { head = record { grid = p.grid; index = p.index; site = p.site }; body = code_term p.body }
 
 abbrev pub placing_gen : GenTerm → CodeGenTerm
 placing_gen g = record { head = g.head; body = placing (g.head.index ∷ g.head.names) g.body }
 
 abbrev pub placing_part : PartTerm → CodePartTerm
 placing_part p = record { head = p.head; body = placing (p.head.index ∷ []) p.body }
-
-abbrev pub code_gens_of : List CodeGenTerm → CodeGensTerm
-code_gens_of [] = NoCodeGens
-code_gens_of (g ∷ gs) = GenCode g.head g.body (code_gens_of gs)
-
-abbrev pub code_parts_of : List CodePartTerm → CodePartsTerm
-code_parts_of [] = NoCodeParts
-code_parts_of (p ∷ ps) = PartCode p.head p.body (code_parts_of ps)

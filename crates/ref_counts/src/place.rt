@@ -8,7 +8,8 @@ ghost use Rattle.ref_rules.specs.listed_uses.Latest.{IfAt, section};
 ghost use Rattle.ref_rules.specs.declared.listed_uses.list.Entry.{Entry as Listed};
 ghost use Rattle.ref_counts.specs.Listing.{listed, listed_right};
 ghost use Rattle.ref_counts.specs.Owning.{IsSound, EndsOf};
-ghost use Rattle.ref_counts.specs.Pieces.{code_gen_term, code_part_term, placing_gen, placing_part};
+ghost use Rattle.counted_code.specs.Pieces.{code_gen_term, code_part_term};
+ghost use Rattle.ref_counts.specs.Pieces.{placing_gen, placing_part};
 ghost use Rattle.ref_counts.specs.Placements.{ResultsPlaced, LetPlaced};
 ghost use Rattle.counted_laws.specs.placing.Placing.{placing, placing_right};
 

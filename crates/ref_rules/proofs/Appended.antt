@@ -1,15 +1,12 @@
 -- Steps that are appended one after another.
-use Rattle.std.proofs.Common.{◌≡◌, List, [], ◌∷◌, ◌++◌, refl, ap, ◌∙◌, sym}
+use Rattle.std.proofs.Common.{◌≡◌, List, [], ◌∷◌, ◌++◌, ap, ◌∙◌, sym}
 use Rattle.core_ir.specs.declared.tree.Var.{Var}
 use Rattle.counted_code.specs.declared.tree.CodeStep.{CodeStep}
 use Rattle.counted_code.specs.declared.tree.CodeStep.TheVariants as step
 use Rattle.counted_code.specs.Terms.{CodeTerm}
 use Rattle.counted_code.specs.View.{steps_before, step_term}
+use Rattle.counted_code.proofs.Trees.{steps_append}
 use Rattle.counted_laws.specs.placing.Placing.{keeps, releases}
-
-steps_append : (xs ys : List CodeStep) (t : CodeTerm) → steps_before (xs ++ ys) t ≡ steps_before xs (steps_before ys t)
-steps_append [] ys t = refl
-steps_append (x ∷ xs) ys t = ap (step_term x) (steps_append xs ys t)
 
 pub one_more : (s next : List CodeStep) (a : CodeStep) → next ≡ s ++ (a ∷ []) → (t : CodeTerm) → steps_before next t ≡ steps_before s (step_term a t)
 one_more s next a e t = ap (λ ss. steps_before ss t) e ∙ steps_append s (a ∷ []) t

@@ -24,9 +24,9 @@ use Rattle.counted_marks.specs.Marks.{own_parts}
 use Rattle.counted_marks.specs.Marking.{choice, is_base, is_candidate, is_known_shape, least, lesser, makes_buffer, may_reuse, released_next}
 use Rattle.counted_laws.specs.mark_places.Places.{releases_next}
 use Rattle.reuse_candidates.specs.Chosen.{buffer_of, has_form}
-use Rattle.reuse_candidates.specs.Pieces.{code_part_term, code_parts_of}
+use Rattle.counted_code.specs.Pieces.{code_part_term, code_parts_of}
 use Rattle.reuse_candidates.proofs.Pairs.{drop_over}
-use Rattle.reuse_candidates.proofs.Trees.{parted_out}
+use Rattle.counted_code.proofs.Trees.{parted_out}
 
 -- ---- tests, in another order
 

@@ -7,4 +7,3 @@ mod OwnRights
 mod OwnTurns
 mod Pairs
 mod Plains
-pub mod Trees

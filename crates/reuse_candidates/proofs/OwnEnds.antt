@@ -6,9 +6,9 @@ use Rattle.counted_code.specs.declared.tree.CodeGen.{CodeGen}
 use Rattle.counted_code.specs.declared.tree.CodePart.{CodePart}
 use Rattle.counted_code.specs.declared.tree.CodeWith.{CodeWith, out-CodeWith}
 use Rattle.counted_code.specs.declared.tree.CodeParted.{CodeParted, out-CodeParted}
-use Rattle.reuse_candidates.specs.Pieces.{code_gen_term, code_part_term, code_gens_of, code_parts_of}
+use Rattle.counted_code.specs.Pieces.{code_gen_term, code_part_term, code_gens_of, code_parts_of}
 use Rattle.counted_code.specs.View.{code_with_term, code_parted_term}
-use Rattle.reuse_candidates.proofs.Trees.{with_out, parted_out}
+use Rattle.counted_code.proofs.Trees.{with_out, parted_out}
 use Rattle.reuse_candidates.specs.declared.cells.Search.{Search}
 use Rattle.reuse_candidates.specs.Cells.{CellKnown, gens_are_own, parts_are_own, right_is_own}
 use Rattle.reuse_candidates.proofs.Pairs.{drop_over}

@@ -12,7 +12,7 @@ use Rattle.counted_code.specs.declared.tree.CodeWith.{CodeWith}
 use Rattle.counted_code.specs.declared.tree.CodeParted.{CodeParted, out-CodeParted}
 use Rattle.counted_code.specs.Terms.{IfCode, LoopCode, core_of, core_of_right}
 use Rattle.counted_code.specs.View.{code_term, code_right_term, code_with_term, code_parted_term}
-use Rattle.reuse_candidates.proofs.Trees.{if_term, loop_term, with_out, parted_out}
+use Rattle.counted_code.proofs.Trees.{if_term, loop_term, with_out, parted_out}
 use Rattle.plain_facts.specs.Called.{shapes_of}
 use Rattle.reuse_candidates.specs.declared.cells.Search.{Search}
 use Rattle.reuse_candidates.specs.Cells.{CellKnown, block_tells, in_turn, is_own, known_if, right_is_own, right_tells}

@@ -17,7 +17,7 @@ use Rattle.counted_code.specs.declared.tree.CodeWith.{CodeWith, CodeWith'}
 use Rattle.counted_code.specs.declared.tree.CodeParted.{CodeParted, CodeParted'}
 use Rattle.counted_code.specs.Terms.{CodeTerm, CodeRightTerm, CodeGensTerm, CodePartsTerm, IfCode, LoopCode, CallCode, WithCode, PartedCode}
 use Rattle.counted_code.specs.View.{code_term, code_right_term, code_with_term, code_parted_term}
-use Rattle.reuse_candidates.proofs.Trees.{if_term, loop_term}
+use Rattle.counted_code.proofs.Trees.{if_term, loop_term}
 use Rattle.reuse_candidates.specs.Plain.{plain_core}
 
 -- as an arm over all of them says it

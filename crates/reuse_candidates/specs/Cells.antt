@@ -7,7 +7,7 @@ use Rattle.core_facts.specs.Facts.{Fact, Facts, block_facts, note_all, right_fac
 use Rattle.core_facts.specs.Facts
 use Rattle.core_loops.specs.Indices.{IndexFact, IndexFacts, Plus, learn_index, note_index, note_others}
 use Rattle.core_uses.specs.Tests.{head_avoided}
-use Rattle.reuse_candidates.specs.Pieces.{CodeGenTerm, CodePartTerm}
+use Rattle.counted_code.specs.Pieces.{CodeGenTerm, CodePartTerm}
 use Rattle.counted_code.specs.Terms.{CodeTerm, CodeRightTerm, CodeGensTerm, CodePartsTerm, core_of, core_of_right}
 use Rattle.counted_marks.specs.Marks.{own_gens, own_inner, own_only, own_right}
 use Rattle.fact_table.specs.declared.known.Known.{Known}

@@ -6,7 +6,7 @@ use Rattle.core_ir.specs.declared.tree.Var.{Var}
 use Rattle.core_ir.specs.declared.tree.PartedOp.{PartedOp}
 use Rattle.core_ir.specs.Meaning.{extents}
 use Rattle.core_uses.specs.Tests.{none_is}
-use Rattle.reuse_candidates.specs.Pieces.{code_part_term, code_parts_of}
+use Rattle.counted_code.specs.Pieces.{code_part_term, code_parts_of}
 use Rattle.counted_code.specs.Terms.{Giving}
 use Rattle.counted_code.specs.Values.{is_small}
 use Rattle.counted_code.specs.View.{steps_before}

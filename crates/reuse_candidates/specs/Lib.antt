@@ -1,7 +1,6 @@
 pub mod Calls
 pub mod Cells
 pub mod Chosen
-pub mod Pieces
 pub mod Plain
 pub mod Scopes
 pub mod Tables

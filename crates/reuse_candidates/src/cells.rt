@@ -2,7 +2,7 @@
 
 ghost use Rattle.std.specs.Prelude.{◌≡◌, ◌-◌, IfOk, OnOk, drop, length, map};
 ghost use Rattle.core_loops.specs.Indices.{learn_index as learned_index};
-ghost use Rattle.reuse_candidates.specs.Pieces.{code_gen_term, code_part_term};
+ghost use Rattle.counted_code.specs.Pieces.{code_gen_term, code_part_term};
 ghost use Rattle.counted_code.specs.Terms.{core_of_right};
 ghost use Rattle.counted_code.specs.View.{code_right_term};
 ghost use Rattle.fact_table.specs.Table.{fact_of, facts_of};

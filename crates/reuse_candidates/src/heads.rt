@@ -5,7 +5,7 @@ ghost use Rattle.core_loops.specs.Indices;
 ghost use Rattle.core_loops.specs.Indices.{note_others};
 ghost use Rattle.core_uses.specs.Tests.{none_is, head_avoided};
 ghost use Rattle.index_table.specs.Table.{index_of, indices_of};
-ghost use Rattle.reuse_candidates.specs.Pieces.{code_gen_term};
+ghost use Rattle.counted_code.specs.Pieces.{code_gen_term};
 
 use core_ir::Var;
 use core_uses::avoids_all;

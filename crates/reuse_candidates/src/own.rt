@@ -1,7 +1,7 @@
 //! Whether the cells of a loop use an array in selections at their own index alone.
 
 ghost use Rattle.std.specs.Prelude.{◌≡◌, IfOk, OnOk, map};
-ghost use Rattle.reuse_candidates.specs.Pieces.{code_gen_term, code_part_term, code_parts_of};
+ghost use Rattle.counted_code.specs.Pieces.{code_gen_term, code_part_term, code_parts_of};
 ghost use Rattle.counted_code.specs.Terms.{Binding, CodeTerm};
 ghost use Rattle.counted_code.specs.View.{code_term, step_term, steps_before, code_right_term, code_with_term, code_parted_term};
 ghost use Rattle.counted_marks.specs.Marks.{own_parts as own_in_parts};

@@ -8,7 +8,6 @@ pub mod CellTold
 pub mod KernelLoops
 pub mod MarkedJobs
 pub mod PartJobs
-pub mod Trees
 pub mod Turns
 pub mod Replacing
 pub mod WholeRuns

@@ -20,7 +20,8 @@ use Rattle.array_with_loops.proofs.CellSteps.{genarray_finish, modarray_finish}
 use Rattle.run_values.specs.declared.value.RunValue.{RunValue}
 use Rattle.run_loops.specs.declared.state.Context.{Context}
 use Rattle.run_loops.specs.declared.state.State.{State}
-use Rattle.run_loops.specs.Running.{IsAt, IsOnly, IsValue, Told, ToldStop, array_job, fold_job, gen_head, generator_in}
+use Rattle.counted_code.specs.Pieces.{gen_head}
+use Rattle.run_loops.specs.Running.{IsAt, IsOnly, IsValue, Told, ToldStop, array_job, fold_job, generator_in}
 use Rattle.run_eval.proofs.CellJobs.{WritesNothing, same_result}
 use Rattle.run_eval.proofs.CellTold.{only_told}
 use Rattle.run_loops.proofs.Steps.{raised}

@@ -13,8 +13,8 @@ use Rattle.run_loops.specs.declared.cell_loop.CellSource.TheVariants.{Generators
 use Rattle.run_loops.specs.declared.state.Context.{Context}
 use Rattle.run_loops.specs.Jobs.{source_of}
 use Rattle.run_loops.specs.Loops.{Body, body_source, gen_body, gen_source, held, held_body, loop_source, part_body, part_held, part_source, source_at}
-use Rattle.run_loops.proofs.Measures.{gens_size, parts_size, source_size}
-use Rattle.run_loops.proofs.Sizes.{gen_body as gen_body_size, part_body as part_body_size}
+use Rattle.counted_code.proofs.Sizes.{gens_size, parts_size, gen_body as gen_body_size, part_body as part_body_size}
+use Rattle.run_loops.proofs.Measures.{source_size}
 use Rattle.run_loops.proofs.WithHolders.{held_below, part_held_below, part_source_is, source_is}
 
 -- the evaluator's cells come from where the machine's do

@@ -6,6 +6,5 @@ pub mod InPlace
 pub mod Measures
 pub mod OldArrays
 pub mod PartFrames
-pub mod Sizes
 pub mod Steps
 pub mod WithHolders

@@ -5,9 +5,7 @@ use denote.Param.Weighed.{most, at_most}
 use Rattle.sac_base.specs.declared.site.Site.{Site}
 use Rattle.counted_code.specs.declared.tree.CodeBlock.{size-CodeBlock}
 use Rattle.counted_code.specs.declared.tree.CodeFun.{CodeFun}
-use Rattle.counted_code.specs.declared.tree.CodeGen.{CodeGen, size-CodeGen}
-use Rattle.counted_code.specs.declared.tree.CodePart.{CodePart, size-CodePart}
-use Rattle.counted_code.specs.declared.tree.CodeStep.{CodeStep, size-CodeStep}
+use Rattle.counted_code.proofs.Sizes.{gens_size, parts_size}
 use Rattle.run_loops.specs.declared.cell_loop.CellSource.{CellSource}
 use Rattle.run_loops.specs.declared.cell_loop.CellSource.TheVariants.{Generators, Parts}
 use Rattle.run_loops.specs.declared.state.Context.{Context}
@@ -15,15 +13,6 @@ use Rattle.run_loops.specs.Running.{Deeper}
 
 abbrev pub body_size : CodeFun → ℕ
 body_size f = size-CodeBlock f.body
-
-abbrev pub steps_size : List CodeStep → ℕ
-steps_size ss = most (λ s. size-CodeStep s) ss
-
-abbrev pub gens_size : List CodeGen → ℕ
-gens_size gs = most (λ g. size-CodeGen g) gs
-
-abbrev pub parts_size : List CodePart → ℕ
-parts_size ps = most (λ p. size-CodePart p) ps
 
 abbrev pub source_size : CellSource → ℕ
 source_size (Generators gens) = gens_size gens.now

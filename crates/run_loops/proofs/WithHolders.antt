@@ -12,8 +12,7 @@ use Rattle.counted_code.specs.Values.{Heap}
 use Rattle.run_loops.specs.declared.state.Context.{Context}
 use Rattle.run_loops.specs.Running.{generator_in, cells_in}
 use Rattle.run_loops.specs.Loops.{held, part_held, gen_source, part_source, source_in, part_source_in}
-use Rattle.run_loops.proofs.Measures.{gens_size, parts_size}
-use Rattle.run_loops.proofs.Sizes.{gen_below, part_below}
+use Rattle.counted_code.proofs.Sizes.{gens_size, parts_size, gen_below, part_below}
 
 -- ---- the machine's sources
 

@@ -33,7 +33,8 @@ use Rattle.run_loops.specs.declared.folds.Sum.{Sum}
 use Rattle.run_loops.specs.declared.folds.Sum.TheVariants.{Word, Whole}
 use Rattle.run_loops.specs.declared.state.Context.{Context}
 use Rattle.run_loops.specs.declared.state.State.{State}
-use Rattle.run_loops.specs.Running.{does_in, formed, gen_head, IsAt}
+use Rattle.counted_code.specs.Pieces.{gen_head}
+use Rattle.run_loops.specs.Running.{does_in, formed, IsAt}
 
 -- ---- where a cell comes from
 

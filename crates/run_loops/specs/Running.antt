@@ -18,6 +18,7 @@ use Rattle.counted_code.specs.declared.tree.CodeGen.{CodeGen}
 use Rattle.counted_code.specs.declared.tree.CodePart.{CodePart}
 use Rattle.counted_code.specs.declared.tree.CodeStep.{CodeStep}
 use Rattle.counted_code.specs.Loops.{CodeGenerator, CodeCells, Job, holder, part_holder}
+use Rattle.counted_code.specs.Pieces.{gen_head}
 use Rattle.counted_code.specs.Terms.{CodeTerm, CodeRightTerm}
 use Rattle.counted_code.specs.Values.{Heap, Value, Small, Ended, Done, Failed, Doing, give, then_go, choose_does, fails, apart, read, release}
 use Rattle.counted_code.specs.Machine.{Values, DoesCalls, reads, bounds_of, bind_value, bind_values, with_index_value, first_value, first_of, does, right_does}
@@ -149,22 +150,6 @@ ToldSteps context steps s t m (Err (Faulted f)) = FailsIn context steps s m f t
 ToldSteps context steps s t m (Err Memory) = ⊤
 
 -- ---- with-loops
-
-abbrev pub gen_head : CodeGen → GenHead
-gen_head g = record {
-  lower = g.lower;
-  lower_closed = g.lower_closed;
-  upper = g.upper;
-  upper_closed = g.upper_closed;
-  step = g.step;
-  width = g.width;
-  index = g.index;
-  names = g.names.items;
-  site = g.site;
-}
-
-abbrev pub part_head : CodePart → PartHead
-part_head p = record { grid = p.grid; index = p.index; site = p.site }
 
 -- a generator with its operands in a heap, and a part, with what their bodies do
 abbrev pub generator_in : Context → Values → Heap → CodeGen → CodeGenerator

@@ -8,7 +8,7 @@ ghost use Rattle.counted_code.specs.Values.{Heap as MachineHeap};
 ghost use Rattle.array_with_loops.specs.Plans.{plan_of};
 ghost use Rattle.run_loops.specs.Jobs.{AreIndicesOf, BeginsAtZero, IsDense};
 ghost use Rattle.run_loops.specs.Loops.{IsFull, IsWordAxis, plan_of_parts, shape_of_parts};
-ghost use Rattle.run_loops.specs.Running.{gen_head};
+ghost use Rattle.counted_code.specs.Pieces.{gen_head};
 ghost use Rattle.run_store.specs.Stands.{Stands};
 ghost use Rattle.run_values.specs.Numbers.{numbers};
 ghost use Rattle.run_values.specs.Scopes.{current};

@@ -4,7 +4,7 @@ ghost use Rattle.std.specs.Prelude.{◌≡◌, IsTrue};
 ghost use Rattle.counted_code.specs.Counts.{IsWellCounted};
 ghost use Rattle.counted_code.specs.View.{code_program};
 ghost use Rattle.counted_marks.specs.Marks.{IsWellMarked};
-ghost use Rattle.phase_checks.specs.Terms.{gens_term, parts_term};
+ghost use Rattle.counted_code.specs.Pieces.{gens_term, parts_term};
 ghost use Rattle.reach_checks.specs.Loops.{ClearGens, ClearParts};
 
 use core_ir::Var;

@@ -19,8 +19,9 @@ use Rattle.core_loops.specs.Pairs.{IsScalarisable, Nests}
 use Rattle.core_facts.specs.constants.Called.{called, params_facts}
 use Rattle.core_subst.specs.Names.{above_function}
 use Rattle.merge_plans.specs.Mergeable.{GridsFit, IsMergeable, MOST_AXES}
-use Rattle.merge_walk.specs.NoneLeft.{NoneHere, NoneMergeable, NoneMergeableRight, NoneMergeableGens, NoneMergeableParts}
-use Rattle.scalarise.specs.Axes.{Axes, AxesRight, AxesGens, AxesParts, CoreAxes, HasAxes, NoneIn, NoneInRight, NoneInGens, NoneInParts, NoneScalarisable, NotHere}
+use Rattle.core_walk.specs.Editing.{EachInRight, EachInGens, EachInParts}
+use Rattle.merge_walk.specs.NoneLeft.{NoneFirst, NoneHere, NoneMergeable}
+use Rattle.scalarise.specs.Axes.{Axes, AxesRight, AxesGens, AxesParts, CoreAxes, HasAxes, NoneIn, NoneScalarisable, NotFirst, NotHere}
 use Rattle.scalarise.specs.Scalarised.{NoneLeft, NoneLeftIn}
 
 -- ---- grids
@@ -116,12 +117,12 @@ module _ (core : CoreTerm) (calls : ℕ → List (Option (List ℕ))) (above : �
     none_block : (b : BlockTerm) (g : Bases) (ts : List Base) (k : Facts) → BlockBases core g b ts → Axes b → NoneMergeable calls above b k → NoneIn calls above b k
     none_block (Gives xs) g ts k d a h = tt
     none_block (Bind xs s r b) g ts k d a h = (
-      not_here xs r g d.0 k d.1.0 a.0 h.0,
-      none_right r g d.0 k d.1.0 a.0 h.1,
+      none_right r g d.0 k d.1.0 a.0 h.0,
+      not_here xs r g d.0 k d.1.0 a.0 h.1,
       none_block b (zip xs d.0 ++ g) ts (note_all k xs (right_facts calls r k)) d.1.2 a.1 h.2,
     )
 
-    none_right : (r : RightTerm) (g : Bases) (ts : List Base) (k : Facts) → RightBases core g r ts → AxesRight r → NoneMergeableRight calls above r k → NoneInRight calls above r k
+    none_right : (r : RightTerm) (g : Bases) (ts : List Base) (k : Facts) → RightBases core g r ts → AxesRight r → EachInRight calls (NoneFirst calls above) r k → EachInRight calls (NotFirst calls above) r k
     none_right (Plain p) g ts k d a h = tt
     none_right (RightTerm.If x b c) g ts k d a h = (none_block b g ts k d.1 a.0 h.0, none_block c g ts k d.2 a.1 h.1)
     none_right (RightTerm.Loop first start params test body s) g ts k d a h = (
@@ -132,14 +133,14 @@ module _ (core : CoreTerm) (calls : ℕ → List (Option (List ℕ))) (above : �
     none_right (RightTerm.With o gens) g ts k d a h = none_gens gens g d.0 k d.1.1 a h
     none_right (RightTerm.Parted frame base cell o parts) g ts k d a h = none_parts parts g base k d.1 a.1 h
 
-    none_gens : (gens : GensTerm) (g : Bases) (t : Base) (k : Facts) → GensBases core g gens t → AxesGens gens → NoneMergeableGens calls above gens k → NoneInGens calls above gens k
+    none_gens : (gens : GensTerm) (g : Bases) (t : Base) (k : Facts) → GensBases core g gens t → AxesGens gens → EachInGens calls (NoneFirst calls above) gens k → EachInGens calls (NotFirst calls above) gens k
     none_gens NoGens g t k d a h = tt
     none_gens (Gen j b rest) g t k d a h = (
       none_block b (ints (j.index ∷ j.names) ++ g) (t ∷ []) (note_all k (j.index ∷ j.names) []) d.4 a.0 h.0,
       none_gens rest g t k d.5 a.1 h.1,
     )
 
-    none_parts : (parts : PartsTerm) (g : Bases) (t : Base) (k : Facts) → PartsBases core g parts t → AxesParts parts → NoneMergeableParts calls above parts k → NoneInParts calls above parts k
+    none_parts : (parts : PartsTerm) (g : Bases) (t : Base) (k : Facts) → PartsBases core g parts t → AxesParts parts → EachInParts calls (NoneFirst calls above) parts k → EachInParts calls (NotFirst calls above) parts k
     none_parts NoParts g t k d a h = tt
     none_parts (Part j b rest) g t k d a h = (none_block b ((j.index, Int) ∷ g) (t ∷ []) (in_part k j) d.0 a.0 h.0, none_parts rest g t k d.1 a.1 h.1)
 

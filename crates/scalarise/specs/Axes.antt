@@ -6,10 +6,11 @@ use Rattle.core_ir.specs.declared.tree.Var.{Var}
 use Rattle.core_ir.specs.declared.tree.PartedOp.TheVariants as parted
 use Rattle.core_ir.specs.Terms.{BlockTerm, RightTerm, GensTerm, PartsTerm, FunTerm, CoreTerm, Gives, Bind, Plain, NoGens, Gen, NoParts, Part}
 use Rattle.core_ir.specs.WellFormed.{IsWellFormed, part_grids}
-use Rattle.core_facts.specs.Facts.{Facts, note_all, right_facts, in_part}
+use Rattle.core_facts.specs.Facts.{Facts}
 use Rattle.core_loops.specs.Pairs.{IsScalarisable}
 use Rattle.core_facts.specs.constants.Called.{called, params_facts}
 use Rattle.core_subst.specs.Names.{above_function}
+use Rattle.core_walk.specs.Editing.{EachBinding}
 use Rattle.scalarise.specs.Scalarised.{NoneLeft}
 
 -- ---- no scalarisable loop
@@ -24,26 +25,13 @@ module _ (calls : ℕ → List (Option (List ℕ))) (above : ℕ) where
   NotHere (x ∷ []) r k = CanScalarise k r → ⊥
   NotHere _ r k = Unit {0}
 
-  abbrev mutual
-    pub NoneIn : BlockTerm → Facts → Type 0
-    NoneIn (Gives xs) k = Unit {0}
-    NoneIn (Bind xs s r b) k = NotHere xs r k × NoneInRight r k × NoneIn b (note_all k xs (right_facts calls r k))
+  -- no such loop is bound first
+  abbrev pub NotFirst : Facts → BlockTerm → Type 0
+  NotFirst k (Gives xs) = Unit {0}
+  NotFirst k (Bind xs s r b) = NotHere xs r k
 
-    pub NoneInRight : RightTerm → Facts → Type 0
-    NoneInRight (Plain p) k = Unit {0}
-    NoneInRight (RightTerm.If x a b) k = NoneIn a k × NoneIn b k
-    NoneInRight (RightTerm.Loop first start params test body s) k = NoneIn test (note_all k params []) × NoneIn body (note_all k params [])
-    NoneInRight (RightTerm.Call g xs) k = Unit {0}
-    NoneInRight (RightTerm.With o gens) k = NoneInGens gens k
-    NoneInRight (RightTerm.Parted frame base cell o parts) k = NoneInParts parts k
-
-    pub NoneInGens : GensTerm → Facts → Type 0
-    NoneInGens NoGens k = Unit {0}
-    NoneInGens (Gen h b rest) k = NoneIn b (note_all k (h.index ∷ h.names) []) × NoneInGens rest k
-
-    pub NoneInParts : PartsTerm → Facts → Type 0
-    NoneInParts NoParts k = Unit {0}
-    NoneInParts (Part h b rest) k = NoneIn b (in_part k h) × NoneInParts rest k
+  abbrev pub NoneIn : BlockTerm → Facts → Type 0
+  NoneIn b k = EachBinding calls NotFirst b k
 
 abbrev pub NoneScalarisable : CoreTerm → Type 0
 NoneScalarisable core = All (λ (f : FunTerm). NoneIn (called core) (above_function f) f.body (params_facts f)) core.functions

@@ -1,5 +1,5 @@
 -- What a table learns, binding after binding.
-use Rattle.std.proofs.Common.{◌≡◌, ℕ, ◌+◌, ◌<◌, ◌≤◌, Bool, List, [], ◌∷◌, ◌++◌, map, drop, length, get_or, Vec, Global, refl, sym, ap, subst, ◌∙◌, arith}
+use Rattle.std.proofs.Common.{◌≡◌, ℕ, ◌+◌, ◌<◌, ◌≤◌, Bool, List, [], ◌∷◌, ◌++◌, map, drop, length, get_or, sym, ap, subst, ◌∙◌, arith}
 use Rattle.std.specs.Prelude.{zip}
 use Rattle.std.proofs.lemmas.List.{drop_more, at_drop_all}
 use Rattle.std.proofs.lemmas.List.Elements.{All-nil, All-cons, All-head, All-append}
@@ -13,8 +13,6 @@ use Rattle.core_ir.specs.declared.tree.CoreOp.TheVariants as making
 use Rattle.core_ir.specs.declared.tree.PartedOp.{PartedOp}
 use Rattle.core_ir.specs.declared.tree.Let.{Let}
 use Rattle.core_ir.specs.declared.tree.Block.{Block, out-Block}
-use Rattle.core_ir.specs.declared.tree.Right.{Right}
-use Rattle.core_ir.specs.declared.tree.Right.TheVariants as right
 use Rattle.core_ir.specs.declared.tree.CoreGen.{CoreGen, CoreGen', out-CoreGen}
 use Rattle.core_ir.specs.declared.tree.CorePart.{CorePart, CorePart', out-CorePart}
 use Rattle.core_ir.specs.declared.tree.WithLoop.{WithLoop, out-WithLoop}
@@ -229,33 +227,6 @@ module _ (s : Signatures) where
       }
 
 -- ---- the trees of the code
-
--- a right side without blocks and calls
-abbrev pub IsOther : Right → Type 0
-IsOther r = ((x : Var) (a b : Block) → r ≡ right.If x a b → ⊥)
-    × ((head : Bool) (start params : Vec Var Global) (test body : Block) (site : Site) → r ≡ right.Loop head start params test body site → ⊥)
-    × ((group : ℕ) (args : Vec Var Global) → r ≡ right.Call group args → ⊥)
-    × ((w : WithLoop) → r ≡ right.With w → ⊥)
-    × ((p : PartedLoop) → r ≡ right.Parted p → ⊥)
-
-pub other_plain : (r : Right) → IsOther r → (p : PlainTerm) × (right_term r ≡ Plain p)
-other_plain (right.If x a b) o = absurd (o.0 x a b refl)
-other_plain (right.Loop head start params test body site) o = absurd (o.1 head start params test body site refl)
-other_plain (right.Call group args) o = absurd (o.2 group args refl)
-other_plain (right.With w) o = absurd (o.3 w refl)
-other_plain (right.Parted p) o = absurd (o.4 p refl)
-other_plain (right.Const a) o = (PlainTerm.Const a, refl)
-other_plain (right.Copy x) o = (PlainTerm.Copy x, refl)
-other_plain (right.Unary op x) o = (PlainTerm.Unary op x, refl)
-other_plain (right.Binary op x y) o = (PlainTerm.Binary op x y, refl)
-other_plain (right.Literal xs) o = (PlainTerm.Literal xs.items, refl)
-other_plain (right.Dim x) o = (PlainTerm.Dim x, refl)
-other_plain (right.ShapeOf x) o = (PlainTerm.ShapeOf x, refl)
-other_plain (right.Reshape x y) o = (PlainTerm.Reshape x y, refl)
-other_plain (right.Select x y) o = (PlainTerm.Select x y, refl)
-other_plain (right.Replace x y z) o = (PlainTerm.Replace x y z, refl)
-other_plain (right.Always kind) o = (PlainTerm.Always kind, refl)
-other_plain (right.Check x ty) o = (PlainTerm.Check x ty, refl)
 
 block_results : (b : Block) → results (block_term b) ≡ (out-Block b).results.items
 block_results b = ap results (block_out b) ∙ results_chain (map let_term (out-Block b).lets.items) (out-Block b).results.items

@@ -241,8 +241,8 @@ module _ (calls : ℕ → List (Option (List ℕ))) (signatures : Signatures) wh
       let told = h.sources a has alone m.0 m.1 is.agreeing m.2 may in
       let low : above f.body ≤ h.first = let p = le-max_right (above_all (param_vars f)) (above f.body) in omega (arith, p, h.above) in
       let left = none_left calls (base_in h.table) h.first f.body (params_facts f) low told (h.walked.none e) in
-      subst (λ (first : ℕ). EachWith (called a) (λ k s op gens. IsPlannable k first s op gens → ⊥) f.body (params_facts f)) h.above
-      (subst (λ (c : ℕ → List (Option (List ℕ))). EachWith c (λ k s op gens. IsPlannable k h.first s op gens → ⊥) f.body (params_facts f)) same left)
+      subst (λ (first : ℕ). EachWith (λ k s op gens. IsPlannable k first s op gens → ⊥) (called a) f.body (params_facts f)) h.above
+      (subst (λ (c : ℕ → List (Option (List ℕ))). EachWith (λ k s op gens. IsPlannable k h.first s op gens → ⊥) c f.body (params_facts f)) same left)
 
   all_normal : (a : CoreTerm) (fs gs : List FunTerm) (n m : ℕ) → calls ≡ called a → HasInstances signatures a → AreUnique signatures → All (IsFunction a) fs → AllNormed calls signatures n fs gs m → m ≡ n
       → All (IsNormal a) fs

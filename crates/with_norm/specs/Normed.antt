@@ -45,7 +45,7 @@ pub record Round (a b : CoreTerm) (count : ℕ) : Type 0 where
 
 -- in a function in which no right side always faults, no with-loop is left that can become a parted loop
 abbrev pub IsNormal : CoreTerm → FunTerm → Type 0
-IsNormal core f = AllMayEnd f.body → EachWith (called core) (λ k s op gens. IsPlannable k (above_function f) s op gens → ⊥) f.body (params_facts f)
+IsNormal core f = AllMayEnd f.body → EachWith (λ k s op gens. IsPlannable k (above_function f) s op gens → ⊥) (called core) f.body (params_facts f)
 
 abbrev pub AllNormal : CoreTerm → Type 0
 AllNormal core = All (IsNormal core) core.functions

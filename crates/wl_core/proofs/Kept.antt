@@ -1,19 +1,18 @@
 -- Each event keeps the facts.
-use Rattle.std.proofs.Common.{◌≡◌, ◌≢◌, ℕ, zero, suc, ◌+◌, ◌-◌, ◌*◌, ◌<◌, ◌≤◌, ◌^◌, ◌/◌, ◌⊎◌, Bool, true, false, cond, eqb, ℤ, List, [], ◌∷◌, ◌++◌, length, Option, None, Some, Ok, Err, refl, sym, ap, ◌∙◌, subst, ⊎_elim, arith}
-use Rattle.std.proofs.lemmas.Bool.{eq-eqb, ne_eqb, cases_eq, true≢false, cases_lt}
+use Rattle.std.proofs.Common.{◌≡◌, ◌≢◌, ℕ, zero, suc, ◌+◌, ◌-◌, ◌*◌, ◌<◌, ◌≤◌, ◌^◌, ◌/◌, ◌⊎◌, true, false, ℤ, List, [], ◌∷◌, ◌++◌, length, Option, None, Some, Ok, Err, refl, sym, ap, ◌∙◌, subst, ⊎_elim, arith}
+use Rattle.std.proofs.lemmas.Bool.{cases_eq, true≢false, cases_lt}
 use Rattle.std.proofs.Math.Nat.{mul-le-mul_right, div-mul-le_self}
 use Rattle.std.specs.Prelude.{slice_get, slice_index}
 use Rattle.sac_base.specs.declared.faults.Fault.{Fault}
-use Rattle.sac_base.specs.Verdict.{combined, present}
 use Rattle.wl_core.specs.declared.setup.Job.{Job}
 use Rattle.wl_core.specs.declared.setup.Job.TheVariants.{Write as Store, Fold}
 use Rattle.wl_core.specs.declared.events.Event.{Event}
 use Rattle.wl_core.specs.declared.events.Event.TheVariants.{Draw, Keep, Release, Write, Stop}
-use Rattle.wl_core.specs.Machine.{SetupValue, StateValue, IsSetup, TakesBase, combine, Steps, Runs, Reached, Works, opened, put, first, end, chunks, sum_below, listed, both, store, gather}
-use Rattle.wl_core.specs.Facts.{Facts, cell_at, value_of, own, own_cells, stored_by, partial_by}
+use Rattle.wl_core.specs.Machine.{SetupValue, StateValue, IsSetup, combine, Steps, Runs, Reached, Works, opened, put, first, end, chunks, sum_below, listed, both, store, gather}
+use Rattle.wl_core.specs.Facts.{Facts, cell_at, value_of, own, stored_by, partial_by}
 use Rattle.wl_core.proofs.Functions.{put_same, put_other, sum-same, sum-put, sum-none, one-le}
-use Rattle.wl_core.proofs.FoldLaws.{foldable, elementwise-foldable}
-use Rattle.wl_core.proofs.Combining.{gathered, gathered_is, same, adds}
+use Rattle.wl_core.proofs.Written.{stored_more, partials_more}
+use Rattle.wl_core.proofs.Combining.{gathered, gathered_is}
 
 -- two chunks have no position in common
 apart_lt : (u : SetupValue) (c d p : ℕ) → p < end u c → first u d ≤ p → c < d → ⊥
@@ -29,12 +28,6 @@ first_below u m some lt =
     let k : suc m * u.size ≤ x / u.size * u.size = mul-le-mul_right u.size lt in
     let d : x / u.size * u.size ≤ x = div-mul-le_self x u.size in
     let e : suc m * u.size ≡ m * u.size + u.size = omega arith in omega arith
-
-own_same : (w : ℕ) (value : Option (List ℤ)) → own w (w ∷ []) value ≡ value
-own_same w value = let t : eqb w w ≡ true = eq-eqb w w refl in ap (λ (b : Bool). cond b value None) t
-
-own_other : (w v : ℕ) (value : Option (List ℤ)) → v ≢ w → own v (w ∷ []) value ≡ None
-own_other w v value ne = let f : eqb w v ≡ false = ne_eqb w v (λ e. ne (sym e)) in ap (λ (b : Bool). cond b value None) f
 
 module _ (u : SetupValue) (s : StateValue) (is : IsSetup u) (h : Facts u s) where
   drew : (w : ℕ) → w < u.workers → ((c : ℕ) → ¬ Works u s w c) → s.taken < chunks u
@@ -81,43 +74,6 @@ module _ (u : SetupValue) (s : StateValue) (is : IsSetup u) (h : Facts u s) wher
   other_position : (c d p : ℕ) → c < s.taken → s.next c < end u c → first u d ≤ p → p < end u d → d ≢ c → p ≢ s.next c
   other_position c d p lt works from below ne e = let y = h.within c lt in ne (apart u d c p from below (omega arith) (omega arith))
 
-  stored_more : (j : Job) (q w : ℕ) (value : Option (List ℤ)) → s.written q ≡ [] → cell_at u q ≡ value → ((p : ℕ) → s.stored p ≡ stored_by j (s.written p) (cell_at u p))
-      → (p : ℕ) → store j s.stored q value p ≡ stored_by j (put s.written q (s.written q ++ w ∷ []) p) (cell_at u p)
-  stored_more Store q w value empty cell old p = ⊎_elim
-      (λ (e : p ≡ q). put_same s.stored q value p e ∙ sym cell ∙ ap (cell_at u) (sym e) ∙ sym (ap (λ (l : List ℕ). stored_by Store l (cell_at u p)) (put_same s.written q (s.written q ++ w ∷ []) p e ∙ ap (λ (l : List ℕ). l ++ w ∷ []) empty)))
-      (λ (ne : p ≢ q). put_other s.stored q value p ne ∙ old p ∙ sym (ap (λ (l : List ℕ). stored_by Store l (cell_at u p)) (put_other s.written q (s.written q ++ w ∷ []) p ne)))
-      (cases_eq p q)
-  stored_more (Fold base op) q w value empty cell old p = old p
-
-  -- what the worker v wrote, after w wrote the position q
-  own_after : (q w v : ℕ) (value : Option (List ℤ)) → s.written q ≡ [] → cell_at u q ≡ value → (p : ℕ)
-      → own v (put s.written q (s.written q ++ w ∷ []) p) (cell_at u p) ≡ put (λ p. own v (s.written p) (cell_at u p)) q (own v (w ∷ []) value) p
-  own_after q w v value empty cell p = ⊎_elim
-      (λ (e : p ≡ q). (λ j. own v ((put_same s.written q (s.written q ++ w ∷ []) p e ∙ ap (λ (l : List ℕ). l ++ w ∷ []) empty) j) ((ap (cell_at u) e ∙ cell) j)) ∙ sym (put_same (λ p. own v (s.written p) (cell_at u p)) q (own v (w ∷ []) value) p e))
-      (λ (ne : p ≢ q). ap (λ (l : List ℕ). own v l (cell_at u p)) (put_other s.written q (s.written q ++ w ∷ []) p ne) ∙ sym (put_other (λ p. own v (s.written p) (cell_at u p)) q (own v (w ∷ []) value) p ne))
-      (cases_eq p q)
-
-  partials_more : (j : Job) (q w : ℕ) (value : Option (List ℤ)) → TakesBase j → q < length u.cells → s.written q ≡ [] → cell_at u q ≡ value → ((v : ℕ) → s.partial v ≡ partial_by j (own_cells u s v))
-      → (v : ℕ) → gather j s.partial w value v ≡ partial_by j (listed (λ p. own v (put s.written q (s.written q ++ w ∷ []) p) (cell_at u p)) (length u.cells))
-  partials_more Store q w value takes lt empty cell old v = old v
-  partials_more (Fold base op) q w value takes lt empty cell old v =
-      let f : ℕ → Option (List ℤ) = λ p. own v (s.written p) (cell_at u p) in
-      let f' : ℕ → Option (List ℤ) = λ p. own v (put s.written q (s.written q ++ w ∷ []) p) (cell_at u p) in
-      let n = length u.cells in
-      let laws = elementwise-foldable _ (foldable base op takes) in
-      let none : f q ≡ None = ap (λ (l : List ℕ). own v l (cell_at u q)) empty in
-      let now : combined (combine op) (present (listed f' n)) ≡ both (combine op) (gathered (combine op) f n) (own v (w ∷ []) value) =
-      gathered_is (combine op) f' n ∙ same (combine op) f' (put f q (own v (w ∷ []) value)) n (λ p l. own_after q w v value empty cell p) ∙ adds (combine op) laws f q (own v (w ∷ []) value) n lt none in
-      let was : s.partial v ≡ gathered (combine op) f n = old v ∙ gathered_is (combine op) f n in
-      ⊎_elim
-      (λ (e : v ≡ w). put_same s.partial w (both (combine op) (s.partial w) value) v e ∙ (λ j. both (combine op) ((ap s.partial (sym e) ∙ was) j) ((sym (own_same w value) ∙ ap (λ (k : ℕ). own k (w ∷ []) value) (sym e)) j)) ∙ sym now)
-      (λ (ne : v ≢ w). put_other s.partial w (both (combine op) (s.partial w) value) v ne ∙ was ∙ sym (now ∙ ap (λ (x : Option (List ℤ)). both (combine op) (gathered (combine op) f n) x) (own_other w v value ne) ∙ both-none (gathered (combine op) f n)))
-      (cases_eq v w)
-    where
-      both-none : (x : Option (List ℤ)) → both (combine op) x None ≡ x
-      both-none None = refl
-      both-none (Some x) = refl
-
   wrote : (w c : ℕ) (value : Option (List ℤ)) → Works u s w c → slice_get u.cells (s.next c) ≡ Some (Ok value)
       → Facts u (record s { next = put s.next c (s.next c + 1); written = put s.written (s.next c) (s.written (s.next c) ++ w ∷ []); stored = store u.job s.stored (s.next c) value; partial = gather u.job s.partial w value })
   wrote w c value works cell =
@@ -151,8 +107,8 @@ module _ (u : SetupValue) (s : StateValue) (is : IsSetup u) (h : Facts u s) wher
             (λ (ne : d ≢ c). let z = n d ne in let b = h.within d l in wr p (other_position c d p lt more (omega arith) below ne) ∙ h.ahead d p l (omega arith) below)
             (at d);
         untaken = λ d p le from below. let ne : d ≢ c = (λ e. omega arith) in wr p (other_position c d p lt more from below ne) ∙ h.untaken d p le from below;
-        stored = stored_more u.job q w value was there h.stored;
-        partials = partials_more u.job q w value is.takes (omega arith) was there h.partials;
+        stored = stored_more u s.written s.stored u.job q w value was there h.stored;
+        partials = partials_more u s.written s.partial u.job q w value is.takes (omega arith) was there h.partials;
         stops = λ d l st. let y = h.stops d l st in ⊎_elim
             (λ (e : d ≡ c). absurd (true≢false (sym st ∙ ap s.stopped e ∙ works.3)))
             (λ (ne : d ≢ c). let z = n d ne in ((let y' = y.0 in omega arith), (y.1.0, ap (slice_get u.cells) z ∙ y.1.1)))

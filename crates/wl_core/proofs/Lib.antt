@@ -2,6 +2,7 @@ pub mod Functions
 pub mod Buffers
 pub mod FoldLaws
 pub mod Combining
+pub mod Written
 pub mod Kept
 pub mod Verdicts
 pub mod States

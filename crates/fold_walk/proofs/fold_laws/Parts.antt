@@ -31,7 +31,7 @@ use Rattle.fold_walk.proofs.fold_laws.Folded.{rises}
 use Rattle.fold_walk.proofs.fold_laws.Folding.{Setting}
 use Rattle.fold_walk.proofs.fold_laws.Members.{grids_of_numbered, kept, kept_splits, one_splits, times_cons}
 use Rattle.fold_walk.proofs.fold_laws.Pieces.{AtConsumer, GridsMade, OldPart, OldParts, Selecting, grids_made, one_piece}
-use Rattle.fold_walk.proofs.fold_laws.Selecting.{none_avoids}
+use Rattle.foldable_pairs.proofs.Avoiding.{none_avoids}
 
 -- ---- lists of parts
 

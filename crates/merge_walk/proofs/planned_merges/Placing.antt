@@ -1,82 +1,16 @@
 -- Steps of a rule that asks what is in scope where it is used.
-use Rattle.std.proofs.Common.{ℕ, List, [], ◌∷◌, ◌++◌, Option}
+use Rattle.std.proofs.Common.{ℕ, List, Option}
 use Rattle.core_ir.specs.declared.tree.Var.{Var}
-use Rattle.core_ir.specs.Binders.{bound_in, bound_in_right, bound_in_gens, bound_in_parts}
-use Rattle.core_ir.specs.Edits.{Edited, EditedRight, EditedGens, EditedParts, here, later, inside, in_then, in_else, in_test, in_body, in_gens, in_parts, this_gen, later_gen, this_part, later_part}
-use Rattle.core_ir.specs.Scopes.{Scoped, ScopedRight, ScopedGens, ScopedParts}
-use Rattle.core_ir.specs.Terms.{BlockTerm, RightTerm, GensTerm, PartsTerm}
-use Rattle.core_ir.specs.WellFormed.{Distinct}
+use Rattle.core_ir.specs.Terms.{BlockTerm}
 use Rattle.core_facts.specs.Facts.{Facts}
-use Rattle.core_loops.specs.Steps.{fact_ways}
-use Rattle.core_forms.proofs.inlined_bodies.Names.{Fresh, fresh_both, fresh_left, fresh_right, fresh_below, distinct_left, distinct_right}
 use Rattle.core_forms.specs.norm.Copied.{IsPlaced}
 use Rattle.core_forms.specs.norm.Walks.{done, step}
-use Rattle.core_forms.proofs.norm.Laws.{fresh_from, all_by}
+use Rattle.core_forms.proofs.norm.Placement.{step_placed}
 use Rattle.core_forms.specs.merge.Fresh.{MergesFresh}
 use Rattle.core_forms.specs.merge.Walks.{BlockMerges}
 use Rattle.core_forms.proofs.merge.Placing.{place_kept}
 use Rattle.merge_walk.specs.planned_merges.Planned.{MergesPlanned, PlannedMerges}
 use Rattle.merge_walk.proofs.planned_merges.Whole.{fresh}
-
-module _ (calls : ℕ → List (Option (List ℕ))) (low high : ℕ) where
-  abbrev Old : Facts → BlockTerm → BlockTerm → Type 0
-  Old = MergesPlanned calls low high
-
-  abbrev New : Facts → BlockTerm → BlockTerm → Type 0
-  New = MergesFresh calls low high
-
-  made : (k : Facts) (b c : BlockTerm) → Old k b c → (scope : List Var) → Scoped scope b → Fresh scope low → Fresh (bound_in b) low → Distinct (bound_in b) → New k b c
-  made k b c h scope s f v d =
-      fresh calls low high k b c h scope
-      (record { scoped = s; once = d; scope_below = all_by low scope (λ y q. fresh_below scope low y f q); bound_below = all_by low (bound_in b) (λ y q. fresh_below (bound_in b) low y v q) })
-
-  mutual
-    placed : {k : Facts} {b c : BlockTerm} → Edited Facts (fact_ways calls) Old k b c → (scope : List Var) → Scoped scope b → Fresh scope low → Fresh (bound_in b) low → Distinct (bound_in b) → Edited Facts (fact_ways calls) New k b c
-    placed (here {known = k} {b = b} {c = c} h) scope s f v d = here (made k b c h scope s f v d)
-    placed (later {xs = xs} {r = r} {b = b} h) scope s f v d =
-        let more = bound_in_right r ++ bound_in b in
-        later
-        (placed h (xs ++ scope) s.2 (fresh_both xs scope low (fresh_left xs more low v) f) (fresh_right (bound_in_right r) (bound_in b) low (fresh_right xs more low v))
-        (distinct_right (bound_in_right r) (bound_in b) (distinct_right xs more d)))
-    placed (inside {xs = xs} {r = r} {b = b} h) scope s f v d =
-        let more = bound_in_right r ++ bound_in b in
-        inside (placed_right h scope s.0 f (fresh_left (bound_in_right r) (bound_in b) low (fresh_right xs more low v)) (distinct_left (bound_in_right r) (bound_in b) (distinct_right xs more d)))
-
-    placed_right : {k : Facts} {r q : RightTerm} → EditedRight Facts (fact_ways calls) Old k r q → (scope : List Var) → ScopedRight scope r → Fresh scope low → Fresh (bound_in_right r) low → Distinct (bound_in_right r) → EditedRight Facts (fact_ways calls) New k r q
-    placed_right (in_then {a = a} {b = b} h) scope s f v d = in_then (placed h scope s.1 f (fresh_left (bound_in a) (bound_in b) low v) (distinct_left (bound_in a) (bound_in b) d))
-    placed_right (in_else {a = a} {b = b} h) scope s f v d = in_else (placed h scope s.2 f (fresh_right (bound_in a) (bound_in b) low v) (distinct_right (bound_in a) (bound_in b) d))
-    placed_right (in_test {params = ps} {a = a} {b = b} h) scope s f v d =
-        let more = bound_in a ++ bound_in b in
-        in_test
-        (placed h (ps ++ scope) s.2 (fresh_both ps scope low (fresh_left ps more low v) f) (fresh_left (bound_in a) (bound_in b) low (fresh_right ps more low v)) (distinct_left (bound_in a) (bound_in b) (distinct_right ps more d)))
-    placed_right (in_body {params = ps} {a = a} {b = b} h) scope s f v d =
-        let more = bound_in a ++ bound_in b in
-        in_body
-        (placed h (ps ++ scope) s.3 (fresh_both ps scope low (fresh_left ps more low v) f) (fresh_right (bound_in a) (bound_in b) low (fresh_right ps more low v)) (distinct_right (bound_in a) (bound_in b) (distinct_right ps more d)))
-    placed_right (in_gens h) scope s f v d = in_gens (placed_gens h scope s.1 f v d)
-    placed_right (in_parts h) scope s f v d = in_parts (placed_parts h scope s.1 f v d)
-
-    placed_gens : {k : Facts} {r q : GensTerm} → EditedGens Facts (fact_ways calls) Old k r q → (scope : List Var) → ScopedGens scope r → Fresh scope low → Fresh (bound_in_gens r) low → Distinct (bound_in_gens r) → EditedGens Facts (fact_ways calls) New k r q
-    placed_gens (this_gen {h = j} {b = b} {rest = rest} h) scope s f v d =
-        let xs = j.index ∷ j.names in
-        let more = bound_in b ++ bound_in_gens rest in
-        this_gen
-        (placed h (xs ++ scope) s.2 (fresh_both xs scope low (fresh_left xs more low v) f) (fresh_left (bound_in b) (bound_in_gens rest) low (fresh_right xs more low v)) (distinct_left (bound_in b) (bound_in_gens rest) (distinct_right xs more d)))
-    placed_gens (later_gen {h = j} {b = b} {g = g} h) scope s f v d =
-        let xs = j.index ∷ j.names in
-        let more = bound_in b ++ bound_in_gens g in
-        later_gen (placed_gens h scope s.3 f (fresh_right (bound_in b) (bound_in_gens g) low (fresh_right xs more low v)) (distinct_right (bound_in b) (bound_in_gens g) (distinct_right xs more d)))
-
-    placed_parts : {k : Facts} {r q : PartsTerm} → EditedParts Facts (fact_ways calls) Old k r q → (scope : List Var) → ScopedParts scope r → Fresh scope low → Fresh (bound_in_parts r) low → Distinct (bound_in_parts r) → EditedParts Facts (fact_ways calls) New k r q
-    placed_parts (this_part {h = j} {b = b} {rest = rest} h) scope s f v d =
-        let xs = j.index ∷ [] in
-        let more = bound_in b ++ bound_in_parts rest in
-        this_part
-        (placed h (xs ++ scope) s.1 (fresh_both xs scope low (fresh_left xs more low v) f) (fresh_left (bound_in b) (bound_in_parts rest) low (fresh_right xs more low v)) (distinct_left (bound_in b) (bound_in_parts rest) (distinct_right xs more d)))
-    placed_parts (later_part {h = j} {b = b} {p = p} h) scope s f v d =
-        let xs = j.index ∷ [] in
-        let more = bound_in b ++ bound_in_parts p in
-        later_part (placed_parts h scope s.2 f (fresh_right (bound_in b) (bound_in_parts p) low (fresh_right xs more low v)) (distinct_right (bound_in b) (bound_in_parts p) (distinct_right xs more d)))
 
 pub walks_placed :
     (calls : ℕ → List (Option (List ℕ))) (k : Facts) (count low high : ℕ) (b c : BlockTerm) → PlannedMerges calls k count low high b c → (scope : List Var) → IsPlaced low scope b → BlockMerges calls k count low high b c
@@ -85,5 +19,5 @@ walks_placed calls k count low high b c walk scope p = go walk p
     go : {count low high : ℕ} {b c : BlockTerm} → PlannedMerges calls k count low high b c → IsPlaced low scope b → BlockMerges calls k count low high b c
     go (done l) p = done l
     go (step {low = low} {mid = mid} {a = b} h rest) p =
-        let g = placed calls low mid h scope p.scoped (fresh_from low scope p.scope_below) (fresh_from low (bound_in b) p.bound_below) p.once in
+        let g = step_placed calls low (MergesPlanned calls low mid) (MergesFresh calls low mid) (fresh calls low mid) h scope p in
         step g (go rest (place_kept calls g scope p))

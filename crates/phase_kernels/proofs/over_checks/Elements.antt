@@ -26,7 +26,7 @@ use Rattle.kernel_rows.specs.Kernels.{AreCellKernels, Body, HasCellForm, HasInde
 use Rattle.own_kernels.specs.Kernels.{holds_alone, is_kernel_for, is_own_kernel, kernels_own, own_in, part_body, parts_own}
 use Rattle.own_kernels.specs.Steps.{is_own}
 use Rattle.phase_loop_laws.specs.over_phases.Statements.{IsElement}
-use Rattle.phase_checks.specs.Terms.{parts_term}
+use Rattle.counted_code.specs.Pieces.{parts_term}
 
 -- ---- both of two tests
 

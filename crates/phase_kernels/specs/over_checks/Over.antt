@@ -10,7 +10,7 @@ use Rattle.counted_code.specs.Values.{Value, Ref}
 use Rattle.phase_kernels.specs.over_checks.Holders.{HoldsAlone}
 use Rattle.phase_loop_laws.specs.over_phases.Own.{PartsReadOwn}
 use Rattle.phase_loop_laws.specs.over_phases.Statements.{IsElement}
-use Rattle.phase_checks.specs.Terms.{parts_term}
+use Rattle.counted_code.specs.Pieces.{parts_term}
 use Rattle.phase_loop_cells.specs.Opened.{lent_env, meaning_in, spending_in}
 use Rattle.run_loops.specs.declared.cell_loop.CellSource.{CellSource}
 use Rattle.run_loops.specs.declared.cell_loop.CellSource.TheVariants.{Generators, Parts}

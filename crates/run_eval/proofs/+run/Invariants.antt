@@ -10,7 +10,8 @@ use Rattle.run_store.specs.Stands.{lender_of}
 use Rattle.run_values.specs.Scopes.{current}
 use Rattle.run_values.specs.Shown.{value_of}
 use Rattle.run_loops.specs.Running.{turn_in, test_in, IsAt, SameScopes, SameOuter, Reaches}
-use Rattle.run_loops.proofs.Measures.{rank_of, body_size, steps_size, source_size}
+use Rattle.counted_code.proofs.Sizes.{steps_size}
+use Rattle.run_loops.proofs.Measures.{rank_of, body_size, source_size}
 use Rattle.run_eval.proofs.Turns.{Turned}
 use Rattle.run_eval.proofs.+run.Given as goal
 use Rattle.counted_code.specs.declared.tree.CodeParted.{size-CodeParted}

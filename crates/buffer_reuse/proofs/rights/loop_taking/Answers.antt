@@ -1,6 +1,6 @@
 use Rattle.std.proofs.Common.{◌∙◌, sym, Some}
 use Rattle.counted_marks.specs.Marking.{with_mark}
-use Rattle.reuse_candidates.proofs.Trees.{parted_out, parted_roll}
+use Rattle.counted_code.proofs.Trees.{parted_out, parted_roll}
 use Rattle.buffer_reuse.proofs.rights.loop_taking.Goals as goal
 
 pub returns : goal.returns

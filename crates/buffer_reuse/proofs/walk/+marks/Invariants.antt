@@ -4,7 +4,7 @@ use Rattle.counted_code.specs.Terms.{CodeTerm, Giving, core_of}
 use Rattle.counted_code.specs.View.{steps_before}
 use Rattle.counted_marks.specs.Marking.{marking}
 use Rattle.reuse_candidates.specs.Calls.{given_by}
-use Rattle.reuse_candidates.specs.Pieces.{code_gen_term, code_part_term}
+use Rattle.counted_code.specs.Pieces.{code_gen_term, code_part_term}
 use Rattle.reuse_candidates.specs.Scopes.{known_in, mark_of, taken_back, told_block}
 use Rattle.buffer_reuse.specs.Marked.{made_with, marking_gen, marking_part}
 use Rattle.buffer_reuse.proofs.walk.+marks.Given as goal

@@ -5,7 +5,7 @@ use Rattle.counted_code.specs.declared.tree.CodeRight.{CodeRight}
 use Rattle.counted_code.specs.declared.tree.CodeStep.{CodeStep}
 use Rattle.counted_code.specs.View.{code_program, code_right_term}
 use Rattle.code_nesting.specs.Needs.{GensNeed, PartsNeed, RightNeeds, StepsNeed}
-use Rattle.phase_checks.specs.Terms.{gens_term, parts_term}
+use Rattle.counted_code.specs.Pieces.{gens_term, parts_term}
 use Rattle.code_nesting.proofs.Needed.{block_needs, if_needs, loop_needs, with_needs, parted_needs, steps_turn, gens_turn, parts_turn, one_above, left_above, right_above}
 use Rattle.code_nesting.proofs.walk.+walk.Goals as goal
 

@@ -7,9 +7,8 @@ use Rattle.counted_code.specs.declared.tree.CodeWith.{size-CodeWith}
 use Rattle.counted_code.specs.View.{code_program}
 use Rattle.code_nesting.specs.Needs.{GensNeed, PartsNeed, StepsNeed}
 use Rattle.code_nesting.specs.Nested.{most_nested}
-use Rattle.phase_checks.specs.Terms.{gens_term, parts_term}
-use Rattle.code_nesting.proofs.Sizes.{steps_size}
-use Rattle.phase_checks.proofs.Sizes.{gens_size, parts_size}
+use Rattle.counted_code.specs.Pieces.{gens_term, parts_term}
+use Rattle.counted_code.proofs.Sizes.{steps_size, gens_size, parts_size}
 use Rattle.code_nesting.proofs.walk.+walk.Given as goal
 
 abbrev pub decreases-block_need : goal.decreases-block_need

@@ -9,7 +9,7 @@ use Rattle.counted_code.specs.declared.tree.CodeWith.{out-CodeWith}
 use Rattle.counted_code.specs.Counts.{Reordered, CountedGens, CountedParts, UnmarkedGens, UnmarkedParts}
 use Rattle.counted_code.specs.Terms.{IfCode}
 use Rattle.counted_code.specs.View.{code_term, code_right_term}
-use Rattle.phase_checks.specs.Terms.{gens_term, parts_term}
+use Rattle.counted_code.specs.Pieces.{gens_term, parts_term}
 use Rattle.phase_checks.specs.Walks.{results_in, IsCounted, IsCountedRight, Leads, Determines}
 use Rattle.phase_checks.proofs.Counted.{in_any_order, keep_leads, release_leads, binding_leads, at_the_end, one_back}
 use Rattle.phase_checks.proofs.Determined.{Takes, Tells, keep_lost, keep_determines, release_determines, targets_lost, targets_old, right_lost, binding_determines, results_size, only_at_the_end, only_one_back, none_back}
@@ -21,7 +21,7 @@ use Rattle.phase_checks.proofs.walk.+walk.Goals.{nested_refs-else-stands_in_eith
 use Rattle.phase_checks.proofs.walk.+walk.Goals.{parted_is_counted-then-is_some-via-then-is_some, parted_is_counted-then-is_some-via-else-is_some+then-not-parted_reads}
 use Rattle.phase_checks.proofs.Rights.{then_holds, no_mark, hands_counted, fault_counted, call_counted, if_counted, loop_counted, with_counted, parted_counted}
 use Rattle.phase_checks.proofs.Taken.{one_taken}
-use Rattle.phase_checks.proofs.Trees.{if_term, loop_term, with_out, parted_out}
+use Rattle.counted_code.proofs.Trees.{if_term, loop_term, with_out, parted_out}
 use Rattle.phase_checks.proofs.walk.+walk.Goals as goal
 
 pub binding_back-returns-in-Some-clause-counted : goal.binding_back-returns-in-Some-clause-counted

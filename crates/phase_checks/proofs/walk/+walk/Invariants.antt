@@ -10,9 +10,9 @@ use Rattle.counted_code.specs.declared.tree.CodeWith.{size-CodeWith}
 use Rattle.counted_code.specs.Counts.{CountedGens, CountedParts, UnmarkedGens, UnmarkedParts}
 use Rattle.counted_code.specs.Terms.{Giving}
 use Rattle.counted_code.specs.View.{steps_before}
-use Rattle.phase_checks.proofs.Sizes.{gens_size, parts_size}
+use Rattle.counted_code.proofs.Sizes.{gens_size, parts_size}
 use Rattle.phase_checks.proofs.walk.+walk.Given as goal
-use Rattle.phase_checks.specs.Terms.{gens_term, parts_term}
+use Rattle.counted_code.specs.Pieces.{gens_term, parts_term}
 use Rattle.phase_checks.specs.Walks.{results_in, IsCounted, IsCountedOnlyWith}
 
 abbrev pub decreases-gens_are_counted : goal.decreases-gens_are_counted

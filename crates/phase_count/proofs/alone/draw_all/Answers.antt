@@ -1,5 +1,5 @@
 use Rattle.std.proofs.Common.{◌≡◌, ◌++◌, ◌∷◌, [], ap, ◌∙◌, arith}
-use Rattle.phase_count.proofs.Bounds.{bound, bound_push, bound_under}
+use Rattle.count_table.proofs.Bounds.{bound, bound_push, bound_under}
 use Rattle.phase_count.proofs.alone.draw_all.Goals as goal
 
 pub loop-smaller : goal.loop-smaller

@@ -1,5 +1,5 @@
 use Rattle.std.proofs.Common.{◌≡◌, ◌-◌, ◌≤◌, length, false}
-use Rattle.phase_count.proofs.Bounds.{bound}
+use Rattle.count_table.proofs.Bounds.{bound}
 use Rattle.phase_count.proofs.alone.draw_all.Given as goal
 
 abbrev pub invariant-loop : goal.invariant-loop

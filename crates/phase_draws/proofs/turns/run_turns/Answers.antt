@@ -7,7 +7,7 @@ use Rattle.phase_chunks.specs.Seats.{IsFresh}
 use Rattle.phase_draws.specs.Crews.{drawn_by, IsGoing}
 use Rattle.phase_draws.specs.Reports.{AllOk, AreCombined, AreDone, CostOf, IsReport}
 use Rattle.phase_team.specs.Segments.{Costs}
-use Rattle.phase_draws.proofs.Bounds.{bound, bound_under, bound_push}
+use Rattle.count_table.proofs.Bounds.{bound, bound_under, bound_push}
 use Rattle.phase_draws.proofs.Reported.{combined_if, costs_if, done_push, handed_report, is_ok_true, not_ok, ok_front, ok_last, report_is}
 use Rattle.phase_draws.proofs.turns.run_turns.Goals as goal
 use Rattle.phase_draws.proofs.turns.run_turns.Goals.{then-going, else-going}

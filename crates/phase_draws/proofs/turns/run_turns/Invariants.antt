@@ -4,7 +4,7 @@ use Rattle.phase_chunks.specs.Seats.{IsFresh}
 use Rattle.phase_draws.specs.Crews.{drawn_by, IsGoing}
 use Rattle.phase_draws.specs.Reports.{AllOk, AreDone, Told}
 use Rattle.phase_chunks.specs.Chunks.{ChunkReport}
-use Rattle.phase_draws.proofs.Bounds.{bound}
+use Rattle.count_table.proofs.Bounds.{bound}
 use Rattle.phase_draws.proofs.turns.run_turns.Given as goal
 
 abbrev pub invariant-loop-drawn : goal.invariant-loop-drawn

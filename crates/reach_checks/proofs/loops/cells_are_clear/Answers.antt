@@ -1,5 +1,5 @@
 use Rattle.std.proofs.Common.{sym, ◌∙◌}
-use Rattle.phase_checks.specs.Terms.{gens_term}
+use Rattle.counted_code.specs.Pieces.{gens_term}
 use Rattle.reach_checks.specs.Groups.{clear_in}
 use Rattle.reach_checks.proofs.Exact.{gens_call, gens_have_none, gens_say}
 use Rattle.reach_checks.proofs.loops.cells_are_clear.Goals as goal

@@ -1,5 +1,5 @@
 use Rattle.std.proofs.Common.{sym, ◌∙◌}
-use Rattle.phase_checks.specs.Terms.{parts_term}
+use Rattle.counted_code.specs.Pieces.{parts_term}
 use Rattle.reach_checks.specs.Groups.{clear_in}
 use Rattle.reach_checks.proofs.Exact.{parts_call, parts_have_none, parts_say}
 use Rattle.reach_checks.proofs.loops.parted_cells_are_clear.Goals as goal

@@ -3,7 +3,7 @@ use Rattle.std.specs.List.{list_all}
 use Rattle.counted_code.specs.View.{code_term, code_right_term}
 use Rattle.reach_checks.specs.Groups.{clear_in}
 use Rattle.reach_checks.specs.Clear.{is_clear, right_is_clear, gens_are_clear, parts_are_clear, step_is_clear}
-use Rattle.phase_checks.specs.Terms.{gens_term, parts_term}
+use Rattle.counted_code.specs.Pieces.{gens_term, parts_term}
 use Rattle.reach_checks.proofs.Trees.{block_adds, if_adds, loop_adds, with_adds, parted_marked, parted_unmarked, second_says, first_says}
 use Rattle.reach_checks.proofs.walk.+walk.Goals as goal
 

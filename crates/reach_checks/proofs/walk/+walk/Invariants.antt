@@ -5,11 +5,10 @@ use Rattle.counted_code.specs.declared.tree.CodeParted.{size-CodeParted}
 use Rattle.counted_code.specs.declared.tree.CodeRight.{size-CodeRight}
 use Rattle.counted_code.specs.declared.tree.CodeStep.{size-CodeStep}
 use Rattle.counted_code.specs.declared.tree.CodeWith.{size-CodeWith}
-use Rattle.phase_checks.proofs.Sizes.{gens_size, parts_size}
-use Rattle.phase_checks.specs.Terms.{gens_term, parts_term}
+use Rattle.counted_code.proofs.Sizes.{steps_size, gens_size, parts_size}
+use Rattle.counted_code.specs.Pieces.{gens_term, parts_term}
 use Rattle.reach_checks.specs.Groups.{clear_in}
 use Rattle.reach_checks.specs.Clear.{gens_are_clear, parts_are_clear, step_is_clear}
-use Rattle.reach_checks.proofs.Heights.{steps_size}
 use Rattle.reach_checks.proofs.walk.+walk.Given as goal
 
 abbrev pub decreases-block_is_clear : goal.decreases-block_is_clear

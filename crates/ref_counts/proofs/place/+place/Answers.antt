@@ -11,7 +11,8 @@ use Rattle.ref_rules.specs.listed_uses.Latest.{section}
 use Rattle.counted_laws.specs.placing.Placing.{placing_right}
 use Rattle.ref_counts.specs.Listing.{each, listed, listed_right}
 use Rattle.ref_counts.specs.Owning.{owned_vars}
-use Rattle.ref_counts.specs.Pieces.{code_gen_term, code_part_term, placing_gen, placing_part}
+use Rattle.counted_code.specs.Pieces.{code_gen_term, code_part_term}
+use Rattle.ref_counts.specs.Pieces.{placing_gen, placing_part}
 use Rattle.ref_counts.proofs.Blocks.{at_binding, at_let, all_uses, own_uses, at_last, block_done, first_placed, item_here, next_placed}
 use Rattle.ref_counts.proofs.CodeTrees.{with_done, parted_done, gen_done, part_done, owns, if_done, loop_done}
 use Rattle.ref_counts.proofs.Collected.{let_listed, gen_listed, part_listed}

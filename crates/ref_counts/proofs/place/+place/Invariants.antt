@@ -4,7 +4,8 @@ use Rattle.core_ir.specs.declared.tree.Block.{out-Block}
 use Rattle.ref_rules.specs.declared.listed_uses.list.Entry.{Entry}
 use Rattle.ref_rules.specs.listed_uses.Latest.{section}
 use Rattle.ref_counts.specs.Listing.{listed, listed_right}
-use Rattle.ref_counts.specs.Pieces.{code_gen_term, code_part_term, placing_gen, placing_part}
+use Rattle.counted_code.specs.Pieces.{code_gen_term, code_part_term}
+use Rattle.ref_counts.specs.Pieces.{placing_gen, placing_part}
 use Rattle.ref_counts.proofs.Collected.{gen_listed, part_listed}
 use Rattle.ref_counts.proofs.Positions.{IsPlacedTo}
 use Rattle.ref_counts.proofs.place.+place.Given as goal

@@ -1,7 +1,7 @@
 use Rattle.std.proofs.Common.{rules, ◌≡◌, [], None, map, sym, ◌∙◌}
 use Rattle.counted_code.specs.Terms.{Giving}
 use Rattle.counted_code.specs.declared.tree.CodeParted.{out-CodeParted}
-use Rattle.reuse_candidates.specs.Pieces.{code_part_term, code_parts_of}
+use Rattle.counted_code.specs.Pieces.{code_part_term, code_parts_of}
 use Rattle.counted_code.specs.View.{code_parted_term, steps_before}
 use Rattle.counted_marks.specs.Marking.{choice, least, released_next}
 use Rattle.reuse_candidates.specs.Calls.{given_by}

@@ -10,7 +10,7 @@ use Rattle.counted_code.specs.declared.tree.CodePart.{CodePart}
 use Rattle.counted_code.specs.declared.tree.CodeParted.{out-CodeParted}
 use Rattle.counted_code.specs.declared.tree.CodeStep.{CodeStep}
 use Rattle.counted_code.specs.declared.tree.CodeWith.{out-CodeWith}
-use Rattle.reuse_candidates.specs.Pieces.{code_gen_term, code_part_term}
+use Rattle.counted_code.specs.Pieces.{code_gen_term, code_part_term}
 use Rattle.counted_code.specs.Terms.{core_of_right}
 use Rattle.counted_code.specs.View.{code_term, code_right_term, steps_before}
 use Rattle.fact_table.specs.Table.{fact_of}

@@ -10,8 +10,7 @@ use Rattle.run_values.specs.Scopes.{current, outer}
 use Rattle.run_values.specs.Shown.{value_of}
 use Rattle.run_loops.specs.Running.{does_in, right_in, Told, ToldSteps, IsValue, IsFirst, Appends, SameOuter, EndsScope, Reaches}
 use Rattle.run_loops.proofs.Binding.{let_goes, let_stops, one_target, keep_goes, release_goes}
-use Rattle.run_loops.proofs.Measures.{steps_size}
-use Rattle.run_loops.proofs.Sizes.{steps_below, step_below, let_below, right_below}
+use Rattle.counted_code.proofs.Sizes.{steps_size, steps_below, step_below, let_below, right_below}
 use Rattle.run_loops.proofs.Steps.{moved, given, tell, stop_then, last_step, results_given, block_stops, on_ok, handed, no_scopes}
 use Rattle.run_eval.proofs.Replacing.{next_steps, rest_length, rest_of}
 use Rattle.run_eval.proofs.+run.Goals as goal

@@ -17,8 +17,7 @@ use Rattle.run_loops.specs.Loops.{IsPresent, cells_written, loop_source, source_
 use Rattle.run_loops.specs.Running.{Told, ToldStop, IsValue, IsOnly, SameScopes, cells_in}
 use Rattle.run_eval.proofs.CellScopes.{scopes_after, scopes_join}
 use Rattle.run_eval.proofs.MarkedJobs.{is_spared, joined_as, marked_parts_tell, not_small, only_one, over_stops, over_tells, rows_of_parts, spared_stops, spared_tells}
-use Rattle.run_loops.proofs.Measures.{parts_size}
-use Rattle.run_loops.proofs.Sizes.{parts_below}
+use Rattle.counted_code.proofs.Sizes.{parts_size, parts_below}
 use Rattle.run_loops.proofs.Steps.{handed, no_scopes}
 use Rattle.run_eval.proofs.WrittenRuns.{Written, carried_start, write_end, write_step, write_stop}
 use Rattle.run_eval.proofs.WithTerms.{parted_means}

@@ -15,9 +15,9 @@ use Rattle.run_eval.proofs.CallSteps.{none_chosen, call_runs, call_stops, chosen
 use Rattle.run_loops.proofs.Measures.{falls, body_below, body_size}
 use Rattle.run_plain.proofs.Rest.{plain_rest}
 use Rattle.run_plain.proofs.Rights.{right_told}
-use Rattle.run_loops.proofs.Sizes.{if_first, if_second, loop_blocks, with_below, parted_below}
+use Rattle.counted_code.proofs.Sizes.{if_first, if_second, loop_blocks, with_below, parted_below}
 use Rattle.run_loops.proofs.Steps.{moved, given, tell, stop_then, raised, first_told, only_first, appended, handed, no_scopes, plain_scopes, plain_given, plain_failed}
-use Rattle.run_eval.proofs.Trees.{if_term, loop_term}
+use Rattle.counted_code.proofs.Trees.{if_term, loop_term}
 use Rattle.run_eval.proofs.Turns.{condition_goes, condition_stops}
 use Rattle.run_eval.proofs.+run.Goals as goal
 

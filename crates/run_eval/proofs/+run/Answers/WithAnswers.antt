@@ -11,9 +11,9 @@ use Rattle.counted_code.specs.Values.{read}
 use Rattle.counted_code.specs.View.{code_with_term, code_parted_term}
 use Rattle.run_values.specs.Scopes.{current}
 use Rattle.run_values.specs.Shown.{value_of}
-use Rattle.run_loops.specs.Running.{right_in, Told, ToldStop, IsValue, IsOnly, array_job, fold_job, gen_head, cells_in}
-use Rattle.run_loops.proofs.Measures.{gens_size, parts_size}
-use Rattle.run_loops.proofs.Sizes.{gens_below, parts_below}
+use Rattle.counted_code.specs.Pieces.{gen_head}
+use Rattle.run_loops.specs.Running.{right_in, Told, ToldStop, IsValue, IsOnly, array_job, fold_job, cells_in}
+use Rattle.counted_code.proofs.Sizes.{gens_size, parts_size, gens_below, parts_below}
 use Rattle.run_loops.proofs.OldArrays.{based_as, shaped_as}
 use Rattle.run_loops.proofs.Steps.{handed}
 use Rattle.run_eval.proofs.+run.Goals as goal

@@ -1,6 +1,6 @@
 use Rattle.std.proofs.Common.{All, ap, refl, subst, sym, ◌∙◌}
 use Rattle.counted_code.specs.View.{code_right_term}
-use Rattle.kernel_lower.proofs.Trees.{if_term, loop_term}
+use Rattle.counted_code.proofs.Trees.{if_term, loop_term}
 use Rattle.phase_laws.specs.only_reads.Reads.{Outside, RightOnlyReads}
 use Rattle.run_values.specs.Scopes.{current}
 use Rattle.run_kernels.specs.Plain.{plain_in}

@@ -4,7 +4,7 @@ use Rattle.counted_code.specs.Machine.{bounds_of, reads}
 use Rattle.counted_code.specs.Values.{Heap}
 use Rattle.run_store.specs.Stands.{Stands}
 use Rattle.run_values.specs.Scopes.{current}
-use Rattle.run_loops.specs.Running.{gen_head}
+use Rattle.counted_code.specs.Pieces.{gen_head}
 use Rattle.run_loops.proofs.bounds.all_bounds.Given as goal
 
 abbrev pub invariant-loop-g : goal.invariant-loop-g

@@ -11,6 +11,7 @@ use Rattle.core_ir.specs.View.{block_term, right_term}
 use Rattle.core_ir.proofs.Trees.{block_out, with_out, parted_out}
 use Rattle.variable_bases.specs.Learned.{Takes, LearnsBlock, LearnsRight, LearnsGens, LearnsParts, gens_in, parts_in}
 use Rattle.variable_bases.specs.Table.{GroupGives, NoneGives}
+use Rattle.plain_facts.proofs.known_rights.Plain.{other_plain}
 use Rattle.variable_bases.proofs.Learning
 use Rattle.variable_bases.proofs.learn.+learning.Goals as goal
 
@@ -149,7 +150,7 @@ pub learn_right-returns-in-None-plain_base : goal.learn_right-returns-in-None-pl
 learn_right-returns-in-None-plain_base t c =
     let r = c.args.right.now in
     let arm = c.in_default in
-    let plain = Learning.other_plain r (arm.not-If, arm.not-Loop, arm.not-Call, arm.not-With, arm.not-Parted) in
+    let plain = other_plain r (arm.not-If, arm.not-Loop, arm.not-Call, arm.not-With, arm.not-Parted) in
     Learning.right_unknown c.args.signatures.now c.args.table.now c.args.targets.now (right_term r) plain.0 plain.1 c.in-None-plain_base.ensures.none
 
 pub learn_right-returns-in-Some-plain_base : goal.learn_right-returns-in-Some-plain_base
@@ -159,6 +160,6 @@ learn_right-returns-in-Some-plain_base t c =
     let r = c.args.right.now in
     let after = c.note_each-in-Some-plain_base.new.self in
     let arm = c.in_default in
-    let plain = Learning.other_plain r (arm.not-If, arm.not-Loop, arm.not-Call, arm.not-With, arm.not-Parted) in
+    let plain = other_plain r (arm.not-If, arm.not-Loop, arm.not-Call, arm.not-With, arm.not-Parted) in
     on_ok_weaker c.note_each-in-Some-plain_base.result
     (Learning.right_learned s c.args.table.now after xs (right_term r) plain.0 c.in-Some-plain_base.base plain.1 c.in-Some-plain_base.ensures.some) c.note_each-in-Some-plain_base.ensures

@@ -3,7 +3,7 @@ use Rattle.std.proofs.lemmas.Bool.{leb-true}
 use Rattle.counted_code.specs.View.{code_program}
 use Rattle.code_nesting.specs.Needs.{GensNeed}
 use Rattle.code_nesting.specs.Promised.{Bounds}
-use Rattle.phase_checks.specs.Terms.{gens_term}
+use Rattle.counted_code.specs.Pieces.{gens_term}
 use Rattle.code_nesting.specs.declared.nesting.Nesting.{Nesting}
 use Rattle.code_nesting.proofs.Nested.{gens_shallow}
 use Rattle.code_nesting.proofs.nesting.Nesting.gens_have_room.Goals as goal

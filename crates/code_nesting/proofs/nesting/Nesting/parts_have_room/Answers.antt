@@ -3,7 +3,7 @@ use Rattle.std.proofs.lemmas.Bool.{leb-true}
 use Rattle.counted_code.specs.View.{code_program}
 use Rattle.code_nesting.specs.Needs.{PartsNeed}
 use Rattle.code_nesting.specs.Promised.{Bounds}
-use Rattle.phase_checks.specs.Terms.{parts_term}
+use Rattle.counted_code.specs.Pieces.{parts_term}
 use Rattle.code_nesting.specs.declared.nesting.Nesting.{Nesting}
 use Rattle.code_nesting.proofs.Nested.{parts_shallow}
 use Rattle.code_nesting.proofs.nesting.Nesting.parts_have_room.Goals as goal
