@@ -18,18 +18,20 @@ KINDS = ("proof", "tests", "edits")
 
 
 def process(number):
-    """What a process works for, as (crate, kind), and its processor time in seconds; None if it is no check of a crate."""
+    """What a process works for, as (crate, kind), and its processor time in seconds; None if it is no check and no compiler of a crate."""
     try:
         with open(f"/proc/{number}/cmdline", "rb") as file:
             words = file.read().split(b"\0")
-        if not words or not words[0].endswith(b"/rattle") or b"--crate-name" not in words:
+        checks = words[0].endswith(b"/rattle") and b"--crate-name" in words
+        if not checks and not words[0].endswith(b"/clang"):
             return None
         with open(f"/proc/{number}/stat", encoding="utf-8") as file:
             fields = file.read().rsplit(")", 1)[1].split()
-        crate = words[words.index(b"--crate-name") + 1].decode()
         where = os.readlink(f"/proc/{number}/cwd")
     except OSError:
         return None
+    # LLVM's compiler works in the folder of the program or of the tests that it builds
+    crate = words[words.index(b"--crate-name") + 1].decode() if checks else os.path.basename(where)
     kind = "edits" if "rt-edit-" in where else "tests" if b"--test" in words else "proof"
     return (crate, kind), (int(fields[11]) + int(fields[12])) / TICKS
 
