@@ -6,6 +6,7 @@ changed since, and what stands on it. It is for versions of the toolchain whose 
 With crates, only these and all that they stand on. With --tests it proves and runs their tests too, with --edits it has their must-fail edits refused,
 with --all-edits those of edits/CRATE/ as well, which the gate leaves out for its time.
 A result holds for the checksum of all that it was made from; results are in out/kept.json of each crate, what was said in out/kept.KIND.log.
+While it runs files may be changed: what failed is tried again as soon as a file of it, or of what it stands on, has another text.
 Status 1 where something failed.
 """
 import argparse
@@ -140,30 +141,33 @@ def main():
     crates = sorted(rt.rtlib.crates_below(TOP), key=lambda it: len(it.below()))
     asked = [it for it in crates if not given.crates or it.name in given.crates]
     crates = [it for it in crates if it in asked or any(it in above.below() for above in asked)]
-    sums, behind = checksums(rt, crates, given.all_edits), lines_behind(crates)
-    done = {(it.name, kind) for it in crates for kind in KINDS if is_kept(it, kind, sums)}
-    left = [(it, "proof") for it in sorted(crates, key=lambda it: -behind[it.name])]
-    left += [(it, "tests") for it in asked if given.tests and it.has_tests()]
+    behind = lines_behind(crates)
+    wanted = [(it, "proof") for it in sorted(crates, key=lambda it: -behind[it.name])]
+    wanted += [(it, "tests") for it in asked if given.tests and it.has_tests()]
     if given.edits or given.all_edits:
-        left += [(it, "edits") for it in asked if edits_of(rt, it, given.all_edits)]
-    left, failed, running = [it for it in left if (it[0].name, it[1]) not in done], [], {}
+        wanted += [(it, "edits") for it in asked if edits_of(rt, it, given.all_edits)]
+    failed, running = {}, {}
     with ThreadPoolExecutor(given.lanes) as pool:
         while True:
-            for crate, kind in left[:]:
+            # files may have changed since: what failed before is tried again where they have
+            sums = checksums(rt, crates, given.all_edits)
+            done = {(it.name, kind) for it in crates for kind in KINDS if is_kept(it, kind, sums)}
+            left = [(it, kind) for it, kind in wanted if (it.name, kind) not in done]
+            bad = [(it, kind) for it, kind in left if failed.get((it.name, kind)) == sums[it.name][kind]]
+            for crate, kind in left:
                 stands = crate.below() if kind == "proof" else [*crate.below(), crate]
-                if len(running) < given.lanes and all((it.name, "proof") in done for it in stands):
-                    left.remove((crate, kind))
-                    running[pool.submit(work, rt, crate, kind, sums, given.all_edits)] = crate, kind
+                is_new = (crate, kind) not in bad and (crate, kind) not in [begun[:2] for begun in running.values()]
+                if is_new and len(running) < given.lanes and all((it.name, "proof") in done for it in stands):
+                    running[pool.submit(work, rt, crate, kind, sums, given.all_edits)] = crate, kind, sums[crate.name][kind]
             if not running:
                 break
-            for it in wait(running, return_when=FIRST_COMPLETED).done:
-                crate, kind = running.pop(it)
-                if it.result():
-                    done.add((crate.name, kind))
-                else:
-                    failed.append(f"{crate.name} {kind}")
-    print(f"{len(done)} well, {len(failed)} failed{': ' if failed else ''}{', '.join(failed)}; {len(left)} not tried")
-    return 1 if failed or left else 0
+            for it in wait(running, timeout=30, return_when=FIRST_COMPLETED).done:
+                crate, kind, begun = running.pop(it)
+                if not it.result():
+                    failed[crate.name, kind] = begun
+    names = ", ".join(f"{it.name} {kind}" for it, kind in bad)
+    print(f"{len(wanted) - len(left)} well, {len(bad)} failed{': ' if bad else ''}{names}; {len(left) - len(bad)} not tried")
+    return 1 if left else 0
 
 
 if __name__ == "__main__":
