@@ -250,9 +250,13 @@ impl Heap {
         Ok((id, cells))
     }
 
-    // So many cells of any numbers: the spare ones, if there are as many. They are given up for at least a quarter as many, so that what is kept
-    // besides the live buffers stays small beside them.
-    fn take_spare(&mut self, len: usize) -> Result<Vec<Cell>, Memory>
+    /// So many cells of any numbers, which are no buffer: the spare ones, if there are as many. They are given up for at least a quarter as many, so that
+    /// what is kept besides the live buffers stays small beside them.
+    ///
+    /// # Errors
+    ///
+    /// `Memory`: there is none for so many cells.
+    pub fn take_spare(&mut self, len: usize) -> Result<Vec<Cell>, Memory>
         ensures length { IfOk result (λ cells. length cells.items ≡ len) }
         ensures heap { self.new ≡ self.old }
     {
@@ -267,8 +271,8 @@ impl Heap {
         Ok(cells)
     }
 
-    // Has cells as the spare ones, if they are more than those that are, and not too many.
-    fn put_spare(&mut self, cells: Vec<Cell>)
+    /// Has cells as the spare ones, if they are more than those that are, and not too many.
+    pub fn put_spare(&mut self, cells: Vec<Cell>)
         ensures { self.new ≡ self.old }
     {
         if self.spare.len() < cells.len() && cells.len() <= MOST_SPARE {

@@ -10,7 +10,8 @@ use buffer_heap::{BufferId, Heap};
 use run_store::Store;
 use sac_base::{Cell, Memory};
 
-/// Puts all elements of a result into a buffer that has one reference and as many cells, which counts as reused. What stood there is gone.
+/// Puts all elements of a result into a buffer that has one reference and as many cells, which counts as reused. What stood there is gone, and its cells are
+/// spare ones.
 ///
 /// # Errors
 ///
@@ -26,8 +27,9 @@ pub fn settle_over(heap: &mut Store<'_>, id: BufferId, elements: Vec<Cell>) -> R
     if heap.own.cells(id).len() != elements.len() {
         return Err(Memory);
     }
-    let _old = heap.own.reuse(id);
+    let old = heap.own.reuse(id);
     heap.own.settle(id, elements);
+    heap.own.put_spare(old);
     Ok(())
 }
 

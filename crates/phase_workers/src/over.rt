@@ -118,7 +118,7 @@ fn over_by_workers<'a, G: Gate, R: Threads + Sync>(
     phases_end_over();
     let positions = plan.frame.count();
     let books = open_books(&mut state.phases, &state.heap.own, positions)?;
-    let cells = vec![in context.alloc; 0; positions]?;
+    let cells = state.heap.own.take_spare(positions)?;
     let target = Target {
         cells,
         buffer: None,
