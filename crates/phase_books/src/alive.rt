@@ -13,8 +13,8 @@ use run_values::{Frames, RunValue};
 use sac_base::Memory;
 use std::alloc::Global;
 
-/// The variables that the cells of a source mention, and the bounds of its generators, whose values can be read. One whose
-/// reference has gone may be among them, where others keep its buffer.
+/// The variables that the cells of a source mention, and the bounds of its generators, whose values can be read, each once: what is looked up among them, and
+/// the buffers that kernels read, are as few as they can be. One whose reference has gone may be among them, where others keep its buffer.
 pub fn alive_in(
     alloc: Global,
     source: &CellSource<'_>,
@@ -25,6 +25,8 @@ pub fn alive_in(
 {
     let mut mentioned = Vec::new(alloc);
     mention_source(source, &mut mentioned)?;
+    mentioned.sort_unstable_by_key(|x: &Var| x.0);
+    mentioned.dedup_by_key(|x: &mut Var| x.0);
     alive_among(alloc, &mentioned, frames, heap)
 }
 
