@@ -45,10 +45,7 @@ fn add_right<'c>(right: &'c CodeRight, sources: &mut Vec<CellSource<'c>>) -> Res
     }
 }
 
-fn add_source<'c>(
-    source: CellSource<'c>,
-    sources: &mut Vec<CellSource<'c>>,
-) -> Result<(), Memory> {
+fn add_source<'c>(source: CellSource<'c>, sources: &mut Vec<CellSource<'c>>) -> Result<(), Memory> {
     if sources.len() < MOST {
         sources.push(source)?;
     }
