@@ -2,12 +2,10 @@
 
 use crate::plain::plain_text;
 use crate::wanting::WantingFiles;
-use buffer_heap::Heap;
-use run_eval::Trace;
 use sac_base::Name;
 use sac_io::{Files, MemFiles, MemSink, Sink, write_all};
 use sac_real::Out;
-use sac_top::{NoGate, sac};
+use sac_top::{Heap, NoGate, Trace, sac};
 use std::alloc::Global;
 use std::thread::Threads;
 

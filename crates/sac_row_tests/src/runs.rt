@@ -4,12 +4,10 @@ use crate::case::Case;
 use crate::holding::Holding;
 use crate::kernels::count_kernels;
 use crate::meeting::Meeting;
-use buffer_heap::Heap;
 use counted_code::Code;
-use run_eval::Trace;
 use sac_io::{MemFiles, MemSink, write_all};
 use sac_real::Out;
-use sac_top::{Gate, NoGate, sac};
+use sac_top::{Gate, Heap, NoGate, Trace, sac};
 use std::alloc::Global;
 use std::thread::Threads;
 

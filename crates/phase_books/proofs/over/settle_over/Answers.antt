@@ -26,4 +26,4 @@ pub returns-clause-settled : goal.returns-clause-settled
 returns-clause-settled c =
     let s = c.args.heap.now in
     let id = c.args.id in
-    ap {B = Store} (λ (h : HeapValue). record s { own = h }) (c.settle.ensures ∙ ap (λ (k : HeapValue). with_place k id.place (with_content (at k id.place) (In c.args.elements.items))) c.reuse-old.ensures.heap)
+    ap {B = Store} (λ (h : HeapValue). record s { own = h }) (c.put_spare.ensures ∙ c.settle.ensures ∙ ap (λ (k : HeapValue). with_place k id.place (with_content (at k id.place) (In c.args.elements.items))) c.reuse-old.ensures.heap)
