@@ -58,7 +58,15 @@ pub fn over_outside<G: Gate, R: Threads + Sync>(
     let Some(live) = live_apart(workers, &source, positions, context, state)? else {
         return run_over_in_order(work, array, context, state);
     };
-    if !is_phase_over(workers.kernels, parts, work.plan, array, &live, *context, state)? {
+    if !is_phase_over(
+        workers.kernels,
+        parts,
+        work.plan,
+        array,
+        &live,
+        *context,
+        state,
+    )? {
         return run_over_in_order(work, array, context, state);
     }
     over_by_workers(workers, parts, work.plan, array, &live, context, state)

@@ -5,9 +5,9 @@ ghost use Rattle.phase_kernels.specs.over_checks.Over.{MayBeOver, ReadOwn, Sourc
 ghost use Rattle.run_values.specs.Scopes.{current};
 ghost use Rattle.run_values.specs.Shown.{value_of};
 
+use crate::lists::kernels_for;
 use crate::over_checks::arrays::{is_array_in, is_filled};
 use crate::over_checks::holders::only_holder;
-use crate::lists::kernels_for;
 use crate::{KernelCells, lent_scope, lowering_of};
 use core_ir::Var;
 use counted_code::CodePart;
