@@ -14,6 +14,7 @@ use crate::results::Books;
 use buffer_heap::Heap;
 use code_nesting::Nesting;
 use count_table::Tally;
+use kept_kernels::LoopTable;
 use phase_cells::{CellRuns, LentCells};
 use phase_draws::{LoopPhase, PhaseBooks, array_phase, fold_phase};
 use phase_team::Gate;
@@ -25,7 +26,7 @@ use std::thread::Threads;
 
 /// How many workers a phase has, 1 to 64, where they run, and who is told of it.
 #[derive(Drop)]
-pub struct Workers<'a, G: Gate, R: Threads + Sync> {
+pub struct Workers<'a, 'c, G: Gate, R: Threads + Sync> {
     pub alloc: Global,
     pub rt: &'a R,
     pub gate: &'a G,
@@ -34,6 +35,8 @@ pub struct Workers<'a, G: Gate, R: Threads + Sync> {
     pub chunked: bool,
     /// How deep calls nest. A phase is run in order on this thread where a cell may nest too deep for a worker's stack.
     pub nesting: &'a Nesting,
+    /// The kernels that are kept of the program's loops.
+    pub kernels: &'a LoopTable<'c>,
 }
 
 /// Computes the cells of all positions, each at its place. The workers' heap goes on behind the one that lends, and the
@@ -43,7 +46,7 @@ pub struct Workers<'a, G: Gate, R: Threads + Sync> {
 ///
 /// `Faulted`: the fault of the least position that faults.
 pub fn compute_array<C: CellRuns, G: Gate, R: Threads + Sync>(
-    team: &Workers<'_, G, R>,
+    team: &Workers<'_, '_, G, R>,
     cells: &C,
     positions: usize,
     width: usize,
@@ -75,7 +78,7 @@ pub fn compute_array<C: CellRuns, G: Gate, R: Threads + Sync>(
 
 // Computes the cells of all positions, each at its place, by a phase that has the workers' heap and the tally by value.
 fn store_cells<C: CellRuns, G: Gate, R: Threads + Sync>(
-    team: &Workers<'_, G, R>,
+    team: &Workers<'_, '_, G, R>,
     lent: &LentCells<'_, C>,
     counts: Vec<u64>,
     positions: usize,
@@ -129,7 +132,7 @@ fn store_cells<C: CellRuns, G: Gate, R: Threads + Sync>(
 ///
 /// `Faulted`: the fault of the least position that faults.
 pub fn compute_fold<C: CellRuns, G: Gate, R: Threads + Sync>(
-    team: &Workers<'_, G, R>,
+    team: &Workers<'_, '_, G, R>,
     cells: &C,
     positions: usize,
     base: Base,

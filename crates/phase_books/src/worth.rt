@@ -18,20 +18,20 @@ const ELEMENTS: u64 = 64;
 /// The same of steps of strips, of which each takes a fraction of a nanosecond.
 pub const FEW_IN_STRIPS: u64 = 524_288;
 
-impl<'a, G: Gate, R: Threads + Sync> Workers<'a, G, R> {
+impl<'a, 'c, G: Gate, R: Threads + Sync> Workers<'a, 'c, G, R> {
     /// The workers of a phase of so many cells of so many steps of the evaluator: the thread that met it alone where they are few, and all where a size
     /// of chunks was given.
-    pub fn of_phase(&self, cells: usize, steps: u64) -> Workers<'a, G, R> {
+    pub fn of_phase(&self, cells: usize, steps: u64) -> Workers<'a, 'c, G, R> {
         self.where_more(cells, steps, FEW)
     }
 
     /// The same of cells that strips compute, in so many steps.
-    pub fn of_strips(&self, cells: usize, steps: usize) -> Workers<'a, G, R> {
+    pub fn of_strips(&self, cells: usize, steps: usize) -> Workers<'a, 'c, G, R> {
         self.where_more(cells, steps as u64, FEW_IN_STRIPS)
     }
 
     // All workers where there are more steps than so many, or chunks of a size that was given.
-    fn where_more(&self, cells: usize, steps: u64, few: u64) -> Workers<'a, G, R> {
+    fn where_more(&self, cells: usize, steps: u64, few: u64) -> Workers<'a, 'c, G, R> {
         let is_worth = self.chunked || (cells as u64).saturating_mul(steps) > few;
         Workers {
             alloc: self.alloc,
@@ -40,6 +40,7 @@ impl<'a, G: Gate, R: Threads + Sync> Workers<'a, G, R> {
             workers: if is_worth { self.workers } else { 1 },
             chunked: self.chunked,
             nesting: self.nesting,
+            kernels: self.kernels,
         }
     }
 }

@@ -20,7 +20,7 @@ use Rattle.kernel_rows.proofs.Bodies.{BodyAnswers, body_of, fault_answers, first
 use Rattle.counted_code.specs.Pieces.{gen_head, gens_term}
 use Rattle.phase_laws.specs.Spending.{CallSpending, gens_take, spends}
 use Rattle.phase_loop_cells.specs.Cells.{as_cell}
-use Rattle.phase_kernels.specs.Bodies.{gen_body}
+use Rattle.kept_kernels.specs.Bodies.{gen_body}
 
 module _ (calls : CallMeaning) (turns : ℕ) (call_spends : CallSpending) (e : Env) (v : List ℤ) where
   -- a generator in the core

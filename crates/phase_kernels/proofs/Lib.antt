@@ -3,6 +3,5 @@ mod GenCells
 mod Lent
 pub mod Named
 mod PartCells
-mod Placed
 mod Rows
 mod SourceCells

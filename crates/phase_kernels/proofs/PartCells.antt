@@ -23,7 +23,7 @@ use Rattle.counted_code.specs.Pieces.{parts_term}
 use Rattle.phase_laws.specs.Spending.{CallSpending, parts_take, spends}
 use Rattle.phase_loop_cells.specs.Cells.{as_cell}
 use Rattle.phase_loop_cells.specs.Ranges.{AreRanges}
-use Rattle.phase_kernels.specs.Bodies.{part_body}
+use Rattle.kept_kernels.specs.Bodies.{part_body}
 
 module _ (calls : CallMeaning) (turns : ℕ) (call_spends : CallSpending) (e : Env) (form : ArrayValue) (v : List ℤ) where
   abbrev part_cell : CodePart → Ends (Option ArrayValue)

@@ -7,7 +7,7 @@ use Rattle.kernel_rows.specs.declared.kernels.CellKernel.{CellKernel}
 use Rattle.kernel_rows.specs.Kernels.{AreCellKernels, CellFaults, CellIs}
 use Rattle.phase_kernels.specs.declared.cells.KernelCells.{KernelCells}
 use Rattle.phase_kernels.specs.Calls.{calls_in}
-use Rattle.phase_kernels.specs.Bodies.{source_bodies}
+use Rattle.kept_kernels.specs.Bodies.{source_bodies}
 use Rattle.phase_kernels.proofs.GenCells.{gen_fault, gen_value}
 use Rattle.phase_kernels.proofs.PartCells.{part_fault, part_value}
 use Rattle.phase_loop_cells.specs.declared.copies.Background.{Background}

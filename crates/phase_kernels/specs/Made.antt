@@ -2,7 +2,7 @@
 use Rattle.std.specs.Prelude.{List, Option}
 use Rattle.kernel_rows.specs.declared.kernels.CellKernel.{CellKernel}
 use Rattle.kernel_rows.specs.Kernels.{AreCellKernels}
-use Rattle.phase_kernels.specs.Bodies.{source_bodies}
+use Rattle.kept_kernels.specs.Bodies.{source_bodies}
 use Rattle.phase_kernels.specs.Calls.{calls_in}
 use Rattle.phase_kernels.specs.declared.cells.KernelCells.{KernelCells}
 use Rattle.phase_loop_cells.specs.Opened.{lent_env}

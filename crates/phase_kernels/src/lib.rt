@@ -2,7 +2,7 @@
 #![tactic(auto)]
 
 mod cells;
-mod kernels;
+mod lists;
 mod lowering;
 pub mod over_checks;
 mod scope;
@@ -11,7 +11,7 @@ mod shared;
 mod worth;
 
 pub use cells::KernelCells;
-pub use kernels::source_kernels;
+pub use lists::KernelList;
 pub use lowering::lowering_of;
 pub use scope::lent_scope;
 pub use scratch::KernelScratch;

@@ -8,15 +8,16 @@ ghost use Rattle.run_values.specs.Scopes.{current};
 ghost use Rattle.sac_base.specs.Arrays.{size};
 
 use crate::cells::KernelCells;
-use crate::kernels::source_kernels;
+use crate::lists::{KernelList, kernels_for};
 use crate::lowering::lowering_of;
 use crate::scope::lent_scope;
 use crate::scratch::{KernelScratch, begin_once, make_room, put_one};
 use crate::worth::most_steps;
 use array_with_loops::Range;
 use buffer_heap::Heap;
+use kept_kernels::LoopTable;
 use kernel_buffers::Buffer;
-use kernel_rows::{CellKernel, LoopKernels, run_cell, run_row};
+use kernel_rows::{LoopKernels, run_cell, run_row};
 use phase_cells::CellRuns;
 use phase_loop_cells::{LoopCells, made_ranges, source_ranges};
 use phase_team::CellEnd;
@@ -30,7 +31,7 @@ use std::marker::Model;
 pub struct PhaseKernels<'a> {
     of: KernelCells<'a>,
     ranges: Vec<Range>,
-    kernels: Vec<Option<CellKernel>>,
+    kernels: KernelList<'a>,
     buffers: Vec<Buffer<'a>>,
 }
 
@@ -40,6 +41,7 @@ impl<'a> Model for PhaseKernels<'a> {
     ghost use Rattle.counted_code.specs.contracts.tree.CodeGen as gen;
     ghost use Rattle.counted_code.specs.contracts.tree.CodePart as part;
     ghost use Rattle.phase_kernels.specs.declared.cells.KernelCells.{KernelCells};
+    ghost use Rattle.phase_kernels.specs.Listed.{listed};
     ghost use Rattle.phase_kernels.specs.Made.{AreKernelsOf};
 
     ghost Value = { KernelCells };
@@ -48,15 +50,15 @@ impl<'a> Model for PhaseKernels<'a> {
 
     ghost view = { λ k. k.of };
 
-    ghost invariant = { λ k. AreKernelsOf k.of k.ranges.items k.kernels.items k.buffers.items };
+    ghost invariant = { λ k. AreKernelsOf k.of k.ranges.items (listed k.kernels) k.buffers.items };
 }
 
 impl<'a> PhaseKernels<'a> {
-    /// These cells with kernels. Where memory is lacking there are none.
-    pub fn of(cells: KernelCells<'a>) -> PhaseKernels<'a>
+    /// These cells with kernels, by the table where that keeps them. Where memory is lacking there are none.
+    pub fn of(cells: KernelCells<'a>, table: &'a LoopTable<'_>) -> PhaseKernels<'a>
         ensures { result ≡ cells.entry }
     {
-        match with_kernels(cells) {
+        match with_kernels(cells, table) {
             Ok(made) => made,
             Err(Memory) => PhaseKernels::without(cells),
         }
@@ -70,7 +72,7 @@ impl<'a> PhaseKernels<'a> {
         PhaseKernels {
             of: cells,
             ranges: Vec::new(alloc),
-            kernels: Vec::new(alloc),
+            kernels: KernelList::none(alloc),
             buffers: Vec::new(alloc),
         }
     }
@@ -84,12 +86,15 @@ impl<'a> PhaseKernels<'a> {
 
     /// How many steps of strips a cell takes at most, where each generator or part has a kernel with strips. None where one has not.
     pub fn strip_steps(&self) -> Option<usize> {
-        most_steps(&self.kernels)
+        most_steps(self.kernels.all())
     }
 }
 
 // These cells with kernels.
-fn with_kernels<'a>(cells: KernelCells<'a>) -> Result<PhaseKernels<'a>, Memory>
+fn with_kernels<'a>(
+    cells: KernelCells<'a>,
+    table: &'a LoopTable<'_>,
+) -> Result<PhaseKernels<'a>, Memory>
     ensures { IfOk result (λ made. made ≡ cells.entry) }
 {
     let LoopCells {
@@ -103,7 +108,8 @@ fn with_kernels<'a>(cells: KernelCells<'a>) -> Result<PhaseKernels<'a>, Memory>
     let alloc = context.alloc;
     let Scope { known, buffers } = lent_scope(alloc, cells.live, frames, heap)?;
     let ranges = made_ranges(alloc, &source)?;
-    let kernels = source_kernels(
+    let kernels = kernels_for(
+        table,
         lowering_of(&context),
         &source,
         source_ranges(&source, plan, &ranges),
@@ -152,18 +158,19 @@ impl<'a> CellRuns for PhaseKernels<'a> {
         position: usize,
         into: &mut [Cell],
     ) -> Option<CellEnd> {
-        if self.kernels.is_empty() {
+        let list = self.kernels.all();
+        if list.is_empty() {
             return None;
         }
         let cells = &self.of.cells;
         let kernels = LoopKernels {
             frame: &cells.plan.frame,
             ranges: source_ranges(&cells.source, cells.plan, &self.ranges),
-            kernels: &self.kernels,
+            kernels: list,
             buffers: &self.buffers,
             turns: cells.context.turns,
         };
-        make_room(cells.context.alloc, &self.kernels, &mut scratch.room);
+        make_room(cells.context.alloc, list, &mut scratch.room);
         let Some(room) = &mut scratch.room else {
             return None;
         };
@@ -186,17 +193,18 @@ impl<'a> CellRuns for PhaseKernels<'a> {
         rows: &mut [Cell],
     ) -> usize {
         let cells = &self.of.cells;
-        if self.kernels.is_empty() && cells.background.is_none() {
+        let list = self.kernels.all();
+        if list.is_empty() && cells.background.is_none() {
             return 0;
         }
         let kernels = LoopKernels {
             frame: &cells.plan.frame,
             ranges: source_ranges(&cells.source, cells.plan, &self.ranges),
-            kernels: &self.kernels,
+            kernels: list,
             buffers: &self.buffers,
             turns: cells.context.turns,
         };
-        make_room(cells.context.alloc, &self.kernels, &mut scratch.room);
+        make_room(cells.context.alloc, list, &mut scratch.room);
         let Some(room) = &mut scratch.room else {
             return 0;
         };

@@ -19,6 +19,7 @@ use Rattle.kernel_buffers.specs.contracts.buffer.Buffer as buffer
 use Rattle.kernel_buffers.proofs.buffer.Buffer.TheSendSync as buffer_shared
 use Rattle.kernel_rows.specs.contracts.kernels.CellKernel as kernel
 use Rattle.phase_kernels.specs.contracts.cells.KernelCells as kernels
+use Rattle.phase_kernels.specs.contracts.lists.KernelList as list
 use Rattle.phase_kernels.specs.contracts.shared.PhaseKernels as phase
 use Rattle.phase_kernels.specs.contracts.shared.PhaseKernels.TheInside as phase_inside
 use Rattle.phase_loop_cells.specs.contracts.copies.Background as background
@@ -94,13 +95,19 @@ module _ (code_sync : IsSync code.the_row) (call_sync : IsSync call.the_row) whe
     )
 
     module _ (kernel_sync : IsSync (option.the_row kernel.the_row)) where
+      list_sync : (l : _) → IsSync (as_row (list.the_field l))
+      list_sync l = as_row_sync (list.the_field l) (enum_sync (enum_shape (list.the_type l)) (
+        (as_row_sync (vec.the_field (option.the_row kernel.the_row) global.the_row ghosts) (search (Vec-sync, sendable, kernel_sync) depth 20), tt),
+        ((shr_slice_sync _ _ (option.the_row kernel.the_row) kernel_sync, tt), tt),
+      ))
+
       pub phase_sync : (l : _) → IsSync (phase.the_row l)
       phase_sync l = view_sync (phase_inside.the_row l) _ _ _ _ (declared_sync (phase_inside.the_type l) (
         kernels_sync l,
         (
           as_row_sync (vec.the_field range.the_row global.the_row ghosts) (search (Vec-sync, sendable, range_shared.the_sync) depth 20),
           (
-            as_row_sync (vec.the_field (option.the_row kernel.the_row) global.the_row ghosts) (search (Vec-sync, sendable, kernel_sync) depth 20),
+            list_sync l,
             (as_row_sync (vec.the_field (buffer.the_row l) global.the_row ghosts) (search (Vec-sync, sendable, buffer_shared.the_sync) depth 20), tt),
           ),
         ),

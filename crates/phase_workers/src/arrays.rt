@@ -32,7 +32,7 @@ use std::thread::Threads;
 /// The result of a loop that makes a large array, and whose cells stand alone where these variables are read. An old array is
 /// read where it lies, beside the result.
 pub fn array_by_workers<'a, G: Gate, R: Threads + Sync>(
-    workers: &Workers<'_, G, R>,
+    workers: &Workers<'_, '_, G, R>,
     work: &CellLoop<'a>,
     live: &[Var],
     context: &Context<'a>,
@@ -75,7 +75,7 @@ pub fn array_by_workers<'a, G: Gate, R: Threads + Sync>(
 /// Computes the cells of all indices, each at its place in the result of a phase that has begun. Where it says anything, each
 /// index has a cell, or something stands there.
 pub fn array_cells<'a, G: Gate, R: Threads + Sync>(
-    workers: &Workers<'_, G, R>,
+    workers: &Workers<'_, '_, G, R>,
     work: CellLoop<'a>,
     live: &'a [Var],
     background: Option<Background<'a>>,

@@ -106,7 +106,7 @@ fn covered(end: CellEnd) -> CellEnd
 /// Computes the cells of all indices, each at its place. Where it says anything, each index has a cell, or something stands
 /// there.
 pub fn all_cells<G: Gate, R: Threads + Sync>(
-    workers: &Workers<'_, G, R>,
+    workers: &Workers<'_, '_, G, R>,
     cells: &KernelCells<'_>,
     into: &mut [Cell],
     books: &mut Books,
@@ -136,7 +136,7 @@ pub fn all_cells<G: Gate, R: Threads + Sync>(
 
 // The same of so many positions and elements of a cell.
 fn each_cell<G: Gate, R: Threads + Sync>(
-    workers: &Workers<'_, G, R>,
+    workers: &Workers<'_, '_, G, R>,
     cells: &KernelCells<'_>,
     count: usize,
     width: usize,
@@ -158,7 +158,7 @@ fn each_cell<G: Gate, R: Threads + Sync>(
     shares::<Code>();
     shares::<CallKernel>();
     shares::<Option<CellKernel>>();
-    let kernels = PhaseKernels::of(*cells);
+    let kernels = PhaseKernels::of(*cells, workers.kernels);
     let team = team_for(workers, &kernels);
     let covered = CoveredCells { cells: kernels };
     compute_array(&team, &covered, count, width, into, books)

@@ -59,7 +59,7 @@ fn folds(base: Base, op: Op) -> bool
 /// The cells of a loop combined, beginning with a neutral value that has their form, where the cells stand alone where these
 /// variables are read.
 pub fn fold_by_workers<'a, G: Gate, R: Threads + Sync>(
-    workers: &Workers<'_, G, R>,
+    workers: &Workers<'_, '_, G, R>,
     work: &CellLoop<'a>,
     op: Op,
     neutral: Array,
@@ -101,7 +101,7 @@ pub fn fold_by_workers<'a, G: Gate, R: Threads + Sync>(
 
 // Combines what stands in the place of the result of a phase that has begun with the cells of all indices that have one.
 fn fold_in<'a, G: Gate, R: Threads + Sync>(
-    workers: &Workers<'_, G, R>,
+    workers: &Workers<'_, '_, G, R>,
     work: CellLoop<'a>,
     op: Op,
     live: &'a [Var],
@@ -144,7 +144,7 @@ fn fold_in<'a, G: Gate, R: Threads + Sync>(
 
 // Combines a value with the cells of all indices that have one.
 fn fold_cells<G: Gate, R: Threads + Sync>(
-    workers: &Workers<'_, G, R>,
+    workers: &Workers<'_, '_, G, R>,
     cells: &KernelCells<'_>,
     op: Op,
     value: &mut [Cell],
@@ -170,7 +170,7 @@ fn fold_cells<G: Gate, R: Threads + Sync>(
 
 // The same of so many positions.
 fn each_fold<G: Gate, R: Threads + Sync>(
-    workers: &Workers<'_, G, R>,
+    workers: &Workers<'_, '_, G, R>,
     cells: &KernelCells<'_>,
     count: usize,
     op: Op,
@@ -193,7 +193,7 @@ fn each_fold<G: Gate, R: Threads + Sync>(
     shares::<CallKernel>();
     shares::<Option<CellKernel>>();
     let base = cells.cells.plan.form.base;
-    let kernels = PhaseKernels::of(*cells);
+    let kernels = PhaseKernels::of(*cells, workers.kernels);
     let team = team_for(workers, &kernels);
     compute_fold(&team, &kernels, count, base, op, value, books)
 }

@@ -25,7 +25,7 @@ use std::thread::Threads;
 /// The result of a loop whose checks have passed. It is run by the workers where it is a phase, its cells are not few and short and are known to
 /// stand alone, which cells that reach a mark do not, and none nests too deep, and else in order.
 pub fn loop_outside<'a, G: Gate, R: Threads + Sync>(
-    workers: &Workers<'_, G, R>,
+    workers: &Workers<'_, '_, G, R>,
     work: &CellLoop<'a>,
     context: &Context<'a>,
     state: &mut State<'_, '_>,
@@ -45,7 +45,7 @@ pub fn loop_outside<'a, G: Gate, R: Threads + Sync>(
 
 // The same of one that makes an array.
 fn array_outside<'a, G: Gate, R: Threads + Sync>(
-    workers: &Workers<'_, G, R>,
+    workers: &Workers<'_, '_, G, R>,
     work: &CellLoop<'a>,
     context: &Context<'a>,
     state: &mut State<'_, '_>,
@@ -77,7 +77,7 @@ fn makes_large(work: &CellLoop<'_>) -> bool
 
 // The same of a fold.
 fn fold_outside<'a, G: Gate, R: Threads + Sync>(
-    workers: &Workers<'_, G, R>,
+    workers: &Workers<'_, '_, G, R>,
     work: &CellLoop<'a>,
     op: Op,
     neutral: &Array,

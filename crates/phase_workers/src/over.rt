@@ -20,6 +20,7 @@ use crate::sources::live_apart;
 use array_with_loops::Plan;
 use core_ir::Var;
 use counted_code::CodePart;
+use kept_kernels::LoopTable;
 use phase_books::{Begun, Workers, end_phase, open_books, settle_over, stop_phase};
 use phase_kernels::KernelCells;
 use phase_kernels::over_checks::may_be_over;
@@ -38,7 +39,7 @@ use std::thread::Threads;
 /// workers where its cells are known to stand alone and to read of the array the element at their own index alone, and none nests too
 /// deep, and else in order.
 pub fn over_outside<G: Gate, R: Threads + Sync>(
-    workers: &Workers<'_, G, R>,
+    workers: &Workers<'_, '_, G, R>,
     work: &CellLoop<'_>,
     array: RunValue,
     context: &Context<'_>,
@@ -57,7 +58,15 @@ pub fn over_outside<G: Gate, R: Threads + Sync>(
     let Some(live) = live_apart(workers, &source, positions, context, state)? else {
         return run_over_in_order(work, array, context, state);
     };
-    if !is_phase_over(parts, work.plan, array, &live, *context, state)? {
+    if !is_phase_over(
+        workers.kernels,
+        parts,
+        work.plan,
+        array,
+        &live,
+        *context,
+        state,
+    )? {
         return run_over_in_order(work, array, context, state);
     }
     over_by_workers(workers, parts, work.plan, array, &live, context, state)
@@ -65,6 +74,7 @@ pub fn over_outside<G: Gate, R: Threads + Sync>(
 
 // Whether all cells may be computed before one of them is written over the array.
 fn is_phase_over<'a>(
+    table: &LoopTable<'_>,
     parts: &'a [CodePart],
     plan: &'a Plan,
     array: RunValue,
@@ -86,12 +96,12 @@ fn is_phase_over<'a>(
         },
         live,
     };
-    may_be_over(&cells, &plan.shape, array)
+    may_be_over(&cells, table, &plan.shape, array)
 }
 
 // The same of a loop that is a phase: the cells are computed from what stands in the array, and then written over it.
 fn over_by_workers<'a, G: Gate, R: Threads + Sync>(
-    workers: &Workers<'_, G, R>,
+    workers: &Workers<'_, '_, G, R>,
     parts: &'a [CodePart],
     plan: &'a Plan,
     array: RunValue,

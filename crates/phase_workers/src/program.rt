@@ -14,6 +14,7 @@ use crate::outside::loop_outside;
 use crate::over::over_outside;
 use buffer_heap::Heap;
 use counted_code::Code;
+use kept_kernels::LoopTable;
 use phase_books::{LoopCall, Nesting, Workers};
 use phase_team::Gate;
 use run_eval::{Plan, Trace, run_with_phases};
@@ -50,6 +51,7 @@ pub fn run<G: Gate, R: Threads + Sync>(
     ensures kept { KeepsChanges trace.old trace.new }
 {
     let nesting = Nesting::of(alloc, code, plan.caps.depth, plan.workers);
+    let kernels = LoopTable::of(alloc, code);
     let workers = Workers {
         alloc,
         rt,
@@ -57,6 +59,7 @@ pub fn run<G: Gate, R: Threads + Sync>(
         workers: plan.workers,
         chunked: plan.chunk.is_some(),
         nesting: &nesting,
+        kernels: &kernels,
     };
     let calls = LoopCall {
         run: |work: &CellLoop<'_>, context: &Context<'_>, state: &mut State<'_, '_>| -> Result<

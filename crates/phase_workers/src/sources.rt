@@ -19,7 +19,7 @@ const FEW: u64 = 128;
 /// that reach a mark do not, and none nests too deep for a worker's stack. None where that is not known, where the cells are few and short and no
 /// size of chunks was given, or where this thread is a worker itself.
 pub fn live_apart<G: Gate, R: Threads + Sync>(
-    workers: &Workers<'_, G, R>,
+    workers: &Workers<'_, '_, G, R>,
     source: &CellSource<'_>,
     positions: usize,
     context: &Context<'_>,

@@ -7,10 +7,10 @@ use std::thread::Threads;
 
 /// The workers of a phase: the thread that met it alone where its cells take less time than the start of further threads, by the steps of strips where
 /// each cell is computed by these, and else by those of the evaluator.
-pub fn team_for<'b, G: Gate, R: Threads + Sync>(
-    workers: &Workers<'b, G, R>,
+pub fn team_for<'b, 'c, G: Gate, R: Threads + Sync>(
+    workers: &Workers<'b, 'c, G, R>,
     kernels: &PhaseKernels<'_>,
-) -> Workers<'b, G, R> {
+) -> Workers<'b, 'c, G, R> {
     let cells = kernels.cells();
     let count = cells.cells.plan.frame.count();
     match kernels.strip_steps() {

@@ -2,9 +2,10 @@ use Rattle.std.proofs.Common.{rules, ◌≡◌, ◌+◌, ◌*◌, ◌<◌, ◌�
 use Rattle.sac_base.specs.Arrays.{size}
 use Rattle.kernel_rows.specs.Kernels.{HaveStrips}
 use Rattle.kernel_rows.proofs.Bodies.{have_strips, same_cell}
+use Rattle.phase_kernels.specs.Listed.{listed}
 use Rattle.phase_kernels.specs.declared.cells.KernelCells.{KernelCells}
 use Rattle.phase_kernels.specs.Calls.{calls_in}
-use Rattle.phase_kernels.specs.Bodies.{source_bodies}
+use Rattle.kept_kernels.specs.Bodies.{source_bodies}
 use Rattle.phase_kernels.proofs.Rows.{row_told}
 use Rattle.phase_kernels.proofs.SourceCells.{cell_of, source_value, taken_of}
 use Rattle.phase_loop_cells.specs.Cells.{index_at}
@@ -22,7 +23,7 @@ run_row-done-requires-clause-strips c =
     let inside = c.self.inside in
     let cells = inside.of.cells in
     let e = lent_env cells.heap.now (current cells.frames.now) in
-    subst HaveStrips (sym c.deref-2.ensures.value) (have_strips (calls_in cells.context) inside.buffers.items e cells.plan.now.form (source_bodies cells.source) inside.kernels.items c.self.invariant.1)
+    subst HaveStrips (sym c.all-list.ensures) (have_strips (calls_in cells.context) inside.buffers.items e cells.plan.now.form (source_bodies cells.source) (listed inside.kernels) c.self.invariant.1)
 
 pub returns-then-done-gt0-clause-tells : goal.returns-then-done-gt0-clause-tells
 returns-then-done-gt0-clause-tells c = λ j lt.
@@ -33,8 +34,8 @@ returns-then-done-gt0-clause-tells c = λ j lt.
     let rows = c.run_row-done.new.rows in
     let place = c.args.start + j in
     let within : j < length rows = omega (arith, lt, c.run_row-done.ensures.inside) in
-    let is = same_cell cells.context.turns _ inside.buffers.items _ (ranges_of cells.source p inside.ranges.items) _ inside.kernels.items (index_at p.frame place) (get_or rows j (pos 0)) c.deref-3.ensures.value (c.source_ranges.ensures ∙ ap (ranges_of cells.source p) c.deref.ensures.value) c.deref-2.ensures.value (c.run_row-done.ensures.each j lt) in
-    let told = source_value cells.context cells.heap.now e p cells.background inside.ranges.items inside.buffers.items inside.kernels.items place cells.source c.self.invariant.1 c.self.invariant.0 (get_or rows j (pos 0)) is in
+    let is = same_cell cells.context.turns _ inside.buffers.items _ (ranges_of cells.source p inside.ranges.items) _ (listed inside.kernels) (index_at p.frame place) (get_or rows j (pos 0)) c.deref-2.ensures.value (c.source_ranges.ensures ∙ ap (ranges_of cells.source p) c.deref.ensures.value) c.all-list.ensures (c.run_row-done.ensures.each j lt) in
+    let told = source_value cells.context cells.heap.now e p cells.background inside.ranges.items inside.buffers.items (listed inside.kernels) place cells.source c.self.invariant.1 c.self.invariant.0 (get_or rows j (pos 0)) is in
     subst (λ (s : KernelCells). cell_of s place ≡ Ok (Some (row_at (size s.cells.plan.now.form.shape) j rows))) c.self.view_is
     (row_told (size p.form.shape) j rows (cell_of inside.of place) told.2 within told.0)
 
@@ -46,12 +47,12 @@ returns-then-done-gt0-clause-takes c = λ j lt.
     let e = current cells.frames.now in
     let rows = c.run_row-done.new.rows in
     let place = c.args.start + j in
-    let is = same_cell cells.context.turns _ inside.buffers.items _ (ranges_of cells.source p inside.ranges.items) _ inside.kernels.items (index_at p.frame place) (get_or rows j (pos 0)) c.deref-3.ensures.value (c.source_ranges.ensures ∙ ap (ranges_of cells.source p) c.deref.ensures.value) c.deref-2.ensures.value (c.run_row-done.ensures.each j lt) in
+    let is = same_cell cells.context.turns _ inside.buffers.items _ (ranges_of cells.source p inside.ranges.items) _ (listed inside.kernels) (index_at p.frame place) (get_or rows j (pos 0)) c.deref-2.ensures.value (c.source_ranges.ensures ∙ ap (ranges_of cells.source p) c.deref.ensures.value) c.all-list.ensures (c.run_row-done.ensures.each j lt) in
     subst (λ (s : KernelCells). taken_of s place ≡ 0) c.self.view_is
-    (source_value cells.context cells.heap.now e p cells.background inside.ranges.items inside.buffers.items inside.kernels.items place cells.source c.self.invariant.1 c.self.invariant.0 (get_or rows j (pos 0)) is).1
+    (source_value cells.context cells.heap.now e p cells.background inside.ranges.items inside.buffers.items (listed inside.kernels) place cells.source c.self.invariant.1 c.self.invariant.0 (get_or rows j (pos 0)) is).1
 
 pub fill_free-requires-clause-made : goal.fill_free-requires-clause-made
-fill_free-requires-clause-made c = subst (AreMade c.self.inside.of.cells.source) (sym c.deref-5.ensures.value) c.self.invariant.0
+fill_free-requires-clause-made c = subst (AreMade c.self.inside.of.cells.source) (sym c.deref-3.ensures.value) c.self.invariant.0
 
 pub fill_free-requires-clause-within : goal.fill_free-requires-clause-within
 fill_free-requires-clause-within c = subst (λ (s : KernelCells). c.args.start + c.args.count ≤ length s.cells.plan.now.frame) (sym c.self.view_is) c.requires.within
