@@ -1,6 +1,6 @@
 -- Steps of statements with parts that stand one node deeper.
 use Rattle.std.proofs.Common.{ℕ, zero, suc, ◌≡◌, ◌<◌, ◌+◌, true, List, [], ◌∷◌, inl, inr, Result, Ok, Err, refl, sym, ap, ◌∙◌, subst, codes, arith, Bor}
-use Rattle.std.specs.Global.{Vec}
+use Rattle.std.specs.Global.{Vec, Box}
 use Rattle.sac_lex.specs.declared.token.Token.{Token}
 use Rattle.sac_ast.specs.Texts.{Lexeme}
 use Rattle.sac_ast.specs.Shape.{text, ref, seq}
@@ -159,5 +159,5 @@ cond_halts place inner ts t a e c up f h =
     so_phrase refl (λ k w g. cond_deeper place.depth inner.depth up w g.1)
     (so_right (token_read f) (so_left (so_of (subst (λ b. Halts (StopOf e) b (λ _. inner.depth) (parens (ref expression)) a) c h))))
 
-pub parens_weaker : (place inner : Place) (x : Measured Expression) (v : V (parens (ref expression))) → IsInside place inner → IsInParens inner x v → IsInParens place x v
+pub parens_weaker : (place inner : Place) (x : Measured (Box Expression)) (v : V (parens (ref expression))) → IsInside place inner → IsInParens inner x v → IsInParens place x v
 parens_weaker place inner x v i m = record { tree = m.tree; low = low_weaker place inner x.height (height v.1.0) i m.low }

@@ -1,5 +1,6 @@
 -- Steps of phrases with parts that stand one node deeper.
 use Rattle.std.proofs.Common.{ℕ, zero, suc, ◌≡◌, ◌<◌, ◌≤◌, ◌+◌, Bool, true, List, ◌∷◌, ◌++◌, inl, inr, Result, Ok, Err, refl, sym, ap, ◌∙◌, subst, codes, arith, Bor}
+use Rattle.std.specs.Global.{Box}
 use Rattle.sac_lex.specs.declared.token.Token.{Token}
 use Rattle.sac_base.specs.declared.op.Op.{Op}
 use Rattle.sac_base.specs.declared.site.Site.{Site}
@@ -10,7 +11,6 @@ use Rattle.sac_ast.specs.Grammar.{expression, disjunction, conjunction, equality
 use Rattle.sac_ast.specs.Heights.{height}
 use Rattle.sac_ast.specs.Tree as tree
 use Rattle.sac_ast.specs.Tree.{Expr}
-use Rattle.sac_ast.specs.View as View
 use Rattle.sac_ast.specs.declared.Expression.{Expression}
 use Rattle.sac_grammar.specs.Run.{starts, first, SameFirst, Runs, RunsIn}
 use Rattle.sac_grammar.specs.Tables.{first_of, ext_of, rank_of}
@@ -31,7 +31,7 @@ use Rattle.sac_phrases.specs.declared.level.Level.{Level}
 use Rattle.sac_phrases.specs.declared.level.Level.TheVariants.{Disjunction, Conjunction, Equality, Comparison, Sum, Product}
 use Rattle.sac_phrases.specs.declared.place.Place.{Place}
 use Rattle.sac_phrases.specs.declared.place.Measured.{Measured}
-use Rattle.sac_phrases.specs.Contract.{StopOf, lexemes_of, IsLowAt, IsPartAt, IsNodeAt}
+use Rattle.sac_phrases.specs.Contract.{StopOf, lexemes_of, IsLowAt, IsPartAt, IsNodeAt, unboxed}
 use Rattle.sac_phrases.specs.Levels.{first_operator, more_operators, IsLevelAt, IsOperandAt}
 use Rattle.sac_phrases.specs.Parts.{IsPrimary, IsPrimaryOf}
 use Rattle.sac_phrases.proofs.Steps.{At, TheOperator, NoneBefore, last, into, operator_found, high_halted, token_read, starts_there, part_last}
@@ -83,14 +83,14 @@ abbrev HighAt : ℕ → (s : Rule) → V s → Type 0
 HighAt e = HasHigh Tree first_of (λ (j : Nonterminal). High e j)
 
 -- one alternative, which is read at another place
-pub node_nth : (place inner : Place) (n : ℕ) (ts : List Lexeme) (result : Result (Measured Expression × Bor (List Token)) Halt) → is_apart n (rule primary) ≡ true → starts (first first_of (nth n (rule primary))) ts ≡ true → inner.checked ≡ place.checked → ((v : V (nth n (rule primary))) → HighAt inner.depth (nth n (rule primary)) v → High place.depth primary (action primary (inject n (rule primary) v))) → IsPartAt inner (nth n (rule primary)) (IsPrimary inner n) ts result → IsNodeAt place primary (IsPrimaryOf place) ts result
+pub node_nth : (place inner : Place) (n : ℕ) (ts : List Lexeme) (result : Result (Measured (Box Expression) × Bor (List Token)) Halt) → is_apart n (rule primary) ≡ true → starts (first first_of (nth n (rule primary))) ts ≡ true → inner.checked ≡ place.checked → ((v : V (nth n (rule primary))) → HighAt inner.depth (nth n (rule primary)) v → High place.depth primary (action primary (inject n (rule primary) v))) → IsPartAt inner (nth n (rule primary)) (IsPrimary inner n) ts result → IsNodeAt place primary (IsPrimaryOf place) ts result
 node_nth place inner n ts (Ok x) apart so c f (v, r, m) = (inject n (rule primary) v, read_nth n (rule primary) apart so r, record { tree = m.tree; tall = λ k. m.tall (c ∙ k) })
 node_nth place inner n ts (Err e) apart so c f h =
     so_phrase refl (λ k w g. subst (λ (u : V (rule primary)). High place.depth primary (action primary u)) (sym g.1) (f g.0 g.2))
     (so_nth n (rule primary) (HighAt inner.depth (nth n (rule primary))) apart so (so_of (subst (λ b. Halts (StopOf e) b (λ _. inner.depth) (nth n (rule primary)) ts) c h)))
 
 -- the last one
-pub node_last : (place inner : Place) (ts : List Lexeme) (result : Result (Measured Expression × Bor (List Token)) Halt) → NoneBefore 9 (rule primary) ts → inner.checked ≡ place.checked → ((v : V (nth 9 (rule primary))) → HighAt inner.depth (nth 9 (rule primary)) v → High place.depth primary (action primary (inject 9 (rule primary) v))) → IsPartAt inner (nth 9 (rule primary)) (IsPrimary inner 9) ts result → IsNodeAt place primary (IsPrimaryOf place) ts result
+pub node_last : (place inner : Place) (ts : List Lexeme) (result : Result (Measured (Box Expression) × Bor (List Token)) Halt) → NoneBefore 9 (rule primary) ts → inner.checked ≡ place.checked → ((v : V (nth 9 (rule primary))) → HighAt inner.depth (nth 9 (rule primary)) v → High place.depth primary (action primary (inject 9 (rule primary) v))) → IsPartAt inner (nth 9 (rule primary)) (IsPrimary inner 9) ts result → IsNodeAt place primary (IsPrimaryOf place) ts result
 node_last place inner ts (Ok x) none c f (v, r, m) = part_last place 9 (rule primary) (IsPrimaryOf place) ts (Ok x) none (v, r, record { tree = m.tree; tall = λ k. m.tall (c ∙ k) })
 node_last place inner ts (Err e) none c f h =
     so_phrase refl (λ k w g. subst (λ (u : V (rule primary)). High place.depth primary (action primary u)) (sym g.1) (f g.0 g.2))
@@ -210,10 +210,10 @@ choice_deep d c over (x, inl (q, (a, (k, b)))) (is, t) = let e : height x ≡ he
 choice_deep d c over (x, inr u) (is, t) = absurd t
 
 -- before a `?`, with which each expression is too high
-pub choice_high : (place : Place) (ts : List Lexeme) (x : Measured Expression) (rest : Bor (List Token)) (q : Lexeme) (behind : List Lexeme) → Found disjunction ts (View.expr x.tree) (lexemes_of rest.now) × IsLowAt place x.height (height (View.expr x.tree)) → At (text (codes "?")) (lexemes_of rest.now) q behind → (place.checked ≡ true) × (99 < place.depth + (x.height + 1)) → Halted (StopOf (TooHigh rest)) place.checked place.depth expression ts
+pub choice_high : (place : Place) (ts : List Lexeme) (x : Measured (Box Expression)) (rest : Bor (List Token)) (q : Lexeme) (behind : List Lexeme) → Found disjunction ts (unboxed x.tree) (lexemes_of rest.now) × IsLowAt place x.height (height (unboxed x.tree)) → At (text (codes "?")) (lexemes_of rest.now) q behind → (place.checked ≡ true) × (99 < place.depth + (x.height + 1)) → Halted (StopOf (TooHigh rest)) place.checked place.depth expression ts
 choice_high place ts x rest q behind f s h =
-    let over = over_same place.depth x.height (height (View.expr x.tree)) (f.1 h.0).0 h.1 in
+    let over = over_same place.depth x.height (height (unboxed x.tree)) (f.1 h.0).0 h.1 in
     high_halted rest
-    (tall_phrase (High place.depth expression) (choice_deep place.depth (View.expr x.tree) over)
+    (tall_phrase (High place.depth expression) (choice_deep place.depth (unboxed x.tree) over)
     (tall_right (read_ref f.0) (tall_here (opt Branches) IsThere (lexemes_of rest.now) (there (lexemes_of rest.now) (starts_there (text (codes "?")) s)))))
     h.0

@@ -1,5 +1,6 @@
 -- Steps of the function on index lists, whose expressions stand one node deeper from the second one on.
 use Rattle.std.proofs.Common.{ℕ, ◌≡◌, ◌<◌, ◌≤◌, ◌+◌, max, Bool, true, List, [], ◌∷◌, ◌++◌, inl, Ok, sym, ap, ◌∙◌, subst, map, codes, arith, Bor}
+use Rattle.std.specs.Global.{Box}
 use Rattle.sac_lex.specs.declared.token.Token.{Token}
 use Rattle.sac_base.specs.declared.site.Site.{Site}
 use Rattle.sac_ast.specs.Texts.{Lexeme}
@@ -7,7 +8,6 @@ use Rattle.sac_ast.specs.Shape.{text, ref}
 use Rattle.sac_ast.specs.Grammar.{Rule, V, listed, items, index_of, expression}
 use Rattle.sac_ast.specs.Heights.{height, heights}
 use Rattle.sac_ast.specs.Tree.{Expr}
-use Rattle.sac_ast.specs.View as View
 use Rattle.sac_ast.specs.View.{exprs_of}
 use Rattle.sac_ast.specs.declared.Expression.{Expression}
 use Rattle.sac_grammar.specs.Limits.{Over}
@@ -19,7 +19,7 @@ use Rattle.sac_phrases.specs.declared.halt.Halt.{Halt}
 use Rattle.sac_phrases.specs.declared.halt.Halt.TheVariants.{High as TooHigh, Memory}
 use Rattle.sac_phrases.specs.declared.place.Place.{Place}
 use Rattle.sac_phrases.specs.declared.place.Measured.{Measured}
-use Rattle.sac_phrases.specs.Contract.{StopOf, lexemes_of, IsPhraseAt}
+use Rattle.sac_phrases.specs.Contract.{StopOf, lexemes_of, IsPhraseAt, unboxed}
 use Rattle.sac_phrases.proofs.Steps.{At, After, token_read, starts_there}
 use Rattle.sac_descent.specs.Around.{IndexOver}
 use Rattle.sac_descent.proofs.ListSteps.{ListRead}
@@ -95,5 +95,5 @@ indices_next place inner ts es n rest t behind e c up l comma h =
     (so_right l.so_far.begins (so_parts l.so_far.goes_on (starts_there (text (codes ",")) comma) (so_right (token_read comma) (operand_so inner.depth expression behind (subst (λ b. Halted (StopOf e) b inner.depth expression behind) c h)))))
 
 -- what was read one node deeper is low here
-pub indices_low : (place inner : Place) (behind : List Lexeme) (x : Measured Expression) (rest : Bor (List Token)) → IsInside place inner → IsPhraseAt inner expression View.expr height behind (Ok (x, rest)) → IsPhraseAt place expression View.expr height behind (Ok (x, rest))
-indices_low place inner behind x rest i f = (f.0, low_weaker place inner x.height (height (View.expr x.tree)) i f.1)
+pub indices_low : (place inner : Place) (behind : List Lexeme) (x : Measured (Box Expression)) (rest : Bor (List Token)) → IsInside place inner → IsPhraseAt inner expression unboxed height behind (Ok (x, rest)) → IsPhraseAt place expression unboxed height behind (Ok (x, rest))
+indices_low place inner behind x rest i f = (f.0, low_weaker place inner x.height (height (unboxed x.tree)) i f.1)

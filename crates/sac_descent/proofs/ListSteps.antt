@@ -1,6 +1,6 @@
 -- Steps of the loops that read lists of expressions, selections, generators and statements.
 use Rattle.std.proofs.Common.{ℕ, zero, suc, ◌≡◌, ◌≢◌, ◌<◌, ◌≤◌, ◌+◌, max, Bool, true, false, List, [], ◌∷◌, ◌++◌, Result, Ok, refl, sym, ap, ◌∙◌, subst, length, map, codes, arith, append_assoc, append-nil, Bor}
-use Rattle.std.specs.Global.{Vec}
+use Rattle.std.specs.Global.{Vec, Box}
 use Rattle.sac_lex.specs.declared.token.Token.{Token}
 use Rattle.sac_base.specs.declared.site.Site.{Site}
 use Rattle.sac_ast.specs.declared.Expression.{Expression}
@@ -25,7 +25,7 @@ use Rattle.sac_phrases.specs.declared.halt.Halt.TheVariants.{High as TooHigh}
 use Rattle.sac_phrases.specs.declared.place.Place.{Place}
 use Rattle.sac_phrases.specs.declared.place.Measured.{Measured}
 use Rattle.sac_phrases.specs.Heights.{IsAbove}
-use Rattle.sac_phrases.specs.Contract.{StopOf, lexemes_of, IsLowAt, IsLow, IsNear, IsKept, IsPhraseAt, IsPhraseNear}
+use Rattle.sac_phrases.specs.Contract.{StopOf, lexemes_of, IsLowAt, IsLow, IsNear, IsKept, IsPhraseAt, IsPhraseNear, unboxed}
 use Rattle.sac_phrases.specs.Parts.{IsListOf, IsGenerators, AreStatements, IsBlockAt, itself}
 use Rattle.sac_phrases.proofs.Steps.{SoFar, list_start, list_more, list_end, list_stop, token_read, starts_there, kept_phrase, high_halted}
 use Rattle.sac_descent.proofs.Grown.{tall_more}
@@ -67,18 +67,18 @@ pub record ListRead (place : Place) (ts : List Lexeme) (es : List Expression) (n
   pub so_far : SoFar (ref expression) (λ (e : Expr). e) ts (map View.expr es) rest
   pub low : IsLowAt place n (heights (exprs_of (map View.expr es)))
 
-pub list_begin : (place : Place) (ts : List Lexeme) (x : Measured Expression) (rest : Bor (List Token)) (es : List Expression) → es ≡ x.tree ∷ [] → IsPhraseAt place expression View.expr height ts (Ok (x, rest)) → ListRead place ts es x.height (lexemes_of rest.now)
+pub list_begin : (place : Place) (ts : List Lexeme) (x : Measured (Box Expression)) (rest : Bor (List Token)) (es : List Expression) → es ≡ x.tree.value ∷ [] → IsPhraseAt place expression unboxed height ts (Ok (x, rest)) → ListRead place ts es x.height (lexemes_of rest.now)
 list_begin place ts x rest es e f = subst (λ l. ListRead place ts l x.height (lexemes_of rest.now)) (sym e) (record {
   so_far = list_start (λ (e : Expr). e) (read_ref f.0);
-  low = λ c. low_one place.depth x.height (height (View.expr x.tree)) (f.1 c);
+  low = λ c. low_one place.depth x.height (height (unboxed x.tree)) (f.1 c);
 })
 
-pub list_next : (place : Place) (ts : List Lexeme) (es : List Expression) (n : ℕ) (mid behind : List Lexeme) (t : Lexeme) (x : Measured Expression) (rest : Bor (List Token)) (fs : List Expression) → ListRead place ts es n mid → (mid ≡ t ∷ behind) × (matches (text (codes ",")) t ≡ true) → fs ≡ es ++ (x.tree ∷ []) → IsPhraseAt place expression View.expr height behind (Ok (x, rest)) → ListRead place ts fs (max n x.height) (lexemes_of rest.now)
+pub list_next : (place : Place) (ts : List Lexeme) (es : List Expression) (n : ℕ) (mid behind : List Lexeme) (t : Lexeme) (x : Measured (Box Expression)) (rest : Bor (List Token)) (fs : List Expression) → ListRead place ts es n mid → (mid ≡ t ∷ behind) × (matches (text (codes ",")) t ≡ true) → fs ≡ es ++ (x.tree.value ∷ []) → IsPhraseAt place expression unboxed height behind (Ok (x, rest)) → ListRead place ts fs (max n x.height) (lexemes_of rest.now)
 list_next place ts es n mid behind t x rest fs l comma e f =
-    let more : map View.expr (es ++ (x.tree ∷ [])) ≡ map View.expr es ++ (View.expr x.tree ∷ []) = map_append View.expr es (x.tree ∷ []) in
+    let more : map View.expr (es ++ (x.tree.value ∷ [])) ≡ map View.expr es ++ (unboxed x.tree ∷ []) = map_append View.expr es (x.tree.value ∷ []) in
     subst (λ l. ListRead place ts l (max n x.height) (lexemes_of rest.now)) (sym e) (record {
       so_far = subst (λ l. SoFar (ref expression) (λ (e : Expr). e) ts l (lexemes_of rest.now)) (sym more) (list_more l.so_far comma (read_ref f.0));
-      low = λ c. low_max place.depth n x.height (heights (exprs_of (map View.expr es))) (height (View.expr x.tree)) (heights (exprs_of (map View.expr (es ++ (x.tree ∷ []))))) (l.low c) (f.1 c) (ap (λ l. heights (exprs_of l)) more ∙ heights_push (map View.expr es) (View.expr x.tree));
+      low = λ c. low_max place.depth n x.height (heights (exprs_of (map View.expr es))) (height (unboxed x.tree)) (heights (exprs_of (map View.expr (es ++ (x.tree.value ∷ []))))) (l.low c) (f.1 c) (ap (λ l. heights (exprs_of l)) more ∙ heights_push (map View.expr es) (unboxed x.tree));
     })
 
 pub list_whole : (place : Place) (ts : List Lexeme) (list : Measured (Vec Expression)) (rest : List Lexeme) → ListRead place ts list.tree.items list.height rest → starts (text (codes ",") ∷ []) rest ≡ false → (v : V (listed (ref expression))) × Reading (listed (ref expression)) ts v rest × IsListOf place list v
@@ -132,8 +132,8 @@ post_next ts array rest t behind mid u after es v p open' f e close = record {
 pub post_halts : {P : Stop → Type 0} {checked : Bool} {D : Nonterminal → ℕ} (ts : List Lexeme) (array : Expr) (rest : List Lexeme) (t : Lexeme) (behind : List Lexeme) → PostRead ts array rest → (rest ≡ t ∷ behind) × (matches (text (codes "[")) t ≡ true) → Halts P checked D (seq (listed (ref expression)) (sign (codes "]"))) behind → Halts P checked D (rule postfix) ts
 post_halts {P} {checked} {D} ts array rest t behind p open' h = stop_right p.begins (stop_parts p.goes_on (starts_there (text (codes "[")) open') (stop_right (token_read open') h))
 
-pub post_end : (place : Place) (ts : List Lexeme) (node : Measured Expression) (rest : List Token) (result : Result (Measured Expression × Bor (List Token)) Halt) → PostRead ts (View.expr node.tree) (lexemes_of rest) → starts (text (codes "[") ∷ []) (lexemes_of rest) ≡ false → (place.checked ≡ true → node.height ≡ height (View.expr node.tree)) → IsKept place node rest result → IsPhraseAt place postfix View.expr height ts result
-post_end place ts node rest result p s tall kept = kept_phrase place postfix View.expr height ts node rest (View.expr node.tree) result refl kept (λ e h. h) tall refl (subst (λ (e : Expr). Found postfix ts e (lexemes_of rest)) (sym p.same) (found (read_then p.begins (read_parts p.goes_on s))))
+pub post_end : (place : Place) (ts : List Lexeme) (node : Measured (Box Expression)) (rest : List Token) (result : Result (Measured (Box Expression) × Bor (List Token)) Halt) → PostRead ts (unboxed node.tree) (lexemes_of rest) → starts (text (codes "[") ∷ []) (lexemes_of rest) ≡ false → (place.checked ≡ true → node.height ≡ height (unboxed node.tree)) → IsKept place node rest result → IsPhraseAt place postfix unboxed height ts result
+post_end place ts node rest result p s tall kept = kept_phrase place postfix unboxed height ts node rest (unboxed node.tree) result refl kept (λ e h. h) tall refl (subst (λ (e : Expr). Found postfix ts e (lexemes_of rest)) (sym p.same) (found (read_then p.begins (read_parts p.goes_on s))))
 
 opened : (n : ℕ) (q : List Lexeme) (w : Tree postfix) (z : List Lexeme) → RunsIn Tree first_of rule action n postfix q w z → (m : ℕ) × (x : V (rule postfix)) × (w ≡ selects x.0 x.1) × Runs Tree first_of (RunsIn Tree first_of rule action m) (rule postfix) q x z
 opened zero q w z d = absurd d
@@ -143,12 +143,12 @@ over_by : (d n m : ℕ) → n ≡ m → 99 < d + (n + 1) → 99 < d + (m + 1)
 over_by d n m e h = omega arith
 
 -- before a bracket, with which each phrase is too high
-pub post_high : (place : Place) (ts : List Lexeme) (array : Measured Expression) (rest : Bor (List Token)) (t : Lexeme) (behind : List Lexeme) → PostRead ts (View.expr array.tree) (lexemes_of rest.now) → (lexemes_of rest.now ≡ t ∷ behind) × (matches (text (codes "[")) t ≡ true) → (place.checked ≡ true → array.height ≡ height (View.expr array.tree)) → (place.checked ≡ true) × (99 < place.depth + (array.height + 1)) → Halted (StopOf (TooHigh rest)) place.checked place.depth postfix ts
+pub post_high : (place : Place) (ts : List Lexeme) (array : Measured (Box Expression)) (rest : Bor (List Token)) (t : Lexeme) (behind : List Lexeme) → PostRead ts (unboxed array.tree) (lexemes_of rest.now) → (lexemes_of rest.now ≡ t ∷ behind) × (matches (text (codes "[")) t ≡ true) → (place.checked ≡ true → array.height ≡ height (unboxed array.tree)) → (place.checked ≡ true) × (99 < place.depth + (array.height + 1)) → Halted (StopOf (TooHigh rest)) place.checked place.depth postfix ts
 post_high place ts array rest t behind p open' tall h =
     high_halted rest
     (tall_more postfix (ref primary) Bracketed (λ (e : Expr) (ws : List (V Bracketed)). selects e ws) opened (λ u x d. derives_rule Tree first_of rule action postfix u x d) (High place.depth postfix) p.begins p.goes_on
     (starts_there (text (codes "[")) open')
-    (selects_over place.depth p.head (View.expr array.tree) p.tail p.same (over_by place.depth array.height (height (View.expr array.tree)) (tall h.0) h.1)))
+    (selects_over place.depth p.head (unboxed array.tree) p.tail p.same (over_by place.depth array.height (height (unboxed array.tree)) (tall h.0) h.1)))
     h.0
 
 pub length_map : {A B : Type 0} (f : A → B) (xs : List A) → length (map f xs) ≡ length xs
@@ -165,11 +165,11 @@ above_two : (node n m k l : ℕ) → IsAbove node (max n m) → n ≤ 100 → m 
 above_two node n m k l a small little e f = let h : node ≡ 1 + max n m = a (omega arith) in omega arith
 
 -- the height of a selection
-pub select_tall : (place : Place) (site : Site) (array node : Measured Expression) (es : List Expression) (v : V (listed (ref expression))) (n m : ℕ) (index tree' : Expr) → place.depth + (array.height + 1) ≤ 99 → array.height ≡ height (View.expr array.tree) → (map View.expr es ≡ items v) → (n ≡ heights (exprs_of (items v))) × (place.depth + heights (exprs_of (items v)) ≤ 99) → (length es ≡ 1 → m ≡ n) → (length es ≢ 1 → IsAbove m n) → IsAbove node.height (max array.height m) → index ≡ index_of site (map View.expr es) → tree' ≡ tree.select (View.expr array.tree) index site → node.height ≡ height tree'
+pub select_tall : (place : Place) (site : Site) (array node : Measured (Box Expression)) (es : List Expression) (v : V (listed (ref expression))) (n m : ℕ) (index tree' : Expr) → place.depth + (array.height + 1) ≤ 99 → array.height ≡ height (unboxed array.tree) → (map View.expr es ≡ items v) → (n ≡ heights (exprs_of (items v))) × (place.depth + heights (exprs_of (items v)) ≤ 99) → (length es ≡ 1 → m ≡ n) → (length es ≢ 1 → IsAbove m n) → IsAbove node.height (max array.height m) → index ≡ index_of site (map View.expr es) → tree' ≡ tree.select (unboxed array.tree) index site → node.height ≡ height tree'
 select_tall place site array node es v n m index tree' room tall trees low one several above is whole =
     let low' : (n ≡ heights (exprs_of (map View.expr es))) × (heights (exprs_of (map View.expr es)) ≤ 99) = subst (λ l. (n ≡ heights (exprs_of l)) × (heights (exprs_of l) ≤ 99)) (sym trees) (low.0, omega (arith, low.1)) in
     let i = index_tall site (map View.expr es) n m (λ e. one (sym (length_map View.expr es) ∙ e)) (λ ne. several (λ e. ne (length_map View.expr es ∙ e))) low' in
-    above_two node.height array.height m (height (View.expr array.tree)) (height index) above (omega arith) i.1 tall (i.0 ∙ ap height (sym is)) ∙ ap height (sym whole)
+    above_two node.height array.height m (height (unboxed array.tree)) (height index) above (omega arith) i.1 tall (i.0 ∙ ap height (sym is)) ∙ ap height (sym whole)
 
 -- ---- generators
 

@@ -1,6 +1,6 @@
 -- Steps of the functions on statements: what they have read.
 use Rattle.std.proofs.Common.{ℕ, ◌≡◌, ◌≢◌, ◌<◌, ◌≤◌, ◌+◌, max, true, false, List, [], ◌∷◌, ◌++◌, inl, Result, Ok, Err, refl, sym, ap, ◌∙◌, subst, length, map, codes, arith, Bor, Some}
-use Rattle.std.specs.Global.{Vec}
+use Rattle.std.specs.Global.{Vec, Box}
 use Rattle.sac_lex.specs.declared.token.Token.{Token}
 use Rattle.sac_base.specs.declared.op.Op.{Op}
 use Rattle.sac_base.specs.declared.site.Site.{Site}
@@ -24,7 +24,7 @@ use Rattle.sac_phrases.specs.declared.halt.Halt.TheVariants.{Stuck, High as TooH
 use Rattle.sac_phrases.specs.declared.place.Place.{Place}
 use Rattle.sac_phrases.specs.declared.place.Measured.{Measured}
 use Rattle.sac_phrases.specs.Heights.{IsAbove}
-use Rattle.sac_phrases.specs.Contract.{StopOf, lexemes_of, IsLowAt, IsLow, IsKept, IsPhraseAt, IsPartAt, operator_of}
+use Rattle.sac_phrases.specs.Contract.{StopOf, lexemes_of, IsLowAt, IsLow, IsKept, IsPhraseAt, IsPartAt, operator_of, unboxed}
 use Rattle.sac_phrases.specs.Parts.{IsListOf, IsInParens, AreStatements, IsStatement, IsStatementOf, IsBlockOf, IsElse, IsBlockAt, itself, AssignRest, IsAssigned, IsAssignedOf, AreTargets}
 use Rattle.sac_phrases.proofs.Steps.{At, operator_found, token_read, starts_there, kept_phrase, high_halted}
 use Rattle.sac_descent.proofs.ListSteps.{stmts_append, index_tall, length_map}
@@ -77,7 +77,7 @@ conditional_read place {ts} {rest} x list f e n = (View.stmt x.tree, read_ref f.
 while_tall : (d m node n b k l : ℕ) → m ≡ node → IsAbove node (max n b) → (n ≡ k) × (d + k ≤ 99) → (b ≡ l) × (l ≤ 99) → m ≡ max (1 + max k l) 0
 while_tall d m node n b k l e a h g = let p : node ≡ 1 + max n b = a (omega arith) in omega arith
 
-pub while_read : (place : Place) {ts a b rest : List Lexeme} {t : Lexeme} (c : Measured Expression) (body : Measured (Vec Statement)) (node : Measured Statement) (list : Measured (Vec Statement)) (v : V (parens (ref expression))) → At (text (codes "while")) ts t a → Reading (parens (ref expression)) a v b → IsInParens place c v → Found block b (map View.stmt body.tree.items) rest × IsLow place body.height (block_height (block_of (map View.stmt body.tree.items))) → View.stmt node.tree ≡ tree.while_do (View.expr c.tree) (View.block body.tree.items) t.site → IsAbove node.height (max c.height body.height) → list.tree.items ≡ node.tree ∷ [] → list.height ≡ node.height → StatementAt place 2 list ts rest
+pub while_read : (place : Place) {ts a b rest : List Lexeme} {t : Lexeme} (c : Measured (Box Expression)) (body : Measured (Vec Statement)) (node : Measured Statement) (list : Measured (Vec Statement)) (v : V (parens (ref expression))) → At (text (codes "while")) ts t a → Reading (parens (ref expression)) a v b → IsInParens place c v → Found block b (map View.stmt body.tree.items) rest × IsLow place body.height (block_height (block_of (map View.stmt body.tree.items))) → View.stmt node.tree ≡ tree.while_do (unboxed c.tree) (View.block body.tree.items) t.site → IsAbove node.height (max c.height body.height) → list.tree.items ≡ node.tree ∷ [] → list.height ≡ node.height → StatementAt place 2 list ts rest
 while_read place {ts} {a} {b} {rest} {t} c body node list v f g m h tr above e n = (
   (t, (v, map View.stmt body.tree.items)),
   read_then (token_read f) (read_then g (read_ref h.0)),
@@ -90,7 +90,7 @@ while_read place {ts} {a} {b} {rest} {t} c body node list v f g m h tr above e n
 do_tall : (d m node n b k l : ℕ) → m ≡ node → IsAbove node (max b n) → (n ≡ k) × (d + k ≤ 99) → (b ≡ l) × (l ≤ 99) → m ≡ max (1 + max l k) 0
 do_tall d m node n b k l e a h g = let p : node ≡ 1 + max b n = a (omega arith) in omega arith
 
-pub do_read : (place : Place) {ts a b c d rest : List Lexeme} {t w s : Lexeme} (x : Measured Expression) (body : Measured (Vec Statement)) (node : Measured Statement) (list : Measured (Vec Statement)) (v : V (parens (ref expression))) → At (text (codes "do")) ts t a → Found block a (map View.stmt body.tree.items) b × IsLow place body.height (block_height (block_of (map View.stmt body.tree.items))) → At (text (codes "while")) b w c → Reading (parens (ref expression)) c v d → IsInParens place x v → At (text (codes ";")) d s rest → View.stmt node.tree ≡ tree.do_while (View.block body.tree.items) (View.expr x.tree) t.site w.site → IsAbove node.height (max body.height x.height) → list.tree.items ≡ node.tree ∷ [] → list.height ≡ node.height → StatementAt place 3 list ts rest
+pub do_read : (place : Place) {ts a b c d rest : List Lexeme} {t w s : Lexeme} (x : Measured (Box Expression)) (body : Measured (Vec Statement)) (node : Measured Statement) (list : Measured (Vec Statement)) (v : V (parens (ref expression))) → At (text (codes "do")) ts t a → Found block a (map View.stmt body.tree.items) b × IsLow place body.height (block_height (block_of (map View.stmt body.tree.items))) → At (text (codes "while")) b w c → Reading (parens (ref expression)) c v d → IsInParens place x v → At (text (codes ";")) d s rest → View.stmt node.tree ≡ tree.do_while (View.block body.tree.items) (unboxed x.tree) t.site w.site → IsAbove node.height (max body.height x.height) → list.tree.items ≡ node.tree ∷ [] → list.height ≡ node.height → StatementAt place 3 list ts rest
 do_read place {ts} {a} {b} {c} {d} {rest} {t} {w} {s} x body node list v f h g i m semi tr above e n = (
   (t, (map View.stmt body.tree.items, (w, (v, s)))),
   read_then (token_read f) (read_then (read_ref h.0) (read_then (token_read g) (read_then i (token_read semi)))),
@@ -103,13 +103,13 @@ do_read place {ts} {a} {b} {c} {d} {rest} {t} {w} {s} x body node list v f h g i
 for_tall : (d m a c b s ka kc kb ks body : ℕ) → (max c (max b s) ≤ 100 → m ≡ max a (1 + max c (max b s))) → (a ≡ ka) × (d + ka ≤ 99) → (c ≡ kc) × (d + kc ≤ 99) → (b ≡ kb) × (kb ≤ 99) → (s ≡ ks) × (d + ks ≤ 99) → body ≡ max kb (max ks 0) → m ≡ max ka (max (1 + max kc body) 0)
 for_tall d m a c b s ka kc kb ks body f ha hc hb hs e = let p : m ≡ max a (1 + max c (max b s)) = f (omega arith) in let q : max b s ≡ body = omega arith in let r : max c (max b s) ≡ max kc body = omega arith in omega arith
 
-pub for_read : (place : Place) {ts a b c d e f g h rest : List Lexeme} {t l s1 s2 r : Lexeme} (start : Measured Statement) (x : Measured Expression) (step : Measured Statement) (body list : Measured (Vec Statement)) → At (text (codes "for")) ts t a → At (text (codes "(")) a l b → Found assign b (View.stmt start.tree) c × IsLowAt place start.height (stmt_height (View.stmt start.tree)) → At (text (codes ";")) c s1 d → Found expression d (View.expr x.tree) e × IsLowAt place x.height (height (View.expr x.tree)) → At (text (codes ";")) e s2 f → Found assign f (View.stmt step.tree) g × IsLowAt place step.height (stmt_height (View.stmt step.tree)) → At (text (codes ")")) g r h → Found block h (map View.stmt body.tree.items) rest × IsLow place body.height (block_height (block_of (map View.stmt body.tree.items))) → map View.stmt list.tree.items ≡ View.stmt start.tree ∷ tree.while_do (View.expr x.tree) (block_of (map View.stmt body.tree.items ++ (View.stmt step.tree ∷ []))) t.site ∷ [] → (max x.height (max body.height step.height) ≤ 100 → list.height ≡ max start.height (1 + max x.height (max body.height step.height))) → StatementAt place 4 list ts rest
+pub for_read : (place : Place) {ts a b c d e f g h rest : List Lexeme} {t l s1 s2 r : Lexeme} (start : Measured Statement) (x : Measured (Box Expression)) (step : Measured Statement) (body list : Measured (Vec Statement)) → At (text (codes "for")) ts t a → At (text (codes "(")) a l b → Found assign b (View.stmt start.tree) c × IsLowAt place start.height (stmt_height (View.stmt start.tree)) → At (text (codes ";")) c s1 d → Found expression d (unboxed x.tree) e × IsLowAt place x.height (height (unboxed x.tree)) → At (text (codes ";")) e s2 f → Found assign f (View.stmt step.tree) g × IsLowAt place step.height (stmt_height (View.stmt step.tree)) → At (text (codes ")")) g r h → Found block h (map View.stmt body.tree.items) rest × IsLow place body.height (block_height (block_of (map View.stmt body.tree.items))) → map View.stmt list.tree.items ≡ View.stmt start.tree ∷ tree.while_do (unboxed x.tree) (block_of (map View.stmt body.tree.items ++ (View.stmt step.tree ∷ []))) t.site ∷ [] → (max x.height (max body.height step.height) ≤ 100 → list.height ≡ max start.height (1 + max x.height (max body.height step.height))) → StatementAt place 4 list ts rest
 for_read place {ts} {a} {b} {c} {d} {e} {f} {g} {h} {rest} {t} {l} {s1} {s2} {r} start x step body list w o fa semi fx semi2 fs close fb tr tall = (
-  (t, ((l, ((View.stmt start.tree, (s1, (View.expr x.tree, (s2, View.stmt step.tree)))), r)), map View.stmt body.tree.items)),
+  (t, ((l, ((View.stmt start.tree, (s1, (unboxed x.tree, (s2, View.stmt step.tree)))), r)), map View.stmt body.tree.items)),
   read_then (token_read w) (read_then (read_then (token_read o) (read_then (read_then (read_ref fa.0) (read_then (token_read semi) (read_then (read_ref fx.0) (read_then (token_read semi2) (read_ref fs.0))))) (token_read close))) (read_ref fb.0)),
   record {
     trees = tr;
-    tall = λ q. for_tall place.depth list.height start.height x.height body.height step.height (stmt_height (View.stmt start.tree)) (height (View.expr x.tree)) (block_height (block_of (map View.stmt body.tree.items))) (stmt_height (View.stmt step.tree)) (block_height (block_of (map View.stmt body.tree.items ++ (View.stmt step.tree ∷ [])))) tall (fa.1 q) (fx.1 q) (fb.1 q) (fs.1 q) (stmts_append (map View.stmt body.tree.items) (View.stmt step.tree ∷ []));
+    tall = λ q. for_tall place.depth list.height start.height x.height body.height step.height (stmt_height (View.stmt start.tree)) (height (unboxed x.tree)) (block_height (block_of (map View.stmt body.tree.items))) (stmt_height (View.stmt step.tree)) (block_height (block_of (map View.stmt body.tree.items ++ (View.stmt step.tree ∷ [])))) tall (fa.1 q) (fx.1 q) (fb.1 q) (fs.1 q) (stmts_append (map View.stmt body.tree.items) (View.stmt step.tree ∷ []));
   },
 )
 
@@ -131,7 +131,7 @@ statement_kept place ts node rest v (Err (Stuck r)) f m h = absurd h
 if_tall : (d node n a b k l m : ℕ) → IsAbove node (max n (max a b)) → (n ≡ k) × (d + k ≤ 99) → (a ≡ l) × (l ≤ 99) → (b ≡ m) × (m ≤ 99) → node ≡ 1 + max k (max l m)
 if_tall d node n a b k l m f h g i = let e : node ≡ 1 + max n (max a b) = f (omega arith) in omega arith
 
-pub if_read : (place one two : Place) {ts a b c : List Lexeme} {t : Lexeme} (rest : List Token) (x : Measured Expression) (first' second' : Measured (Vec Statement)) (node : Measured Statement) (v : V (parens (ref expression))) (w : V (opt (seq (sign (codes "else")) (ref else_branch)))) (result : Result (Measured Statement × Bor (List Token)) Halt) → IsInside place one → IsInside place two → At (text (codes "if")) ts t a → Reading (parens (ref expression)) a v b → IsInParens place x v → Found block b (map View.stmt first'.tree.items) c × IsLow one first'.height (block_height (block_of (map View.stmt first'.tree.items))) → Reading (opt (seq (sign (codes "else")) (ref else_branch))) c w (lexemes_of rest) → AreStatements two second' (block_or_none w) → View.stmt node.tree ≡ tree.if_else (View.expr x.tree) (View.block first'.tree.items) (View.block second'.tree.items) t.site → IsAbove node.height (max x.height (max first'.height second'.height)) → IsKept place node rest result → IsPhraseAt place if_statement View.stmt stmt_height ts result
+pub if_read : (place one two : Place) {ts a b c : List Lexeme} {t : Lexeme} (rest : List Token) (x : Measured (Box Expression)) (first' second' : Measured (Vec Statement)) (node : Measured Statement) (v : V (parens (ref expression))) (w : V (opt (seq (sign (codes "else")) (ref else_branch)))) (result : Result (Measured Statement × Bor (List Token)) Halt) → IsInside place one → IsInside place two → At (text (codes "if")) ts t a → Reading (parens (ref expression)) a v b → IsInParens place x v → Found block b (map View.stmt first'.tree.items) c × IsLow one first'.height (block_height (block_of (map View.stmt first'.tree.items))) → Reading (opt (seq (sign (codes "else")) (ref else_branch))) c w (lexemes_of rest) → AreStatements two second' (block_or_none w) → View.stmt node.tree ≡ tree.if_else (unboxed x.tree) (View.block first'.tree.items) (View.block second'.tree.items) t.site → IsAbove node.height (max x.height (max first'.height second'.height)) → IsKept place node rest result → IsPhraseAt place if_statement View.stmt stmt_height ts result
 if_read place one two {ts} {a} {b} {c} {t} rest x first' second' node v w result i j f g m fb h mb tr above kept =
     let u : V (rule if_statement) = (t, (v, (map View.stmt first'.tree.items, w))) in
     kept_phrase place if_statement View.stmt stmt_height ts node rest (action if_statement u) result refl kept (λ e q. q)
@@ -154,20 +154,20 @@ AssignedAt place t n node ts rest = (v : V (nth n AssignRest)) × Reading (nth n
 assign_tall : (node n k d : ℕ) → IsAbove node n → (n ≡ k) × (d + k ≤ 99) → node ≡ 1 + k
 assign_tall node n k d a h = let e : node ≡ 1 + n = a (omega arith) in omega arith
 
-pub several_read : (place : Place) (t : Lexeme) {ts a b rest : List Lexeme} {q : Lexeme} (list : Vec Target) (x : Measured Expression) (node : Measured Statement) (ns : V (many (seq (sign (codes ",")) (term name)))) → Reading (many (seq (sign (codes ",")) (term name))) ts ns a → AreTargets t list ns → At (text (codes "=")) a q b → Found expression b (View.expr x.tree) rest × IsLowAt place x.height (height (View.expr x.tree)) → View.stmt node.tree ≡ tree.assign list.items (View.expr x.tree) → IsAbove node.height x.height → AssignedAt place t 0 node ts rest
+pub several_read : (place : Place) (t : Lexeme) {ts a b rest : List Lexeme} {q : Lexeme} (list : Vec Target) (x : Measured (Box Expression)) (node : Measured Statement) (ns : V (many (seq (sign (codes ",")) (term name)))) → Reading (many (seq (sign (codes ",")) (term name))) ts ns a → AreTargets t list ns → At (text (codes "=")) a q b → Found expression b (unboxed x.tree) rest × IsLowAt place x.height (height (unboxed x.tree)) → View.stmt node.tree ≡ tree.assign list.items (unboxed x.tree) → IsAbove node.height x.height → AssignedAt place t 0 node ts rest
 several_read place t {ts} {a} {b} {rest} {q} list x node ns f m s g tr above = (
-  (ns, (q, View.expr x.tree)),
+  (ns, (q, unboxed x.tree)),
   read_then f (read_then (token_read s) (read_ref g.0)),
   record {
-    tree = tr ∙ ap (λ xs. tree.assign xs (View.expr x.tree)) m;
-    tall = λ c. assign_tall node.height x.height (height (View.expr x.tree)) place.depth above (g.1 c);
+    tree = tr ∙ ap (λ xs. tree.assign xs (unboxed x.tree)) m;
+    tall = λ c. assign_tall node.height x.height (height (unboxed x.tree)) place.depth above (g.1 c);
   },
 )
 
 replace_tall : (node i n k l d : ℕ) → IsAbove node (max i n) → (i ≡ k) × (i ≤ 100) → (n ≡ l) × (d + l ≤ 99) → node ≡ 1 + max k l
 replace_tall node i n k l d a h g = let e : node ≡ 1 + max i n = a (omega arith) in omega arith
 
-pub index_low : (place : Place) (site : Site) (list : Measured (Vec Expression)) (index : Measured Expression) (v : V (listed (ref expression))) → IsListOf place list v → View.expr index.tree ≡ index_of site (map View.expr list.tree.items) → (length list.tree.items ≡ 1 → index.height ≡ list.height) → (length list.tree.items ≢ 1 → IsAbove index.height list.height) → place.checked ≡ true → (index.height ≡ height (View.expr index.tree)) × (index.height ≤ 100)
+pub index_low : (place : Place) (site : Site) (list : Measured (Vec Expression)) (index : Measured (Box Expression)) (v : V (listed (ref expression))) → IsListOf place list v → unboxed index.tree ≡ index_of site (map View.expr list.tree.items) → (length list.tree.items ≡ 1 → index.height ≡ list.height) → (length list.tree.items ≢ 1 → IsAbove index.height list.height) → place.checked ≡ true → (index.height ≡ height (unboxed index.tree)) × (index.height ≤ 100)
 index_low place site list index v l is one several c =
     let low : (list.height ≡ heights (exprs_of (map View.expr list.tree.items))) × (heights (exprs_of (map View.expr list.tree.items)) ≤ 99) = subst (λ xs. (list.height ≡ heights (exprs_of xs)) × (heights (exprs_of xs) ≤ 99)) (sym l.trees) (few place.depth list.height (heights (exprs_of (items v))) (l.low c)) in
     let i = index_tall site (map View.expr list.tree.items) list.height index.height (λ e. one (sym (length_map View.expr list.tree.items) ∙ e)) (λ ne. several (λ e. ne (length_map View.expr list.tree.items ∙ e))) low in
@@ -176,28 +176,28 @@ index_low place site list index v l is one several c =
     few : (d n k : ℕ) → (n ≡ k) × (d + k ≤ 99) → (n ≡ k) × (k ≤ 99)
     few d n k h = (h.0, omega arith)
 
-pub replace_read : (place : Place) (t : Lexeme) {ts a b c d rest : List Lexeme} {l r q : Lexeme} (y : Target) (list : Measured (Vec Expression)) (index x : Measured Expression) (node : Measured Statement) (v : V (listed (ref expression))) → At (text (codes "[")) ts l a → Reading (listed (ref expression)) a v b → IsListOf place list v → At (text (codes "]")) b r c → At (text (codes "=")) c q d → Found expression d (View.expr x.tree) rest × IsLowAt place x.height (height (View.expr x.tree)) → y ≡ target t → View.expr index.tree ≡ index_of l.site (map View.expr list.tree.items) → (length list.tree.items ≡ 1 → index.height ≡ list.height) → (length list.tree.items ≢ 1 → IsAbove index.height list.height) → View.stmt node.tree ≡ tree.replace y l.site (View.expr index.tree) (View.expr x.tree) → IsAbove node.height (max index.height x.height) → AssignedAt place t 1 node ts rest
+pub replace_read : (place : Place) (t : Lexeme) {ts a b c d rest : List Lexeme} {l r q : Lexeme} (y : Target) (list : Measured (Vec Expression)) (index x : Measured (Box Expression)) (node : Measured Statement) (v : V (listed (ref expression))) → At (text (codes "[")) ts l a → Reading (listed (ref expression)) a v b → IsListOf place list v → At (text (codes "]")) b r c → At (text (codes "=")) c q d → Found expression d (unboxed x.tree) rest × IsLowAt place x.height (height (unboxed x.tree)) → y ≡ target t → unboxed index.tree ≡ index_of l.site (map View.expr list.tree.items) → (length list.tree.items ≡ 1 → index.height ≡ list.height) → (length list.tree.items ≢ 1 → IsAbove index.height list.height) → View.stmt node.tree ≡ tree.replace y l.site (unboxed index.tree) (unboxed x.tree) → IsAbove node.height (max index.height x.height) → AssignedAt place t 1 node ts rest
 replace_read place t {ts} {a} {b} {c} {d} {rest} {l} {r} {q} y list index x node v o f m close s g e is one several tr above =
-    let is' : View.expr index.tree ≡ index_of l.site (items v) = is ∙ ap (index_of l.site) m.trees in (
-      (l, (v, (r, (q, View.expr x.tree)))),
+    let is' : unboxed index.tree ≡ index_of l.site (items v) = is ∙ ap (index_of l.site) m.trees in (
+      (l, (v, (r, (q, unboxed x.tree)))),
       read_then (token_read o) (read_then f (read_then (token_read close) (read_then (token_read s) (read_ref g.0)))),
       record {
-        tree = tr ∙ ap (λ z. tree.replace z l.site (View.expr index.tree) (View.expr x.tree)) e ∙ ap (λ i. tree.replace (target t) l.site i (View.expr x.tree)) is';
-        tall = λ k. replace_tall node.height index.height x.height (height (index_of l.site (items v))) (height (View.expr x.tree)) place.depth above (let i = index_low place l.site list index v m is one several k in (i.0 ∙ ap height is', i.1)) (g.1 k);
+        tree = tr ∙ ap (λ z. tree.replace z l.site (unboxed index.tree) (unboxed x.tree)) e ∙ ap (λ i. tree.replace (target t) l.site i (unboxed x.tree)) is';
+        tall = λ k. replace_tall node.height index.height x.height (height (index_of l.site (items v))) (height (unboxed x.tree)) place.depth above (let i = index_low place l.site list index v m is one several k in (i.0 ∙ ap height is', i.1)) (g.1 k);
       },
     )
 
 update_tall : (node n k d : ℕ) → (n ≤ 99 → node ≡ 1 + (1 + max 1 n)) → (n ≡ k) × (d + k ≤ 99) → node ≡ 1 + (1 + max 1 k)
 update_tall node n k d a h = let e : node ≡ 1 + (1 + max 1 n) = a (omega arith) in omega arith
 
-pub compound_read : (place : Place) (t : Lexeme) {ts a rest : List Lexeme} (op : Op) (site : Site) (x : Measured Expression) (node : Measured Statement) (u : Lexeme) → operator_of (update_signs.0 ∷ update_signs.1) ts ≡ Some (op, site) → ts ≡ u ∷ a → Found expression a (View.expr x.tree) rest × IsLowAt place x.height (height (View.expr x.tree)) → View.stmt node.tree ≡ tree.assign (target t ∷ []) (tree.binary op (to_variable t) (View.expr x.tree) site) → (x.height ≤ 99 → node.height ≡ 1 + (1 + max 1 x.height)) → AssignedAt place t 2 node ts rest
+pub compound_read : (place : Place) (t : Lexeme) {ts a rest : List Lexeme} (op : Op) (site : Site) (x : Measured (Box Expression)) (node : Measured Statement) (u : Lexeme) → operator_of (update_signs.0 ∷ update_signs.1) ts ≡ Some (op, site) → ts ≡ u ∷ a → Found expression a (unboxed x.tree) rest × IsLowAt place x.height (height (unboxed x.tree)) → View.stmt node.tree ≡ tree.assign (target t ∷ []) (tree.binary op (to_variable t) (unboxed x.tree) site) → (x.height ≤ 99 → node.height ≡ 1 + (1 + max 1 x.height)) → AssignedAt place t 2 node ts rest
 compound_read place t {ts} {a} {rest} op site x node u o split g tr above =
     let f = operator_found update_signs.0 update_signs.1 o split in (
-      (f.value, View.expr x.tree),
+      (f.value, unboxed x.tree),
       read_then f.reads (read_ref g.0),
       record {
-        tree = tr ∙ ap (λ (c : Op × Site). tree.assign (target t ∷ []) (tree.binary c.0 (to_variable t) (View.expr x.tree) c.1)) (sym f.is);
-        tall = λ k. update_tall node.height x.height (height (View.expr x.tree)) place.depth above (g.1 k);
+        tree = tr ∙ ap (λ (c : Op × Site). tree.assign (target t ∷ []) (tree.binary c.0 (to_variable t) (unboxed x.tree) c.1)) (sym f.is);
+        tall = λ k. update_tall node.height x.height (height (unboxed x.tree)) place.depth above (g.1 k);
       },
     )
 

@@ -7,7 +7,7 @@ ghost use Rattle.sac_ast.specs.Heights.{height, gen_height, bound_height, operat
 ghost use Rattle.sac_ast.specs.View as view;
 ghost use Rattle.sac_ast.specs.Texts.{is_name};
 ghost use Rattle.sac_grammar.specs.Parsing.{Found, nth};
-ghost use Rattle.sac_phrases.specs.Contract.{lexemes_of, lexeme, IsNear, IsPhraseAt, IsPhraseNear, IsPartAt, IsNodeAt};
+ghost use Rattle.sac_phrases.specs.Contract.{lexemes_of, lexeme, unboxed, IsNear, IsPhraseAt, IsPhraseNear, IsPartAt, IsNodeAt};
 ghost use Rattle.sac_descent.specs.Around.{StopsAround, IsPartSo, IndexOver, ReplaceOver, IsRestAt, ForOver};
 ghost use Rattle.sac_phrases.specs.Parts.{IsListOf, IsArguments, IsInParens, IsPair, IsPrimary, IsPrimaryOf, IsGenerators, IsMaybe, IsBlockAt};
 ghost use Rattle.sac_phrases.specs.Parts.{itself, AssignRest, IsOperation, IsBlockOf, IsStatements, IsStatement, IsStatementOf, IsElse, IsAssigned};
@@ -33,11 +33,11 @@ pub fn list<'a>(place: Place, tokens: &'a [Token<'a>]) -> Read<'a, Vec<Expressio
     let (first, mut rest) = expression(place, tokens)?;
     let mut height = first.height;
     let mut found = Vec::new(place.alloc);
-    found.push(first.tree)?;
+    found.push(Box::into_inner(first.tree))?;
     while let Some((_comma, behind)) = cursor::accept(rest, b",") {
         let (next, after) = expression(place, behind)?;
         height = height.max(next.height);
-        found.push(next.tree)?;
+        found.push(Box::into_inner(next.tree))?;
         rest = after;
     }
     Ok((
@@ -58,14 +58,14 @@ fn indices<'a>(place: Place, tokens: &'a [Token<'a>]) -> Read<'a, Vec<Expression
     let (first, mut rest) = expression(place, tokens)?;
     let mut height = first.height;
     let mut found = Vec::new(place.alloc);
-    found.push(first.tree)?;
+    found.push(Box::into_inner(first.tree))?;
     while let Some((_comma, behind)) = cursor::accept(rest, b",") {
         if place.has_no_room(height) {
             return Err(Halt::High(rest));
         }
         let (next, after) = expression(place.inside(), behind)?;
         height = height.max(next.height);
-        found.push(next.tree)?;
+        found.push(Box::into_inner(next.tree))?;
         rest = after;
     }
     Ok((
@@ -97,7 +97,7 @@ fn arguments<'a>(place: Place, tokens: &'a [Token<'a>]) -> Read<'a, Vec<Expressi
 
 /// An expression in parentheses.
 #[cycle(phrase)]
-fn parens<'a>(place: Place, tokens: &'a [Token<'a>]) -> Read<'a, Expression>
+fn parens<'a>(place: Place, tokens: &'a [Token<'a>]) -> Read<'a, Box<Expression>>
     ensures phrase { IsPartAt place (parens (ref expression)) (IsInParens place) (lexemes_of tokens.now) result }
     ensures shorter { IfOk result (λ x. length x.1.now < length tokens.now) }
 {
@@ -114,7 +114,7 @@ fn pair<'a>(
     tokens: &'a [Token<'a>],
 ) -> Result<
     (
-        (Measured<Expression>, Measured<Expression>),
+        (Measured<Box<Expression>>, Measured<Box<Expression>>),
         &'a [Token<'a>],
     ),
     Halt<'a>,
@@ -132,23 +132,23 @@ fn pair<'a>(
 
 /// A name, or a call.
 #[cycle(phrase)]
-fn name_or_call<'a>(place: Place, tokens: &'a [Token<'a>]) -> Read<'a, Expression>
+fn name_or_call<'a>(place: Place, tokens: &'a [Token<'a>]) -> Read<'a, Box<Expression>>
     ensures phrase { IsPartAt place (nth 3 (rule primary)) (IsPrimary place 3) (lexemes_of tokens.now) result }
     ensures shorter { IfOk result (λ x. length x.1.now < length tokens.now) }
 {
     let (token, rest) = cursor::expect_name(tokens)?;
     let target = leaf::target(place.alloc, token)?;
     let Some((_open, rest)) = cursor::accept(rest, b"(") else {
-        return Ok((node::variable(target), rest));
+        return Ok((node::variable(place, target)?, rest));
     };
     let (list, rest) = arguments(place, rest)?;
     let (_close, rest) = cursor::expect(rest, b")")?;
-    Ok((node::call(target.name, list, target.site), rest))
+    Ok((node::call(place, target.name, list, target.site)?, rest))
 }
 
 /// `dim` or `shape` of an expression.
 #[cycle(phrase)]
-fn builtin<'a>(place: Place, tokens: &'a [Token<'a>]) -> Read<'a, Expression>
+fn builtin<'a>(place: Place, tokens: &'a [Token<'a>]) -> Read<'a, Box<Expression>>
     ensures phrase { IsPartAt place (nth 4 (rule primary)) (IsPrimary place 4) (lexemes_of tokens.now) result }
     ensures shorter { IfOk result (λ x. length x.1.now < length tokens.now) }
 {
@@ -158,7 +158,7 @@ fn builtin<'a>(place: Place, tokens: &'a [Token<'a>]) -> Read<'a, Expression>
 }
 
 #[cycle(phrase)]
-fn reshape<'a>(place: Place, tokens: &'a [Token<'a>]) -> Read<'a, Expression>
+fn reshape<'a>(place: Place, tokens: &'a [Token<'a>]) -> Read<'a, Box<Expression>>
     ensures phrase { IsPartAt place (nth 5 (rule primary)) (IsPrimary place 5) (lexemes_of tokens.now) result }
     ensures shorter { IfOk result (λ x. length x.1.now < length tokens.now) }
 {
@@ -169,7 +169,7 @@ fn reshape<'a>(place: Place, tokens: &'a [Token<'a>]) -> Read<'a, Expression>
 
 /// `min` or `max` of two expressions.
 #[cycle(phrase)]
-fn extreme<'a>(place: Place, tokens: &'a [Token<'a>]) -> Read<'a, Expression>
+fn extreme<'a>(place: Place, tokens: &'a [Token<'a>]) -> Read<'a, Box<Expression>>
     ensures phrase { IsPartAt place (nth 6 (rule primary)) (IsPrimary place 6) (lexemes_of tokens.now) result }
     ensures shorter { IfOk result (λ x. length x.1.now < length tokens.now) }
 {
@@ -182,18 +182,18 @@ fn extreme<'a>(place: Place, tokens: &'a [Token<'a>]) -> Read<'a, Expression>
 
 /// Elements in brackets.
 #[cycle(phrase)]
-fn array<'a>(place: Place, tokens: &'a [Token<'a>]) -> Read<'a, Expression>
+fn array<'a>(place: Place, tokens: &'a [Token<'a>]) -> Read<'a, Box<Expression>>
     ensures phrase { IsPartAt place (nth 8 (rule primary)) (IsPrimary place 8) (lexemes_of tokens.now) result }
     ensures shorter { IfOk result (λ x. length x.1.now < length tokens.now) }
 {
     let (open, rest) = cursor::expect(tokens, b"[")?;
     let (list, rest) = arguments(place, rest)?;
     let (_close, rest) = cursor::expect(rest, b"]")?;
-    Ok((node::literal(list, open.site), rest))
+    Ok((node::literal(place, list, open.site)?, rest))
 }
 
 #[cycle(phrase)]
-fn with_loop<'a>(place: Place, tokens: &'a [Token<'a>]) -> Read<'a, Expression>
+fn with_loop<'a>(place: Place, tokens: &'a [Token<'a>]) -> Read<'a, Box<Expression>>
     ensures phrase { IsPartAt place (nth 9 (rule primary)) (IsPrimary place 9) (lexemes_of tokens.now) result }
     ensures shorter { IfOk result (λ x. length x.1.now < length tokens.now) }
 {
@@ -211,7 +211,7 @@ fn with_loop<'a>(place: Place, tokens: &'a [Token<'a>]) -> Read<'a, Expression>
 
 /// A primary expression, which may be too high for its place by its last node.
 #[cycle(phrase)]
-fn alternative<'a>(place: Place, tokens: &'a [Token<'a>]) -> Read<'a, Expression>
+fn alternative<'a>(place: Place, tokens: &'a [Token<'a>]) -> Read<'a, Box<Expression>>
     ensures phrase { IsNodeAt place primary (IsPrimaryOf place) (lexemes_of tokens.now) result }
     ensures shorter { IfOk result (λ x. length x.1.now < length tokens.now) }
 {
@@ -240,8 +240,8 @@ fn alternative<'a>(place: Place, tokens: &'a [Token<'a>]) -> Read<'a, Expression
 }
 
 #[cycle(phrase)]
-fn primary<'a>(place: Place, tokens: &'a [Token<'a>]) -> Read<'a, Expression>
-    ensures phrase { IsPhraseAt place primary view.expr height (lexemes_of tokens.now) result }
+fn primary<'a>(place: Place, tokens: &'a [Token<'a>]) -> Read<'a, Box<Expression>>
+    ensures phrase { IsPhraseAt place primary unboxed height (lexemes_of tokens.now) result }
     ensures shorter { IfOk result (λ x. length x.1.now < length tokens.now) }
 {
     if place.has_no_room(leaf::least_parts(tokens)) {
@@ -253,8 +253,8 @@ fn primary<'a>(place: Place, tokens: &'a [Token<'a>]) -> Read<'a, Expression>
 
 /// An expression with selections behind it.
 #[cycle(phrase)]
-fn postfix<'a>(place: Place, tokens: &'a [Token<'a>]) -> Read<'a, Expression>
-    ensures phrase { IsPhraseAt place postfix view.expr height (lexemes_of tokens.now) result }
+fn postfix<'a>(place: Place, tokens: &'a [Token<'a>]) -> Read<'a, Box<Expression>>
+    ensures phrase { IsPhraseAt place postfix unboxed height (lexemes_of tokens.now) result }
     ensures shorter { IfOk result (λ x. length x.1.now < length tokens.now) }
 {
     let (mut array, mut rest) = primary(place, tokens)?;
@@ -264,15 +264,16 @@ fn postfix<'a>(place: Place, tokens: &'a [Token<'a>]) -> Read<'a, Expression>
         }
         let (index, after) = indices(place.inside(), behind)?;
         let (_close, after) = cursor::expect(after, b"]")?;
-        array = node::select(place, array, node::index_of(index, open.site), open.site)?;
+        let index = node::index_of(place, index, open.site)?;
+        array = node::select(place, array, index, open.site)?;
         rest = after;
     }
     place::kept(place, array, rest)
 }
 
 #[cycle(phrase)]
-fn prefix<'a>(place: Place, tokens: &'a [Token<'a>]) -> Read<'a, Expression>
-    ensures phrase { IsPhraseAt place prefix view.expr height (lexemes_of tokens.now) result }
+fn prefix<'a>(place: Place, tokens: &'a [Token<'a>]) -> Read<'a, Box<Expression>>
+    ensures phrase { IsPhraseAt place prefix unboxed height (lexemes_of tokens.now) result }
     ensures shorter { IfOk result (λ x. length x.1.now < length tokens.now) }
 {
     let Some((op, site, behind)) = cursor::operator(&level::PREFIX, tokens) else {
@@ -287,7 +288,7 @@ fn prefix<'a>(place: Place, tokens: &'a [Token<'a>]) -> Read<'a, Expression>
 
 /// An operand of a level.
 #[cycle(phrase)]
-fn operand<'a>(place: Place, level: Level, tokens: &'a [Token<'a>]) -> Read<'a, Expression>
+fn operand<'a>(place: Place, level: Level, tokens: &'a [Token<'a>]) -> Read<'a, Box<Expression>>
     ensures phrase { IsOperandAt level place (lexemes_of tokens.now) result }
     ensures shorter { IfOk result (λ x. length x.1.now < length tokens.now) }
 {
@@ -303,7 +304,7 @@ fn operand<'a>(place: Place, level: Level, tokens: &'a [Token<'a>]) -> Read<'a, 
 
 /// Operands of a level with its operators between them, grouped to the left.
 #[cycle(phrase)]
-fn chain<'a>(place: Place, level: Level, tokens: &'a [Token<'a>]) -> Read<'a, Expression>
+fn chain<'a>(place: Place, level: Level, tokens: &'a [Token<'a>]) -> Read<'a, Box<Expression>>
     ensures phrase { IsLevelAt level place (lexemes_of tokens.now) result }
     ensures shorter { IfOk result (λ x. length x.1.now < length tokens.now) }
 {
@@ -321,8 +322,8 @@ fn chain<'a>(place: Place, level: Level, tokens: &'a [Token<'a>]) -> Read<'a, Ex
 
 /// An expression: an operand of the loosest level, or a choice between two expressions by it.
 #[cycle(phrase)]
-fn expression<'a>(place: Place, tokens: &'a [Token<'a>]) -> Read<'a, Expression>
-    ensures phrase { IsPhraseAt place expression view.expr height (lexemes_of tokens.now) result }
+fn expression<'a>(place: Place, tokens: &'a [Token<'a>]) -> Read<'a, Box<Expression>>
+    ensures phrase { IsPhraseAt place expression unboxed height (lexemes_of tokens.now) result }
     ensures shorter { IfOk result (λ x. length x.1.now < length tokens.now) }
 {
     let (cond, rest) = chain(place, Level::Disjunction, tokens)?;
@@ -399,7 +400,7 @@ fn generator<'a>(place: Place, tokens: &'a [Token<'a>]) -> Read<'a, Generator>
         step: step.tree,
         width: width.tree,
         body: body.tree,
-        cell: cell.tree,
+        cell: Box::into_inner(cell.tree),
         site: open.site,
     };
     Ok((
@@ -738,7 +739,7 @@ fn replacement<'a>(place: Place, token: Token<'a>, tokens: &'a [Token<'a>]) -> R
     let (_sign, rest) = cursor::expect(rest, b"=")?;
     let (value, rest) = expression(place, rest)?;
     let target = leaf::target(place.alloc, token)?;
-    let index = node::index_of(index, open.site);
+    let index = node::index_of(place, index, open.site)?;
     Ok((node::replace(target, open.site, index, value), rest))
 }
 

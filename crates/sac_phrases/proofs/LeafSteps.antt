@@ -2,7 +2,7 @@
 use Rattle.std.proofs.Common.{ℕ, ◌≡◌, ◌≤◌, ◌+◌, max, Bool, true, false, List, [], ◌∷◌, ◌++◌, refl, sym, ap, ◌∙◌, subst, map, codes, arith, pos, Some, IsTrue}
 use Rattle.std.specs.List.{All, AllByRecursion}
 use Rattle.std.specs.Str.Parse.{digits_value}
-use Rattle.std.specs.Global.{Vec}
+use Rattle.std.specs.Global.{Vec, Box}
 use Rattle.std.proofs.lemmas.List.Elements.{All-from_recursion}
 use Rattle.sac_lex.specs.declared.token.TokenKind.{TokenKind}
 use Rattle.sac_lex.specs.declared.token.TokenKind.TheVariants as kind
@@ -27,7 +27,7 @@ use Rattle.sac_grammar.proofs.Parsing.{read_ref, read_then, read_first, read_sec
 use Rattle.sac_phrases.specs.declared.place.Place.{Place}
 use Rattle.sac_phrases.specs.declared.place.Measured.{Measured}
 use Rattle.sac_phrases.specs.Heights.{IsAbove}
-use Rattle.sac_phrases.specs.Contract.{operator_of}
+use Rattle.sac_phrases.specs.Contract.{operator_of, unboxed}
 use Rattle.sac_phrases.specs.Parts.{IsPrimary, AreTargets, Counts, IsCount}
 use Rattle.sac_phrases.proofs.Steps.{At, operator_found, token_read, starts_there}
 
@@ -87,9 +87,9 @@ names_read ts {a} {b} {c} {rest} {l} {t} {r} list ns s o f g m close = (tree.par
 
 -- ---- the assignment of an operator's result
 
-pub update_tree : (t : Lexeme) (x y : Target) (op : Op) (site : Site) (operand value' : Expr) (e : Expr) (list : List Target) (s : Stmt) → x ≡ target t → operand ≡ tree.variable x.name x.site → value' ≡ tree.binary op operand e site → y ≡ target t → list ≡ y ∷ [] → s ≡ tree.assign list value' → s ≡ tree.assign (target t ∷ []) (tree.binary op (to_variable t) e site)
-update_tree t x y op site operand value' e list s f g h i j k =
-    k ∙ ap (λ l. tree.assign l value') (j ∙ ap (λ z. z ∷ []) i) ∙ ap (tree.assign (target t ∷ [])) (h ∙ ap (λ v. tree.binary op v e site) (g ∙ ap (λ (z : Target). tree.variable z.name z.site) f))
+pub update_tree : (t : Lexeme) (op : Op) (site : Site) (operand value' e : Expr) (list : List Target) (s : Stmt) → operand ≡ to_variable t → value' ≡ tree.binary op operand e site → list ≡ target t ∷ [] → s ≡ tree.assign list value' → s ≡ tree.assign (target t ∷ []) (tree.binary op (to_variable t) e site)
+update_tree t op site operand value' e list s f g h k =
+    k ∙ ap (λ l. tree.assign l value') h ∙ ap (tree.assign (target t ∷ [])) (g ∙ ap (λ v. tree.binary op v e site) f)
 
 pub update_tall : (node binary variable n : ℕ) → variable ≡ 1 → IsAbove binary (max variable n) → IsAbove node binary → n ≤ 99 → node ≡ 1 + (1 + max 1 n)
 update_tall node binary variable n e f g h = let p : binary ≡ 1 + max variable n = f (omega arith) in let q : node ≡ 1 + binary = g (omega arith) in omega arith
@@ -97,7 +97,7 @@ update_tall node binary variable n e f g h = let p : binary ≡ 1 + max variable
 step_tall : (node n : ℕ) → n ≡ 1 → (n ≤ 99 → node ≡ 1 + (1 + max 1 n)) → node ≡ 1 + (1 + max 1 1)
 step_tall node n e f = let p : node ≡ 1 + (1 + max 1 n) = f (omega arith) in omega arith
 
-pub step_read : (place : Place) (t : Lexeme) {ts rest : List Lexeme} (op : Op) (site : Site) (one : Measured Expression) (node : Measured Statement) (u : Lexeme) → operator_of ((codes "++", Add) ∷ (codes "--", Sub) ∷ []) ts ≡ Some (op, site) → ts ≡ u ∷ rest → View.expr one.tree ≡ tree.number (pos 1) site → one.height ≡ 1 → View.stmt node.tree ≡ tree.assign (target t ∷ []) (tree.binary op (to_variable t) (View.expr one.tree) site) → (one.height ≤ 99 → node.height ≡ 1 + (1 + max 1 one.height)) → (v : V Counts) × Reading Counts ts v rest × IsCount place t node v
+pub step_read : (place : Place) (t : Lexeme) {ts rest : List Lexeme} (op : Op) (site : Site) (one : Measured (Box Expression)) (node : Measured Statement) (u : Lexeme) → operator_of ((codes "++", Add) ∷ (codes "--", Sub) ∷ []) ts ≡ Some (op, site) → ts ≡ u ∷ rest → unboxed one.tree ≡ tree.number (pos 1) site → one.height ≡ 1 → View.stmt node.tree ≡ tree.assign (target t ∷ []) (tree.binary op (to_variable t) (unboxed one.tree) site) → (one.height ≤ 99 → node.height ≡ 1 + (1 + max 1 one.height)) → (v : V Counts) × Reading Counts ts v rest × IsCount place t node v
 step_read place t {ts} {rest} op site one node u o split e h whole above =
     let f = operator_found (codes "++", Add) ((codes "--", Sub) ∷ []) o split in (
       f.value,
@@ -110,11 +110,11 @@ step_read place t {ts} {rest} op site one node u o split e h whole above =
 
 -- ---- numbers and truth values as expressions
 
-pub number_read : (place : Place) {ts rest : List Lexeme} {t : Lexeme} (node : Measured Expression) → At number ts t rest → View.expr node.tree ≡ tree.number (pos (digits_value 10 t.text)) t.site → node.height ≡ 1 → (v : V (nth 0 (rule primary))) × Reading (nth 0 (rule primary)) ts v rest × IsPrimary place 0 node v
+pub number_read : (place : Place) {ts rest : List Lexeme} {t : Lexeme} (node : Measured (Box Expression)) → At number ts t rest → unboxed node.tree ≡ tree.number (pos (digits_value 10 t.text)) t.site → node.height ≡ 1 → (v : V (nth 0 (rule primary))) × Reading (nth 0 (rule primary)) ts v rest × IsPrimary place 0 node v
 number_read place {ts} {rest} {t} node f tr h = (t, token_read f, record { tree = tr; tall = λ c. h })
 
-pub true_read : (place : Place) {ts rest : List Lexeme} {t : Lexeme} (node : Measured Expression) → At (text (codes "true")) ts t rest → View.expr node.tree ≡ tree.truth true t.site → node.height ≡ 1 → (v : V (nth 1 (rule primary))) × Reading (nth 1 (rule primary)) ts v rest × IsPrimary place 1 node v
+pub true_read : (place : Place) {ts rest : List Lexeme} {t : Lexeme} (node : Measured (Box Expression)) → At (text (codes "true")) ts t rest → unboxed node.tree ≡ tree.truth true t.site → node.height ≡ 1 → (v : V (nth 1 (rule primary))) × Reading (nth 1 (rule primary)) ts v rest × IsPrimary place 1 node v
 true_read place {ts} {rest} {t} node f tr h = (t, token_read f, record { tree = tr; tall = λ c. h })
 
-pub false_read : (place : Place) {ts rest : List Lexeme} {t : Lexeme} (node : Measured Expression) → At (text (codes "false")) ts t rest → View.expr node.tree ≡ tree.truth false t.site → node.height ≡ 1 → (v : V (nth 2 (rule primary))) × Reading (nth 2 (rule primary)) ts v rest × IsPrimary place 2 node v
+pub false_read : (place : Place) {ts rest : List Lexeme} {t : Lexeme} (node : Measured (Box Expression)) → At (text (codes "false")) ts t rest → unboxed node.tree ≡ tree.truth false t.site → node.height ≡ 1 → (v : V (nth 2 (rule primary))) × Reading (nth 2 (rule primary)) ts v rest × IsPrimary place 2 node v
 false_read place {ts} {rest} {t} node f tr h = (t, token_read f, record { tree = tr; tall = λ c. h })

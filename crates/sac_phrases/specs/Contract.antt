@@ -1,6 +1,7 @@
 -- What the functions of the parser promise.
 use Rattle.std.specs.Prelude.{ℕ, ◌≡◌, ◌+◌, ◌≤◌, ◌<◌, Bool, true, false, List, [], ◌∷◌, Result, Ok, Err, map, Option, Some, None, if◌then◌else◌}
 use Rattle.std.specs.Borrow.{Bor}
+use Rattle.std.specs.Global.{Box}
 use Rattle.sac_lex.specs.declared.token.Token.{Token}
 use Rattle.sac_lex.specs.declared.token.TokenKind.TheVariants.{Name, Number}
 use Rattle.sac_base.specs.declared.op.Op.{Op}
@@ -8,6 +9,9 @@ use Rattle.sac_base.specs.declared.site.Site.{Site}
 use Rattle.sac_ast.specs.Texts.{Lexeme}
 use Rattle.sac_ast.specs.Shape.{Terminal, text, matches}
 use Rattle.sac_ast.specs.Grammar.{Nonterminal, Tree, Rule, V, rule}
+use Rattle.sac_ast.specs.Tree.{Expr}
+use Rattle.sac_ast.specs.View as View
+use Rattle.sac_ast.specs.declared.Expression.{Expression}
 use Rattle.sac_grammar.specs.Run.{starts}
 use Rattle.sac_grammar.specs.Parsing.{Found, Reading, Stop, stuck, high, Halted, Halts}
 use Rattle.sac_phrases.specs.declared.halt.Halt.{Halt}
@@ -20,6 +24,10 @@ lexeme t = record { text = t.text.now; site = t.site }
 
 abbrev pub lexemes_of : List Token → List Lexeme
 lexemes_of ts = map lexeme ts
+
+-- the tree of an expression on the heap
+abbrev pub unboxed : Box Expression → Expr
+unboxed e = View.expr e.value
 
 -- the stop of the parser that an error tells
 abbrev pub StopOf : Halt → Stop → Type 0

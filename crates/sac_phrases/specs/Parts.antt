@@ -1,6 +1,6 @@
 -- What the trees of parts of phrases are.
 use Rattle.std.specs.Prelude.{ℕ, ◌≡◌, ◌+◌, ◌≤◌, max, Bool, List, [], ◌∷◌, ◌++◌, ◌⊎◌, Ok, Err, map, Option, codes}
-use Rattle.std.specs.Global.{Vec}
+use Rattle.std.specs.Global.{Vec, Box}
 use mathlib.Core.Logic.{inl, inr}
 use Rattle.sac_base.specs.declared.op.Op.{Op}
 use Rattle.sac_base.specs.declared.site.Site.{Site}
@@ -26,7 +26,7 @@ use Rattle.sac_ast.specs.View.{exprs_of, block_of, gens_of}
 use Rattle.sac_grammar.specs.Parsing.{Found, Halted, nth, inject}
 use Rattle.sac_phrases.specs.declared.place.Place.{Place}
 use Rattle.sac_phrases.specs.declared.place.Measured.{Measured}
-use Rattle.sac_phrases.specs.Contract.{ReadOf, IsLowAt, IsLow, IsNear, IsTall, StopOf, lexemes_of}
+use Rattle.sac_phrases.specs.Contract.{ReadOf, IsLowAt, IsLow, IsNear, IsTall, StopOf, lexemes_of, unboxed}
 
 -- two of these with a comma between them
 abbrev pub Comma : Rule → Rule
@@ -41,22 +41,22 @@ pub record IsArguments (place : Place) (list : Measured (Vec Expression)) (v : V
   pub trees : map View.expr list.tree.items ≡ maybe_items v
   pub low : IsLow place list.height (heights (exprs_of (maybe_items v)))
 
-pub record IsInParens (place : Place) (node : Measured Expression) (v : V (parens (ref expression))) : Type 0 where
-  pub tree : View.expr node.tree ≡ v.1.0
+pub record IsInParens (place : Place) (node : Measured (Box Expression)) (v : V (parens (ref expression))) : Type 0 where
+  pub tree : unboxed node.tree ≡ v.1.0
   pub low : IsLowAt place node.height (height v.1.0)
 
-pub record IsPair (place : Place) (nodes : Measured Expression × Measured Expression) (v : V (parens (Comma (ref expression)))) : Type 0 where
-  pub first : View.expr nodes.0.tree ≡ v.1.0.0
-  pub second : View.expr nodes.1.tree ≡ v.1.0.1.1
+pub record IsPair (place : Place) (nodes : Measured (Box Expression) × Measured (Box Expression)) (v : V (parens (Comma (ref expression)))) : Type 0 where
+  pub first : unboxed nodes.0.tree ≡ v.1.0.0
+  pub second : unboxed nodes.1.tree ≡ v.1.0.1.1
   pub first_low : IsLowAt place nodes.0.height (height v.1.0.0)
   pub second_low : IsLowAt place nodes.1.height (height v.1.0.1.1)
 
 -- the tree of an alternative
-pub record IsPrimaryOf (place : Place) (node : Measured Expression) (v : V (rule primary)) : Type 0 where
-  pub tree : View.expr node.tree ≡ action primary v
+pub record IsPrimaryOf (place : Place) (node : Measured (Box Expression)) (v : V (rule primary)) : Type 0 where
+  pub tree : unboxed node.tree ≡ action primary v
   pub tall : IsTall place node.height (height (action primary v))
 
-abbrev pub IsPrimary : Place → (n : ℕ) → Measured Expression → V (nth n (rule primary)) → Type 0
+abbrev pub IsPrimary : Place → (n : ℕ) → Measured (Box Expression) → V (nth n (rule primary)) → Type 0
 IsPrimary place n node v = IsPrimaryOf place node (inject n (rule primary) v)
 
 pub record IsGenerators (place : Place) (list : Measured (Vec Generator)) (v : V (many (ref generator))) : Type 0 where
@@ -138,15 +138,15 @@ abbrev pub AreTargets : Lexeme → Vec Target → List (Lexeme × Lexeme) → Ty
 AreTargets t list ns = list.items ≡ target t ∷ map (λ (p : Lexeme × Lexeme). target p.1) ns
 
 -- the statements that a `for` is read as
-abbrev pub IsFor : Measured Statement → Measured Expression → Measured Statement → Measured (Vec Statement) → Site → Measured (Vec Statement) → Type 0
+abbrev pub IsFor : Measured Statement → Measured (Box Expression) → Measured Statement → Measured (Vec Statement) → Site → Measured (Vec Statement) → Type 0
 IsFor start cond step body site list =
     map View.stmt list.tree.items
-    ≡ View.stmt start.tree ∷ tree.while_do (View.expr cond.tree) (block_of (map View.stmt body.tree.items ++ (View.stmt step.tree ∷ []))) site ∷ []
+    ≡ View.stmt start.tree ∷ tree.while_do (unboxed cond.tree) (block_of (map View.stmt body.tree.items ++ (View.stmt step.tree ∷ []))) site ∷ []
 
 abbrev pub IsForHeight : ℕ → ℕ → ℕ → ℕ → ℕ → Type 0
 IsForHeight start cond step body whole = max cond (max body step) ≤ 100 → whole ≡ max start (1 + max cond (max body step))
 
 -- the assignment of an operator's result to its first operand
-abbrev pub IsUpdate : Lexeme → Op → Measured Expression → Site → Measured Statement → Type 0
+abbrev pub IsUpdate : Lexeme → Op → Measured (Box Expression) → Site → Measured Statement → Type 0
 IsUpdate t op value site node =
-    View.stmt node.tree ≡ tree.assign (target t ∷ []) (tree.binary op (to_variable t) (View.expr value.tree) site)
+    View.stmt node.tree ≡ tree.assign (target t ∷ []) (tree.binary op (to_variable t) (unboxed value.tree) site)

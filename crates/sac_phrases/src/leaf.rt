@@ -13,7 +13,7 @@ ghost use Rattle.sac_grammar.specs.Tables.{first_of};
 ghost use Rattle.sac_grammar.specs.Limits.{least_parts};
 ghost use Rattle.sac_grammar.specs.Parsing.{nth};
 ghost use Rattle.sac_phrases.specs.declared.halt.Halt.TheVariants.{Memory};
-ghost use Rattle.sac_phrases.specs.Contract.{lexeme, lexemes_of, IsPartAt, IsLeafAt};
+ghost use Rattle.sac_phrases.specs.Contract.{lexeme, lexemes_of, unboxed, IsPartAt, IsLeafAt};
 ghost use Rattle.sac_phrases.specs.Parts.{IsPrimary, IsBuiltinWord, IsRelation, AreTargets, Counts, IsCount, IsFor, IsForHeight, IsUpdate};
 
 use crate::halt::Halt;
@@ -122,33 +122,31 @@ pub fn number_value(digits: &[u8]) -> u32
 }
 
 /// A number.
-pub fn number<'a>(place: Place, tokens: &'a [Token<'a>]) -> Read<'a, Expression>
+pub fn number<'a>(place: Place, tokens: &'a [Token<'a>]) -> Read<'a, Box<Expression>>
     ensures phrase { IsPartAt place (nth 0 (rule primary)) (IsPrimary place 0) (lexemes_of tokens.now) result }
     ensures shorter { IfOk result (λ x. length x.1.now < length tokens.now) }
 {
     let (token, rest) = cursor::expect_number(tokens)?;
-    Ok((
-        node::number(number_value(token.text) as i32, token.site),
-        rest,
-    ))
+    let value = number_value(token.text) as i32;
+    Ok((node::number(place, value, token.site)?, rest))
 }
 
 /// The truth value `true`.
-pub fn truth_true<'a>(place: Place, tokens: &'a [Token<'a>]) -> Read<'a, Expression>
+pub fn truth_true<'a>(place: Place, tokens: &'a [Token<'a>]) -> Read<'a, Box<Expression>>
     ensures phrase { IsPartAt place (nth 1 (rule primary)) (IsPrimary place 1) (lexemes_of tokens.now) result }
     ensures shorter { IfOk result (λ x. length x.1.now < length tokens.now) }
 {
     let (token, rest) = cursor::expect(tokens, b"true")?;
-    Ok((node::truth(true, token.site), rest))
+    Ok((node::truth(place, true, token.site)?, rest))
 }
 
 /// The truth value `false`.
-pub fn truth_false<'a>(place: Place, tokens: &'a [Token<'a>]) -> Read<'a, Expression>
+pub fn truth_false<'a>(place: Place, tokens: &'a [Token<'a>]) -> Read<'a, Box<Expression>>
     ensures phrase { IsPartAt place (nth 2 (rule primary)) (IsPrimary place 2) (lexemes_of tokens.now) result }
     ensures shorter { IfOk result (λ x. length x.1.now < length tokens.now) }
 {
     let (token, rest) = cursor::expect(tokens, b"false")?;
-    Ok((node::truth(false, token.site), rest))
+    Ok((node::truth(place, false, token.site)?, rest))
 }
 
 /// The word of a built-in function of one argument.
@@ -228,11 +226,11 @@ pub fn absent() -> Measured<Option<Expression>>
 }
 
 /// An expression that is there.
-pub fn present(value: Measured<Expression>) -> Measured<Option<Expression>>
-    ensures { (result.tree ≡ Some value.tree) × (result.height ≡ value.height) }
+pub fn present(value: Measured<Box<Expression>>) -> Measured<Option<Expression>>
+    ensures { (result.tree ≡ Some value.tree.value) × (result.height ≡ value.height) }
 {
     Measured {
-        tree: Some(value.tree),
+        tree: Some(Box::into_inner(value.tree)),
         height: value.height,
     }
 }
@@ -274,7 +272,7 @@ fn followed_by<'a>(
 pub fn for_loop<'a>(
     place: Place,
     start: Measured<Statement>,
-    cond: Measured<Expression>,
+    cond: Measured<Box<Expression>>,
     step: Measured<Statement>,
     body: Measured<Vec<Statement>>,
     site: Site,
@@ -295,7 +293,7 @@ pub fn update<'a>(
     place: Place,
     token: Token<'a>,
     op: Op,
-    value: Measured<Expression>,
+    value: Measured<Box<Expression>>,
     site: Site,
 ) -> Result<Measured<Statement>, Halt<'a>>
     requires { is_name token.text.now ≡ true }
@@ -303,24 +301,26 @@ pub fn update<'a>(
     ensures height { IfOk result (λ node. value.height ≤ 99 → node.height ≡ 1 + (1 + max 1 value.height)) }
     ensures memory { IfErr result (λ e. e ≡ Memory) }
 {
-    let (variable, targets) = variable_and_target(place.alloc, token)?;
-    let value = node::binary(place, op, node::variable(variable), value, site)?;
+    let (variable, targets) = variable_and_target(place, token)?;
+    let value = node::binary(place, op, variable, value, site)?;
     Ok(node::assign(targets, value))
 }
 
 // The name that a token is, as a variable and as the one target.
 fn variable_and_target<'a>(
-    alloc: Global,
+    place: Place,
     token: Token<'a>,
-) -> Result<(Target, Vec<Target>), Halt<'a>>
+) -> Result<(Measured<Box<Expression>>, Vec<Target>), Halt<'a>>
     requires { is_name token.text.now ≡ true }
-    ensures variable { IfOk result (λ x. x.0 ≡ target (lexeme token.entry)) }
+    ensures variable { IfOk result (λ x. unboxed x.0.tree ≡ to_variable (lexeme token.entry)) }
+    ensures height { IfOk result (λ x. x.0.height ≡ 1) }
     ensures targets { IfOk result (λ x. x.1.items ≡ target (lexeme token.entry) ∷ []) }
     ensures memory { IfErr result (λ e. e ≡ Memory) }
 {
-    let mut targets = Vec::new(alloc);
-    targets.push(target(alloc, token)?)?;
-    Ok((target(alloc, token)?, targets))
+    let mut targets = Vec::new(place.alloc);
+    targets.push(target(place.alloc, token)?)?;
+    let variable = node::variable(place, target(place.alloc, token)?)?;
+    Ok((variable, targets))
 }
 
 /// What stands behind the name of a count by one.
@@ -332,6 +332,6 @@ pub fn step<'a>(place: Place, token: Token<'a>, tokens: &'a [Token<'a>]) -> Read
     let Some((op, site, rest)) = cursor::operator(&level::STEPS, tokens) else {
         return Err(Halt::Stuck(tokens));
     };
-    let one = node::number(1, site);
+    let one = node::number(place, 1, site)?;
     Ok((update(place, token, op, one, site)?, rest))
 }

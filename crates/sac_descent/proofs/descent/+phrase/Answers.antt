@@ -7,11 +7,10 @@ use Rattle.sac_ast.specs.Heights.{height, stmt_height}
 use Rattle.sac_ast.specs.View as View
 use Rattle.sac_ast.specs.Tree as tree
 use Rattle.sac_ast.specs.Tree.{Expr}
-use Rattle.sac_ast.proofs.Views.{generator_is}
 use Rattle.sac_phrases.specs.Heights.{IsAbove}
 use Rattle.sac_grammar.proofs.Parsing.{read_ref, read_then, read_first, read_none, stops, stop_ref, stop_left, stop_right, stop_first, stop_second}
 use Rattle.sac_grammar.specs.Parsing.{Halted}
-use Rattle.sac_phrases.specs.Contract.{lexeme, lexemes_of, StopOf}
+use Rattle.sac_phrases.specs.Contract.{lexeme, lexemes_of, StopOf, unboxed}
 use Rattle.sac_phrases.specs.declared.level.Level.{Level}
 use Rattle.sac_phrases.specs.Levels.{IsOperandAt}
 use Rattle.sac_phrases.proofs.Steps.{less_three, less_four, less_le, token_read, token_halts, starts_there, memory_halts, memory_halted, operator_halts, operator_found}
@@ -24,7 +23,7 @@ use Rattle.sac_grammar.proofs.Grows.{grows_statement}
 use Rattle.sac_descent.proofs.DeepStatements.{statement_high, if_high, while_deeper, do_deeper, statement_nth, statement_last, for_high, for_halts, for_rest_halts, for_body_halts, for_low, cond_halts, parens_weaker}
 use Rattle.sac_descent.proofs.Assignments.{replace_halts, replace_index, rest_several, rest_replace, rest_compound, rest_last, rest_high, assign_halts}
 use Rattle.sac_descent.proofs.IndexLists.{memory_so, indices_first, indices_high, indices_next, indices_low}
-use Rattle.sac_descent.proofs.LoopSteps.{generator_deeper, dot_read, given_read, maybe_none, maybe_some, genarray_read, modarray_read, fold_read, operation_nth, operation_last, generator_read}
+use Rattle.sac_descent.proofs.LoopSteps.{generator_deeper, dot_read, given_read, maybe_none, maybe_some, genarray_read, modarray_read, fold_read, operation_nth, operation_last, gen_cell, generator_read}
 use Rattle.sac_descent.proofs.StatementSteps.{block_read, body_some, none_read, else_some, else_block, else_if, assignment_read, conditional_read, while_read, do_read, for_read, statement_kept, if_read, else_stop, several_read, replace_read, compound_read, assign_kept}
 use Rattle.sac_descent.proofs.descent.+phrase.Goals as goal
 
@@ -35,7 +34,7 @@ pub list-returns-in_err-push-clause-phrase : goal.list-returns-in_err-push-claus
 list-returns-in_err-push-clause-phrase t c = let p = err_from_is_err_and c.from_residual-in_err-push.result c.from_residual-in_err-push.ensures.1 in rw p.1 (memory_halts _ p.2)
 
 pub list-loop-comma-init : goal.list-loop-comma-init
-list-loop-comma-init t c = record { shorter = c.in_ok-first.ensures.shorter; so_far = list_begin c.args.place (lexemes_of c.args.tokens.now) c.in_ok-first.first c.in_ok-first.rest _ (c.in_ok-push.ensures.items ∙ ap (λ l. l ++ (c.in_ok-first.first.tree ∷ [])) c.new-found.ensures.items) c.in_ok-first.ensures.phrase }
+list-loop-comma-init t c = record { shorter = c.in_ok-first.ensures.shorter; so_far = list_begin c.args.place (lexemes_of c.args.tokens.now) c.in_ok-first.first c.in_ok-first.rest _ (c.in_ok-push.ensures.items ∙ ap (λ l. l ++ (c.into_inner.result ∷ [])) c.new-found.ensures.items ∙ ap (λ e. e ∷ []) c.into_inner.ensures) c.in_ok-first.ensures.phrase }
 
 pub list-returns-in_err-next-clause-phrase : goal.list-returns-in_err-next-clause-phrase
 list-returns-in_err-next-clause-phrase t c = let p = err_from_is_err_and c.from_residual-in_err-next.result c.from_residual-in_err-next.ensures.1 in rw (p.1, p.2) (list_halts c.args.place _ _ _ _ _ _ c.loop-comma.invariant.so_far c.in-Some.ensures.token c.in_err-next.ensures.phrase)
@@ -44,7 +43,7 @@ pub list-returns-in_err-push-2-clause-phrase : goal.list-returns-in_err-push-2-c
 list-returns-in_err-push-2-clause-phrase t c = let p = err_from_is_err_and c.from_residual-in_err-push-2.result c.from_residual-in_err-push-2.ensures.1 in rw p.1 (memory_halts _ p.2)
 
 pub list-loop-comma-preserved : goal.list-loop-comma-preserved
-list-loop-comma-preserved t c = record { shorter = less_three _ _ _ _ c.in_ok-next.ensures.shorter c.in-Some.ensures.shorter c.loop-comma.invariant.shorter; so_far = subst (λ n. ListRead c.args.place (lexemes_of c.args.tokens.now) c.push-in-Some.new.self.items n (lexemes_of c.in_ok-next.after.now)) (sym c.max-height.ensures) (list_next c.args.place (lexemes_of c.args.tokens.now) c.loop-comma.found.items c.loop-comma.height _ _ _ c.in_ok-next.next c.in_ok-next.after _ c.loop-comma.invariant.so_far c.in-Some.ensures.token c.in_ok-push-2.ensures.items c.in_ok-next.ensures.phrase) }
+list-loop-comma-preserved t c = record { shorter = less_three _ _ _ _ c.in_ok-next.ensures.shorter c.in-Some.ensures.shorter c.loop-comma.invariant.shorter; so_far = subst (λ n. ListRead c.args.place (lexemes_of c.args.tokens.now) c.push-in-Some.new.self.items n (lexemes_of c.in_ok-next.after.now)) (sym c.max-height.ensures) (list_next c.args.place (lexemes_of c.args.tokens.now) c.loop-comma.found.items c.loop-comma.height _ _ _ c.in_ok-next.next c.in_ok-next.after _ c.loop-comma.invariant.so_far c.in-Some.ensures.token (c.in_ok-push-2.ensures.items ∙ ap (λ e. c.loop-comma.found.items ++ (e ∷ [])) c.into_inner-in-Some.ensures) c.in_ok-next.ensures.phrase) }
 
 pub list-returns-clause-phrase : goal.list-returns-clause-phrase
 list-returns-clause-phrase t c = list_whole c.args.place _ _ _ c.loop-comma.invariant.so_far c.in_default.ensures.token
@@ -56,7 +55,7 @@ pub indices-returns-in_err-push-clause-phrase : goal.indices-returns-in_err-push
 indices-returns-in_err-push-clause-phrase t c = let p = err_from_is_err_and c.from_residual-in_err-push.result c.from_residual-in_err-push.ensures.1 in rw p.1 (memory_so _ p.2)
 
 pub indices-loop-comma-init : goal.indices-loop-comma-init
-indices-loop-comma-init t c = record { shorter = c.in_ok-first.ensures.shorter; so_far = list_begin c.args.place (lexemes_of c.args.tokens.now) c.in_ok-first.first c.in_ok-first.rest _ (c.in_ok-push.ensures.items ∙ ap (λ l. l ++ (c.in_ok-first.first.tree ∷ [])) c.new-found.ensures.items) c.in_ok-first.ensures.phrase }
+indices-loop-comma-init t c = record { shorter = c.in_ok-first.ensures.shorter; so_far = list_begin c.args.place (lexemes_of c.args.tokens.now) c.in_ok-first.first c.in_ok-first.rest _ (c.in_ok-push.ensures.items ∙ ap (λ l. l ++ (c.into_inner.result ∷ [])) c.new-found.ensures.items ∙ ap (λ e. e ∷ []) c.into_inner.ensures) c.in_ok-first.ensures.phrase }
 
 pub indices-returns-then-has_no_room-clause-phrase : goal.indices-returns-then-has_no_room-clause-phrase
 indices-returns-then-has_no_room-clause-phrase t c = indices_high c.args.place (lexemes_of c.args.tokens.now) _ _ c.loop-comma.rest _ _ c.loop-comma.invariant.so_far c.in-Some.ensures.token (c.has_no_room.ensures.full c.if-has_no_room.true)
@@ -68,7 +67,7 @@ pub indices-returns-in_err-push-2-clause-phrase : goal.indices-returns-in_err-pu
 indices-returns-in_err-push-2-clause-phrase t c = let p = err_from_is_err_and c.from_residual-in_err-push-2.result c.from_residual-in_err-push-2.ensures.1 in rw p.1 (memory_so _ p.2)
 
 pub indices-loop-comma-preserved : goal.indices-loop-comma-preserved
-indices-loop-comma-preserved t c = record { shorter = less_three _ _ _ _ c.in_ok-next.ensures.shorter c.in-Some.ensures.shorter c.loop-comma.invariant.shorter; so_far = subst (λ n. ListRead c.args.place (lexemes_of c.args.tokens.now) c.push-in-Some.new.self.items n (lexemes_of c.in_ok-next.after.now)) (sym c.max-height.ensures) (list_next c.args.place (lexemes_of c.args.tokens.now) c.loop-comma.found.items c.loop-comma.height _ _ _ c.in_ok-next.next c.in_ok-next.after _ c.loop-comma.invariant.so_far c.in-Some.ensures.token c.in_ok-push-2.ensures.items (indices_low c.args.place c.inside.result (lexemes_of c.in-Some.behind.now) c.in_ok-next.next c.in_ok-next.after (inside c.args.place c.inside.result c.inside.ensures.checked c.inside.ensures.depth (λ k. room_depth c.args.place.depth c.loop-comma.height (c.has_no_room.ensures.room c.if-has_no_room.false k))) c.in_ok-next.ensures.phrase)) }
+indices-loop-comma-preserved t c = record { shorter = less_three _ _ _ _ c.in_ok-next.ensures.shorter c.in-Some.ensures.shorter c.loop-comma.invariant.shorter; so_far = subst (λ n. ListRead c.args.place (lexemes_of c.args.tokens.now) c.push-in-Some.new.self.items n (lexemes_of c.in_ok-next.after.now)) (sym c.max-height.ensures) (list_next c.args.place (lexemes_of c.args.tokens.now) c.loop-comma.found.items c.loop-comma.height _ _ _ c.in_ok-next.next c.in_ok-next.after _ c.loop-comma.invariant.so_far c.in-Some.ensures.token (c.in_ok-push-2.ensures.items ∙ ap (λ e. c.loop-comma.found.items ++ (e ∷ [])) c.into_inner-in-Some.ensures) (indices_low c.args.place c.inside.result (lexemes_of c.in-Some.behind.now) c.in_ok-next.next c.in_ok-next.after (inside c.args.place c.inside.result c.inside.ensures.checked c.inside.ensures.depth (λ k. room_depth c.args.place.depth c.loop-comma.height (c.has_no_room.ensures.room c.if-has_no_room.false k))) c.in_ok-next.ensures.phrase)) }
 
 pub indices-returns-clause-phrase : goal.indices-returns-clause-phrase
 indices-returns-clause-phrase t c = list_whole c.args.place _ _ _ c.loop-comma.invariant.so_far c.in_default.ensures.token
@@ -115,8 +114,11 @@ name_or_call-returns-in_err-token-clause-phrase t c = let p = err_from_is_err_an
 pub name_or_call-returns-in_err-target-clause-phrase : goal.name_or_call-returns-in_err-target-clause-phrase
 name_or_call-returns-in_err-target-clause-phrase t c = let p = err_from_is_err_and c.from_residual-in_err-target.result c.from_residual-in_err-target.ensures.1 in rw (p.1, p.2) (memory_halts c.in_err-target.field-0.0 c.in_err-target.ensures.memory)
 
+pub name_or_call-returns-in_err-variable-clause-phrase : goal.name_or_call-returns-in_err-variable-clause-phrase
+name_or_call-returns-in_err-variable-clause-phrase t c = let p = err_from_is_err_and c.from_residual-in_err-variable.result c.from_residual-in_err-variable.ensures.1 in rw (p.1, p.2) (memory_halts c.in_err-variable.field-0.0 c.in_err-variable.ensures.memory)
+
 pub name_or_call-returns-in_default-clause-phrase : goal.name_or_call-returns-in_default-clause-phrase
-name_or_call-returns-in_default-clause-phrase t c = variable_read c.args.place _ c.in_ok-target.target c.in_ok-token.ensures.token c.in_default.ensures.token c.in_ok-target.ensures.target c.variable.ensures.tree c.variable.ensures.height
+name_or_call-returns-in_default-clause-phrase t c = variable_read c.args.place _ c.in_ok-target.target c.in_ok-token.ensures.token c.in_default.ensures.token c.in_ok-target.ensures.target c.in_ok-variable.ensures.tree c.in_ok-variable.ensures.height
 
 pub name_or_call-returns-in_err-list-clause-phrase : goal.name_or_call-returns-in_err-list-clause-phrase
 name_or_call-returns-in_err-list-clause-phrase t c = let p = err_from_is_err_and c.from_residual-in_err-list.result c.from_residual-in_err-list.ensures.1 in rw (p.1, p.2) (stop_right (token_read c.in_ok-token.ensures.token) (stop_first (starts_there (text (codes "(")) c.in-Some.ensures.token) (stop_right (token_read c.in-Some.ensures.token) (stop_left c.in_err-list.ensures.phrase))))
@@ -124,8 +126,11 @@ name_or_call-returns-in_err-list-clause-phrase t c = let p = err_from_is_err_and
 pub name_or_call-returns-in_err-_close-clause-phrase : goal.name_or_call-returns-in_err-_close-clause-phrase
 name_or_call-returns-in_err-_close-clause-phrase t c = let p = err_from_is_err_and c.from_residual-in_err-_close.result c.from_residual-in_err-_close.ensures.1 in rw (p.1, p.2) (stop_right (token_read c.in_ok-token.ensures.token) (stop_first (starts_there (text (codes "(")) c.in-Some.ensures.token) (stop_right (token_read c.in-Some.ensures.token) (stop_right c.in_ok-list.ensures.phrase.1 (token_halts (text (codes ")")) _ _ c.in_err-_close.ensures.token)))))
 
+pub name_or_call-returns-in_err-call-clause-phrase : goal.name_or_call-returns-in_err-call-clause-phrase
+name_or_call-returns-in_err-call-clause-phrase t c = let p = err_from_is_err_and c.from_residual-in_err-call.result c.from_residual-in_err-call.ensures.1 in rw (p.1, p.2) (memory_halts c.in_err-call.field-0.0 c.in_err-call.ensures.memory)
+
 pub name_or_call-returns-clause-phrase : goal.name_or_call-returns-clause-phrase
-name_or_call-returns-clause-phrase t c = call_read c.args.place _ c.in_ok-target.target c.in_ok-list.list c.in_ok-list.ensures.phrase.0 c.in_ok-token.ensures.token c.in-Some.ensures.token c.in_ok-list.ensures.phrase.1 c.in_ok-list.ensures.phrase.2 c.in_ok-_close.ensures.token c.in_ok-target.ensures.target c.call.ensures.tree c.call.ensures.height
+name_or_call-returns-clause-phrase t c = call_read c.args.place _ c.in_ok-target.target c.in_ok-list.list c.in_ok-list.ensures.phrase.0 c.in_ok-token.ensures.token c.in-Some.ensures.token c.in_ok-list.ensures.phrase.1 c.in_ok-list.ensures.phrase.2 c.in_ok-_close.ensures.token c.in_ok-target.ensures.target c.in_ok-call.ensures.tree c.in_ok-call.ensures.height
 
 pub builtin-returns-in_err-builtin-clause-phrase : goal.builtin-returns-in_err-builtin-clause-phrase
 builtin-returns-in_err-builtin-clause-phrase t c = let p = err_from_is_err_and c.from_residual.result c.from_residual.ensures.1 in rw (p.1, p.2) (stop_left (c.in_err-builtin.ensures.phrase _ _))
@@ -172,8 +177,11 @@ array-returns-in_err-list-clause-phrase t c = let p = err_from_is_err_and c.from
 pub array-returns-in_err-_close-clause-phrase : goal.array-returns-in_err-_close-clause-phrase
 array-returns-in_err-_close-clause-phrase t c = let p = err_from_is_err_and c.from_residual-in_err-_close.result c.from_residual-in_err-_close.ensures.1 in rw (p.1, p.2) (stop_right (token_read c.in_ok-open.ensures.token) (stop_right c.in_ok-list.ensures.phrase.1 (token_halts (text (codes "]")) _ _ c.in_err-_close.ensures.token)))
 
+pub array-returns-in_err-literal-clause-phrase : goal.array-returns-in_err-literal-clause-phrase
+array-returns-in_err-literal-clause-phrase t c = let p = err_from_is_err_and c.from_residual-in_err-literal.result c.from_residual-in_err-literal.ensures.1 in rw (p.1, p.2) (memory_halts c.in_err-literal.field-0.0 c.in_err-literal.ensures.memory)
+
 pub array-returns-clause-phrase : goal.array-returns-clause-phrase
-array-returns-clause-phrase t c = array_read c.args.place _ c.in_ok-list.list _ c.in_ok-open.ensures.token c.in_ok-list.ensures.phrase.1 c.in_ok-list.ensures.phrase.2 c.in_ok-_close.ensures.token c.literal.ensures.tree c.literal.ensures.height
+array-returns-clause-phrase t c = array_read c.args.place _ c.in_ok-list.list _ c.in_ok-open.ensures.token c.in_ok-list.ensures.phrase.1 c.in_ok-list.ensures.phrase.2 c.in_ok-_close.ensures.token c.in_ok-literal.ensures.tree c.in_ok-literal.ensures.height
 
 pub with_loop-returns-in_err-word-clause-phrase : goal.with_loop-returns-in_err-word-clause-phrase
 with_loop-returns-in_err-word-clause-phrase t c = let p = err_from_is_err_and c.from_residual.result c.from_residual.ensures.1 in rw (p.1, p.2) (stop_left (token_halts (text (codes "with")) _ _ c.in_err-word.ensures.token))
@@ -242,10 +250,10 @@ pub postfix-returns-in_err-array-clause-phrase : goal.postfix-returns-in_err-arr
 postfix-returns-in_err-array-clause-phrase t c = let p = err_from_is_err_and c.from_residual.result c.from_residual.ensures.1 in rw (p.1, p.2) (stops (stop_left (stop_ref c.in_err-array.ensures.phrase)))
 
 pub postfix-loop-open-init : goal.postfix-loop-open-init
-postfix-loop-open-init t c = record { shorter = c.in_ok-array.ensures.shorter; so_far = post_begin (lexemes_of c.args.tokens.now) (View.expr c.in_ok-array.array.tree) _ c.in_ok-array.ensures.phrase.0; tall = λ k. (c.in_ok-array.ensures.phrase.1 k).0 }
+postfix-loop-open-init t c = record { shorter = c.in_ok-array.ensures.shorter; so_far = post_begin (lexemes_of c.args.tokens.now) (unboxed c.in_ok-array.array.tree) _ c.in_ok-array.ensures.phrase.0; tall = λ k. (c.in_ok-array.ensures.phrase.1 k).0 }
 
 pub postfix-returns-then-has_no_room-clause-phrase : goal.postfix-returns-then-has_no_room-clause-phrase
-postfix-returns-then-has_no_room-clause-phrase t c = post_high c.args.place (lexemes_of c.args.tokens.now) _ c.loop-open.rest _ _ c.loop-open.invariant.so_far c.in-Some.ensures.token c.loop-open.invariant.tall (c.has_no_room.ensures.full c.if-has_no_room.true)
+postfix-returns-then-has_no_room-clause-phrase t c = post_high c.args.place (lexemes_of c.args.tokens.now) c.loop-open.array c.loop-open.rest _ _ c.loop-open.invariant.so_far c.in-Some.ensures.token c.loop-open.invariant.tall (c.has_no_room.ensures.full c.if-has_no_room.true)
 
 pub postfix-returns-in_err-index-clause-phrase : goal.postfix-returns-in_err-index-clause-phrase
 postfix-returns-in_err-index-clause-phrase t c = let p = err_from_is_err_and c.from_residual-in_err-index.result c.from_residual-in_err-index.ensures.1 in rw (p.1, p.2) (index_stop c.args.place c.inside.result (lexemes_of c.args.tokens.now) _ _ _ _ c.in_err-index.field-0.0 c.inside.ensures.checked (deeper c.args.place.depth c.inside.result.depth c.inside.ensures.depth) c.loop-open.invariant.so_far c.in-Some.ensures.token c.in_err-index.ensures.phrase)
@@ -253,11 +261,14 @@ postfix-returns-in_err-index-clause-phrase t c = let p = err_from_is_err_and c.f
 pub postfix-returns-in_err-_close-clause-phrase : goal.postfix-returns-in_err-_close-clause-phrase
 postfix-returns-in_err-_close-clause-phrase t c = let p = err_from_is_err_and c.from_residual-in_err-_close.result c.from_residual-in_err-_close.ensures.1 in rw (p.1, p.2) (stops (post_halts _ _ _ _ _ c.loop-open.invariant.so_far c.in-Some.ensures.token (stop_right c.in_ok-index.ensures.phrase.1 (token_halts (text (codes "]")) _ _ c.in_err-_close.ensures.token))))
 
+pub postfix-returns-in_err-index-2-clause-phrase : goal.postfix-returns-in_err-index-2-clause-phrase
+postfix-returns-in_err-index-2-clause-phrase t c = let p = err_from_is_err_and c.from_residual-in_err-index-2.result c.from_residual-in_err-index-2.ensures.1 in rw (p.1, p.2) (memory_halted c.in_err-index-2.field-0.0 c.in_err-index-2.ensures.memory)
+
 pub postfix-returns-in_err-array-2-clause-phrase : goal.postfix-returns-in_err-array-2-clause-phrase
 postfix-returns-in_err-array-2-clause-phrase t c = let p = err_from_is_err_and c.from_residual-in_err-array-2.result c.from_residual-in_err-array-2.ensures.1 in rw (p.1, p.2) (memory_halted c.in_err-array-2.field-0.0 c.in_err-array-2.ensures.memory)
 
 pub postfix-loop-open-preserved : goal.postfix-loop-open-preserved
-postfix-loop-open-preserved t c = let trees = c.in_ok-array-2.ensures.tree ∙ ap (λ i. tree.select (View.expr c.loop-open.array.tree) i c.in-Some.open.site) c.index_of.ensures.tree in record { shorter = less_four _ _ _ _ _ c.in_ok-_close.ensures.shorter c.in_ok-index.ensures.shorter c.in-Some.ensures.shorter c.loop-open.invariant.shorter; so_far = subst (λ (e : Expr). PostRead (lexemes_of c.args.tokens.now) e (lexemes_of c.in_ok-_close.after.now)) (sym trees) (post_next (lexemes_of c.args.tokens.now) (View.expr c.loop-open.array.tree) _ (lexeme c.in-Some.open) _ _ _ _ (map View.expr c.in_ok-index.index.tree.items) _ c.loop-open.invariant.so_far c.in-Some.ensures.token c.in_ok-index.ensures.phrase.1 c.in_ok-index.ensures.phrase.2.trees c.in_ok-_close.ensures.token); tall = λ k. select_tall c.args.place c.in-Some.open.site c.loop-open.array c.in_ok-array-2.array c.in_ok-index.index.tree.items _ c.in_ok-index.index.height c.index_of.result.height (View.expr c.index_of.result.tree) _ (c.has_no_room.ensures.room c.if-has_no_room.false k) (c.loop-open.invariant.tall k) c.in_ok-index.ensures.phrase.2.trees (low_weaker c.args.place c.inside.result c.in_ok-index.index.height _ (inside c.args.place c.inside.result c.inside.ensures.checked c.inside.ensures.depth (λ k. room_depth c.args.place.depth c.loop-open.array.height (c.has_no_room.ensures.room c.if-has_no_room.false k))) c.in_ok-index.ensures.phrase.2.low k) c.index_of.ensures.one c.index_of.ensures.several c.in_ok-array-2.ensures.height c.index_of.ensures.tree c.in_ok-array-2.ensures.tree }
+postfix-loop-open-preserved t c = let trees = c.in_ok-array-2.ensures.tree ∙ ap (λ i. tree.select (unboxed c.loop-open.array.tree) i c.in-Some.open.site) c.in_ok-index-2.ensures.tree in record { shorter = less_four _ _ _ _ _ c.in_ok-_close.ensures.shorter c.in_ok-index.ensures.shorter c.in-Some.ensures.shorter c.loop-open.invariant.shorter; so_far = subst (λ (e : Expr). PostRead (lexemes_of c.args.tokens.now) e (lexemes_of c.in_ok-_close.after.now)) (sym trees) (post_next (lexemes_of c.args.tokens.now) (unboxed c.loop-open.array.tree) _ (lexeme c.in-Some.open) _ _ _ _ (map View.expr c.in_ok-index.index.tree.items) _ c.loop-open.invariant.so_far c.in-Some.ensures.token c.in_ok-index.ensures.phrase.1 c.in_ok-index.ensures.phrase.2.trees c.in_ok-_close.ensures.token); tall = λ k. select_tall c.args.place c.in-Some.open.site c.loop-open.array c.in_ok-array-2.array c.in_ok-index.index.tree.items _ c.in_ok-index.index.height c.in_ok-index-2.index.height (unboxed c.in_ok-index-2.index.tree) _ (c.has_no_room.ensures.room c.if-has_no_room.false k) (c.loop-open.invariant.tall k) c.in_ok-index.ensures.phrase.2.trees (low_weaker c.args.place c.inside.result c.in_ok-index.index.height _ (inside c.args.place c.inside.result c.inside.ensures.checked c.inside.ensures.depth (λ k. room_depth c.args.place.depth c.loop-open.array.height (c.has_no_room.ensures.room c.if-has_no_room.false k))) c.in_ok-index.ensures.phrase.2.low k) c.in_ok-index-2.ensures.one c.in_ok-index-2.ensures.several c.in_ok-array-2.ensures.height c.in_ok-index-2.ensures.tree c.in_ok-array-2.ensures.tree }
 
 pub postfix-returns-clause-phrase : goal.postfix-returns-clause-phrase
 postfix-returns-clause-phrase t c = post_end c.args.place (lexemes_of c.args.tokens.now) _ _ c.kept.result c.loop-open.invariant.so_far c.in_default.ensures.token c.loop-open.invariant.tall c.kept.ensures
@@ -275,7 +286,7 @@ pub prefix-returns-in_err-unary-clause-phrase : goal.prefix-returns-in_err-unary
 prefix-returns-in_err-unary-clause-phrase t c = let p = err_from_is_err_and c.from_residual-in_err-unary.result c.from_residual-in_err-unary.ensures.1 in rw (p.1, p.2) (memory_halted c.in_err-unary.field-0.0 c.in_err-unary.ensures.memory)
 
 pub prefix-returns-clause-phrase : goal.prefix-returns-clause-phrase
-prefix-returns-clause-phrase t c = prefix_read c.args.place c.inside.result (lexemes_of c.args.tokens.now) c.in-Some.op c.in-Some.site c.in-Some.behind c.in_ok-inner.inner _ _ c.in-Some.ensures.token (inside c.args.place c.inside.result c.inside.ensures.checked c.inside.ensures.depth (λ k. room_depth c.args.place.depth 1 (c.has_no_room.ensures.room c.if-has_no_room.false k))) c.in_ok-inner.ensures.phrase c.in_ok-unary.ensures.tree c.in_ok-unary.ensures.height
+prefix-returns-clause-phrase t c = prefix_read c.args.place c.inside.result (lexemes_of c.args.tokens.now) c.in-Some.op c.in-Some.site c.in-Some.behind c.in_ok-inner.inner c.in_ok-unary.field-0 _ c.in-Some.ensures.token (inside c.args.place c.inside.result c.inside.ensures.checked c.inside.ensures.depth (λ k. room_depth c.args.place.depth 1 (c.has_no_room.ensures.room c.if-has_no_room.false k))) c.in_ok-inner.ensures.phrase c.in_ok-unary.ensures.tree c.in_ok-unary.ensures.height
 
 pub operand-returns-in-Disjunction-clause-phrase : goal.operand-returns-in-Disjunction-clause-phrase
 operand-returns-in-Disjunction-clause-phrase t c = subst (λ (l : Level). IsOperandAt l c.args.place (lexemes_of c.args.tokens.now) c.chain.result) (sym c.in-Disjunction.is) c.chain.ensures.phrase
@@ -395,10 +406,10 @@ pub generator-returns-in_err-_end-clause-halt : goal.generator-returns-in_err-_e
 generator-returns-in_err-_end-clause-halt t c = let p = err_from_is_err_and c.from_residual-in_err-_end.result c.from_residual-in_err-_end.ensures.1 in rw (p.1, p.2) (λ d up. stops_deep (generator_deeper d c.args.place.depth up) (stop_right (read_then (token_read c.in_ok-open.ensures.token) (read_then (read_then (read_ref c.in_ok-lower.ensures.phrase.0) (read_then c.in_ok-lower_closed.ensures.phrase.1 (read_then c.in_ok-index.ensures.phrase.1 (read_then c.in_ok-upper_closed.ensures.phrase.1 (read_then (read_ref c.in_ok-upper.ensures.phrase.0) (read_then c.in_ok-step.ensures.phrase.1 c.in_ok-width.ensures.phrase.1)))))) (token_read c.in_ok-_close.ensures.token))) (stop_right c.in_ok-body.ensures.phrase.1 (stop_right (token_read c.in_ok-_colon.ensures.token) (stop_right (read_ref c.in_ok-cell.ensures.phrase.0) (token_halts (text (codes ";")) _ _ c.in_err-_end.ensures.token))))))
 
 pub generator-returns-clause-phrase : goal.generator-returns-clause-phrase
-generator-returns-clause-phrase t c = let above = subst (λ m. IsAbove c.node_height.result m) (c.max-height.ensures ∙ ap (max c.in_ok-lower.lower.height) (c.max-4.ensures ∙ ap (max c.in_ok-upper.upper.height) (c.max-3.ensures ∙ ap (max c.in_ok-step.step.height) (c.max-2.ensures ∙ ap (max c.in_ok-width.width.height) c.max.ensures)))) c.node_height.ensures in (generator_read c.args.place (lexemes_of c.args.tokens.now) _ (lexeme c.in_ok-open.open) _ _ _ c.in_ok-lower.lower c.in_ok-upper.upper c.in_ok-lower_closed.lower_closed c.in_ok-upper_closed.upper_closed c.in_ok-index.index c.in_ok-step.step c.in_ok-width.width c.in_ok-body.body c.in_ok-cell.cell _ _ _ _ _ _ _ c.in_ok-open.ensures.token c.in_ok-lower.ensures.phrase c.in_ok-lower_closed.ensures.phrase.1 c.in_ok-lower_closed.ensures.phrase.2 c.in_ok-index.ensures.phrase.1 c.in_ok-index.ensures.phrase.2 c.in_ok-upper_closed.ensures.phrase.1 c.in_ok-upper_closed.ensures.phrase.2 c.in_ok-upper.ensures.phrase c.in_ok-step.ensures.phrase.1 c.in_ok-step.ensures.phrase.2 c.in_ok-width.ensures.phrase.1 c.in_ok-width.ensures.phrase.2 c.in_ok-_close.ensures.token c.in_ok-body.ensures.phrase.1 c.in_ok-body.ensures.phrase.2 c.in_ok-_colon.ensures.token c.in_ok-cell.ensures.phrase c.in_ok-_end.ensures.token (record { tree = generator_is _; above = above })).0
+generator-returns-clause-phrase t c = let above = subst (λ m. IsAbove c.node_height.result m) (c.max-height.ensures ∙ ap (max c.in_ok-lower.lower.height) (c.max-4.ensures ∙ ap (max c.in_ok-upper.upper.height) (c.max-3.ensures ∙ ap (max c.in_ok-step.step.height) (c.max-2.ensures ∙ ap (max c.in_ok-width.width.height) c.max.ensures)))) c.node_height.ensures in (generator_read c.args.place (lexemes_of c.args.tokens.now) _ (lexeme c.in_ok-open.open) _ _ _ c.in_ok-lower.lower c.in_ok-upper.upper c.in_ok-lower_closed.lower_closed c.in_ok-upper_closed.upper_closed c.in_ok-index.index c.in_ok-step.step c.in_ok-width.width c.in_ok-body.body c.in_ok-cell.cell _ _ _ _ _ _ _ c.in_ok-open.ensures.token c.in_ok-lower.ensures.phrase c.in_ok-lower_closed.ensures.phrase.1 c.in_ok-lower_closed.ensures.phrase.2 c.in_ok-index.ensures.phrase.1 c.in_ok-index.ensures.phrase.2 c.in_ok-upper_closed.ensures.phrase.1 c.in_ok-upper_closed.ensures.phrase.2 c.in_ok-upper.ensures.phrase c.in_ok-step.ensures.phrase.1 c.in_ok-step.ensures.phrase.2 c.in_ok-width.ensures.phrase.1 c.in_ok-width.ensures.phrase.2 c.in_ok-_close.ensures.token c.in_ok-body.ensures.phrase.1 c.in_ok-body.ensures.phrase.2 c.in_ok-_colon.ensures.token c.in_ok-cell.ensures.phrase c.in_ok-_end.ensures.token (record { tree = gen_cell _ c.in_ok-cell.cell.tree c.into_inner.ensures; above = above })).0
 
 pub generator-returns-clause-near : goal.generator-returns-clause-near
-generator-returns-clause-near t c = let above = subst (λ m. IsAbove c.node_height.result m) (c.max-height.ensures ∙ ap (max c.in_ok-lower.lower.height) (c.max-4.ensures ∙ ap (max c.in_ok-upper.upper.height) (c.max-3.ensures ∙ ap (max c.in_ok-step.step.height) (c.max-2.ensures ∙ ap (max c.in_ok-width.width.height) c.max.ensures)))) c.node_height.ensures in (generator_read c.args.place (lexemes_of c.args.tokens.now) _ (lexeme c.in_ok-open.open) _ _ _ c.in_ok-lower.lower c.in_ok-upper.upper c.in_ok-lower_closed.lower_closed c.in_ok-upper_closed.upper_closed c.in_ok-index.index c.in_ok-step.step c.in_ok-width.width c.in_ok-body.body c.in_ok-cell.cell _ _ _ _ _ _ _ c.in_ok-open.ensures.token c.in_ok-lower.ensures.phrase c.in_ok-lower_closed.ensures.phrase.1 c.in_ok-lower_closed.ensures.phrase.2 c.in_ok-index.ensures.phrase.1 c.in_ok-index.ensures.phrase.2 c.in_ok-upper_closed.ensures.phrase.1 c.in_ok-upper_closed.ensures.phrase.2 c.in_ok-upper.ensures.phrase c.in_ok-step.ensures.phrase.1 c.in_ok-step.ensures.phrase.2 c.in_ok-width.ensures.phrase.1 c.in_ok-width.ensures.phrase.2 c.in_ok-_close.ensures.token c.in_ok-body.ensures.phrase.1 c.in_ok-body.ensures.phrase.2 c.in_ok-_colon.ensures.token c.in_ok-cell.ensures.phrase c.in_ok-_end.ensures.token (record { tree = generator_is _; above = above })).1
+generator-returns-clause-near t c = let above = subst (λ m. IsAbove c.node_height.result m) (c.max-height.ensures ∙ ap (max c.in_ok-lower.lower.height) (c.max-4.ensures ∙ ap (max c.in_ok-upper.upper.height) (c.max-3.ensures ∙ ap (max c.in_ok-step.step.height) (c.max-2.ensures ∙ ap (max c.in_ok-width.width.height) c.max.ensures)))) c.node_height.ensures in (generator_read c.args.place (lexemes_of c.args.tokens.now) _ (lexeme c.in_ok-open.open) _ _ _ c.in_ok-lower.lower c.in_ok-upper.upper c.in_ok-lower_closed.lower_closed c.in_ok-upper_closed.upper_closed c.in_ok-index.index c.in_ok-step.step c.in_ok-width.width c.in_ok-body.body c.in_ok-cell.cell _ _ _ _ _ _ _ c.in_ok-open.ensures.token c.in_ok-lower.ensures.phrase c.in_ok-lower_closed.ensures.phrase.1 c.in_ok-lower_closed.ensures.phrase.2 c.in_ok-index.ensures.phrase.1 c.in_ok-index.ensures.phrase.2 c.in_ok-upper_closed.ensures.phrase.1 c.in_ok-upper_closed.ensures.phrase.2 c.in_ok-upper.ensures.phrase c.in_ok-step.ensures.phrase.1 c.in_ok-step.ensures.phrase.2 c.in_ok-width.ensures.phrase.1 c.in_ok-width.ensures.phrase.2 c.in_ok-_close.ensures.token c.in_ok-body.ensures.phrase.1 c.in_ok-body.ensures.phrase.2 c.in_ok-_colon.ensures.token c.in_ok-cell.ensures.phrase c.in_ok-_end.ensures.token (record { tree = gen_cell _ c.in_ok-cell.cell.tree c.into_inner.ensures; above = above })).1
 
 pub bound-returns-in-Some-clause-phrase : goal.bound-returns-in-Some-clause-phrase
 bound-returns-in-Some-clause-phrase t c = dot_read c.args.place (lexemes_of c.args.tokens.now) _ _ _ c.kept.result c.in-Some.ensures.token c.dot.ensures.tree c.dot.ensures.height c.kept.ensures
@@ -416,7 +427,7 @@ pub maybe_sum-returns-in_err-value-clause-phrase : goal.maybe_sum-returns-in_err
 maybe_sum-returns-in_err-value-clause-phrase t c = let p = err_from_is_err_and c.from_residual.result c.from_residual.ensures.1 in rw (p.1, p.2) (stop_first (starts_there (text c.args.word.now) c.in-Some.ensures.token) (stop_right (token_read c.in-Some.ensures.token) (stop_ref c.in_err-value.ensures.phrase)))
 
 pub maybe_sum-returns-clause-phrase : goal.maybe_sum-returns-clause-phrase
-maybe_sum-returns-clause-phrase t c = (inl (_, View.expr c.in_ok-value.value.tree), read_first (starts_there (text c.args.word.now) c.in-Some.ensures.token) (read_then (token_read c.in-Some.ensures.token) (read_ref c.in_ok-value.ensures.phrase.0)), maybe_some c.args.place _ c.in_ok-value.value c.present.result c.in_ok-value.ensures.phrase.1 c.present.ensures)
+maybe_sum-returns-clause-phrase t c = (inl (_, unboxed c.in_ok-value.value.tree), read_first (starts_there (text c.args.word.now) c.in-Some.ensures.token) (read_then (token_read c.in-Some.ensures.token) (read_ref c.in_ok-value.ensures.phrase.0)), maybe_some c.args.place _ c.in_ok-value.value c.present.result c.in_ok-value.ensures.phrase.1 c.present.ensures)
 
 pub maybe_default-returns-in_default-clause-phrase : goal.maybe_default-returns-in_default-clause-phrase
 maybe_default-returns-in_default-clause-phrase t c = (inr tt, read_none c.in_default.ensures.token, maybe_none c.args.place (sign []) (lexemes_of c.args.tokens.now) c.absent.result c.absent.ensures)
@@ -425,7 +436,7 @@ pub maybe_default-returns-in_err-value-clause-phrase : goal.maybe_default-return
 maybe_default-returns-in_err-value-clause-phrase t c = let p = err_from_is_err_and c.from_residual.result c.from_residual.ensures.1 in rw (p.1, p.2) (stop_first (starts_there (text (codes ",")) c.in-Some.ensures.token) (stop_right (token_read c.in-Some.ensures.token) (stop_ref c.in_err-value.ensures.phrase)))
 
 pub maybe_default-returns-clause-phrase : goal.maybe_default-returns-clause-phrase
-maybe_default-returns-clause-phrase t c = (inl (_, View.expr c.in_ok-value.value.tree), read_first (starts_there (text (codes ",")) c.in-Some.ensures.token) (read_then (token_read c.in-Some.ensures.token) (read_ref c.in_ok-value.ensures.phrase.0)), maybe_some c.args.place _ c.in_ok-value.value c.present.result c.in_ok-value.ensures.phrase.1 c.present.ensures)
+maybe_default-returns-clause-phrase t c = (inl (_, unboxed c.in_ok-value.value.tree), read_first (starts_there (text (codes ",")) c.in-Some.ensures.token) (read_then (token_read c.in-Some.ensures.token) (read_ref c.in_ok-value.ensures.phrase.0)), maybe_some c.args.place _ c.in_ok-value.value c.present.result c.in_ok-value.ensures.phrase.1 c.present.ensures)
 
 pub genarray-returns-in_err-word-clause-phrase : goal.genarray-returns-in_err-word-clause-phrase
 genarray-returns-in_err-word-clause-phrase t c = let p = err_from_is_err_and c.from_residual.result c.from_residual.ensures.1 in rw (p.1, p.2) (stop_left (token_halts (text (codes "genarray")) _ _ c.in_err-word.ensures.token))
@@ -608,7 +619,7 @@ pub for_loop-returns-in_err-for_loop-clause-phrase : goal.for_loop-returns-in_er
 for_loop-returns-in_err-for_loop-clause-phrase t c = let p = err_from_is_err_and c.from_residual-in_err-for_loop.result c.from_residual-in_err-for_loop.ensures.1 in rw (p.1, p.2) (memory_so c.in_err-for_loop.field-0.0 c.in_err-for_loop.ensures.memory)
 
 pub for_loop-returns-clause-phrase : goal.for_loop-returns-clause-phrase
-for_loop-returns-clause-phrase t c = for_read c.args.place c.in_ok-start.start c.in_ok-cond.cond c.in_ok-step.step c.in_ok-body.body _ c.in_ok-word.ensures.token c.in_ok-_open.ensures.token c.in_ok-start.ensures.phrase c.in_ok-_end.ensures.token (c.in_ok-cond.ensures.phrase.0, low_weaker c.args.place c.inside-inner.result c.in_ok-cond.cond.height (height (View.expr c.in_ok-cond.cond.tree)) (inside c.args.place c.inside-inner.result c.inside-inner.ensures.checked c.inside-inner.ensures.depth (λ k. room_depth c.args.place.depth 2 (c.has_no_room.ensures.room c.if-has_no_room.false k))) c.in_ok-cond.ensures.phrase.1) c.in_ok-_end-2.ensures.token (c.in_ok-step.ensures.phrase.0, low_weaker c.args.place c.inside-inner.result c.in_ok-step.step.height (stmt_height (View.stmt c.in_ok-step.step.tree)) (inside c.args.place c.inside-inner.result c.inside-inner.ensures.checked c.inside-inner.ensures.depth (λ k. room_depth c.args.place.depth 2 (c.has_no_room.ensures.room c.if-has_no_room.false k))) c.in_ok-step.ensures.phrase.1) c.in_ok-_close.ensures.token (c.in_ok-body.ensures.phrase.0, for_low c.args.place c.inside-inner.result c.in_ok-body.body.height _ c.inside-inner.ensures.checked c.in_ok-body.ensures.phrase.1) c.in_ok-for_loop.ensures.trees c.in_ok-for_loop.ensures.height
+for_loop-returns-clause-phrase t c = for_read c.args.place c.in_ok-start.start c.in_ok-cond.cond c.in_ok-step.step c.in_ok-body.body _ c.in_ok-word.ensures.token c.in_ok-_open.ensures.token c.in_ok-start.ensures.phrase c.in_ok-_end.ensures.token (c.in_ok-cond.ensures.phrase.0, low_weaker c.args.place c.inside-inner.result c.in_ok-cond.cond.height (height (unboxed c.in_ok-cond.cond.tree)) (inside c.args.place c.inside-inner.result c.inside-inner.ensures.checked c.inside-inner.ensures.depth (λ k. room_depth c.args.place.depth 2 (c.has_no_room.ensures.room c.if-has_no_room.false k))) c.in_ok-cond.ensures.phrase.1) c.in_ok-_end-2.ensures.token (c.in_ok-step.ensures.phrase.0, low_weaker c.args.place c.inside-inner.result c.in_ok-step.step.height (stmt_height (View.stmt c.in_ok-step.step.tree)) (inside c.args.place c.inside-inner.result c.inside-inner.ensures.checked c.inside-inner.ensures.depth (λ k. room_depth c.args.place.depth 2 (c.has_no_room.ensures.room c.if-has_no_room.false k))) c.in_ok-step.ensures.phrase.1) c.in_ok-_close.ensures.token (c.in_ok-body.ensures.phrase.0, for_low c.args.place c.inside-inner.result c.in_ok-body.body.height _ c.inside-inner.ensures.checked c.in_ok-body.ensures.phrase.1) c.in_ok-for_loop.ensures.trees c.in_ok-for_loop.ensures.height
 
 pub any_statement-returns-then-starts_name-clause-phrase : goal.any_statement-returns-then-starts_name-clause-phrase
 any_statement-returns-then-starts_name-clause-phrase t c = statement_nth c.args.place c.args.place 0 (lexemes_of c.args.tokens.now) c.assignment.result refl (sym c.starts_name.ensures ∙ c.if-starts_name.true) refl (λ v h. grows_statement c.args.place.depth (inl v) h) c.assignment.ensures.phrase
@@ -700,8 +711,11 @@ replacement-returns-in_err-value-clause-phrase t c = let p = err_from_is_err_and
 pub replacement-returns-in_err-target-clause-phrase : goal.replacement-returns-in_err-target-clause-phrase
 replacement-returns-in_err-target-clause-phrase t c = let p = err_from_is_err_and c.from_residual-in_err-target.result c.from_residual-in_err-target.ensures.1 in rw (p.1, p.2) (memory_so c.in_err-target.field-0.0 c.in_err-target.ensures.memory)
 
+pub replacement-returns-in_err-index-2-clause-phrase : goal.replacement-returns-in_err-index-2-clause-phrase
+replacement-returns-in_err-index-2-clause-phrase t c = let p = err_from_is_err_and c.from_residual-in_err-index-2.result c.from_residual-in_err-index-2.ensures.1 in rw (p.1, p.2) (memory_so c.in_err-index-2.field-0.0 c.in_err-index-2.ensures.memory)
+
 pub replacement-returns-clause-phrase : goal.replacement-returns-clause-phrase
-replacement-returns-clause-phrase t c = replace_read c.args.place (lexeme c.args.token) c.in_ok-target.target c.in_ok-index.index c.index_of-index.result c.in_ok-value.value _ _ c.in_ok-open.ensures.token c.in_ok-index.ensures.phrase.1 c.in_ok-index.ensures.phrase.2 c.in_ok-_close.ensures.token c.in_ok-_sign.ensures.token c.in_ok-value.ensures.phrase c.in_ok-target.ensures.target c.index_of-index.ensures.tree c.index_of-index.ensures.one c.index_of-index.ensures.several c.replace.ensures.tree c.replace.ensures.height
+replacement-returns-clause-phrase t c = replace_read c.args.place (lexeme c.args.token) c.in_ok-target.target c.in_ok-index.index c.in_ok-index-2.index c.in_ok-value.value _ _ c.in_ok-open.ensures.token c.in_ok-index.ensures.phrase.1 c.in_ok-index.ensures.phrase.2 c.in_ok-_close.ensures.token c.in_ok-_sign.ensures.token c.in_ok-value.ensures.phrase c.in_ok-target.ensures.target c.in_ok-index-2.ensures.tree c.in_ok-index-2.ensures.one c.in_ok-index-2.ensures.several c.replace.ensures.tree c.replace.ensures.height
 
 pub compound-returns-in_default-clause-phrase : goal.compound-returns-in_default-clause-phrase
 compound-returns-in_default-clause-phrase t c = stop_left (operator_halts (codes "+=", Add) ((codes "-=", Sub) ∷ (codes "*=", Mul) ∷ (codes "/=", Div) ∷ (codes "%=", Rem) ∷ []) (lexemes_of c.args.tokens.now) c.args.tokens refl c.in_default.ensures.token)

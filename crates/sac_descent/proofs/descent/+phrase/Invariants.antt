@@ -1,7 +1,6 @@
 use Rattle.std.proofs.Common.{◌≡◌, ◌+◌, ◌*◌, ◌<◌, ◌≤◌, length, true}
 use Rattle.sac_ast.specs.Heights.{height}
-use Rattle.sac_ast.specs.View as View
-use Rattle.sac_phrases.specs.Contract.{lexemes_of}
+use Rattle.sac_phrases.specs.Contract.{lexemes_of, unboxed}
 use Rattle.sac_descent.proofs.LevelSteps.{LevelSoFar}
 use Rattle.sac_descent.proofs.ListSteps.{ListRead, PostRead, GensRead, StmtsRead}
 use Rattle.sac_phrases.specs.Heights.{rank}
@@ -155,13 +154,13 @@ abbrev pub decreases-indices-loop-comma : goal.decreases-indices-loop-comma
 decreases-indices-loop-comma l = length l.rest
 
 abbrev pub invariant-postfix-loop-open : goal.invariant-postfix-loop-open
-invariant-postfix-loop-open l = record { shorter : length l.rest < length l.tokens; so_far : PostRead (lexemes_of l.tokens) (View.expr l.array.tree) (lexemes_of l.rest); tall : l.place.checked ≡ true → l.array.height ≡ height (View.expr l.array.tree) }
+invariant-postfix-loop-open l = record { shorter : length l.rest < length l.tokens; so_far : PostRead (lexemes_of l.tokens) (unboxed l.array.tree) (lexemes_of l.rest); tall : l.place.checked ≡ true → l.array.height ≡ height (unboxed l.array.tree) }
 
 abbrev pub decreases-postfix-loop-open : goal.decreases-postfix-loop-open
 decreases-postfix-loop-open l = length l.rest
 
 abbrev pub invariant-chain-loop-op : goal.invariant-chain-loop-op
-invariant-chain-loop-op l = record { shorter : length l.rest < length l.tokens; so_far : LevelSoFar l.level (lexemes_of l.tokens) (View.expr l.left.tree) (lexemes_of l.rest); tall : l.place.checked ≡ true → l.left.height ≡ height (View.expr l.left.tree) }
+invariant-chain-loop-op l = record { shorter : length l.rest < length l.tokens; so_far : LevelSoFar l.level (lexemes_of l.tokens) (unboxed l.left.tree) (lexemes_of l.rest); tall : l.place.checked ≡ true → l.left.height ≡ height (unboxed l.left.tree) }
 
 abbrev pub decreases-chain-loop-op : goal.decreases-chain-loop-op
 decreases-chain-loop-op l = length l.rest
