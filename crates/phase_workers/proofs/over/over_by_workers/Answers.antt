@@ -1,8 +1,8 @@
 use Rattle.std.proofs.Common.{rules, ◌≡◌, ◌<◌, ℕ, None, Ok, Err, List, ℤ, length, map, unsigned_abs, true, refl, ap, ◌∙◌, sym, subst}
 use Rattle.std.specs.Prelude.{◌≢◌}
-use Rattle.buffer_heap.specs.Heaps.{IsLive}
+use Rattle.buffer_heap.specs.Heaps.{HeapValue, IsLive}
 use Rattle.counted_code.specs.Values.{Ref}
-use Rattle.phase_books.specs.Homes.{WillHave, handed, left_in}
+use Rattle.phase_books.specs.Homes.{ComputesAll, WillHave, handed, left_in}
 use Rattle.phase_books.specs.Over.{settled_over}
 use Rattle.phase_books.proofs.Booking.{done_has, stopped_has}
 use Rattle.phase_loop_cells.specs.Cells.{source_cell, source_taken}
@@ -35,11 +35,16 @@ returns-in_ok-settle_over-in-Ok-clause-told g c m at large only rows =
     let es = c.array_cells-end.new.begun.target.cells.items in
     let s : State = record { frames = s0.frames; heap = s0.heap; phases = c.open_books.new.phases } in
     let t : State = record { frames = c.end_phase.new.state.frames; heap = c.settle_over.new.heap; phases = c.end_phase.new.state.phases } in
-    let after = c.end_phase.ensures.heap in
+    let e = current s0.frames in
+    let n = length a.plan.now.frame in
+    let kept : c.take_spare.new.self ≡ h = c.take_spare.ensures.heap in
+    let after = c.end_phase.ensures.heap ∙ ap {B = Store} (λ (k : HeapValue). record { own = handed k home; lent = s0.heap.lent }) kept in
     over_finished a.context.now (current s0.frames) a.parts.now a.plan.now.frame a.plan.now.form a.plan.now.shape a.live.now (value_of a.array) h
     c.phases_end_over.ensures c.get-code.ensures.counted c.requires.counted c.requires.alive c.buffers_are_numbered.ensures.referred given m (own_stands s0.heap m none at.heap) large only rows
     s t (count_stands s0 s true m (length a.plan.now.frame) c.count-positions.result (sym c.count-positions.ensures) refl refl c.in_ok-books.ensures.counted at) c.end_phase.ensures.phases
-    es home c.in-Ok.ensures.computed c.in-Ok.ensures.there id.place
+    es home
+    (subst (λ (k : HeapValue). ComputesAll (cells_from (source_cell a.context.now k e (Parts a.parts) a.plan.now None) 0 n) k (cost_from (source_taken a.context.now k e (Parts a.parts) a.plan.now) 0 n) es (Ok home)) kept c.in-Ok.ensures.computed)
+    (subst (λ (k : HeapValue). (place : ℕ) → place < n → source_cell a.context.now k e (Parts a.parts) a.plan.now None place ≢ Ok None) kept c.in-Ok.ensures.there) id.place
     (subst (λ n. IsLive h id.place (IsSoleOf n)) same.0 (subst (λ (st : Store). IsLive st.own id.place (IsSoleOf id.born)) after c.in_ok-settle_over-in-Ok.ensures.sole))
     (c.in_ok-settle_over-in-Ok.ensures.settled
     ∙ (λ i. record { own = settled_over (after i).own id.place es; lent = (after i).lent })
@@ -60,12 +65,16 @@ returns-in_ok-claim_over-in-Err-Faulted-clause-told g c m at large only rows =
     let es = c.array_cells-end.new.begun.target.cells.items in
     let s : State = record { frames = s0.frames; heap = s0.heap; phases = c.open_books.new.phases } in
     let frame = a.plan.now.frame in
+    let n = length frame in
+    let kept : c.take_spare.new.self ≡ h = c.take_spare.ensures.heap in
+    let computed = subst (λ (k : HeapValue). ComputesAll (cells_from (source_cell context k e (Parts a.parts) a.plan.now None) 0 n) k (cost_from (source_taken context k e (Parts a.parts) a.plan.now) 0 n) es (left_in home c.array_cells-end.result)) kept c.array_cells-end.ensures.computed in
+    let there = subst (λ (k : HeapValue). IfEnded c.array_cells-end.result ((place : ℕ) → place < n → source_cell context k e (Parts a.parts) a.plan.now None place ≢ Ok None)) kept c.array_cells-end.ensures.there in
     over_faulted context e a.parts.now frame a.plan.now.form a.plan.now.shape a.live.now (value_of a.array) h
     c.phases_end_over.ensures c.get-code.ensures.counted c.requires.counted c.requires.alive c.buffers_are_numbered.ensures.referred c.requires.over m (own_stands s0.heap m none at.heap) large only rows
     s c.stop_phase.new.state (count_stands s0 s true m (length frame) c.count-positions.result (sym c.count-positions.ensures) refl refl c.in_ok-books.ensures.counted at) c.stop_phase.ensures.phases
     es f
-    (computed_as (cells_from (source_cell context h e (Parts a.parts) a.plan.now None) 0 (length frame)) h (cost_from (source_taken context h e (Parts a.parts) a.plan.now) 0 (length frame)) es (left_in home c.array_cells-end.result) (Err (Faulted f)) (ap (left_in home) end) c.array_cells-end.ensures.computed)
-    (subst (λ r. IfEnded r ((place : ℕ) → place < length frame → source_cell context h e (Parts a.parts) a.plan.now None place ≢ Ok None)) end c.array_cells-end.ensures.there)
+    (computed_as (cells_from (source_cell context h e (Parts a.parts) a.plan.now None) 0 (length frame)) h (cost_from (source_taken context h e (Parts a.parts) a.plan.now) 0 (length frame)) es (left_in home c.array_cells-end.result) (Err (Faulted f)) (ap (left_in home) end) computed)
+    (subst (λ r. IfEnded r ((place : ℕ) → place < length frame → source_cell context h e (Parts a.parts) a.plan.now None place ≢ Ok None)) end there)
 
 pub end_phase-requires-clause-tally : goal.end_phase-requires-clause-tally
 end_phase-requires-clause-tally g c =
