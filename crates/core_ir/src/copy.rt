@@ -33,8 +33,9 @@ fn copy_let(alloc: Global, binding: &Let) -> Result<Let, Memory>
     })
 }
 
+/// An equal right side.
 #[cycle(copy)]
-fn copy_right(alloc: Global, right: &Right) -> Result<Right, Memory>
+pub fn copy_right(alloc: Global, right: &Right) -> Result<Right, Memory>
     ensures { IfOk result (λ r. right_term r ≡ right_term right.now) }
 {
     match right {

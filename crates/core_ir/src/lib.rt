@@ -7,7 +7,7 @@ mod laws;
 mod operands;
 mod tree;
 
-pub use copy::{copy_block, copy_core, copy_function};
+pub use copy::{copy_block, copy_core, copy_function, copy_right};
 pub use count::nodes;
 pub use laws::{
     coincidence, function_by_function, renaming, replacing_one_place, splicing, unused_variable,
