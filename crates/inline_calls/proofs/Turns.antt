@@ -1,6 +1,9 @@
 -- A block whose bindings are gone through one after another.
 use Rattle.std.proofs.Common.{◌≡◌, ℕ, Bool, suc, ◌+◌, ◌-◌, ◌^◌, ◌<◌, ◌≤◌, List, [], ◌∷◌, ◌++◌, map, length, take, take_all, get_or, refl, sym, ap, subst, ◌∙◌, arith, inr}
 use Rattle.std.proofs.Math.Seq.{take-suc}
+use Rattle.std.specs.Prelude.{Vec, Result, Ok, Err, IfOk}
+use Rattle.std.specs.declared.alloc.Global.{Global}
+use Rattle.sac_base.specs.declared.memory.Memory.{Memory}
 use Rattle.sac_base.specs.declared.site.Site.{Site}
 use Rattle.core_ir.specs.declared.tree.Var.{Var}
 use Rattle.core_ir.specs.declared.tree.CoreGen.{CoreGen, CoreGen', CoreGen-F, out-CoreGen, roll-CoreGen, out-roll-CoreGen}
@@ -8,14 +11,16 @@ use Rattle.core_ir.specs.declared.tree.CorePart.{CorePart, CorePart', CorePart-F
 use Rattle.core_ir.specs.declared.tree.Block.{Block, Block-F, out-Block, roll-Block}
 use Rattle.core_ir.specs.declared.tree.WithLoop.{WithLoop, WithLoop-F, out-WithLoop, roll-WithLoop}
 use Rattle.core_ir.specs.declared.tree.PartedLoop.{PartedLoop, PartedLoop-F, out-PartedLoop, roll-PartedLoop}
+use Rattle.core_ir.specs.declared.tree.Right.{Right}
+use Rattle.core_ir.specs.declared.tree.Right.TheVariants as right
 use Rattle.core_ir.specs.declared.tree.Right.TheBlock.{the_data, the_data-1, the_data-2, the_data-3, the_data-4, the_data-5, the_data-6}
 use Rattle.core_ir.specs.Terms.{PlainTerm, BlockTerm, RightTerm, GensTerm, PartsTerm, LetTerm, GenTerm, PartTerm, CoreTerm, Gives, Bind, Plain, NoGens, Gen, NoParts, Part, chain, gens_of, parts_of}
-use Rattle.core_ir.specs.View.{block_term, let_term, with_term, gen_term, parted_term, part_term}
+use Rattle.core_ir.specs.View.{block_term, let_term, right_term, with_term, gen_term, parted_term, part_term}
 use Rattle.core_ir.proofs.Trees.{block_out, block_roll, with_out, with_roll, parted_out, parted_roll}
 use Rattle.core_forms.specs.declared.inlined_bodies.growth.Growth.{Growth}
 use Rattle.core_forms.specs.inlined_bodies.Inlining.{BlockInlined, RightInlined, GensInlined, PartsInlined, ends, kept, plain, left, branches, turns, generated, divided, no_gens, a_gen, no_parts, a_part}
 use Rattle.core_forms.specs.inlined_bodies.Functions.{Anywhere}
-use Rattle.inline_calls.specs.Bindings.{LetInlined, MayStay, GenInlined, PartInlined}
+use Rattle.inline_calls.specs.Bindings.{LetInlined, MayStay, RightWalked, GenInlined, PartInlined}
 use Rattle.inline_calls.proofs.Steps.{map_snoc, chain_both}
 
 -- ---- bindings
@@ -152,12 +157,7 @@ part_whole core s t x p q d =
     subst (λ (u : PartTerm). PartInlined core s u (part_term (roll-CorePart x)) t) (sym (part_out p))
     (subst (λ (v : PartTerm). PartInlined core s (shown_part (out-CorePart p)) v t) (ap shown_part (sym (out-roll-CorePart x)) ∙ sym (part_out (roll-CorePart x))) (record { head = sym q; body = d }))
 
--- ---- right sides without blocks
-
-pub same_leaf : (core : CoreTerm) (s : Growth) (r : RightTerm) (p q : PlainTerm) → r ≡ Plain p → q ≡ p → RightInlined core Anywhere s r (Plain q) s
-same_leaf core s r p q e f = subst (λ (x : RightTerm). RightInlined core Anywhere s x (Plain q) s) (sym e) (subst (λ (x : PlainTerm). RightInlined core Anywhere s (Plain p) (Plain x) s) (sym f) plain)
-
--- ---- right sides with blocks, and calls
+-- ---- right sides with blocks
 
 pub both_branches : (core : CoreTerm) (s m t : Growth) (r : RightTerm) (x : Var) (a b c d : BlockTerm) → r ≡ RightTerm.If x a b → BlockInlined core Anywhere s a c m → BlockInlined core Anywhere m b d t → RightInlined core Anywhere s r (RightTerm.If x c d) t
 both_branches core s m t r x a b c d e p q = subst (λ (y : RightTerm). RightInlined core Anywhere s y (RightTerm.If x c d) t) (sym e) (branches p q)
@@ -168,10 +168,45 @@ both_blocks core s m t r first start start' params params' a b c d u e v w p q =
     subst (λ (y : RightTerm). RightInlined core Anywhere s y (RightTerm.Loop first start' params' c d u) t) (sym e)
     (subst (λ (y : RightTerm). RightInlined core Anywhere s (RightTerm.Loop first start params a b u) y t) (λ i. RightTerm.Loop first (sym v i) (sym w i) c d u) (turns p q))
 
-pub call_stays : (core : CoreTerm) (s : Growth) (r : RightTerm) (group : ℕ) (xs ys : List Var) → r ≡ RightTerm.Call group xs → ys ≡ xs → MayStay core s r → RightInlined core Anywhere s r (RightTerm.Call group ys) s
-call_stays core s r group xs ys e f m =
-    subst (λ (x : RightTerm). RightInlined core Anywhere s x (RightTerm.Call group ys) s) (sym e)
-    (subst (λ (zs : List Var). RightInlined core Anywhere s (RightTerm.Call group xs) (RightTerm.Call group zs) s) (sym f) (left (subst (MayStay core s) e m)))
+-- ---- right sides without blocks
+
+abbrev HasNoBlock : RightTerm → Type 0
+HasNoBlock (Plain p) = Unit {0}
+HasNoBlock (RightTerm.Call group xs) = Unit {0}
+HasNoBlock _ = ⊥
+
+pub has_no_block : (r : Right) → ((cond : Var) (yes no : Block) → r ≡ right.If cond yes no → ⊥) → ((first : Bool) (start params : Vec Var Global) (test body : Block) (site : Site) → r ≡ right.Loop first start params test body site → ⊥)
+    → ((w : WithLoop) → r ≡ right.With w → ⊥) → ((p : PartedLoop) → r ≡ right.Parted p → ⊥) → HasNoBlock (right_term r)
+has_no_block (right.If c a b) not_if not_loop not_with not_parted = absurd (not_if c a b refl)
+has_no_block (right.Loop f xs ps a b s) not_if not_loop not_with not_parted = absurd (not_loop f xs ps a b s refl)
+has_no_block (right.With w) not_if not_loop not_with not_parted = absurd (not_with w refl)
+has_no_block (right.Parted p) not_if not_loop not_with not_parted = absurd (not_parted p refl)
+has_no_block (right.Const a) not_if not_loop not_with not_parted = tt
+has_no_block (right.Copy x) not_if not_loop not_with not_parted = tt
+has_no_block (right.Unary op x) not_if not_loop not_with not_parted = tt
+has_no_block (right.Binary op x y) not_if not_loop not_with not_parted = tt
+has_no_block (right.Literal xs) not_if not_loop not_with not_parted = tt
+has_no_block (right.Dim x) not_if not_loop not_with not_parted = tt
+has_no_block (right.ShapeOf x) not_if not_loop not_with not_parted = tt
+has_no_block (right.Reshape x y) not_if not_loop not_with not_parted = tt
+has_no_block (right.Select x y) not_if not_loop not_with not_parted = tt
+has_no_block (right.Replace x y z) not_if not_loop not_with not_parted = tt
+has_no_block (right.Call group args) not_if not_loop not_with not_parted = tt
+has_no_block (right.Always k) not_if not_loop not_with not_parted = tt
+has_no_block (right.Check x t) not_if not_loop not_with not_parted = tt
+
+stays : (core : CoreTerm) (s : Growth) (r : RightTerm) → HasNoBlock r → MayStay core s r → RightInlined core Anywhere s r r s
+stays core s (Plain p) h m = plain
+stays core s (RightTerm.Call group xs) h m = left m
+stays core s (RightTerm.If x a b) h m = absurd h
+stays core s (RightTerm.Loop first start params a b u) h m = absurd h
+stays core s (RightTerm.With op gens) h m = absurd h
+stays core s (RightTerm.Parted frame base cell op parts) h m = absurd h
+
+-- a copy of one
+pub copy_stays : (core : CoreTerm) (s : Growth) (r : RightTerm) (new : Result Right Memory) → HasNoBlock r → IfOk new (λ (q : Right). right_term q ≡ r) → IfOk new (λ (q : Right). RightWalked core s r (right_term q) s)
+copy_stays core s r (Ok q) h e m = subst (λ (t : RightTerm). RightInlined core Anywhere s r t s) (sym e) (stays core s r h m)
+copy_stays core s r (Err m) h e = tt
 
 -- ---- a function without room for any other
 

@@ -9,8 +9,8 @@ ghost use Rattle.inline_calls.specs.Bindings.{Pushed, RightWalked, GenInlined, P
 use crate::call::{Inlined, inlined_call};
 use crate::sizes::Measured;
 use core_forms::inlined_bodies::Growth;
-use core_ir::{Block, CoreGen, CorePart, Let, PartedLoop, Right, Var, WithLoop};
-use sac_base::{Memory, copy_array, copy_type};
+use core_ir::{Block, CoreGen, CorePart, Let, PartedLoop, Right, Var, WithLoop, copy_right};
+use sac_base::Memory;
 use std::alloc::Global;
 
 /// A copy of a block in which calls of inline functions are inlined, as long as there is room.
@@ -75,16 +75,6 @@ fn inline_right(
     ensures { IfOk result (λ r. RightWalked (core_term work.now.core.now) growth.old (right_term right.now) (right_term r) growth.new) }
 {
     match right {
-        Right::Const(a) => Ok(Right::Const(copy_array(a)?)),
-        Right::Copy(x) => Ok(Right::Copy(*x)),
-        Right::Unary(op, x) => Ok(Right::Unary(*op, *x)),
-        Right::Binary(op, x, y) => Ok(Right::Binary(*op, *x, *y)),
-        Right::Literal(xs) => Ok(Right::Literal(copy_vars(alloc, xs)?)),
-        Right::Dim(x) => Ok(Right::Dim(*x)),
-        Right::ShapeOf(x) => Ok(Right::ShapeOf(*x)),
-        Right::Reshape(x, y) => Ok(Right::Reshape(*x, *y)),
-        Right::Select(x, y) => Ok(Right::Select(*x, *y)),
-        Right::Replace(x, y, z) => Ok(Right::Replace(*x, *y, *z)),
         Right::If { cond, yes, no } => Ok(Right::If {
             cond: *cond,
             yes: inline_block(alloc, work, growth, yes)?,
@@ -105,14 +95,9 @@ fn inline_right(
             body: inline_block(alloc, work, growth, body)?,
             test_site: *test_site,
         }),
-        Right::Call { group, args } => Ok(Right::Call {
-            group: *group,
-            args: copy_vars(alloc, args)?,
-        }),
         Right::With(w) => Ok(Right::With(inline_with(alloc, work, growth, w)?)),
         Right::Parted(p) => Ok(Right::Parted(inline_parted(alloc, work, growth, p)?)),
-        Right::Always(kind) => Ok(Right::Always(*kind)),
-        Right::Check(x, ty) => Ok(Right::Check(*x, copy_type(ty))),
+        _ => copy_right(alloc, right),
     }
 }
 

@@ -1,6 +1,8 @@
 //! A whole program, with its phases run by workers.
 
-ghost use Rattle.std.specs.Prelude.{◌≡◌, ◌≤◌};
+ghost use Rattle.std.specs.Prelude.{◌≡◌, ◌≤◌, length};
+ghost use Rattle.lane_ops.specs.Lanes.{lane, IsEach};
+ghost use Rattle.sac_base.specs.Verdict.{fold_op};
 ghost use Rattle.counted_code.specs.Counts.{IsWellCounted};
 ghost use Rattle.counted_code.specs.Outcome.{cost_of, outcome_of, whole_run};
 ghost use Rattle.counted_code.specs.View.{code_program};
@@ -20,12 +22,13 @@ use phase_team::Gate;
 use run_eval::{Plan, Trace, run_with_phases};
 use run_loops::{CellLoop, Context, State};
 use run_values::RunValue;
-use sac_base::{Array, Stop};
+use sac_base::{Array, Cell, Op, Stop};
+use shared_strips::{shared_both, shared_right};
 use std::alloc::Global;
 use std::thread::Threads;
 
-/// Runs counted code on arguments, and its phases by as many workers as the plan has. The results are those of its main
-/// function, or there is the first fault, whatever the workers do first.
+/// Runs counted code on arguments, and its phases by as many workers as the plan has, which share operators of large arrays as well.
+/// The results are those of its main function, or there is the first fault, whatever the workers do first.
 ///
 /// After every answer, want of memory included, no buffer of the heap is live, and as many were given back as were taken.
 pub fn run<G: Gate, R: Threads + Sync>(
@@ -74,6 +77,14 @@ pub fn run<G: Gate, R: Threads + Sync>(
         >| -> Result<RunValue, Stop>
             ensures { IsRunOver context.now work.now array state.old result state.new }
         { over_outside(&workers, work, array, context, state) },
+        both: |op: Op, first: &[Cell], second: &[Cell], target: &mut [Cell]|
+            requires { (length first.now ≡ length target.old) × (length second.now ≡ length target.old) }
+            ensures { IsEach target.new (λ k. fold_op op (lane first.now k) (lane second.now k)) }
+        { shared_both(rt, plan.workers, op, first, second, target) },
+        right: |op: Op, first: &[Cell], number: Cell, target: &mut [Cell]|
+            requires { length first.now ≡ length target.old }
+            ensures { IsEach target.new (λ k. fold_op op (lane first.now k) number) }
+        { shared_right(rt, plan.workers, op, first, number, target) },
     };
     run_with_phases(alloc, code, args, heap, plan, calls, trace)
 }

@@ -12,6 +12,7 @@ ghost use Rattle.run_values.specs.Shown.{value_of};
 ghost use Rattle.std.specs.Prelude.{◌≡◌, ◌∷◌, [], OnOk, map};
 
 use crate::array_loops::{run_parted, run_with};
+use crate::plain::right_value;
 use crate::updates::update_first;
 use counted_code::{CodeBlock, CodeFun, CodeLet, CodeRight, CodeStep};
 use run_kernels::{call_values, loop_values};
@@ -19,7 +20,7 @@ use run_loops::{
     Context, Outside, Phases, State, Turn, bind_all, bind_params, condition, deeper, first_of,
     levels_of, push_values, value_at,
 };
-use run_plain::{plain_value, scalar_value};
+use run_plain::scalar_value;
 use run_store::{keep, release};
 use run_types::{all_have, choose};
 use run_values::RunValue;
@@ -298,7 +299,14 @@ fn run_one<P: Phases>(
         CodeRight::With(with) => run_with(with, site, context, outside, state),
         CodeRight::Parted(parted) => run_parted(parted, site, context, outside, state),
         CodeRight::If { .. } | CodeRight::Loop { .. } | CodeRight::Call { .. } => Err(Stop::Memory),
-        _ => plain_value(right, site, context.alloc, &mut state.heap, &state.frames),
+        _ => right_value(
+            right,
+            site,
+            context.alloc,
+            &mut state.heap,
+            &state.frames,
+            outside,
+        ),
     }
 }
 

@@ -5,6 +5,7 @@ mod array_loops;
 mod blocks;
 mod in_order;
 mod marked_loops;
+mod plain;
 mod program;
 mod trace;
 mod updates;

@@ -1,23 +1,27 @@
-//! Loops outside of cells, which may be run by others.
+//! Loops outside of cells and operators of large arrays, which may be run by others.
 
 ghost use Rattle.counted_code.specs.Loops.{job_does};
 ghost use Rattle.counted_code.specs.Values.{Heap as MachineHeap};
+ghost use Rattle.lane_ops.specs.Lanes.{lane, IsEach};
 ghost use Rattle.run_loops.specs.Jobs.{job_of, over_does, IsOver};
 ghost use Rattle.run_loops.specs.Running.{IsAt, IsValue, SameScopes, Told};
 ghost use Rattle.run_store.specs.Stands.{lender_of};
 ghost use Rattle.run_values.specs.Scopes.{current};
 ghost use Rattle.run_values.specs.Shown.{value_of};
-ghost use Rattle.std.specs.Prelude.{◌≡◌, None, OnOk, ⊤};
+ghost use Rattle.sac_base.specs.Verdict.{fold_op};
+ghost use Rattle.std.specs.Prelude.{◌≡◌, None, OnOk, length, ⊤};
 
 use crate::cell_loop::CellLoop;
 use crate::state::{Context, State};
+use lane_ops::{strip_both, strip_right};
 use run_values::RunValue;
-use sac_base::Stop;
+use sac_base::{Cell, Op, Stop};
+use shared_strips::Strips;
 use std::marker::Model;
 
-/// Runs the loops over cells that stand outside of cells.
+/// Runs the loops over cells that stand outside of cells, and computes operators of large arrays there.
 pub trait Phases {
-    /// Whether it may be asked to run loops.
+    /// Whether it may be asked to.
     ghost runs: { Self → Type 0 };
 
     /// The result of a loop whose checks have passed.
@@ -46,6 +50,19 @@ pub trait Phases {
             → Told IsValue result state.new (over_does context.now (current state.old.frames) work.now (value_of array) m) }
         ensures scopes { OnOk result (SameScopes state.old.frames state.new.frames) }
         ensures lender { lender_of state.new.heap ≡ lender_of state.old.heap };
+
+    /// Writes an operator's value at each pair of lanes of two strips, and 0 where it divides by zero. All three strips have one length.
+    fn both(&self, op: Op, first: &[Cell], second: &[Cell], target: &mut [Cell])
+        requires runs { runs self.now }
+        requires first { length first.now ≡ length target.old }
+        requires second { length second.now ≡ length target.old }
+        ensures { IsEach target.new (λ k. fold_op op (lane first.now k) (lane second.now k)) };
+
+    /// Writes an operator's value at each lane and one number, and 0 where it divides by zero.
+    fn right(&self, op: Op, first: &[Cell], number: Cell, target: &mut [Cell])
+        requires runs { runs self.now }
+        requires first { length first.now ≡ length target.old }
+        ensures { IsEach target.new (λ k. fold_op op (lane first.now k) number) };
 }
 
 /// Runs none.
@@ -72,6 +89,14 @@ impl Phases for Never {
         _state: &mut State<'_, '_>,
     ) -> Result<RunValue, Stop> {
         Err(Stop::Memory)
+    }
+
+    fn both(&self, op: Op, first: &[Cell], second: &[Cell], target: &mut [Cell]) {
+        strip_both(op, first, second, target);
+    }
+
+    fn right(&self, op: Op, first: &[Cell], number: Cell, target: &mut [Cell]) {
+        strip_right(op, first, number, target);
     }
 }
 
@@ -126,5 +151,15 @@ impl<P: Phases> Outside<P> {
         ensures lender { lender_of state.new.heap ≡ lender_of state.old.heap }
     {
         self.phases.run_over(work, array, context, state)
+    }
+}
+
+impl<P: Phases> Strips for Outside<P> {
+    fn both(&self, op: Op, first: &[Cell], second: &[Cell], target: &mut [Cell]) {
+        self.phases.both(op, first, second, target);
+    }
+
+    fn right(&self, op: Op, first: &[Cell], number: Cell, target: &mut [Cell]) {
+        self.phases.right(op, first, number, target);
     }
 }

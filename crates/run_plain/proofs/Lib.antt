@@ -5,3 +5,4 @@ pub mod Rest
 pub mod Rights
 pub mod Shorts
 pub mod Words
+mod Mirrors

@@ -11,12 +11,13 @@ ghost use Rattle.sac_base.specs.Operators.{unary as unary_arrays};
 ghost use Rattle.sac_base.specs.Outcomes.{Ends};
 ghost use Rattle.array_ops.specs.Tells.{Tells};
 
-use crate::together::array_together;
+use crate::together::array_either_way;
 use array_ops::{binary_at, literal, placed, replace, reshape, unary_of};
 use core_ir::Var;
 use run_store::{Store, place_result, read_array};
 use run_values::{Frames, RunValue};
 use sac_base::{Array, Memory, Op, Site, Stop};
+use shared_strips::Strips;
 use std::alloc::Global;
 
 /// The arrays of variables.
@@ -46,17 +47,19 @@ pub fn unary_array(alloc: Global, heap: &Store<'_>, op: Op, a: RunValue) -> Resu
 
 /// An operator of two operands.
 #[inline(never)]
-pub fn binary_array(
+pub fn binary_array<S: Strips>(
     alloc: Global,
-    heap: &Store<'_>,
+    heap: &mut Store<'_>,
     op: Op,
     a: RunValue,
     b: RunValue,
     site: Site,
+    strips: &S,
 ) -> Result<Array, Stop>
-    ensures { (m : MachineHeap) → Stands heap.now m → Tells result (binary_in m op a b site) }
+    ensures told { (m : MachineHeap) → Stands heap.old m → Tells result (binary_in m op a b site) }
+    ensures heap { heap.new ≡ heap.old }
 {
-    if let Some(array) = array_together(alloc, heap, op, a, b)? {
+    if let Some(array) = array_either_way(alloc, heap, op, a, b, strips)? {
         return Ok(array);
     }
     let left = read_array(alloc, heap, a)?;

@@ -2,6 +2,7 @@
 #![tactic(auto)]
 
 mod arrays;
+mod mirror;
 mod operators;
 mod right;
 mod scalars;

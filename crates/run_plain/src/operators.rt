@@ -22,6 +22,7 @@ use sac_base::{
     Base, Cell, FaultKind, Op, Site, Stop, ZeroDivisor, apply1, apply2, fault, result_base,
     same_base,
 };
+use shared_strips::Strips;
 use std::alloc::Global;
 
 /// An operator of one operand.
@@ -44,33 +45,35 @@ pub fn unary_value(
     }
 }
 
-/// An operator of two operands.
-pub fn binary_value(
+/// An operator of two operands, whose elements `strips` computes where they are many.
+pub fn binary_value<S: Strips>(
     alloc: Global,
     heap: &mut Store<'_>,
     op: Op,
     a: RunValue,
     b: RunValue,
     site: Site,
+    strips: &S,
 ) -> Result<RunValue, Stop>
     ensures told { (m : MachineHeap) → Stands heap.old m → TellsPlaced result heap.new m (binary_in m op a b site) }
     ensures lender { lender_of heap.new ≡ lender_of heap.old }
 {
     match (a, b) {
         (RunValue::Word(_, x), RunValue::Word(_, y)) => word_binary(op, x, y, site),
-        _ => wide_binary(alloc, heap, op, a, b, site),
+        _ => wide_binary(alloc, heap, op, a, b, site, strips),
     }
 }
 
 // An operator of operands that are not both scalars.
 #[inline(never)]
-fn wide_binary(
+fn wide_binary<S: Strips>(
     alloc: Global,
     heap: &mut Store<'_>,
     op: Op,
     a: RunValue,
     b: RunValue,
     site: Site,
+    strips: &S,
 ) -> Result<RunValue, Stop>
     ensures told { (m : MachineHeap) → Stands heap.old m → TellsPlaced result heap.new m (binary_in m op a b site) }
     ensures lender { lender_of heap.new ≡ lender_of heap.old }
@@ -80,7 +83,7 @@ fn wide_binary(
         (RunValue::Short(_, x), RunValue::Word(_, y)) => few_binary(op, &x, &all(y, &x), site),
         (RunValue::Word(_, x), RunValue::Short(_, y)) => few_binary(op, &all(x, &y), &y, site),
         _ => {
-            let answer = binary_array(alloc, heap, op, a, b, site);
+            let answer = binary_array(alloc, heap, op, a, b, site, strips);
             place_result(heap, answer)
         }
     }

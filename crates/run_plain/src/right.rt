@@ -20,15 +20,18 @@ use run_store::{Store, place_array, select_value};
 use run_types::value_has;
 use run_values::{Few, Frames, RunValue};
 use sac_base::{Array, ArrayType, Base, Cell, FaultKind, Memory, Site, Stop, fault};
+use shared_strips::Strips;
 use std::alloc::Global;
 
 /// The value of a right side that has no block and no call, with nothing kept or released. Of any other right side nothing is said.
-pub fn plain_value(
+/// The elements of an operator of two operands are computed by `strips` where they are many.
+pub fn plain_value<S: Strips>(
     right: &CodeRight,
     site: Site,
     alloc: Global,
     heap: &mut Store<'_>,
     frames: &Frames<'_>,
+    strips: &S,
 ) -> Result<RunValue, Stop>
     ensures told { (m : MachineHeap) → Stands heap.old m → TellsPlain (code_right_term right.now) site (current frames.now) result heap.new m }
     ensures lender { lender_of heap.new ≡ lender_of heap.old }
@@ -38,7 +41,8 @@ pub fn plain_value(
         CodeRight::Copy(x) => Ok(frames.get(*x)),
         CodeRight::Unary(op, x) => unary_value(alloc, heap, *op, frames.get(*x)),
         CodeRight::Binary(op, x, y) => {
-            binary_value(alloc, heap, *op, frames.get(*x), frames.get(*y), site)
+            let first = frames.get(*x);
+            binary_value(alloc, heap, *op, first, frames.get(*y), site, strips)
         }
         CodeRight::Select(x, y) => select_value(alloc, heap, frames.get(*x), frames.get(*y), site),
         _ => other_value(right, site, alloc, heap, frames),

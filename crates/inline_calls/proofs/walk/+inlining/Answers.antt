@@ -2,11 +2,11 @@ use Rattle.std.proofs.Common.{arith, map, take, ap, subst, refl, ◌∙◌, ◌+
 use Rattle.core_ir.specs.declared.tree.CoreGen.{out-CoreGen}
 use Rattle.core_ir.specs.declared.tree.CorePart.{out-CorePart}
 use Rattle.core_ir.specs.View.{core_term, block_term, let_term, right_term, gen_term, part_term}
-use Rattle.inline_calls.proofs.Turns.{SoFar, GensSoFar, PartsSoFar, taken_more, taken_all, let_turn, block_whole, gen_turn, with_whole, part_turn, parted_whole, gen_whole, part_whole, same_leaf, both_branches, both_blocks, call_stays, binding_kept}
+use Rattle.inline_calls.proofs.Turns.{SoFar, GensSoFar, PartsSoFar, taken_more, taken_all, let_turn, block_whole, gen_turn, with_whole, part_turn, parted_whole, gen_whole, part_whole, both_branches, both_blocks, has_no_block, copy_stays, binding_kept}
 use Rattle.inline_calls.proofs.Steps.{map_snoc, map_both}
 use Rattle.inline_calls.specs.Bindings.{LetInlined, MayStay}
 use Rattle.inline_calls.specs.declared.call.Inlined.{Inlined}
-use Rattle.core_ir.specs.Terms.{PlainTerm, LetTerm}
+use Rattle.core_ir.specs.Terms.{LetTerm}
 use Rattle.inline_calls.proofs.walk.+inlining.Goals as goal
 
 pub inline_block-loop-binding-preserved : goal.inline_block-loop-binding-preserved
@@ -77,15 +77,6 @@ push_binding-returns-in_ok-push-in-None t c =
     let stays = subst (λ (o : Option Inlined). IfNone o (MayStay core c.args.growth.now old.right)) c.in-None.is c.in_ok-inlined.ensures.left in
     (new ∷ [], (ap (map let_term) c.in_ok-push-in-None.ensures.items ∙ map_snoc let_term c.args.lets.now.items _, binding_kept core c.args.growth.now c.inline_right.new.growth old new (c.in_ok-copy_vars-in-None.ensures ∙ c.deref.ensures.value) refl (c.in_ok-right-in-None.ensures stays)))
 
-pub inline_right-returns-in_ok-copy_array-in-Const : goal.inline_right-returns-in_ok-copy_array-in-Const
-inline_right-returns-in_ok-copy_array-in-Const t c = λ m. same_leaf (core_term c.args.work.now.core.now) c.args.growth.now (right_term c.args.right.now) (PlainTerm.Const c.in-Const.a) _ (ap right_term c.in-Const.is) (ap PlainTerm.Const c.in_ok-copy_array-in-Const.ensures)
-
-pub inline_right-returns-in_ok-copy_vars-in-Literal : goal.inline_right-returns-in_ok-copy_vars-in-Literal
-inline_right-returns-in_ok-copy_vars-in-Literal t c = λ m. same_leaf (core_term c.args.work.now.core.now) c.args.growth.now (right_term c.args.right.now) (PlainTerm.Literal c.in-Literal.xs.items) _ (ap right_term c.in-Literal.is) (ap PlainTerm.Literal (c.in_ok-copy_vars-in-Literal.ensures ∙ c.deref.ensures.value))
-
-pub inline_right-returns-in-Check : goal.inline_right-returns-in-Check
-inline_right-returns-in-Check t c = λ m. same_leaf (core_term c.args.work.now.core.now) c.args.growth.now (right_term c.args.right.now) (PlainTerm.Check c.in-Check.x c.in-Check.ty) _ (ap right_term c.in-Check.is) (ap (PlainTerm.Check c.in-Check.x) c.copy_type.ensures)
-
 pub inline_right-returns-in_ok-inline_block-in-If-2 : goal.inline_right-returns-in_ok-inline_block-in-If-2
 inline_right-returns-in_ok-inline_block-in-If-2 t c =
     λ m. both_branches (core_term c.args.work.now.core.now) c.args.growth.now c.inline_block.new.growth c.inline_block-in-If.new.growth (right_term c.args.right.now) c.in-If.cond (block_term c.in-If.yes) (block_term c.in-If.no) _ _ (ap right_term c.in-If.is) c.in_ok-inline_block-in-If.ensures c.in_ok-inline_block-in-If-2.ensures
@@ -95,33 +86,7 @@ inline_right-returns-in_ok-inline_block-in-Loop-2 t c =
     λ m. both_blocks (core_term c.args.work.now.core.now) c.args.growth.now c.inline_block-in-Loop.new.growth c.inline_block-in-Loop-2.new.growth (right_term c.args.right.now) c.in-Loop.first_body c.in-Loop.start.items _ c.in-Loop.params.items _ (block_term c.in-Loop.test) (block_term c.in-Loop.body) _ _ c.in-Loop.test_site
     (ap right_term c.in-Loop.is) (c.in_ok-copy_vars-in-Loop.ensures ∙ c.deref-in-Loop.ensures.value) (c.in_ok-copy_vars-in-Loop-2.ensures ∙ c.deref-in-Loop-2.ensures.value) c.in_ok-inline_block-in-Loop.ensures c.in_ok-inline_block-in-Loop-2.ensures
 
-pub inline_right-returns-in_ok-copy_vars-in-Call : goal.inline_right-returns-in_ok-copy_vars-in-Call
-inline_right-returns-in_ok-copy_vars-in-Call t c =
-    λ m. call_stays (core_term c.args.work.now.core.now) c.args.growth.now (right_term c.args.right.now) c.in-Call.group c.in-Call.args.items _ (ap right_term c.in-Call.is) (c.in_ok-copy_vars-in-Call.ensures ∙ c.deref-in-Call.ensures.value) m
-
-pub inline_right-returns-in-Copy : goal.inline_right-returns-in-Copy
-inline_right-returns-in-Copy t c = λ m. same_leaf (core_term c.args.work.now.core.now) c.args.growth.now (right_term c.args.right.now) _ _ (ap right_term c.in-Copy.is) refl
-
-pub inline_right-returns-in-Unary : goal.inline_right-returns-in-Unary
-inline_right-returns-in-Unary t c = λ m. same_leaf (core_term c.args.work.now.core.now) c.args.growth.now (right_term c.args.right.now) _ _ (ap right_term c.in-Unary.is) refl
-
-pub inline_right-returns-in-Binary : goal.inline_right-returns-in-Binary
-inline_right-returns-in-Binary t c = λ m. same_leaf (core_term c.args.work.now.core.now) c.args.growth.now (right_term c.args.right.now) _ _ (ap right_term c.in-Binary.is) refl
-
-pub inline_right-returns-in-Dim : goal.inline_right-returns-in-Dim
-inline_right-returns-in-Dim t c = λ m. same_leaf (core_term c.args.work.now.core.now) c.args.growth.now (right_term c.args.right.now) _ _ (ap right_term c.in-Dim.is) refl
-
-pub inline_right-returns-in-ShapeOf : goal.inline_right-returns-in-ShapeOf
-inline_right-returns-in-ShapeOf t c = λ m. same_leaf (core_term c.args.work.now.core.now) c.args.growth.now (right_term c.args.right.now) _ _ (ap right_term c.in-ShapeOf.is) refl
-
-pub inline_right-returns-in-Reshape : goal.inline_right-returns-in-Reshape
-inline_right-returns-in-Reshape t c = λ m. same_leaf (core_term c.args.work.now.core.now) c.args.growth.now (right_term c.args.right.now) _ _ (ap right_term c.in-Reshape.is) refl
-
-pub inline_right-returns-in-Select : goal.inline_right-returns-in-Select
-inline_right-returns-in-Select t c = λ m. same_leaf (core_term c.args.work.now.core.now) c.args.growth.now (right_term c.args.right.now) _ _ (ap right_term c.in-Select.is) refl
-
-pub inline_right-returns-in-Replace : goal.inline_right-returns-in-Replace
-inline_right-returns-in-Replace t c = λ m. same_leaf (core_term c.args.work.now.core.now) c.args.growth.now (right_term c.args.right.now) _ _ (ap right_term c.in-Replace.is) refl
-
-pub inline_right-returns-in-Always : goal.inline_right-returns-in-Always
-inline_right-returns-in-Always t c = λ m. same_leaf (core_term c.args.work.now.core.now) c.args.growth.now (right_term c.args.right.now) _ _ (ap right_term c.in-Always.is) refl
+pub inline_right-returns-in_default : goal.inline_right-returns-in_default
+inline_right-returns-in_default t c =
+    let arm = c.in_default in
+    copy_stays (core_term c.args.work.now.core.now) c.args.growth.now (right_term c.args.right.now) c.copy_right.result (has_no_block c.args.right.now arm.not-If arm.not-Loop arm.not-With arm.not-Parted) c.copy_right.ensures

@@ -179,17 +179,17 @@ run_one-returns-in_default g t c =
     let s = c.args.state.now in
     let r = c.args.right.now in
     let d = c.in_default in
-    let h = c.plain_value.new.heap in
+    let h = c.right_value.new.heap in
     let new : State = record { frames = s.frames; heap = h; phases = s.phases } in
     record {
       told = λ m at.
           right_told (λ r end. Told IsOnly r new end) h m
           (λ v k stands same. plain_given v s new m k refl at stands same)
           (λ f. plain_failed f s new m refl at) (λ end. tt)
-          (calls_in ctx) ctx.turns (code_right_term r) c.args.site (current s.frames) c.plain_value.result
-          (plain_rest r d.not-If d.not-Loop d.not-Call d.not-With d.not-Parted) (c.plain_value.ensures.told m at.heap);
-      scopes = plain_scopes c.plain_value.result s.frames;
-      lender = c.plain_value.ensures.lender;
+          (calls_in ctx) ctx.turns (code_right_term r) c.args.site (current s.frames) c.right_value.result
+          (plain_rest r d.not-If d.not-Loop d.not-Call d.not-With d.not-Parted) (c.right_value.ensures.told m at.heap);
+      scopes = plain_scopes c.right_value.result s.frames;
+      lender = c.right_value.ensures.lender;
     }
 
 pub run_rights-returns-in_err-condition-in-If : goal.blocks::run_rights-returns-in_err-condition-in-If

@@ -4,7 +4,7 @@ use Rattle.run_plain.proofs.Operands.{two_words}
 use Rattle.run_plain.proofs.operators.binary_value.Goals as goal
 
 pub returns-in-Word-Word-clause-told : goal.returns-in-Word-Word-clause-told
-returns-in-Word-Word-clause-told c m stands =
+returns-in-Word-Word-clause-told g c m stands =
     let w = c.in-Word-Word in
     let fits_x : FitsSigned w32 c.in-Word-Word.x = search rules in
     let fits_y : FitsSigned w32 c.in-Word-Word.y = search rules in

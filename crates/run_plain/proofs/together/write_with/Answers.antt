@@ -6,7 +6,7 @@ use Rattle.run_plain.proofs.Buffers.{with_number}
 use Rattle.run_plain.proofs.together.write_with.Goals as goal
 
 pub returns : goal.returns
-returns c =
-    let same : length c.strip_right.new.target ≡ length c.args.cells.now = search rules in
-    with_number c.args.op c.args.left.now c.args.number c.strip_right.new.target (c.requires.left ∙ sym same)
-    (λ k lt. c.strip_right.ensures k lt ∙ ap (λ (z : ℤ). fold_op c.args.op (lane c.args.left.now k) z) (to_z-of_z w32 c.args.number c.ranges.number)) c.requires.values
+returns g c =
+    let same : length c.right.new.target ≡ length c.args.cells.now = search rules in
+    with_number c.args.op c.args.left.now c.args.number c.right.new.target (c.requires.left ∙ sym same)
+    (λ k lt. c.right.ensures k lt ∙ ap (λ (z : ℤ). fold_op c.args.op (lane c.args.left.now k) z) (to_z-of_z w32 c.args.number c.ranges.number)) c.requires.values
