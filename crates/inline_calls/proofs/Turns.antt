@@ -205,7 +205,7 @@ stays core s (RightTerm.Parted frame base cell op parts) h m = absurd h
 
 -- a copy of one
 pub copy_stays : (core : CoreTerm) (s : Growth) (r : RightTerm) (new : Result Right Memory) → HasNoBlock r → IfOk new (λ (q : Right). right_term q ≡ r) → IfOk new (λ (q : Right). RightWalked core s r (right_term q) s)
-copy_stays core s r (Ok q) h e m = subst (λ (t : RightTerm). RightInlined core Anywhere s r t s) (sym e) (stays core s r h m)
+copy_stays core s r (Ok q) h e = λ m. subst (λ (t : RightTerm). RightInlined core Anywhere s r t s) (sym e) (stays core s r h m)
 copy_stays core s r (Err m) h e = tt
 
 -- ---- a function without room for any other

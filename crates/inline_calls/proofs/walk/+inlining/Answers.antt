@@ -84,7 +84,7 @@ inline_right-returns-in_ok-inline_block-in-If-2 t c =
 pub inline_right-returns-in_ok-inline_block-in-Loop-2 : goal.inline_right-returns-in_ok-inline_block-in-Loop-2
 inline_right-returns-in_ok-inline_block-in-Loop-2 t c =
     λ m. both_blocks (core_term c.args.work.now.core.now) c.args.growth.now c.inline_block-in-Loop.new.growth c.inline_block-in-Loop-2.new.growth (right_term c.args.right.now) c.in-Loop.first_body c.in-Loop.start.items _ c.in-Loop.params.items _ (block_term c.in-Loop.test) (block_term c.in-Loop.body) _ _ c.in-Loop.test_site
-    (ap right_term c.in-Loop.is) (c.in_ok-copy_vars-in-Loop.ensures ∙ c.deref-in-Loop.ensures.value) (c.in_ok-copy_vars-in-Loop-2.ensures ∙ c.deref-in-Loop-2.ensures.value) c.in_ok-inline_block-in-Loop.ensures c.in_ok-inline_block-in-Loop-2.ensures
+    (ap right_term c.in-Loop.is) (c.in_ok-copy_vars-in-Loop.ensures ∙ c.deref.ensures.value) (c.in_ok-copy_vars-in-Loop-2.ensures ∙ c.deref-in-Loop.ensures.value) c.in_ok-inline_block-in-Loop.ensures c.in_ok-inline_block-in-Loop-2.ensures
 
 pub inline_right-returns-in_default : goal.inline_right-returns-in_default
 inline_right-returns-in_default t c =
