@@ -9,6 +9,7 @@ mod outside;
 mod over;
 mod program;
 mod sources;
+mod strips;
 mod teams;
 
 pub use outside::loop_outside;

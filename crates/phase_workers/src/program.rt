@@ -14,6 +14,7 @@ ghost use Rattle.array_ops.specs.Tells.{TellsItems};
 
 use crate::outside::loop_outside;
 use crate::over::over_outside;
+use crate::strips::{both_outside, right_outside};
 use buffer_heap::Heap;
 use counted_code::Code;
 use kept_kernels::LoopTable;
@@ -23,7 +24,6 @@ use run_eval::{Plan, Trace, run_with_phases};
 use run_loops::{CellLoop, Context, State};
 use run_values::RunValue;
 use sac_base::{Array, Cell, Op, Stop};
-use shared_strips::{shared_both, shared_right};
 use std::alloc::Global;
 use std::thread::Threads;
 
@@ -80,11 +80,11 @@ pub fn run<G: Gate, R: Threads + Sync>(
         both: |op: Op, first: &[Cell], second: &[Cell], target: &mut [Cell]|
             requires { (length first.now ≡ length target.old) × (length second.now ≡ length target.old) }
             ensures { IsEach target.new (λ k. fold_op op (lane first.now k) (lane second.now k)) }
-        { shared_both(rt, plan.workers, op, first, second, target) },
+        { both_outside(&workers, op, first, second, target) },
         right: |op: Op, first: &[Cell], number: Cell, target: &mut [Cell]|
             requires { length first.now ≡ length target.old }
             ensures { IsEach target.new (λ k. fold_op op (lane first.now k) number) }
-        { shared_right(rt, plan.workers, op, first, number, target) },
+        { right_outside(&workers, op, first, number, target) },
     };
     run_with_phases(alloc, code, args, heap, plan, calls, trace)
 }
